@@ -1,0 +1,9 @@
+pub mod Bools
+pub mod Tests
+pub mod Growth
+pub mod Masks
+pub mod Digits
+pub mod Lists
+pub mod Bits
+pub mod Members
+pub mod Rows

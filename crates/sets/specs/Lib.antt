@@ -1,0 +1,5 @@
+pub mod Tests
+pub mod Masks
+pub mod Digits
+pub mod Lists
+pub mod Rows

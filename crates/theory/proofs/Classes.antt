@@ -1,0 +1,135 @@
+-- Ranks depend on the order of the levels alone, and there are no more of them than states.
+use mathlib.Core.Path.{_≡_, refl, sym, _∙_, ap, ap₂}
+use mathlib.Core.Logic.{_⊎_, inl, inr, ⊎-elim, by-cases}
+use mathlib.Core.Bool.{Bool, true, false, _&&_, _||_, not, cond, or-false, or-true, and-false, and-assoc}
+use Prim.Native.Nat.{ℕ, zero, suc, _+_, _≤_, _<_}
+use native.Mathlib.Omega.{arith}
+use native.Mathlib.Decide.{decLe, decLt, ℕ-discrete}
+use lib.Dec.{eqb, leb, ltb, leb·suc-suc}
+use borrow.Author.Tests.{leb-true, leb-false, le-leb, lt-leb, eqb-true, eqb-false, eq-eqb, ne-eqb, lt-ltb, le-ltb}
+use Rattle.sets.specs.Tests.{Set, some, count, one}
+use Rattle.sets.proofs.Bools.{bif, clash, and-l, and-r, and-i}
+use Rattle.sets.proofs.Tests.{count-ext, some-ext, some-at, count-le, count-lt, count-max}
+use Rattle.theory.specs.Automaton.{Automaton}
+use Rattle.theory.specs.Core.{isOpen, taken, rankOf}
+
+one-not : (b : Bool) → one b + one (not b) ≡ 1
+one-not true = refl
+one-not false = refl
+
+ltb-suc : (a M : ℕ) → (a ≡ M → ⊥) → ltb a (suc M) ≡ ltb a M
+ltb-suc a M n = by-cases (decLt a M) (λ h. lt-ltb a (suc M) (omega arith) ∙ sym (lt-ltb a M h)) (λ h. le-ltb a (suc M) (omega arith) ∙ sym (le-ltb a M (omega arith)))
+
+eqb-leb : (a b : ℕ) → eqb a b ≡ leb a b && leb b a
+eqb-leb a b =
+    by-cases (ℕ-discrete a b)
+    (λ e. eq-eqb a b e ∙ sym (and-i (le-leb a b (omega arith)) (le-leb b a (omega arith))))
+    (λ e. ne-eqb a b e ∙ by-cases (decLe a b)
+    (λ h. sym (rw (lt-leb b a (omega arith), and-false (leb a b))))
+    (λ h. sym (rw (lt-leb a b (omega arith)))))
+
+-- one more value
+pub insert-t : (M a : ℕ) (f : Set) → count M (λ j. f j || eqb a j) ≡ count M f + one (ltb a M && not (f a))
+unfolding count
+insert-t zero a f = let x : one (ltb a 0 && not (f a)) ≡ 0 = rw (le-ltb a 0 (omega arith)) in omega arith
+insert-t (suc M) a f =
+    let ih = insert-t M a f in
+    by-cases (ℕ-discrete a M)
+    (λ e.
+    let x : one (f M || eqb a M) ≡ 1 = rw (eq-eqb a M e, or-true (f M)) in
+    let y : one (ltb a M && not (f a)) ≡ 0 = rw (le-ltb a M (omega arith)) in
+    let z : one (ltb a (suc M) && not (f a)) ≡ one (not (f M)) = ap₂ (λ (b c : Bool). one (b && not c)) (lt-ltb a (suc M) (omega arith)) (ap f e) in
+    let v = one-not (f M) in
+    omega arith)
+    (λ n.
+    let x : one (f M || eqb a M) ≡ one (f M) = ap one (ap (λ (b : Bool). f M || b) (ne-eqb a M n) ∙ or-false (f M)) in
+    let y : one (ltb a (suc M) && not (f a)) ≡ one (ltb a M && not (f a)) = rw (ltb-suc a M n) in
+    omega arith)
+
+insert : (M a : ℕ) (f : Set) (b : Bool) → count M (λ j. f j || (b && eqb a j)) ≡ count M f + one (b && (ltb a M && not (f a)))
+insert M a f true = insert-t M a f
+insert M a f false = let x = count-ext M (λ j. f j || false) f (λ q l. or-false (f q)) in omega arith
+
+-- the values of l at the states of g, counted at the first state of each
+unfoldable firsts : (ℕ → Bool) → (ℕ → ℕ) → ℕ → ℕ → Bool
+firsts g l m p = g p && (leb (l p) m && not (some p (λ r. g r && eqb (l r) (l p))))
+
+values : (n m : ℕ) (g : Set) (l : ℕ → ℕ) → count (suc m) (λ j. some n (λ p. g p && eqb (l p) j)) ≡ count n (firsts g l m)
+unfolding some count firsts
+values zero m g l = none (suc m)
+  where
+    none : (M : ℕ) → count M (λ j. false) ≡ 0
+    none zero = refl
+    none (suc M) = let ih = none M in omega arith
+values (suc n) m g l =
+    let ih = values n m g l in
+    let x = insert (suc m) (l n) (λ j. some n (λ p. g p && eqb (l p) j)) (g n) in
+    x ∙ ap₂ _+_ ih (ap (λ (b : Bool). one (g n && (b && not (some n (λ p. g p && eqb (l p) (l n)))))) (leb·suc-suc (l n) m))
+
+module _ (R : Automaton) (B : ℕ) (S : Set) where
+  -- the open states of component K
+  ours : ℕ → Set
+  ours K p = eqb (R .component p) K && isOpen R S p
+
+  taken-is : (l : ℕ → ℕ) (K j : ℕ) → taken R S l K j ≡ some (R .n) (λ p. ours K p && eqb (l p) j)
+  unfolding taken ours
+  taken-is l K j = some-ext (R .n) _ _ (λ p m. sym (and-assoc (eqb (R .component p) K) (isOpen R S p) (eqb (l p) j)))
+
+  rank-is : (l : ℕ → ℕ) (q : ℕ) → rankOf R S l q ≡ cond (isOpen R S q) (count (R .n) (firsts (ours (R .component q)) l (l q))) 0
+  unfolding rankOf
+  rank-is l q = ap (λ (x : ℕ). cond (isOpen R S q) x 0) (count-ext (suc (l q)) _ _ (λ j m. taken-is l (R .component q) j) ∙ values (R .n) (l q) (ours (R .component q)) l)
+
+  -- ranks are at most n
+  pub rank-max : (l : ℕ → ℕ) (q : ℕ) → rankOf R S l q ≤ R .n
+  rank-max l q = rw (rank-is l q) (bif (isOpen R S q) (λ t. rw t (count-max (R .n) _)) (λ t. rw t (omega arith)))
+
+  ours-comp : (K p : ℕ) → ours K p ≡ true → R .component p ≡ K
+  unfolding ours
+  ours-comp K p e = eqb-true _ _ (and-l (eqb (R .component p) K) (isOpen R S p) e)
+
+  ours-open : (K p : ℕ) → ours K p ≡ true → isOpen R S p ≡ true
+  unfolding ours
+  ours-open K p e = and-r (eqb (R .component p) K) (isOpen R S p) e
+
+  -- two ways to number the open states of a component that order them alike
+  module _ (l l′ : ℕ → ℕ)
+      (alike : (p r : ℕ) → p < R .n → r < R .n → R .component p ≡ R .component r → isOpen R S p ≡ true → isOpen R S r ≡ true → leb (l p) (l r) ≡ leb (l′ p) (l′ r)) where
+    same-class : (p r : ℕ) → p < R .n → r < R .n → R .component p ≡ R .component r → isOpen R S p ≡ true → isOpen R S r ≡ true → eqb (l p) (l r) ≡ eqb (l′ p) (l′ r)
+    same-class p r m n c o t =
+        eqb-leb (l p) (l r) ∙ ap₂ (λ (a b : Bool). a && b) (alike p r m n c o t) (alike r p n m (sym c) t o) ∙ sym (eqb-leb (l′ p) (l′ r))
+
+    same-first : (q p : ℕ) → q < R .n → p < R .n → isOpen R S q ≡ true → firsts (ours (R .component q)) l (l q) p ≡ firsts (ours (R .component q)) l′ (l′ q) p
+    unfolding firsts
+    same-first q p k m o =
+        bif (ours (R .component q) p)
+        (λ t. ap₂ (λ (a b : Bool). ours (R .component q) p && (a && not b)) (alike p q m k (ours-comp (R .component q) p t) (ours-open (R .component q) p t) o)
+        (some-ext p _ _ (λ r n. bif (ours (R .component q) r)
+        (λ v. ap (λ (b : Bool). ours (R .component q) r && b)
+        (same-class r p (omega arith) m (ours-comp (R .component q) r v ∙ sym (ours-comp (R .component q) p t)) (ours-open (R .component q) r v) (ours-open (R .component q) p t)))
+        (λ v. rw v))))
+        (λ t. rw t)
+
+    pub rank-order : (q : ℕ) → q < R .n → rankOf R S l q ≡ rankOf R S l′ q
+    rank-order q k =
+        rank-is l q
+        ∙ bif (isOpen R S q) (λ t. ap (λ (x : ℕ). cond (isOpen R S q) x 0) (count-ext (R .n) _ _ (λ p m. same-first q p k m t))) (λ t. rw t)
+        ∙ sym (rank-is l′ q)
+
+  -- ranks against counts of values
+  pub taken-own : (l : ℕ → ℕ) (q : ℕ) → q < R .n → isOpen R S q ≡ true → taken R S l (R .component q) (l q) ≡ true
+  unfolding taken
+  taken-own l q k o = some-at (R .n) _ q k (and-i (eq-eqb (R .component q) _ refl) (and-i o (eq-eqb (l q) _ refl)))
+
+  pub rank-open-is : (l : ℕ → ℕ) (q : ℕ) → isOpen R S q ≡ true → rankOf R S l q ≡ count (suc (l q)) (taken R S l (R .component q))
+  unfolding rankOf
+  rank-open-is l q o = ap (λ (b : Bool). cond b (count (suc (l q)) (taken R S l (R .component q))) 0) o
+
+  pub rank-upto : (l : ℕ → ℕ) (q : ℕ) → q < R .n → isOpen R S q ≡ true → (c : ℕ) → leb (rankOf R S l q) (count (suc c) (taken R S l (R .component q))) ≡ leb (l q) c
+  rank-upto l q k o c =
+      let e = rank-open-is l q o in
+      by-cases (decLe (l q) c)
+      (λ h. let m = count-le (suc (l q)) (suc c) (taken R S l (R .component q)) (omega arith) in
+      le-leb (rankOf R S l q) (count (suc c) (taken R S l (R .component q))) (omega arith) ∙ sym (le-leb (l q) c h))
+      (λ h. let v = count-lt (l q) (suc (l q)) (taken R S l (R .component q)) (omega arith) (taken-own l q k o) in
+      let m = count-le (suc c) (l q) (taken R S l (R .component q)) (omega arith) in
+      lt-leb (rankOf R S l q) (count (suc c) (taken R S l (R .component q))) (omega arith) ∙ sym (lt-leb (l q) c (omega arith)))

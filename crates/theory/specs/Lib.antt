@@ -1,0 +1,12 @@
+pub mod Rule
+pub mod Components
+pub mod Passing
+pub mod Word
+pub mod Automaton
+pub mod Plan
+pub mod Core
+pub mod Code
+pub mod Macrostate
+pub mod Table
+pub mod Run
+pub mod Demand

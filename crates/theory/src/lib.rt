@@ -1,0 +1,1 @@
+// Alternating weak Büchi automata and the preorder construction: definitions and theorems, no code.
