@@ -1,21 +1,21 @@
 -- The members of masks: of a conjunction, a disjunction, a difference, a complement, a power of two; masks by their members; how many there are.
-use mathlib.Core.Path.{_≡_, refl, sym, _∙_, ap, ap₂}
+use mathlib.Core.Path.{_≡_, refl, sym, _∙_, ap}
 use mathlib.Core.Logic.{_↔_, by-cases}
-use mathlib.Core.Bool.{Bool, true, false, _&&_, _||_, not, cond}
+use mathlib.Core.Bool.{Bool, true, false, _&&_, _||_, not, or-assoc}
 use Prim.Native.Nat.{ℕ, zero, suc, _+_, _-_, _*_, _/_, _%_, _^_, _≤_, _<_, min, max}
 use native.Mathlib.Omega.{arith}
 use native.Mathlib.Decide.{decLt, ℕ-discrete}
-use native.Mathlib.Nat.{zero-div, div-eq-of-lt, lt-of-lt-of-le, mod-lt, mod-eq-of-lt, one-mul, add-zero, pow-suc}
-use native.Mathlib.Numerals.{add-one, one-add}
+use native.Mathlib.Nat.{zero-div, div-eq-of-lt, lt-of-lt-of-le, mod-lt, pow-suc}
+use native.Mathlib.Numerals.{one-add}
 use lib.Dec.{eqb, ltb}
-use lib.Bits.{bitAnd, bitOr, bitXor, differ, and-shr, or-shr, xor-shr, and-step, or-step, xor-step, and-le-l, and-le-r, and-comm, or-add-and, or-lt}
-use lib.Count.{ones, ones-cat, ones-le, onesIn}
+use lib.Bits.{bitAnd, bitOr, bitXor, differ, and-shr, or-shr, xor-shr, and-step, or-step, xor-step, and-le-l, and-le-r, or-add-and}
+use lib.Count.{ones, ones-cat, onesIn}
 use lib.Pow.{pow-pos, pow-mono, pow-lt, shr-lt, shr-shr, split, ones-lt}
 use lib.Arith.{lt-one, digits-div}
 use borrow.Author.Tests.{eqb-true, eqb-false, eq-eqb, ne-eqb, lt-ltb, le-ltb}
 use Rattle.sets.specs.Tests.{Set, one, count}
 use Rattle.sets.specs.Masks.{bit, mask, xor}
-use Rattle.sets.proofs.Bools.{bif, clash, and-l, and-r, and-i, iff}
+use Rattle.sets.proofs.Bools.{bif, clash, and-r}
 use Rattle.sets.proofs.Tests.{count-ext}
 use Rattle.sets.proofs.Digits.{digits-eq}
 use Rattle.sets.proofs.Masks.{above, mask-lt, bit-mask}
@@ -201,6 +201,24 @@ subset-le k a b h s = omega (arith, subset-and k a b h .0 s, and-le-r a b)
 -- the disjunction is at least each part
 pub or-ge : (a b : ℕ) → a ≤ bitOr a b
 or-ge a b = omega (arith, or-add-and a b, and-le-r a b)
+
+lt-pow : (n : ℕ) → n < 2 ^ n
+lt-pow zero = omega arith
+lt-pow (suc n) = rw pow-suc (omega (arith, lt-pow n))
+
+-- masks with the same bits at all numbers
+pub bit-ext-all : (a b : ℕ) → ((q : ℕ) → bit a q ≡ bit b q) → a ≡ b
+bit-ext-all a b h =
+    let k : ℕ = a + b in
+    bit-ext k a b (lt-of-lt-of-le (lt-pow a) (pow-mono {i = a} {j = k} (omega arith))) (lt-of-lt-of-le (lt-pow b) (pow-mono {i = b} {j = k} (omega arith))) (λ q l. h q)
+
+or-bits : (a b c q : ℕ) → bit (bitOr (bitOr a b) c) q ≡ bit (bitOr a (bitOr b c)) q
+or-bits a b c q =
+    bit-or (bitOr a b) c q ∙ ap (λ (x : Bool). x || bit c q) (bit-or a b q) ∙ or-assoc (bit a q) (bit b q) (bit c q)
+    ∙ sym (bit-or a (bitOr b c) q ∙ ap (λ (x : Bool). bit a q || x) (bit-or b c q))
+
+pub bit-or-assoc : (a b c : ℕ) → bitOr (bitOr a b) c ≡ bitOr a (bitOr b c)
+bit-or-assoc a b c = bit-ext-all (bitOr (bitOr a b) c) (bitOr a (bitOr b c)) (or-bits a b c)
 
 -- ---- how many members
 

@@ -6,4 +6,5 @@ pub mod Digits
 pub mod Lists
 pub mod Bits
 pub mod Members
+pub mod Walks
 pub mod Rows

@@ -9,17 +9,17 @@ use native.Mathlib.Nat.{add-zero, zero-add}
 use native.Mathlib.Numerals.{add-one}
 use lib.Dec.{eqb, eqb·suc-suc, eqb·suc-zero}
 use lib.ListN.{length}
-use lib.Bits.{bitAnd, and-step, and-self, and-le-l, and-le-r}
+use lib.Bits.{bitAnd, and-step, and-self}
 use lib.Count.{ones, onesIn, ones-step, trailingZeros, under}
 use lib.Pow.{shr-lt}
 use lib.Arith.{lt-one}
 use borrow.Author.Tests.{eqb-true, eqb-false, eq-eqb}
-use Rattle.sets.specs.Tests.{Set, every, count, first}
+use Rattle.sets.specs.Tests.{Set, count, first}
 use Rattle.sets.specs.Masks.{bit, inside, prepend, membersFrom, members}
 use Rattle.sets.specs.Lists.{allOf}
-use Rattle.sets.proofs.Bools.{bif, clash, and-l, and-r, and-i, or-tf, or-l, or-r, iff}
+use Rattle.sets.proofs.Bools.{bif, and-l, and-r, and-i, or-tf, or-l, or-r, iff}
 use Rattle.sets.proofs.Tests.{every-at, every-all, every-trim, first-yes, first-no}
-use Rattle.sets.proofs.Bits.{bit-zero, bit-half, bit-none, bit-high, ones-count}
+use Rattle.sets.proofs.Bits.{bit-zero, bit-half, bit-high, ones-count}
 
 -- ---- dropping the least member
 

@@ -1,12 +1,12 @@
 -- The first row that applies.
 use mathlib.Core.Path.{_≡_, refl, sym, _∙_, ap}
 use mathlib.Core.Logic.{_↔_, ⊎-elim}
-use mathlib.Core.Bool.{Bool, true, false, cond}
-use mathlib.Core.List.{List, [], _∷_, _++_, List·Memᴰ, List·Memᴰ·head, List·Memᴰ·tail, List·Memᴰ·cases-cons, List·Memᴰ·not-nil, Memᴰ·append-right}
+use mathlib.Core.Bool.{true, false}
+use mathlib.Core.List.{List, [], _∷_, _++_, List·Memᴰ, List·Memᴰ·head, List·Memᴰ·tail, List·Memᴰ·cases-cons, List·Memᴰ·not-nil}
 use Prim.Native.Nat.{ℕ, _<_}
 use native.Mathlib.Omega.{arith}
 use Rattle.sets.specs.Rows.{Check, firstRow}
-use Rattle.sets.proofs.Bools.{bif, clash}
+use Rattle.sets.proofs.Bools.{bif}
 
 -- each row has a number above 0
 abbrev pub Numbered : List Check → Type 0
@@ -86,3 +86,19 @@ none-row (c ∷ cs) h = row-no c cs (h c (List·Memᴰ·head refl)) ∙ none-row
 -- The answer is 0 exactly if no row applies.
 pub no-row-iff : (cs : List Check) → Numbered cs → (firstRow cs ≡ 0) ↔ NoneApplies cs
 no-row-iff cs h = (λ e. row-none cs h e, λ n. none-row cs n)
+
+-- ---- one table after another
+
+-- a row of the first table
+pub row-append-hit : (cs ds : List Check) (k : ℕ) → 0 < k → firstRow cs ≡ k → firstRow (cs ++ ds) ≡ k
+unfolding firstRow
+row-append-hit [] ds k p e = absurd (omega arith)
+row-append-hit (c ∷ cs) ds k p e =
+    bif (c .applies)
+    (λ t. row-yes c (cs ++ ds) t ∙ sym (row-yes c cs t) ∙ e)
+    (λ t. row-no c (cs ++ ds) t ∙ row-append-hit cs ds k p (sym (row-no c cs t) ∙ e))
+
+-- no row of the first table
+pub row-append-none : (cs ds : List Check) → NoneApplies cs → firstRow (cs ++ ds) ≡ firstRow ds
+row-append-none [] ds h = refl
+row-append-none (c ∷ cs) ds h = row-no c (cs ++ ds) (h c (List·Memᴰ·head refl)) ∙ row-append-none cs ds (λ x m. h x (List·Memᴰ·tail m))

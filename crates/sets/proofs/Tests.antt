@@ -1,13 +1,13 @@
 -- Laws of `every`, `some`, `count`, `first` and `largest`.
 use mathlib.Core.Path.{_≡_, refl, sym, _∙_, ap, ap₂}
 use mathlib.Core.Logic.{_⊎_, inl, inr, ⊎-elim, by-cases}
-use mathlib.Core.Bool.{Bool, true, false, _&&_, _||_, true≢false, false≢true, and-true, or-true, or-false}
+use mathlib.Core.Bool.{Bool, true, false, _&&_, _||_, true≢false, false≢true, and-true, and-false, or-true, or-false}
 use Prim.Native.Nat.{ℕ, zero, suc, _+_, _≤_, _<_, max}
 use native.Mathlib.Decide.{decLt, decLe, ℕ-discrete}
 use native.Mathlib.Omega.{arith}
 use native.Mathlib.Nat.{add-zero, zero-add}
-use lib.Dec.{leb}
-use borrow.Author.Tests.{leb-true, le-leb}
+use lib.Dec.{leb, ltb}
+use borrow.Author.Tests.{leb-true, le-leb, lt-leb, lt-ltb}
 use Rattle.sets.specs.Tests.{Set, every, some, count, one, first, largest}
 use Rattle.sets.proofs.Bools.{bif, clash, and-l, and-r, and-i, and-fl, or-cases}
 
@@ -256,6 +256,18 @@ largest-trim (suc m) n f g l h =
     (λ e. rw e)
     (λ e. largest-no m f g (h m (omega arith) (omega arith)) ∙ largest-trim m n f g (omega arith) (λ p a b. h p a (omega arith)))
 
+-- the largest value is that of some number
+pub largest-hit : (n : ℕ) (f : Set) (g : ℕ → ℕ) → 0 < largest n f g → (q : ℕ) × (q < n) × (f q ≡ true) × (g q ≡ largest n f g)
+unfolding largest
+largest-hit zero f g h = absurd (omega arith)
+largest-hit (suc n) f g h =
+    bif (f n)
+    (λ t. let y = largest-yes n f g t in
+    by-cases (decLe (largest n f g) (g n))
+    (λ k. (n, omega arith, t, omega arith))
+    (λ k. let r = largest-hit n f g (omega arith) in (r .0, omega (arith, r .1), r .2, omega (arith, r .3))))
+    (λ t. let y = largest-no n f g t in let r = largest-hit n f g (omega arith) in (r .0, omega (arith, r .1), r .2, omega (arith, r .3)))
+
 -- ---- counts have no gap
 
 -- each number below the count is the count up to some member
@@ -268,3 +280,22 @@ count-hit (suc m) f j l =
     (λ h. bif (f m)
     (λ t. let e : one (f m) ≡ 1 = rw t in (m, omega arith, t, omega arith))
     (λ t. let e : one (f m) ≡ 0 = rw t in absurd (omega arith)))
+
+-- the numbers above 0
+count-above : (n : ℕ) → count n (λ j. ltb 0 j) + one (ltb 0 n) ≡ n
+unfolding count
+count-above zero = refl
+count-above (suc n) = let ih = count-above n in let z : one (ltb 0 (suc n)) ≡ 1 = ap one (lt-ltb 0 (suc n) (omega arith)) in omega arith
+
+-- the numbers from 1 to M
+pub count-upto : (n M : ℕ) → M < n → count n (λ j. ltb 0 j && leb j M) ≡ M
+unfolding count
+count-upto zero M h = absurd (omega arith)
+count-upto (suc n) M h =
+    by-cases (decLt M n)
+    (λ k. let z : one (ltb 0 n && leb n M) ≡ 0 = ap (λ (b : Bool). one (ltb 0 n && b)) (lt-leb n M k) ∙ ap one (and-false (ltb 0 n)) in
+    let ih = count-upto n M k in omega arith)
+    (λ k. let e : M ≡ n = omega arith in
+    let below = count-ext n (λ j. ltb 0 j && leb j M) (λ j. ltb 0 j) (λ j l. ap (λ (b : Bool). ltb 0 j && b) (le-leb j M (omega arith)) ∙ and-true (ltb 0 j)) in
+    let here : one (ltb 0 n && leb n M) ≡ one (ltb 0 n) = ap (λ (b : Bool). one (ltb 0 n && b)) (le-leb n M (omega arith)) ∙ ap one (and-true (ltb 0 n)) in
+    omega (arith, count-above n))

@@ -1,0 +1,10 @@
+use native.Mathlib.Omega.{arith}
+use Rattle.masks.proofs.Sets.{difference-is}
+use Rattle.masks.proofs.difference.Statement.{statement}
+use Rattle.masks.proofs.difference.Tie as tie
+
+returns : tie.Need-returns
+returns c = difference-is (c .args .a) (c .args .b) (omega arith) (omega arith)
+
+pub difference-spec : {M : Type 1} → statement M
+difference-spec = tie.close (tie.spec returns)

@@ -1,0 +1,16 @@
+use borrow.Author.Needs.{needs}
+use Rattle.masks.proofs.Sets.{single-is}
+use Rattle.masks.proofs.single.Statement.{statement}
+use Rattle.masks.proofs.single.Tie as tie
+
+cast-result : tie.Need-cast-result
+cast-result c = search needs
+
+shl-result : tie.Need-shl-result
+shl-result c = search needs
+
+returns : tie.Need-returns
+returns c = single-is (c .args .q) (c .pre)
+
+pub single-spec : {M : Type 1} → statement M
+single-spec = tie.close (tie.spec cast-result shl-result returns)

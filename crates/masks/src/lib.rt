@@ -1,0 +1,94 @@
+// Sets of states as masks: state q has weight 2 to the power q.
+ghost use mathlib.Core.Path.{_≡_};
+ghost use Prim.Native.Nat.{_<_, _≤_};
+ghost use Rattle.sets.specs.Tests.{count, first};
+ghost use Rattle.sets.specs.Masks.{bit, inside, members};
+ghost use Rattle.masks.specs.Sets.{singleOf, unionOf, intersectionOf, differenceOf, fullOf, restOf, unionOver};
+
+// Whether state q is in the set m.
+pub fn contains(m: u8, q: u32) -> bool
+    requires { ⌜ q < 8 ⌝ }
+    ensures { λ r. ⌜ r ≡ bit m q ⌝ }
+{
+    (m >> q) & 1 == 1
+}
+
+// The set of state q alone.
+pub fn single(q: u32) -> u8
+    requires { ⌜ q < 8 ⌝ }
+    ensures { λ r. ⌜ r ≡ singleOf q ⌝ }
+{
+    1u8 << q
+}
+
+// The states in a or in b.
+pub fn union(a: u8, b: u8) -> u8
+    ensures { λ r. ⌜ r ≡ unionOf a b ⌝ }
+{
+    a | b
+}
+
+// The states in both a and b.
+pub fn intersection(a: u8, b: u8) -> u8
+    ensures { λ r. ⌜ r ≡ intersectionOf a b ⌝ }
+{
+    a & b
+}
+
+// The states in a and not in b.
+pub fn difference(a: u8, b: u8) -> u8
+    ensures { λ r. ⌜ r ≡ differenceOf a b ⌝ }
+{
+    a & !b
+}
+
+// Whether all states of a are in b.
+pub fn is_subset(a: u8, b: u8) -> bool
+    ensures { λ r. ⌜ r ≡ inside 8 (bit b) a ⌝ }
+{
+    a & b == a
+}
+
+// The states below n.
+pub fn full(n: u32) -> u8
+    requires { ⌜ n ≤ 8 ⌝ }
+    ensures { λ r. ⌜ r ≡ fullOf n ⌝ }
+{
+    ((1u32 << n) - 1) as u8
+}
+
+// How many states are in m.
+pub fn size(m: u8) -> u32
+    ensures { λ r. ⌜ r ≡ count 8 (bit m) ⌝ }
+{
+    u8::count_ones(m)
+}
+
+// The least state of m, or 8 if m is empty.
+pub fn least(m: u8) -> u32
+    ensures { λ r. ⌜ r ≡ first 8 (bit m) 0 ⌝ }
+{
+    u8::trailing_zeros(m)
+}
+
+// The set m without its least state.
+pub fn without_least(m: u8) -> u8
+    requires { ⌜ 0 < m ⌝ }
+    ensures { λ r. ⌜ r ≡ restOf m ⌝ }
+{
+    m & (m - 1)
+}
+
+// The union of the masks es[q] of all states q of m.
+pub fn union_over(m: u8, es: &[u8; 8]) -> u8
+    ensures { λ r. ⌜ r ≡ unionOver (now (es .entry)) (members m) ⌝ }
+{
+    let mut r: u8 = 0;
+    let mut left = m;
+    while left != 0 {
+        let q = u8::trailing_zeros(left) as usize;
+        r |= es[q];
+        left &= left - 1;
+    }
+    r
+}
