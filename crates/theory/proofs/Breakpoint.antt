@@ -1,37 +1,36 @@
 -- The sets of an accepting run are certified.
 use mathlib.Core.Path.{_≡_, refl, sym, _∙_, ap}
-use mathlib.Core.Logic.{_⊎_, inl, inr, ⊎-elim, by-cases}
-use mathlib.Core.Bool.{Bool, true, false, _&&_, _||_, not, cond, true≢false, false≢true}
-use mathlib.Core.List.{List}
+use mathlib.Core.Logic.{by-cases}
+use mathlib.Core.Bool.{true, _&&_}
 use Prim.Native.Nat.{ℕ, zero, suc, _+_, _-_, _≤_, _<_}
 use native.Mathlib.Omega.{arith}
-use native.Mathlib.Decide.{decLe, ℕ-discrete}
+use native.Mathlib.Decide.{ℕ-discrete}
 use native.Mathlib.Nat.{add-zero, zero-add}
-use lib.Dec.{eqb, leb}
-use borrow.Author.Tests.{leb-true, leb-false, le-leb, lt-leb, eqb-true, eqb-false, eq-eqb, ne-eqb}
-use Rattle.sets.specs.Masks.{bit}
-use Rattle.sets.specs.Tests.{Set, some, count, first, largest}
-use Rattle.sets.proofs.Bools.{bif, clash, and-l, and-r, and-i}
+use lib.Dec.{leb}
+use borrow.Author.Tests.{leb-true, le-leb, eq-eqb}
+use Rattle.sets.specs.Tests.{Set}
+use Rattle.sets.proofs.Bools.{and-l, and-r, and-i}
 use Rattle.sets.proofs.Tests.{largest-ge}
 use Rattle.theory.specs.Automaton.{Automaton}
-use Rattle.theory.specs.Core.{isOpen, settled, test, levelOf, rankOf, openOf, nextComponent}
-use Rattle.theory.specs.Rule.{satisfies}
-use Rattle.theory.proofs.Certified.{Layered, discharged, Certified, Backed, Run}
-use Rattle.theory.proofs.Ranks.{settled-mono, settled-open, levAt, lev-test, rank-pos}
+use Rattle.theory.specs.Core.{isOpen, settled, test, openOf, nextComponent}
+use Rattle.theory.proofs.Certified.{Layered, discharged, Certified, Run}
+use Rattle.theory.proofs.Cores.{next-below, next-last, next-low}
+use Rattle.theory.proofs.Ranks.{settled-open, levAt, lev-test, rank-pos}
+use Rattle.theory.proofs.Settled.{settled-mono}
 
-module _ (R : Automaton) (H : Layered R) (B : ℕ) (w : ℕ → ℕ) (S : ℕ → Set) (r : ℕ → ℕ → ℕ) (K k : ℕ → ℕ) (run : Run R B w S r K k) where
+module _ (A : Automaton) (H : Layered A) (B : ℕ) (w : ℕ → ℕ) (S : ℕ → Set) (r : ℕ → ℕ → ℕ) (K k : ℕ → ℕ) (run : Run A B w S r K k) where
   -- the open states of component C at i are discharged within d
   Clear : ℕ → ℕ → ℕ → Type 0
-  Clear i d C = (q : ℕ) → q < R .n → R .component q ≡ C → isOpen R (S i) q ≡ true → discharged R suc w S i d q ≡ true
+  Clear i d C = (q : ℕ) → q < A .n → A .component q ≡ C → isOpen A (S i) q ≡ true → discharged A suc w S i d q ≡ true
 
-  discharged-intro : (i d q : ℕ) → isOpen R (S i) q ≡ true → settled R (S (suc i)) (discharged R suc w S (suc i) d) q (R .entry q (w i)) ≡ true → discharged R suc w S i (suc d) q ≡ true
+  discharged-intro : (i d q : ℕ) → isOpen A (S i) q ≡ true → settled A (S (suc i)) (discharged A suc w S (suc i) d) q (A .entry q (w i)) ≡ true → discharged A suc w S i (suc d) q ≡ true
   unfolding discharged
   discharged-intro i d q o t = and-i o t
 
   -- one step earlier
   earlier : (i d C : ℕ) → Clear (suc i) d C → Clear i (suc d) C
   unfolding Clear
-  earlier i d C h q l c o = discharged-intro i d q o (settled-mono R _ (isOpen R (S (suc i))) _ q _ (λ p m s t. h p m (s ∙ c) t) (settled-open R H B w S (run .backed .exact) i q l o))
+  earlier i d C h q l c o = discharged-intro i d q o (settled-mono A _ (isOpen A (S (suc i))) _ q _ (λ p m s t. h p m (s ∙ c) t) (settled-open A H B w S (run .backed .exact) i q l o))
 
   far-earlier : (t i d C : ℕ) → Clear (i + t) d C → (e : ℕ) × Clear i e C
   far-earlier zero i d C h = (d, rw add-zero at h)
@@ -42,21 +41,21 @@ module _ (R : Automaton) (H : Layered R) (B : ℕ) (w : ℕ → ℕ) (S : ℕ �
 
   -- the classes that are left at i are discharged by the next accepting step
   Left : ℕ → ℕ → Type 0
-  Left i d = (q : ℕ) → q < R .n → R .component q ≡ K i → isOpen R (S i) q ≡ true → r i q ≤ k i → discharged R suc w S i d q ≡ true
+  Left i d = (q : ℕ) → q < A .n → A .component q ≡ K i → isOpen A (S i) q ≡ true → r i q ≤ k i → discharged A suc w S i d q ≡ true
 
   left-0 : (i : ℕ) → k i ≡ 0 → Left i 0
   unfolding Left
-  left-0 i z q l c o h = let p = rank-pos R H B w S (run .backed .exact) r (run .backed .bound) (run .backed .ranked) i q l o in absurd (omega arith)
+  left-0 i z q l c o h = let p = rank-pos A H B w S (run .backed .exact) r (run .backed .bound) (run .backed .ranked) i q l o in absurd (omega arith)
 
   left-suc : (i d : ℕ) → (k i ≡ 0 → ⊥) → Left (suc i) d → Left i (suc d)
   unfolding Left test openOf
   left-suc i d nz f q l c o h =
-      let low = largest-ge (R .n) (λ q. openOf R (S i) (K i) q && leb (r i q) (k i)) (levAt R B w S r i) q l (and-i (and-i (eq-eqb _ _ c) o) (le-leb _ _ h)) in
+      let low = largest-ge (A .n) (λ q. openOf A (S i) (K i) q && leb (r i q) (k i)) (levAt A B w S r i) q l (and-i (and-i (eq-eqb _ _ c) o) (le-leb _ _ h)) in
       let e = run .stay-k i nz in
-      let pass : test R (S (suc i)) (r (suc i)) q (R .entry q (w i)) (k (suc i)) ≡ true
-      = sym (lev-test R H B w S (run .backed .exact) r (run .backed .bound) i q l o (k (suc i))) ∙ le-leb (levAt R B w S r i q) (k (suc i)) (omega arith) in
-      discharged-intro i d q o (settled-mono R _ _ _ q _
-      (λ p m s t. f p m (s ∙ c ∙ sym (run .stay-K i nz)) (and-l (isOpen R (S (suc i)) p) _ t) (leb-true _ _ (and-r (isOpen R (S (suc i)) p) _ t))) pass)
+      let pass : test A (S (suc i)) (r (suc i)) q (A .entry q (w i)) (k (suc i)) ≡ true
+      = sym (lev-test A H B w S (run .backed .exact) r (run .backed .bound) i q l o (k (suc i))) ∙ le-leb (levAt A B w S r i q) (k (suc i)) (omega arith) in
+      discharged-intro i d q o (settled-mono A _ _ _ q _
+      (λ p m s t. f p m (s ∙ c ∙ sym (run .stay-K i nz)) (and-l (isOpen A (S (suc i)) p) _ t) (leb-true _ _ (and-r (isOpen A (S (suc i)) p) _ t))) pass)
 
   left-go : (t i : ℕ) → k (i + t) ≡ 0 → (d : ℕ) × Left i d
   left-go zero i e = (0, left-0 i (rw add-zero at e))
@@ -68,7 +67,7 @@ module _ (R : Automaton) (H : Layered R) (B : ℕ) (w : ℕ → ℕ) (S : ℕ �
       (suc (f .0), left-suc i (f .0) nz (f .1)))
 
   -- after an accepting step all of the new component is discharged
-  turn : (i : ℕ) → k i ≡ 0 → (d : ℕ) × Clear (suc i) d (nextComponent R (K i))
+  turn : (i : ℕ) → k i ≡ 0 → (d : ℕ) × Clear (suc i) d (nextComponent A (K i))
   unfolding Clear Left openOf
   turn i z =
       let a = run .accepts (suc i) in
@@ -76,7 +75,7 @@ module _ (R : Automaton) (H : Layered R) (B : ℕ) (w : ℕ → ℕ) (S : ℕ �
       let f = left-go (a .0 - suc i) (suc i) (ap k x ∙ a .2) in (
         f .0,
         λ q l c o. f .1 q l (c ∙ sym (run .turn-K i z)) o
-            (let m = largest-ge (R .n) (openOf R (S (suc i)) (K (suc i))) (r (suc i)) q l (and-i (eq-eqb _ _ (c ∙ sym (run .turn-K i z))) o) in
+            (let m = largest-ge (A .n) (openOf A (S (suc i)) (K (suc i))) (r (suc i)) q l (and-i (eq-eqb _ _ (c ∙ sym (run .turn-K i z))) o) in
             let e = run .turn-k i z in omega arith),
       )
 
@@ -102,60 +101,49 @@ module _ (R : Automaton) (H : Layered R) (B : ℕ) (w : ℕ → ℕ) (S : ℕ �
       let x : i + (a .0 - i) ≡ a .0 = omega (arith, a .1) in
       stop-go (a .0 - i) i (ap k x ∙ a .2)
 
-  next-stop : (i C : ℕ) → Stop i C → Stop i (nextComponent R C)
+  next-stop : (i C : ℕ) → Stop i C → Stop i (nextComponent A C)
   next-stop i C s =
       let f = stop (suc (s .at)) in
-      record { at = f .at; later = omega (arith, f .later, s .later); zero-k = f .zero-k; comp-K = f .comp-K ∙ run .turn-K (s .at) (s .zero-k) ∙ ap (nextComponent R) (s .comp-K) }
-
-  next-below : (C : ℕ) → suc C < R .components → nextComponent R C ≡ suc C
-  unfolding nextComponent
-  next-below C h = rw (ne-eqb (suc C) (R .components) (λ e. omega arith))
-
-  next-last : (C : ℕ) → suc C ≡ R .components → nextComponent R C ≡ 0
-  unfolding nextComponent
-  next-last C h = rw (eq-eqb (suc C) (R .components) h)
+      record { at = f .at; later = omega (arith, f .later, s .later); zero-k = f .zero-k; comp-K = f .comp-K ∙ run .turn-K (s .at) (s .zero-k) ∙ ap (nextComponent A) (s .comp-K) }
 
   -- from a stop at C, a stop at C + t
-  up : (i C t : ℕ) → C + t < R .components → Stop i C → Stop i (C + t)
+  up : (i C t : ℕ) → C + t < A .components → Stop i C → Stop i (C + t)
   up i C zero h s = rw add-zero s
   up i C (suc t) h s =
       let x : C + suc t ≡ suc (C + t) = omega arith in
-      rw (x, ← next-below (C + t) (omega arith)) (next-stop i (C + t) (up i C t (omega arith) s))
+      rw (x, ← next-below A (C + t) (omega arith)) (next-stop i (C + t) (up i C t (omega arith) s))
 
-  pub comp-below : (i : ℕ) → 0 < R .components → K i < R .components
+  pub comp-below : (i : ℕ) → 0 < A .components → K i < A .components
   comp-below zero h = rw (run .start-K) h
   comp-below (suc i) h =
-      let ih = comp-below i h in
       by-cases (ℕ-discrete (k i) 0)
-      (λ z. by-cases (ℕ-discrete (suc (K i)) (R .components))
-      (λ e. rw (run .turn-K i z ∙ next-last (K i) e) h)
-      (λ e. rw (run .turn-K i z ∙ next-below (K i) (omega arith)) (omega arith)))
-      (λ nz. rw (run .stay-K i nz) ih)
+      (λ z. rw (run .turn-K i z) (next-low A (K i) (comp-below i h)))
+      (λ nz. rw (run .stay-K i nz) (comp-below i h))
 
-  stop-at : (i C : ℕ) → C < R .components → Stop i C
+  stop-at : (i C : ℕ) → C < A .components → Stop i C
   stop-at i C h =
       let b = comp-below i (omega arith) in
-      let x : suc (K i + (R .components - suc (K i))) ≡ R .components = omega arith in
-      let s = up i (K i) (R .components - suc (K i)) (omega arith) (stop i) in
-      let z : Stop i 0 = rw (next-last (K i + (R .components - suc (K i))) x) at (next-stop i _ s) in
+      let x : suc (K i + (A .components - suc (K i))) ≡ A .components = omega arith in
+      let s = up i (K i) (A .components - suc (K i)) (omega arith) (stop i) in
+      let z : Stop i 0 = rw (next-last A (K i + (A .components - suc (K i))) x) at (next-stop i _ s) in
       rw zero-add at (up i 0 C (omega arith) z)
 
   -- every component is discharged from every step
-  clear-from : (i C C′ : ℕ) → nextComponent R C′ ≡ C → Stop i C′ → (d : ℕ) × Clear i d C
+  clear-from : (i C C′ : ℕ) → nextComponent A C′ ≡ C → Stop i C′ → (d : ℕ) × Clear i d C
   clear-from i C C′ e s =
       let t = turn (s .at) (s .zero-k) in
       let x : suc (s .at) ≡ i + (suc (s .at) - i) = omega (arith, s .later) in
       far-earlier (suc (s .at) - i) i (t .0) C (rw (x, s .comp-K, e) at (t .1))
 
-  clear : (i C : ℕ) → C < R .components → (d : ℕ) × Clear i d C
+  clear : (i C : ℕ) → C < A .components → (d : ℕ) × Clear i d C
   clear i zero h =
-      let x : suc (R .components - 1) ≡ R .components = omega arith in
-      clear-from i 0 (R .components - 1) (next-last (R .components - 1) x) (stop-at i (R .components - 1) (omega arith))
-  clear i (suc C) h = clear-from i (suc C) C (next-below C h) (stop-at i C (omega arith))
+      let x : suc (A .components - 1) ≡ A .components = omega arith in
+      clear-from i 0 (A .components - 1) (next-last A (A .components - 1) x) (stop-at i (A .components - 1) (omega arith))
+  clear i (suc C) h = clear-from i (suc C) C (next-below A C h) (stop-at i C (omega arith))
 
-  pub certified : Certified R suc w S
+  pub certified : Certified A suc w S
   unfolding Clear
   certified = record {
     exact = run .backed .exact;
-    finite = λ i q l o. let c = clear i (R .component q) (H .few q l) in (c .0, c .1 q l refl o);
+    finite = λ i q l o. let c = clear i (A .component q) (H .few q l) in (c .0, c .1 q l refl o);
   }

@@ -1,15 +1,15 @@
 -- Ranks depend on the order of the levels alone, and there are no more of them than states.
 use mathlib.Core.Path.{_≡_, refl, sym, _∙_, ap, ap₂}
-use mathlib.Core.Logic.{_⊎_, inl, inr, ⊎-elim, by-cases}
+use mathlib.Core.Logic.{by-cases}
 use mathlib.Core.Bool.{Bool, true, false, _&&_, _||_, not, cond, or-false, or-true, and-false, and-assoc}
 use Prim.Native.Nat.{ℕ, zero, suc, _+_, _≤_, _<_}
 use native.Mathlib.Omega.{arith}
 use native.Mathlib.Decide.{decLe, decLt, ℕ-discrete}
 use lib.Dec.{eqb, leb, ltb, leb·suc-suc}
-use borrow.Author.Tests.{leb-true, leb-false, le-leb, lt-leb, eqb-true, eqb-false, eq-eqb, ne-eqb, lt-ltb, le-ltb}
+use borrow.Author.Tests.{le-leb, lt-leb, eqb-true, eq-eqb, ne-eqb, lt-ltb, le-ltb}
 use Rattle.sets.specs.Tests.{Set, some, count, one}
-use Rattle.sets.proofs.Bools.{bif, clash, and-l, and-r, and-i}
-use Rattle.sets.proofs.Tests.{count-ext, some-ext, some-at, count-le, count-lt, count-max}
+use Rattle.sets.proofs.Bools.{bif, and-l, and-r, and-i}
+use Rattle.sets.proofs.Tests.{count-ext, some-ext, some-at, count-le, count-lt, count-max, count-sub}
 use Rattle.theory.specs.Automaton.{Automaton}
 use Rattle.theory.specs.Core.{isOpen, taken, rankOf}
 
@@ -66,70 +66,77 @@ values (suc n) m g l =
     let x = insert (suc m) (l n) (λ j. some n (λ p. g p && eqb (l p) j)) (g n) in
     x ∙ ap₂ _+_ ih (ap (λ (b : Bool). one (g n && (b && not (some n (λ p. g p && eqb (l p) (l n)))))) (leb·suc-suc (l n) m))
 
-module _ (R : Automaton) (B : ℕ) (S : Set) where
+module _ (A : Automaton) (S : Set) where
   -- the open states of component K
   ours : ℕ → Set
-  ours K p = eqb (R .component p) K && isOpen R S p
+  ours K p = eqb (A .component p) K && isOpen A S p
 
-  taken-is : (l : ℕ → ℕ) (K j : ℕ) → taken R S l K j ≡ some (R .n) (λ p. ours K p && eqb (l p) j)
+  taken-is : (l : ℕ → ℕ) (K j : ℕ) → taken A S l K j ≡ some (A .n) (λ p. ours K p && eqb (l p) j)
   unfolding taken ours
-  taken-is l K j = some-ext (R .n) _ _ (λ p m. sym (and-assoc (eqb (R .component p) K) (isOpen R S p) (eqb (l p) j)))
+  taken-is l K j = some-ext (A .n) _ _ (λ p m. sym (and-assoc (eqb (A .component p) K) (isOpen A S p) (eqb (l p) j)))
 
-  rank-is : (l : ℕ → ℕ) (q : ℕ) → rankOf R S l q ≡ cond (isOpen R S q) (count (R .n) (firsts (ours (R .component q)) l (l q))) 0
+  rank-is : (l : ℕ → ℕ) (q : ℕ) → rankOf A S l q ≡ cond (isOpen A S q) (count (A .n) (firsts (ours (A .component q)) l (l q))) 0
   unfolding rankOf
-  rank-is l q = ap (λ (x : ℕ). cond (isOpen R S q) x 0) (count-ext (suc (l q)) _ _ (λ j m. taken-is l (R .component q) j) ∙ values (R .n) (l q) (ours (R .component q)) l)
+  rank-is l q = ap (λ (x : ℕ). cond (isOpen A S q) x 0) (count-ext (suc (l q)) _ _ (λ j m. taken-is l (A .component q) j) ∙ values (A .n) (l q) (ours (A .component q)) l)
 
   -- ranks are at most n
-  pub rank-max : (l : ℕ → ℕ) (q : ℕ) → rankOf R S l q ≤ R .n
-  rank-max l q = rw (rank-is l q) (bif (isOpen R S q) (λ t. rw t (count-max (R .n) _)) (λ t. rw t (omega arith)))
+  pub rank-max : (l : ℕ → ℕ) (q : ℕ) → rankOf A S l q ≤ A .n
+  rank-max l q = rw (rank-is l q) (bif (isOpen A S q) (λ t. rw t (count-max (A .n) _)) (λ t. rw t (omega arith)))
 
-  ours-comp : (K p : ℕ) → ours K p ≡ true → R .component p ≡ K
-  unfolding ours
-  ours-comp K p e = eqb-true _ _ (and-l (eqb (R .component p) K) (isOpen R S p) e)
+  -- and at most the size of the component
+  pub rank-comp : (l : ℕ → ℕ) (q : ℕ) → rankOf A S l q ≤ count (A .n) (λ p. eqb (A .component p) (A .component q))
+  unfolding firsts ours
+  rank-comp l q = rw (rank-is l q) (bif (isOpen A S q)
+      (λ t. rw t (count-sub (A .n) _ _ (λ p m e. and-l (eqb (A .component p) (A .component q)) (isOpen A S p) (and-l (ours (A .component q) p) _ e))))
+      (λ t. rw t (omega arith)))
 
-  ours-open : (K p : ℕ) → ours K p ≡ true → isOpen R S p ≡ true
+  ours-comp : (K p : ℕ) → ours K p ≡ true → A .component p ≡ K
   unfolding ours
-  ours-open K p e = and-r (eqb (R .component p) K) (isOpen R S p) e
+  ours-comp K p e = eqb-true _ _ (and-l (eqb (A .component p) K) (isOpen A S p) e)
+
+  ours-open : (K p : ℕ) → ours K p ≡ true → isOpen A S p ≡ true
+  unfolding ours
+  ours-open K p e = and-r (eqb (A .component p) K) (isOpen A S p) e
 
   -- two ways to number the open states of a component that order them alike
   module _ (l l′ : ℕ → ℕ)
-      (alike : (p r : ℕ) → p < R .n → r < R .n → R .component p ≡ R .component r → isOpen R S p ≡ true → isOpen R S r ≡ true → leb (l p) (l r) ≡ leb (l′ p) (l′ r)) where
-    same-class : (p r : ℕ) → p < R .n → r < R .n → R .component p ≡ R .component r → isOpen R S p ≡ true → isOpen R S r ≡ true → eqb (l p) (l r) ≡ eqb (l′ p) (l′ r)
+      (alike : (p r : ℕ) → p < A .n → r < A .n → A .component p ≡ A .component r → isOpen A S p ≡ true → isOpen A S r ≡ true → leb (l p) (l r) ≡ leb (l′ p) (l′ r)) where
+    same-class : (p r : ℕ) → p < A .n → r < A .n → A .component p ≡ A .component r → isOpen A S p ≡ true → isOpen A S r ≡ true → eqb (l p) (l r) ≡ eqb (l′ p) (l′ r)
     same-class p r m n c o t =
         eqb-leb (l p) (l r) ∙ ap₂ (λ (a b : Bool). a && b) (alike p r m n c o t) (alike r p n m (sym c) t o) ∙ sym (eqb-leb (l′ p) (l′ r))
 
-    same-first : (q p : ℕ) → q < R .n → p < R .n → isOpen R S q ≡ true → firsts (ours (R .component q)) l (l q) p ≡ firsts (ours (R .component q)) l′ (l′ q) p
+    same-first : (q p : ℕ) → q < A .n → p < A .n → isOpen A S q ≡ true → firsts (ours (A .component q)) l (l q) p ≡ firsts (ours (A .component q)) l′ (l′ q) p
     unfolding firsts
     same-first q p k m o =
-        bif (ours (R .component q) p)
-        (λ t. ap₂ (λ (a b : Bool). ours (R .component q) p && (a && not b)) (alike p q m k (ours-comp (R .component q) p t) (ours-open (R .component q) p t) o)
-        (some-ext p _ _ (λ r n. bif (ours (R .component q) r)
-        (λ v. ap (λ (b : Bool). ours (R .component q) r && b)
-        (same-class r p (omega arith) m (ours-comp (R .component q) r v ∙ sym (ours-comp (R .component q) p t)) (ours-open (R .component q) r v) (ours-open (R .component q) p t)))
+        bif (ours (A .component q) p)
+        (λ t. ap₂ (λ (a b : Bool). ours (A .component q) p && (a && not b)) (alike p q m k (ours-comp (A .component q) p t) (ours-open (A .component q) p t) o)
+        (some-ext p _ _ (λ r n. bif (ours (A .component q) r)
+        (λ v. ap (λ (b : Bool). ours (A .component q) r && b)
+        (same-class r p (omega arith) m (ours-comp (A .component q) r v ∙ sym (ours-comp (A .component q) p t)) (ours-open (A .component q) r v) (ours-open (A .component q) p t)))
         (λ v. rw v))))
         (λ t. rw t)
 
-    pub rank-order : (q : ℕ) → q < R .n → rankOf R S l q ≡ rankOf R S l′ q
+    pub rank-order : (q : ℕ) → q < A .n → rankOf A S l q ≡ rankOf A S l′ q
     rank-order q k =
         rank-is l q
-        ∙ bif (isOpen R S q) (λ t. ap (λ (x : ℕ). cond (isOpen R S q) x 0) (count-ext (R .n) _ _ (λ p m. same-first q p k m t))) (λ t. rw t)
+        ∙ bif (isOpen A S q) (λ t. ap (λ (x : ℕ). cond (isOpen A S q) x 0) (count-ext (A .n) _ _ (λ p m. same-first q p k m t))) (λ t. rw t)
         ∙ sym (rank-is l′ q)
 
   -- ranks against counts of values
-  pub taken-own : (l : ℕ → ℕ) (q : ℕ) → q < R .n → isOpen R S q ≡ true → taken R S l (R .component q) (l q) ≡ true
+  pub taken-own : (l : ℕ → ℕ) (q : ℕ) → q < A .n → isOpen A S q ≡ true → taken A S l (A .component q) (l q) ≡ true
   unfolding taken
-  taken-own l q k o = some-at (R .n) _ q k (and-i (eq-eqb (R .component q) _ refl) (and-i o (eq-eqb (l q) _ refl)))
+  taken-own l q k o = some-at (A .n) _ q k (and-i (eq-eqb (A .component q) _ refl) (and-i o (eq-eqb (l q) _ refl)))
 
-  pub rank-open-is : (l : ℕ → ℕ) (q : ℕ) → isOpen R S q ≡ true → rankOf R S l q ≡ count (suc (l q)) (taken R S l (R .component q))
+  pub rank-open-is : (l : ℕ → ℕ) (q : ℕ) → isOpen A S q ≡ true → rankOf A S l q ≡ count (suc (l q)) (taken A S l (A .component q))
   unfolding rankOf
-  rank-open-is l q o = ap (λ (b : Bool). cond b (count (suc (l q)) (taken R S l (R .component q))) 0) o
+  rank-open-is l q o = ap (λ (b : Bool). cond b (count (suc (l q)) (taken A S l (A .component q))) 0) o
 
-  pub rank-upto : (l : ℕ → ℕ) (q : ℕ) → q < R .n → isOpen R S q ≡ true → (c : ℕ) → leb (rankOf R S l q) (count (suc c) (taken R S l (R .component q))) ≡ leb (l q) c
+  pub rank-upto : (l : ℕ → ℕ) (q : ℕ) → q < A .n → isOpen A S q ≡ true → (c : ℕ) → leb (rankOf A S l q) (count (suc c) (taken A S l (A .component q))) ≡ leb (l q) c
   rank-upto l q k o c =
       let e = rank-open-is l q o in
       by-cases (decLe (l q) c)
-      (λ h. let m = count-le (suc (l q)) (suc c) (taken R S l (R .component q)) (omega arith) in
-      le-leb (rankOf R S l q) (count (suc c) (taken R S l (R .component q))) (omega arith) ∙ sym (le-leb (l q) c h))
-      (λ h. let v = count-lt (l q) (suc (l q)) (taken R S l (R .component q)) (omega arith) (taken-own l q k o) in
-      let m = count-le (suc c) (l q) (taken R S l (R .component q)) (omega arith) in
-      lt-leb (rankOf R S l q) (count (suc c) (taken R S l (R .component q))) (omega arith) ∙ sym (lt-leb (l q) c (omega arith)))
+      (λ h. let m = count-le (suc (l q)) (suc c) (taken A S l (A .component q)) (omega arith) in
+      le-leb (rankOf A S l q) (count (suc c) (taken A S l (A .component q))) (omega arith) ∙ sym (le-leb (l q) c h))
+      (λ h. let v = count-lt (l q) (suc (l q)) (taken A S l (A .component q)) (omega arith) (taken-own l q k o) in
+      let m = count-le (suc c) (l q) (taken A S l (A .component q)) (omega arith) in
+      lt-leb (rankOf A S l q) (count (suc c) (taken A S l (A .component q))) (omega arith) ∙ sym (lt-leb (l q) c (omega arith)))

@@ -1,16 +1,16 @@
 -- The computed leads-to is the inductive one, components are its classes, and a height falls from component to component.
 use mathlib.Core.Path.{_≡_, refl, sym, _∙_, ap, ap₂}
 use mathlib.Core.Logic.{_⊎_, inl, inr, ⊎-elim, by-cases, _↔_}
-use mathlib.Core.Bool.{Bool, true, false, _&&_, _||_, not, cond}
+use mathlib.Core.Bool.{Bool, true, false, _&&_, _||_, cond}
 use mathlib.Core.List.{List, [], _∷_, List·Memᴰ, List·Memᴰ·cases-cons, List·Memᴰ·not-nil}
-use Prim.Native.Nat.{ℕ, zero, suc, _+_, _≤_, _<_}
+use Prim.Native.Nat.{ℕ, zero, suc, _≤_, _<_}
 use native.Mathlib.Omega.{arith}
 use native.Mathlib.Decide.{decLt}
 use lib.Dec.{eqb, ltb}
 use borrow.Author.Tests.{eqb-true, eq-eqb, lt-ltb, le-ltb, ltb-true}
-use Rattle.sets.specs.Tests.{Set, some, count, first}
-use Rattle.sets.specs.Masks.{bit, mask}
-use Rattle.sets.proofs.Bools.{bif, clash, and-l, and-r, and-i, or-l, or-r, or-cases, iff, not-t}
+use Rattle.sets.specs.Tests.{some, count}
+use Rattle.sets.specs.Masks.{bit}
+use Rattle.sets.proofs.Bools.{bif, clash, and-l, and-r, and-i, or-l, or-r, or-cases, iff}
 use Rattle.sets.proofs.Tests.{some-at, some-get, some-no, some-none, some-ext, count-ext, count-lt, count-more, first-at, first-le}
 use Rattle.sets.proofs.Growth.{still}
 use Rattle.sets.proofs.Masks.{bit-mask}

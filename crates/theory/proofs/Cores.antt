@@ -1,190 +1,311 @@
--- The codes of a run are among the cores that the build goes through.
+-- Cores: the test for one, ranks counted from any numbering of the open states, and the earlier core.
 use mathlib.Core.Path.{_≡_, refl, sym, _∙_, ap, ap₂}
-use mathlib.Core.Logic.{_⊎_, inl, inr, ⊎-elim, by-cases}
-use mathlib.Core.Bool.{Bool, true, false, _&&_, cond, not, false≢true}
-use mathlib.Core.List.{List, [], _∷_, _++_, List·Memᴰ, List·Memᴰ·head, List·Memᴰ·tail, List·Memᴰ·cases-cons, List·Memᴰ·not-nil, Memᴰ·append-left, Memᴰ·append-right}
-use Prim.Native.Nat.{ℕ, zero, suc, _+_, _*_, _/_, _%_, _^_, _≤_, _<_}
+use mathlib.Core.Logic.{_↔_, by-cases}
+use mathlib.Core.Bool.{Bool, true, false, _&&_, not, cond, xor}
+use Prim.Native.Nat.{ℕ, zero, suc, _+_, _≤_, _<_}
 use native.Mathlib.Omega.{arith}
-use native.Mathlib.Nat.{le-trans, le-of-eq, add-zero, zero-add}
-use native.Mathlib.Decide.{decLt, decLe, ℕ-discrete}
+use native.Mathlib.Nat.{le-trans, le-of-eq}
+use native.Mathlib.Decide.{ℕ-discrete}
 use lib.Dec.{eqb, leb, ltb}
-use lib.Pow.{pow-pos}
-use borrow.Author.Tests.{eqb-true, eqb-false, eq-eqb, ne-eqb, lt-ltb, leb-true, leb-false, le-leb, lt-leb}
-use Rattle.sets.specs.Digits.{num}
-use Rattle.sets.specs.Lists.{tabulate, flat}
-use Rattle.sets.specs.Masks.{bit, mask}
-use Rattle.sets.specs.Tests.{Set, every, one, some, count, first, largest}
-use Rattle.sets.proofs.Bools.{bif, clash, and-l, and-r, and-i}
-use Rattle.sets.proofs.Digits.{num-ext}
-use Rattle.sets.proofs.Lists.{keep-in}
-use Rattle.sets.proofs.Masks.{mask-lt}
-use Rattle.sets.proofs.Tests.{every-all, some-at, some-ext, largest-le, some-get}
+use borrow.Author.Tests.{eqb-true, eq-eqb, ne-eqb, lt-ltb, le-ltb, ltb-true, leb-true, le-leb}
+use Rattle.sets.specs.Tests.{Set, every, one, some, count, largest}
+use Rattle.sets.proofs.Bools.{bif, and-l, and-r, and-i, iff}
+use Rattle.sets.proofs.Tests.{every-at, every-all, some-at, some-get, some-none, count-hit, count-max, largest-hit, largest-ge, largest-le}
 use Rattle.theory.specs.Automaton.{Automaton}
-use Rattle.theory.specs.Code.{setIn, rankIn, componentIn, classesIn, fields, pack, wellCoded}
-use Rattle.theory.specs.Core.{isOpen, settled, test, levelOf, taken, rankOf, openOf, nextComponent, isCore}
-use Rattle.theory.specs.Macrostate.{goes}
+use Rattle.theory.specs.Core.{isOpen, Core, Earlier, levelOf, taken, rankOf, isCore, openOf, nextComponent}
 use Rattle.theory.specs.Rule.{satisfies}
-use Rattle.theory.specs.Table.{digitals, candidates, cores}
-use Rattle.theory.proofs.Breakpoint.{comp-below}
-use Rattle.theory.proofs.Certified.{Layered, Run}
-use Rattle.theory.proofs.Classes.{rank-max, rank-open-is}
-use Rattle.theory.proofs.CodeRun.{CodeRun}
-use Rattle.theory.proofs.Codes.{run-of}
-use Rattle.theory.proofs.Ranks.{settled-mono, settled-open, levAt, lev-test, rank-pos, rank-shut}
+use Rattle.theory.proofs.Certified.{Layered}
+use Rattle.theory.proofs.Classes.{rank-comp, rank-order, rank-open-is, rank-upto, taken-own}
+use Rattle.theory.proofs.Levels.{least-unique, least-classes, level-least}
+use Rattle.theory.proofs.Pursuit.{open-acc, open-rej}
 
--- ---- lists of products
-
-pub tabulate-in : (k : ℕ) (f : ℕ → ℕ) (a j : ℕ) → j < k → List·Memᴰ (f (a + j)) (tabulate k f a)
-unfolding tabulate
-tabulate-in zero f a j l = absurd (omega arith)
-tabulate-in (suc k) f a zero l = List·Memᴰ·head (ap f (add-zero a))
-tabulate-in (suc k) f a (suc j) l = let e : a + suc j ≡ suc a + j = omega arith in List·Memᴰ·tail (rw (sym e) at (tabulate-in k f (suc a) j (omega arith)))
-
-pub tabulate-0 : (k : ℕ) (f : ℕ → ℕ) (j : ℕ) → j < k → List·Memᴰ (f j) (tabulate k f 0)
-tabulate-0 k f j l = rw zero-add at (tabulate-in k f 0 j l)
-
-pub flat-in : (xs : List ℕ) (f : ℕ → List ℕ) (x z : ℕ) → List·Memᴰ x xs → List·Memᴰ z (f x) → List·Memᴰ z (flat xs f)
-unfolding flat
-flat-in [] f x z m k = absurd (List·Memᴰ·not-nil m)
-flat-in (y ∷ ys) f x z m k =
-    ⊎-elim (λ e. Memᴰ·append-left (flat ys f) (rw e at k)) (λ n. Memᴰ·append-right (f y) (flat-in ys f x z n k)) (List·Memᴰ·cases-cons m)
-
-digitals-in : (b m : ℕ) (f : ℕ → ℕ) → ((j : ℕ) → j < m → f j < b) → List·Memᴰ (num 16 m f) (digitals b m)
-unfolding digitals num
-digitals-in b zero f h = List·Memᴰ·head refl
-digitals-in b (suc m) f h =
-    flat-in (digitals b m) (λ y. tabulate b (λ d. d * 16 ^ m + y) 0) (num 16 m f) (f m * 16 ^ m + num 16 m f)
-    (digitals-in b m f (λ j l. h j (omega arith))) (tabulate-0 b (λ d. d * 16 ^ m + num 16 m f) (f m) (h m (omega arith)))
-
--- ---- digits and bits that are not there
-
-num-trim : (m n : ℕ) (f : ℕ → ℕ) → n ≤ m → ((j : ℕ) → n ≤ j → f j ≡ 0) → num 16 m f ≡ num 16 n f
-unfolding num
-num-trim zero n f l h = let e : n ≡ 0 = omega arith in rw e
-num-trim (suc m) n f l h =
-    by-cases (ℕ-discrete n (suc m))
-    (λ e. rw e)
-    (λ e. let ih = num-trim m n f (omega arith) h in let z : f m * 16 ^ m ≡ 0 * 16 ^ m = rw (h m (omega arith)) in omega arith)
-
-mask-trim : (m n : ℕ) (f : Set) → n ≤ m → ((j : ℕ) → n ≤ j → f j ≡ false) → mask m f ≡ mask n f
-unfolding mask
-mask-trim zero n f l h = let e : n ≡ 0 = omega arith in rw e
-mask-trim (suc m) n f l h =
-    by-cases (ℕ-discrete n (suc m))
-    (λ e. rw e)
-    (λ e. let ih = mask-trim m n f (omega arith) h in let z : one (f m) * 2 ^ m ≡ 0 * 2 ^ m = rw (h m (omega arith)) in omega arith)
-
--- ---- no gap among ranks
-
-count-hit : (m : ℕ) (f : Set) (j : ℕ) → j < count m f → (x : ℕ) × (x < m) × (f x ≡ true) × (count x f ≡ j)
+-- a test of just the numbers from 1 to m holds at m numbers
+count-from-one : (N m : ℕ) (f : Set) → m ≤ N → f 0 ≡ false → ((j : ℕ) → 1 ≤ j → j ≤ m → f j ≡ true) → ((j : ℕ) → m < j → j ≤ N → f j ≡ false) → count (suc N) f ≡ m
 unfolding count
-count-hit zero f j l = absurd (omega arith)
-count-hit (suc m) f j l =
-    by-cases (decLt j (count m f))
-    (λ h. let r = count-hit m f j h in (r .0, omega (arith, r .1), r .2, r .3))
-    (λ h. bif (f m)
-    (λ t. let e : one (f m) ≡ 1 = rw t in (m, omega arith, t, omega arith))
-    (λ t. let e : one (f m) ≡ 0 = rw t in absurd (omega arith)))
+count-from-one zero m f l z h k = let e : one (f 0) ≡ 0 = rw z in omega arith
+count-from-one (suc N) m f l z h k =
+    by-cases (ℕ-discrete m (suc N))
+    (λ x. let e : one (f (suc N)) ≡ 1 = rw (h (suc N) (omega arith) (omega arith)) in
+    let ih = count-from-one N N f (omega arith) z (λ j a b. h j a (omega arith)) (λ j a b. absurd (omega arith)) in omega arith)
+    (λ x. let e : one (f (suc N)) ≡ 0 = rw (k (suc N) (omega arith) (omega arith)) in
+    let ih = count-from-one N m f (omega arith) z h (λ j a b. k j a (omega arith)) in omega arith)
 
-module _ (W : Automaton) (S : Set) (l : ℕ → ℕ) where
-  -- p's value is x, and x is the (j + 1)th
-  gap-at : (q j x p : ℕ) → count x (taken W S l (W .component q)) ≡ j → taken W S l (W .component q) x ≡ true → W .component p ≡ W .component q → isOpen W S p ≡ true → l p ≡ x → rankOf W S l p ≡ suc j
-  unfolding count
-  gap-at q j x p e t c o v =
-      let y : one (taken W S l (W .component q) x) ≡ 1 = rw t in
-      rank-open-is W 15 S l p o
-      ∙ ap₂ (λ (a C : ℕ). count a (taken W S l C) + one (taken W S l C a)) v c
-      ∙ (let z : count x (taken W S l (W .component q)) + one (taken W S l (W .component q) x) ≡ suc j = omega arith in z)
+module _ (A : Automaton) where
+  -- ---- sets and ranks that agree on the states
 
-  gap-of : (q j x : ℕ) → count x (taken W S l (W .component q)) ≡ j → taken W S l (W .component q) x ≡ true
-      → (p : ℕ) → p < W .n → eqb (W .component p) (W .component q) && (isOpen W S p && eqb (l p) x) ≡ true
-      → some (W .n) (λ p. eqb (W .component p) (W .component q) && (isOpen W S p && eqb (rankOf W S l p) (suc j))) ≡ true
-  gap-of q j x e t p m f =
-      let c = and-l (eqb (W .component p) (W .component q)) (isOpen W S p && eqb (l p) x) f in
-      let u = and-r (eqb (W .component p) (W .component q)) (isOpen W S p && eqb (l p) x) f in
-      let o = and-l (isOpen W S p) (eqb (l p) x) u in
-      let v = and-r (isOpen W S p) (eqb (l p) x) u in
-      some-at (W .n) (λ p. eqb (W .component p) (W .component q) && (isOpen W S p && eqb (rankOf W S l p) (suc j))) p m
-      (and-i c (and-i o (eq-eqb _ _ (gap-at q j x p e t (eqb-true _ _ c) o (eqb-true _ _ v)))))
+  pub open-ext : (S S′ : Set) (q : ℕ) → S q ≡ S′ q → isOpen A S q ≡ isOpen A S′ q
+  unfolding isOpen
+  open-ext S S′ q e = ap (λ (b : Bool). cond (A .accepting q) (not b) b) e
 
-  gapless : (q j : ℕ) → isOpen W S q ≡ true → j < rankOf W S l q → some (W .n) (λ p. eqb (W .component p) (W .component q) && (isOpen W S p && eqb (rankOf W S l p) (suc j))) ≡ true
-  unfolding taken
-  gapless q j o h =
-      let x = count-hit (suc (l q)) (taken W S l (W .component q)) j (rw (rank-open-is W 15 S l q o) at h) in
-      let p = some-get (W .n) (λ p. eqb (W .component p) (W .component q) && (isOpen W S p && eqb (l p) (x .0))) (x .2) in
-      gap-of q j (x .0) (x .3) (x .2) (p .0) (p .1) (p .2)
+  pub core-ext : (S S′ : Set) (r r′ : ℕ → ℕ) → ((q : ℕ) → q < A .n → S q ≡ S′ q) → ((q : ℕ) → q < A .n → r q ≡ r′ q) → Core A S r → Core A S′ r′
+  core-ext S S′ r r′ e f C = record {
+    closed = λ q l o. sym (f q l) ∙ C .closed q l (open-ext S S′ q (e q l) ∙ o);
+    ranked = λ q l o. let h = C .ranked q l (open-ext S S′ q (e q l) ∙ o) in let k = f q l in omega arith;
+    gapless = λ q j l o a b.
+        let k = f q l in
+        let g = C .gapless q j l (open-ext S S′ q (e q l) ∙ o) a (omega arith) in
+        (g .0, g .1, g .2, sym (open-ext S S′ (g .0) (e (g .0) (g .1))) ∙ g .3, sym (f (g .0) (g .1)) ∙ g .4);
+  }
 
--- ---- the codes of a run
+  -- ---- ranks counted from a numbering l of the open states of S are those of a core, in the order of l
 
-module _ (W : Automaton) (H : Layered W) (small : W .n ≤ 8) (some-comp : 0 < W .components) (w : ℕ → ℕ) (init : ℕ) (c : ℕ → ℕ) (run : CodeRun W w init c) where
-  abbrev S : ℕ → Set
-  S i = setIn W (c i)
+  module _ (S : Set) (l : ℕ → ℕ) where
+    -- p's value is x, and x is the (j + 1)th
+    rank-at : (q j x p : ℕ) → count x (taken A S l (A .component q)) ≡ j → taken A S l (A .component q) x ≡ true → A .component p ≡ A .component q → isOpen A S p ≡ true → l p ≡ x → rankOf A S l p ≡ suc j
+    unfolding count
+    rank-at q j x p e t c o v =
+        let y : one (taken A S l (A .component q) x) ≡ 1 = rw t in
+        rank-open-is A S l p o
+        ∙ ap₂ (λ (a C : ℕ). count a (taken A S l C) + one (taken A S l C a)) v c
+        ∙ (let z : count x (taken A S l (A .component q)) + one (taken A S l (A .component q) x) ≡ suc j = omega arith in z)
 
-  abbrev r : ℕ → ℕ → ℕ
-  r i = rankIn W (c i)
+    Held : ℕ → ℕ → Type 0
+    Held q j = (p : ℕ) × (p < A .n) × (A .component p ≡ A .component q) × (isOpen A S p ≡ true) × (rankOf A S l p ≡ j)
 
-  abbrev K : ℕ → ℕ
-  K i = componentIn (c i)
+    held-at : (q j x : ℕ) → count x (taken A S l (A .component q)) ≡ j → taken A S l (A .component q) x ≡ true
+        → (p : ℕ) → p < A .n → eqb (A .component p) (A .component q) && (isOpen A S p && eqb (l p) x) ≡ true → Held q (suc j)
+    unfolding Held
+    held-at q j x e t p m f =
+        let c = eqb-true _ _ (and-l (eqb (A .component p) (A .component q)) (isOpen A S p && eqb (l p) x) f) in
+        let u = and-r (eqb (A .component p) (A .component q)) (isOpen A S p && eqb (l p) x) f in
+        let o = and-l (isOpen A S p) (eqb (l p) x) u in
+        (p, m, c, o, rank-at q j x p e t c o (eqb-true _ _ (and-r (isOpen A S p) (eqb (l p) x) u)))
 
-  abbrev k : ℕ → ℕ
-  k i = classesIn (c i)
+    held : (q j : ℕ) → isOpen A S q ≡ true → j < rankOf A S l q → Held q (suc j)
+    unfolding taken
+    held q j o h =
+        let x = count-hit (suc (l q)) (taken A S l (A .component q)) j (rw (rank-open-is A S l q o) at h) in
+        let p = some-get (A .n) (λ p. eqb (A .component p) (A .component q) && (isOpen A S p && eqb (l p) (x .0))) (x .2) in
+        held-at q j (x .0) (x .3) (x .2) (p .0) (p .1) (p .2)
 
-  R : Run W 15 w S r K k
-  R = run-of W w init c run
+    pub rank-shut-is : (q : ℕ) → isOpen A S q ≡ false → rankOf A S l q ≡ 0
+    unfolding rankOf
+    rank-shut-is q o = ap (λ (b : Bool). cond b (count (suc (l q)) (taken A S l (A .component q))) 0) o
 
-  r-low : (i q : ℕ) → r i q ≤ W .n
-  r-low i q = by-cases (decLt q (W .n))
-      (λ l. le-trans (le-of-eq (R .backed .ranked i q l)) (rank-max W 15 (S i) _ q))
-      (λ l. let h = R .trim-r i q (omega arith) in omega arith)
+    pub rank-open-pos : (q : ℕ) → q < A .n → isOpen A S q ≡ true → 1 ≤ rankOf A S l q
+    unfolding count
+    rank-open-pos q m o =
+        let e = rank-open-is A S l q o in
+        let y : one (taken A S l (A .component q) (l q)) ≡ 1 = rw (taken-own A S l q m o) in omega arith
 
-  lev-low : (i q : ℕ) → q < W .n → isOpen W (S i) q ≡ true → levAt W 15 w S r i q ≤ W .n
-  unfolding test
-  lev-low i q l o = leb-true (levAt W 15 w S r i q) (W .n)
-      (lev-test W H 15 w S (R .backed .exact) r (R .backed .bound) i q l o (W .n)
-      ∙ settled-mono W _ (isOpen W (S (suc i))) _ q _ (λ p m s t. and-i t (le-leb (r (suc i) p) (W .n) (r-low (suc i) p))) (settled-open W H 15 w S (R .backed .exact) i q l o))
+    gap-of : (q j : ℕ) → isOpen A S q ≡ true → 1 ≤ j → j ≤ rankOf A S l q → Held q j
+    gap-of q zero o a b = absurd (omega arith)
+    gap-of q (suc j) o a b = held q j o (omega arith)
 
-  at-open : (T : Set) (C q : ℕ) → openOf W T C q ≡ true → isOpen W T q ≡ true
-  unfolding openOf
-  at-open T C q t = and-r (eqb (W .component q) C) (isOpen W T q) t
+    pub rank-core : Core A S (rankOf A S l)
+    unfolding Held
+    rank-core = record { closed = λ q m o. rank-shut-is q o; ranked = rank-open-pos; gapless = λ q j m o a b. gap-of q j o a b }
 
-  k-low : (i : ℕ) → k i ≤ W .n
-  k-low zero = let h = R .start-k in omega arith
-  k-low (suc i) =
-      by-cases (ℕ-discrete (k i) 0)
-      (λ z. le-trans (le-of-eq (R .turn-k i z)) (largest-le (W .n) _ _ (W .n) (λ q l t. r-low (suc i) q)))
-      (λ z. le-trans (le-of-eq (R .stay-k i z)) (largest-le (W .n) _ _ (W .n) (λ q l t. lev-low i q l (at-open (S i) (K i) q (and-l (openOf W (S i) (K i) q) (leb (r i q) (k i)) t)))))
+    pub rank-ordered : (q p : ℕ) → q < A .n → p < A .n → A .component q ≡ A .component p → isOpen A S q ≡ true → isOpen A S p ≡ true → (rankOf A S l q ≤ rankOf A S l p) ↔ (l q ≤ l p)
+    rank-ordered q p m n c o u =
+        let e = rw (← c) at (rank-open-is A S l p u) in
+        let x = rank-upto A S l q m o (l p) in (
+          λ h. leb-true _ _ (sym x ∙ le-leb _ _ (le-trans h (le-of-eq e))),
+          λ h. le-trans (leb-true (rankOf A S l q) (count (suc (l p)) (taken A S l (A .component q))) (x ∙ le-leb (l q) (l p) h)) (le-of-eq (sym e)),
+        )
 
-  K-low : (i : ℕ) → K i < W .components
-  K-low i = comp-below W H 15 w S r K k R i some-comp
+  -- ---- the ranks of a core
 
-  -- the code as the build makes it
-  made : (i : ℕ) → c i ≡ (k i * 16 ^ 9 + (K i * 16 ^ 8 + num 16 (W .n) (r i))) * 2 ^ 8 + mask (W .n) (S i)
-  unfolding wellCoded pack num fields
-  made i =
-      sym (eqb-true _ _ (run .clean i))
-      ∙ ap₂ (λ (x y : ℕ). (k i * 16 ^ 9 + (K i * 16 ^ 8 + x)) * 2 ^ 8 + y)
-      (num-ext 16 (omega arith) 8 (fields (r i) (K i) (k i)) (r i) (λ j l. ap (λ (b : Bool). cond b (r i j) (cond (eqb j 8) (K i) (k i))) (lt-ltb j 8 l)) ∙ num-trim 8 (W .n) (r i) small (R .trim-r i))
-      (mask-trim 8 (W .n) (S i) small (R .trim-S i))
+  module _ (S : Set) (r : ℕ → ℕ) (C : Core A S r) where
+    none-taken : (K : ℕ) → taken A S r K 0 ≡ false
+    unfolding taken
+    none-taken K = some-none (A .n) _ (λ p m. bif (eqb (A .component p) K && (isOpen A S p && eqb (r p) 0))
+        (λ t. let u = and-r (eqb (A .component p) K) (isOpen A S p && eqb (r p) 0) t in
+        let h = C .ranked p m (and-l (isOpen A S p) (eqb (r p) 0) u) in
+        let z = eqb-true (r p) 0 (and-r (isOpen A S p) (eqb (r p) 0) u) in absurd (omega arith))
+        (λ t. t))
 
-  candidate : (i : ℕ) → List·Memᴰ (c i) (candidates W)
-  unfolding candidates
-  candidate i =
-      rw (made i)
-      (flat-in (digitals (suc (W .n)) (W .n)) _ (num 16 (W .n) (r i)) _ (digitals-in (suc (W .n)) (W .n) (r i) (λ j l. let h = r-low i j in omega arith))
-      (flat-in (tabulate (2 ^ W .n) (λ x. x) 0) _ (mask (W .n) (S i)) _ (tabulate-0 (2 ^ W .n) (λ x. x) (mask (W .n) (S i)) (mask-lt (W .n) (S i)))
-      (flat-in (tabulate (W .components) (λ x. x) 0) _ (K i) _ (tabulate-0 (W .components) (λ x. x) (K i) (K-low i))
-      (tabulate-0 (suc (W .n)) (λ x. (x * 16 ^ 9 + (K i * 16 ^ 8 + num 16 (W .n) (r i))) * 2 ^ 8 + mask (W .n) (S i)) (k i) (let h = k-low i in omega arith)))))
+    pub rank-taken : (q j : ℕ) → q < A .n → isOpen A S q ≡ true → 1 ≤ j → j ≤ r q → taken A S r (A .component q) j ≡ true
+    unfolding taken
+    rank-taken q j m o a b = let g = C .gapless q j m o a b in some-at (A .n) _ (g .0) (g .1) (and-i (eq-eqb _ _ (g .2)) (and-i (g .3) (eq-eqb _ _ (g .4))))
 
-  core-at : (i q : ℕ) → q < W .n → cond (isOpen W (S i) q)
-      (ltb 0 (r i q) && every (r i q) (λ j. some (W .n) (λ p. eqb (W .component p) (W .component q) && (isOpen W (S i) p && eqb (r i p) (suc j)))))
-      (eqb (r i q) 0) ≡ true
-  core-at i q l =
-      bif (isOpen W (S i) q)
-      (λ o. rw o (and-i (lt-ltb 0 (r i q) (rank-pos W H 15 w S (R .backed .exact) r (R .backed .bound) (R .backed .ranked) i q l o))
-      (every-all (r i q) _ (λ j h. some-ext (W .n) _ _ (λ p m. ap (λ (x : ℕ). eqb (W .component p) (W .component q) && (isOpen W (S i) p && eqb x (suc j))) (R .backed .ranked i p m))
-      ∙ gapless W (S i) (levAt W 15 w S r i) q j o (rw (sym (R .backed .ranked i q l)) h)))))
-      (λ o. rw o (eq-eqb _ _ (rank-shut W H 15 w S (R .backed .exact) r (R .backed .bound) (R .backed .ranked) i q l o)))
+    -- counting its ranks gives them again
+    pub core-rank : (q : ℕ) → q < A .n → rankOf A S r q ≡ r q
+    core-rank q m =
+        bif (isOpen A S q)
+        (λ o. rank-open-is A S r q o ∙ count-from-one (r q) (r q) (taken A S r (A .component q)) (omega arith) (none-taken (A .component q)) (λ j a b. rank-taken q j m o a b) (λ j a b. absurd (omega arith)))
+        (λ o. rank-shut-is S r q o ∙ sym (C .closed q m o))
 
-  pub in-cores : (i : ℕ) → List·Memᴰ (c i) (cores W)
-  unfolding cores isCore
-  in-cores i = keep-in _ (candidates W) (c i) (candidate i) (and-i (run .clean i) (every-all (W .n) _ (core-at i)))
+    -- so they are at most the size of the component
+    pub core-rank-comp : (q : ℕ) → q < A .n → r q ≤ count (A .n) (λ p. eqb (A .component p) (A .component q))
+    core-rank-comp q m = rw (← core-rank q m) (rank-comp A S r q)
+
+    pub core-rank-max : (q : ℕ) → q < A .n → r q ≤ A .n
+    core-rank-max q m = le-trans (core-rank-comp q m) (count-max (A .n) _)
+
+    -- the order of the open states of each component fixes them
+    pub rank-unique : (l : ℕ → ℕ) → ((q p : ℕ) → q < A .n → p < A .n → A .component q ≡ A .component p → isOpen A S q ≡ true → isOpen A S p ≡ true → (r q ≤ r p) ↔ (l q ≤ l p))
+        → (q : ℕ) → q < A .n → r q ≡ rankOf A S l q
+    rank-unique l h q m =
+        sym (core-rank q m)
+        ∙ rank-order A S r l (λ p t x y c o u. iff (leb (r p) (r t)) (leb (l p) (l t))
+        (λ e. le-leb (l p) (l t) (h p t x y c o u .0 (leb-true (r p) (r t) e)))
+        (λ e. le-leb (r p) (r t) (h p t x y c o u .1 (leb-true (l p) (l t) e)))) q m
+
+    -- an open state is one with a rank
+    pub open-of-rank : (q : ℕ) → q < A .n → isOpen A S q ≡ ltb 0 (r q)
+    open-of-rank q m =
+        bif (isOpen A S q)
+        (λ o. o ∙ sym (lt-ltb 0 (r q) (C .ranked q m o)))
+        (λ o. o ∙ sym (le-ltb 0 (r q) (let h = C .closed q m o in omega arith)))
+
+    -- the set follows from the ranks
+    pub set-of-ranks : (q : ℕ) → q < A .n → S q ≡ xor (A .accepting q) (ltb 0 (r q))
+    unfolding xor
+    set-of-ranks q m = rw (← open-of-rank q m) (bif (A .accepting q)
+        (λ a. rw (open-acc A S q a, a) (twice (S q)))
+        (λ a. rw (open-rej A S q a, a) (once (S q))))
+      where
+        twice : (b : Bool) → b ≡ xor true (not b)
+        twice true = refl
+        twice false = refl
+
+        once : (b : Bool) → b ≡ xor false b
+        once true = refl
+        once false = refl
+
+    -- a rank of component K is at most the largest
+    taken-low : (K j : ℕ) → taken A S r K j ≡ true → j ≤ largest (A .n) (openOf A S K) r
+    unfolding taken openOf
+    taken-low K j t =
+        let g = some-get (A .n) _ t in
+        let u = and-r (eqb (A .component (g .0)) K) _ (g .2) in
+        let e = eqb-true (r (g .0)) j (and-r (isOpen A S (g .0)) _ u) in
+        let h = largest-ge (A .n) (openOf A S K) r (g .0) (g .1) (and-i (and-l (eqb (A .component (g .0)) K) _ (g .2)) (and-l (isOpen A S (g .0)) _ u)) in omega arith
+
+    taken-under : (K j q : ℕ) → q < A .n → openOf A S K q ≡ true → 1 ≤ j → j ≤ r q → taken A S r K j ≡ true
+    unfolding openOf
+    taken-under K j q m t a b = rw (eqb-true (A .component q) K (and-l (eqb (A .component q) K) (isOpen A S q) t)) at (rank-taken q j m (and-r (eqb (A .component q) K) (isOpen A S q) t) a b)
+
+    taken-all : (K j : ℕ) → 1 ≤ j → j ≤ largest (A .n) (openOf A S K) r → taken A S r K j ≡ true
+    taken-all K j a b = let x = largest-hit (A .n) (openOf A S K) r (omega arith) in taken-under K j (x .0) (x .1) (x .2) a (omega (arith, x .3))
+
+    -- the largest rank of component K is at most n
+    pub classes-max : (K : ℕ) → largest (A .n) (openOf A S K) r ≤ A .n
+    classes-max K = largest-le (A .n) _ _ (A .n) (λ q m t. core-rank-max q m)
+
+    -- and the number of its classes: of the ranks that are taken, up to any N that is not less than n
+    pub classes-are : (K N : ℕ) → A .n ≤ N → largest (A .n) (openOf A S K) r ≡ count (suc N) (taken A S r K)
+    classes-are K N h =
+        sym (count-from-one N (largest (A .n) (openOf A S K) r) (taken A S r K) (le-trans (classes-max K) h) (none-taken K) (taken-all K)
+        (λ j a b. bif (taken A S r K j) (λ t. let x = taken-low K j t in absurd (omega arith)) (λ t. t)))
+
+  -- ---- the test
+
+  module _ (S : Set) (r : ℕ → ℕ) where
+    abbrev held-in : ℕ → ℕ → Bool
+    held-in q j = some (A .n) (λ p. eqb (A .component p) (A .component q) && (isOpen A S p && eqb (r p) (suc j)))
+
+    abbrev ranks-of : ℕ → Bool
+    ranks-of q = ltb 0 (r q) && every (r q) (held-in q)
+
+    core-in : Core A S r → isCore A S r ≡ true
+    unfolding isCore
+    core-in C = every-all (A .n) _ (λ q l. bif (isOpen A S q)
+        (λ o. ap (λ (b : Bool). cond b (ranks-of q) (eqb (r q) 0)) o ∙ and-i (lt-ltb 0 (r q) (C .ranked q l o))
+        (every-all (r q) (held-in q) (λ j h. let g = C .gapless q (suc j) l o (omega arith) h in some-at (A .n) _ (g .0) (g .1) (and-i (eq-eqb _ _ (g .2)) (and-i (g .3) (eq-eqb _ _ (g .4)))))))
+        (λ o. ap (λ (b : Bool). cond b (ranks-of q) (eqb (r q) 0)) o ∙ eq-eqb _ _ (C .closed q l o)))
+
+    module _ (t : isCore A S r ≡ true) where
+      at : (q : ℕ) → q < A .n → cond (isOpen A S q) (ranks-of q) (eqb (r q) 0) ≡ true
+      unfolding isCore
+      at q l = every-at (A .n) (λ q. cond (isOpen A S q) (ranks-of q) (eqb (r q) 0)) t q l
+
+      open-at : (q : ℕ) → q < A .n → isOpen A S q ≡ true → ranks-of q ≡ true
+      open-at q l o = sym (ap (λ (b : Bool). cond b (ranks-of q) (eqb (r q) 0)) o) ∙ at q l
+
+      gap-at : (q j : ℕ) → q < A .n → isOpen A S q ≡ true → 1 ≤ j → j ≤ r q → (p : ℕ) × (p < A .n) × (A .component p ≡ A .component q) × (isOpen A S p ≡ true) × (r p ≡ j)
+      gap-at q zero l o a b = absurd (omega arith)
+      gap-at q (suc j) l o a b =
+          let g = some-get (A .n) _ (every-at (r q) (held-in q) (and-r (ltb 0 (r q)) (every (r q) (held-in q)) (open-at q l o)) j b) in
+          let u = and-r (eqb (A .component (g .0)) (A .component q)) _ (g .2) in
+          (g .0, g .1, eqb-true _ _ (and-l (eqb (A .component (g .0)) (A .component q)) _ (g .2)), and-l (isOpen A S (g .0)) _ u, eqb-true _ _ (and-r (isOpen A S (g .0)) _ u))
+
+      core-out : Core A S r
+      core-out = record {
+        closed = λ q l o. eqb-true _ _ (sym (ap (λ (b : Bool). cond b (ranks-of q) (eqb (r q) 0)) o) ∙ at q l);
+        ranked = λ q l o. ltb-true 0 (r q) (and-l (ltb 0 (r q)) (every (r q) (held-in q)) (open-at q l o));
+        gapless = gap-at;
+      }
+
+    pub core-iff : (isCore A S r ≡ true) ↔ Core A S r
+    core-iff = (core-out, core-in)
+
+  -- ---- the earlier core
+
+  module _ (a : ℕ) (T : Set) (t : ℕ → ℕ) where
+    -- levels are at most the number of classes in T
+    pub level-classes : Layered A → (S : Set) (r l : ℕ → ℕ) → Earlier A a S r T t l → (q : ℕ) → q < A .n → isOpen A S q ≡ true → l q ≤ largest (A .n) (openOf A T (A .component q)) t
+    level-classes H S r l E q m o = least-classes A H a S T (E .exact) t q m o (l q) (E .level q m o)
+
+    -- from levels, closed up
+    pub earlier-of : Layered A → (B : ℕ) → ((p : ℕ) → p < A .n → t p ≤ B) → (S : Set) (r : ℕ → ℕ) → ((q : ℕ) → q < A .n → S q ≡ satisfies (A .n) T (A .entry q a))
+        → ((q : ℕ) → q < A .n → r q ≡ rankOf A S (λ p. levelOf A B T t p (A .entry p a)) q) → Earlier A a S r T t (λ p. levelOf A B T t p (A .entry p a))
+    earlier-of H B bound S r e f = record {
+      exact = e;
+      level = level-least A H a S T e t B bound;
+      ordered = λ q p m n c o u.
+          let x = f q m in let y = f p n in
+          let z = rank-ordered S (λ p. levelOf A B T t p (A .entry p a)) q p m n c o u in (
+            λ h. z .0 (rw (x, y) at h),
+            λ h. rw (x, y) (z .1 h),
+          );
+      core = core-ext S S (rankOf A S (λ p. levelOf A B T t p (A .entry p a))) r (λ q m. refl) (λ q m. sym (f q m)) (rank-core S (λ p. levelOf A B T t p (A .entry p a)));
+    }
+
+    -- a core and a letter have an earlier core
+    pub earlier-exists : Layered A → Core A T t → (S : Set) × (r : ℕ → ℕ) × (l : ℕ → ℕ) × Earlier A a S r T t l
+    earlier-exists H C =
+        let S : Set = λ q. satisfies (A .n) T (A .entry q a) in
+        let l : ℕ → ℕ = λ p. levelOf A (A .n) T t p (A .entry p a) in
+        (S, rankOf A S l, l, earlier-of H (A .n) (core-rank-max T t C) S (rankOf A S l) (λ q m. refl) (λ q m. refl))
+
+    -- and only one
+    module _ (S S′ : Set) (r r′ l l′ : ℕ → ℕ) (E : Earlier A a S r T t l) (E′ : Earlier A a S′ r′ T t l′) where
+      pub earlier-set : (q : ℕ) → q < A .n → S q ≡ S′ q
+      earlier-set q m = E .exact q m ∙ sym (E′ .exact q m)
+
+      opened : (q : ℕ) → q < A .n → isOpen A S q ≡ true → isOpen A S′ q ≡ true
+      opened q m o = sym (open-ext S S′ q (earlier-set q m)) ∙ o
+
+      pub earlier-level : (q : ℕ) → q < A .n → isOpen A S q ≡ true → l q ≡ l′ q
+      earlier-level q m o = least-unique _ (l q) (l′ q) (E .level q m o) (E′ .level q m (opened q m o))
+
+      pub earlier-rank : (q : ℕ) → q < A .n → r q ≡ r′ q
+      earlier-rank q m =
+          rank-unique S r (E .core) l (E .ordered) q m
+          ∙ sym (rank-unique S r′ (core-ext S′ S r′ r′ (λ p n. sym (earlier-set p n)) (λ p n. refl) (E′ .core)) l
+          (λ q p m n c o u. let x = earlier-level q m o in let y = earlier-level p n u in let z = E′ .ordered q p m n c (opened q m o) (opened p n u) in (
+            λ h. rw (x, y) (z .0 h),
+            λ h. z .1 (rw (x, y) at h),
+          )) q m)
+
+      pub earlier-unique : (q : ℕ) → q < A .n → (S q ≡ S′ q) × (r q ≡ r′ q)
+      earlier-unique q m = (earlier-set q m, earlier-rank q m)
+
+  -- ---- the next component
+
+  pub next-below : (K : ℕ) → suc K < A .components → nextComponent A K ≡ suc K
+  unfolding nextComponent
+  next-below K h = rw (ne-eqb (suc K) (A .components) (λ e. omega arith))
+
+  pub next-last : (K : ℕ) → suc K ≡ A .components → nextComponent A K ≡ 0
+  unfolding nextComponent
+  next-last K h = rw (eq-eqb (suc K) (A .components) h)
+
+  pub next-low : (K : ℕ) → K < A .components → nextComponent A K < A .components
+  next-low K h =
+      by-cases (ℕ-discrete (suc K) (A .components))
+      (λ e. rw (next-last K e) (omega arith))
+      (λ e. rw (next-below K (omega arith)) (omega arith))
+
+  -- it is the next of one component only
+  pub next-inj : (K L : ℕ) → K < A .components → L < A .components → nextComponent A K ≡ nextComponent A L → K ≡ L
+  next-inj K L h k e =
+      by-cases (ℕ-discrete (suc K) (A .components))
+      (λ x. by-cases (ℕ-discrete (suc L) (A .components))
+      (λ y. omega arith)
+      (λ y. let u = next-last K x in let v = next-below L (omega arith) in absurd (omega arith)))
+      (λ x. let u = next-below K (omega arith) in by-cases (ℕ-discrete (suc L) (A .components))
+      (λ y. let v = next-last L y in absurd (omega arith))
+      (λ y. let v = next-below L (omega arith) in omega arith))

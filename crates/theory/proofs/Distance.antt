@@ -1,5 +1,5 @@
 -- Discharge within d steps is discharge within more.
-use mathlib.Core.Path.{_≡_, refl, sym, _∙_, ap}
+use mathlib.Core.Path.{_≡_}
 use mathlib.Core.Logic.{by-cases}
 use mathlib.Core.Bool.{true, false, false≢true}
 use Prim.Native.Nat.{ℕ, zero, suc, _≤_, _<_}
@@ -10,15 +10,15 @@ use Rattle.sets.proofs.Bools.{and-i}
 use Rattle.theory.specs.Automaton.{Automaton}
 use Rattle.theory.proofs.Certified.{discharged}
 use Rattle.theory.proofs.Pursuit.{discharged-open, discharged-settled}
-use Rattle.theory.proofs.Ranks.{settled-mono}
+use Rattle.theory.proofs.Settled.{settled-mono}
 
-module _ (R : Automaton) (nx w : ℕ → ℕ) (S : ℕ → Set) where
-  pub discharged-up : (d i q : ℕ) → q < R .n → discharged R nx w S i d q ≡ true → discharged R nx w S i (suc d) q ≡ true
+module _ (A : Automaton) (nx w : ℕ → ℕ) (S : ℕ → Set) where
+  pub discharged-up : (d i q : ℕ) → q < A .n → discharged A nx w S i d q ≡ true → discharged A nx w S i (suc d) q ≡ true
   unfolding discharged
   discharged-up zero i q l e = absurd (false≢true e)
-  discharged-up (suc d) i q l e = and-i (discharged-open R nx w S i (suc d) q e) (settled-mono R _ _ _ q _ (λ p m s t. discharged-up d (nx i) p m t) (discharged-settled R nx w S i d q e))
+  discharged-up (suc d) i q l e = and-i (discharged-open A nx w S i (suc d) q e) (settled-mono A _ _ _ q _ (λ p m s t. discharged-up d (nx i) p m t) (discharged-settled A nx w S i d q e))
 
-  pub discharged-le : (d e i q : ℕ) → q < R .n → d ≤ e → discharged R nx w S i d q ≡ true → discharged R nx w S i e q ≡ true
+  pub discharged-le : (d e i q : ℕ) → q < A .n → d ≤ e → discharged A nx w S i d q ≡ true → discharged A nx w S i e q ≡ true
   discharged-le d zero i q l h t = let x : d ≡ 0 = omega arith in rw x at t
   discharged-le d (suc e) i q l h t =
       by-cases (ℕ-discrete d (suc e)) (λ x. rw x at t) (λ x. discharged-up e i q l (discharged-le d e i q l (omega arith) t))

@@ -1,30 +1,30 @@
--- A packed macrostate named the parts that were packed, so a run is a run of codes.
+-- A packed macrostate has the parts that were packed, so a run is a run of codes.
 use mathlib.Core.Path.{_≡_, refl, sym, _∙_, ap, ap₂, fun-ext}
 use mathlib.Core.Logic.{by-cases}
-use mathlib.Core.Bool.{Bool, true, false, _&&_, cond, not, Bool·beq}
+use mathlib.Core.Bool.{Bool, true, false, _&&_, cond}
 use Prim.Native.Nat.{ℕ, zero, suc, _+_, _*_, _/_, _%_, _^_, _≤_, _<_}
 use native.Mathlib.Omega.{arith}
-use native.Mathlib.Nat.{pow-suc, le-trans}
+use native.Mathlib.Nat.{pow-suc}
 use native.Mathlib.Decide.{decLt, ℕ-discrete}
 use lib.Dec.{eqb, leb, ltb}
 use lib.Arith.{digits-div}
 use lib.Pow.{shr-shr, pow-add}
-use borrow.Author.Tests.{eqb-true, eqb-false, eq-eqb, ne-eqb, lt-ltb, le-ltb, ltb-true, ltb-false, le-leb}
+use borrow.Author.Tests.{eq-eqb, ne-eqb, lt-ltb, le-ltb}
 use Rattle.sets.specs.Digits.{num}
 use Rattle.sets.specs.Masks.{bit, mask}
-use Rattle.sets.specs.Tests.{Set, every, largest, first}
-use Rattle.sets.proofs.Bools.{bif, clash, and-l, and-r, and-i}
+use Rattle.sets.specs.Tests.{Set}
+use Rattle.sets.proofs.Bools.{bif, and-i}
 use Rattle.sets.proofs.Digits.{digit-num}
 use Rattle.sets.proofs.Masks.{bit-mask, mask-lt, above}
 use Rattle.sets.proofs.Tests.{every-all, largest-le, first-max}
 use Rattle.theory.specs.Automaton.{Automaton}
 use Rattle.theory.specs.Code.{setIn, rankIn, componentIn, classesIn, fields, pack, wellCoded}
-use Rattle.theory.specs.Core.{levelOf, rankOf, openOf, nextComponent}
-use Rattle.theory.specs.Macrostate.{before, onward, goes}
-use Rattle.theory.specs.Rule.{satisfies}
+use Rattle.theory.specs.Core.{levelOf, openOf}
+use Rattle.theory.specs.Macrostate.{isAccepting, Goes, before, onward}
+use Rattle.theory.specs.Run.{CodeRun}
 use Rattle.theory.proofs.Breakpoint.{comp-below}
-use Rattle.theory.proofs.Certified.{Layered, Backed, Run}
-use Rattle.theory.proofs.CodeRun.{CodeRun}
+use Rattle.theory.proofs.Certified.{Layered, Run}
+use Rattle.theory.proofs.Goes.{beq-same, is-goes, goes-iff}
 
 pow16 : (q : ℕ) → 2 ^ (4 * q) ≡ 16 ^ q
 pow16 zero = refl
@@ -32,8 +32,8 @@ pow16 (suc q) =
     let e : 4 * suc q ≡ 4 * q + 4 = omega arith in
     ap (λ (x : ℕ). 2 ^ x) e ∙ pow-add 2 (4 * q) 4 ∙ ap (λ (x : ℕ). x * 16) (pow16 q) ∙ sym (pow-suc 16 q)
 
-module _ (W : Automaton) (small : W .n ≤ 8) (S : Set) (r : ℕ → ℕ) (K k : ℕ)
-    (trim-S : (q : ℕ) → W .n ≤ q → S q ≡ false) (trim-r : (q : ℕ) → W .n ≤ q → r q ≡ 0)
+module _ (A : Automaton) (small : A .n ≤ 8) (S : Set) (r : ℕ → ℕ) (K k : ℕ)
+    (trim-S : (q : ℕ) → A .n ≤ q → S q ≡ false) (trim-r : (q : ℕ) → A .n ≤ q → r q ≡ 0)
     (r-small : (q : ℕ) → r q < 16) (K-small : K < 16) (k-small : k < 16) where
   abbrev c : ℕ
   c = pack S r K k
@@ -51,17 +51,17 @@ module _ (W : Automaton) (small : W .n ≤ 8) (S : Set) (r : ℕ → ℕ) (K k :
       ap (λ (x : ℕ). x % 16) (sym (shr-shr c 8 (4 * j)) ∙ ap (λ (x : ℕ). x / 2 ^ (4 * j)) high ∙ ap (λ (x : ℕ). num 16 10 (fields r K k) / x) (pow16 j))
       ∙ digit-num 16 (omega arith) 10 (fields r K k) fields-small j l
 
-  pub set-is : setIn W c ≡ S
+  pub set-is : setIn A c ≡ S
   unfolding setIn pack bit
-  set-is = fun-ext (λ q. by-cases (decLt q (W .n))
-      (λ l. ap (λ (b : Bool). b && bit c q) (lt-ltb q (W .n) l) ∙ ap (λ (x : ℕ). eqb x 1) (above (num 16 10 (fields r K k)) (mask 8 S) 8 q (omega arith)) ∙ bit-mask 8 S q (omega arith))
-      (λ l. ap (λ (b : Bool). b && bit c q) (le-ltb q (W .n) (omega arith)) ∙ sym (trim-S q (omega arith))))
+  set-is = fun-ext (λ q. by-cases (decLt q (A .n))
+      (λ l. ap (λ (b : Bool). b && bit c q) (lt-ltb q (A .n) l) ∙ ap (λ (x : ℕ). eqb x 1) (above (num 16 10 (fields r K k)) (mask 8 S) 8 q (omega arith)) ∙ bit-mask 8 S q (omega arith))
+      (λ l. ap (λ (b : Bool). b && bit c q) (le-ltb q (A .n) (omega arith)) ∙ sym (trim-S q (omega arith))))
 
-  pub rank-is : rankIn W c ≡ r
+  pub rank-is : rankIn A c ≡ r
   unfolding rankIn fields
-  rank-is = fun-ext (λ q. by-cases (decLt q (W .n))
-      (λ l. ap (λ (b : Bool). cond b (c / 2 ^ (8 + 4 * q) % 16) 0) (lt-ltb q (W .n) l) ∙ hex q (omega arith) ∙ ap (λ (b : Bool). cond b (r q) (cond (eqb q 8) K k)) (lt-ltb q 8 (omega arith)))
-      (λ l. ap (λ (b : Bool). cond b (c / 2 ^ (8 + 4 * q) % 16) 0) (le-ltb q (W .n) (omega arith)) ∙ sym (trim-r q (omega arith))))
+  rank-is = fun-ext (λ q. by-cases (decLt q (A .n))
+      (λ l. ap (λ (b : Bool). cond b (c / 2 ^ (8 + 4 * q) % 16) 0) (lt-ltb q (A .n) l) ∙ hex q (omega arith) ∙ ap (λ (b : Bool). cond b (r q) (cond (eqb q 8) K k)) (lt-ltb q 8 (omega arith)))
+      (λ l. ap (λ (b : Bool). cond b (c / 2 ^ (8 + 4 * q) % 16) 0) (le-ltb q (A .n) (omega arith)) ∙ sym (trim-r q (omega arith))))
 
   pub comp-is : componentIn c ≡ K
   unfolding componentIn fields
@@ -71,23 +71,19 @@ module _ (W : Automaton) (small : W .n ≤ 8) (S : Set) (r : ℕ → ℕ) (K k :
   unfolding classesIn fields
   left-is = hex 9 (omega arith)
 
-  pub well-coded-is : wellCoded W c ≡ true
+  pub well-coded-is : wellCoded A c ≡ true
   unfolding wellCoded
   well-coded-is = eq-eqb _ c (ap₂ (λ (f : Set) (g : ℕ → ℕ). pack f g (componentIn c) (classesIn c)) set-is rank-is ∙ ap₂ (pack S r) comp-is left-is)
 
-beq-refl : (a b : Bool) → a ≡ b → Bool·beq a b ≡ true
-beq-refl true b e = ap (Bool·beq true) (sym e)
-beq-refl false b e = ap (Bool·beq false) (sym e)
-
-module _ (W : Automaton) (H : Layered W) (small : W .n ≤ 8) (few : W .components ≤ 16) (some-comp : 0 < W .components) (w : ℕ → ℕ) (init : ℕ) (S : ℕ → Set) (r : ℕ → ℕ → ℕ) (K k : ℕ → ℕ)
-    (run : Run W 15 w S r K k) (first-in : S 0 init ≡ true) where
+module _ (A : Automaton) (H : Layered A) (small : A .n ≤ 8) (few : A .components ≤ 16) (some-comp : 0 < A .components) (w : ℕ → ℕ) (S : ℕ → Set) (r : ℕ → ℕ → ℕ) (K k : ℕ → ℕ)
+    (run : Run A 15 w S r K k) where
   r-small : (i q : ℕ) → r i q < 16
-  r-small i q = by-cases (decLt q (W .n)) (λ l. let h = run .backed .bound i q l in omega arith) (λ l. let h = run .trim-r i q (omega arith) in omega arith)
+  r-small i q = by-cases (decLt q (A .n)) (λ l. let h = run .backed .bound i q l in omega arith) (λ l. let h = run .trim-r i q (omega arith) in omega arith)
 
   K-small : (i : ℕ) → K i < 16
-  K-small i = let h = comp-below W H 15 w S r K k run i some-comp in omega arith
+  K-small i = let h = comp-below A H 15 w S r K k run i some-comp in omega arith
 
-  level-small : (T : Set) (g : ℕ → ℕ) (p a : ℕ) → levelOf W 15 T g p (W .entry p a) ≤ 15
+  level-small : (T : Set) (g : ℕ → ℕ) (p a : ℕ) → levelOf A 15 T g p (A .entry p a) ≤ 15
   unfolding levelOf
   level-small T g p a = let h = first-max 15 _ 0 in h
 
@@ -96,52 +92,58 @@ module _ (W : Automaton) (H : Layered W) (small : W .n ≤ 8) (few : W .componen
   k-small (suc i) =
       by-cases (ℕ-discrete (k i) 0)
       (λ z. let h = run .turn-k i z in
-      let g = largest-le (W .n) (openOf W (S (suc i)) (K (suc i))) (r (suc i)) 15 (λ q l t. run .backed .bound (suc i) q l) in omega arith)
+      let g = largest-le (A .n) (openOf A (S (suc i)) (K (suc i))) (r (suc i)) 15 (λ q l t. run .backed .bound (suc i) q l) in omega arith)
       (λ z. let h = run .stay-k i z in
-      let g = largest-le (W .n) (λ q. openOf W (S i) (K i) q && leb (r i q) (k i)) (λ p. levelOf W 15 (S (suc i)) (r (suc i)) p (W .entry p (w i))) 15 (λ q l t. level-small (S (suc i)) (r (suc i)) q (w i)) in omega arith)
+      let g = largest-le (A .n) (λ q. openOf A (S i) (K i) q && leb (r i q) (k i)) (λ p. levelOf A 15 (S (suc i)) (r (suc i)) p (A .entry p (w i))) 15 (λ q l t. level-small (S (suc i)) (r (suc i)) q (w i)) in omega arith)
 
   pub code : ℕ → ℕ
   code i = pack (S i) (r i) (K i) (k i)
 
-  eS : (i : ℕ) → setIn W (code i) ≡ S i
+  eS : (i : ℕ) → setIn A (code i) ≡ S i
   unfolding code
-  eS i = set-is W small (S i) (r i) (K i) (k i) (run .trim-S i) (run .trim-r i) (r-small i) (K-small i) (k-small i)
+  eS i = set-is A small (S i) (r i) (K i) (k i) (run .trim-S i) (run .trim-r i) (r-small i) (K-small i) (k-small i)
 
-  eR : (i : ℕ) → rankIn W (code i) ≡ r i
+  eR : (i : ℕ) → rankIn A (code i) ≡ r i
   unfolding code
-  eR i = rank-is W small (S i) (r i) (K i) (k i) (run .trim-S i) (run .trim-r i) (r-small i) (K-small i) (k-small i)
+  eR i = rank-is A small (S i) (r i) (K i) (k i) (run .trim-S i) (run .trim-r i) (r-small i) (K-small i) (k-small i)
 
   eK : (i : ℕ) → componentIn (code i) ≡ K i
   unfolding code
-  eK i = comp-is W small (S i) (r i) (K i) (k i) (run .trim-S i) (run .trim-r i) (r-small i) (K-small i) (k-small i)
+  eK i = comp-is A small (S i) (r i) (K i) (k i) (run .trim-S i) (run .trim-r i) (r-small i) (K-small i) (k-small i)
 
   ek : (i : ℕ) → classesIn (code i) ≡ k i
   unfolding code
-  ek i = left-is W small (S i) (r i) (K i) (k i) (run .trim-S i) (run .trim-r i) (r-small i) (K-small i) (k-small i)
+  ek i = left-is A small (S i) (r i) (K i) (k i) (run .trim-S i) (run .trim-r i) (r-small i) (K-small i) (k-small i)
 
-  clean : (i : ℕ) → wellCoded W (code i) ≡ true
+  clean : (i : ℕ) → wellCoded A (code i) ≡ true
   unfolding code
-  clean i = well-coded-is W small (S i) (r i) (K i) (k i) (run .trim-S i) (run .trim-r i) (r-small i) (K-small i) (k-small i)
+  clean i = well-coded-is A small (S i) (r i) (K i) (k i) (run .trim-S i) (run .trim-r i) (r-small i) (K-small i) (k-small i)
 
-  before-is : (i : ℕ) → before W (code i) (w i) (code (suc i)) ≡ true
+  before-is : (i : ℕ) → before A (code i) (w i) (code (suc i)) ≡ true
   unfolding before
   before-is i = rw (before, eS i, eS (suc i), eR i, eR (suc i))
-      (and-i (every-all (W .n) _ (λ q l. beq-refl _ _ (run .backed .exact i q l))) (every-all (W .n) _ (λ q l. eq-eqb _ _ (run .backed .ranked i q l))))
+      (and-i (every-all (A .n) _ (λ q l. beq-same _ _ (run .backed .exact i q l))) (every-all (A .n) _ (λ q l. eq-eqb _ _ (run .backed .ranked i q l))))
 
-  onward-is : (i : ℕ) → onward W (code i) (w i) (code (suc i)) ≡ true
+  onward-is : (i : ℕ) → onward A (code i) (w i) (code (suc i)) ≡ true
   unfolding onward
   onward-is i = rw (onward, eS i, eS (suc i), eR i, eR (suc i), eK i, eK (suc i), ek i, ek (suc i))
       (by-cases (ℕ-discrete (k i) 0)
       (λ z. rw (eq-eqb (k i) 0 z) (and-i (eq-eqb _ _ (run .turn-K i z)) (eq-eqb _ _ (run .turn-k i z))))
       (λ z. rw (ne-eqb (k i) 0 z) (and-i (eq-eqb _ _ (run .stay-K i z)) (eq-eqb _ _ (run .stay-k i z)))))
 
-  pub code-run : CodeRun W w init code
-  unfolding goes
+  moves : (i : ℕ) → Goes A (code i) (w i) (code (suc i))
+  moves i = goes-iff A H (code i) (w i) (code (suc i)) .0 (is-goes A (code i) (w i) (code (suc i)) (before-is i) (onward-is i))
+
+  pub code-run : CodeRun A w code
+  unfolding isAccepting
   code-run = record {
-    clean = clean;
-    steps = λ i. and-i (before-is i) (onward-is i);
-    init-in = rw (eS 0) first-in;
-    init-comp = eK 0 ∙ run .start-K;
-    init-left = ek 0 ∙ run .start-k;
-    accepts = λ i. let a = run .accepts i in (a .0, a .1, ek (a .0) ∙ a .2);
+    macrostate = λ i. record { coded = clean i; core = (moves i) .earlier .core; component = rw (eK i) (comp-below A H 15 w S r K k run i some-comp) };
+    component = eK 0 ∙ run .start-K;
+    classes = ek 0 ∙ run .start-k;
+    steps = moves;
+    again = λ i. let a = run .accepts i in (a .0, a .1, eq-eqb _ _ (ek (a .0) ∙ a .2));
   }
+
+  -- its sets are the run's
+  pub code-set : (i : ℕ) → setIn A (code i) ≡ S i
+  code-set i = eS i

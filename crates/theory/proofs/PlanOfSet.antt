@@ -1,18 +1,18 @@
 -- A state of the solved sets named a plan.
-use mathlib.Core.Path.{_≡_, refl, sym, _∙_, ap}
-use mathlib.Core.Logic.{_⊎_, inl, inr, ⊎-elim, by-cases}
-use mathlib.Core.Bool.{Bool, true, false, _&&_, _||_, not, cond, false≢true}
+use mathlib.Core.Path.{_≡_, sym, _∙_, ap}
+use mathlib.Core.Logic.{_⊎_, inl, inr, ⊎-elim}
+use mathlib.Core.Bool.{true, false, _||_, not, cond, false≢true}
 use mathlib.Core.List.{List, [], _∷_, List·Memᴰ, List·Memᴰ·head, List·Memᴰ·tail}
-use Prim.Native.Nat.{ℕ, zero, suc, _+_, _-_, _*_, _≤_, _<_}
+use Prim.Native.Nat.{ℕ, suc, _-_, _<_}
 use native.Mathlib.Omega.{arith}
 use lib.Dec.{eqb, leb}
-use borrow.Author.Tests.{leb-true, leb-false, le-leb, eqb-true, eqb-false, eq-eqb}
+use borrow.Author.Tests.{leb-true, leb-false, le-leb, eqb-true, eq-eqb}
 use Rattle.sets.specs.Masks.{bit, inside}
-use Rattle.sets.specs.Tests.{Set, every, first}
-use Rattle.sets.proofs.Bools.{bif, clash, or-rt, or-tf}
+use Rattle.sets.specs.Tests.{Set, first}
+use Rattle.sets.proofs.Bools.{bif, or-rt, or-tf}
 use Rattle.sets.proofs.Tests.{every-at, first-leb}
 use Rattle.theory.specs.Automaton.{Automaton}
-use Rattle.theory.specs.Core.{isOpen, mix, settled}
+use Rattle.theory.specs.Core.{isOpen, mix}
 use Rattle.theory.specs.Plan.{Reach, here, on, Accepts}
 use Rattle.theory.specs.Rule.{satisfies}
 use Rattle.theory.proofs.Certified.{Layered, discharged}
@@ -46,93 +46,93 @@ member : (n : ℕ) (X : Set) (cs : List ℕ) → satisfies n X cs ≡ true → (
 unfolding inside
 member n X cs e q l b = or-tf (bit (choose n X cs) q) (X q) (every-at n (λ p. not (bit (choose n X cs) p) || X p) (chosen n X cs e .1) q l) b
 
-module _ (R : Automaton) (H : Layered R) (L : ℕ) (nx w : ℕ → ℕ) (stays : (p : ℕ) → p < L → nx p < L) (S : ℕ → Set)
-    (exact : (p q : ℕ) → p < L → q < R .n → S p q ≡ satisfies (R .n) (S (nx p)) (R .entry q (w p)))
-    (N : ℕ) (near : (p q : ℕ) → q < R .n → isOpen R (S p) q ≡ true → discharged R nx w S p N q ≡ true) where
+module _ (A : Automaton) (H : Layered A) (L : ℕ) (nx w : ℕ → ℕ) (stays : (p : ℕ) → p < L → nx p < L) (S : ℕ → Set)
+    (exact : (p q : ℕ) → p < L → q < A .n → S p q ≡ satisfies (A .n) (S (nx p)) (A .entry q (w p)))
+    (N : ℕ) (near : (p q : ℕ) → q < A .n → isOpen A (S p) q ≡ true → discharged A nx w S p N q ≡ true) where
   δ : ℕ → ℕ → ℕ
-  δ p q = first N (λ d. discharged R nx w S p d q) 0
+  δ p q = first N (λ d. discharged A nx w S p d q) 0
 
-  δ-leb : (p q : ℕ) → q < R .n → isOpen R (S p) q ≡ true → (d : ℕ) → leb (δ p q) d ≡ discharged R nx w S p d q
+  δ-leb : (p q : ℕ) → q < A .n → isOpen A (S p) q ≡ true → (d : ℕ) → leb (δ p q) d ≡ discharged A nx w S p d q
   unfolding δ
-  δ-leb p q l o d = first-leb N _ (λ a b h t. discharged-le R nx w S a b p q l h t) (near p q l o) d
+  δ-leb p q l o d = first-leb N _ (λ a b h t. discharged-le A nx w S a b p q l h t) (near p q l o) d
 
-  δ-pos : (p q : ℕ) → q < R .n → isOpen R (S p) q ≡ true → 0 < δ p q
+  δ-pos : (p q : ℕ) → q < A .n → isOpen A (S p) q ≡ true → 0 < δ p q
   unfolding discharged
   δ-pos p q l o = leb-false (δ p q) 0 (δ-leb p q l o 0)
 
   -- what the clause is chosen from
   aim : ℕ → ℕ → Set
-  aim q p = cond (R .accepting q) (S (nx p)) (mix R q (S (nx p)) (discharged R nx w S (nx p) (δ p q - 1)))
+  aim q p = cond (A .accepting q) (S (nx p)) (mix A q (S (nx p)) (discharged A nx w S (nx p) (δ p q - 1)))
 
   pick : ℕ → ℕ → ℕ
-  pick q p = choose (R .n) (aim q p) (R .entry q (w p))
+  pick q p = choose (A .n) (aim q p) (A .entry q (w p))
 
   record Good (q p : ℕ) : Type 0 where
-    below : q < R .n
+    below : q < A .n
     place : p < L
     true-in : S p q ≡ true
 
-  aim-sat : (q p : ℕ) → Good q p → satisfies (R .n) (aim q p) (R .entry q (w p)) ≡ true
+  aim-sat : (q p : ℕ) → Good q p → satisfies (A .n) (aim q p) (A .entry q (w p)) ≡ true
   unfolding aim
   aim-sat q p g =
-      bif (R .accepting q)
+      bif (A .accepting q)
       (λ a. rw a (sym (exact p q (g .place) (g .below)) ∙ g .true-in))
       (λ a.
-      let o = open-rej R (S p) q a ∙ g .true-in in
+      let o = open-rej A (S p) q a ∙ g .true-in in
       let h = δ-pos p q (g .below) o in
       let x : suc (δ p q - 1) ≡ δ p q = omega arith in
-      let t : discharged R nx w S p (suc (δ p q - 1)) q ≡ true = rw x (sym (δ-leb p q (g .below) o (δ p q)) ∙ le-leb (δ p q) (δ p q) (omega arith)) in
-      rw a (sym (settled-rej R (S (nx p)) _ q _ a) ∙ discharged-settled R nx w S p (δ p q - 1) q t))
+      let t : discharged A nx w S p (suc (δ p q - 1)) q ≡ true = rw x (sym (δ-leb p q (g .below) o (δ p q)) ∙ le-leb (δ p q) (δ p q) (omega arith)) in
+      rw a (sym (settled-rej A (S (nx p)) _ q _ a) ∙ discharged-settled A nx w S p (δ p q - 1) q t))
 
-  aim-at : (q p r : ℕ) → Good q p → r < R .n → bit (pick q p) r ≡ true → aim q p r ≡ true
+  aim-at : (q p r : ℕ) → Good q p → r < A .n → bit (pick q p) r ≡ true → aim q p r ≡ true
   unfolding pick
-  aim-at q p r g l b = member (R .n) (aim q p) (R .entry q (w p)) (aim-sat q p g) r l b
+  aim-at q p r g l b = member (A .n) (aim q p) (A .entry q (w p)) (aim-sat q p g) r l b
 
-  aim-rej : (q p r : ℕ) → Good q p → r < R .n → bit (pick q p) r ≡ true → R .accepting q ≡ false → mix R q (S (nx p)) (discharged R nx w S (nx p) (δ p q - 1)) r ≡ true
+  aim-rej : (q p r : ℕ) → Good q p → r < A .n → bit (pick q p) r ≡ true → A .accepting q ≡ false → mix A q (S (nx p)) (discharged A nx w S (nx p) (δ p q - 1)) r ≡ true
   unfolding aim
   aim-rej q p r g l b a = rw (a, aim) at (aim-at q p r g l b)
 
   -- in the component of a rejecting state the plan stays true and comes nearer
-  nearer : (q p r : ℕ) → Good q p → r < R .n → bit (pick q p) r ≡ true → R .accepting q ≡ false → R .component r ≡ R .component q → (S (nx p) r ≡ true) × (δ (nx p) r < δ p q)
+  nearer : (q p r : ℕ) → Good q p → r < A .n → bit (pick q p) r ≡ true → A .accepting q ≡ false → A .component r ≡ A .component q → (S (nx p) r ≡ true) × (δ (nx p) r < δ p q)
   nearer q p r g l b a c =
-      let t : discharged R nx w S (nx p) (δ p q - 1) r ≡ true = sym (mix-in R q _ _ r (eq-eqb _ _ c)) ∙ aim-rej q p r g l b a in
-      let o = discharged-open R nx w S (nx p) (δ p q - 1) r t in
+      let t : discharged A nx w S (nx p) (δ p q - 1) r ≡ true = sym (mix-in A q _ _ r (eq-eqb _ _ c)) ∙ aim-rej q p r g l b a in
+      let o = discharged-open A nx w S (nx p) (δ p q - 1) r t in
       let h = leb-true (δ (nx p) r) (δ p q - 1) (δ-leb (nx p) r l o (δ p q - 1) ∙ t) in
-      let k = δ-pos p q (g .below) (open-rej R (S p) q a ∙ g .true-in) in
-      (sym (open-rej R (S (nx p)) r (H .pure r q l (g .below) c ∙ a)) ∙ o, omega arith)
+      let k = δ-pos p q (g .below) (open-rej A (S p) q a ∙ g .true-in) in
+      (sym (open-rej A (S (nx p)) r (H .pure r q l (g .below) c ∙ a)) ∙ o, omega arith)
 
   -- a step of the plan
-  good-on : (q p r : ℕ) → Good q p → r < R .n → bit (pick q p) r ≡ true → Good r (nx p)
+  good-on : (q p r : ℕ) → Good q p → r < A .n → bit (pick q p) r ≡ true → Good r (nx p)
   unfolding aim
   good-on q p r g l b =
       record {
         below = l;
         place = stays p (g .place);
         true-in =
-            bif (R .accepting q)
+            bif (A .accepting q)
             (λ a. rw (a, aim) at (aim-at q p r g l b))
-            (λ a. bif (eqb (R .component r) (R .component q))
+            (λ a. bif (eqb (A .component r) (A .component q))
             (λ c. nearer q p r g l b a (eqb-true _ _ c) .0)
-            (λ c. sym (mix-out R q _ _ r c) ∙ aim-rej q p r g l b a));
+            (λ c. sym (mix-out A q _ _ r c) ∙ aim-rej q p r g l b a));
       }
 
-  listed : (q p : ℕ) → Good q p → List·Memᴰ (pick q p) (R .entry q (w p))
+  listed : (q p : ℕ) → Good q p → List·Memᴰ (pick q p) (A .entry q (w p))
   unfolding pick
-  listed q p g = chosen (R .n) (aim q p) (R .entry q (w p)) (aim-sat q p g) .0
+  listed q p g = chosen (A .n) (aim q p) (A .entry q (w p)) (aim-sat q p g) .0
 
   -- no higher
-  lower : (q p r : ℕ) → Good q p → r < R .n → bit (pick q p) r ≡ true → (R .component r ≡ R .component q) ⊎ (H .height r < H .height q)
+  lower : (q p r : ℕ) → Good q p → r < A .n → bit (pick q p) r ≡ true → (A .component r ≡ A .component q) ⊎ (H .height r < H .height q)
   lower q p r g l b = H .down q (w p) (pick q p) r (g .below) l (listed q p g) b
 
-  reached : (a x q p : ℕ) → Good a x → Reach R nx w pick a x q p → Good q p
+  reached : (a x q p : ℕ) → Good a x → Reach A nx w pick a x q p → Good q p
   reached a x q p g here = g
   reached a x q p g (on {q = q′} {p = p′} r y c l b e) = rw e (good-on q′ p′ r (reached a x q′ p′ g c) l b)
 
-  module _ (q p : ℕ) (g : Good q p) (a : R .accepting q ≡ false) where
+  module _ (q p : ℕ) (g : Good q p) (a : A .accepting q ≡ false) where
     Back : ℕ → ℕ → Type 0
-    Back x y = (H .height x < H .height q) ⊎ ((R .component x ≡ R .component q) × (δ y x < δ p q))
+    Back x y = (H .height x < H .height q) ⊎ ((A .component x ≡ A .component q) × (δ y x < δ p q))
 
-    back-on : (x y r : ℕ) → Good x y → Back x y → r < R .n → bit (pick x y) r ≡ true → Back r (nx y)
+    back-on : (x y r : ℕ) → Good x y → Back x y → r < A .n → bit (pick x y) r ≡ true → Back r (nx y)
     unfolding Back
     back-on x y r gx h l b =
         ⊎-elim
@@ -143,18 +143,18 @@ module _ (R : Automaton) (H : Layered R) (L : ℕ) (nx w : ℕ → ℕ) (stays :
         (lower x y r gx l b))
         h
 
-    along : (s x y : ℕ) → Good s (nx p) → Back s (nx p) → Reach R nx w pick s (nx p) x y → Back x y
+    along : (s x y : ℕ) → Good s (nx p) → Back s (nx p) → Reach A nx w pick s (nx p) x y → Back x y
     along s x y gs h here = h
     along s x y gs h (on {q = q′} {p = p′} r z c l b e) = rw e (back-on q′ p′ r (reached s (nx p) q′ p′ gs c) (along s q′ p′ gs h c) l b)
 
-    no-loop : (r : ℕ) → r < R .n → bit (pick q p) r ≡ true → Reach R nx w pick r (nx p) q p → ⊥
+    no-loop : (r : ℕ) → r < A .n → bit (pick q p) r ≡ true → Reach A nx w pick r (nx p) q p → ⊥
     unfolding Back
     no-loop r l b c =
         let gr = good-on q p r g l b in
         let h : Back r (nx p) = ⊎-elim (λ k. inr (k, nearer q p r g l b a k .1)) inl (lower q p r g l b) in
         ⊎-elim (λ lt. omega arith) (λ k. omega (arith, k .1)) (along r q p gr h c)
 
-  pub accepted : (q p : ℕ) → q < R .n → p < L → S p q ≡ true → Accepts R nx w q p
+  pub accepted : (q p : ℕ) → q < A .n → p < L → S p q ≡ true → Accepts A nx w q p
   accepted q p l k e =
       let g : Good q p = record { below = l; place = k; true-in = e } in
       record {

@@ -1,24 +1,21 @@
 -- The list of the reached is just that.
-use mathlib.Core.Path.{_≡_, refl, sym, _∙_, ap}
-use mathlib.Core.Logic.{_⊎_, inl, inr, ⊎-elim, by-cases, _↔_}
-use mathlib.Core.Bool.{Bool, true, false, _||_, false≢true, or-true}
-use mathlib.Core.List.{List, [], _∷_, List·Memᴰ, List·Memᴰ·head, List·Memᴰ·tail, List·Memᴰ·cases-cons, List·Memᴰ·not-nil}
-use Prim.Native.Nat.{ℕ, zero, suc, _+_, _≤_, _<_}
-use native.Mathlib.Omega.{arith}
-use lib.Dec.{eqb}
+use mathlib.Core.Path.{_≡_, _∙_}
+use mathlib.Core.Logic.{_⊎_, inl, inr, ⊎-elim, _↔_}
+use mathlib.Core.Bool.{Bool, true, or-true}
+use mathlib.Core.List.{List, List·Memᴰ}
+use Prim.Native.Nat.{ℕ, zero, suc, _<_}
 use lib.ListN.{length, getD}
-use borrow.Author.Tests.{eqb-true, eqb-false, eq-eqb}
-use Rattle.sets.specs.Lists.{keep, among, anyOf, Ascending}
+use Rattle.sets.specs.Lists.{among, anyOf, Ascending}
 use Rattle.sets.specs.Tests.{Set}
-use Rattle.sets.proofs.Bools.{bif, clash, iff, or-cases}
+use Rattle.sets.proofs.Bools.{iff, or-cases}
 use Rattle.sets.proofs.Growth.{still}
-use Rattle.sets.proofs.Lists.{among-in, among-out, any-in, any-out, keep-in, keep-out, place-of, mem-at, sorted-in, sorted-out, sorted-asc}
+use Rattle.sets.proofs.Lists.{among-in, among-out, any-in, any-out, keep-in, keep-out, place-of, sorted-in, sorted-out, sorted-asc}
 use Rattle.theory.specs.Table.{reachedIn, reached}
 
 -- the members of a list that are reached from its starts along the edges
 pub data Along (all : List ℕ) (start : Set) (edge : ℕ → ℕ → Bool) : ℕ → Type 0 where
-  begins : {c : ℕ} → List·Memᴰ c all → start c ≡ true → Along all start edge c
-  steps : {x c : ℕ} → Along all start edge x → List·Memᴰ c all → edge x c ≡ true → Along all start edge c
+  starts : {c : ℕ} → List·Memᴰ c all → start c ≡ true → Along all start edge c
+  follows : {x c : ℕ} → Along all start edge x → List·Memᴰ c all → edge x c ≡ true → Along all start edge c
 
 module _ (all : List ℕ) (start : Set) (edge : ℕ → ℕ → Bool) where
   next-in : (d c : ℕ) → List·Memᴰ c all → List·Memᴰ c (reachedIn all start edge d) ⊎ ((x : ℕ) × List·Memᴰ x (reachedIn all start edge d) × (edge x c ≡ true)) → List·Memᴰ c (reachedIn all start edge (suc d))
@@ -43,8 +40,8 @@ module _ (all : List ℕ) (start : Set) (edge : ℕ → ℕ → Bool) where
 
   sound : (d c : ℕ) → List·Memᴰ c (reachedIn all start edge d) → Along all start edge c
   unfolding reachedIn
-  sound zero c m = let r = keep-out start all c m in begins (r .0) (r .1)
-  sound (suc d) c m = let r = next-out d c m in ⊎-elim (λ k. sound d c k) (λ k. steps (sound d (k .0) (k .1)) (r .0) (k .2)) (r .1)
+  sound zero c m = let r = keep-out start all c m in starts (r .0) (r .1)
+  sound (suc d) c m = let r = next-out d c m in ⊎-elim (λ k. sound d c k) (λ k. follows (sound d (k .0) (k .1)) (r .0) (k .2)) (r .1)
 
   grows : (d c : ℕ) → List·Memᴰ c (reachedIn all start edge d) → List·Memᴰ c (reachedIn all start edge (suc d))
   grows d c m = next-in d c (listed d c m) (inl m)
@@ -78,8 +75,8 @@ module _ (all : List ℕ) (start : Set) (edge : ℕ → ℕ → Bool) where
   first-in (suc d) c m e = grows d c (first-in d c m e)
 
   complete : {c : ℕ} → Along all start edge c → List·Memᴰ c (reachedIn all start edge (length all))
-  complete (begins {c = c} m e) = first-in (length all) c m e
-  complete (steps {x = x} {c = c} r m e) = rest c (next-in (length all) c m (inr (x, complete r, e)))
+  complete (starts {c = c} m e) = first-in (length all) c m e
+  complete (follows {x = x} {c = c} r m e) = rest c (next-in (length all) c m (inr (x, complete r, e)))
 
   pub reached-iff : (c : ℕ) → List·Memᴰ c (reached all start edge) ↔ Along all start edge c
   unfolding reached

@@ -1,9 +1,9 @@
 -- Laws of `satisfies`: what tells two sets apart, sets that agree, sets that grow.
 use mathlib.Core.Path.{_≡_, refl, sym, _∙_, ap}
-use mathlib.Core.Bool.{Bool, true, false, _||_, not, true≢false, false≢true}
+use mathlib.Core.Bool.{Bool, true, false, _||_, not, false≢true}
 use mathlib.Core.List.{List, [], _∷_, List·Memᴰ, List·Memᴰ·head, List·Memᴰ·tail}
 use Prim.Native.Nat.{ℕ, _<_}
-use Rattle.sets.specs.Tests.{Set, every}
+use Rattle.sets.specs.Tests.{Set}
 use Rattle.sets.specs.Masks.{bit, inside}
 use Rattle.sets.proofs.Bools.{bif, clash, or-fl, or-fr, or-rt, or-tf, not-f}
 use Rattle.sets.proofs.Tests.{every-at, every-not, every-ext}

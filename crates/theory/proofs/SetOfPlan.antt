@@ -1,19 +1,19 @@
 -- A state with a plan is in the solved sets.
 use mathlib.Core.Path.{_≡_, refl, sym, _∙_, ap, subst₂}
-use mathlib.Core.Logic.{_⊎_, inl, inr, ⊎-elim, by-cases}
-use mathlib.Core.Bool.{Bool, true, false, _&&_, _||_, not, cond, true≢false, false≢true}
+use mathlib.Core.Logic.{_⊎_, ⊎-elim}
+use mathlib.Core.Bool.{true, false, _&&_, _||_, not, false≢true}
 use mathlib.Core.List.{List, [], _∷_, List·Memᴰ, List·Memᴰ·cases-cons, List·Memᴰ·not-nil}
 use Prim.Native.Nat.{ℕ, zero, suc, _+_, _-_, _*_, _/_, _%_, _≤_, _<_}
 use native.Mathlib.Omega.{arith}
-use lib.Dec.{eqb, leb, ltb}
+use lib.Dec.{eqb, ltb}
 use lib.Arith.{digits-div, digits-mod, digits-lt}
-use borrow.Author.Tests.{eqb-true, eqb-false, eq-eqb, lt-ltb}
+use borrow.Author.Tests.{eqb-true, eqb-false, lt-ltb}
 use Rattle.sets.specs.Masks.{bit, inside}
-use Rattle.sets.specs.Tests.{Set, every, count, one}
-use Rattle.sets.proofs.Bools.{bif, clash, or-fl, or-fr, or-cases, not-f, not-t}
+use Rattle.sets.specs.Tests.{Set, count, one}
+use Rattle.sets.proofs.Bools.{bif, or-fl, or-fr, or-cases, not-f, not-t}
 use Rattle.sets.proofs.Tests.{every-not, count-max}
 use Rattle.theory.specs.Automaton.{Automaton}
-use Rattle.theory.specs.Core.{isOpen, mix, settled}
+use Rattle.theory.specs.Core.{isOpen, mix}
 use Rattle.theory.specs.Plan.{Reach, here, on, Accepts}
 use Rattle.theory.specs.Rule.{satisfies}
 use Rattle.theory.proofs.Certified.{Layered, discharged}
@@ -41,91 +41,91 @@ pair-eq : (n p q y a : ℕ) → q < n → a < n → p * n + q ≡ y * n + a → 
 pair-eq n p q y a l m e =
     (sym (digits-div p l) ∙ ap (λ (x : ℕ). x / n) e ∙ digits-div y m, sym (digits-mod p l) ∙ ap (λ (x : ℕ). x % n) e ∙ digits-mod y m)
 
-module _ (R : Automaton) (H : Layered R) (L : ℕ) (nx w : ℕ → ℕ) (stays : (p : ℕ) → p < L → nx p < L) (S : ℕ → Set)
-    (exact : (p q : ℕ) → p < L → q < R .n → S p q ≡ satisfies (R .n) (S (nx p)) (R .entry q (w p)))
-    (N : ℕ) (near : (p q : ℕ) → q < R .n → isOpen R (S p) q ≡ true → discharged R nx w S p N q ≡ true)
-    (a0 x0 : ℕ) (A : Accepts R nx w a0 x0) where
+module _ (A : Automaton) (H : Layered A) (L : ℕ) (nx w : ℕ → ℕ) (stays : (p : ℕ) → p < L → nx p < L) (S : ℕ → Set)
+    (exact : (p q : ℕ) → p < L → q < A .n → S p q ≡ satisfies (A .n) (S (nx p)) (A .entry q (w p)))
+    (N : ℕ) (near : (p q : ℕ) → q < A .n → isOpen A (S p) q ≡ true → discharged A nx w S p N q ≡ true)
+    (a0 x0 : ℕ) (P : Accepts A nx w a0 x0) where
   -- reached, and outside the sets
   record Out (q p : ℕ) : Type 0 where
-    below : q < R .n
+    below : q < A .n
     place : p < L
-    come : Reach R nx w (A .pick) a0 x0 q p
+    come : Reach A nx w (P .pick) a0 x0 q p
     false-in : S p q ≡ false
 
-  go-on : (q p r : ℕ) → Out q p → r < R .n → bit (A .pick q p) r ≡ true → S (nx p) r ≡ false → Out r (nx p)
+  go-on : (q p r : ℕ) → Out q p → r < A .n → bit (P .pick q p) r ≡ true → S (nx p) r ≡ false → Out r (nx p)
   go-on q p r o l b e = record { below = l; place = stays p (o .place); come = on r (nx p) (o .come) l b refl; false-in = e }
 
-  lower : (q p r : ℕ) → Out q p → r < R .n → bit (A .pick q p) r ≡ true → (R .component r ≡ R .component q) ⊎ (H .height r < H .height q)
-  lower q p r o l b = H .down q (w p) (A .pick q p) r (o .below) l (A .valid q p (o .come)) b
+  lower : (q p r : ℕ) → Out q p → r < A .n → bit (P .pick q p) r ≡ true → (A .component r ≡ A .component q) ⊎ (H .height r < H .height q)
+  lower q p r o l b = H .down q (w p) (P .pick q p) r (o .below) l (P .valid q p (o .come)) b
 
   -- an accepting state outside comes nearer, or lower
-  acc-step : (h : ℕ) (d q p r : ℕ) → ((q p : ℕ) → H .height q < suc h → Out q p → R .accepting q ≡ true → discharged R nx w S p d q ≡ true → ⊥) → ((q p : ℕ) → H .height q < h → Out q p → ⊥)
-      → H .height q < suc h → Out q p → R .accepting q ≡ true → r < R .n → bit (A .pick q p) r ≡ true → mix R q (λ s. not (S (nx p) s)) (discharged R nx w S (nx p) d) r ≡ true → ⊥
+  acc-step : (h : ℕ) (d q p r : ℕ) → ((q p : ℕ) → H .height q < suc h → Out q p → A .accepting q ≡ true → discharged A nx w S p d q ≡ true → ⊥) → ((q p : ℕ) → H .height q < h → Out q p → ⊥)
+      → H .height q < suc h → Out q p → A .accepting q ≡ true → r < A .n → bit (P .pick q p) r ≡ true → mix A q (λ s. not (S (nx p) s)) (discharged A nx w S (nx p) d) r ≡ true → ⊥
   acc-step h d q p r ihd ih k o a l b m =
-      bif (eqb (R .component r) (R .component q))
+      bif (eqb (A .component r) (A .component q))
       (λ t. let c = eqb-true _ _ t in
-      let v : discharged R nx w S (nx p) d r ≡ true = sym (mix-in R q _ _ r t) ∙ m in
+      let v : discharged A nx w S (nx p) d r ≡ true = sym (mix-in A q _ _ r t) ∙ m in
       let a′ = H .pure r q l (o .below) c ∙ a in
       let e = H .level r q l (o .below) c in
-      ihd r (nx p) (omega arith) (go-on q p r o l b (not-t _ (sym (open-acc R (S (nx p)) r a′) ∙ discharged-open R nx w S (nx p) d r v))) a′ v)
-      (λ t. ⊎-elim (λ c. eqb-false _ _ t c) (λ lt. ih r (nx p) (omega arith) (go-on q p r o l b (not-t _ (sym (mix-out R q _ _ r t) ∙ m)))) (lower q p r o l b))
+      ihd r (nx p) (omega arith) (go-on q p r o l b (not-t _ (sym (open-acc A (S (nx p)) r a′) ∙ discharged-open A nx w S (nx p) d r v))) a′ v)
+      (λ t. ⊎-elim (λ c. eqb-false _ _ t c) (λ lt. ih r (nx p) (omega arith) (go-on q p r o l b (not-t _ (sym (mix-out A q _ _ r t) ∙ m)))) (lower q p r o l b))
 
-  acc-hunt : (h : ℕ) → ((q p : ℕ) → H .height q < h → Out q p → ⊥) → (d q p : ℕ) → H .height q < suc h → Out q p → R .accepting q ≡ true → discharged R nx w S p d q ≡ true → ⊥
+  acc-hunt : (h : ℕ) → ((q p : ℕ) → H .height q < h → Out q p → ⊥) → (d q p : ℕ) → H .height q < suc h → Out q p → A .accepting q ≡ true → discharged A nx w S p d q ≡ true → ⊥
   unfolding discharged
   acc-hunt h ih zero q p k o a t = false≢true t
   acc-hunt h ih (suc d) q p k o a t =
-      let f = miss (R .n) (λ r. not (mix R q (λ s. not (S (nx p) s)) (discharged R nx w S (nx p) d) r)) (R .entry q (w p)) (A .pick q p) (A .valid q p (o .come))
-      (not-t _ (sym (settled-acc R _ _ q _ a) ∙ discharged-settled R nx w S p d q t)) in
+      let f = miss (A .n) (λ r. not (mix A q (λ s. not (S (nx p) s)) (discharged A nx w S (nx p) d) r)) (A .entry q (w p)) (P .pick q p) (P .valid q p (o .come))
+      (not-t _ (sym (settled-acc A _ _ q _ a) ∙ discharged-settled A nx w S p d q t)) in
       acc-step h d q p (f .0) (acc-hunt h ih d) ih k o a (f .1) (f .2) (not-f _ (f .3))
 
-  rej-step : (q p : ℕ) → Out q p → (r : ℕ) × (r < R .n) × (bit (A .pick q p) r ≡ true) × (S (nx p) r ≡ false)
-  rej-step q p o = miss (R .n) (S (nx p)) (R .entry q (w p)) (A .pick q p) (A .valid q p (o .come)) (sym (exact p q (o .place) (o .below)) ∙ o .false-in)
+  rej-step : (q p : ℕ) → Out q p → (r : ℕ) × (r < A .n) × (bit (P .pick q p) r ≡ true) × (S (nx p) r ≡ false)
+  rej-step q p o = miss (A .n) (S (nx p)) (A .entry q (w p)) (P .pick q p) (P .valid q p (o .come)) (sym (exact p q (o .place) (o .below)) ∙ o .false-in)
 
   -- the pairs of Vis were passed on the way to q at p
   record Back (a y q p : ℕ) : Type 0 where
-    come : Reach R nx w (A .pick) a0 x0 a y
-    rej : R .accepting a ≡ false
+    come : Reach A nx w (P .pick) a0 x0 a y
+    rej : A .accepting a ≡ false
     first : ℕ
-    below : first < R .n
-    member : bit (A .pick a y) first ≡ true
-    way : Reach R nx w (A .pick) first (nx y) q p
+    below : first < A .n
+    member : bit (P .pick a y) first ≡ true
+    way : Reach A nx w (P .pick) first (nx y) q p
 
   Seen : Set → ℕ → ℕ → Type 0
-  Seen Vis q p = (a y : ℕ) → a < R .n → Vis (y * R .n + a) ≡ true → Back a y q p
+  Seen Vis q p = (a y : ℕ) → a < A .n → Vis (y * A .n + a) ≡ true → Back a y q p
 
-  more : (Vis : Set) (q p r : ℕ) → Out q p → R .accepting q ≡ false → Seen Vis q p → r < R .n → bit (A .pick q p) r ≡ true → Seen (λ j. Vis j || eqb (p * R .n + q) j) r (nx p)
+  more : (Vis : Set) (q p r : ℕ) → Out q p → A .accepting q ≡ false → Seen Vis q p → r < A .n → bit (P .pick q p) r ≡ true → Seen (λ j. Vis j || eqb (p * A .n + q) j) r (nx p)
   unfolding Seen
   more Vis q p r o c v l b a y m t =
       ⊎-elim
       (λ u. let x = v a y m u in
       record { come = x .come; rej = x .rej; first = x .first; below = x .below; member = x .member; way = on r (nx p) (x .way) l b refl })
-      (λ u. let e = pair-eq (R .n) p q y a (o .below) m (eqb-true _ _ u) in
+      (λ u. let e = pair-eq (A .n) p q y a (o .below) m (eqb-true _ _ u) in
       subst₂ (λ (y′ a′ : ℕ). Back a′ y′ r (nx p)) (e .0) (e .1) (record { come = o .come; rej = c; first = r; below = l; member = b; way = here }))
-      (or-cases (Vis (y * R .n + a)) (eqb (p * R .n + q) (y * R .n + a)) t)
+      (or-cases (Vis (y * A .n + a)) (eqb (p * A .n + q) (y * A .n + a)) t)
 
-  again : (Vis : Set) (q p : ℕ) → Out q p → Seen Vis q p → Vis (p * R .n + q) ≡ true → ⊥
+  again : (Vis : Set) (q p : ℕ) → Out q p → Seen Vis q p → Vis (p * A .n + q) ≡ true → ⊥
   unfolding Seen
-  again Vis q p o v t = let x = v q p (o .below) t in A .fair q p (o .come) (x .rej) (x .first) (x .below) (x .member) (x .way)
+  again Vis q p o v t = let x = v q p (o .below) t in P .fair q p (o .come) (x .rej) (x .first) (x .below) (x .member) (x .way)
 
-  grow : (Vis : Set) (q p : ℕ) → Out q p → Vis (p * R .n + q) ≡ false → count (L * R .n) (λ j. Vis j || eqb (p * R .n + q) j) ≡ count (L * R .n) Vis + 1
+  grow : (Vis : Set) (q p : ℕ) → Out q p → Vis (p * A .n + q) ≡ false → count (L * A .n) (λ j. Vis j || eqb (p * A .n + q) j) ≡ count (L * A .n) Vis + 1
   grow Vis q p o t =
-      let x = insert-t (L * R .n) (p * R .n + q) Vis in
-      let z : one (ltb (p * R .n + q) (L * R .n) && not (Vis (p * R .n + q))) ≡ 1 = rw (lt-ltb (p * R .n + q) (L * R .n) (digits-lt (o .place) (o .below)), t) in
+      let x = insert-t (L * A .n) (p * A .n + q) Vis in
+      let z : one (ltb (p * A .n + q) (L * A .n) && not (Vis (p * A .n + q))) ≡ 1 = rw (lt-ltb (p * A .n + q) (L * A .n) (digits-lt (o .place) (o .below)), t) in
       omega arith
 
   -- a rejecting state outside comes lower, or back
-  rej-hunt : (h : ℕ) → ((q p : ℕ) → H .height q < h → Out q p → ⊥) → (f : ℕ) (Vis : Set) (q p : ℕ) → L * R .n ≤ f + count (L * R .n) Vis → H .height q < suc h → Out q p → R .accepting q ≡ false → Seen Vis q p → ⊥
+  rej-hunt : (h : ℕ) → ((q p : ℕ) → H .height q < h → Out q p → ⊥) → (f : ℕ) (Vis : Set) (q p : ℕ) → L * A .n ≤ f + count (L * A .n) Vis → H .height q < suc h → Out q p → A .accepting q ≡ false → Seen Vis q p → ⊥
   rej-hunt h ih zero Vis q p m k o c v =
-      bif (Vis (p * R .n + q)) (again Vis q p o v)
-      (λ t. let g = grow Vis q p o t in let b = count-max (L * R .n) (λ j. Vis j || eqb (p * R .n + q) j) in omega arith)
+      bif (Vis (p * A .n + q)) (again Vis q p o v)
+      (λ t. let g = grow Vis q p o t in let b = count-max (L * A .n) (λ j. Vis j || eqb (p * A .n + q) j) in omega arith)
   rej-hunt h ih (suc f) Vis q p m k o c v =
-      bif (Vis (p * R .n + q)) (again Vis q p o v)
+      bif (Vis (p * A .n + q)) (again Vis q p o v)
       (λ t. let g = grow Vis q p o t in
       let x = rej-step q p o in
       let n = go-on q p (x .0) o (x .1) (x .2) (x .3) in
       ⊎-elim
       (λ e. let y = H .level (x .0) q (x .1) (o .below) e in
-      rej-hunt h ih f (λ j. Vis j || eqb (p * R .n + q) j) (x .0) (nx p) (omega arith) (omega arith) n (H .pure (x .0) q (x .1) (o .below) e ∙ c) (more Vis q p (x .0) o c v (x .1) (x .2)))
+      rej-hunt h ih f (λ j. Vis j || eqb (p * A .n + q) j) (x .0) (nx p) (omega arith) (omega arith) n (H .pure (x .0) q (x .1) (o .below) e ∙ c) (more Vis q p (x .0) o c v (x .1) (x .2)))
       (λ lt. ih (x .0) (nx p) (omega arith) n)
       (lower q p (x .0) o (x .1) (x .2)))
 
@@ -133,9 +133,9 @@ module _ (R : Automaton) (H : Layered R) (L : ℕ) (nx w : ℕ → ℕ) (stays :
   unfolding Seen
   hunt zero q p l o = omega arith
   hunt (suc h) q p l o =
-      bif (R .accepting q)
-      (λ a. acc-hunt h (hunt h) N q p l o a (near p q (o .below) (open-acc R (S p) q a ∙ ap not (o .false-in))))
-      (λ a. rej-hunt h (hunt h) (L * R .n) (λ j. false) q p (omega arith) l o a (λ b y m t. absurd (false≢true t)))
+      bif (A .accepting q)
+      (λ a. acc-hunt h (hunt h) N q p l o a (near p q (o .below) (open-acc A (S p) q a ∙ ap not (o .false-in))))
+      (λ a. rej-hunt h (hunt h) (L * A .n) (λ j. false) q p (omega arith) l o a (λ b y m t. absurd (false≢true t)))
 
-  pub true-in : a0 < R .n → x0 < L → S x0 a0 ≡ true
+  pub true-in : a0 < A .n → x0 < L → S x0 a0 ≡ true
   true-in l k = bif (S x0 a0) (λ t. t) (λ t. absurd (hunt (suc (H .height a0)) a0 x0 (omega arith) (record { below = l; place = k; come = here; false-in = t })))

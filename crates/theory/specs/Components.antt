@@ -4,7 +4,7 @@ use mathlib.Core.Bool.{Bool, true, false, _&&_, _||_, not}
 use mathlib.Core.List.{List, [], _∷_}
 use Prim.Native.Nat.{ℕ, zero, suc, _<_}
 use lib.Dec.{eqb}
-use Rattle.sets.specs.Tests.{Set, every, some, count, first}
+use Rattle.sets.specs.Tests.{Set, some, count, first}
 use Rattle.sets.specs.Masks.{bit, mask}
 use Rattle.theory.specs.Rule.{Rule, entry}
 

@@ -10,3 +10,5 @@ pub mod Macrostate
 pub mod Table
 pub mod Run
 pub mod Demand
+pub mod Examples
+pub mod Truth

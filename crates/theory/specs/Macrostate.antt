@@ -1,6 +1,6 @@
 -- Macrostates, their steps, and the reachable ones.
 use mathlib.Core.Path.{_≡_}
-use mathlib.Core.Bool.{Bool, true, false, _&&_, cond, Bool·beq}
+use mathlib.Core.Bool.{Bool, true, _&&_, cond, Bool·beq}
 use Prim.Native.Nat.{ℕ, _<_}
 use lib.Dec.{eqb, leb}
 use Rattle.sets.specs.Tests.{Set, every, largest}
@@ -50,7 +50,7 @@ module _ (A : Automaton) where
     begins : {c : ℕ} → Macrostate c → begun start c ≡ true → Reachable s start c
     goesTo : {c d : ℕ} (a : ℕ) → Reachable s start c → a < s → Macrostate d → Goes c a d → Reachable s start d
 
-  -- ---- the same, computed (equal: proofs/Goes)
+  -- ---- the same, computed (equal: goes-iff in proofs/Goes)
 
   -- the core of c is the one before the core of d at letter a
   unfoldable pub before : ℕ → ℕ → ℕ → Bool

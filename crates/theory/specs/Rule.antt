@@ -1,5 +1,5 @@
 -- The rule: an alternating automaton over the states 0 to n-1 and the letters 0 to s-1, given by its entries.
-use mathlib.Core.Bool.{Bool, true, false, _||_, cond}
+use mathlib.Core.Bool.{Bool, false, _||_, cond}
 use mathlib.Core.List.{List, [], _∷_}
 use Prim.Native.Nat.{ℕ, _+_, _*_}
 use lib.Dec.{ltb}

@@ -1,8 +1,8 @@
 -- The lists that the build writes: the reachable codes ascending, and the transitions between their numbers.
 use mathlib.Core.Path.{_≡_}
-use mathlib.Core.Bool.{Bool, true, false, _&&_, _||_}
+use mathlib.Core.Bool.{Bool, _&&_, _||_}
 use mathlib.Core.List.{List, [], _∷_}
-use Prim.Native.Nat.{ℕ, zero, suc, _+_, _*_, _/_, _%_, _^_}
+use Prim.Native.Nat.{ℕ, zero, suc, _+_, _*_, _/_, _%_, _^_, _<_}
 use lib.ListN.{length, getD}
 use Rattle.sets.specs.Tests.{Set, some}
 use Rattle.sets.specs.Lists.{keep, among, anyOf, tabulate, flat, sorted}
@@ -10,7 +10,7 @@ use Rattle.theory.specs.Rule.{Rule}
 use Rattle.theory.specs.Automaton.{Automaton, automaton}
 use Rattle.theory.specs.Core.{isCore}
 use Rattle.theory.specs.Code.{setIn, rankIn, wellCoded}
-use Rattle.theory.specs.Macrostate.{begun, holdsInitial, goes}
+use Rattle.theory.specs.Macrostate.{begun, holdsInitial, Goes, goes}
 
 -- the members of a list that are reached from its starts along the edges, in at most d steps
 module _ (all : List ℕ) (start : Set) (edge : ℕ → ℕ → Bool) where
@@ -33,10 +33,11 @@ module _ (A : Automaton) where
   unfoldable pub candidates : List ℕ
   candidates = flat (digitals (suc (A .n)) (A .n)) (λ y. flat (tabulate (2 ^ A .n) (λ x. x) 0) (λ S. flat (tabulate (A .components) (λ x. x) 0) (λ K. tabulate (suc (A .n)) (λ k. (k * 16 ^ 9 + (K * 16 ^ 8 + y)) * 2 ^ 8 + S) 0)))
 
+  -- those that are codes of cores
   unfoldable pub cores : List ℕ
   cores = keep (λ c. wellCoded A c && isCore A (setIn A c) (rankIn A c)) candidates
 
-  -- the codes of the macrostates reached over s letters, ascending
+  -- the codes of the macrostates reached over s letters, ascending: those of `Reachable` (proofs/Tables: reachable-iff)
   unfoldable pub codesFrom : ℕ → Set → List ℕ
   codesFrom s start = let all = cores in reached all (begun start) (λ c d. some s (λ a. goes A c a d))
 
@@ -45,6 +46,17 @@ module _ (A : Automaton) where
   transitionsOf s t =
       sorted (keep (λ x. goes A (getD t (x / 16777216) 0) (x / 65536 % 256) (getD t (x % 65536) 0))
       (flat (tabulate (length t) (λ x. x) 0) (λ i. flat (tabulate s (λ x. x) 0) (λ a. tabulate (length t) (λ j. i * 16777216 + a * 65536 + j) 0))))
+
+  -- what that list holds (proofs/Tables: transition-iff): t is a step over one of s letters from one listed code to another, by their numbers
+  pub record Transition (s : ℕ) (codes : List ℕ) (t : ℕ) : Type 0 where
+    pub source : ℕ
+    pub letter : ℕ
+    pub target : ℕ
+    pub source-listed : source < length codes
+    pub letter-known : letter < s
+    pub target-listed : target < length codes
+    pub packed : t ≡ source * 16777216 + letter * 65536 + target
+    pub steps : Goes A (getD codes source 0) letter (getD codes target 0)
 
 -- from a start condition
 unfoldable pub macrostatesFrom : Rule → Set → List ℕ

@@ -1,5 +1,4 @@
 -- Words: a lead-in and a cycle that repeats for ever, one letter a number.
-use mathlib.Core.Path.{_≡_}
 use mathlib.Core.Bool.{cond}
 use mathlib.Core.List.{List, _++_, List·Memᴰ}
 use Prim.Native.Nat.{ℕ, zero, suc, _+_, _<_}
