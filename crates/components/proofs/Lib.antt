@@ -1,0 +1,5 @@
+pub mod Leads
+pub mod Tables
+pub mod Rounds
+pub mod Mixed
+pub mod Numbered

@@ -1,0 +1,96 @@
+-- Laws of the clause test.
+use mathlib.Core.Path.{_≡_, refl, ap, sym, _∙_}
+use mathlib.Core.Bool.{Bool, true, false, _&&_}
+use mathlib.Core.List.{List, [], _∷_, List·Memᴰ, List·Memᴰ·head, List·Memᴰ·tail}
+use Prim.Native.Nat.{ℕ, _+_, _-_, _/_, _^_, _<_, _≤_}
+use native.Mathlib.Numerals.{add-one}
+use lib.Bits.{bitAnd}
+use lib.Count.{trailingZeros}
+use lib.ListN.{length, drop, getD, drop-of-length-le}
+use lib.Seq.{drop-cons}
+use Rattle.sets.specs.Tests.{Set, every}
+use Rattle.sets.specs.Lists.{allOf}
+use Rattle.sets.specs.Masks.{bit, inside}
+use Rattle.sets.proofs.Bools.{bif, clash}
+use Rattle.theory.specs.Rule.{satisfies}
+use Rattle.entries.specs.declared.Met.the-variants.{Clause, Nothing}
+use Rattle.entries.specs.Met.{metFrom, metOf, isMet}
+use Rattle.sets.proofs.Bits.{bit-none}
+use Rattle.sets.proofs.Members.{members-cons, inside-members, inside-all, inside-trim}
+use Rattle.entries.proofs.More.{bit-clear, bit-set}
+
+-- ---- evaluated
+
+-- 01: "No clause: never satisfied."
+no-clause : metOf 255 [] ≡ Nothing
+unfolding metFrom
+no-clause = refl
+
+-- 01: "An empty clause: always."
+empty-clause : metOf 0 (0 ∷ []) ≡ Clause 0
+unfolding metFrom inside every bit
+empty-clause = refl
+
+-- the first clause is not met, the second is
+second-clause : metOf 5 (3 ∷ (4 ∷ [])) ≡ Clause 1
+unfolding metFrom inside every bit
+second-clause = refl
+
+-- ---- one clause
+
+-- the least state of a clause, and the clause without it
+abbrev least : ℕ → ℕ
+least m = trailingZeros 8 m
+
+abbrev rest : ℕ → ℕ
+rest m = bitAnd m (m - 1)
+
+inside-step : (X : Set) (m : ℕ) → 0 < m → m < 256 → inside 8 X m ≡ (X (least m) && inside 8 X (rest m))
+unfolding allOf
+inside-step X m p h = inside-members X m ∙ ap (λ (s : List ℕ). allOf s X) (members-cons m p h) ∙ ap (λ (b : Bool). X (least m) && b) (sym (inside-members X (rest m)))
+
+-- a clause of which the least state is not in the set
+pub missing : (s m : ℕ) → 0 < m → m < 256 → bitAnd (s / 2 ^ least m) 1 ≡ 0 → inside 8 (bit s) m ≡ false
+missing s m p h e = rw (inside-step (bit s) m p h, bit-clear s (least m) e)
+
+-- a clause of which the least state is in the set
+pub present : (s m : ℕ) → 0 < m → m < 256 → (bitAnd (s / 2 ^ least m) 1 ≡ 0 → ⊥) → inside 8 (bit s) m ≡ inside 8 (bit s) (rest m)
+present s m p h e = rw (inside-step (bit s) m p h, bit-set s (least m) e)
+
+-- the empty clause
+pub no-state : (X : Set) → inside 8 X 0 ≡ true
+no-state X = inside-all 8 X 0 (λ q l e. clash e (bit-none q))
+
+-- ---- the walk over the clauses
+
+pub met-next : (s : ℕ) (cl : List ℕ) (j : ℕ) → j < length cl → inside 8 (bit s) (getD cl j 0) ≡ false → metFrom s (drop j cl) j ≡ metFrom s (drop (j + 1) cl) (j + 1)
+unfolding metFrom
+met-next s cl j h e = rw (drop-cons cl j 0 h, e, add-one)
+
+pub met-here : (s : ℕ) (cl : List ℕ) (j : ℕ) → j < length cl → inside 8 (bit s) (getD cl j 0) ≡ true → metFrom s (drop j cl) j ≡ Clause j
+unfolding metFrom
+met-here s cl j h e = rw (drop-cons cl j 0 h, e)
+
+pub met-none : (s : ℕ) (cl : List ℕ) (j : ℕ) → length cl ≤ j → metFrom s (drop j cl) j ≡ Nothing
+unfolding metFrom
+met-none s cl j h = rw (drop-of-length-le cl {i = j} h)
+
+-- ---- a clause is met exactly if the set satisfies the entry
+
+met-from : (s : ℕ) (cl : List ℕ) (j : ℕ) → isMet (metFrom s cl j) ≡ satisfies 8 (bit s) cl
+unfolding metFrom isMet satisfies
+met-from s [] j = refl
+met-from s (c ∷ cs) j = bif (inside 8 (bit s) c) (λ t. rw t) (λ t. rw t (met-from s cs (j + 1)))
+
+pub met-satisfies : (s : ℕ) (cl : List ℕ) → isMet (metOf s cl) ≡ satisfies 8 (bit s) cl
+met-satisfies s cl = met-from s cl 0
+
+-- states from n on are in no clause
+pub satisfies-wide : (k n : ℕ) (X : Set) → n ≤ k → (cl : List ℕ) → ((c : ℕ) → List·Memᴰ c cl → c < 2 ^ n) → satisfies k X cl ≡ satisfies n X cl
+unfolding satisfies
+satisfies-wide k n X l [] h = refl
+satisfies-wide k n X l (c ∷ cs) h = rw (inside-trim n k X c l (h c (List·Memᴰ·head refl)), satisfies-wide k n X l cs (λ x m. h x (List·Memᴰ·tail m)))
+
+-- the same for an entry over n states
+pub met-entry : (n s : ℕ) (cl : List ℕ) → n ≤ 8 → ((c : ℕ) → List·Memᴰ c cl → c < 2 ^ n) → isMet (metOf s cl) ≡ satisfies n (bit s) cl
+met-entry n s cl l h = met-satisfies s cl ∙ satisfies-wide 8 n (bit s) l cl h

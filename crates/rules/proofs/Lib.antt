@@ -1,0 +1,13 @@
+pub mod Examples
+pub mod FirstRow
+pub mod Lists
+pub mod Numbers
+pub mod ListRows
+pub mod TrailerRows
+pub mod Parts
+pub mod Formed
+pub mod FileRows
+pub mod Accepted
+pub mod Answer
+pub mod Prefaces
+pub mod Layouts

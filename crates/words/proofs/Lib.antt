@@ -1,0 +1,3 @@
+pub mod Checks
+pub mod Letters
+pub mod Sameness
