@@ -1,0 +1,6 @@
+pub mod Packing
+pub mod Round
+pub mod Low
+pub mod Starts
+pub mod Classes
+pub mod Examples
