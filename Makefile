@@ -1,10 +1,49 @@
 # Mulgreddi: unambiguous Büchi automata from alternating weak ones.
-#   make test                  the gate: every crate is proved and every must-fail edit refused
+#   make lib                   the static library, build/libmulgreddi.a
+#   make test                  the gate: library, comparison with the second program, C examples, proofs
+#   make soak SECONDS=600      the comparison with new seeds until the time is up
 
-.PHONY: test clean
+CC ?= cc
+CFLAGS ?= -O2 -std=c11 -Wall -Wextra -Werror
+SECONDS ?= 600
+BUILD := build
+LIB := $(BUILD)/libmulgreddi.a
+SOURCES := crates.txt $(shell find crates -type f -not -path '*/must-fail/*')
+CARGO := CARGO_TARGET_DIR=$(CURDIR)/$(BUILD)/cargo MULGREDDI_LIB=$(CURDIR)/$(BUILD) cargo
+EXAMPLES := $(patsubst examples/%.c,$(BUILD)/%,$(wildcard examples/*.c))
 
-test:
+.PHONY: lib test soak compare second examples clean
+
+lib: $(LIB)
+
+$(LIB): $(SOURCES)
+	rt staticlib mulgreddi
+	mkdir -p $(BUILD)
+	cp target/staticlib/libmulgreddi.a $@
+
+# the second program's own tests; what it expects of the program `cases` is what is stored there
+second:
+	$(CARGO) test --release --offline --quiet --manifest-path second/Cargo.toml
+	$(CARGO) run --release --offline --quiet --manifest-path second/Cargo.toml --bin expect -- $(BUILD)/cases
+	diff -r $(BUILD)/cases/data crates/cases/data
+	diff $(BUILD)/cases/stdout crates/cases/stdout
+
+compare: $(LIB)
+	$(CARGO) run --release --offline --quiet --manifest-path compare/Cargo.toml
+
+soak: $(LIB)
+	$(CARGO) run --release --offline --quiet --manifest-path compare/Cargo.toml -- --seconds $(SECONDS)
+
+$(BUILD)/%: examples/%.c include/mulgreddi.h $(LIB)
+	$(CC) $(CFLAGS) -Iinclude -o $@ $< $(LIB)
+
+# each example is run on the rule files beside it, and its output is compared
+examples: $(EXAMPLES)
+	for e in $(EXAMPLES); do $$e examples > $$e.out && diff examples/$$(basename $$e).expected $$e.out || exit 1; done
+
+# `rt ci` is last: its closing line is the gate's
+test: second compare examples
 	rt ci
 
 clean:
-	rm -rf build target
+	rm -rf $(BUILD) target

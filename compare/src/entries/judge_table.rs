@@ -1,0 +1,388 @@
+//! The judge of words on a built table.
+
+use second::build::{build, Macrostate};
+use second::rule::Rule;
+use second::sample::{self, letters, Random, D, F, I, SHAPES, Z};
+use second::table::judge_table;
+
+use crate::bench::{Answer, Bench, Entry, Expected, Seen};
+use crate::input::{any_file, from_hex, near, varied, word, LARGE, REFUSED_FILES};
+
+extern "C" {
+    fn mulgreddi_judge_table(
+        file: *const u8,
+        file_length: usize,
+        lead: *const u8,
+        lead_length: usize,
+        cycle: *const u8,
+        cycle_length: usize,
+        codes: *const u8,
+        codes_length: usize,
+        transitions: *const u8,
+        transitions_length: usize,
+        scratch: *mut u8,
+        scratch_length: usize,
+    ) -> Answer;
+}
+
+pub const ENTRY: Entry = Entry {
+    name: "judge_table",
+    refusals: &[1, 2, 3, 4, 5, 6, 7, 8, 9, 10, 11, 12, 13, 14, 15, 16],
+    verdict: true,
+    round: 105_000,
+    examples,
+    random,
+};
+
+fn compare(
+    bench: &mut Bench,
+    file: &[u8],
+    word: [&[u8]; 2],
+    table: [&[u8]; 2],
+    room: usize,
+) -> Seen {
+    let judged = judge_table(file, word, table, room);
+    let expected = judged.map(|start| start.map_or((0, 0), |number| (1, number as u64)));
+    let scratch = bench.pattern(room);
+    bench.begin();
+    let file = bench.lend("file", file);
+    let lead = bench.lend("lead-in", word[0]);
+    let cycle = bench.lend("cycle", word[1]);
+    let codes = bench.lend("codes", table[0]);
+    let transitions = bench.lend("transitions", table[1]);
+    let scratch = bench.lend_out("scratch", &scratch);
+    if expected.is_ok() {
+        // "Scratch ends all zero."
+        bench.expect(scratch, vec![0; room]);
+    }
+    let (file, scratch) = (bench.bytes(file), bench.bytes(scratch));
+    let (lead, cycle) = (bench.bytes(lead), bench.bytes(cycle));
+    let (codes, transitions) = (bench.bytes(codes), bench.bytes(transitions));
+    bench.call(expected, || unsafe {
+        mulgreddi_judge_table(
+            file.0,
+            file.1,
+            lead.0,
+            lead.1,
+            cycle.0,
+            cycle.1,
+            codes.0,
+            codes.1,
+            transitions.0,
+            transitions.1,
+            scratch.0,
+            scratch.1,
+        )
+    });
+    Seen(expected)
+}
+
+fn bytes(numbers: &[u64]) -> Vec<u8> {
+    numbers.iter().flat_map(|x| x.to_le_bytes()).collect()
+}
+
+/// A table of numbers, and its scratch exact.
+fn compare_table(
+    bench: &mut Bench,
+    file: &[u8],
+    word: [&[u8]; 2],
+    codes: &[u64],
+    transitions: &[u64],
+) -> Seen {
+    let room = codes.len() * (word[0].len() + word[1].len());
+    let (codes, transitions) = (bytes(codes), bytes(transitions));
+    compare(bench, file, word, [&codes, &transitions], room)
+}
+
+fn examples(bench: &mut Bench) {
+    let one: [&[u8]; 2] = [&[], &[0]];
+    for (number, file) in REFUSED_FILES {
+        let expected = compare(bench, file, [&[], &[]], [&[1], &[]], 0);
+        bench.by_01(&expected.0, &Err(number));
+    }
+    for (word, number) in [
+        ([&[0][..], &[]], 12),
+        ([&[0; 33], &[0]], 13),
+        ([&[2], &[0]], 14),
+        ([&[0], &[0]], 15),
+    ] {
+        let expected = compare(bench, &F, word, [&[1], &[]], 0);
+        bench.by_01(&expected.0, &Err(number));
+    }
+    // Row 15, and what is just within it.
+    let tables: [(&[u64], &[u64], Expected); 16] = [
+        (&[5, 5], &[], Err(15)),
+        (&[6, 5], &[], Err(15)),
+        (&[1 << 48], &[], Err(15)),
+        (&[u64::MAX], &[], Err(15)),
+        (&[(1 << 48) - 1], &[], Ok((0, 0))),
+        (&[], &[], Ok((0, 0))),
+        (&[], &[0], Err(15)),
+        (&[1], &[0], Ok((1, 0))),
+        (&[1], &[0, 0], Err(15)),
+        (&[1], &[1], Err(15)),
+        (&[1], &[0, 65_536], Ok((1, 0))),
+        (&[1], &[65_536, 0], Err(15)),
+        (&[1], &[0, 131_072], Err(15)),
+        (&[1], &[0, 16_777_216], Err(15)),
+        (&[1], &[0, 1 << 40], Err(15)),
+        (&[0, 1], &[0, 16_777_217], Ok((1, 1))),
+    ];
+    for (codes, transitions, said) in tables {
+        let expected = compare_table(bench, &F, one, codes, transitions);
+        bench.by_01(&expected.0, &said);
+    }
+    for (codes, transitions) in [(7, 0), (9, 0), (8, 7), (8, 9), (1, 1)] {
+        let table: [&[u8]; 2] = [&[0; 16][..codes], &[0; 16][..transitions]];
+        let expected = compare(bench, &F, one, table, 99);
+        bench.by_01(&expected.0, &Err(15));
+    }
+    // Cases 5 to 9.
+    let cases: [(&[u8], [&[u8]; 2], Option<u64>); 5] = [
+        (&F, [&[0, 1], &[0]], Some(1)),
+        (&F, [&[], &[0]], None),
+        (&I, [&[1], &[0]], None),
+        (&D, [&[], &[0]], Some(4)),
+        (&Z, [&[], &[0]], None),
+    ];
+    for (file, word, start) in cases {
+        let (codes, transitions) = build(file, 99, 99).unwrap();
+        let expected = compare_table(bench, file, word, &codes, &transitions);
+        bench.by_01(&expected.0, &Ok(start.map_or((0, 0), |number| (1, number))));
+        let needed = codes.len() * (word[0].len() + word[1].len());
+        let (codes, transitions) = (bytes(&codes), bytes(&transitions));
+        for room in 0..needed + 70 {
+            let expected = compare(bench, file, word, [&codes, &transitions], room);
+            bench.by_01(&expected.0.is_err(), &(room < needed));
+        }
+    }
+    long_tables(bench);
+    large_tables(bench);
+}
+
+/// The most codes, one more, and more transitions than a build can hold.
+fn long_tables(bench: &mut Bench) {
+    let one: [&[u8]; 2] = [&[], &[0]];
+    let codes: Vec<u64> = (0..65_537).map(|code| code * 3).collect();
+    let most = &codes[..65_536];
+    let last = 65_535 * 16_777_216 + 65_535;
+    for (codes, transitions, said) in [
+        (most, vec![], Ok((0, 0))),
+        // The code 196605 is initial for F: its set is 253, K and k are 0.
+        (most, vec![last], Ok((1, 65_535))),
+        (most, vec![last, last + 65_536], Ok((1, 65_535))),
+        (most, vec![last, last + 131_072], Err(15)),
+        (most, vec![last, last + 16_777_216], Err(15)),
+        (&codes[..], vec![], Err(15)),
+        (&codes[..65_535], vec![last], Err(15)),
+    ] {
+        let expected = compare_table(bench, &F, one, codes, &transitions);
+        bench.by_01(&expected.0, &said);
+    }
+    // A chain through all codes, back to the start at its end.
+    let mut chain: Vec<u64> = (0..65_535).map(|m| m * 16_777_216 + m + 1).collect();
+    chain.push(65_535 * 16_777_216);
+    let expected = compare_table(bench, &F, one, most, &chain);
+    bench.by_01(&expected.0, &Ok((1, 1)));
+    let word = [&[0, 1][..], &[0, 0, 1]];
+    compare_table(bench, &F, word, most, &chain);
+    let full = (0..260u64).flat_map(|from| {
+        let letters = (0..16).map(move |letter| from * 16_777_216 + letter * 65_536);
+        letters.flat_map(|base| (0..260).map(move |to| base + to))
+    });
+    let full: Vec<u64> = full.collect();
+    let file = crate::input::limit_file(8, 16, 1);
+    let mut codes: Vec<u64> = (0..260).map(|m| (m % 2) << 44 | m << 8 | 2).collect();
+    codes.sort_unstable();
+    compare_table(bench, &file, [&[3], &[0, 15]], &codes, &full);
+    codes[7] |= 1;
+    compare_table(bench, &file, [&[3], &[0, 15]], &codes, &full);
+}
+
+/// Built tables of tens of thousands of macrostates.
+fn large_tables(bench: &mut Bench) {
+    for (text, macrostates, transitions) in LARGE {
+        let file = from_hex(text);
+        let (codes, transitions) = build(&file, macrostates, transitions).unwrap();
+        for _ in 0..2 {
+            let lead = letters(&mut bench.random, 16, 1);
+            let cycle = letters(&mut bench.random, 16, 2);
+            compare_table(bench, &file, [&lead, &cycle], &codes, &transitions);
+        }
+    }
+}
+
+fn random(bench: &mut Bench) {
+    let random = &mut bench.random;
+    let states = *random.pick(&[1, 2, 2, 3, 3, 3, 4, 5]);
+    let alphabet = *random.pick(&[1, 2, 2, 2, 3, 16]);
+    let shape = *random.pick(&SHAPES);
+    let rule = varied(random, shape, states, alphabet);
+    let file = sample::file(&rule);
+    let built = build(&file, 400, 3_000).ok();
+    let rounds = if built.is_some() { 12 } else { 4 };
+    for _ in 0..rounds {
+        let random = &mut bench.random;
+        let (mut codes, mut transitions) = match &built {
+            Some((codes, transitions)) if !random.once_in(4) => {
+                let (mut codes, mut transitions) = (codes.clone(), transitions.clone());
+                if random.once_in(2) {
+                    damage(random, &rule, &mut codes, &mut transitions);
+                }
+                (codes, transitions)
+            }
+            _ => made_up(random, &rule),
+        };
+        if random.once_in(6) {
+            fault(random, &rule, &mut codes, &mut transitions);
+        }
+        let [lead, cycle] = word(random, rule.letters);
+        let (mut code_bytes, mut transition_bytes) = (bytes(&codes), bytes(&transitions));
+        if random.once_in(40) {
+            // A length that 8 does not divide.
+            let part = if random.once_in(2) {
+                &mut code_bytes
+            } else {
+                &mut transition_bytes
+            };
+            if random.once_in(2) {
+                part.push(0);
+            } else {
+                part.pop();
+            }
+        }
+        let room = near(random, codes.len() * (lead.len() + cycle.len()));
+        let other = any_file(random);
+        let file = if random.once_in(16) { &other } else { &file };
+        let word = [&lead[..], &cycle];
+        compare(bench, file, word, [&code_bytes, &transition_bytes], room);
+    }
+}
+
+/// Takes away, adds and changes transitions, and changes codes, so that the
+/// table stays within row 15.
+fn damage(random: &mut Random, rule: &Rule, codes: &mut [u64], transitions: &mut Vec<u64>) {
+    if codes.is_empty() {
+        return;
+    }
+    for _ in 0..random.between(1, 3) {
+        match random.below(5) {
+            0 if !transitions.is_empty() => {
+                let at = random.below(transitions.len());
+                transitions.remove(at);
+            }
+            1 => transitions.retain(|_| !random.once_in(4)),
+            2 | 3 => {
+                for _ in 0..random.between(1, 8) {
+                    transitions.push(transition(random, rule, codes.len()));
+                }
+            }
+            _ => {
+                let at = random.below(codes.len());
+                codes[at] ^= 1 << random.below(48);
+                codes.sort_unstable();
+            }
+        }
+        transitions.sort_unstable();
+        transitions.dedup();
+    }
+}
+
+fn transition(random: &mut Random, rule: &Rule, codes: usize) -> u64 {
+    let source = random.below(codes) as u64;
+    let letter = random.below(rule.letters) as u64;
+    let target = random.below(codes) as u64;
+    source * 16_777_216 + letter * 65_536 + target
+}
+
+/// Codes and transitions that no build made.
+fn made_up(random: &mut Random, rule: &Rule) -> (Vec<u64>, Vec<u64>) {
+    let count = match random.below(8) {
+        0 => random.between(0, 60),
+        _ => random.between(1, 9),
+    };
+    let accepting = random.between(1, 4);
+    let mut codes: Vec<u64> = (0..count)
+        .map(|_| {
+            let mut code = random.number() >> 16;
+            if random.once_in(accepting) {
+                code &= (1 << 44) - 1;
+            }
+            if random.once_in(2) {
+                code &= (1 << 40) - 1 | 15 << 44;
+            }
+            if random.once_in(4) {
+                code &= 255;
+            }
+            code
+        })
+        .collect();
+    codes.sort_unstable();
+    codes.dedup();
+    let mut transitions = Vec::new();
+    if !codes.is_empty() {
+        let most = codes.len() * rule.letters * random.between(1, 3);
+        for _ in 0..random.between(0, most) {
+            transitions.push(transition(random, rule, codes.len()));
+        }
+    }
+    transitions.sort_unstable();
+    transitions.dedup();
+    (codes, transitions)
+}
+
+/// A fault of row 15, as far as the table has what it needs.
+fn fault(random: &mut Random, rule: &Rule, codes: &mut Vec<u64>, transitions: &mut Vec<u64>) {
+    let count = codes.len() as u64;
+    match random.below(12) {
+        0 if !codes.is_empty() => {
+            let at = random.below(codes.len());
+            codes.insert(at, codes[at]);
+        }
+        1 if codes.len() > 1 => {
+            let at = random.below(codes.len() - 1);
+            codes.swap(at, at + 1);
+        }
+        2 => codes.push(1 << random.between(48, 63)),
+        3 if !codes.is_empty() => {
+            let at = random.below(codes.len());
+            codes[at] |= 1 << random.between(48, 63);
+        }
+        4 if !transitions.is_empty() => {
+            let at = random.below(transitions.len());
+            transitions.insert(at, transitions[at]);
+        }
+        5 if transitions.len() > 1 => {
+            let at = random.below(transitions.len() - 1);
+            transitions.swap(at, at + 1);
+        }
+        6 => transitions.push(count * 16_777_216),
+        7 => transitions.push(1 << random.between(40, 63)),
+        8 if !codes.is_empty() => {
+            // The letter s, or one up to 255.
+            let letter = random.between(rule.letters, 255) as u64;
+            let letter = *random.pick(&[letter, rule.letters as u64]);
+            transitions.push((count - 1) * 16_777_216 + letter * 65_536);
+        }
+        9 => {
+            // The target past the last code.
+            transitions.push(count.saturating_sub(1) * 16_777_216 + count);
+            transitions.sort_unstable();
+        }
+        10 if !codes.is_empty() && !transitions.is_empty() => {
+            // A code fewer than the transitions name, at times.
+            codes.pop();
+        }
+        _ => {
+            // No fault: the same table for another initial state's codes.
+            let state = random.below(8);
+            for code in codes.iter_mut() {
+                let macrostate = Macrostate::from_code(*code);
+                if macrostate.is_accepting() {
+                    *code ^= 1 << state;
+                }
+            }
+            codes.sort_unstable();
+        }
+    }
+}

@@ -1,0 +1,326 @@
+//! Random inputs: rules, whole and damaged files, words.
+
+use second::rule::Rule;
+use second::sample::{self, letters, Random, Shape, SHAPES};
+
+/// The examples of the refusal table that are files, with their numbers.
+pub const REFUSED_FILES: [(u8, &[u8]); 11] = [
+    (1, &[0x41, 0x57]),
+    (2, &[1, 1, 0, 0, 0, 0, 0x57, 0x41]),
+    (3, &[0, 1, 0, 0, 0, 0, 0x41, 0x57]),
+    (4, &[1, 0x11, 0, 0, 0, 0, 0x41, 0x57]),
+    (5, &[1, 1, 1, 0, 0, 0, 0x41, 0x57]),
+    (6, &[1, 1, 0, 2, 0, 0, 0x41, 0x57]),
+    (7, &[1, 1, 0, 0, 0, 0, 0x41, 0x57]),
+    (8, &[9, 1, 1, 0, 0, 0, 0, 0x41, 0x57]),
+    (9, &[1, 1, 1, 0, 0, 0, 0, 0x41, 0x57]),
+    (10, &[2, 1, 1, 1, 0, 0, 1, 0, 0x41, 0x57]),
+    (11, &[2, 1, 1, 1, 2, 1, 0, 1, 2, 0, 0x41, 0x57]),
+];
+
+/// The rules of 01.
+pub const RULES: [&[u8]; 5] = [&sample::F, &sample::D, &sample::E, &sample::I, &sample::Z];
+
+/// A file of n states, s letters and `count` clauses per entry, each naming
+/// only its own state: both sides of the limits of rows 3, 4 and 8.
+pub fn limit_file(n: usize, s: usize, count: usize) -> Vec<u8> {
+    let mut file = Vec::new();
+    for q in 0..n {
+        file.extend(vec![1u32.wrapping_shl(q as u32) as u8; s * count]);
+    }
+    let c = file.len();
+    file.extend(vec![count as u8; n * s]);
+    file.extend([n as u8, s as u8, 0, 0]);
+    file.extend([(c % 256) as u8, (c / 256) as u8, 0x41, 0x57]);
+    file
+}
+
+pub const LIMITS: [(usize, usize, usize); 12] = [
+    (8, 16, 8),
+    (8, 16, 0),
+    (8, 16, 9),
+    (9, 16, 8),
+    (8, 17, 8),
+    (9, 17, 9),
+    (1, 1, 8),
+    (1, 1, 9),
+    (1, 16, 1),
+    (8, 1, 1),
+    (0, 1, 1),
+    (1, 0, 1),
+];
+
+/// Rules of several components and sixteen letters whose tables nearly fill
+/// both rooms, with their counts of macrostates and transitions.
+pub const LARGE: [(&str, usize, usize); 3] = [
+    (include_str!("large-1.txt"), 62_326, 929_424),
+    (include_str!("large-2.txt"), 64_656, 1_021_215),
+    (include_str!("large-3.txt"), 62_744, 939_717),
+];
+
+/// Rules with more macrostates, and with more transitions alone, than room
+/// counts, however long the slices are.
+pub const OVER: [(&str, usize, usize); 2] = [
+    (include_str!("over-1.txt"), 78_835, 137_030),
+    (include_str!("over-2.txt"), 62_332, 1_052_364),
+];
+
+/// The bytes of hexadecimal text.
+pub fn from_hex(text: &str) -> Vec<u8> {
+    let digits: Vec<u32> = text.chars().filter_map(|c| c.to_digit(16)).collect();
+    digits.chunks(2).map(|p| (p[0] * 16 + p[1]) as u8).collect()
+}
+
+/// A random rule of 1 to 8 states that passes every check.
+pub fn rule(random: &mut Random) -> Rule {
+    let states = random.between(1, 8);
+    let alphabet = match random.below(4) {
+        0 => random.between(1, 16),
+        _ => random.between(1, 3),
+    };
+    let shape = *random.pick(&SHAPES);
+    varied(random, shape, states, alphabet)
+}
+
+/// A random rule, at times with empty entries, empty clauses or eight clauses
+/// per entry throughout.
+pub fn varied(random: &mut Random, shape: Shape, states: usize, alphabet: usize) -> Rule {
+    let mut rule = sample::rule(random, shape, states, alphabet);
+    let kind = random.below(12);
+    for clauses in rule.entries.iter_mut().flatten() {
+        match kind {
+            0 if random.once_in(2) => clauses.clear(),
+            1 if random.once_in(2) => clauses.push(0),
+            2 if !clauses.is_empty() => {
+                while clauses.len() < 8 {
+                    let more = *random.pick(clauses);
+                    let less = more & random.byte();
+                    clauses.push(less);
+                }
+            }
+            _ => {}
+        }
+        clauses.truncate(8);
+    }
+    rule
+}
+
+/// A preface, mostly short.
+pub fn preface(random: &mut Random) -> Vec<u8> {
+    let length = match random.below(40) {
+        0 => random.between(0, 9_000),
+        1..=4 => random.between(0, 300),
+        5..=12 => random.between(0, 16),
+        _ => 0,
+    };
+    match random.below(4) {
+        // A preface that looks like rule files.
+        0 => random
+            .pick(&RULES)
+            .iter()
+            .copied()
+            .cycle()
+            .take(length)
+            .collect(),
+        1 => vec![0xff; length],
+        _ => random.bytes(length),
+    }
+}
+
+/// A file that passes every check.
+pub fn good_file(random: &mut Random) -> Vec<u8> {
+    if random.once_in(30) {
+        return random.pick(&RULES).to_vec();
+    }
+    let rule = rule(random);
+    let mut file = preface(random);
+    file.extend(sample::file(&rule));
+    file
+}
+
+/// A file that may have faults of any row.
+pub fn any_file(random: &mut Random) -> Vec<u8> {
+    match random.below(24) {
+        0..=9 => good_file(random),
+        10 => {
+            let length = random.between(0, 24);
+            let mut file = random.bytes(length);
+            if random.once_in(2) {
+                file.extend([0x41, 0x57]);
+            }
+            file
+        }
+        11 => random.pick(&REFUSED_FILES).1.to_vec(),
+        12 => {
+            let (n, s, count) = *random.pick(&LIMITS);
+            limit_file(n, s, count)
+        }
+        13 => small_trailer(random),
+        14 => mixed_file(random),
+        _ => {
+            let mut file = if random.once_in(4) {
+                good_file(random)
+            } else {
+                sample::file(&rule(random))
+            };
+            for _ in 0..random.between(1, 2) {
+                damage(random, &mut file);
+            }
+            file
+        }
+    }
+}
+
+/// Small random numbers in every field.
+fn small_trailer(random: &mut Random) -> Vec<u8> {
+    let length = random.between(0, 12);
+    let mut file: Vec<u8> = (0..length).map(|_| random.below(5) as u8).collect();
+    let trailer = [3, 3, 3, 4, 6, 1].map(|limit| random.below(limit) as u8);
+    file.extend(trailer);
+    file.extend([0x41, 0x57]);
+    file
+}
+
+/// A rule with accepting states at random, so that components mix.
+fn mixed_file(random: &mut Random) -> Vec<u8> {
+    let mut rule = rule(random);
+    rule.accepting = random.byte() & rule.all();
+    sample::file(&rule)
+}
+
+/// One fault: truncation, changed, moved, added or missing bytes, or a field
+/// at its limit.
+fn damage(random: &mut Random, file: &mut Vec<u8>) {
+    let length = file.len();
+    if length == 0 {
+        return;
+    }
+    let at = random.below(length);
+    // The place of a trailer byte, and the number of bytes before the trailer.
+    let trailer = |byte: usize| length.saturating_sub(8 - byte).min(length - 1);
+    let n = file[trailer(0)];
+    let s = file[trailer(1)];
+    match random.below(18) {
+        0 => file[at] ^= 1 << random.below(8),
+        1 => file[at] = random.byte(),
+        2 => {
+            let other = random.below(length);
+            file.swap(at, other);
+        }
+        3 => file.truncate(at),
+        4 => drop(file.drain(..at)),
+        5 => drop(file.remove(at)),
+        6 => file.insert(at, random.below(4) as u8),
+        7 => drop(file.remove(0)),
+        8 => file[trailer(0)] = *random.pick(&[0, 8, 9, n.wrapping_add(1), n.wrapping_sub(1)]),
+        9 => file[trailer(1)] = *random.pick(&[0, 16, 17, s.wrapping_add(1), s.wrapping_sub(1)]),
+        10 => file[trailer(2)] = *random.pick(&[n, n.wrapping_sub(1), 255, 0]),
+        11 => file[trailer(3)] |= 1u32.wrapping_shl(n.into()) as u8,
+        12 => {
+            let low = file[trailer(4)];
+            file[trailer(4)] = *random.pick(&[low.wrapping_add(1), low.wrapping_sub(1), 0, 255]);
+        }
+        13 => file[trailer(5)] = *random.pick(&[0, 1, 2, 4, 5, 255]),
+        14 => {
+            let byte = trailer(random.between(6, 7));
+            file[byte] ^= 1 << random.below(8);
+        }
+        15 => {
+            // A count.
+            let counts = n as usize * s as usize;
+            let back = 9 + random.below(counts.clamp(1, length));
+            if back <= length {
+                let count = &mut file[length - back];
+                *count = *random.pick(&[0, 7, 8, 9, 255, count.wrapping_add(1)]);
+            }
+        }
+        16 => {
+            // A clause that names the state n.
+            let counts = n as usize * s as usize;
+            let back = 9 + counts + random.below(8);
+            if back <= length {
+                file[length - back] |= 1u32.wrapping_shl(n.into()) as u8;
+            }
+        }
+        _ => {
+            // Two counts that keep their sum, or not.
+            let counts = n as usize * s as usize;
+            if counts > 1 && counts + 8 <= length {
+                let one = length - 9 - random.below(counts);
+                let other = length - 9 - random.below(counts);
+                file[one] = file[one].wrapping_add(1);
+                file[other] = file[other].wrapping_sub(1);
+            }
+        }
+    }
+}
+
+/// A word over `alphabet` letters, at times with faults of rows 12 to 14.
+pub fn word(random: &mut Random, alphabet: usize) -> [Vec<u8>; 2] {
+    let [mut lead, mut cycle] = good_word(random, alphabet);
+    match random.below(40) {
+        0 => cycle.clear(),
+        1 => lead = letters(random, alphabet, 33),
+        2 => cycle = letters(random, alphabet, 33),
+        3 => {
+            let length = random.between(30, 70);
+            lead = letters(random, alphabet, length);
+            let length = random.between(30, 70);
+            cycle = letters(random, alphabet, length);
+        }
+        4 => {
+            lead = letters(random, alphabet, 33);
+            cycle.clear();
+        }
+        5 => {
+            let length = random.between(33, 3_000);
+            *random_of(random, &mut lead, &mut cycle) = letters(random, alphabet, length);
+        }
+        6..=7 => {
+            let bad = *random.pick(&[alphabet, alphabet, 16, 17, 255]) as u8;
+            let part = random_of(random, &mut lead, &mut cycle);
+            if part.is_empty() {
+                part.push(bad);
+            } else {
+                let at = random.below(part.len());
+                part[at] = bad;
+            }
+        }
+        _ => {}
+    }
+    [lead, cycle]
+}
+
+fn random_of<'a, T>(random: &mut Random, one: &'a mut T, other: &'a mut T) -> &'a mut T {
+    if random.once_in(2) {
+        one
+    } else {
+        other
+    }
+}
+
+/// A word of 1 to 64 places that passes every check.
+pub fn good_word(random: &mut Random, alphabet: usize) -> [Vec<u8>; 2] {
+    let (lead, cycle) = match random.below(8) {
+        0 => (random.between(0, 32), random.between(1, 32)),
+        1 => (32, 32),
+        2 => (0, random.between(1, 32)),
+        _ => (random.between(0, 4), random.between(1, 4)),
+    };
+    [
+        letters(random, alphabet, lead),
+        letters(random, alphabet, cycle),
+    ]
+}
+
+/// A length near what is needed: one short, exact, one more, or other.
+pub fn near(random: &mut Random, needed: usize) -> usize {
+    match random.below(10) {
+        0 => needed.saturating_sub(1),
+        1..=4 => needed,
+        5..=6 => needed + 1,
+        7 => needed + random.below(100),
+        8 => random.below(needed + 1),
+        _ => needed + random.below(600),
+    }
+}

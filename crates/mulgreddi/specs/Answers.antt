@@ -1,0 +1,39 @@
+-- For each case of an answer, 01's number and values.
+use Prim.Native.Nat.{ℕ}
+use Rattle.mulgreddi.specs.declared.Answer.{Answer}
+use Rattle.rules.specs.declared.Read.{Read}
+use Rattle.rules.specs.declared.Read.the-variants as read
+use Rattle.sameness.specs.declared.SameRules.{SameRules}
+use Rattle.sameness.specs.declared.SameRules.the-variants as rules
+use Rattle.words.specs.declared.SameWords.{SameWords}
+use Rattle.words.specs.declared.SameWords.the-variants as words
+use Rattle.writer.specs.declared.Written.{Written}
+use Rattle.writer.specs.declared.Written.the-variants as written
+
+-- 01: "The answer is the number alone"
+abbrev pub refusedAs : ℕ → Answer
+refusedAs row = record { refusal = row; first = 0; second = 0 }
+
+abbrev pub servedAs : ℕ → ℕ → Answer
+servedAs first second = record { refusal = 0; first = first; second = second }
+
+-- the length of the preface
+unfoldable pub readAnswer : Read → Answer
+readAnswer (read.Accepted layout) = servedAs (layout .at) 0
+readAnswer (read.Refused row) = refusedAs row
+
+-- the length of the written file
+unfoldable pub writtenAnswer : Written → Answer
+writtenAnswer (written.Length length) = servedAs length 0
+writtenAnswer (written.Refused row) = refusedAs row
+
+-- 1 same, 0 not
+unfoldable pub sameRulesAnswer : SameRules → Answer
+sameRulesAnswer rules.Same = servedAs 1 0
+sameRulesAnswer rules.Different = servedAs 0 0
+sameRulesAnswer (rules.Refused row) = refusedAs row
+
+unfoldable pub sameWordsAnswer : SameWords → Answer
+sameWordsAnswer words.Same = servedAs 1 0
+sameWordsAnswer words.Different = servedAs 0 0
+sameWordsAnswer (words.Refused row) = refusedAs row

@@ -1,0 +1,103 @@
+// The C interface: every public entry, its answer as three numbers. include/mulgreddi.h declares and documents it.
+use rules::Read;
+use sameness::SameRules;
+use words::SameWords;
+use writer::Written;
+ghost use mathlib.Core.Path.{_≡_};
+ghost use lib.ListN.{length};
+ghost use Rattle.rules.specs.Read.{readOf};
+ghost use Rattle.sameness.specs.Same.{sameRulesOf};
+ghost use Rattle.writer.specs.Written.{headFrom, writtenOf, sliceAfter};
+ghost use Rattle.words.specs.Words.{sameWordsOf};
+ghost use Rattle.mulgreddi.specs.Answers.{refusedAs, servedAs, readAnswer, writtenAnswer, sameRulesAnswer, sameWordsAnswer};
+
+// refusal is 0 where the input was served; else first and second are 0.
+#[repr(C)]
+pub struct Answer {
+    pub refusal: u64,
+    pub first: u64,
+    pub second: u64,
+}
+
+// The answer of a refusal.
+fn refused(row: u8) -> Answer
+    ensures { λ r. ⌜ r ≡ refusedAs row ⌝ }
+{
+    Answer {
+        refusal: row as u64,
+        first: 0,
+        second: 0,
+    }
+}
+
+// The answer of a served call.
+fn served(first: u64, second: u64) -> Answer
+    ensures { λ r. ⌜ r ≡ servedAs first second ⌝ }
+{
+    Answer {
+        refusal: 0,
+        first: first,
+        second: second,
+    }
+}
+
+// Reads a rule file; the length of its preface.
+#[no_mangle]
+pub extern "C" fn mulgreddi_check(file: &[u8]) -> Answer
+    ensures { λ r. ⌜ r ≡ readAnswer (readOf (now (file .entry))) ⌝ }
+{
+    match rules::read_rule(file) {
+        Read::Accepted(layout) => served(layout.at as u64, 0),
+        Read::Refused(row) => refused(row),
+    }
+}
+
+// Writes the file of a rule to the start of out; its length.
+#[no_mangle]
+pub extern "C" fn mulgreddi_write(
+    n: u32,
+    s: u32,
+    initial: u32,
+    accepting: u32,
+    counts: &[u8],
+    clauses: &[u8],
+    out: &mut [u8],
+) -> Answer
+    ensures { λ r. ⌜ r ≡ writtenAnswer (writtenOf (headFrom n s initial accepting) (now (counts .entry)) (now (clauses .entry)) (length (now (out .entry)))) ⌝ }
+    ensures { λ _. ⌜ now (out .exit) ≡ sliceAfter (headFrom n s initial accepting) (now (counts .entry)) (now (clauses .entry)) (now (out .entry)) ⌝ }
+{
+    match writer::write_rule(n, s, initial, accepting, counts, clauses, out) {
+        Written::Length(length) => served(length as u64, 0),
+        Written::Refused(row) => refused(row),
+    }
+}
+
+// Whether two rule files are the same rule.
+#[no_mangle]
+pub extern "C" fn mulgreddi_same_rules(first: &[u8], second: &[u8]) -> Answer
+    ensures { λ r. ⌜ r ≡ sameRulesAnswer (sameRulesOf (now (first .entry)) (now (second .entry))) ⌝ }
+{
+    match sameness::same_rules(first, second) {
+        SameRules::Same => served(1, 0),
+        SameRules::Different => served(0, 0),
+        SameRules::Refused(row) => refused(row),
+    }
+}
+
+// Whether two words are the same.
+#[no_mangle]
+pub extern "C" fn mulgreddi_same_words(
+    lead1: &[u8],
+    cycle1: &[u8],
+    lead2: &[u8],
+    cycle2: &[u8],
+) -> Answer
+    ensures { λ r. ⌜ r ≡ sameWordsAnswer (sameWordsOf (now (lead1 .entry)) (now (cycle1 .entry))
+        (now (lead2 .entry)) (now (cycle2 .entry))) ⌝ }
+{
+    match words::same_words(lead1, cycle1, lead2, cycle2) {
+        SameWords::Same => served(1, 0),
+        SameWords::Different => served(0, 0),
+        SameWords::Refused(row) => refused(row),
+    }
+}

@@ -1,0 +1,67 @@
+/* Mulgreddi: unambiguous Büchi automata from alternating weak ones.
+ *
+ * Every function ends, stays inside the memory lent to it, and keeps nothing. A slice is a pointer and a length: of uint8_t in bytes,
+ * of uint64_t in elements. A pointer is not NULL, even where the length is 0. A slice that is written overlaps no other slice of the call.
+ * A slice of uint64_t is aligned to 8 bytes.
+ */
+#ifndef MULGREDDI_H
+#define MULGREDDI_H
+
+#include <stddef.h>
+#include <stdint.h>
+
+#ifdef __cplusplus
+extern "C" {
+#endif
+
+/* The answer of every function. refusal is 0 where the input was served; else it is the number of the first fault
+ * (one of those below), and first and second are 0. */
+typedef struct {
+    uint64_t refusal, first, second;
+} mulgreddi_answer;
+
+/* The refusals, in order of checking: rule, word, table, slices, room. 1 to 16 change no lent slice. */
+enum {
+    MULGREDDI_SHORT_FILE = 1,        /* file under 8 bytes */
+    MULGREDDI_NO_TAG = 2,            /* last two bytes not the tag 41 57 */
+    MULGREDDI_STATES = 3,            /* n outside 1..8 */
+    MULGREDDI_LETTERS = 4,           /* s outside 1..16 */
+    MULGREDDI_INITIAL = 5,           /* initial state not below n */
+    MULGREDDI_ACCEPTING = 6,         /* accepting mask names a state not below n */
+    MULGREDDI_CUT = 7,               /* fewer than c + n * s bytes before the trailer; when writing: not exactly n * s counts */
+    MULGREDDI_COUNT = 8,             /* a count over 8 */
+    MULGREDDI_SUM = 9,               /* counts do not sum to the number of clauses */
+    MULGREDDI_CLAUSE = 10,           /* a clause names a state not below n */
+    MULGREDDI_MIXED = 11,            /* a component with accepting and rejecting states */
+    MULGREDDI_NO_CYCLE = 12,         /* empty cycle */
+    MULGREDDI_LONG_WORD = 13,        /* lead-in or cycle over 32 letters */
+    MULGREDDI_LETTER = 14,           /* a letter not below s */
+    MULGREDDI_TABLE = 15,            /* not a table: see mulgreddi_judge_table */
+    MULGREDDI_SLICE = 16,            /* result or scratch slice too short */
+    MULGREDDI_MACROSTATE_ROOM = 17,  /* more reachable macrostates than room */
+    MULGREDDI_TRANSITION_ROOM = 18   /* more transitions than room */
+};
+
+/* Reads a rule file. Refusals 1 to 11. first: the length of the preface, which is the start of the file itself. */
+mulgreddi_answer mulgreddi_check(const uint8_t *file, size_t file_len);
+
+/* Writes the file of a rule, with no preface, to the start of out; first: its length, clauses_len + counts_len + 8. What follows in out is
+ * not touched. counts go by state, then letter; clauses stand in the same order, one mask each. Refusals 3 to 11 and 16. */
+mulgreddi_answer mulgreddi_write(uint32_t n, uint32_t s, uint32_t initial, uint32_t accepting,
+                                 const uint8_t *counts, size_t counts_len,
+                                 const uint8_t *clauses, size_t clauses_len,
+                                 uint8_t *out, size_t out_len);
+
+/* Whether two rule files are the same rule: n, s, initial state and accepting mask agree, and every entry is satisfied by the same sets.
+ * first: 1 same, 0 not. Refusals 1 to 11, of the first file, then of the second. */
+mulgreddi_answer mulgreddi_same_rules(const uint8_t *first, size_t first_len, const uint8_t *second, size_t second_len);
+
+/* Whether two words have equal lead-ins and equal cycles. first: 1 same, 0 not. Refusals 12 and 13, of the first word, then of the second. */
+mulgreddi_answer mulgreddi_same_words(const uint8_t *lead1, size_t lead1_len, const uint8_t *cycle1, size_t cycle1_len,
+                                      const uint8_t *lead2, size_t lead2_len, const uint8_t *cycle2, size_t cycle2_len);
+
+#ifdef __cplusplus
+}
+#endif
+
+#endif
