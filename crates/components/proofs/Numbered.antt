@@ -33,12 +33,12 @@ use Rattle.components.proofs.Mixed.{classBy, class-by}
 
 -- ---- evaluated
 
--- three states, of which 0 and 2 lead to each other
+-- three states, of which 0 and 1 lead to each other
 three : Rule
-three = record { n = 3; s = 1; initial = 0; accepting = 0; counts = 1 ∷ (1 ∷ (1 ∷ [])); clauses = 4 ∷ (2 ∷ (3 ∷ [])) }
+three = record { n = 3; s = 1; initial = 0; accepting = 0; counts = 1 ∷ (1 ∷ (1 ∷ [])); clauses = 2 ∷ (1 ∷ (5 ∷ [])) }
 
--- 0 and 2 are component 0, 1 is component 1
-three-components : componentsOf three ≡ record { masks = 5 ∷ (2 ∷ (0 ∷ (0 ∷ (0 ∷ (0 ∷ (0 ∷ (0 ∷ []))))))); count = 2 }
+-- 0 and 1 are component 0, 2 is component 1
+three-components : componentsOf three ≡ record { masks = 3 ∷ (4 ∷ (0 ∷ (0 ∷ (0 ∷ (0 ∷ (0 ∷ (0 ∷ []))))))); count = 2 }
 unfolding componentsOf three
 three-components = refl
 

@@ -92,16 +92,24 @@ fn same_entries(h: Head, counts: &[u8], clauses: &[u8], counts2: &[u8], clauses2
 fn same_numbers(g: Head, h: Head) -> bool
     ensures { λ r. ⌜ r ≡ (eqb (g .n) (h .n) && (eqb (g .s) (h .s) && (eqb (g .initial) (h .initial) && eqb (g .accepting) (h .accepting)))) ⌝ }
 {
-    if g.n != h.n {
+    let n = h.n;
+    let s = h.s;
+    let initial = h.initial;
+    let accepting = h.accepting;
+    let first_n = g.n;
+    let first_s = g.s;
+    let first_initial = g.initial;
+    let first_accepting = g.accepting;
+    if first_n != n {
         return false;
     }
-    if g.s != h.s {
+    if first_s != s {
         return false;
     }
-    if g.initial != h.initial {
+    if first_initial != initial {
         return false;
     }
-    if g.accepting != h.accepting {
+    if first_accepting != accepting {
         return false;
     }
     true

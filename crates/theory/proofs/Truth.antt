@@ -1,18 +1,18 @@
 -- The computed masks hold exactly the states from which the rule accepts by some plan.
-use mathlib.Core.Path.{_≡_, refl, sym, _∙_, ap}
-use mathlib.Core.Logic.{_⊎_, _↔_, inl, inr, ⊎-elim, by-cases}
-use mathlib.Core.Bool.{Bool, true, false, not, cond, false≢true, Bool·not-not}
+use mathlib.Core.Path.{_≡_, sym, _∙_, ap}
+use mathlib.Core.Logic.{_↔_, ⊎-elim, by-cases}
+use mathlib.Core.Bool.{Bool, true, false, not, cond, Bool·not-not}
 use mathlib.Core.List.{List, List·Memᴰ}
-use Prim.Native.Nat.{ℕ, zero, suc, _+_, _*_, _^_, _≤_, _<_}
+use Prim.Native.Nat.{ℕ, zero, suc, _*_, _^_, _<_}
 use native.Mathlib.Omega.{arith}
 use native.Mathlib.Decide.{decLt, ℕ-discrete}
 use lib.Dec.{eqb}
 use lib.ListN.{length, getD, List·getD-eq-default}
 use borrow.Author.Tests.{eqb-true, eqb-false, eq-eqb, ne-eqb}
-use Rattle.sets.specs.Tests.{Set, count}
+use Rattle.sets.specs.Tests.{Set}
 use Rattle.sets.specs.Masks.{bit, mask}
 use Rattle.sets.specs.Lists.{tabulate}
-use Rattle.sets.proofs.Bools.{bif, clash}
+use Rattle.sets.proofs.Bools.{bif}
 use Rattle.sets.proofs.Tests.{count-max}
 use Rattle.sets.proofs.Masks.{mask-lt, bit-mask}
 use Rattle.sets.proofs.Bits.{bit-none, bit-below}
@@ -23,9 +23,9 @@ use Rattle.theory.specs.Passing.{Passing}
 use Rattle.theory.specs.Automaton.{Automaton, automaton}
 use Rattle.theory.specs.Core.{isOpen, settled}
 use Rattle.theory.specs.Word.{places, nextPlace, letterAt, WordOver}
-use Rattle.theory.specs.Plan.{Accepts, AcceptsFrom}
+use Rattle.theory.specs.Plan.{AcceptsFrom}
 use Rattle.theory.specs.Truth.{heightOf, layer, roundsAt, solvedBelow, truthMasks}
-use Rattle.theory.proofs.Certified.{Layered, discharged, rounds, solved}
+use Rattle.theory.proofs.Certified.{Layered, rounds, solved}
 use Rattle.theory.proofs.Components.{height, height-in, height-out, falls, clause-leads, same-heights, together-of-component}
 use Rattle.theory.proofs.FixedPoint.{Sp, exact, near-open}
 use Rattle.theory.proofs.Layers.{layered}

@@ -1,20 +1,19 @@
 -- What a program needs that computes the masks: one height after another, and one letter more in front.
 use mathlib.Core.Path.{_≡_, refl, sym, _∙_, ap}
-use mathlib.Core.Logic.{_⊎_, _↔_, inl, inr, ⊎-elim, by-cases}
+use mathlib.Core.Logic.{_⊎_, inl, inr, ⊎-elim, by-cases}
 use mathlib.Core.Bool.{Bool, true, false, _&&_, not, cond, false≢true, Bool·not-not}
-use mathlib.Core.List.{List, [], _∷_, List·Memᴰ}
-use Prim.Native.Nat.{ℕ, zero, suc, _+_, _*_, _^_, _≤_, _<_}
+use mathlib.Core.List.{List, _∷_, List·Memᴰ}
+use Prim.Native.Nat.{ℕ, zero, suc, _*_, _<_}
 use native.Mathlib.Omega.{arith}
 use native.Mathlib.Decide.{decLt, ℕ-discrete}
-use lib.Dec.{eqb, ltb}
+use lib.Dec.{ltb}
 use lib.ListN.{length, getD}
 use lib.Seq.{ext-getD}
-use borrow.Author.Tests.{eq-eqb, ne-eqb, eqb-true, eqb-false, lt-ltb, le-ltb}
+use borrow.Author.Tests.{eq-eqb, ne-eqb, lt-ltb, le-ltb}
 use Rattle.sets.specs.Tests.{Set}
 use Rattle.sets.specs.Masks.{bit, mask}
 use Rattle.sets.proofs.Bools.{bif, clash, not-t, iff}
 use Rattle.sets.proofs.Bits.{bit-ext, mask-unique}
-use Rattle.sets.proofs.Masks.{mask-lt}
 use Rattle.theory.specs.Rule.{Rule, entry, satisfies}
 use Rattle.theory.specs.Passing.{Passing}
 use Rattle.theory.specs.Automaton.{Automaton, automaton}

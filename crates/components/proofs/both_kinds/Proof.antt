@@ -1,6 +1,9 @@
 -- `components::both_kinds` meets its contract.
+use mathlib.Core.Path.{_≡_, sym}
+use mathlib.Core.Bool.{false, _&&_}
 use native.Mathlib.Omega.{arith}
-use Rattle.components.proofs.Mixed.{none-accepted, some-accepted, some-rejected}
+use Rattle.sets.specs.Tests.{some}
+use Rattle.components.proofs.Mixed.{accepted, rejected, none-accepted, some-accepted, some-rejected}
 use Rattle.components.proofs.both_kinds.Statement.{statement}
 use Rattle.components.proofs.both_kinds.Tie as tie
 
@@ -8,7 +11,8 @@ returns : tie.Need-returns
 returns c =
     let k = c .before .args .class in
     let a = c .before .args .accepting in
-    rw (none-accepted k a (c .if1 .taken))
+    let none : (some 8 (accepted k a) && some 8 (rejected k a)) ≡ false = rw (none-accepted k a (c .if1 .taken)) in
+    sym none
 
 returns-2 : tie.Need-returns-2
 returns-2 c =

@@ -20,21 +20,21 @@ number c =
 few : (c : tie.After-struct-known) → length (c .before .before .before .args .counts .now) ≤ 65536
 few c = let a = c .before .before .before .args in entries-few (ruleOf (a .h) (a .counts .now) (a .clauses .now)) (c .before .before .before .pre .0)
 
+mul-i : tie.Need-mul-i
+mul-i c = omega (arith, number c, few c)
+
+add-i : tie.Need-add-i
+add-i c = omega (arith, number c, few c, c .before .before .before .pre .0 .few-states)
+
+clauses-before-requires : tie.Need-clauses-before-requires
+clauses-before-requires c κs = (omega (arith, number c), omega (arith, number c, few c))
+
 -- its clauses are among the rule's
 fits : (c : tie.After-shared-slice-known3) → c .before .clauses-before .result + getD (c .before .before .before .before .before .args .counts .now) (c .before .before .before .before .before .args .q * c .before .before .before .before .before .args .h .s + c .before .before .before .before .before .args .a) 0 ≤ length (c .before .before .before .before .before .args .clauses .now)
 fits c =
     let a = c .before .before .before .before .before .args in
     let p = c .before .before .before .before .before .pre in
     rw (c .before .clauses-before .ensures) (entry-fits (ruleOf (a .h) (a .counts .now) (a .clauses .now)) (p .0) (a .q) (a .a) (p .1) (p .2))
-
-mul-i : tie.Need-mul-i
-mul-i c = omega (arith, number c, few c)
-
-add-i : tie.Need-add-i
-add-i c = omega (arith, number c, few c)
-
-clauses-before-requires : tie.Need-clauses-before-requires
-clauses-before-requires c κs = (omega (arith, number c), omega (arith, number c, few c))
 
 shared-slice-read-end : tie.Need-shared-slice-read-end
 shared-slice-read-end c = number (c .before .before)

@@ -6,31 +6,25 @@ use Rattle.sameness.proofs.same_numbers.Statement.{statement}
 use Rattle.sameness.proofs.same_numbers.Tie as tie
 
 returns : tie.Need-returns
-returns c = let a = c .before .before .before .args in differ-n (a .g) (a .h) (c .if1 .taken)
+returns c = let a = c .before .args in differ-n (a .g) (a .h) (c .if1 .taken)
 
 returns-2 : tie.Need-returns-2
-returns-2 c =
-    let a = c .before .before .before .before .before .before .args in
-    differ-s (a .g) (a .h) (c .before .before .before .if1 .left) (c .if2 .taken)
+returns-2 c = let a = c .before .before .args in differ-s (a .g) (a .h) (c .before .if1 .left) (c .if2 .taken)
 
 returns-3 : tie.Need-returns-3
-returns-3 c =
-    let a = c .before .before .before .before .before .before .before .before .before .args in
-    differ-initial (a .g) (a .h) (c .before .before .before .before .before .before .if1 .left) (c .before .before .before .if2 .left) (c .if3 .taken)
+returns-3 c = let a = c .before .before .before .args in differ-initial (a .g) (a .h) (c .before .before .if1 .left) (c .before .if2 .left) (c .if3 .taken)
 
 returns-4 : tie.Need-returns-4
 returns-4 c =
-    let a = c .before .before .before .before .before .before .before .before .before .before .before .before .args in
-    differ-accepting (a .g) (a .h) (c .before .before .before .before .before .before .before .before .before .if1 .left) (c .before .before .before .before .before .before .if2 .left) (c .before .before .before .if3 .left) (c .if4 .taken)
+    let a = c .before .before .before .before .args in
+    let d : (a .g .accepting ≡ a .h .accepting → ⊥) = λ e. omega (arith, c .if4 .taken) in
+    differ-accepting (a .g) (a .h) (c .before .before .before .if1 .left) (c .before .before .if2 .left) (c .before .if3 .left) d
 
 returns-5 : tie.Need-returns-5
 returns-5 c =
-    let a = c .before .before .before .before .before .before .before .before .before .before .before .before .args in
-    let n : a .g .n ≡ a .h .n = omega (arith, c .before .before .before .before .before .before .before .before .before .if1 .left) in
-    let s : a .g .s ≡ a .h .s = omega (arith, c .before .before .before .before .before .before .if2 .left) in
-    let i : a .g .initial ≡ a .h .initial = omega (arith, c .before .before .before .if3 .left) in
-    let acc : a .g .accepting ≡ a .h .accepting = omega (arith, c .if4 .left) in
-    agree-all (a .g) (a .h) n s i acc
+    let a = c .before .before .before .before .args in
+    let same : a .g .accepting ≡ a .h .accepting = omega (arith, c .if4 .left) in
+    agree-all (a .g) (a .h) (c .before .before .before .if1 .left) (c .before .before .if2 .left) (c .before .if3 .left) same
 
 pub same-numbers-spec : {M : Type 1} → statement M
 same-numbers-spec = tie.close (tie.spec returns returns-2 returns-3 returns-4 returns-5)
