@@ -1,6 +1,7 @@
 # Mulgreddi: unambiguous Büchi automata from alternating weak ones.
 #   make lib                   the static library, build/libmulgreddi.a
 #   make test                  the gate: library, comparison with the second program, C examples, proofs
+#   make bench                 times of the library beside those of the second program
 #   make soak SECONDS=600      the comparison with new seeds until the time is up
 
 CC ?= cc
@@ -12,7 +13,7 @@ SOURCES := crates.txt $(shell find crates -type f -not -path '*/must-fail/*')
 CARGO := CARGO_TARGET_DIR=$(CURDIR)/$(BUILD)/cargo MULGREDDI_LIB=$(CURDIR)/$(BUILD) cargo
 EXAMPLES := $(patsubst examples/%.c,$(BUILD)/%,$(wildcard examples/*.c))
 
-.PHONY: lib test soak compare second examples clean
+.PHONY: lib test bench soak compare second examples clean
 
 lib: $(LIB)
 
@@ -33,6 +34,9 @@ compare: $(LIB)
 
 soak: $(LIB)
 	$(CARGO) run --release --offline --quiet --manifest-path compare/Cargo.toml -- --seconds $(SECONDS)
+
+bench: $(LIB)
+	$(CARGO) run --release --offline --quiet --manifest-path compare/Cargo.toml --bin speed
 
 $(BUILD)/%: examples/%.c include/mulgreddi.h $(LIB)
 	$(CC) $(CFLAGS) -Iinclude -o $@ $< $(LIB)

@@ -60,6 +60,13 @@ mulgreddi_answer mulgreddi_same_rules(const uint8_t *first, size_t first_len, co
 mulgreddi_answer mulgreddi_same_words(const uint8_t *lead1, size_t lead1_len, const uint8_t *cycle1, size_t cycle1_len,
                                       const uint8_t *lead2, size_t lead2_len, const uint8_t *cycle2, size_t cycle2_len);
 
+/* Judges a word on the rule: does the rule accept it, from its initial state at place 0? first: 1 yes, 0 no. The word is a lead-in of 0 to 32 letters
+ * and a cycle of 1 to 32 that repeats for ever, one letter a byte. masks needs lead_len + cycle_len bytes: its byte p becomes the mask of
+ * the states from which the rule accepts at place p; what follows is not touched. Refusals 1 to 14 and 16. */
+mulgreddi_answer mulgreddi_judge(const uint8_t *file, size_t file_len,
+                                 const uint8_t *lead, size_t lead_len, const uint8_t *cycle, size_t cycle_len,
+                                 uint8_t *masks, size_t masks_len);
+
 #ifdef __cplusplus
 }
 #endif

@@ -1,6 +1,8 @@
 -- For each case of an answer, 01's number and values.
 use Prim.Native.Nat.{ℕ}
 use Rattle.mulgreddi.specs.declared.Answer.{Answer}
+use Rattle.judge.specs.declared.Verdict.{Verdict}
+use Rattle.judge.specs.declared.Verdict.the-variants as judge
 use Rattle.rules.specs.declared.Read.{Read}
 use Rattle.rules.specs.declared.Read.the-variants as read
 use Rattle.sameness.specs.declared.SameRules.{SameRules}
@@ -37,3 +39,9 @@ unfoldable pub sameWordsAnswer : SameWords → Answer
 sameWordsAnswer words.Same = servedAs 1 0
 sameWordsAnswer words.Different = servedAs 0 0
 sameWordsAnswer (words.Refused row) = refusedAs row
+
+-- 1 yes, 0 no
+unfoldable pub verdictAnswer : Verdict → Answer
+verdictAnswer judge.Yes = servedAs 1 0
+verdictAnswer judge.No = servedAs 0 0
+verdictAnswer (judge.Refused row) = refusedAs row

@@ -1,15 +1,19 @@
 // The C interface: every public entry, its answer as three numbers. include/mulgreddi.h declares and documents it.
+use judge::Verdict;
 use rules::Read;
 use sameness::SameRules;
 use words::SameWords;
 use writer::Written;
 ghost use mathlib.Core.Path.{_≡_};
 ghost use lib.ListN.{length};
+ghost use Rattle.theory.specs.Truth.{truthMasks};
+ghost use Rattle.judge.specs.Judge.{judgeOf, judgeRow, after, Meant};
+ghost use Rattle.rules.specs.File.{ruleIn};
 ghost use Rattle.rules.specs.Read.{readOf};
 ghost use Rattle.sameness.specs.Same.{sameRulesOf};
 ghost use Rattle.writer.specs.Written.{headFrom, writtenOf, sliceAfter};
 ghost use Rattle.words.specs.Words.{sameWordsOf};
-ghost use Rattle.mulgreddi.specs.Answers.{refusedAs, servedAs, readAnswer, writtenAnswer, sameRulesAnswer, sameWordsAnswer};
+ghost use Rattle.mulgreddi.specs.Answers.{refusedAs, servedAs, readAnswer, writtenAnswer, sameRulesAnswer, sameWordsAnswer, verdictAnswer};
 
 // refusal is 0 where the input was served; else first and second are 0.
 #[repr(C)]
@@ -99,5 +103,24 @@ pub extern "C" fn mulgreddi_same_words(
         SameWords::Same => served(1, 0),
         SameWords::Different => served(0, 0),
         SameWords::Refused(row) => refused(row),
+    }
+}
+
+// Whether the rule accepts the word; writes the masks of the states from which it accepts, a byte a place.
+#[no_mangle]
+pub extern "C" fn mulgreddi_judge(
+    file: &[u8],
+    lead: &[u8],
+    cycle: &[u8],
+    masks: &mut [u8],
+) -> Answer
+    ensures { λ r. ⌜ r ≡ verdictAnswer (judgeOf (now (file .entry)) (now (lead .entry)) (now (cycle .entry)) (length (now (masks .entry)))) ⌝ }
+    ensures { λ _. ⌜ now (masks .exit) ≡ after (judgeRow (now (file .entry)) (now (lead .entry)) (now (cycle .entry)) (length (now (masks .entry)))) (truthMasks (ruleIn (now (file .entry))) (now (lead .entry)) (now (cycle .entry))) (now (masks .entry)) ⌝ }
+    ensures { λ _. ⌜ (judgeRow (now (file .entry)) (now (lead .entry)) (now (cycle .entry)) (length (now (masks .entry))) ≡ 0 → Meant (ruleIn (now (file .entry))) (now (lead .entry)) (now (cycle .entry)) (now (masks .exit)) (judgeOf (now (file .entry)) (now (lead .entry)) (now (cycle .entry)) (length (now (masks .entry))))) ⌝ }
+{
+    match judge::judge(file, lead, cycle, masks) {
+        Verdict::Yes => served(1, 0),
+        Verdict::No => served(0, 0),
+        Verdict::Refused(row) => refused(row),
     }
 }

@@ -1,0 +1,64 @@
+// The judge of words on a rule.
+use entries::Head;
+use masks::contains;
+use rules::Read;
+use rules::read_rule;
+use truth::fill;
+use words::word_row;
+ghost use mathlib.Core.Path.{_≡_};
+ghost use Rattle.theory.specs.Passing.{Passing};
+ghost use Rattle.entries.specs.Entries.{ruleOf};
+ghost use Rattle.judge.specs.Judge.{Called, Judged};
+
+// The answer: yes, no, or the number of the row that refuses.
+pub enum Verdict {
+    Yes,
+    No,
+    Refused(u8),
+}
+
+// Whether a rule that passes every check accepts the word; the masks of the word are written from the start of masks on.
+// Refused by rows 12 to 14 and 16, and masks is then unchanged.
+pub fn judge_read(
+    h: Head,
+    counts: &[u8],
+    clauses: &[u8],
+    lead: &[u8],
+    cycle: &[u8],
+    masks: &mut [u8],
+) -> Verdict
+    requires { ⌜ Passing (ruleOf h (now counts) (now clauses)) ⌝ }
+    ensures { λ r. ⌜ Called (ruleOf h (now (counts .entry)) (now (clauses .entry))) (now (lead .entry)) (now (cycle .entry)) (now (masks .entry)) (now (masks .exit)) r ⌝ }
+{
+    let s = h.s;
+    let row = word_row(s, lead, cycle);
+    if row != 0 {
+        return Verdict::Refused(row);
+    }
+    if masks.len() < lead.len() + cycle.len() {
+        return Verdict::Refused(16);
+    }
+    fill(h, counts, clauses, lead, cycle, masks);
+    if contains(masks[0], h.initial as u32) {
+        return Verdict::Yes;
+    }
+    Verdict::No
+}
+
+// Whether the rule of a file accepts the word, from its initial state at place 0. For each place, in order, one byte of masks becomes
+// the mask of the states from which the rule accepts there; the bytes after them stay.
+// Refused by rows 1 to 14 and 16, in this order, and masks is then unchanged.
+pub fn judge(file: &[u8], lead: &[u8], cycle: &[u8], masks: &mut [u8]) -> Verdict
+    ensures { λ r. ⌜ Judged (now (file .entry)) (now (lead .entry)) (now (cycle .entry)) (now (masks .entry)) (now (masks .exit)) r ⌝ }
+{
+    match read_rule(file) {
+        Read::Accepted(l) => {
+            let h = l.head;
+            let at = l.at;
+            let c = l.clauses;
+            let end = file.len() - 8;
+            judge_read(h, &file[at + c..end], &file[at..at + c], lead, cycle, masks)
+        }
+        Read::Refused(k) => Verdict::Refused(k),
+    }
+}

@@ -1,0 +1,6 @@
+pub mod Lists
+pub mod Walks
+pub mod Rounds
+pub mod Opening
+pub mod Back
+pub mod Heights
