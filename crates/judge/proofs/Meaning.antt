@@ -70,9 +70,10 @@ module _ (f lead cycle old new : List ℕ) where
   judged-refused zero n e = absurd (n refl)
   judged-refused (suc k) n e =
       let j : judgeRow f lead cycle (length old) ≡ suc k = sym (file-refuses f lead cycle (length old) (suc k) n e) in
+      let kept : old ≡ after (suc k) (truthMasks (ruleIn f) lead cycle) old = refl in
       record {
         answer = rw j;
-        written = rw j;
+        written = rw j kept;
         meant = λ z. absurd (let x : suc k ≡ 0 = sym j ∙ z in omega arith);
       }
 
@@ -92,7 +93,10 @@ module _ (r : Rule) (lead cycle old : List ℕ) where
   pub called-refused : (k : ℕ) → (k ≡ 0 → ⊥) → k ≡ callRow r lead cycle (length old) → Called r lead cycle old old (Refused k)
   unfolding after
   called-refused zero n e = absurd (n refl)
-  called-refused (suc k) n e = let j = sym e in record { answer = rw j; written = rw j }
+  called-refused (suc k) n e =
+      let j : callRow r lead cycle (length old) ≡ suc k = sym e in
+      let kept : old ≡ after (suc k) (truthMasks r lead cycle) old = refl in
+      record { answer = rw j; written = rw j kept }
 
   -- the masks are written; b tells whether the first holds the initial state
   pub called-served : callRow r lead cycle (length old) ≡ 0 → (new : List ℕ) → new ≡ truthMasks r lead cycle ++ drop (places lead cycle) old → 0 < length cycle
