@@ -1,0 +1,82 @@
+-- The next vector: it is one of them, above, and the least such.
+use mathlib.Core.Path.{_≡_, sym, _∙_}
+use mathlib.Core.Logic.{by-cases}
+use Prim.Native.Nat.{ℕ, zero, suc, _+_, _-_, _*_, _/_, _%_, _≤_, _<_}
+use native.Mathlib.Omega.{arith}
+use native.Mathlib.Decide.{ℕ-discrete}
+use native.Mathlib.Nat.{mul-le-mul-right}
+use borrow.Author.Tests.{eq-eqb, ne-eqb}
+use Rattle.cores.specs.Vectors.{Within, nextOf}
+
+pub next-carry : (m w c : ℕ) → w % 16 ≡ c % 16 → nextOf (suc m) w c ≡ nextOf m (w / 16) (c / 16) * 16
+unfolding nextOf
+next-carry m w c e = rw (eq-eqb (w % 16) (c % 16) e)
+
+pub next-one : (m w c : ℕ) → (w % 16 ≡ c % 16 → ⊥) → nextOf (suc m) w c ≡ w + 1
+unfolding nextOf
+next-one m w c e = rw (ne-eqb (w % 16) (c % 16) e)
+
+pub more : (m w c : ℕ) → Within m w c → (w ≡ c → ⊥) → w < nextOf m w c
+unfolding Within
+more zero w c h n = absurd (n (omega arith))
+more (suc m) w c h n =
+    by-cases (ℕ-discrete (w % 16) (c % 16))
+    (λ e. rw (next-carry m w c e) (omega (arith, more m (w / 16) (c / 16) (h .1) (λ u. n (omega arith)))))
+    (λ e. rw (next-one m w c e) (omega arith))
+
+pub within-next : (m w c : ℕ) → Within m w c → (w ≡ c → ⊥) → Within m (nextOf m w c) c
+unfolding Within
+within-next zero w c h n = absurd (n (omega arith))
+within-next (suc m) w c h n =
+    by-cases (ℕ-discrete (w % 16) (c % 16))
+    (λ e. let i = within-next m (w / 16) (c / 16) (h .1) (λ u. n (omega arith)) in
+    let q : nextOf m (w / 16) (c / 16) * 16 / 16 ≡ nextOf m (w / 16) (c / 16) = omega arith in
+    rw (next-carry m w c e) (omega arith, rw q i))
+    (λ e. let q : (w + 1) / 16 ≡ w / 16 = omega (arith, h .0) in
+    rw (next-one m w c e) (omega (arith, h .0), rw q (h .1)))
+
+pub least : (m w c v : ℕ) → Within m w c → Within m v c → w < v → nextOf m w c ≤ v
+unfolding Within
+least zero w c v h k l = absurd (omega arith)
+least (suc m) w c v h k l =
+    by-cases (ℕ-discrete (w % 16) (c % 16))
+    (λ e. rw (next-carry m w c e) (omega (arith, least m (w / 16) (c / 16) (v / 16) (h .1) (k .1) (omega (arith, k .0)))))
+    (λ e. rw (next-one m w c e) (omega arith))
+
+-- the loop
+pub record State (ranks caps w c scale m : ℕ) : Type 0 where
+  pub within : Within m w c
+  pub other : w ≡ c → ⊥
+  pub same : nextOf 8 ranks caps ≡ nextOf m w c * scale
+  pub low : w * scale ≤ ranks
+  pub high : c * scale ≤ caps
+
+pub end : (ranks caps w c scale m : ℕ) → State ranks caps w c scale m → (w % 16 ≡ c % 16 → ⊥) → nextOf 8 ranks caps ≡ (w + 1) * scale
+unfolding Within
+end ranks caps w c scale zero s n = absurd (s .other (omega (arith, s .within)))
+end ranks caps w c scale (suc m) s n = s .same ∙ rw (next-one m w c n)
+
+zeros : (m w : ℕ) → Within m w 0 → w ≡ 0
+unfolding Within
+zeros zero w h = h .0
+zeros (suc m) w h = omega (arith, h .0, zeros m (w / 16) (h .1))
+
+pub some-left : (ranks caps w c scale m : ℕ) → State ranks caps w c scale m → 0 < c
+some-left ranks caps w c scale m s = by-cases (ℕ-discrete c 0) (λ z. absurd (s .other (zeros m w (rw z at (s .within)) ∙ sym z))) (λ z. omega arith)
+
+pub carry : (ranks caps w c scale m : ℕ) → State ranks caps w c scale m → w % 16 ≡ c % 16 → (k : ℕ) × State ranks caps (w / 16) (c / 16) (scale * 16) k
+unfolding Within
+carry ranks caps w c scale zero s e = absurd (s .other (omega (arith, s .within)))
+carry ranks caps w c scale (suc m) s e = (
+  m,
+  record {
+    within = s .within .1;
+    other = λ u. s .other (omega arith);
+    same = s .same ∙ rw (next-carry m w c e) (omega arith);
+    low = let h : w / 16 * 16 * scale ≤ w * scale = mul-le-mul-right scale (omega arith) in omega (arith, s .low);
+    high = let h : c / 16 * 16 * scale ≤ c * scale = mul-le-mul-right scale (omega arith) in omega (arith, s .high);
+  },
+)
+
+pub scale-low : (ranks caps w c scale m : ℕ) → State ranks caps w c scale m → scale ≤ caps
+scale-low ranks caps w c scale m s = let h : 1 * scale ≤ c * scale = mul-le-mul-right scale (some-left ranks caps w c scale m s) in omega (arith, s .high)

@@ -1,0 +1,8 @@
+pub mod Masks
+pub mod Classes
+pub mod Component
+pub mod Sum
+pub mod Theory
+pub mod Pairs
+pub mod Tables
+pub mod Codes
