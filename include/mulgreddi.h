@@ -67,6 +67,15 @@ mulgreddi_answer mulgreddi_judge(const uint8_t *file, size_t file_len,
                                  const uint8_t *lead, size_t lead_len, const uint8_t *cycle, size_t cycle_len,
                                  uint8_t *masks, size_t masks_len);
 
+/* Builds the unambiguous automaton of a rule. codes gets the codes of all reachable macrostates, ascending; a macrostate's number is its place there,
+ * from 0. transitions gets source * 16777216 + letter * 65536 + target, ascending. Unused elements of both become 0.
+ * first: macrostates, second: transitions. A macrostate is initial if its set (bits 0 to 7) holds the initial state and bits 40 to 47 are 0,
+ * accepting if bits 44 to 47 are 0. Over every endless sequence of letters at most one run accepts; over a lead-in and a cycle, one exactly if the
+ * rule accepts the word. Refusals 1 to 11, which change nothing, and 17 and 18, which set both slices to zero throughout. Room is the length of the
+ * slice, at most 65,536 macrostates and 1,048,576 transitions; a room that is exactly the count is served. */
+mulgreddi_answer mulgreddi_build(const uint8_t *file, size_t file_len, uint64_t *codes, size_t codes_len,
+                                 uint64_t *transitions, size_t transitions_len);
+
 #ifdef __cplusplus
 }
 #endif

@@ -1,6 +1,8 @@
 -- For each case of an answer, 01's number and values.
 use Prim.Native.Nat.{ℕ}
 use Rattle.mulgreddi.specs.declared.Answer.{Answer}
+use Rattle.build.specs.declared.Built.{Built}
+use Rattle.build.specs.declared.Built.the-variants as build
 use Rattle.judge.specs.declared.Verdict.{Verdict}
 use Rattle.judge.specs.declared.Verdict.the-variants as judge
 use Rattle.rules.specs.declared.Read.{Read}
@@ -45,3 +47,8 @@ unfoldable pub verdictAnswer : Verdict → Answer
 verdictAnswer judge.Yes = servedAs 1 0
 verdictAnswer judge.No = servedAs 0 0
 verdictAnswer (judge.Refused row) = refusedAs row
+
+-- "It answers both counts": macrostates, transitions
+unfoldable pub builtAnswer : Built → Answer
+builtAnswer (build.Table counts) = servedAs (counts .macrostates) (counts .transitions)
+builtAnswer (build.Refused row) = refusedAs row

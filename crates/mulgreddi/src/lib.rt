@@ -1,19 +1,24 @@
 // The C interface: every public entry, its answer as three numbers. include/mulgreddi.h declares and documents it.
+use build::Built;
 use judge::Verdict;
 use rules::Read;
 use sameness::SameRules;
 use words::SameWords;
 use writer::Written;
 ghost use mathlib.Core.Path.{_≡_};
-ghost use lib.ListN.{length};
+ghost use lib.ListN.{length, take};
 ghost use Rattle.theory.specs.Truth.{truthMasks};
+ghost use Rattle.theory.specs.Demand.{Demand3};
+ghost use Rattle.build.specs.Built.{builtOf, codesAfter, transitionsAfter};
+ghost use Rattle.build.specs.declared.Counts.{Counts};
+ghost use Rattle.build.specs.declared.Built.the-variants.{Table};
 ghost use Rattle.judge.specs.Judge.{judgeOf, judgeRow, after, Meant};
 ghost use Rattle.rules.specs.File.{ruleIn};
 ghost use Rattle.rules.specs.Read.{readOf};
 ghost use Rattle.sameness.specs.Same.{sameRulesOf};
 ghost use Rattle.writer.specs.Written.{headFrom, writtenOf, sliceAfter};
 ghost use Rattle.words.specs.Words.{sameWordsOf};
-ghost use Rattle.mulgreddi.specs.Answers.{refusedAs, servedAs, readAnswer, writtenAnswer, sameRulesAnswer, sameWordsAnswer, verdictAnswer};
+ghost use Rattle.mulgreddi.specs.Answers.{refusedAs, servedAs, readAnswer, writtenAnswer, sameRulesAnswer, sameWordsAnswer, verdictAnswer, builtAnswer};
 
 // refusal is 0 where the input was served; else first and second are 0.
 #[repr(C)]
@@ -122,5 +127,19 @@ pub extern "C" fn mulgreddi_judge(
         Verdict::Yes => served(1, 0),
         Verdict::No => served(0, 0),
         Verdict::Refused(row) => refused(row),
+    }
+}
+
+// Builds the unambiguous automaton of a rule file: codes and transitions, both ascending, zeros after them; both counts.
+#[no_mangle]
+pub extern "C" fn mulgreddi_build(file: &[u8], codes: &mut [u64], transitions: &mut [u64]) -> Answer
+    ensures { λ r. ⌜ r ≡ builtAnswer (builtOf (now (file .entry)) (length (now (codes .entry))) (length (now (transitions .entry)))) ⌝ }
+    ensures { λ _. ⌜ now (codes .exit) ≡ codesAfter (now (file .entry)) (now (codes .entry)) (length (now (transitions .entry))) ⌝ }
+    ensures { λ _. ⌜ now (transitions .exit) ≡ transitionsAfter (now (file .entry)) (length (now (codes .entry))) (now (transitions .entry)) ⌝ }
+    ensures { λ _. ⌜ ((n : Counts) → builtOf (now (file .entry)) (length (now (codes .entry))) (length (now (transitions .entry))) ≡ Table n → Demand3 (ruleIn (now (file .entry))) (take (n .macrostates) (now (codes .exit))) (take (n .transitions) (now (transitions .exit)))) ⌝ }
+{
+    match build::build(file, codes, transitions) {
+        Built::Table(counts) => served(counts.macrostates as u64, counts.transitions as u64),
+        Built::Refused(row) => refused(row),
     }
 }

@@ -1,0 +1,162 @@
+-- The answer of the build on a file, and demand 3 of what the slices then hold.
+use mathlib.Core.Path.{_≡_, refl, sym, _∙_, ap₂}
+use mathlib.Core.Bool.{Bool, true, _&&_}
+use mathlib.Core.List.{List, [], _∷_}
+use Prim.Native.Nat.{ℕ, zero, suc, _-_, _≤_, _<_}
+use native.Mathlib.Omega.{arith}
+use lib.Dec.{ltb}
+use lib.ListN.{length, take, replicate}
+use lib.Seq.{take-append-seam}
+use borrow.Author.Tests.{ltb-true, lt-ltb}
+use Rattle.sets.specs.Rows.{Check, firstRow}
+use Rattle.sets.proofs.Bools.{bif, and-l, and-r}
+use Rattle.sets.proofs.Rows.{row-yes, row-no}
+use Rattle.theory.specs.Rule.{Rule}
+use Rattle.theory.specs.Demand.{Demand3}
+use Rattle.theory.specs.Table.{macrostatesFrom, transitionsFrom, macrostates, transitions}
+use Rattle.theory.proofs.Demand.{demand3}
+use Rattle.theory.specs.Passing.{Passing}
+use Rattle.entries.specs.Entries.{ruleOf}
+use Rattle.rules.specs.declared.Layout.{Layout}
+use Rattle.rules.specs.declared.Read.the-variants.{Accepted}
+use Rattle.rules.specs.File.{countsOf, clausesOf, ruleIn}
+use Rattle.rules.specs.Read.{readOf}
+use Rattle.rules.proofs.Answer.{served}
+use Rattle.rules.specs.Rows.{fileRow, fileRows, layoutRows, trailerRows, numberRows, listRows, componentRows}
+use Rattle.rules.proofs.FirstRow.{first-left, first-right, first-parts}
+use Rattle.rules.proofs.FileRows.{file-numbered, accepted-passing}
+use Rattle.keys.specs.Keys.{startOf}
+use Rattle.build.specs.declared.Counts.{Counts}
+use Rattle.build.specs.declared.Built.{Built}
+use Rattle.build.specs.declared.Built.the-variants.{Table, Refused}
+use Rattle.build.specs.Built.{roomRow, builtBy, sliceAfter, buildRow, builtOf, codesAfter, transitionsAfter}
+use Rattle.build.specs.Filling.{Made}
+use Rattle.build.proofs.Room.{room-few}
+
+-- the start condition of 01
+pub codes-initial : (r : Rule) → macrostatesFrom r (startOf r true) ≡ macrostates r
+unfolding macrostates startOf
+codes-initial r = refl
+
+pub moves-initial : (r : Rule) → transitionsFrom r (startOf r true) ≡ transitions r
+unfolding transitions startOf
+moves-initial r = refl
+
+-- ---- the rows of a file have numbers below 17
+
+unfoldable low : List Check → Bool
+low [] = true
+low (c ∷ cs) = ltb (c .number) 17 && low cs
+
+first-low : (cs : List Check) → low cs ≡ true → firstRow cs < 17
+unfolding low firstRow
+first-low [] e = omega arith
+first-low (c ∷ cs) e =
+    bif (c .applies)
+    (λ t. rw (row-yes c cs t) (ltb-true (c .number) 17 (and-l (ltb (c .number) 17) (low cs) e)))
+    (λ t. rw (row-no c cs t) (first-low cs (and-r (ltb (c .number) 17) (low cs) e)))
+
+file-low : (f : List ℕ) → low (fileRows f) ≡ true
+unfolding low fileRows layoutRows trailerRows numberRows listRows componentRows
+file-low f = refl
+
+pub file-row-low : (f : List ℕ) → fileRow f < 17
+unfolding fileRow
+file-row-low f = first-low (fileRows f) (file-low f)
+
+-- ---- what the contract of the build says
+
+-- the answer r, and the slices xs and zs afterwards, ys and ws
+pub record Answered (f xs zs : List ℕ) (r : Built) (ys ws : List ℕ) : Type 0 where
+  pub answer : r ≡ builtOf f (length xs) (length zs)
+  pub codes-after : ys ≡ codesAfter f xs (length zs)
+  pub moves-after : ws ≡ transitionsAfter f (length xs) zs
+
+refused-by : (k : ℕ) (codes moves : List ℕ) → (k ≡ 0 → ⊥) → Refused k ≡ builtBy k codes moves
+unfolding builtBy
+refused-by zero codes moves n = absurd (n refl)
+refused-by (suc k) codes moves n = refl
+
+kept-by : (k : ℕ) (list lent : List ℕ) → (k ≡ 0 → ⊥) → k < 17 → lent ≡ sliceAfter k list lent
+unfolding sliceAfter
+kept-by zero list lent n l = absurd (n refl)
+kept-by (suc k) list lent n l = rw (lt-ltb (suc k) 17 l)
+
+module _ (f xs zs : List ℕ) where
+  -- 1 to 11
+  pub answered-refused : (k : ℕ) → (fileRow f ≡ k) × (fileRow f ≡ 0 → ⊥) → Answered f xs zs (Refused k) xs zs
+  unfolding builtOf codesAfter transitionsAfter buildRow fileRow
+  answered-refused k e =
+      let n : k ≡ 0 → ⊥ = λ z. e .1 (e .0 ∙ z) in
+      let row : k ≡ buildRow f (length xs) (length zs) = first-left (fileRows f) _ k n (sym (e .0)) in
+      let l : k < 17 = rw (e .0) at (file-row-low f) in
+      record {
+        answer = rw (← row) (refused-by k _ _ n);
+        codes-after = rw (← row) (kept-by k _ xs n l);
+        moves-after = rw (← row) (kept-by k _ zs n l);
+      }
+
+  -- a file that rows 1 to 11 accept
+  pub build-row : fileRow f ≡ 0 → buildRow f (length xs) (length zs) ≡ roomRow (macrostates (ruleIn f)) (transitions (ruleIn f)) (length xs) (length zs)
+  unfolding buildRow roomRow fileRow
+  build-row e = first-right (fileRows f) _ (file-numbered f) e
+
+  pub answered-made : fileRow f ≡ 0 → (r : Built) (ys ws : List ℕ) → Made (macrostates (ruleIn f)) (transitions (ruleIn f)) xs zs r ys ws → Answered f xs zs r ys ws
+  unfolding builtOf codesAfter transitionsAfter
+  answered-made e r ys ws M = record {
+    answer = rw (build-row e) (M .answer);
+    codes-after = rw (build-row e) (M .codes-after);
+    moves-after = rw (build-row e) (M .moves-after);
+  }
+
+  -- ---- demand 3
+
+  table-by : (k : ℕ) (codes moves : List ℕ) (n : Counts) → builtBy k codes moves ≡ Table n → (k ≡ 0) × (length codes ≡ n .macrostates) × (length moves ≡ n .transitions)
+  unfolding builtBy
+  table-by zero codes moves n e = (refl, cc, cc)
+  table-by (suc k) codes moves n e = let z : _≡_ {A = ℕ} 0 1 = cc in absurd (omega arith)
+
+  table-row : (n : Counts) → builtOf f (length xs) (length zs) ≡ Table n → (buildRow f (length xs) (length zs) ≡ 0) × (length (macrostates (ruleIn f)) ≡ n .macrostates) × (length (transitions (ruleIn f)) ≡ n .transitions)
+  unfolding builtOf
+  table-row n e = table-by (buildRow f (length xs) (length zs)) (macrostates (ruleIn f)) (transitions (ruleIn f)) n e
+
+  both-rows : buildRow f (length xs) (length zs) ≡ 0 → (fileRow f ≡ 0) × (roomRow (macrostates (ruleIn f)) (transitions (ruleIn f)) (length xs) (length zs) ≡ 0)
+  unfolding buildRow roomRow fileRow
+  both-rows e = first-parts (fileRows f) _ (file-numbered f) e
+
+  front : (row : ℕ) (list lent : List ℕ) → row ≡ 0 → take (length list) (sliceAfter row list lent) ≡ list
+  unfolding sliceAfter
+  front row list lent e = rw e (take-append-seam list (replicate (length lent - length list) 0))
+
+  pub answered-demand3 : (r : Built) (ys ws : List ℕ) → Answered f xs zs r ys ws → (n : Counts) → r ≡ Table n → Demand3 (ruleIn f) (take (n .macrostates) ys) (take (n .transitions) ws)
+  unfolding codesAfter transitionsAfter
+  answered-demand3 r ys ws A n e =
+      let t = table-row n (sym (A .answer) ∙ e) in
+      let b = both-rows (t .0) in
+      let few : length (macrostates (ruleIn f)) ≤ 65536 = room-few (macrostates (ruleIn f)) (transitions (ruleIn f)) (length xs) (length zs) (b .1) in
+      let c : take (n .macrostates) ys ≡ macrostates (ruleIn f) = ap₂ (λ (k : ℕ) (l : List ℕ). take k l) (sym (t .1)) (A .codes-after) ∙ front _ (macrostates (ruleIn f)) xs (t .0) in
+      let m : take (n .transitions) ws ≡ transitions (ruleIn f) = ap₂ (λ (k : ℕ) (l : List ℕ). take k l) (sym (t .2)) (A .moves-after) ∙ front _ (transitions (ruleIn f)) zs (t .0) in
+      rw (c, m) (demand3 (ruleIn f) (accepted-passing f (b .0)) few)
+
+-- ---- the rule of an accepted file
+
+passes : (r t : Rule) → r ≡ t → Passing t → Passing r
+passes r t e P = rw e P
+
+made-same : (r t : Rule) → r ≡ t → (xs zs : List ℕ) (b : Built) (ys ws : List ℕ) → Made (macrostatesFrom r (startOf r true)) (transitionsFrom r (startOf r true)) xs zs b ys ws
+    → Made (macrostates t) (transitions t) xs zs b ys ws
+made-same r t e xs zs b ys ws M =
+    let m : Made (macrostatesFrom t (startOf t true)) (transitionsFrom t (startOf t true)) xs zs b ys ws = rw e at M in
+    rw (codes-initial t, moves-initial t) at m
+
+module _ (f : List ℕ) (l : Layout) (p : readOf f ≡ Accepted l) (counts clauses : List ℕ) (e : counts ≡ countsOf f) (d : clauses ≡ clausesOf f) where
+  same-rule : ruleOf (l .head) counts clauses ≡ ruleIn f
+  same-rule = ap₂ (λ (a b : List ℕ). ruleOf (l .head) a b) e d ∙ served f l p .rule
+
+  pub rule-passes : Passing (ruleOf (l .head) counts clauses)
+  rule-passes = passes (ruleOf (l .head) counts clauses) (ruleIn f) same-rule (served f l p .passing)
+
+  pub answered : (xs zs : List ℕ) (b : Built) (ys ws : List ℕ)
+      → Made (macrostatesFrom (ruleOf (l .head) counts clauses) (startOf (ruleOf (l .head) counts clauses) true)) (transitionsFrom (ruleOf (l .head) counts clauses) (startOf (ruleOf (l .head) counts clauses) true)) xs zs b ys ws
+      → Answered f xs zs b ys ws
+  answered xs zs b ys ws M = answered-made f xs zs (served f l p .row) b ys ws (made-same (ruleOf (l .head) counts clauses) (ruleIn f) same-rule xs zs b ys ws M)

@@ -1,0 +1,5 @@
+pub mod Room
+pub mod Padding
+pub mod Making
+pub mod Answer
+pub mod Ready

@@ -1,0 +1,65 @@
+-- What the build answers, and what it leaves in the two lent slices.
+use mathlib.Core.Bool.{cond}
+use mathlib.Core.List.{List, [], _∷_, _++_}
+use Prim.Native.Nat.{ℕ, zero, suc, _-_}
+use lib.Dec.{ltb}
+use lib.ListN.{length, replicate}
+use Rattle.sets.specs.Rows.{Check, firstRow}
+use Rattle.theory.specs.Table.{macrostates, transitions}
+use Rattle.rules.specs.File.{ruleIn}
+use Rattle.rules.specs.Rows.{check, fileRows}
+use Rattle.build.specs.declared.Built.{Built}
+use Rattle.build.specs.declared.Built.the-variants.{Table, Refused}
+
+-- the room of a slice: its length, but at most the cap
+unfoldable pub roomOf : ℕ → ℕ → ℕ
+roomOf cap len = cond (ltb len cap) len cap
+
+-- 01: "Room counts at most 65,536 macrostates and 1,048,576 transitions."
+abbrev pub codesRoom : ℕ → ℕ
+codesRoom len = roomOf 65536 len
+
+abbrev pub transitionsRoom : ℕ → ℕ
+transitionsRoom len = roomOf 1048576 len
+
+-- rows 17 and 18, of the codes and transitions to be written and the lengths of the two slices
+unfoldable pub roomRows : List ℕ → List ℕ → ℕ → ℕ → List Check
+roomRows codes moves codesLen movesLen =
+    -- "more reachable macrostates than room"
+    check (ltb (codesRoom codesLen) (length codes)) 17
+    -- "more transitions than room"
+    ∷ check (ltb (transitionsRoom movesLen) (length moves)) 18
+    ∷ []
+
+-- the first of them that refuses, or 0
+unfoldable pub roomRow : List ℕ → List ℕ → ℕ → ℕ → ℕ
+roomRow codes moves codesLen movesLen = firstRow (roomRows codes moves codesLen movesLen)
+
+-- by the first row that refuses: "It answers both counts" where none does, else "The answer is the number alone"
+unfoldable pub builtBy : ℕ → List ℕ → List ℕ → Built
+builtBy zero codes moves = Table (record { macrostates = length codes; transitions = length moves })
+builtBy (suc k) codes moves = Refused (suc k)
+
+-- by the first row that refuses: what a lent slice holds afterwards, the list being what is to be written there.
+-- None: the list at its start, "unused elements become 0". "1 to 16 change no lent slice, 17 and 18 set both room slices to zero throughout."
+unfoldable pub sliceAfter : ℕ → List ℕ → List ℕ → List ℕ
+sliceAfter zero list lent = list ++ replicate (length lent - length list) 0
+sliceAfter (suc k) list lent = cond (ltb (suc k) 17) lent (replicate (length lent) 0)
+
+-- ---- of a file
+
+-- 01: "Rule .., word, table, slices, room.": rows 1 to 11 of the file, then 17, then 18
+unfoldable pub buildRow : List ℕ → ℕ → ℕ → ℕ
+buildRow file codesLen movesLen = firstRow (fileRows file ++ roomRows (macrostates (ruleIn file)) (transitions (ruleIn file)) codesLen movesLen)
+
+-- the answer
+unfoldable pub builtOf : List ℕ → ℕ → ℕ → Built
+builtOf file codesLen movesLen = builtBy (buildRow file codesLen movesLen) (macrostates (ruleIn file)) (transitions (ruleIn file))
+
+-- the slice of codes afterwards. 01: "The build writes reachable codes ascending into a lent slice of 64-bit numbers, numbered from 0"
+unfoldable pub codesAfter : List ℕ → List ℕ → ℕ → List ℕ
+codesAfter file codes movesLen = sliceAfter (buildRow file (length codes) movesLen) (macrostates (ruleIn file)) codes
+
+-- the slice of transitions afterwards: "and transitions ascending into another"
+unfoldable pub transitionsAfter : List ℕ → ℕ → List ℕ → List ℕ
+transitionsAfter file codesLen moves = sliceAfter (buildRow file codesLen (length moves)) (transitions (ruleIn file)) moves

@@ -1,0 +1,200 @@
+// The build: the reachable macrostates of a rule and the transitions between them, in two lent slices.
+ghost use mathlib.Core.Path.{_≡_};
+ghost use mathlib.Core.Bool.{true};
+ghost use lib.ListN.{length, take};
+ghost use Rattle.theory.specs.Rule.{Rule};
+ghost use Rattle.theory.specs.Demand.{Demand3};
+ghost use Rattle.theory.specs.Passing.{Passing};
+ghost use Rattle.theory.specs.Table.{macrostatesFrom, transitionsFrom};
+ghost use Rattle.entries.specs.Entries.{ruleOf};
+ghost use Rattle.rules.specs.File.{countsOf, clausesOf, ruleIn};
+ghost use Rattle.rules.specs.Read.{readOf};
+ghost use Rattle.rules.specs.declared.Read.the-variants.{Accepted};
+ghost use Rattle.keys.specs.Keys.{startOf};
+ghost use Rattle.keys.specs.Tables.{Tables};
+ghost use Rattle.build.specs.declared.Counts.{Counts};
+ghost use Rattle.build.specs.declared.Built.the-variants.{Table};
+ghost use Rattle.build.specs.Built.{roomOf, builtOf, codesAfter, transitionsAfter};
+ghost use Rattle.build.specs.Filling.{Padded, Codes, Made};
+use entries::Head;
+use keys::Shape;
+use rules::Layout;
+use rules::Read;
+use sorted::Grow;
+
+// How many macrostates and transitions a built table has.
+pub struct Counts {
+    pub macrostates: usize,
+    pub transitions: usize,
+}
+
+// The answer of the build: the counts of the table, or the number of the first row that refuses.
+pub enum Built {
+    Table(Counts),
+    Refused(u8),
+}
+
+// ---- room
+
+// The room of a slice: its length, but at most the cap.
+fn room_of(cap: usize, len: usize) -> usize
+    ensures { λ r. ⌜ r ≡ roomOf cap len ⌝ }
+{
+    if len < cap {
+        return len;
+    }
+    cap
+}
+
+// ---- the two lists
+
+// Fills the slice with the codes of the reachable macrostates, ascending, and zeros. It is full if there are more of them than room.
+fn list_codes(codes: &mut [u64], shape: Shape, opens: &[u8; 4096], parts: &[u8; 8]) -> Grow
+    requires { ⌜ ((r : Rule) × Tables r (now opens) (now parts) shape) ⌝ }
+    ensures { λ g. ⌜ ((r : Rule) → Tables r (now (opens .entry)) (now (parts .entry)) shape → Padded 65536 (macrostatesFrom r (startOf r (shape .holds))) (now (codes .entry)) (now (codes .exit)) (g .m) (g .full)) ⌝ }
+{
+    let room = room_of(65536, codes.len());
+    let g = reach::reachable(&mut codes[..room], shape, opens, parts);
+    if g.full {
+        return g;
+    }
+    let m = g.m;
+    sorted::zero_from(codes, m);
+    Grow { m, full: false }
+}
+
+// Fills the slice with the transitions between the first n codes, ascending, and zeros. It is full if there are more of them than room.
+fn list_transitions(
+    out: &mut [u64],
+    codes: &[u64],
+    n: usize,
+    shape: Shape,
+    opens: &[u8; 4096],
+    parts: &[u8; 8],
+) -> Grow
+    requires { ⌜ ((r : Rule) × Tables r (now opens) (now parts) shape × Codes r (shape .holds) (now codes) n) ⌝ }
+    ensures { λ g. ⌜ ((r : Rule) → Tables r (now (opens .entry)) (now (parts .entry)) shape → Codes r (shape .holds) (now (codes .entry)) n → Padded 1048576 (transitionsFrom r (startOf r (shape .holds))) (now (out .entry)) (now (out .exit)) (g .m) (g .full)) ⌝ }
+{
+    let room = room_of(1048576, out.len());
+    let s = shape.s;
+    let accepting = shape.accepting;
+    let components = shape.components;
+    let g = transitions::transitions(
+        &mut out[..room],
+        codes,
+        n,
+        s,
+        accepting,
+        opens,
+        parts,
+        components,
+    );
+    if g.full {
+        return g;
+    }
+    let m = g.m;
+    sorted::zero_from(out, m);
+    Grow { m, full: false }
+}
+
+// ---- the table
+
+// Builds the table from tables of the rule; both slices are zero throughout if one has too little room.
+fn build_table(
+    shape: Shape,
+    opens: &[u8; 4096],
+    parts: &[u8; 8],
+    codes: &mut [u64],
+    out: &mut [u64],
+) -> Built
+    requires { ⌜ ((r : Rule) × Tables r (now opens) (now parts) shape) ⌝ }
+    ensures { λ b. ⌜ ((r : Rule) → Tables r (now (opens .entry)) (now (parts .entry)) shape → Made (macrostatesFrom r (startOf r (shape .holds))) (transitionsFrom r (startOf r (shape .holds))) (now (codes .entry)) (now (out .entry)) b (now (codes .exit)) (now (out .exit))) ⌝ }
+{
+    let g = list_codes(codes, shape, opens, parts);
+    if g.full {
+        sorted::zero_all(codes);
+        sorted::zero_all(out);
+        return Built::Refused(17);
+    }
+    let n = g.m;
+    let e = list_transitions(out, codes, n, shape, opens, parts);
+    if e.full {
+        sorted::zero_all(codes);
+        sorted::zero_all(out);
+        return Built::Refused(18);
+    }
+    Built::Table(Counts {
+        macrostates: n,
+        transitions: e.m,
+    })
+}
+
+// Builds the table of a rule that passes the checks. A run begins where the set holds the initial state, or, if `holds` is false, where it lacks it.
+// 17 or 18 if a slice has too little room; both are zero throughout then.
+pub fn build_rule(
+    h: Head,
+    counts: &[u8],
+    clauses: &[u8],
+    holds: bool,
+    codes: &mut [u64],
+    out: &mut [u64],
+) -> Built
+    requires { ⌜ Passing (ruleOf h (now counts) (now clauses)) ⌝ }
+    ensures { λ b. ⌜ Made (macrostatesFrom (ruleOf h (now (counts .entry)) (now (clauses .entry))) (startOf (ruleOf h (now (counts .entry)) (now (clauses .entry))) holds)) (transitionsFrom (ruleOf h (now (counts .entry)) (now (clauses .entry))) (startOf (ruleOf h (now (counts .entry)) (now (clauses .entry))) holds)) (now (codes .entry)) (now (out .entry)) b (now (codes .exit)) (now (out .exit)) ⌝ }
+{
+    let split = components::split(h, counts, clauses);
+    let parts = split.masks;
+    let components = split.count;
+    let opens = satisfaction::open_table(h, counts, clauses);
+    let shape = Shape {
+        s: h.s,
+        components,
+        accepting: h.accepting as u8,
+        initial: h.initial,
+        holds,
+    };
+    build_table(shape, &opens, &parts, codes, out)
+}
+
+// ---- files
+
+// The count bytes of an accepted file.
+fn counts_of(f: &[u8], l: Layout) -> &[u8]
+    requires { ⌜ readOf (now f) ≡ Accepted l ⌝ }
+    ensures { λ r. ⌜ now r ≡ countsOf (now (f .entry)) ⌝ }
+{
+    let start = l.at + l.clauses;
+    let end = f.len() - 8;
+    &f[start..end]
+}
+
+// The clause bytes of an accepted file.
+fn clauses_of(f: &[u8], l: Layout) -> &[u8]
+    requires { ⌜ readOf (now f) ≡ Accepted l ⌝ }
+    ensures { λ r. ⌜ now r ≡ clausesOf (now (f .entry)) ⌝ }
+{
+    let start = l.at;
+    let end = start + l.clauses;
+    &f[start..end]
+}
+
+// Writes the codes of the reachable macrostates and the transitions of a file's rule, both ascending, at the start of the slices, and zeros after them;
+// answers both counts. If a row refuses, it answers the number of the first: 1 to 11 leave the slices as they are, 17 and 18 set both to zero throughout.
+pub fn build(file: &[u8], codes: &mut [u64], transitions: &mut [u64]) -> Built
+    ensures { λ r. ⌜ (r ≡ builtOf (now (file .entry)) (length (now (codes .entry))) (length (now (transitions .entry)))) × (now (codes .exit) ≡ codesAfter (now (file .entry)) (now (codes .entry)) (length (now (transitions .entry)))) × (now (transitions .exit) ≡ transitionsAfter (now (file .entry)) (length (now (codes .entry))) (now (transitions .entry))) × ((n : Counts) → r ≡ Table n → Demand3 (ruleIn (now (file .entry))) (take (n .macrostates) (now (codes .exit))) (take (n .transitions) (now (transitions .exit)))) ⌝ }
+{
+    match rules::read_rule(file) {
+        Read::Refused(row) => Built::Refused(row),
+        Read::Accepted(l) => {
+            let h = l.head;
+            build_rule(
+                h,
+                counts_of(file, l),
+                clauses_of(file, l),
+                true,
+                codes,
+                transitions,
+            )
+        }
+    }
+}

@@ -1,0 +1,6 @@
+pub mod Keys
+pub mod Growth
+pub mod Moves
+pub mod Starting
+pub mod Letters
+pub mod Tables

@@ -1,0 +1,31 @@
+-- Keys become codes, one after the other.
+use mathlib.Core.Path.{_≡_, refl, ap, sym, _∙_}
+use mathlib.Core.List.{List, [], _∷_, _++_, map}
+use Prim.Native.Nat.{ℕ, zero, suc, _+_, _*_, _/_, _%_, _<_}
+use native.Mathlib.Omega.{arith}
+use native.Mathlib.Numerals.{add-one}
+use lib.ListN.{length, getD, take, drop, set}
+use Rattle.keys.specs.Keys.{codeOf}
+
+-- the first i elements as codes, the others as they were
+abbrev pub coded : ℕ → List ℕ → List ℕ
+coded i xs = map codeOf (take i xs) ++ drop i xs
+
+here : (i : ℕ) (xs : List ℕ) → getD (coded i xs) i 0 ≡ getD xs i 0
+here zero xs = refl
+here (suc i) [] = refl
+here (suc i) (x ∷ xs) = here i xs
+
+coded-suc : (i : ℕ) (xs : List ℕ) → i < length xs → set (coded i xs) i (codeOf (getD xs i 0)) ≡ coded (suc i) xs
+coded-suc i [] h = absurd (omega arith)
+coded-suc zero (x ∷ xs) h = refl
+coded-suc (suc i) (x ∷ xs) h = ap (λ (l : List ℕ). codeOf x ∷ l) (coded-suc i xs (omega arith))
+
+-- one turn of to_codes
+pub coded-next : (i : ℕ) (xs ys : List ℕ) → i < length xs → ys ≡ coded i xs → set ys i (getD ys i 0 % 256 * 1099511627776 + getD ys i 0 / 256) ≡ coded (i + 1) xs
+unfolding codeOf
+coded-next i xs ys h e =
+    ap (λ (l : List ℕ). set l i (codeOf (getD l i 0))) e
+    ∙ ap (λ (x : ℕ). set (coded i xs) i (codeOf x)) (here i xs)
+    ∙ coded-suc i xs h
+    ∙ ap (λ (k : ℕ). coded k xs) (sym (add-one i))

@@ -1,0 +1,78 @@
+-- `candidates` meets its contract. The loop's invariant: the places below k are filled.
+use Prim.Native.Nat.{ℕ, _-_, _<_, _≤_}
+use mathlib.Core.Path.{_≡_, refl}
+use native.Mathlib.Omega.{arith}
+use lib.ListN.{length, getD, length-set}
+use Rattle.transitions.specs.Emission.{sourceAt}
+use Rattle.transitions.proofs.Link.{candidate-le, fill-next}
+use borrow.Author.Needs.{needs}
+use Rattle.transitions.proofs.candidates.Statement.{statement}
+use Rattle.transitions.proofs.candidates.Tie as tie
+
+abbrev Inv-loop : tie.InvT-loop
+Inv-loop ranks parts components levels pair earlier found₀ k₀ found k = (k ≤ 9) × (length found ≡ 9) × ((q : ℕ) → q < k → getD found q 0 ≡ sourceAt ranks parts components levels pair earlier q)
+
+abbrev μ-loop : tie.MeasureT-loop
+μ-loop ranks parts components levels pair earlier found₀ k₀ found k = 9 - k
+
+-- a candidate is at most 256
+low : (c : tie.After-candidate Inv-loop μ-loop) → c .candidate .result ≤ 256
+low c =
+    let a = c .before .before .before .args in
+    let p = c .before .before .before .pre in
+    let e = c .candidate .ensures in
+    omega (arith, candidate-le (a .ranks) (a .parts .now) (a .components) (a .levels .now) (a .pair) (c .before .before .loop .k) (p .1) (p .2) (omega arith))
+
+loop-holds : tie.Need-loop-holds Inv-loop μ-loop
+loop-holds c = (omega arith, refl, λ q h. absurd (omega arith))
+
+candidate-requires : tie.Need-candidate-requires Inv-loop μ-loop
+candidate-requires c κs = search needs
+
+mul-found : tie.Need-mul-found Inv-loop μ-loop
+mul-found c = omega (arith, low c)
+
+add-found : tie.Need-add-found Inv-loop μ-loop
+add-found c = omega (arith, low c)
+
+mul-found-2 : tie.Need-mul-found-2 Inv-loop μ-loop
+mul-found-2 c = search needs
+
+array-write-found : tie.Need-array-write-found Inv-loop μ-loop
+array-write-found c = search needs
+
+add-k : tie.Need-add-k Inv-loop μ-loop
+add-k c = search needs
+
+loop-less : tie.Need-loop-less Inv-loop μ-loop
+loop-less c = search needs
+
+loop-again : tie.Need-loop-again Inv-loop μ-loop
+loop-again c =
+    let a = c .before .before .before .args in
+    let l = c .before .before .loop in
+    let picked = c .candidate .ensures in (
+      omega arith,
+      simp length-set (l .inv .1),
+      fill-next (sourceAt (a .ranks) (a .parts .now) (a .components) (a .levels .now) (a .pair) (a .earlier)) (l .found) (l .k) _ (omega arith) (omega (arith, picked)) (l .inv .2),
+    )
+
+returns : tie.Need-returns Inv-loop μ-loop
+returns c = λ q h. c .before .loop .inv .2 q (omega arith)
+
+pub candidates-spec : {M : Type 1} → statement M
+candidates-spec =
+    tie.close
+    (tie.spec
+    Inv-loop
+    μ-loop
+    loop-holds
+    candidate-requires
+    mul-found
+    add-found
+    mul-found-2
+    array-write-found
+    add-k
+    loop-less
+    loop-again
+    returns)

@@ -1,0 +1,3 @@
+pub mod Listing
+pub mod Ready
+pub mod Emission
