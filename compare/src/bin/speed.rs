@@ -4,7 +4,9 @@
 use std::hint::black_box;
 use std::time::{Duration, Instant};
 
+use second::build::build;
 use second::judge::judge;
+use second::rule::Rule;
 use second::sample::{self, Random, Shape};
 
 #[repr(C)]
@@ -24,6 +26,14 @@ extern "C" {
         cycle_length: usize,
         masks: *mut u8,
         masks_length: usize,
+    ) -> Answer;
+    fn mulgreddi_build(
+        file: *const u8,
+        file_length: usize,
+        codes: *mut u64,
+        codes_length: usize,
+        transitions: *mut u64,
+        transitions_length: usize,
     ) -> Answer;
 }
 
@@ -79,7 +89,125 @@ fn judge_times(shape: Shape, name: &str, states: usize, letters: usize) {
     );
 }
 
+/// Rules close to the caps of the rooms, and over each.
+const STORED: [(&str, &str); 5] = [
+    ("close to both caps, 1", include_str!("../large-1.txt")),
+    ("close to both caps, 2", include_str!("../large-2.txt")),
+    ("close to both caps, 3", include_str!("../large-3.txt")),
+    (
+        "more macrostates than any room",
+        include_str!("../over-1.txt"),
+    ),
+    (
+        "more transitions than any room",
+        include_str!("../over-2.txt"),
+    ),
+];
+
+fn from_hex(text: &str) -> Vec<u8> {
+    let bytes = text.split_whitespace();
+    bytes.map(|b| u8::from_str_radix(b, 16).unwrap()).collect()
+}
+
+/// A rule with one component for each size, the first holding the initial
+/// state; a component leads to itself, in a ring, and to later ones.
+fn composed(random: &mut Random, sizes: &[(usize, bool)], letters: usize, most: usize) -> Rule {
+    let (mut entries, mut accepting, mut first) = (Vec::new(), 0u8, 0);
+    let states: usize = sizes.iter().map(|size| size.0).sum();
+    for &(size, accepts) in sizes {
+        for q in first..first + size {
+            accepting |= u8::from(accepts) << q;
+            let next = first + (q + 1 - first) % size;
+            let clause = |random: &mut Random| {
+                (first..states).fold(1u8 << next, |mask, to| {
+                    mask | u8::from(random.once_in(4)) << to
+                })
+            };
+            let entry = |random: &mut Random| -> Vec<u8> {
+                let count = random.between(1, most);
+                (0..count).map(|_| clause(random)).collect()
+            };
+            entries.push((0..letters).map(|_| entry(random)).collect());
+        }
+        first += size;
+    }
+    Rule {
+        states,
+        letters,
+        initial: 0,
+        accepting,
+        entries,
+    }
+}
+
+/// A build of such a rule.
+fn build_times(name: &str, sizes: &[(usize, bool)], letters: usize, most: usize) {
+    let file = sample::file(&composed(&mut Random::new(3), sizes, letters, most));
+    build_time(
+        &format!("{name:24} {letters:2} letters, up to {most} clauses"),
+        &file,
+    );
+}
+
+/// One build at full room.
+fn build_time(name: &str, file: &[u8]) {
+    let mut codes = vec![0u64; 65_536];
+    let mut transitions = vec![0u64; 1_048_576];
+    let mut answer = Answer {
+        refusal: 0,
+        first: 0,
+        second: 0,
+    };
+    let ours = time(|| {
+        answer = unsafe {
+            mulgreddi_build(
+                file.as_ptr(),
+                file.len(),
+                codes.as_mut_ptr(),
+                codes.len(),
+                transitions.as_mut_ptr(),
+                transitions.len(),
+            )
+        };
+    });
+    let theirs = if ours < Duration::from_millis(300) {
+        let start = Instant::now();
+        black_box(build(file, 65_536, 1_048_576).is_ok());
+        format!("{:9.1}", start.elapsed().as_secs_f64() * 1e3)
+    } else {
+        "        -".into()
+    };
+    let served = match answer.refusal {
+        0 => format!("{} {}", answer.first, answer.second),
+        row => format!("refused {row}"),
+    };
+    println!(
+        "build {name:52} {:9.1} {theirs}  {served}",
+        ours.as_secs_f64() * 1e3
+    );
+}
+
 fn main() {
+    println!("milliseconds a build: library, second program; macrostates transitions");
+    let (no, yes) = (false, true);
+    for (letters, most) in [(1, 1), (2, 2), (16, 1), (16, 8)] {
+        build_times("5 rejecting", &[(5, no)], letters, most);
+        build_times("6 rejecting", &[(6, no)], letters, most);
+        build_times("7 accepting", &[(7, yes)], letters, most);
+        build_times("7 rejecting", &[(7, no)], letters, most);
+        build_times("8 rejecting", &[(8, no)], letters, most);
+        build_times("4 + 4", &[(4, no), (4, yes)], letters, most);
+        let single = (1, yes);
+        let several = [(5, no), single, (1, no), single];
+        build_times("5 + 1 + 1 + 1", &several, letters, most);
+        build_times("6 + 1 + 1", &[(6, no), single, (1, no)], letters, most);
+        build_times("7 + 1", &[(7, yes), (1, no)], letters, most);
+        let eight: Vec<_> = (0..8).map(|q| (1, q % 2 == 1)).collect();
+        build_times("eight of 1", &eight, letters, most);
+    }
+    for (name, text) in STORED {
+        build_time(name, &from_hex(text));
+    }
     println!("microseconds a call                    library: mean, longest; second program: mean, longest");
     for states in [2, 5, 8] {
         for letters in [2, 16] {

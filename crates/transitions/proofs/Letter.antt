@@ -30,7 +30,7 @@ pub record Turn (codes : List ℕ) (n j a : ℕ) (sources xs : List ℕ) (m : �
   pub appended : Appended xs m ys r
   pub listed : (f : Set) → Marks f codes n j a sources → take m xs ≡ passing f (transitionOf j a 0) → take r ys ≡ passing f (transitionOf j a (cutAt codes n p))
 
-module _ (codes : List ℕ) (n : ℕ) (o : Ordered codes n) where
+module _ {codes : List ℕ} {n : ℕ} (o : Ordered codes n) where
   code-up : (i k : ℕ) → i < k → k < n → getD codes i 0 < getD codes k 0
   code-up i k h l =
       let e = length-take-le n codes (o .fits) in
@@ -95,8 +95,8 @@ module _ (codes : List ℕ) (n : ℕ) (o : Ordered codes n) where
         let y = cut-before (p + 1) i up in
         let z = source-class i q hi hq e in omega arith
 
-    pub start : (xs : List ℕ) (m : ℕ) → m ≤ length xs → Turn codes n j a sources xs m xs m 0
-    start xs m h = record {
+    pub start : {xs : List ℕ} {m : ℕ} → m ≤ length xs → Turn codes n j a sources xs m xs m 0
+    start {xs} {m} h = record {
       at = omega arith;
       long = refl;
       appended = appended-none xs m h;
@@ -116,7 +116,7 @@ module _ (codes : List ℕ) (n : ℕ) (o : Ordered codes n) where
             let v : i ≡ z = s .first z h (rw q at (g .2)) in
             (omega arith, rw v e)
 
-    module _ (xs : List ℕ) (m : ℕ) (ys : List ℕ) (r p i : ℕ) (hp : p < 9) (w : Turn codes n j a sources xs m ys r p) (s : Numbered codes n (getD sources p 0) i) where
+    module _ {xs : List ℕ} {m : ℕ} {ys : List ℕ} {r p i : ℕ} (hp : p < 9) (w : Turn codes n j a sources xs m ys r p) (s : Numbered codes n (getD sources p 0) i) where
       -- no source
       pub skip : n ≤ i → Turn codes n j a sources xs m ys r (p + 1)
       skip h = record {
@@ -164,8 +164,8 @@ module _ (codes : List ℕ) (n : ℕ) (o : Ordered codes n) where
           };
         }
 
-    pub finish : (xs : List ℕ) (m : ℕ) (ys : List ℕ) (r p : ℕ) → 9 ≤ p → Turn codes n j a sources xs m ys r p → Lettered codes n j a sources xs m ys r false
-    finish xs m ys r p h w = record {
+    pub finish : {xs : List ℕ} {m : ℕ} {ys : List ℕ} {r p : ℕ} → 9 ≤ p → Turn codes n j a sources xs m ys r p → Lettered codes n j a sources xs m ys r false
+    finish {p = p} h w = record {
       appended = w .appended;
       outcome = λ f k e. record {
         whole = λ t. w .listed f k e ∙ sym (none-between f (transitionOf j a (cut p)) (transitionOf j a n) (let z = cut-le p in omega arith)

@@ -33,7 +33,7 @@ use Rattle.transitions.specs.Emission.{sourceAt, ByClasses, Sources}
 
 -- ---- the parts of a code
 
-module _ (A : Automaton) (x : ℕ) (M : Macrostate A x) where
+module _ {A : Automaton} {x : ℕ} (M : Macrostate A x) where
   pub pair-low : x / 2 ^ 40 < 256
   pair-low = let e = pair-in A x (M .coded) in let k = component-small x in let l = classes-small x in omega arith
 
@@ -70,7 +70,7 @@ candidate-class ranks parts components levels pair p k few l =
 pub candidate-le : (ranks : ℕ) (parts : List ℕ) (components : ℕ) (levels : List ℕ) (pair p : ℕ) → pair % 16 < components → components ≤ 8 → p < 9 → candidateIn ranks parts components levels pair p ≤ 256
 candidate-le ranks parts components levels pair p k few l = ⊎-elim (λ e. omega arith) (λ e. omega (arith, e .0)) (candidate-class ranks parts components levels pair p k few l)
 
-module _ (A : Automaton) (accepting : ℕ) (opens parts : List ℕ) (components letter code : ℕ) (low : List ℕ) (t : Target A accepting opens parts components letter code low) where
+module _ {A : Automaton} {accepting : ℕ} {opens parts : List ℕ} {components letter code : ℕ} {low : List ℕ} (t : Target A accepting opens parts components letter code low) where
   abbrev P : Parts A parts
   P = t .tables .parted
 
@@ -109,9 +109,9 @@ module _ (A : Automaton) (accepting : ℕ) (opens parts : List ℕ) (components 
 
   -- what candidate asks
   pub pair-known : code / 2 ^ 40 % 16 < components
-  pair-known = let e = pair-component A code (t .macrostate) in let k = t .macrostate .component in let c = t .tables .counted in omega arith
+  pair-known = let e = pair-component (t .macrostate) in let k = t .macrostate .component in let c = t .tables .counted in omega arith
 
-  module _ (ranks : ℕ) (levels : List ℕ) (b : Back opens letter opened parts components low ranks levels) where
+  module _ {ranks : ℕ} {levels : List ℕ} (b : Back opens letter opened parts components low ranks levels) where
     abbrev earlier : ℕ
     earlier = ranks * 2 ^ 8 + bitXor (getD opens (letter * 256 + opened) 0) accepting
 
@@ -129,7 +129,7 @@ module _ (A : Automaton) (accepting : ℕ) (opens parts : List ℕ) (components 
     ranks-low = let h = earlier-low in omega arith
 
     -- r holds the nine candidates of the core's number and the vector
-    module _ (r : List ℕ) (vector core : ℕ) (ev : vector ≡ ranksIn code) (ec : core ≡ earlier) (h : (p : ℕ) → p < 9 → getD r p 0 ≡ sourceAt vector parts components levels (code / 2 ^ 40) core p) where
+    module _ (r : List ℕ) {vector core : ℕ} (ev : vector ≡ ranksIn code) (ec : core ≡ earlier) (h : (p : ℕ) → p < 9 → getD r p 0 ≡ sourceAt vector parts components levels (code / 2 ^ 40) core p) where
       pub by-classes : ByClasses r
       by-classes p l s =
           let e = h p l in let k = earlier-low in
@@ -150,17 +150,17 @@ module _ (A : Automaton) (accepting : ℕ) (opens parts : List ℕ) (components 
         pair = x / 2 ^ 40
 
         known : pair % 16 < A .components
-        known = rw (pair-component A x M) (M .component)
+        known = rw (pair-component M) (M .component)
 
         target-known : code / 2 ^ 40 % 16 < A .components
-        target-known = rw (pair-component A code (t .macrostate)) (t .macrostate .component)
+        target-known = rw (pair-component (t .macrostate)) (t .macrostate .component)
 
         -- x's pair goes on to the target's exactly if it is the candidate for its own k
         pair-iff : (onwardIn v parts (A .components) levels pair ≡ code / 2 ^ 40) ↔ (candidate (pair / 16) ≡ pair)
-        pair-iff = candidate-iff v parts (A .components) levels (P .few-components) pair (code / 2 ^ 40) (pair-low A x M) (pair-low A code (t .macrostate)) known target-known
+        pair-iff = candidate-iff v parts (A .components) levels (P .few-components) pair (code / 2 ^ 40) (pair-low M) (pair-low (t .macrostate)) known target-known
 
         onto-is : onwardIn v parts (A .components) levels pair ≡ ontoOf A letter v pair
-        onto-is = onward-is A (t .tables .layered) (t .s) opens parts P (t .tables .opened) letter v (t .known) within low lows ranks levels back passes pair (pair-low A x M) known
+        onto-is = onward-is A (t .tables .layered) (t .s) opens parts P (t .tables .opened) letter v (t .known) within low lows ranks levels back passes pair (pair-low M) known
 
         goes-iff : (goes A x letter code ≡ true) ↔ ((x % 2 ^ 40 ≡ backOf A letter v) × (code / 2 ^ 40 ≡ ontoOf A letter v pair))
         goes-iff = goes-is A parts P x letter code (M .coded) (M .component) (t .macrostate .coded) (t .macrostate .core)
@@ -169,7 +169,7 @@ module _ (A : Automaton) (accepting : ℕ) (opens parts : List ℕ) (components 
         found g =
             let w = goes-iff .0 g in
             let c : candidate (pair / 16) ≡ pair = pair-iff .0 (onto-is ∙ sym (w .1)) in
-            let low : pair / 16 < 9 = let z = pair-classes A x M in omega arith in
+            let low : pair / 16 < 9 = let z = pair-classes M in omega arith in
             let s = source-is (pair / 16) low in
             let a = w .0 ∙ sym earlier-is in
             (pair / 16, low, omega arith)
@@ -178,7 +178,7 @@ module _ (A : Automaton) (accepting : ℕ) (opens parts : List ℕ) (components 
         is-found p l e =
             let s = e ∙ source-is p l in
             let b = earlier-low in
-            let small = code-low A x M in
+            let small = code-low M in
             ⊎-elim
             (λ c. absurd (omega arith))
             (λ c. let same : pair ≡ candidate p = omega arith in

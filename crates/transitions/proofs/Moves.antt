@@ -66,12 +66,12 @@ module _ (A : Automaton) (s : ℕ) (codes : List ℕ) (n : ℕ) where
 
 -- ---- what is ready
 
-module _ (A : Automaton) (s accepting : ℕ) (opens parts : List ℕ) (components : ℕ) (codes : List ℕ) (n : ℕ) (R : Ready A s accepting opens parts components codes n) where
+module _ {A : Automaton} {s accepting : ℕ} {opens parts : List ℕ} {components : ℕ} {codes : List ℕ} {n : ℕ} (R : Ready A s accepting opens parts components codes n) where
   pub letters-few : s ≤ 16
   letters-few = R .tables .opened .few-letters
 
   pub ordered : Ordered codes n
-  ordered = record { fits = R .fits; few = R .few; ascending = R .ascending; low = λ i l. code-low A (getD codes i 0) (R .macrostate i l) }
+  ordered = record { fits = R .fits; few = R .few; ascending = R .ascending; low = λ i l. code-low (R .macrostate i l) }
 
   marks : (j a : ℕ) (sources : List ℕ) → j < n → a < s → Sources A a (getD codes j 0) sources → Marks (isMove A s codes n) codes n j a sources
   marks j a sources hj ha S =
@@ -174,22 +174,19 @@ pub record Targets (s accepting : ℕ) (opens parts : List ℕ) (components : �
   pub appended : Appended xs 0 ys r
   pub listed : (A : Automaton) → Ready A s accepting opens parts components codes n → take r ys ≡ passing (isMove A s codes n) (transitionOf j 0 0)
 
-module _ (s accepting : ℕ) (opens parts : List ℕ) (components : ℕ) (codes : List ℕ) (n : ℕ) where
-  abbrev Is : Automaton → Type 0
-  Is A = Ready A s accepting opens parts components codes n
+module _ {s accepting : ℕ} {opens parts : List ℕ} {components : ℕ} {codes : List ℕ} {n : ℕ} where
+  module _ {j : ℕ} {xs : List ℕ} {m : ℕ} where
+    pub letters-start : {a : ℕ} → a ≡ 0 → m ≤ length xs → Letters s accepting opens parts components codes n j xs m xs m a
+    letters-start z h = record { at = omega arith; long = refl; appended = appended-none xs m h; listed = λ A R e. rw z e }
 
-  module _ (j : ℕ) (xs : List ℕ) (m : ℕ) where
-    pub letters-start : m ≤ length xs → Letters s accepting opens parts components codes n j xs m xs m 0
-    letters-start h = record { at = omega arith; long = refl; appended = appended-none xs m h; listed = λ A R e. e }
-
-    module _ (ys : List ℕ) (r a : ℕ) (w : Letters s accepting opens parts components codes n j xs m ys r a) where
-      module _ (sources zs : List ℕ) (t : ℕ) (hj : j < n) (ha : a < s) (S : (A : Automaton) → Is A → Sources A a (getD codes j 0) sources) (full : Bool) (l : Lettered codes n j a sources ys r zs t full) where
+    module _ {ys : List ℕ} {r a : ℕ} (w : Letters s accepting opens parts components codes n j xs m ys r a) where
+      module _ {sources zs : List ℕ} {t : ℕ} {full : Bool} (l : Lettered codes n j a sources ys r zs t full) (hj : j < n) (ha : a < s) (S : (A : Automaton) → Ready A s accepting opens parts components codes n → Sources A a (getD codes j 0) sources) where
         pub letters-next : full ≡ false → length zs ≡ length ys → Letters s accepting opens parts components codes n j xs m zs t (a + 1)
         letters-next v k = record {
           at = omega arith;
           long = k ∙ w .long;
           appended = appended-then xs m ys r zs t (w .appended) (l .appended);
-          listed = λ A R e. (l .outcome (isMove A s codes n) (marks A s accepting opens parts components codes n R j a sources hj ha (S A R)) (w .listed A R e)) .whole v
+          listed = λ A R e. (l .outcome (isMove A s codes n) (marks R j a sources hj ha (S A R)) (w .listed A R e)) .whole v
               ∙ sym (none-between (isMove A s codes n) (transitionOf j a n) (transitionOf j (a + 1) 0) (let f = R .few in omega arith) (past-codes A s codes n j a));
         }
 
@@ -199,8 +196,8 @@ module _ (s accepting : ℕ) (opens parts : List ℕ) (components : ℕ) (codes 
           outcome = λ A R e. record {
             whole = λ b. absurd (true≢false (sym v ∙ b));
             over = λ b.
-                let o = (l .outcome (isMove A s codes n) (marks A s accepting opens parts components codes n R j a sources hj ha (S A R)) (w .listed A R e)) .over v in
-                let f = R .few in let k = letters-few A s accepting opens parts components codes n R in
+                let o = (l .outcome (isMove A s codes n) (marks R j a sources hj ha (S A R)) (w .listed A R e)) .over v in
+                let f = R .few in let k = letters-few R in
                 let z = no-shorter (isMove A s codes n) (transitionOf j a n) (transitionOf (j + 1) 0 0) (omega arith) in omega arith;
           };
         }
@@ -211,19 +208,19 @@ module _ (s accepting : ℕ) (opens parts : List ℕ) (components : ℕ) (codes 
         outcome = λ A R e. record {
           whole = λ b.
               let g : a ≡ s = omega (arith, w .at) in
-              let k = letters-few A s accepting opens parts components codes n R in
+              let k = letters-few R in
               w .listed A R e ∙ ap (λ (x : ℕ). passing (isMove A s codes n) (transitionOf j x 0)) g
               ∙ sym (none-between (isMove A s codes n) (transitionOf j s 0) (transitionOf (j + 1) 0 0) (omega arith) (λ y. past-letters A s codes n j y (omega arith)));
           over = λ b. absurd (false≢true b);
         };
       }
 
-  pub targets-start : (xs : List ℕ) → Targets s accepting opens parts components codes n xs xs 0 0
+  pub targets-start : {xs : List ℕ} → Targets s accepting opens parts components codes n xs xs 0 0
   unfolding passing
-  targets-start xs = record { at = omega arith; long = refl; appended = appended-none xs 0 (omega arith); listed = λ A R. refl }
+  targets-start {xs} = record { at = omega arith; long = refl; appended = appended-none xs 0 (omega arith); listed = λ A R. refl }
 
-  module _ (xs ys : List ℕ) (r j : ℕ) (w : Targets s accepting opens parts components codes n xs ys r j) where
-    module _ (zs : List ℕ) (t : ℕ) (h : j < n) (full : Bool) (l : Targeted s accepting opens parts components codes n j ys r zs t full) where
+  module _ {xs ys : List ℕ} {r j : ℕ} (w : Targets s accepting opens parts components codes n xs ys r j) where
+    module _ {zs : List ℕ} {t : ℕ} {full : Bool} (l : Targeted s accepting opens parts components codes n j ys r zs t full) (h : j < n) where
       pub targets-next : full ≡ false → length zs ≡ length ys → Targets s accepting opens parts components codes n xs zs t (j + 1)
       targets-next v k = record {
         at = omega arith;
@@ -254,24 +251,24 @@ module _ (s accepting : ℕ) (opens parts : List ℕ) (components : ℕ) (codes 
 
   -- ---- turned around and sorted
 
-  module _ (xs ys : List ℕ) (m : ℕ) (full : Bool) (w : Emitted s accepting opens parts components codes n xs ys m full) where
+  module _ {xs ys : List ℕ} {m : ℕ} {full : Bool} (w : Emitted s accepting opens parts components codes n xs ys m full) where
     pub overfull : full ≡ true → Filled s accepting opens parts components codes n xs ys m full
     overfull v = record {
       fits = w .appended .fits;
       rest = w .appended .rest;
       whole = λ b. absurd (true≢false (sym v ∙ b));
-      over = λ b A R. let o = (w .outcome A R) .over v in let z = moves-few A s accepting opens parts components codes n R in omega arith;
+      over = λ b A R. let o = (w .outcome A R) .over v in let z = moves-few R in omega arith;
     }
 
     -- what turn_around asks
-    pub moves-low : full ≡ false → (A : Automaton) → Is A → (i : ℕ) → i < m → getD ys i 0 < 2 ^ 40
+    pub moves-low : full ≡ false → (A : Automaton) → Ready A s accepting opens parts components codes n → (i : ℕ) → i < m → getD ys i 0 < 2 ^ 40
     moves-low v A R i h =
         let e = (w .outcome A R) .whole v in
         let l : i < length (take m ys) = omega (arith, length-take-le m ys (w .appended .fits)) in
-        move-low A s accepting opens parts components codes n R (getD ys i 0) (rw (getD-take m ys i 0 h, e) at (mem-at (take m ys) i l))
+        move-low R (getD ys i 0) (rw (getD-take m ys i 0 h, e) at (mem-at (take m ys) i l))
 
-    pub filled : full ≡ false → (us : List ℕ) → length us ≡ length ys → ArrangedFirst (turnedTo ys m) m us → Filled s accepting opens parts components codes n xs us m false
-    filled v us k a =
+    pub filled : full ≡ false → {us : List ℕ} → length us ≡ length ys → ArrangedFirst (turnedTo ys m) m us → Filled s accepting opens parts components codes n xs us m false
+    filled v {us} k a =
         let fits = w .appended .fits in
         let front : length (map turned (take m ys)) ≡ m = simp (length-map, length-take) (omega arith) in
         let tu : take m (turnedTo ys m) ≡ map turned (take m ys) = take-at (map turned (take m ys)) (drop m ys) m front in
@@ -279,6 +276,6 @@ module _ (s accepting : ℕ) (opens parts : List ℕ) (components : ℕ) (codes 
         record {
           fits = omega arith;
           rest = a .rest ∙ du ∙ w .appended .rest;
-          whole = λ b A R. moves-sorted A s accepting opens parts components codes n R (turnedTo ys m) us m (tu ∙ ap (map turned) ((w .outcome A R) .whole v)) a;
+          whole = λ b A R. moves-sorted R (turnedTo ys m) us m (tu ∙ ap (map turned) ((w .outcome A R) .whole v)) a;
           over = λ b. absurd (false≢true b);
         }

@@ -26,6 +26,10 @@ target-low y = mod-lt y {m = 65536} (omega arith)
 pub source-low : (y : ℕ) → y < 2 ^ 40 → sourceOf y < 65536
 source-low y h = omega arith
 
+-- what pack_transition asks
+pub parts-low : (y t l u : ℕ) → y < 2 ^ 40 → t ≡ targetOf y → l ≡ letterOf y → u ≡ sourceOf y → (t < 1099511627776) × (l < 256) × (u < 65536)
+parts-low y t l u h a b c = (omega (arith, target-low y), omega (arith, letter-low y), omega (arith, source-low y h))
+
 -- twice gives the number again
 pub turned-twice : (y : ℕ) → y < 2 ^ 40 → turned (turned y) ≡ y
 turned-twice y h =

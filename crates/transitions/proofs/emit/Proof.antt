@@ -13,18 +13,21 @@ abbrev μ-loop : tie.MeasureT-loop
 μ-loop out₀ codes n s accepting opens parts components m₀ j₀ out m j = n - j
 
 loop-holds : tie.Need-loop-holds Inv-loop μ-loop
-loop-holds c = let a = c .before .before .args in targets-start (a .s) (a .accepting) (a .opens .now) (a .parts .now) (a .components) (a .codes .now) (a .n) (a .out .now)
+loop-holds c = targets-start
 
 emit-target-requires : tie.Need-emit-target-requires Inv-loop μ-loop
-emit-target-requires c κs = let p = c .before .before .before .before .before .pre in (p .0, p .1, c .before .before .loop .inv .appended .fits, c .before .loop-test .taken)
+emit-target-requires c κs =
+    let p = c .before .before .before .before .before .pre in
+    (p .0, p .1, c .before .before .loop .inv .appended .fits, c .before .loop-test .taken)
 
 same-length : tie.Need-same-length Inv-loop μ-loop
 same-length c = c .before .before .before .emit-target .kept .0 ∙ c .before .before .before .before .before .before .loop .inv .long
 
 returns : tie.Need-returns Inv-loop μ-loop
 returns c =
-    let a = c .before .before .before .before .before .before .before .before .before .args in let l = c .before .before .before .before .before .before .loop in let g = c .before .before .before .emit-target in
-    targets-full (a .s) (a .accepting) (a .opens .now) (a .parts .now) (a .components) (a .codes .now) (a .n) (a .out .now) (l .out) (l .m) (l .j) (l .inv) (g .last .0) (g .result .m) (c .before .before .before .before .before .loop-test .taken) (g .result .full) (g .ensures) (c .if1 .taken)
+    let l = c .before .before .before .before .before .before .loop in
+    let g = c .before .before .before .emit-target in
+    targets-full (l .inv) (g .ensures) (c .before .before .before .before .before .loop-test .taken) (c .if1 .taken)
 
 add-j : tie.Need-add-j Inv-loop μ-loop
 add-j c = search needs
@@ -34,16 +37,15 @@ loop-less c = search needs
 
 loop-again : tie.Need-loop-again Inv-loop μ-loop
 loop-again c =
-    let a = c .before .before .before .before .before .before .before .before .before .args in let l = c .before .before .before .before .before .before .loop in let g = c .before .before .before .emit-target in
-    targets-next (a .s) (a .accepting) (a .opens .now) (a .parts .now) (a .components) (a .codes .now) (a .n) (a .out .now) (l .out) (l .m) (l .j) (l .inv) (g .last .0) (g .result .m) (c .before .before .before .before .before .loop-test .taken) (g .result .full) (g .ensures) (c .if1 .left) (g .kept .0)
+    let l = c .before .before .before .before .before .before .loop in
+    let g = c .before .before .before .emit-target in
+    targets-next (l .inv) (g .ensures) (c .before .before .before .before .before .loop-test .taken) (c .if1 .left) (g .kept .0)
 
 same-length-2 : tie.Need-same-length-2 Inv-loop μ-loop
 same-length-2 c = c .before .loop .inv .long
 
 returns-2 : tie.Need-returns-2 Inv-loop μ-loop
-returns-2 c =
-    let a = c .before .before .before .before .args in let l = c .before .loop in
-    targets-end (a .s) (a .accepting) (a .opens .now) (a .parts .now) (a .components) (a .codes .now) (a .n) (a .out .now) (l .out) (l .m) (l .j) (l .inv) (c .loop-test .left)
+returns-2 c = targets-end (c .before .loop .inv) (c .loop-test .left)
 
 pub emit-spec : {M : Type 1} → statement M
 emit-spec =

@@ -16,7 +16,10 @@ abbrev μ-loop : tie.MeasureT-loop
 μ-loop out₀ new codes n j a sources m₀ p₀ out m p = 9 - p
 
 loop-holds : tie.Need-loop-holds Inv-loop μ-loop
-loop-holds c = let a = c .before .before .args in let p = c .before .before .pre in start (a .codes .now) (a .n) (p .0) (a .j) (a .a) (a .sources .now) (p .4) (a .out .now) (a .new) (p .1)
+loop-holds c =
+    let a = c .before .before .args in
+    let p = c .before .before .pre in
+    start (p .0) (a .j) (a .a) (a .sources .now) (p .4) (p .1)
 
 mul-source : tie.Need-mul-source Inv-loop μ-loop
 mul-source c = search needs
@@ -35,17 +38,23 @@ loop-less c = search needs
 
 loop-again : tie.Need-loop-again Inv-loop μ-loop
 loop-again c =
-    let a = c .before .before .before .before .before .before .before .args in let p = c .before .before .before .before .before .before .before .pre in let l = c .before .before .before .before .loop in let s = c .before .source in
-    skip (a .codes .now) (a .n) (p .0) (a .j) (a .a) (a .sources .now) (p .4) (a .out .now) (a .new) (l .out) (l .m) (l .p) (s .result) (omega arith) (l .inv) (s .ensures) (c .if1 .taken)
+    let a = c .before .before .before .before .before .before .before .args in
+    let p = c .before .before .before .before .before .before .before .pre in
+    let l = c .before .before .before .before .loop in
+    let s = c .before .source in
+    skip (p .0) (a .j) (a .a) (a .sources .now) (p .4) (omega arith) (l .inv) (s .ensures) (c .if1 .taken)
 
 same-length : tie.Need-same-length Inv-loop μ-loop
 same-length c = search needs
 
 returns : tie.Need-returns Inv-loop μ-loop
 returns c =
-    let a = c .before .before .before .before .before .before .before .before .args in let p = c .before .before .before .before .before .before .before .before .pre in let l = c .before .before .before .before .before .loop in let s = c .before .before .source in
+    let a = c .before .before .before .before .before .before .before .before .args in
+    let p = c .before .before .before .before .before .before .before .before .pre in
+    let l = c .before .before .before .before .before .loop in
+    let s = c .before .before .source in
     let room : l .m ≡ length (l .out) = omega (arith, c .if2 .taken) in
-    full (a .codes .now) (a .n) (p .0) (a .j) (a .a) (a .sources .now) (p .4) (a .out .now) (a .new) (l .out) (l .m) (l .p) (s .result) (omega arith) (l .inv) (s .ensures) (omega arith) room
+    full (p .0) (a .j) (a .a) (a .sources .now) (p .4) (omega arith) (l .inv) (s .ensures) (omega arith) room
 
 pack-transition-requires : tie.Need-pack-transition-requires Inv-loop μ-loop
 pack-transition-requires c κs = search needs
@@ -64,18 +73,23 @@ loop-less-2 c = search needs
 
 loop-again-2 : tie.Need-loop-again-2 Inv-loop μ-loop
 loop-again-2 c =
-    let a = c .before .before .before .before .before .before .before .before .before .args in let p = c .before .before .before .before .before .before .before .before .before .pre in let l = c .before .before .before .before .before .before .loop in let s = c .before .before .before .source in
+    let a = c .before .before .before .before .before .before .before .before .before .args in
+    let p = c .before .before .before .before .before .before .before .before .before .pre in
+    let l = c .before .before .before .before .before .before .loop in
+    let s = c .before .before .before .source in
     let packed : c .pack-transition .result ≡ transitionOf (a .j) (a .a) (s .result) = omega (arith, c .pack-transition .ensures) in
     rw packed
-    (push (a .codes .now) (a .n) (p .0) (a .j) (a .a) (a .sources .now) (p .4) (a .out .now) (a .new) (l .out) (l .m) (l .p) (s .result) (omega arith) (l .inv) (s .ensures) (omega arith) (omega (arith, l .inv .appended .fits, c .before .if2 .left)))
+    (push (p .0) (a .j) (a .a) (a .sources .now) (p .4) (omega arith) (l .inv) (s .ensures) (omega arith) (omega (arith, l .inv .appended .fits, c .before .if2 .left)))
 
 same-length-2 : tie.Need-same-length-2 Inv-loop μ-loop
 same-length-2 c = search needs
 
 returns-2 : tie.Need-returns-2 Inv-loop μ-loop
 returns-2 c =
-    let a = c .before .before .before .before .args in let p = c .before .before .before .before .pre in let l = c .before .loop in
-    finish (a .codes .now) (a .n) (p .0) (a .j) (a .a) (a .sources .now) (p .4) (a .out .now) (a .new) (l .out) (l .m) (l .p) (omega arith) (l .inv)
+    let a = c .before .before .before .before .args in
+    let p = c .before .before .before .before .pre in
+    let l = c .before .loop in
+    finish (p .0) (a .j) (a .a) (a .sources .now) (p .4) (omega arith) (l .inv)
 
 pub emit-letter-spec : {M : Type 1} → statement M
 emit-letter-spec =

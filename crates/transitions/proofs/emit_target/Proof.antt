@@ -29,25 +29,40 @@ lowest-requires : tie.Need-lowest-requires Inv-loop μ-loop
 lowest-requires c κs = search needs
 
 loop-holds : tie.Need-loop-holds Inv-loop μ-loop
-loop-holds c = let a = c .before .before .before .before .before .args in let p = c .before .before .before .before .before .pre in letters-start (a .s) (a .accepting) (a .opens .now) (a .parts .now) (a .components) (a .codes .now) (a .n) (a .j) (a .out .now) (a .new) (p .2)
+loop-holds c =
+    let p = c .before .before .before .before .before .pre in
+    letters-start (omega arith) (p .2)
 
 sources-of-requires : tie.Need-sources-of-requires Inv-loop μ-loop
-sources-of-requires c κs = let a = c .before .before .before .before .before .before .before .before .args in let p = c .before .before .before .before .before .before .before .before .pre in (p .0, target (p .0) (a .s) (a .accepting) (a .opens .now) (a .parts .now) (a .components) (a .codes .now) (a .n) (p .1) (a .j) (c .before .before .loop .a) (c .before .before .before .before .ranks-of .result) (c .before .before .before .lowest .result) (p .3) (c .before .loop-test .taken) (c .before .before .before .before .ranks-of .ensures) (c .before .before .before .lowest .ensures))
+sources-of-requires c κs =
+    let a = c .before .before .before .before .before .before .before .before .args in
+    let p = c .before .before .before .before .before .before .before .before .pre in
+    let v = c .before .before .before .before .ranks-of in
+    let low = c .before .before .before .lowest in
+    (p .0, target (p .1) (a .j) (c .before .before .loop .a) (v .result) (low .result) (p .3) (c .before .loop-test .taken) (v .ensures) (low .ensures))
 
 emit-letter-requires : tie.Need-emit-letter-requires Inv-loop μ-loop
 emit-letter-requires c κs =
-    let a = c .before .before .before .before .before .before .before .before .before .before .before .args in let p = c .before .before .before .before .before .before .before .before .before .before .before .pre in let l = c .before .before .before .before .before .loop in
-    (ordered (p .0) (a .s) (a .accepting) (a .opens .now) (a .parts .now) (a .components) (a .codes .now) (a .n) (p .1), l .inv .appended .fits, p .3, omega (arith, letters-few (p .0) (a .s) (a .accepting) (a .opens .now) (a .parts .now) (a .components) (a .codes .now) (a .n) (p .1), c .before .before .before .before .loop-test .taken), c .before .before .sources-of .ensures .0)
+    let p = c .before .before .before .before .before .before .before .before .before .before .before .pre in
+    let l = c .before .before .before .before .before .loop in
+    (ordered (p .1), l .inv .appended .fits, p .3, omega (arith, letters-few (p .1), c .before .before .before .before .loop-test .taken), c .before .before .sources-of .ensures .0)
 
 same-length : tie.Need-same-length Inv-loop μ-loop
 same-length c = c .before .before .before .emit-letter .kept .0 ∙ c .before .before .before .before .before .before .before .before .before .loop .inv .long
 
 returns : tie.Need-returns Inv-loop μ-loop
 returns c =
-    let a = c .before .before .before .before .before .before .before .before .before .before .before .before .before .before .before .args in let p = c .before .before .before .before .before .before .before .before .before .before .before .before .before .before .before .pre in let l = c .before .before .before .before .before .before .before .before .before .loop in let g = c .before .before .before .emit-letter in let s = c .before .before .before .before .before .before .sources-of in
-    letters-full (a .s) (a .accepting) (a .opens .now) (a .parts .now) (a .components) (a .codes .now) (a .n) (a .j) (a .out .now) (a .new) (l .out) (l .m) (l .a) (l .inv) (s .result) (g .last .0) (g .result .m) (p .3) (c .before .before .before .before .before .before .before .before .loop-test .taken)
-    (λ w R. s .ensures .1 w (target w (a .s) (a .accepting) (a .opens .now) (a .parts .now) (a .components) (a .codes .now) (a .n) R (a .j) (l .a) (c .before .before .before .before .before .before .before .before .before .before .before .ranks-of .result) (c .before .before .before .before .before .before .before .before .before .before .lowest .result) (p .3) (c .before .before .before .before .before .before .before .before .loop-test .taken) (c .before .before .before .before .before .before .before .before .before .before .before .ranks-of .ensures) (c .before .before .before .before .before .before .before .before .before .before .lowest .ensures)))
-    (g .result .full) (g .ensures) (c .if1 .taken)
+    let a = c .before .before .before .before .before .before .before .before .before .before .before .before .before .before .before .args in
+    let p = c .before .before .before .before .before .before .before .before .before .before .before .before .before .before .before .pre in
+    let v = c .before .before .before .before .before .before .before .before .before .before .before .ranks-of in
+    let low = c .before .before .before .before .before .before .before .before .before .before .lowest in
+    let l = c .before .before .before .before .before .before .before .before .before .loop in
+    let within = c .before .before .before .before .before .before .before .before .loop-test .taken in
+    let s = c .before .before .before .before .before .before .sources-of in
+    let g = c .before .before .before .emit-letter in
+    letters-full (l .inv) (g .ensures) (p .3) within
+    (λ w R. s .ensures .1 w (target R (a .j) (l .a) (v .result) (low .result) (p .3) within (v .ensures) (low .ensures)))
+    (c .if1 .taken)
 
 add-a : tie.Need-add-a Inv-loop μ-loop
 add-a c = search needs
@@ -57,18 +72,23 @@ loop-less c = search needs
 
 loop-again : tie.Need-loop-again Inv-loop μ-loop
 loop-again c =
-    let a = c .before .before .before .before .before .before .before .before .before .before .before .before .before .before .before .args in let p = c .before .before .before .before .before .before .before .before .before .before .before .before .before .before .before .pre in let l = c .before .before .before .before .before .before .before .before .before .loop in let g = c .before .before .before .emit-letter in let s = c .before .before .before .before .before .before .sources-of in
-    letters-next (a .s) (a .accepting) (a .opens .now) (a .parts .now) (a .components) (a .codes .now) (a .n) (a .j) (a .out .now) (a .new) (l .out) (l .m) (l .a) (l .inv) (s .result) (g .last .0) (g .result .m) (p .3) (c .before .before .before .before .before .before .before .before .loop-test .taken)
-    (λ w R. s .ensures .1 w (target w (a .s) (a .accepting) (a .opens .now) (a .parts .now) (a .components) (a .codes .now) (a .n) R (a .j) (l .a) (c .before .before .before .before .before .before .before .before .before .before .before .ranks-of .result) (c .before .before .before .before .before .before .before .before .before .before .lowest .result) (p .3) (c .before .before .before .before .before .before .before .before .loop-test .taken) (c .before .before .before .before .before .before .before .before .before .before .before .ranks-of .ensures) (c .before .before .before .before .before .before .before .before .before .before .lowest .ensures)))
-    (g .result .full) (g .ensures) (c .if1 .left) (g .kept .0)
+    let a = c .before .before .before .before .before .before .before .before .before .before .before .before .before .before .before .args in
+    let p = c .before .before .before .before .before .before .before .before .before .before .before .before .before .before .before .pre in
+    let v = c .before .before .before .before .before .before .before .before .before .before .before .ranks-of in
+    let low = c .before .before .before .before .before .before .before .before .before .before .lowest in
+    let l = c .before .before .before .before .before .before .before .before .before .loop in
+    let within = c .before .before .before .before .before .before .before .before .loop-test .taken in
+    let s = c .before .before .before .before .before .before .sources-of in
+    let g = c .before .before .before .emit-letter in
+    letters-next (l .inv) (g .ensures) (p .3) within
+    (λ w R. s .ensures .1 w (target R (a .j) (l .a) (v .result) (low .result) (p .3) within (v .ensures) (low .ensures)))
+    (c .if1 .left) (g .kept .0)
 
 same-length-2 : tie.Need-same-length-2 Inv-loop μ-loop
 same-length-2 c = c .before .loop .inv .long
 
 returns-2 : tie.Need-returns-2 Inv-loop μ-loop
-returns-2 c =
-    let a = c .before .before .before .before .before .before .before .args in let l = c .before .loop in
-    letters-end (a .s) (a .accepting) (a .opens .now) (a .parts .now) (a .components) (a .codes .now) (a .n) (a .j) (a .out .now) (a .new) (l .out) (l .m) (l .a) (l .inv) (c .loop-test .left)
+returns-2 c = letters-end (c .before .loop .inv) (c .loop-test .left)
 
 pub emit-target-spec : {M : Type 1} → statement M
 emit-target-spec =

@@ -6,13 +6,16 @@ use Rattle.transitions.proofs.source.Statement.{statement}
 use Rattle.transitions.proofs.source.Tie as tie
 
 returns : tie.Need-returns
-returns c = let a = c .before .before .args in number-high (a .codes .now) (a .n) (c .before .before .pre) (a .x) (c .if1 .taken)
+returns c = let a = c .before .before .args in number-high (c .before .before .pre) (a .x) (c .if1 .taken)
 
 place-requires : tie.Need-place-requires
 place-requires c κs = search needs
 
 returns-2 : tie.Need-returns-2
-returns-2 c = let a = c .before .before .before .before .args in let q = c .before .place in number-none (a .codes .now) (a .n) (c .before .before .before .before .pre) (a .x) (q .result) (q .ensures) (c .if2 .taken)
+returns-2 c =
+    let a = c .before .before .before .before .args in
+    let q = c .before .place in
+    number-none (c .before .before .before .before .pre) (a .x) (q .result) (q .ensures) (c .if2 .taken)
 
 mul-if3 : tie.Need-mul-if3
 mul-if3 c = search needs
@@ -21,10 +24,16 @@ shared-slice-read-if3 : tie.Need-shared-slice-read-if3
 shared-slice-read-if3 c = search needs
 
 returns-3 : tie.Need-returns-3
-returns-3 c = let a = c .before .before .before .before .before .before .args in let q = c .before .before .before .place in number-other (a .codes .now) (a .n) (c .before .before .before .before .before .before .pre) (a .x) (q .result) (q .ensures) (omega arith) (c .if3 .taken)
+returns-3 c =
+    let a = c .before .before .before .before .before .before .args in
+    let q = c .before .before .before .place in
+    number-other (c .before .before .before .before .before .before .pre) (a .x) (q .result) (q .ensures) (omega arith) (c .if3 .taken)
 
 returns-4 : tie.Need-returns-4
-returns-4 c = let a = c .before .before .before .before .before .before .args in let q = c .before .before .before .place in number-hit (a .codes .now) (a .n) (c .before .before .before .before .before .before .pre) (a .x) (q .result) (q .ensures) (omega arith) (c .if3 .left)
+returns-4 c =
+    let a = c .before .before .before .before .before .before .args in
+    let q = c .before .before .before .place in
+    number-hit (c .before .before .before .before .before .before .pre) (a .x) (q .result) (q .ensures) (omega arith) (c .if3 .left)
 
 pub source-spec : {M : Type 1} → statement M
 source-spec =

@@ -9,22 +9,29 @@ element-copy-out-opened : tie.Need-element-copy-out-opened
 element-copy-out-opened c = search needs
 
 step-back-requires : tie.Need-step-back-requires
-step-back-requires c κs = let a = c .before .args in let p = c .before .pre in (few (p .0) (a .accepting) (a .opens .now) (a .parts .now) (a .components) (a .letter) (a .code) (a .low .now) (p .1), rising (p .0) (a .accepting) (a .opens .now) (a .parts .now) (a .components) (a .letter) (a .code) (a .low .now) (p .1))
+step-back-requires c κs = let p = c .before .pre in (few (p .1), rising (p .1))
 
 mul-opened-before : tie.Need-mul-opened-before
-mul-opened-before c = let a = c .before .before .before .args in let p = c .before .before .before .pre in omega (arith, letter-low (p .0) (a .accepting) (a .opens .now) (a .parts .now) (a .components) (a .letter) (a .code) (a .low .now) (p .1))
+mul-opened-before c = let p = c .before .before .before .pre in omega (arith, letter-low (p .1))
 
 cast-opened-before : tie.Need-cast-opened-before
-cast-opened-before c = let a = c .before .before .before .args in let p = c .before .before .before .pre in omega (arith, opened-low (p .0) (a .accepting) (a .opens .now) (a .parts .now) (a .components) (a .letter) (a .code) (a .low .now) (p .1))
+cast-opened-before c = let p = c .before .before .before .pre in omega (arith, opened-low (p .1))
 
 add-opened-before : tie.Need-add-opened-before
-add-opened-before c = let a = c .before .before .before .args in let p = c .before .before .before .pre in omega (arith, letter-low (p .0) (a .accepting) (a .opens .now) (a .parts .now) (a .components) (a .letter) (a .code) (a .low .now) (p .1), opened-low (p .0) (a .accepting) (a .opens .now) (a .parts .now) (a .components) (a .letter) (a .code) (a .low .now) (p .1))
+add-opened-before c =
+    let p = c .before .before .before .pre in
+    omega (arith, letter-low (p .1), opened-low (p .1))
 
 element-copy-out-opened-before : tie.Need-element-copy-out-opened-before
-element-copy-out-opened-before c = let a = c .before .before .before .args in let p = c .before .before .before .pre in omega (arith, letter-low (p .0) (a .accepting) (a .opens .now) (a .parts .now) (a .components) (a .letter) (a .code) (a .low .now) (p .1), opened-low (p .0) (a .accepting) (a .opens .now) (a .parts .now) (a .components) (a .letter) (a .code) (a .low .now) (p .1))
+element-copy-out-opened-before c =
+    let p = c .before .before .before .pre in
+    omega (arith, letter-low (p .1), opened-low (p .1))
 
 core-of-requires : tie.Need-core-of-requires
-core-of-requires c κs = let a = c .before .before .before .before .args in let p = c .before .before .before .before .pre in let b = c .before .before .step-back in ranks-low (p .0) (a .accepting) (a .opens .now) (a .parts .now) (a .components) (a .letter) (a .code) (a .low .now) (p .1) (b .result .ranks) (b .result .levels) (b .ensures)
+core-of-requires c κs =
+    let p = c .before .before .before .before .pre in
+    let b = c .before .before .step-back in
+    ranks-low (p .1) (b .ensures)
 
 ranks-of-requires : tie.Need-ranks-of-requires
 ranks-of-requires c κs = search needs
@@ -34,13 +41,15 @@ cast-vector c = search needs
 
 candidates-requires : tie.Need-candidates-requires
 candidates-requires c κs =
-    let a = c .before .before .before .before .before .before .before .args in let p = c .before .before .before .before .before .before .before .pre in let b = c .before .before .before .before .before .step-back in
-    (pair-low (p .0) (a .code) (p .1 .macrostate), pair-known (p .0) (a .accepting) (a .opens .now) (a .parts .now) (a .components) (a .letter) (a .code) (a .low .now) (p .1), few (p .0) (a .accepting) (a .opens .now) (a .parts .now) (a .components) (a .letter) (a .code) (a .low .now) (p .1), rw (c .before .before .core-of .ensures) (earlier-low (p .0) (a .accepting) (a .opens .now) (a .parts .now) (a .components) (a .letter) (a .code) (a .low .now) (p .1) (b .result .ranks) (b .result .levels) (b .ensures)))
+    let p = c .before .before .before .before .before .before .before .pre in
+    let b = c .before .before .before .before .before .step-back in
+    (pair-low (p .1 .macrostate), pair-known (p .1), few (p .1), rw (c .before .before .core-of .ensures) (earlier-low (p .1) (b .ensures)))
 
 returns : tie.Need-returns
 returns c =
-    let a = c .before .before .before .before .before .before .before .before .args in let p = c .before .before .before .before .before .before .before .before .pre in let b = c .before .before .before .before .before .before .step-back in
-    (by-classes (p .0) (a .accepting) (a .opens .now) (a .parts .now) (a .components) (a .letter) (a .code) (a .low .now) (p .1) (b .result .ranks) (b .result .levels) (b .ensures) (c .candidates .result) (c .before .before .ranks-of .result) (c .before .before .before .core-of .result) (c .before .before .ranks-of .ensures) (c .before .before .before .core-of .ensures) (c .candidates .ensures), λ w t. sources-are w (a .accepting) (a .opens .now) (a .parts .now) (a .components) (a .letter) (a .code) (a .low .now) t (b .result .ranks) (b .result .levels) (b .ensures) (c .candidates .result) (c .before .before .ranks-of .result) (c .before .before .before .core-of .result) (c .before .before .ranks-of .ensures) (c .before .before .before .core-of .ensures) (c .candidates .ensures))
+    let p = c .before .before .before .before .before .before .before .before .pre in
+    let b = c .before .before .before .before .before .before .step-back in
+    (by-classes (p .1) (b .ensures) (c .candidates .result) (c .before .before .ranks-of .ensures) (c .before .before .before .core-of .ensures) (c .candidates .ensures), λ w t. sources-are t (b .ensures) (c .candidates .result) (c .before .before .ranks-of .ensures) (c .before .before .before .core-of .ensures) (c .candidates .ensures))
 
 pub sources-of-spec : {M : Type 1} → statement M
 sources-of-spec =

@@ -16,16 +16,14 @@ same-length c = search needs
 
 returns : tie.Need-returns
 returns c =
-    let a = c .before .before .before .before .before .before .before .args in
     let g = c .before .before .before .emit in
-    overfull (a .s) (a .accepting) (a .opens .now) (a .parts .now) (a .components) (a .codes .now) (a .n) (a .out .now) (g .last .0) (g .result .m) (g .result .full) (g .ensures) (c .if1 .taken)
+    overfull (g .ensures) (c .if1 .taken)
 
 turn-around-requires : tie.Need-turn-around-requires
 turn-around-requires c κs =
-    let a = c .before .before .before .before .before .before .before .before .args in
     let p = c .before .before .before .before .before .before .before .before .pre in
     let g = c .before .before .before .before .emit in
-    (omega (arith, g .ensures .appended .fits), λ i h. moves-low (a .s) (a .accepting) (a .opens .now) (a .parts .now) (a .components) (a .codes .now) (a .n) (a .out .now) (g .last .0) (g .result .m) (g .result .full) (g .ensures) (c .before .if1 .left) (p .0) (p .1) i (omega (arith, h)))
+    (omega (arith, g .ensures .appended .fits), λ i h. moves-low (g .ensures) (c .before .if1 .left) (p .0) (p .1) i (omega (arith, h)))
 
 sort-first-requires : tie.Need-sort-first-requires
 sort-first-requires c κs = search needs
@@ -35,13 +33,12 @@ same-length-2 c = search needs
 
 returns-2 : tie.Need-returns-2
 returns-2 c =
-    let a = c .before .before .before .before .before .before .before .before .before .before .before .before .before .before .before .args in
     let g = c .before .before .before .before .before .before .before .before .before .before .before .emit in
     let t = c .before .before .before .before .before .before .turn-around in
     let s = c .before .before .sort-first in
     let exchanged : t .last .0 ≡ turnedTo (g .last .0) (g .result .m) = t .ensures in
     let sorted : ArrangedFirst (t .last .0) (g .result .m) (s .last .0) = s .ensures in
-    filled (a .s) (a .accepting) (a .opens .now) (a .parts .now) (a .components) (a .codes .now) (a .n) (a .out .now) (g .last .0) (g .result .m) (g .result .full) (g .ensures) (c .before .before .before .before .before .before .before .before .if1 .left) (s .last .0) (s .kept .0 ∙ t .kept .0) (rw exchanged at sorted)
+    filled (g .ensures) (c .before .before .before .before .before .before .before .before .if1 .left) (s .kept .0 ∙ t .kept .0) (rw exchanged at sorted)
 
 pub transitions-spec : {M : Type 1} → statement M
 transitions-spec =

@@ -5,8 +5,7 @@ use native.Mathlib.Omega.{arith}
 use mathlib.Core.List.{List}
 use lib.ListN.{length, getD}
 use borrow.Author.Needs.{needs, scaled-fits}
-use Rattle.transitions.proofs.Turning.{turnedTo, length-turned, turned-next, turned-write, letter-low, target-low, source-low}
-use borrow.Author.Needs.{needs}
+use Rattle.transitions.proofs.Turning.{turnedTo, length-turned, turned-next, turned-write, parts-low}
 use Rattle.transitions.proofs.turn_around.Statement.{statement}
 use Rattle.transitions.proofs.turn_around.Tie as tie
 
@@ -47,12 +46,7 @@ source-of-requires : tie.Need-source-of-requires Inv-loop μ-loop
 source-of-requires c κs = search needs
 
 pack-transition-requires : tie.Need-pack-transition-requires Inv-loop μ-loop
-pack-transition-requires c κs =
-    let y = getD (c .before .before .before .before .before .loop .xs) (c .before .before .before .before .before .loop .i) 0 in (
-      omega (arith, c .before .before .target-of .ensures, target-low y),
-      omega (arith, c .before .letter-of .ensures, letter-low y),
-      omega (arith, c .source-of .ensures, source-low y (low (c .before .before .before .before))),
-    )
+pack-transition-requires c κs = parts-low _ _ _ _ (low (c .before .before .before .before)) (c .before .before .target-of .ensures) (c .before .letter-of .ensures) (c .source-of .ensures)
 
 mul-xs : tie.Need-mul-xs Inv-loop μ-loop
 mul-xs c = scaled-fits _ (length (c .before .before .before .before .before .before .before .before .args .xs .now)) 8 (omega (arith, c .before .before .before .before .before .before .before .before .pre .0)) (c .before .before .before .before .before .before .before .before .good .0 .1)
