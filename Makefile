@@ -1,10 +1,11 @@
 # Mulgreddi: unambiguous Büchi automata from alternating weak ones.
 #   make lib                   the static library, build/libmulgreddi.a
 #   make test                  the gate: library, comparison with the second program, C examples, proofs
-#   make bench                 times of the library beside those of the second program
+#   make bench                 times of the library beside those of the second program and of a C++ prototype
 #   make soak SECONDS=600      the comparison with new seeds until the time is up
 
 CC ?= cc
+CXX ?= c++
 CFLAGS ?= -O2 -std=c11 -Wall -Wextra -Werror
 SECONDS ?= 600
 BUILD := build
@@ -35,8 +36,14 @@ compare: $(LIB)
 soak: $(LIB)
 	$(CARGO) run --release --offline --quiet --manifest-path compare/Cargo.toml -- --seconds $(SECONDS)
 
-bench: $(LIB)
-	$(CARGO) run --release --offline --quiet --manifest-path compare/Cargo.toml --bin speed
+# bench/reference.cpp is the same algorithm in C++, without proofs, checks and refusals of files: for speed alone
+$(BUILD)/reference: bench/reference.cpp
+	mkdir -p $(BUILD)
+	$(CXX) -O2 -std=c++17 -o $@ $<
+
+bench: $(LIB) $(BUILD)/reference
+	$(CARGO) run --release --offline --quiet --manifest-path compare/Cargo.toml --bin speed -- $(wildcard $(CURDIR)/bench/*.rule)
+	$(BUILD)/reference $(wildcard bench/*.rule)
 
 $(BUILD)/%: examples/%.c include/mulgreddi.h $(LIB)
 	$(CC) $(CFLAGS) -Iinclude -o $@ $< $(LIB)

@@ -1,5 +1,5 @@
 //! Times of the library beside those of the second program, on the same
-//! inputs in one run: per kind of rule the mean and the longest call.
+//! inputs in one run. `speed FILE..` builds these rule files too.
 
 use std::hint::black_box;
 use std::time::{Duration, Instant};
@@ -207,6 +207,10 @@ fn main() {
     }
     for (name, text) in STORED {
         build_time(name, &from_hex(text));
+    }
+    for path in std::env::args().skip(1) {
+        let file = std::fs::read(&path).unwrap_or_else(|error| panic!("{path}: {error}"));
+        build_time(&path, &file);
     }
     println!("microseconds a call                    library: mean, longest; second program: mean, longest");
     for states in [2, 5, 8] {
