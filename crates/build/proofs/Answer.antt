@@ -15,13 +15,12 @@ use Rattle.theory.specs.Rule.{Rule}
 use Rattle.theory.specs.Demand.{Demand3}
 use Rattle.theory.specs.Table.{macrostatesFrom, transitionsFrom, macrostates, transitions}
 use Rattle.theory.proofs.Demand.{demand3}
-use Rattle.theory.specs.Passing.{Passing}
 use Rattle.entries.specs.Entries.{ruleOf}
 use Rattle.rules.specs.declared.Layout.{Layout}
 use Rattle.rules.specs.declared.Read.the-variants.{Accepted}
 use Rattle.rules.specs.File.{countsOf, clausesOf, ruleIn}
 use Rattle.rules.specs.Read.{readOf}
-use Rattle.rules.proofs.Answer.{served}
+use Rattle.rules.proofs.Answer.{served, lent-rule}
 use Rattle.rules.specs.Rows.{fileRow, fileRows, layoutRows, trailerRows, numberRows, listRows, componentRows}
 use Rattle.rules.proofs.FirstRow.{first-left, first-right, first-parts}
 use Rattle.rules.proofs.FileRows.{file-numbered, accepted-passing}
@@ -140,9 +139,6 @@ module _ (f xs zs : List ℕ) where
 
 -- ---- the rule of an accepted file
 
-passes : (r t : Rule) → r ≡ t → Passing t → Passing r
-passes r t e P = rw e P
-
 made-same : (r t : Rule) → r ≡ t → (xs zs : List ℕ) (b : Built) (ys ws : List ℕ) → Made (macrostatesFrom r (startOf r true)) (transitionsFrom r (startOf r true)) xs zs b ys ws
     → Made (macrostates t) (transitions t) xs zs b ys ws
 made-same r t e xs zs b ys ws M =
@@ -150,13 +146,7 @@ made-same r t e xs zs b ys ws M =
     rw (codes-initial t, moves-initial t) at m
 
 module _ (f : List ℕ) (l : Layout) (p : readOf f ≡ Accepted l) (counts clauses : List ℕ) (e : counts ≡ countsOf f) (d : clauses ≡ clausesOf f) where
-  same-rule : ruleOf (l .head) counts clauses ≡ ruleIn f
-  same-rule = ap₂ (λ (a b : List ℕ). ruleOf (l .head) a b) e d ∙ served f l p .rule
-
-  pub rule-passes : Passing (ruleOf (l .head) counts clauses)
-  rule-passes = passes (ruleOf (l .head) counts clauses) (ruleIn f) same-rule (served f l p .passing)
-
   pub answered : (xs zs : List ℕ) (b : Built) (ys ws : List ℕ)
       → Made (macrostatesFrom (ruleOf (l .head) counts clauses) (startOf (ruleOf (l .head) counts clauses) true)) (transitionsFrom (ruleOf (l .head) counts clauses) (startOf (ruleOf (l .head) counts clauses) true)) xs zs b ys ws
       → Answered f xs zs b ys ws
-  answered xs zs b ys ws M = answered-made f xs zs (served f l p .row) b ys ws (made-same (ruleOf (l .head) counts clauses) (ruleIn f) same-rule xs zs b ys ws M)
+  answered xs zs b ys ws M = answered-made f xs zs (served f l p .row) b ys ws (made-same (ruleOf (l .head) counts clauses) (ruleIn f) (lent-rule f l p counts clauses e d) xs zs b ys ws M)

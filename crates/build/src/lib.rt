@@ -7,9 +7,7 @@ ghost use Rattle.theory.specs.Demand.{Demand3};
 ghost use Rattle.theory.specs.Passing.{Passing};
 ghost use Rattle.theory.specs.Table.{macrostatesFrom, transitionsFrom};
 ghost use Rattle.entries.specs.Entries.{ruleOf};
-ghost use Rattle.rules.specs.File.{countsOf, clausesOf, ruleIn};
-ghost use Rattle.rules.specs.Read.{readOf};
-ghost use Rattle.rules.specs.declared.Read.the-variants.{Accepted};
+ghost use Rattle.rules.specs.File.{ruleIn};
 ghost use Rattle.keys.specs.Keys.{startOf};
 ghost use Rattle.keys.specs.Tables.{Tables};
 ghost use Rattle.build.specs.declared.Counts.{Counts};
@@ -18,7 +16,6 @@ ghost use Rattle.build.specs.Built.{roomOf, builtOf, codesAfter, transit
 ghost use Rattle.build.specs.Filling.{Padded, Codes, Made};
 use entries::Head;
 use keys::Shape;
-use rules::Layout;
 use rules::Read;
 use sorted::Grow;
 
@@ -158,26 +155,6 @@ pub fn build_rule(
 
 // ---- files
 
-// The count bytes of an accepted file.
-fn counts_of(f: &[u8], l: Layout) -> &[u8]
-    requires { ⌜ readOf (now f) ≡ Accepted l ⌝ }
-    ensures { λ r. ⌜ now r ≡ countsOf (now (f .entry)) ⌝ }
-{
-    let start = l.at + l.clauses;
-    let end = f.len() - 8;
-    &f[start..end]
-}
-
-// The clause bytes of an accepted file.
-fn clauses_of(f: &[u8], l: Layout) -> &[u8]
-    requires { ⌜ readOf (now f) ≡ Accepted l ⌝ }
-    ensures { λ r. ⌜ now r ≡ clausesOf (now (f .entry)) ⌝ }
-{
-    let start = l.at;
-    let end = start + l.clauses;
-    &f[start..end]
-}
-
 // Writes the codes of the reachable macrostates and the transitions of a file's rule, both ascending, at the start of the slices, and zeros after them;
 // answers both counts. If a row refuses, it answers the number of the first: 1 to 11 leave the slices as they are, 17 and 18 set both to zero throughout.
 pub fn build(file: &[u8], codes: &mut [u64], transitions: &mut [u64]) -> Built
@@ -189,8 +166,8 @@ pub fn build(file: &[u8], codes: &mut [u64], transitions: &mut [u64]) -> Built
             let h = l.head;
             build_rule(
                 h,
-                counts_of(file, l),
-                clauses_of(file, l),
+                rules::counts_of(file, l),
+                rules::clauses_of(file, l),
                 true,
                 codes,
                 transitions,

@@ -3,9 +3,9 @@ use mathlib.Core.Path.{_≡_, refl, sym, _∙_, ap}
 use mathlib.Core.Logic.{_↔_}
 use mathlib.Core.Bool.{Bool, true, false, true≢false}
 use mathlib.Core.List.{List, _++_}
-use Prim.Native.Nat.{ℕ, zero, suc, _+_, _-_, _<_}
+use Prim.Native.Nat.{ℕ, zero, suc, _<_}
 use native.Mathlib.Omega.{arith}
-use lib.ListN.{length, getD, take, drop, List·getD-append}
+use lib.ListN.{length, getD, drop, List·getD-append}
 use Rattle.sets.specs.Masks.{bit}
 use Rattle.sets.proofs.Bools.{bif}
 use Rattle.theory.specs.Rule.{Rule}
@@ -16,10 +16,7 @@ use Rattle.theory.specs.Truth.{truthMasks}
 use Rattle.theory.proofs.Truth.{truth-length, truth-bit, truth-accepts}
 use Rattle.rules.specs.File.{ruleIn}
 use Rattle.rules.specs.Rows.{fileRow}
-use Rattle.entries.specs.Entries.{ruleOf}
-use Rattle.rules.specs.declared.Layout.{Layout}
 use Rattle.rules.proofs.FileRows.{accepted-passing}
-use Rattle.rules.proofs.Answer.{Served}
 use Rattle.words.proofs.Checks.{word-over}
 use Rattle.judge.specs.declared.Verdict.{Verdict}
 use Rattle.judge.specs.declared.Verdict.the-variants.{Yes, No, Refused}
@@ -110,8 +107,3 @@ module _ (r : Rule) (lead cycle old : List ℕ) where
         answer = rw (j, held);
         written = rw j (w ∙ ap (λ (n : ℕ). truthMasks r lead cycle ++ drop n old) (sym (truth-length r lead cycle)));
       }
-
--- the rule that is read off an accepted file
-pub file-rule : (f : List ℕ) (l : Layout) → Served f l
-    → ruleOf (l .head) (take (length f - 8 - (l .at + l .clauses)) (drop (l .at + l .clauses) f)) (take (l .at + l .clauses - l .at) (drop (l .at) f)) ≡ ruleIn f
-file-rule f l s = rw (s .counts, s .clauses) (s .rule)

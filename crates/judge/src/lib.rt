@@ -2,6 +2,8 @@
 use entries::Head;
 use masks::contains;
 use rules::Read;
+use rules::clauses_of;
+use rules::counts_of;
 use rules::read_rule;
 use truth::fill;
 use words::word_row;
@@ -54,10 +56,14 @@ pub fn judge(file: &[u8], lead: &[u8], cycle: &[u8], masks: &mut [u8]) -> Verdic
     match read_rule(file) {
         Read::Accepted(l) => {
             let h = l.head;
-            let at = l.at;
-            let c = l.clauses;
-            let end = file.len() - 8;
-            judge_read(h, &file[at + c..end], &file[at..at + c], lead, cycle, masks)
+            judge_read(
+                h,
+                counts_of(file, l),
+                clauses_of(file, l),
+                lead,
+                cycle,
+                masks,
+            )
         }
         Read::Refused(k) => Verdict::Refused(k),
     }

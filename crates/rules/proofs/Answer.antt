@@ -64,6 +64,14 @@ pub served : (f : List ℕ) (l : Layout) → readOf f ≡ Accepted l → Served 
 unfolding readOf
 served f l e = let p = from-accepted (fileRow f) (layoutOf f) l e in rw (p .1) (served-layout f (p .0))
 
+-- the rule of an accepted file, from the parts of it that were lent
+module _ (f : List ℕ) (l : Layout) (e : readOf f ≡ Accepted l) (counts clauses : List ℕ) (c : counts ≡ countsOf f) (d : clauses ≡ clausesOf f) where
+  pub lent-rule : ruleOf (l .head) counts clauses ≡ ruleIn f
+  lent-rule = rw (c, d) (served f l e .rule)
+
+  pub lent-passing : Passing (ruleOf (l .head) counts clauses)
+  lent-passing = rw lent-rule (served f l e .passing)
+
 -- what a caller knows of a file that was refused
 pub turned-away : (f : List ℕ) (k : ℕ) → readOf f ≡ Refused k → (fileRow f ≡ k) × (fileRow f ≡ 0 → ⊥)
 unfolding readOf

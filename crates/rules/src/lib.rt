@@ -8,8 +8,9 @@ ghost use Rattle.sets.specs.Lists.{anyOf, sum};
 ghost use Rattle.sets.specs.Rows.{firstRow};
 ghost use Rattle.theory.specs.Passing.{WellFormed};
 ghost use Rattle.entries.specs.Entries.{ruleOf};
-ghost use Rattle.rules.specs.File.{trailer, tagged, headOf, clauseCount, entryCount};
+ghost use Rattle.rules.specs.File.{trailer, tagged, headOf, clauseCount, entryCount, countsOf, clausesOf};
 ghost use Rattle.rules.specs.Rows.{numberRows, listRows, trailerRows, layoutRows, componentRows, fileRow};
+ghost use Rattle.rules.specs.declared.Read.the-variants.{Accepted};
 ghost use Rattle.rules.specs.Read.{layoutOf, readOf, prefaceOf};
 
 // The last two bytes of every rule file.
@@ -237,6 +238,26 @@ pub fn read_rule(f: &[u8]) -> Read
         return Read::Refused(first);
     }
     Read::Accepted(lay_out(f))
+}
+
+// The count bytes of an accepted file.
+pub fn counts_of(f: &[u8], l: Layout) -> &[u8]
+    requires { ⌜ readOf (now f) ≡ Accepted l ⌝ }
+    ensures { λ r. ⌜ now r ≡ countsOf (now (f .entry)) ⌝ }
+{
+    let start = l.at + l.clauses;
+    let end = f.len() - 8;
+    &f[start..end]
+}
+
+// The clause bytes of an accepted file.
+pub fn clauses_of(f: &[u8], l: Layout) -> &[u8]
+    requires { ⌜ readOf (now f) ≡ Accepted l ⌝ }
+    ensures { λ r. ⌜ now r ≡ clausesOf (now (f .entry)) ⌝ }
+{
+    let start = l.at;
+    let end = start + l.clauses;
+    &f[start..end]
 }
 
 // The preface of a file: the part before its first clause, or the empty part of a refused file.

@@ -13,7 +13,6 @@ ghost use Rattle.sets.specs.Lists.{allOf};
 ghost use Rattle.theory.specs.Rule.{entry, satisfies};
 ghost use Rattle.theory.specs.Passing.{WellFormed};
 ghost use Rattle.entries.specs.Entries.{ruleOf};
-ghost use Rattle.rules.specs.File.{countsOf, clausesOf};
 ghost use Rattle.rules.specs.Read.{readOf};
 ghost use Rattle.rules.specs.declared.Read.the-variants.{Accepted};
 ghost use Rattle.sameness.specs.Same.{sameEntry, sameEntries, sameRulesOf, sameFiles};
@@ -115,26 +114,6 @@ fn same_numbers(g: Head, h: Head) -> bool
     true
 }
 
-// The count bytes of an accepted file.
-fn counts_of(f: &[u8], l: Layout) -> &[u8]
-    requires { ⌜ readOf (now f) ≡ Accepted l ⌝ }
-    ensures { λ r. ⌜ now r ≡ countsOf (now (f .entry)) ⌝ }
-{
-    let start = l.at + l.clauses;
-    let end = f.len() - 8;
-    &f[start..end]
-}
-
-// The clause bytes of an accepted file.
-fn clauses_of(f: &[u8], l: Layout) -> &[u8]
-    requires { ⌜ readOf (now f) ≡ Accepted l ⌝ }
-    ensures { λ r. ⌜ now r ≡ clausesOf (now (f .entry)) ⌝ }
-{
-    let start = l.at;
-    let end = start + l.clauses;
-    &f[start..end]
-}
-
 // Whether the rules of two accepted files are the same.
 fn same_files(first: &[u8], l: Layout, second: &[u8], m: Layout) -> SameRules
     requires { ⌜ (readOf (now first) ≡ Accepted l) × (readOf (now second) ≡ Accepted m) ⌝ }
@@ -147,10 +126,10 @@ fn same_files(first: &[u8], l: Layout, second: &[u8], m: Layout) -> SameRules
     }
     if same_entries(
         h,
-        counts_of(first, l),
-        clauses_of(first, l),
-        counts_of(second, m),
-        clauses_of(second, m),
+        rules::counts_of(first, l),
+        rules::clauses_of(first, l),
+        rules::counts_of(second, m),
+        rules::clauses_of(second, m),
     ) {
         return SameRules::Same;
     }

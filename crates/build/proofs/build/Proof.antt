@@ -2,9 +2,9 @@
 use mathlib.Core.Path.{_≡_, sym, _∙_}
 use Rattle.rules.specs.declared.Read.the-variants.{Accepted, Refused}
 use Rattle.rules.specs.Read.{readOf}
-use Rattle.rules.proofs.Answer.{turned-away}
+use Rattle.rules.proofs.Answer.{turned-away, lent-passing}
 use Rattle.build.specs.declared.Built.the-variants as built
-use Rattle.build.proofs.Answer.{answered-refused, rule-passes, answered, answered-demand3}
+use Rattle.build.proofs.Answer.{answered-refused, answered, answered-demand3}
 use borrow.Author.Needs.{needs}
 use Rattle.build.proofs.build.Statement.{statement}
 use Rattle.build.proofs.build.Tie as tie
@@ -29,7 +29,7 @@ build-rule-requires c κs =
     let a = c .before .before .before .before .before .before .before .before .before .before .before .before .args in
     let l = c .before .before .before .before .before .before .l .given .0 .0 in
     let p : readOf (a .file .now) ≡ Accepted l = sym (c .before .before .before .before .before .before .before .before .read-rule .ensures) ∙ c .before .before .before .before .before .before .l .given .1 in
-    rule-passes (a .file .now) l p _ _ (c .before .before .before .counts-of .ensures) (c .before .before .clauses-of .ensures)
+    lent-passing (a .file .now) l p _ _ (c .before .before .before .counts-of .ensures) (c .before .before .clauses-of .ensures)
 
 returns : tie.Need-returns
 returns c =

@@ -1,9 +1,9 @@
--- `build::counts_of` meets its contract.
+-- `rules::counts_of` meets its contract.
 use native.Mathlib.Omega.{arith}
 use Rattle.rules.proofs.Answer.{served}
 use borrow.Author.Needs.{needs}
-use Rattle.build.proofs.counts_of.Statement.{statement}
-use Rattle.build.proofs.counts_of.Tie as tie
+use Rattle.rules.proofs.counts_of.Statement.{statement}
+use Rattle.rules.proofs.counts_of.Tie as tie
 
 add-start : tie.Need-add-start
 add-start c = let a = c .before .args in let s = served (a .f .now) (a .l) (c .before .pre) in omega (arith, s .bounds)

@@ -1,9 +1,9 @@
--- `sameness::clauses_of` meets its contract.
+-- `rules::clauses_of` meets its contract.
 use native.Mathlib.Omega.{arith}
 use Rattle.rules.proofs.Answer.{served}
 use borrow.Author.Needs.{needs}
-use Rattle.sameness.proofs.clauses_of.Statement.{statement}
-use Rattle.sameness.proofs.clauses_of.Tie as tie
+use Rattle.rules.proofs.clauses_of.Statement.{statement}
+use Rattle.rules.proofs.clauses_of.Tie as tie
 
 add-end : tie.Need-add-end
 add-end c = let a = c .before .args in let s = served (a .f .now) (a .l) (c .before .pre) in omega (arith, s .bounds)
