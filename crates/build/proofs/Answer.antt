@@ -10,7 +10,7 @@ use lib.Seq.{take-append-seam}
 use borrow.Author.Tests.{ltb-true, lt-ltb}
 use Rattle.sets.specs.Rows.{Check, firstRow}
 use Rattle.sets.proofs.Bools.{bif, and-l, and-r}
-use Rattle.sets.proofs.Rows.{row-yes, row-no}
+use Rattle.sets.proofs.Rows.{row-yes, row-no, first-left, first-right, first-parts}
 use Rattle.theory.specs.Rule.{Rule}
 use Rattle.theory.specs.Demand.{Demand3}
 use Rattle.theory.specs.Table.{macrostatesFrom, transitionsFrom, macrostates, transitions}
@@ -22,7 +22,6 @@ use Rattle.rules.specs.File.{countsOf, clausesOf, ruleIn}
 use Rattle.rules.specs.Read.{readOf}
 use Rattle.rules.proofs.Answer.{served, lent-rule}
 use Rattle.rules.specs.Rows.{fileRow, fileRows, layoutRows, trailerRows, numberRows, listRows, componentRows}
-use Rattle.rules.proofs.FirstRow.{first-left, first-right, first-parts}
 use Rattle.rules.proofs.FileRows.{file-numbered, accepted-passing}
 use Rattle.keys.specs.Keys.{startOf}
 use Rattle.build.specs.declared.Counts.{Counts}

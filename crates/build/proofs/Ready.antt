@@ -3,8 +3,6 @@ use mathlib.Core.Path.{_≡_, refl}
 use mathlib.Core.Bool.{Bool, true, false}
 use mathlib.Core.List.{List}
 use Prim.Native.Nat.{ℕ, _<_}
-use native.Mathlib.Omega.{arith}
-use lib.Pow.{pow-mono}
 use lib.ListN.{length, take}
 use Rattle.theory.specs.Rule.{Rule}
 use Rattle.theory.specs.Automaton.{automaton}
@@ -22,10 +20,6 @@ use Rattle.transitions.specs.Ready.{Ready}
 use Rattle.transitions.specs.Emission.{Filled}
 use Rattle.transitions.proofs.Rules as listing
 use Rattle.build.specs.Filling.{Codes}
-
--- the accepting mask is a byte
-pub accepting-byte : (r : Rule) → Passing r → r .accepting < 256
-accepting-byte r P = let p = pow-mono {i = r .n} {j = 8} (P .formed .few-states) in omega (arith, P .formed .accepting-states)
 
 -- the tables of a rule
 pub tables-of : (r : Rule) → Passing r → (opens : List ℕ) → Opens (automaton r) (r .s) opens → (k : Components) → k ≡ componentsOf r → (holds : Bool)

@@ -6,11 +6,9 @@ use native.Mathlib.Omega.{arith}
 use lib.Dec.{ltb}
 use lib.ListN.{length}
 use borrow.Author.Tests.{ltb-true, ltb-false, lt-ltb, le-ltb}
-use Rattle.sets.specs.Rows.{firstRow}
+use Rattle.sets.specs.Rows.{firstRow, check}
 use Rattle.sets.proofs.Bools.{bif}
-use Rattle.sets.proofs.Rows.{row-yes, row-no}
-use Rattle.rules.specs.Rows.{check}
-use Rattle.rules.proofs.FirstRow.{first-pass}
+use Rattle.sets.proofs.Rows.{row-yes, row-no, first-pass}
 use Rattle.build.specs.Built.{roomOf, codesRoom, transitionsRoom, roomRows, roomRow}
 
 -- a slice shorter than the cap has its length as room, another the cap

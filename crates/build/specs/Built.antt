@@ -4,10 +4,10 @@ use mathlib.Core.List.{List, [], _∷_, _++_}
 use Prim.Native.Nat.{ℕ, zero, suc, _-_}
 use lib.Dec.{ltb}
 use lib.ListN.{length, replicate}
-use Rattle.sets.specs.Rows.{Check, firstRow}
+use Rattle.sets.specs.Rows.{Check, firstRow, check}
 use Rattle.theory.specs.Table.{macrostates, transitions}
 use Rattle.rules.specs.File.{ruleIn}
-use Rattle.rules.specs.Rows.{check, fileRows}
+use Rattle.rules.specs.Rows.{fileRows}
 use Rattle.build.specs.declared.Built.{Built}
 use Rattle.build.specs.declared.Built.the-variants.{Table, Refused}
 

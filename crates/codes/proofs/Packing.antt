@@ -1,24 +1,18 @@
 -- Fields put together by shifts and disjunctions, and taken apart by shifts and masks.
-use mathlib.Core.Path.{_≡_, refl, sym, _∙_, ap, ap₂}
+use mathlib.Core.Path.{_≡_, sym, _∙_, ap, ap₂}
 use mathlib.Core.Bool.{Bool, cond}
-use Prim.Native.Nat.{ℕ, zero, suc, _+_, _*_, _/_, _%_, _^_, _<_}
+use Prim.Native.Nat.{ℕ, _+_, _*_, _/_, _%_, _^_, _<_}
 use native.Mathlib.Omega.{arith}
-use native.Mathlib.Nat.{mod-eq-of-lt, add-comm, pow-suc}
+use native.Mathlib.Nat.{mod-eq-of-lt, add-comm}
 use lib.Dec.{eqb}
 use lib.Bits.{bitOr, or-shifted, or-shifted-r}
-use lib.Pow.{pow-add, shr-shr}
+use lib.Pow.{shr-shr}
 use borrow.Author.Tests.{lt-ltb}
 use Rattle.sets.specs.Digits.{num}
 use Rattle.sets.proofs.Bits.{mask-bit}
-use Rattle.sets.proofs.Digits.{num-ext, num-digits, digit-num}
+use Rattle.sets.proofs.Digits.{num-ext, num-digits, digit-num, pow16}
 use Rattle.theory.specs.Code.{fields, pack}
 use Rattle.codes.specs.Codes.{rankAt, codeOf}
-
-pub pow16 : (q : ℕ) → 2 ^ (4 * q) ≡ 16 ^ q
-pow16 zero = refl
-pow16 (suc q) =
-    let e : 4 * suc q ≡ 4 * q + 4 = omega arith in
-    ap (λ (x : ℕ). 2 ^ x) e ∙ pow-add 2 (4 * q) 4 ∙ ap (λ (x : ℕ). x * 16) (pow16 q) ∙ sym (pow-suc 16 q)
 
 -- a field a put above the k digits of b
 pub put-field : (a k : ℕ) {b : ℕ} → b < 2 ^ k → a * 2 ^ k < 2 ^ 64 → bitOr b (a * 2 ^ k % 2 ^ 64) ≡ b + a * 2 ^ k

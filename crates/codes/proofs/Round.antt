@@ -12,13 +12,13 @@ use Rattle.sets.specs.Digits.{num}
 use Rattle.sets.specs.Masks.{bit}
 use Rattle.sets.specs.Lists.{tabulate}
 use Rattle.sets.proofs.Bits.{bit-mod}
-use Rattle.sets.proofs.Digits.{num-ext, num-digits, digit-num}
+use Rattle.sets.proofs.Digits.{num-ext, num-digits, digit-num, pow16}
 use Rattle.sets.proofs.Lists.{tabulate-at, length-tabulate}
 use Rattle.theory.specs.Code.{componentIn, classesIn}
 use Rattle.theory.specs.Run.{sourceOf, letterOf, targetOf}
 use Rattle.codes.specs.Codes.{ranksOf, rankAt, codeOf, setOf, ranksIn, rankOf, transitionOf}
 use Rattle.codes.specs.Bytes.{wordAt, wordsOf, bytesOf}
-use Rattle.codes.proofs.Packing.{pow16, code-number, rank-in}
+use Rattle.codes.proofs.Packing.{code-number, rank-in}
 
 -- ---- codes
 

@@ -20,13 +20,12 @@ use Rattle.sets.specs.Lists.{tabulate}
 use Rattle.sets.proofs.Bools.{iff}
 use Rattle.sets.proofs.Lists.{tabulate-at, length-tabulate}
 use Rattle.sets.proofs.Tests.{first-le, first-at, count-max}
-use Rattle.sets.proofs.Masks.{bit-mask}
+use Rattle.sets.proofs.Masks.{bit-mask, mask-ext}
 use Rattle.sets.proofs.Bits.{bit-none, mask-unique}
 use Rattle.sets.proofs.Members.{least-is}
 use Rattle.theory.specs.Rule.{Rule}
 use Rattle.theory.specs.Components.{together, smallest, isSmallest, component, components}
 use Rattle.theory.proofs.Components.{smallest-le, smallest-lt, smallest-together, component-of-together, together-of-component, few-components}
-use Rattle.entries.proofs.More.{mask-ext}
 use Rattle.components.specs.Tables.{table, closuresOf, componentsOf}
 use Rattle.components.proofs.Tables.{table-at, table-out, table-set, table-length}
 use Rattle.components.proofs.Mixed.{classBy, class-by}

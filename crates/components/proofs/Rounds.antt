@@ -3,13 +3,11 @@ use mathlib.Core.Path.{_≡_, refl, ap, sym, _∙_}
 use mathlib.Core.Bool.{true, _&&_}
 use mathlib.Core.List.{List}
 use mathlib.Core.Logic.{⊎-elim, by-cases}
-use Prim.Native.Nat.{ℕ, _*_, _%_, _^_, _<_, _≤_}
+use Prim.Native.Nat.{ℕ, _^_, _<_, _≤_}
 use native.Mathlib.Omega.{arith}
 use native.Mathlib.Decide.{decLt}
-use native.Mathlib.Nat.{one-mul, mod-eq-of-lt}
 use borrow.Author.Tests.{eq-eqb, eqb-true, lt-ltb, ltb-true}
 use lib.Dec.{ltb}
-use lib.Pow.{pow-lt}
 use lib.Bits.{bitOr}
 use lib.ListN.{getD}
 use Rattle.sets.specs.Tests.{Set}
@@ -18,7 +16,7 @@ use Rattle.sets.specs.Lists.{anyOf}
 use Rattle.sets.proofs.Bools.{bif, clash, and-l, and-r, and-i, or-l, or-r, or-cases, iff}
 use Rattle.sets.proofs.Lists.{any-in, any-out}
 use Rattle.sets.proofs.Masks.{bit-mask, mask-lt}
-use Rattle.sets.proofs.Bits.{bit-or, bit-none, bit-high, bit-shl-one}
+use Rattle.sets.proofs.Bits.{bit-or, bit-none, bit-high, bit-shl-one, mask-of}
 use Rattle.sets.proofs.Members.{members-in, members-out}
 use Rattle.masks.specs.Sets.{unionOver}
 use Rattle.masks.proofs.Over.{union-over-bit}
@@ -26,14 +24,9 @@ use Rattle.theory.specs.Rule.{Rule}
 use Rattle.theory.specs.Components.{leads, reaches, LeadsTo, here, step}
 use Rattle.theory.proofs.Components.{leads-to-iff, closed, reach-refl}
 use Rattle.components.specs.Tables.{successorsOf, Least}
-use Rattle.entries.proofs.More.{mask-of}
 use Rattle.components.proofs.Tables.{table-at, table-out}
 
 -- ---- rounds
-
--- q alone
-pub alone : (q : ℕ) → q < 8 → 1 * 2 ^ q % 2 ^ 8 ≡ 2 ^ q
-alone q h = rw one-mul (mod-eq-of-lt (pow-lt h))
 
 pub alone-bit : (q : ℕ) → bit (2 ^ q) q ≡ true
 alone-bit q = bit-shl-one q q ∙ eq-eqb q q refl

@@ -12,7 +12,7 @@ use borrow.Author.Tests.{eqb-true, eq-eqb, lt-ltb, le-ltb, ltb-true, ltb-false}
 use Rattle.sets.specs.Tests.{Set, one, every, count, largest}
 use Rattle.sets.specs.Masks.{bit, xor}
 use Rattle.sets.specs.Digits.{num}
-use Rattle.sets.proofs.Bools.{bif, and-l, and-r, and-i, or-l, or-r, or-tf, or-cases}
+use Rattle.sets.proofs.Bools.{bif, and-l, and-r, and-i, or-l, or-r, or-tf, or-cases, xor-twice}
 use Rattle.sets.proofs.Tests.{every-at, every-all, some-at, some-get, some-ext, some-trim, count-ext, count-trim, count-max}
 use Rattle.sets.proofs.Bits.{bit-mask-all}
 use Rattle.sets.proofs.Digits.{num-ext, num-add, num-lt}
@@ -24,17 +24,8 @@ use Rattle.cores.specs.Vectors.{rankAt, Within, visited}
 use Rattle.cores.specs.Used.{taken, used, classCount, gapless, sizesOf, capsOf}
 use Rattle.cores.specs.Parts.{Parts, setOf, vectorOf, sizeAt}
 use Rattle.cores.proofs.Vectors.{rank-num, rank-high, within-rank, within-of, all-visited}
-use Rattle.cores.proofs.Sums.{sum-ext, sum-ranks}
+use Rattle.cores.proofs.Sums.{sum-ext, sum-ranks, num-nothing}
 use Rattle.cores.proofs.Gaps.{count-shift, used-zero, used-suc}
-
-num-nothing : num 16 8 (λ q. 0) ≡ 0
-unfolding num
-num-nothing = refl
-
-xor-twice : (a b : Bool) → xor a (xor a b) ≡ b
-xor-twice true true = refl
-xor-twice true false = refl
-xor-twice false b = refl
 
 -- the set of a vector, at a state
 pub set-rank : (A : Automaton) (v q : ℕ) → q < A .n → setOf A v q ≡ xor (A .accepting q) (ltb 0 (rankAt v q))

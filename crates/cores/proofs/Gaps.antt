@@ -1,31 +1,32 @@
 -- Ranks in use, as a mask: walked over a component, counted, and without a gap.
 use mathlib.Core.Path.{_≡_, refl, ap, ap₂, sym, _∙_}
 use mathlib.Core.Logic.{by-cases}
-use mathlib.Core.Bool.{Bool, true, false, _&&_, _||_, not, or-false}
-use mathlib.Core.List.{List, _∷_}
+use mathlib.Core.Bool.{Bool, true, false, _&&_, _||_, not, or-false, or-assoc}
+use mathlib.Core.List.{List}
 use Prim.Native.Nat.{ℕ, zero, suc, _+_, _-_, _*_, _/_, _%_, _^_, _≤_, _<_}
 use native.Mathlib.Omega.{arith}
 use native.Mathlib.Decide.{ℕ-discrete}
-use native.Mathlib.Nat.{mod-eq-of-lt, mod-lt, one-mul}
+use native.Mathlib.Nat.{mod-lt}
 use native.Mathlib.Numerals.{add-one}
 use lib.Dec.{eqb}
 use lib.Bits.{bitAnd, bitOr, and-step, and-self, or-lt}
 use lib.Count.{ones, trailingZeros}
 use lib.Pow.{shr-lt, pow-lt}
 use borrow.Author.Tests.{eq-eqb, ne-eqb}
-use Rattle.sets.specs.Tests.{Set, one, every, some, count}
+use Rattle.sets.specs.Tests.{Set, one, some, count}
 use Rattle.sets.specs.Masks.{bit, mask, members}
 use Rattle.sets.specs.Lists.{anyOf}
 use Rattle.sets.specs.Digits.{num}
 use Rattle.sets.proofs.Bools.{bif, clash, and-l, and-r, and-i, or-l, or-r, or-tf, iff}
 use Rattle.sets.proofs.Tests.{every-at, every-all, some-at, some-get, count-ext, count-max}
-use Rattle.sets.proofs.Lists.{any-out, any-in}
+use Rattle.sets.proofs.Lists.{any-out, any-in, any-cons}
 use Rattle.sets.proofs.Masks.{mask-lt, bit-mask}
 use Rattle.sets.proofs.Digits.{num-add, num-lt}
 use Rattle.sets.proofs.Bits.{bit-or, bit-none, bit-zero, bit-half, bit-shl-one, bit-ext, bit-below, mask-unique, ones-count}
 use Rattle.sets.proofs.Members.{members-cons, members-none, members-in, members-out}
 use Rattle.cores.specs.Vectors.{rankAt}
 use Rattle.cores.specs.Used.{taken, used, classCount, gapless, sizesOf}
+use Rattle.cores.proofs.Sums.{num-nothing}
 
 -- ---- the walk over a component
 
@@ -35,14 +36,6 @@ any-some m f =
     (λ t. let r = any-out (members m) f t in let i = members-out m (r .0) (r .1) in some-at 8 (λ q. bit m q && f q) (r .0) (i .0) (and-i (i .1) (r .2)))
     (λ t. let r = some-get 8 (λ q. bit m q && f q) t in
     any-in (members m) f (r .0) (members-in m (r .0) (r .1) (and-l (bit m (r .0)) (f (r .0)) (r .2))) (and-r (bit m (r .0)) (f (r .0)) (r .2)))
-
-any-cons : (y : ℕ) (ys : List ℕ) (f : Set) → anyOf (y ∷ ys) f ≡ f y || anyOf ys f
-unfolding anyOf
-any-cons y ys f = bif (f y) (λ t. rw (t, anyOf)) (λ t. rw (t, anyOf))
-
-or-assoc : (a b c : Bool) → (a || b) || c ≡ a || (b || c)
-or-assoc true b c = refl
-or-assoc false b c = refl
 
 -- found holds the ranks of the states that have been left behind, and 0
 pub record Walk (ranks part found left : ℕ) : Type 0 where
@@ -69,7 +62,7 @@ walk-on ranks part found left v p low e h w =
       rest = h;
       same = λ j. ap (λ (b : Bool). b || anyOf (members (bitAnd left (left - 1))) (λ q. eqb (rankAt ranks q) j)) (bit-or found v j ∙ ap (λ (x : ℕ). bit found j || bit x j) e ∙ ap (λ (b : Bool). bit found j || b) (bit-shl-one (rankAt ranks q) j))
           ∙ or-assoc (bit found j) (eqb (rankAt ranks q) j) (anyOf (members (bitAnd left (left - 1))) (λ q. eqb (rankAt ranks q) j))
-          ∙ ap (λ (b : Bool). bit found j || b) (sym (any-cons q (members (bitAnd left (left - 1))) (λ q. eqb (rankAt ranks q) j)) ∙ ap (λ (l : List ℕ). anyOf l (λ q. eqb (rankAt ranks q) j)) (sym (members-cons left p (w .rest))))
+          ∙ ap (λ (b : Bool). bit found j || b) (sym (any-cons (λ q. eqb (rankAt ranks q) j) q (members (bitAnd left (left - 1)))) ∙ ap (λ (l : List ℕ). anyOf l (λ q. eqb (rankAt ranks q) j)) (sym (members-cons left p (w .rest))))
           ∙ w .same j;
     }
 
@@ -82,10 +75,6 @@ walk-end ranks part found left e w =
 pub rank-low : (ranks q : ℕ) → rankAt ranks q < 16
 unfolding rankAt
 rank-low ranks q = mod-lt (ranks / 2 ^ (4 * q)) {m = 16} (omega arith)
-
--- the code's shifted one
-pub one-shifted : (j : ℕ) → j < 16 → 1 * 2 ^ j % 4294967296 ≡ 2 ^ j
-one-shifted j h = ap (λ (x : ℕ). x % 4294967296) (one-mul (2 ^ j)) ∙ mod-eq-of-lt (let p = pow-lt {i = j} {j = 16} h in omega arith)
 
 -- ---- the number of classes
 
@@ -177,13 +166,6 @@ gap-none ranks part e =
 pub gap-there : (ranks part : ℕ) → (bitAnd (mask 16 (used ranks part)) (mask 16 (used ranks part) + 1) ≡ 0 → ⊥) → gapless ranks part ≡ false
 gap-there ranks part n = bif (gapless ranks part) (λ t. absurd (n (gap-none ranks part t))) (λ t. t)
 
-pub every-next : (n : ℕ) (f : Set) → every n f ≡ true → f n ≡ true → every (suc n) f ≡ true
-unfolding every
-every-next n f e t = and-i e t
-
-pub every-false : (n : ℕ) (f : Set) (q : ℕ) → q < n → f q ≡ false → every n f ≡ false
-every-false n f q l e = bif (every n f) (λ t. clash (every-at n f t q l) e) (λ t. t)
-
 -- ---- the largest ranks
 
 digit-low : (b : Bool) (c : ℕ) → c ≤ 8 → 0 + one b * c < 16
@@ -193,13 +175,10 @@ digit-low false c h = omega arith
 pub sizes-low : (part : ℕ) → sizesOf part < 4294967296
 unfolding sizesOf num
 sizes-low part =
-    let z : num 16 8 (λ q. 0) ≡ 0 = num-zero in
+    let z : num 16 8 (λ q. 0) ≡ 0 = num-nothing in
     let e = num-add 16 8 (λ q. 0) (λ q. one (bit part q)) (count 8 (bit part)) in
     let l = num-lt 16 (omega arith) 8 (λ q. 0 + one (bit part q) * count 8 (bit part)) (λ q h. digit-low (bit part q) (count 8 (bit part)) (count-max 8 (bit part))) in
     omega arith
-  where
-    num-zero : num 16 8 (λ q. 0) ≡ 0
-    num-zero = refl
 
 pub sizes-are : (part : ℕ) → part < 256 → num 16 8 (λ q. one (bit part q)) * ones part ≡ sizesOf part
 unfolding sizesOf

@@ -1,41 +1,26 @@
 -- States by their ranks.
 use mathlib.Core.Path.{_≡_, refl, ap, ap₂, sym, _∙_}
 use mathlib.Core.Logic.{by-cases}
-use mathlib.Core.Bool.{Bool, true, false, _&&_, _||_}
+use mathlib.Core.Bool.{Bool, _&&_, _||_, or-false}
 use mathlib.Core.List.{List}
 use Prim.Native.Nat.{ℕ, zero, suc, _+_, _-_, _*_, _%_, _^_, _≤_, _<_}
 use native.Mathlib.Omega.{arith}
 use native.Mathlib.Decide.{decLt, ℕ-discrete}
-use native.Mathlib.Nat.{mod-eq-of-lt}
 use lib.Dec.{eqb, leb, ltb}
 use lib.ListN.{length, getD, set, length-set, replicate}
 use lib.Seq.{getD-set-same, getD-set-other}
-use lib.Bits.{bitOr, or-lt}
+use lib.Bits.{bitOr}
 use lib.Pow.{pow-lt}
 use borrow.Author.Tests.{eq-eqb, ne-eqb, lt-ltb, le-ltb, le-leb, lt-leb}
-use Rattle.sets.specs.Tests.{Set, one}
 use Rattle.sets.specs.Masks.{mask}
-use Rattle.sets.proofs.Masks.{mask-lt, bit-mask, mask-ext}
-use Rattle.sets.proofs.Bits.{bit-or, bit-shl-one, mask-unique}
-
--- the union of two sets
-pub mask-or : (n : ℕ) (f g : Set) → bitOr (mask n f) (mask n g) ≡ mask n (λ q. f q || g q)
-mask-or n f g =
-    mask-unique n (bitOr (mask n f) (mask n g)) (λ q. f q || g q) (or-lt n (mask n f) (mask n g) (mask-lt n f) (mask-lt n g))
-    (λ q l. bit-or (mask n f) (mask n g) q ∙ ap₂ (λ (x y : Bool). x || y) (bit-mask n f q l) (bit-mask n g q l))
+use Rattle.sets.proofs.Masks.{mask-ext, mask-none}
+use Rattle.sets.proofs.Bits.{bit-shl-one, mask-unique, mask-or, shl-one}
 
 -- the set of one state, as the code shifts it
 mask-one : (q : ℕ) → q < 8 → 1 * 2 ^ q % 256 ≡ mask 8 (λ p. eqb q p)
 mask-one q h =
     let p = pow-lt {i = q} {j = 8} h in
-    let e : 1 * 2 ^ q % 256 ≡ 2 ^ q = (let z : 1 * 2 ^ q ≡ 2 ^ q = omega arith in ap (λ (x : ℕ). x % 256) z ∙ mod-eq-of-lt (omega arith)) in
-    e ∙ mask-unique 8 (2 ^ q) (λ p. eqb q p) (omega arith) (λ p l. bit-shl-one q p)
-
--- the empty set
-mask-none : (n : ℕ) (f : Set) → ((q : ℕ) → q < n → f q ≡ false) → mask n f ≡ 0
-unfolding mask
-mask-none zero f h = refl
-mask-none (suc n) f h = let ih = mask-none n f (λ q l. h q (omega arith)) in let z : one (f n) * 2 ^ n ≡ 0 * 2 ^ n = rw (h n (omega arith)) in omega arith
+    shl-one 8 q h ∙ mask-unique 8 (2 ^ q) (λ p. eqb q p) (omega arith) (λ p l. bit-shl-one q p)
 
 pub zero-at : (m j : ℕ) → getD {A = ℕ} (replicate m 0) j 0 ≡ 0
 zero-at zero j = refl
@@ -64,10 +49,6 @@ module _ (n : ℕ → ℕ) (q j : ℕ) where
       (λ u. rw (u, le-ltb q q (omega arith), eq-eqb q q refl, lt-ltb q (q + 1) (omega arith), eq-eqb (n q) j e))
       (λ u. rw (ne-eqb q p (λ x. u (sym x))) (or-false (ltb p q && eqb (n p) j) ∙ ap (λ (b : Bool). b && eqb (n p) j) (shift p u)))
     where
-      or-false : (b : Bool) → b || false ≡ b
-      or-false true = refl
-      or-false false = refl
-
       shift : (p : ℕ) → (p ≡ q → ⊥) → ltb p q ≡ ltb p (q + 1)
       shift p u = by-cases (decLt p q) (λ a. lt-ltb p q a ∙ sym (lt-ltb p (q + 1) (omega arith))) (λ a. le-ltb p q (omega arith) ∙ sym (le-ltb p (q + 1) (omega arith)))
 

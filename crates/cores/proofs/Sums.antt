@@ -13,9 +13,9 @@ use Rattle.sets.proofs.Bools.{bif}
 use Rattle.sets.proofs.Digits.{num-ext, num-add}
 use Rattle.cores.specs.Used.{sumOf}
 
-nothing : num 16 8 (λ q. 0) ≡ 0
+pub num-nothing : num 16 8 (λ q. 0) ≡ 0
 unfolding num
-nothing = refl
+num-nothing = refl
 
 pub sum-ext : (n : ℕ) (f g : ℕ → ℕ) → ((c : ℕ) → c < n → f c ≡ g c) → sumOf n f ≡ sumOf n g
 unfolding sumOf
@@ -26,7 +26,7 @@ sum-ext (suc n) f g h = rw (sum-ext n f g (λ c l. h c (omega arith)), h n (omeg
 pub sum-ranks : (C : ℕ) (component : ℕ → ℕ) (inside : Set) (rank : ℕ → ℕ)
     → sumOf C (λ c. num 16 8 (λ q. cond (inside q && eqb (component q) c) (rank q) 0)) ≡ num 16 8 (λ q. cond (inside q && ltb (component q) C) (rank q) 0)
 unfolding sumOf
-sum-ranks zero component inside rank = sym (num-ext 16 (omega arith) 8 _ (λ q. 0) (λ q h. bif (inside q) (λ t. rw (t, le-ltb (component q) 0 (omega arith))) (λ t. rw t)) ∙ nothing)
+sum-ranks zero component inside rank = sym (num-ext 16 (omega arith) 8 _ (λ q. 0) (λ q h. bif (inside q) (λ t. rw (t, le-ltb (component q) 0 (omega arith))) (λ t. rw t)) ∙ num-nothing)
 sum-ranks (suc C) component inside rank =
     ap (λ (x : ℕ). x + num 16 8 (λ q. cond (inside q && eqb (component q) C) (rank q) 0)) (sum-ranks C component inside rank)
     ∙ (let z : num 16 8 (λ q. cond (inside q && ltb (component q) C) (rank q) 0) + num 16 8 (λ q. cond (inside q && eqb (component q) C) (rank q) 0) ≡ num 16 8 (λ q. cond (inside q && ltb (component q) C) (rank q) 0) + num 16 8 (λ q. cond (inside q && eqb (component q) C) (rank q) 0) * 1 = omega arith in z)

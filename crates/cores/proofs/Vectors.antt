@@ -1,26 +1,19 @@
 -- Vectors by their ranks; every vector within the largest ranks is visited.
-use mathlib.Core.Path.{_≡_, refl, ap, sym, _∙_}
+use mathlib.Core.Path.{_≡_, ap, sym, _∙_}
 use mathlib.Core.Logic.{_⊎_, inl, inr, ⊎-elim, by-cases}
 use Prim.Native.Nat.{ℕ, zero, suc, _+_, _*_, _/_, _%_, _^_, _≤_, _<_}
 use native.Mathlib.Omega.{arith}
 use native.Mathlib.Decide.{ℕ-discrete}
 use native.Mathlib.Nat.{pow-suc, div-eq-of-lt, lt-of-lt-of-le}
-use lib.Pow.{shr-shr, pow-add, pow-mono}
+use lib.Pow.{shr-shr, pow-mono}
 use Rattle.sets.specs.Digits.{num}
-use Rattle.sets.proofs.Digits.{digit-num, digits-eq}
+use Rattle.sets.proofs.Digits.{digit-num, digits-eq, pow16}
 use Rattle.cores.specs.Vectors.{rankAt, Within, nextOf, visited}
 use Rattle.cores.proofs.Next.{more, within-next, least}
 
--- four bits are one hexadecimal digit
-pub hex : (q : ℕ) → 2 ^ (4 * q) ≡ 16 ^ q
-hex zero = refl
-hex (suc q) =
-    let e : 4 * suc q ≡ 4 * q + 4 = omega arith in
-    ap (λ (x : ℕ). 2 ^ x) e ∙ pow-add 2 (4 * q) 4 ∙ ap (λ (x : ℕ). x * 16) (hex q) ∙ sym (pow-suc 16 q)
-
 pub rank-digit : (v q : ℕ) → rankAt v q ≡ v / 16 ^ q % 16
 unfolding rankAt
-rank-digit v q = ap (λ (x : ℕ). v / x % 16) (hex q)
+rank-digit v q = ap (λ (x : ℕ). v / x % 16) (pow16 q)
 
 -- the ranks of a vector made of digits
 pub rank-num : (f : ℕ → ℕ) → ((q : ℕ) → q < 8 → f q < 16) → (q : ℕ) → q < 8 → rankAt (num 16 8 f) q ≡ f q

@@ -2,12 +2,14 @@
 use mathlib.Core.Path.{_≡_, refl, ap, sym, _∙_}
 use mathlib.Core.Bool.{Bool, true, false, _&&_}
 use mathlib.Core.List.{List, [], _∷_, List·Memᴰ, List·Memᴰ·head, List·Memᴰ·tail}
-use Prim.Native.Nat.{ℕ, _+_, _-_, _/_, _^_, _<_, _≤_}
+use Prim.Native.Nat.{ℕ, _+_, _-_, _/_, _^_, _<_, _≤_, _%_}
 use native.Mathlib.Numerals.{add-one}
-use lib.Bits.{bitAnd}
+use lib.Bits.{bitAnd, and-mask}
 use lib.Count.{trailingZeros}
 use lib.ListN.{length, drop, getD, drop-of-length-le}
 use lib.Seq.{drop-cons}
+use native.Mathlib.Omega.{arith}
+use borrow.Author.Tests.{eq-eqb}
 use Rattle.sets.specs.Tests.{Set, every}
 use Rattle.sets.specs.Lists.{allOf}
 use Rattle.sets.specs.Masks.{bit, inside}
@@ -17,7 +19,15 @@ use Rattle.entries.specs.declared.Met.the-variants.{Clause, Nothing}
 use Rattle.entries.specs.Met.{metFrom, metOf, isMet}
 use Rattle.sets.proofs.Bits.{bit-none}
 use Rattle.sets.proofs.Members.{members-cons, inside-members, inside-all, inside-trim}
-use Rattle.entries.proofs.More.{bit-clear, bit-set}
+
+-- the test of a bit in the code
+bit-clear : (m q : ℕ) → bitAnd (m / 2 ^ q) 1 ≡ 0 → bit m q ≡ false
+unfolding bit
+bit-clear m q e = let d : m / 2 ^ q % 2 ≡ 0 = sym (and-mask (m / 2 ^ q) 1) ∙ e in rw d
+
+bit-set : (m q : ℕ) → (bitAnd (m / 2 ^ q) 1 ≡ 0 → ⊥) → bit m q ≡ true
+unfolding bit
+bit-set m q e = let b : bitAnd (m / 2 ^ q) 1 ≡ m / 2 ^ q % 2 = and-mask (m / 2 ^ q) 1 in let d : m / 2 ^ q % 2 ≡ 1 = omega arith in eq-eqb _ _ d
 
 -- ---- evaluated
 

@@ -1,24 +1,40 @@
 -- Where an entry's clauses stand, and the states that they name.
-use mathlib.Core.Path.{_≡_, refl, sym}
+use mathlib.Core.Path.{_≡_, refl, sym, _∙_, ap}
 use mathlib.Core.Bool.{Bool, true, false, _||_, or-false}
-use mathlib.Core.List.{List, [], _∷_, List·Memᴰ, List·Memᴰ·head, List·Memᴰ·tail}
-use Prim.Native.Nat.{ℕ, suc, _+_, _*_, _^_, _<_, _≤_}
+use mathlib.Core.List.{List, [], _∷_, List·Memᴰ, List·Memᴰ·head, List·Memᴰ·tail, List·Memᴰ·not-nil, List·Memᴰ·cases-cons}
+use Prim.Native.Nat.{ℕ, suc, _+_, _*_, _^_, _<_, _≤_, zero}
 use native.Mathlib.Omega.{arith}
 use native.Mathlib.Numerals.{add-one}
 use native.Mathlib.Nat.{mul-le-mul, lt-of-lt-of-le}
 use lib.Pow.{pow-mono}
 use lib.Arith.{digits-lt}
 use lib.Bits.{bitOr}
-use lib.ListN.{length, drop, take, getD, drop-of-length-le}
+use lib.ListN.{length, drop, take, getD, drop-of-length-le, take-append-drop}
 use lib.Seq.{drop-cons}
 use borrow.Author.Tests.{lt-ltb}
+use mathlib.Core.Logic.{⊎-elim}
 use Rattle.sets.specs.Masks.{bit}
 use Rattle.sets.specs.Lists.{sum}
 use Rattle.theory.specs.Rule.{Rule, entry}
 use Rattle.theory.specs.Components.{named}
 use Rattle.theory.specs.Passing.{WellFormed}
 use Rattle.sets.proofs.Bits.{bit-or, bit-high}
-use Rattle.entries.proofs.More.{mem-take, mem-drop, sum-take, sum-part}
+use Rattle.sets.proofs.Walks.{sum-take, sum-append}
+
+-- ---- parts of lists
+
+mem-take : (k : ℕ) (xs : List ℕ) {x : ℕ} → List·Memᴰ x (take k xs) → List·Memᴰ x xs
+mem-take zero xs m = absurd (List·Memᴰ·not-nil m)
+mem-take (suc k) [] m = m
+mem-take (suc k) (y ∷ ys) m = ⊎-elim (λ e. List·Memᴰ·head e) (λ t. List·Memᴰ·tail (mem-take k ys t)) (List·Memᴰ·cases-cons m)
+
+mem-drop : (k : ℕ) (xs : List ℕ) {x : ℕ} → List·Memᴰ x (drop k xs) → List·Memᴰ x xs
+mem-drop zero xs m = m
+mem-drop (suc k) [] m = m
+mem-drop (suc k) (y ∷ ys) m = List·Memᴰ·tail (mem-drop k ys m)
+
+sum-part : (xs : List ℕ) (i : ℕ) → sum (take i xs) ≤ sum xs
+sum-part xs i = let e : sum (take i xs) + sum (drop i xs) ≡ sum xs = sym (sum-append (take i xs) (drop i xs)) ∙ ap sum (take-append-drop i xs) in omega arith
 
 or-assoc : (a b c : Bool) → ((a || b) || c) ≡ (a || (b || c))
 or-assoc true b c = refl
@@ -43,10 +59,10 @@ module _ (r : Rule) (w : WellFormed r) (q a : ℕ) (l : q < r .n) (m : a < r .s)
       (mem-take (getD (r .counts) (q * r .s + a) 0) (drop (sum (take (q * r .s + a) (r .counts))) (r .clauses)) (rw entry-part at h)))
 
 -- at most 128 entries
-pub entries-few : (r : Rule) → WellFormed r → length (r .counts) ≤ 65536
+pub entries-few : (r : Rule) → WellFormed r → length (r .counts) ≤ 128
 entries-few r w = few (r .n) (r .s) (w .few-states) (w .few-letters) (w .all-entries)
   where
-    few : (n s : ℕ) {k : ℕ} → n ≤ 8 → s ≤ 16 → k ≡ n * s → k ≤ 65536
+    few : (n s : ℕ) {k : ℕ} → n ≤ 8 → s ≤ 16 → k ≡ n * s → k ≤ 128
     few n s {k} x y e = let z : n * s ≤ 8 * 16 = mul-le-mul x y in omega arith
 
 -- ---- the states that clauses name

@@ -1,3 +1,2 @@
-pub mod More
 pub mod Clauses
 pub mod Entries

@@ -6,11 +6,11 @@ use Prim.Native.Nat.{ℕ, _≤_, _<_}
 use lib.Dec.{ltb}
 use borrow.Author.Tests.{lt-ltb, le-ltb, ltb-false}
 use Rattle.sets.specs.Rows.{firstRow}
+use Rattle.sets.proofs.Rows.{numbered, first-left, first-right, first-parts, first-pass}
 use Rattle.theory.specs.Rule.{Rule}
 use Rattle.theory.specs.Word.{places}
 use Rattle.rules.specs.File.{ruleIn}
 use Rattle.rules.specs.Rows.{fileRows, fileRow}
-use Rattle.rules.proofs.FirstRow.{numbered, first-left, first-right, first-parts, first-pass}
 use Rattle.rules.proofs.FileRows.{file-numbered}
 use Rattle.words.specs.Words.{lengthRows, letterRows, wordRow}
 use Rattle.judge.specs.Judge.{wordRows, sliceRows, callRow, judgeRow}

@@ -7,13 +7,13 @@ use Prim.Native.Nat.{ℕ, zero, suc, _<_}
 use lib.Dec.{ltb}
 use lib.ListN.{length, getD, drop}
 use Rattle.sets.specs.Masks.{bit}
-use Rattle.sets.specs.Rows.{Check, firstRow}
+use Rattle.sets.specs.Rows.{Check, firstRow, check}
 use Rattle.theory.specs.Rule.{Rule}
 use Rattle.theory.specs.Word.{places}
 use Rattle.theory.specs.Plan.{AcceptsFrom, AcceptsWord}
 use Rattle.theory.specs.Truth.{truthMasks}
 use Rattle.rules.specs.File.{ruleIn}
-use Rattle.rules.specs.Rows.{check, fileRows}
+use Rattle.rules.specs.Rows.{fileRows}
 use Rattle.words.specs.Words.{lengthRows, letterRows}
 use Rattle.judge.specs.declared.Verdict.{Verdict}
 use Rattle.judge.specs.declared.Verdict.the-variants.{Yes, No, Refused}

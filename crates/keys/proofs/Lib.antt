@@ -3,4 +3,3 @@ pub mod Growth
 pub mod Moves
 pub mod Starting
 pub mod Letters
-pub mod Tables

@@ -10,9 +10,9 @@ use native.Mathlib.Nat.{mod-lt}
 use lib.ListN.{length, getD, take}
 use lib.Seq.{getD-take, length-take-le}
 use Rattle.sets.proofs.Lists.{place-of, mem-at}
+use Rattle.sets.proofs.Ascending.{asc-at}
 use Rattle.sorted.specs.Places.{below}
 use Rattle.sorted.specs.Insertion.{Placed}
-use Rattle.sorted.proofs.More.{asc-at}
 use Rattle.sorted.proofs.Search.{below-mono, before, after, place-le}
 use Rattle.steps.specs.Onward.{nextIn, onwardIn}
 use Rattle.steps.proofs.Pairs.{next-lt, class-count-low, onward-turn, onward-stay}

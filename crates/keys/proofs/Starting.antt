@@ -15,6 +15,7 @@ use Rattle.sets.specs.Tests.{every}
 use Rattle.sets.specs.Masks.{bit, mask, xor}
 use Rattle.sets.proofs.Masks.{mask-lt, bit-mask, above}
 use Rattle.sets.proofs.Bits.{bit-xor, bit-high, mask-unique}
+use Rattle.sets.proofs.Bools.{xor-comm}
 use Rattle.theory.specs.Rule.{Rule}
 use Rattle.theory.specs.Automaton.{Automaton, automaton}
 use Rattle.cores.specs.Vectors.{rankAt, Within}
@@ -35,12 +36,6 @@ xor-true false = refl
 xor-false : (a : Bool) → xor a false ≡ a
 xor-false true = refl
 xor-false false = refl
-
-xor-swap : (a b : Bool) → xor a b ≡ xor b a
-xor-swap true true = refl
-xor-swap true false = refl
-xor-swap false true = refl
-xor-swap false false = refl
 
 -- what in_set finds
 pub in-set-ranked : (ranks accepting q : ℕ) → 0 < bitAnd (ranks / 2 ^ (4 * q)) 15 → not (bit accepting q) ≡ xor (bit accepting q) (ltb 0 (rankAt ranks q))
@@ -104,7 +99,7 @@ module _ (r : Rule) (parts : List ℕ) (shape : Shape) (S : Shaped r parts shape
       set-is : bitXor (getD low 15 0) (shape .accepting) ≡ mask 8 (setOf (automaton r) v)
       set-is = mask-unique 8 (bitXor (getD low 15 0) (shape .accepting)) (setOf (automaton r) v) (xor-lt 8 (getD low 15 0) (shape .accepting) opened-low accepting-low)
           (λ q k. bit-xor (getD low 15 0) (shape .accepting) q ∙ ap (λ (b : Bool). xor b (bit (shape .accepting) q)) (opened q k) ∙ by-cases (decLt q ((automaton r) .n))
-          (λ l. xor-swap (ltb 0 (rankAt v q)) (bit (shape .accepting) q) ∙ ap (λ (b : Bool). xor b (ltb 0 (rankAt v q))) (accepting-same q) ∙ sym (set-rank (automaton r) v q l))
+          (λ l. xor-comm (ltb 0 (rankAt v q)) (bit (shape .accepting) q) ∙ ap (λ (b : Bool). xor b (ltb 0 (rankAt v q))) (accepting-same q) ∙ sym (set-rank (automaton r) v q l))
           (λ l. ap₂ xor (ap (ltb 0) (rank-beyond (automaton r) parts (S .masks) v within-all q (omega arith) k)) (bit-high ((automaton r) .n) (shape .accepting) q accepting-fits (omega arith)) ∙ sym (set-beyond (automaton r) v q (omega arith))))
 
       pub core-is : v * 2 ^ 8 + bitXor (getD low 15 0) (shape .accepting) ≡ coreOf (automaton r) v

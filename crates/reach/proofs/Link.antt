@@ -14,12 +14,11 @@ use Rattle.sets.specs.Digits.{num}
 use Rattle.sets.proofs.Tests.{first-max, largest-le}
 use Rattle.sets.proofs.Digits.{num-lt}
 use Rattle.theory.specs.Rule.{Rule}
-use Rattle.theory.specs.Automaton.{Automaton, automaton}
+use Rattle.theory.specs.Automaton.{Automaton, automaton, Layered}
 use Rattle.theory.specs.Core.{Core, test, levelOf, nextComponent}
 use Rattle.theory.specs.Code.{pack, setIn, rankIn, componentIn, classesIn, wellCoded}
 use Rattle.theory.specs.Macrostate.{begun, Macrostate, Goes, Reachable}
 use Rattle.theory.specs.Macrostate as macrostate
-use Rattle.theory.proofs.Certified.{Layered}
 use Rattle.theory.proofs.Cores.{classes-max, next-low}
 use Rattle.theory.proofs.Goes.{component-small, classes-small, goes-iff}
 use Rattle.theory.proofs.Packing as packing
@@ -44,9 +43,6 @@ module _ (A : Automaton) where
   pair-low c M = let e = pair-in A c (M .coded) in let h = component-small c in let k = classes-small c in omega arith
 
 module _ (A : Automaton) (H : Layered A) (parts : List ℕ) (P : Parts A parts) where
-  abbrev C : ℕ
-  C = A .components
-
   -- ---- the core of a vector that is visited
 
   module _ (v : ℕ) (w : Cored parts (A .components) v) where

@@ -8,19 +8,18 @@ use lib.ListN.{length, take, drop, length-map}
 use lib.Seq.{length-take-le, take-at}
 use Rattle.sets.specs.Tests.{Set}
 use Rattle.sets.specs.Lists.{Ascending, none, from}
-use Rattle.sets.proofs.Lists.{asc-ext}
+use Rattle.sets.proofs.Ascending.{asc-ext, above-asc, above-in}
 use Rattle.theory.specs.Rule.{Rule}
 use Rattle.theory.specs.Passing.{Passing}
 use Rattle.theory.specs.Automaton.{automaton}
 use Rattle.theory.specs.Macrostate.{Reachable}
-use Rattle.theory.specs.Table.{macrostatesFrom, macrostates}
+use Rattle.theory.specs.Table.{macrostatesFrom}
 use Rattle.theory.proofs.Layers.{layered}
 use Rattle.theory.proofs.Tables.{few-states, components-there, reachable-macrostate, reachable-iff, macrostates-ascending}
-use Rattle.sorted.proofs.More.{above-asc, above-in}
 use Rattle.sorting.specs.Order.{Distinct, Arranged, ArrangedFirst}
 use Rattle.sorting.proofs.Distinct.{asc-distinct, cons-distinct, rearranged-in, rearranged-out, arranged-asc}
 use Rattle.reach.specs.Closure.{Gathered, Listed}
-use Rattle.keys.specs.Keys.{keyOf, codeOf, KeyOf, startOf}
+use Rattle.keys.specs.Keys.{keyOf, codeOf, KeyOf}
 use Rattle.reach.proofs.Codes.{coded}
 use Rattle.keys.proofs.Keys.{code-key}
 use Rattle.reach.proofs.Link.{pair-low}
@@ -42,11 +41,6 @@ gathered-as R Q ws xs ys m full l f g a = record {
   whole = λ t y k. a .whole t y (g y k);
   crowded = λ t k h. omega (arith, l, a .crowded t k (λ y q. h y (f y q)));
 }
-
--- with the start condition of 01 they are the macrostates of the rule
-pub from-initial : (r : Rule) → macrostatesFrom r (startOf r true) ≡ macrostates r
-unfolding macrostates startOf
-from-initial r = refl
 
 module _ (r : Rule) (P : Passing r) (start : Set) (xs ys : List ℕ) (m : ℕ) where
   abbrev R : ℕ → Type 0

@@ -1,15 +1,14 @@
 -- The rows of a file: what an accepted file has, and the first row that applies.
-use Prim.Native.Nat.{ℕ, _-_, _<_}
+use Prim.Native.Nat.{ℕ, _<_}
 use mathlib.Core.Path.{_≡_, refl}
 use mathlib.Core.Bool.{true}
 use mathlib.Core.List.{List}
 use mathlib.Core.Logic.{_↔_}
 use Rattle.sets.specs.Rows.{firstRow}
-use Rattle.sets.proofs.Rows.{FirstApplies, NoneApplies, first-row-iff, no-row-iff}
+use Rattle.sets.proofs.Rows.{FirstApplies, NoneApplies, first-row-iff, no-row-iff, numbered, numbered-rows, first-left, first-right, first-parts}
 use Rattle.theory.specs.Passing.{WellFormed, Passing}
 use Rattle.rules.specs.File.{headOf, trailer, ruleIn, clausesOf, countsOf}
 use Rattle.rules.specs.Rows.{numberRows, trailerRows, listRows, layoutRows, componentRows, fileRows, fileRow}
-use Rattle.rules.proofs.FirstRow.{numbered, numbered-rows, first-left, first-right, first-parts}
 use Rattle.rules.proofs.TrailerRows.{Placed, placed, trailer-numbered, trailer-numbers}
 use Rattle.rules.proofs.Parts.{counts-length}
 use Rattle.rules.proofs.Formed.{formed, passing}

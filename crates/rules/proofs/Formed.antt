@@ -1,5 +1,5 @@
 -- Rows 3 to 11 refuse nothing exactly of a rule that passes every check.
-use Prim.Native.Nat.{ℕ, _-_, _*_, _^_}
+use Prim.Native.Nat.{ℕ, _*_, _^_}
 use mathlib.Core.Path.{_≡_, sym}
 use mathlib.Core.Bool.{true, false, not}
 use mathlib.Core.List.{List, [], List·Memᴰ}
@@ -11,6 +11,7 @@ use Rattle.sets.specs.Lists.{anyOf, sum}
 use Rattle.sets.specs.Rows.{firstRow}
 use Rattle.sets.proofs.Bools.{bif, clash}
 use Rattle.sets.proofs.Lists.{any-in, any-out}
+use Rattle.sets.proofs.Rows.{first-pass}
 use Rattle.theory.specs.Rule.{Rule}
 use Rattle.theory.specs.Components.{mixed}
 use Rattle.theory.specs.Passing.{WellFormed, Passing}
@@ -18,7 +19,6 @@ use Rattle.theory.proofs.Components.{unmixed-iff}
 use Rattle.entries.specs.declared.Head.{Head}
 use Rattle.entries.specs.Entries.{ruleOf}
 use Rattle.rules.specs.Rows.{numberRows, listRows, componentRows, names}
-use Rattle.rules.proofs.FirstRow.{first-pass}
 use Rattle.rules.proofs.Numbers.{ranges, pass-6}
 use Rattle.rules.proofs.ListRows.{pass-10}
 

@@ -1,6 +1,4 @@
 pub mod Examples
-pub mod FirstRow
-pub mod Lists
 pub mod Numbers
 pub mod ListRows
 pub mod TrailerRows

@@ -6,9 +6,9 @@ use borrow.Author.Tests.{ltb-false, leb-false, lt-ltb, le-ltb, le-leb, lt-leb}
 use lib.Dec.{leb, ltb}
 use Rattle.sets.specs.Rows.{firstRow}
 use Rattle.sets.proofs.Bools.{or-fl, or-fr}
+use Rattle.sets.proofs.Rows.{first-pass}
 use Rattle.entries.specs.declared.Head.{Head}
 use Rattle.rules.specs.Rows.{numberRows, names, outside}
-use Rattle.rules.proofs.FirstRow.{first-pass}
 
 -- what rows 3 to 6 ask
 pub record Ranges (h : Head) : Type 0 where

@@ -7,9 +7,9 @@ use borrow.Author.Tests.{ltb-false, lt-ltb, le-ltb, not-false}
 use lib.ListN.{length}
 use lib.Dec.{ltb}
 use Rattle.sets.specs.Rows.{firstRow}
+use Rattle.sets.proofs.Rows.{numbered, first-left, first-right, first-parts, first-pass}
 use Rattle.rules.specs.File.{tagged, headOf, clauseCount, entryCount, clausesOf, countsOf, trailer}
 use Rattle.rules.specs.Rows.{numberRows, trailerRows, listRows, layoutRows}
-use Rattle.rules.proofs.FirstRow.{numbered, first-left, first-right, first-parts, first-pass}
 use Rattle.rules.proofs.Numbers.{Ranges, ranges}
 
 pub numbers-numbered : (f : List ℕ) → numbered (numberRows (headOf f)) ≡ true

@@ -5,15 +5,11 @@ use mathlib.Core.Bool.{Bool, not, _||_}
 use lib.ListN.{length}
 use lib.Dec.{ltb, leb, eqb}
 use Rattle.sets.specs.Lists.{anyOf, sum}
-use Rattle.sets.specs.Rows.{Check, firstRow}
+use Rattle.sets.specs.Rows.{Check, firstRow, check}
 use Rattle.theory.specs.Rule.{Rule}
 use Rattle.theory.specs.Components.{mixed}
 use Rattle.entries.specs.declared.Head.{Head}
 use Rattle.rules.specs.File.{trailer, tagged, headOf, clauseCount, entryCount, clausesOf, countsOf, ruleIn}
-
--- a test and the number of its row
-abbrev pub check : Bool → ℕ → Check
-check applies number = record { applies = applies; number = number }
 
 -- x is outside a..b
 abbrev pub outside : ℕ → ℕ → ℕ → Bool

@@ -3,14 +3,13 @@ use mathlib.Core.Path.{_≡_, refl, ap, sym, _∙_}
 use mathlib.Core.Bool.{Bool, true, false, _&&_}
 use mathlib.Core.List.{List, [], _∷_, List·Memᴰ, List·Memᴰ·head, List·Memᴰ·tail, List·Memᴰ·cases-cons, List·Memᴰ·not-nil}
 use mathlib.Core.Logic.{⊎-elim}
-use Prim.Native.Nat.{ℕ, zero, suc, _+_, _^_, _<_, _≤_}
-use native.Mathlib.Numerals.{add-one}
+use Prim.Native.Nat.{ℕ, zero, suc, _^_, _<_, _≤_}
 use borrow.Author.Tests.{eq-eqb, ne-eqb, eqb-true}
 use lib.Dec.{eqb}
 use Rattle.sets.specs.Tests.{Set, every}
 use Rattle.sets.specs.Masks.{bit, inside}
 use Rattle.sets.specs.Lists.{allOf, sum}
-use Rattle.sets.proofs.Bools.{bif, clash, and-l, and-r, and-i, or-l, or-r, or-cases, iff}
+use Rattle.sets.proofs.Bools.{clash, and-l, and-r, and-i, or-l, or-r, or-cases, iff}
 use Rattle.sets.proofs.Tests.{every-at, every-all}
 use Rattle.sets.proofs.Members.{inside-at, inside-all, all-of-at, all-of-all}
 use Rattle.theory.specs.Rule.{Rule, entry, satisfies}
@@ -116,15 +115,6 @@ module _ (n : ℕ) (cs ds : List ℕ) (small-c : (c : ℕ) → List·Memᴰ c cs
 
   pub same-clauses : n ≤ 8 → (Each 8 cs ds && Each 8 ds cs) ≡ sameEntry n cs ds
   same-clauses l = rw (wide l cs ds small-d, wide l ds cs small-c) each-same
-
--- ---- walks that stop at the first difference
-
-pub every-next : (k : ℕ) (f : Set) → every k f ≡ true → f k ≡ true → every (k + 1) f ≡ true
-unfolding every
-every-next k f h e = rw (add-one k, h, e)
-
-pub every-stop : (n : ℕ) (f : Set) (k : ℕ) → k < n → f k ≡ false → every n f ≡ false
-every-stop n f k l e = bif (every n f) (λ t. clash (every-at n f t k l) e) (λ t. t)
 
 -- ---- entries of well-formed rules
 

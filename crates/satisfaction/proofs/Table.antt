@@ -1,33 +1,27 @@
 -- The table, place by place.
 use mathlib.Core.Path.{_≡_, refl, ap, ap₂, _∙_}
 use mathlib.Core.Logic.{by-cases}
-use mathlib.Core.Bool.{Bool, true, false}
+use mathlib.Core.Bool.{true}
 use mathlib.Core.List.{List}
 use Prim.Native.Nat.{ℕ, _+_, _*_, _/_, _%_, _^_, _≤_, _<_}
 use native.Mathlib.Omega.{arith}
 use native.Mathlib.Decide.{ℕ-discrete}
 use native.Mathlib.Numerals.{add-one}
-use native.Mathlib.Nat.{mod-eq-of-lt}
 use lib.ListN.{length, getD, set, length-set}
 use lib.Seq.{getD-set-same, getD-set-other}
 use lib.Bits.{bitXor, xor-lt}
-use lib.Pow.{pow-mono, pow-lt}
+use lib.Pow.{pow-mono}
 use Rattle.sets.specs.Tests.{Set, one}
 use Rattle.sets.specs.Masks.{bit, mask, xor}
 use Rattle.sets.proofs.Masks.{mask-lt, bit-mask}
-use Rattle.sets.proofs.Bits.{bit-xor, mask-unique}
+use Rattle.sets.proofs.Bits.{bit-xor, mask-unique, shl-one}
+use Rattle.sets.proofs.Bools.{xor-comm}
 use Rattle.theory.specs.Rule.{Rule, entry, satisfies}
 use Rattle.theory.specs.Passing.{WellFormed}
 use Rattle.theory.specs.Automaton.{Automaton, automaton}
 use Rattle.theory.specs.Core.{isOpen}
 use Rattle.theory.proofs.Satisfies.{satisfies-ext}
 use Rattle.satisfaction.specs.Opens.{setFrom, openBefore, Opens}
-
-xor-comm : (a b : Bool) → xor a b ≡ xor b a
-xor-comm true true = refl
-xor-comm true false = refl
-xor-comm false true = refl
-xor-comm false false = refl
 
 -- ---- one state more
 
@@ -44,7 +38,7 @@ mask-fits q f l = let h = mask-lt (q + 1) f in let p = pow-mono {i = q + 1} {j =
 
 -- the code's shifted one
 pub shifted : (q : ℕ) → q < 8 → 1 * 2 ^ q % 256 ≡ one true * 2 ^ q
-shifted q l = mod-eq-of-lt (let p = pow-lt {i = q} {j = 8} l in omega arith)
+shifted q l = shl-one 8 q l ∙ omega arith
 
 -- ---- one place of the table
 
@@ -55,9 +49,6 @@ metBy r a opened q = satisfies (r .n) (bit (bitXor opened (r .accepting))) (entr
 module _ (r : Rule) (W : WellFormed r) (a opened : ℕ) where
   abbrev met : Set
   met = metBy r a opened
-
-  pub accepting-small : r .accepting < 256
-  accepting-small = let p = pow-mono {i = r .n} {j = 8} (W .few-states) in omega (arith, W .accepting-states)
 
   set-same : (q : ℕ) → satisfies (r .n) (bit (bitXor opened (r .accepting))) (entry r q a) ≡ satisfies (r .n) (setFrom (automaton r) opened) (entry r q a)
   unfolding setFrom automaton

@@ -1,14 +1,14 @@
 -- The members of masks: of a conjunction, a disjunction, a difference, a complement, a power of two; masks by their members; how many there are.
-use mathlib.Core.Path.{_≡_, refl, sym, _∙_, ap}
+use mathlib.Core.Path.{_≡_, refl, sym, _∙_, ap, ap₂}
 use mathlib.Core.Logic.{_↔_, by-cases}
 use mathlib.Core.Bool.{Bool, true, false, _&&_, _||_, not, or-assoc}
 use Prim.Native.Nat.{ℕ, zero, suc, _+_, _-_, _*_, _/_, _%_, _^_, _≤_, _<_, min, max}
 use native.Mathlib.Omega.{arith}
 use native.Mathlib.Decide.{decLt, ℕ-discrete}
-use native.Mathlib.Nat.{zero-div, div-eq-of-lt, lt-of-lt-of-le, mod-lt, pow-suc}
+use native.Mathlib.Nat.{zero-div, div-eq-of-lt, lt-of-lt-of-le, mod-lt, pow-suc, one-mul, mod-eq-of-lt}
 use native.Mathlib.Numerals.{one-add}
 use lib.Dec.{eqb, ltb}
-use lib.Bits.{bitAnd, bitOr, bitXor, differ, and-shr, or-shr, xor-shr, and-step, or-step, xor-step, and-le-l, and-le-r, or-add-and}
+use lib.Bits.{bitAnd, bitOr, bitXor, differ, and-shr, or-shr, xor-shr, and-step, or-step, xor-step, and-le-l, and-le-r, or-add-and, or-lt}
 use lib.Count.{ones, ones-cat, onesIn}
 use lib.Pow.{pow-pos, pow-mono, pow-lt, shr-lt, shr-shr, split, ones-lt}
 use lib.Arith.{lt-one, digits-div}
@@ -126,6 +126,10 @@ bit-shl-one q p =
     ap (λ (x : ℕ). eqb (x / 2 ^ p % 2) 1) (sym e) ∙ ap (λ (x : ℕ). eqb x 1) (above 1 0 q p l) ∙ bit-none p ∙ sym (ne-eqb q p n))
     (λ l. bit-high (suc q) (2 ^ q) p (pow-lt {i = q} {j = suc q} (omega arith)) (omega arith) ∙ sym (ne-eqb q p n)))
 
+-- the machine's 1 << q in w bits
+pub shl-one : (w q : ℕ) → q < w → 1 * 2 ^ q % 2 ^ w ≡ 2 ^ q
+shl-one w q h = rw one-mul (mod-eq-of-lt (pow-lt h))
+
 -- ---- a mask is given by its members
 
 pub bit-ext : (k a b : ℕ) → a < 2 ^ k → b < 2 ^ k → ((q : ℕ) → q < k → bit a q ≡ bit b q) → a ≡ b
@@ -138,6 +142,20 @@ mask-bit n m h = bit-ext n (mask n (bit m)) m (mask-lt n (bit m)) h (λ q l. bit
 -- the mask that a test gives is the only one with these members
 pub mask-unique : (n m : ℕ) (f : Set) → m < 2 ^ n → ((q : ℕ) → q < n → bit m q ≡ f q) → m ≡ mask n f
 mask-unique n m f h e = bit-ext n m (mask n f) h (mask-lt n f) (λ q l. e q l ∙ sym (bit-mask n f q l))
+
+-- the mask of a test, by the bits of a wider number
+pub mask-of : (k n m : ℕ) (f : Set) → n ≤ k → m < 2 ^ k → ((q : ℕ) → q < n → bit m q ≡ f q) → ((q : ℕ) → n ≤ q → q < k → bit m q ≡ false) → m ≡ mask n f
+mask-of k n m f l h same none =
+    bit-ext k m (mask n f) h (lt-of-lt-of-le (mask-lt n f) (pow-mono l))
+    (λ q lq. by-cases (decLt q n)
+    (λ y. same q y ∙ sym (bit-mask n f q y))
+    (λ y. none q (omega arith) lq ∙ sym (bit-high n (mask n f) q (mask-lt n f) (omega arith))))
+
+-- the union of two sets
+pub mask-or : (n : ℕ) (f g : Set) → bitOr (mask n f) (mask n g) ≡ mask n (λ q. f q || g q)
+mask-or n f g =
+    mask-unique n (bitOr (mask n f) (mask n g)) (λ q. f q || g q) (or-lt n (mask n f) (mask n g) (mask-lt n f) (mask-lt n g))
+    (λ q l. bit-or (mask n f) (mask n g) q ∙ ap₂ (λ (x y : Bool). x || y) (bit-mask n f q l) (bit-mask n g q l))
 
 -- the members of the mask of a test, at any number
 pub bit-mask-all : (n : ℕ) (f : Set) (q : ℕ) → bit (mask n f) q ≡ ltb q n && f q
@@ -171,13 +189,6 @@ bit-full n q =
     (λ l. let z : 2 ^ n - 1 ≡ 2 ^ n - 1 - 0 = omega arith in
     ap (λ (x : ℕ). bit x q) (z ∙ not-mask n 0 (pow-pos n)) ∙ bit-mask n (λ p. not (bit 0 p)) q l ∙ ap not (bit-none q) ∙ sym (lt-ltb q n l))
     (λ l. bit-high n (2 ^ n - 1) q (ones-lt n) (omega arith) ∙ sym (le-ltb q n (omega arith)))
-
-xor-true : (b : Bool) → xor b true ≡ not b
-xor-true true = refl
-xor-true false = refl
-
-pub bit-xor-full : (n m q : ℕ) → q < n → bit (bitXor m (2 ^ n - 1)) q ≡ not (bit m q)
-bit-xor-full n m q l = bit-xor m (2 ^ n - 1) q ∙ ap (xor (bit m q)) (bit-full n q ∙ lt-ltb q n l) ∙ xor-true (bit m q)
 
 -- ---- subsets
 

@@ -1,11 +1,8 @@
 -- Laws of Booleans.
 use mathlib.Core.Path.{_≡_, refl, sym, _∙_}
 use mathlib.Core.Logic.{_⊎_, inl, inr}
-use mathlib.Core.Bool.{Bool, true, false, _&&_, _||_, not, cond, true≢false, false≢true, or-true}
-
-pub bcase : (b : Bool) → (b ≡ true) ⊎ (b ≡ false)
-bcase true = inl refl
-bcase false = inr refl
+use mathlib.Core.Bool.{Bool, true, false, _&&_, _||_, not, true≢false, false≢true, or-true}
+use Rattle.sets.specs.Masks.{xor}
 
 -- a test either way, with its equation
 pub bif {ℓ} : {C : Type ℓ} (b : Bool) → (b ≡ true → C) → (b ≡ false → C) → C
@@ -67,3 +64,16 @@ or-r a b p = rw (p, or-true a)
 -- two tests that imply each other are equal
 pub iff : (a b : Bool) → (a ≡ true → b ≡ true) → (b ≡ true → a ≡ true) → a ≡ b
 iff a b f g = bif a (λ t. t ∙ sym (f t)) (λ t. bif b (λ v. clash (g v) t) (λ v. t ∙ sym v))
+
+-- ---- exactly one of the two
+
+pub xor-comm : (a b : Bool) → xor a b ≡ xor b a
+xor-comm true true = refl
+xor-comm true false = refl
+xor-comm false true = refl
+xor-comm false false = refl
+
+pub xor-twice : (a b : Bool) → xor a (xor a b) ≡ b
+xor-twice true true = refl
+xor-twice true false = refl
+xor-twice false b = refl

@@ -4,8 +4,8 @@ use mathlib.Core.Logic.{by-cases}
 use Prim.Native.Nat.{ℕ, zero, suc, _+_, _-_, _*_, _/_, _%_, _^_, _≤_, _<_}
 use native.Mathlib.Omega.{arith}
 use native.Mathlib.Decide.{decLt, ℕ-discrete}
-use native.Mathlib.Nat.{add-comm, add-zero, zero-add, add-mul-div-right, mul-add-mod-self-right, mod-eq-of-lt, mul-assoc, pow-suc, pow-zero, mul-comm, mod-lt, div-add-mod', mod-one}
-use lib.Arith.{digits-div, digits-mod, digits-lt, mod-mul}
+use native.Mathlib.Nat.{add-comm, add-mul-div-right, mul-add-mod-self-right, mod-eq-of-lt, mul-assoc, pow-suc, pow-zero, mul-comm, mod-one}
+use lib.Arith.{digits-div, digits-lt, mod-mul}
 use lib.Pow.{pow-add}
 use Rattle.sets.specs.Digits.{num}
 
@@ -36,6 +36,13 @@ num-trim b (suc m) n f l h =
     (λ e. rw e)
     (λ e. let ih = num-trim b m n f (omega arith) (λ j x y. h j x (omega arith)) in let z : f m * b ^ m ≡ 0 * b ^ m = rw (h m (omega arith) (omega arith)) in omega arith)
 
+-- four bits are one hexadecimal digit
+pub pow16 : (q : ℕ) → 2 ^ (4 * q) ≡ 16 ^ q
+pow16 zero = refl
+pow16 (suc q) =
+    let e : 4 * suc q ≡ 4 * q + 4 = omega arith in
+    ap (λ (x : ℕ). 2 ^ x) e ∙ pow-add 2 (4 * q) 4 ∙ ap (λ (x : ℕ). x * 16) (pow16 q) ∙ sym (pow-suc 16 q)
+
 module _ (b : ℕ) (hb : 0 < b) where
   pos : (k : ℕ) → 0 < b ^ k
   pos zero = rw (pow-zero b) (omega arith)
@@ -52,8 +59,9 @@ module _ (b : ℕ) (hb : 0 < b) where
   arrange : (a x y m : ℕ) → a * (x * b * y) + m ≡ m + a * x * b * y
   arrange a x y m = omega arith
 
-  above : (a m n q : ℕ) → q < n → (a * b ^ n + m) / b ^ q % b ≡ m / b ^ q % b
-  above a m n q l =
+  -- a digit above does not show below
+  pub digit-above : (a m n q : ℕ) → q < n → (a * b ^ n + m) / b ^ q % b ≡ m / b ^ q % b
+  digit-above a m n q l =
       let e : n ≡ (n - suc q) + suc q = omega arith in
       ap (λ (x : ℕ). (a * b ^ x + m) / b ^ q % b) e
       ∙ ap (λ (x : ℕ). (a * x + m) / b ^ q % b) (pow-add b (n - suc q) (suc q) ∙ ap (λ (x : ℕ). b ^ (n - suc q) * x) (pow-suc b q ∙ mul-comm (b ^ q) b) ∙ sym (mul-assoc (b ^ (n - suc q)) b (b ^ q)))
@@ -66,7 +74,7 @@ module _ (b : ℕ) (hb : 0 < b) where
   digit-num zero f h q l = absurd (omega arith)
   digit-num (suc m) f h q l =
       by-cases (decLt q m)
-      (λ k. above (f m) (num b m f) m q k ∙ digit-num m f (λ j n. h j (omega arith)) q k)
+      (λ k. digit-above (f m) (num b m f) m q k ∙ digit-num m f (λ j n. h j (omega arith)) q k)
       (λ k. let e : q ≡ m = omega arith in
       rw e (ap (λ (x : ℕ). x % b) (digits-div (f m) (num-lt m f (λ j n. h j (omega arith)))) ∙ mod-eq-of-lt (h m (omega arith))))
 

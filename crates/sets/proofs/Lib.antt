@@ -1,9 +1,10 @@
 pub mod Bools
 pub mod Tests
 pub mod Growth
-pub mod Masks
 pub mod Digits
+pub mod Masks
 pub mod Lists
+pub mod Ascending
 pub mod Bits
 pub mod Members
 pub mod Walks

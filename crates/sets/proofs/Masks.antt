@@ -1,17 +1,20 @@
 -- The members of the mask of a test.
-use mathlib.Core.Path.{_≡_, refl, sym, _∙_, ap}
+use mathlib.Core.Path.{_≡_, refl, _∙_, ap}
 use mathlib.Core.Logic.{by-cases}
 use mathlib.Core.Bool.{Bool, true, false}
-use Prim.Native.Nat.{ℕ, zero, suc, _+_, _-_, _*_, _/_, _%_, _^_, _≤_, _<_}
+use Prim.Native.Nat.{ℕ, zero, suc, _+_, _*_, _/_, _%_, _^_, _≤_, _<_}
 use native.Mathlib.Omega.{arith}
 use native.Mathlib.Decide.{decLt, ℕ-discrete}
-use native.Mathlib.Nat.{add-comm, add-mul-div-right, mul-add-mod-self-right, mod-eq-of-lt, mul-assoc, pow-suc, mul-comm}
-use lib.Dec.{eqb, lit<}
-use lib.Arith.{digits-div, digits-mod, digits-lt}
-use lib.Pow.{pow-pos, pow-add}
+use native.Mathlib.Nat.{mod-eq-of-lt, pow-suc}
+use lib.Dec.{eqb}
+use lib.Arith.{digits-div}
+use lib.Pow.{shl-exact}
+use lib.Bits.{bitOr, or-shifted-r}
+use native.Mathlib.Numerals.{add-one}
 use Rattle.sets.specs.Tests.{Set, one}
 use Rattle.sets.specs.Masks.{bit, mask}
 use Rattle.sets.proofs.Bools.{bif}
+use Rattle.sets.proofs.Digits.{digit-above}
 
 one-lt : (b : Bool) → one b < 2
 one-lt true = omega arith
@@ -26,18 +29,9 @@ unfolding mask
 mask-lt zero f = omega arith
 mask-lt (suc n) f = let ih = mask-lt n f in let h = pow-suc 2 n in bif (f n) (λ t. let x : one (f n) ≡ 1 = rw t in rw (x, h) (omega arith)) (λ t. let x : one (f n) ≡ 0 = rw t in rw (x, h) (omega arith))
 
-arrange : (a x y m : ℕ) → a * (x * 2 * y) + m ≡ m + a * x * 2 * y
-arrange a x y m = omega arith
-
 -- a digit above does not show below
 pub above : (a m n q : ℕ) → q < n → (a * 2 ^ n + m) / 2 ^ q % 2 ≡ m / 2 ^ q % 2
-above a m n q l =
-    let e : n ≡ (n - suc q) + suc q = omega arith in
-    ap (λ (x : ℕ). (a * 2 ^ x + m) / 2 ^ q % 2) e
-    ∙ ap (λ (x : ℕ). (a * x + m) / 2 ^ q % 2) (pow-add 2 (n - suc q) (suc q) ∙ ap (λ (x : ℕ). 2 ^ (n - suc q) * x) (pow-suc 2 q ∙ mul-comm (2 ^ q) 2) ∙ sym (mul-assoc (2 ^ (n - suc q)) 2 (2 ^ q)))
-    ∙ ap (λ (x : ℕ). x / 2 ^ q % 2) (arrange a (2 ^ (n - suc q)) (2 ^ q) m)
-    ∙ ap (λ (x : ℕ). x % 2) (add-mul-div-right m (a * 2 ^ (n - suc q) * 2) (pow-pos q) ∙ add-comm (m / 2 ^ q) (a * 2 ^ (n - suc q) * 2))
-    ∙ mul-add-mod-self-right (a * 2 ^ (n - suc q)) 2 (m / 2 ^ q)
+above = digit-above 2 (omega arith)
 
 pub bit-mask : (n : ℕ) (f : Set) (q : ℕ) → q < n → bit (mask n f) q ≡ f q
 unfolding bit mask
@@ -61,3 +55,16 @@ mask-trim (suc m) n f l h =
     by-cases (ℕ-discrete n (suc m))
     (λ e. rw e)
     (λ e. let ih = mask-trim m n f (omega arith) (λ j x y. h j x (omega arith)) in let z : one (f m) * 2 ^ m ≡ 0 * 2 ^ m = rw (h m (omega arith) (omega arith)) in omega arith)
+
+-- the empty set
+pub mask-none : (n : ℕ) (f : Set) → ((q : ℕ) → q < n → f q ≡ false) → mask n f ≡ 0
+unfolding mask
+mask-none zero f h = refl
+mask-none (suc n) f h = let ih = mask-none n f (λ q l. h q (omega arith)) in let z : one (f n) * 2 ^ n ≡ 0 * 2 ^ n = rw (h n (omega arith)) in omega arith
+
+-- one more state of the mask of a test
+pub put-bit : (p d : ℕ) (f : Set) → p < 8 → d ≡ one (f p) → bitOr (mask p f) (d * 2 ^ p % 2 ^ 8) ≡ mask (p + 1) f
+unfolding mask
+put-bit p d f l e =
+    let small : d < 2 ^ 1 = bif (f p) (λ t. let x : one (f p) ≡ 1 = rw t in omega arith) (λ t. let x : one (f p) ≡ 0 = rw t in omega arith) in
+    rw (shl-exact {a = d} 1 p 8 small (omega arith), or-shifted-r d p (mask p f) (mask-lt p f), add-one p, e)

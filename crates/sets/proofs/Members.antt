@@ -14,12 +14,12 @@ use lib.Count.{ones, onesIn, ones-step, trailingZeros, under}
 use lib.Pow.{shr-lt}
 use lib.Arith.{lt-one}
 use borrow.Author.Tests.{eqb-true, eqb-false, eq-eqb}
-use Rattle.sets.specs.Tests.{Set, count, first}
+use Rattle.sets.specs.Tests.{Set, first}
 use Rattle.sets.specs.Masks.{bit, inside, prepend, membersFrom, members}
 use Rattle.sets.specs.Lists.{allOf}
 use Rattle.sets.proofs.Bools.{bif, and-l, and-r, and-i, or-tf, or-l, or-r, iff}
 use Rattle.sets.proofs.Tests.{every-at, every-all, every-trim, first-yes, first-no}
-use Rattle.sets.proofs.Bits.{bit-zero, bit-half, bit-high, ones-count}
+use Rattle.sets.proofs.Bits.{bit-zero, bit-half, bit-high}
 
 -- ---- dropping the least member
 
@@ -152,10 +152,6 @@ members-ones (suc n) i m h =
     prepend-length (m % 2) i (membersFrom n (i + 1) (m / 2)) (omega arith)
     ∙ ap (λ (x : ℕ). m % 2 + x) (members-ones n (i + 1) (m / 2) (shr-lt n 1 (rw add-one h)))
     ∙ sym (ones-step m)
-
--- the list is as long as the count of members
-pub members-length : (n i m : ℕ) → m < 2 ^ n → length (membersFrom n i m) ≡ count n (bit m)
-members-length n i m h = members-ones n i m h ∙ ones-count n m h
 
 -- ---- the least member
 

@@ -1,13 +1,14 @@
 -- Laws of `every`, `some`, `count`, `first` and `largest`.
 use mathlib.Core.Path.{_≡_, refl, sym, _∙_, ap, ap₂}
-use mathlib.Core.Logic.{_⊎_, inl, inr, ⊎-elim, by-cases}
-use mathlib.Core.Bool.{Bool, true, false, _&&_, _||_, true≢false, false≢true, and-true, and-false, or-true, or-false}
+use mathlib.Core.Logic.{⊎-elim, by-cases}
+use mathlib.Core.Bool.{Bool, true, false, _&&_, true≢false, false≢true, and-true, and-false, or-true, or-false}
 use Prim.Native.Nat.{ℕ, zero, suc, _+_, _≤_, _<_, max}
 use native.Mathlib.Decide.{decLt, decLe, ℕ-discrete}
 use native.Mathlib.Omega.{arith}
 use native.Mathlib.Nat.{add-zero, zero-add}
 use lib.Dec.{leb, ltb}
 use borrow.Author.Tests.{leb-true, le-leb, lt-leb, lt-ltb}
+use native.Mathlib.Numerals.{add-one}
 use Rattle.sets.specs.Tests.{Set, every, some, count, one, first, largest}
 use Rattle.sets.proofs.Bools.{bif, clash, and-l, and-r, and-i, and-fl, or-cases}
 
@@ -48,9 +49,6 @@ pub count-ext : (n : ℕ) (f g : Set) → ((q : ℕ) → q < n → f q ≡ g q) 
 unfolding count
 count-ext zero f g h = refl
 count-ext (suc n) f g h = rw (count-ext n f g (λ q l. h q (omega arith)), h n (omega arith))
-
-pub every-mono : (n : ℕ) (f g : Set) → ((q : ℕ) → q < n → f q ≡ true → g q ≡ true) → every n f ≡ true → every n g ≡ true
-every-mono n f g h e = bif (every n g) (λ t. t) (λ t. let r = every-not n g t in clash (h (r .0) (r .1) (every-at n f e (r .0) (r .1))) (r .2))
 
 pub some-get : (n : ℕ) (f : Set) → some n f ≡ true → (q : ℕ) × (q < n) × (f q ≡ true)
 unfolding some
@@ -299,3 +297,12 @@ count-upto (suc n) M h =
     let below = count-ext n (λ j. ltb 0 j && leb j M) (λ j. ltb 0 j) (λ j l. ap (λ (b : Bool). ltb 0 j && b) (le-leb j M (omega arith)) ∙ and-true (ltb 0 j)) in
     let here : one (ltb 0 n && leb n M) ≡ one (ltb 0 n) = ap (λ (b : Bool). one (ltb 0 n && b)) (le-leb n M (omega arith)) ∙ ap one (and-true (ltb 0 n)) in
     omega (arith, count-above n))
+
+-- ---- a walk up to n that stops at the first failure
+
+pub every-next : (k : ℕ) (f : Set) → every k f ≡ true → f k ≡ true → every (k + 1) f ≡ true
+unfolding every
+every-next k f h e = rw (add-one k, h, e)
+
+pub every-stop : (n : ℕ) (f : Set) (k : ℕ) → k < n → f k ≡ false → every n f ≡ false
+every-stop n f k l e = bif (every n f) (λ t. clash (every-at n f t k l) e) (λ t. t)

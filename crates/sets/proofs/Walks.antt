@@ -1,11 +1,14 @@
 -- One more element of a list, in the definitions that go through it: what a loop over the list needs at each turn and at its end.
 use mathlib.Core.Path.{_≡_, sym, _∙_, ap}
 use mathlib.Core.Bool.{true, false}
-use mathlib.Core.List.{List, _∷_}
+use mathlib.Core.List.{List, _∷_, _++_, []}
 use Prim.Native.Nat.{ℕ, _+_, _≤_, _<_}
 use native.Mathlib.Numerals.{add-one}
-use lib.ListN.{length, drop, getD, drop-of-length-le}
-use lib.Seq.{drop-cons}
+use lib.ListN.{length, drop, getD, drop-of-length-le, take, set}
+use lib.Seq.{drop-cons, take-suc, getD-set-same, getD-set-other}
+use native.Mathlib.Omega.{arith}
+use mathlib.Core.Logic.{by-cases}
+use native.Mathlib.Decide.{ℕ-discrete}
 use Rattle.sets.specs.Tests.{Set}
 use Rattle.sets.specs.Lists.{anyOf, allOf, sum}
 
@@ -44,3 +47,20 @@ sum-next xs i h = rw (drop-next xs i h)
 pub sum-end : (xs : List ℕ) (i : ℕ) → length xs ≤ i → sum (drop i xs) ≡ 0
 unfolding sum
 sum-end xs i h = rw (drop-of-length-le xs h)
+
+pub sum-append : (xs ys : List ℕ) → sum (xs ++ ys) ≡ sum xs + sum ys
+unfolding sum
+sum-append [] ys = omega arith
+sum-append (x ∷ xs) ys = let ih = sum-append xs ys in omega arith
+
+-- one element more of a front part
+pub sum-take : (xs : List ℕ) (i : ℕ) → i < length xs → sum (take (i + 1) xs) ≡ sum (take i xs) + getD xs i 0
+unfolding sum
+sum-take xs i l = rw (add-one i, take-suc xs i 0 l, sum-append (take i xs) (getD xs i 0 ∷ [])) (omega arith)
+
+-- what holds of the elements before i of a list, and of the element put at i, holds of the elements before i + 1
+pub put-next : (f : ℕ → ℕ) (xs : List ℕ) (i v : ℕ) → i < length xs → v ≡ f i → ((j : ℕ) → j < i → getD xs j 0 ≡ f j) → (j : ℕ) → j < i + 1 → getD (set xs i v) j 0 ≡ f j
+put-next f xs i v l e h j k =
+    by-cases (ℕ-discrete j i)
+    (λ x. rw x (getD-set-same xs i v 0 l ∙ e))
+    (λ x. getD-set-other xs i j v 0 x ∙ h j (omega arith))

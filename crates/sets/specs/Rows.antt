@@ -8,6 +8,10 @@ pub record Check : Type 0 where
   pub applies : Bool
   pub number : ℕ
 
+-- a test and the number of its row
+abbrev pub check : Bool → ℕ → Check
+check applies number = record { applies = applies; number = number }
+
 -- the number of the first row that applies, or 0
 unfoldable pub firstRow : List Check → ℕ
 firstRow [] = 0

@@ -1,4 +1,3 @@
-pub mod More
 pub mod Search
 pub mod Ascends
 pub mod Shift

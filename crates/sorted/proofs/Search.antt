@@ -13,9 +13,9 @@ use lib.Seq.{getD-take, length-take-le}
 use borrow.Author.Tests.{eqb-true, lt-ltb, le-ltb, eq-eqb, ne-eqb}
 use Rattle.sets.specs.Lists.{among, Above, more, Ascending, from}
 use Rattle.sets.proofs.Bools.{iff}
-use Rattle.sets.proofs.Lists.{among-in, among-out, place-of, mem-at}
+use Rattle.sets.proofs.Lists.{among-in, among-out, place-of, mem-at, among-no}
+use Rattle.sets.proofs.Ascending.{above-asc, above-at, asc-at}
 use Rattle.sorted.specs.Places.{below}
-use Rattle.sorted.proofs.More.{above-asc, above-at, asc-at, among-no}
 
 -- ---- the number of members below x
 

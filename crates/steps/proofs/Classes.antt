@@ -65,18 +65,6 @@ module _ (P : Set) (l : ℕ → ℕ) (low : (q : ℕ) → q < 8 → P q ≡ true
   unfolding class
   class-new j q e = rw e
 
-  pick : (b : Bool) (x y : ℕ) → b ≡ true → cond b x y ≡ x
-  pick b x y e = rw e
-
-  skip : (b : Bool) (x y : ℕ) → b ≡ false → cond b x y ≡ y
-  skip b x y e = rw e
-
-  one-yes : (b : Bool) → b ≡ true → one b ≡ 1
-  one-yes b e = rw e
-
-  one-no : (b : Bool) → b ≡ false → one b ≡ 0
-  one-no b e = rw e
-
   -- the rank of a member that comes in with the value j
   rank-new : (j q : ℕ) → q < 8 → cond (P q && ltb (l q) j) (class P l q) 0 + one (P q && eqb (l q) j) * count (suc j) (valued P l) ≡ cond (P q && ltb (l q) (suc j)) (class P l q) 0
   rank-new j q h =

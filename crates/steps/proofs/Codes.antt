@@ -6,7 +6,6 @@ use mathlib.Core.List.{List}
 use Prim.Native.Nat.{ℕ, _+_, _*_, _/_, _%_, _^_, _≤_, _<_}
 use native.Mathlib.Omega.{arith}
 use native.Mathlib.Decide.{decLt, ℕ-discrete}
-use native.Mathlib.Nat.{mod-lt}
 use lib.Dec.{leb, ltb}
 use borrow.Author.Tests.{eqb-true, eq-eqb, ne-eqb, lt-ltb, le-ltb}
 use Rattle.sets.specs.Tests.{Set, largest}
@@ -22,7 +21,7 @@ use Rattle.theory.specs.Code.{fields, pack, setIn, rankIn, componentIn, classes
 use Rattle.theory.specs.Macrostate.{before, onward, goes}
 use Rattle.theory.proofs.Classes.{rank-max}
 use Rattle.theory.proofs.Cores.{next-low}
-use Rattle.theory.proofs.Goes.{rank-small, set-trim, rank-trim, before-set, before-rank, is-before, turn-component, turn-classes, stay-component, stay-classes, is-turned, is-stayed, goes-before, goes-onward, is-goes}
+use Rattle.theory.proofs.Goes.{rank-small, set-trim, rank-trim, before-set, before-rank, is-before, turn-component, turn-classes, stay-component, stay-classes, is-turned, is-stayed, goes-before, goes-onward, is-goes, component-small, classes-small}
 use Rattle.theory.proofs.Packing as packing
 use Rattle.cores.specs.Vectors.{rankAt}
 use Rattle.cores.specs.Parts.{Parts, setOf, vectorOf}
@@ -61,10 +60,6 @@ module _ (A : Automaton) where
   unfolding backOf
   back-low few a v = core-small (earlierSet A a v) (earlierRank A a v) (λ q l. earlier-rank-low few a v q) (earlier-rank-beyond a v)
 
-  pub core-low : (v : ℕ) → v < 2 ^ 32 → coreOf A v < 2 ^ 40
-  unfolding coreOf
-  core-low v h = let m = mask-lt 8 (setOf A v) in omega arith
-
   -- the parts of a code
   module _ (c : ℕ) (w : wellCoded A c ≡ true) where
     unpacked : c ≡ (componentIn c + 16 * classesIn c) * 2 ^ 40 + (vectorOf A (rankIn A c) * 2 ^ 8 + mask 8 (setIn A c))
@@ -79,14 +74,6 @@ module _ (A : Automaton) where
 
     pub pair-in : c / 2 ^ 40 ≡ componentIn c + 16 * classesIn c
     pair-in = let u = unpacked in let s = small in omega arith
-
-component-low : (c : ℕ) → componentIn c < 16
-unfolding componentIn
-component-low c = mod-lt (c / 2 ^ 40) {m = 16} (omega arith)
-
-classes-low : (c : ℕ) → classesIn c < 16
-unfolding classesIn
-classes-low c = mod-lt (c / 2 ^ 44) {m = 16} (omega arith)
 
 module _ (A : Automaton) (parts : List ℕ) (P : Parts A parts) (c a d : ℕ) (wc : wellCoded A c ≡ true) (known : componentIn c < A .components) (wd : wellCoded A d ≡ true) (C : Core A (setIn A d) (rankIn A d)) where
   -- the vector of d's ranks
@@ -150,10 +137,10 @@ module _ (A : Automaton) (parts : List ℕ) (P : Parts A parts) (c a d : ℕ) (w
     repacked = let p = pair-in A c wc in let k = pack-key A (earlierSet A a v) (earlierRank A a v) (componentIn c) (classesIn c) rank-beyond in omega (arith, e)
 
     set-of-back : setIn A c ≡ earlierSet A a v
-    set-of-back = ap (setIn A) repacked ∙ packing.set-is A (P .few-states) (earlierSet A a v) (earlierRank A a v) (componentIn c) (classesIn c) set-beyond rank-beyond rank-sixteen (component-low c) (classes-low c)
+    set-of-back = ap (setIn A) repacked ∙ packing.set-is A (P .few-states) (earlierSet A a v) (earlierRank A a v) (componentIn c) (classesIn c) set-beyond rank-beyond rank-sixteen (component-small c) (classes-small c)
 
     rank-of-back : rankIn A c ≡ earlierRank A a v
-    rank-of-back = ap (rankIn A) repacked ∙ packing.rank-is A (P .few-states) (earlierSet A a v) (earlierRank A a v) (componentIn c) (classesIn c) set-beyond rank-beyond rank-sixteen (component-low c) (classes-low c)
+    rank-of-back = ap (rankIn A) repacked ∙ packing.rank-is A (P .few-states) (earlierSet A a v) (earlierRank A a v) (componentIn c) (classesIn c) set-beyond rank-beyond rank-sixteen (component-small c) (classes-small c)
 
     before-out : before A c a d ≡ true
     before-out = is-before A c a d
@@ -177,10 +164,10 @@ module _ (A : Automaton) (parts : List ℕ) (P : Parts A parts) (c a d : ℕ) (w
   pair = c / 2 ^ 40
 
   pair-component : pair % 16 ≡ componentIn c
-  pair-component = let p = pair-in A c wc in let h = component-low c in omega arith
+  pair-component = let p = pair-in A c wc in let h = component-small c in omega arith
 
   pair-classes : pair / 16 ≡ classesIn c
-  pair-classes = let p = pair-in A c wc in let h = component-low c in omega arith
+  pair-classes = let p = pair-in A c wc in let h = component-small c in omega arith
 
   onto-turn : classesIn c ≡ 0 → ontoOf A a v pair ≡ nextComponent A (componentIn c) + 16 * allClasses A a v (nextComponent A (componentIn c))
   unfolding ontoOf
@@ -201,12 +188,12 @@ module _ (A : Automaton) (parts : List ℕ) (P : Parts A parts) (c a d : ℕ) (w
     onward-out : d / 2 ^ 40 ≡ ontoOf A a v pair → onward A c a d ≡ true
     onward-out e = by-cases (ℕ-discrete (classesIn c) 0)
         (λ z. let p = sym (pair-in A d wd) ∙ e ∙ onto-turn z in
-        let b = next-low A (componentIn c) known in let l = component-low d in let f = P .few-components in
+        let b = next-low A (componentIn c) known in let l = component-small d in let f = P .few-components in
         let n : componentIn d ≡ nextComponent A (componentIn c) = omega arith in
         let k : classesIn d ≡ allClasses A a v (nextComponent A (componentIn c)) = omega arith in
         is-turned A c a d z n (k ∙ ap (allClasses A a v) (sym n) ∙ turned-is))
         (λ z. let p = sym (pair-in A d wd) ∙ e ∙ onto-stay z in
-        let b = component-low c in let l = component-low d in
+        let b = component-small c in let l = component-small d in
         let n : componentIn d ≡ componentIn c = omega arith in
         let k : classesIn d ≡ levelLeft A a v (componentIn c) (classesIn c) = omega arith in
         is-stayed A c a d z n (k ∙ stayed-is S r))

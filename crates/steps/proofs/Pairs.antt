@@ -52,12 +52,6 @@ unfolding classCount
 class-count-low v part = count-max 15 (λ j. taken v part (suc j))
 
 module _ (ranks : ℕ) (parts : List ℕ) (C : ℕ) (levels : List ℕ) where
-  abbrev K : ℕ → ℕ
-  K x = x % 16
-
-  abbrev k : ℕ → ℕ
-  k x = x / 16
-
   abbrev cls : ℕ → ℕ
   cls = classesAt ranks parts C levels
 
@@ -90,20 +84,6 @@ module _ (ranks : ℕ) (parts : List ℕ) (C : ℕ) (levels : List ℕ) where
 
   lev-low : (c p : ℕ) → lev c p < 16
   lev-low c p = mod-lt (getD levels c 0 / 2 ^ (4 * p)) {m = 16} (omega arith)
-
-  -- what a pair goes on to is a pair
-  module _ (few : C ≤ 8) (x : ℕ) (kx : x % 16 < C) where
-    pub onward-low : onwardIn ranks parts C levels x < 256
-    onward-low =
-        by-cases (ℕ-discrete (x / 16) 0)
-        (λ z. let n = next-lt C (x % 16) kx in let h = class-count-low ranks (getD parts (nextIn C (x % 16)) 0) in omega (arith, onward-turn x z))
-        (λ z. let h = lev-low (x % 16) (x / 16) in omega (arith, onward-stay x z))
-
-    pub onward-known : onwardIn ranks parts C levels x % 16 < C
-    onward-known =
-        by-cases (ℕ-discrete (x / 16) 0)
-        (λ z. let n = next-lt C (x % 16) kx in omega (arith, onward-turn x z))
-        (λ z. omega (arith, onward-stay x z))
 
   -- ---- x goes on to y exactly if it is y's candidate for its own k
 

@@ -14,36 +14,29 @@ use borrow.Author.Tests.{eq-eqb, ne-eqb, lt-ltb, le-ltb, ltb-true, le-leb}
 use Rattle.sets.specs.Tests.{every, largest}
 use Rattle.sets.specs.Masks.{bit, mask, xor}
 use Rattle.sets.specs.Digits.{num}
-use Rattle.sets.proofs.Bools.{bif, and-l}
+use Rattle.sets.proofs.Bools.{bif, and-l, xor-twice}
 use Rattle.sets.proofs.Tests.{largest-le, largest-ext}
 use Rattle.sets.proofs.Masks.{mask-lt, bit-mask}
 use Rattle.sets.proofs.Bits.{bit-xor, bit-high, mask-unique}
-use Rattle.sets.proofs.Digits.{num-ext, digit-num}
+use Rattle.sets.proofs.Digits.{num-ext, digit-num, pow16}
 use Rattle.theory.specs.Rule.{satisfies}
-use Rattle.theory.specs.Automaton.{Automaton}
+use Rattle.theory.specs.Automaton.{Automaton, Layered}
 use Rattle.theory.specs.Core.{Earlier, isOpen, rankOf, openOf, nextComponent}
-use Rattle.theory.proofs.Certified.{Layered}
 use Rattle.theory.proofs.Satisfies.{satisfies-ext}
 use Rattle.theory.proofs.Cores.{open-ext, earlier-of}
 use Rattle.cores.specs.Vectors.{rankAt, Within}
 use Rattle.cores.specs.Used.{classCount, gapless, capsOf}
 use Rattle.cores.specs.Parts.{Parts, setOf, vectorOf}
-use Rattle.cores.proofs.Vectors.{hex}
 use Rattle.cores.proofs.Sums.{sum-ext, sum-ranks}
 use Rattle.cores.proofs.Gaps.{rank-low}
-use Rattle.cores.proofs.Cores.{open-rank, part-state, part-none, set-beyond, rank-beyond, rank-eight, only-cores, classes-largest}
+use Rattle.cores.proofs.Cores.{open-rank, part-state, part-none, rank-eight, only-cores, classes-largest}
 use Rattle.steps.specs.Step.{goal, level, class, levelDigits, Rising, Back, ranksIn}
 use Rattle.steps.specs.Onward.{nextIn, onwardIn}
 use Rattle.satisfaction.specs.Opens.{setFrom, openBefore, Opens}
-use Rattle.steps.specs.Earlier.{earlierSet, earlierLevel, earlierRank, coreOf, backOf, levelLeft, allClasses, ontoOf}
+use Rattle.steps.specs.Earlier.{earlierSet, earlierLevel, earlierRank, backOf, levelLeft, allClasses, ontoOf}
 use Rattle.steps.proofs.Component.{level-low}
 use Rattle.steps.proofs.Pairs.{next-lt, onward-turn, onward-stay}
 use Rattle.steps.proofs.Theory.{Masks, rises, ranks-are, left-is}
-
-xor-twice : (a b : Bool) → xor a (xor a b) ≡ b
-xor-twice true true = refl
-xor-twice true false = refl
-xor-twice false b = refl
 
 xor-off : (a b : Bool) → xor (xor a b) a ≡ b
 xor-off true true = refl
@@ -148,24 +141,6 @@ module _ (A : Automaton) (H : Layered A) (s : ℕ) (opens parts : List ℕ) (P :
         (λ l. ap₂ xor (open-is q l) (same q l) ∙ xor-off (A .accepting q) (earlierSet A a v q))
         (λ l. ap₂ xor (bit-high (A .n) (getD opens (a * 256 + opened) 0) q entry-small (omega arith)) (bit-high (A .n) accepting q fits (omega arith)) ∙ sym (earlier-beyond q (omega arith))))
 
-    -- the set of the later core
-    pub later-set-is : bitXor opened accepting ≡ mask 8 (setOf A v)
-    unfolding isOpen
-    later-set-is = mask-unique 8 (bitXor opened accepting) (setOf A v) (xor-lt 8 opened accepting opened-small (below-256 _ fits))
-        (λ q k. bit-xor opened accepting q ∙ by-cases (decLt q (A .n))
-        (λ l. ap₂ xor (opened-bit q l) (same q l) ∙ xor-off (A .accepting q) (setOf A v q))
-        (λ l. ap₂ xor (opened-beyond q (omega arith) k) (bit-high (A .n) accepting q fits (omega arith)) ∙ sym (set-beyond A v q (omega arith))))
-      where
-        opened-beyond : (q : ℕ) → A .n ≤ q → q < 8 → bit opened q ≡ false
-        opened-beyond q l k =
-            ap (λ (x : ℕ). bit x q) (lowest 15 (omega arith)) ∙ bit-mask 8 (λ p. ltb 0 (rankAt v p) && leb (rankAt v p) 15) q k
-            ∙ ap (λ (x : ℕ). ltb 0 x && leb x 15) (rank-beyond A parts P v w q l k)
-
-    -- the number of the later core, as core_of makes it
-    pub later-is : v * 2 ^ 8 + bitXor opened accepting ≡ coreOf A v
-    unfolding coreOf
-    later-is = ap (λ (y : ℕ). v * 2 ^ 8 + y) later-set-is
-
   -- ---- what step_back leaves
 
   module _ (ranks : ℕ) (levels : List ℕ) (B : Back opens a opened parts (A .components) low ranks levels) where
@@ -188,7 +163,7 @@ module _ (A : Automaton) (H : Layered A) (s : ℕ) (opens parts : List ℕ) (P :
     pub level-is : (c k : ℕ) → c < A .components → k < 16 → getD levels c 0 / 2 ^ (4 * k) % 16 ≡ levelLeft A a v c k
     unfolding levelDigits levelLeft earlierLevel
     level-is c k l h =
-        ap₂ (λ (x y : ℕ). x / y % 16) (B .levelled c l) (hex k)
+        ap₂ (λ (x y : ℕ). x / y % 16) (B .levelled c l) (pow16 k)
         ∙ digit-num 16 (omega arith) 16 _ (λ j m. nibble-low c j l) k h
         ∙ left-is A opens a opened (getD parts c 0) low c (setOf A v) (rankAt v) (masks-at c l) (earlierSet A a v) earlier-exact k
         ∙ largest-ext (A .n) _ _ (earlierLevel A a v) (λ q m. ap (λ (x : ℕ). openOf A (earlierSet A a v) c q && leb x k) (sym (earlier-rank q m)))

@@ -1,9 +1,9 @@
 -- The step back on masks is the step back of the theory.
 use mathlib.Core.Path.{_≡_, refl, ap, ap₂, sym, _∙_}
 use mathlib.Core.Logic.{by-cases}
-use mathlib.Core.Bool.{Bool, true, false, _&&_, _||_, not, cond}
+use mathlib.Core.Bool.{Bool, true, false, _&&_, _||_, not, cond, Bool·not-not}
 use mathlib.Core.List.{List}
-use Prim.Native.Nat.{ℕ, suc, _+_, _-_, _*_, _≤_, _<_}
+use Prim.Native.Nat.{ℕ, suc, _+_, _*_, _≤_, _<_}
 use native.Mathlib.Omega.{arith}
 use native.Mathlib.Decide.{decLt}
 use lib.Dec.{eqb, leb, ltb}
@@ -16,7 +16,7 @@ use Rattle.theory.specs.Rule.{satisfies}
 use Rattle.sets.specs.Digits.{num}
 use Rattle.theory.specs.Automaton.{Automaton}
 use Rattle.theory.specs.Core.{isOpen, mix, rejectingSettled, acceptingSettled, settled, test, levelOf, taken, rankOf, openOf}
-use Rattle.sets.proofs.Bools.{bif, clash, and-l, and-r, and-i}
+use Rattle.sets.proofs.Bools.{bif, clash, and-l, and-r, and-i, xor-twice}
 use Rattle.theory.proofs.Satisfies.{satisfies-ext}
 use Rattle.sets.proofs.Tests.{some-ext, some-trim, count-ext, first-ext, largest-ext, largest-trim, largest-values}
 use Rattle.sets.proofs.Masks.{bit-mask}
@@ -36,15 +36,6 @@ arg-bit false true true = refl
 arg-bit false true false = refl
 arg-bit false false true = refl
 arg-bit false false false = refl
-
-xor-back : (a t : Bool) → xor a (xor a t) ≡ t
-xor-back true true = refl
-xor-back true false = refl
-xor-back false t = refl
-
-not-not : (t : Bool) → not (not t) ≡ t
-not-not true = refl
-not-not false = refl
 
 and-true : (b : Bool) → b && true ≡ b
 and-true true = refl
@@ -105,14 +96,14 @@ module _ (W : Automaton) (opens : List ℕ) (a opened part : ℕ) (low : List �
   acc-case j q l m e t p k =
       ap (xor (W .accepting p)) (arg-in j p l k) ∙ rw e (bif (eqb (W .component p) K)
       (λ u. rw (u, h .pure p q k m (eqb-true _ _ u ∙ sym e) ∙ t))
-      (λ u. rw u (xor-back (W .accepting p) (T p) ∙ sym (not-not (T p)))))
+      (λ u. rw u (xor-twice (W .accepting p) (T p) ∙ sym (Bool·not-not (T p)))))
 
   rej-case : (j q : ℕ) → j < 16 → q < W .n → W .component q ≡ K → W .accepting q ≡ false → (p : ℕ) → p < W .n → setFrom W (arg j) p ≡ mix W q T (D j) p
   unfolding mix isOpen setFrom
   rej-case j q l m e t p k =
       ap (xor (W .accepting p)) (arg-in j p l k) ∙ rw e (bif (eqb (W .component p) K)
       (λ u. rw (u, h .pure p q k m (eqb-true _ _ u ∙ sym e) ∙ t))
-      (λ u. rw u (xor-back (W .accepting p) (T p))))
+      (λ u. rw u (xor-twice (W .accepting p) (T p))))
 
   -- the entry of the table at arg j, at a state q of K: 01's condition for a rejecting component
   pub rejecting-is : (j q : ℕ) → j < 16 → q < W .n → W .component q ≡ K → W .accepting q ≡ false
@@ -176,7 +167,7 @@ module _ (W : Automaton) (opens : List ℕ) (a opened part : ℕ) (low : List �
   module _ (S : Set) (exact : (q : ℕ) → q < W .n → S q ≡ satisfies (W .n) T (W .entry q a)) where
     from-opened : (p : ℕ) → p < W .n → setFrom W opened p ≡ T p
     unfolding setFrom isOpen
-    from-opened p k = ap (xor (W .accepting p)) (h .opened-bits p k) ∙ xor-back (W .accepting p) (T p)
+    from-opened p k = ap (xor (W .accepting p)) (h .opened-bits p k) ∙ xor-twice (W .accepting p) (T p)
 
     pub goal-is : (q : ℕ) → q < W .n → W .component q ≡ K → bit (goal opens a opened part low) q ≡ isOpen W S q
     unfolding goal isOpen

@@ -4,11 +4,11 @@ use mathlib.Core.Logic.{_↔_}
 use mathlib.Core.Bool.{true}
 use Prim.Native.Nat.{ℕ, zero, suc, _*_, _≤_, _<_}
 use Rattle.sets.specs.Tests.{Set}
-use Rattle.theory.specs.Automaton.{Automaton}
+use Rattle.theory.specs.Automaton.{Automaton, Layered}
 use Rattle.theory.specs.Core.{isOpen}
 use Rattle.theory.specs.Plan.{Accepts}
 use Rattle.theory.specs.Word.{place}
-use Rattle.theory.proofs.Certified.{Layered, discharged, Run}
+use Rattle.theory.proofs.Certified.{discharged, Run}
 use Rattle.theory.proofs.Existence.{rk, work, run}
 use Rattle.theory.proofs.FixedPoint.{Sp, Si, wi, exact, near-open, trimmed, solved-certified, discharged-steps}
 use Rattle.theory.proofs.PlanOfSet.{accepted}

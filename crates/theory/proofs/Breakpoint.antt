@@ -11,9 +11,9 @@ use borrow.Author.Tests.{leb-true, le-leb, eq-eqb}
 use Rattle.sets.specs.Tests.{Set}
 use Rattle.sets.proofs.Bools.{and-l, and-r, and-i}
 use Rattle.sets.proofs.Tests.{largest-ge}
-use Rattle.theory.specs.Automaton.{Automaton}
+use Rattle.theory.specs.Automaton.{Automaton, Layered}
 use Rattle.theory.specs.Core.{isOpen, settled, test, openOf, nextComponent}
-use Rattle.theory.proofs.Certified.{Layered, discharged, Certified, Run}
+use Rattle.theory.proofs.Certified.{discharged, Certified, Run}
 use Rattle.theory.proofs.Cores.{next-below, next-last, next-low}
 use Rattle.theory.proofs.Ranks.{settled-open, levAt, lev-test, rank-pos}
 use Rattle.theory.proofs.Settled.{settled-mono}

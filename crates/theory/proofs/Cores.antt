@@ -1,7 +1,7 @@
 -- Cores: the test for one, ranks counted from any numbering of the open states, and the earlier core.
 use mathlib.Core.Path.{_≡_, refl, sym, _∙_, ap, ap₂}
 use mathlib.Core.Logic.{_↔_, by-cases}
-use mathlib.Core.Bool.{Bool, true, false, _&&_, not, cond, xor}
+use mathlib.Core.Bool.{Bool, true, false, _&&_, not, cond}
 use Prim.Native.Nat.{ℕ, zero, suc, _+_, _≤_, _<_}
 use native.Mathlib.Omega.{arith}
 use native.Mathlib.Nat.{le-trans, le-of-eq}
@@ -11,13 +11,11 @@ use borrow.Author.Tests.{eqb-true, eq-eqb, ne-eqb, lt-ltb, le-ltb, ltb-true, leb
 use Rattle.sets.specs.Tests.{Set, every, one, some, count, largest}
 use Rattle.sets.proofs.Bools.{bif, and-l, and-r, and-i, iff}
 use Rattle.sets.proofs.Tests.{every-at, every-all, some-at, some-get, some-none, count-hit, count-max, largest-hit, largest-ge, largest-le}
-use Rattle.theory.specs.Automaton.{Automaton}
+use Rattle.theory.specs.Automaton.{Automaton, Layered}
 use Rattle.theory.specs.Core.{isOpen, Core, Earlier, levelOf, taken, rankOf, isCore, openOf, nextComponent}
 use Rattle.theory.specs.Rule.{satisfies}
-use Rattle.theory.proofs.Certified.{Layered}
 use Rattle.theory.proofs.Classes.{rank-comp, rank-order, rank-open-is, rank-upto, taken-own}
 use Rattle.theory.proofs.Levels.{least-unique, least-classes, level-least}
-use Rattle.theory.proofs.Pursuit.{open-acc, open-rej}
 
 -- a test of just the numbers from 1 to m holds at m numbers
 count-from-one : (N m : ℕ) (f : Set) → m ≤ N → f 0 ≡ false → ((j : ℕ) → 1 ≤ j → j ≤ m → f j ≡ true) → ((j : ℕ) → m < j → j ≤ N → f j ≡ false) → count (suc N) f ≡ m
@@ -148,21 +146,6 @@ module _ (A : Automaton) where
         bif (isOpen A S q)
         (λ o. o ∙ sym (lt-ltb 0 (r q) (C .ranked q m o)))
         (λ o. o ∙ sym (le-ltb 0 (r q) (let h = C .closed q m o in omega arith)))
-
-    -- the set follows from the ranks
-    pub set-of-ranks : (q : ℕ) → q < A .n → S q ≡ xor (A .accepting q) (ltb 0 (r q))
-    unfolding xor
-    set-of-ranks q m = rw (← open-of-rank q m) (bif (A .accepting q)
-        (λ a. rw (open-acc A S q a, a) (twice (S q)))
-        (λ a. rw (open-rej A S q a, a) (once (S q))))
-      where
-        twice : (b : Bool) → b ≡ xor true (not b)
-        twice true = refl
-        twice false = refl
-
-        once : (b : Bool) → b ≡ xor false b
-        once true = refl
-        once false = refl
 
     -- a rank of component K is at most the largest
     taken-low : (K j : ℕ) → taken A S r K j ≡ true → j ≤ largest (A .n) (openOf A S K) r
@@ -298,14 +281,3 @@ module _ (A : Automaton) where
       by-cases (ℕ-discrete (suc K) (A .components))
       (λ e. rw (next-last K e) (omega arith))
       (λ e. rw (next-below K (omega arith)) (omega arith))
-
-  -- it is the next of one component only
-  pub next-inj : (K L : ℕ) → K < A .components → L < A .components → nextComponent A K ≡ nextComponent A L → K ≡ L
-  next-inj K L h k e =
-      by-cases (ℕ-discrete (suc K) (A .components))
-      (λ x. by-cases (ℕ-discrete (suc L) (A .components))
-      (λ y. omega arith)
-      (λ y. let u = next-last K x in let v = next-below L (omega arith) in absurd (omega arith)))
-      (λ x. let u = next-below K (omega arith) in by-cases (ℕ-discrete (suc L) (A .components))
-      (λ y. let v = next-last L y in absurd (omega arith))
-      (λ y. let v = next-below L (omega arith) in omega arith))

@@ -11,10 +11,10 @@ use borrow.Author.Tests.{leb-true, leb-false, le-leb, lt-leb, eqb-true, eq-eqb, 
 use Rattle.sets.specs.Tests.{Set, count, one, first, largest}
 use Rattle.sets.proofs.Bools.{bif, clash, and-l, and-r}
 use Rattle.sets.proofs.Tests.{first-leb, count-le, some-none, largest-le}
-use Rattle.theory.specs.Automaton.{Automaton}
+use Rattle.theory.specs.Automaton.{Automaton, Layered}
 use Rattle.theory.specs.Core.{isOpen, settled, test, taken, rankOf, openOf, nextComponent}
 use Rattle.theory.specs.Rule.{satisfies}
-use Rattle.theory.proofs.Certified.{Layered, discharged, Backed, Run}
+use Rattle.theory.proofs.Certified.{discharged, Backed, Run}
 use Rattle.theory.proofs.Classes.{rank-max, rank-order, rank-upto}
 use Rattle.theory.proofs.Distance.{discharged-le}
 use Rattle.theory.proofs.Pursuit.{discharged-open, open-rej}

@@ -1,6 +1,6 @@
 -- The solved sets of a word are certified.
 use mathlib.Core.Path.{_≡_, refl, sym, _∙_, ap}
-use mathlib.Core.Logic.{_⊎_, ⊎-elim, by-cases}
+use mathlib.Core.Logic.{⊎-elim, by-cases}
 use mathlib.Core.Bool.{Bool, true, false, _&&_, not, cond, false≢true, Bool·not-not}
 use mathlib.Core.List.{List, List·Memᴰ}
 use Prim.Native.Nat.{ℕ, zero, suc, _+_, _-_, _*_, _/_, _%_, _≤_, _<_}
@@ -14,11 +14,11 @@ use Rattle.sets.specs.Masks.{bit}
 use Rattle.sets.specs.Tests.{Set}
 use Rattle.sets.proofs.Bools.{bif, and-i}
 use Rattle.sets.proofs.Growth.{still}
-use Rattle.theory.specs.Automaton.{Automaton}
+use Rattle.theory.specs.Automaton.{Automaton, Layered}
 use Rattle.theory.specs.Core.{isOpen, mix, settled}
 use Rattle.theory.specs.Rule.{satisfies}
 use Rattle.theory.specs.Word.{place}
-use Rattle.theory.proofs.Certified.{Layered, discharged, Certified, rounds, solved}
+use Rattle.theory.proofs.Certified.{discharged, Certified, rounds, solved}
 use Rattle.theory.proofs.Pursuit.{open-acc, open-rej, mix-in, mix-out, settled-acc, settled-rej}
 use Rattle.theory.proofs.Satisfies.{satisfies-ext-in}
 use Rattle.theory.proofs.Settled.{settled-ext, settled-mono, all-acc, all-rej}

@@ -11,12 +11,11 @@ use borrow.Author.Tests.{eqb-true, eq-eqb, ne-eqb, le-ltb}
 use Rattle.sets.specs.Tests.{Set, every, largest}
 use Rattle.sets.proofs.Bools.{bif, and-l, and-r, and-i}
 use Rattle.sets.proofs.Tests.{every-at, every-all, largest-values}
-use Rattle.theory.specs.Automaton.{Automaton}
+use Rattle.theory.specs.Automaton.{Automaton, Layered}
 use Rattle.theory.specs.Code.{setIn, rankIn, componentIn, classesIn}
 use Rattle.theory.specs.Core.{isOpen, Earlier, levelOf, rankOf, openOf, nextComponent}
 use Rattle.theory.specs.Macrostate.{Goes, before, onward, goes}
 use Rattle.theory.specs.Rule.{satisfies}
-use Rattle.theory.proofs.Certified.{Layered}
 use Rattle.theory.proofs.Cores.{earlier-of, rank-unique}
 use Rattle.theory.proofs.Levels.{least-unique, level-least}
 

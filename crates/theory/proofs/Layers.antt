@@ -7,8 +7,7 @@ use Rattle.sets.proofs.Tests.{count-max}
 use Rattle.theory.specs.Rule.{Rule}
 use Rattle.theory.specs.Components.{reaches, components, isSmallest}
 use Rattle.theory.specs.Passing.{Passing}
-use Rattle.theory.specs.Automaton.{automaton}
-use Rattle.theory.proofs.Certified.{Layered}
+use Rattle.theory.specs.Automaton.{automaton, Layered}
 use Rattle.theory.proofs.Components.{height, height-in, height-out, falls, clause-leads, same-heights, few-components, component-iff, together-of-component}
 
 module _ (R : Rule) (P : Passing R) where

@@ -9,10 +9,9 @@ use borrow.Author.Tests.{leb-true, le-leb, eq-eqb}
 use Rattle.sets.specs.Tests.{Set, largest}
 use Rattle.sets.proofs.Bools.{bif, and-l, and-r, and-i}
 use Rattle.sets.proofs.Tests.{first-leb, largest-ge}
-use Rattle.theory.specs.Automaton.{Automaton}
+use Rattle.theory.specs.Automaton.{Automaton, Layered}
 use Rattle.theory.specs.Core.{Least, isOpen, settled, test, levelOf, openOf}
 use Rattle.theory.specs.Rule.{satisfies}
-use Rattle.theory.proofs.Certified.{Layered}
 use Rattle.theory.proofs.Pursuit.{open-acc, open-rej}
 use Rattle.theory.proofs.Settled.{settled-mono, all-acc, all-rej}
 

@@ -19,7 +19,6 @@ pub mod SetOfPlan
 pub mod Acceptance
 pub mod Codes
 pub mod Packing
-pub mod Earlier
 pub mod Reached
 pub mod Candidates
 pub mod Tables

@@ -1,36 +1,29 @@
 -- A packed macrostate has the parts that were packed, so a run is a run of codes.
-use mathlib.Core.Path.{_≡_, refl, sym, _∙_, ap, ap₂, fun-ext}
+use mathlib.Core.Path.{_≡_, sym, _∙_, ap, ap₂, fun-ext}
 use mathlib.Core.Logic.{by-cases}
 use mathlib.Core.Bool.{Bool, true, false, _&&_, cond}
 use Prim.Native.Nat.{ℕ, zero, suc, _+_, _*_, _/_, _%_, _^_, _≤_, _<_}
 use native.Mathlib.Omega.{arith}
-use native.Mathlib.Nat.{pow-suc}
 use native.Mathlib.Decide.{decLt, ℕ-discrete}
 use lib.Dec.{eqb, leb, ltb}
 use lib.Arith.{digits-div}
-use lib.Pow.{shr-shr, pow-add}
+use lib.Pow.{shr-shr}
 use borrow.Author.Tests.{eq-eqb, ne-eqb, lt-ltb, le-ltb}
 use Rattle.sets.specs.Digits.{num}
 use Rattle.sets.specs.Masks.{bit, mask}
 use Rattle.sets.specs.Tests.{Set}
 use Rattle.sets.proofs.Bools.{bif, and-i}
-use Rattle.sets.proofs.Digits.{digit-num}
+use Rattle.sets.proofs.Digits.{digit-num, pow16}
 use Rattle.sets.proofs.Masks.{bit-mask, mask-lt, above}
 use Rattle.sets.proofs.Tests.{every-all, largest-le, first-max}
-use Rattle.theory.specs.Automaton.{Automaton}
+use Rattle.theory.specs.Automaton.{Automaton, Layered}
 use Rattle.theory.specs.Code.{setIn, rankIn, componentIn, classesIn, fields, pack, wellCoded}
 use Rattle.theory.specs.Core.{levelOf, openOf}
 use Rattle.theory.specs.Macrostate.{isAccepting, Goes, before, onward}
 use Rattle.theory.specs.Run.{CodeRun}
 use Rattle.theory.proofs.Breakpoint.{comp-below}
-use Rattle.theory.proofs.Certified.{Layered, Run}
+use Rattle.theory.proofs.Certified.{Run}
 use Rattle.theory.proofs.Goes.{beq-same, is-goes, goes-iff}
-
-pow16 : (q : ℕ) → 2 ^ (4 * q) ≡ 16 ^ q
-pow16 zero = refl
-pow16 (suc q) =
-    let e : 4 * suc q ≡ 4 * q + 4 = omega arith in
-    ap (λ (x : ℕ). 2 ^ x) e ∙ pow-add 2 (4 * q) 4 ∙ ap (λ (x : ℕ). x * 16) (pow16 q) ∙ sym (pow-suc 16 q)
 
 module _ (A : Automaton) (small : A .n ≤ 8) (S : Set) (r : ℕ → ℕ) (K k : ℕ)
     (trim-S : (q : ℕ) → A .n ≤ q → S q ≡ false) (trim-r : (q : ℕ) → A .n ≤ q → r q ≡ 0)

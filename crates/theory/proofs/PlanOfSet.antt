@@ -11,11 +11,11 @@ use Rattle.sets.specs.Masks.{bit, inside}
 use Rattle.sets.specs.Tests.{Set, first}
 use Rattle.sets.proofs.Bools.{bif, or-rt, or-tf}
 use Rattle.sets.proofs.Tests.{every-at, first-leb}
-use Rattle.theory.specs.Automaton.{Automaton}
+use Rattle.theory.specs.Automaton.{Automaton, Layered}
 use Rattle.theory.specs.Core.{isOpen, mix}
 use Rattle.theory.specs.Plan.{Reach, here, on, Accepts}
 use Rattle.theory.specs.Rule.{satisfies}
-use Rattle.theory.proofs.Certified.{Layered, discharged}
+use Rattle.theory.proofs.Certified.{discharged}
 use Rattle.theory.proofs.Distance.{discharged-le}
 use Rattle.theory.proofs.Pursuit.{open-rej, mix-in, mix-out, settled-rej, discharged-open, discharged-settled}
 

@@ -9,10 +9,10 @@ use lib.Dec.{eqb}
 use borrow.Author.Tests.{eqb-true, eqb-false}
 use Rattle.sets.specs.Tests.{Set}
 use Rattle.sets.proofs.Bools.{bif, and-l, and-r, not-t, not-f}
-use Rattle.theory.specs.Automaton.{Automaton}
+use Rattle.theory.specs.Automaton.{Automaton, Layered}
 use Rattle.theory.specs.Core.{isOpen, mix, acceptingSettled, rejectingSettled, settled}
 use Rattle.theory.specs.Rule.{satisfies}
-use Rattle.theory.proofs.Certified.{Layered, discharged, Certified}
+use Rattle.theory.proofs.Certified.{discharged, Certified}
 use Rattle.theory.proofs.Satisfies.{split}
 
 -- ---- the definitions, by cases

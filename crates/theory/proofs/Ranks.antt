@@ -11,10 +11,10 @@ use borrow.Author.Tests.{leb-true, leb-false, le-leb, lt-leb, eqb-true, eqb-fals
 use Rattle.sets.specs.Tests.{Set, count}
 use Rattle.sets.proofs.Bools.{bif, clash, and-i}
 use Rattle.sets.proofs.Tests.{some-ext, some-at, count-ext, count-le, count-lt}
-use Rattle.theory.specs.Automaton.{Automaton}
+use Rattle.theory.specs.Automaton.{Automaton, Layered}
 use Rattle.theory.specs.Core.{isOpen, settled, test, levelOf, taken, rankOf}
 use Rattle.theory.specs.Rule.{satisfies}
-use Rattle.theory.proofs.Certified.{Layered, discharged, Certified, Backed}
+use Rattle.theory.proofs.Certified.{discharged, Certified, Backed}
 use Rattle.theory.proofs.Pursuit.{discharged-open}
 use Rattle.theory.proofs.Levels.{open-settled, level-test}
 pub use Rattle.theory.proofs.Settled.{settled-ext, settled-mono, not-mono, all-acc, all-rej}

@@ -9,7 +9,8 @@ use Rattle.sets.specs.Lists.{among, anyOf, Ascending}
 use Rattle.sets.specs.Tests.{Set}
 use Rattle.sets.proofs.Bools.{iff, or-cases}
 use Rattle.sets.proofs.Growth.{still}
-use Rattle.sets.proofs.Lists.{among-in, among-out, any-in, any-out, keep-in, keep-out, place-of, sorted-in, sorted-out, sorted-asc}
+use Rattle.sets.proofs.Lists.{among-in, among-out, any-in, any-out, keep-in, keep-out, place-of}
+use Rattle.sets.proofs.Ascending.{sorted-asc, sorted-in, sorted-out}
 use Rattle.theory.specs.Table.{reachedIn, reached}
 
 -- the members of a list that are reached from its starts along the edges

@@ -3,7 +3,7 @@ use mathlib.Core.Path.{_≡_, refl, sym, _∙_, ap, subst₂}
 use mathlib.Core.Logic.{_⊎_, ⊎-elim}
 use mathlib.Core.Bool.{true, false, _&&_, _||_, not, false≢true}
 use mathlib.Core.List.{List, [], _∷_, List·Memᴰ, List·Memᴰ·cases-cons, List·Memᴰ·not-nil}
-use Prim.Native.Nat.{ℕ, zero, suc, _+_, _-_, _*_, _/_, _%_, _≤_, _<_}
+use Prim.Native.Nat.{ℕ, zero, suc, _+_, _*_, _/_, _%_, _≤_, _<_}
 use native.Mathlib.Omega.{arith}
 use lib.Dec.{eqb, ltb}
 use lib.Arith.{digits-div, digits-mod, digits-lt}
@@ -12,11 +12,11 @@ use Rattle.sets.specs.Masks.{bit, inside}
 use Rattle.sets.specs.Tests.{Set, count, one}
 use Rattle.sets.proofs.Bools.{bif, or-fl, or-fr, or-cases, not-f, not-t}
 use Rattle.sets.proofs.Tests.{every-not, count-max}
-use Rattle.theory.specs.Automaton.{Automaton}
+use Rattle.theory.specs.Automaton.{Automaton, Layered}
 use Rattle.theory.specs.Core.{isOpen, mix}
 use Rattle.theory.specs.Plan.{Reach, here, on, Accepts}
 use Rattle.theory.specs.Rule.{satisfies}
-use Rattle.theory.proofs.Certified.{Layered, discharged}
+use Rattle.theory.proofs.Certified.{discharged}
 use Rattle.theory.proofs.Classes.{insert-t}
 use Rattle.theory.proofs.Pursuit.{open-acc, mix-in, mix-out, settled-acc, discharged-open, discharged-settled}
 

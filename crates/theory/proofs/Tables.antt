@@ -14,9 +14,10 @@ use borrow.Author.Tests.{eqb-true, eq-eqb}
 use Rattle.sets.specs.Lists.{tabulate, flat, Ascending}
 use Rattle.sets.specs.Tests.{Set, some, largest}
 use Rattle.sets.proofs.Bools.{and-l, and-r, and-i}
-use Rattle.sets.proofs.Lists.{keep-in, keep-out, sorted-in, sorted-out, sorted-asc, mem-at, place-of, asc-inj, tabulate-0, tabulate-out, flat-in, flat-out}
+use Rattle.sets.proofs.Lists.{keep-in, keep-out, mem-at, place-of, tabulate-0, tabulate-out, flat-in, flat-out}
 use Rattle.sets.proofs.Tests.{some-at, some-get, largest-le}
-use Rattle.theory.specs.Automaton.{Automaton, automaton}
+use Rattle.sets.proofs.Ascending.{asc-inj, sorted-asc, sorted-in, sorted-out}
+use Rattle.theory.specs.Automaton.{Automaton, automaton, Layered}
 use Rattle.theory.specs.Code.{setIn, rankIn, componentIn, classesIn, wellCoded}
 use Rattle.theory.specs.Core.{isOpen, isCore, openOf}
 use Rattle.theory.specs.Macrostate.{begun, Macrostate, Goes, goes, Reachable, begins, goesTo}
@@ -25,7 +26,6 @@ use Rattle.theory.specs.Rule.{Rule}
 use Rattle.theory.specs.Run.{sourceOf, letterOf, targetOf, Leads, AcceptingRun, CodeRun}
 use Rattle.theory.specs.Table.{candidates, cores, codesFrom, transitionsOf, Transition, macrostatesFrom, transitionsFrom}
 use Rattle.theory.proofs.Candidates.{candidate}
-use Rattle.theory.proofs.Certified.{Layered}
 use Rattle.theory.proofs.Codes.{code-unique}
 use Rattle.theory.proofs.Cores.{core-iff, core-rank-max, classes-max, level-classes, next-low}
 use Rattle.theory.proofs.Goes.{goes-iff}
@@ -308,9 +308,6 @@ module _ (r : Rule) (P : Passing r) where
 
   pub letters-fit : r .s ≤ 256
   letters-fit = let h = P .formed .few-letters in omega arith
-
-  pub rule-goes-iff : (c a d : ℕ) → (goes (automaton r) c a d ≡ true) ↔ Goes (automaton r) c a d
-  rule-goes-iff = goes-iff (automaton r) (layered r P)
 
   module _ (start : Set) where
     -- the listed codes are those of the reachable macrostates

@@ -20,12 +20,12 @@ use Rattle.sets.proofs.Lists.{length-tabulate, tabulate-at}
 use Rattle.theory.specs.Rule.{Rule, entry, satisfies}
 use Rattle.theory.specs.Components.{reaches}
 use Rattle.theory.specs.Passing.{Passing}
-use Rattle.theory.specs.Automaton.{Automaton, automaton}
+use Rattle.theory.specs.Automaton.{Automaton, automaton, Layered}
 use Rattle.theory.specs.Core.{isOpen, settled}
 use Rattle.theory.specs.Word.{places, nextPlace, letterAt, WordOver}
 use Rattle.theory.specs.Plan.{AcceptsFrom}
 use Rattle.theory.specs.Truth.{heightOf, layer, roundsAt, solvedBelow, truthMasks}
-use Rattle.theory.proofs.Certified.{Layered, rounds, solved}
+use Rattle.theory.proofs.Certified.{rounds, solved}
 use Rattle.theory.proofs.Components.{height, height-in, height-out, falls, clause-leads, same-heights, together-of-component}
 use Rattle.theory.proofs.FixedPoint.{Sp, exact, near-open}
 use Rattle.theory.proofs.Layers.{layered}

@@ -16,22 +16,19 @@ use Rattle.sets.proofs.Bools.{bif, clash, not-t, iff}
 use Rattle.sets.proofs.Bits.{bit-ext, mask-unique}
 use Rattle.theory.specs.Rule.{Rule, entry, satisfies}
 use Rattle.theory.specs.Passing.{Passing}
-use Rattle.theory.specs.Automaton.{Automaton, automaton}
+use Rattle.theory.specs.Automaton.{Automaton, automaton, Layered}
 use Rattle.theory.specs.Core.{isOpen, settled}
 use Rattle.theory.specs.Word.{places, nextPlace, letterAt}
 use Rattle.theory.specs.Truth.{heightOf, truthMasks}
-use Rattle.theory.proofs.Certified.{Layered, discharged, Certified}
+use Rattle.theory.proofs.Certified.{discharged, Certified}
 use Rattle.theory.proofs.FixedPoint.{exact, near-open}
 use Rattle.theory.proofs.Pursuit.{open-acc, open-rej, unique, discharged-settled}
 use Rattle.theory.proofs.Ranks.{settled-ext, settled-mono}
 use Rattle.theory.proofs.Satisfies.{satisfies-ext, satisfies-mono-in}
 use Rattle.theory.proofs.Truth.{stays, heights, height-is, settled-by-acc, settled-by-rej, truth, certain, truth-certain, truth-exact, truth-length, truth-lt}
+use Rattle.theory.proofs.Cores.{open-ext}
 
 module _ (R : Automaton) (S T : Set) (q : ℕ) where
-  open-same : S q ≡ T q → isOpen R S q ≡ isOpen R T q
-  unfolding isOpen
-  open-same e = ap (λ (b : Bool). cond (R .accepting q) (not b) b) e
-
   open-back : isOpen R S q ≡ isOpen R T q → S q ≡ T q
   open-back e =
       bif (R .accepting q)
@@ -121,7 +118,7 @@ module _ (r : Rule) (P : Passing r) (lead cycle : List ℕ) (repeats : 0 < lengt
         let C = certain r P lead cycle repeats in
         let z = truth-certain r P lead cycle repeats p q l k in
         open-back A (M p) (T p) q (iff (isOpen A (M p) q) (isOpen A (T p) q) (sound p q l k e)
-        (λ t. complete (L * r .n) p q l k e (near-open A (heights r P) L next letter (stays lead cycle repeats) p q k (sym (open-same A (T p) (C p) q z) ∙ t))))
+        (λ t. complete (L * r .n) p q l k e (near-open A (heights r P) L next letter (stays lead cycle repeats) p q k (sym (open-ext A (T p) (C p) q z) ∙ t))))
 
 -- ---- two certified families over one word are equal
 module _ (R : Automaton) (L : ℕ) (nx w : ℕ → ℕ) where
@@ -186,10 +183,6 @@ module _ (r : Rule) (P : Passing r) (a : ℕ) (lead cycle : List ℕ) (repeats :
       by-cases (ℕ-discrete (suc p) L′)
       (λ e. let x = eq-eqb (suc p) L′ e in let y = eq-eqb (suc (suc p)) (places (a ∷ lead) cycle) (omega arith) in rw (x, y))
       (λ e. let x = ne-eqb (suc p) L′ e in let y = ne-eqb (suc (suc p)) (places (a ∷ lead) cycle) (λ f. e (omega arith)) in rw (x, y))
-
-  letter-in : (p : ℕ) → letterAt (a ∷ lead) cycle (suc p) ≡ letterAt lead cycle p
-  unfolding letterAt
-  letter-in p = refl
 
   shifted : (d p q : ℕ) → p < L′ → discharged R nx (letterAt lead cycle) (λ i. whole (suc i)) p d q ≡ discharged R (nextPlace (a ∷ lead) cycle) (letterAt (a ∷ lead) cycle) whole (suc p) d q
   unfolding discharged letterAt

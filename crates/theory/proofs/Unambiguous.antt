@@ -5,10 +5,10 @@ use Prim.Native.Nat.{ℕ, zero, suc}
 use native.Mathlib.Omega.{arith}
 use native.Mathlib.Decide.{decLt, ℕ-discrete}
 use Rattle.sets.specs.Tests.{Set}
-use Rattle.theory.specs.Automaton.{Automaton}
+use Rattle.theory.specs.Automaton.{Automaton, Layered}
 use Rattle.theory.specs.Core.{nextComponent}
 use Rattle.theory.proofs.Breakpoint.{certified}
-use Rattle.theory.proofs.Certified.{Layered, Run}
+use Rattle.theory.proofs.Certified.{Run}
 use Rattle.theory.proofs.Pursuit.{unique}
 use Rattle.theory.proofs.Ranks.{ranks-unique}
 

@@ -10,8 +10,8 @@ use native.Mathlib.Numerals.{add-one}
 use lib.ListN.{length, getD, take, set, length-set}
 use lib.Seq.{getD-take, length-take-le, take-suc-set}
 use Rattle.sets.specs.Tests.{Set}
+use Rattle.sets.proofs.Ascending.{asc-at}
 use Rattle.sorted.specs.Places.{below}
-use Rattle.sorted.proofs.More.{asc-at}
 use Rattle.sorted.proofs.Search.{below-mono, place-le, before, after}
 use Rattle.codes.specs.Codes.{transitionOf}
 use Rattle.transitions.specs.Listing.{passing, Appended}

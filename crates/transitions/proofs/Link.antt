@@ -8,8 +8,7 @@ use native.Mathlib.Omega.{arith}
 use native.Mathlib.Decide.{ℕ-discrete}
 use lib.Dec.{leb, ltb}
 use lib.Bits.{bitXor}
-use lib.ListN.{length, getD, set}
-use lib.Seq.{getD-set-same, getD-set-other}
+use lib.ListN.{getD}
 use Rattle.sets.specs.Tests.{every}
 use Rattle.sets.specs.Masks.{mask}
 use Rattle.sets.proofs.Masks.{mask-lt}
@@ -45,14 +44,6 @@ module _ {A : Automaton} {x : ℕ} (M : Macrostate A x) where
 
   pub pair-classes : x / 2 ^ 40 / 16 ≡ classesIn x
   pair-classes = let e = pair-in A x (M .coded) in let k = component-small x in omega arith
-
--- ---- an array filled from the front
-
-pub fill-next : (f : ℕ → ℕ) (l : List ℕ) (p x : ℕ) → p < length l → x ≡ f p → ((q : ℕ) → q < p → getD l q 0 ≡ f q) → (q : ℕ) → q < p + 1 → getD (set l p x) q 0 ≡ f q
-fill-next f l p x h e g q k =
-    by-cases (ℕ-discrete q p)
-    (λ u. rw u (getD-set-same l p x 0 h ∙ e))
-    (λ u. getD-set-other l p q x 0 u ∙ g q (omega arith))
 
 -- ---- a candidate is 256, or a pair with k = p
 

@@ -10,7 +10,8 @@ use lib.Seq.{length-take-le, getD-take, take-at, drop-at}
 use borrow.Author.Tests.{lt-ltb, ltb-true}
 use Rattle.sets.specs.Masks.{mask}
 use Rattle.sets.proofs.Bools.{and-l, and-r, and-i}
-use Rattle.sets.proofs.Lists.{asc-ext, mem-at}
+use Rattle.sets.proofs.Lists.{mem-at}
+use Rattle.sets.proofs.Ascending.{asc-ext}
 use Rattle.theory.specs.Automaton.{Automaton}
 use Rattle.theory.specs.Macrostate.{goes}
 use Rattle.theory.specs.Run.{sourceOf, letterOf, targetOf}

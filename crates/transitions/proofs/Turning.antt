@@ -9,12 +9,12 @@ use lib.ListN.{length, getD, take, drop, set, length-map, length-take, length-dr
 use lib.Pow.{shr-shr}
 use lib.Seq.{take-suc, drop-cons, set-at, getD-at}
 use Rattle.sets.specs.Lists.{Ascending, from}
+use Rattle.sets.proofs.Ascending.{above-asc, above-in}
 use Rattle.theory.specs.Run.{sourceOf, letterOf, targetOf}
 use Rattle.theory.proofs.Tables.{source-is, letter-is, target-is}
 use Rattle.codes.specs.Codes.{transitionOf}
 use Rattle.sorting.specs.Order.{times, Distinct}
 use Rattle.sorting.proofs.Distinct.{cons-distinct}
-use Rattle.sorted.proofs.More.{above-asc, above-in}
 use Rattle.transitions.specs.Emission.{turned}
 
 pub letter-low : (y : ℕ) → letterOf y < 256

@@ -6,21 +6,15 @@ use mathlib.Core.List.{List·Memᴰ, List·Memᴰ·head}
 use Prim.Native.Nat.{ℕ, _+_, _-_, _*_, _%_, _^_, _<_}
 use native.Mathlib.Omega.{arith}
 use native.Mathlib.Decide.{ℕ-discrete}
-use native.Mathlib.Nat.{one-mul, mod-eq-of-lt}
 use native.Mathlib.Numerals.{add-one}
-use lib.Bits.{bitAnd, bitOr, or-shifted-r}
+use lib.Bits.{bitAnd, bitOr}
 use lib.Count.{trailingZeros}
-use lib.Pow.{pow-lt}
 use borrow.Author.Tests.{eq-eqb, ne-eqb}
 use Rattle.sets.specs.Tests.{Set}
 use Rattle.sets.specs.Masks.{bit, mask, members}
 use Rattle.sets.proofs.Bits.{bit-or, bit-none, bit-shl-one}
-use Rattle.sets.proofs.Masks.{mask-lt}
+use Rattle.sets.proofs.Masks.{put-bit}
 use Rattle.sets.proofs.Members.{members-cons, members-out, rest-bit}
-
--- state q alone, as a shift
-pub alone : (q : ℕ) → q < 8 → 1 * 2 ^ q % 2 ^ 8 ≡ 2 ^ q
-alone q h = rw one-mul (mod-eq-of-lt (pow-lt h))
 
 -- the least member of a mask is one
 pub least-member : (m : ℕ) → 0 < m → m < 256 → bit m (trailingZeros 8 m) ≡ true
@@ -75,10 +69,7 @@ walk-end f found q = rw (bit-none q) (or-false (bit found q))
 
 -- one more state of the mask of a test
 pub put-yes : (q : ℕ) (f : Set) → q < 8 → f q ≡ true → bitOr (mask q f) (1 * 2 ^ q % 2 ^ 8) ≡ mask (q + 1) f
-unfolding mask
-put-yes q f l t =
-    let e : 2 ^ q ≡ 1 * 2 ^ q = sym (one-mul (2 ^ q)) in
-    rw (alone q l, e, or-shifted-r 1 q (mask q f) (mask-lt q f), add-one q, t)
+put-yes q f l t = put-bit q 1 f l (rw t)
 
 pub put-no : (q : ℕ) (f : Set) → f q ≡ false → mask q f ≡ mask (q + 1) f
 unfolding mask

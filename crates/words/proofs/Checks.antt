@@ -1,8 +1,8 @@
 -- Rows 12 to 14: each row, and the words that pass.
-use mathlib.Core.Path.{_≡_, refl, sym, _∙_, ap}
-use mathlib.Core.Logic.{_↔_, ⊎-elim}
+use mathlib.Core.Path.{_≡_, refl, sym, _∙_}
+use mathlib.Core.Logic.{_↔_}
 use mathlib.Core.Bool.{Bool, true, false, _||_}
-use mathlib.Core.List.{List, [], _∷_, List·Memᴰ, List·Memᴰ·cases-cons, List·Memᴰ·not-nil}
+use mathlib.Core.List.{List, [], _∷_, List·Memᴰ}
 use Prim.Native.Nat.{ℕ, zero, suc, _≤_, _<_}
 use native.Mathlib.Omega.{arith}
 use lib.Dec.{eqb, leb, ltb}
@@ -12,7 +12,7 @@ use Rattle.sets.specs.Lists.{anyOf}
 use Rattle.sets.specs.Rows.{Check, firstRow}
 use Rattle.sets.proofs.Bools.{bif, clash, or-fl, or-fr, or-l, or-r}
 use Rattle.sets.proofs.Lists.{any-in, any-out}
-use Rattle.sets.proofs.Rows.{NoneApplies, row-yes, row-no, row-append-hit, row-append-none}
+use Rattle.sets.proofs.Rows.{row-yes, row-no, numbered, first-left, first-right}
 use Rattle.theory.specs.Word.{WordOver}
 use Rattle.words.specs.Words.{lengthRows, letterRows, lengthRow, wordRow}
 
@@ -70,26 +70,20 @@ module _ (lead cycle : List ℕ) where
         cycle-short = ltb-false 32 (length cycle) (or-fr (ltb 32 (length lead)) (ltb 32 (length cycle)) o);
       }))
 
-  pub no-length-check : Short → NoneApplies (lengthRows lead cycle)
-  unfolding lengthRows
-  no-length-check h x m =
-      ⊎-elim
-      (λ e. ap (λ (y : Check). y .applies) e ∙ ne-eqb (length cycle) 0 (λ z. omega (arith, h .repeats)))
-      (λ k. ⊎-elim
-      (λ e. ap (λ (y : Check). y .applies) e ∙ short (h .lead-short) (h .cycle-short))
-      (λ n. absurd (List·Memᴰ·not-nil n))
-      (List·Memᴰ·cases-cons k))
-      (List·Memᴰ·cases-cons m)
+-- rows 12 and 13 have numbers
+pub lengths-numbered : (lead cycle : List ℕ) → numbered (lengthRows lead cycle) ≡ true
+unfolding numbered lengthRows
+lengths-numbered lead cycle = refl
 
 module _ (s : ℕ) (lead cycle : List ℕ) where
   -- rows 12 and 13 come first
   pub word-lengths : (k : ℕ) → 0 < k → lengthRow lead cycle ≡ k → wordRow s lead cycle ≡ k
   unfolding wordRow lengthRow
-  word-lengths k p e = row-append-hit (lengthRows lead cycle) (letterRows s lead cycle) k p e
+  word-lengths k p e = sym (first-left (lengthRows lead cycle) (letterRows s lead cycle) k (λ z. omega arith) (sym e))
 
   after : lengthRow lead cycle ≡ 0 → wordRow s lead cycle ≡ firstRow (letterRows s lead cycle)
-  unfolding wordRow
-  after e = row-append-none (lengthRows lead cycle) (letterRows s lead cycle) (no-length-check lead cycle (short-of lead cycle e))
+  unfolding wordRow lengthRow
+  after e = first-right (lengthRows lead cycle) (letterRows s lead cycle) (lengths-numbered lead cycle) e
 
   -- 14
   pub lead-letter : lengthRow lead cycle ≡ 0 → anyOf lead (λ a. leb s a) ≡ true → wordRow s lead cycle ≡ 14

@@ -4,11 +4,9 @@ use mathlib.Core.List.{List, _++_}
 use Prim.Native.Nat.{ℕ, suc, _+_, _-_, _≤_, _<_}
 use native.Mathlib.Omega.{arith}
 use native.Mathlib.Numerals.{add-one}
-use lib.Dec.{eqb}
 use lib.ListN.{length, getD, List·getD-append}
 use lib.Seq.{getD-append-add}
-use borrow.Author.Tests.{eqb-true, eqb-false, eq-eqb, ne-eqb}
-use Rattle.sets.proofs.Bools.{bif}
+use borrow.Author.Tests.{eq-eqb, ne-eqb}
 use Rattle.theory.specs.Word.{letterAt, nextPlace}
 
 module _ (lead cycle : List ℕ) (p : ℕ) where
@@ -29,10 +27,3 @@ module _ (lead cycle : List ℕ) (p : ℕ) where
   pub next-place : (p + 1 ≡ length lead + length cycle → ⊥) → nextPlace lead cycle p ≡ p + 1
   unfolding nextPlace
   next-place n = rw (ne-eqb (suc p) (length lead + length cycle) (λ e. n (add-one p ∙ e))) (sym (add-one p))
-
-  -- the place that follows is a place
-  pub next-lt : 0 < length cycle → p < length lead + length cycle → nextPlace lead cycle p < length lead + length cycle
-  next-lt h l =
-      bif (eqb (suc p) (length lead + length cycle))
-      (λ t. let e = last-place (add-one p ∙ eqb-true (suc p) (length lead + length cycle) t) in omega arith)
-      (λ t. let n = eqb-false (suc p) (length lead + length cycle) t in let e = next-place (λ x. n (sym (add-one p) ∙ x)) in let m : suc p ≡ length lead + length cycle → ⊥ = n in omega arith)

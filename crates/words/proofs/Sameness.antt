@@ -10,10 +10,10 @@ use lib.ListN.{length, getD, drop, drop-of-length-le}
 use borrow.Author.Tests.{eqb-true, eq-eqb, ne-eqb}
 use Rattle.sets.proofs.Bools.{bif, and-l, and-r, and-i}
 use Rattle.sets.proofs.Walks.{drop-next}
-use Rattle.sets.proofs.Rows.{row-append-hit, row-append-none}
+use Rattle.sets.proofs.Rows.{first-left, first-right}
 use Rattle.words.specs.declared.SameWords.the-variants.{Same, Different, Refused}
 use Rattle.words.specs.Words.{lengthRows, lengthRow, sameLetters, sameWord, sameRow, verdict, sameWordsOf}
-use Rattle.words.proofs.Checks.{short-of, no-length-check}
+use Rattle.words.proofs.Checks.{lengths-numbered}
 
 -- ---- letters
 
@@ -72,11 +72,11 @@ module _ (l₁ c₁ l₂ c₂ : List ℕ) where
   -- the first word is refused
   pub first-refused : (k : ℕ) → 0 < k → k ≡ lengthRow l₁ c₁ → sameWordsOf l₁ c₁ l₂ c₂ ≡ Refused k
   unfolding sameRow lengthRow
-  first-refused k p e = refused k p (row-append-hit (lengthRows l₁ c₁) (lengthRows l₂ c₂) k p (sym e))
+  first-refused k p e = refused k p (sym (first-left (lengthRows l₁ c₁) (lengthRows l₂ c₂) k (λ z. omega arith) e))
 
   then-second : lengthRow l₁ c₁ ≡ 0 → sameRow l₁ c₁ l₂ c₂ ≡ lengthRow l₂ c₂
   unfolding sameRow lengthRow
-  then-second e = row-append-none (lengthRows l₁ c₁) (lengthRows l₂ c₂) (no-length-check l₁ c₁ (short-of l₁ c₁ e))
+  then-second e = first-right (lengthRows l₁ c₁) (lengthRows l₂ c₂) (lengths-numbered l₁ c₁) e
 
   -- the second word is refused
   pub second-refused : (k : ℕ) → lengthRow l₁ c₁ ≡ 0 → 0 < k → k ≡ lengthRow l₂ c₂ → sameWordsOf l₁ c₁ l₂ c₂ ≡ Refused k

@@ -12,12 +12,12 @@ use lib.ListN.{length, drop, length-append}
 use lib.Seq.{paste, drop-drop, take-at, take-length, drop-append-add}
 use Rattle.sets.specs.Lists.{sum}
 use Rattle.sets.specs.Rows.{firstRow}
+use Rattle.sets.proofs.Rows.{numbered, first-left, first-right, first-parts, first-pass}
 use Rattle.theory.specs.Passing.{Passing}
 use Rattle.entries.specs.declared.Head.{Head}
 use Rattle.entries.specs.Entries.{ruleOf}
 use Rattle.rules.specs.File.{bodyOf, trailerOf}
 use Rattle.rules.specs.Rows.{numberRows, listRows, componentRows}
-use Rattle.rules.proofs.FirstRow.{numbered, first-left, first-right, first-parts, first-pass}
 use Rattle.rules.proofs.Formed.{formed, passing}
 use Rattle.writer.specs.declared.Written.the-variants.{Length, Refused}
 use Rattle.writer.specs.Written.{InBytes, ruleRows, roomRows, fileOf, writeRow, answer, writtenOf, after, sliceAfter}

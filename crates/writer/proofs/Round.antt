@@ -5,6 +5,7 @@ use mathlib.Core.List.{List, []}
 use native.Mathlib.Omega.{arith}
 use lib.ListN.{length, take, drop}
 use lib.Seq.{take-append-seam}
+use Rattle.sets.proofs.Rows.{first-parts}
 use Rattle.theory.specs.Rule.{Rule}
 use Rattle.theory.specs.Passing.{Passing}
 use Rattle.entries.specs.declared.Head.{Head}
@@ -12,7 +13,6 @@ use Rattle.entries.specs.Entries.{ruleOf}
 use Rattle.rules.specs.File.{ruleIn}
 use Rattle.rules.specs.Rows.{fileRow}
 use Rattle.rules.specs.Read.{prefaceOf}
-use Rattle.rules.proofs.FirstRow.{first-parts}
 use Rattle.rules.proofs.Layouts.{layout-accepted}
 use Rattle.writer.specs.declared.Written.the-variants.{Length}
 use Rattle.writer.specs.Written.{ruleRows, fileOf, writeRow, answer, writtenOf, after, sliceAfter}

@@ -4,11 +4,11 @@ use mathlib.Core.List.{List, [], _∷_, _++_}
 use mathlib.Core.Bool.{not}
 use lib.ListN.{length, drop}
 use lib.Dec.{ltb, eqb}
-use Rattle.sets.specs.Rows.{Check, firstRow}
+use Rattle.sets.specs.Rows.{Check, firstRow, check}
 use Rattle.entries.specs.declared.Head.{Head}
 use Rattle.entries.specs.Entries.{ruleOf}
 use Rattle.rules.specs.File.{bodyOf}
-use Rattle.rules.specs.Rows.{check, numberRows, listRows, componentRows}
+use Rattle.rules.specs.Rows.{numberRows, listRows, componentRows}
 use Rattle.writer.specs.declared.Written.{Written}
 use Rattle.writer.specs.declared.Written.the-variants.{Length, Refused}
 

@@ -1,7 +1,8 @@
 -- `build_rule` meets its contract: the tables are those of the rule.
 use native.Mathlib.Omega.{arith}
 use Rattle.entries.specs.Entries.{ruleOf}
-use Rattle.build.proofs.Ready.{accepting-byte, tables-of}
+use Rattle.entries.proofs.Entries.{accepting-small}
+use Rattle.build.proofs.Ready.{tables-of}
 use borrow.Author.Needs.{needs}
 use Rattle.build.proofs.build_rule.Statement.{statement}
 use Rattle.build.proofs.build_rule.Tie as tie
@@ -14,7 +15,7 @@ open-table-requires c κs = search needs
 
 cast-t13 : tie.Need-cast-t13
 cast-t13 c =
-    omega (arith, accepting-byte (ruleOf (c .before .before .before .before .before .before .before .before .args .h) (c .before .before .before .before .before .before .before .before .args .counts .now) (c .before .before .before .before .before .before .before .before .args .clauses .now)) (c .before .before .before .before .before .before .before .before .pre))
+    omega (arith, accepting-small (ruleOf (c .before .before .before .before .before .before .before .before .args .h) (c .before .before .before .before .before .before .before .before .args .counts .now) (c .before .before .before .before .before .before .before .before .args .clauses .now)) (c .before .before .before .before .before .before .before .before .pre .formed))
 
 build-table-requires : tie.Need-build-table-requires
 build-table-requires c κs =

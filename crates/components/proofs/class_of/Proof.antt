@@ -5,7 +5,7 @@ use mathlib.Core.Bool.{Bool, _&&_}
 use native.Mathlib.Omega.{arith}
 use lib.ListN.{getD}
 use Rattle.sets.specs.Masks.{bit, mask}
-use Rattle.entries.proofs.More.{put-bit}
+use Rattle.sets.proofs.Masks.{put-bit}
 use Rattle.components.proofs.Mixed.{both-bits}
 use Rattle.components.proofs.class_of.Statement.{statement}
 use Rattle.components.proofs.class_of.Tie as tie

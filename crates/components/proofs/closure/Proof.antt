@@ -8,8 +8,8 @@ use lib.Bits.{bitOr, or-lt}
 use lib.Pow.{pow-lt}
 use Rattle.sets.specs.Tests.{Set}
 use Rattle.sets.specs.Masks.{bit}
-use Rattle.sets.proofs.Bits.{or-ge}
-use Rattle.components.proofs.Rounds.{Closed, alone, alone-bit, alone-only, round-closed, round-least, round-keeps}
+use Rattle.sets.proofs.Bits.{or-ge, shl-one}
+use Rattle.components.proofs.Rounds.{Closed, alone-bit, alone-only, round-closed, round-least, round-keeps}
 use Rattle.components.proofs.closure.Statement.{statement}
 use Rattle.components.proofs.closure.Tie as tie
 
@@ -28,7 +28,7 @@ shl-found c = omega arith
 loop-holds : tie.Need-loop-holds Inv-loop μ-loop
 loop-holds c =
     let q = c .args .q in
-    let e = alone q (c .pre) in (
+    let e = shl-one 8 q (c .pre) in (
       rw e (pow-lt (c .pre)),
       rw e (alone-bit q),
       λ X x k t l y. rw (sym (alone-only q t (rw e at y))) x,

@@ -10,8 +10,7 @@ use Rattle.sets.specs.Masks.{bit, mask}
 use Rattle.theory.specs.Rule.{entry}
 use Rattle.theory.specs.Components.{named, leads}
 use Rattle.entries.specs.Entries.{ruleOf}
-use Rattle.sets.proofs.Bits.{bit-none}
-use Rattle.entries.proofs.More.{mask-of}
+use Rattle.sets.proofs.Bits.{bit-none, mask-of}
 use Rattle.components.proofs.Leads.{leads-next, leads-high}
 use Rattle.components.proofs.successors.Statement.{statement}
 use Rattle.components.proofs.successors.Tie as tie

@@ -2,13 +2,13 @@ use Prim.Native.Nat.{ℕ, _-_, _≤_}
 use mathlib.Core.Path.{_≡_, refl, ap, sym, _∙_}
 use mathlib.Core.Bool.{true, false}
 use native.Mathlib.Omega.{arith}
-use native.Mathlib.Numerals.{add-one}
 use lib.ListN.{getD}
 use borrow.Author.Needs.{needs}
 use Rattle.sets.specs.Tests.{every}
 use Rattle.sets.proofs.Masks.{mask-lt}
+use Rattle.sets.proofs.Tests.{every-next, every-stop}
 use Rattle.cores.specs.Used.{used, gapless}
-use Rattle.cores.proofs.Gaps.{gap-free, gap-there, every-next, every-false}
+use Rattle.cores.proofs.Gaps.{gap-free, gap-there}
 use Rattle.cores.proofs.is_core.Statement.{statement}
 use Rattle.cores.proofs.is_core.Tie as tie
 
@@ -36,7 +36,7 @@ returns c =
     let x = c .before .before .before .before .before .args .ranks in
     let l = c .before .before .before .before .loop in let parts = c .before .before .before .before .before .args .parts .now in
     let n : gapless x (getD parts (l .c) 0) ≡ false = gap-there x (getD parts (l .c) 0) (rw (sym (c .before .used-ranks .ensures)) (c .if1 .taken)) in
-    sym (every-false (c .before .before .before .before .before .args .components) (λ d. gapless x (getD parts d 0)) (l .c) (omega arith) n)
+    sym (every-stop (c .before .before .before .before .before .args .components) (λ d. gapless x (getD parts d 0)) (l .c) (omega arith) n)
 
 add-c : tie.Need-add-c Inv-loop μ-loop
 add-c c = search needs
@@ -49,7 +49,7 @@ loop-again c =
     let x = c .before .before .before .before .before .args .ranks in
     let l = c .before .before .before .before .loop in let parts = c .before .before .before .before .before .args .parts .now in
     let y : gapless x (getD parts (l .c) 0) ≡ true = gap-free x (getD parts (l .c) 0) (rw (sym (c .before .used-ranks .ensures)) (c .if1 .left)) in
-    (omega arith, rw (add-one (l .c)) (every-next (l .c) (λ d. gapless x (getD parts d 0)) (l .inv .1) y))
+    (omega arith, (every-next (l .c) (λ d. gapless x (getD parts d 0)) (l .inv .1) y))
 
 returns-2 : tie.Need-returns-2 Inv-loop μ-loop
 returns-2 c = let l = c .before .loop in let e : l .c ≡ c .before .before .args .components = omega (arith, l .inv .0) in sym (ap (λ (n : ℕ). every n (λ d. gapless (c .before .before .args .ranks) (getD (c .before .before .args .parts .now) d 0))) (sym e) ∙ l .inv .1)

@@ -3,8 +3,9 @@ use native.Mathlib.Omega.{arith}
 use lib.Bits.{and-mask, and-le-r}
 use lib.Count.{trailingZeros}
 use Rattle.sets.proofs.Members.{least-lt}
+use Rattle.sets.proofs.Bits.{shl-one}
 use Rattle.cores.specs.Vectors.{rankAt}
-use Rattle.cores.proofs.Gaps.{Walk, walk-start, walk-on, walk-end, rank-low, one-shifted}
+use Rattle.cores.proofs.Gaps.{Walk, walk-start, walk-on, walk-end, rank-low}
 use Rattle.cores.proofs.used_ranks.Statement.{statement}
 use Rattle.cores.proofs.used_ranks.Tie as tie
 
@@ -48,7 +49,7 @@ loop-again c =
     let l = c .before .loop in let x = c .before .before .args .ranks in let q = trailingZeros 8 (l .left) in
     let low : rankAt x q < 16 = rank-low x q in (
       omega (arith, and-le-r (l .left) (l .left - 1)),
-      rw (and-mask (x / 2 ^ (4 * q)) 4) (walk-on x (c .before .before .args .part) (l .found) (l .left) (1 * 2 ^ rankAt x q % 4294967296) (omega arith) low (one-shifted (rankAt x q) low) (omega (arith, and-le-r (l .left) (l .left - 1))) (l .inv .1)),
+      rw (and-mask (x / 2 ^ (4 * q)) 4) (walk-on x (c .before .before .args .part) (l .found) (l .left) (1 * 2 ^ rankAt x q % 4294967296) (omega arith) low (shl-one 32 (rankAt x q) (omega arith)) (omega (arith, and-le-r (l .left) (l .left - 1))) (l .inv .1)),
     )
 
 returns : tie.Need-returns Inv-loop μ-loop

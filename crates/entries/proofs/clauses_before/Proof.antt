@@ -4,7 +4,7 @@ use mathlib.Core.Path.{_≡_, refl, ap, sym, _∙_}
 use native.Mathlib.Omega.{arith}
 use lib.ListN.{take, getD}
 use Rattle.sets.specs.Lists.{sum}
-use Rattle.entries.proofs.More.{sum-take}
+use Rattle.sets.proofs.Walks.{sum-take}
 use Rattle.entries.proofs.clauses_before.Statement.{statement}
 use Rattle.entries.proofs.clauses_before.Tie as tie
 

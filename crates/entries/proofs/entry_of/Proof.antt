@@ -17,7 +17,7 @@ number c =
     let p = c .before .before .before .pre in
     entry-number (ruleOf (a .h) (a .counts .now) (a .clauses .now)) (p .0) (a .q) (a .a) (p .1) (p .2)
 
-few : (c : tie.After-struct-known) → length (c .before .before .before .args .counts .now) ≤ 65536
+few : (c : tie.After-struct-known) → length (c .before .before .before .args .counts .now) ≤ 128
 few c = let a = c .before .before .before .args in entries-few (ruleOf (a .h) (a .counts .now) (a .clauses .now)) (c .before .before .before .pre .0)
 
 mul-i : tie.Need-mul-i

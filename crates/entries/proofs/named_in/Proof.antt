@@ -7,8 +7,7 @@ use lib.ListN.{length, drop, getD}
 use lib.Bits.{or-lt}
 use Rattle.sets.specs.Masks.{bit}
 use Rattle.theory.specs.Components.{named}
-use Rattle.sets.proofs.Bits.{bit-none}
-use Rattle.entries.proofs.More.{mask-of}
+use Rattle.sets.proofs.Bits.{bit-none, mask-of}
 use Rattle.entries.proofs.Entries.{named-next, named-all}
 use Rattle.entries.proofs.named_in.Statement.{statement}
 use Rattle.entries.proofs.named_in.Tie as tie

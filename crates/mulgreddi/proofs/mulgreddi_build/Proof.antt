@@ -1,6 +1,6 @@
 -- `mulgreddi_build` meets its contract: its numbers are those of what the build answers, and the slices are those that the build left.
 use borrow.Author.Needs.{needs}
-use mathlib.Core.Path.{_≡_, sym, _∙_, ap}
+use mathlib.Core.Path.{sym, _∙_, ap}
 use Rattle.mulgreddi.specs.Answers.{builtAnswer}
 use Rattle.mulgreddi.proofs.mulgreddi_build.Statement.{statement}
 use Rattle.mulgreddi.proofs.mulgreddi_build.Tie as tie

@@ -1,6 +1,6 @@
 -- `mulgreddi_check` meets its contract: its numbers are those of what the reader answers.
 use borrow.Author.Needs.{needs}
-use mathlib.Core.Path.{_≡_, sym, _∙_, ap}
+use mathlib.Core.Path.{sym, _∙_, ap}
 use Rattle.mulgreddi.specs.Answers.{readAnswer}
 use Rattle.mulgreddi.proofs.mulgreddi_check.Statement.{statement}
 use Rattle.mulgreddi.proofs.mulgreddi_check.Tie as tie

@@ -1,6 +1,6 @@
 -- `mulgreddi_judge` meets its contract: its numbers are those of what the judge answers, and the slice is the one that the judge left.
 use borrow.Author.Needs.{needs}
-use mathlib.Core.Path.{_≡_, sym, _∙_, ap}
+use mathlib.Core.Path.{sym, _∙_, ap}
 use Rattle.mulgreddi.specs.Answers.{verdictAnswer}
 use Rattle.mulgreddi.proofs.Meaning.{meant-as}
 use Rattle.mulgreddi.proofs.mulgreddi_judge.Statement.{statement}

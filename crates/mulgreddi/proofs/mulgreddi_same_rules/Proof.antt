@@ -1,6 +1,6 @@
 -- `mulgreddi_same_rules` meets its contract: its numbers are those of what the sameness test answers.
 use borrow.Author.Needs.{needs}
-use mathlib.Core.Path.{_≡_, sym, _∙_, ap}
+use mathlib.Core.Path.{sym, _∙_, ap}
 use Rattle.mulgreddi.specs.Answers.{sameRulesAnswer}
 use Rattle.mulgreddi.proofs.mulgreddi_same_rules.Statement.{statement}
 use Rattle.mulgreddi.proofs.mulgreddi_same_rules.Tie as tie

@@ -1,6 +1,6 @@
 -- `mulgreddi_write` meets its contract: its numbers are those of what the writer answers, and the slice is the one that the writer left.
 use borrow.Author.Needs.{needs}
-use mathlib.Core.Path.{_≡_, sym, _∙_, ap}
+use mathlib.Core.Path.{sym, _∙_, ap}
 use Rattle.mulgreddi.specs.Answers.{writtenAnswer}
 use Rattle.mulgreddi.proofs.mulgreddi_write.Statement.{statement}
 use Rattle.mulgreddi.proofs.mulgreddi_write.Tie as tie

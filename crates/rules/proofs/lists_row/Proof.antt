@@ -6,7 +6,7 @@ use native.Mathlib.Omega.{arith}
 use lib.Dec.{leb}
 use lib.ListN.{length}
 use Rattle.sets.specs.Lists.{anyOf, sum}
-use Rattle.rules.proofs.Lists.{shl-bit}
+use Rattle.sets.proofs.Bits.{shl-one}
 use Rattle.rules.proofs.ListRows.{row-8, row-9, row-10, pass-10}
 use borrow.Author.Needs.{needs}
 use Rattle.rules.proofs.lists_row.Statement.{statement}
@@ -44,7 +44,7 @@ returns-3 c =
     let a = c .before .before .before .before .before .before .before .before .args in
     let adds : sum (a .counts .now) ≡ length (a .clauses .now) = omega arith in
     let over : anyOf (a .clauses .now) (leb (2 ^ a .n)) ≡ true =
-    rw (shl-bit (a .n) (omega arith)) at (sym (c .before .any-from2 .ensures) ∙ c .if3 .taken) in
+    rw (shl-one 64 (a .n) (omega arith)) at (sym (c .before .any-from2 .ensures) ∙ c .if3 .taken) in
     row-10 (a .n) (a .counts .now) (a .clauses .now) (few (c .before .before .before .before)) adds over
 
 returns-4 : tie.Need-returns-4
@@ -52,7 +52,7 @@ returns-4 c =
     let a = c .before .before .before .before .before .before .before .before .args in
     let adds : sum (a .counts .now) ≡ length (a .clauses .now) = omega arith in
     let within : anyOf (a .clauses .now) (leb (2 ^ a .n)) ≡ false =
-    rw (shl-bit (a .n) (omega arith)) at (sym (c .before .any-from2 .ensures) ∙ c .if3 .left) in
+    rw (shl-one 64 (a .n) (omega arith)) at (sym (c .before .any-from2 .ensures) ∙ c .if3 .left) in
     pass-10 (a .n) (a .counts .now) (a .clauses .now) (few (c .before .before .before .before)) adds within
 
 pub lists-row-spec : {M : Type 1} → statement M

@@ -1,8 +1,8 @@
 -- `rules::numbers_row` meets its contract: each return is one row's law.
 use native.Mathlib.Omega.{arith}
-use Rattle.rules.proofs.Lists.{shl-bit}
 use Rattle.rules.proofs.Numbers.{under-3, over-3, under-4, over-4, row-5, row-6, pass-6}
 use borrow.Author.Needs.{needs}
+use Rattle.sets.proofs.Bits.{shl-one}
 use Rattle.rules.proofs.numbers_row.Statement.{statement}
 use Rattle.rules.proofs.numbers_row.Tie as tie
 
@@ -27,12 +27,12 @@ returns-5 c = row-5 (c .before .before .before .before .before .args .h) (omega 
 returns-6 : tie.Need-returns-6
 returns-6 c =
     let h = c .before .before .before .before .before .before .args .h in
-    row-6 h (omega arith) (omega arith) (omega arith) (omega arith) (omega arith) (omega (arith, shl-bit (h .n) (omega arith)))
+    row-6 h (omega arith) (omega arith) (omega arith) (omega arith) (omega arith) (omega (arith, shl-one 64 (h .n) (omega arith)))
 
 returns-7 : tie.Need-returns-7
 returns-7 c =
     let h = c .before .before .before .before .before .before .args .h in
-    pass-6 h (omega arith) (omega arith) (omega arith) (omega arith) (omega arith) (omega (arith, shl-bit (h .n) (omega arith)))
+    pass-6 h (omega arith) (omega arith) (omega arith) (omega arith) (omega arith) (omega (arith, shl-one 64 (h .n) (omega arith)))
 
 pub numbers-row-spec : {M : Type 1} → statement M
 numbers-row-spec =

@@ -4,7 +4,7 @@ use mathlib.Core.Path.{_≡_}
 use native.Mathlib.Omega.{arith}
 use lib.ListN.{length, drop}
 use Rattle.sets.specs.Lists.{sum}
-use Rattle.rules.proofs.Lists.{sum-next, sum-end}
+use Rattle.sets.proofs.Walks.{sum-next, sum-end}
 use Rattle.rules.proofs.total.Statement.{statement}
 use Rattle.rules.proofs.total.Tie as tie
 

@@ -5,10 +5,10 @@ use mathlib.Core.Bool.{true}
 use native.Mathlib.Omega.{arith}
 use Rattle.sets.specs.Tests.{every}
 use Rattle.sets.proofs.Bools.{not-t, not-f}
+use Rattle.sets.proofs.Tests.{every-next, every-stop}
 use Rattle.theory.specs.Rule.{entry}
 use Rattle.entries.specs.Entries.{ruleOf}
 use Rattle.sameness.specs.Same.{sameEntry, sameEntries}
-use Rattle.sameness.proofs.Same.{every-next, every-stop}
 use Rattle.sameness.proofs.same_entries.Statement.{statement}
 use Rattle.sameness.proofs.same_entries.Tie as tie
 

@@ -6,10 +6,11 @@ use native.Mathlib.Omega.{arith}
 use borrow.Author.Needs.{needs}
 use Rattle.sets.specs.Tests.{every}
 use Rattle.sets.proofs.Bools.{not-t, not-f}
+use Rattle.sets.proofs.Tests.{every-next, every-stop}
 use Rattle.theory.specs.Rule.{entry}
 use Rattle.entries.specs.Entries.{ruleOf}
 use Rattle.sameness.specs.Same.{sameEntry}
-use Rattle.sameness.proofs.Same.{entries-told, every-next, every-stop}
+use Rattle.sameness.proofs.Same.{entries-told}
 use Rattle.sameness.proofs.same_state.Statement.{statement}
 use Rattle.sameness.proofs.same_state.Tie as tie
 

@@ -7,7 +7,8 @@ use Rattle.sets.specs.Tests.{one}
 use Rattle.sets.specs.Masks.{bit, mask}
 use Rattle.theory.specs.Rule.{entry, satisfies}
 use Rattle.entries.specs.Entries.{ruleOf}
-use Rattle.satisfaction.proofs.Table.{metBy, accepting-small, mask-start, mask-more, mask-fits, place-is}
+use Rattle.entries.proofs.Entries.{accepting-small}
+use Rattle.satisfaction.proofs.Table.{metBy, mask-start, mask-more, mask-fits, place-is}
 use Rattle.satisfaction.proofs.open_before.Statement.{statement}
 use Rattle.satisfaction.proofs.open_before.Tie as tie
 
@@ -20,7 +21,7 @@ abbrev μ-loop : tie.MeasureT-loop
 cast-accepting : tie.Need-cast-accepting Inv-loop μ-loop
 cast-accepting c =
     let a = c .before .before .before .args in
-    omega (arith, accepting-small (ruleOf (a .h) (a .counts .now) (a .clauses .now)) (c .before .before .before .pre .0) (a .letter) (a .opened))
+    omega (arith, accepting-small (ruleOf (a .h) (a .counts .now) (a .clauses .now)) (c .before .before .before .pre .0))
 
 loop-holds : tie.Need-loop-holds Inv-loop μ-loop
 loop-holds c = let a = c .before .before .before .args in (omega arith, mask-start (metBy (ruleOf (a .h) (a .counts .now) (a .clauses .now)) (a .letter) (a .opened)))

@@ -4,8 +4,9 @@ use mathlib.Core.Path.{_≡_, refl}
 use native.Mathlib.Omega.{arith}
 use lib.ListN.{length, getD, length-set}
 use Rattle.transitions.specs.Emission.{sourceAt}
-use Rattle.transitions.proofs.Link.{candidate-le, fill-next}
+use Rattle.transitions.proofs.Link.{candidate-le}
 use borrow.Author.Needs.{needs}
+use Rattle.sets.proofs.Walks.{put-next}
 use Rattle.transitions.proofs.candidates.Statement.{statement}
 use Rattle.transitions.proofs.candidates.Tie as tie
 
@@ -54,7 +55,7 @@ loop-again c =
     let picked = c .candidate .ensures in (
       omega arith,
       simp length-set (l .inv .1),
-      fill-next (sourceAt (a .ranks) (a .parts .now) (a .components) (a .levels .now) (a .pair) (a .earlier)) (l .found) (l .k) _ (omega arith) (omega (arith, picked)) (l .inv .2),
+      put-next (sourceAt (a .ranks) (a .parts .now) (a .components) (a .levels .now) (a .pair) (a .earlier)) (l .found) (l .k) _ (omega arith) (omega (arith, picked)) (l .inv .2),
     )
 
 returns : tie.Need-returns Inv-loop μ-loop

@@ -8,8 +8,8 @@ use native.Mathlib.Omega.{arith}
 use lib.ListN.{length, drop}
 use Rattle.sets.proofs.Lists.{mem-at}
 use Rattle.entries.specs.Entries.{ruleOf}
+use Rattle.entries.proofs.Entries.{entries-few}
 use Rattle.truth.specs.Starts.{backOver}
-use Rattle.truth.proofs.Lists.{few-entries}
 use Rattle.truth.proofs.Back.{back-truth, part-length, mid-length, mid-drop}
 use borrow.Author.Needs.{needs}
 use Rattle.truth.proofs.fill.Statement.{statement}
@@ -18,7 +18,7 @@ use Rattle.truth.proofs.fill.Tie as tie
 starts-of-requires : tie.Need-starts-of-requires
 starts-of-requires c κs =
     let a = c .before .before .before .before .before .args in
-    few-entries (ruleOf (a .h) (a .counts .now) (a .clauses .now)) (c .before .before .before .before .before .pre .0 .formed)
+    entries-few (ruleOf (a .h) (a .counts .now) (a .clauses .now)) (c .before .before .before .before .before .pre .0 .formed)
 
 closures-requires : tie.Need-closures-requires
 closures-requires c κs = search needs

@@ -6,8 +6,8 @@ use borrow.Author.Needs.{needs}
 use lib.ListN.{length, replicate}
 use Rattle.sets.proofs.Masks.{mask-lt}
 use Rattle.entries.specs.Entries.{ruleOf}
+use Rattle.entries.proofs.Entries.{accepting-small}
 use Rattle.truth.specs.Rounds.{Part}
-use Rattle.truth.proofs.Lists.{accepting-small}
 use Rattle.truth.proofs.Heights.{layer-is}
 use Rattle.truth.proofs.Rounds.{part-start, part-end}
 use Rattle.truth.proofs.fill_cycle.Statement.{statement}
@@ -21,7 +21,7 @@ abbrev μ-loop : tie.MeasureT-loop
 μ-loop h counts starts clauses reach cycle masks₀ n top height₀ masks height = h .n + 1 - height
 
 cast-fill-with : tie.Need-cast-fill-with Inv-loop μ-loop
-cast-fill-with c = let w = c .before .before .before .before .before .before .pre .0 .passing .formed in omega (arith, accepting-small _ _ (w .few-states) (w .accepting-states))
+cast-fill-with c = let w = c .before .before .before .before .before .before .pre .0 .passing .formed in omega (arith, accepting-small _ w)
 
 fill-with-requires : tie.Need-fill-with-requires Inv-loop μ-loop
 fill-with-requires c κs = search needs

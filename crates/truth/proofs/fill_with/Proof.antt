@@ -3,7 +3,8 @@ use Prim.Native.Nat.{ℕ, _-_, _<_, _≤_}
 use mathlib.Core.Path.{_≡_, refl, _∙_}
 use native.Mathlib.Omega.{arith}
 use lib.ListN.{length, getD, length-set}
-use Rattle.truth.proofs.Lists.{put-next, filled}
+use Rattle.sets.proofs.Walks.{put-next}
+use Rattle.truth.proofs.Lists.{filled}
 use Rattle.truth.proofs.fill_with.Statement.{statement}
 use Rattle.truth.proofs.fill_with.Tie as tie
 

@@ -10,12 +10,12 @@ use lib.Bits.{and-le-r, or-lt}
 use lib.Count.{trailingZeros}
 use lib.Pow.{pow-lt}
 use Rattle.sets.specs.Masks.{bit}
-use Rattle.sets.proofs.Bits.{bit-none, bit-below, mask-unique}
+use Rattle.sets.proofs.Bits.{bit-none, bit-below, mask-unique, shl-one}
 use Rattle.sets.proofs.Members.{least-lt}
 use Rattle.theory.specs.Rule.{entry, satisfies}
 use Rattle.entries.specs.Entries.{ruleOf}
 use Rattle.truth.specs.Starts.{metBy}
-use Rattle.truth.proofs.Walks.{alone, least-member, walked, walk-yes, walk-no, walk-end}
+use Rattle.truth.proofs.Walks.{least-member, walked, walk-yes, walk-no, walk-end}
 use Rattle.truth.proofs.met_by.Statement.{statement}
 use Rattle.truth.proofs.met_by.Tie as tie
 
@@ -65,7 +65,7 @@ loop-again c =
     let pos : 0 < l .left = omega arith in
     let small = few (c .before .before) in
     let q = trailingZeros 8 (l .left) in
-    let one : 1 * 2 ^ q % 2 ^ 8 ≡ 2 ^ q = alone q (below (c .before .before)) in
+    let one : 1 * 2 ^ q % 2 ^ 8 ≡ 2 ^ q = shl-one 8 q (below (c .before .before)) in
     let test : c .before .satisfied-at .result ≡ f q = c .before .satisfied-at .ensures in (
       omega (arith, and-le-r (l .left) (l .left - 1)),
       ⊎-elim

@@ -13,15 +13,15 @@ use Rattle.sets.proofs.Lists.{mem-at}
 use Rattle.theory.specs.Word.{nextPlace, letterAt}
 use Rattle.theory.proofs.Truth.{stays}
 use Rattle.entries.specs.Entries.{ruleOf}
+use Rattle.entries.proofs.Entries.{accepting-small}
 use Rattle.truth.specs.Rounds.{opened}
-use Rattle.truth.proofs.Lists.{accepting-small}
 use Rattle.truth.proofs.Opening.{next-last, next-other, closed, closed-le, opened-is}
 use borrow.Author.Needs.{needs}
 use Rattle.truth.proofs.open_at.Statement.{statement}
 use Rattle.truth.proofs.open_at.Tie as tie
 
 cast-accepting : tie.Need-cast-accepting
-cast-accepting c = let w = c .before .before .before .before .before .pre .0 .passing .formed in omega (arith, accepting-small _ _ (w .few-states) (w .accepting-states))
+cast-accepting c = let w = c .before .before .before .before .before .pre .0 .passing .formed in omega (arith, accepting-small _ w)
 
 add-k : tie.Need-add-k
 add-k c = search needs
@@ -82,7 +82,7 @@ returns c =
     = tried ∙ ap (λ (x : ℕ). metBy r (getD cy (a .p) 0) (getD ms x 0) (d .result)) n ∙ ap (λ (x : ℕ). metBy r (getD cy (a .p) 0) (getD ms (nextPlace [] cy (a .p)) 0) x) (d .ensures) in
     let e : bitXor (getD ms (a .p) 0) (bitAnd (d .result) (bitXor (c .met-by .result) (a .h .accepting))) ≡ opened r cy (a .layer) ms (a .p)
     = ap (λ (x : ℕ). bitXor (getD ms (a .p) 0) (bitAnd x (bitXor (c .met-by .result) (a .h .accepting)))) (d .ensures)
-    ∙ opened-is r cy (a .layer) ms (a .p) (c .before .before .before .before .slice-known2 .given (a .p) .fits) (accepting-small _ _ (w .few-states) (w .accepting-states)) (c .met-by .result) m in
+    ∙ opened-is r cy (a .layer) ms (a .p) (c .before .before .before .before .slice-known2 .given (a .p) .fits) (accepting-small _ w) (c .met-by .result) m in
     (ap (set ms (a .p)) e, ap (λ (x : ℕ). not (eqb x (getD ms (a .p) 0))) e)
 
 pub open-at-spec : {M : Type 1} → statement M

@@ -7,9 +7,8 @@ use Rattle.sets.specs.Masks.{bit}
 use Rattle.theory.specs.Rule.{entry, satisfies}
 use Rattle.entries.specs.Entries.{ruleOf}
 use Rattle.entries.specs.Met.{isMet, metOf}
-use Rattle.entries.proofs.Entries.{entry-number, entry-fits, entry-part, entry-states}
+use Rattle.entries.proofs.Entries.{entry-number, entry-fits, entry-part, entry-states, entries-few}
 use Rattle.entries.proofs.Clauses.{met-entry}
-use Rattle.truth.proofs.Lists.{few-entries}
 use borrow.Author.Needs.{needs}
 use Rattle.truth.proofs.satisfied_at.Statement.{statement}
 use Rattle.truth.proofs.satisfied_at.Tie as tie
@@ -27,7 +26,7 @@ number c =
     let p = c .before .before .before .pre in
     let r = ruleOf (a .h) (a .counts .now) (a .clauses .now) in
     let k = entry-number r (p .0) (a .q) (a .a) (p .2) (p .3) in
-    let f = few-entries r (p .0) in
+    let f = entries-few r (p .0) in
     omega arith
 
 listed : (c : At) → c .before .before .before .args .q * c .before .before .before .args .h .s + c .before .before .before .args .a < length (c .before .before .before .args .counts .now)

@@ -4,7 +4,7 @@ use mathlib.Core.Path.{_≡_, refl, sym, _∙_}
 use native.Mathlib.Omega.{arith}
 use lib.ListN.{length, take, getD, length-set}
 use Rattle.sets.specs.Lists.{sum}
-use Rattle.truth.proofs.Lists.{sum-front, put-next}
+use Rattle.sets.proofs.Walks.{sum-take, put-next}
 use Rattle.truth.proofs.starts_of.Statement.{statement}
 use Rattle.truth.proofs.starts_of.Tie as tie
 
@@ -47,7 +47,7 @@ loop-again c =
     let k = c .before .loop-test .taken in (
       length-set (l .starts) (l .i) (l .total) ∙ l .inv .0,
       omega arith,
-      rw (l .inv .2) (sym (sum-front xs (l .i) k)),
+      rw (l .inv .2) (sym (sum-take xs (l .i) k)),
       omega (arith, c .shared-slice-known .given (l .i)),
       put-next (λ j. sum (take j xs)) (l .starts) (l .i) (l .total) (omega arith) (l .inv .2) (l .inv .4),
     )
