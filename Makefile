@@ -1,7 +1,7 @@
 # Mulgreddi: unambiguous Büchi automata from alternating weak ones.
 #   make lib                   the static library, build/libmulgreddi.a
 #   make test                  the gate: library, comparison with the second program, C examples, proofs
-#   make bench                 times of the library beside those of the second program and of a C++ prototype
+#   make bench                 times of the library beside those of the second program and of a C++ prototype, and of the step back alone
 #   make soak SECONDS=600      the comparison with new seeds until the time is up
 
 CC ?= cc
@@ -41,8 +41,13 @@ $(BUILD)/reference: bench/reference.cpp
 	mkdir -p $(BUILD)
 	$(CXX) -O2 -std=c++17 -o $@ $<
 
-bench: $(LIB) $(BUILD)/reference
-	$(CARGO) run --release --offline --quiet --manifest-path compare/Cargo.toml --bin speed -- $(wildcard $(CURDIR)/bench/*.rule)
+# steps back from all cores of a rule, and nothing else
+PACE := target/bin/pace
+$(PACE): $(SOURCES)
+	rt check pace
+
+bench: $(LIB) $(PACE) $(BUILD)/reference
+	PACE=$(CURDIR)/$(PACE) $(CARGO) run --release --offline --quiet --manifest-path compare/Cargo.toml --bin speed -- $(wildcard $(CURDIR)/bench/*.rule)
 	$(BUILD)/reference $(wildcard bench/*.rule)
 
 $(BUILD)/%: examples/%.c include/mulgreddi.h $(LIB)

@@ -1,7 +1,10 @@
 //! Times of the library beside those of the second program, on the same
-//! inputs in one run. `speed FILE..` builds these rule files too.
+//! inputs in one run. `speed FILE..` builds these rule files too. `PACE` names
+//! the program that does nothing but step back from all cores of a rule.
 
 use std::hint::black_box;
+use std::io::Write;
+use std::process::{Command, Stdio};
 use std::time::{Duration, Instant};
 
 use second::build::build;
@@ -37,14 +40,19 @@ extern "C" {
     ) -> Answer;
 }
 
-/// The shortest of three runs.
-fn time(mut call: impl FnMut()) -> Duration {
+/// The shortest of some runs.
+fn shortest(runs: usize, mut call: impl FnMut()) -> Duration {
     let run = |call: &mut dyn FnMut()| {
         let start = Instant::now();
         call();
         start.elapsed()
     };
-    (0..3).map(|_| run(&mut call)).min().unwrap()
+    (0..runs).map(|_| run(&mut call)).min().unwrap()
+}
+
+/// The shortest of three runs.
+fn time(call: impl FnMut()) -> Duration {
+    shortest(3, call)
 }
 
 /// Mean and longest, in microseconds.
@@ -187,9 +195,52 @@ fn build_time(name: &str, file: &[u8]) {
     );
 }
 
+/// What the program `pace` prints of a rule file.
+fn pace(program: &str, file: &[u8]) -> String {
+    let mut child = Command::new(program)
+        .stdin(Stdio::piped())
+        .stdout(Stdio::piped())
+        .spawn()
+        .unwrap_or_else(|error| panic!("{program}: {error}"));
+    child.stdin.take().unwrap().write_all(file).unwrap();
+    String::from_utf8(child.wait_with_output().unwrap().stdout).unwrap()
+}
+
+/// The step back from each core over each letter, with the walk over all
+/// cores; the start of the program is taken off.
+fn step_times(program: &str, name: &str, sizes: &[(usize, bool)], letters: usize, most: usize) {
+    let file = sample::file(&composed(&mut Random::new(3), sizes, letters, most));
+    let start = shortest(20, || {
+        black_box(pace(program, &[]));
+    });
+    let mut said = String::new();
+    let whole = shortest(20, || said = pace(program, &file));
+    let number = |name: &str| -> u64 {
+        let line = said.lines().find_map(|line| line.strip_prefix(name));
+        line.and_then(|number| number.trim().parse().ok())
+            .unwrap_or_else(|| panic!("{program} printed {said:?}"))
+    };
+    let nanoseconds = whole.saturating_sub(start).as_secs_f64() * 1e9;
+    println!(
+        "step {name:14} {letters:2} letters, up to {most} clauses {:8.1}  {} cores, {} steps",
+        nanoseconds / number("steps") as f64,
+        number("cores"),
+        number("steps")
+    );
+}
+
 fn main() {
-    println!("milliseconds a build: library, second program; macrostates transitions");
     let (no, yes) = (false, true);
+    let eight: Vec<_> = (0..8).map(|q| (1, q % 2 == 1)).collect();
+    if let Ok(program) = std::env::var("PACE") {
+        println!("nanoseconds a core and letter: the step back, with the walk over all cores");
+        for most in [1, 8] {
+            step_times(&program, "7 + 1", &[(7, yes), (1, no)], 16, most);
+            step_times(&program, "4 + 4", &[(4, no), (4, yes)], 16, most);
+            step_times(&program, "eight of 1", &eight, 16, most);
+        }
+    }
+    println!("milliseconds a build: library, second program; macrostates transitions");
     for (letters, most) in [(1, 1), (2, 2), (16, 1), (16, 8)] {
         build_times("5 rejecting", &[(5, no)], letters, most);
         build_times("6 rejecting", &[(6, no)], letters, most);
@@ -202,7 +253,6 @@ fn main() {
         build_times("5 + 1 + 1 + 1", &several, letters, most);
         build_times("6 + 1 + 1", &[(6, no), single, (1, no)], letters, most);
         build_times("7 + 1", &[(7, yes), (1, no)], letters, most);
-        let eight: Vec<_> = (0..8).map(|q| (1, q % 2 == 1)).collect();
         build_times("eight of 1", &eight, letters, most);
     }
     for (name, text) in STORED {
