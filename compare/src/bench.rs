@@ -6,18 +6,10 @@ use std::ffi::{c_int, c_uint};
 use std::sync::atomic::{AtomicPtr, Ordering};
 use std::time::Instant;
 
+use compare::library::Answer;
 use second::sample::Random;
 
 use crate::lend::{Kind, Lender, Ticket};
-
-/// The answer of every entry of the library.
-#[repr(C)]
-#[derive(Clone, Copy, Debug, PartialEq, Eq)]
-pub struct Answer {
-    pub refusal: u64,
-    pub first: u64,
-    pub second: u64,
-}
 
 /// What an entry is to answer: two values, or a refusal.
 pub type Expected = Result<(u64, u64), u8>;

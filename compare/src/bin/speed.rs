@@ -7,38 +7,12 @@ use std::io::Write;
 use std::process::{Command, Stdio};
 use std::time::{Duration, Instant};
 
+use compare::library::{mulgreddi_build, mulgreddi_judge, Answer};
+use compare::stored::{from_hex, LARGE, OVER};
 use second::build::build;
 use second::judge::judge;
 use second::rule::Rule;
 use second::sample::{self, Random, Shape};
-
-#[repr(C)]
-struct Answer {
-    refusal: u64,
-    first: u64,
-    second: u64,
-}
-
-extern "C" {
-    fn mulgreddi_judge(
-        file: *const u8,
-        file_length: usize,
-        lead: *const u8,
-        lead_length: usize,
-        cycle: *const u8,
-        cycle_length: usize,
-        masks: *mut u8,
-        masks_length: usize,
-    ) -> Answer;
-    fn mulgreddi_build(
-        file: *const u8,
-        file_length: usize,
-        codes: *mut u64,
-        codes_length: usize,
-        transitions: *mut u64,
-        transitions_length: usize,
-    ) -> Answer;
-}
 
 /// The shortest of some runs.
 fn shortest(runs: usize, mut call: impl FnMut()) -> Duration {
@@ -95,26 +69,6 @@ fn judge_times(shape: Shape, name: &str, states: usize, letters: usize) {
         figures(&ours),
         figures(&theirs)
     );
-}
-
-/// Rules close to the caps of the rooms, and over each.
-const STORED: [(&str, &str); 5] = [
-    ("close to both caps, 1", include_str!("../large-1.txt")),
-    ("close to both caps, 2", include_str!("../large-2.txt")),
-    ("close to both caps, 3", include_str!("../large-3.txt")),
-    (
-        "more macrostates than any room",
-        include_str!("../over-1.txt"),
-    ),
-    (
-        "more transitions than any room",
-        include_str!("../over-2.txt"),
-    ),
-];
-
-fn from_hex(text: &str) -> Vec<u8> {
-    let bytes = text.split_whitespace();
-    bytes.map(|b| u8::from_str_radix(b, 16).unwrap()).collect()
 }
 
 /// A rule with one component for each size, the first holding the initial
@@ -255,8 +209,12 @@ fn main() {
         build_times("7 + 1", &[(7, yes), (1, no)], letters, most);
         build_times("eight of 1", &eight, letters, most);
     }
-    for (name, text) in STORED {
-        build_time(name, &from_hex(text));
+    for (number, (text, ..)) in (1..).zip(LARGE) {
+        build_time(&format!("close to both caps, {number}"), &from_hex(text));
+    }
+    let caps = ["macrostates", "transitions"];
+    for (what, (text, ..)) in caps.into_iter().zip(OVER) {
+        build_time(&format!("more {what} than any room"), &from_hex(text));
     }
     for path in std::env::args().skip(1) {
         let file = std::fs::read(&path).unwrap_or_else(|error| panic!("{path}: {error}"));

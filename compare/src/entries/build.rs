@@ -1,22 +1,13 @@
 //! The build.
 
+use compare::library::mulgreddi_build;
+use compare::stored::{from_hex, LARGE, OVER};
 use second::build::{build, reachable, MACROSTATE_CAP, TRANSITION_CAP};
 use second::rule::{read, Rule};
 use second::sample::{self, Random, Shape, D, E, F, I, SHAPES, Z};
 
-use crate::bench::{Answer, Bench, Entry};
-use crate::input::{any_file, from_hex, preface, varied, LARGE, OVER, REFUSED_FILES};
-
-extern "C" {
-    fn mulgreddi_build(
-        file: *const u8,
-        file_length: usize,
-        codes: *mut u64,
-        codes_length: usize,
-        transitions: *mut u64,
-        transitions_length: usize,
-    ) -> Answer;
-}
+use crate::bench::{Bench, Entry};
+use crate::input::{any_file, preface, varied, REFUSED_FILES};
 
 pub const ENTRY: Entry = Entry {
     name: "build",

@@ -1,13 +1,10 @@
 //! The reader: the refusal of a file, or the length of its preface.
 
+use compare::library::mulgreddi_check;
 use second::rule::read;
 
-use crate::bench::{Answer, Bench, Entry, Seen};
+use crate::bench::{Bench, Entry, Seen};
 use crate::input::{any_file, limit_file, LIMITS, REFUSED_FILES, RULES};
-
-extern "C" {
-    fn mulgreddi_check(file: *const u8, length: usize) -> Answer;
-}
 
 pub const ENTRY: Entry = Entry {
     name: "check",

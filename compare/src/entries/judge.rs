@@ -1,24 +1,12 @@
 //! The judge of words on the rule.
 
+use compare::library::mulgreddi_judge;
 use second::judge::judge;
 use second::rule::read;
 use second::sample::{D, F, I};
 
-use crate::bench::{Answer, Bench, Entry, Seen};
+use crate::bench::{Bench, Entry, Seen};
 use crate::input::{any_file, good_file, near, word, REFUSED_FILES};
-
-extern "C" {
-    fn mulgreddi_judge(
-        file: *const u8,
-        file_length: usize,
-        lead: *const u8,
-        lead_length: usize,
-        cycle: *const u8,
-        cycle_length: usize,
-        masks: *mut u8,
-        masks_length: usize,
-    ) -> Answer;
-}
 
 pub const ENTRY: Entry = Entry {
     name: "judge",

@@ -1,29 +1,14 @@
 //! The judge of words on a built table.
 
+use compare::library::mulgreddi_judge_table;
+use compare::stored::{from_hex, LARGE};
 use second::build::{build, Macrostate};
 use second::rule::Rule;
 use second::sample::{self, letters, Random, D, F, I, SHAPES, Z};
 use second::table::judge_table;
 
-use crate::bench::{Answer, Bench, Entry, Expected, Seen};
-use crate::input::{any_file, from_hex, near, varied, word, LARGE, REFUSED_FILES};
-
-extern "C" {
-    fn mulgreddi_judge_table(
-        file: *const u8,
-        file_length: usize,
-        lead: *const u8,
-        lead_length: usize,
-        cycle: *const u8,
-        cycle_length: usize,
-        codes: *const u8,
-        codes_length: usize,
-        transitions: *const u8,
-        transitions_length: usize,
-        scratch: *mut u8,
-        scratch_length: usize,
-    ) -> Answer;
-}
+use crate::bench::{Bench, Entry, Expected, Seen};
+use crate::input::{any_file, near, varied, word, REFUSED_FILES};
 
 pub const ENTRY: Entry = Entry {
     name: "judge_table",

@@ -1,19 +1,11 @@
 //! Sameness of rules.
 
+use compare::library::mulgreddi_same_rules;
 use second::rule::{same_rules, Rule};
 use second::sample::{file, F};
 
-use crate::bench::{Answer, Bench, Entry, Seen};
+use crate::bench::{Bench, Entry, Seen};
 use crate::input::{any_file, preface, rule, REFUSED_FILES, RULES};
-
-extern "C" {
-    fn mulgreddi_same_rules(
-        first: *const u8,
-        first_length: usize,
-        second: *const u8,
-        second_length: usize,
-    ) -> Answer;
-}
 
 pub const ENTRY: Entry = Entry {
     name: "same_rules",

@@ -1,22 +1,10 @@
 //! Sameness of words.
 
+use compare::library::mulgreddi_same_words;
 use second::word::same_words;
 
-use crate::bench::{Answer, Bench, Entry, Seen};
+use crate::bench::{Bench, Entry, Seen};
 use crate::input::word;
-
-extern "C" {
-    fn mulgreddi_same_words(
-        first_lead: *const u8,
-        first_lead_length: usize,
-        first_cycle: *const u8,
-        first_cycle_length: usize,
-        second_lead: *const u8,
-        second_lead_length: usize,
-        second_cycle: *const u8,
-        second_cycle_length: usize,
-    ) -> Answer;
-}
 
 pub const ENTRY: Entry = Entry {
     name: "same_words",

@@ -1,25 +1,11 @@
 //! The writer.
 
+use compare::library::mulgreddi_write;
 use second::rule::{write, Rule};
 use second::sample::{file, F};
 
-use crate::bench::{Answer, Bench, Entry, Seen};
+use crate::bench::{Bench, Entry, Seen};
 use crate::input::{near, rule};
-
-extern "C" {
-    fn mulgreddi_write(
-        n: u32,
-        s: u32,
-        initial: u32,
-        accepting: u32,
-        counts: *const u8,
-        counts_length: usize,
-        clauses: *const u8,
-        clauses_length: usize,
-        out: *mut u8,
-        out_length: usize,
-    ) -> Answer;
-}
 
 pub const ENTRY: Entry = Entry {
     name: "write",

@@ -1,0 +1,4 @@
+//! What the comparison and the times share.
+
+pub mod library;
+pub mod stored;

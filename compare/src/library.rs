@@ -1,0 +1,74 @@
+//! The C interface of the library, as include/mulgreddi.h has it.
+
+/// The answer of every entry.
+#[repr(C)]
+#[derive(Clone, Copy, Debug, PartialEq, Eq)]
+pub struct Answer {
+    pub refusal: u64,
+    pub first: u64,
+    pub second: u64,
+}
+
+extern "C" {
+    pub fn mulgreddi_check(file: *const u8, length: usize) -> Answer;
+    pub fn mulgreddi_write(
+        n: u32,
+        s: u32,
+        initial: u32,
+        accepting: u32,
+        counts: *const u8,
+        counts_length: usize,
+        clauses: *const u8,
+        clauses_length: usize,
+        out: *mut u8,
+        out_length: usize,
+    ) -> Answer;
+    pub fn mulgreddi_same_rules(
+        first: *const u8,
+        first_length: usize,
+        second: *const u8,
+        second_length: usize,
+    ) -> Answer;
+    pub fn mulgreddi_same_words(
+        first_lead: *const u8,
+        first_lead_length: usize,
+        first_cycle: *const u8,
+        first_cycle_length: usize,
+        second_lead: *const u8,
+        second_lead_length: usize,
+        second_cycle: *const u8,
+        second_cycle_length: usize,
+    ) -> Answer;
+    pub fn mulgreddi_judge(
+        file: *const u8,
+        file_length: usize,
+        lead: *const u8,
+        lead_length: usize,
+        cycle: *const u8,
+        cycle_length: usize,
+        masks: *mut u8,
+        masks_length: usize,
+    ) -> Answer;
+    pub fn mulgreddi_build(
+        file: *const u8,
+        file_length: usize,
+        codes: *mut u64,
+        codes_length: usize,
+        transitions: *mut u64,
+        transitions_length: usize,
+    ) -> Answer;
+    pub fn mulgreddi_judge_table(
+        file: *const u8,
+        file_length: usize,
+        lead: *const u8,
+        lead_length: usize,
+        cycle: *const u8,
+        cycle_length: usize,
+        codes: *const u8,
+        codes_length: usize,
+        transitions: *const u8,
+        transitions_length: usize,
+        scratch: *mut u8,
+        scratch_length: usize,
+    ) -> Answer;
+}
