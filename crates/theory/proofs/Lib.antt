@@ -27,4 +27,3 @@ pub mod Demand
 pub mod DemandCases
 pub mod Truth
 pub mod TruthLaws
-pub mod TruthCases

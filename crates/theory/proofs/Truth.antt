@@ -1,30 +1,31 @@
 -- The computed masks hold exactly the states from which the rule accepts by some plan.
-use mathlib.Core.Path.{_≡_, sym, _∙_, ap}
+use mathlib.Core.Path.{_≡_, sym, _∙_, ap, refl}
 use mathlib.Core.Logic.{_↔_, ⊎-elim, by-cases}
 use mathlib.Core.Bool.{Bool, true, false, not, cond, Bool·not-not}
-use mathlib.Core.List.{List, List·Memᴰ}
+use mathlib.Core.List.{List, List·Memᴰ, [], _∷_}
 use Prim.Native.Nat.{ℕ, zero, suc, _*_, _^_, _<_}
 use native.Mathlib.Omega.{arith}
 use native.Mathlib.Decide.{decLt, ℕ-discrete}
 use lib.Dec.{eqb}
 use lib.ListN.{length, getD, List·getD-eq-default}
 use borrow.Author.Tests.{eqb-true, eqb-false, eq-eqb, ne-eqb}
-use Rattle.sets.specs.Tests.{Set}
-use Rattle.sets.specs.Masks.{bit, mask}
-use Rattle.sets.specs.Lists.{tabulate}
+use Rattle.sets.specs.Tests.{Set, every, some, count}
+use Rattle.sets.specs.Masks.{bit, mask, inside}
+use Rattle.sets.specs.Lists.{tabulate, sum}
 use Rattle.sets.proofs.Bools.{bif}
 use Rattle.sets.proofs.Tests.{count-max}
 use Rattle.sets.proofs.Masks.{mask-lt, bit-mask}
 use Rattle.sets.proofs.Bits.{bit-none, bit-below}
 use Rattle.sets.proofs.Lists.{length-tabulate, tabulate-at}
 use Rattle.theory.specs.Rule.{Rule, entry, satisfies}
-use Rattle.theory.specs.Components.{reaches}
+use Rattle.theory.specs.Components.{reaches, named, leads, within}
 use Rattle.theory.specs.Passing.{Passing}
 use Rattle.theory.specs.Automaton.{Automaton, automaton, Layered}
 use Rattle.theory.specs.Core.{isOpen, settled}
 use Rattle.theory.specs.Word.{places, nextPlace, letterAt, WordOver}
 use Rattle.theory.specs.Plan.{AcceptsFrom}
 use Rattle.theory.specs.Truth.{heightOf, layer, roundsAt, solvedBelow, truthMasks}
+use Rattle.theory.specs.Examples.{F, D, I}
 use Rattle.theory.proofs.Certified.{rounds, solved}
 use Rattle.theory.proofs.Components.{height, height-in, height-out, falls, clause-leads, same-heights, together-of-component}
 use Rattle.theory.proofs.FixedPoint.{Sp, exact, near-open}
@@ -33,6 +34,33 @@ use Rattle.theory.proofs.PlanOfSet.{accepted}
 use Rattle.theory.proofs.Pursuit.{open-acc, open-rej, mix-in, mix-out, settled-acc, settled-rej}
 use Rattle.theory.proofs.Satisfies.{satisfies-ext, satisfies-ext-in}
 use Rattle.theory.proofs.SetOfPlan.{true-in}
+
+-- ---- evaluated: the masks of cases 5 to 9 of 01
+
+-- 5: "F, lead-in 0 1, cycle 0: yes, masks 01 01 00"
+case-5 : truthMasks F (0 ∷ 1 ∷ []) (0 ∷ []) ≡ 1 ∷ 1 ∷ 0 ∷ []
+unfolding truthMasks solvedBelow roundsAt layer heightOf nextPlace letterAt reaches within leads named entry satisfies sum tabulate bit mask inside every some count
+case-5 = refl
+
+-- 6: "F, cycle 0: no, 00"
+case-6 : truthMasks F [] (0 ∷ []) ≡ 0 ∷ []
+unfolding truthMasks solvedBelow roundsAt layer heightOf nextPlace letterAt reaches within leads named entry satisfies sum tabulate bit mask inside every some count
+case-6 = refl
+
+-- 7: "I, lead-in 1, cycle 0: no, 02 00"
+case-7 : truthMasks I (1 ∷ []) (0 ∷ []) ≡ 2 ∷ 0 ∷ []
+unfolding truthMasks solvedBelow roundsAt layer heightOf nextPlace letterAt reaches within leads named entry satisfies sum tabulate bit mask inside every some count
+case-7 = refl
+
+-- 8: "I, cycle 0 1: yes, 03 03"
+case-8 : truthMasks I [] (0 ∷ 1 ∷ []) ≡ 3 ∷ 3 ∷ []
+unfolding truthMasks solvedBelow roundsAt layer heightOf nextPlace letterAt reaches within leads named entry satisfies sum tabulate bit mask inside every some count
+case-8 = refl
+
+-- 9: "D, cycle 0: yes, 03"
+case-9 : truthMasks D [] (0 ∷ []) ≡ 3 ∷ []
+unfolding truthMasks solvedBelow roundsAt layer heightOf nextPlace letterAt reaches within leads named entry satisfies sum tabulate bit mask inside every some count
+case-9 = refl
 
 -- the place after a place is one
 pub stays : (lead cycle : List ℕ) → 0 < length cycle → (p : ℕ) → p < places lead cycle → nextPlace lead cycle p < places lead cycle
