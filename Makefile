@@ -1,5 +1,6 @@
 # Mulgreddi: unambiguous Büchi automata from alternating weak ones.
 #   make lib                   the static library, build/libmulgreddi.a
+#   make install PREFIX=DIR    header, library and a pkg-config file to DIR
 #   make test                  the gate: library, comparison with the second program, C examples, proofs
 #   make bench                 times of the library beside those of the second program and of a C++ prototype, and of the step back alone
 #   make soak SECONDS=600      the comparison with new seeds until the time is up
@@ -8,20 +9,32 @@ CC ?= cc
 CXX ?= c++
 CFLAGS ?= -O2 -std=c11 -Wall -Wextra -Werror
 SECONDS ?= 600
+PREFIX ?= /usr/local
+VERSION := 1.0.0
 BUILD := build
 LIB := $(BUILD)/libmulgreddi.a
 SOURCES := crates.txt $(shell find crates -type f -not -path '*/must-fail/*')
 CARGO := CARGO_TARGET_DIR=$(CURDIR)/$(BUILD)/cargo MULGREDDI_LIB=$(CURDIR)/$(BUILD) cargo
 EXAMPLES := $(patsubst examples/%.c,$(BUILD)/%,$(wildcard examples/*.c))
 
-.PHONY: lib test bench soak compare second examples clean
+.PHONY: lib install test bench soak compare second examples clean
 
 lib: $(LIB)
 
+# `rt check` proves crates side by side, which `rt staticlib` alone would not
 $(LIB): $(SOURCES)
+	rt check mulgreddi
 	rt staticlib mulgreddi
 	mkdir -p $(BUILD)
 	cp target/staticlib/libmulgreddi.a $@
+
+# header, library and a pkg-config file
+install: $(LIB)
+	install -d $(DESTDIR)$(PREFIX)/include $(DESTDIR)$(PREFIX)/lib/pkgconfig
+	install -m 644 include/mulgreddi.h $(DESTDIR)$(PREFIX)/include/mulgreddi.h
+	install -m 644 $(LIB) $(DESTDIR)$(PREFIX)/lib/libmulgreddi.a
+	printf '%s\n' 'prefix=$(PREFIX)' 'Name: mulgreddi' 'Description: unambiguous Büchi automata from alternating weak ones' 'Version: $(VERSION)' \
+	    'Cflags: -I$${prefix}/include' 'Libs: -L$${prefix}/lib -lmulgreddi' > $(DESTDIR)$(PREFIX)/lib/pkgconfig/mulgreddi.pc
 
 # the second program's own tests; what it expects of the program `cases` is what is stored there
 second:

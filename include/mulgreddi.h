@@ -76,6 +76,18 @@ mulgreddi_answer mulgreddi_judge(const uint8_t *file, size_t file_len,
 mulgreddi_answer mulgreddi_build(const uint8_t *file, size_t file_len, uint64_t *codes, size_t codes_len,
                                  uint64_t *transitions, size_t transitions_len);
 
+/* Judges a word on a table: does an accepting run over it begin in an initial macrostate? first: 1 yes, 0 no; second: with yes, the lowest number of an
+ * initial macrostate where one begins. The table is any that passes refusal 15, built from the rule or not; on a built one the answer is that of
+ * mulgreddi_judge, and only one accepting run begins at all. codes and transitions are bytes, 8 a number, low byte first, so pass 8 * count bytes of
+ * each slice of a build, the counts being its answer, and not the whole room, whose zeros are no ascending list; the cast from uint64_t * to
+ * uint8_t * is right on little-endian machines. scratch needs macrostates * (lead_len + cycle_len) bytes; it is zero throughout after yes and no.
+ * Refusals 1 to 16; 15: over 65,536 codes, codes or transitions not strictly ascending, a code with a bit above 47, a transition whose source, letter
+ * or target is out of range, or a length that 8 does not divide. */
+mulgreddi_answer mulgreddi_judge_table(const uint8_t *file, size_t file_len,
+                                       const uint8_t *lead, size_t lead_len, const uint8_t *cycle, size_t cycle_len,
+                                       const uint8_t *codes, size_t codes_len, const uint8_t *transitions, size_t transitions_len,
+                                       uint8_t *scratch, size_t scratch_len);
+
 #ifdef __cplusplus
 }
 #endif

@@ -3,20 +3,6 @@
 //! `compare [--seed N] [--seconds S]`: a seed repeats a run; with seconds it
 //! runs on with new seeds until the time is up.
 
-// Not every entry needs every helper.
-#![cfg_attr(
-    not(all(
-        feature = "check",
-        feature = "write",
-        feature = "same_rules",
-        feature = "same_words",
-        feature = "judge",
-        feature = "build",
-        feature = "judge_table"
-    )),
-    allow(dead_code)
-)]
-
 mod bench;
 mod entries;
 mod input;

@@ -7,7 +7,7 @@ use std::io::Write;
 use std::process::{Command, Stdio};
 use std::time::{Duration, Instant};
 
-use compare::library::{mulgreddi_build, mulgreddi_judge, Answer};
+use compare::library::{mulgreddi_build, mulgreddi_judge, mulgreddi_judge_table, Answer};
 use compare::stored::{from_hex, LARGE, OVER};
 use second::build::build;
 use second::judge::judge;
@@ -149,6 +149,66 @@ fn build_time(name: &str, file: &[u8]) {
     );
 }
 
+/// Words of 64 places, judged on the table of a rule at full room: the
+/// lead-in and cycle of random letters, but for the first two cycles.
+fn table_times(name: &str, file: &[u8]) {
+    let mut codes = vec![0u64; 65_536];
+    let mut transitions = vec![0u64; 1_048_576];
+    let built = unsafe {
+        mulgreddi_build(
+            file.as_ptr(),
+            file.len(),
+            codes.as_mut_ptr(),
+            codes.len(),
+            transitions.as_mut_ptr(),
+            transitions.len(),
+        )
+    };
+    if built.refusal != 0 {
+        println!("table {name:52} refused {}", built.refusal);
+        return;
+    }
+    let mut scratch = vec![0u8; 65_536 * 64];
+    let letters = file[file.len() - 7] as usize;
+    let mut random = Random::new(5);
+    let mut times = Vec::new();
+    for number in 0..8 {
+        let lead: Vec<u8> = (0..32).map(|_| random.below(letters) as u8).collect();
+        let cycle: Vec<u8> = match number {
+            0 => vec![0; 32],
+            1 => vec![letters as u8 - 1; 32],
+            _ => (0..32).map(|_| random.below(letters) as u8).collect(),
+        };
+        times.push(time(|| {
+            let answer = unsafe {
+                mulgreddi_judge_table(
+                    file.as_ptr(),
+                    file.len(),
+                    lead.as_ptr(),
+                    lead.len(),
+                    cycle.as_ptr(),
+                    cycle.len(),
+                    codes.as_ptr().cast(),
+                    8 * built.first as usize,
+                    transitions.as_ptr().cast(),
+                    8 * built.second as usize,
+                    scratch.as_mut_ptr(),
+                    scratch.len(),
+                )
+            };
+            black_box((answer.refusal, answer.first, answer.second));
+        }));
+    }
+    let mean = times.iter().sum::<Duration>().as_secs_f64() / times.len() as f64;
+    println!(
+        "table {name:52} {:9.1} {:9.1}  {} {}",
+        mean * 1e3,
+        times.iter().max().unwrap().as_secs_f64() * 1e3,
+        built.first,
+        built.second
+    );
+}
+
 /// What the program `pace` prints of a rule file.
 fn pace(program: &str, file: &[u8]) -> String {
     let mut child = Command::new(program)
@@ -219,6 +279,13 @@ fn main() {
     for path in std::env::args().skip(1) {
         let file = std::fs::read(&path).unwrap_or_else(|error| panic!("{path}: {error}"));
         build_time(&path, &file);
+    }
+    println!(
+        "milliseconds a word of 64 places on a built table: mean, longest; macrostates transitions"
+    );
+    for path in std::env::args().skip(1) {
+        let file = std::fs::read(&path).unwrap_or_else(|error| panic!("{path}: {error}"));
+        table_times(&path, &file);
     }
     println!("microseconds a call                    library: mean, longest; second program: mean, longest");
     for states in [2, 5, 8] {

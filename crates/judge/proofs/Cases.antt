@@ -13,10 +13,10 @@ use Rattle.theory.specs.Word.{nextPlace, letterAt}
 use Rattle.theory.specs.Truth.{heightOf, layer, roundsAt, solvedBelow, truthMasks}
 use Rattle.rules.specs.File.{tagged, clausesOf, countsOf, ruleIn}
 use Rattle.rules.specs.Rows.{numberRows, listRows, trailerRows, layoutRows, componentRows, fileRows}
-use Rattle.words.specs.Words.{lengthRows, letterRows}
+use Rattle.words.specs.Words.{lengthRows, letterRows, wordRows}
 use Rattle.judge.specs.declared.Verdict.{Verdict}
 use Rattle.judge.specs.declared.Verdict.the-variants.{Yes, No, Refused}
-use Rattle.judge.specs.Judge.{wordRows, sliceRows, judgeRow, judgeOf, after}
+use Rattle.judge.specs.Judge.{sliceRows, judgeRow, judgeOf, after}
 
 F : List ℕ
 F = 0x01 ∷ 0x00 ∷ 0x01 ∷ 0x01 ∷ 0x01 ∷ 0x02 ∷ 0x00 ∷ 0x00 ∷ 0x02 ∷ 0x00 ∷ 0x41 ∷ 0x57 ∷ []

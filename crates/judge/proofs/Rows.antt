@@ -12,22 +12,22 @@ use Rattle.theory.specs.Word.{places}
 use Rattle.rules.specs.File.{ruleIn}
 use Rattle.rules.specs.Rows.{fileRows, fileRow}
 use Rattle.rules.proofs.FileRows.{file-numbered}
-use Rattle.words.specs.Words.{lengthRows, letterRows, wordRow}
-use Rattle.judge.specs.Judge.{wordRows, sliceRows, callRow, judgeRow}
+use Rattle.words.specs.Words.{lengthRows, letterRows, wordRows, wordRow}
+use Rattle.judge.specs.Judge.{sliceRows, callRow, judgeRow}
 
 module _ (r : Rule) (lead cycle : List ℕ) (m : ℕ) where
-  rows-numbered : numbered (wordRows r lead cycle) ≡ true
+  rows-numbered : numbered (wordRows (r .s) lead cycle) ≡ true
   unfolding numbered wordRows lengthRows letterRows
   rows-numbered = refl
 
   -- rows 12 to 14
   pub word-refuses : (k : ℕ) → (k ≡ 0 → ⊥) → k ≡ wordRow (r .s) lead cycle → k ≡ callRow r lead cycle m
   unfolding callRow wordRow wordRows
-  word-refuses k n e = first-left (wordRows r lead cycle) (sliceRows lead cycle m) k n e
+  word-refuses k n e = first-left (wordRows (r .s) lead cycle) (sliceRows lead cycle m) k n e
 
   word-passes : wordRow (r .s) lead cycle ≡ 0 → callRow r lead cycle m ≡ firstRow (sliceRows lead cycle m)
   unfolding callRow wordRow wordRows
-  word-passes e = first-right (wordRows r lead cycle) (sliceRows lead cycle m) rows-numbered e
+  word-passes e = first-right (wordRows (r .s) lead cycle) (sliceRows lead cycle m) rows-numbered e
 
   -- row 16
   pub slice-refuses : wordRow (r .s) lead cycle ≡ 0 → m < places lead cycle → 16 ≡ callRow r lead cycle m
@@ -45,7 +45,7 @@ module _ (r : Rule) (lead cycle : List ℕ) (m : ℕ) where
   pub call-passes : callRow r lead cycle m ≡ 0 → Passes
   unfolding callRow wordRow wordRows sliceRows
   call-passes e =
-      let p = first-parts (wordRows r lead cycle) (sliceRows lead cycle m) rows-numbered e in
+      let p = first-parts (wordRows (r .s) lead cycle) (sliceRows lead cycle m) rows-numbered e in
       record { word = p .0; room = ltb-false m (places lead cycle) (first-pass (ltb m (places lead cycle)) 15 [] (p .1) .0) }
 
 module _ (f lead cycle : List ℕ) (m : ℕ) where

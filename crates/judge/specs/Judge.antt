@@ -14,13 +14,9 @@ use Rattle.theory.specs.Plan.{AcceptsFrom, AcceptsWord}
 use Rattle.theory.specs.Truth.{truthMasks}
 use Rattle.rules.specs.File.{ruleIn}
 use Rattle.rules.specs.Rows.{fileRows}
-use Rattle.words.specs.Words.{lengthRows, letterRows}
+use Rattle.words.specs.Words.{wordRows}
 use Rattle.judge.specs.declared.Verdict.{Verdict}
 use Rattle.judge.specs.declared.Verdict.the-variants.{Yes, No, Refused}
-
--- rows 12 to 14, of the word
-unfoldable pub wordRows : Rule → List ℕ → List ℕ → List Check
-wordRows r lead cycle = lengthRows lead cycle ++ letterRows (r .s) lead cycle
 
 -- row 16, of a slice of m bytes: "result or scratch slice too short", with one byte a place
 unfoldable pub sliceRows : List ℕ → List ℕ → ℕ → List Check
@@ -28,11 +24,11 @@ sliceRows lead cycle m = check (ltb m (places lead cycle)) 16 ∷ []
 
 -- the first row that refuses, or 0, once the rule is read
 unfoldable pub callRow : Rule → List ℕ → List ℕ → ℕ → ℕ
-callRow r lead cycle m = firstRow (wordRows r lead cycle ++ sliceRows lead cycle m)
+callRow r lead cycle m = firstRow (wordRows (r .s) lead cycle ++ sliceRows lead cycle m)
 
 -- 01, "Refused, in order of checking": "Rule .., word, table, slices, room": the first row that refuses, or 0
 unfoldable pub judgeRow : List ℕ → List ℕ → List ℕ → ℕ → ℕ
-judgeRow f lead cycle m = firstRow (fileRows f ++ (wordRows (ruleIn f) lead cycle ++ sliceRows lead cycle m))
+judgeRow f lead cycle m = firstRow (fileRows f ++ (wordRows (ruleIn f .s) lead cycle ++ sliceRows lead cycle m))
 
 -- by the row, or 0: "The answer is the number alone", else yes or no
 abbrev pub verdict : ℕ → Bool → Verdict

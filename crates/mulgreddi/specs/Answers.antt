@@ -9,6 +9,8 @@ use Rattle.rules.specs.declared.Read.{Read}
 use Rattle.rules.specs.declared.Read.the-variants as read
 use Rattle.sameness.specs.declared.SameRules.{SameRules}
 use Rattle.sameness.specs.declared.SameRules.the-variants as rules
+use Rattle.tables.specs.declared.Start.{Start}
+use Rattle.tables.specs.declared.Start.the-variants as tables
 use Rattle.words.specs.declared.SameWords.{SameWords}
 use Rattle.words.specs.declared.SameWords.the-variants as words
 use Rattle.writer.specs.declared.Written.{Written}
@@ -52,3 +54,9 @@ verdictAnswer (judge.Refused row) = refusedAs row
 unfoldable pub builtAnswer : Built → Answer
 builtAnswer (build.Table counts) = servedAs (counts .macrostates) (counts .transitions)
 builtAnswer (build.Refused row) = refusedAs row
+
+-- 01: "it answers no, or yes with the lowest number": 1 and the number for yes, 0 for no
+abbrev pub startAnswer : Start → Answer
+startAnswer (tables.Yes number) = servedAs 1 number
+startAnswer tables.No = servedAs 0 0
+startAnswer (tables.Refused row) = refusedAs row

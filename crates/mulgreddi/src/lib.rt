@@ -3,6 +3,7 @@ use build::Built;
 use judge::Verdict;
 use rules::Read;
 use sameness::SameRules;
+use tables::Start;
 use words::SameWords;
 use writer::Written;
 ghost use mathlib.Core.Path.{_≡_};
@@ -15,10 +16,13 @@ ghost use Rattle.build.specs.declared.Built.the-variants.{Table};
 ghost use Rattle.judge.specs.Judge.{judgeOf, judgeRow, after, Meant};
 ghost use Rattle.rules.specs.File.{ruleIn};
 ghost use Rattle.rules.specs.Read.{readOf};
+ghost use Rattle.lent.specs.Lent.{inBytes};
+ghost use Rattle.tables.specs.Tables.{JudgedTable};
+ghost use Rattle.tables.specs.declared.Start.{Start};
 ghost use Rattle.sameness.specs.Same.{sameRulesOf};
 ghost use Rattle.writer.specs.Written.{headFrom, writtenOf, sliceAfter};
 ghost use Rattle.words.specs.Words.{sameWordsOf};
-ghost use Rattle.mulgreddi.specs.Answers.{refusedAs, servedAs, readAnswer, writtenAnswer, sameRulesAnswer, sameWordsAnswer, verdictAnswer, builtAnswer};
+ghost use Rattle.mulgreddi.specs.Answers.{refusedAs, servedAs, readAnswer, writtenAnswer, sameRulesAnswer, sameWordsAnswer, verdictAnswer, builtAnswer, startAnswer};
 
 // refusal is 0 where the input was served; else first and second are 0.
 #[repr(C)]
@@ -141,5 +145,24 @@ pub extern "C" fn mulgreddi_build(file: &[u8], codes: &mut [u64], transitions: &
     match build::build(file, codes, transitions) {
         Built::Table(counts) => served(counts.macrostates as u64, counts.transitions as u64),
         Built::Refused(row) => refused(row),
+    }
+}
+
+// Judges a word on a table of codes and transitions in bytes; 1 for yes, 0 for no, and with yes the lowest number where an accepting run begins.
+#[no_mangle]
+pub extern "C" fn mulgreddi_judge_table(
+    file: &[u8],
+    lead: &[u8],
+    cycle: &[u8],
+    codes: &[u8],
+    transitions: &[u8],
+    scratch: &mut [u8],
+) -> Answer
+    ensures { λ r. ⌜ ((a : Start) × (r ≡ startAnswer a) × JudgedTable (now (file .entry)) (now (lead .entry)) (now (cycle .entry)) (inBytes (now (codes .entry))) (inBytes (now (transitions .entry))) (now (scratch .entry)) (now (scratch .exit)) a) ⌝ }
+{
+    match tables::judge_table_bytes(file, lead, cycle, codes, transitions, scratch) {
+        Start::Yes(number) => served(1, number as u64),
+        Start::No => served(0, 0),
+        Start::Refused(row) => refused(row),
     }
 }

@@ -14,7 +14,7 @@ use Rattle.sets.proofs.Bools.{bif, clash, or-fl, or-fr, or-l, or-r}
 use Rattle.sets.proofs.Lists.{any-in, any-out}
 use Rattle.sets.proofs.Rows.{row-yes, row-no, numbered, first-left, first-right}
 use Rattle.theory.specs.Word.{WordOver}
-use Rattle.words.specs.Words.{lengthRows, letterRows, lengthRow, wordRow}
+use Rattle.words.specs.Words.{lengthRows, letterRows, lengthRow, wordRows, wordRow}
 
 abbrev over : List ℕ → List ℕ → Bool
 over lead cycle = ltb 32 (length lead) || ltb 32 (length cycle)
@@ -78,11 +78,11 @@ lengths-numbered lead cycle = refl
 module _ (s : ℕ) (lead cycle : List ℕ) where
   -- rows 12 and 13 come first
   pub word-lengths : (k : ℕ) → 0 < k → lengthRow lead cycle ≡ k → wordRow s lead cycle ≡ k
-  unfolding wordRow lengthRow
+  unfolding wordRow wordRows lengthRow
   word-lengths k p e = sym (first-left (lengthRows lead cycle) (letterRows s lead cycle) k (λ z. omega arith) (sym e))
 
   after : lengthRow lead cycle ≡ 0 → wordRow s lead cycle ≡ firstRow (letterRows s lead cycle)
-  unfolding wordRow lengthRow
+  unfolding wordRow wordRows lengthRow
   after e = first-right (lengthRows lead cycle) (letterRows s lead cycle) (lengths-numbered lead cycle) e
 
   -- 14

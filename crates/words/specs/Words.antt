@@ -19,9 +19,13 @@ lengthRows lead cycle =
 unfoldable pub letterRows : ℕ → List ℕ → List ℕ → List Check
 letterRows s lead cycle = record { applies = anyOf lead (λ a. leb s a) || anyOf cycle (λ a. leb s a); number = 14 } ∷ []
 
--- the first of rows 12 to 14 that refuses the word over s letters, or 0
+-- rows 12 to 14, of a word over s letters
+unfoldable pub wordRows : ℕ → List ℕ → List ℕ → List Check
+wordRows s lead cycle = lengthRows lead cycle ++ letterRows s lead cycle
+
+-- the first of them that refuses, or 0
 unfoldable pub wordRow : ℕ → List ℕ → List ℕ → ℕ
-wordRow s lead cycle = firstRow (lengthRows lead cycle ++ letterRows s lead cycle)
+wordRow s lead cycle = firstRow (wordRows s lead cycle)
 
 -- the first of rows 12 and 13 that refuses the word, or 0
 unfoldable pub lengthRow : List ℕ → List ℕ → ℕ

@@ -1,0 +1,5 @@
+pub mod Sums
+pub mod Marking
+pub mod Places
+pub mod Rounds
+pub mod Loops
