@@ -2,7 +2,7 @@
 #   make lib                   the static library, build/libmulgreddi.a
 #   make install PREFIX=DIR    header, library and a pkg-config file to DIR
 #   make test                  the gate: library, comparison with the second program, C examples, proofs
-#   make bench                 times of the library beside those of the second program and of a C++ prototype, and of the step back alone
+#   make bench                 times of the library beside those of the second program and of a C++ program without proofs, and of the step back alone
 #   make soak SECONDS=600      the comparison with new seeds until the time is up
 
 CC ?= cc
@@ -49,7 +49,7 @@ compare: $(LIB)
 soak: $(LIB)
 	$(CARGO) run --release --offline --quiet --manifest-path compare/Cargo.toml -- --seconds $(SECONDS)
 
-# bench/reference.cpp is the same algorithm in C++, without proofs, checks and refusals of files: for speed alone
+# bench/reference.cpp is the same kind of algorithm in C++, without proofs, checks and refusals of files: for speed alone
 $(BUILD)/reference: bench/reference.cpp
 	mkdir -p $(BUILD)
 	$(CXX) -O2 -std=c++17 -o $@ $<
