@@ -1,10 +1,11 @@
 -- The next vector: it is one of them, above, and the least such.
 use mathlib.Core.Path.{_≡_, sym, _∙_}
 use mathlib.Core.Logic.{by-cases}
-use Prim.Native.Nat.{ℕ, zero, suc, _+_, _*_, _/_, _%_, _≤_, _<_}
+use Prim.Native.Nat.{ℕ, zero, suc, _+_, _*_, _/_, _%_, _^_, _≤_, _<_}
 use native.Mathlib.Omega.{arith}
 use native.Mathlib.Decide.{ℕ-discrete}
 use native.Mathlib.Nat.{mul-le-mul-right}
+use lib.Pow.{pow-add}
 use borrow.Author.Tests.{eq-eqb, ne-eqb}
 use Rattle.cores.specs.Vectors.{Within, nextOf}
 
@@ -43,40 +44,45 @@ least (suc m) w c v h k l =
     (λ e. rw (next-carry m w c e) (omega (arith, least m (w / 16) (c / 16) (v / 16) (h .1) (k .1) (omega (arith, k .0)))))
     (λ e. rw (next-one m w c e) (omega arith))
 
--- the loop
-pub record State (ranks caps w c scale m : ℕ) : Type 0 where
+-- the loop: w and c without their last digits, four bits each, which were equal
+pub record State (ranks caps w c shift m : ℕ) : Type 0 where
+  pub left : shift + 4 * m ≡ 32
   pub within : Within m w c
   pub other : w ≡ c → ⊥
-  pub same : nextOf 8 ranks caps ≡ nextOf m w c * scale
-  pub low : w * scale ≤ ranks
-  pub high : c * scale ≤ caps
+  pub same : nextOf 8 ranks caps ≡ nextOf m w c * 2 ^ shift
+  pub low : w * 2 ^ shift ≤ ranks
+  pub high : c * 2 ^ shift ≤ caps
 
-pub end : (ranks caps w c scale m : ℕ) → State ranks caps w c scale m → (w % 16 ≡ c % 16 → ⊥) → nextOf 8 ranks caps ≡ (w + 1) * scale
+pub end : (ranks caps w c shift m : ℕ) → State ranks caps w c shift m → (w % 16 ≡ c % 16 → ⊥) → nextOf 8 ranks caps ≡ (w + 1) * 2 ^ shift
 unfolding Within
-end ranks caps w c scale zero s n = absurd (s .other (omega (arith, s .within)))
-end ranks caps w c scale (suc m) s n = s .same ∙ rw (next-one m w c n)
+end ranks caps w c shift zero s n = absurd (s .other (omega (arith, s .within)))
+end ranks caps w c shift (suc m) s n = s .same ∙ rw (next-one m w c n)
 
 zeros : (m w : ℕ) → Within m w 0 → w ≡ 0
 unfolding Within
 zeros zero w h = h .0
 zeros (suc m) w h = omega (arith, h .0, zeros m (w / 16) (h .1))
 
-pub some-left : (ranks caps w c scale m : ℕ) → State ranks caps w c scale m → 0 < c
-some-left ranks caps w c scale m s = by-cases (ℕ-discrete c 0) (λ z. absurd (s .other (zeros m w (rw z at (s .within)) ∙ sym z))) (λ z. omega arith)
+pub some-left : (ranks caps w c shift m : ℕ) → State ranks caps w c shift m → 0 < c
+some-left ranks caps w c shift m s = by-cases (ℕ-discrete c 0) (λ z. absurd (s .other (zeros m w (rw z at (s .within)) ∙ sym z))) (λ z. omega arith)
 
-pub carry : (ranks caps w c scale m : ℕ) → State ranks caps w c scale m → w % 16 ≡ c % 16 → (k : ℕ) × State ranks caps (w / 16) (c / 16) (scale * 16) k
+pub carry : (ranks caps w c shift m : ℕ) → State ranks caps w c shift m → w % 16 ≡ c % 16 → (k : ℕ) × State ranks caps (w / 16) (c / 16) (shift + 4) k
 unfolding Within
-carry ranks caps w c scale zero s e = absurd (s .other (omega (arith, s .within)))
-carry ranks caps w c scale (suc m) s e = (
-  m,
-  record {
-    within = s .within .1;
-    other = λ u. s .other (omega arith);
-    same = s .same ∙ rw (next-carry m w c e) (omega arith);
-    low = let h : w / 16 * 16 * scale ≤ w * scale = mul-le-mul-right scale (omega arith) in omega (arith, s .low);
-    high = let h : c / 16 * 16 * scale ≤ c * scale = mul-le-mul-right scale (omega arith) in omega (arith, s .high);
-  },
-)
+carry ranks caps w c shift zero s e = absurd (s .other (omega (arith, s .within)))
+carry ranks caps w c shift (suc m) s e =
+    let p : 2 ^ (shift + 4) ≡ 2 ^ shift * 16 = pow-add 2 shift 4 in (
+      m,
+      record {
+        left = omega (arith, s .left);
+        within = s .within .1;
+        other = λ u. s .other (omega arith);
+        same = s .same ∙ rw (next-carry m w c e, p) (omega arith);
+        low = let h : w / 16 * 16 * 2 ^ shift ≤ w * 2 ^ shift = mul-le-mul-right (2 ^ shift) (omega arith) in rw p (omega (arith, s .low));
+        high = let h : c / 16 * 16 * 2 ^ shift ≤ c * 2 ^ shift = mul-le-mul-right (2 ^ shift) (omega arith) in rw p (omega (arith, s .high));
+      },
+    )
 
-pub scale-low : (ranks caps w c scale m : ℕ) → State ranks caps w c scale m → scale ≤ caps
-scale-low ranks caps w c scale m s = let h : 1 * scale ≤ c * scale = mul-le-mul-right scale (some-left ranks caps w c scale m s) in omega (arith, s .high)
+-- the next vector is a number of 64 bits
+pub next-fits : (ranks caps w c shift m : ℕ) → State ranks caps w c shift m → ranks < 2 ^ 32 → caps < 2 ^ 32 → (w + 1) * 2 ^ shift < 2 ^ 64
+next-fits ranks caps w c shift m s r k =
+    let h : 1 * 2 ^ shift ≤ c * 2 ^ shift = mul-le-mul-right (2 ^ shift) (some-left ranks caps w c shift m s) in omega (arith, s .low, s .high)

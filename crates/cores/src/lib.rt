@@ -120,11 +120,11 @@ pub fn next_ranks(ranks: u64, caps: u64) -> u64
 {
     let mut w = ranks;
     let mut c = caps;
-    let mut scale: u64 = 1;
-    while w % 16 == c % 16 {
-        w /= 16;
-        c /= 16;
-        scale *= 16;
+    let mut shift: u32 = 0;
+    while w & 15 == c & 15 {
+        w >>= 4;
+        c >>= 4;
+        shift += 4;
     }
-    (w + 1) * scale
+    (w + 1) << shift
 }

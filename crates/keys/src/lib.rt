@@ -45,14 +45,14 @@ fn move_keys(
     ensures { λ g. ⌜ Added (From (Moved earlier core (onwardIn ranks (now (parts .entry)) components (now (levels .entry)))) (take n (now (keys .entry)))) n (now (keys .entry)) new (now (keys .exit)) (g .m) (g .full) ⌝ }
 {
     let mut m = new;
-    let mut i = sorted::place(keys, n, earlier * 256);
+    let mut i = sorted::place(keys, n, earlier << 8);
     while i < n {
         let x = keys[i];
-        if x / 256 != earlier {
+        if x >> 8 != earlier {
             return Grow { m, full: false };
         }
-        let pair = steps::onward(x % 256, ranks, parts, components, levels);
-        let g = sorted::put_from(keys, n, m, own, core * 256 + pair);
+        let pair = steps::onward(x & 0xff, ranks, parts, components, levels);
+        let g = sorted::put_from(keys, n, m, own, (core << 8) | pair);
         if g.full {
             return g;
         }
@@ -126,7 +126,7 @@ pub fn visit(
     }
     let low = cores::lowest(ranks);
     let core = steps::core_of(low[15], shape.accepting, ranks);
-    let own = sorted::place(keys, n, core * 256);
+    let own = sorted::place(keys, n, core << 8);
     let mut m = new;
     let mut a = 0;
     while a < shape.s {
@@ -183,5 +183,5 @@ pub fn visit_first(keys: &mut [u64], new: usize, ranks: u64, shape: Shape, parts
     }
     let low = cores::lowest(ranks);
     let core = steps::core_of(low[15], shape.accepting, ranks);
-    sorted::insert(keys, new, core * 256)
+    sorted::insert(keys, new, core << 8)
 }

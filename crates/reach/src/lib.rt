@@ -114,7 +114,7 @@ pub fn to_codes(keys: &mut [u64], n: usize)
     let mut i = 0;
     while i < n {
         let key = keys[i];
-        keys[i] = key % 256 * 1099511627776 + key / 256;
+        keys[i] = ((key & 0xff) << 40) | (key >> 8);
         i += 1;
     }
 }

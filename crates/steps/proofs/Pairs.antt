@@ -7,8 +7,10 @@ use native.Mathlib.Omega.{arith}
 use native.Mathlib.Decide.{ℕ-discrete}
 use native.Mathlib.Nat.{mod-lt}
 use lib.ListN.{getD}
+use lib.Bits.{bitOr}
 use borrow.Author.Tests.{eq-eqb, ne-eqb}
 use Rattle.sets.proofs.Tests.{count-max}
+use Rattle.codes.proofs.Packing.{put-field}
 use Rattle.cores.specs.Used.{classCount, taken}
 use Rattle.steps.specs.Onward.{nextIn, previousIn, classesAt, levelAt, onwardIn, candidateIn}
 
@@ -33,6 +35,10 @@ previous-more C c n = rw (ne-eqb c 0 n)
 
 pub previous-lt : (C c : ℕ) → c < C → previousIn C c < C
 previous-lt C c h = by-cases (ℕ-discrete c 0) (λ e. omega (arith, previous-first C c e)) (λ e. omega (arith, previous-more C c e))
+
+-- a pair is put together by a shift
+pub pair-put : (c k : ℕ) → c < 16 → k < 16 → bitOr c (k * 2 ^ 4 % 2 ^ 64) ≡ c + 16 * k
+pair-put c k l h = put-field k 4 l (omega arith) ∙ omega arith
 
 -- each is the other's inverse
 pub previous-next : (C c : ℕ) → c < C → previousIn C (nextIn C c) ≡ c

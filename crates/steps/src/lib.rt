@@ -92,7 +92,7 @@ pub fn core_of(opened: u8, accepting: u8, ranks: u64) -> u64
     requires { ⌜ ranks < 2 ^ 32 ⌝ }
     ensures { λ r. ⌜ r ≡ ranks * 2 ^ 8 + bitXor opened accepting ⌝ }
 {
-    ranks * 256 + (opened ^ accepting) as u64
+    (ranks << 8) | (opened ^ accepting) as u64
 }
 
 // The component after c; after the last, component 0.
@@ -122,13 +122,13 @@ pub fn onward(pair: u64, ranks: u64, parts: &[u8; 8], components: usize, levels:
     requires { ⌜ (pair < 256) × (pair % 16 < components) × (components ≤ 8) ⌝ }
     ensures { λ r. ⌜ r ≡ onwardIn ranks (now (parts .entry)) components (now (levels .entry)) pair ⌝ }
 {
-    let c = (pair % 16) as usize;
-    let k = (pair / 16) as u32;
+    let c = (pair & 15) as usize;
+    let k = (pair >> 4) as u32;
     if k == 0 {
         let d = next_component(c, components);
-        return d as u64 + 16 * cores::class_count(ranks, parts[d]) as u64;
+        return d as u64 | ((cores::class_count(ranks, parts[d]) as u64) << 4);
     }
-    c as u64 + 16 * ((levels[c] >> (4 * k)) & 15)
+    c as u64 | (((levels[c] >> (4 * k)) & 15) << 4)
 }
 
 // The pair with k = p that goes on to this pair, or 256 for none.
@@ -143,8 +143,8 @@ pub fn candidate(
     requires { ⌜ (pair < 256) × (pair % 16 < components) × (components ≤ 8) × (p < 16) ⌝ }
     ensures { λ r. ⌜ r ≡ candidateIn ranks (now (parts .entry)) components (now (levels .entry)) pair p ⌝ }
 {
-    let c = (pair % 16) as usize;
-    let k = pair / 16;
+    let c = (pair & 15) as usize;
+    let k = pair >> 4;
     if p == 0 {
         if cores::class_count(ranks, parts[c]) as u64 != k {
             return 256;
@@ -154,5 +154,5 @@ pub fn candidate(
     if (levels[c] >> (4 * p)) & 15 != k {
         return 256;
     }
-    c as u64 + 16 * p
+    c as u64 | (p << 4)
 }

@@ -24,7 +24,7 @@ fn candidates(
     let mut k = 0;
     while k < 9 {
         found[k] = earlier
-            + steps::candidate(pair, k as u64, ranks, parts, components, levels) * 1099511627776;
+            | (steps::candidate(pair, k as u64, ranks, parts, components, levels) << 40);
         k += 1;
     }
     found
@@ -58,7 +58,7 @@ fn source(codes: &[u64], n: usize, x: u64) -> usize
     requires { ⌜ Ordered (now codes) n ⌝ }
     ensures { λ r. ⌜ Numbered (now (codes .entry)) n x r ⌝ }
 {
-    if 281474976710656 <= x {
+    if x >> 48 != 0 {
         return n;
     }
     let q = sorted::place(codes, n, x);

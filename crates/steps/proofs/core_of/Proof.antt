@@ -1,7 +1,7 @@
 use Prim.Native.Nat.{_<_}
 use native.Mathlib.Omega.{arith}
 use lib.Bits.{bitXor, xor-lt}
-use borrow.Author.Needs.{needs}
+use Rattle.codes.proofs.Low.{put-byte}
 use Rattle.steps.proofs.core_of.Statement.{statement}
 use Rattle.steps.proofs.core_of.Tie as tie
 
@@ -9,17 +9,11 @@ use Rattle.steps.proofs.core_of.Tie as tie
 small : (c : tie.Start) → bitXor (c .args .opened) (c .args .accepting) < 256
 small c = xor-lt 8 (c .args .opened) (c .args .accepting) (omega arith) (omega arith)
 
-mul-result : tie.Need-mul-result
-mul-result c = search needs
-
 cast-result : tie.Need-cast-result
 cast-result c = omega (arith, small c)
 
-add-result : tie.Need-add-result
-add-result c = omega (arith, small c)
-
 returns : tie.Need-returns
-returns c = search needs
+returns c = put-byte (c .args .ranks) (bitXor (c .args .opened) (c .args .accepting)) (omega arith) (small c)
 
 pub core-of-spec : {M : Type 1} → statement M
-core-of-spec = tie.close (tie.spec mul-result cast-result add-result returns)
+core-of-spec = tie.close (tie.spec cast-result returns)
