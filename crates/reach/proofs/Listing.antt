@@ -2,9 +2,9 @@
 use mathlib.Core.Path.{_≡_, refl, ap, sym, _∙_}
 use mathlib.Core.Bool.{Bool, true, false, true≢false, false≢true}
 use mathlib.Core.List.{List, [], _∷_, map, List·Memᴰ, List·Memᴰ·head, List·Memᴰ·tail, Memᴰ·map, Memᴰ·of-map}
-use Prim.Native.Nat.{ℕ, _<_}
+use Prim.Native.Nat.{ℕ, _^_, _<_}
 use native.Mathlib.Omega.{arith}
-use lib.ListN.{length, take, drop, length-map}
+use lib.ListN.{length, getD, take, drop, length-map}
 use lib.Seq.{length-take-le, take-at}
 use Rattle.sets.specs.Tests.{Set}
 use Rattle.sets.specs.Lists.{Ascending, none, from}
@@ -21,7 +21,8 @@ use Rattle.sorting.proofs.Distinct.{asc-distinct, cons-distinct, rearranged-in,
 use Rattle.reach.specs.Closure.{Gathered, Listed}
 use Rattle.keys.specs.Keys.{keyOf, codeOf, KeyOf}
 use Rattle.reach.proofs.Codes.{coded}
-use Rattle.keys.proofs.Keys.{code-key}
+use Rattle.keys.proofs.Keys.{code-key, key-parts}
+use Rattle.keys.proofs.Moves.{member}
 use Rattle.reach.proofs.Link.{pair-low}
 
 -- an ascending list through a function that tells its members apart
@@ -58,6 +59,13 @@ module _ (r : Rule) (P : Passing r) (start : Set) (xs ys : List ℕ) (m : ℕ) w
   module _ (g : Gathered (KeyOf R) xs ys m false) where
     key-code : (y : ℕ) → List·Memᴰ y (take m ys) → keyOf (codeOf y) ≡ y
     key-code y k = let s = g .sound refl y k in rw (s .2) (ap keyOf (code-of-key (s .0) (s .1)))
+
+    -- keys have the bits of codes
+    pub keys-low : (i : ℕ) → i < m → getD ys i 0 < 2 ^ 48
+    keys-low i h =
+        let s = g .sound refl (getD ys i 0) (member m ys (g .fits) i h) in
+        let p = pair-low (automaton r) (s .0) (reachable-macrostate (automaton r) (layered r P) (few-states r P) (components-there r P) (r .s) start (s .1)) in
+        omega (arith, s .2, key-parts (s .0))
 
     codes-distinct : Distinct (map codeOf (take m ys))
     codes-distinct = distinct-map codeOf (take m ys) (g .ascends refl) (λ x y k l e. sym (key-code x k) ∙ ap keyOf e ∙ key-code y l)

@@ -1,8 +1,8 @@
 // The reachable macrostates of a rule in a lent slice: sweeps over all cores, until one adds nothing.
 ghost use mathlib.Core.Path.{_≡_};
 ghost use mathlib.Core.List.{_++_, map, List·Memᴰ};
-ghost use Prim.Native.Nat.{_≤_};
-ghost use lib.ListN.{length, take, drop};
+ghost use Prim.Native.Nat.{ℕ, _^_, _<_, _≤_};
+ghost use lib.ListN.{length, getD, take, drop};
 ghost use Rattle.theory.specs.Rule.{Rule};
 ghost use Rattle.theory.specs.Automaton.{automaton};
 ghost use Rattle.theory.specs.Macrostate.{Reachable};
@@ -108,7 +108,7 @@ pub fn reach(keys: &mut [u64], shape: Shape, opens: &[u8; 4096], parts: &[u8; 8]
 
 // The code of each of the first n keys, in its place.
 pub fn to_codes(keys: &mut [u64], n: usize)
-    requires { ⌜ n ≤ length (now keys) ⌝ }
+    requires { ⌜ (n ≤ length (now keys)) × ((i : ℕ) → i < n → getD (now keys) i 0 < 2 ^ 48) ⌝ }
     ensures { λ _. ⌜ now (keys .exit) ≡ map codeOf (take n (now (keys .entry))) ++ drop n (now (keys .entry)) ⌝ }
 {
     let mut i = 0;

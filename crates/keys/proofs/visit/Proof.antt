@@ -1,16 +1,18 @@
-use Prim.Native.Nat.{_-_, _≤_}
-use mathlib.Core.Path.{_≡_, refl, sym, _∙_}
+use Prim.Native.Nat.{ℕ, _-_, _*_, _%_, _^_, _≤_, _<_}
+use mathlib.Core.Path.{_≡_, refl, ap, sym, _∙_}
 use mathlib.Core.Bool.{false}
 use native.Mathlib.Omega.{arith}
 use lib.ListN.{length, take}
 use borrow.Author.Tests.{not-true, not-false}
 use borrow.Author.Needs.{needs}
 use Rattle.sets.proofs.Bools.{clash}
+use Rattle.sorted.specs.Places.{below}
 use Rattle.theory.specs.Rule.{Rule}
 use Rattle.theory.specs.Automaton.{automaton}
 use Rattle.keys.specs.Growth.{From, Added}
 use Rattle.keys.specs.Keys.{LeadsOver, LeadsAt}
 use Rattle.keys.specs.Tables.{Tables}
+use Rattle.keys.proofs.Keys.{first-key}
 use Rattle.keys.proofs.Growth.{Upto, added-none, added-as, parted-after, upto-start, upto-next, upto-full}
 use Rattle.keys.proofs.Starting.{few, vector-low, core-fits}
 use Rattle.keys.proofs.Letters.{letters-in, letters-out}
@@ -40,11 +42,16 @@ array-read-core-of c = search needs
 core-of-requires : tie.Need-core-of-requires Inv-loop μ-loop
 core-of-requires c κs = let a = c .before .before .before .before .args in let p = c .before .before .before .before .pre in vector-low (p .0 .0) (a .parts .now) (a .shape) (p .0 .1 .shaped) (a .ranks) (p .3)
 
-mul-place : tie.Need-mul-place Inv-loop μ-loop
-mul-place c = let a = c .before .before .before .before .before .before .args in let p = c .before .before .before .before .before .before .pre in omega (arith, c .before .core-of .ensures, core-fits (p .0 .0) (a .parts .now) (a .shape) (p .0 .1 .shaped) (a .ranks) (p .3) (c .before .before .lowest .result) (c .before .before .lowest .ensures))
-
 place-requires : tie.Need-place-requires Inv-loop μ-loop
 place-requires c κs = let p = c .before .before .before .before .before .before .pre in (omega (arith, p .1 .fits), p .1 .old)
+
+-- the place of the core's first key
+own : (c : tie.After-place Inv-loop μ-loop) → c .place .result ≡ below (c .before .before .core-of .result * 256) (take (c .before .before .before .before .before .before .before .args .n) (c .before .before .before .before .before .before .before .args .keys .now))
+own c =
+    let a = c .before .before .before .before .before .before .before .args in let p = c .before .before .before .before .before .before .before .pre in let core = c .before .before .core-of .result in
+    let found : c .place .result ≡ below (core * 2 ^ 8 % 2 ^ 64) (take (a .n) (a .keys .now)) = c .place .ensures in
+    let fits : core < 2 ^ 40 = omega (arith, c .before .before .core-of .ensures, core-fits (p .0 .0) (a .parts .now) (a .shape) (p .0 .1 .shaped) (a .ranks) (p .3) (c .before .before .before .lowest .result) (c .before .before .before .lowest .ensures)) in
+    found ∙ ap (λ (x : ℕ). below x (take (a .n) (a .keys .now))) (first-key core fits)
 
 loop-holds : tie.Need-loop-holds Inv-loop μ-loop
 loop-holds c = let a = c .before .before .before .before .before .before .before .args in let p = c .before .before .before .before .before .before .before .pre in (omega arith, refl, λ r T. upto-start (a .n) (λ b. From (LeadsOver (automaton r) (a .ranks) b) (take (a .n) (a .keys .now))) (a .keys .now) (a .new) (p .1))
@@ -59,7 +66,7 @@ visit-letter-requires c κs =
       c .before .before .before .before .before .before .before .before .lowest .ensures,
       c .before .before .if2 .taken,
       c .before .before .before .before .before .before .before .core-of .ensures,
-      rw (i .old) (c .before .before .before .before .before .place .ensures),
+      rw (i .old) (own (c .before .before .before .before .before)),
     )
 
 same-length : tie.Need-same-length Inv-loop μ-loop
@@ -109,7 +116,6 @@ visit-spec =
     lowest-requires
     array-read-core-of
     core-of-requires
-    mul-place
     place-requires
     loop-holds
     visit-letter-requires

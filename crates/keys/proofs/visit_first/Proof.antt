@@ -1,10 +1,12 @@
-use mathlib.Core.Path.{_≡_, sym, _∙_}
+use mathlib.Core.Path.{_≡_, sym, subst, _∙_}
 use native.Mathlib.Omega.{arith}
 use borrow.Author.Tests.{not-true, not-false}
 use borrow.Author.Needs.{needs}
-use Prim.Native.Nat.{_*_}
+use Prim.Native.Nat.{ℕ, _*_, _%_, _^_, _<_}
 use Rattle.sets.proofs.Bools.{clash}
+use Rattle.sorted.specs.Insertion.{Inserted}
 use Rattle.keys.specs.Keys.{StartsAt}
+use Rattle.keys.proofs.Keys.{first-key}
 use Rattle.keys.proofs.Growth.{added-none, added-as, inserted-added}
 use Rattle.keys.proofs.Starting.{few, initial-low, vector-low, core-fits, start-is, first-in, first-out}
 use Rattle.keys.proofs.visit_first.Statement.{statement}
@@ -37,21 +39,26 @@ array-read-core-of c = search needs
 core-of-requires : tie.Need-core-of-requires
 core-of-requires c κs = let a = c .before .before .before .before .before .before .args in let p = c .before .before .before .before .before .before .pre in vector-low (p .0 .0) (a .parts .now) (a .shape) (p .0 .1) (a .ranks) (p .2)
 
-mul-insert : tie.Need-mul-insert
-mul-insert c = let a = c .before .before .before .before .before .before .before .before .args in let p = c .before .before .before .before .before .before .before .before .pre in omega (arith, c .before .core-of .ensures, core-fits (p .0 .0) (a .parts .now) (a .shape) (p .0 .1) (a .ranks) (p .2) (c .before .before .lowest .result) (c .before .before .lowest .ensures))
-
 insert-requires : tie.Need-insert-requires
 insert-requires c κs = search needs
 
 same-length : tie.Need-same-length
 same-length c = search needs
 
+-- the core's first key is put
+put : (c : tie.After-insert) → Inserted (c .before .before .before .before .before .before .before .before .before .args .keys .now) (c .before .before .before .before .before .before .before .before .before .args .new) (c .before .before .core-of .result * 256) (c .insert .last .0) (c .insert .result .m) (c .insert .result .full)
+put c =
+    let a = c .before .before .before .before .before .before .before .before .before .args in let p = c .before .before .before .before .before .before .before .before .before .pre in let g = c .insert in let core = c .before .before .core-of .result in
+    let found : Inserted (a .keys .now) (a .new) (core * 2 ^ 8 % 2 ^ 64) (g .last .0) (g .result .m) (g .result .full) = g .ensures in
+    let fits : core < 2 ^ 40 = omega (arith, c .before .before .core-of .ensures, core-fits (p .0 .0) (a .parts .now) (a .shape) (p .0 .1) (a .ranks) (p .2) (c .before .before .before .lowest .result) (c .before .before .before .lowest .ensures)) in
+    subst (λ (x : ℕ). Inserted (a .keys .now) (a .new) x (g .last .0) (g .result .m) (g .result .full)) (first-key core fits) found
+
 returns-3 : tie.Need-returns-3
 returns-3 c =
     let a = c .before .before .before .before .before .before .before .before .before .before .before .args in let p = c .before .before .before .before .before .before .before .before .before .before .before .pre in let g = c .before .before .insert in let core = c .before .before .before .before .core-of .result in
     λ r S.
     added-as 0 (λ y. y ≡ core * 256) (a .keys .now) (a .new) (g .last .0) (g .result .m) (g .result .full)
-    (inserted-added (a .keys .now) (a .new) (core * 256) (g .last .0) (g .result .m) (g .result .full) (g .kept .0) (p .1 .new) (g .ensures))
+    (inserted-added (a .keys .now) (a .new) (core * 256) (g .last .0) (g .result .m) (g .result .full) (g .kept .0) (p .1 .new) (put (c .before .before)))
     (StartsAt r (a .parts .now) (a .shape .components) (a .shape .holds) (a .ranks))
     (first-in r (a .parts .now) (a .shape) S (a .ranks) (p .2) (c .before .before .before .before .before .lowest .result) (c .before .before .before .before .before .lowest .ensures) core (c .before .before .before .before .core-of .ensures)
     (sym (c .before .before .before .before .before .before .before .is-core .ensures) ∙ not-false _ (c .before .before .before .before .before .before .if2 .left))
@@ -69,7 +76,6 @@ visit-first-spec =
     lowest-requires
     array-read-core-of
     core-of-requires
-    mul-insert
     insert-requires
     same-length
     returns-3)

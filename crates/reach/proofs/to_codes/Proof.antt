@@ -25,12 +25,6 @@ slice-read-key c = search needs
 mul-keys : tie.Need-mul-keys Inv-loop μ-loop
 mul-keys c = search needs
 
-add-keys : tie.Need-add-keys Inv-loop μ-loop
-add-keys c = omega (arith, c .slice-known .given (c .before .before .loop .i))
-
-mul-keys-2 : tie.Need-mul-keys-2 Inv-loop μ-loop
-mul-keys-2 c = search needs
-
 slice-write-keys : tie.Need-slice-write-keys Inv-loop μ-loop
 slice-write-keys c = search needs
 
@@ -42,8 +36,8 @@ loop-less c = search needs
 
 loop-again : tie.Need-loop-again Inv-loop μ-loop
 loop-again c =
-    let a = c .before .before .before .args in let l = c .before .before .loop in
-    (omega arith, length-set (l .keys) (l .i) _ ∙ l .inv .1, coded-next (l .i) (a .keys .now) (l .keys) (omega (arith, c .before .before .before .pre)) (l .inv .2))
+    let a = c .before .before .before .args in let p = c .before .before .before .pre in let l = c .before .before .loop in
+    (omega arith, length-set (l .keys) (l .i) _ ∙ l .inv .1, coded-next (l .i) (a .keys .now) (l .keys) (omega (arith, p .0)) (p .1 (l .i) (omega arith)) (l .inv .2))
 
 same-length : tie.Need-same-length Inv-loop μ-loop
 same-length c = search needs
@@ -62,8 +56,6 @@ to-codes-spec =
     mul-key
     slice-read-key
     mul-keys
-    add-keys
-    mul-keys-2
     slice-write-keys
     add-i
     loop-less
