@@ -1,8 +1,10 @@
 -- `candidates` meets its contract. The loop's invariant: the places below k are filled.
-use Prim.Native.Nat.{ℕ, _-_, _<_, _≤_}
+use Prim.Native.Nat.{ℕ, _+_, _-_, _*_, _%_, _^_, _<_, _≤_}
 use mathlib.Core.Path.{_≡_, refl}
 use native.Mathlib.Omega.{arith}
 use lib.ListN.{length, getD, length-set}
+use lib.Bits.{bitOr}
+use Rattle.codes.proofs.Packing.{put-field}
 use Rattle.transitions.specs.Emission.{sourceAt}
 use Rattle.transitions.proofs.Link.{candidate-le}
 use borrow.Author.Needs.{needs}
@@ -31,13 +33,7 @@ candidate-requires : tie.Need-candidate-requires Inv-loop μ-loop
 candidate-requires c κs = search needs
 
 mul-found : tie.Need-mul-found Inv-loop μ-loop
-mul-found c = omega (arith, low c)
-
-add-found : tie.Need-add-found Inv-loop μ-loop
-add-found c = omega (arith, low c)
-
-mul-found-2 : tie.Need-mul-found-2 Inv-loop μ-loop
-mul-found-2 c = search needs
+mul-found c = search needs
 
 array-write-found : tie.Need-array-write-found Inv-loop μ-loop
 array-write-found c = search needs
@@ -52,10 +48,11 @@ loop-again : tie.Need-loop-again Inv-loop μ-loop
 loop-again c =
     let a = c .before .before .before .args in
     let l = c .before .before .loop in
-    let picked = c .candidate .ensures in (
+    let picked = c .candidate .ensures in
+    let put : bitOr (a .earlier) (c .candidate .result * 2 ^ 40 % 2 ^ 64) ≡ a .earlier + c .candidate .result * 2 ^ 40 = put-field (c .candidate .result) 40 (c .before .before .before .pre .3) (omega (arith, low c)) in (
       omega arith,
       simp length-set (l .inv .1),
-      put-next (sourceAt (a .ranks) (a .parts .now) (a .components) (a .levels .now) (a .pair) (a .earlier)) (l .found) (l .k) _ (omega arith) (omega (arith, picked)) (l .inv .2),
+      put-next (sourceAt (a .ranks) (a .parts .now) (a .components) (a .levels .now) (a .pair) (a .earlier)) (l .found) (l .k) _ (omega arith) (omega (arith, put, picked)) (l .inv .2),
     )
 
 returns : tie.Need-returns Inv-loop μ-loop
@@ -70,8 +67,6 @@ candidates-spec =
     loop-holds
     candidate-requires
     mul-found
-    add-found
-    mul-found-2
     array-write-found
     add-k
     loop-less

@@ -1,4 +1,6 @@
 -- `source` meets its contract: the code at the place of x decides.
+use Prim.Native.Nat.{_/_, _^_}
+use mathlib.Core.Path.{_≡_}
 use native.Mathlib.Omega.{arith}
 use Rattle.transitions.proofs.Letter.{number-none, number-other, number-hit, number-high}
 use borrow.Author.Needs.{needs}
@@ -6,7 +8,9 @@ use Rattle.transitions.proofs.source.Statement.{statement}
 use Rattle.transitions.proofs.source.Tie as tie
 
 returns : tie.Need-returns
-returns c = let a = c .before .before .args in number-high (c .before .before .pre) (a .x) (c .if1 .taken)
+returns c =
+    let a = c .before .before .args in
+    let high : a .x / 2 ^ 48 ≡ 0 → ⊥ = c .if1 .taken in number-high (c .before .before .pre) (a .x) (omega arith)
 
 place-requires : tie.Need-place-requires
 place-requires c κs = search needs
