@@ -2,7 +2,7 @@
 use mathlib.Core.Path.{_≡_, refl, sym, _∙_, ap}
 use mathlib.Core.Logic.{by-cases}
 use mathlib.Core.Bool.{true, false, true≢false, false≢true}
-use mathlib.Core.List.{[], _∷_, List·Memᴰ·eq-of-singleton}
+use mathlib.Core.List.{List, [], _∷_, List·Memᴰ, List·Memᴰ·eq-of-singleton}
 use Prim.Native.Nat.{ℕ, zero, suc, _+_, _*_, _^_, _<_}
 use native.Mathlib.Omega.{arith}
 use native.Mathlib.Decide.{ℕ-discrete}
@@ -16,10 +16,10 @@ use Rattle.theory.specs.Code.{fields, pack, componentIn, classesIn, setI
 use Rattle.theory.specs.Components.{named, leads, within, reaches, together, smallest, isSmallest, component, components}
 use Rattle.theory.specs.Core.{Least, isOpen, Core, mix, rejectingSettled, acceptingSettled, settled, test, levelOf, taken, rankOf, isCore, openOf, nextComponent}
 use Rattle.theory.specs.Examples.{F, D, E, I, Z, X}
-use Rattle.theory.specs.Macrostate.{begun, isInitial, isAccepting, Goes, before, onward, goes}
+use Rattle.theory.specs.Macrostate.{begun, isInitial, isAccepting, Macrostate, Goes, begins, before, onward, goes}
 use Rattle.theory.specs.Plan.{here, AcceptsWord}
 use Rattle.theory.specs.Rule.{entry, satisfies}
-use Rattle.theory.specs.Table.{reachedIn, reached, digitals, candidates, cores, codesFrom, transitionsOf, macrostatesFrom, transitionsFrom, macrostates, transitions}
+use Rattle.theory.specs.Table.{reachedIn, reached, digitals, candidates, cores, codesFrom, transitionsOf, macrostatesFrom, transitionsFrom, macrostates, transitions, ListsReachable}
 use Rattle.theory.specs.Word.{nextPlace, letterAt}
 
 -- what an evaluation unfolds
@@ -215,6 +215,26 @@ ranks-separate C =
     by-cases (ℕ-discrete (g .0) 0)
     (λ z. let zero-comp = ap ((automaton I) .component) z ∙ component-0 in absurd (omega arith))
     (λ z. let p : g .0 ≡ 1 = omega arith in let two = ap (rankIn (automaton I) 8450) p ∙ rank-1 in absurd (omega arith))
+
+-- the initial macrostate of F is among its reachable codes
+pub initial-listed : (codes moves : List ℕ) → ListsReachable F codes moves → Macrostate (automaton F) 257 → List·Memᴰ 257 codes
+unfolding computed
+initial-listed codes moves L M = L .codes-are 257 .1 (begins M refl)
+
+-- a step of F over letter 1 is among its transitions
+pub step-listed : (moves : List ℕ) → ListsReachable F (0 ∷ 257 ∷ 17592186044673 ∷ []) moves → Goes (automaton F) 257 1 0 → List·Memᴰ 16842752 moves
+unfolding computed
+step-listed moves L G =
+    L .transitions-are 16842752 .1 (record {
+      source = 1;
+      letter = 1;
+      target = 0;
+      source-listed = omega arith;
+      letter-known = omega arith;
+      target-listed = omega arith;
+      packed = refl;
+      steps = G;
+    })
 
 -- the last place is followed by the cycle's first
 pub cycle-first : nextPlace (0 ∷ 1 ∷ []) (0 ∷ []) 2 ≡ 2

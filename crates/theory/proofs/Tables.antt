@@ -20,11 +20,11 @@ use Rattle.sets.proofs.Ascending.{asc-inj, sorted-asc, sorted-in, sorted-out}
 use Rattle.theory.specs.Automaton.{Automaton, automaton, Layered}
 use Rattle.theory.specs.Code.{setIn, rankIn, componentIn, classesIn, wellCoded}
 use Rattle.theory.specs.Core.{isOpen, isCore, openOf}
-use Rattle.theory.specs.Macrostate.{begun, Macrostate, Goes, goes, Reachable, begins, goesTo}
+use Rattle.theory.specs.Macrostate.{begun, holdsInitial, Macrostate, Goes, goes, Reachable, begins, goesTo}
 use Rattle.theory.specs.Passing.{Passing}
 use Rattle.theory.specs.Rule.{Rule}
 use Rattle.theory.specs.Run.{sourceOf, letterOf, targetOf, Leads, AcceptingRun, CodeRun}
-use Rattle.theory.specs.Table.{candidates, cores, codesFrom, transitionsOf, Transition, macrostatesFrom, transitionsFrom}
+use Rattle.theory.specs.Table.{candidates, cores, codesFrom, transitionsOf, Transition, macrostatesFrom, transitionsFrom, macrostates, transitions, ListsReachable}
 use Rattle.theory.proofs.Candidates.{candidate}
 use Rattle.theory.proofs.Codes.{code-unique}
 use Rattle.theory.proofs.Cores.{core-iff, core-rank-max, classes-max, level-classes, next-low}
@@ -327,3 +327,13 @@ module _ (r : Rule) (P : Passing r) where
     pub transition-iff : length (macrostatesFrom r start) ≤ 65536 → (t : ℕ) → List·Memᴰ t (transitionsFrom r start) ↔ Transition (automaton r) (r .s) (macrostatesFrom r start) t
     unfolding transitionsFrom
     transition-iff room = steps-iff (automaton r) (r .s) (macrostatesFrom r start) (layered r P) letters-fit room
+
+  -- the two lists hold 01's reachable codes and transitions
+  pub lists-reachable : length (macrostates r) ≤ 65536 → ListsReachable r (macrostates r) (transitions r)
+  unfolding macrostates transitions
+  lists-reachable room = record {
+    codes-ascend = macrostates-ascending (holdsInitial r);
+    codes-are = reachable-iff (holdsInitial r);
+    transitions-ascend = transitions-ascending (holdsInitial r);
+    transitions-are = transition-iff (holdsInitial r) room;
+  }

@@ -1,4 +1,4 @@
--- Demand 3, of a rule and the two lists of a built automaton.
+-- The last sentence of demand 3, of a rule and two lists; that the build is not refused for room and leaves these lists is build/proofs, built-with-room.
 use mathlib.Core.Path.{_≡_}
 use mathlib.Core.Logic.{_↔_}
 use mathlib.Core.Bool.{true}

@@ -27,7 +27,8 @@ unfoldable pub isAccepting : ℕ → Bool
 isAccepting c = eqb (classesIn c) 0
 
 module _ (A : Automaton) where
-  -- 01: "A macrostate is a core, a component number K, and k": c is the code of one
+  -- 01: "A macrostate is a core, a component number K, and k": c is the code of one.
+  -- k is not bounded here: a step only makes a k of at most the number of classes of K.
   pub record Macrostate (c : ℕ) : Type 0 where
     pub coded : wellCoded A c ≡ true
     pub core : Core A (setIn A c) (rankIn A c)

@@ -27,7 +27,7 @@ pub record Leads (t x a y : ℕ) : Type 0 where
 
 module _ (codes transitions : List ℕ) where
   -- 01: "A run gives one macrostate to every step, begins in an initial one and goes from each step to the next by a transition over the step's letter":
-  -- w gives the letter of each step, x the number of its macrostate, start is the start condition
+  -- w gives the letter of each step, x the number of its macrostate, start is the start condition; begun (holdsInitial r) is isInitial r
   pub record Run (start : Set) (w x : ℕ → ℕ) : Type 0 where
     pub within : (i : ℕ) → x i < length codes
     pub begins : begun start (getD codes (x 0) 0) ≡ true

@@ -1,16 +1,17 @@
 -- The lists that the build writes: the reachable codes ascending, and the transitions between their numbers.
 use mathlib.Core.Path.{_≡_}
+use mathlib.Core.Logic.{_↔_}
 use mathlib.Core.Bool.{Bool, _&&_, _||_}
-use mathlib.Core.List.{List, [], _∷_}
+use mathlib.Core.List.{List, [], _∷_, List·Memᴰ}
 use Prim.Native.Nat.{ℕ, zero, suc, _+_, _*_, _/_, _%_, _^_, _<_}
 use lib.ListN.{length, getD}
 use Rattle.sets.specs.Tests.{Set, some}
-use Rattle.sets.specs.Lists.{keep, among, anyOf, tabulate, flat, sorted}
+use Rattle.sets.specs.Lists.{keep, among, anyOf, tabulate, flat, sorted, Ascending}
 use Rattle.theory.specs.Rule.{Rule}
 use Rattle.theory.specs.Automaton.{Automaton, automaton}
 use Rattle.theory.specs.Core.{isCore}
 use Rattle.theory.specs.Code.{setIn, rankIn, wellCoded}
-use Rattle.theory.specs.Macrostate.{begun, holdsInitial, Goes, goes}
+use Rattle.theory.specs.Macrostate.{begun, holdsInitial, Goes, Reachable, goes}
 
 -- the members of a list that are reached from its starts along the edges, in at most d steps
 module _ (all : List ℕ) (start : Set) (edge : ℕ → ℕ → Bool) where
@@ -72,3 +73,11 @@ macrostates r = macrostatesFrom r (holdsInitial r)
 -- 01: "transitions ascending"
 unfoldable pub transitions : Rule → List ℕ
 transitions r = transitionsFrom r (holdsInitial r)
+
+-- 01: "reachable codes ascending", "transitions ascending": what two lists hold that list the reachable macrostates and their transitions,
+-- "all of them and no others" (demand 2)
+pub record ListsReachable (r : Rule) (codes transitions : List ℕ) : Type 0 where
+  pub codes-ascend : Ascending codes
+  pub codes-are : (c : ℕ) → List·Memᴰ c codes ↔ Reachable (automaton r) (r .s) (holdsInitial r) c
+  pub transitions-ascend : Ascending transitions
+  pub transitions-are : (t : ℕ) → List·Memᴰ t transitions ↔ Transition (automaton r) (r .s) codes t
