@@ -1,22 +1,24 @@
--- The preface has no effect: bytes put before a file change neither its row nor its rule.
-use Prim.Native.Nat.{ℕ, _+_, _-_, _<_, _≤_}
+-- The preface has no effect: bytes put before a file change neither its row nor its rule, nor what is answered by rows and rule.
+use Prim.Native.Nat.{ℕ, zero, suc, _+_, _-_, _<_, _≤_}
 use mathlib.Core.Path.{_≡_, refl, ap, ap₂, sym, _∙_}
 use mathlib.Core.Bool.{false}
 use mathlib.Core.List.{List, _++_}
 use mathlib.Core.Logic.{by-cases}
 use native.Mathlib.Omega.{arith}
-use native.Mathlib.Decide.{decLt}
+use native.Mathlib.Decide.{decLt, ℕ-discrete}
 use borrow.Author.Tests.{le-ltb}
 use lib.ListN.{length, getD, take, drop, length-append}
 use lib.Seq.{getD-append-add, drop-append-add, take-append-add}
 use lib.Dec.{ltb}
 use Rattle.sets.proofs.Bools.{bif}
-use Rattle.sets.specs.Rows.{firstRow}
+use Rattle.sets.specs.Rows.{Check, firstRow}
+use Rattle.sets.proofs.Rows.{first-left, first-right}
+use Rattle.theory.specs.Rule.{Rule}
 use Rattle.rules.specs.File.{trailer, tagged, headOf, clauseCount, entryCount, clausesAt, clausesOf, countsOf, ruleIn}
 use Rattle.rules.specs.Rows.{numberRows, trailerRows, layoutRows, fileRows, fileRow}
 use Rattle.rules.specs.Read.{prefaceOf}
 use Rattle.rules.proofs.TrailerRows.{row-1, row-2, row-numbers, row-7, rows-trailer}
-use Rattle.rules.proofs.FileRows.{accepted-placed, rows-layout}
+use Rattle.rules.proofs.FileRows.{file-numbered, accepted-placed, rows-layout}
 use Rattle.rules.proofs.Accepted.{preface-accepted}
 
 -- a row of the trailer that refuses is the file's
@@ -105,3 +107,37 @@ accepted-after p f e =
           ∙ take-append-add p f (clausesAt f)
           ∙ ap (λ (l : List ℕ). p ++ l) (sym (preface-accepted f e)),
     )
+
+-- An answer is by the first row of the file and then of its rule, and by the rule where none refuses.
+module _ (rest : Rule → List Check) where
+  -- the first row that refuses
+  abbrev rowOf : List ℕ → ℕ
+  rowOf f = firstRow (fileRows f ++ rest (ruleIn f))
+
+  refused-row : (f : List ℕ) → (fileRow f ≡ 0 → ⊥) → fileRow f ≡ rowOf f
+  unfolding fileRow
+  refused-row f n = first-left (fileRows f) (rest (ruleIn f)) (fileRow f) n refl
+
+  accepted-row : (f : List ℕ) → fileRow f ≡ 0 → rowOf f ≡ firstRow (rest (ruleIn f))
+  unfolding fileRow
+  accepted-row f e = first-right (fileRows f) (rest (ruleIn f)) (file-numbered f) e
+
+  pub first-after : (p f : List ℕ) → (fileRow f ≡ 1 → ⊥) → (fileRow f ≡ 7 → ⊥) → firstRow (fileRows (p ++ f) ++ rest (ruleIn (p ++ f))) ≡ firstRow (fileRows f ++ rest (ruleIn f))
+  first-after p f n₁ n₇ =
+      by-cases (ℕ-discrete (fileRow f) 0)
+      (λ e. let a = accepted-after p f e in accepted-row (p ++ f) (a .0) ∙ ap (λ (r : Rule). firstRow (rest r)) (a .1) ∙ sym (accepted-row f e))
+      (λ n. let e = preface-no-effect p f n₁ n₇ in sym (refused-row (p ++ f) (λ z. n (sym e ∙ z))) ∙ e ∙ refused-row f n)
+
+  module _ {X : Type 0} (answer : ℕ → Rule → X) (alone : (k : ℕ) (r t : Rule) → answer (suc k) r ≡ answer (suc k) t) where
+    refused-answer : (k : ℕ) (r t : Rule) → (k ≡ 0 → ⊥) → answer k r ≡ answer k t
+    refused-answer zero r t n = absurd (n refl)
+    refused-answer (suc k) r t n = alone k r t
+
+    -- 01: "The preface has no effect on any answer"
+    pub answer-after : (p f : List ℕ) → (fileRow f ≡ 1 → ⊥) → (fileRow f ≡ 7 → ⊥)
+        → answer (firstRow (fileRows (p ++ f) ++ rest (ruleIn (p ++ f)))) (ruleIn (p ++ f)) ≡ answer (firstRow (fileRows f ++ rest (ruleIn f))) (ruleIn f)
+    answer-after p f n₁ n₇ =
+        ap (λ (k : ℕ). answer k (ruleIn (p ++ f))) (first-after p f n₁ n₇)
+        ∙ by-cases (ℕ-discrete (fileRow f) 0)
+        (λ e. ap (answer (rowOf f)) (accepted-after p f e .1))
+        (λ n. refused-answer (rowOf f) (ruleIn (p ++ f)) (ruleIn f) (λ z. n (refused-row f n ∙ z)))
