@@ -1,4 +1,4 @@
--- The answer of the build on a file, and demand 3 of what the slices then hold.
+-- The answer of the build on a file, and what the slices then hold: the reachable codes and the transitions, with demand 3.
 use mathlib.Core.Path.{_≡_, refl, sym, _∙_, ap₂}
 use mathlib.Core.Bool.{Bool, true, _&&_}
 use mathlib.Core.List.{List, [], _∷_}
@@ -13,8 +13,10 @@ use Rattle.sets.proofs.Bools.{bif, and-l, and-r}
 use Rattle.sets.proofs.Rows.{row-yes, row-no, first-left, first-right, first-parts}
 use Rattle.theory.specs.Rule.{Rule}
 use Rattle.theory.specs.Demand.{Demand3}
-use Rattle.theory.specs.Table.{macrostatesFrom, transitionsFrom, macrostates, transitions}
+use Rattle.theory.specs.Passing.{Passing}
+use Rattle.theory.specs.Table.{macrostatesFrom, transitionsFrom, macrostates, transitions, ListsReachable}
 use Rattle.theory.proofs.Demand.{demand3}
+use Rattle.theory.proofs.Tables.{lists-reachable}
 use Rattle.entries.specs.Entries.{ruleOf}
 use Rattle.rules.specs.declared.Layout.{Layout}
 use Rattle.rules.specs.declared.Read.the-variants.{Accepted}
@@ -107,7 +109,7 @@ module _ (f xs zs : List ℕ) where
     moves-after = rw (build-row e) (M .moves-after);
   }
 
-  -- ---- demand 3
+  -- ---- the lists that the slices hold
 
   table-by : (k : ℕ) (codes moves : List ℕ) (n : Counts) → builtBy k codes moves ≡ Table n → (k ≡ 0) × (length codes ≡ n .macrostates) × (length moves ≡ n .transitions)
   unfolding builtBy
@@ -126,15 +128,30 @@ module _ (f xs zs : List ℕ) where
   unfolding sliceAfter
   front row list lent e = rw e (take-append-seam list (replicate (length lent - length list) 0))
 
-  pub answered-demand3 : (r : Built) (ys ws : List ℕ) → Answered f xs zs r ys ws → (n : Counts) → r ≡ Table n → Demand3 (ruleIn f) (take (n .macrostates) ys) (take (n .transitions) ws)
+  -- the slices ys and ws hold both lists of a rule that passes the checks, each up to its count
+  record Held (ys ws : List ℕ) (n : Counts) : Type 0 where
+    passing : Passing (ruleIn f)
+    few : length (macrostates (ruleIn f)) ≤ 65536
+    codes : take (n .macrostates) ys ≡ macrostates (ruleIn f)
+    moves : take (n .transitions) ws ≡ transitions (ruleIn f)
+
+  held : (r : Built) (ys ws : List ℕ) → Answered f xs zs r ys ws → (n : Counts) → r ≡ Table n → Held ys ws n
   unfolding codesAfter transitionsAfter
-  answered-demand3 r ys ws A n e =
+  held r ys ws A n e =
       let t = table-row n (sym (A .answer) ∙ e) in
       let b = both-rows (t .0) in
-      let few : length (macrostates (ruleIn f)) ≤ 65536 = room-few (macrostates (ruleIn f)) (transitions (ruleIn f)) (length xs) (length zs) (b .1) in
-      let c : take (n .macrostates) ys ≡ macrostates (ruleIn f) = ap₂ (λ (k : ℕ) (l : List ℕ). take k l) (sym (t .1)) (A .codes-after) ∙ front _ (macrostates (ruleIn f)) xs (t .0) in
-      let m : take (n .transitions) ws ≡ transitions (ruleIn f) = ap₂ (λ (k : ℕ) (l : List ℕ). take k l) (sym (t .2)) (A .moves-after) ∙ front _ (transitions (ruleIn f)) zs (t .0) in
-      rw (c, m) (demand3 (ruleIn f) (accepted-passing f (b .0)) few)
+      record {
+        passing = accepted-passing f (b .0);
+        few = room-few (macrostates (ruleIn f)) (transitions (ruleIn f)) (length xs) (length zs) (b .1);
+        codes = ap₂ (λ (k : ℕ) (l : List ℕ). take k l) (sym (t .1)) (A .codes-after) ∙ front _ (macrostates (ruleIn f)) xs (t .0);
+        moves = ap₂ (λ (k : ℕ) (l : List ℕ). take k l) (sym (t .2)) (A .moves-after) ∙ front _ (transitions (ruleIn f)) zs (t .0);
+      }
+
+  pub answered-lists : (r : Built) (ys ws : List ℕ) → Answered f xs zs r ys ws → (n : Counts) → r ≡ Table n → ListsReachable (ruleIn f) (take (n .macrostates) ys) (take (n .transitions) ws)
+  answered-lists r ys ws A n e = let h = held r ys ws A n e in rw (h .codes, h .moves) (lists-reachable (ruleIn f) (h .passing) (h .few))
+
+  pub answered-demand3 : (r : Built) (ys ws : List ℕ) → Answered f xs zs r ys ws → (n : Counts) → r ≡ Table n → Demand3 (ruleIn f) (take (n .macrostates) ys) (take (n .transitions) ws)
+  answered-demand3 r ys ws A n e = let h = held r ys ws A n e in rw (h .codes, h .moves) (demand3 (ruleIn f) (h .passing) (h .few))
 
 -- ---- the rule of an accepted file
 

@@ -3,3 +3,5 @@ pub mod Padding
 pub mod Making
 pub mod Answer
 pub mod Ready
+pub mod WithRoom
+pub mod Prefaces

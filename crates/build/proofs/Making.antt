@@ -35,13 +35,13 @@ module _ (codes moves xs zs : List ℕ) where
       let row : roomRow codes moves (length xs) (length zs) ≡ 18 = row-moves codes moves (length xs) (length zs) (P .fits t) (P′ .crowded t′) in
       by-row 18 row (Refused 18) ys ws refl (y ∙ ap (λ (k : ℕ). replicate k 0) (P .long)) (w ∙ ap (λ (k : ℕ). replicate k 0) (P′ .long))
 
-  -- both have room
+  -- both have room: a and b are the counts that are answered
   pub made-table : (ys ws : List ℕ) (m m′ : ℕ) (full full′ : Bool) → full ≡ false → full′ ≡ false → Padded 65536 codes xs ys m full → Padded 1048576 moves zs ws m′ full′
-      → Made codes moves xs zs (Table (record { macrostates = m; transitions = m′ })) ys ws
+      → {a b : ℕ} → a ≡ m → b ≡ m′ → Made codes moves xs zs (Table (record { macrostates = a; transitions = b })) ys ws
   unfolding builtBy sliceAfter
-  made-table ys ws m m′ full full′ t t′ P P′ =
+  made-table ys ws m m′ full full′ t t′ P P′ e e′ =
       let row : roomRow codes moves (length xs) (length zs) ≡ 0 = row-fits codes moves (length xs) (length zs) (P .fits t) (P′ .fits t′) in
-      by-row 0 row _ ys ws (ap₂ (λ (a b : ℕ). Table (record { macrostates = a; transitions = b })) (P .count t) (P′ .count t′)) (P .written t) (P′ .written t′)
+      by-row 0 row _ ys ws (ap₂ (λ (a b : ℕ). Table (record { macrostates = a; transitions = b })) (e ∙ P .count t) (e′ ∙ P′ .count t′)) (P .written t) (P′ .written t′)
 
 -- what is written is what the transitions are listed from
 pub codes-listed : (r : Rule) (holds : Bool) (xs ys : List ℕ) (m : ℕ) (full : Bool) → full ≡ false → Padded 65536 (macrostatesFrom r (startOf r holds)) xs ys m full → Codes r holds ys m

@@ -5,7 +5,7 @@ ghost use lib.ListN.{length, take};
 ghost use Rattle.theory.specs.Rule.{Rule};
 ghost use Rattle.theory.specs.Demand.{Demand3};
 ghost use Rattle.theory.specs.Passing.{Passing};
-ghost use Rattle.theory.specs.Table.{macrostatesFrom, transitionsFrom};
+ghost use Rattle.theory.specs.Table.{macrostatesFrom, transitionsFrom, ListsReachable};
 ghost use Rattle.entries.specs.Entries.{ruleOf};
 ghost use Rattle.rules.specs.File.{ruleIn};
 ghost use Rattle.keys.specs.Keys.{startOf};
@@ -158,7 +158,7 @@ pub fn build_rule(
 // Writes the codes of the reachable macrostates and the transitions of a file's rule, both ascending, at the start of the slices, and zeros after them;
 // answers both counts. If a row refuses, it answers the number of the first: 1 to 11 leave the slices as they are, 17 and 18 set both to zero throughout.
 pub fn build(file: &[u8], codes: &mut [u64], transitions: &mut [u64]) -> Built
-    ensures { λ r. ⌜ (r ≡ builtOf (now (file .entry)) (length (now (codes .entry))) (length (now (transitions .entry)))) × (now (codes .exit) ≡ codesAfter (now (file .entry)) (now (codes .entry)) (length (now (transitions .entry)))) × (now (transitions .exit) ≡ transitionsAfter (now (file .entry)) (length (now (codes .entry))) (now (transitions .entry))) × ((n : Counts) → r ≡ Table n → Demand3 (ruleIn (now (file .entry))) (take (n .macrostates) (now (codes .exit))) (take (n .transitions) (now (transitions .exit)))) ⌝ }
+    ensures { λ r. ⌜ (r ≡ builtOf (now (file .entry)) (length (now (codes .entry))) (length (now (transitions .entry)))) × (now (codes .exit) ≡ codesAfter (now (file .entry)) (now (codes .entry)) (length (now (transitions .entry)))) × (now (transitions .exit) ≡ transitionsAfter (now (file .entry)) (length (now (codes .entry))) (now (transitions .entry))) × ((n : Counts) → r ≡ Table n → ListsReachable (ruleIn (now (file .entry))) (take (n .macrostates) (now (codes .exit))) (take (n .transitions) (now (transitions .exit)))) × ((n : Counts) → r ≡ Table n → Demand3 (ruleIn (now (file .entry))) (take (n .macrostates) (now (codes .exit))) (take (n .transitions) (now (transitions .exit)))) ⌝ }
 {
     match rules::read_rule(file) {
         Read::Refused(row) => Built::Refused(row),

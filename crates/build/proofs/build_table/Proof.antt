@@ -1,4 +1,5 @@
 -- `build_table` meets its contract: row 17 by the codes, then row 18 by the transitions.
+use native.Mathlib.Omega.{arith}
 use Rattle.theory.specs.Table.{macrostatesFrom, transitionsFrom}
 use Rattle.keys.specs.Keys.{startOf}
 use Rattle.build.proofs.Making.{made-17, made-18, made-table, codes-listed}
@@ -69,7 +70,7 @@ returns-3 c =
     let e = c .before .before .before .list-transitions in
     λ r T.
     let C = codes-listed r (a .shape .holds) (a .codes .now) (g .last .0) (g .result .m) (g .result .full) (c .before .before .before .before .before .before .if1 .left) (g .ensures r T) in
-    made-table (macrostatesFrom r (startOf r (a .shape .holds))) (transitionsFrom r (startOf r (a .shape .holds))) (a .codes .now) (a .out .now) (g .last .0) (e .last .0) (g .result .m) (e .result .m) (g .result .full) (e .result .full) (c .before .before .before .before .before .before .if1 .left) (c .if2 .left) (g .ensures r T) (e .ensures r T C)
+    made-table (macrostatesFrom r (startOf r (a .shape .holds))) (transitionsFrom r (startOf r (a .shape .holds))) (a .codes .now) (a .out .now) (g .last .0) (e .last .0) (g .result .m) (e .result .m) (g .result .full) (e .result .full) (c .before .before .before .before .before .before .if1 .left) (c .if2 .left) (g .ensures r T) (e .ensures r T C) (omega arith) (omega arith)
 
 pub build-table-spec : {M : Type 1} → statement M
 build-table-spec =
