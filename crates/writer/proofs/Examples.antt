@@ -11,22 +11,22 @@ use Rattle.theory.specs.Rule.{entry}
 use Rattle.theory.specs.Components.{named, leads, within, reaches, together, mixed}
 use Rattle.rules.specs.File.{trailerOf, bodyOf}
 use Rattle.rules.specs.Rows.{numberRows, listRows, componentRows}
-use Rattle.writer.specs.Written.{headFrom, ruleRows, roomRows, writeRow, after, sliceAfter}
+use Rattle.writer.specs.Written.{headFrom, ruleRows, sliceRows, writeRow, after, sliceAfter}
 
 -- Z into a slice of ten bytes: nine are written, the last is as it was
 pub writes-Z : sliceAfter (headFrom 1 1 0 1) (0x00 ∷ []) [] (7 ∷ 7 ∷ 7 ∷ 7 ∷ 7 ∷ 7 ∷ 7 ∷ 7 ∷ 7 ∷ 8 ∷ [])
     ≡ 0x00 ∷ 0x01 ∷ 0x01 ∷ 0x00 ∷ 0x01 ∷ 0x00 ∷ 0x00 ∷ 0x41 ∷ 0x57 ∷ 8 ∷ []
-unfolding sliceAfter after writeRow ruleRows roomRows numberRows listRows componentRows firstRow anyOf sum bodyOf trailerOf mixed together reaches within leads named entry some bit mask
+unfolding sliceAfter after writeRow ruleRows sliceRows numberRows listRows componentRows firstRow anyOf sum bodyOf trailerOf mixed together reaches within leads named entry some bit mask
 writes-Z = refl
 
 -- eight bytes are too few for it, and stay as they were
 pub short-Z : sliceAfter (headFrom 1 1 0 1) (0x00 ∷ []) [] (7 ∷ 7 ∷ 7 ∷ 7 ∷ 7 ∷ 7 ∷ 7 ∷ 8 ∷ []) ≡ 7 ∷ 7 ∷ 7 ∷ 7 ∷ 7 ∷ 7 ∷ 7 ∷ 8 ∷ []
-unfolding sliceAfter after writeRow ruleRows roomRows numberRows listRows componentRows firstRow anyOf sum bodyOf trailerOf mixed together reaches within leads named entry some bit mask
+unfolding sliceAfter after writeRow ruleRows sliceRows numberRows listRows componentRows firstRow anyOf sum bodyOf trailerOf mixed together reaches within leads named entry some bit mask
 short-Z = refl
 
 -- a mixed component and no room at all: 11
 pub order-11-16 : writeRow (headFrom 2 1 0 1) (0x01 ∷ 0x01 ∷ []) (0x02 ∷ 0x01 ∷ []) 0 ≡ 11
-unfolding writeRow ruleRows roomRows numberRows listRows componentRows firstRow anyOf sum bodyOf trailerOf mixed together reaches within leads named entry some bit mask
+unfolding writeRow ruleRows sliceRows numberRows listRows componentRows firstRow anyOf sum bodyOf trailerOf mixed together reaches within leads named entry some bit mask
 order-11-16 = refl
 
 -- one count too many: 7, before its value is looked at

@@ -20,7 +20,7 @@ use Rattle.rules.specs.File.{bodyOf, trailerOf}
 use Rattle.rules.specs.Rows.{numberRows, listRows, componentRows}
 use Rattle.rules.proofs.Formed.{formed, passing}
 use Rattle.writer.specs.declared.Written.the-variants.{Length, Refused}
-use Rattle.writer.specs.Written.{InBytes, ruleRows, roomRows, fileOf, writeRow, answer, writtenOf, after, sliceAfter}
+use Rattle.writer.specs.Written.{InBytes, ruleRows, sliceRows, fileOf, writeRow, answer, writtenOf, after, sliceAfter}
 
 -- ---- three parts, one after the other
 
@@ -108,7 +108,7 @@ module _ (h : Head) (counts clauses : List ℕ) where
 
     module _ (e : firstRow (ruleRows h counts clauses) ≡ 0) where
       pub by-room : length old < length clauses + length counts + 8 → Said 16
-      unfolding writeRow roomRows firstRow
+      unfolding writeRow sliceRows firstRow
       by-room l =
           let m : length old < length (fileOf h counts clauses) = rw (length-file h counts clauses) l in
           said 16 (λ z. omega arith) (rw (first-right (ruleRows h counts clauses) _ rows-numbered e, lt-ltb _ _ m))
@@ -116,7 +116,7 @@ module _ (h : Head) (counts clauses : List ℕ) where
       pub done : length clauses + length counts + 8 ≤ length old
           → (Length (length clauses + length counts + 8) ≡ writtenOf h counts clauses (length old))
           × (after 0 (fileOf h counts clauses) old ≡ sliceAfter h counts clauses old)
-      unfolding writtenOf answer sliceAfter writeRow roomRows firstRow
+      unfolding writtenOf answer sliceAfter writeRow sliceRows firstRow
       done l =
           let m : length (fileOf h counts clauses) ≤ length old = rw (length-file h counts clauses) l in
           rw (first-right (ruleRows h counts clauses) _ rows-numbered e, le-ltb _ _ m) (ap Length (sym (length-file h counts clauses)), refl)

@@ -29,12 +29,12 @@ abbrev pub fileOf : Head → List ℕ → List ℕ → List ℕ
 fileOf h counts clauses = bodyOf (ruleOf h counts clauses)
 
 -- row 16, "result or scratch slice too short": the slice has room bytes
-unfoldable pub roomRows : ℕ → List ℕ → List Check
-roomRows room file = check (ltb room (length file)) 16 ∷ []
+unfoldable pub sliceRows : ℕ → List ℕ → List Check
+sliceRows room file = check (ltb room (length file)) 16 ∷ []
 
 -- the number of the first row that refuses, or 0
 unfoldable pub writeRow : Head → List ℕ → List ℕ → ℕ → ℕ
-writeRow h counts clauses room = firstRow (ruleRows h counts clauses ++ roomRows room (fileOf h counts clauses))
+writeRow h counts clauses room = firstRow (ruleRows h counts clauses ++ sliceRows room (fileOf h counts clauses))
 
 -- by the first row that refuses: the length of the file where none does, else the number alone
 unfoldable pub answer : ℕ → List ℕ → Written
