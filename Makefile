@@ -1,7 +1,8 @@
 # Mulgreddi: unambiguous Büchi automata from alternating weak ones.
 #   make lib                   the static library, build/libmulgreddi.a
 #   make install PREFIX=DIR    header, library and a pkg-config file to DIR
-#   make test                  the gate: library, comparison with the second program, C examples, proofs
+#   make list < FILE           the listing of a rule file
+#   make test                  the gate: library and listing program, comparison with the second program, C examples, proofs
 #   make bench                 times of the library beside those of the second program and of a C++ program without proofs, and of the step back alone
 #   make soak SECONDS=600      the comparison with new seeds until the time is up
 
@@ -13,11 +14,15 @@ PREFIX ?= /usr/local
 VERSION := 1.0.0
 BUILD := build
 LIB := $(BUILD)/libmulgreddi.a
+PROGRAM := $(BUILD)/listing
 SOURCES := crates.txt $(shell find crates -type f -not -path '*/must-fail/*')
 CARGO := CARGO_TARGET_DIR=$(CURDIR)/$(BUILD)/cargo MULGREDDI_LIB=$(CURDIR)/$(BUILD) cargo
 EXAMPLES := $(patsubst examples/%.c,$(BUILD)/%,$(wildcard examples/*.c))
 
-.PHONY: lib install test bench soak compare second examples clean
+# one `rt` at a time
+.NOTPARALLEL:
+
+.PHONY: lib install list listings test bench soak compare second examples clean
 
 lib: $(LIB)
 
@@ -36,6 +41,15 @@ install: $(LIB)
 	printf '%s\n' 'prefix=$(PREFIX)' 'Name: mulgreddi' 'Description: unambiguous Büchi automata from alternating weak ones' 'Version: $(VERSION)' \
 	    'Cflags: -I$${prefix}/include' 'Libs: -L$${prefix}/lib -lmulgreddi' > $(DESTDIR)$(PREFIX)/lib/pkgconfig/mulgreddi.pc
 
+# on standard output is the listing alone
+$(PROGRAM): $(SOURCES)
+	@rt check listing < /dev/null >&2
+	@mkdir -p $(BUILD)
+	@cp target/bin/listing $@
+
+list: $(PROGRAM)
+	@$(PROGRAM)
+
 # the second program's own tests; what it expects of the program `cases` is what is stored there
 second:
 	$(CARGO) test --release --offline --quiet --manifest-path second/Cargo.toml
@@ -45,6 +59,10 @@ second:
 
 compare: $(LIB)
 	$(CARGO) run --release --offline --quiet --manifest-path compare/Cargo.toml
+
+# the listing program beside the second program
+listings: $(LIB) $(PROGRAM)
+	$(CARGO) run --release --offline --quiet --manifest-path compare/Cargo.toml --bin listings -- $(PROGRAM) examples crates/cases/data
 
 soak: $(LIB)
 	$(CARGO) run --release --offline --quiet --manifest-path compare/Cargo.toml -- --seconds $(SECONDS)
@@ -71,7 +89,7 @@ examples: $(EXAMPLES)
 	for e in $(EXAMPLES); do $$e examples > $$e.out && diff examples/$$(basename $$e).expected $$e.out || exit 1; done
 
 # `rt ci` is last: its closing line is the gate's
-test: second compare examples
+test: second compare listings examples
 	rt ci
 
 clean:

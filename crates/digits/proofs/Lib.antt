@@ -1,0 +1,4 @@
+pub mod Cases
+pub mod Decimal
+pub mod Puts
+pub mod Digits
