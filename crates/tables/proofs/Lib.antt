@@ -8,3 +8,4 @@ pub mod Parts
 pub mod Rows
 pub mod Answers
 pub mod Joined
+pub mod Prefaces

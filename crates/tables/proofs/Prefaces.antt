@@ -1,0 +1,51 @@
+-- A preface has no effect on what the judge on a table answers and leaves.
+use Prim.Native.Nat.{ℕ, zero, suc}
+use mathlib.Core.Path.{_≡_, refl, sym, _∙_}
+use mathlib.Core.List.{List, _++_}
+use mathlib.Core.Logic.{_↔_, by-cases}
+use native.Mathlib.Decide.{ℕ-discrete}
+use lib.ListN.{length}
+use Rattle.sets.proofs.Rows.{first-left}
+use Rattle.theory.specs.Rule.{Rule}
+use Rattle.theory.specs.Macrostate.{holdsInitial}
+use Rattle.rules.specs.File.{ruleIn}
+use Rattle.rules.specs.Rows.{fileRow, fileRows}
+use Rattle.rules.proofs.Prefaces.{accepted-after, first-after}
+use Rattle.lent.specs.Lent.{Lent}
+use Rattle.tables.specs.declared.Start.{Start}
+use Rattle.tables.specs.Tables.{callRows, judgeTableRow, Begins, Answered, scratchAfter, JudgedTable}
+
+-- where a row refuses, it does not matter where runs begin
+refused-alike : (k : ℕ) (b c : ℕ → Type 0) (a : Start) → (k ≡ 0 → ⊥) → Answered k b a → Answered k c a
+refused-alike zero b c a n A = absurd (n refl)
+refused-alike (suc k) b c a n A = A
+
+module _ (p f lead cycle : List ℕ) (codes transitions : Lent) (n₁ : fileRow f ≡ 1 → ⊥) (n₇ : fileRow f ≡ 7 → ⊥) where
+  pub table-row-after : (m : ℕ) → judgeTableRow (p ++ f) lead cycle codes transitions m ≡ judgeTableRow f lead cycle codes transitions m
+  unfolding judgeTableRow
+  table-row-after m = first-after (λ r. callRows (r .s) lead cycle codes transitions m) p f n₁ n₇
+
+  refused-row : (m : ℕ) → (fileRow f ≡ 0 → ⊥) → judgeTableRow f lead cycle codes transitions m ≡ 0 → ⊥
+  unfolding judgeTableRow fileRow
+  refused-row m n z = n (first-left (fileRows f) (callRows (ruleIn f .s) lead cycle codes transitions m) (fileRow f) n refl ∙ z)
+
+  -- where runs of the table begin, for a rule
+  abbrev from : Rule → ℕ → Type 0
+  from r = Begins (holdsInitial r) (codes .numbers) (transitions .numbers) lead cycle
+
+  answered-alike : (m : ℕ) (a : Start) → Answered (judgeTableRow f lead cycle codes transitions m) (from (ruleIn (p ++ f))) a ↔ Answered (judgeTableRow f lead cycle codes transitions m) (from (ruleIn f)) a
+  answered-alike m a =
+      by-cases (ℕ-discrete (fileRow f) 0)
+      (λ e. let s = accepted-after p f e .1 in (λ A. rw s at A, λ A. rw s A))
+      (λ n. (
+        refused-alike (judgeTableRow f lead cycle codes transitions m) (from (ruleIn (p ++ f))) (from (ruleIn f)) a (refused-row m n),
+        refused-alike (judgeTableRow f lead cycle codes transitions m) (from (ruleIn f)) (from (ruleIn (p ++ f))) a (refused-row m n),
+      ))
+
+  -- what holds of a file's answer and scratch slice holds of them for the file after more bytes, and the other way round
+  pub judged-table-after : (old new : List ℕ) (a : Start) → JudgedTable (p ++ f) lead cycle codes transitions old new a ↔ JudgedTable f lead cycle codes transitions old new a
+  judged-table-after old new a =
+      let e = table-row-after (length old) in (
+        λ J. record { answer = answered-alike (length old) a .0 (rw e at (J .answer)); scratch = rw e at (J .scratch) },
+        λ J. record { answer = rw e (answered-alike (length old) a .1 (J .answer)); scratch = rw e (J .scratch) },
+      )
