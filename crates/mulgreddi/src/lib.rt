@@ -10,6 +10,7 @@ ghost use mathlib.Core.Path.{_≡_};
 ghost use lib.ListN.{length, take};
 ghost use Rattle.theory.specs.Truth.{truthMasks};
 ghost use Rattle.theory.specs.Demand.{Demand3};
+ghost use Rattle.theory.specs.Table.{ListsReachable};
 ghost use Rattle.build.specs.Built.{builtOf, codesAfter, transitionsAfter};
 ghost use Rattle.build.specs.declared.Counts.{Counts};
 ghost use Rattle.build.specs.declared.Built.the-variants.{Table};
@@ -140,6 +141,7 @@ pub extern "C" fn mulgreddi_build(file: &[u8], codes: &mut [u64], transitions: &
     ensures { λ r. ⌜ r ≡ builtAnswer (builtOf (now (file .entry)) (length (now (codes .entry))) (length (now (transitions .entry)))) ⌝ }
     ensures { λ _. ⌜ now (codes .exit) ≡ codesAfter (now (file .entry)) (now (codes .entry)) (length (now (transitions .entry))) ⌝ }
     ensures { λ _. ⌜ now (transitions .exit) ≡ transitionsAfter (now (file .entry)) (length (now (codes .entry))) (now (transitions .entry)) ⌝ }
+    ensures { λ _. ⌜ ((n : Counts) → builtOf (now (file .entry)) (length (now (codes .entry))) (length (now (transitions .entry))) ≡ Table n → ListsReachable (ruleIn (now (file .entry))) (take (n .macrostates) (now (codes .exit))) (take (n .transitions) (now (transitions .exit)))) ⌝ }
     ensures { λ _. ⌜ ((n : Counts) → builtOf (now (file .entry)) (length (now (codes .entry))) (length (now (transitions .entry))) ≡ Table n → Demand3 (ruleIn (now (file .entry))) (take (n .macrostates) (now (codes .exit))) (take (n .transitions) (now (transitions .exit)))) ⌝ }
 {
     match build::build(file, codes, transitions) {

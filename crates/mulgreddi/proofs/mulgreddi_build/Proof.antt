@@ -30,7 +30,7 @@ returns : tie.Need-returns
 unfolding builtAnswer
 returns c =
     let b = c .before .before .before .before .before .before .before .before .build .ensures in
-    (c .served .ensures ∙ sym (ap builtAnswer (sym (b .0) ∙ c .before .before .counts .given .1)), (b .1, (b .2, λ n e. b .3 n (b .0 ∙ e))))
+    (c .served .ensures ∙ sym (ap builtAnswer (sym (b .0) ∙ c .before .before .counts .given .1)), (b .1, (b .2, (λ n e. b .3 n (b .0 ∙ e), λ n e. b .4 n (b .0 ∙ e)))))
 
 same-length-3 : tie.Need-same-length-3
 same-length-3 c = search needs
@@ -42,7 +42,7 @@ returns-2 : tie.Need-returns-2
 unfolding builtAnswer
 returns-2 c =
     let b = c .before .before .before .before .before .before .before .before .build .ensures in
-    (c .refused .ensures ∙ sym (ap builtAnswer (sym (b .0) ∙ c .before .before .row .given .1)), (b .1, (b .2, λ n e. b .3 n (b .0 ∙ e))))
+    (c .refused .ensures ∙ sym (ap builtAnswer (sym (b .0) ∙ c .before .before .row .given .1)), (b .1, (b .2, (λ n e. b .3 n (b .0 ∙ e), λ n e. b .4 n (b .0 ∙ e)))))
 
 pub mulgreddi-build-spec : {M : Type 1} → statement M
 mulgreddi-build-spec =
