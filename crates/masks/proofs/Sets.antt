@@ -6,41 +6,25 @@ use native.Mathlib.Omega.{arith}
 use native.Mathlib.Nat.{mod-eq-of-lt, one-mul, lt-of-le-of-lt}
 use lib.Dec.{eqb, ltb}
 use lib.Bits.{bitAnd, bitOr, and-le-l, and-mask, or-lt}
-use lib.Pow.{pow-lt, pow-mono, pow-pos, ones-lt}
-use borrow.Author.Tests.{eqb-true, eq-eqb}
+use lib.Pow.{pow-mono, pow-pos, ones-lt}
 use Rattle.sets.specs.Tests.{first}
-use Rattle.sets.specs.Masks.{bit, inside}
-use Rattle.sets.proofs.Bools.{iff}
-use Rattle.sets.proofs.Bits.{bit-and, bit-or, bit-not, bit-full, bit-shl-one, mask-unique, subset-and}
-use Rattle.sets.proofs.Members.{inside-at, inside-all, least-is, rest-bit}
-use Rattle.masks.specs.Sets.{singleOf, unionOf, intersectionOf, differenceOf, fullOf, restOf}
+use Rattle.sets.specs.Masks.{bit}
+use Rattle.sets.proofs.Bits.{bit-and, bit-or, bit-not, bit-full, mask-unique}
+use Rattle.sets.proofs.Members.{least-is, rest-bit}
+use Rattle.masks.specs.Sets.{unionOf, differenceOf, fullOf, restOf}
 
 -- a digit, read by shift and mask
 pub contains-is : (m q : ℕ) → eqb (bitAnd (m / 2 ^ q) 1) 1 ≡ bit m q
 unfolding bit
 contains-is m q = ap (λ (x : ℕ). eqb x 1) (and-mask (m / 2 ^ q) 1)
 
-pub single-is : (q : ℕ) → q < 8 → 1 * 2 ^ q % 256 ≡ singleOf q
-single-is q h =
-    let s : 2 ^ q < 256 = pow-lt {i = q} {j = 8} h in
-    ap (λ (x : ℕ). x % 256) (one-mul (2 ^ q)) ∙ mod-eq-of-lt s ∙ mask-unique 8 (2 ^ q) (λ p. eqb q p) s (λ p l. bit-shl-one q p)
-
 pub union-is : (a b : ℕ) → a < 256 → b < 256 → bitOr a b ≡ unionOf a b
 union-is a b ha hb = mask-unique 8 (bitOr a b) (λ q. bit a q || bit b q) (or-lt 8 a b ha hb) (λ q l. bit-or a b q)
-
-pub intersection-is : (a b : ℕ) → a < 256 → bitAnd a b ≡ intersectionOf a b
-intersection-is a b ha = mask-unique 8 (bitAnd a b) (λ q. bit a q && bit b q) (lt-of-le-of-lt (and-le-l a b) ha) (λ q l. bit-and a b q)
 
 pub difference-is : (a b : ℕ) → a < 256 → b < 256 → bitAnd a (255 - b) ≡ differenceOf a b
 difference-is a b ha hb =
     mask-unique 8 (bitAnd a (255 - b)) (λ q. bit a q && not (bit b q)) (lt-of-le-of-lt (and-le-l a (255 - b)) ha)
     (λ q l. bit-and a (255 - b) q ∙ ap (λ (x : Bool). bit a q && x) (bit-not 8 b q hb l))
-
-pub subset-is : (a b : ℕ) → a < 256 → eqb (bitAnd a b) a ≡ inside 8 (bit b) a
-subset-is a b ha =
-    iff (eqb (bitAnd a b) a) (inside 8 (bit b) a)
-    (λ t. inside-all 8 (bit b) a (subset-and 8 a b ha .1 (eqb-true (bitAnd a b) a t)))
-    (λ t. eq-eqb (bitAnd a b) a (subset-and 8 a b ha .0 (inside-at 8 (bit b) a t)))
 
 -- ---- the states below n
 

@@ -8,17 +8,9 @@ use lib.Bits.{bitOr}
 use Rattle.sets.specs.Tests.{first}
 use Rattle.sets.specs.Masks.{bit, mask}
 
--- q alone: 01, "state q has weight 2 to the power q"
-abbrev pub singleOf : ℕ → ℕ
-singleOf q = mask 8 (λ p. eqb q p)
-
 -- the states in a or in b
 abbrev pub unionOf : ℕ → ℕ → ℕ
 unionOf a b = mask 8 (λ q. bit a q || bit b q)
-
--- the states in a and in b
-abbrev pub intersectionOf : ℕ → ℕ → ℕ
-intersectionOf a b = mask 8 (λ q. bit a q && bit b q)
 
 -- the states in a and not in b
 abbrev pub differenceOf : ℕ → ℕ → ℕ

@@ -2,8 +2,8 @@
 ghost use mathlib.Core.Path.{_≡_};
 ghost use Prim.Native.Nat.{_<_, _≤_};
 ghost use Rattle.sets.specs.Tests.{count, first};
-ghost use Rattle.sets.specs.Masks.{bit, inside, members};
-ghost use Rattle.masks.specs.Sets.{singleOf, unionOf, intersectionOf, differenceOf, fullOf, restOf, unionOver};
+ghost use Rattle.sets.specs.Masks.{bit, members};
+ghost use Rattle.masks.specs.Sets.{unionOf, differenceOf, fullOf, restOf, unionOver};
 
 // Whether state q is in the set m.
 pub fn contains(m: u8, q: u32) -> bool
@@ -13,14 +13,6 @@ pub fn contains(m: u8, q: u32) -> bool
     (m >> q) & 1 == 1
 }
 
-// The set of state q alone.
-pub fn single(q: u32) -> u8
-    requires { ⌜ q < 8 ⌝ }
-    ensures { λ r. ⌜ r ≡ singleOf q ⌝ }
-{
-    1u8 << q
-}
-
 // The states in a or in b.
 pub fn union(a: u8, b: u8) -> u8
     ensures { λ r. ⌜ r ≡ unionOf a b ⌝ }
@@ -28,25 +20,11 @@ pub fn union(a: u8, b: u8) -> u8
     a | b
 }
 
-// The states in both a and b.
-pub fn intersection(a: u8, b: u8) -> u8
-    ensures { λ r. ⌜ r ≡ intersectionOf a b ⌝ }
-{
-    a & b
-}
-
 // The states in a and not in b.
 pub fn difference(a: u8, b: u8) -> u8
     ensures { λ r. ⌜ r ≡ differenceOf a b ⌝ }
 {
     a & !b
-}
-
-// Whether all states of a are in b.
-pub fn is_subset(a: u8, b: u8) -> bool
-    ensures { λ r. ⌜ r ≡ inside 8 (bit b) a ⌝ }
-{
-    a & b == a
 }
 
 // The states below n.
