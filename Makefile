@@ -54,7 +54,7 @@ list: $(PROGRAM)
 second:
 	$(CARGO) test --release --offline --quiet --manifest-path second/Cargo.toml
 	$(CARGO) run --release --offline --quiet --manifest-path second/Cargo.toml --bin expect -- $(BUILD)/cases
-	diff -r $(BUILD)/cases/data crates/cases/data
+	cmp $(BUILD)/cases/stdin crates/cases/stdin
 	diff $(BUILD)/cases/stdout crates/cases/stdout
 
 compare: $(LIB)
@@ -62,7 +62,7 @@ compare: $(LIB)
 
 # the listing program beside the second program
 listings: $(LIB) $(PROGRAM)
-	$(CARGO) run --release --offline --quiet --manifest-path compare/Cargo.toml --bin listings -- $(PROGRAM) examples crates/cases/data
+	$(CARGO) run --release --offline --quiet --manifest-path compare/Cargo.toml --bin listings -- $(PROGRAM) examples
 
 soak: $(LIB)
 	$(CARGO) run --release --offline --quiet --manifest-path compare/Cargo.toml -- --seconds $(SECONDS)
