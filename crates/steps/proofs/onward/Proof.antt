@@ -27,7 +27,7 @@ next-low : (c : tie.After-next-component) → c .next-component .result < 8
 next-low c = let a = c .before .before .args in let p = c .before .before .pre in omega (arith, next c, next-lt (a .components) (a .pair % 16) (p .1), p .2)
 
 element-copy-out-class-count : tie.Need-element-copy-out-class-count
-element-copy-out-class-count c = next-low c
+element-copy-out-class-count c = omega (arith, next-low c, c .before .before .pre, and-mask (c .before .before .args .pair) 4)
 
 class-count-requires : tie.Need-class-count-requires
 class-count-requires c κs = search needs
