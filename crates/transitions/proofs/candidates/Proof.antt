@@ -52,7 +52,7 @@ loop-again c =
     let put : bitOr (a .earlier) (c .candidate .result * 2 ^ 40 % 2 ^ 64) ≡ a .earlier + c .candidate .result * 2 ^ 40 = put-field (c .candidate .result) 40 (c .before .before .before .pre .3) (omega (arith, low c)) in (
       omega arith,
       simp length-set (l .inv .1),
-      put-next (sourceAt (a .ranks) (a .parts .now) (a .components) (a .levels .now) (a .pair) (a .earlier)) (l .found) (l .k) _ (omega arith) (omega (arith, put, picked)) (l .inv .2),
+      put-next (sourceAt (a .ranks) (a .parts .now) (a .components) (a .levels .now) (a .pair) (a .earlier)) (l .found) (l .k) (bitOr (a .earlier) (c .candidate .result * 2 ^ 40 % 2 ^ 64)) (omega arith) (omega (arith, put, picked)) (l .inv .2),
     )
 
 returns : tie.Need-returns Inv-loop μ-loop
