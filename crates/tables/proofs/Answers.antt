@@ -102,7 +102,7 @@ module _ (s : ℕ) (start : Set) (lead cycle : List ℕ) (codes transitions : Le
   pub called-yes : row ≡ 0 → (m : ℕ) → m < length (codes .numbers) → Earliest (length (codes .numbers)) (Begins start (codes .numbers) (transitions .numbers) lead cycle) m
       → Called s start lead cycle codes transitions old (replicate (length old) 0) (Yes m)
   unfolding scratchAfter
-  called-yes e m low b = record { answer = rw e (b .found low, b .none); scratch = rw e refl }
+  called-yes e m low b = record { answer = rw e (b .found low, λ l k. b .none l (omega arith)); scratch = rw e refl }
 
   pub called-no : row ≡ 0 → (m : ℕ) → length (codes .numbers) ≤ m → Earliest (length (codes .numbers)) (Begins start (codes .numbers) (transitions .numbers) lead cycle) m
       → Called s start lead cycle codes transitions old (replicate (length old) 0) No
