@@ -102,6 +102,10 @@ static void plan(const char *folder, const char *name, const word *w)
         return;
     }
     mulgreddi_answer on_table = judge_table(file, n, w, built);
+    if (on_table.refusal) {
+        printf("%s: refused %llu\n", name, (number)on_table.refusal);
+        return;
+    }
     printf("%s, lead-in", name);
     for (size_t i = 0; i < w->lead_len; i++)
         printf(" %u", w->lead[i]);

@@ -15,7 +15,7 @@ extern "C" {
 #endif
 
 /* The answer of every function. refusal is 0 where the input was served; else it is the number of the first fault
- * (one of those below), and first and second are 0. */
+ * (one of those below), and first and second are 0. A value that a function does not name is 0. */
 typedef struct {
     uint64_t refusal, first, second;
 } mulgreddi_answer;
@@ -77,10 +77,10 @@ mulgreddi_answer mulgreddi_build(const uint8_t *file, size_t file_len, uint64_t 
                                  uint64_t *transitions, size_t transitions_len);
 
 /* Judges a word on a table: does an accepting run over it begin in an initial macrostate? first: 1 yes, 0 no; second: with yes, the lowest number of an
- * initial macrostate where one begins. The table is any that passes refusal 15, built from the rule or not; on a built one the answer is that of
- * mulgreddi_judge, and only one accepting run begins at all. codes and transitions are bytes, 8 a number, low byte first, so pass 8 * count bytes of
- * each slice of a build, the counts being its answer, and not the whole room, whose zeros are no ascending list; the cast from uint64_t * to
- * uint8_t * is right on little-endian machines. scratch needs macrostates * (lead_len + cycle_len) bytes; it is zero throughout after yes and no.
+ * initial macrostate where one begins, else 0. The table is any that passes refusal 15, built from the rule or not; on one built from this file, first
+ * is that of mulgreddi_judge, and at most one accepting run begins at all. codes and transitions are bytes, 8 a number, low byte first, so pass
+ * 8 * count bytes of each slice of a build, the counts being its answer, and not the whole room: unused zeros are refused by 15, or, where the build
+ * has no transition, one zero is read as transition 0. The cast from uint64_t * to uint8_t * is right on little-endian machines. scratch needs macrostates * (lead_len + cycle_len) bytes; it is zero throughout after yes and no.
  * Refusals 1 to 16; 15: over 65,536 codes, codes or transitions not strictly ascending, a code with a bit above 47, a transition whose source, letter
  * or target is out of range, or a length that 8 does not divide. */
 mulgreddi_answer mulgreddi_judge_table(const uint8_t *file, size_t file_len,
