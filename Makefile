@@ -22,7 +22,7 @@ EXAMPLES := $(patsubst examples/%.c,$(BUILD)/%,$(wildcard examples/*.c))
 # one `rt` at a time
 .NOTPARALLEL:
 
-.PHONY: lib install list listings test bench soak compare second examples clean
+.PHONY: lib install list listings proved test bench soak compare second examples clean
 
 lib: $(LIB)
 
@@ -88,8 +88,12 @@ $(BUILD)/%: examples/%.c include/mulgreddi.h $(LIB)
 examples: $(EXAMPLES)
 	for e in $(EXAMPLES); do $$e examples > $$e.out && diff examples/$$(basename $$e).expected $$e.out || exit 1; done
 
+# the library and the listing program, proved side by side
+proved:
+	rt check mulgreddi listing < /dev/null
+
 # `rt ci` is last: its closing line is the gate's
-test: second compare listings examples
+test: proved second compare listings examples
 	rt ci
 
 clean:

@@ -15,15 +15,15 @@ use Rattle.theory.specs.Rule.{Rule}
 use Rattle.theory.specs.Demand.{Demand3}
 use Rattle.theory.specs.Passing.{Passing}
 use Rattle.theory.specs.Table.{macrostatesFrom, transitionsFrom, macrostates, transitions, ListsReachable}
-use Rattle.theory.proofs.Demand.{demand3}
-use Rattle.theory.proofs.Tables.{lists-reachable}
+use Rattle.laws.proofs.Demand.{demand3}
+use Rattle.laws.proofs.Tables.{lists-reachable}
 use Rattle.entries.specs.Entries.{ruleOf}
 use Rattle.rules.specs.declared.Layout.{Layout}
 use Rattle.rules.specs.declared.Read.the-variants.{Accepted}
-use Rattle.rules.specs.File.{countsOf, clausesOf, ruleIn}
+use Rattle.files.specs.File.{countsOf, clausesOf, ruleIn}
 use Rattle.rules.specs.Read.{readOf}
 use Rattle.rules.proofs.Answer.{served, lent-rule}
-use Rattle.rules.specs.Rows.{fileRow, fileRows, layoutRows, trailerRows, numberRows, listRows, componentRows}
+use Rattle.files.specs.Rows.{fileRow, fileRows, layoutRows, trailerRows, numberRows, listRows, componentRows}
 use Rattle.rules.proofs.FileRows.{file-numbered, accepted-passing}
 use Rattle.keys.specs.Keys.{startOf}
 use Rattle.build.specs.declared.Counts.{Counts}
@@ -31,7 +31,7 @@ use Rattle.build.specs.declared.Built.{Built}
 use Rattle.build.specs.declared.Built.the-variants.{Table, Refused}
 use Rattle.build.specs.Built.{roomRow, builtBy, sliceAfter, buildRow, builtOf, codesAfter, transitionsAfter}
 use Rattle.build.specs.Filling.{Made}
-use Rattle.build.proofs.Room.{room-few}
+use Rattle.build.proofs.RoomRows.{room-few}
 
 -- the start condition of 01
 pub codes-initial : (r : Rule) → macrostatesFrom r (startOf r true) ≡ macrostates r

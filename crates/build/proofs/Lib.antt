@@ -1,7 +1,5 @@
-pub mod Room
-pub mod Padding
+pub mod RoomRows
 pub mod Making
 pub mod Answer
-pub mod Ready
 pub mod WithRoom
 pub mod Prefaces

@@ -12,8 +12,10 @@ use Rattle.keys.specs.Keys.{startOf}
 use Rattle.build.specs.declared.Built.{Built}
 use Rattle.build.specs.declared.Built.the-variants.{Table, Refused}
 use Rattle.build.specs.Built.{roomRow, builtBy, sliceAfter}
-use Rattle.build.specs.Filling.{Padded, Codes, Made}
-use Rattle.build.proofs.Room.{row-codes, row-moves, row-fits, room-cap, room-len}
+use Rattle.lists.specs.Lists.{Padded, Codes}
+use Rattle.build.specs.Filling.{Made}
+use Rattle.build.proofs.RoomRows.{row-codes, row-moves, row-fits}
+use Rattle.lists.proofs.Room.{room-cap, room-len}
 
 module _ (codes moves xs zs : List ℕ) where
   -- by the row

@@ -4,7 +4,7 @@ use mathlib.Core.Path.{_≡_, refl}
 use mathlib.Core.List.{List, _++_}
 use lib.ListN.{length}
 use Rattle.theory.specs.Table.{macrostates, transitions}
-use Rattle.rules.specs.Rows.{fileRow}
+use Rattle.files.specs.Rows.{fileRow}
 use Rattle.rules.proofs.Prefaces.{answer-after}
 use Rattle.build.specs.Built.{roomRows, builtBy, sliceAfter, buildRow, builtOf, codesAfter, transitionsAfter}
 

@@ -1,17 +1,18 @@
 -- Demand 3, "any rule of one to eight states that passes every check, and any lent slices with room":
 -- "Then the build is not refused for room and leaves exactly these there."
 use Prim.Native.Nat.{ℕ, _-_, _≤_}
-use mathlib.Core.Path.{_≡_, sym, _∙_}
+use mathlib.Core.Path.{_≡_, _∙_}
 use mathlib.Core.List.{List, _++_}
 use lib.ListN.{length, replicate}
 use Rattle.theory.specs.Rule.{Rule}
 use Rattle.theory.specs.Passing.{Passing}
 use Rattle.theory.specs.Table.{macrostates, transitions}
-use Rattle.rules.specs.File.{ruleIn, bodyOf}
+use Rattle.files.specs.File.{ruleIn, bodyOf}
 use Rattle.rules.proofs.Layouts.{layout-accepted}
 use Rattle.build.specs.declared.Built.the-variants.{Table}
-use Rattle.build.specs.Built.{codesRoom, transitionsRoom, roomRow, builtBy, sliceAfter, buildRow, builtOf, codesAfter, transitionsAfter}
-use Rattle.build.proofs.Room.{row-fits}
+use Rattle.lists.specs.Room.{codesRoom, transitionsRoom}
+use Rattle.build.specs.Built.{builtBy, sliceAfter, buildRow, builtOf, codesAfter, transitionsAfter}
+use Rattle.build.proofs.RoomRows.{row-fits}
 use Rattle.build.proofs.Answer.{build-row}
 
 -- where no row refuses, of a file that is read as the rule r

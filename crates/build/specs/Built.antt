@@ -6,21 +6,11 @@ use lib.Dec.{ltb}
 use lib.ListN.{length, replicate}
 use Rattle.sets.specs.Rows.{Check, firstRow, check}
 use Rattle.theory.specs.Table.{macrostates, transitions}
-use Rattle.rules.specs.File.{ruleIn}
-use Rattle.rules.specs.Rows.{fileRows}
+use Rattle.files.specs.File.{ruleIn}
+use Rattle.files.specs.Rows.{fileRows}
+use Rattle.lists.specs.Room.{codesRoom, transitionsRoom}
 use Rattle.build.specs.declared.Built.{Built}
 use Rattle.build.specs.declared.Built.the-variants.{Table, Refused}
-
--- the room of a slice: its length, but at most the cap
-unfoldable pub roomOf : ℕ → ℕ → ℕ
-roomOf cap len = cond (ltb len cap) len cap
-
--- 01: "Room counts at most 65,536 macrostates and 1,048,576 transitions."
-abbrev pub codesRoom : ℕ → ℕ
-codesRoom len = roomOf 65536 len
-
-abbrev pub transitionsRoom : ℕ → ℕ
-transitionsRoom len = roomOf 1048576 len
 
 -- rows 17 and 18, of the codes and transitions to be written and the lengths of the two slices
 unfoldable pub roomRows : List ℕ → List ℕ → ℕ → ℕ → List Check

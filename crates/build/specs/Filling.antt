@@ -1,28 +1,10 @@
--- What the functions of the build leave in a slice.
+-- What the build of a table leaves in both slices.
 use mathlib.Core.Path.{_≡_}
-use mathlib.Core.Bool.{Bool, true, false}
-use mathlib.Core.List.{List, _++_}
-use Prim.Native.Nat.{ℕ, _-_, _≤_, _<_}
-use lib.ListN.{length, take, replicate}
-use Rattle.theory.specs.Rule.{Rule}
-use Rattle.theory.specs.Table.{macrostatesFrom}
-use Rattle.keys.specs.Keys.{startOf}
+use mathlib.Core.List.{List}
+use Prim.Native.Nat.{ℕ, _-_}
+use lib.ListN.{length}
 use Rattle.build.specs.declared.Built.{Built}
-use Rattle.build.specs.Built.{roomOf, roomRow, builtBy, sliceAfter}
-
--- the slice xs is now ys, the list l and zeros after it, m the length of the list; or l is longer than the room of xs
-pub record Padded (cap : ℕ) (l xs ys : List ℕ) (m : ℕ) (full : Bool) : Type 0 where
-  pub long : length ys ≡ length xs
-  pub fits : full ≡ false → length l ≤ roomOf cap (length xs)
-  pub count : full ≡ false → m ≡ length l
-  pub written : full ≡ false → ys ≡ l ++ replicate (length xs - length l) 0
-  pub crowded : full ≡ true → roomOf cap (length xs) < length l
-
--- the first n codes are those of the reachable macrostates
-pub record Codes (r : Rule) (holds : Bool) (codes : List ℕ) (n : ℕ) : Type 0 where
-  pub fits : n ≤ length codes
-  pub few : n ≤ 65536
-  pub listed : take n codes ≡ macrostatesFrom r (startOf r holds)
+use Rattle.build.specs.Built.{roomRow, builtBy, sliceAfter}
 
 -- the answer b, and the slices xs and zs afterwards, ys and ws, by rows 17 and 18
 pub record Made (codes moves xs zs : List ℕ) (b : Built) (ys ws : List ℕ) : Type 0 where

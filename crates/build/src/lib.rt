@@ -1,4 +1,9 @@
 // The build: the reachable macrostates of a rule and the transitions between them, in two lent slices.
+use entries::Head;
+use keys::Shape;
+use lists::list_codes;
+use lists::list_transitions;
+use rules::Read;
 ghost use mathlib.Core.Path.{_≡_};
 ghost use mathlib.Core.Bool.{true};
 ghost use lib.ListN.{length, take};
@@ -7,17 +12,13 @@ ghost use Rattle.theory.specs.Demand.{Demand3};
 ghost use Rattle.theory.specs.Passing.{Passing};
 ghost use Rattle.theory.specs.Table.{macrostatesFrom, transitionsFrom, ListsReachable};
 ghost use Rattle.entries.specs.Entries.{ruleOf};
-ghost use Rattle.rules.specs.File.{ruleIn};
+ghost use Rattle.files.specs.File.{ruleIn};
 ghost use Rattle.keys.specs.Keys.{startOf};
 ghost use Rattle.keys.specs.Tables.{Tables};
 ghost use Rattle.build.specs.declared.Counts.{Counts};
 ghost use Rattle.build.specs.declared.Built.the-variants.{Table};
-ghost use Rattle.build.specs.Built.{roomOf, builtOf, codesAfter, transitionsAfter};
-ghost use Rattle.build.specs.Filling.{Padded, Codes, Made};
-use entries::Head;
-use keys::Shape;
-use rules::Read;
-use sorted::Grow;
+ghost use Rattle.build.specs.Built.{builtOf, codesAfter, transitionsAfter};
+ghost use Rattle.build.specs.Filling.{Made};
 
 // How many macrostates and transitions a built table has.
 pub struct Counts {
@@ -29,69 +30,6 @@ pub struct Counts {
 pub enum Built {
     Table(Counts),
     Refused(u8),
-}
-
-// ---- room
-
-// The room of a slice: its length, but at most the cap.
-fn room_of(cap: usize, len: usize) -> usize
-    ensures { λ r. ⌜ r ≡ roomOf cap len ⌝ }
-{
-    if len < cap {
-        return len;
-    }
-    cap
-}
-
-// ---- the two lists
-
-// Fills the slice with the codes of the reachable macrostates, ascending, and zeros. It is full if there are more of them than room.
-fn list_codes(codes: &mut [u64], shape: Shape, opens: &[u8; 4096], parts: &[u8; 8]) -> Grow
-    requires { ⌜ ((r : Rule) × Tables r (now opens) (now parts) shape) ⌝ }
-    ensures { λ g. ⌜ ((r : Rule) → Tables r (now (opens .entry)) (now (parts .entry)) shape → Padded 65536 (macrostatesFrom r (startOf r (shape .holds))) (now (codes .entry)) (now (codes .exit)) (g .m) (g .full)) ⌝ }
-{
-    let room = room_of(65536, codes.len());
-    let g = reach::reachable(&mut codes[..room], shape, opens, parts);
-    if g.full {
-        return g;
-    }
-    let m = g.m;
-    sorted::zero_from(codes, m);
-    Grow { m, full: false }
-}
-
-// Fills the slice with the transitions between the first n codes, ascending, and zeros. It is full if there are more of them than room.
-fn list_transitions(
-    out: &mut [u64],
-    codes: &[u64],
-    n: usize,
-    shape: Shape,
-    opens: &[u8; 4096],
-    parts: &[u8; 8],
-) -> Grow
-    requires { ⌜ ((r : Rule) × Tables r (now opens) (now parts) shape × Codes r (shape .holds) (now codes) n) ⌝ }
-    ensures { λ g. ⌜ ((r : Rule) → Tables r (now (opens .entry)) (now (parts .entry)) shape → Codes r (shape .holds) (now (codes .entry)) n → Padded 1048576 (transitionsFrom r (startOf r (shape .holds))) (now (out .entry)) (now (out .exit)) (g .m) (g .full)) ⌝ }
-{
-    let room = room_of(1048576, out.len());
-    let s = shape.s;
-    let accepting = shape.accepting;
-    let components = shape.components;
-    let g = transitions::transitions(
-        &mut out[..room],
-        codes,
-        n,
-        s,
-        accepting,
-        opens,
-        parts,
-        components,
-    );
-    if g.full {
-        return g;
-    }
-    let m = g.m;
-    sorted::zero_from(out, m);
-    Grow { m, full: false }
 }
 
 // ---- the table

@@ -3,14 +3,14 @@
 //
 // A call is 256 bytes: the entry, five numbers, the places where its name and its five parts begin and where the last ends, then the name and the parts.
 use build::Built;
-use judge::Verdict;
+use calls::Start;
+use judged::Verdict;
 use libc::STDIN_FILENO;
 use libc::STDOUT_FILENO;
 use rules::Read;
 use sameness::SameRules;
-use tables::Start;
 use words::SameWords;
-use writer::Written;
+use written::Written;
 ghost use mathlib.Core.Path.{_≡_};
 ghost use Prim.Native.Nat.{_<_};
 ghost use lib.ListN.{length};

@@ -1,6 +1,6 @@
 // A macrostate as a 64-bit number, and packed transitions.
 ghost use mathlib.Core.Path.{_≡_};
-ghost use Prim.Native.Nat.{ℕ, _+_, _*_, _≤_, _<_};
+ghost use Prim.Native.Nat.{ℕ, _+_, _≤_, _<_};
 ghost use lib.ListN.{length, getD};
 ghost use Rattle.sets.specs.Masks.{bit, members};
 ghost use Rattle.theory.specs.Code.{componentIn, classesIn};

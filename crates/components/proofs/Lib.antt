@@ -1,5 +1,2 @@
-pub mod Leads
-pub mod Tables
-pub mod Rounds
 pub mod Mixed
 pub mod Numbered

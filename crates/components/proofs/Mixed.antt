@@ -18,10 +18,10 @@ use Rattle.sets.proofs.Tests.{some-at, some-get, some-none, some-no, some-ext}
 use Rattle.sets.proofs.Masks.{bit-mask, mask-lt, mask-ext}
 use Rattle.theory.specs.Rule.{Rule}
 use Rattle.theory.specs.Components.{reaches, together, mixed}
-use Rattle.theory.proofs.Components.{together-refl, together-sym, together-trans}
-use Rattle.components.specs.Tables.{closuresOf}
+use Rattle.laws.proofs.Components.{together-refl, together-sym, together-trans}
+use Rattle.closures.specs.Tables.{closuresOf}
 use Rattle.sets.proofs.Bits.{bit-and, bit-none, bit-high, bit-ext}
-use Rattle.components.proofs.Tables.{table-at}
+use Rattle.closures.proofs.Tables.{table-at}
 
 and-fr : (a b : Bool) → a && b ≡ false → a ≡ true → b ≡ false
 and-fr true b e k = e

@@ -25,9 +25,10 @@ use Rattle.sets.proofs.Bits.{bit-none, mask-unique}
 use Rattle.sets.proofs.Members.{least-is}
 use Rattle.theory.specs.Rule.{Rule}
 use Rattle.theory.specs.Components.{together, smallest, isSmallest, component, components}
-use Rattle.theory.proofs.Components.{smallest-le, smallest-lt, smallest-together, component-of-together, together-of-component, few-components}
-use Rattle.components.specs.Tables.{table, closuresOf, componentsOf}
-use Rattle.components.proofs.Tables.{table-at, table-out, table-set, table-length}
+use Rattle.laws.proofs.Components.{smallest-le, smallest-lt, smallest-together, component-of-together, together-of-component, few-components}
+use Rattle.closures.specs.Tables.{table, closuresOf}
+use Rattle.components.specs.Numbered.{componentsOf}
+use Rattle.closures.proofs.Tables.{table-at, table-out, table-set, table-length}
 use Rattle.components.proofs.Mixed.{classBy, class-by}
 
 -- ---- evaluated

@@ -19,7 +19,7 @@ use Rattle.sets.proofs.Digits.{num-ext, num-add, num-lt}
 use Rattle.theory.specs.Automaton.{Automaton}
 use Rattle.theory.specs.Core.{Core, isOpen, openOf}
 use Rattle.theory.specs.Core as core
-use Rattle.theory.proofs.Cores.{core-rank-comp, core-rank-max, open-of-rank, classes-are}
+use Rattle.laws.proofs.Cores.{core-rank-comp, core-rank-max, open-of-rank, classes-are}
 use Rattle.cores.specs.Vectors.{rankAt, Within, visited}
 use Rattle.cores.specs.Used.{taken, used, classCount, gapless, sizesOf, capsOf}
 use Rattle.cores.specs.Parts.{Parts, setOf, vectorOf, sizeAt}

@@ -11,8 +11,8 @@ use Rattle.theory.specs.Rule.{Rule}
 use Rattle.theory.specs.Components.{component}
 use Rattle.theory.specs.Passing.{Passing}
 use Rattle.theory.specs.Automaton.{automaton}
-use Rattle.theory.proofs.Components.{few-components}
-use Rattle.theory.proofs.Layers.{few-in-all}
+use Rattle.laws.proofs.Components.{few-components}
+use Rattle.laws.proofs.Layers.{few-in-all}
 use Rattle.cores.specs.Parts.{Parts}
 
 -- the masks of the components, one for each number up to 7

@@ -1,6 +1,6 @@
 -- Where an entry's clauses stand, and the states that they name.
 use mathlib.Core.Path.{_≡_, refl, sym, _∙_, ap}
-use mathlib.Core.Bool.{Bool, true, false, _||_, or-false}
+use mathlib.Core.Bool.{false, _||_, or-false, or-assoc}
 use mathlib.Core.List.{List, [], _∷_, List·Memᴰ, List·Memᴰ·head, List·Memᴰ·tail, List·Memᴰ·not-nil, List·Memᴰ·cases-cons}
 use Prim.Native.Nat.{ℕ, suc, _+_, _*_, _^_, _<_, _≤_, zero}
 use native.Mathlib.Omega.{arith}
@@ -35,10 +35,6 @@ mem-drop (suc k) (y ∷ ys) m = List·Memᴰ·tail (mem-drop k ys m)
 
 sum-part : (xs : List ℕ) (i : ℕ) → sum (take i xs) ≤ sum xs
 sum-part xs i = let e : sum (take i xs) + sum (drop i xs) ≡ sum xs = sym (sum-append (take i xs) (drop i xs)) ∙ ap sum (take-append-drop i xs) in omega arith
-
-or-assoc : (a b c : Bool) → ((a || b) || c) ≡ (a || (b || c))
-or-assoc true b c = refl
-or-assoc false b c = refl
 
 module _ (r : Rule) (w : WellFormed r) (q a : ℕ) (l : q < r .n) (m : a < r .s) where
   -- the entry's number is one of an entry

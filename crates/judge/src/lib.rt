@@ -1,5 +1,6 @@
 // The judge of words on a rule.
 use entries::Head;
+use judged::Verdict;
 use masks::contains;
 use rules::Read;
 use rules::clauses_of;
@@ -7,17 +8,9 @@ use rules::counts_of;
 use rules::read_rule;
 use truth::fill;
 use words::word_row;
-ghost use mathlib.Core.Path.{_≡_};
 ghost use Rattle.theory.specs.Passing.{Passing};
 ghost use Rattle.entries.specs.Entries.{ruleOf};
-ghost use Rattle.judge.specs.Judge.{Called, Judged};
-
-// The answer: yes, no, or the number of the row that refuses.
-pub enum Verdict {
-    Yes,
-    No,
-    Refused(u8),
-}
+ghost use Rattle.judged.specs.Judge.{Called, Judged};
 
 // Whether a rule that passes every check accepts the word; the masks of the word are written from the start of masks on.
 // Refused by rows 12 to 14 and 16, and masks is then unchanged.

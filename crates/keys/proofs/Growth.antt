@@ -8,8 +8,8 @@ use native.Mathlib.Omega.{arith}
 use native.Mathlib.Decide.{decLt}
 use lib.ListN.{length, take, drop}
 use Rattle.sets.specs.Lists.{Ascending}
-use Rattle.sorted.specs.Insertion.{Inserted, Placed}
-use Rattle.sorted.proofs.Growth.{placed-asc, placed-has, placed-in, placed-out, placed-over, inserted-asc, inserted-has, inserted-in, inserted-out, inserted-over}
+use Rattle.insertion.specs.Insertion.{Inserted, Placed}
+use Rattle.insertion.proofs.Growth.{placed-asc, placed-has, placed-in, placed-out, placed-over, inserted-asc, inserted-has, inserted-in, inserted-out, inserted-over}
 use Rattle.keys.specs.Growth.{Parted, Has, Added}
 
 -- G k for some k below i

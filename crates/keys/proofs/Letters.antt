@@ -10,19 +10,19 @@ use lib.Dec.{ltb}
 use lib.ListN.{getD}
 use lib.Bits.{bitXor}
 use borrow.Author.Tests.{lt-ltb, le-ltb}
-use Rattle.sets.proofs.Masks.{mask-lt}
 use Rattle.sets.proofs.Digits.{num-lt}
 use Rattle.theory.specs.Rule.{Rule}
 use Rattle.theory.specs.Automaton.{Automaton, automaton}
-use Rattle.theory.proofs.Classes.{rank-max}
-use Rattle.theory.proofs.Layers.{layered}
+use Rattle.laws.proofs.Classes.{rank-max}
+use Rattle.laws.proofs.Layers.{layered}
 use Rattle.cores.specs.Vectors.{Within}
 use Rattle.cores.specs.Used.{capsOf}
 use Rattle.cores.specs.Parts.{vectorOf}
 use Rattle.steps.specs.Step.{Rising, Back}
-use Rattle.steps.specs.Onward.{onwardIn}
+use Rattle.pairs.specs.Onward.{onwardIn}
 use Rattle.steps.specs.Earlier.{coreOf, backOf, ontoOf, earlierSet, earlierLevel, earlierRank}
 use Rattle.steps.proofs.Tables.{rises-at, set-is, ranks-is, onward-is}
+use Rattle.steps.proofs.Codes.{back-low}
 use Rattle.keys.specs.declared.Shape.{Shape}
 use Rattle.keys.specs.Growth.{From}
 use Rattle.keys.specs.Keys.{Paired, Cored, Moved, LeadsOver, LeadsAt, Edge}
@@ -30,7 +30,7 @@ use Rattle.keys.specs.Tables.{Tables, Lowest}
 use Rattle.keys.proofs.Growth.{Upto}
 use Rattle.keys.proofs.Starting.{within-all, accepting-fits, accepting-same, core-is}
 
--- an earlier core has ranks of at most 8, so its number has 40 bits
+-- an earlier core has ranks of at most 8, so its vector has 32 bits
 module _ (A : Automaton) (small : A .n ≤ 8) (a v : ℕ) where
   rank-low : (q : ℕ) → cond (ltb q (A .n)) (earlierRank A a v q) 0 < 16
   unfolding earlierRank
@@ -41,10 +41,6 @@ module _ (A : Automaton) (small : A .n ≤ 8) (a v : ℕ) where
   pub ranks-low : vectorOf A (earlierRank A a v) < 2 ^ 32
   unfolding vectorOf
   ranks-low = num-lt 16 (omega arith) 8 (λ q. cond (ltb q (A .n)) (earlierRank A a v q) 0) (λ q k. rank-low q)
-
-  pub back-low : backOf A a v < 2 ^ 40
-  unfolding backOf
-  back-low = omega (arith, ranks-low, mask-lt 8 (earlierSet A a v))
 
 -- the same keys go on to the same keys
 pub from-same : (e e′ c c′ : ℕ) (f g : ℕ → ℕ) (old : List ℕ) → e ≡ e′ → c ≡ c′ → ((x : ℕ) → List·Memᴰ x old → f (x % 256) ≡ g (x % 256)) → (y : ℕ) → From (Moved e c f) old y → From (Moved e′ c′ g) old y

@@ -12,10 +12,10 @@ use lib.Seq.{getD-take, length-take-le}
 use Rattle.sets.proofs.Lists.{place-of, mem-at}
 use Rattle.sets.proofs.Ascending.{asc-at}
 use Rattle.sorted.specs.Places.{below}
-use Rattle.sorted.specs.Insertion.{Placed}
+use Rattle.insertion.specs.Insertion.{Placed}
 use Rattle.sorted.proofs.Search.{below-mono, before, after, place-le}
-use Rattle.steps.specs.Onward.{nextIn, onwardIn}
-use Rattle.steps.proofs.Pairs.{next-lt, class-count-low, onward-turn, onward-stay}
+use Rattle.pairs.specs.Onward.{nextIn, onwardIn}
+use Rattle.pairs.proofs.Pairs.{next-lt, class-count-low, onward-turn, onward-stay}
 use Rattle.keys.specs.Growth.{Parted, From, Added}
 use Rattle.keys.specs.Keys.{Paired, Moved}
 use Rattle.keys.proofs.Growth.{Upto, added-none, added-as, placed-added, upto-next, upto-full}

@@ -1,4 +1,2 @@
 pub mod Examples
 pub mod Reading
-pub mod Faults
-pub mod Passed

@@ -3,18 +3,18 @@ use Prim.Native.Nat.{ℕ}
 use Rattle.mulgreddi.specs.declared.Answer.{Answer}
 use Rattle.build.specs.declared.Built.{Built}
 use Rattle.build.specs.declared.Built.the-variants as build
-use Rattle.judge.specs.declared.Verdict.{Verdict}
-use Rattle.judge.specs.declared.Verdict.the-variants as judge
+use Rattle.judged.specs.declared.Verdict.{Verdict}
+use Rattle.judged.specs.declared.Verdict.the-variants as judge
 use Rattle.rules.specs.declared.Read.{Read}
 use Rattle.rules.specs.declared.Read.the-variants as read
 use Rattle.sameness.specs.declared.SameRules.{SameRules}
 use Rattle.sameness.specs.declared.SameRules.the-variants as rules
-use Rattle.tables.specs.declared.Start.{Start}
-use Rattle.tables.specs.declared.Start.the-variants as tables
+use Rattle.calls.specs.declared.Start.{Start}
+use Rattle.calls.specs.declared.Start.the-variants as tables
 use Rattle.words.specs.declared.SameWords.{SameWords}
 use Rattle.words.specs.declared.SameWords.the-variants as words
-use Rattle.writer.specs.declared.Written.{Written}
-use Rattle.writer.specs.declared.Written.the-variants as written
+use Rattle.written.specs.declared.Written.{Written}
+use Rattle.written.specs.declared.Written.the-variants as written
 
 -- 01: "The answer is the number alone"
 abbrev pub refusedAs : ℕ → Answer

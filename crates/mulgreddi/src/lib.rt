@@ -1,11 +1,11 @@
 // The C interface: every public entry, its answer as three numbers. include/mulgreddi.h declares and documents it.
 use build::Built;
-use judge::Verdict;
+use calls::Start;
+use judged::Verdict;
 use rules::Read;
 use sameness::SameRules;
-use tables::Start;
 use words::SameWords;
-use writer::Written;
+use written::Written;
 ghost use mathlib.Core.Path.{_≡_};
 ghost use lib.ListN.{length, take};
 ghost use Rattle.theory.specs.Truth.{truthMasks};
@@ -14,14 +14,14 @@ ghost use Rattle.theory.specs.Table.{ListsReachable};
 ghost use Rattle.build.specs.Built.{builtOf, codesAfter, transitionsAfter};
 ghost use Rattle.build.specs.declared.Counts.{Counts};
 ghost use Rattle.build.specs.declared.Built.the-variants.{Table};
-ghost use Rattle.judge.specs.Judge.{judgeOf, judgeRow, after, Meant};
-ghost use Rattle.rules.specs.File.{ruleIn};
+ghost use Rattle.judged.specs.Judge.{judgeOf, judgeRow, after, Meant};
+ghost use Rattle.files.specs.File.{ruleIn};
 ghost use Rattle.rules.specs.Read.{readOf};
 ghost use Rattle.lent.specs.Lent.{inBytes};
 ghost use Rattle.tables.specs.Tables.{JudgedTable};
-ghost use Rattle.tables.specs.declared.Start.{Start};
+ghost use Rattle.calls.specs.declared.Start.{Start};
 ghost use Rattle.sameness.specs.Same.{sameRulesOf};
-ghost use Rattle.writer.specs.Written.{headFrom, writtenOf, sliceAfter};
+ghost use Rattle.written.specs.Written.{headFrom, writtenOf, sliceAfter};
 ghost use Rattle.words.specs.Words.{sameWordsOf};
 ghost use Rattle.mulgreddi.specs.Answers.{refusedAs, servedAs, readAnswer, writtenAnswer, sameRulesAnswer, sameWordsAnswer, verdictAnswer, builtAnswer, startAnswer};
 

@@ -1,5 +1,2 @@
-pub mod Walk
-pub mod Closing
 pub mod Codes
-pub mod Link
 pub mod Listing

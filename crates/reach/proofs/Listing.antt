@@ -1,36 +1,28 @@
 -- The keys that were gathered, as codes and sorted, are the list of the reachable macrostates; or that list is longer than the slice.
 use mathlib.Core.Path.{_≡_, refl, ap, sym, _∙_}
 use mathlib.Core.Bool.{Bool, true, false, true≢false, false≢true}
-use mathlib.Core.List.{List, [], _∷_, map, List·Memᴰ, List·Memᴰ·head, List·Memᴰ·tail, Memᴰ·map, Memᴰ·of-map}
+use mathlib.Core.List.{List, map, List·Memᴰ, Memᴰ·map, Memᴰ·of-map}
 use Prim.Native.Nat.{ℕ, _^_, _<_}
 use native.Mathlib.Omega.{arith}
 use lib.ListN.{length, getD, take, drop, length-map}
 use lib.Seq.{length-take-le, take-at}
 use Rattle.sets.specs.Tests.{Set}
-use Rattle.sets.specs.Lists.{Ascending, none, from}
-use Rattle.sets.proofs.Ascending.{asc-ext, above-asc, above-in}
+use Rattle.sets.proofs.Ascending.{asc-ext}
 use Rattle.theory.specs.Rule.{Rule}
 use Rattle.theory.specs.Passing.{Passing}
 use Rattle.theory.specs.Automaton.{automaton}
 use Rattle.theory.specs.Macrostate.{Reachable}
 use Rattle.theory.specs.Table.{macrostatesFrom}
-use Rattle.theory.proofs.Layers.{layered}
-use Rattle.theory.proofs.Tables.{few-states, components-there, reachable-macrostate, reachable-iff, macrostates-ascending}
+use Rattle.laws.proofs.Layers.{layered}
+use Rattle.laws.proofs.Tables.{few-states, components-there, reachable-macrostate, reachable-iff, macrostates-ascending}
 use Rattle.sorting.specs.Order.{Distinct, Arranged, ArrangedFirst}
-use Rattle.sorting.proofs.Distinct.{asc-distinct, cons-distinct, rearranged-in, rearranged-out, arranged-asc}
-use Rattle.reach.specs.Closure.{Gathered, Listed}
+use Rattle.sorting.proofs.Distinct.{distinct-map, rearranged-in, rearranged-out, arranged-asc}
+use Rattle.sweeps.specs.Closure.{Gathered, Listed}
 use Rattle.keys.specs.Keys.{keyOf, codeOf, KeyOf}
 use Rattle.reach.proofs.Codes.{coded}
 use Rattle.keys.proofs.Keys.{code-key, key-parts}
 use Rattle.keys.proofs.Moves.{member}
-use Rattle.reach.proofs.Link.{pair-low}
-
--- an ascending list through a function that tells its members apart
-distinct-map : (f : ℕ → ℕ) (xs : List ℕ) → Ascending xs → ((x y : ℕ) → List·Memᴰ x xs → List·Memᴰ y xs → f x ≡ f y → x ≡ y) → Distinct (map f xs)
-distinct-map f [] a h = asc-distinct [] none
-distinct-map f (x ∷ xs) (from a) h =
-    cons-distinct (f x) (map f xs) (distinct-map f xs (above-asc a) (λ y z k l. h y z (List·Memᴰ·tail k) (List·Memᴰ·tail l)))
-    (λ m. let b = Memᴰ·of-map f xs m in let e = h (b .0) x (List·Memᴰ·tail (b .1)) (List·Memᴰ·head refl) (b .2) in omega (arith, above-in x xs a (b .0) (b .1)))
+use Rattle.steps.proofs.Codes.{pair-low}
 
 -- the numbers of R as those of another predicate
 pub gathered-as : (R Q : ℕ → Type 0) (ws xs ys : List ℕ) (m : ℕ) (full : Bool) → length xs ≡ length ws → ((y : ℕ) → R y → Q y) → ((y : ℕ) → Q y → R y) → Gathered R xs ys m full → Gathered Q ws ys m full
@@ -48,7 +40,7 @@ module _ (r : Rule) (P : Passing r) (start : Set) (xs ys : List ℕ) (m : ℕ) w
   R = Reachable (automaton r) (r .s) start
 
   code-of-key : (c : ℕ) → R c → codeOf (keyOf c) ≡ c
-  code-of-key c q = code-key c (pair-low (automaton r) c (reachable-macrostate (automaton r) (layered r P) (few-states r P) (components-there r P) (r .s) start q))
+  code-of-key c q = code-key c (pair-low (automaton r) c (reachable-macrostate (automaton r) (layered r P) (few-states r P) (components-there r P) (r .s) start q .coded))
 
   -- more macrostates than the slice has room for
   pub too-many : Gathered (KeyOf R) xs ys m true → length xs < length (macrostatesFrom r start)
@@ -64,7 +56,7 @@ module _ (r : Rule) (P : Passing r) (start : Set) (xs ys : List ℕ) (m : ℕ) w
     pub keys-low : (i : ℕ) → i < m → getD ys i 0 < 2 ^ 48
     keys-low i h =
         let s = g .sound refl (getD ys i 0) (member m ys (g .fits) i h) in
-        let p = pair-low (automaton r) (s .0) (reachable-macrostate (automaton r) (layered r P) (few-states r P) (components-there r P) (r .s) start (s .1)) in
+        let p = pair-low (automaton r) (s .0) (reachable-macrostate (automaton r) (layered r P) (few-states r P) (components-there r P) (r .s) start (s .1) .coded) in
         omega (arith, s .2, key-parts (s .0))
 
     codes-distinct : Distinct (map codeOf (take m ys))

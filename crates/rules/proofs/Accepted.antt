@@ -1,6 +1,6 @@
 -- An accepted file is its preface and the layout of its rule; the layout of a passing rule, after any preface, is accepted and read as that rule.
 use Prim.Native.Nat.{ℕ, _+_, _-_, _/_, _%_, _<_}
-use mathlib.Core.Path.{_≡_, ap, sym, _∙_}
+use mathlib.Core.Path.{_≡_, ap, sym, _∙_, refl}
 use mathlib.Core.List.{List, [], _∷_, _++_, List·Memᴰ}
 use native.Mathlib.Omega.{arith}
 use borrow.Author.Tests.{eqb-true}
@@ -9,19 +9,37 @@ use lib.Seq.{drop-cons, drop-drop, getD-drop}
 use lib.Dec.{eqb}
 use Rattle.sets.proofs.Bools.{and-l, and-r}
 use Rattle.sets.proofs.Lists.{mem-at}
-use Rattle.rules.specs.File.{trailer, tagged, clauseCount, entryCount, clausesAt, clausesOf, countsOf, ruleIn, trailerOf, bodyOf}
-use Rattle.rules.specs.Rows.{fileRow}
+use Rattle.files.specs.File.{trailer, tagged, clauseCount, entryCount, clausesAt, clausesOf, countsOf, ruleIn, trailerOf, bodyOf}
+use Rattle.files.specs.Rows.{fileRow, numberRows, listRows, trailerRows, layoutRows, componentRows, fileRows}
 use Rattle.rules.specs.Read.{unrefused, prefaceOf}
-use Rattle.rules.proofs.Parts.{clauses-length}
+use Rattle.files.proofs.Parts.{clauses-length}
 use Rattle.rules.proofs.FileRows.{accepted-placed}
+use Rattle.sets.specs.Tests.{some}
+use Rattle.sets.specs.Masks.{bit, mask}
+use Rattle.sets.specs.Lists.{anyOf, sum}
+use Rattle.sets.specs.Rows.{firstRow}
+use Rattle.theory.specs.Rule.{entry}
+use Rattle.theory.specs.Components.{named, leads, within, reaches, together, mixed}
 
--- each number is a byte
-abbrev pub Bytes : List ℕ → Type 0
-Bytes f = (x : ℕ) → List·Memᴰ x f → x < 256
+-- ---- prefaces
+
+-- 07 08 before F is the preface
+pub preface-F : prefaceOf (0x07 ∷ 0x08 ∷ 0x01 ∷ 0x00 ∷ 0x01 ∷ 0x01 ∷ 0x01 ∷ 0x02 ∷ 0x00 ∷ 0x00 ∷ 0x02 ∷ 0x00 ∷ 0x41 ∷ 0x57 ∷ []) ≡ 0x07 ∷ 0x08 ∷ []
+unfolding prefaceOf unrefused fileRow fileRows layoutRows trailerRows numberRows listRows componentRows firstRow tagged clausesOf countsOf anyOf sum mixed together reaches within leads named entry some bit mask
+preface-F = refl
+
+-- nothing of a refused file: 07 before the example of row 9
+pub preface-9 : prefaceOf (0x07 ∷ 0x01 ∷ 0x01 ∷ 0x01 ∷ 0x00 ∷ 0x00 ∷ 0x00 ∷ 0x00 ∷ 0x41 ∷ 0x57 ∷ []) ≡ []
+unfolding prefaceOf unrefused fileRow fileRows layoutRows trailerRows numberRows listRows firstRow tagged clausesOf countsOf anyOf sum
+preface-9 = refl
 
 pub preface-accepted : (f : List ℕ) → fileRow f ≡ 0 → prefaceOf f ≡ take (clausesAt f) f
 unfolding prefaceOf unrefused
 preface-accepted f e = rw e
+
+-- each number is a byte
+abbrev pub Bytes : List ℕ → Type 0
+Bytes f = (x : ℕ) → List·Memᴰ x f → x < 256
 
 -- ---- an accepted file
 

@@ -8,10 +8,10 @@ use Rattle.theory.specs.Passing.{Passing}
 use Rattle.entries.specs.Entries.{ruleOf}
 use Rattle.rules.specs.declared.Layout.{Layout}
 use Rattle.rules.specs.declared.Read.the-variants.{Accepted, Refused}
-use Rattle.rules.specs.File.{clausesOf, countsOf, clausesAt, ruleIn}
-use Rattle.rules.specs.Rows.{fileRow}
+use Rattle.files.specs.File.{clausesOf, countsOf, clausesAt, ruleIn}
+use Rattle.files.specs.Rows.{fileRow}
 use Rattle.rules.specs.Read.{layoutOf, answer, readOf, unrefused, prefaceOf}
-use Rattle.rules.proofs.Parts.{clauses-part, counts-part}
+use Rattle.files.proofs.Parts.{clauses-part, counts-part}
 use Rattle.rules.proofs.FileRows.{accepted-placed, accepted-passing}
 use Rattle.rules.proofs.Accepted.{preface-accepted}
 

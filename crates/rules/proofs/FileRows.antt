@@ -7,11 +7,11 @@ use mathlib.Core.Logic.{_↔_}
 use Rattle.sets.specs.Rows.{firstRow}
 use Rattle.sets.proofs.Rows.{FirstApplies, NoneApplies, first-row-iff, no-row-iff, numbered, numbered-rows, first-left, first-right, first-parts}
 use Rattle.theory.specs.Passing.{WellFormed, Passing}
-use Rattle.rules.specs.File.{headOf, trailer, ruleIn, clausesOf, countsOf}
-use Rattle.rules.specs.Rows.{numberRows, trailerRows, listRows, layoutRows, componentRows, fileRows, fileRow}
-use Rattle.rules.proofs.TrailerRows.{Placed, placed, trailer-numbered, trailer-numbers}
-use Rattle.rules.proofs.Parts.{counts-length}
-use Rattle.rules.proofs.Formed.{formed, passing}
+use Rattle.files.specs.File.{headOf, trailer, ruleIn, clausesOf, countsOf}
+use Rattle.files.specs.Rows.{numberRows, trailerRows, listRows, layoutRows, componentRows, fileRows, fileRow}
+use Rattle.files.proofs.TrailerRows.{Placed, placed, trailer-numbered, trailer-numbers}
+use Rattle.files.proofs.Parts.{counts-length}
+use Rattle.files.proofs.Formed.{formed, passing}
 
 pub layout-numbered : (f : List ℕ) → numbered (layoutRows f) ≡ true
 unfolding numbered layoutRows trailerRows numberRows listRows

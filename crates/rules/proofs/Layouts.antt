@@ -9,11 +9,11 @@ use lib.Seq.{take-at, drop-at}
 use Rattle.sets.specs.Rows.{firstRow}
 use Rattle.theory.specs.Rule.{Rule}
 use Rattle.theory.specs.Passing.{WellFormed, Passing}
-use Rattle.rules.specs.File.{trailer, tagged, headOf, clauseCount, entryCount, clausesAt, clausesOf, countsOf, ruleIn, trailerOf, bodyOf}
-use Rattle.rules.specs.Rows.{layoutRows, trailerRows, fileRow}
+use Rattle.files.specs.File.{trailer, tagged, headOf, clauseCount, entryCount, clausesAt, clausesOf, countsOf, ruleIn, trailerOf, bodyOf}
+use Rattle.files.specs.Rows.{layoutRows, trailerRows, fileRow}
 use Rattle.rules.specs.Read.{prefaceOf}
-use Rattle.rules.proofs.TrailerRows.{pass-7, rows-lists}
-use Rattle.rules.proofs.Formed.{formed-numbers, formed-lists, passing-components}
+use Rattle.files.proofs.TrailerRows.{pass-7, rows-lists}
+use Rattle.files.proofs.Formed.{formed-numbers, formed-lists, passing-components}
 use Rattle.rules.proofs.FileRows.{rows-components}
 use Rattle.rules.proofs.Accepted.{preface-accepted}
 use Rattle.rules.proofs.Prefaces.{trailer-after, accepted-after}

@@ -1,9 +1,3 @@
-pub mod Examples
-pub mod Numbers
-pub mod ListRows
-pub mod TrailerRows
-pub mod Parts
-pub mod Formed
 pub mod FileRows
 pub mod Accepted
 pub mod Answer

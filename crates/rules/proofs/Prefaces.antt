@@ -14,10 +14,10 @@ use Rattle.sets.proofs.Bools.{bif}
 use Rattle.sets.specs.Rows.{Check, firstRow}
 use Rattle.sets.proofs.Rows.{first-left, first-right}
 use Rattle.theory.specs.Rule.{Rule}
-use Rattle.rules.specs.File.{trailer, tagged, headOf, clauseCount, entryCount, clausesAt, clausesOf, countsOf, ruleIn}
-use Rattle.rules.specs.Rows.{numberRows, trailerRows, layoutRows, fileRows, fileRow}
+use Rattle.files.specs.File.{trailer, tagged, headOf, clauseCount, entryCount, clausesAt, clausesOf, countsOf, ruleIn}
+use Rattle.files.specs.Rows.{numberRows, trailerRows, layoutRows, fileRows, fileRow}
 use Rattle.rules.specs.Read.{prefaceOf}
-use Rattle.rules.proofs.TrailerRows.{row-1, row-2, row-numbers, row-7, rows-trailer}
+use Rattle.files.proofs.TrailerRows.{row-1, row-2, row-numbers, row-7, rows-trailer}
 use Rattle.rules.proofs.FileRows.{file-numbered, accepted-placed, rows-layout}
 use Rattle.rules.proofs.Accepted.{preface-accepted}
 

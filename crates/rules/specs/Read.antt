@@ -5,8 +5,8 @@ use lib.ListN.{take}
 use Rattle.rules.specs.declared.Layout.{Layout}
 use Rattle.rules.specs.declared.Read.{Read}
 use Rattle.rules.specs.declared.Read.the-variants.{Accepted, Refused}
-use Rattle.rules.specs.File.{headOf, clauseCount, clausesAt}
-use Rattle.rules.specs.Rows.{fileRow}
+use Rattle.files.specs.File.{headOf, clauseCount, clausesAt}
+use Rattle.files.specs.Rows.{fileRow}
 
 -- the numbers of a file, where its first clause stands, and how many clauses it has
 abbrev pub layoutOf : List ℕ → Layout

@@ -1,20 +1,19 @@
-// The rule file: its reader, which tries rows 1 to 11, and its preface.
+// The reader of rule files, which tries rows 1 to 11, and the preface.
+use checks::lists_row;
 use entries::Head;
+use trailers::read_count;
+use trailers::read_head;
+use trailers::trailer_row;
 ghost use mathlib.Core.Path.{_≡_};
-ghost use Prim.Native.Nat.{_+_, _-_, _<_, _≤_};
+ghost use Prim.Native.Nat.{_+_, _-_, _≤_};
 ghost use lib.ListN.{length};
-ghost use lib.Dec.{leb};
-ghost use Rattle.sets.specs.Lists.{anyOf, sum};
 ghost use Rattle.sets.specs.Rows.{firstRow};
 ghost use Rattle.theory.specs.Passing.{WellFormed};
 ghost use Rattle.entries.specs.Entries.{ruleOf};
-ghost use Rattle.rules.specs.File.{trailer, tagged, headOf, clauseCount, entryCount, countsOf, clausesOf};
-ghost use Rattle.rules.specs.Rows.{numberRows, listRows, trailerRows, layoutRows, componentRows, fileRow};
+ghost use Rattle.files.specs.File.{clauseCount, entryCount, countsOf, clausesOf};
+ghost use Rattle.files.specs.Rows.{layoutRows, componentRows, fileRow};
 ghost use Rattle.rules.specs.declared.Read.the-variants.{Accepted};
 ghost use Rattle.rules.specs.Read.{layoutOf, readOf, prefaceOf};
-
-// The last two bytes of every rule file.
-pub const TAG: [u8; 2] = [0x41, 0x57];
 
 // Where a file's rule stands: its numbers, the place of its first clause, and how many clauses it has.
 pub struct Layout {
@@ -27,121 +26,6 @@ pub struct Layout {
 pub enum Read {
     Accepted(Layout),
     Refused(u8),
-}
-
-// Whether some byte is k or more.
-fn any_from(xs: &[u8], k: usize) -> bool
-    ensures { λ r. ⌜ r ≡ anyOf (now (xs .entry)) (leb k) ⌝ }
-{
-    let mut i = 0;
-    while i < xs.len() {
-        if k <= xs[i] as usize {
-            return true;
-        }
-        i += 1;
-    }
-    false
-}
-
-// The sum of the bytes.
-fn total(xs: &[u8]) -> usize
-    requires { ⌜ length (now xs) ≤ 128 ⌝ }
-    ensures { λ r. ⌜ r ≡ sum (now (xs .entry)) ⌝ }
-{
-    let mut t: usize = 0;
-    let mut i = 0;
-    while i < xs.len() {
-        t += xs[i] as usize;
-        i += 1;
-    }
-    t
-}
-
-// Byte i of the trailer.
-fn trailer_byte(f: &[u8], i: usize) -> u8
-    requires { ⌜ (8 ≤ length (now f)) × (i < 8) ⌝ }
-    ensures { λ r. ⌜ r ≡ trailer (now (f .entry)) i ⌝ }
-{
-    f[f.len() - 8 + i]
-}
-
-// Whether the last two bytes are the tag.
-fn tag_ends(f: &[u8]) -> bool
-    requires { ⌜ 8 ≤ length (now f) ⌝ }
-    ensures { λ r. ⌜ r ≡ tagged (now (f .entry)) ⌝ }
-{
-    if trailer_byte(f, 6) != TAG[0] {
-        return false;
-    }
-    trailer_byte(f, 7) == TAG[1]
-}
-
-// The numbers of the trailer, but for the number of clauses.
-fn read_head(f: &[u8]) -> Head
-    requires { ⌜ 8 ≤ length (now f) ⌝ }
-    ensures { λ r. ⌜ r ≡ headOf (now (f .entry)) ⌝ }
-{
-    Head {
-        n: trailer_byte(f, 0) as usize,
-        s: trailer_byte(f, 1) as usize,
-        initial: trailer_byte(f, 2) as usize,
-        accepting: trailer_byte(f, 3) as usize,
-    }
-}
-
-// The number of clauses that the trailer says, low byte first.
-fn read_count(f: &[u8]) -> usize
-    requires { ⌜ 8 ≤ length (now f) ⌝ }
-    ensures { λ r. ⌜ (r ≡ clauseCount (now (f .entry))) × (r < 65536) ⌝ }
-{
-    trailer_byte(f, 4) as usize + 256 * (trailer_byte(f, 5) as usize)
-}
-
-// The first of rows 3 to 6 that refuses a rule's numbers, or 0.
-pub fn numbers_row(h: Head) -> u8
-    ensures { λ r. ⌜ r ≡ firstRow (numberRows h) ⌝ }
-{
-    let n = h.n;
-    let s = h.s;
-    let initial = h.initial;
-    let accepting = h.accepting;
-    if n < 1 {
-        return 3;
-    }
-    if 8 < n {
-        return 3;
-    }
-    if s < 1 {
-        return 4;
-    }
-    if 16 < s {
-        return 4;
-    }
-    let states = 1usize << n;
-    if n <= initial {
-        return 5;
-    }
-    if states <= accepting {
-        return 6;
-    }
-    0
-}
-
-// The first of rows 8 to 10 that refuses a rule's counts and clauses, or 0.
-pub fn lists_row(n: usize, counts: &[u8], clauses: &[u8]) -> u8
-    requires { ⌜ (n ≤ 8) × (length (now counts) ≤ 128) ⌝ }
-    ensures { λ r. ⌜ r ≡ firstRow (listRows n (now (counts .entry)) (now (clauses .entry))) ⌝ }
-{
-    if any_from(counts, 9) {
-        return 8;
-    }
-    if total(counts) != clauses.len() {
-        return 9;
-    }
-    if any_from(clauses, 1usize << n) {
-        return 10;
-    }
-    0
 }
 
 // Where the parts of a file stand that has room for them.
@@ -159,30 +43,6 @@ fn lay_out(f: &[u8]) -> Layout
         at: at,
         clauses: clauses,
     }
-}
-
-// The first of rows 1 to 7 that refuses a file's trailer, or 0.
-fn trailer_row(f: &[u8]) -> u8
-    ensures { λ r. ⌜ r ≡ firstRow (trailerRows (now (f .entry))) ⌝ }
-{
-    if f.len() < 8 {
-        return 1;
-    }
-    if !tag_ends(f) {
-        return 2;
-    }
-    let h = read_head(f);
-    let first = numbers_row(h);
-    if first != 0 {
-        return first;
-    }
-    let c = read_count(f);
-    let n = h.n;
-    let s = h.s;
-    if f.len() - 8 < c + n * s {
-        return 7;
-    }
-    0
 }
 
 // The first of rows 1 to 10 that refuses a file, or 0.

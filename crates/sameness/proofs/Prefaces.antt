@@ -5,8 +5,8 @@ use mathlib.Core.List.{List, _++_}
 use mathlib.Core.Logic.{by-cases}
 use native.Mathlib.Decide.{ℕ-discrete}
 use Rattle.theory.specs.Rule.{Rule}
-use Rattle.rules.specs.File.{ruleIn}
-use Rattle.rules.specs.Rows.{fileRow}
+use Rattle.files.specs.File.{ruleIn}
+use Rattle.files.specs.Rows.{fileRow}
 use Rattle.rules.proofs.Prefaces.{preface-no-effect, accepted-after}
 use Rattle.sameness.specs.declared.SameRules.{SameRules}
 use Rattle.sameness.specs.Same.{sameRules, verdict, answer, sameFiles, sameRulesOf}

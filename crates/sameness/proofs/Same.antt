@@ -20,8 +20,8 @@ use Rattle.entries.specs.declared.Head.{Head}
 use Rattle.entries.specs.Entries.{ruleOf}
 use Rattle.rules.specs.declared.Layout.{Layout}
 use Rattle.rules.specs.declared.Read.the-variants.{Accepted}
-use Rattle.rules.specs.File.{countsOf, clausesOf, ruleIn}
-use Rattle.rules.specs.Rows.{fileRow}
+use Rattle.files.specs.File.{countsOf, clausesOf, ruleIn}
+use Rattle.files.specs.Rows.{fileRow}
 use Rattle.rules.specs.Read.{readOf}
 use Rattle.rules.proofs.Answer.{served}
 use Rattle.sameness.specs.declared.SameRules.the-variants.{Different, Refused}

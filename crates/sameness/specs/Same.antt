@@ -6,8 +6,8 @@ use lib.Dec.{eqb}
 use Rattle.sets.specs.Tests.{every}
 use Rattle.sets.specs.Masks.{bit}
 use Rattle.theory.specs.Rule.{Rule, entry, satisfies}
-use Rattle.rules.specs.File.{ruleIn}
-use Rattle.rules.specs.Rows.{fileRow}
+use Rattle.files.specs.File.{ruleIn}
+use Rattle.files.specs.Rows.{fileRow}
 use Rattle.sameness.specs.declared.SameRules.{SameRules}
 use Rattle.sameness.specs.declared.SameRules.the-variants.{Same, Different, Refused}
 

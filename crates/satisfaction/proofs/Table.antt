@@ -20,7 +20,7 @@ use Rattle.theory.specs.Rule.{Rule, entry, satisfies}
 use Rattle.theory.specs.Passing.{WellFormed}
 use Rattle.theory.specs.Automaton.{Automaton, automaton}
 use Rattle.theory.specs.Core.{isOpen}
-use Rattle.theory.proofs.Satisfies.{satisfies-ext}
+use Rattle.laws.proofs.Satisfies.{satisfies-ext}
 use Rattle.satisfaction.specs.Opens.{setFrom, openBefore, Opens}
 
 -- ---- one state more

@@ -1,7 +1,7 @@
 -- Laws of Booleans.
-use mathlib.Core.Path.{_≡_, refl, sym, _∙_}
+use mathlib.Core.Path.{_≡_, refl, sym, _∙_, ap}
 use mathlib.Core.Logic.{_⊎_, inl, inr}
-use mathlib.Core.Bool.{Bool, true, false, _&&_, _||_, not, true≢false, false≢true, or-true}
+use mathlib.Core.Bool.{Bool, true, false, _&&_, _||_, not, Bool·beq, true≢false, false≢true, or-true}
 use Rattle.sets.specs.Masks.{xor}
 
 -- a test either way, with its equation
@@ -64,6 +64,18 @@ or-r a b p = rw (p, or-true a)
 -- two tests that imply each other are equal
 pub iff : (a b : Bool) → (a ≡ true → b ≡ true) → (b ≡ true → a ≡ true) → a ≡ b
 iff a b f g = bif a (λ t. t ∙ sym (f t)) (λ t. bif b (λ v. clash (g v) t) (λ v. t ∙ sym v))
+
+-- ---- the test for equality
+
+pub beq-true : (a b : Bool) → Bool·beq a b ≡ true → a ≡ b
+beq-true true true e = refl
+beq-true true false e = absurd (false≢true e)
+beq-true false true e = absurd (false≢true e)
+beq-true false false e = refl
+
+pub beq-same : (a b : Bool) → a ≡ b → Bool·beq a b ≡ true
+beq-same true b e = ap (Bool·beq true) (sym e)
+beq-same false b e = ap (Bool·beq false) (sym e)
 
 -- ---- exactly one of the two
 

@@ -14,7 +14,7 @@ use borrow.Author.Tests.{eqb-true, lt-ltb, le-ltb, eq-eqb, ne-eqb}
 use Rattle.sets.specs.Lists.{among, Above, more, Ascending, from}
 use Rattle.sets.proofs.Bools.{iff}
 use Rattle.sets.proofs.Lists.{among-in, among-out, place-of, mem-at, among-no}
-use Rattle.sets.proofs.Ascending.{above-asc, above-at, asc-at}
+use Rattle.sets.proofs.Ascending.{above-asc, above-at, asc-at, asc-take-at}
 use Rattle.sorted.specs.Places.{below}
 
 -- ---- the number of members below x
@@ -101,18 +101,15 @@ module _ (xs : List ℕ) (n x : ℕ) (fits : n ≤ length xs) (asc : Ascending (
   long : length (take n xs) ≡ n
   long = length-take-le n xs fits
 
-  rises : (p q : ℕ) → p < q → q < n → getD xs p 0 < getD xs q 0
-  rises p q h k = omega (arith, asc-at (take n xs) asc p q h (omega (arith, long)), getD-take n xs p 0 (omega arith), getD-take n xs q 0 k)
-
   -- what one comparison settles
   pub go-up : (m : ℕ) → m < n → getD xs m 0 < x → (k : ℕ) → k < m + 1 → getD xs k 0 < x
   go-up m h l k b =
       let k≤m : k ≤ m = omega arith in
-      ⊎-elim (λ (e : k ≡ m). rw e l) (λ (p : k < m). omega (arith, rises k m p h)) (eq-or-lt-of-le k≤m)
+      ⊎-elim (λ (e : k ≡ m). rw e l) (λ (p : k < m). omega (arith, asc-take-at xs n fits asc k m p h)) (eq-or-lt-of-le k≤m)
 
   pub go-down : (m : ℕ) → x ≤ getD xs m 0 → (k : ℕ) → m ≤ k → k < n → x ≤ getD xs k 0
   go-down m l k b t =
-      ⊎-elim (λ (e : m ≡ k). rw (← e) l) (λ (p : m < k). omega (arith, rises m k p t)) (eq-or-lt-of-le b)
+      ⊎-elim (λ (e : m ≡ k). rw (← e) l) (λ (p : m < k). omega (arith, asc-take-at xs n fits asc m k p t)) (eq-or-lt-of-le b)
 
   -- the place of x in the slice
   pub placed : (p : ℕ) → p ≤ n → ((k : ℕ) → k < p → getD xs k 0 < x) → ((k : ℕ) → p ≤ k → k < n → x ≤ getD xs k 0) → p ≡ below x (take n xs)

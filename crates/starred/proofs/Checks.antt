@@ -11,7 +11,7 @@ use borrow.Author.Tests.{eqb-true, leb-true}
 use Rattle.sets.specs.Masks.{bit}
 use Rattle.sets.specs.Lists.{Ascending}
 use Rattle.sets.proofs.Bits.{bit-below}
-use Rattle.sets.proofs.Bools.{and-l, and-r}
+use Rattle.sets.proofs.Bools.{and-l, and-r, beq-true}
 use Rattle.theory.specs.Rule.{Rule}
 use Rattle.theory.specs.Passing.{Passing}
 use Rattle.theory.specs.Automaton.{automaton}
@@ -20,11 +20,11 @@ use Rattle.theory.specs.Plan.{AcceptsFrom, AcceptsWord}
 use Rattle.theory.specs.Macrostate.{holdsInitial, isInitial, isAccepting, Reachable}
 use Rattle.theory.specs.Table.{macrostates, transitions, Transition}
 use Rattle.theory.specs.Truth.{truthMasks}
-use Rattle.theory.proofs.Tables.{reachable-iff, macrostates-ascending, transitions-ascending, transition-iff}
-use Rattle.theory.proofs.Truth.{truth-length, truth-lt, truth-accepts}
-use Rattle.theory.proofs.Demand.{demand3}
-use Rattle.rules.specs.File.{ruleIn}
-use Rattle.rules.specs.Rows.{fileRow}
+use Rattle.laws.proofs.Tables.{reachable-iff, macrostates-ascending, transitions-ascending, transition-iff}
+use Rattle.laws.proofs.Truth.{truth-length, truth-lt, truth-accepts}
+use Rattle.laws.proofs.Demand.{demand3}
+use Rattle.files.specs.File.{ruleIn}
+use Rattle.files.specs.Rows.{fileRow}
 use Rattle.rules.proofs.FileRows.{accepted-passing}
 use Rattle.words.specs.Words.{wordRow, sameLetters}
 use Rattle.words.proofs.Checks.{word-over}
@@ -84,12 +84,6 @@ casePasses c = eqb (fileRow (c .file)) 0 && passes (ruleIn (c .file)) (c .expect
 
 -- ---- they give the claim
 
-beq-equal : (a b : Bool) → Bool·beq a b ≡ true → a ≡ b
-beq-equal true true e = refl
-beq-equal true false e = absurd (false≢true e)
-beq-equal false true e = absurd (false≢true e)
-beq-equal false false e = refl
-
 said : (b : Bool) {A : Type 0} → (b ≡ true) ↔ A → Said b A
 said true h = h .0 refl
 said false h = λ a. false≢true (h .1 a)
@@ -132,8 +126,8 @@ module _ (r : Rule) (P : Passing r) where
         moves-counted = eqb-true _ _ (test 3);
         codes-ascend = L .codes-ascend;
         codes-reachable = L .codes-reachable;
-        initial-marked = λ l m. beq-equal (l .initial) (isInitial r (l .code)) (and-l (Bool·beq (l .initial) (isInitial r (l .code))) (Bool·beq (l .accepting) (isAccepting (l .code))) (marked r lines (test 4) l m));
-        accepting-marked = λ l m. beq-equal (l .accepting) (isAccepting (l .code)) (and-r (Bool·beq (l .initial) (isInitial r (l .code))) (Bool·beq (l .accepting) (isAccepting (l .code))) (marked r lines (test 4) l m));
+        initial-marked = λ l m. beq-true (l .initial) (isInitial r (l .code)) (and-l (Bool·beq (l .initial) (isInitial r (l .code))) (Bool·beq (l .accepting) (isAccepting (l .code))) (marked r lines (test 4) l m));
+        accepting-marked = λ l m. beq-true (l .accepting) (isAccepting (l .code)) (and-r (Bool·beq (l .initial) (isInitial r (l .code))) (Bool·beq (l .accepting) (isAccepting (l .code))) (marked r lines (test 4) l m));
         moves-ascend = L .moves-ascend;
         moves-there = L .moves-there;
       }
@@ -151,7 +145,7 @@ module _ (r : Rule) (P : Passing r) where
       let W = word-over (r .s) lead cycle word in
       let there = W .repeats in
       let m : truthMasks r lead cycle ≡ masks = letters-equal _ _ (test 1) in
-      let y : accepted ≡ bit (getD masks 0 0) (r .initial) = beq-equal _ _ (test 2) in
+      let y : accepted ≡ bit (getD masks 0 0) (r .initial) = beq-true _ _ (test 2) in
       let s : (bit (getD masks 0 0) (r .initial) ≡ true) ↔ AcceptsWord r lead cycle = rw m at (truth-accepts r P lead cycle there 0 (r .initial) (omega arith) (P .formed .initial-state)) in
       record {
         word-served = word;

@@ -15,7 +15,7 @@ use Rattle.sets.specs.Lists.{anyOf}
 use Rattle.sets.proofs.Bools.{and-l, and-r}
 use Rattle.sets.proofs.Lists.{any-out}
 use Rattle.sets.proofs.Tests.{every-at, some-get}
-use Rattle.theory.specs.Word.{places, nextPlace, letterAt, place, letters}
+use Rattle.theory.specs.Word.{nextPlace, letterAt, place, letters}
 use Rattle.theory.specs.Macrostate.{begun, isAccepting}
 use Rattle.theory.specs.Run.{sourceOf, letterOf, targetOf, Leads, AcceptingRun}
 use Rattle.starred.specs.Claim.{through}

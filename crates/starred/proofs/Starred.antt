@@ -21,8 +21,8 @@ use Rattle.theory.specs.Rule.{entry, satisfies}
 use Rattle.theory.specs.Table.{reachedIn, reached, digitals, candidates, cores, codesFrom, transitionsOf, macrostatesFrom, transitionsFrom, macrostates, transitions}
 use Rattle.theory.specs.Truth.{heightOf, layer, roundsAt, solvedBelow, truthMasks}
 use Rattle.theory.specs.Word.{nextPlace, letterAt, place}
-use Rattle.rules.specs.File.{tagged, clausesOf, countsOf}
-use Rattle.rules.specs.Rows.{numberRows, listRows, trailerRows, layoutRows, componentRows, fileRows, fileRow}
+use Rattle.files.specs.File.{tagged, clausesOf, countsOf}
+use Rattle.files.specs.Rows.{numberRows, listRows, trailerRows, layoutRows, componentRows, fileRows, fileRow}
 use Rattle.words.specs.Words.{lengthRows, letterRows, wordRows, wordRow, sameLetters}
 use Rattle.starred.specs.Files.{F, D, E, I, Z}
 use Rattle.starred.specs.Claim.{Case, codesOf, Claim}

@@ -14,8 +14,8 @@ use Rattle.theory.specs.Plan.{AcceptsFrom, AcceptsWord}
 use Rattle.theory.specs.Macrostate.{holdsInitial, isInitial, isAccepting, Reachable}
 use Rattle.theory.specs.Table.{macrostates, transitions, Transition}
 use Rattle.theory.specs.Run.{AcceptingRun}
-use Rattle.rules.specs.File.{ruleIn}
-use Rattle.rules.specs.Rows.{fileRow}
+use Rattle.files.specs.File.{ruleIn}
+use Rattle.files.specs.Rows.{fileRow}
 use Rattle.words.specs.Words.{wordRow}
 
 -- ---- what a case gives

@@ -19,10 +19,10 @@ use Rattle.theory.specs.Automaton.{Automaton}
 use Rattle.theory.specs.Core.{Core, levelOf, rankOf, openOf, nextComponent}
 use Rattle.theory.specs.Code.{fields, pack, setIn, rankIn, componentIn, classesIn, wellCoded}
 use Rattle.theory.specs.Macrostate.{before, onward, goes}
-use Rattle.theory.proofs.Classes.{rank-max}
-use Rattle.theory.proofs.Cores.{next-low}
-use Rattle.theory.proofs.Goes.{rank-small, set-trim, rank-trim, before-set, before-rank, is-before, turn-component, turn-classes, stay-component, stay-classes, is-turned, is-stayed, goes-before, goes-onward, is-goes, component-small, classes-small}
-use Rattle.theory.proofs.Packing as packing
+use Rattle.laws.proofs.Classes.{rank-max}
+use Rattle.laws.proofs.Cores.{next-low}
+use Rattle.laws.proofs.Goes.{rank-small, set-trim, rank-trim, before-set, before-rank, is-before, turn-component, turn-classes, stay-component, stay-classes, is-turned, is-stayed, goes-before, goes-onward, is-goes, component-small, classes-small}
+use Rattle.laws.proofs.Packing as packing
 use Rattle.cores.specs.Vectors.{rankAt}
 use Rattle.cores.specs.Parts.{Parts, setOf, vectorOf}
 use Rattle.cores.proofs.Cores.{vector-set-all, vector-rank-all}
@@ -51,6 +51,10 @@ module _ (A : Automaton) where
   unfolding earlierRank
   earlier-rank-low few a v q = bif (ltb q (A .n)) (λ t. rw t (let h = rank-max A (earlierSet A a v) (earlierLevel A a v) q in omega arith)) (λ t. rw t (omega arith))
 
+  pub earlier-set-beyond : (a v q : ℕ) → A .n ≤ q → earlierSet A a v q ≡ false
+  unfolding earlierSet
+  earlier-set-beyond a v q l = ap (λ (b : Bool). b && satisfies (A .n) (setOf A v) (A .entry q a)) (le-ltb q (A .n) l)
+
   earlier-rank-beyond : (a v q : ℕ) → A .n ≤ q → earlierRank A a v q ≡ 0
   unfolding earlierRank
   earlier-rank-beyond a v q l = ap (λ (b : Bool). cond b (rankOf A (earlierSet A a v) (earlierLevel A a v) q) 0) (le-ltb q (A .n) l)
@@ -74,6 +78,16 @@ module _ (A : Automaton) where
 
     pub pair-in : c / 2 ^ 40 ≡ componentIn c + 16 * classesIn c
     pair-in = let u = unpacked in let s = small in omega arith
+
+    pub pair-component : c / 2 ^ 40 % 16 ≡ componentIn c
+    pair-component = let p = pair-in in let h = component-small c in omega arith
+
+    pub pair-classes : c / 2 ^ 40 / 16 ≡ classesIn c
+    pair-classes = let p = pair-in in let h = component-small c in omega arith
+
+    -- the pair has 8 bits
+    pub pair-low : c / 2 ^ 40 < 256
+    pair-low = let e = pair-in in let h = component-small c in let k = classes-small c in omega arith
 
 module _ (A : Automaton) (parts : List ℕ) (P : Parts A parts) (c a d : ℕ) (wc : wellCoded A c ≡ true) (known : componentIn c < A .components) (wd : wellCoded A d ≡ true) (C : Core A (setIn A d) (rankIn A d)) where
   -- the vector of d's ranks
@@ -102,16 +116,9 @@ module _ (A : Automaton) (parts : List ℕ) (P : Parts A parts) (c a d : ℕ) (w
   unfolding earlierSet
   set-at q l = ap₂ (λ (b : Bool) (T : Set). b && satisfies (A .n) T (A .entry q a)) (lt-ltb q (A .n) l) same-set
 
-  set-beyond : (q : ℕ) → A .n ≤ q → earlierSet A a v q ≡ false
-  unfolding earlierSet
-  set-beyond q l = ap (λ (b : Bool). b && satisfies (A .n) (setOf A v) (A .entry q a)) (le-ltb q (A .n) l)
-
   rank-at : (q : ℕ) → q < A .n → earlierRank A a v q ≡ rankOf A (earlierSet A a v) levels q
   unfolding earlierRank
   rank-at q l = ap₂ (λ (b : Bool) (f : ℕ → ℕ). cond b (rankOf A (earlierSet A a v) f q) 0) (lt-ltb q (A .n) l) same-level
-
-  rank-beyond : (q : ℕ) → A .n ≤ q → earlierRank A a v q ≡ 0
-  rank-beyond q l = earlier-rank-beyond A a v q l
 
   rank-sixteen : (q : ℕ) → earlierRank A a v q < 16
   rank-sixteen q = earlier-rank-low A (P .few-states) a v q
@@ -120,12 +127,12 @@ module _ (A : Automaton) (parts : List ℕ) (P : Parts A parts) (c a d : ℕ) (w
 
   module _ (t : before A c a d ≡ true) where
     set-of-before : setIn A c ≡ earlierSet A a v
-    set-of-before = fun-ext (λ q. by-cases (decLt q (A .n)) (λ l. before-set A c a d t q l ∙ sym (set-at q l)) (λ l. set-trim A c q (omega arith) ∙ sym (set-beyond q (omega arith))))
+    set-of-before = fun-ext (λ q. by-cases (decLt q (A .n)) (λ l. before-set A c a d t q l ∙ sym (set-at q l)) (λ l. set-trim A c q (omega arith) ∙ sym (earlier-set-beyond A a v q (omega arith))))
 
     rank-of-before : rankIn A c ≡ earlierRank A a v
     rank-of-before = fun-ext (λ q. by-cases (decLt q (A .n))
         (λ l. before-rank A c a d t q l ∙ ap (λ (S : Set). rankOf A S levels q) set-of-before ∙ sym (rank-at q l))
-        (λ l. rank-trim A c q (omega arith) ∙ sym (rank-beyond q (omega arith))))
+        (λ l. rank-trim A c q (omega arith) ∙ sym (earlier-rank-beyond A a v q (omega arith))))
 
   before-in : before A c a d ≡ true → c % 2 ^ 40 ≡ backOf A a v
   unfolding backOf
@@ -134,13 +141,13 @@ module _ (A : Automaton) (parts : List ℕ) (P : Parts A parts) (c a d : ℕ) (w
   module _ (e : c % 2 ^ 40 ≡ backOf A a v) where
     repacked : c ≡ pack (earlierSet A a v) (earlierRank A a v) (componentIn c) (classesIn c)
     unfolding backOf
-    repacked = let p = pair-in A c wc in let k = pack-key A (earlierSet A a v) (earlierRank A a v) (componentIn c) (classesIn c) rank-beyond in omega (arith, e)
+    repacked = let p = pair-in A c wc in let k = pack-key A (earlierSet A a v) (earlierRank A a v) (componentIn c) (classesIn c) (earlier-rank-beyond A a v) in omega (arith, e)
 
     set-of-back : setIn A c ≡ earlierSet A a v
-    set-of-back = ap (setIn A) repacked ∙ packing.set-is A (P .few-states) (earlierSet A a v) (earlierRank A a v) (componentIn c) (classesIn c) set-beyond rank-beyond rank-sixteen (component-small c) (classes-small c)
+    set-of-back = ap (setIn A) repacked ∙ packing.set-is A (P .few-states) (earlierSet A a v) (earlierRank A a v) (componentIn c) (classesIn c) (earlier-set-beyond A a v) (earlier-rank-beyond A a v) rank-sixteen (component-small c) (classes-small c)
 
     rank-of-back : rankIn A c ≡ earlierRank A a v
-    rank-of-back = ap (rankIn A) repacked ∙ packing.rank-is A (P .few-states) (earlierSet A a v) (earlierRank A a v) (componentIn c) (classesIn c) set-beyond rank-beyond rank-sixteen (component-small c) (classes-small c)
+    rank-of-back = ap (rankIn A) repacked ∙ packing.rank-is A (P .few-states) (earlierSet A a v) (earlierRank A a v) (componentIn c) (classesIn c) (earlier-set-beyond A a v) (earlier-rank-beyond A a v) rank-sixteen (component-small c) (classes-small c)
 
     before-out : before A c a d ≡ true
     before-out = is-before A c a d
@@ -163,19 +170,13 @@ module _ (A : Automaton) (parts : List ℕ) (P : Parts A parts) (c a d : ℕ) (w
   abbrev pair : ℕ
   pair = c / 2 ^ 40
 
-  pair-component : pair % 16 ≡ componentIn c
-  pair-component = let p = pair-in A c wc in let h = component-small c in omega arith
-
-  pair-classes : pair / 16 ≡ classesIn c
-  pair-classes = let p = pair-in A c wc in let h = component-small c in omega arith
-
   onto-turn : classesIn c ≡ 0 → ontoOf A a v pair ≡ nextComponent A (componentIn c) + 16 * allClasses A a v (nextComponent A (componentIn c))
   unfolding ontoOf
-  onto-turn z = rw (pair-component, eq-eqb (pair / 16) 0 (pair-classes ∙ z))
+  onto-turn z = rw (pair-component A c wc, eq-eqb (pair / 16) 0 (pair-classes A c wc ∙ z))
 
   onto-stay : (classesIn c ≡ 0 → ⊥) → ontoOf A a v pair ≡ componentIn c + 16 * levelLeft A a v (componentIn c) (classesIn c)
   unfolding ontoOf
-  onto-stay z = rw (pair-component, pair-classes, ne-eqb (classesIn c) 0 z)
+  onto-stay z = rw (pair-component A c wc, pair-classes A c wc, ne-eqb (classesIn c) 0 z)
 
   module _ (S : setIn A c ≡ earlierSet A a v) (r : rankIn A c ≡ earlierRank A a v) where
     onward-in : onward A c a d ≡ true → d / 2 ^ 40 ≡ ontoOf A a v pair

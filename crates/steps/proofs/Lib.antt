@@ -3,6 +3,5 @@ pub mod Classes
 pub mod Component
 pub mod Sum
 pub mod Theory
-pub mod Pairs
 pub mod Tables
 pub mod Codes

@@ -3,14 +3,14 @@ use mathlib.Core.Path.{_≡_, refl, ap, ap₂, sym, _∙_}
 use mathlib.Core.Logic.{by-cases}
 use mathlib.Core.Bool.{Bool, true, false, _&&_, cond, and-true}
 use mathlib.Core.List.{List}
-use Prim.Native.Nat.{ℕ, _+_, _*_, _/_, _%_, _^_, _≤_, _<_}
+use Prim.Native.Nat.{ℕ, _+_, _*_, _/_, _%_, _^_, _<_}
 use native.Mathlib.Omega.{arith}
 use native.Mathlib.Decide.{decLt, ℕ-discrete}
 use lib.Dec.{eqb, leb, ltb}
 use lib.ListN.{getD}
 use lib.Bits.{bitXor, xor-lt}
 use lib.Pow.{pow-mono}
-use borrow.Author.Tests.{eq-eqb, ne-eqb, lt-ltb, le-ltb, ltb-true, le-leb}
+use borrow.Author.Tests.{eq-eqb, ne-eqb, lt-ltb, ltb-true, le-leb}
 use Rattle.sets.specs.Tests.{every, largest}
 use Rattle.sets.specs.Masks.{bit, mask, xor}
 use Rattle.sets.specs.Digits.{num}
@@ -22,8 +22,8 @@ use Rattle.sets.proofs.Digits.{num-ext, digit-num, pow16}
 use Rattle.theory.specs.Rule.{satisfies}
 use Rattle.theory.specs.Automaton.{Automaton, Layered}
 use Rattle.theory.specs.Core.{Earlier, isOpen, rankOf, openOf, nextComponent}
-use Rattle.theory.proofs.Satisfies.{satisfies-ext}
-use Rattle.theory.proofs.Cores.{open-ext, earlier-of}
+use Rattle.laws.proofs.Satisfies.{satisfies-ext}
+use Rattle.laws.proofs.Cores.{open-ext, earlier-of}
 use Rattle.cores.specs.Vectors.{rankAt, Within}
 use Rattle.cores.specs.Used.{classCount, gapless, capsOf}
 use Rattle.cores.specs.Parts.{Parts, setOf, vectorOf}
@@ -31,11 +31,12 @@ use Rattle.cores.proofs.Sums.{sum-ext, sum-ranks}
 use Rattle.cores.proofs.Gaps.{rank-low}
 use Rattle.cores.proofs.Cores.{open-rank, part-state, part-none, rank-eight, only-cores, classes-largest}
 use Rattle.steps.specs.Step.{goal, level, class, levelDigits, Rising, Back, ranksIn}
-use Rattle.steps.specs.Onward.{nextIn, onwardIn}
+use Rattle.pairs.specs.Onward.{nextIn, onwardIn}
 use Rattle.satisfaction.specs.Opens.{setFrom, openBefore, Opens}
 use Rattle.steps.specs.Earlier.{earlierSet, earlierLevel, earlierRank, backOf, levelLeft, allClasses, ontoOf}
+use Rattle.steps.proofs.Codes.{earlier-set-beyond}
 use Rattle.steps.proofs.Component.{level-low}
-use Rattle.steps.proofs.Pairs.{next-lt, onward-turn, onward-stay}
+use Rattle.pairs.proofs.Pairs.{next-lt, onward-turn, onward-stay}
 use Rattle.steps.proofs.Theory.{Masks, rises, ranks-are, left-is}
 
 xor-off : (a b : Bool) → xor (xor a b) a ≡ b
@@ -124,10 +125,6 @@ module _ (A : Automaton) (H : Layered A) (s : ℕ) (opens parts : List ℕ) (P :
   unfolding openBefore
   entry-small = rw entry-before (mask-lt (A .n) (isOpen A (λ q. satisfies (A .n) (setFrom A opened) (A .entry q a))))
 
-  earlier-beyond : (q : ℕ) → A .n ≤ q → earlierSet A a v q ≡ false
-  unfolding earlierSet
-  earlier-beyond q l = ap (λ (b : Bool). b && satisfies (A .n) (setOf A v) (A .entry q a)) (le-ltb q (A .n) l)
-
   -- accepting is the mask of the accepting states
   module _ (accepting : ℕ) (fits : accepting < 2 ^ A .n) (same : (q : ℕ) → q < A .n → bit accepting q ≡ A .accepting q) where
     below-256 : (m : ℕ) → m < 2 ^ A .n → m < 256
@@ -139,7 +136,7 @@ module _ (A : Automaton) (H : Layered A) (s : ℕ) (opens parts : List ℕ) (P :
     set-is = mask-unique 8 (bitXor (getD opens (a * 256 + opened) 0) accepting) (earlierSet A a v) (xor-lt 8 (getD opens (a * 256 + opened) 0) accepting (below-256 _ entry-small) (below-256 _ fits))
         (λ q k. bit-xor (getD opens (a * 256 + opened) 0) accepting q ∙ by-cases (decLt q (A .n))
         (λ l. ap₂ xor (open-is q l) (same q l) ∙ xor-off (A .accepting q) (earlierSet A a v q))
-        (λ l. ap₂ xor (bit-high (A .n) (getD opens (a * 256 + opened) 0) q entry-small (omega arith)) (bit-high (A .n) accepting q fits (omega arith)) ∙ sym (earlier-beyond q (omega arith))))
+        (λ l. ap₂ xor (bit-high (A .n) (getD opens (a * 256 + opened) 0) q entry-small (omega arith)) (bit-high (A .n) accepting q fits (omega arith)) ∙ sym (earlier-set-beyond A a v q (omega arith))))
 
   -- ---- what step_back leaves
 

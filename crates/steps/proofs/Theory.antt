@@ -1,7 +1,7 @@
 -- The step back on masks is the step back of the theory.
 use mathlib.Core.Path.{_≡_, refl, ap, ap₂, sym, _∙_}
 use mathlib.Core.Logic.{by-cases}
-use mathlib.Core.Bool.{Bool, true, false, _&&_, _||_, not, cond, Bool·not-not}
+use mathlib.Core.Bool.{Bool, true, false, _&&_, _||_, not, cond, and-true, Bool·not-not}
 use mathlib.Core.List.{List}
 use Prim.Native.Nat.{ℕ, suc, _+_, _*_, _≤_, _<_}
 use native.Mathlib.Omega.{arith}
@@ -17,11 +17,11 @@ use Rattle.sets.specs.Digits.{num}
 use Rattle.theory.specs.Automaton.{Automaton}
 use Rattle.theory.specs.Core.{isOpen, mix, rejectingSettled, acceptingSettled, settled, test, levelOf, taken, rankOf, openOf}
 use Rattle.sets.proofs.Bools.{bif, clash, and-l, and-r, and-i, xor-twice}
-use Rattle.theory.proofs.Satisfies.{satisfies-ext}
+use Rattle.laws.proofs.Satisfies.{satisfies-ext}
 use Rattle.sets.proofs.Tests.{some-ext, some-trim, count-ext, first-ext, largest-ext, largest-trim, largest-values}
 use Rattle.sets.proofs.Masks.{bit-mask}
 use Rattle.sets.proofs.Bits.{bit-and, bit-or, bit-xor, bit-ext}
-use Rattle.theory.proofs.Ranks.{settled-mono}
+use Rattle.laws.proofs.Ranks.{settled-mono}
 use Rattle.sets.proofs.Digits.{num-ext}
 use Rattle.steps.specs.Step.{goal, upto, level, Rising, valued, class, rankDigits}
 use Rattle.satisfaction.specs.Opens.{setFrom, openBefore}
@@ -36,10 +36,6 @@ arg-bit false true true = refl
 arg-bit false true false = refl
 arg-bit false false true = refl
 arg-bit false false false = refl
-
-and-true : (b : Bool) → b && true ≡ b
-and-true true = refl
-and-true false = refl
 
 and-none : (b c : Bool) → c ≡ false → b && c ≡ false
 and-none true c e = e

@@ -1,11 +1,3 @@
-pub mod Endless
-pub mod Cycles
-pub mod Solution
-pub mod LeadIns
-pub mod Entering
-pub mod Flagging
-pub mod Parts
 pub mod Rows
 pub mod Answers
-pub mod Joined
 pub mod Prefaces

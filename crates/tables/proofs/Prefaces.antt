@@ -1,6 +1,6 @@
 -- A preface has no effect on what the judge on a table answers and leaves.
 use Prim.Native.Nat.{ℕ, zero, suc}
-use mathlib.Core.Path.{_≡_, refl, sym, _∙_}
+use mathlib.Core.Path.{_≡_, refl, _∙_}
 use mathlib.Core.List.{List, _++_}
 use mathlib.Core.Logic.{_↔_, by-cases}
 use native.Mathlib.Decide.{ℕ-discrete}
@@ -8,12 +8,14 @@ use lib.ListN.{length}
 use Rattle.sets.proofs.Rows.{first-left}
 use Rattle.theory.specs.Rule.{Rule}
 use Rattle.theory.specs.Macrostate.{holdsInitial}
-use Rattle.rules.specs.File.{ruleIn}
-use Rattle.rules.specs.Rows.{fileRow, fileRows}
+use Rattle.files.specs.File.{ruleIn}
+use Rattle.files.specs.Rows.{fileRow, fileRows}
 use Rattle.rules.proofs.Prefaces.{accepted-after, first-after}
 use Rattle.lent.specs.Lent.{Lent}
-use Rattle.tables.specs.declared.Start.{Start}
-use Rattle.tables.specs.Tables.{callRows, judgeTableRow, Begins, Answered, scratchAfter, JudgedTable}
+use Rattle.calls.specs.declared.Start.{Start}
+use Rattle.calls.specs.Calls.{callRows, Answered}
+use Rattle.tables.specs.Tables.{judgeTableRow, JudgedTable}
+use Rattle.starts.specs.Starts.{Begins}
 
 -- where a row refuses, it does not matter where runs begin
 refused-alike : (k : ℕ) (b c : ℕ → Type 0) (a : Start) → (k ≡ 0 → ⊥) → Answered k b a → Answered k c a

@@ -5,10 +5,10 @@ ghost use mathlib.Core.Path.{_≡_};
 ghost use mathlib.Core.List.{_++_};
 ghost use Prim.Native.Nat.{_≤_, _<_};
 ghost use lib.ListN.{length, drop};
-ghost use Rattle.rules.specs.File.{ruleIn};
-ghost use Rattle.rules.specs.Rows.{fileRow};
+ghost use Rattle.files.specs.File.{ruleIn};
+ghost use Rattle.files.specs.Rows.{fileRow};
 ghost use Rattle.digits.specs.Put.{Put};
-ghost use Rattle.text.specs.Listing.{listingOf};
+ghost use Rattle.listings.specs.Listing.{listingOf};
 
 // No listing is longer: line one of 15 bytes, 512 m lines of 26 and 4,096 t lines of 13.
 pub const LONGEST: usize = 66575;
@@ -37,11 +37,11 @@ fn put_listing(out: &mut [u8], file: &[u8]) -> usize
     let mut list = [0u64; 512];
     let mut transitions = [0u64; 4096];
     match build::build(file, &mut list, &mut transitions) {
-        Built::Refused(row) => lines::put_refused(out, row),
+        Built::Refused(row) => printing::put_refused(out, row),
         Built::Table(counts) => {
             let m = counts.macrostates;
             let t = counts.transitions;
-            lines::put_table(out, initial_of(file), &list[..m], &transitions[..t])
+            printing::put_table(out, initial_of(file), &list[..m], &transitions[..t])
         }
     }
 }

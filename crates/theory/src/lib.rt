@@ -1,1 +1,1 @@
-// Alternating weak Büchi automata and the preorder construction: definitions and theorems, no code.
+// Alternating weak Büchi automata and the preorder construction: the definitions and what they give for the examples, no code.

@@ -9,9 +9,9 @@ use native.Mathlib.Nat.{suc-mul, zero-mul, mul-le-mul-right}
 use native.Mathlib.Decide.{ℕ-discrete}
 use lib.Arith.{digits-lt, digits-div}
 use lib.ListN.{length}
-use borrow.Author.Tests.{eq-eqb, ne-eqb}
 use Rattle.theory.specs.Run.{sourceOf, targetOf}
 use Rattle.theory.specs.Word.{nextPlace, letterAt}
+use Rattle.laws.proofs.Places.{next-place-last, next-place-other, next-place-low}
 use Rattle.walks.specs.Walks.{Edge, Fits}
 use Rattle.walks.specs.Marks.{markedAt, isNewAt, markedBelow, isNewBelow, isDue, marked, isNew, markedOver, isNewOver, markedAll, isNewAll}
 use Rattle.walks.specs.Rounds.{Marking}
@@ -62,27 +62,13 @@ same-place n p q s l a b =
     let e : p * n + r ≡ q * n + s = omega arith in
     sym (digits-div q {m = n} {r = s} l) ∙ ap (λ (k : ℕ). k / n) (sym e) ∙ digits-div p {m = n} {r = r} (omega arith)
 
--- the place that follows
+-- the first node of the place that follows
 module _ (cycle : List ℕ) (p : ℕ) where
-  next-last : p + 1 ≡ length cycle → nextPlace [] cycle p ≡ 0
-  unfolding nextPlace
-  next-last e = let t : suc p ≡ 0 + length cycle = omega arith in rw (eq-eqb (suc p) (0 + length cycle) t)
-
-  next-other : (p + 1 ≡ length cycle → ⊥) → nextPlace [] cycle p ≡ suc p
-  unfolding nextPlace
-  next-other n = let t : suc p ≡ 0 + length cycle → ⊥ = λ e. n (omega arith) in rw (ne-eqb (suc p) (0 + length cycle) t)
-
   pub there-last : (n : ℕ) → p + 1 ≡ length cycle → nextPlace [] cycle p * n ≡ 0
-  there-last n e = rw (next-last e) (zero-mul n)
+  there-last n e = rw (next-place-last [] cycle p (omega arith)) (zero-mul n)
 
   pub there-other : (n : ℕ) → (p + 1 ≡ length cycle → ⊥) → nextPlace [] cycle p * n ≡ p * n + n
-  there-other n e = rw (next-other e) (suc-mul p n)
-
-  pub next-lt : p < length cycle → nextPlace [] cycle p < length cycle
-  next-lt l =
-      by-cases (ℕ-discrete (p + 1) (length cycle))
-      (λ e. let x = next-last e in omega arith)
-      (λ e. let x = next-other e in omega arith)
+  there-other n e = rw (next-place-other [] cycle p (λ x. e (omega arith))) (suc-mul p n)
 
 -- ---- marks fit a table
 
@@ -95,7 +81,7 @@ module _ (n : ℕ) (cycle ts : List ℕ) where
       → (p * n + sourceOf t < length ms) × (nextPlace [] cycle p * n + targetOf t < length ms)
   ends-fit ms p f l t m = (
     rw (f .marked) (digits-lt {q = p} {m = length cycle} {c = n} l (f .sources t m)),
-    rw (f .marked) (digits-lt {q = nextPlace [] cycle p} {m = length cycle} {c = n} (next-lt cycle p l) (f .targets t m)),
+    rw (f .marked) (digits-lt {q = nextPlace [] cycle p} {m = length cycle} {c = n} (let k = next-place-low [] cycle (f .repeats) p (omega arith) in omega arith) (f .targets t m)),
   )
 
 -- ---- marking place by place

@@ -10,8 +10,8 @@ use lib.ListN.{length}
 use borrow.Author.Tests.{eqb-true, eqb-false, eq-eqb, ne-eqb, ltb-false, lt-ltb, le-ltb, leb-false, lt-leb}
 use Rattle.sets.specs.Lists.{anyOf}
 use Rattle.sets.specs.Rows.{Check, firstRow}
-use Rattle.sets.proofs.Bools.{bif, clash, or-fl, or-fr, or-l, or-r}
-use Rattle.sets.proofs.Lists.{any-in, any-out}
+use Rattle.sets.proofs.Bools.{bif, or-fl, or-fr, or-l, or-r}
+use Rattle.sets.proofs.Lists.{any-none, none-any}
 use Rattle.sets.proofs.Rows.{row-yes, row-no, numbered, first-left, first-right}
 use Rattle.theory.specs.Word.{WordOver}
 use Rattle.words.specs.Words.{lengthRows, letterRows, lengthRow, wordRows, wordRow}
@@ -99,13 +99,10 @@ module _ (s : ℕ) (lead cycle : List ℕ) where
   no-word-row e t v = after e ∙ rw (t, v)
 
   all-below : (xs : List ℕ) → anyOf xs (λ a. leb s a) ≡ false → (a : ℕ) → List·Memᴰ a xs → a < s
-  all-below xs e a m = bif (leb s a) (λ t. clash (any-in xs (λ b. leb s b) a m t) e) (λ t. leb-false s a t)
+  all-below xs e a m = leb-false s a (any-none xs (λ b. leb s b) a e m)
 
   none-over : (xs : List ℕ) → ((a : ℕ) → List·Memᴰ a xs → a < s) → anyOf xs (λ a. leb s a) ≡ false
-  none-over xs h =
-      bif (anyOf xs (λ a. leb s a))
-      (λ t. let r = any-out xs (λ a. leb s a) t in clash (r .2) (lt-leb s (r .0) (h (r .0) (r .1))))
-      (λ t. t)
+  none-over xs h = none-any xs (λ a. leb s a) (λ a m. lt-leb s a (h a m))
 
   -- a word that passes rows 12 to 14
   pub record PassingWord : Type 0 where

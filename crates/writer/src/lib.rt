@@ -1,66 +1,17 @@
 // The writer of rule files.
 use entries::Head;
-use rules::TAG;
+use layout::fill;
+use written::Written;
 ghost use mathlib.Core.Path.{_≡_};
-ghost use Prim.Native.Nat.{_+_, _≤_, _<_};
 ghost use lib.ListN.{length};
-ghost use lib.Seq.{paste};
 ghost use Rattle.sets.specs.Rows.{firstRow};
-ghost use Rattle.writer.specs.Written.{headFrom, ruleRows, fileOf, writtenOf, after, sliceAfter, InBytes};
-
-// The answer of the writer: the length of the file that it wrote, or the number of the first row that refuses.
-pub enum Written {
-    Length(usize),
-    Refused(u8),
-}
-
-// Copies src to place at of dst.
-fn put(dst: &mut [u8], at: usize, src: &[u8])
-    requires { ⌜ at + length (now src) ≤ length (now dst) ⌝ }
-    ensures { λ _. ⌜ now (dst .exit) ≡ paste (now (dst .entry)) at (now (src .entry)) (length (now (src .entry))) ⌝ }
-{
-    let mut i = 0;
-    while i < src.len() {
-        dst[at + i] = src[i];
-        i += 1;
-    }
-}
-
-// A number below 256 as a byte.
-fn low(x: usize) -> u8
-    requires { ⌜ x < 256 ⌝ }
-    ensures { λ r. ⌜ r ≡ x ⌝ }
-{
-    x as u8
-}
-
-// Writes the file of a rule to the start of out.
-fn fill(h: Head, counts: &[u8], clauses: &[u8], out: &mut [u8])
-    requires { ⌜ InBytes h (length (now clauses)) × (length (now clauses) + length (now counts) + 8 ≤ length (now out)) ⌝ }
-    ensures { λ _. ⌜ now (out .exit) ≡ after 0 (fileOf h (now (counts .entry)) (now (clauses .entry))) (now (out .entry)) ⌝ }
-{
-    let c = clauses.len();
-    let tail = [
-        low(h.n),
-        low(h.s),
-        low(h.initial),
-        low(h.accepting),
-        low(c % 256),
-        low(c / 256),
-        TAG[0],
-        TAG[1],
-    ];
-    let end = c + counts.len();
-    put(out, 0, clauses);
-    put(out, c, counts);
-    put(out, end, &tail);
-}
+ghost use Rattle.written.specs.Written.{headFrom, ruleRows, writtenOf, sliceAfter};
 
 // The first of rows 3 to 11 that refuses a rule, or 0.
 fn rule_row(h: Head, counts: &[u8], clauses: &[u8]) -> u8
     ensures { λ r. ⌜ r ≡ firstRow (ruleRows h (now (counts .entry)) (now (clauses .entry))) ⌝ }
 {
-    let first = rules::numbers_row(h);
+    let first = checks::numbers_row(h);
     if first != 0 {
         return first;
     }
@@ -69,7 +20,7 @@ fn rule_row(h: Head, counts: &[u8], clauses: &[u8]) -> u8
     if counts.len() != n * s {
         return 7;
     }
-    let second = rules::lists_row(n, counts, clauses);
+    let second = checks::lists_row(n, counts, clauses);
     if second != 0 {
         return second;
     }

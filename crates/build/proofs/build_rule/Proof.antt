@@ -2,7 +2,7 @@
 use native.Mathlib.Omega.{arith}
 use Rattle.entries.specs.Entries.{ruleOf}
 use Rattle.entries.proofs.Entries.{accepting-small}
-use Rattle.build.proofs.Ready.{tables-of}
+use Rattle.lists.proofs.Ready.{tables-of}
 use borrow.Author.Needs.{needs}
 use Rattle.build.proofs.build_rule.Statement.{statement}
 use Rattle.build.proofs.build_rule.Tie as tie

@@ -8,7 +8,7 @@ use native.Mathlib.Omega.{arith}
 use borrow.Author.Needs.{needs}
 use Rattle.sets.specs.Tests.{some}
 use Rattle.entries.specs.Entries.{ruleOf}
-use Rattle.components.specs.Tables.{closuresOf}
+use Rattle.closures.specs.Tables.{closuresOf}
 use Rattle.components.proofs.Mixed.{classBy, bothBy, both-next, both-here, mixed-by}
 use Rattle.components.proofs.is_mixed.Statement.{statement}
 use Rattle.components.proofs.is_mixed.Tie as tie

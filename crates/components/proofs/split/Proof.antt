@@ -10,8 +10,8 @@ use Rattle.sets.specs.Tests.{count as countOf}
 use Rattle.sets.specs.Masks.{mask}
 use Rattle.theory.specs.Components.{component, isSmallest}
 use Rattle.entries.specs.Entries.{ruleOf}
-use Rattle.components.specs.Tables.{closuresOf, table as tableOf}
-use Rattle.components.proofs.Tables.{table-none}
+use Rattle.closures.specs.Tables.{closuresOf, table as tableOf}
+use Rattle.closures.proofs.Tables.{table-none}
 use Rattle.components.proofs.Mixed.{classBy}
 use Rattle.components.proofs.Numbered.{Found, turn-taken, turn-passed, count-few, laid-out}
 use Rattle.components.proofs.split.Statement.{statement}

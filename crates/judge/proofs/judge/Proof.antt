@@ -3,7 +3,7 @@ use mathlib.Core.Path.{_≡_, sym, _∙_}
 use Rattle.rules.specs.declared.Read.the-variants.{Accepted}
 use Rattle.rules.specs.Read.{readOf}
 use Rattle.rules.proofs.Answer.{served, lent-rule, lent-passing, turned-away}
-use Rattle.judge.proofs.Meaning.{judged-refused, judged-called}
+use Rattle.judged.proofs.Meaning.{judged-refused, judged-called}
 use borrow.Author.Needs.{needs}
 use Rattle.judge.proofs.judge.Statement.{statement}
 use Rattle.judge.proofs.judge.Tie as tie

@@ -4,12 +4,12 @@ use mathlib.Core.Bool.{Bool, true, false}
 use native.Mathlib.Omega.{arith}
 use lib.ListN.{length, getD, length-append}
 use Rattle.sets.specs.Masks.{bit}
-use Rattle.theory.proofs.Truth.{truth-length}
+use Rattle.laws.proofs.Truth.{truth-length}
 use Rattle.entries.specs.Entries.{ruleOf}
 use Rattle.words.proofs.Checks.{word-over}
-use Rattle.judge.specs.Judge.{Called, verdict}
-use Rattle.judge.proofs.Rows.{word-refuses, slice-refuses, call-served}
-use Rattle.judge.proofs.Meaning.{called-refused, called-served}
+use Rattle.judged.specs.Judge.{Called, verdict}
+use Rattle.judged.proofs.Rows.{word-refuses, slice-refuses, call-served}
+use Rattle.judged.proofs.Meaning.{called-refused, called-served}
 use borrow.Author.Needs.{needs}
 use Rattle.judge.proofs.judge_read.Statement.{statement}
 use Rattle.judge.proofs.judge_read.Tie as tie

@@ -4,11 +4,6 @@ use Rattle.mulgreddi.specs.Answers.{startAnswer}
 use borrow.Author.Needs.{needs}
 use Rattle.mulgreddi.proofs.mulgreddi_judge_table.Statement.{statement}
 use Rattle.mulgreddi.proofs.mulgreddi_judge_table.Tie as tie
-use Rattle.mulgreddi.proofs.mulgreddi_judge_table.Reads as reads
-use Rattle.mulgreddi.proofs.mulgreddi_judge_table.Lts as lts
-use Rattle.mulgreddi.proofs.refused.Reads as refused-reads
-use Rattle.mulgreddi.proofs.served.Reads as served-reads
-use Rattle.tables.proofs.judge_table_bytes.Reads as judge-table-bytes-reads
 
 judge-table-bytes-requires : tie.Need-judge-table-bytes-requires
 judge-table-bytes-requires c κs = search needs

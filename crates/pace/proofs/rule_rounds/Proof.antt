@@ -3,7 +3,7 @@ use mathlib.Core.Bool.{true}
 use native.Mathlib.Omega.{arith}
 use Rattle.entries.specs.Entries.{ruleOf}
 use Rattle.entries.proofs.Entries.{accepting-small}
-use Rattle.build.proofs.Ready.{tables-of}
+use Rattle.lists.proofs.Ready.{tables-of}
 use borrow.Author.Needs.{needs}
 use Rattle.pace.proofs.rule_rounds.Statement.{statement}
 use Rattle.pace.proofs.rule_rounds.Tie as tie

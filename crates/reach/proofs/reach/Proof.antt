@@ -2,11 +2,11 @@ use Prim.Native.Nat.{ℕ}
 use mathlib.Core.List.{List·Memᴰ}
 use lib.ListN.{take}
 use borrow.Author.Needs.{needs}
-use Rattle.reach.specs.Closure.{Reached}
+use Rattle.sweeps.specs.Closure.{Reached}
 use Rattle.keys.specs.Keys.{KeyOf, First}
 use Rattle.keys.proofs.Starting.{few}
-use Rattle.reach.proofs.Closing.{first-out, first-into, first-parted, first-full}
-use Rattle.reach.proofs.Link.{edge, reachable, first-paired, first-reachable, reached-in, reached-out}
+use Rattle.sweeps.proofs.Closing.{first-out, first-into, first-parted, first-full}
+use Rattle.sweeps.proofs.Link.{edge, reachable, first-paired, first-reachable, reached-in, reached-out}
 use Rattle.reach.proofs.Listing.{gathered-as}
 use Rattle.reach.proofs.reach.Statement.{statement}
 use Rattle.reach.proofs.reach.Tie as tie

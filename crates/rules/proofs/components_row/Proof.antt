@@ -2,7 +2,7 @@
 use mathlib.Core.Path.{sym, _∙_}
 use borrow.Author.Needs.{needs}
 use Rattle.entries.specs.Entries.{ruleOf}
-use Rattle.rules.proofs.Formed.{row-11, pass-11}
+use Rattle.files.proofs.Formed.{row-11, pass-11}
 use Rattle.rules.proofs.components_row.Statement.{statement}
 use Rattle.rules.proofs.components_row.Tie as tie
 

@@ -5,10 +5,10 @@ use native.Mathlib.Omega.{arith}
 use borrow.Author.Needs.{needs}
 use lib.ListN.{length}
 use Rattle.sets.specs.Rows.{firstRow}
-use Rattle.rules.specs.File.{ruleIn}
-use Rattle.rules.specs.Rows.{layoutRows, componentRows}
-use Rattle.rules.proofs.Parts.{clauses-part, counts-part}
-use Rattle.rules.proofs.TrailerRows.{Placed, placed}
+use Rattle.files.specs.File.{ruleIn}
+use Rattle.files.specs.Rows.{layoutRows, componentRows}
+use Rattle.files.proofs.Parts.{clauses-part, counts-part}
+use Rattle.files.proofs.TrailerRows.{Placed, placed}
 use Rattle.rules.proofs.FileRows.{laid, laid-formed, rows-layout, rows-components}
 use Rattle.rules.proofs.file_row.Statement.{statement}
 use Rattle.rules.proofs.file_row.Tie as tie

@@ -5,10 +5,10 @@ use native.Mathlib.Omega.{arith}
 use borrow.Author.Needs.{needs}
 use lib.ListN.{length}
 use Rattle.sets.specs.Rows.{firstRow}
-use Rattle.rules.specs.File.{trailer, clausesOf, countsOf}
-use Rattle.rules.specs.Rows.{trailerRows, listRows}
-use Rattle.rules.proofs.Parts.{clauses-part, counts-part, counts-length}
-use Rattle.rules.proofs.TrailerRows.{Placed, placed, rows-trailer, rows-lists}
+use Rattle.files.specs.File.{trailer, clausesOf, countsOf}
+use Rattle.files.specs.Rows.{trailerRows, listRows}
+use Rattle.files.proofs.Parts.{clauses-part, counts-part, counts-length}
+use Rattle.files.proofs.TrailerRows.{Placed, placed, rows-trailer, rows-lists}
 use Rattle.rules.proofs.layout_row.Statement.{statement}
 use Rattle.rules.proofs.layout_row.Tie as tie
 

@@ -1,7 +1,7 @@
 -- `rules::read_rule` meets its contract.
 use mathlib.Core.Path.{_≡_, sym, _∙_}
 use borrow.Author.Needs.{needs}
-use Rattle.rules.specs.Rows.{fileRow}
+use Rattle.files.specs.Rows.{fileRow}
 use Rattle.rules.proofs.FileRows.{accepted-placed}
 use Rattle.rules.proofs.Answer.{refused, accepted}
 use Rattle.rules.proofs.read_rule.Statement.{statement}

@@ -4,7 +4,7 @@ use mathlib.Core.Path.{_≡_, sym, _∙_, ap}
 use native.Mathlib.Omega.{arith}
 use borrow.Author.Needs.{needs}
 use Rattle.rules.specs.declared.Layout.{Layout}
-use Rattle.rules.specs.File.{trailer}
+use Rattle.files.specs.File.{trailer}
 use Rattle.rules.proofs.Answer.{Served, served, turned-away}
 use Rattle.text.proofs.initial_of.Statement.{statement}
 use Rattle.text.proofs.initial_of.Tie as tie

@@ -1,7 +1,7 @@
 -- `text::listing` meets its contract: the slice has room for every listing.
 use native.Mathlib.Omega.{arith}
 use Rattle.digits.proofs.Puts.{put-first, put-length}
-use Rattle.text.proofs.Room.{listing-most}
+use Rattle.listings.proofs.Room.{listing-most}
 use Rattle.text.proofs.listing.Statement.{statement}
 use Rattle.text.proofs.listing.Tie as tie
 

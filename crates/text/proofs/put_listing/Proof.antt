@@ -8,8 +8,8 @@ use lib.Seq.{length-take-le}
 use Rattle.build.specs.declared.Built.the-variants.{Table}
 use Rattle.build.specs.Built.{builtOf}
 use Rattle.lines.specs.Lines.{initialAt, refusedLine, tableText}
-use Rattle.text.specs.Listing.{listingOf}
-use Rattle.text.proofs.Listed.{long-text, refused-text, codes-fit, moves-fit, table-text}
+use Rattle.listings.specs.Listing.{listingOf}
+use Rattle.listings.proofs.Listed.{long-text, refused-text, codes-fit, moves-fit, table-text}
 use Rattle.digits.proofs.Puts.{put-as}
 use Rattle.text.proofs.put_listing.Statement.{statement}
 use Rattle.text.proofs.put_listing.Tie as tie

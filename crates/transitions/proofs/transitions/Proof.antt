@@ -2,8 +2,8 @@
 use native.Mathlib.Omega.{arith}
 use mathlib.Core.Path.{_≡_, _∙_}
 use Rattle.sorting.specs.Order.{ArrangedFirst}
-use Rattle.transitions.proofs.Turning.{turnedTo}
-use Rattle.transitions.proofs.Moves.{overfull, moves-low, filled}
+use Rattle.moves.proofs.Turning.{turnedTo}
+use Rattle.moves.proofs.Moves.{overfull, moves-low, filled}
 use borrow.Author.Needs.{needs}
 use Rattle.transitions.proofs.transitions.Statement.{statement}
 use Rattle.transitions.proofs.transitions.Tie as tie

@@ -5,7 +5,7 @@ use native.Mathlib.Omega.{arith}
 use mathlib.Core.List.{List}
 use lib.ListN.{length, getD}
 use borrow.Author.Needs.{needs, scaled-fits}
-use Rattle.transitions.proofs.Turning.{turnedTo, length-turned, turned-next, turned-write, parts-low}
+use Rattle.moves.proofs.Turning.{turnedTo, length-turned, turned-next, turned-write, parts-low}
 use Rattle.transitions.proofs.turn_around.Statement.{statement}
 use Rattle.transitions.proofs.turn_around.Tie as tie
 

@@ -1,6 +1,6 @@
 -- `truth::fill` meets its contract: the cycle's part of the slice is filled, then the lead-in's.
 use native.Mathlib.Nat.{zero-add}
-use Rattle.theory.proofs.Truth.{truth-length}
+use Rattle.laws.proofs.Truth.{truth-length}
 use Prim.Native.Nat.{ℕ, _+_}
 use mathlib.Core.Path.{_≡_, ap, _∙_}
 use mathlib.Core.List.{List, [], _++_, List·Memᴰ·not-nil}
@@ -9,8 +9,8 @@ use lib.ListN.{length, drop}
 use Rattle.sets.proofs.Lists.{mem-at}
 use Rattle.entries.specs.Entries.{ruleOf}
 use Rattle.entries.proofs.Entries.{entries-few}
-use Rattle.truth.specs.Starts.{backOver}
-use Rattle.truth.proofs.Back.{back-truth, part-length, mid-length, mid-drop}
+use Rattle.openings.specs.Starts.{backOver}
+use Rattle.openings.proofs.Back.{back-truth, part-length, mid-length, mid-drop}
 use borrow.Author.Needs.{needs}
 use Rattle.truth.proofs.fill.Statement.{statement}
 use Rattle.truth.proofs.fill.Tie as tie

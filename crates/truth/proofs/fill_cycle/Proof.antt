@@ -7,9 +7,9 @@ use lib.ListN.{length, replicate}
 use Rattle.sets.proofs.Masks.{mask-lt}
 use Rattle.entries.specs.Entries.{ruleOf}
 use Rattle.entries.proofs.Entries.{accepting-small}
-use Rattle.truth.specs.Rounds.{Part}
-use Rattle.truth.proofs.Heights.{layer-is}
-use Rattle.truth.proofs.Rounds.{part-start, part-end}
+use Rattle.openings.specs.Rounds.{Part}
+use Rattle.openings.proofs.Heights.{layer-is}
+use Rattle.openings.proofs.Rounds.{part-start, part-end}
 use Rattle.truth.proofs.fill_cycle.Statement.{statement}
 use Rattle.truth.proofs.fill_cycle.Tie as tie
 

@@ -7,8 +7,8 @@ use native.Mathlib.Omega.{arith}
 use lib.ListN.{length, getD, drop, length-set}
 use Rattle.masks.specs.Sets.{fullOf}
 use Rattle.entries.specs.Entries.{ruleOf}
-use Rattle.truth.specs.Starts.{metBy, backOver}
-use Rattle.truth.proofs.Back.{met-all, full-lt, back-next, back-start}
+use Rattle.openings.specs.Starts.{metBy, backOver}
+use Rattle.openings.proofs.Back.{met-all, full-lt, back-next, back-start}
 use Rattle.truth.proofs.fill_lead.Statement.{statement}
 use Rattle.truth.proofs.fill_lead.Tie as tie
 

@@ -3,13 +3,13 @@ use Prim.Native.Nat.{ℕ, _+_, _-_, _<_, _≤_}
 use mathlib.Core.Path.{_≡_, sym, _∙_}
 use mathlib.Core.Bool.{true, false, not}
 use lib.Dec.{eqb}
-use Rattle.truth.specs.Rounds.{opened}
+use Rattle.openings.specs.Rounds.{opened}
 use native.Mathlib.Omega.{arith}
 use lib.ListN.{length, getD}
 use borrow.Author.Tests.{eqb-true, eqb-false}
 use Rattle.sets.proofs.Bools.{not-t, not-f}
 use Rattle.entries.specs.Entries.{ruleOf}
-use Rattle.truth.proofs.Rounds.{Walk, walk-start, walk-changed, walk-same, walk-end}
+use Rattle.openings.proofs.Rounds.{Walk, walk-start, walk-changed, walk-same, walk-end}
 use Rattle.truth.proofs.round.Statement.{statement}
 use Rattle.truth.proofs.round.Tie as tie
 

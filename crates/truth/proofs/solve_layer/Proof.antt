@@ -4,8 +4,8 @@ use mathlib.Core.Path.{refl, sym, ap, _∙_}
 use native.Mathlib.Omega.{arith}
 use lib.ListN.{length}
 use Rattle.entries.specs.Entries.{ruleOf}
-use Rattle.truth.specs.Rounds.{opened, extent}
-use Rattle.truth.proofs.Rounds.{Rounds, rounds-on, extent-le, part-done}
+use Rattle.openings.specs.Rounds.{opened, extent}
+use Rattle.openings.proofs.Rounds.{Rounds, rounds-on, extent-le, part-done}
 use Rattle.truth.proofs.solve_layer.Statement.{statement}
 use Rattle.truth.proofs.solve_layer.Tie as tie
 

@@ -5,10 +5,10 @@ use native.Mathlib.Omega.{arith}
 use borrow.Author.Needs.{needs}
 use lib.ListN.{length}
 use Rattle.sets.specs.Rows.{firstRow}
-use Rattle.rules.specs.Rows.{numberRows, listRows}
-use Rattle.rules.proofs.Numbers.{ranges}
-use Rattle.rules.proofs.Formed.{formed}
-use Rattle.writer.proofs.Laws.{by-numbers, by-entries, by-lists, by-components}
+use Rattle.files.specs.Rows.{numberRows, listRows}
+use Rattle.files.proofs.Numbers.{ranges}
+use Rattle.files.proofs.Formed.{formed}
+use Rattle.written.proofs.Laws.{by-numbers, by-entries, by-lists, by-components}
 use Rattle.writer.proofs.rule_row.Statement.{statement}
 use Rattle.writer.proofs.rule_row.Tie as tie
 

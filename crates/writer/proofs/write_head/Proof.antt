@@ -5,8 +5,8 @@ use native.Mathlib.Omega.{arith}
 use borrow.Author.Needs.{needs}
 use lib.ListN.{length}
 use Rattle.sets.specs.Rows.{firstRow}
-use Rattle.writer.specs.Written.{ruleRows}
-use Rattle.writer.proofs.Laws.{by-rule, by-room, done, few-counts, in-bytes}
+use Rattle.written.specs.Written.{ruleRows}
+use Rattle.written.proofs.Laws.{by-rule, by-room, done, few-counts, in-bytes}
 use Rattle.writer.proofs.write_head.Statement.{statement}
 use Rattle.writer.proofs.write_head.Tie as tie
 

@@ -1,0 +1,60 @@
+// The keys of the macrostates of one core where a run may begin.
+use insertion::Grow;
+use keys::Shape;
+ghost use mathlib.Core.Path.{_≡_};
+ghost use mathlib.Core.Bool.{not, cond};
+ghost use Prim.Native.Nat.{_<_};
+ghost use lib.Dec.{ltb};
+ghost use Rattle.sets.specs.Masks.{bit, xor};
+ghost use Rattle.theory.specs.Rule.{Rule};
+ghost use Rattle.cores.specs.Vectors.{rankAt, Within};
+ghost use Rattle.cores.specs.Used.{capsOf};
+ghost use Rattle.keys.specs.Growth.{Parted, Added};
+ghost use Rattle.keys.specs.Keys.{StartsAt};
+ghost use Rattle.keys.specs.Tables.{Shaped};
+
+// Whether the set of the core of these ranks holds state q.
+fn in_set(ranks: u64, accepting: u8, q: usize) -> bool
+    requires { ⌜ q < 8 ⌝ }
+    ensures { λ b. ⌜ b ≡ xor (bit accepting q) (ltb 0 (rankAt ranks q)) ⌝ }
+{
+    let accepts = masks::contains(accepting, q as u32);
+    if 0 < (ranks >> (4 * q)) & 15 {
+        return !accepts;
+    }
+    accepts
+}
+
+// Whether the start condition lets a run begin in the core of these ranks.
+fn begins(ranks: u64, shape: Shape) -> bool
+    requires { ⌜ shape .initial < 8 ⌝ }
+    ensures { λ b. ⌜ b ≡ cond (shape .holds) (xor (bit (shape .accepting) (shape .initial)) (ltb 0 (rankAt ranks (shape .initial)))) (not (xor (bit (shape .accepting) (shape .initial)) (ltb 0 (rankAt ranks (shape .initial))))) ⌝ }
+{
+    let here = in_set(ranks, shape.accepting, shape.initial);
+    if shape.holds {
+        return here;
+    }
+    !here
+}
+
+// Adds the key with K 0 and k 0 of the core of these ranks, if a run may begin there; none if the ranks are no core's.
+pub fn visit_first(keys: &mut [u64], new: usize, ranks: u64, shape: Shape, parts: &[u8; 8]) -> Grow
+    requires { ⌜ ((r : Rule) × Shaped r (now parts) shape) × Parted 0 (now keys) new × Within 8 ranks (capsOf (now parts) (shape .components)) ⌝ }
+    ensures { λ g. ⌜ ((r : Rule) → Shaped r (now (parts .entry)) shape → Added (StartsAt r (now (parts .entry)) (shape .components) (shape .holds) ranks) 0 (now (keys .entry)) new (now (keys .exit)) (g .m) (g .full)) ⌝ }
+{
+    if !begins(ranks, shape) {
+        return Grow {
+            m: new,
+            full: false,
+        };
+    }
+    if !cores::is_core(ranks, parts, shape.components) {
+        return Grow {
+            m: new,
+            full: false,
+        };
+    }
+    let low = cores::lowest(ranks);
+    let core = steps::core_of(low[15], shape.accepting, ranks);
+    insertion::insert(keys, new, core << 8)
+}

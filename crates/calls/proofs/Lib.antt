@@ -1,0 +1,2 @@
+pub mod CallRows
+pub mod Calls

@@ -1,0 +1,1 @@
+// The build and both judges together: theorems on built tables, no code.

@@ -1,0 +1,1 @@
+// Alternating weak Büchi automata and the preorder construction: the theorems, no code.

@@ -1,0 +1,1 @@
+// Definitions and laws of the text of a listing.

@@ -1,0 +1,1 @@
+// Definitions and laws of the transitions between listed codes.

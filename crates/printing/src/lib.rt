@@ -1,0 +1,123 @@
+// The lines of a listing, written into a slice.
+ghost use mathlib.Core.Path.{_≡_};
+ghost use Prim.Native.Nat.{_+_, _≤_, _<_};
+ghost use lib.ListN.{length};
+ghost use Rattle.lines.specs.Lines.{initialAt, sign, builtLine, mLine, tLine, refusedLine, macrostateLines, transitionLines, tableText};
+ghost use Rattle.digits.specs.Put.{Put};
+
+// The letter, or a `-` where not.
+fn sign_of(holds: bool, letter: u8) -> u8
+    ensures { λ r. ⌜ r ≡ sign holds letter ⌝ }
+{
+    if holds {
+        return letter;
+    }
+    b'-'
+}
+
+// ---- lines, at a place of a slice; each function answers the place after it
+
+// Line one.
+fn put_built(out: &mut [u8], macrostates: usize, transitions: usize) -> usize
+    requires { ⌜ length (builtLine macrostates transitions) ≤ length (now out) ⌝ }
+    ensures { λ r. ⌜ Put (now (out .entry)) 0 (builtLine macrostates transitions) (now (out .exit)) r ⌝ }
+{
+    let a = digits::put(out, 0, b"built");
+    let b = digits::put_word(out, a, macrostates as u64);
+    let c = digits::put_word(out, b, transitions as u64);
+    digits::put_byte(out, c, b'\n')
+}
+
+// An m line.
+fn put_macrostate(
+    out: &mut [u8],
+    at: usize,
+    number: usize,
+    code: u64,
+    initial: bool,
+    accepting: bool,
+) -> usize
+    requires { ⌜ at + length (mLine number code initial accepting) ≤ length (now out) ⌝ }
+    ensures { λ r. ⌜ Put (now (out .entry)) at (mLine number code initial accepting) (now (out .exit)) r ⌝ }
+{
+    let a = digits::put_byte(out, at, b'm');
+    let b = digits::put_word(out, a, number as u64);
+    let c = digits::put_word(out, b, code);
+    let marks = [
+        b' ',
+        sign_of(initial, b'i'),
+        b' ',
+        sign_of(accepting, b'a'),
+        b'\n',
+    ];
+    digits::put(out, c, &marks)
+}
+
+// A t line.
+fn put_transition(out: &mut [u8], at: usize, source: usize, letter: usize, target: usize) -> usize
+    requires { ⌜ at + length (tLine source letter target) ≤ length (now out) ⌝ }
+    ensures { λ r. ⌜ Put (now (out .entry)) at (tLine source letter target) (now (out .exit)) r ⌝ }
+{
+    let a = digits::put_byte(out, at, b't');
+    let b = digits::put_word(out, a, source as u64);
+    let c = digits::put_word(out, b, letter as u64);
+    let d = digits::put_word(out, c, target as u64);
+    digits::put_byte(out, d, b'\n')
+}
+
+// A refusal.
+pub fn put_refused(out: &mut [u8], row: u8) -> usize
+    requires { ⌜ length (refusedLine row) ≤ length (now out) ⌝ }
+    ensures { λ r. ⌜ Put (now (out .entry)) 0 (refusedLine row) (now (out .exit)) r ⌝ }
+{
+    let a = digits::put(out, 0, b"refused");
+    let b = digits::put_word(out, a, row as u64);
+    digits::put_byte(out, b, b'\n')
+}
+
+// ---- tables
+
+// The m lines of codes, of a rule with this initial state.
+fn put_macrostates(out: &mut [u8], at: usize, list: &[u64], initial: u32) -> usize
+    requires { ⌜ (initial < 8) × (at + length (macrostateLines (initialAt initial) (now list)) ≤ length (now out)) ⌝ }
+    ensures { λ r. ⌜ Put (now (out .entry)) at (macrostateLines (initialAt initial) (now (list .entry))) (now (out .exit)) r ⌝ }
+{
+    let mut end = at;
+    let mut i = 0;
+    while i < list.len() {
+        let code = list[i];
+        let begins = codes::is_initial(code, initial);
+        let accepts = codes::is_accepting(code);
+        end = put_macrostate(out, end, i, code, begins, accepts);
+        i += 1;
+    }
+    end
+}
+
+// The t lines of transitions.
+fn put_transitions(out: &mut [u8], at: usize, list: &[u64]) -> usize
+    requires { ⌜ at + length (transitionLines (now list)) ≤ length (now out) ⌝ }
+    ensures { λ r. ⌜ Put (now (out .entry)) at (transitionLines (now (list .entry))) (now (out .exit)) r ⌝ }
+{
+    let mut end = at;
+    let mut i = 0;
+    while i < list.len() {
+        let t = list[i];
+        let source = codes::source_of(t);
+        let letter = codes::letter_of(t);
+        let target = codes::target_of(t);
+        end = put_transition(out, end, source, letter, target);
+        i += 1;
+    }
+    end
+}
+
+// All lines of a table.
+pub fn put_table(out: &mut [u8], initial: u32, list: &[u64], transitions: &[u64]) -> usize
+    requires { ⌜ (initial < 8) × (length (tableText (initialAt initial) (now list) (now transitions)) ≤ length (now out)) ⌝ }
+    ensures { λ r. ⌜ Put (now (out .entry)) 0 (tableText (initialAt initial) (now (list .entry)) (now (transitions .entry))) (now (out .exit)) r ⌝ }
+{
+    let a = put_built(out, list.len(), transitions.len());
+    let b = put_macrostates(out, a, list, initial);
+    put_transitions(out, b, transitions)
+}

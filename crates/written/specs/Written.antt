@@ -1,0 +1,62 @@
+-- What the writer answers, and what its slice then holds.
+use Prim.Native.Nat.{ℕ, zero, suc, _*_, _<_}
+use mathlib.Core.List.{List, [], _∷_, _++_}
+use mathlib.Core.Bool.{not}
+use lib.ListN.{length, drop}
+use lib.Dec.{ltb, eqb}
+use Rattle.sets.specs.Rows.{Check, firstRow, check}
+use Rattle.entries.specs.declared.Head.{Head}
+use Rattle.entries.specs.Entries.{ruleOf}
+use Rattle.files.specs.File.{bodyOf}
+use Rattle.files.specs.Rows.{numberRows, listRows, componentRows}
+use Rattle.written.specs.declared.Written.{Written}
+use Rattle.written.specs.declared.Written.the-variants.{Length, Refused}
+
+-- the numbers that are given
+abbrev pub headFrom : ℕ → ℕ → ℕ → ℕ → Head
+headFrom n s initial accepting = record { n = n; s = s; initial = initial; accepting = accepting }
+
+-- 01: the writer "tries rows 3 to 11 on them (7 if the counts are not exactly n × s)", "c being the number of clauses given"
+unfoldable pub ruleRows : Head → List ℕ → List ℕ → List Check
+ruleRows h counts clauses =
+    numberRows h
+    ++ (check (not (eqb (length counts) (h .n * h .s))) 7
+    ∷ (listRows (h .n) counts clauses
+    ++ componentRows (ruleOf h counts clauses)))
+
+-- the file of a rule that is given: it "writes no preface"
+abbrev pub fileOf : Head → List ℕ → List ℕ → List ℕ
+fileOf h counts clauses = bodyOf (ruleOf h counts clauses)
+
+-- row 16, "result or scratch slice too short": the slice has room bytes
+unfoldable pub sliceRows : ℕ → List ℕ → List Check
+sliceRows room file = check (ltb room (length file)) 16 ∷ []
+
+-- the number of the first row that refuses, or 0
+unfoldable pub writeRow : Head → List ℕ → List ℕ → ℕ → ℕ
+writeRow h counts clauses room = firstRow (ruleRows h counts clauses ++ sliceRows room (fileOf h counts clauses))
+
+-- by the first row that refuses: the length of the file where none does, else the number alone
+unfoldable pub answer : ℕ → List ℕ → Written
+answer zero file = Length (length file)
+answer (suc k) file = Refused (suc k)
+
+unfoldable pub writtenOf : Head → List ℕ → List ℕ → ℕ → Written
+writtenOf h counts clauses room = answer (writeRow h counts clauses room) (fileOf h counts clauses)
+
+-- by the first row that refuses: where none does, the slice holds the file at its start and is otherwise as it was, else it is as it was.
+-- 01: "It fills the start of its slice, answers the length, and touches nothing after it."
+unfoldable pub after : ℕ → List ℕ → List ℕ → List ℕ
+after zero file old = file ++ drop (length file) old
+after (suc k) file old = old
+
+unfoldable pub sliceAfter : Head → List ℕ → List ℕ → List ℕ → List ℕ
+sliceAfter h counts clauses old = after (writeRow h counts clauses (length old)) (fileOf h counts clauses) old
+
+-- the numbers of the trailer fit its bytes
+pub record InBytes (h : Head) (c : ℕ) : Type 0 where
+  pub n : h .n < 256
+  pub s : h .s < 256
+  pub initial : h .initial < 256
+  pub accepting : h .accepting < 256
+  pub count : c < 65536
