@@ -1,96 +1,21 @@
 // Runs the library's entries on the calls of standard input. Prints for each its name, what the lent slices hold afterwards or the preface,
 // and the answer as three numbers: the row that refuses, or 0, and two values. The second program wrote the calls and what must be printed.
-//
-// A call is 256 bytes: the entry, five numbers, the places where its name and its five parts begin and where the last ends, then the name and the parts.
+use agreement::SameRules;
 use build::Built;
 use calls::Start;
+use caseio::byte;
+use caseio::lent_bytes;
+use caseio::lent_numbers;
+use caseio::part;
+use caseio::say;
+use caseio::say_answer;
+use caseio::say_bytes;
+use caseio::say_numbers;
 use judged::Verdict;
 use libc::STDIN_FILENO;
-use libc::STDOUT_FILENO;
 use rules::Read;
-use sameness::SameRules;
-use words::SameWords;
+use samewords::SameWords;
 use written::Written;
-ghost use mathlib.Core.Path.{_≡_};
-ghost use Prim.Native.Nat.{_<_};
-ghost use lib.ListN.{length};
-
-// ---- what is printed
-
-fn say(text: &[u8]) {
-    io::write_all(STDOUT_FILENO, text);
-}
-
-fn say_number(number: u64) {
-    say(b" ");
-    io::print_decimal(STDOUT_FILENO, number);
-}
-
-fn say_bytes(bytes: &[u8]) {
-    let mut i = 0;
-    while i < bytes.len() {
-        say_number(bytes[i] as u64);
-        i += 1;
-    }
-}
-
-fn say_numbers(numbers: &[u64]) {
-    let mut i = 0;
-    while i < numbers.len() {
-        say_number(numbers[i]);
-        i += 1;
-    }
-}
-
-fn say_answer(row: u8, first: usize, second: usize) {
-    say(b",");
-    say_number(row as u64);
-    say_number(first as u64);
-    say_number(second as u64);
-    say(b"\n");
-}
-
-// ---- a call
-
-// The byte at place i, 0 after the end.
-fn byte(call: &[u8], i: usize) -> usize
-    ensures { λ r. ⌜ r < 256 ⌝ }
-{
-    if i < call.len() {
-        return call[i] as usize;
-    }
-    0
-}
-
-// The bytes between two of the places, none if the call ends before.
-fn part(call: &[u8], i: usize) -> &[u8]
-    requires { ⌜ i < 6 ⌝ }
-{
-    let from = byte(call, 6 + i);
-    let to = byte(call, 7 + i);
-    if to < from {
-        return &call[..0];
-    }
-    if call.len() < to {
-        return &call[..0];
-    }
-    &call[from..to]
-}
-
-// Slices to lend.
-fn lent_bytes() -> [u8; 256]
-    ensures { λ r. ⌜ 256 ≡ length r ⌝ }
-{
-    [238; 256]
-}
-
-fn lent_numbers() -> [u64; 256]
-    ensures { λ r. ⌜ 256 ≡ length r ⌝ }
-{
-    [238; 256]
-}
-
-// ---- the entries
 
 fn run_read(file: &[u8]) {
     say(rules::preface(file));
@@ -109,7 +34,7 @@ fn run_same_rules(first: &[u8], second: &[u8]) {
 }
 
 fn run_same_words(lead1: &[u8], cycle1: &[u8], lead2: &[u8], cycle2: &[u8]) {
-    match words::same_words(lead1, cycle1, lead2, cycle2) {
+    match samewords::same_words(lead1, cycle1, lead2, cycle2) {
         SameWords::Same => say_answer(0, 1, 0),
         SameWords::Different => say_answer(0, 0, 0),
         SameWords::Refused(row) => say_answer(row, 0, 0),

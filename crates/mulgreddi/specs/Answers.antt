@@ -7,12 +7,12 @@ use Rattle.judged.specs.declared.Verdict.{Verdict}
 use Rattle.judged.specs.declared.Verdict.the-variants as judge
 use Rattle.rules.specs.declared.Read.{Read}
 use Rattle.rules.specs.declared.Read.the-variants as read
-use Rattle.sameness.specs.declared.SameRules.{SameRules}
-use Rattle.sameness.specs.declared.SameRules.the-variants as rules
+use Rattle.agreement.specs.declared.SameRules.{SameRules}
+use Rattle.agreement.specs.declared.SameRules.the-variants as rules
 use Rattle.calls.specs.declared.Start.{Start}
 use Rattle.calls.specs.declared.Start.the-variants as tables
-use Rattle.words.specs.declared.SameWords.{SameWords}
-use Rattle.words.specs.declared.SameWords.the-variants as words
+use Rattle.samewords.specs.declared.SameWords.{SameWords}
+use Rattle.samewords.specs.declared.SameWords.the-variants as words
 use Rattle.written.specs.declared.Written.{Written}
 use Rattle.written.specs.declared.Written.the-variants as written
 

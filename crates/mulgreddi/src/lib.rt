@@ -1,10 +1,10 @@
 // The C interface: every public entry, its answer as three numbers. include/mulgreddi.h declares and documents it.
+use agreement::SameRules;
 use build::Built;
 use calls::Start;
 use judged::Verdict;
 use rules::Read;
-use sameness::SameRules;
-use words::SameWords;
+use samewords::SameWords;
 use written::Written;
 ghost use mathlib.Core.Path.{_≡_};
 ghost use lib.ListN.{length, take};
@@ -20,9 +20,9 @@ ghost use Rattle.rules.specs.Read.{readOf};
 ghost use Rattle.lent.specs.Lent.{inBytes};
 ghost use Rattle.tables.specs.Tables.{JudgedTable};
 ghost use Rattle.calls.specs.declared.Start.{Start};
-ghost use Rattle.sameness.specs.Same.{sameRulesOf};
+ghost use Rattle.agreement.specs.Same.{sameRulesOf};
 ghost use Rattle.written.specs.Written.{headFrom, writtenOf, sliceAfter};
-ghost use Rattle.words.specs.Words.{sameWordsOf};
+ghost use Rattle.samewords.specs.Same.{sameWordsOf};
 ghost use Rattle.mulgreddi.specs.Answers.{refusedAs, servedAs, readAnswer, writtenAnswer, sameRulesAnswer, sameWordsAnswer, verdictAnswer, builtAnswer, startAnswer};
 
 // refusal is 0 where the input was served; else first and second are 0.
@@ -109,7 +109,7 @@ pub extern "C" fn mulgreddi_same_words(
     ensures { λ r. ⌜ r ≡ sameWordsAnswer (sameWordsOf (now (lead1 .entry)) (now (cycle1 .entry))
         (now (lead2 .entry)) (now (cycle2 .entry))) ⌝ }
 {
-    match words::same_words(lead1, cycle1, lead2, cycle2) {
+    match samewords::same_words(lead1, cycle1, lead2, cycle2) {
         SameWords::Same => served(1, 0),
         SameWords::Different => served(0, 0),
         SameWords::Refused(row) => refused(row),

@@ -8,8 +8,8 @@ use Rattle.theory.specs.Rule.{Rule}
 use Rattle.files.specs.File.{ruleIn}
 use Rattle.files.specs.Rows.{fileRow}
 use Rattle.rules.proofs.Prefaces.{preface-no-effect, accepted-after}
-use Rattle.sameness.specs.declared.SameRules.{SameRules}
-use Rattle.sameness.specs.Same.{sameRules, verdict, answer, sameFiles, sameRulesOf}
+use Rattle.agreement.specs.declared.SameRules.{SameRules}
+use Rattle.agreement.specs.Same.{sameRules, verdict, answer, sameFiles, sameRulesOf}
 
 -- where a row refuses, the rules do not matter
 first-refused : (k j : ℕ) (v w : SameRules) → (k ≡ 0 → ⊥) → answer k j v ≡ answer k j w

@@ -26,9 +26,10 @@ use Rattle.laws.proofs.Demand.{demand3}
 use Rattle.files.specs.File.{ruleIn}
 use Rattle.files.specs.Rows.{fileRow}
 use Rattle.rules.proofs.FileRows.{accepted-passing}
-use Rattle.words.specs.Words.{wordRow, sameLetters}
+use Rattle.words.specs.Words.{wordRow}
+use Rattle.samewords.specs.Same.{sameLetters}
 use Rattle.words.proofs.Checks.{word-over}
-use Rattle.words.proofs.Sameness.{letters-equal}
+use Rattle.samewords.proofs.Sameness.{letters-equal}
 use Rattle.starred.specs.Claim.{Line, Start, unsaid, from, Expected, builds, judges, Case, codesOf, Builds, Said, Judges, through, Begins, Starts, Meets, Claim}
 use Rattle.starred.proofs.Lasso.{conj, conj-at, loops, loop-accepts}
 

@@ -23,7 +23,8 @@ use Rattle.theory.specs.Truth.{heightOf, layer, roundsAt, solvedBelow, truthMas
 use Rattle.theory.specs.Word.{nextPlace, letterAt, place}
 use Rattle.files.specs.File.{tagged, clausesOf, countsOf}
 use Rattle.files.specs.Rows.{numberRows, listRows, trailerRows, layoutRows, componentRows, fileRows, fileRow}
-use Rattle.words.specs.Words.{lengthRows, letterRows, wordRows, wordRow, sameLetters}
+use Rattle.words.specs.Words.{lengthRows, letterRows, wordRows, wordRow}
+use Rattle.samewords.specs.Same.{sameLetters}
 use Rattle.starred.specs.Files.{F, D, E, I, Z}
 use Rattle.starred.specs.Claim.{Case, codesOf, Claim}
 use Rattle.starred.specs.Starred.{case1, case2, case3, case4, case5, case6, case7, case8, case9, starred}

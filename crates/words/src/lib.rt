@@ -6,14 +6,7 @@ ghost use lib.Dec.{leb};
 ghost use lib.ListN.{length};
 ghost use Rattle.sets.specs.Lists.{anyOf};
 ghost use Rattle.theory.specs.Word.{letterAt, nextPlace};
-ghost use Rattle.words.specs.Words.{lengthRow, wordRow, sameLetters, sameWordsOf};
-
-// The answer of the sameness test.
-pub enum SameWords {
-    Same,
-    Different,
-    Refused(u8),
-}
+ghost use Rattle.words.specs.Words.{lengthRow, wordRow};
 
 // The first of rows 12 and 13 that refuses the word, or 0.
 pub fn length_row(lead: &[u8], cycle: &[u8]) -> u8
@@ -83,43 +76,4 @@ pub fn next_place(lead: usize, cycle: usize, p: usize) -> usize
         return lead;
     }
     p + 1
-}
-
-// Whether two lists of letters are equal.
-fn same_letters(a: &[u8], b: &[u8]) -> bool
-    ensures { λ r. ⌜ r ≡ sameLetters (now (a .entry)) (now (b .entry)) ⌝ }
-{
-    if a.len() != b.len() {
-        return false;
-    }
-    let mut i = 0;
-    while i < a.len() {
-        if a[i] != b[i] {
-            return false;
-        }
-        i += 1;
-    }
-    true
-}
-
-// Whether two words are the same; refused by rows 12 and 13, first word first.
-pub fn same_words(lead1: &[u8], cycle1: &[u8], lead2: &[u8], cycle2: &[u8]) -> SameWords
-    ensures { λ r. ⌜ r ≡ sameWordsOf (now (lead1 .entry)) (now (cycle1 .entry))
-        (now (lead2 .entry)) (now (cycle2 .entry)) ⌝ }
-{
-    let first = length_row(lead1, cycle1);
-    if first != 0 {
-        return SameWords::Refused(first);
-    }
-    let second = length_row(lead2, cycle2);
-    if second != 0 {
-        return SameWords::Refused(second);
-    }
-    if !same_letters(lead1, lead2) {
-        return SameWords::Different;
-    }
-    if !same_letters(cycle1, cycle2) {
-        return SameWords::Different;
-    }
-    SameWords::Same
 }

@@ -1,8 +1,8 @@
 -- `sameness::same_files` meets its contract: the second rule has the first one's numbers, so the entries decide.
 use mathlib.Core.Path.{_≡_, ap, sym, _∙_}
 use Rattle.sets.proofs.Bools.{not-t, not-f}
-use Rattle.sameness.specs.Same.{verdict, sameFiles}
-use Rattle.sameness.proofs.Same.{numbers-differ, both-formed, same-told}
+use Rattle.agreement.specs.Same.{verdict, sameFiles}
+use Rattle.agreement.proofs.Same.{numbers-differ, both-formed, same-told}
 use borrow.Author.Needs.{needs}
 use Rattle.sameness.proofs.same_files.Statement.{statement}
 use Rattle.sameness.proofs.same_files.Tie as tie

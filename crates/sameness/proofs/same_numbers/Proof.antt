@@ -1,7 +1,7 @@
 -- `sameness::same_numbers` meets its contract.
 use mathlib.Core.Path.{_≡_}
 use native.Mathlib.Omega.{arith}
-use Rattle.sameness.proofs.Same.{differ-n, differ-s, differ-initial, differ-accepting, agree-all}
+use Rattle.agreement.proofs.Same.{differ-n, differ-s, differ-initial, differ-accepting, agree-all}
 use Rattle.sameness.proofs.same_numbers.Statement.{statement}
 use Rattle.sameness.proofs.same_numbers.Tie as tie
 

@@ -3,7 +3,7 @@ use mathlib.Core.Path.{_≡_, sym, _∙_}
 use Rattle.rules.specs.declared.Read.the-variants.{Accepted, Refused}
 use Rattle.rules.specs.Read.{readOf}
 use Rattle.rules.proofs.Answer.{served, turned-away}
-use Rattle.sameness.proofs.Same.{refused-first, refused-second, served-both}
+use Rattle.agreement.proofs.Same.{refused-first, refused-second, served-both}
 use borrow.Author.Needs.{needs}
 use Rattle.sameness.proofs.same_rules.Statement.{statement}
 use Rattle.sameness.proofs.same_rules.Tie as tie
