@@ -91,6 +91,7 @@ $(BUILD)/%: examples/%.c include/mulgreddi.h $(LIB)
 examples: $(EXAMPLES)
 	for e in $(EXAMPLES); do $$e examples > $$e.out && diff examples/$$(basename $$e).expected $$e.out || exit 1; done
 
+# what the library and the listing stand on is proved in one go, the listing program while the comparison runs;
 # `rt ci` is last: its closing line is the gate's
 test:
 	rt check $(BELOW) listings printing
