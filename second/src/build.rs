@@ -125,9 +125,15 @@ impl<'a> Automaton<'a> {
 
     /// The number of initial macrostates, counted until it is over `enough`.
     pub fn initial_macrostates(&self, enough: usize) -> usize {
+        self.cores_begun(enough, true)
+    }
+
+    /// The number of cores whose set holds the initial state, or lacks it,
+    /// counted until it is over `enough`.
+    fn cores_begun(&self, enough: usize, holding: bool) -> usize {
         let sets = 0..=self.rule.all();
         let mut count = 0;
-        for set in sets.filter(|set| set >> self.rule.initial & 1 == 1) {
+        for set in sets.filter(|set| (set >> self.rule.initial & 1 == 1) == holding) {
             count += self.cores_of(set).len();
             if count > enough {
                 break;
@@ -256,9 +262,20 @@ pub fn reachable(
     macrostate_room: usize,
     transition_room: usize,
 ) -> Result<(Vec<u64>, Vec<u64>), u8> {
+    reachable_begun(rule, true, macrostate_room, transition_room)
+}
+
+/// The same, begun with K and k 0 from all cores whose set holds the rule's
+/// initial state, or from all those whose set lacks it.
+pub fn reachable_begun(
+    rule: &Rule,
+    holding: bool,
+    macrostate_room: usize,
+    transition_room: usize,
+) -> Result<(Vec<u64>, Vec<u64>), u8> {
     let automaton = Automaton::new(rule);
-    // Every initial macrostate is reachable.
-    if automaton.initial_macrostates(macrostate_room) > macrostate_room {
+    // Every macrostate at the beginning is reachable.
+    if automaton.cores_begun(macrostate_room, holding) > macrostate_room {
         return Err(17);
     }
     let cores = automaton.cores();
@@ -289,7 +306,7 @@ pub fn reachable(
             component: 0,
             classes: 0,
         };
-        if start.is_initial(rule) {
+        if start.is_initial(rule) == holding {
             found.insert(start.code());
             waiting.push(start);
         }

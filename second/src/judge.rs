@@ -6,7 +6,7 @@ use crate::rule::{read, Rule};
 use crate::word::Word;
 
 /// A state at a place.
-type Pair = (usize, usize);
+pub type Pair = (usize, usize);
 
 /// Per place, the mask of the states that the rule accepts from there.
 ///
@@ -87,7 +87,7 @@ fn try_plans(
 }
 
 /// "from the pair it reaches each state of the clause at the following place"
-fn reached_from(word: &Word, pair: Pair, clause: u8) -> impl Iterator<Item = Pair> {
+pub fn reached_from(word: &Word, pair: Pair, clause: u8) -> impl Iterator<Item = Pair> {
     let place = word.following(pair.1);
     let states = (0..8).filter(move |&q| clause >> q & 1 == 1);
     states.map(move |q| (q, place))
@@ -95,7 +95,7 @@ fn reached_from(word: &Word, pair: Pair, clause: u8) -> impl Iterator<Item = Pai
 
 /// Whether a plan has a "pair with a rejecting state that lies on a cycle of
 /// reached pairs".
-fn rejecting_pair_on_cycle(rule: &Rule, word: &Word, plan: &BTreeMap<Pair, u8>) -> bool {
+pub fn rejecting_pair_on_cycle(rule: &Rule, word: &Word, plan: &BTreeMap<Pair, u8>) -> bool {
     let rejecting = |pair: &&Pair| rule.accepting >> pair.0 & 1 == 0;
     plan.keys().filter(rejecting).any(|&pair| {
         let mut seen = BTreeSet::new();

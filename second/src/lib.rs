@@ -1,13 +1,29 @@
-//! The second program: document 01 followed word by word with ordinary
+//! The second program: documents 01 and 02 followed word by word with ordinary
 //! collections. It reads and writes rule files, judges words on the rule and
-//! on a built table, builds the table and prints the listing.
+//! on a built table, builds the table and prints the listing, and does what the
+//! later requests add.
 //!
 //! Every entry answers `Err(number)` with the number of the refusal table.
 
 pub mod build;
+pub mod choices;
+pub mod events;
+pub mod game;
+pub mod graph;
+pub mod hanoi;
+pub mod hoa;
 pub mod judge;
 pub mod listing;
+pub mod live;
+pub mod long;
+pub mod mixed;
+pub mod names;
 pub mod rule;
 pub mod sample;
+pub mod sheet;
+pub mod spelling;
+pub mod stricter;
 pub mod table;
+pub mod tidy;
+pub mod trim;
 pub mod word;

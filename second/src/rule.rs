@@ -2,6 +2,8 @@
 
 use std::collections::BTreeSet;
 
+use crate::names::{self, Name};
+
 /// "the tag 41 57"
 pub const TAG: [u8; 2] = [0x41, 0x57];
 /// "a trailer of 8 bytes"
@@ -87,8 +89,19 @@ impl Rule {
         components
     }
 
+    /// Row 20: "an entry with a clause that contains another of its clauses",
+    /// the other standing at another place of the entry; equal ones contain
+    /// each other.
+    pub fn nested(&self) -> bool {
+        self.entries.iter().flatten().any(|clauses| {
+            (0..clauses.len()).any(|i| {
+                (0..clauses.len()).any(|j| i != j && clauses[i] & clauses[j] == clauses[j])
+            })
+        })
+    }
+
     /// "Every component must be all accepting or all rejecting."
-    fn mixed(&self) -> bool {
+    pub fn mixed(&self) -> bool {
         self.components().iter().any(|component| {
             let accepting = component.mask() & self.accepting;
             accepting != 0 && accepting != component.mask()
@@ -113,13 +126,9 @@ fn check_numbers(n: u32, s: u32, initial: u32, accepting: u32) -> Result<(), u8>
     Ok(())
 }
 
-/// Rows 8 to 11, on numbers that passed rows 3 to 6 and n × s counts.
-fn check_entries(
-    numbers: [u32; 4],
-    counts: &[u8],
-    clauses: &[u8],
-    given: usize,
-) -> Result<Rule, u8> {
+/// Rows 8 to 10, on numbers that passed rows 3 to 6 and n × s counts: the rule
+/// that is laid out.
+fn lay_out(numbers: [u32; 4], counts: &[u8], clauses: &[u8], given: usize) -> Result<Rule, u8> {
     let [n, s, initial, accepting] = numbers;
     if counts.iter().any(|&count| count > 8) {
         return Err(8);
@@ -138,21 +147,28 @@ fn check_entries(
         row.map(|&count| rest.by_ref().take(count as usize).collect())
             .collect()
     });
-    let rule = Rule {
+    Ok(Rule {
         entries: entries.collect(),
         states: n as usize,
         letters: s as usize,
         initial: initial as usize,
         accepting: accepting as u8,
-    };
+    })
+}
+
+/// Rows 20 and 11: row 20 comes "after 10 and before 11".
+fn check_rule(rule: &Rule) -> Result<(), u8> {
+    if rule.nested() {
+        return Err(20);
+    }
     if rule.mixed() {
         return Err(11);
     }
-    Ok(rule)
+    Ok(())
 }
 
-/// The rule of a file, and the length of its preface; rows 1 to 11.
-pub fn read(file: &[u8]) -> Result<(Rule, usize), u8> {
+/// A file taken apart, by rows 1 to 10 alone: the rule and the preface.
+pub fn take_apart(file: &[u8]) -> Result<(Rule, &[u8]), u8> {
     if file.len() < TRAILER {
         return Err(1);
     }
@@ -171,12 +187,58 @@ pub fn read(file: &[u8]) -> Result<(Rule, usize), u8> {
     }
     let (preface, rest) = body.split_at(body.len() - c - entries);
     let (clauses, counts) = rest.split_at(c);
-    Ok((check_entries(numbers, counts, clauses, c)?, preface.len()))
+    Ok((lay_out(numbers, counts, clauses, c)?, preface))
 }
 
-/// The bytes that the writer puts at the start of a slice of `room` bytes;
-/// rows 3 to 11 and 16.
+/// What a file lays out: "new readers carry the names in the rule".
+#[derive(Clone, Debug, PartialEq, Eq)]
+pub struct Named {
+    pub rule: Rule,
+    /// The length of the preface, names and their mark included.
+    pub preface: usize,
+    /// A name for each letter, or none at all.
+    pub names: Option<Vec<Name>>,
+}
+
+/// The rule of a file with its names; rows 1 to 10, 20, 11 and 21 to 23.
+pub fn read_named(file: &[u8]) -> Result<Named, u8> {
+    let (rule, preface) = take_apart(file)?;
+    check_rule(&rule)?;
+    Ok(Named {
+        names: names::of_preface(preface, rule.letters)?,
+        preface: preface.len(),
+        rule,
+    })
+}
+
+/// The rule of a file, and the length of its preface, by the same rows.
+pub fn read(file: &[u8]) -> Result<(Rule, usize), u8> {
+    read_named(file).map(|read| (read.rule, read.preface))
+}
+
+/// What checking a file reports: the length of the preface and how many of its
+/// bytes are names.
+pub fn check(file: &[u8]) -> Result<(usize, usize), u8> {
+    let read = read_named(file)?;
+    let names = read.names.unwrap_or_default();
+    Ok((read.preface, names.concat().len()))
+}
+
+/// The bytes that the writer puts at the start of a slice of `room` bytes when
+/// it is given no names; rows 3 to 10, 20, 11 and 16.
 pub fn write(numbers: [u32; 4], counts: &[u8], clauses: &[u8], room: usize) -> Result<Vec<u8>, u8> {
+    write_named(numbers, counts, clauses, &[], room)
+}
+
+/// The writer with names: "The writer writes the names, with 4E 4D, as its whole
+/// preface". Rows 3 to 10, 20, 11, 21 to 23 and 16.
+pub fn write_named(
+    numbers: [u32; 4],
+    counts: &[u8],
+    clauses: &[u8],
+    names: &[u8],
+    room: usize,
+) -> Result<Vec<u8>, u8> {
     let [n, s, initial, accepting] = numbers;
     check_numbers(n, s, initial, accepting)?;
     if counts.len() != (n * s) as usize {
@@ -184,26 +246,34 @@ pub fn write(numbers: [u32; 4], counts: &[u8], clauses: &[u8], room: usize) -> R
     }
     // "c being the number of clauses given"
     let c = clauses.len();
-    check_entries(numbers, counts, clauses, c)?;
-    if room < c + counts.len() + TRAILER {
-        return Err(16);
+    check_rule(&lay_out(numbers, counts, clauses, c)?)?;
+    let mut file = Vec::new();
+    if let Some(names) = names::given(names, s as usize)? {
+        file.extend(names.concat());
+        file.extend(names::MARK);
     }
-    let mut file = clauses.to_vec();
+    file.extend(clauses);
     file.extend(counts);
     file.extend([n as u8, s as u8, initial as u8, accepting as u8]);
     file.extend([(c % 256) as u8, (c / 256) as u8]);
     file.extend(TAG);
+    if room < file.len() {
+        return Err(16);
+    }
     Ok(file)
 }
 
 /// "Two rules are the same if n, s, initial state and accepting mask agree and
-/// every entry is satisfied by the same sets." The first file is tried whole,
-/// then the second.
+/// every entry is satisfied by the same sets", and "only if, besides, both lack
+/// names or all names agree". The first file is tried whole, then the second.
 pub fn same_rules(first: &[u8], second: &[u8]) -> Result<bool, u8> {
-    let (first, _) = read(first)?;
-    let (second, _) = read(second)?;
+    let first = read_named(first)?;
+    let second = read_named(second)?;
+    let names = first.names == second.names;
+    let (first, second) = (first.rule, second.rule);
     let numbers = |rule: &Rule| (rule.states, rule.letters, rule.initial, rule.accepting);
     Ok(numbers(&first) == numbers(&second)
+        && names
         && (0..first.states).all(|q| {
             (0..first.letters).all(|letter| {
                 (0..=255)

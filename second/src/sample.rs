@@ -1,5 +1,6 @@
 //! Random numbers, rules and words for checking, repeatable by their seed.
 
+use crate::names::Name;
 use crate::rule::{Rule, TAG};
 
 /// The rules of 01 that its cases use.
@@ -8,6 +9,54 @@ pub const D: [u8; 15] = [2, 0, 1, 1, 0, 1, 1, 2, 2, 0, 0, 3, 0, 0x41, 0x57];
 pub const E: [u8; 11] = [1, 1, 0, 1, 2, 0, 1, 1, 0, 0x41, 0x57];
 pub const I: [u8; 16] = [3, 1, 2, 0, 1, 1, 1, 1, 2, 2, 0, 1, 4, 0, 0x41, 0x57];
 pub const Z: [u8; 9] = [0, 1, 1, 0, 1, 0, 0, 0x41, 0x57];
+
+/// A clause that holds another of its entry, and one that repeats it. Both
+/// entries glue together a mixed component: row 20 comes before 11.
+pub const NESTED: [&[u8]; 2] = [
+    &[2, 3, 1, 2, 1, 2, 1, 0, 1, 3, 0, 0x41, 0x57],
+    &[2, 2, 1, 2, 1, 2, 1, 0, 1, 3, 0, 0x41, 0x57],
+];
+
+/// Refused files with their numbers: the examples of 01's table, and two of
+/// row 20.
+pub const REFUSED: [(u8, &[u8]); 13] = [
+    (1, &[0x41, 0x57]),
+    (2, &[1, 1, 0, 0, 0, 0, 0x57, 0x41]),
+    (3, &[0, 1, 0, 0, 0, 0, 0x41, 0x57]),
+    (4, &[1, 0x11, 0, 0, 0, 0, 0x41, 0x57]),
+    (5, &[1, 1, 1, 0, 0, 0, 0x41, 0x57]),
+    (6, &[1, 1, 0, 2, 0, 0, 0x41, 0x57]),
+    (7, &[1, 1, 0, 0, 0, 0, 0x41, 0x57]),
+    (8, &[9, 1, 1, 0, 0, 0, 0, 0x41, 0x57]),
+    (9, &[1, 1, 1, 0, 0, 0, 0, 0x41, 0x57]),
+    (10, &[2, 1, 1, 1, 0, 0, 1, 0, 0x41, 0x57]),
+    (11, &[2, 1, 1, 1, 2, 1, 0, 1, 2, 0, 0x41, 0x57]),
+    (20, NESTED[0]),
+    (20, NESTED[1]),
+];
+
+/// Files of F whose names are refused, with their numbers: names that do not fit
+/// in the preface, a name byte below 20 and one above 7E though names are equal,
+/// two equal names.
+pub const MISNAMED: [(u8, &[u8]); 5] = [
+    (21, b"NM\x01\x00\x01\x01\x01\x02\x00\x00\x02\x00AW"),
+    (
+        21,
+        b"ETCH   STORE   NM\x01\x00\x01\x01\x01\x02\x00\x00\x02\x00AW",
+    ),
+    (
+        22,
+        b"\x1fETCH   \x1fETCH   NM\x01\x00\x01\x01\x01\x02\x00\x00\x02\x00AW",
+    ),
+    (
+        22,
+        b"FETCH  \x7fFETCH  \x7fNM\x01\x00\x01\x01\x01\x02\x00\x00\x02\x00AW",
+    ),
+    (
+        23,
+        b"FETCH   FETCH   NM\x01\x00\x01\x01\x01\x02\x00\x00\x02\x00AW",
+    ),
+];
 
 /// A generator of random numbers (splitmix64).
 #[derive(Clone, Debug)]
@@ -76,8 +125,28 @@ pub enum Shape {
 
 pub const SHAPES: [Shape; 4] = [Shape::One, Shape::Layers, Shape::Rings, Shape::VeryWeak];
 
-/// A random rule that passes rows 1 to 11.
+/// A random rule that passes rows 1 to 11 and 20: no clause of an entry holds
+/// another.
 pub fn rule(random: &mut Random, shape: Shape, states: usize, letters: usize) -> Rule {
+    any_rule(random, shape, states, letters, false)
+}
+
+/// A random rule that passes rows 1 to 11; row 20 as it comes.
+pub fn nested_rule(random: &mut Random, shape: Shape, states: usize, letters: usize) -> Rule {
+    any_rule(random, shape, states, letters, true)
+}
+
+/// How often a clause is drawn again that holds another of its entry or lies in
+/// one.
+const DRAWS: usize = 4;
+
+fn any_rule(
+    random: &mut Random,
+    shape: Shape,
+    states: usize,
+    letters: usize,
+    nested: bool,
+) -> Rule {
     // Layers by place in a random order of the states.
     let mut order: Vec<usize> = (0..states).collect();
     random.shuffle(&mut order);
@@ -107,19 +176,29 @@ pub fn rule(random: &mut Random, shape: Shape, states: usize, letters: usize) ->
                     1 => 8,
                     _ => random.between(1, most),
                 };
-                (0..count)
-                    .map(|_| {
-                        if random.once_in(12) {
-                            return 0;
-                        }
-                        let named = allowed.iter().filter(|_| random.once_in(spare));
-                        let mut clause = named.fold(0, |mask, &to| mask | 1u8 << to);
+                let mut clauses: Vec<u8> = Vec::new();
+                let draws = if nested { count } else { DRAWS * count };
+                for _ in 0..draws {
+                    let mut named = allowed.clone();
+                    if random.once_in(12) {
+                        named.clear();
+                    } else if count == 8 && !nested {
+                        // Parts of one size: many of them, none in another.
+                        random.shuffle(&mut named);
+                        named.truncate(allowed.len().div_ceil(2));
+                    } else {
+                        named.retain(|_| random.once_in(spare));
                         if shape == Shape::Rings && !random.once_in(4) {
-                            clause |= 1 << next;
+                            named.push(next);
                         }
-                        clause
-                    })
-                    .collect()
+                    }
+                    let clause = named.iter().fold(0, |mask, &to| mask | 1u8 << to);
+                    let apart = |&other: &u8| clause & !other != 0 && other & !clause != 0;
+                    if clauses.len() < count && (nested || clauses.iter().all(apart)) {
+                        clauses.push(clause);
+                    }
+                }
+                clauses
             })
             .collect()
     });
@@ -143,6 +222,20 @@ pub fn file(rule: &Rule) -> Vec<u8> {
     file.extend([(c % 256) as u8, (c / 256) as u8]);
     file.extend(TAG);
     file
+}
+
+/// Random names for letters, all different, one after the other.
+pub fn names(random: &mut Random, letters: usize) -> Vec<u8> {
+    let mut names: Vec<Name> = Vec::new();
+    while names.len() < letters {
+        // Few bytes, so that names are often alike.
+        let bytes = random.pick(&[&b"ab "[..], b"FETCH ", b" ~NM"]).to_vec();
+        let name: Name = std::array::from_fn(|_| *random.pick(&bytes));
+        if !names.contains(&name) {
+            names.push(name);
+        }
+    }
+    names.concat()
 }
 
 /// Random letters of a rule.

@@ -47,6 +47,23 @@ impl<'a> Word<'a> {
         }
     }
 
+    /// The letter of a step: "Step 0 of a word stands at place 0, each later
+    /// step, without end, at the place that follows".
+    pub fn at(&self, step: usize) -> u8 {
+        match step.checked_sub(self.lead.len()) {
+            None => self.lead[step],
+            Some(step) => self.cycle[step % self.cycle.len()],
+        }
+    }
+
+    /// Whether two words "agree at every step". Past both lead-ins, both repeat
+    /// after as many steps as the product of their cycles' lengths.
+    pub fn agrees(&self, other: &Word) -> bool {
+        let lead = self.lead.len().max(other.lead.len());
+        let steps = lead + self.cycle.len() * other.cycle.len();
+        (0..steps).all(|step| self.at(step) == other.at(step))
+    }
+
     /// "the last place is followed by the cycle's first"
     pub fn following(&self, place: usize) -> usize {
         if place + 1 == self.places() {
@@ -57,10 +74,10 @@ impl<'a> Word<'a> {
     }
 }
 
-/// "Two words are the same if their lead-ins and their cycles are equal; that
-/// test has no rule and tries rows 12 and 13, first word first."
+/// "Two words are from now on the same if they agree at every step"; the test
+/// "has no rule and tries rows 12 and 13, first word first".
 pub fn same_words(first: [&[u8]; 2], second: [&[u8]; 2]) -> Result<bool, u8> {
     let first = Word::new(first[0], first[1])?;
     let second = Word::new(second[0], second[1])?;
-    Ok(first == second)
+    Ok(first.agrees(&second))
 }

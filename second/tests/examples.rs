@@ -22,7 +22,7 @@ fn start(rule: &[u8], lead: &[u8], cycle: &[u8]) -> Option<usize> {
 
 #[test]
 fn refused_files() {
-    let examples: [(u8, &[u8]); 11] = [
+    let examples: [(u8, &[u8]); 16] = [
         (1, &[0x41, 0x57]),
         (2, &[1, 1, 0, 0, 0, 0, 0x57, 0x41]),
         (3, &[0, 1, 0, 0, 0, 0, 0x41, 0x57]),
@@ -34,6 +34,11 @@ fn refused_files() {
         (9, &[1, 1, 1, 0, 0, 0, 0, 0x41, 0x57]),
         (10, &[2, 1, 1, 1, 0, 0, 1, 0, 0x41, 0x57]),
         (11, &[2, 1, 1, 1, 2, 1, 0, 1, 2, 0, 0x41, 0x57]),
+        (20, &[1, 0, 2, 1, 1, 0, 0, 2, 0, 0x41, 0x57]),
+        (20, &[0, 1, 2, 1, 1, 0, 0, 2, 0, 0x41, 0x57]),
+        (20, &[1, 1, 2, 1, 1, 0, 0, 2, 0, 0x41, 0x57]),
+        (20, &[2, 3, 1, 2, 1, 2, 1, 0, 1, 3, 0, 0x41, 0x57]),
+        (10, &[1, 1, 2, 3, 1, 1, 0, 0, 3, 0, 0x41, 0x57]),
     ];
     for (number, example) in examples {
         assert_eq!(read(example), Err(number));
@@ -73,8 +78,10 @@ fn refused_words() {
     assert_eq!(same_words([&[0], &[]], [&[], &[0; 33]]), Err(12));
     assert_eq!(same_words([&[], &[0; 33]], [&[0], &[]]), Err(13));
     assert_eq!(same_words([&[200], &[1]], [&[200], &[1]]), Ok(true));
-    assert_eq!(same_words([&[1], &[1]], [&[1], &[1, 1]]), Ok(false));
-    assert_eq!(same_words([&[1], &[1]], [&[], &[1]]), Ok(false));
+    assert_eq!(same_words([&[1], &[1]], [&[1], &[1, 1]]), Ok(true));
+    assert_eq!(same_words([&[1], &[1]], [&[], &[1]]), Ok(true));
+    assert_eq!(same_words([&[1], &[1]], [&[1], &[1, 2]]), Ok(false));
+    assert_eq!(same_words([&[2], &[1]], [&[], &[1]]), Ok(false));
 }
 
 #[test]
@@ -133,6 +140,12 @@ fn writer() {
     assert_eq!(write([1, 1, 0, 0], &[1], &[2], 99), Err(10));
     let mixed = write([2, 1, 0, 1], &[1, 1], &[2, 1], 0);
     assert_eq!(mixed, Err(11));
+    assert_eq!(write([2, 1, 0, 1], &[2, 1], &[2, 3, 1], 0), Err(20));
+    assert_eq!(write([2, 1, 0, 1], &[2, 1], &[2, 2, 1], 0), Err(20));
+    assert_eq!(
+        write([2, 1, 0, 1], &[2, 1], &[2, 1, 2], 99),
+        Ok(vec![2, 1, 2, 2, 1, 2, 1, 0, 1, 3, 0, 0x41, 0x57])
+    );
 }
 
 #[test]

@@ -6,24 +6,9 @@ use std::{env, fs, io, path::Path};
 use second::build::build;
 use second::judge::judge;
 use second::rule::{read, same_rules, write};
-use second::sample::{self, Random};
+use second::sample::{self, Random, NESTED, REFUSED};
 use second::table::judge_table;
 use second::word::same_words;
-
-/// The examples of the refusal table, rows 1 to 11.
-const REFUSED: [&[u8]; 11] = [
-    &[0x41, 0x57],
-    &[1, 1, 0, 0, 0, 0, 0x57, 0x41],
-    &[0, 1, 0, 0, 0, 0, 0x41, 0x57],
-    &[1, 0x11, 0, 0, 0, 0, 0x41, 0x57],
-    &[1, 1, 1, 0, 0, 0, 0x41, 0x57],
-    &[1, 1, 0, 2, 0, 0, 0x41, 0x57],
-    &[1, 1, 0, 0, 0, 0, 0x41, 0x57],
-    &[9, 1, 1, 0, 0, 0, 0, 0x41, 0x57],
-    &[1, 1, 1, 0, 0, 0, 0, 0x41, 0x57],
-    &[2, 1, 1, 1, 0, 0, 1, 0, 0x41, 0x57],
-    &[2, 1, 1, 1, 2, 1, 0, 1, 2, 0, 0x41, 0x57],
-];
 
 const F: &[u8] = &sample::F;
 const D: &[u8] = &sample::D;
@@ -32,9 +17,10 @@ const I: &[u8] = &sample::I;
 const Z: &[u8] = &sample::Z;
 
 /// Three files of two states and one letter. The first two are one rule: their
-/// clauses differ and are met by the same sets. The third is another.
+/// clauses stand in another order and are met by the same sets. The third is
+/// another.
 const EITHER: &[u8] = &[1, 2, 0, 2, 1, 2, 1, 0, 0, 3, 0, 0x41, 0x57];
-const EITHER_OR_BOTH: &[u8] = &[2, 1, 3, 0, 3, 1, 2, 1, 0, 0, 4, 0, 0x41, 0x57];
+const OTHER_ORDER: &[u8] = &[2, 1, 0, 2, 1, 2, 1, 0, 0, 3, 0, 0x41, 0x57];
 const BOTH: &[u8] = &[3, 0, 1, 1, 2, 1, 0, 0, 2, 0, 0x41, 0x57];
 
 /// What a lent slice holds before a call.
@@ -154,13 +140,14 @@ impl Calls {
     fn build(&mut self, name: &str, file: &[u8], rooms: [u8; 2]) {
         let built = build(file, rooms[0].into(), rooms[1].into());
         // "unused elements become 0"; "1 to 16 change no lent slice, 17 and 18
-        // set both room slices to zero throughout"
+        // set both room slices to zero throughout"; "refusals from 19 on change
+        // no lent slice"
         let (lists, rest, answer) = match built {
             Ok((codes, transitions)) => {
                 let counts = (codes.len(), transitions.len());
                 ([codes, transitions], 0, Ok(counts))
             }
-            Err(row) if row > 16 => ([vec![], vec![]], 0, Err(row)),
+            Err(row @ (17 | 18)) => ([vec![], vec![]], 0, Err(row)),
             Err(row) => ([vec![], vec![]], LENT.into(), Err(row)),
         };
         let mut holds = Vec::new();
@@ -194,7 +181,7 @@ fn kept(written: &[u8], room: u8) -> Vec<u8> {
 
 /// The refusal table.
 fn refusals(calls: &mut Calls) {
-    for (row, file) in (1..).zip(REFUSED) {
+    for (row, file) in &REFUSED[..11] {
         calls.read(&format!("row {row}, read"), file);
         calls.judge(&format!("row {row}, judge"), file, &[], &[], 0);
         calls.build(&format!("row {row}, build"), file, [1, 1]);
@@ -272,7 +259,7 @@ fn prefaces(calls: &mut Calls) {
         calls.read(&format!("{name} after a preface"), &file);
         calls.read("without its last byte", &file[..file.len() - 1]);
     }
-    let file = [&preface(&mut random, 40)[..], REFUSED[10]].concat();
+    let file = [&preface(&mut random, 40)[..], REFUSED[10].1].concat();
     calls.read("row 11 after a preface", &file);
     calls.judge(
         "case 5 after a preface",
@@ -306,11 +293,73 @@ fn sameness(calls: &mut Calls) {
     calls.same_rules("F after a preface", &[&[7, 8], F].concat(), F);
     calls.same_rules("F and D", F, D);
     calls.same_rules("F and E", F, E);
-    calls.same_rules("the same sets", EITHER, EITHER_OR_BOTH);
+    calls.same_rules("the same sets", EITHER, OTHER_ORDER);
     calls.same_rules("other sets", EITHER, BOTH);
     calls.same_words("one word", [&[200], &[1]], [&[200], &[1]]);
-    calls.same_words("other cycles", [&[1], &[1]], [&[1], &[1, 1]]);
-    calls.same_words("other lead-ins", [&[1], &[1]], [&[], &[1]]);
+    calls.same_words("other cycles", [&[1], &[1]], [&[1], &[1, 2]]);
+    calls.same_words("other lead-ins", [&[2], &[1]], [&[], &[1]]);
+}
+
+/// "20, an entry with a clause that contains another of its clauses, after 10
+/// and before 11"
+fn nested(calls: &mut Calls) {
+    for (name, file) in ["row 20", "row 20, twice"].into_iter().zip(NESTED) {
+        calls.read(&format!("{name}, read"), file);
+        calls.judge(&format!("{name}, judge"), file, &[], &[], 0);
+        calls.build(&format!("{name}, build"), file, [1, 1]);
+        calls.same_rules(&format!("{name}, first rule"), file, &[]);
+        calls.same_rules(&format!("{name}, second rule"), F, file);
+        let (counts, clauses) = (&file[3..5], &file[..3]);
+        calls.write(&format!("{name}, write"), [2, 1, 0, 1], counts, clauses, 1);
+    }
+    let (counts, clauses) = (&[2, 1], &[3, 1, 4]);
+    calls.write("row 10 before 20", [2, 1, 0, 1], counts, clauses, 1);
+}
+
+/// F with names before it; rows 21 to 23.
+fn names(calls: &mut Calls) {
+    let named = |preface: &[u8]| [preface, F].concat();
+    let two = named(b"FETCH   STORE   NM");
+    let three = named(b"a prefaceFETCH   STORE   NM");
+    let other = named(b"FETCH   STORE  aNM");
+    calls.read("names", &two);
+    calls.read("names after a preface", &three);
+    calls.build("names, build", &two, [3, 7]);
+    calls.judge("names, case 5", &two, &[0, 1], &[0], 4);
+    calls.same_rules("names and names", &two, &three);
+    calls.same_rules("other names", &two, &other);
+    calls.same_rules("names and none", &two, F);
+    calls.same_rules("none and names", F, &two);
+    let rows: [(u8, &[u8]); 4] = [
+        (21, b"NM"),
+        (21, b"ETCH   STORE   NM"),
+        (22, b"FETCH   FETCH  \x7fNM"),
+        (23, b"FETCH   FETCH   NM"),
+    ];
+    for (row, preface) in rows {
+        let file = named(preface);
+        calls.read(&format!("row {row}, read"), &file);
+        calls.judge(&format!("row {row}, judge"), &file, &[], &[], 0);
+        calls.build(&format!("row {row}, build"), &file, [1, 1]);
+        calls.same_rules(&format!("row {row}, first rule"), &file, &[]);
+        calls.same_rules(&format!("row {row}, second rule"), F, &file);
+    }
+    let file = [&b"NM"[..], REFUSED[10].1].concat();
+    calls.read("row 11 before 21", &file);
+}
+
+/// Words that "agree at every step", and some that do so for long.
+fn spellings(calls: &mut Calls) {
+    calls.same_words("one duty", [&[0], &[1, 0]], [&[], &[0, 1]]);
+    calls.same_words("the cycle twice", [&[1], &[2]], [&[1], &[2, 2]]);
+    calls.same_words("a lead-in of the cycle", [&[1], &[1]], [&[], &[1]]);
+    calls.same_words("a turned cycle", [&[], &[0, 1]], [&[], &[1, 0]]);
+    let (mut one, mut other) = ([0; 32], [0; 31]);
+    calls.same_words("31 and 32 zeros", [&[], &one], [&[], &other]);
+    (one[31], other[30]) = (1, 1);
+    calls.same_words("unlike at step 30", [&[], &one], [&[], &other]);
+    let lead = [&other[..], &[0]].concat();
+    calls.same_words("unlike at step 62", [&lead, &other], [&lead, &one]);
 }
 
 fn main() -> io::Result<()> {
@@ -321,6 +370,9 @@ fn main() -> io::Result<()> {
     prefaces(&mut calls);
     writer(&mut calls);
     sameness(&mut calls);
+    nested(&mut calls);
+    names(&mut calls);
+    spellings(&mut calls);
     let folder = Path::new(&folder);
     fs::create_dir_all(folder)?;
     fs::write(folder.join("stdin"), calls.stdin)?;
