@@ -75,14 +75,26 @@ $(BUILD)/reference: bench/reference.cpp
 	mkdir -p $(BUILD)
 	$(CXX) -O2 -std=c++17 -o $@ $<
 
-# steps back from all cores of a rule, and nothing else
-PACE := target/bin/pace
-$(PACE): $(SOURCES)
-	rt check pace
+# bench/reference_events.cpp translates a log by the same two tables in C++
+$(BUILD)/reference_events: bench/reference_events.cpp
+	mkdir -p $(BUILD)
+	$(CXX) -O2 -std=c++17 -o $@ $<
 
-bench: $(LIB) $(PACE) $(BUILD)/reference
-	PACE=$(CURDIR)/$(PACE) $(CARGO) run --release --offline --quiet --manifest-path compare/Cargo.toml --bin speed -- $(wildcard $(CURDIR)/bench/*.rule)
+# bench/reference02.cpp trims in place, and next to it with a heap
+$(BUILD)/reference02: bench/reference02.cpp
+	mkdir -p $(BUILD)
+	$(CXX) -O2 -std=c++17 -o $@ $<
+
+# steps back from all cores of a rule, and nothing else
+STEP_BACK := target/bin/bench_step_back
+$(STEP_BACK): $(SOURCES)
+	rt check bench_step_back
+
+bench: $(LIB) $(STEP_BACK) $(BUILD)/reference $(BUILD)/reference02 $(BUILD)/reference_events
+	STEP_BACK=$(CURDIR)/$(STEP_BACK) $(CARGO) run --release --offline --quiet --manifest-path compare/Cargo.toml --bin speed -- $(wildcard $(CURDIR)/bench/*.rule)
 	$(BUILD)/reference $(wildcard bench/*.rule)
+	$(BUILD)/reference02 trim $(wildcard bench/*.rule)
+	$(BUILD)/reference_events
 
 $(BUILD)/%: examples/%.c include/mulgreddi.h $(LIB)
 	$(CC) $(CFLAGS) -Iinclude -o $@ $< $(LIB)
@@ -94,7 +106,7 @@ examples: $(EXAMPLES)
 # what the library and the listing stand on is proved in one go, the listing program while the comparison runs;
 # `rt ci` is last: its closing line is the gate's
 test:
-	rt check $(BELOW) listings printing
+	rt check $(BELOW) listing_spec listing_lines
 	$(MAKE) lib
 	$(MAKE) --jobs=2 BESIDE=1 $(PROGRAM) second compare
 	$(MAKE) listings examples

@@ -1,32 +1,24 @@
 //! Random inputs: rules, whole and damaged files, words.
 
+use second::names::MARK;
 use second::rule::Rule;
 use second::sample::{self, letters, Random, Shape, SHAPES};
-
-/// The examples of the refusal table that are files, with their numbers.
-pub const REFUSED_FILES: [(u8, &[u8]); 11] = [
-    (1, &[0x41, 0x57]),
-    (2, &[1, 1, 0, 0, 0, 0, 0x57, 0x41]),
-    (3, &[0, 1, 0, 0, 0, 0, 0x41, 0x57]),
-    (4, &[1, 0x11, 0, 0, 0, 0, 0x41, 0x57]),
-    (5, &[1, 1, 1, 0, 0, 0, 0x41, 0x57]),
-    (6, &[1, 1, 0, 2, 0, 0, 0x41, 0x57]),
-    (7, &[1, 1, 0, 0, 0, 0, 0x41, 0x57]),
-    (8, &[9, 1, 1, 0, 0, 0, 0, 0x41, 0x57]),
-    (9, &[1, 1, 1, 0, 0, 0, 0, 0x41, 0x57]),
-    (10, &[2, 1, 1, 1, 0, 0, 1, 0, 0x41, 0x57]),
-    (11, &[2, 1, 1, 1, 2, 1, 0, 1, 2, 0, 0x41, 0x57]),
-];
 
 /// The rules of 01.
 pub const RULES: [&[u8]; 5] = [&sample::F, &sample::D, &sample::E, &sample::I, &sample::Z];
 
-/// A file of n states, s letters and `count` clauses per entry, each naming
-/// only its own state: both sides of the limits of rows 3, 4 and 8.
+/// Refused files with their numbers.
+pub fn refused() -> impl Iterator<Item = (u8, &'static [u8])> {
+    sample::REFUSED.into_iter().chain(sample::MISNAMED)
+}
+
+/// A file of n states, s letters and `count` clauses per entry, which name the
+/// states 0, 1, 2 and on: both sides of the limits of rows 3, 4 and 8. With
+/// fewer states than clauses they repeat.
 pub fn limit_file(n: usize, s: usize, count: usize) -> Vec<u8> {
     let mut file = Vec::new();
-    for q in 0..n {
-        file.extend(vec![1u32.wrapping_shl(q as u32) as u8; s * count]);
+    for _ in 0..n * s {
+        file.extend((0..count).map(|clause| 1u32.wrapping_shl((clause % n) as u32) as u8));
     }
     let c = file.len();
     file.extend(vec![count as u8; n * s]);
@@ -61,27 +53,27 @@ pub fn rule(random: &mut Random) -> Rule {
     varied(random, shape, states, alphabet)
 }
 
-/// A random rule, at times with empty entries, empty clauses or eight clauses
-/// per entry throughout.
+/// A random rule, at times with many empty entries or with many that an empty
+/// clause always satisfies.
 pub fn varied(random: &mut Random, shape: Shape, states: usize, alphabet: usize) -> Rule {
     let mut rule = sample::rule(random, shape, states, alphabet);
     let kind = random.below(12);
     for clauses in rule.entries.iter_mut().flatten() {
         match kind {
             0 if random.once_in(2) => clauses.clear(),
-            1 if random.once_in(2) => clauses.push(0),
-            2 if !clauses.is_empty() => {
-                while clauses.len() < 8 {
-                    let more = *random.pick(clauses);
-                    let less = more & random.byte();
-                    clauses.push(less);
-                }
-            }
+            1 if random.once_in(2) => *clauses = vec![0],
             _ => {}
         }
-        clauses.truncate(8);
     }
     rule
+}
+
+/// A rule that may have a clause inside another of its entry.
+pub fn nested_rule(random: &mut Random) -> Rule {
+    let states = random.between(1, 8);
+    let alphabet = random.between(1, 3);
+    let shape = *random.pick(&SHAPES);
+    sample::nested_rule(random, shape, states, alphabet)
 }
 
 /// A preface, mostly short.
@@ -102,8 +94,17 @@ pub fn preface(random: &mut Random) -> Vec<u8> {
             .take(length)
             .collect(),
         1 => vec![0xff; length],
-        _ => random.bytes(length),
+        _ => plain(random, length),
     }
+}
+
+/// Random bytes that name no letters: their end is not the mark of names.
+pub fn plain(random: &mut Random, length: usize) -> Vec<u8> {
+    let mut bytes = random.bytes(length);
+    if bytes.ends_with(&MARK) {
+        bytes[length - 1] = 0;
+    }
+    bytes
 }
 
 /// A file that passes every check.
@@ -112,14 +113,69 @@ pub fn good_file(random: &mut Random) -> Vec<u8> {
         return random.pick(&RULES).to_vec();
     }
     let rule = rule(random);
+    prefaced(random, &rule)
+}
+
+/// The file of a rule after a preface, at times with names at its end.
+pub fn prefaced(random: &mut Random, rule: &Rule) -> Vec<u8> {
     let mut file = preface(random);
+    if random.once_in(6) {
+        file.extend(sample::names(random, rule.letters));
+        file.extend(MARK);
+    }
+    file.extend(sample::file(rule));
+    file
+}
+
+/// Names for s letters, at times with a fault of rows 21 to 23.
+pub fn names(random: &mut Random, s: usize) -> Vec<u8> {
+    let mut names = sample::names(random, s);
+    let at = random.below(names.len());
+    match random.below(12) {
+        0 => drop(names.remove(at)),
+        1 => names.truncate(at),
+        2 => names.insert(at, 0x20),
+        // Bytes at the limits and over them.
+        3 => names[at] = *random.pick(&[0x20, 0x7e]),
+        4 | 5 => names[at] = *random.pick(&[0x1f, 0x1f, 0x7f, 0x7f, 0, 0x80, 0xff]),
+        // Two equal names.
+        6 | 7 if s > 1 => {
+            let (one, other) = (random.below(s), random.below(s));
+            names.copy_within(8 * one..8 * one + 8, 8 * other);
+        }
+        _ => {}
+    }
+    names
+}
+
+/// A rule's file with names that may be faulty, or with a mark that may be one
+/// byte off.
+fn named_file(random: &mut Random) -> Vec<u8> {
+    let mut file = if random.once_in(2) {
+        preface(random)
+    } else {
+        Vec::new()
+    };
+    let rule = match random.below(8) {
+        0 => nested_rule(random),
+        _ => rule(random),
+    };
+    file.extend(names(random, rule.letters));
+    file.extend(match random.below(16) {
+        0 => vec![0x4e],
+        1 => vec![0x4d, 0x4e],
+        2 => vec![0x4e, 0x4d, random.byte()],
+        3 => vec![0x4e, 0x4d ^ 1 << random.below(8)],
+        4 => vec![0x4e ^ 1 << random.below(8), 0x4d],
+        _ => MARK.to_vec(),
+    });
     file.extend(sample::file(&rule));
     file
 }
 
 /// A file that may have faults of any row.
 pub fn any_file(random: &mut Random) -> Vec<u8> {
-    match random.below(24) {
+    match random.below(27) {
         0..=9 => good_file(random),
         10 => {
             let length = random.between(0, 24);
@@ -129,13 +185,16 @@ pub fn any_file(random: &mut Random) -> Vec<u8> {
             }
             file
         }
-        11 => random.pick(&REFUSED_FILES).1.to_vec(),
+        11 if random.once_in(4) => random.pick(&sample::MISNAMED).1.to_vec(),
+        11 => random.pick(&sample::REFUSED).1.to_vec(),
         12 => {
             let (n, s, count) = *random.pick(&LIMITS);
             limit_file(n, s, count)
         }
         13 => small_trailer(random),
         14 => mixed_file(random),
+        15 => sample::file(&nested_rule(random)),
+        16..=17 => named_file(random),
         _ => {
             let mut file = if random.once_in(4) {
                 good_file(random)
@@ -266,6 +325,26 @@ pub fn word(random: &mut Random, alphabet: usize) -> [Vec<u8>; 2] {
             }
         }
         _ => {}
+    }
+    [lead, cycle]
+}
+
+/// The same endless letters, mostly laid out in another way, within the limits
+/// where the word is.
+pub fn respelled(random: &mut Random, mut lead: Vec<u8>, mut cycle: Vec<u8>) -> [Vec<u8>; 2] {
+    if cycle.is_empty() {
+        return [lead, cycle];
+    }
+    let most = random.between(1, 32);
+    let (times, length) = (random.between(1, 4), cycle.len());
+    if times * length <= most {
+        cycle = cycle.repeat(times);
+    }
+    for _ in 0..random.below(12) {
+        if lead.len() < most {
+            lead.push(cycle[0]);
+            cycle.rotate_left(1);
+        }
     }
     [lead, cycle]
 }

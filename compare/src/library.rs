@@ -23,6 +23,20 @@ extern "C" {
         out: *mut u8,
         out_length: usize,
     ) -> Answer;
+    pub fn mulgreddi_write_named(
+        n: u32,
+        s: u32,
+        initial: u32,
+        accepting: u32,
+        counts: *const u8,
+        counts_length: usize,
+        clauses: *const u8,
+        clauses_length: usize,
+        names: *const u8,
+        names_length: usize,
+        out: *mut u8,
+        out_length: usize,
+    ) -> Answer;
     pub fn mulgreddi_same_rules(
         first: *const u8,
         first_length: usize,
@@ -70,5 +84,55 @@ extern "C" {
         transitions_length: usize,
         scratch: *mut u8,
         scratch_length: usize,
+    ) -> Answer;
+    pub fn mulgreddi_tidy(
+        file: *const u8,
+        file_length: usize,
+        out: *mut u8,
+        out_length: usize,
+    ) -> Answer;
+    pub fn mulgreddi_mixed_loop(
+        file: *const u8,
+        file_length: usize,
+        out: *mut u8,
+        out_length: usize,
+    ) -> Answer;
+    pub fn mulgreddi_tidy_word(
+        lead: *const u8,
+        lead_length: usize,
+        cycle: *const u8,
+        cycle_length: usize,
+        out: *mut u8,
+        out_length: usize,
+    ) -> Answer;
+    pub fn mulgreddi_judge_choices(
+        file: *const u8,
+        file_length: usize,
+        lead: *const u8,
+        lead_length: usize,
+        cycle: *const u8,
+        cycle_length: usize,
+        masks: *mut u8,
+        masks_length: usize,
+        choices: *mut u8,
+        choices_length: usize,
+    ) -> Answer;
+    pub fn mulgreddi_translate(
+        file: *const u8,
+        file_length: usize,
+        events: *const u8,
+        events_length: usize,
+        log: *const u8,
+        log_length: usize,
+        letters: *mut u8,
+        letters_length: usize,
+    ) -> Answer;
+    pub fn mulgreddi_build_trimmed(
+        file: *const u8,
+        file_length: usize,
+        codes: *mut u64,
+        codes_length: usize,
+        transitions: *mut u64,
+        transitions_length: usize,
     ) -> Answer;
 }

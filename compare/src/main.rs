@@ -3,15 +3,15 @@
 //! `compare [--seed N] [--seconds S]`: a seed repeats a run; with seconds it
 //! runs on with new seeds until the time is up.
 
-mod bench;
 mod entries;
+mod harness;
 mod input;
 mod lend;
 
 use std::process::ExitCode;
 use std::time::{Duration, Instant};
 
-use bench::Bench;
+use harness::Harness;
 
 /// The number that follows a flag.
 fn argument(flag: &str) -> Option<u64> {
@@ -25,22 +25,22 @@ fn main() -> ExitCode {
     let first_seed = argument("--seed").unwrap_or(1);
     let until = argument("--seconds").map(|s| Instant::now() + Duration::from_secs(s));
     let entries = entries::all();
-    let mut bench = Bench::new();
+    let mut harness = Harness::new();
     let mut seed = first_seed;
     // The first round is always whole, later ones stop when the time is up.
     for (number, entry) in (0..).zip(&entries) {
-        bench.round(entry, number, seed, None);
+        harness.round(entry, number, seed, None);
     }
     while until.is_some_and(|until| Instant::now() < until) {
         seed = seed.wrapping_add(1);
         for (number, entry) in (0..).zip(&entries) {
             if until.is_some_and(|until| Instant::now() < until) {
-                bench.round(entry, number, seed, until);
+                harness.round(entry, number, seed, until);
             }
         }
     }
     println!("seeds {first_seed} to {seed}");
-    if bench.report(&entries) {
+    if harness.report(&entries) {
         println!("no difference");
         ExitCode::SUCCESS
     } else {

@@ -1,22 +1,47 @@
-//! Stored rules close to the caps of the rooms, and over each.
+//! Stored rules close to the caps of the rooms, at them, and over each.
+
+/// A rule file with its counts of macrostates and transitions.
+pub type Stored = (&'static [u8], usize, usize);
 
 /// Rules of several components and sixteen letters whose tables nearly fill
-/// both rooms, with their counts of macrostates and transitions.
-pub const LARGE: [(&str, usize, usize); 3] = [
-    (include_str!("large-1.txt"), 62_326, 929_424),
-    (include_str!("large-2.txt"), 64_656, 1_021_215),
-    (include_str!("large-3.txt"), 62_744, 939_717),
+/// both rooms.
+pub const LARGE: [Stored; 3] = [
+    (
+        include_bytes!("../../bench/cap_62_s16.rule"),
+        64_179,
+        1_048_546,
+    ),
+    (
+        include_bytes!("../../bench/trans_1_0.rule"),
+        58_914,
+        896_021,
+    ),
+    (include_bytes!("../../bench/tsJ_3_0.rule"), 60_578, 900_235),
 ];
 
-/// Rules with more macrostates, and with more transitions alone, than room
+/// Rules that fill the room of the macrostates, and that of the transitions,
+/// to the last element.
+pub const FULL: [Stored; 2] = [
+    (include_bytes!("../data/m65536_s1.rule"), 65_536, 64_275),
+    (include_bytes!("../data/t1048576.rule"), 64_179, 1_048_576),
+];
+
+/// Rules with one macrostate more, and with one transition more, than room
 /// counts, however long the slices are.
-pub const OVER: [(&str, usize, usize); 2] = [
-    (include_str!("over-1.txt"), 78_835, 137_030),
-    (include_str!("over-2.txt"), 62_332, 1_052_364),
+pub const OVER: [Stored; 2] = [
+    (include_bytes!("../data/m65537_s1.rule"), 65_537, 61_419),
+    (include_bytes!("../data/t1048577.rule"), 64_179, 1_048_577),
 ];
 
-/// The bytes of hexadecimal text.
-pub fn from_hex(text: &str) -> Vec<u8> {
-    let digits: Vec<u32> = text.chars().filter_map(|c| c.to_digit(16)).collect();
-    digits.chunks(2).map(|p| (p[0] * 16 + p[1]) as u8).collect()
-}
+/// Rules with their counts, and the counts of what matters of them.
+pub const TRIMMED: [(Stored, (usize, usize)); 2] = [
+    (LARGE[2], (2, 32)),
+    (
+        (
+            include_bytes!("../../bench/trans_1_1.rule"),
+            59_437,
+            831_710,
+        ),
+        (29_899, 438_932),
+    ),
+];

@@ -12,17 +12,23 @@ use std::io::Write;
 use std::process::{Command, ExitCode, Stdio};
 use std::time::Instant;
 
-use compare::stored::from_hex;
-use input::{any_file, varied, REFUSED_FILES, RULES};
+use input::{any_file, refused, varied, RULES};
 use second::listing::{listing, INPUT};
+use second::names::MARK;
 use second::sample::{self, Random, SHAPES};
 
 /// Rules at both sides of the rooms, with what line one says of them.
-const ROOMS: [(&str, &str); 4] = [
-    (include_str!("../room-512.txt"), "built 512 1045"),
-    (include_str!("../room-513.txt"), "refused 17"),
-    (include_str!("../room-4096.txt"), "built 404 4096"),
-    (include_str!("../room-4097.txt"), "refused 18"),
+const ROOMS: [(&[u8], &str); 4] = [
+    (
+        include_bytes!("../../data/room_m512.rule"),
+        "built 512 1558",
+    ),
+    (include_bytes!("../../data/room_m513.rule"), "refused 17"),
+    (
+        include_bytes!("../../data/room_t4096.rule"),
+        "built 511 4096",
+    ),
+    (include_bytes!("../../data/room_t4097.rule"), "refused 18"),
 ];
 
 /// Random files, and random rules whose tables mostly fit the rooms.
@@ -30,7 +36,8 @@ const FILES: usize = 500;
 const TABLES: usize = 500;
 
 /// What line one can be, each of which must be seen.
-const KINDS: [&str; 15] = [
+const KINDS: [&str; 20] = [
+    "names",
     "built",
     "long",
     "refused 1",
@@ -44,6 +51,10 @@ const KINDS: [&str; 15] = [
     "refused 9",
     "refused 10",
     "refused 11",
+    "refused 20",
+    "refused 21",
+    "refused 22",
+    "refused 23",
     "refused 17",
     "refused 18",
 ];
@@ -96,6 +107,9 @@ impl Comparison {
             Some(("built", _)) => "built".to_string(),
             _ => first.clone(),
         };
+        if expected.contains("\nn ") {
+            *self.seen.entry("names".to_string()).or_default() += 1;
+        }
         *self.seen.entry(kind).or_default() += 1;
         first
     }
@@ -120,7 +134,7 @@ fn prefaced(rule: &[u8], length: usize) -> Vec<u8> {
 }
 
 fn limits(comparison: &mut Comparison) {
-    for (number, file) in REFUSED_FILES {
+    for (number, file) in refused() {
         comparison.compare_as(file, &format!("refused {number}"));
     }
     comparison.compare_as(&[], "refused 1");
@@ -135,8 +149,8 @@ fn limits(comparison: &mut Comparison) {
     }
     let long = prefaced(RULES[0], INPUT + 1);
     comparison.compare_pieces(&[&long[..INPUT], &long[INPUT..]]);
-    for (text, said) in ROOMS {
-        comparison.compare_as(&from_hex(text), said);
+    for (file, said) in ROOMS {
+        comparison.compare_as(file, said);
     }
 }
 
@@ -165,14 +179,21 @@ fn main() -> ExitCode {
         let alphabet = *random.pick(&[1, 2, 2, 3, 3, 16]);
         let shape = *random.pick(&SHAPES);
         let rule = varied(random, shape, states, alphabet);
-        comparison.compare(&sample::file(&rule));
+        let mut file = Vec::new();
+        if random.once_in(2) {
+            file.extend(sample::names(random, rule.letters));
+            file.extend(MARK);
+        }
+        file.extend(sample::file(&rule));
+        comparison.compare(&file);
     }
     let seen = |kind: &str| comparison.seen.get(kind).copied().unwrap_or(0);
     println!(
-        "listings: {} compared in {:.1} s; served {}, long {}",
-        comparison.seen.values().sum::<usize>(),
+        "listings: {} compared in {:.1} s; served {}, {} of them with names, long {}",
+        comparison.seen.values().sum::<usize>() - seen("names"),
         start.elapsed().as_secs_f64(),
         seen("built"),
+        seen("names"),
         seen("long")
     );
     let refusals = KINDS.iter().filter_map(|kind| {

@@ -1,18 +1,25 @@
 //! Times of the library beside those of the second program, on the same
-//! inputs in one run. `speed FILE..` builds these rule files too. `PACE` names
+//! inputs in one run. `speed FILE..` builds these rule files too. `STEP_BACK` names
 //! the program that does nothing but step back from all cores of a rule.
 
+use std::ffi::c_long;
 use std::hint::black_box;
 use std::io::Write;
 use std::process::{Command, Stdio};
 use std::time::{Duration, Instant};
 
-use compare::library::{mulgreddi_build, mulgreddi_judge, mulgreddi_judge_table, Answer};
-use compare::stored::{from_hex, LARGE, OVER};
+use compare::library::{
+    mulgreddi_build, mulgreddi_build_trimmed, mulgreddi_judge, mulgreddi_judge_choices,
+    mulgreddi_judge_table, mulgreddi_tidy_word, mulgreddi_translate, Answer,
+};
+use compare::stored::{LARGE, OVER};
 use second::build::build;
+use second::choices::judge_choices;
+use second::events::translate;
 use second::judge::judge;
 use second::rule::Rule;
 use second::sample::{self, Random, Shape};
+use second::spelling::tidy_word;
 
 /// The shortest of some runs.
 fn shortest(runs: usize, mut call: impl FnMut()) -> Duration {
@@ -29,6 +36,21 @@ fn time(call: impl FnMut()) -> Duration {
     shortest(3, call)
 }
 
+extern "C" {
+    fn clock() -> c_long;
+}
+
+/// The least CPU time of some runs, in milliseconds: for calls that are long.
+fn cpu(runs: usize, mut call: impl FnMut()) -> f64 {
+    let run = |call: &mut dyn FnMut()| {
+        let start = unsafe { clock() };
+        call();
+        unsafe { clock() - start }
+    };
+    let least = (0..runs).map(|_| run(&mut call)).min().unwrap();
+    least as f64 / 1e3
+}
+
 /// Mean and longest, in microseconds.
 fn figures(times: &[Duration]) -> String {
     let mean = times.iter().sum::<Duration>().as_secs_f64() / times.len() as f64;
@@ -36,10 +58,11 @@ fn figures(times: &[Duration]) -> String {
     format!("{:8.1} {:8.1}", mean * 1e6, longest * 1e6)
 }
 
-/// The judge on words of 64 places.
+/// The judge on words of 64 places, and the judge that shows the choices.
 fn judge_times(shape: Shape, name: &str, states: usize, letters: usize) {
     let mut random = Random::new(7);
     let (mut ours, mut theirs) = (Vec::new(), Vec::new());
+    let (mut our_choices, mut their_choices) = (Vec::new(), Vec::new());
     for _ in 0..500 {
         let file = sample::file(&sample::rule(&mut random, shape, states, letters));
         let lead = sample::letters(&mut random, letters, 32);
@@ -63,11 +86,160 @@ fn judge_times(shape: Shape, name: &str, states: usize, letters: usize) {
         theirs.push(time(|| {
             black_box(judge(&file, &lead, &cycle, 64).is_ok());
         }));
+        let mut choices = [0u8; 512];
+        our_choices.push(time(|| {
+            let answer = unsafe {
+                mulgreddi_judge_choices(
+                    file.as_ptr(),
+                    file.len(),
+                    lead.as_ptr(),
+                    lead.len(),
+                    cycle.as_ptr(),
+                    cycle.len(),
+                    masks.as_mut_ptr(),
+                    masks.len(),
+                    choices.as_mut_ptr(),
+                    choices.len(),
+                )
+            };
+            black_box((answer.refusal, answer.first, answer.second));
+        }));
+        their_choices.push(time(|| {
+            black_box(judge_choices(&file, &lead, &cycle, 64, 512).is_ok());
+        }));
+    }
+    for (call, ours, theirs) in [
+        ("judge", ours, theirs),
+        ("judge_choices", our_choices, their_choices),
+    ] {
+        println!(
+            "{call:13} {name:12} {states} states {letters:2} letters {} {}",
+            figures(&ours),
+            figures(&theirs)
+        );
+    }
+}
+
+/// The tidy spelling of words of 64 places that repeat a part.
+fn spelling_times(part: usize) {
+    let mut random = Random::new(9);
+    let (mut ours, mut theirs) = (Vec::new(), Vec::new());
+    for _ in 0..500 {
+        let letters = sample::letters(&mut random, 2, part).repeat(64);
+        let (lead, cycle) = (&letters[..32], &letters[32..64]);
+        let mut out = [0u8; 64];
+        ours.push(time(|| {
+            let answer = unsafe {
+                mulgreddi_tidy_word(
+                    lead.as_ptr(),
+                    lead.len(),
+                    cycle.as_ptr(),
+                    cycle.len(),
+                    out.as_mut_ptr(),
+                    out.len(),
+                )
+            };
+            black_box((answer.refusal, answer.first, answer.second));
+        }));
+        theirs.push(time(|| {
+            black_box(tidy_word(lead, cycle).is_ok());
+        }));
     }
     println!(
-        "judge {name:12} {states} states {letters:2} letters {} {}",
+        "tidy_word     a part of {part:2} letters      {} {}",
         figures(&ours),
         figures(&theirs)
+    );
+}
+
+/// Ten million events by a table of 64 lines, as bench/reference_events.cpp makes them.
+fn translate_times() {
+    const EVENTS: usize = 10_000_000;
+    let file = sample::file(&Rule {
+        states: 1,
+        letters: 16,
+        initial: 0,
+        accepting: 0,
+        entries: vec![vec![vec![0]; 16]],
+    });
+    let lines = (0..63usize).flat_map(|line| {
+        let kinds = [4 * line, (4 * line + 7).min(255)];
+        [kinds[0], kinds[1], 0, 127 + line, line % 16]
+    });
+    let mut table: Vec<u8> = lines.map(|byte| byte as u8).collect();
+    table.extend([0, 255, 0, 255, 15]);
+    let mut x = 1u64;
+    let mut byte = || {
+        x = x
+            .wrapping_mul(6_364_136_223_846_793_005)
+            .wrapping_add(1_442_695_040_888_963_407);
+        (x >> 56) as u8
+    };
+    let log: Vec<u8> = (0..2 * EVENTS).map(|_| byte()).collect();
+    let mut letters = vec![0u8; EVENTS];
+    let mut answer = Answer {
+        refusal: 0,
+        first: 0,
+        second: 0,
+    };
+    let ours = cpu(5, || {
+        answer = unsafe {
+            mulgreddi_translate(
+                file.as_ptr(),
+                file.len(),
+                table.as_ptr(),
+                table.len(),
+                log.as_ptr(),
+                log.len(),
+                letters.as_mut_ptr(),
+                letters.len(),
+            )
+        };
+    });
+    let theirs = cpu(1, || {
+        black_box(translate(&file, &table, &log, EVENTS).is_ok());
+    });
+    let sum: u64 = letters.iter().map(|&letter| u64::from(letter)).sum();
+    println!(
+        "translate {ours:9.1} {theirs:9.1}  {} {} letters, sum {sum}",
+        answer.refusal, answer.first
+    );
+}
+
+/// A build at full room beside the build of what matters.
+fn trim_times(name: &str, file: &[u8]) {
+    let mut codes = vec![0u64; 65_536];
+    let mut transitions = vec![0u64; 1_048_576];
+    let calls: [unsafe extern "C" fn(*const u8, usize, *mut u64, usize, *mut u64, usize) -> Answer;
+        2] = [mulgreddi_build, mulgreddi_build_trimmed];
+    let both = calls.map(|call| {
+        let mut answer = Answer {
+            refusal: 0,
+            first: 0,
+            second: 0,
+        };
+        let milliseconds = cpu(3, || {
+            answer = unsafe {
+                call(
+                    file.as_ptr(),
+                    file.len(),
+                    codes.as_mut_ptr(),
+                    codes.len(),
+                    transitions.as_mut_ptr(),
+                    transitions.len(),
+                )
+            };
+        });
+        (milliseconds, answer)
+    });
+    let [(whole, built), (trimmed, kept)] = both;
+    println!(
+        "trim {name:52} {whole:9.1} {trimmed:9.1} {:9.1}  {} {} to {} {}",
+        trimmed - whole,
+        built.first,
+        built.second,
+        kept.first,
+        kept.second
     );
 }
 
@@ -87,7 +259,16 @@ fn composed(random: &mut Random, sizes: &[(usize, bool)], letters: usize, most: 
             };
             let entry = |random: &mut Random| -> Vec<u8> {
                 let count = random.between(1, most);
-                (0..count).map(|_| clause(random)).collect()
+                let mut clauses: Vec<u8> = Vec::new();
+                // No clause inside another.
+                for _ in 0..4 * count {
+                    let clause = clause(random);
+                    let apart = |&other: &u8| clause & !other != 0 && other & !clause != 0;
+                    if clauses.len() < count && clauses.iter().all(apart) {
+                        clauses.push(clause);
+                    }
+                }
+                clauses
             };
             entries.push((0..letters).map(|_| entry(random)).collect());
         }
@@ -209,8 +390,8 @@ fn table_times(name: &str, file: &[u8]) {
     );
 }
 
-/// What the program `pace` prints of a rule file.
-fn pace(program: &str, file: &[u8]) -> String {
+/// What the program `bench_step_back` prints of a rule file.
+fn step_back(program: &str, file: &[u8]) -> String {
     let mut child = Command::new(program)
         .stdin(Stdio::piped())
         .stdout(Stdio::piped())
@@ -225,10 +406,10 @@ fn pace(program: &str, file: &[u8]) -> String {
 fn step_times(program: &str, name: &str, sizes: &[(usize, bool)], letters: usize, most: usize) {
     let file = sample::file(&composed(&mut Random::new(3), sizes, letters, most));
     let start = shortest(20, || {
-        black_box(pace(program, &[]));
+        black_box(step_back(program, &[]));
     });
     let mut said = String::new();
-    let whole = shortest(20, || said = pace(program, &file));
+    let whole = shortest(20, || said = step_back(program, &file));
     let number = |name: &str| -> u64 {
         let line = said.lines().find_map(|line| line.strip_prefix(name));
         line.and_then(|number| number.trim().parse().ok())
@@ -246,7 +427,7 @@ fn step_times(program: &str, name: &str, sizes: &[(usize, bool)], letters: usize
 fn main() {
     let (no, yes) = (false, true);
     let eight: Vec<_> = (0..8).map(|q| (1, q % 2 == 1)).collect();
-    if let Ok(program) = std::env::var("PACE") {
+    if let Ok(program) = std::env::var("STEP_BACK") {
         println!("nanoseconds a core and letter: the step back, with the walk over all cores");
         for most in [1, 8] {
             step_times(&program, "7 + 1", &[(7, yes), (1, no)], 16, most);
@@ -269,12 +450,12 @@ fn main() {
         build_times("7 + 1", &[(7, yes), (1, no)], letters, most);
         build_times("eight of 1", &eight, letters, most);
     }
-    for (number, (text, ..)) in (1..).zip(LARGE) {
-        build_time(&format!("close to both caps, {number}"), &from_hex(text));
+    for (number, (file, ..)) in (1..).zip(LARGE) {
+        build_time(&format!("close to both caps, {number}"), file);
     }
     let caps = ["macrostates", "transitions"];
-    for (what, (text, ..)) in caps.into_iter().zip(OVER) {
-        build_time(&format!("more {what} than any room"), &from_hex(text));
+    for (what, (file, ..)) in caps.into_iter().zip(OVER) {
+        build_time(&format!("more {what} than any room"), file);
     }
     for path in std::env::args().skip(1) {
         let file = std::fs::read(&path).unwrap_or_else(|error| panic!("{path}: {error}"));
@@ -287,7 +468,17 @@ fn main() {
         let file = std::fs::read(&path).unwrap_or_else(|error| panic!("{path}: {error}"));
         table_times(&path, &file);
     }
-    println!("microseconds a call                    library: mean, longest; second program: mean, longest");
+    println!("CPU milliseconds: build, build of what matters, the difference; macrostates transitions before and after");
+    for path in std::env::args().skip(1) {
+        let file = std::fs::read(&path).unwrap_or_else(|error| panic!("{path}: {error}"));
+        trim_times(&path, &file);
+    }
+    println!("CPU milliseconds for ten million events: library, second program");
+    translate_times();
+    println!("microseconds a call                           library: mean, longest; second program: mean, longest");
+    for part in [1, 5, 31] {
+        spelling_times(part);
+    }
     for states in [2, 5, 8] {
         for letters in [2, 16] {
             judge_times(Shape::One, "one", states, letters);

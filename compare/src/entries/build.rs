@@ -1,45 +1,62 @@
 //! The build.
 
-use compare::library::mulgreddi_build;
-use compare::stored::{from_hex, LARGE, OVER};
+use compare::library::{mulgreddi_build, Answer};
+use compare::stored::{FULL, LARGE, OVER};
 use second::build::{build, reachable, MACROSTATE_CAP, TRANSITION_CAP};
 use second::rule::{read, Rule};
 use second::sample::{self, Random, Shape, D, E, F, I, SHAPES, Z};
+use second::tidy::tidy_rule;
 
-use crate::bench::{Bench, Entry};
-use crate::input::{any_file, preface, varied, REFUSED_FILES};
+use crate::harness::{Entry, Harness, RULE};
+use crate::input::{any_file, prefaced, refused, varied};
 
 pub const ENTRY: Entry = Entry {
     name: "build",
-    refusals: &[1, 2, 3, 4, 5, 6, 7, 8, 9, 10, 11, 17, 18],
+    refusals: &[RULE, &[17, 18]],
     verdict: false,
+    kinds: &[],
     round: 12_000,
     examples,
     random,
 };
 
 /// Macrostates and transitions, or a refusal.
-type Built = Result<(Vec<u64>, Vec<u64>), u8>;
+pub type Built = Result<(Vec<u64>, Vec<u64>), u8>;
 
-fn compare(bench: &mut Bench, file: &[u8], macrostate_room: usize, transition_room: usize) {
+/// An entry that builds.
+type Build = unsafe extern "C" fn(*const u8, usize, *mut u64, usize, *mut u64, usize) -> Answer;
+
+fn compare(harness: &mut Harness, file: &[u8], macrostate_room: usize, transition_room: usize) {
     let built = build(file, macrostate_room, transition_room);
-    compare_with(bench, file, macrostate_room, transition_room, &built);
+    compare_with(harness, file, macrostate_room, transition_room, &built);
 }
 
 /// Compares with what the second program has built already.
 fn compare_with(
-    bench: &mut Bench,
+    harness: &mut Harness,
     file: &[u8],
     macrostate_room: usize,
     transition_room: usize,
     built: &Built,
 ) {
-    let codes = bench.pattern(macrostate_room * 8);
-    let transitions = bench.pattern(transition_room * 8);
-    bench.begin();
-    let file = bench.lend("file", file);
-    let lent_codes = bench.lend_room("codes", &codes);
-    let lent_transitions = bench.lend_room("transitions", &transitions);
+    let rooms = [macrostate_room, transition_room];
+    compare_rooms(harness, mulgreddi_build, file, rooms, built);
+}
+
+/// A call of an entry that builds, and both rooms after it.
+pub fn compare_rooms(
+    harness: &mut Harness,
+    build: Build,
+    file: &[u8],
+    [macrostate_room, transition_room]: [usize; 2],
+    built: &Built,
+) {
+    let codes = harness.pattern(macrostate_room * 8);
+    let transitions = harness.pattern(transition_room * 8);
+    harness.begin();
+    let file = harness.lend("file", file);
+    let lent_codes = harness.lend_room("codes", &codes);
+    let lent_transitions = harness.lend_room("transitions", &transitions);
     let filled = |numbers: &[u64], room: usize| {
         let mut bytes: Vec<u8> = numbers.iter().flat_map(|x| x.to_ne_bytes()).collect();
         // "unused elements become 0"
@@ -48,23 +65,26 @@ fn compare_with(
     };
     let expected = match built {
         Ok((codes, transitions)) => {
-            bench.expect(lent_codes, filled(codes, macrostate_room));
-            bench.expect(lent_transitions, filled(transitions, transition_room));
+            harness.expect(lent_codes, filled(codes, macrostate_room));
+            harness.expect(lent_transitions, filled(transitions, transition_room));
             Ok((codes.len() as u64, transitions.len() as u64))
         }
         Err(number) => {
             // "17 and 18 set both room slices to zero throughout"
-            if *number > 16 {
-                bench.expect(lent_codes, filled(&[], macrostate_room));
-                bench.expect(lent_transitions, filled(&[], transition_room));
+            if matches!(number, 17 | 18) {
+                harness.expect(lent_codes, filled(&[], macrostate_room));
+                harness.expect(lent_transitions, filled(&[], transition_room));
             }
             Err(*number)
         }
     };
-    let file = bench.bytes(file);
-    let (codes, transitions) = (bench.numbers(lent_codes), bench.numbers(lent_transitions));
-    bench.call(expected, || unsafe {
-        mulgreddi_build(
+    let file = harness.bytes(file);
+    let (codes, transitions) = (
+        harness.numbers(lent_codes),
+        harness.numbers(lent_transitions),
+    );
+    harness.call(expected, || unsafe {
+        build(
             file.0,
             file.1,
             codes.0,
@@ -75,11 +95,11 @@ fn compare_with(
     });
 }
 
-fn examples(bench: &mut Bench) {
-    for (number, file) in REFUSED_FILES {
+fn examples(harness: &mut Harness) {
+    for (number, file) in refused() {
         for rooms in [(0, 0), (9, 9)] {
-            bench.by_01(&build(file, rooms.0, rooms.1), &Err(number));
-            compare(bench, file, rooms.0, rooms.1);
+            harness.by_01(&build(file, rooms.0, rooms.1), &Err(number));
+            compare(harness, file, rooms.0, rooms.1);
         }
     }
     // Every room around the counts that 01 gives, and what they answer.
@@ -97,8 +117,8 @@ fn examples(bench: &mut Bench) {
                 };
                 let built = build(file, macrostate_room, transition_room);
                 let counts = built.as_ref().map(|(c, t)| (c.len(), t.len()));
-                bench.by_01(&counts.map_err(|number| *number), &said);
-                compare_with(bench, file, macrostate_room, transition_room, &built);
+                harness.by_01(&counts.map_err(|number| *number), &said);
+                compare_with(harness, file, macrostate_room, transition_room, &built);
             }
         }
         // Rooms at and over the caps.
@@ -108,62 +128,60 @@ fn examples(bench: &mut Bench) {
             (MACROSTATE_CAP * 2, 99),
             (99, TRANSITION_CAP * 2),
         ] {
-            compare(bench, file, macrostate_room, transition_room);
+            compare(harness, file, macrostate_room, transition_room);
         }
     }
-    bench.by_01(&build(&E, 9, 9), &Ok((vec![1], vec![0])));
-    bench.by_01(&build(&Z, 9, 9), &Ok((vec![1], vec![])));
-    one_component(bench);
-    large(bench);
-    over_the_caps(bench);
+    harness.by_01(&build(&E, 9, 9), &Ok((vec![1], vec![0])));
+    harness.by_01(&build(&Z, 9, 9), &Ok((vec![1], vec![])));
+    one_component(harness);
+    large(harness);
+    over_the_caps(harness);
 }
 
 /// "One rejecting component of seven or eight states holding the initial state
 /// therefore always meets 17", in any room; one state fewer is served.
-fn one_component(bench: &mut Bench) {
+fn one_component(harness: &mut Harness) {
     for states in [6, 7, 8] {
         let mut file: Vec<u8> = (0..states).map(|q| 1 << ((q + 1) % states)).collect();
         file.extend(vec![1; states]);
         file.extend([states as u8, 1, 0, 0, states as u8, 0, 0x41, 0x57]);
         let built = build(&file, usize::MAX, usize::MAX);
-        bench.by_01(&built.is_ok(), &(states == 6));
+        harness.by_01(&built.is_ok(), &(states == 6));
         for room in [MACROSTATE_CAP, 85_219, 85_220, 85_221] {
-            compare_with(bench, &file, room, 200_000, &built);
+            compare_with(harness, &file, room, 200_000, &built);
         }
     }
 }
 
-fn large(bench: &mut Bench) {
-    for (text, macrostates, transitions) in LARGE {
-        let file = from_hex(text);
-        let built = build(&file, MACROSTATE_CAP, TRANSITION_CAP);
+fn large(harness: &mut Harness) {
+    for (file, macrostates, transitions) in LARGE.into_iter().chain(FULL) {
+        let built = build(file, MACROSTATE_CAP, TRANSITION_CAP);
         let counts = built.as_ref().map(|(c, t)| (c.len(), t.len()));
-        bench.by_01(&counts, &Ok((macrostates, transitions)));
-        compare_with(bench, &file, macrostates, transitions, &built);
+        harness.by_01(&counts, &Ok((macrostates, transitions)));
+        compare_with(harness, file, macrostates, transitions, &built);
         let (most, all) = (MACROSTATE_CAP + 9, TRANSITION_CAP + 9);
-        compare_with(bench, &file, most, all, &built);
-        compare_with(bench, &file, macrostates - 1, transitions, &Err(17));
-        compare_with(bench, &file, macrostates, transitions - 1, &Err(18));
+        compare_with(harness, file, most, all, &built);
+        compare_with(harness, &file, macrostates - 1, transitions, &Err(17));
+        compare_with(harness, file, macrostates, transitions - 1, &Err(18));
     }
 }
 
 /// "Room counts at most 65,536 macrostates and 1,048,576 transitions."
-fn over_the_caps(bench: &mut Bench) {
-    for ((text, macrostates, transitions), number) in OVER.into_iter().zip([17, 18]) {
-        let file = from_hex(text);
-        let (rule, _) = read(&file).unwrap();
+fn over_the_caps(harness: &mut Harness) {
+    for ((file, macrostates, transitions), number) in OVER.into_iter().zip([17, 18]) {
+        let (rule, _) = read(file).unwrap();
         let (codes, listed) = reachable(&rule, macrostates, transitions).unwrap();
-        bench.by_01(&(codes.len(), listed.len()), &(macrostates, transitions));
+        harness.by_01(&(codes.len(), listed.len()), &(macrostates, transitions));
+        harness.by_01(&build(file, macrostates, transitions), &Err(number));
         for more in [0, 1, 99] {
             let (codes, listed) = (macrostates + more, transitions + more);
-            bench.by_01(&build(&file, codes, listed), &Err(number));
-            compare_with(bench, &file, codes, listed, &Err(number));
+            compare_with(harness, file, codes, listed, &Err(number));
         }
     }
 }
 
 /// A rule whose table is mostly small.
-fn small_rule(random: &mut Random) -> Rule {
+pub fn small_rule(random: &mut Random) -> Rule {
     let alphabet = match random.below(8) {
         0 => random.between(1, 16),
         _ => random.between(1, 3),
@@ -177,16 +195,23 @@ fn small_rule(random: &mut Random) -> Rule {
     varied(random, shape, states, alphabet)
 }
 
-fn random(bench: &mut Bench) {
-    let random = &mut bench.random;
+/// A small rule with clauses inside others, tidied.
+fn tidied_rule(random: &mut Random) -> Rule {
+    let (states, alphabet) = (random.between(1, 4), random.between(1, 3));
+    let shape = *random.pick(&SHAPES);
+    tidy_rule(&sample::nested_rule(random, shape, states, alphabet))
+}
+
+fn random(harness: &mut Harness) {
+    let random = &mut harness.random;
     match random.below(800) {
-        0 => return big_rule(bench),
+        0 => return big_rule(harness),
         1..=3 => {
             // Rooms far over the counts, at the caps and over them.
             let file = sample::file(&small_rule(random));
             let codes = *random.pick(&[MACROSTATE_CAP, MACROSTATE_CAP + 1, 80_000]);
             let transitions = *random.pick(&[TRANSITION_CAP, TRANSITION_CAP + 1, 100_000]);
-            return compare(bench, &file, codes, transitions);
+            return compare(harness, &file, codes, transitions);
         }
         4..=20 => {
             // Up to eight states in little room.
@@ -195,45 +220,67 @@ fn random(bench: &mut Bench) {
             let shape = *random.pick(&SHAPES);
             let file = sample::file(&varied(random, shape, states, alphabet));
             let (codes, transitions) = (random.below(300), random.below(3_000));
-            return compare(bench, &file, codes, transitions);
+            return compare(harness, &file, codes, transitions);
         }
         21..=120 => {
             let file = any_file(random);
             let (codes, transitions) = (random.below(60), random.below(600));
-            return compare(bench, &file, codes, transitions);
+            return compare(harness, &file, codes, transitions);
         }
         _ => {}
     }
-    let rule = small_rule(random);
-    let file = [preface(random), sample::file(&rule)].concat();
+    // 02: "the build is compared with the tidied file's definition".
+    let rule = if random.once_in(6) {
+        tidied_rule(random)
+    } else {
+        small_rule(random)
+    };
+    let file = prefaced(random, &rule);
     let built = build(&file, 20_000, 200_000);
     let Ok((codes, transitions)) = &built else {
-        return compare_with(bench, &file, 20_000, 200_000, &built);
+        return compare_with(harness, &file, 20_000, 200_000, &built);
     };
     let (codes, transitions) = (codes.len(), transitions.len());
-    let room = |random: &mut Random, needed: usize| match random.below(6) {
+    for _ in 0..2 {
+        let rooms = rooms_near(&mut harness.random, codes, transitions);
+        compare_with(harness, &file, rooms[0], rooms[1], &within(rooms, &built));
+    }
+}
+
+/// What is built in these rooms, by what is built in ample ones.
+pub fn within(rooms: [usize; 2], built: &Built) -> Built {
+    let (codes, transitions) = built.clone()?;
+    if rooms[0] < codes.len() {
+        return Err(17);
+    }
+    if rooms[1] < transitions.len() {
+        return Err(18);
+    }
+    Ok((codes, transitions))
+}
+
+/// Rooms near the counts of macrostates and transitions.
+pub fn rooms_near(random: &mut Random, codes: usize, transitions: usize) -> [usize; 2] {
+    let mut room = |needed: usize| match random.below(6) {
         0 => needed.saturating_sub(1),
         1 | 2 => needed,
         3 => needed + 1,
         4 => random.below(needed + 1),
         _ => needed + random.below(300),
     };
-    for _ in 0..2 {
-        let macrostate_room = match bench.random.below(3) {
-            0 => room(&mut bench.random, codes),
-            _ => codes + bench.random.below(3),
-        };
-        let transition_room = room(&mut bench.random, transitions);
-        compare(bench, &file, macrostate_room, transition_room);
+    let near = [room(codes), room(transitions)];
+    match random.below(3) {
+        0 => near,
+        _ => [codes + random.below(3), near[1]],
     }
 }
 
 /// A rule of up to eight states with rooms at the caps.
-fn big_rule(bench: &mut Bench) {
-    let random = &mut bench.random;
+fn big_rule(harness: &mut Harness) {
+    let random = &mut harness.random;
     let states = random.between(5, 8);
     let alphabet = random.between(1, 4);
     let shape = *random.pick(&[Shape::Layers, Shape::Rings, Shape::VeryWeak]);
     let file = sample::file(&varied(random, shape, states, alphabet));
-    compare(bench, &file, MACROSTATE_CAP, TRANSITION_CAP);
+    compare(harness, &file, MACROSTATE_CAP, TRANSITION_CAP);
 }

@@ -1,42 +1,44 @@
 //! The judge of words on the rule.
 
 use compare::library::mulgreddi_judge;
+use second::game;
 use second::judge::judge;
 use second::rule::read;
 use second::sample::{D, F, I};
 
-use crate::bench::{Bench, Entry, Seen};
-use crate::input::{any_file, good_file, near, word, REFUSED_FILES};
+use crate::harness::{Entry, Harness, Seen, RULE};
+use crate::input::{any_file, good_file, near, refused, word};
 
 pub const ENTRY: Entry = Entry {
     name: "judge",
-    refusals: &[1, 2, 3, 4, 5, 6, 7, 8, 9, 10, 11, 12, 13, 14, 16],
+    refusals: &[RULE, &[12, 13, 14, 16]],
     verdict: true,
+    kinds: &["judged as a game too"],
     round: 105_000,
     examples,
     random,
 };
 
-fn compare(bench: &mut Bench, file: &[u8], word: [&[u8]; 2], room: usize) -> Seen {
+fn compare(harness: &mut Harness, file: &[u8], word: [&[u8]; 2], room: usize) -> Seen {
     let judged = judge(file, word[0], word[1], room);
-    let masks = bench.pattern(room);
-    bench.begin();
-    let file = bench.lend("file", file);
-    let lead = bench.lend("lead-in", word[0]);
-    let cycle = bench.lend("cycle", word[1]);
-    let lent = bench.lend_out("masks", &masks);
+    let masks = harness.pattern(room);
+    harness.begin();
+    let file = harness.lend("file", file);
+    let lead = harness.lend("lead-in", word[0]);
+    let cycle = harness.lend("cycle", word[1]);
+    let lent = harness.lend_out("masks", &masks);
     let expected = match judged {
         Ok((yes, written)) => {
             let mut after = masks;
             after[..written.len()].copy_from_slice(&written);
-            bench.expect(lent, after);
+            harness.expect(lent, after);
             Ok((yes.into(), 0))
         }
         Err(number) => Err(number),
     };
-    let (file, masks) = (bench.bytes(file), bench.bytes(lent));
-    let (lead, cycle) = (bench.bytes(lead), bench.bytes(cycle));
-    bench.call(expected, || unsafe {
+    let (file, masks) = (harness.bytes(file), harness.bytes(lent));
+    let (lead, cycle) = (harness.bytes(lead), harness.bytes(cycle));
+    harness.call(expected, || unsafe {
         mulgreddi_judge(
             file.0, file.1, lead.0, lead.1, cycle.0, cycle.1, masks.0, masks.1,
         )
@@ -44,10 +46,10 @@ fn compare(bench: &mut Bench, file: &[u8], word: [&[u8]; 2], room: usize) -> See
     Seen(expected)
 }
 
-fn examples(bench: &mut Bench) {
-    for (number, file) in REFUSED_FILES {
-        let expected = compare(bench, file, [&[], &[]], 0);
-        bench.by_01(&expected.0, &Err(number));
+fn examples(harness: &mut Harness) {
+    for (number, file) in refused() {
+        let expected = compare(harness, file, [&[], &[]], 0);
+        harness.by_01(&expected.0, &Err(number));
     }
     for (word, number) in [
         ([&[0][..], &[]], 12),
@@ -55,8 +57,8 @@ fn examples(bench: &mut Bench) {
         ([&[2], &[0]], 14),
         ([&[0], &[0]], 16),
     ] {
-        let expected = compare(bench, &F, word, 1);
-        bench.by_01(&expected.0, &Err(number));
+        let expected = compare(harness, &F, word, 1);
+        harness.by_01(&expected.0, &Err(number));
     }
     // Cases 5 to 9.
     let cases: [(&[u8], [&[u8]; 2], bool, &[u8]); 5] = [
@@ -68,26 +70,26 @@ fn examples(bench: &mut Bench) {
     ];
     for (file, word, yes, masks) in cases {
         let judged = judge(file, word[0], word[1], masks.len());
-        bench.by_01(&judged, &Ok((yes, masks.to_vec())));
+        harness.by_01(&judged, &Ok((yes, masks.to_vec())));
         for room in 0..100 {
-            compare(bench, file, word, room);
+            compare(harness, file, word, room);
         }
     }
     // All lengths of lead-in and cycle.
     for lead in 0..=34 {
         for cycle in 0..=34 {
-            let letters = bench.random.bytes(70).into_iter().map(|byte| byte % 2);
+            let letters = harness.random.bytes(70).into_iter().map(|byte| byte % 2);
             let letters: Vec<u8> = letters.collect();
             let word = [&letters[..lead], &letters[34..34 + cycle]];
             for room in [lead + cycle, (lead + cycle).saturating_sub(1)] {
-                compare(bench, &I, word, room);
+                compare(harness, &I, word, room);
             }
         }
     }
 }
 
-fn random(bench: &mut Bench) {
-    let random = &mut bench.random;
+fn random(harness: &mut Harness) {
+    let random = &mut harness.random;
     let file = if random.once_in(4) {
         any_file(random)
     } else {
@@ -95,9 +97,17 @@ fn random(bench: &mut Bench) {
     };
     let alphabet = read(&file).map_or(2, |(rule, _)| rule.letters);
     for _ in 0..4 {
-        let random = &mut bench.random;
+        let random = &mut harness.random;
         let [lead, cycle] = word(random, alphabet);
         let room = near(random, lead.len() + cycle.len());
-        compare(bench, &file, [&lead, &cycle], room);
+        let by_game = random.once_in(4);
+        compare(harness, &file, [&lead, &cycle], room);
+        if by_game {
+            let judged = judge(&file, &lead, &cycle, room);
+            harness.agree(&judged, &game::judge(&file, &lead, &cycle, room));
+            if judged.is_ok() {
+                harness.saw("judged as a game too");
+            }
+        }
     }
 }

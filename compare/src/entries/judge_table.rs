@@ -1,26 +1,27 @@
 //! The judge of words on a built table.
 
 use compare::library::mulgreddi_judge_table;
-use compare::stored::{from_hex, LARGE};
+use compare::stored::LARGE;
 use second::build::{build, Macrostate};
 use second::rule::Rule;
 use second::sample::{self, letters, Random, D, F, I, SHAPES, Z};
 use second::table::judge_table;
 
-use crate::bench::{Bench, Entry, Expected, Seen};
-use crate::input::{any_file, near, varied, word, REFUSED_FILES};
+use crate::harness::{Entry, Expected, Harness, Seen, RULE};
+use crate::input::{any_file, near, refused, varied, word};
 
 pub const ENTRY: Entry = Entry {
     name: "judge_table",
-    refusals: &[1, 2, 3, 4, 5, 6, 7, 8, 9, 10, 11, 12, 13, 14, 15, 16],
+    refusals: &[RULE, &[12, 13, 14, 15, 16]],
     verdict: true,
+    kinds: &[],
     round: 105_000,
     examples,
     random,
 };
 
 fn compare(
-    bench: &mut Bench,
+    harness: &mut Harness,
     file: &[u8],
     word: [&[u8]; 2],
     table: [&[u8]; 2],
@@ -28,22 +29,22 @@ fn compare(
 ) -> Seen {
     let judged = judge_table(file, word, table, room);
     let expected = judged.map(|start| start.map_or((0, 0), |number| (1, number as u64)));
-    let scratch = bench.pattern(room);
-    bench.begin();
-    let file = bench.lend("file", file);
-    let lead = bench.lend("lead-in", word[0]);
-    let cycle = bench.lend("cycle", word[1]);
-    let codes = bench.lend("codes", table[0]);
-    let transitions = bench.lend("transitions", table[1]);
-    let scratch = bench.lend_out("scratch", &scratch);
+    let scratch = harness.pattern(room);
+    harness.begin();
+    let file = harness.lend("file", file);
+    let lead = harness.lend("lead-in", word[0]);
+    let cycle = harness.lend("cycle", word[1]);
+    let codes = harness.lend("codes", table[0]);
+    let transitions = harness.lend("transitions", table[1]);
+    let scratch = harness.lend_out("scratch", &scratch);
     if expected.is_ok() {
         // "Scratch ends all zero."
-        bench.expect(scratch, vec![0; room]);
+        harness.expect(scratch, vec![0; room]);
     }
-    let (file, scratch) = (bench.bytes(file), bench.bytes(scratch));
-    let (lead, cycle) = (bench.bytes(lead), bench.bytes(cycle));
-    let (codes, transitions) = (bench.bytes(codes), bench.bytes(transitions));
-    bench.call(expected, || unsafe {
+    let (file, scratch) = (harness.bytes(file), harness.bytes(scratch));
+    let (lead, cycle) = (harness.bytes(lead), harness.bytes(cycle));
+    let (codes, transitions) = (harness.bytes(codes), harness.bytes(transitions));
+    harness.call(expected, || unsafe {
         mulgreddi_judge_table(
             file.0,
             file.1,
@@ -62,13 +63,13 @@ fn compare(
     Seen(expected)
 }
 
-fn bytes(numbers: &[u64]) -> Vec<u8> {
+pub fn bytes(numbers: &[u64]) -> Vec<u8> {
     numbers.iter().flat_map(|x| x.to_le_bytes()).collect()
 }
 
 /// A table of numbers, and its scratch exact.
 fn compare_table(
-    bench: &mut Bench,
+    harness: &mut Harness,
     file: &[u8],
     word: [&[u8]; 2],
     codes: &[u64],
@@ -76,14 +77,14 @@ fn compare_table(
 ) -> Seen {
     let room = codes.len() * (word[0].len() + word[1].len());
     let (codes, transitions) = (bytes(codes), bytes(transitions));
-    compare(bench, file, word, [&codes, &transitions], room)
+    compare(harness, file, word, [&codes, &transitions], room)
 }
 
-fn examples(bench: &mut Bench) {
+fn examples(harness: &mut Harness) {
     let one: [&[u8]; 2] = [&[], &[0]];
-    for (number, file) in REFUSED_FILES {
-        let expected = compare(bench, file, [&[], &[]], [&[1], &[]], 0);
-        bench.by_01(&expected.0, &Err(number));
+    for (number, file) in refused() {
+        let expected = compare(harness, file, [&[], &[]], [&[1], &[]], 0);
+        harness.by_01(&expected.0, &Err(number));
     }
     for (word, number) in [
         ([&[0][..], &[]], 12),
@@ -91,8 +92,8 @@ fn examples(bench: &mut Bench) {
         ([&[2], &[0]], 14),
         ([&[0], &[0]], 15),
     ] {
-        let expected = compare(bench, &F, word, [&[1], &[]], 0);
-        bench.by_01(&expected.0, &Err(number));
+        let expected = compare(harness, &F, word, [&[1], &[]], 0);
+        harness.by_01(&expected.0, &Err(number));
     }
     // Row 15, and what is just within it.
     let tables: [(&[u64], &[u64], Expected); 16] = [
@@ -114,13 +115,13 @@ fn examples(bench: &mut Bench) {
         (&[0, 1], &[0, 16_777_217], Ok((1, 1))),
     ];
     for (codes, transitions, said) in tables {
-        let expected = compare_table(bench, &F, one, codes, transitions);
-        bench.by_01(&expected.0, &said);
+        let expected = compare_table(harness, &F, one, codes, transitions);
+        harness.by_01(&expected.0, &said);
     }
     for (codes, transitions) in [(7, 0), (9, 0), (8, 7), (8, 9), (1, 1)] {
         let table: [&[u8]; 2] = [&[0; 16][..codes], &[0; 16][..transitions]];
-        let expected = compare(bench, &F, one, table, 99);
-        bench.by_01(&expected.0, &Err(15));
+        let expected = compare(harness, &F, one, table, 99);
+        harness.by_01(&expected.0, &Err(15));
     }
     // Cases 5 to 9.
     let cases: [(&[u8], [&[u8]; 2], Option<u64>); 5] = [
@@ -132,21 +133,21 @@ fn examples(bench: &mut Bench) {
     ];
     for (file, word, start) in cases {
         let (codes, transitions) = build(file, 99, 99).unwrap();
-        let expected = compare_table(bench, file, word, &codes, &transitions);
-        bench.by_01(&expected.0, &Ok(start.map_or((0, 0), |number| (1, number))));
+        let expected = compare_table(harness, file, word, &codes, &transitions);
+        harness.by_01(&expected.0, &Ok(start.map_or((0, 0), |number| (1, number))));
         let needed = codes.len() * (word[0].len() + word[1].len());
         let (codes, transitions) = (bytes(&codes), bytes(&transitions));
         for room in 0..needed + 70 {
-            let expected = compare(bench, file, word, [&codes, &transitions], room);
-            bench.by_01(&expected.0.is_err(), &(room < needed));
+            let expected = compare(harness, file, word, [&codes, &transitions], room);
+            harness.by_01(&expected.0.is_err(), &(room < needed));
         }
     }
-    long_tables(bench);
-    large_tables(bench);
+    long_tables(harness);
+    large_tables(harness);
 }
 
 /// The most codes, one more, and more transitions than a build can hold.
-fn long_tables(bench: &mut Bench) {
+fn long_tables(harness: &mut Harness) {
     let one: [&[u8]; 2] = [&[], &[0]];
     let codes: Vec<u64> = (0..65_537).map(|code| code * 3).collect();
     let most = &codes[..65_536];
@@ -161,16 +162,16 @@ fn long_tables(bench: &mut Bench) {
         (&codes[..], vec![], Err(15)),
         (&codes[..65_535], vec![last], Err(15)),
     ] {
-        let expected = compare_table(bench, &F, one, codes, &transitions);
-        bench.by_01(&expected.0, &said);
+        let expected = compare_table(harness, &F, one, codes, &transitions);
+        harness.by_01(&expected.0, &said);
     }
     // A chain through all codes, back to the start at its end.
     let mut chain: Vec<u64> = (0..65_535).map(|m| m * 16_777_216 + m + 1).collect();
     chain.push(65_535 * 16_777_216);
-    let expected = compare_table(bench, &F, one, most, &chain);
-    bench.by_01(&expected.0, &Ok((1, 1)));
+    let expected = compare_table(harness, &F, one, most, &chain);
+    harness.by_01(&expected.0, &Ok((1, 1)));
     let word = [&[0, 1][..], &[0, 0, 1]];
-    compare_table(bench, &F, word, most, &chain);
+    compare_table(harness, &F, word, most, &chain);
     let full = (0..260u64).flat_map(|from| {
         let letters = (0..16).map(move |letter| from * 16_777_216 + letter * 65_536);
         letters.flat_map(|base| (0..260).map(move |to| base + to))
@@ -179,26 +180,25 @@ fn long_tables(bench: &mut Bench) {
     let file = crate::input::limit_file(8, 16, 1);
     let mut codes: Vec<u64> = (0..260).map(|m| (m % 2) << 44 | m << 8 | 2).collect();
     codes.sort_unstable();
-    compare_table(bench, &file, [&[3], &[0, 15]], &codes, &full);
+    compare_table(harness, &file, [&[3], &[0, 15]], &codes, &full);
     codes[7] |= 1;
-    compare_table(bench, &file, [&[3], &[0, 15]], &codes, &full);
+    compare_table(harness, &file, [&[3], &[0, 15]], &codes, &full);
 }
 
 /// Built tables of tens of thousands of macrostates.
-fn large_tables(bench: &mut Bench) {
-    for (text, macrostates, transitions) in LARGE {
-        let file = from_hex(text);
+fn large_tables(harness: &mut Harness) {
+    for (file, macrostates, transitions) in LARGE {
         let (codes, transitions) = build(&file, macrostates, transitions).unwrap();
         for _ in 0..2 {
-            let lead = letters(&mut bench.random, 16, 1);
-            let cycle = letters(&mut bench.random, 16, 2);
-            compare_table(bench, &file, [&lead, &cycle], &codes, &transitions);
+            let lead = letters(&mut harness.random, 16, 1);
+            let cycle = letters(&mut harness.random, 16, 2);
+            compare_table(harness, &file, [&lead, &cycle], &codes, &transitions);
         }
     }
 }
 
-fn random(bench: &mut Bench) {
-    let random = &mut bench.random;
+fn random(harness: &mut Harness) {
+    let random = &mut harness.random;
     let states = *random.pick(&[1, 2, 2, 3, 3, 3, 4, 5]);
     let alphabet = *random.pick(&[1, 2, 2, 2, 3, 16]);
     let shape = *random.pick(&SHAPES);
@@ -207,7 +207,7 @@ fn random(bench: &mut Bench) {
     let built = build(&file, 400, 3_000).ok();
     let rounds = if built.is_some() { 12 } else { 4 };
     for _ in 0..rounds {
-        let random = &mut bench.random;
+        let random = &mut harness.random;
         let (mut codes, mut transitions) = match &built {
             Some((codes, transitions)) if !random.once_in(4) => {
                 let (mut codes, mut transitions) = (codes.clone(), transitions.clone());
@@ -240,13 +240,13 @@ fn random(bench: &mut Bench) {
         let other = any_file(random);
         let file = if random.once_in(16) { &other } else { &file };
         let word = [&lead[..], &cycle];
-        compare(bench, file, word, [&code_bytes, &transition_bytes], room);
+        compare(harness, file, word, [&code_bytes, &transition_bytes], room);
     }
 }
 
 /// Takes away, adds and changes transitions, and changes codes, so that the
 /// table stays within row 15.
-fn damage(random: &mut Random, rule: &Rule, codes: &mut [u64], transitions: &mut Vec<u64>) {
+pub fn damage(random: &mut Random, rule: &Rule, codes: &mut [u64], transitions: &mut Vec<u64>) {
     if codes.is_empty() {
         return;
     }
@@ -281,7 +281,7 @@ fn transition(random: &mut Random, rule: &Rule, codes: usize) -> u64 {
 }
 
 /// Codes and transitions that no build made.
-fn made_up(random: &mut Random, rule: &Rule) -> (Vec<u64>, Vec<u64>) {
+pub fn made_up(random: &mut Random, rule: &Rule) -> (Vec<u64>, Vec<u64>) {
     let count = match random.below(8) {
         0 => random.between(0, 60),
         _ => random.between(1, 9),
@@ -317,7 +317,7 @@ fn made_up(random: &mut Random, rule: &Rule) -> (Vec<u64>, Vec<u64>) {
 }
 
 /// A fault of row 15, as far as the table has what it needs.
-fn fault(random: &mut Random, rule: &Rule, codes: &mut Vec<u64>, transitions: &mut Vec<u64>) {
+pub fn fault(random: &mut Random, rule: &Rule, codes: &mut Vec<u64>, transitions: &mut Vec<u64>) {
     let count = codes.len() as u64;
     match random.below(12) {
         0 if !codes.is_empty() => {

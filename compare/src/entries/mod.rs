@@ -1,23 +1,37 @@
 //! The entries of the library.
 
-use crate::bench::Entry;
+use crate::harness::Entry;
 
 mod build;
+mod build_trimmed;
 mod check;
 mod judge;
+mod judge_choices;
 mod judge_table;
+mod mixed_loop;
 mod same_rules;
 mod same_words;
+mod tidy;
+mod tidy_word;
+mod translate;
 mod write;
+mod write_named;
 
 pub fn all() -> Vec<Entry> {
     vec![
         check::ENTRY,
         write::ENTRY,
+        write_named::ENTRY,
         same_rules::ENTRY,
         same_words::ENTRY,
         judge::ENTRY,
         build::ENTRY,
         judge_table::ENTRY,
+        tidy::ENTRY,
+        mixed_loop::ENTRY,
+        tidy_word::ENTRY,
+        judge_choices::ENTRY,
+        translate::ENTRY,
+        build_trimmed::ENTRY,
     ]
 }

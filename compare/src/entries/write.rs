@@ -4,13 +4,14 @@ use compare::library::mulgreddi_write;
 use second::rule::{write, Rule};
 use second::sample::{file, F};
 
-use crate::bench::{Bench, Entry, Seen};
-use crate::input::{near, rule};
+use crate::harness::{Entry, Harness, Seen};
+use crate::input::{limit_file, near, nested_rule, rule, LIMITS};
 
 pub const ENTRY: Entry = Entry {
     name: "write",
-    refusals: &[3, 4, 5, 6, 7, 8, 9, 10, 11, 16],
+    refusals: &[&[3, 4, 5, 6, 7, 8, 9, 10, 11, 16, 20]],
     verdict: false,
+    kinds: &[],
     round: 110_000,
     examples,
     random,
@@ -18,10 +19,10 @@ pub const ENTRY: Entry = Entry {
 
 /// What the writer takes.
 #[derive(Clone, Debug)]
-struct Parts {
-    numbers: [u32; 4],
-    counts: Vec<u8>,
-    clauses: Vec<u8>,
+pub struct Parts {
+    pub numbers: [u32; 4],
+    pub counts: Vec<u8>,
+    pub clauses: Vec<u8>,
 }
 
 impl Parts {
@@ -39,33 +40,37 @@ impl Parts {
         }
     }
 
-    fn needed(&self) -> usize {
+    pub fn needed(&self) -> usize {
         self.clauses.len() + self.counts.len() + 8
     }
 }
 
-fn compare(bench: &mut Bench, parts: &Parts, room: usize) -> Seen {
+fn compare(harness: &mut Harness, parts: &Parts, room: usize) -> Seen {
     let written = write(parts.numbers, &parts.counts, &parts.clauses, room);
-    let out = bench.pattern(room);
-    bench.begin();
+    let out = harness.pattern(room);
+    harness.begin();
     // The four numbers too, so that a difference shows them.
     let numbers = parts.numbers.map(u32::to_be_bytes).concat();
-    bench.lend("n, s, initial, accepting (high byte first)", &numbers);
-    let counts = bench.lend("counts", &parts.counts);
-    let clauses = bench.lend("clauses", &parts.clauses);
-    let lent = bench.lend_out("out", &out);
+    harness.lend("n, s, initial, accepting (high byte first)", &numbers);
+    let counts = harness.lend("counts", &parts.counts);
+    let clauses = harness.lend("clauses", &parts.clauses);
+    let lent = harness.lend_out("out", &out);
     let expected = match written {
         Ok(file) => {
             let mut after = out;
             after[..file.len()].copy_from_slice(&file);
-            bench.expect(lent, after);
+            harness.expect(lent, after);
             Ok((file.len() as u64, 0))
         }
         Err(number) => Err(number),
     };
     let [n, s, initial, accepting] = parts.numbers;
-    let (counts, clauses, out) = (bench.bytes(counts), bench.bytes(clauses), bench.bytes(lent));
-    bench.call(expected, || unsafe {
+    let (counts, clauses, out) = (
+        harness.bytes(counts),
+        harness.bytes(clauses),
+        harness.bytes(lent),
+    );
+    harness.call(expected, || unsafe {
         mulgreddi_write(
             n, s, initial, accepting, counts.0, counts.1, clauses.0, clauses.1, out.0, out.1,
         )
@@ -73,18 +78,18 @@ fn compare(bench: &mut Bench, parts: &Parts, room: usize) -> Seen {
     Seen(expected)
 }
 
-fn examples(bench: &mut Bench) {
+fn examples(harness: &mut Harness) {
     let f = Parts {
         numbers: [1, 2, 0, 0],
         counts: vec![1, 1],
         clauses: vec![1, 0],
     };
     let written = write(f.numbers, &f.counts, &f.clauses, 12);
-    bench.by_01(&written, &Ok(F.to_vec()));
+    harness.by_01(&written, &Ok(F.to_vec()));
     for room in 0..40 {
-        let expected = compare(bench, &f, room);
+        let expected = compare(harness, &f, room);
         let said = if room < 12 { Err(16) } else { Ok((12, 0)) };
-        bench.by_01(&expected.0, &said);
+        harness.by_01(&expected.0, &said);
     }
     // Numbers at and over their limits, whole and taken modulo 256.
     for (at, limits) in [
@@ -96,51 +101,60 @@ fn examples(bench: &mut Bench) {
         for limit in limits {
             let mut parts = f.clone();
             parts.numbers[at] = limit;
-            let expected = compare(bench, &parts, 99);
-            bench.by_01(&expected.0, &Err(3 + at as u8));
+            let expected = compare(harness, &parts, 99);
+            harness.by_01(&expected.0, &Err(3 + at as u8));
         }
     }
     // All eight states, sixteen letters and eight clauses, and one more.
-    for (n, s, count) in crate::input::LIMITS {
+    for (n, s, count) in LIMITS {
         let mut parts = Parts {
             numbers: [n as u32, s as u32, 0, 0],
             counts: vec![count as u8; n * s],
-            clauses: vec![1; n * s * count],
+            clauses: limit_file(n, s, count)[..n * s * count].to_vec(),
         };
         for room in [parts.needed() - 1, parts.needed(), 9_999] {
-            compare(bench, &parts, room);
+            compare(harness, &parts, room);
         }
         parts.clauses.push(0);
-        compare(bench, &parts, 9_999);
+        compare(harness, &parts, 9_999);
     }
     // "c being the number of clauses given", whole.
     for extra in [65_535, 65_536, 65_537, 131_072, 262_144, 16_777_216] {
         let mut parts = f.clone();
         parts.clauses.extend(vec![0; extra]);
-        let expected = compare(bench, &parts, 99);
-        bench.by_01(&expected.0, &Err(9));
+        let expected = compare(harness, &parts, 99);
+        harness.by_01(&expected.0, &Err(9));
         parts.counts = vec![0, 0];
         parts.clauses.truncate(extra);
-        let expected = compare(bench, &parts, 9_999);
-        bench.by_01(&expected.0, &Err(9));
+        let expected = compare(harness, &parts, 9_999);
+        harness.by_01(&expected.0, &Err(9));
     }
 }
 
-fn random(bench: &mut Bench) {
-    let random = &mut bench.random;
-    let rule = rule(random);
+/// Parts of a rule, every other time with faults.
+pub fn any_parts(harness: &mut Harness) -> Parts {
+    let random = &mut harness.random;
+    let rule = if random.once_in(12) {
+        nested_rule(random)
+    } else {
+        rule(random)
+    };
     let mut parts = Parts::of(&rule);
     if random.once_in(2) {
         for _ in 0..random.between(1, 2) {
-            damage(bench, &mut parts);
+            damage(harness, &mut parts);
         }
     }
-    let random = &mut bench.random;
-    let room = near(random, parts.needed());
-    let served = compare(bench, &parts, room).0.is_ok();
+    parts
+}
+
+fn random(harness: &mut Harness) {
+    let parts = any_parts(harness);
+    let room = near(&mut harness.random, parts.needed());
+    let served = compare(harness, &parts, room).0.is_ok();
     if served {
         let written = write(parts.numbers, &parts.counts, &parts.clauses, room);
-        bench.by_01(&written, &Ok(file(&rule_of(&parts))));
+        harness.by_01(&written, &Ok(file(&rule_of(&parts))));
     }
 }
 
@@ -162,8 +176,8 @@ fn rule_of(parts: &Parts) -> Rule {
     }
 }
 
-fn damage(bench: &mut Bench, parts: &mut Parts) {
-    let random = &mut bench.random;
+fn damage(harness: &mut Harness, parts: &mut Parts) {
+    let random = &mut harness.random;
     let n = parts.numbers[0];
     match random.below(14) {
         0 => parts.numbers[0] = *random.pick(&[0, 8, 9, 256 + n, u32::MAX, n.wrapping_add(1)]),

@@ -1,36 +1,36 @@
 -- The answer of the build on a file, and what the slices then hold: the reachable codes and the transitions, with demand 3.
 use mathlib.Core.Path.{_≡_, refl, sym, _∙_, ap₂}
-use mathlib.Core.Bool.{Bool, true, _&&_}
+use mathlib.Core.Bool.{Bool, true, false, _&&_, not}
 use mathlib.Core.List.{List, [], _∷_}
-use Prim.Native.Nat.{ℕ, zero, suc, _-_, _≤_, _<_}
+use Prim.Native.Nat.{ℕ, zero, suc, _-_, _≤_}
 use native.Mathlib.Omega.{arith}
-use lib.Dec.{ltb}
 use lib.ListN.{length, take, replicate}
 use lib.Seq.{take-append-seam}
-use borrow.Author.Tests.{ltb-true, lt-ltb}
-use Rattle.sets.specs.Rows.{Check, firstRow}
-use Rattle.sets.proofs.Bools.{bif, and-l, and-r}
-use Rattle.sets.proofs.Rows.{row-yes, row-no, first-left, first-right, first-parts}
+use Rattle.refusals.specs.Rows.{Check, firstRow}
+use Rattle.sets.proofs.Bools.{bif, and-l, and-r, not-t}
+use Rattle.refusals.proofs.Rows.{row-yes, row-no, first-left, first-right, first-parts}
 use Rattle.theory.specs.Rule.{Rule}
 use Rattle.theory.specs.Demand.{Demand3}
 use Rattle.theory.specs.Passing.{Passing}
 use Rattle.theory.specs.Table.{macrostatesFrom, transitionsFrom, macrostates, transitions, ListsReachable}
-use Rattle.laws.proofs.Demand.{demand3}
-use Rattle.laws.proofs.Tables.{lists-reachable}
-use Rattle.entries.specs.Entries.{ruleOf}
-use Rattle.rules.specs.declared.Layout.{Layout}
-use Rattle.rules.specs.declared.Read.the-variants.{Accepted}
-use Rattle.files.specs.File.{countsOf, clausesOf, ruleIn}
-use Rattle.rules.specs.Read.{readOf}
-use Rattle.rules.proofs.Answer.{served, lent-rule}
-use Rattle.files.specs.Rows.{fileRow, fileRows, layoutRows, trailerRows, numberRows, listRows, componentRows}
-use Rattle.rules.proofs.FileRows.{file-numbered, accepted-passing}
-use Rattle.keys.specs.Keys.{startOf}
+use Rattle.theory_laws.proofs.Demand.{demand3}
+use Rattle.theory_laws.proofs.Tables.{lists-reachable}
+use Rattle.rule_entries.specs.Entries.{ruleOf}
+use Rattle.file_read.specs.declared.Layout.{Layout}
+use Rattle.file_read.specs.declared.Read.the-variants.{Accepted}
+use Rattle.file_spec.specs.File.{countsOf, clausesOf, ruleIn}
+use Rattle.file_read.specs.Read.{readOf}
+use Rattle.file_read.proofs.Answer.{served, lent-rule}
+use Rattle.file_spec.specs.Rows.{fileRow, fileRows, layoutRows, trailerRows, numberRows, listRows, clauseRows, componentRows, formedRows, bodyRows, nameRows, prefaceRows}
+use Rattle.file_read.proofs.FileRows.{file-numbered, accepted-passing}
+use Rattle.build_closure_spec.specs.Keys.{startOf}
 use Rattle.build.specs.declared.Counts.{Counts}
 use Rattle.build.specs.declared.Built.{Built}
 use Rattle.build.specs.declared.Built.the-variants.{Table, Refused}
-use Rattle.build.specs.Built.{roomRow, builtBy, sliceAfter, buildRow, builtOf, codesAfter, transitionsAfter}
+use Rattle.build.specs.Built.{roomRow, builtBy, refusesRoom, sliceAfter, buildRow, builtOf, codesAfter, transitionsAfter}
 use Rattle.build.specs.Filling.{Made}
+use Rattle.build.specs.Entry.{TableBuilt}
+use Rattle.build.proofs.ByLists.{made-by-lists}
 use Rattle.build.proofs.RoomRows.{room-few}
 
 -- the start condition of 01
@@ -42,29 +42,29 @@ pub moves-initial : (r : Rule) → transitionsFrom r (startOf r true) ≡ transi
 unfolding transitions startOf
 moves-initial r = refl
 
--- ---- the rows of a file have numbers below 17
+-- ---- the rows of a file do not refuse for room
 
-unfoldable low : List Check → Bool
-low [] = true
-low (c ∷ cs) = ltb (c .number) 17 && low cs
+unfoldable noRoomRows : List Check → Bool
+noRoomRows [] = true
+noRoomRows (c ∷ cs) = not (refusesRoom (c .number)) && noRoomRows cs
 
-first-low : (cs : List Check) → low cs ≡ true → firstRow cs < 17
-unfolding low firstRow
-first-low [] e = omega arith
-first-low (c ∷ cs) e =
+first-other : (cs : List Check) → noRoomRows cs ≡ true → refusesRoom (firstRow cs) ≡ false
+unfolding noRoomRows firstRow
+first-other [] e = refl
+first-other (c ∷ cs) e =
     bif (c .applies)
-    (λ t. rw (row-yes c cs t) (ltb-true (c .number) 17 (and-l (ltb (c .number) 17) (low cs) e)))
-    (λ t. rw (row-no c cs t) (first-low cs (and-r (ltb (c .number) 17) (low cs) e)))
+    (λ t. rw (row-yes c cs t) (not-t (refusesRoom (c .number)) (and-l (not (refusesRoom (c .number))) (noRoomRows cs) e)))
+    (λ t. rw (row-no c cs t) (first-other cs (and-r (not (refusesRoom (c .number))) (noRoomRows cs) e)))
 
-file-low : (f : List ℕ) → low (fileRows f) ≡ true
-unfolding low fileRows layoutRows trailerRows numberRows listRows componentRows
-file-low f = refl
+file-other : (f : List ℕ) → noRoomRows (fileRows f) ≡ true
+unfolding noRoomRows fileRows bodyRows prefaceRows nameRows layoutRows trailerRows numberRows listRows formedRows clauseRows componentRows
+file-other f = refl
 
-pub file-row-low : (f : List ℕ) → fileRow f < 17
+pub file-row-other : (f : List ℕ) → refusesRoom (fileRow f) ≡ false
 unfolding fileRow
-file-row-low f = first-low (fileRows f) (file-low f)
+file-row-other f = first-other (fileRows f) (file-other f)
 
--- ---- what the contract of the build says
+-- ---- the answer and the slices
 
 -- the answer r, and the slices xs and zs afterwards, ys and ws
 pub record Answered (f xs zs : List ℕ) (r : Built) (ys ws : List ℕ) : Type 0 where
@@ -77,26 +77,26 @@ unfolding builtBy
 refused-by zero codes moves n = absurd (n refl)
 refused-by (suc k) codes moves n = refl
 
-kept-by : (k : ℕ) (list lent : List ℕ) → (k ≡ 0 → ⊥) → k < 17 → lent ≡ sliceAfter k list lent
+kept-by : (k : ℕ) (list lent : List ℕ) → (k ≡ 0 → ⊥) → refusesRoom k ≡ false → lent ≡ sliceAfter k list lent
 unfolding sliceAfter
 kept-by zero list lent n l = absurd (n refl)
-kept-by (suc k) list lent n l = rw (lt-ltb (suc k) 17 l)
+kept-by (suc k) list lent n l = rw l
 
 module _ (f xs zs : List ℕ) where
-  -- 1 to 11
+  -- a file that a row of the rule refuses
   pub answered-refused : (k : ℕ) → (fileRow f ≡ k) × (fileRow f ≡ 0 → ⊥) → Answered f xs zs (Refused k) xs zs
   unfolding builtOf codesAfter transitionsAfter buildRow fileRow
   answered-refused k e =
       let n : k ≡ 0 → ⊥ = λ z. e .1 (e .0 ∙ z) in
       let row : k ≡ buildRow f (length xs) (length zs) = first-left (fileRows f) _ k n (sym (e .0)) in
-      let l : k < 17 = rw (e .0) at (file-row-low f) in
+      let l : refusesRoom k ≡ false = rw (e .0) at (file-row-other f) in
       record {
         answer = rw (← row) (refused-by k _ _ n);
         codes-after = rw (← row) (kept-by k _ xs n l);
         moves-after = rw (← row) (kept-by k _ zs n l);
       }
 
-  -- a file that rows 1 to 11 accept
+  -- a file that no row of the rule refuses
   pub build-row : fileRow f ≡ 0 → buildRow f (length xs) (length zs) ≡ roomRow (macrostates (ruleIn f)) (transitions (ruleIn f)) (length xs) (length zs)
   unfolding buildRow roomRow fileRow
   build-row e = first-right (fileRows f) _ (file-numbered f) e
@@ -161,8 +161,36 @@ made-same r t e xs zs b ys ws M =
     let m : Made (macrostatesFrom t (startOf t true)) (transitionsFrom t (startOf t true)) xs zs b ys ws = rw e at M in
     rw (codes-initial t, moves-initial t) at m
 
+-- ---- the whole contract
+
+module _ (f xs zs : List ℕ) where
+  pub built-refused : (k : ℕ) → (fileRow f ≡ k) × (fileRow f ≡ 0 → ⊥) → TableBuilt f xs zs (Refused k) xs zs
+  built-refused k e =
+      let A = answered-refused f xs zs k e in
+      record {
+        answer = A .answer;
+        codes-after = A .codes-after;
+        moves-after = A .moves-after;
+        by-lists = λ z. absurd (e .1 z);
+        lists = answered-lists f xs zs (Refused k) xs zs A;
+        demand3 = answered-demand3 f xs zs (Refused k) xs zs A;
+        never-two = λ n t. answered-demand3 f xs zs (Refused k) xs zs A n t .unambiguous;
+      }
+
 module _ (f : List ℕ) (l : Layout) (p : readOf f ≡ Accepted l) (counts clauses : List ℕ) (e : counts ≡ countsOf f) (d : clauses ≡ clausesOf f) where
-  pub answered : (xs zs : List ℕ) (b : Built) (ys ws : List ℕ)
+  pub built-served : (xs zs : List ℕ) (b : Built) (ys ws : List ℕ)
       → Made (macrostatesFrom (ruleOf (l .head) counts clauses) (startOf (ruleOf (l .head) counts clauses) true)) (transitionsFrom (ruleOf (l .head) counts clauses) (startOf (ruleOf (l .head) counts clauses) true)) xs zs b ys ws
-      → Answered f xs zs b ys ws
-  answered xs zs b ys ws M = answered-made f xs zs (served f l p .row) b ys ws (made-same (ruleOf (l .head) counts clauses) (ruleIn f) (lent-rule f l p counts clauses e d) xs zs b ys ws M)
+      → TableBuilt f xs zs b ys ws
+  built-served xs zs b ys ws M =
+      let z = served f l p .row in
+      let M′ = made-same (ruleOf (l .head) counts clauses) (ruleIn f) (lent-rule f l p counts clauses e d) xs zs b ys ws M in
+      let A = answered-made f xs zs z b ys ws M′ in
+      record {
+        answer = A .answer;
+        codes-after = A .codes-after;
+        moves-after = A .moves-after;
+        by-lists = λ _ codes moves L. made-by-lists (ruleIn f) (accepted-passing f z) codes moves L xs zs b ys ws M′;
+        lists = answered-lists f xs zs b ys ws A;
+        demand3 = answered-demand3 f xs zs b ys ws A;
+        never-two = λ n t. answered-demand3 f xs zs b ys ws A n t .unambiguous;
+      }

@@ -3,3 +3,4 @@ pub mod Making
 pub mod Answer
 pub mod WithRoom
 pub mod Prefaces
+pub mod ByLists

@@ -8,14 +8,14 @@ use lib.ListN.{length, take, replicate}
 use lib.Seq.{take-append-seam}
 use Rattle.theory.specs.Rule.{Rule}
 use Rattle.theory.specs.Table.{macrostatesFrom}
-use Rattle.keys.specs.Keys.{startOf}
+use Rattle.build_closure_spec.specs.Keys.{startOf}
 use Rattle.build.specs.declared.Built.{Built}
 use Rattle.build.specs.declared.Built.the-variants.{Table, Refused}
 use Rattle.build.specs.Built.{roomRow, builtBy, sliceAfter}
-use Rattle.lists.specs.Lists.{Padded, Codes}
+use Rattle.build_lists.specs.Lists.{Padded, Codes}
 use Rattle.build.specs.Filling.{Made}
 use Rattle.build.proofs.RoomRows.{row-codes, row-moves, row-fits}
-use Rattle.lists.proofs.Room.{room-cap, room-len}
+use Rattle.build_lists.proofs.Room.{room-cap, room-len}
 
 module _ (codes moves xs zs : List ℕ) where
   -- by the row

@@ -6,11 +6,11 @@ use native.Mathlib.Omega.{arith}
 use lib.Dec.{ltb}
 use lib.ListN.{length}
 use borrow.Author.Tests.{ltb-false, lt-ltb, le-ltb}
-use Rattle.sets.specs.Rows.{firstRow, check}
-use Rattle.sets.proofs.Rows.{row-yes, row-no, first-pass}
-use Rattle.lists.specs.Room.{codesRoom, transitionsRoom}
+use Rattle.refusals.specs.Rows.{firstRow, check}
+use Rattle.refusals.proofs.Rows.{row-yes, row-no, first-pass}
+use Rattle.build_lists.specs.Room.{codesRoom, transitionsRoom}
 use Rattle.build.specs.Built.{roomRows, roomRow}
-use Rattle.lists.proofs.Room.{room-cap}
+use Rattle.build_lists.proofs.Room.{room-cap}
 
 module _ (codes moves : List ℕ) (cl ml : ℕ) where
   -- 17: "more reachable macrostates than room"

@@ -2,15 +2,18 @@
 -- "Then the build is not refused for room and leaves exactly these there."
 use Prim.Native.Nat.{ℕ, _-_, _≤_}
 use mathlib.Core.Path.{_≡_, _∙_}
+use mathlib.Core.Bool.{false}
 use mathlib.Core.List.{List, _++_}
 use lib.ListN.{length, replicate}
 use Rattle.theory.specs.Rule.{Rule}
 use Rattle.theory.specs.Passing.{Passing}
 use Rattle.theory.specs.Table.{macrostates, transitions}
-use Rattle.files.specs.File.{ruleIn, bodyOf}
-use Rattle.rules.proofs.Layouts.{layout-accepted}
+use Rattle.refusals.specs.Rows.{firstRow}
+use Rattle.file_spec.specs.File.{ruleIn, bodyOf}
+use Rattle.file_spec.specs.Rows.{someNested, prefaceRows}
+use Rattle.file_read.proofs.Layouts.{layout-accepted}
 use Rattle.build.specs.declared.Built.the-variants.{Table}
-use Rattle.lists.specs.Room.{codesRoom, transitionsRoom}
+use Rattle.build_lists.specs.Room.{codesRoom, transitionsRoom}
 use Rattle.build.specs.Built.{builtBy, sliceAfter, buildRow, builtOf, codesAfter, transitionsAfter}
 use Rattle.build.proofs.RoomRows.{row-fits}
 use Rattle.build.proofs.Answer.{build-row}
@@ -29,19 +32,19 @@ module _ (row : ℕ) (t r : Rule) (none : row ≡ 0) (same : t ≡ r) where
   unfolding sliceAfter
   moves-there zs = rw (none, same)
 
-module _ (r : Rule) (P : Passing r) (p xs zs : List ℕ) (codes-fit : length (macrostates r) ≤ codesRoom (length xs)) (moves-fit : length (transitions r) ≤ transitionsRoom (length zs)) where
+module _ (r : Rule) (P : Passing r) (apart : someNested r ≡ false) (p : List ℕ) (named : firstRow (prefaceRows (r .s) p) ≡ 0) (xs zs : List ℕ) (codes-fit : length (macrostates r) ≤ codesRoom (length xs)) (moves-fit : length (transitions r) ≤ transitionsRoom (length zs)) where
   -- no row refuses the file of the rule
   unrefused : buildRow (p ++ bodyOf r) (length xs) (length zs) ≡ 0
   unrefused =
-      let a = layout-accepted r P p in
+      let a = layout-accepted r P apart p named in
       build-row (p ++ bodyOf r) xs zs (a .0) ∙ rw (a .1) (row-fits (macrostates r) (transitions r) (length xs) (length zs) codes-fit moves-fit)
 
-  -- the file of the rule, after any preface p, is built: the counts and both lists, and zeros after them
+  -- the file of the rule, after any preface p whose names are not refused, is built: the counts and both lists, and zeros after them
   pub built-with-room : (builtOf (p ++ bodyOf r) (length xs) (length zs) ≡ Table (record { macrostates = length (macrostates r); transitions = length (transitions r) }))
       × (codesAfter (p ++ bodyOf r) xs (length zs) ≡ macrostates r ++ replicate (length xs - length (macrostates r)) 0)
       × (transitionsAfter (p ++ bodyOf r) (length xs) zs ≡ transitions r ++ replicate (length zs - length (transitions r)) 0)
   unfolding builtOf codesAfter transitionsAfter
   built-with-room =
-      let e = layout-accepted r P p .1 in
+      let e = layout-accepted r P apart p named .1 in
       let k = buildRow (p ++ bodyOf r) (length xs) (length zs) in
       (counted k (ruleIn (p ++ bodyOf r)) r unrefused e, codes-there k (ruleIn (p ++ bodyOf r)) r unrefused e xs, moves-there k (ruleIn (p ++ bodyOf r)) r unrefused e zs)

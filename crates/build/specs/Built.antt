@@ -1,14 +1,14 @@
 -- What the build answers, and what it leaves in the two lent slices.
-use mathlib.Core.Bool.{cond}
+use mathlib.Core.Bool.{Bool, _||_, cond}
 use mathlib.Core.List.{List, [], _∷_, _++_}
 use Prim.Native.Nat.{ℕ, zero, suc, _-_}
-use lib.Dec.{ltb}
+use lib.Dec.{ltb, eqb}
 use lib.ListN.{length, replicate}
-use Rattle.sets.specs.Rows.{Check, firstRow, check}
+use Rattle.refusals.specs.Rows.{Check, firstRow, check}
 use Rattle.theory.specs.Table.{macrostates, transitions}
-use Rattle.files.specs.File.{ruleIn}
-use Rattle.files.specs.Rows.{fileRows}
-use Rattle.lists.specs.Room.{codesRoom, transitionsRoom}
+use Rattle.file_spec.specs.File.{ruleIn}
+use Rattle.file_spec.specs.Rows.{fileRows}
+use Rattle.build_lists.specs.Room.{codesRoom, transitionsRoom}
 use Rattle.build.specs.declared.Built.{Built}
 use Rattle.build.specs.declared.Built.the-variants.{Table, Refused}
 
@@ -30,15 +30,20 @@ unfoldable pub builtBy : ℕ → List ℕ → List ℕ → Built
 builtBy zero codes moves = Table (record { macrostates = length codes; transitions = length moves })
 builtBy (suc k) codes moves = Refused (suc k)
 
+-- 01: "a build is refused for room by 17 or 18"
+abbrev pub refusesRoom : ℕ → Bool
+refusesRoom k = eqb k 17 || eqb k 18
+
 -- by the first row that refuses: what a lent slice holds afterwards, the list being what is to be written there.
--- None: the list at its start, "unused elements become 0". "1 to 16 change no lent slice, 17 and 18 set both room slices to zero throughout."
+-- None: the list at its start, "unused elements become 0". "1 to 16 change no lent slice, 17 and 18 set both room slices to zero throughout.";
+-- 02: "refusals from 19 on change no lent slice"
 unfoldable pub sliceAfter : ℕ → List ℕ → List ℕ → List ℕ
 sliceAfter zero list lent = list ++ replicate (length lent - length list) 0
-sliceAfter (suc k) list lent = cond (ltb (suc k) 17) lent (replicate (length lent) 0)
+sliceAfter (suc k) list lent = cond (refusesRoom (suc k)) (replicate (length lent) 0) lent
 
 -- ---- of a file
 
--- 01: "Rule .., word, table, slices, room.": rows 1 to 11 of the file, then 17, then 18
+-- 01: "Rule .., word, table, slices, room.": the rows of the rule, then 17, then 18
 unfoldable pub buildRow : List ℕ → ℕ → ℕ → ℕ
 buildRow file codesLen movesLen = firstRow (fileRows file ++ roomRows (macrostates (ruleIn file)) (transitions (ruleIn file)) codesLen movesLen)
 

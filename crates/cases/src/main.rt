@@ -1,32 +1,34 @@
 // Runs the library's entries on the calls of standard input. Prints for each its name, what the lent slices hold afterwards or the preface,
 // and the answer as three numbers: the row that refuses, or 0, and two values. The second program wrote the calls and what must be printed.
-use agreement::SameRules;
+mod text;
+
+use crate::text::byte;
+use crate::text::lent_bytes;
+use crate::text::lent_numbers;
+use crate::text::part;
+use crate::text::say;
+use crate::text::say_answer;
+use crate::text::say_bytes;
+use crate::text::say_numbers;
 use build::Built;
-use calls::Start;
-use caseio::byte;
-use caseio::lent_bytes;
-use caseio::lent_numbers;
-use caseio::part;
-use caseio::say;
-use caseio::say_answer;
-use caseio::say_bytes;
-use caseio::say_numbers;
-use judged::Verdict;
+use file_read::Read;
+use file_write_spec::Written;
+use judge_spec::Verdict;
 use libc::STDIN_FILENO;
-use rules::Read;
-use samewords::SameWords;
-use written::Written;
+use rule_same::entries::SameRules;
+use table_call::Start;
+use word_same::SameWords;
 
 fn run_read(file: &[u8]) {
-    say(rules::preface(file));
-    match rules::read_rule(file) {
+    say(file_read::preface(file));
+    match file_read::read_rule(file) {
         Read::Accepted(layout) => say_answer(0, layout.at, layout.clauses),
         Read::Refused(row) => say_answer(row, 0, 0),
     }
 }
 
 fn run_same_rules(first: &[u8], second: &[u8]) {
-    match sameness::same_rules(first, second) {
+    match rule_same::files::same_rules(first, second) {
         SameRules::Same => say_answer(0, 1, 0),
         SameRules::Different => say_answer(0, 0, 0),
         SameRules::Refused(row) => say_answer(row, 0, 0),
@@ -34,7 +36,7 @@ fn run_same_rules(first: &[u8], second: &[u8]) {
 }
 
 fn run_same_words(lead1: &[u8], cycle1: &[u8], lead2: &[u8], cycle2: &[u8]) {
-    match samewords::same_words(lead1, cycle1, lead2, cycle2) {
+    match word_same::same_words(lead1, cycle1, lead2, cycle2) {
         SameWords::Same => say_answer(0, 1, 0),
         SameWords::Different => say_answer(0, 0, 0),
         SameWords::Refused(row) => say_answer(row, 0, 0),
@@ -42,7 +44,7 @@ fn run_same_words(lead1: &[u8], cycle1: &[u8], lead2: &[u8], cycle2: &[u8]) {
 }
 
 fn write_into(call: &[u8], out: &mut [u8]) {
-    let answer = writer::write_rule(
+    let answer = file_write::writer::write_rule(
         byte(call, 2) as u32,
         byte(call, 3) as u32,
         byte(call, 4) as u32,
@@ -111,7 +113,7 @@ fn judge_table_into(
     transitions: &[u8],
     scratch: &mut [u8],
 ) {
-    let answer = tables::judge_table_bytes(file, lead, cycle, codes, transitions, scratch);
+    let answer = table_judge::judge_table_bytes(file, lead, cycle, codes, transitions, scratch);
     say_bytes(scratch);
     match answer {
         Start::Yes(number) => say_answer(0, 1, number),

@@ -2,5 +2,4 @@ pub mod Packing
 pub mod Round
 pub mod Low
 pub mod Starts
-pub mod Classes
 pub mod Examples

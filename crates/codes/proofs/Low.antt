@@ -34,10 +34,6 @@ from-step b m f k hb p l =
 pub put-byte : (r d : ℕ) → r < 2 ^ 56 → d < 256 → bitOr (r * 2 ^ 8 % 2 ^ 64) d ≡ r * 256 + d
 put-byte r d h l = let f : r * 2 ^ 8 < 2 ^ 64 = omega arith in rw (mod-eq-of-lt f) (or-shifted r 8 d l)
 
--- four bits put below a number of at most seven times four
-pub put-nibble : (r d : ℕ) → r < 2 ^ 28 → d < 16 → bitOr (r * 2 ^ 4 % 2 ^ 32) d ≡ r * 16 + d
-put-nibble r d h l = let f : r * 2 ^ 4 < 2 ^ 32 = omega arith in rw (mod-eq-of-lt f) (or-shifted r 4 d l)
-
 bound-step : (b m r d : ℕ) → r < b ^ m → d < b → r * b + d < b ^ (m + 1)
 bound-step b m r d h l = rw (add-one, pow-suc) (digits-lt h l)
 
@@ -51,16 +47,4 @@ byte-turn f k r p l digit bound e =
     let next = bound-step 256 (8 - k) r (f (k - 1)) bound digit in (
       rw (put, m) next,
       put ∙ ap (λ (x : ℕ). x * 256 + f (k - 1)) e ∙ sym (from-step 256 8 f k (omega arith) p l),
-    )
-
--- one turn of the loop over eight ranks
-pub nibble-turn : (f : ℕ → ℕ) (k r : ℕ) → 0 < k → k ≤ 8 → f (k - 1) < 16 → r < 16 ^ (8 - k) → r ≡ from 16 8 f k
-    → (bitOr (r * 2 ^ 4 % 2 ^ 32) (f (k - 1)) < 16 ^ (8 - (k - 1))) × (bitOr (r * 2 ^ 4 % 2 ^ 32) (f (k - 1)) ≡ from 16 8 f (k - 1))
-nibble-turn f k r p l digit bound e =
-    let small : r < 2 ^ 28 = lt-of-lt-of-le bound (pow-le-pow-right {n = 16} (lit< tt) {i = 8 - k} {j = 7} (omega arith)) in
-    let m : 8 - (k - 1) ≡ 8 - k + 1 = omega arith in
-    let put = put-nibble r (f (k - 1)) small digit in
-    let next = bound-step 16 (8 - k) r (f (k - 1)) bound digit in (
-      rw (put, m) next,
-      put ∙ ap (λ (x : ℕ). x * 16 + f (k - 1)) e ∙ sym (from-step 16 8 f k (omega arith) p l),
     )

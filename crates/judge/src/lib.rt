@@ -1,16 +1,16 @@
 // The judge of words on a rule.
-use entries::Head;
-use judged::Verdict;
-use masks::contains;
-use rules::Read;
-use rules::clauses_of;
-use rules::counts_of;
-use rules::read_rule;
-use truth::fill;
-use words::word_row;
+use file_read::Read;
+use file_read::clauses_of;
+use file_read::counts_of;
+use file_read::read_rule;
+use judge_masks::word::fill;
+use judge_spec::Verdict;
+use rule_entries::Head;
+use set_masks::contains;
+use word_rows::word_row;
 ghost use Rattle.theory.specs.Passing.{Passing};
-ghost use Rattle.entries.specs.Entries.{ruleOf};
-ghost use Rattle.judged.specs.Judge.{Called, Judged};
+ghost use Rattle.rule_entries.specs.Entries.{ruleOf};
+ghost use Rattle.judge_spec.specs.Judge.{JudgeCalled, Judged};
 
 // Whether a rule that passes every check accepts the word; the masks of the word are written from the start of masks on.
 // Refused by rows 12 to 14 and 16, and masks is then unchanged.
@@ -23,7 +23,9 @@ pub fn judge_read(
     masks: &mut [u8],
 ) -> Verdict
     requires { ⌜ Passing (ruleOf h (now counts) (now clauses)) ⌝ }
-    ensures { λ r. ⌜ Called (ruleOf h (now (counts .entry)) (now (clauses .entry))) (now (lead .entry)) (now (cycle .entry)) (now (masks .entry)) (now (masks .exit)) r ⌝ }
+    ensures { λ r. ⌜
+        JudgeCalled (ruleOf h (now (counts .entry)) (now (clauses .entry))) (now (lead .entry)) (now (cycle .entry)) (now (masks .entry))
+        (now (masks .exit)) r ⌝ }
 {
     let s = h.s;
     let row = word_row(s, lead, cycle);
@@ -42,7 +44,7 @@ pub fn judge_read(
 
 // Whether the rule of a file accepts the word, from its initial state at place 0. For each place, in order, one byte of masks becomes
 // the mask of the states from which the rule accepts there; the bytes after them stay.
-// Refused by rows 1 to 14 and 16, in this order, and masks is then unchanged.
+// Refused by the rows of the rule, of the word and of the slice, in this order, and masks is then unchanged.
 pub fn judge(file: &[u8], lead: &[u8], cycle: &[u8], masks: &mut [u8]) -> Verdict
     ensures { λ r. ⌜ Judged (now (file .entry)) (now (lead .entry)) (now (cycle .entry)) (now (masks .entry)) (now (masks .exit)) r ⌝ }
 {

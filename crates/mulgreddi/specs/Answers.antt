@@ -1,20 +1,26 @@
 -- For each case of an answer, 01's number and values.
 use Prim.Native.Nat.{ℕ}
+use mathlib.Core.List.{List}
+use lib.ListN.{length}
 use Rattle.mulgreddi.specs.declared.Answer.{Answer}
 use Rattle.build.specs.declared.Built.{Built}
 use Rattle.build.specs.declared.Built.the-variants as build
-use Rattle.judged.specs.declared.Verdict.{Verdict}
-use Rattle.judged.specs.declared.Verdict.the-variants as judge
-use Rattle.rules.specs.declared.Read.{Read}
-use Rattle.rules.specs.declared.Read.the-variants as read
-use Rattle.agreement.specs.declared.SameRules.{SameRules}
-use Rattle.agreement.specs.declared.SameRules.the-variants as rules
-use Rattle.calls.specs.declared.Start.{Start}
-use Rattle.calls.specs.declared.Start.the-variants as tables
-use Rattle.samewords.specs.declared.SameWords.{SameWords}
-use Rattle.samewords.specs.declared.SameWords.the-variants as words
-use Rattle.written.specs.declared.Written.{Written}
-use Rattle.written.specs.declared.Written.the-variants as written
+use Rattle.event_spec.specs.declared.Translated.{Translated}
+use Rattle.event_spec.specs.declared.Translated.the-variants as events
+use Rattle.judge_spec.specs.declared.Verdict.{Verdict}
+use Rattle.judge_spec.specs.declared.Verdict.the-variants as judge
+use Rattle.file_read.specs.declared.Read.{Read}
+use Rattle.file_read.specs.declared.Read.the-variants as read
+use Rattle.rule_same.specs.declared.entries.SameRules.{SameRules}
+use Rattle.rule_same.specs.declared.entries.SameRules.the-variants as rules
+use Rattle.table_call.specs.declared.Start.{Start}
+use Rattle.table_call.specs.declared.Start.the-variants as tables
+use Rattle.word_same.specs.declared.SameWords.{SameWords}
+use Rattle.word_same.specs.declared.SameWords.the-variants as words
+use Rattle.word_spelling.specs.declared.TidyWord.{TidyWord}
+use Rattle.word_spelling.specs.declared.TidyWord.the-variants as tidy
+use Rattle.file_write_spec.specs.declared.Written.{Written}
+use Rattle.file_write_spec.specs.declared.Written.the-variants as written
 
 -- 01: "The answer is the number alone"
 abbrev pub refusedAs : ℕ → Answer
@@ -23,15 +29,20 @@ refusedAs row = record { refusal = row; first = 0; second = 0 }
 abbrev pub servedAs : ℕ → ℕ → Answer
 servedAs first second = record { refusal = 0; first = first; second = second }
 
--- the length of the preface
-unfoldable pub readAnswer : Read → Answer
-readAnswer (read.Accepted layout) = servedAs (layout .at) 0
-readAnswer (read.Refused row) = refusedAs row
+-- the length of the preface, and how many of its bytes are names
+unfoldable pub readAnswer : Read → List ℕ → Answer
+readAnswer (read.Accepted layout) names = servedAs (layout .at) (length names)
+readAnswer (read.Refused row) names = refusedAs row
 
 -- the length of the written file
 unfoldable pub writtenAnswer : Written → Answer
 writtenAnswer (written.Length length) = servedAs length 0
 writtenAnswer (written.Refused row) = refusedAs row
+
+-- the number of letters written
+unfoldable pub translatedAnswer : Translated → Answer
+translatedAnswer (events.Letters letters) = servedAs letters 0
+translatedAnswer (events.Refused row) = refusedAs row
 
 -- 1 same, 0 not
 unfoldable pub sameRulesAnswer : SameRules → Answer
@@ -43,6 +54,11 @@ unfoldable pub sameWordsAnswer : SameWords → Answer
 sameWordsAnswer words.Same = servedAs 1 0
 sameWordsAnswer words.Different = servedAs 0 0
 sameWordsAnswer (words.Refused row) = refusedAs row
+
+-- the lengths of lead-in and cycle
+unfoldable pub tidyWordAnswer : TidyWord → Answer
+tidyWordAnswer (tidy.Spelling lengths) = servedAs (lengths .lead) (lengths .cycle)
+tidyWordAnswer (tidy.Refused row) = refusedAs row
 
 -- 1 yes, 0 no
 unfoldable pub verdictAnswer : Verdict → Answer

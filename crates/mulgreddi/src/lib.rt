@@ -1,29 +1,39 @@
 // The C interface: every public entry, its answer as three numbers. include/mulgreddi.h declares and documents it.
-use agreement::SameRules;
+pub mod choices;
+pub mod event;
+pub mod loops;
+pub mod names;
+pub mod tidy;
+pub mod trimmed;
+pub mod word;
+
 use build::Built;
-use calls::Start;
-use judged::Verdict;
-use rules::Read;
-use samewords::SameWords;
-use written::Written;
+use file_read::Read;
+use file_write_spec::Written;
+use judge_spec::Verdict;
+use rule_same::entries::SameRules;
+use table_call::Start;
+use word_same::SameWords;
 ghost use mathlib.Core.Path.{_≡_};
-ghost use lib.ListN.{length, take};
-ghost use Rattle.theory.specs.Truth.{truthMasks};
-ghost use Rattle.theory.specs.Demand.{Demand3};
-ghost use Rattle.theory.specs.Table.{ListsReachable};
-ghost use Rattle.build.specs.Built.{builtOf, codesAfter, transitionsAfter};
-ghost use Rattle.build.specs.declared.Counts.{Counts};
-ghost use Rattle.build.specs.declared.Built.the-variants.{Table};
-ghost use Rattle.judged.specs.Judge.{judgeOf, judgeRow, after, Meant};
-ghost use Rattle.files.specs.File.{ruleIn};
-ghost use Rattle.rules.specs.Read.{readOf};
-ghost use Rattle.lent.specs.Lent.{inBytes};
-ghost use Rattle.tables.specs.Tables.{JudgedTable};
-ghost use Rattle.calls.specs.declared.Start.{Start};
-ghost use Rattle.agreement.specs.Same.{sameRulesOf};
-ghost use Rattle.written.specs.Written.{headFrom, writtenOf, sliceAfter};
-ghost use Rattle.samewords.specs.Same.{sameWordsOf};
-ghost use Rattle.mulgreddi.specs.Answers.{refusedAs, servedAs, readAnswer, writtenAnswer, sameRulesAnswer, sameWordsAnswer, verdictAnswer, builtAnswer, startAnswer};
+ghost use mathlib.Core.Logic.{_↔_};
+ghost use mathlib.Core.List.{[]};
+ghost use lib.ListN.{length};
+ghost use Rattle.file_spec.specs.File.{namesOf};
+ghost use Rattle.build.specs.Entry.{TableBuilt};
+ghost use Rattle.build.specs.declared.Built.{Built};
+ghost use Rattle.judge_spec.specs.Judge.{Judged};
+ghost use Rattle.judge_spec.specs.declared.Verdict.{Verdict};
+ghost use Rattle.file_read.specs.Read.{readOf};
+ghost use Rattle.table_lent.specs.Lent.{inBytes};
+ghost use Rattle.table_judge.specs.Tables.{JudgedTable};
+ghost use Rattle.table_call.specs.declared.Start.{Start};
+ghost use Rattle.rule_same.specs.Same.{sameRulesOf};
+ghost use Rattle.file_write_spec.specs.Written.{headFrom, writtenOf, sliceAfter};
+ghost use Rattle.word_spelling_spec.specs.Spelling.{Agree};
+ghost use Rattle.word_same.specs.Same.{sameRow, sameWordsOf};
+ghost use Rattle.word_same.specs.declared.SameWords.the-variants.{Same};
+ghost use Rattle.mulgreddi.specs.Answers.{refusedAs, servedAs, readAnswer, writtenAnswer};
+ghost use Rattle.mulgreddi.specs.Answers.{sameRulesAnswer, sameWordsAnswer, verdictAnswer, builtAnswer, startAnswer};
 
 // refusal is 0 where the input was served; else first and second are 0.
 #[repr(C)]
@@ -34,7 +44,7 @@ pub struct Answer {
 }
 
 // The answer of a refusal.
-fn refused(row: u8) -> Answer
+pub fn refused(row: u8) -> Answer
     ensures { λ r. ⌜ r ≡ refusedAs row ⌝ }
 {
     Answer {
@@ -45,7 +55,7 @@ fn refused(row: u8) -> Answer
 }
 
 // The answer of a served call.
-fn served(first: u64, second: u64) -> Answer
+pub fn served(first: u64, second: u64) -> Answer
     ensures { λ r. ⌜ r ≡ servedAs first second ⌝ }
 {
     Answer {
@@ -55,13 +65,16 @@ fn served(first: u64, second: u64) -> Answer
     }
 }
 
-// Reads a rule file; the length of its preface.
+// Reads a rule file; the length of its preface, and how many bytes of names stand right before the preface's last two bytes.
 #[no_mangle]
 pub extern "C" fn mulgreddi_check(file: &[u8]) -> Answer
-    ensures { λ r. ⌜ r ≡ readAnswer (readOf (now (file .entry))) ⌝ }
+    ensures { λ r. ⌜ r ≡ readAnswer (readOf (now (file .entry))) (namesOf (now (file .entry))) ⌝ }
 {
-    match rules::read_rule(file) {
-        Read::Accepted(layout) => served(layout.at as u64, 0),
+    match file_read::read_rule(file) {
+        Read::Accepted(layout) => {
+            let names = file_read::names_of(file, layout);
+            served(layout.at as u64, names.len() as u64)
+        }
         Read::Refused(row) => refused(row),
     }
 }
@@ -77,10 +90,13 @@ pub extern "C" fn mulgreddi_write(
     clauses: &[u8],
     out: &mut [u8],
 ) -> Answer
-    ensures { λ r. ⌜ r ≡ writtenAnswer (writtenOf (headFrom n s initial accepting) (now (counts .entry)) (now (clauses .entry)) (length (now (out .entry)))) ⌝ }
-    ensures { λ _. ⌜ now (out .exit) ≡ sliceAfter (headFrom n s initial accepting) (now (counts .entry)) (now (clauses .entry)) (now (out .entry)) ⌝ }
+    ensures { λ r. ⌜ r
+        ≡ writtenAnswer
+        (writtenOf (headFrom n s initial accepting) (now (counts .entry)) (now (clauses .entry)) [] (length (now (out .entry)))) ⌝ }
+    ensures { λ _. ⌜ now (out .exit)
+        ≡ sliceAfter (headFrom n s initial accepting) (now (counts .entry)) (now (clauses .entry)) [] (now (out .entry)) ⌝ }
 {
-    match writer::write_rule(n, s, initial, accepting, counts, clauses, out) {
+    match file_write::writer::write_rule(n, s, initial, accepting, counts, clauses, out) {
         Written::Length(length) => served(length as u64, 0),
         Written::Refused(row) => refused(row),
     }
@@ -91,14 +107,14 @@ pub extern "C" fn mulgreddi_write(
 pub extern "C" fn mulgreddi_same_rules(first: &[u8], second: &[u8]) -> Answer
     ensures { λ r. ⌜ r ≡ sameRulesAnswer (sameRulesOf (now (first .entry)) (now (second .entry))) ⌝ }
 {
-    match sameness::same_rules(first, second) {
+    match rule_same::files::same_rules(first, second) {
         SameRules::Same => served(1, 0),
         SameRules::Different => served(0, 0),
         SameRules::Refused(row) => refused(row),
     }
 }
 
-// Whether two words are the same.
+// Whether two words agree at every step.
 #[no_mangle]
 pub extern "C" fn mulgreddi_same_words(
     lead1: &[u8],
@@ -108,8 +124,11 @@ pub extern "C" fn mulgreddi_same_words(
 ) -> Answer
     ensures { λ r. ⌜ r ≡ sameWordsAnswer (sameWordsOf (now (lead1 .entry)) (now (cycle1 .entry))
         (now (lead2 .entry)) (now (cycle2 .entry))) ⌝ }
+    ensures { λ _. ⌜ (sameRow (now (lead1 .entry)) (now (cycle1 .entry)) (now (lead2 .entry)) (now (cycle2 .entry)) ≡ 0
+        → (sameWordsOf (now (lead1 .entry)) (now (cycle1 .entry)) (now (lead2 .entry)) (now (cycle2 .entry)) ≡ Same)
+        ↔ Agree (now (lead1 .entry)) (now (cycle1 .entry)) (now (lead2 .entry)) (now (cycle2 .entry))) ⌝ }
 {
-    match samewords::same_words(lead1, cycle1, lead2, cycle2) {
+    match word_same::same_words(lead1, cycle1, lead2, cycle2) {
         SameWords::Same => served(1, 0),
         SameWords::Different => served(0, 0),
         SameWords::Refused(row) => refused(row),
@@ -124,9 +143,8 @@ pub extern "C" fn mulgreddi_judge(
     cycle: &[u8],
     masks: &mut [u8],
 ) -> Answer
-    ensures { λ r. ⌜ r ≡ verdictAnswer (judgeOf (now (file .entry)) (now (lead .entry)) (now (cycle .entry)) (length (now (masks .entry)))) ⌝ }
-    ensures { λ _. ⌜ now (masks .exit) ≡ after (judgeRow (now (file .entry)) (now (lead .entry)) (now (cycle .entry)) (length (now (masks .entry)))) (truthMasks (ruleIn (now (file .entry))) (now (lead .entry)) (now (cycle .entry))) (now (masks .entry)) ⌝ }
-    ensures { λ _. ⌜ (judgeRow (now (file .entry)) (now (lead .entry)) (now (cycle .entry)) (length (now (masks .entry))) ≡ 0 → Meant (ruleIn (now (file .entry))) (now (lead .entry)) (now (cycle .entry)) (now (masks .exit)) (judgeOf (now (file .entry)) (now (lead .entry)) (now (cycle .entry)) (length (now (masks .entry))))) ⌝ }
+    ensures { λ r. ⌜ ((v : Verdict) × (r ≡ verdictAnswer v)
+        × Judged (now (file .entry)) (now (lead .entry)) (now (cycle .entry)) (now (masks .entry)) (now (masks .exit)) v) ⌝ }
 {
     match judge::judge(file, lead, cycle, masks) {
         Verdict::Yes => served(1, 0),
@@ -138,11 +156,9 @@ pub extern "C" fn mulgreddi_judge(
 // Builds the unambiguous automaton of a rule file: codes and transitions, both ascending, zeros after them; both counts.
 #[no_mangle]
 pub extern "C" fn mulgreddi_build(file: &[u8], codes: &mut [u64], transitions: &mut [u64]) -> Answer
-    ensures { λ r. ⌜ r ≡ builtAnswer (builtOf (now (file .entry)) (length (now (codes .entry))) (length (now (transitions .entry)))) ⌝ }
-    ensures { λ _. ⌜ now (codes .exit) ≡ codesAfter (now (file .entry)) (now (codes .entry)) (length (now (transitions .entry))) ⌝ }
-    ensures { λ _. ⌜ now (transitions .exit) ≡ transitionsAfter (now (file .entry)) (length (now (codes .entry))) (now (transitions .entry)) ⌝ }
-    ensures { λ _. ⌜ ((n : Counts) → builtOf (now (file .entry)) (length (now (codes .entry))) (length (now (transitions .entry))) ≡ Table n → ListsReachable (ruleIn (now (file .entry))) (take (n .macrostates) (now (codes .exit))) (take (n .transitions) (now (transitions .exit)))) ⌝ }
-    ensures { λ _. ⌜ ((n : Counts) → builtOf (now (file .entry)) (length (now (codes .entry))) (length (now (transitions .entry))) ≡ Table n → Demand3 (ruleIn (now (file .entry))) (take (n .macrostates) (now (codes .exit))) (take (n .transitions) (now (transitions .exit)))) ⌝ }
+    ensures { λ r. ⌜ ((b : Built) × (r ≡ builtAnswer b)
+        × TableBuilt (now (file .entry)) (now (codes .entry)) (now (transitions .entry)) b
+        (now (codes .exit)) (now (transitions .exit))) ⌝ }
 {
     match build::build(file, codes, transitions) {
         Built::Table(counts) => served(counts.macrostates as u64, counts.transitions as u64),
@@ -150,7 +166,8 @@ pub extern "C" fn mulgreddi_build(file: &[u8], codes: &mut [u64], transitions: &
     }
 }
 
-// Judges a word on a table of codes and transitions in bytes; 1 for yes, 0 for no, and with yes the lowest number where an accepting run begins.
+// Judges a word on a table of codes and transitions in bytes; 1 for yes, 0 for no, and with yes the lowest number where an accepting run
+// begins.
 #[no_mangle]
 pub extern "C" fn mulgreddi_judge_table(
     file: &[u8],
@@ -160,9 +177,12 @@ pub extern "C" fn mulgreddi_judge_table(
     transitions: &[u8],
     scratch: &mut [u8],
 ) -> Answer
-    ensures { λ r. ⌜ ((a : Start) × (r ≡ startAnswer a) × JudgedTable (now (file .entry)) (now (lead .entry)) (now (cycle .entry)) (inBytes (now (codes .entry))) (inBytes (now (transitions .entry))) (now (scratch .entry)) (now (scratch .exit)) a) ⌝ }
+    ensures { λ r. ⌜ ((a : Start)
+        × (r ≡ startAnswer a)
+        × JudgedTable (now (file .entry)) (now (lead .entry)) (now (cycle .entry)) (inBytes (now (codes .entry)))
+        (inBytes (now (transitions .entry))) (now (scratch .entry)) (now (scratch .exit)) a) ⌝ }
 {
-    match tables::judge_table_bytes(file, lead, cycle, codes, transitions, scratch) {
+    match table_judge::judge_table_bytes(file, lead, cycle, codes, transitions, scratch) {
         Start::Yes(number) => served(1, number as u64),
         Start::No => served(0, 0),
         Start::Refused(row) => refused(row),

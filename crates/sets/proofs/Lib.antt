@@ -8,4 +8,3 @@ pub mod Ascending
 pub mod Bits
 pub mod Members
 pub mod Walks
-pub mod Rows

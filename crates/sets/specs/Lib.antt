@@ -2,4 +2,3 @@ pub mod Tests
 pub mod Masks
 pub mod Digits
 pub mod Lists
-pub mod Rows

@@ -58,7 +58,7 @@ module _ (A : Automaton) where
     -- "closed up to 1, 2, and so on"
     pub core : Core S r
 
-  -- ---- the same, computed (equal: level-least in proofs/Levels, rank-unique and core-iff in proofs/Cores)
+  -- ---- the same, computed (equal: level-least in theory_laws/proofs/Levels, rank-unique and core-iff in theory_laws/proofs/Cores)
 
   -- the level, for ranks of at most B
   unfoldable pub levelOf : ℕ → Set → (ℕ → ℕ) → ℕ → List ℕ → ℕ

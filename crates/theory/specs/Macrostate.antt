@@ -51,7 +51,7 @@ module _ (A : Automaton) where
     begins : {c : ℕ} → Macrostate c → begun start c ≡ true → Reachable s start c
     goesTo : {c d : ℕ} (a : ℕ) → Reachable s start c → a < s → Macrostate d → Goes c a d → Reachable s start d
 
-  -- ---- the same, computed (equal: goes-iff in proofs/Goes)
+  -- ---- the same, computed (equal: goes-iff in theory_laws/proofs/Goes)
 
   -- the core of c is the one before the core of d at letter a
   unfoldable pub before : ℕ → ℕ → ℕ → Bool

@@ -38,7 +38,7 @@ module _ (A : Automaton) where
   unfoldable pub cores : List ℕ
   cores = keep (λ c. wellCoded A c && isCore A (setIn A c) (rankIn A c)) candidates
 
-  -- the codes of the macrostates reached over s letters, ascending: those of `Reachable` (proofs/Tables: reachable-iff)
+  -- the codes of the macrostates reached over s letters, ascending: those of `Reachable` (theory_laws/proofs/Tables: reachable-iff)
   unfoldable pub codesFrom : ℕ → Set → List ℕ
   codesFrom s start = let all = cores in reached all (begun start) (λ c d. some s (λ a. goes A c a d))
 
@@ -48,7 +48,7 @@ module _ (A : Automaton) where
       sorted (keep (λ x. goes A (getD t (x / 16777216) 0) (x / 65536 % 256) (getD t (x % 65536) 0))
       (flat (tabulate (length t) (λ x. x) 0) (λ i. flat (tabulate s (λ x. x) 0) (λ a. tabulate (length t) (λ j. i * 16777216 + a * 65536 + j) 0))))
 
-  -- what that list holds (proofs/Tables: transition-iff): t is a step over one of s letters from one listed code to another, by their numbers
+  -- what that list holds (theory_laws/proofs/Tables: transition-iff): t is a step over one of s letters from one listed code to another, by their numbers
   pub record Transition (s : ℕ) (codes : List ℕ) (t : ℕ) : Type 0 where
     pub source : ℕ
     pub letter : ℕ

@@ -1,5 +1,5 @@
 -- The masks of the states from which the rule accepts, one a place, computed.
--- proofs/Truth proves each bit equal to acceptance by plans (truth-bit), so what stands here has not to be believed.
+-- theory_laws/proofs/Truth proves each bit equal to acceptance by plans (truth-bit), so what stands here has not to be believed.
 use mathlib.Core.Bool.{Bool, cond}
 use mathlib.Core.List.{List}
 use Prim.Native.Nat.{ℕ, zero, suc, _*_}

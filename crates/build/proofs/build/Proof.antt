@@ -1,10 +1,9 @@
--- `build` meets its contract: rows 1 to 11 by the reader, then the table of the file's rule; what the slices then hold, and demand 3, follow.
+-- `build` meets its contract: the rule's rows by the reader, then the table of the file's rule.
 use mathlib.Core.Path.{_≡_, sym, _∙_}
-use Rattle.rules.specs.declared.Read.the-variants.{Accepted, Refused}
-use Rattle.rules.specs.Read.{readOf}
-use Rattle.rules.proofs.Answer.{turned-away, lent-passing}
-use Rattle.build.specs.declared.Built.the-variants as built
-use Rattle.build.proofs.Answer.{answered-refused, answered, answered-lists, answered-demand3}
+use Rattle.file_read.specs.declared.Read.the-variants.{Accepted, Refused}
+use Rattle.file_read.specs.Read.{readOf}
+use Rattle.file_read.proofs.Answer.{turned-away, lent-passing}
+use Rattle.build.proofs.Answer.{built-refused, built-served}
 use borrow.Author.Needs.{needs}
 use Rattle.build.proofs.build.Statement.{statement}
 use Rattle.build.proofs.build.Tie as tie
@@ -36,8 +35,7 @@ returns c =
     let a = c .before .before .before .before .before .before .before .args in
     let k = c .before .row .given .0 .0 in
     let e : readOf (a .file .now) ≡ Refused k = sym (c .before .before .before .read-rule .ensures) ∙ c .before .row .given .1 in
-    let A = answered-refused (a .file .now) (a .codes .now) (a .transitions .now) k (turned-away (a .file .now) k e) in
-    (A .answer, A .codes-after, A .moves-after, answered-lists (a .file .now) (a .codes .now) (a .transitions .now) (built.Refused k) (a .codes .now) (a .transitions .now) A, answered-demand3 (a .file .now) (a .codes .now) (a .transitions .now) (built.Refused k) (a .codes .now) (a .transitions .now) A)
+    built-refused (a .file .now) (a .codes .now) (a .transitions .now) k (turned-away (a .file .now) k e)
 
 same-length : tie.Need-same-length
 same-length c = search needs
@@ -53,8 +51,7 @@ returns-2 c =
     let b = c .before .before .before .before .build-rule in
     let ys = b .last .1 .1 .1 .1 .0 in
     let ws = b .last .1 .1 .1 .1 .1 .0 in
-    let A = answered (a .file .now) l p _ _ (c .before .before .before .before .before .before .before .before .counts-of .ensures) (c .before .before .before .before .before .before .before .clauses-of .ensures) (a .codes .now) (a .transitions .now) (b .result) ys ws (b .ensures) in
-    (A .answer, A .codes-after, A .moves-after, answered-lists (a .file .now) (a .codes .now) (a .transitions .now) (b .result) ys ws A, answered-demand3 (a .file .now) (a .codes .now) (a .transitions .now) (b .result) ys ws A)
+    built-served (a .file .now) l p _ _ (c .before .before .before .before .before .before .before .before .counts-of .ensures) (c .before .before .before .before .before .before .before .clauses-of .ensures) (a .codes .now) (a .transitions .now) (b .result) ys ws (b .ensures)
 
 pub build-spec : {M : Type 1} → statement M
 build-spec =

@@ -1,8 +1,8 @@
 -- `build_rule` meets its contract: the tables are those of the rule.
 use native.Mathlib.Omega.{arith}
-use Rattle.entries.specs.Entries.{ruleOf}
-use Rattle.entries.proofs.Entries.{accepting-small}
-use Rattle.lists.proofs.Ready.{tables-of}
+use Rattle.rule_entries.specs.Entries.{ruleOf}
+use Rattle.rule_entries.proofs.Entries.{accepting-small}
+use Rattle.build_lists.proofs.Ready.{tables-of}
 use borrow.Author.Needs.{needs}
 use Rattle.build.proofs.build_rule.Statement.{statement}
 use Rattle.build.proofs.build_rule.Tie as tie

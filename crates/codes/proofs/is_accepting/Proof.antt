@@ -1,3 +1,4 @@
+-- `codes::is_accepting` meets its contract.
 use mathlib.Core.Path.{ap}
 use Prim.Native.Nat.{ℕ}
 use lib.Dec.{eqb}

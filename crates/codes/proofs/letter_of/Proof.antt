@@ -1,3 +1,4 @@
+-- `codes::letter_of` meets its contract.
 use Prim.Native.Nat.{_/_, _^_}
 use lib.Bits.{and-mask}
 use Rattle.codes.proofs.letter_of.Statement.{statement}

@@ -1,3 +1,4 @@
+-- `codes::pack_transition` meets its contract.
 use Rattle.codes.proofs.Packing.{three-fields}
 use Rattle.codes.proofs.pack_transition.Statement.{statement}
 use Rattle.codes.proofs.pack_transition.Tie as tie

@@ -1,3 +1,4 @@
+-- `codes::target_of` meets its contract.
 use lib.Bits.{and-mask}
 use Rattle.codes.proofs.target_of.Statement.{statement}
 use Rattle.codes.proofs.target_of.Tie as tie

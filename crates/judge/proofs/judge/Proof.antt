@@ -1,9 +1,9 @@
 -- `judge::judge` meets its contract: what the reader answers, then the judge of the rule that was read.
 use mathlib.Core.Path.{_≡_, sym, _∙_}
-use Rattle.rules.specs.declared.Read.the-variants.{Accepted}
-use Rattle.rules.specs.Read.{readOf}
-use Rattle.rules.proofs.Answer.{served, lent-rule, lent-passing, turned-away}
-use Rattle.judged.proofs.Meaning.{judged-refused, judged-called}
+use Rattle.file_read.specs.declared.Read.the-variants.{Accepted}
+use Rattle.file_read.specs.Read.{readOf}
+use Rattle.file_read.proofs.Answer.{served, lent-rule, lent-passing, turned-away}
+use Rattle.judge_spec.proofs.Meaning.{judged-refused, judged-called}
 use borrow.Author.Needs.{needs}
 use Rattle.judge.proofs.judge.Statement.{statement}
 use Rattle.judge.proofs.judge.Tie as tie

@@ -4,12 +4,12 @@ use mathlib.Core.Bool.{Bool, true, false}
 use native.Mathlib.Omega.{arith}
 use lib.ListN.{length, getD, length-append}
 use Rattle.sets.specs.Masks.{bit}
-use Rattle.laws.proofs.Truth.{truth-length}
-use Rattle.entries.specs.Entries.{ruleOf}
-use Rattle.words.proofs.Checks.{word-over}
-use Rattle.judged.specs.Judge.{Called, verdict}
-use Rattle.judged.proofs.Rows.{word-refuses, slice-refuses, call-served}
-use Rattle.judged.proofs.Meaning.{called-refused, called-served}
+use Rattle.theory_laws.proofs.Truth.{truth-length}
+use Rattle.rule_entries.specs.Entries.{ruleOf}
+use Rattle.word_rows.proofs.Checks.{word-over}
+use Rattle.judge_spec.specs.Judge.{JudgeCalled, verdict}
+use Rattle.judge_spec.proofs.Rows.{word-refuses, slice-refuses, call-served}
+use Rattle.judge_spec.proofs.Meaning.{called-refused, called-served}
 use borrow.Author.Needs.{needs}
 use Rattle.judge.proofs.judge_read.Statement.{statement}
 use Rattle.judge.proofs.judge_read.Tie as tie
@@ -55,7 +55,7 @@ same-length c = search needs
 -- the masks are written, and the test of the first is b
 served : (c : tie.After-contains) (t : Bool) → let a = c .before .before .before .before .before .before .before .before .before .before .before .before .before .before .before .args in let f = c .before .before .before .before .before .fill in
     bit (getD (f .last .1 .1 .1 .1 .1 .0) 0 0) (a .h .initial) ≡ t
-    → Called (ruleOf (a .h) (a .counts .now) (a .clauses .now)) (a .lead .now) (a .cycle .now) (a .masks .now) (f .last .1 .1 .1 .1 .1 .0) (verdict 0 t)
+    → JudgeCalled (ruleOf (a .h) (a .counts .now) (a .clauses .now)) (a .lead .now) (a .cycle .now) (a .masks .now) (f .last .1 .1 .1 .1 .1 .0) (verdict 0 t)
 served c t e =
     let a = c .before .before .before .before .before .before .before .before .before .before .before .before .before .before .before .args in
     let r = ruleOf (a .h) (a .counts .now) (a .clauses .now) in

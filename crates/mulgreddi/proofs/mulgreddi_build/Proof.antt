@@ -29,8 +29,8 @@ same-length-2 c = search needs
 returns : tie.Need-returns
 unfolding builtAnswer
 returns c =
-    let b = c .before .before .before .before .before .before .before .before .build .ensures in
-    (c .served .ensures ∙ sym (ap builtAnswer (sym (b .0) ∙ c .before .before .counts .given .1)), (b .1, (b .2, (λ n e. b .3 n (b .0 ∙ e), λ n e. b .4 n (b .0 ∙ e)))))
+    let b = c .before .before .before .before .before .before .before .before .build in
+    (b .result, c .served .ensures ∙ sym (ap builtAnswer (c .before .before .counts .given .1)), b .ensures)
 
 same-length-3 : tie.Need-same-length-3
 same-length-3 c = search needs
@@ -41,8 +41,8 @@ same-length-4 c = search needs
 returns-2 : tie.Need-returns-2
 unfolding builtAnswer
 returns-2 c =
-    let b = c .before .before .before .before .before .before .before .before .build .ensures in
-    (c .refused .ensures ∙ sym (ap builtAnswer (sym (b .0) ∙ c .before .before .row .given .1)), (b .1, (b .2, (λ n e. b .3 n (b .0 ∙ e), λ n e. b .4 n (b .0 ∙ e)))))
+    let b = c .before .before .before .before .before .before .before .before .build in
+    (b .result, c .refused .ensures ∙ sym (ap builtAnswer (c .before .before .row .given .1)), b .ensures)
 
 pub mulgreddi-build-spec : {M : Type 1} → statement M
 mulgreddi-build-spec =

@@ -1,7 +1,12 @@
--- `mulgreddi_check` meets its contract: its numbers are those of what the reader answers.
+-- `mulgreddi_check` meets its contract: its numbers are those of what the reader answers, and how many bytes the names have.
 use borrow.Author.Needs.{needs}
+use Prim.Native.Nat.{ℕ}
 use mathlib.Core.Path.{sym, _∙_, ap}
-use Rattle.mulgreddi.specs.Answers.{readAnswer}
+use mathlib.Core.List.{List}
+use lib.ListN.{length}
+use Rattle.file_spec.specs.File.{namesOf}
+use Rattle.file_read.specs.declared.Read.{Read}
+use Rattle.mulgreddi.specs.Answers.{servedAs, readAnswer}
 use Rattle.mulgreddi.proofs.mulgreddi_check.Statement.{statement}
 use Rattle.mulgreddi.proofs.mulgreddi_check.Tie as tie
 
@@ -10,6 +15,9 @@ read-rule-requires c κs = search needs
 
 enum-known-layout : tie.Need-enum-known-layout
 enum-known-layout c = search needs
+
+names-of-requires : tie.Need-names-of-requires
+names-of-requires c κs = sym (c .before .before .before .read-rule .ensures) ∙ c .before .layout .given .1
 
 served-requires : tie.Need-served-requires
 served-requires c κs = search needs
@@ -22,11 +30,19 @@ refused-requires c κs = search needs
 
 returns : tie.Need-returns
 unfolding readAnswer
-returns c = c .served .ensures ∙ sym (ap readAnswer (sym (c .before .before .before .before .read-rule .ensures) ∙ c .before .before .layout .given .1))
+returns c =
+    let f = c .before .before .before .before .before .before .before .args .file .now in
+    let l = c .before .before .before .layout .given .0 .0 in
+    c .served .ensures
+    ∙ ap (λ (names : List ℕ). servedAs (l .at) (length names)) (c .before .names-of .ensures)
+    ∙ sym (ap (λ (r : Read). readAnswer r (namesOf f)) (sym (c .before .before .before .before .before .read-rule .ensures) ∙ c .before .before .before .layout .given .1))
 
 returns-2 : tie.Need-returns-2
 unfolding readAnswer
-returns-2 c = c .refused .ensures ∙ sym (ap readAnswer (sym (c .before .before .before .before .read-rule .ensures) ∙ c .before .before .row .given .1))
+returns-2 c =
+    let f = c .before .before .before .before .before .before .args .file .now in
+    c .refused .ensures
+    ∙ sym (ap (λ (r : Read). readAnswer r (namesOf f)) (sym (c .before .before .before .before .read-rule .ensures) ∙ c .before .before .row .given .1))
 
 pub mulgreddi-check-spec : {M : Type 1} → statement M
 mulgreddi-check-spec =
@@ -34,6 +50,7 @@ mulgreddi-check-spec =
     (tie.spec
     read-rule-requires
     enum-known-layout
+    names-of-requires
     served-requires
     enum-known-row
     refused-requires

@@ -2,7 +2,6 @@
 use borrow.Author.Needs.{needs}
 use mathlib.Core.Path.{sym, _∙_, ap}
 use Rattle.mulgreddi.specs.Answers.{verdictAnswer}
-use Rattle.mulgreddi.proofs.Meaning.{meant-as}
 use Rattle.mulgreddi.proofs.mulgreddi_judge.Statement.{statement}
 use Rattle.mulgreddi.proofs.mulgreddi_judge.Tie as tie
 
@@ -33,8 +32,7 @@ same-length c = search needs
 returns : tie.Need-returns
 unfolding verdictAnswer
 returns c =
-    let j = c .before .before .before .before .before .judge .ensures in
-    (c .served .ensures ∙ sym (ap verdictAnswer (sym (j .answer) ∙ c .before .enum-told .given .1)), (j .written, λ e. meant-as (j .answer) (j .meant e)))
+    let j = c .before .before .before .before .before .judge in (j .result, c .served .ensures ∙ sym (ap verdictAnswer (c .before .enum-told .given .1)), j .ensures)
 
 same-length-2 : tie.Need-same-length-2
 same-length-2 c = search needs
@@ -42,8 +40,7 @@ same-length-2 c = search needs
 returns-2 : tie.Need-returns-2
 unfolding verdictAnswer
 returns-2 c =
-    let j = c .before .before .before .before .before .judge .ensures in
-    (c .served2 .ensures ∙ sym (ap verdictAnswer (sym (j .answer) ∙ c .before .enum-told2 .given .1)), (j .written, λ e. meant-as (j .answer) (j .meant e)))
+    let j = c .before .before .before .before .before .judge in (j .result, c .served2 .ensures ∙ sym (ap verdictAnswer (c .before .enum-told2 .given .1)), j .ensures)
 
 same-length-3 : tie.Need-same-length-3
 same-length-3 c = search needs
@@ -51,8 +48,7 @@ same-length-3 c = search needs
 returns-3 : tie.Need-returns-3
 unfolding verdictAnswer
 returns-3 c =
-    let j = c .before .before .before .before .before .before .judge .ensures in
-    (c .refused .ensures ∙ sym (ap verdictAnswer (sym (j .answer) ∙ c .before .before .row .given .1)), (j .written, λ e. meant-as (j .answer) (j .meant e)))
+    let j = c .before .before .before .before .before .before .judge in (j .result, c .refused .ensures ∙ sym (ap verdictAnswer (c .before .before .row .given .1)), j .ensures)
 
 pub mulgreddi-judge-spec : {M : Type 1} → statement M
 mulgreddi-judge-spec =

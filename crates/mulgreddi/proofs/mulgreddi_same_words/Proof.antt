@@ -28,15 +28,21 @@ refused-requires c κs = search needs
 
 returns : tie.Need-returns
 unfolding sameWordsAnswer
-returns c = c .served .ensures ∙ sym (ap sameWordsAnswer (sym (c .before .before .before .same-words .ensures) ∙ c .before .enum-told .given .1))
+returns c =
+    let s = c .before .before .before .same-words .ensures in
+    (c .served .ensures ∙ sym (ap sameWordsAnswer (sym (s .answered) ∙ c .before .enum-told .given .1)), λ e. rw (s .answered) at (s .meant e))
 
 returns-2 : tie.Need-returns-2
 unfolding sameWordsAnswer
-returns-2 c = c .served2 .ensures ∙ sym (ap sameWordsAnswer (sym (c .before .before .before .same-words .ensures) ∙ c .before .enum-told2 .given .1))
+returns-2 c =
+    let s = c .before .before .before .same-words .ensures in
+    (c .served2 .ensures ∙ sym (ap sameWordsAnswer (sym (s .answered) ∙ c .before .enum-told2 .given .1)), λ e. rw (s .answered) at (s .meant e))
 
 returns-3 : tie.Need-returns-3
 unfolding sameWordsAnswer
-returns-3 c = c .refused .ensures ∙ sym (ap sameWordsAnswer (sym (c .before .before .before .before .same-words .ensures) ∙ c .before .before .row .given .1))
+returns-3 c =
+    let s = c .before .before .before .before .same-words .ensures in
+    (c .refused .ensures ∙ sym (ap sameWordsAnswer (sym (s .answered) ∙ c .before .before .row .given .1)), λ e. rw (s .answered) at (s .meant e))
 
 pub mulgreddi-same-words-spec : {M : Type 1} → statement M
 mulgreddi-same-words-spec =

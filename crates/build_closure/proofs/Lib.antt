@@ -1,0 +1,5 @@
+pub mod Closing
+pub mod Codes
+pub mod Link
+pub mod Listing
+pub mod Walk

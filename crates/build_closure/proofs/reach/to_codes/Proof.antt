@@ -1,0 +1,65 @@
+-- `build_closure::reach::to_codes` meets its contract.
+use Prim.Native.Nat.{_-_, _≤_}
+use mathlib.Core.Path.{_≡_, refl, _∙_}
+use native.Mathlib.Omega.{arith}
+use lib.ListN.{length, length-set}
+use borrow.Author.Needs.{needs}
+use Rattle.build_closure.proofs.Codes.{coded, coded-next}
+use Rattle.build_closure.proofs.reach.to_codes.Statement.{statement}
+use Rattle.build_closure.proofs.reach.to_codes.Tie as tie
+
+abbrev Inv-loop : tie.InvT-loop
+Inv-loop keys₀ n i₀ keys i = (i ≤ n) × (length keys ≡ length keys₀) × (keys ≡ coded i keys₀)
+
+abbrev μ-loop : tie.MeasureT-loop
+μ-loop keys₀ n i₀ keys i = n - i
+
+loop-holds : tie.Need-loop-holds Inv-loop μ-loop
+loop-holds c = (omega arith, refl, refl)
+
+mul-key : tie.Need-mul-key Inv-loop μ-loop
+mul-key c = search needs
+
+slice-read-key : tie.Need-slice-read-key Inv-loop μ-loop
+slice-read-key c = search needs
+
+mul-keys : tie.Need-mul-keys Inv-loop μ-loop
+mul-keys c = search needs
+
+slice-write-keys : tie.Need-slice-write-keys Inv-loop μ-loop
+slice-write-keys c = search needs
+
+add-i : tie.Need-add-i Inv-loop μ-loop
+add-i c = search needs
+
+loop-less : tie.Need-loop-less Inv-loop μ-loop
+loop-less c = search needs
+
+loop-again : tie.Need-loop-again Inv-loop μ-loop
+loop-again c =
+    let a = c .before .before .before .args in let p = c .before .before .before .pre in let l = c .before .before .loop in
+    (omega arith, length-set (l .keys) (l .i) _ ∙ l .inv .1, coded-next (l .i) (a .keys .now) (l .keys) (omega (arith, p .0)) (p .1 (l .i) (omega arith)) (l .inv .2))
+
+same-length : tie.Need-same-length Inv-loop μ-loop
+same-length c = search needs
+
+returns : tie.Need-returns Inv-loop μ-loop
+returns c =
+    let l = c .before .loop in let e : l .i ≡ c .before .before .args .n = omega (arith, l .inv .0) in rw e at (l .inv .2)
+
+pub to-codes-spec : {M : Type 1} → statement M
+to-codes-spec =
+    tie.close
+    (tie.spec
+    Inv-loop
+    μ-loop
+    loop-holds
+    mul-key
+    slice-read-key
+    mul-keys
+    slice-write-keys
+    add-i
+    loop-less
+    loop-again
+    same-length
+    returns)

@@ -1,0 +1,3 @@
+// The closure in the lent slice: sweeps over the cores until nothing is added, then keys turned into codes.
+pub mod reach;
+pub mod sweeps;

@@ -1,0 +1,63 @@
+-- `build_cores::largest_ranks` meets its contract.
+use Prim.Native.Nat.{ℕ, _+_, _-_, _*_, _≤_, _<_}
+use mathlib.Core.Path.{_≡_, refl, ap, ap₂, _∙_}
+use native.Mathlib.Omega.{arith}
+use native.Mathlib.Numerals.{add-one}
+use borrow.Author.Needs.{needs}
+use Rattle.build_cores.specs.Used.{sumOf, capsOf}
+use Rattle.build_cores.proofs.largest_ranks.Statement.{statement}
+use Rattle.build_cores.proofs.largest_ranks.Tie as tie
+
+abbrev Inv-loop : tie.InvT-loop
+Inv-loop parts components caps₀ c₀ caps c = (c ≤ components) × (caps ≡ capsOf parts c) × (caps ≤ c * 4294967296)
+
+abbrev μ-loop : tie.MeasureT-loop
+μ-loop parts components caps₀ c₀ caps c = components - c
+
+loop-holds : tie.Need-loop-holds Inv-loop μ-loop
+unfolding capsOf sumOf
+loop-holds c = (omega arith, refl, omega arith)
+
+element-copy-out-sizes : tie.Need-element-copy-out-sizes Inv-loop μ-loop
+element-copy-out-sizes c = search needs
+
+sizes-requires : tie.Need-sizes-requires Inv-loop μ-loop
+sizes-requires c κs = search needs
+
+cast-caps : tie.Need-cast-caps Inv-loop μ-loop
+cast-caps c = search needs
+
+add-caps : tie.Need-add-caps Inv-loop μ-loop
+add-caps c = search needs
+
+add-c : tie.Need-add-c Inv-loop μ-loop
+add-c c = search needs
+
+loop-less : tie.Need-loop-less Inv-loop μ-loop
+loop-less c = search needs
+
+loop-again : tie.Need-loop-again Inv-loop μ-loop
+unfolding capsOf sumOf
+loop-again c =
+    let l = c .before .before .before .loop in let parts = c .before .before .before .before .args .parts .now in
+    let h : c .sizes .result < 4294967296 = search needs in
+    (omega arith, rw (add-one (l .c)) (ap₂ (λ (x y : ℕ). x + y) (l .inv .1) (c .sizes .ensures)), omega (arith, l .inv .2))
+
+returns : tie.Need-returns Inv-loop μ-loop
+returns c = let l = c .before .loop in let e : l .c ≡ c .before .before .args .components = omega (arith, l .inv .0) in l .inv .1 ∙ ap (capsOf (c .before .before .args .parts .now)) e
+
+pub largest-ranks-spec : {M : Type 1} → statement M
+largest-ranks-spec =
+    tie.close
+    (tie.spec
+    Inv-loop
+    μ-loop
+    loop-holds
+    element-copy-out-sizes
+    sizes-requires
+    cast-caps
+    add-caps
+    add-c
+    loop-less
+    loop-again
+    returns)

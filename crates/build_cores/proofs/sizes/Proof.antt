@@ -1,0 +1,26 @@
+-- `build_cores::sizes` meets its contract.
+use Prim.Native.Nat.{ℕ, _*_}
+use mathlib.Core.Path.{_≡_, ap, _∙_}
+use native.Mathlib.Omega.{arith}
+use lib.Count.{ones}
+use Rattle.build_cores.specs.Used.{sizesOf}
+use Rattle.build_cores.proofs.Gaps.{sizes-low, sizes-are}
+use borrow.Author.Needs.{needs}
+use Rattle.build_cores.proofs.sizes.Statement.{statement}
+use Rattle.build_cores.proofs.sizes.Tie as tie
+
+spread-requires : tie.Need-spread-requires
+spread-requires c κs = search needs
+
+-- the product
+product : (c : tie.After-spread) → c .spread .result * ones (c .before .args .part) ≡ sizesOf (c .before .args .part)
+product c = ap (λ (x : ℕ). x * ones (c .before .args .part)) (c .spread .ensures) ∙ sizes-are (c .before .args .part) (omega arith)
+
+mul-result : tie.Need-mul-result
+mul-result c = omega (arith, product c, sizes-low (c .before .args .part))
+
+returns : tie.Need-returns
+returns c = product c
+
+pub sizes-spec : {M : Type 1} → statement M
+sizes-spec = tie.close (tie.spec spread-requires mul-result returns)

@@ -1,0 +1,74 @@
+-- `build_cores::used_ranks` meets its contract.
+use Prim.Native.Nat.{_-_, _*_, _/_, _%_, _^_, _<_}
+use native.Mathlib.Omega.{arith}
+use lib.Bits.{and-mask, and-le-r}
+use lib.Count.{trailingZeros}
+use Rattle.sets.proofs.Members.{least-lt}
+use Rattle.sets.proofs.Bits.{shl-one}
+use Rattle.build_cores.specs.Vectors.{rankAt}
+use Rattle.build_cores.proofs.Gaps.{Walk, walk-start, walk-on, walk-end, rank-low}
+use Rattle.build_cores.proofs.used_ranks.Statement.{statement}
+use Rattle.build_cores.proofs.used_ranks.Tie as tie
+
+abbrev Inv-loop : tie.InvT-loop
+Inv-loop ranks part found₀ left₀ found left = (left < 256) × Walk ranks part found left
+
+abbrev μ-loop : tie.MeasureT-loop
+μ-loop ranks part found₀ left₀ found left = left
+
+loop-holds : tie.Need-loop-holds Inv-loop μ-loop
+loop-holds c = (omega arith, walk-start (c .args .ranks) (c .args .part) (omega arith))
+
+-- the least state of what is left is a state
+below : (c : tie.In-loop Inv-loop μ-loop) → trailingZeros 8 (c .before .loop .left) < 8
+below c = least-lt 8 (c .before .loop .left) (omega arith) (omega arith)
+
+mul-found : tie.Need-mul-found Inv-loop μ-loop
+mul-found c = omega (arith, below c)
+
+cast-found : tie.Need-cast-found Inv-loop μ-loop
+cast-found c = omega (arith, below c)
+
+shr-found : tie.Need-shr-found Inv-loop μ-loop
+shr-found c = omega (arith, below c)
+
+cast-found-2 : tie.Need-cast-found-2 Inv-loop μ-loop
+cast-found-2 c = rw (and-mask (c .before .before .args .ranks / 2 ^ (4 * trailingZeros 8 (c .before .loop .left))) 4) (omega arith)
+
+shl-found : tie.Need-shl-found Inv-loop μ-loop
+shl-found c = rw (and-mask (c .before .before .args .ranks / 2 ^ (4 * trailingZeros 8 (c .before .loop .left))) 4) (omega arith)
+
+sub-left : tie.Need-sub-left Inv-loop μ-loop
+sub-left c = omega arith
+
+loop-less : tie.Need-loop-less Inv-loop μ-loop
+loop-less c = omega (arith, and-le-r (c .before .loop .left) (c .before .loop .left - 1))
+
+loop-again : tie.Need-loop-again Inv-loop μ-loop
+unfolding rankAt
+loop-again c =
+    let l = c .before .loop in let x = c .before .before .args .ranks in let q = trailingZeros 8 (l .left) in
+    let low : rankAt x q < 16 = rank-low x q in (
+      omega (arith, and-le-r (l .left) (l .left - 1)),
+      rw (and-mask (x / 2 ^ (4 * q)) 4) (walk-on x (c .before .before .args .part) (l .found) (l .left) (1 * 2 ^ rankAt x q % 4294967296) (omega arith) low (shl-one 32 (rankAt x q) (omega arith)) (omega (arith, and-le-r (l .left) (l .left - 1))) (l .inv .1)),
+    )
+
+returns : tie.Need-returns Inv-loop μ-loop
+returns c = let l = c .before .loop in walk-end (c .before .before .args .ranks) (c .before .before .args .part) (l .found) (l .left) (c .loop-test .left) (l .inv .1)
+
+pub used-ranks-spec : {M : Type 1} → statement M
+used-ranks-spec =
+    tie.close
+    (tie.spec
+    Inv-loop
+    μ-loop
+    loop-holds
+    mul-found
+    cast-found
+    shr-found
+    cast-found-2
+    shl-found
+    sub-left
+    loop-less
+    loop-again
+    returns)

@@ -1,0 +1,79 @@
+-- `list_codes` meets its contract: the reachable codes within the room, and zeros from there on.
+use mathlib.Core.Path.{_≡_, sym}
+use native.Mathlib.Omega.{arith}
+use lib.ListN.{length, drop}
+use mathlib.Core.List.{_++_}
+use lib.Seq.{length-take-le}
+use Rattle.theory.specs.Table.{macrostatesFrom}
+use Rattle.slice_search.specs.Places.{zeroedFrom}
+use Rattle.build_closure_spec.specs.Keys.{startOf}
+use Rattle.build_lists.specs.Room.{roomOf}
+use Rattle.build_lists.proofs.Room.{room-len}
+use Rattle.build_lists.proofs.Padding.{whole, fits-whole, padded-full, padded}
+use borrow.Author.Needs.{needs}
+use Rattle.build_lists.proofs.list_codes.Statement.{statement}
+use Rattle.build_lists.proofs.list_codes.Tie as tie
+
+room-of-requires : tie.Need-room-of-requires
+room-of-requires c κs = search needs
+
+slice-relend-prefix-reachable : tie.Need-slice-relend-prefix-reachable
+slice-relend-prefix-reachable c =
+    let room : c .room-of .result ≡ roomOf 65536 (length (c .before .before .args .codes .now)) = c .room-of .ensures in
+    omega (arith, room-len 65536 (length (c .before .before .args .codes .now)))
+
+slice-aggregate-reachable : tie.Need-slice-aggregate-reachable
+slice-aggregate-reachable c =
+    let xs = c .before .before .before .args .codes .now in
+    sym (length-take-le (c .before .room-of .result) xs (omega (arith, room-len 65536 (length xs), c .before .room-of .ensures)))
+
+reachable-requires : tie.Need-reachable-requires
+reachable-requires c κs = search needs
+
+same-length : tie.Need-same-length
+same-length c = search needs
+
+returns : tie.Need-returns
+returns c =
+    let a = c .before .before .before .before .before .before .before .args in
+    let g = c .before .before .before .reachable in
+    λ r T.
+    padded-full 65536 (c .before .before .before .before .before .room-of .result) (a .codes .now) (g .last .0) (c .before .before .before .before .before .room-of .ensures) (g .ensures r T .long) (macrostatesFrom r (startOf r (a .shape .holds))) (g .result .m) (g .result .full) (c .if1 .taken) (g .ensures r T .crowded (c .if1 .taken))
+
+zero-from-requires : tie.Need-zero-from-requires
+zero-from-requires c κs =
+    let xs = c .before .before .before .before .before .before .before .before .args .codes .now in
+    let g = c .before .before .before .before .reachable in
+    let room = c .before .before .before .before .before .before .room-of in
+    let L = g .ensures (c .before .before .before .before .before .before .before .before .pre .0) (c .before .before .before .before .before .before .before .before .pre .1) in
+    let long = whole 65536 (room .result) xs (g .last .0) (room .ensures) (L .long) in
+    let few = room-len 65536 (length xs) in
+    let fits = fits-whole 65536 (room .result) xs (g .last .0) (room .ensures) (L .long) (g .result .m) (L .fits) in
+    omega (arith, room .ensures)
+
+same-length-2 : tie.Need-same-length-2
+same-length-2 c = search needs
+
+returns-2 : tie.Need-returns-2
+returns-2 c =
+    let a = c .before .before .before .before .before .before .before .before .before .before .before .args in
+    let g = c .before .before .before .before .before .before .before .reachable in
+    let room = c .before .before .before .before .before .before .before .before .before .room-of in
+    let zeros : c .before .before .zero-from .last .0 ≡ zeroedFrom (g .result .m) (g .last .0 ++ drop (room .result) (a .codes .now)) = c .before .before .zero-from .ensures in
+    λ r T.
+    let L = g .ensures r T in
+    padded 65536 (room .result) (a .codes .now) (g .last .0) (room .ensures) (L .long) (macrostatesFrom r (startOf r (a .shape .holds))) (g .result .m) (L .fits) (L .listed (c .before .before .before .before .if1 .left)) (c .before .before .zero-from .last .0) zeros
+
+pub list-codes-spec : {M : Type 1} → statement M
+list-codes-spec =
+    tie.close
+    (tie.spec
+    room-of-requires
+    slice-relend-prefix-reachable
+    slice-aggregate-reachable
+    reachable-requires
+    same-length
+    returns
+    zero-from-requires
+    same-length-2
+    returns-2)

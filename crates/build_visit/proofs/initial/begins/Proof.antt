@@ -1,0 +1,18 @@
+-- `build_visit::initial::begins` meets its contract.
+use mathlib.Core.Path.{ap}
+use mathlib.Core.Bool.{not}
+use borrow.Author.Needs.{needs}
+use Rattle.build_visit.proofs.initial.begins.Statement.{statement}
+use Rattle.build_visit.proofs.initial.begins.Tie as tie
+
+in-set-requires : tie.Need-in-set-requires
+in-set-requires c κs = search needs
+
+returns : tie.Need-returns
+returns c = rw (c .if1 .taken) (c .before .in-set .ensures)
+
+returns-2 : tie.Need-returns-2
+returns-2 c = rw (c .if1 .left) (ap not (c .before .in-set .ensures))
+
+pub begins-spec : {M : Type 1} → statement M
+begins-spec = tie.close (tie.spec in-set-requires returns returns-2)

@@ -1,0 +1,67 @@
+// The keys of the macrostates of one core where a run may begin.
+use build_closure_spec::Shape;
+use slice_insert::Grow;
+ghost use mathlib.Core.Path.{_≡_};
+ghost use mathlib.Core.Bool.{not, cond};
+ghost use Prim.Native.Nat.{_<_};
+ghost use lib.Dec.{ltb};
+ghost use Rattle.sets.specs.Masks.{bit, xor};
+ghost use Rattle.theory.specs.Rule.{Rule};
+ghost use Rattle.build_cores.specs.Vectors.{rankAt, Within};
+ghost use Rattle.build_cores.specs.Used.{capsOf};
+ghost use Rattle.build_closure_spec.specs.Growth.{Parted, Added};
+ghost use Rattle.build_closure_spec.specs.Keys.{StartsAt};
+ghost use Rattle.build_closure_spec.specs.Tables.{Shaped};
+
+// Whether the set of the core of these ranks holds state q.
+fn in_set(ranks: u64, accepting: u8, q: usize) -> bool
+    requires { ⌜ q < 8 ⌝ }
+    ensures { λ b. ⌜ b ≡ xor (bit accepting q) (ltb 0 (rankAt ranks q)) ⌝ }
+{
+    let accepts = set_masks::contains(accepting, q as u32);
+    if 0 < (ranks >> (4 * q)) & 15 {
+        return !accepts;
+    }
+    accepts
+}
+
+// Whether the start condition lets a run begin in the core of these ranks.
+fn begins(ranks: u64, shape: Shape) -> bool
+    requires { ⌜ shape .initial < 8 ⌝ }
+    ensures { λ b. ⌜ b
+        ≡ cond (shape .holds) (xor (bit (shape .accepting) (shape .initial)) (ltb 0 (rankAt ranks (shape .initial))))
+        (not (xor (bit (shape .accepting) (shape .initial)) (ltb 0 (rankAt ranks (shape .initial))))) ⌝ }
+{
+    let here = in_set(ranks, shape.accepting, shape.initial);
+    if shape.holds {
+        return here;
+    }
+    !here
+}
+
+// Adds the key with K 0 and k 0 of the core of these ranks, if a run may begin there; none if the ranks are no core's.
+pub fn visit_first(keys: &mut [u64], new: usize, ranks: u64, shape: Shape, parts: &[u8; 8]) -> Grow
+    requires { ⌜ ((r : Rule) × Shaped r (now parts) shape)
+        × Parted 0 (now keys) new
+        × Within 8 ranks (capsOf (now parts) (shape .components)) ⌝ }
+    ensures { λ g. ⌜ ((r : Rule)
+        → Shaped r (now (parts .entry)) shape
+        → Added (StartsAt r (now (parts .entry)) (shape .components) (shape .holds) ranks) 0 (now (keys .entry)) new
+        (now (keys .exit)) (g .m) (g .full)) ⌝ }
+{
+    if !begins(ranks, shape) {
+        return Grow {
+            m: new,
+            full: false,
+        };
+    }
+    if !build_cores::is_core(ranks, parts, shape.components) {
+        return Grow {
+            m: new,
+            full: false,
+        };
+    }
+    let low = build_cores::lowest(ranks);
+    let core = build_step_back::core_of(low[15], shape.accepting, ranks);
+    slice_insert::insert(keys, new, core << 8)
+}

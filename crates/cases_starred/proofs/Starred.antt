@@ -1,0 +1,114 @@
+-- The starred cases of 01 as theorems: the whole table passes the checks, so each of its cases meets the claim.
+use mathlib.Core.Path.{_≡_, refl}
+use mathlib.Core.Logic.{⊎-elim}
+use mathlib.Core.Bool.{Bool, true, _&&_}
+use mathlib.Core.List.{List, [], _∷_, List·Memᴰ, List·Memᴰ·head, List·Memᴰ·tail, List·Memᴰ·cases-cons, List·Memᴰ·not-nil}
+use Prim.Native.Nat.{ℕ, zero, suc, _-_, _<_}
+use native.Mathlib.Omega.{arith}
+use lib.ListN.{length, getD}
+use Rattle.sets.specs.Digits.{num}
+use Rattle.sets.specs.Lists.{keep, among, anyOf, sum, tabulate, flat, insert, sorted}
+use Rattle.sets.specs.Masks.{bit, mask, inside}
+use Rattle.refusals.specs.Rows.{firstRow}
+use Rattle.sets.specs.Tests.{every, some, count, first, largest}
+use Rattle.sets.proofs.Bools.{and-l, and-r}
+use Rattle.theory.specs.Automaton.{automaton}
+use Rattle.theory.specs.Code.{fields, pack, componentIn, classesIn, setIn, rankIn, wellCoded}
+use Rattle.theory.specs.Components.{named, leads, within, reaches, together, smallest, isSmallest, component, components, mixed}
+use Rattle.theory.specs.Core.{isOpen, mix, rejectingSettled, acceptingSettled, settled, test, levelOf, taken, rankOf, isCore, openOf, nextComponent}
+use Rattle.theory.specs.Macrostate.{begun, isAccepting, before, onward, goes}
+use Rattle.theory.specs.Rule.{entry, satisfies}
+use Rattle.theory.specs.Table.{reachedIn, reached, digitals, candidates, cores, codesFrom, transitionsOf, macrostatesFrom, transitionsFrom, macrostates, transitions}
+use Rattle.theory.specs.Truth.{heightOf, layer, roundsAt, solvedBelow, truthMasks}
+use Rattle.theory.specs.Word.{nextPlace, letterAt, place}
+use Rattle.file_spec.specs.File.{tagged, clausesOf, countsOf}
+use Rattle.file_spec.specs.Names.{hasNames, namesBefore, repeatsName}
+use Rattle.file_spec.specs.Rows.{numberRows, listRows, trailerRows, layoutRows, nested, someNested, clauseRows, componentRows, formedRows, bodyRows, nameRows, prefaceRows, fileRows, fileRow}
+use Rattle.word_rows.specs.Words.{lengthRows, letterRows, wordRows, wordRow}
+use Rattle.word_spelling_spec.specs.Spelling.{sameLetters}
+use Rattle.cases_starred.specs.Files.{F, D, E, I, Z}
+use Rattle.cases_starred.specs.Claim.{Case, codesOf, Claim}
+use Rattle.cases_starred.specs.Starred.{case1, case2, case3, case4, case5, case6, case7, case8, case9, starred}
+use Rattle.cases_starred.proofs.Lasso.{conj, loops}
+use Rattle.cases_starred.proofs.Checks.{allMarks, startPasses, passes, casePasses, claim}
+
+-- what the evaluation unfolds: the rows of a file and of a word, the masks, the lists of the build, the checks, the table
+unfoldable rows : ℕ
+unfolding fileRow fileRows bodyRows prefaceRows nameRows hasNames namesBefore repeatsName layoutRows trailerRows numberRows listRows formedRows clauseRows someNested nested componentRows firstRow tagged clausesOf countsOf mixed wordRow wordRows lengthRows letterRows
+rows = 0
+
+unfoldable computed : ℕ
+unfolding truthMasks solvedBelow roundsAt layer heightOf nextPlace letterAt place isAccepting macrostates macrostatesFrom transitions transitionsFrom transitionsOf codesFrom cores candidates digitals tabulate flat keep among anyOf insert sorted reachedIn reached wellCoded pack fields mask num goes before onward begun automaton setIn rankIn componentIn classesIn every satisfies inside bit rankOf levelOf test settled rejectingSettled acceptingSettled mix isOpen taken some count first largest openOf nextComponent isCore component components isSmallest smallest together reaches within leads named entry sum
+computed = 0
+
+unfoldable checks : ℕ
+unfolding F D E I Z case1 case2 case3 case4 case5 case6 case7 case8 case9 starred codesOf conj loops allMarks startPasses passes casePasses sameLetters
+checks = 0
+
+unfoldable allPass : List Case → Bool
+allPass [] = true
+allPass (c ∷ cs) = casePasses c && allPass cs
+
+starred-passes : allPass starred ≡ true
+unfolding allPass rows computed checks
+starred-passes = refl
+
+claims : (cs : List Case) → allPass cs ≡ true → (c : Case) → List·Memᴰ c cs → Claim c
+unfolding allPass
+claims [] e c m = absurd (List·Memᴰ·not-nil m)
+claims (d ∷ cs) e c m =
+    ⊎-elim
+    (λ h. rw h (claim d (and-l (casePasses d) (allPass cs) e)))
+    (λ h. claims cs (and-r (casePasses d) (allPass cs) e) c h)
+    (List·Memᴰ·cases-cons m)
+
+-- every starred case meets the claim
+pub starred-claims : (c : Case) → List·Memᴰ c starred → Claim c
+starred-claims = claims starred starred-passes
+
+-- ---- each case by its number, from 1
+
+nth : (cs : List Case) (i : ℕ) (d : Case) → i < length cs → List·Memᴰ (getD cs i d) cs
+nth [] i d l = absurd (omega arith)
+nth (c ∷ cs) zero d l = List·Memᴰ·head refl
+nth (c ∷ cs) (suc i) d l = List·Memᴰ·tail (nth cs i d (omega arith))
+
+claim-at : (i : ℕ) → i - 1 < 9 → Claim (getD starred (i - 1) case1)
+unfolding starred
+claim-at i l = starred-claims (getD starred (i - 1) case1) (nth starred (i - 1) case1 l)
+
+pub case-1 : Claim case1
+unfolding starred
+case-1 = claim-at 1 (omega arith)
+
+pub case-2 : Claim case2
+unfolding starred
+case-2 = claim-at 2 (omega arith)
+
+pub case-3 : Claim case3
+unfolding starred
+case-3 = claim-at 3 (omega arith)
+
+pub case-4 : Claim case4
+unfolding starred
+case-4 = claim-at 4 (omega arith)
+
+pub case-5 : Claim case5
+unfolding starred
+case-5 = claim-at 5 (omega arith)
+
+pub case-6 : Claim case6
+unfolding starred
+case-6 = claim-at 6 (omega arith)
+
+pub case-7 : Claim case7
+unfolding starred
+case-7 = claim-at 7 (omega arith)
+
+pub case-8 : Claim case8
+unfolding starred
+case-8 = claim-at 8 (omega arith)
+
+pub case-9 : Claim case9
+unfolding starred
+case-9 = claim-at 9 (omega arith)

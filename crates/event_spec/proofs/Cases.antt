@@ -1,0 +1,98 @@
+-- Worked tables and logs under rule F, which has two letters: what a translation answers and writes.
+use mathlib.Core.Path.{_≡_, refl}
+use mathlib.Core.List.{List, [], _∷_}
+use Prim.Native.Nat.{ℕ}
+use lib.ListN.{length}
+use Rattle.sets.specs.Tests.{every, some, count, first}
+use Rattle.sets.specs.Masks.{bit, inside}
+use Rattle.sets.specs.Lists.{anyOf, sum, tabulate, flat}
+use Rattle.refusals.specs.Rows.{firstRow}
+use Rattle.theory.specs.Rule.{entry}
+use Rattle.theory.specs.Components.{named, leads, within, reaches, together, mixed}
+use Rattle.file_spec.specs.File.{tagged, clausesOf, countsOf}
+use Rattle.file_spec.specs.Names.{hasNames, namesBefore, repeatsName}
+use Rattle.file_spec.specs.Rows.{numberRows, listRows, trailerRows, layoutRows, nested, someNested, clauseRows, componentRows, formedRows, bodyRows, nameRows, prefaceRows, fileRows}
+use Rattle.event_spec.specs.declared.Translated.{Translated}
+use Rattle.event_spec.specs.declared.Translated.the-variants.{Letters, Refused}
+use Rattle.event_spec.specs.Events.{spans, holds, firstLine, letterOf, covered, known, lettersOf}
+use Rattle.event_spec.specs.Translation.{faulty, faultyTable, hasCovered, hasUnknown, callRows, callRow, translateRow, translatedOf, filled, lettersAfter}
+
+F : List ℕ
+F = 0x01 ∷ 0x00 ∷ 0x01 ∷ 0x01 ∷ 0x01 ∷ 0x02 ∷ 0x00 ∷ 0x00 ∷ 0x02 ∷ 0x00 ∷ 0x41 ∷ 0x57 ∷ []
+
+-- the translation of the log under rule F and table t answers v and makes new of the slice old
+record Case (t log : List ℕ) (v : Translated) (old new : List ℕ) : Type 0 where
+  answers : translatedOf F t log (length old) ≡ v
+  writes : lettersAfter F t log old ≡ new
+
+-- kinds 0 to 3 and drives 0 to 3 are letter 1, then kinds 2 to 5 and drives 1 to 5 letter 0
+two : List ℕ
+two = 0 ∷ 3 ∷ 0 ∷ 3 ∷ 1 ∷ 2 ∷ 5 ∷ 1 ∷ 5 ∷ 0 ∷ []
+
+-- "The first line that holds an event's two bytes gives its letter"; "an odd last byte is no event yet"; the byte after the letters stays
+served : Case two (2 ∷ 2 ∷ 2 ∷ 4 ∷ 0 ∷ 0 ∷ 9 ∷ []) (Letters 3) (7 ∷ 7 ∷ 7 ∷ 7 ∷ []) (1 ∷ 0 ∷ 1 ∷ 7 ∷ [])
+unfolding F two translatedOf lettersAfter translateRow filled firstRow fileRows bodyRows layoutRows trailerRows numberRows listRows formedRows clauseRows componentRows prefaceRows nameRows hasNames namesBefore repeatsName someNested nested tagged clausesOf countsOf anyOf sum mixed together reaches within leads named entry callRows faultyTable hasCovered hasUnknown faulty covered known lettersOf letterOf firstLine holds spans tabulate first bit inside every some count
+served = record { answers = refl; writes = refl }
+
+-- ---- the row that refuses first, under two letters
+
+-- 26: a line covered by one earlier line, by two together, by three together; a line partly covered is served
+abbrev table-26 : List ℕ → Type 0
+table-26 t = callRow 2 t [] 0 ≡ 26
+
+-- an exact repeat, in the same table with another letter
+repeated : table-26 (0 ∷ 1 ∷ 0 ∷ 1 ∷ 0 ∷ 0 ∷ 1 ∷ 0 ∷ 1 ∷ 1 ∷ [])
+unfolding callRow callRows firstRow faultyTable hasCovered faulty covered holds spans every some
+repeated = refl
+
+-- "in earlier lines": kinds 0 to 1 in the first and 2 to 3 in the second
+by-two : table-26 (0 ∷ 1 ∷ 0 ∷ 1 ∷ 0 ∷ 2 ∷ 3 ∷ 0 ∷ 1 ∷ 1 ∷ 0 ∷ 3 ∷ 0 ∷ 1 ∷ 0 ∷ [])
+unfolding callRow callRows firstRow faultyTable hasCovered faulty covered holds spans every some
+by-two = refl
+
+by-three : table-26 (0 ∷ 0 ∷ 0 ∷ 2 ∷ 0 ∷ 1 ∷ 2 ∷ 0 ∷ 0 ∷ 1 ∷ 1 ∷ 2 ∷ 1 ∷ 2 ∷ 0 ∷ 0 ∷ 2 ∷ 0 ∷ 2 ∷ 1 ∷ [])
+unfolding callRow callRows firstRow faultyTable hasCovered faulty covered holds spans every some
+by-three = refl
+
+partly : callRow 2 (0 ∷ 1 ∷ 0 ∷ 1 ∷ 0 ∷ 0 ∷ 2 ∷ 0 ∷ 1 ∷ 1 ∷ []) (2 ∷ 1 ∷ []) 1 ≡ 0
+unfolding callRow callRows firstRow faultyTable hasCovered hasUnknown faulty covered known holds spans every some
+partly = refl
+
+-- kind 1 and drive 5 are in the line, kind 5 and drive 1 in none
+kind-and-drive : (callRow 2 (0 ∷ 1 ∷ 5 ∷ 6 ∷ 1 ∷ []) (1 ∷ 5 ∷ []) 1 ≡ 0) × (callRow 2 (0 ∷ 1 ∷ 5 ∷ 6 ∷ 1 ∷ []) (5 ∷ 1 ∷ []) 1 ≡ 27)
+unfolding callRow callRows firstRow faultyTable hasCovered hasUnknown faulty covered known holds spans every some
+kind-and-drive = (refl, refl)
+
+-- an odd last byte of a kind in no line: no event, nothing refused, no letter wanted
+odd-byte : (callRow 2 two (9 ∷ []) 0 ≡ 0) × (callRow 2 two (0 ∷ 0 ∷ 9 ∷ []) 1 ≡ 0) × (callRow 2 two (0 ∷ 0 ∷ 9 ∷ 9 ∷ []) 2 ≡ 27)
+unfolding two callRow callRows firstRow faultyTable hasCovered hasUnknown faulty covered known holds spans every some
+odd-byte = (refl, refl, refl)
+
+-- "They come in this order .. and before 16": 25 before 26, 26 before 27, 27 before 16
+order :
+    (callRow 2 (0 ∷ 1 ∷ 0 ∷ 1 ∷ 0 ∷ 0 ∷ 1 ∷ 0 ∷ 1 ∷ 2 ∷ []) (9 ∷ 9 ∷ []) 0 ≡ 25)
+    × (callRow 2 (0 ∷ 1 ∷ 0 ∷ 1 ∷ 0 ∷ 0 ∷ 1 ∷ 0 ∷ 1 ∷ 1 ∷ []) (9 ∷ 9 ∷ []) 0 ≡ 26)
+    × (callRow 2 two (9 ∷ 9 ∷ []) 0 ≡ 27)
+    × (callRow 2 two (0 ∷ 0 ∷ []) 0 ≡ 16)
+unfolding two callRow callRows firstRow faultyTable hasCovered hasUnknown faulty covered known holds spans every some
+order = (refl, refl, refl, refl)
+
+-- 25: a kind, then a drive, with lowest above highest; letter 2; a last line of four bytes, one of a single byte
+table-25 :
+    (callRow 2 (1 ∷ 0 ∷ 0 ∷ 0 ∷ 0 ∷ []) [] 0 ≡ 25)
+    × (callRow 2 (0 ∷ 0 ∷ 1 ∷ 0 ∷ 0 ∷ []) [] 0 ≡ 25)
+    × (callRow 2 (0 ∷ 0 ∷ 0 ∷ 0 ∷ 2 ∷ []) [] 0 ≡ 25)
+    × (callRow 2 (0 ∷ 0 ∷ 0 ∷ 0 ∷ []) [] 0 ≡ 25)
+    × (callRow 2 (0 ∷ 0 ∷ 0 ∷ 0 ∷ 0 ∷ 0 ∷ []) [] 0 ≡ 25)
+unfolding callRow callRows firstRow faultyTable faulty every some
+table-25 = (refl, refl, refl, refl, refl)
+
+-- n lines, each for its own kind
+lines : ℕ → List ℕ
+unfolding flat tabulate
+lines n = flat (tabulate n (λ j. j) 0) (λ j. j ∷ j ∷ 0 ∷ 0 ∷ 1 ∷ [])
+
+-- no line at all, 64 lines, 65 lines
+line-counts : (callRow 2 [] [] 0 ≡ 0) × (callRow 2 (lines 64) (63 ∷ 0 ∷ []) 1 ≡ 0) × (callRow 2 (lines 65) [] 0 ≡ 25)
+unfolding lines flat tabulate callRow callRows firstRow faultyTable hasCovered hasUnknown faulty covered known holds spans every some
+line-counts = (refl, refl, refl)

@@ -1,0 +1,7 @@
+// Definitions and laws of the event table: which line holds an event, and the letters of a log.
+
+// The answer: how many letters were written, or the number of the row that refuses.
+pub enum Translated {
+    Letters(usize),
+    Refused(u8),
+}

@@ -1,0 +1,4 @@
+pub mod Meets
+pub mod Covers
+pub mod Faults
+pub mod Turns

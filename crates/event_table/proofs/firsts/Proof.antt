@@ -1,0 +1,73 @@
+-- `event_table::firsts` meets its contract.
+use Prim.Native.Nat.{ℕ, _-_, _≤_}
+use mathlib.Core.Path.{_≡_, _∙_, ap, ap₂}
+use native.Mathlib.Omega.{arith}
+use lib.Dec.{eqb}
+use lib.ListN.{getD}
+use lib.Bits.{bitAnd, bitOr}
+use lib.Count.{trailingZeros}
+use Rattle.sets.specs.Tests.{some}
+use Rattle.sets.specs.Masks.{mask}
+use Rattle.event_table.proofs.Turns.{union-start, union-more}
+use borrow.Author.Needs.{needs}
+use Rattle.event_table.proofs.firsts.Statement.{statement}
+use Rattle.event_table.proofs.firsts.Tie as tie
+
+abbrev Inv-loop : tie.InvT-loop
+Inv-loop kinds drives found₀ x₀ found x =
+    (x ≤ 256) × (found ≡ mask 64 (λ j. some x (λ z. some 256 (λ y. eqb (trailingZeros 64 (bitAnd (getD kinds z 0) (getD drives y 0))) j))))
+
+abbrev μ-loop : tie.MeasureT-loop
+μ-loop kinds drives found₀ x₀ found x = 256 - x
+
+loop-holds : tie.Need-loop-holds Inv-loop μ-loop
+loop-holds c = (
+  omega arith,
+  union-start (λ z j. some 256 (λ y. eqb (trailingZeros 64 (bitAnd (getD (c .args .kinds .now) z 0) (getD (c .args .drives .now) y 0))) j)),
+)
+
+mul-firsts-beside : tie.Need-mul-firsts-beside Inv-loop μ-loop
+mul-firsts-beside c = search needs
+
+element-copy-out-firsts-beside : tie.Need-element-copy-out-firsts-beside Inv-loop μ-loop
+element-copy-out-firsts-beside c = search needs
+
+firsts-beside-requires : tie.Need-firsts-beside-requires Inv-loop μ-loop
+firsts-beside-requires c κs = search needs
+
+add-x : tie.Need-add-x Inv-loop μ-loop
+add-x c = search needs
+
+loop-less : tie.Need-loop-less Inv-loop μ-loop
+loop-less c = search needs
+
+loop-again : tie.Need-loop-again Inv-loop μ-loop
+loop-again c =
+    let a = c .before .before .before .before .args in
+    let l = c .before .before .before .loop in (
+      omega (arith, c .before .before .loop-test .taken),
+      ap₂ bitOr (l .inv .1) (c .firsts-beside .ensures)
+          ∙ union-more (λ z j. some 256 (λ y. eqb (trailingZeros 64 (bitAnd (getD (a .kinds .now) z 0) (getD (a .drives .now) y 0))) j)) (l .x),
+    )
+
+returns : tie.Need-returns Inv-loop μ-loop
+returns c =
+    let a = c .before .before .args in
+    let l = c .before .loop in
+    let e : l .x ≡ 256 = omega (arith, l .inv .0, c .loop-test .left) in
+    l .inv .1 ∙ ap (λ (n : ℕ). mask 64 (λ j. some n (λ z. some 256 (λ y. eqb (trailingZeros 64 (bitAnd (getD (a .kinds .now) z 0) (getD (a .drives .now) y 0))) j)))) e
+
+pub firsts-spec : {M : Type 1} → statement M
+firsts-spec =
+    tie.close
+    (tie.spec
+    Inv-loop
+    μ-loop
+    loop-holds
+    mul-firsts-beside
+    element-copy-out-firsts-beside
+    firsts-beside-requires
+    add-x
+    loop-less
+    loop-again
+    returns)

@@ -1,0 +1,69 @@
+-- `event_table::firsts_beside` meets its contract.
+use Prim.Native.Nat.{ℕ, _-_, _≤_}
+use mathlib.Core.Path.{_≡_, sym, _∙_, ap, ap₂}
+use native.Mathlib.Omega.{arith}
+use lib.Dec.{eqb}
+use lib.ListN.{getD}
+use lib.Bits.{bitAnd, bitOr}
+use lib.Count.{trailingZeros}
+use Rattle.sets.specs.Tests.{some}
+use Rattle.sets.specs.Masks.{mask}
+use Rattle.event_table.proofs.Turns.{union-start, union-more}
+use borrow.Author.Needs.{needs}
+use Rattle.event_table.proofs.firsts_beside.Statement.{statement}
+use Rattle.event_table.proofs.firsts_beside.Tie as tie
+
+abbrev Inv-loop : tie.InvT-loop
+Inv-loop lines drives found₀ y₀ found y =
+    (y ≤ 256) × (found ≡ mask 64 (λ j. some y (λ z. eqb (trailingZeros 64 (bitAnd lines (getD drives z 0))) j)))
+
+abbrev μ-loop : tie.MeasureT-loop
+μ-loop lines drives found₀ y₀ found y = 256 - y
+
+loop-holds : tie.Need-loop-holds Inv-loop μ-loop
+loop-holds c = (omega arith, union-start (λ z j. eqb (trailingZeros 64 (bitAnd (c .args .lines) (getD (c .args .drives .now) z 0))) j))
+
+mul-least : tie.Need-mul-least Inv-loop μ-loop
+mul-least c = search needs
+
+element-copy-out-least : tie.Need-element-copy-out-least Inv-loop μ-loop
+element-copy-out-least c = search needs
+
+least-requires : tie.Need-least-requires Inv-loop μ-loop
+least-requires c κs = search needs
+
+add-y : tie.Need-add-y Inv-loop μ-loop
+add-y c = search needs
+
+loop-less : tie.Need-loop-less Inv-loop μ-loop
+loop-less c = search needs
+
+loop-again : tie.Need-loop-again Inv-loop μ-loop
+loop-again c =
+    let a = c .before .before .before .before .args in
+    let l = c .before .before .before .loop in (
+      omega (arith, c .before .before .loop-test .taken),
+      ap₂ bitOr (l .inv .1) (c .least .ensures) ∙ union-more (λ z j. eqb (trailingZeros 64 (bitAnd (a .lines) (getD (a .drives .now) z 0))) j) (l .y),
+    )
+
+returns : tie.Need-returns Inv-loop μ-loop
+returns c =
+    let a = c .before .before .args in
+    let l = c .before .loop in
+    let e : l .y ≡ 256 = omega (arith, l .inv .0, c .loop-test .left) in
+    l .inv .1 ∙ ap (λ (n : ℕ). mask 64 (λ j. some n (λ z. eqb (trailingZeros 64 (bitAnd (a .lines) (getD (a .drives .now) z 0))) j))) e
+
+pub firsts-beside-spec : {M : Type 1} → statement M
+firsts-beside-spec =
+    tie.close
+    (tie.spec
+    Inv-loop
+    μ-loop
+    loop-holds
+    mul-least
+    element-copy-out-least
+    least-requires
+    add-y
+    loop-less
+    loop-again
+    returns)

@@ -1,0 +1,26 @@
+-- `event_table::has_covered` meets its contract.
+use mathlib.Core.Path.{_≡_, _∙_, ap}
+use Prim.Native.Nat.{ℕ}
+use native.Mathlib.Omega.{arith}
+use lib.Dec.{ltb}
+use lib.Count.{ones, ones-le}
+use Rattle.event_spec.specs.Events.{lineCount}
+use Rattle.event_table.proofs.Covers.{covered-is}
+use borrow.Author.Needs.{needs}
+use Rattle.event_table.proofs.has_covered.Statement.{statement}
+use Rattle.event_table.proofs.has_covered.Tie as tie
+
+firsts-requires : tie.Need-firsts-requires
+firsts-requires c κs = search needs
+
+cast-result : tie.Need-cast-result
+cast-result c = omega (arith, ones-le 64 (c .firsts .result) (omega arith))
+
+returns : tie.Need-returns
+returns c =
+    let a = c .before .before .args in
+    ap (λ (m : ℕ). ltb (ones m) (lineCount (a .events .now))) (c .firsts .ensures)
+    ∙ covered-is (a .events .now) (a .kinds .now) (a .drives .now) (λ i. c .before .shared-slice-known .given i .fits) (c .before .before .pre)
+
+pub has-covered-spec : {M : Type 1} → statement M
+has-covered-spec = tie.close (tie.spec firsts-requires cast-result returns)

@@ -1,0 +1,72 @@
+-- `event_table::is_faulty_table` meets its contract.
+use Prim.Native.Nat.{_-_, _≤_}
+use mathlib.Core.Path.{_≡_, refl, sym, _∙_, ap}
+use mathlib.Core.Bool.{false}
+use native.Mathlib.Omega.{arith}
+use Rattle.sets.specs.Tests.{some}
+use Rattle.event_spec.specs.Events.{lineCount}
+use Rattle.event_spec.specs.Translation.{faulty}
+use Rattle.event_table.proofs.Faults.{table-ragged, table-long, table-line, table-sound}
+use Rattle.event_table.proofs.Turns.{some-next}
+use Rattle.event_table.proofs.is_faulty_table.Statement.{statement}
+use Rattle.event_table.proofs.is_faulty_table.Tie as tie
+
+abbrev Inv-loop : tie.InvT-loop
+Inv-loop s events n j₀ j = (j ≤ lineCount events) × (some j (faulty s events) ≡ false)
+
+abbrev μ-loop : tie.MeasureT-loop
+μ-loop s events n j₀ j = lineCount events - j
+
+returns : tie.Need-returns Inv-loop μ-loop
+returns c = let a = c .before .before .args in sym (table-ragged (a .s) (a .events .now) (c .if1 .taken))
+
+returns-2 : tie.Need-returns-2 Inv-loop μ-loop
+returns-2 c = let a = c .before .before .before .args in sym (table-long (a .s) (a .events .now) (c .if2 .taken))
+
+loop-holds : tie.Need-loop-holds Inv-loop μ-loop
+unfolding some
+loop-holds c = (omega arith, refl)
+
+is-faulty-requires : tie.Need-is-faulty-requires Inv-loop μ-loop
+is-faulty-requires c κs = c .loop-test .taken
+
+returns-3 : tie.Need-returns-3 Inv-loop μ-loop
+returns-3 c =
+    let a = c .before .before .before .before .before .before .before .args in
+    let l = c .before .before .before .loop in
+    sym (table-line (a .s) (a .events .now) (l .j) (c .before .before .loop-test .taken) (sym (c .before .is-faulty .ensures) ∙ c .if3 .taken))
+
+add-j : tie.Need-add-j Inv-loop μ-loop
+add-j c = omega (arith, c .before .before .loop-test .taken)
+
+loop-less : tie.Need-loop-less Inv-loop μ-loop
+loop-less c = omega (arith, c .before .before .loop-test .taken)
+
+loop-again : tie.Need-loop-again Inv-loop μ-loop
+loop-again c =
+    let a = c .before .before .before .before .before .before .before .args in
+    let l = c .before .before .before .loop in
+    (omega (arith, c .before .before .loop-test .taken), some-next (l .j) (faulty (a .s) (a .events .now)) (l .inv .1) (sym (c .before .is-faulty .ensures) ∙ c .if3 .left))
+
+returns-4 : tie.Need-returns-4 Inv-loop μ-loop
+returns-4 c =
+    let a = c .before .before .before .before .before .args in
+    let l = c .before .loop in
+    let e : lineCount (a .events .now) ≡ l .j = omega (arith, l .inv .0, c .loop-test .left) in
+    sym (table-sound (a .s) (a .events .now) (c .before .before .before .if1 .left) (c .before .before .if2 .left) (ap (λ k. some k (faulty (a .s) (a .events .now))) e ∙ l .inv .1))
+
+pub is-faulty-table-spec : {M : Type 1} → statement M
+is-faulty-table-spec =
+    tie.close
+    (tie.spec
+    Inv-loop
+    μ-loop
+    returns
+    returns-2
+    loop-holds
+    is-faulty-requires
+    returns-3
+    add-j
+    loop-less
+    loop-again
+    returns-4)

@@ -1,0 +1,108 @@
+-- `event_translate::translate_read` meets its contract: the row that refuses, or the letters.
+use mathlib.Core.Path.{_≡_, sym, _∙_, ap}
+use mathlib.Core.Bool.{false}
+use mathlib.Core.List.{List, _++_}
+use Prim.Native.Nat.{ℕ}
+use native.Mathlib.Omega.{arith}
+use lib.ListN.{length, drop}
+use Rattle.event_spec.specs.Events.{lettersOf}
+use Rattle.event_spec.specs.Translation.{faultyTable, hasCovered, hasUnknown}
+use Rattle.event_spec.proofs.Rows.{table-refuses, cover-refuses, log-refuses, slice-refuses, call-served, called-refused, called-served}
+use Rattle.event_table.specs.Masks.{Masks}
+use Rattle.event_log.proofs.Letters.{letters-length}
+use Rattle.event_translate.proofs.Lines.{few-lines}
+use borrow.Author.Needs.{needs}
+use Rattle.event_translate.proofs.translate_read.Statement.{statement}
+use Rattle.event_translate.proofs.translate_read.Tie as tie
+
+is-faulty-table-requires : tie.Need-is-faulty-table-requires
+is-faulty-table-requires c κs = search needs
+
+returns : tie.Need-returns
+returns c =
+    let a = c .before .before .before .before .before .args in
+    called-refused (a .s) (a .events .now) (a .log .now) (a .letters .now) 24
+    (table-refuses (a .s) (a .events .now) (a .log .now) (length (a .letters .now)) (sym (c .before .is-faulty-table .ensures) ∙ c .if1 .taken))
+
+-- row 25 lets the table through
+sound : (c : tie.Else1) → faultyTable (c .before .before .before .before .before .args .s) (c .before .before .before .before .before .args .events .now) ≡ false
+sound c = sym (c .before .is-faulty-table .ensures) ∙ c .if1 .left
+
+masks-of-requires : tie.Need-masks-of-requires
+masks-of-requires c κs = (omega arith, few-lines (c .before .before .before .before .before .args .s) (c .before .before .before .before .before .args .events .now) (sound c))
+
+masks-of-requires-2 : tie.Need-masks-of-requires-2
+masks-of-requires-2 c κs = (omega arith, few-lines (c .before .before .before .before .before .before .args .s) (c .before .before .before .before .before .before .args .events .now) (sound (c .before)))
+
+-- the masks are the table's
+masks : (c : tie.After-masks-of2) → Masks (c .before .before .before .before .before .before .before .args .events .now) (c .before .masks-of .result) (c .masks-of2 .result)
+masks c = record {
+  lines = few-lines (c .before .before .before .before .before .before .before .args .s) (c .before .before .before .before .before .before .before .args .events .now) (sound (c .before .before));
+  of-kinds = c .before .masks-of .ensures;
+  of-drives = c .masks-of2 .ensures;
+}
+
+has-covered-requires : tie.Need-has-covered-requires
+has-covered-requires c κs = masks (c .before .before)
+
+returns-2 : tie.Need-returns-2
+returns-2 c =
+    let a = c .before .before .before .before .before .before .before .before .before .before .before .args in
+    called-refused (a .s) (a .events .now) (a .log .now) (a .letters .now) 25
+    (cover-refuses (a .s) (a .events .now) (a .log .now) (length (a .letters .now)) (sound (c .before .before .before .before .before .before)) (sym (c .before .has-covered .ensures) ∙ c .if2 .taken))
+
+-- row 26 lets the table through
+uncovered : (c : tie.Else2) → hasCovered (c .before .before .before .before .before .before .before .before .before .before .before .args .events .now) ≡ false
+uncovered c = sym (c .before .has-covered .ensures) ∙ c .if2 .left
+
+has-unknown-requires : tie.Need-has-unknown-requires
+has-unknown-requires c κs = search needs
+
+returns-3 : tie.Need-returns-3
+returns-3 c =
+    let a = c .before .before .before .before .before .before .before .before .before .before .before .before .before .before .before .args in
+    called-refused (a .s) (a .events .now) (a .log .now) (a .letters .now) 26
+    (log-refuses (a .s) (a .events .now) (a .log .now) (length (a .letters .now)) (sound (c .before .before .before .before .before .before .before .before .before .before)) (uncovered (c .before .before .before .before))
+    (sym (c .before .has-unknown .ensures (a .events .now) (masks (c .before .before .before .before .before .before .before .before))) ∙ c .if3 .taken))
+
+-- row 27 lets the log through
+known : (c : tie.Else3) → hasUnknown (c .before .before .before .before .before .before .before .before .before .before .before .before .before .before .before .args .events .now) (c .before .before .before .before .before .before .before .before .before .before .before .before .before .before .before .args .log .now) ≡ false
+known c = sym (c .before .has-unknown .ensures (c .before .before .before .before .before .before .before .before .before .before .before .before .before .before .before .args .events .now) (masks (c .before .before .before .before .before .before .before .before))) ∙ c .if3 .left
+
+returns-4 : tie.Need-returns-4
+returns-4 c =
+    let a = c .before .before .before .before .before .before .before .before .before .before .before .before .before .before .before .before .args in
+    called-refused (a .s) (a .events .now) (a .log .now) (a .letters .now) 15
+    (slice-refuses (a .s) (a .events .now) (a .log .now) (length (a .letters .now)) (sound (c .before .before .before .before .before .before .before .before .before .before .before)) (uncovered (c .before .before .before .before .before)) (known (c .before)) (c .if4 .taken))
+
+write-letters-requires : tie.Need-write-letters-requires
+write-letters-requires c κs = (masks (c .before .before .before .before .before .before .before .before .before .before .before .before), known (c .before .before .before .before), c .before .before .before .if4 .left)
+
+same-length : tie.Need-same-length
+same-length c = search needs
+
+returns-5 : tie.Need-returns-5
+returns-5 c =
+    let a = c .before .before .before .before .before .before .before .before .before .before .before .before .before .before .before .before .before .before .before .before .before .before .args in
+    let w = c .before .before .write-letters in
+    called-served (a .s) (a .events .now) (a .log .now) (a .letters .now)
+    (call-served (a .s) (a .events .now) (a .log .now) (length (a .letters .now)) (sound (c .before .before .before .before .before .before .before .before .before .before .before .before .before .before .before .before .before)) (uncovered (c .before .before .before .before .before .before .before .before .before .before .before)) (known (c .before .before .before .before .before .before .before)) (c .before .before .before .before .before .before .if4 .left))
+    (w .last .1 .1 .1 .1 .0)
+    (w .ensures ∙ ap (λ (n : ℕ). lettersOf (a .events .now) (a .log .now) ++ drop n (a .letters .now)) (sym (letters-length (a .events .now) (a .log .now))))
+
+pub translate-read-spec : {M : Type 1} → statement M
+translate-read-spec =
+    tie.close
+    (tie.spec
+    is-faulty-table-requires
+    returns
+    masks-of-requires
+    masks-of-requires-2
+    has-covered-requires
+    returns-2
+    has-unknown-requires
+    returns-3
+    returns-4
+    write-letters-requires
+    same-length
+    returns-5)

@@ -1,0 +1,52 @@
+// The translation of a log into letters by an event table.
+use event_log::has_unknown;
+use event_log::write_letters;
+use event_spec::Translated;
+use event_table::has_covered;
+use event_table::is_faulty_table;
+use event_table::masks_of;
+use file_read::Read;
+use file_read::read_rule;
+ghost use mathlib.Core.Path.{_≡_};
+ghost use lib.ListN.{length};
+ghost use Rattle.event_spec.specs.Translation.{translatedOf, lettersAfter, Called};
+
+// The same under a rule over s letters that is read.
+fn translate_read(s: usize, events: &[u8], log: &[u8], letters: &mut [u8]) -> Translated
+    ensures { λ r. ⌜ Called s (now (events .entry)) (now (log .entry)) (now (letters .entry)) (now (letters .exit)) r ⌝ }
+{
+    if is_faulty_table(s, events) {
+        return Translated::Refused(25);
+    }
+    let kinds = masks_of(events, 0);
+    let drives = masks_of(events, 2);
+    if has_covered(events, &kinds, &drives) {
+        return Translated::Refused(26);
+    }
+    if has_unknown(&kinds, &drives, log) {
+        return Translated::Refused(27);
+    }
+    let n = log.len() / 2;
+    if letters.len() < n {
+        return Translated::Refused(16);
+    }
+    write_letters(events, &kinds, &drives, log, letters);
+    Translated::Letters(n)
+}
+
+// Writes the letter of each event of a log, by the first line of the event table that holds it, from the start of letters on; how many.
+// Refused by the rows of the rule file and by rows 25, 26, 27 and 16, in this order, and letters is then unchanged.
+pub fn translate(file: &[u8], events: &[u8], log: &[u8], letters: &mut [u8]) -> Translated
+    ensures { λ r. ⌜ r ≡ translatedOf (now (file .entry)) (now (events .entry)) (now (log .entry)) (length (now (letters .entry))) ⌝ }
+    ensures { λ _. ⌜ now (letters .exit)
+        ≡ lettersAfter (now (file .entry)) (now (events .entry)) (now (log .entry)) (now (letters .entry)) ⌝ }
+{
+    match read_rule(file) {
+        Read::Accepted(l) => {
+            let h = l.head;
+            let s = h.s;
+            translate_read(s, events, log, letters)
+        }
+        Read::Refused(k) => Translated::Refused(k),
+    }
+}

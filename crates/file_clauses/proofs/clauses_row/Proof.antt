@@ -1,0 +1,23 @@
+-- `file_clauses::clauses_row` meets its contract.
+use mathlib.Core.Path.{sym, _∙_}
+use borrow.Author.Needs.{needs}
+use Rattle.rule_entries.specs.Entries.{ruleOf}
+use Rattle.file_spec.proofs.Formed.{row-20, pass-20}
+use Rattle.file_clauses.proofs.clauses_row.Statement.{statement}
+use Rattle.file_clauses.proofs.clauses_row.Tie as tie
+
+any-nested-requires : tie.Need-any-nested-requires
+any-nested-requires c κs = search needs
+
+returns : tie.Need-returns
+returns c =
+    let a = c .before .before .before .before .args in
+    row-20 (ruleOf (a .h) (a .counts .now) (a .clauses .now)) (sym (c .before .any-nested .ensures) ∙ c .if1 .taken)
+
+returns-2 : tie.Need-returns-2
+returns-2 c =
+    let a = c .before .before .before .before .args in
+    pass-20 (ruleOf (a .h) (a .counts .now) (a .clauses .now)) (sym (c .before .any-nested .ensures) ∙ c .if1 .left)
+
+pub clauses-row-spec : {M : Type 1} → statement M
+clauses-row-spec = tie.close (tie.spec any-nested-requires returns returns-2)

@@ -1,0 +1,62 @@
+-- `file_clauses::contains_another` meets its contract: none of the clauses before j is contained.
+use Prim.Native.Nat.{_-_, _≤_}
+use mathlib.Core.Path.{_≡_, refl, sym, _∙_}
+use mathlib.Core.Bool.{false}
+use native.Mathlib.Omega.{arith}
+use lib.ListN.{length}
+use Rattle.sets.specs.Tests.{some}
+use Rattle.file_spec.specs.Rows.{containsAt}
+use Rattle.file_spec.proofs.Walks.{some-next, some-stop, some-end}
+use Rattle.file_clauses.proofs.contains_another.Statement.{statement}
+use Rattle.file_clauses.proofs.contains_another.Tie as tie
+
+abbrev Inv-loop : tie.InvT-loop
+Inv-loop clauses i j₀ j = (j ≤ length clauses) × (some j (λ k. containsAt 8 clauses i k) ≡ false)
+
+abbrev μ-loop : tie.MeasureT-loop
+μ-loop clauses i j₀ j = length clauses - j
+
+loop-holds : tie.Need-loop-holds Inv-loop μ-loop
+unfolding some
+loop-holds c = (omega arith, refl)
+
+contains-at-requires : tie.Need-contains-at-requires Inv-loop μ-loop
+contains-at-requires c κs = (omega arith, omega arith)
+
+returns : tie.Need-returns Inv-loop μ-loop
+returns c =
+    let a = c .before .before .before .before .before .args in
+    let l = c .before .before .before .loop in
+    some-stop (length (a .clauses .now)) (λ k. containsAt 8 (a .clauses .now) (a .i) k) (l .j) (omega arith) (sym (c .before .contains-at .ensures) ∙ c .if1 .taken)
+
+add-j : tie.Need-add-j Inv-loop μ-loop
+add-j c = omega arith
+
+loop-less : tie.Need-loop-less Inv-loop μ-loop
+loop-less c = omega arith
+
+loop-again : tie.Need-loop-again Inv-loop μ-loop
+loop-again c =
+    let a = c .before .before .before .before .before .args in
+    let l = c .before .before .before .loop in
+    (omega arith, some-next (l .j) (λ k. containsAt 8 (a .clauses .now) (a .i) k) (l .inv .1) (sym (c .before .contains-at .ensures) ∙ c .if1 .left))
+
+returns-2 : tie.Need-returns-2 Inv-loop μ-loop
+returns-2 c =
+    let a = c .before .before .before .args in
+    let l = c .before .loop in
+    some-end (l .j) (length (a .clauses .now)) (λ k. containsAt 8 (a .clauses .now) (a .i) k) (omega arith) (l .inv .1)
+
+pub contains-another-spec : {M : Type 1} → statement M
+contains-another-spec =
+    tie.close
+    (tie.spec
+    Inv-loop
+    μ-loop
+    loop-holds
+    contains-at-requires
+    returns
+    add-j
+    loop-less
+    loop-again
+    returns-2)

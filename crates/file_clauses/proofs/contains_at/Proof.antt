@@ -1,0 +1,38 @@
+-- `file_clauses::contains_at` meets its contract: on masks, the clause at j is inside the one at i if that leaves it as it is.
+use mathlib.Core.Path.{_≡_}
+use native.Mathlib.Omega.{arith}
+use borrow.Author.Needs.{needs}
+use Rattle.file_clauses.proofs.Nested.{same-place, two-places}
+use Rattle.file_clauses.proofs.contains_at.Statement.{statement}
+use Rattle.file_clauses.proofs.contains_at.Tie as tie
+
+returns : tie.Need-returns
+returns c =
+    let a = c .before .args in
+    let same : a .i ≡ a .j = omega (arith, c .if1 .taken) in
+    same-place (a .clauses .now) (a .i) (a .j) same
+
+shared-slice-read-result : tie.Need-shared-slice-read-result
+shared-slice-read-result c = search needs
+
+shared-slice-read-result-2 : tie.Need-shared-slice-read-result-2
+shared-slice-read-result-2 c = search needs
+
+shared-slice-read-result-3 : tie.Need-shared-slice-read-result-3
+shared-slice-read-result-3 c = search needs
+
+returns-2 : tie.Need-returns-2
+returns-2 c =
+    let a = c .before .before .before .before .args in
+    let two : (a .i ≡ a .j → ⊥) = λ e. omega (arith, c .before .before .before .if1 .left) in
+    two-places (a .clauses .now) (a .i) (a .j) two (omega (arith, c .shared-slice-known3 .given (a .j)))
+
+pub contains-at-spec : {M : Type 1} → statement M
+contains-at-spec =
+    tie.close
+    (tie.spec
+    returns
+    shared-slice-read-result
+    shared-slice-read-result-2
+    shared-slice-read-result-3
+    returns-2)

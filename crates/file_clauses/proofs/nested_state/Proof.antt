@@ -1,0 +1,81 @@
+-- `file_clauses::nested_state` meets its contract: no entry of the state at a letter before a is nested.
+use Prim.Native.Nat.{_-_, _≤_}
+use mathlib.Core.Path.{_≡_, refl, ap, sym, _∙_}
+use mathlib.Core.Bool.{false}
+use native.Mathlib.Omega.{arith}
+use borrow.Author.Needs.{needs}
+use Rattle.sets.specs.Tests.{some}
+use Rattle.theory.specs.Rule.{entry}
+use Rattle.rule_entries.specs.Entries.{ruleOf}
+use Rattle.file_spec.specs.Rows.{nested}
+use Rattle.file_spec.proofs.Walks.{some-next, some-stop, some-end}
+use Rattle.file_clauses.proofs.Nested.{nested-entry}
+use Rattle.file_clauses.proofs.nested_state.Statement.{statement}
+use Rattle.file_clauses.proofs.nested_state.Tie as tie
+
+abbrev Inv-loop : tie.InvT-loop
+Inv-loop h counts clauses q a₀ a = (a ≤ h .s) × (some a (λ b. nested (h .n) (entry (ruleOf h counts clauses) q b)) ≡ false)
+
+abbrev μ-loop : tie.MeasureT-loop
+μ-loop h counts clauses q a₀ a = h .s - a
+
+loop-holds : tie.Need-loop-holds Inv-loop μ-loop
+unfolding some
+loop-holds c = (omega arith, refl)
+
+entry-of-requires : tie.Need-entry-of-requires Inv-loop μ-loop
+entry-of-requires c κs = let p = c .before .before .before .before .before .pre in (p .0, p .1, c .if1 .taken)
+
+is-nested-requires : tie.Need-is-nested-requires Inv-loop μ-loop
+is-nested-requires c κs = search needs
+
+-- what the call says of the entry at the letter
+told : (c : tie.After-is-nested Inv-loop μ-loop) →
+    let a = c .before .before .before .before .before .before .before .args in
+    c .is-nested .result ≡ nested (a .h .n) (entry (ruleOf (a .h) (a .counts .now) (a .clauses .now)) (a .q) (c .before .before .before .before .loop .a))
+told c =
+    let a = c .before .before .before .before .before .before .before .args in
+    let p = c .before .before .before .before .before .before .before .pre in
+    let r = ruleOf (a .h) (a .counts .now) (a .clauses .now) in
+    let k = c .before .before .before .before .loop .a in
+    c .is-nested .ensures ∙ ap (nested 8) (c .before .entry-of .ensures) ∙ nested-entry r (p .0) (a .q) k (p .1) (c .before .before .if1 .taken)
+
+returns : tie.Need-returns Inv-loop μ-loop
+returns c =
+    let a = c .before .before .before .before .before .before .before .before .args in
+    let l = c .before .before .before .before .before .loop in
+    some-stop (a .h .s) (λ b. nested (a .h .n) (entry (ruleOf (a .h) (a .counts .now) (a .clauses .now)) (a .q) b)) (l .a) (c .before .before .before .if1 .taken)
+    (sym (told (c .before)) ∙ c .if2 .taken)
+
+add-a : tie.Need-add-a Inv-loop μ-loop
+add-a c = omega arith
+
+loop-less : tie.Need-loop-less Inv-loop μ-loop
+loop-less c = omega arith
+
+loop-again : tie.Need-loop-again Inv-loop μ-loop
+loop-again c =
+    let a = c .before .before .before .before .before .before .before .before .args in
+    let l = c .before .before .before .before .before .loop in
+    (omega arith, some-next (l .a) (λ b. nested (a .h .n) (entry (ruleOf (a .h) (a .counts .now) (a .clauses .now)) (a .q) b)) (l .inv .1) (sym (told (c .before)) ∙ c .if2 .left))
+
+returns-2 : tie.Need-returns-2 Inv-loop μ-loop
+returns-2 c =
+    let a = c .before .before .before .before .before .args in
+    let l = c .before .before .loop in
+    some-end (l .a) (a .h .s) (λ b. nested (a .h .n) (entry (ruleOf (a .h) (a .counts .now) (a .clauses .now)) (a .q) b)) (omega arith) (l .inv .1)
+
+pub nested-state-spec : {M : Type 1} → statement M
+nested-state-spec =
+    tie.close
+    (tie.spec
+    Inv-loop
+    μ-loop
+    loop-holds
+    entry-of-requires
+    is-nested-requires
+    returns
+    add-a
+    loop-less
+    loop-again
+    returns-2)

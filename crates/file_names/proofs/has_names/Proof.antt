@@ -1,0 +1,54 @@
+-- `file_names::has_names` meets its contract: the two bytes of the tag, compared one after the other.
+use Prim.Native.Nat.{_-_, _≤_}
+use mathlib.Core.Path.{_≡_}
+use native.Mathlib.Omega.{arith}
+use borrow.Author.Needs.{needs}
+use lib.ListN.{length, getD}
+use Rattle.file_names.proofs.Tests.{few-bytes, first-differs, last-decides}
+use Rattle.file_names.proofs.has_names.Statement.{statement}
+use Rattle.file_names.proofs.has_names.Tie as tie
+
+returns : tie.Need-returns
+returns c = few-bytes (c .before .args .p .now) (omega arith)
+
+shared-slice-read-if2 : tie.Need-shared-slice-read-if2
+shared-slice-read-if2 c = search needs
+
+array-read-if2 : tie.Need-array-read-if2
+array-read-if2 c = search needs
+
+returns-2 : tie.Need-returns-2
+returns-2 c =
+    let p = c .before .before .before .args .p .now in
+    let long : 2 ≤ length p = omega (arith, c .before .before .if1 .left) in
+    let differs : (getD p (length p - 2) 0 ≡ 0x4E → ⊥) = λ e. omega (arith, c .if2 .taken) in
+    first-differs p long differs
+
+sub-result : tie.Need-sub-result
+sub-result c = search needs
+
+shared-slice-read-result : tie.Need-shared-slice-read-result
+shared-slice-read-result c = search needs
+
+array-read-result : tie.Need-array-read-result
+array-read-result c = search needs
+
+returns-3 : tie.Need-returns-3
+returns-3 c =
+    let p = c .before .before .before .before .args .p .now in
+    let long : 2 ≤ length p = omega (arith, c .before .before .before .if1 .left) in
+    let same : getD p (length p - 2) 0 ≡ 0x4E = omega (arith, c .before .if2 .left) in
+    last-decides p long same
+
+pub has-names-spec : {M : Type 1} → statement M
+has-names-spec =
+    tie.close
+    (tie.spec
+    returns
+    shared-slice-read-if2
+    array-read-if2
+    returns-2
+    sub-result
+    shared-slice-read-result
+    array-read-result
+    returns-3)

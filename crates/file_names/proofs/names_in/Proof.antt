@@ -1,0 +1,72 @@
+-- `file_names::names_in` meets its contract: 8 bytes a letter, up to 4E 4D.
+use Prim.Native.Nat.{_-_, _*_, _≤_}
+use mathlib.Core.Path.{_≡_, ap, sym, _∙_}
+use mathlib.Core.Bool.{true, false}
+use native.Mathlib.Omega.{arith}
+use borrow.Author.Needs.{needs}
+use borrow.Author.Tests.{not-true, not-false}
+use lib.ListN.{length, take, drop}
+use Rattle.file_spec.specs.Names.{hasNames}
+use Rattle.file_spec.proofs.Names.{names-long, names-room, names-there, no-names}
+use Rattle.file_names.proofs.names_in.Statement.{statement}
+use Rattle.file_names.proofs.names_in.Tie as tie
+
+has-names-requires : tie.Need-has-names-requires
+has-names-requires c κs = search needs
+
+slice-aggregate-result : tie.Need-slice-aggregate-result
+slice-aggregate-result c = search needs
+
+returns : tie.Need-returns
+returns c =
+    let a = c .before .before .before .before .args in
+    sym (no-names (a .s) (a .p .now) (sym (c .before .before .has-names .ensures) ∙ not-true _ (c .before .if1 .taken)))
+
+-- the preface ends with 4E 4D
+there : (c : tie.Else1) → hasNames (c .before .before .before .args .p .now) ≡ true
+there c = sym (c .before .has-names .ensures) ∙ not-false _ (c .if1 .left)
+
+-- and has room for the names
+room : (c : tie.Else1) → 8 * c .before .before .before .args .s ≤ length (c .before .before .before .args .p .now) - 2
+room c = let a = c .before .before .before .args in names-room (a .s) (a .p .now) (there c) (c .before .before .before .pre .1)
+
+sub-end : tie.Need-sub-end
+sub-end c = let a = c .before .before .before .args in names-long (a .s) (a .p .now) (there c)
+
+mul-result : tie.Need-mul-result
+mul-result c = search needs
+
+sub-result : tie.Need-sub-result
+sub-result c = room c
+
+sub-result-2 : tie.Need-sub-result-2
+sub-result-2 c = search needs
+
+part-result-start : tie.Need-part-result-start
+part-result-start c = search needs
+
+part-result-end : tie.Need-part-result-end
+part-result-end c = search needs
+
+returns-2 : tie.Need-returns-2
+returns-2 c =
+    let a = c .before .before .before .before .args in
+    let p = a .p .now in
+    let m = length p - 2 in
+    let k : m - (m - 8 * a .s) ≡ 8 * a .s = omega (arith, room (c .before)) in
+    rw k (sym (names-there (a .s) p (there (c .before))))
+
+pub names-in-spec : {M : Type 1} → statement M
+names-in-spec =
+    tie.close
+    (tie.spec
+    has-names-requires
+    slice-aggregate-result
+    returns
+    sub-end
+    mul-result
+    sub-result
+    sub-result-2
+    part-result-start
+    part-result-end
+    returns-2)

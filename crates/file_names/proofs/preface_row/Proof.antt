@@ -1,0 +1,41 @@
+-- `file_names::preface_row` meets its contract: row 21, then the rows of the names that the preface carries.
+use mathlib.Core.Path.{_≡_, ap, sym, _∙_}
+use mathlib.Core.Bool.{false}
+use mathlib.Core.List.{List}
+use Prim.Native.Nat.{ℕ}
+use borrow.Author.Needs.{needs}
+use borrow.Author.Tests.{not-true, not-false}
+use Rattle.refusals.specs.Rows.{firstRow}
+use Rattle.sets.proofs.Bools.{not-t, not-f}
+use Rattle.file_spec.specs.Rows.{nameRows}
+use Rattle.file_spec.proofs.Names.{cutOff, row-21, past-21}
+use Rattle.file_names.proofs.preface_row.Statement.{statement}
+use Rattle.file_names.proofs.preface_row.Tie as tie
+
+names-fit-requires : tie.Need-names-fit-requires
+names-fit-requires c κs = search needs
+
+returns : tie.Need-returns
+returns c =
+    let a = c .before .before .before .args in
+    row-21 (a .s) (a .p .now) (not-f (cutOff (a .s) (a .p .now)) (sym (c .before .names-fit .ensures) ∙ not-true _ (c .if1 .taken)))
+
+-- row 21 does not refuse
+kept : (c : tie.Else1) → cutOff (c .before .before .before .args .s) (c .before .before .before .args .p .now) ≡ false
+kept c =
+    let a = c .before .before .before .args in
+    not-t (cutOff (a .s) (a .p .now)) (sym (c .before .names-fit .ensures) ∙ not-false _ (c .if1 .left))
+
+names-in-requires : tie.Need-names-in-requires
+names-in-requires c κs = (c .before .before .before .pre, kept c)
+
+names-row-requires : tie.Need-names-row-requires
+names-row-requires c κs = search needs
+
+returns-2 : tie.Need-returns-2
+returns-2 c =
+    let a = c .before .before .before .before .before .args in
+    c .names-row .ensures ∙ ap (λ (names : List ℕ). firstRow (nameRows names)) (c .before .names-in .ensures) ∙ sym (past-21 (a .s) (a .p .now) (kept (c .before .before)))
+
+pub preface-row-spec : {M : Type 1} → statement M
+preface-row-spec = tie.close (tie.spec names-fit-requires returns names-in-requires names-row-requires returns-2)

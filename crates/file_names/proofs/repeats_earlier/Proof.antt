@@ -1,0 +1,61 @@
+-- `file_names::repeats_earlier` meets its contract: none of the names before a is equal.
+use Prim.Native.Nat.{_-_, _≤_}
+use mathlib.Core.Path.{_≡_, refl, sym, _∙_}
+use mathlib.Core.Bool.{false}
+use native.Mathlib.Omega.{arith}
+use Rattle.sets.specs.Tests.{some}
+use Rattle.file_spec.specs.Names.{sameName}
+use Rattle.file_spec.proofs.Walks.{some-next, some-stop, some-end}
+use Rattle.file_names.proofs.repeats_earlier.Statement.{statement}
+use Rattle.file_names.proofs.repeats_earlier.Tie as tie
+
+abbrev Inv-loop : tie.InvT-loop
+Inv-loop names b a₀ a = (a ≤ b) × (some a (λ k. sameName names k b) ≡ false)
+
+abbrev μ-loop : tie.MeasureT-loop
+μ-loop names b a₀ a = b - a
+
+loop-holds : tie.Need-loop-holds Inv-loop μ-loop
+unfolding some
+loop-holds c = (omega arith, refl)
+
+same-name-requires : tie.Need-same-name-requires Inv-loop μ-loop
+same-name-requires c κs = (omega arith, omega arith)
+
+returns : tie.Need-returns Inv-loop μ-loop
+returns c =
+    let a = c .before .before .before .before .before .args in
+    let l = c .before .before .before .loop in
+    some-stop (a .b) (λ k. sameName (a .names .now) k (a .b)) (l .a) (omega arith) (sym (c .before .same-name .ensures) ∙ c .if1 .taken)
+
+add-a : tie.Need-add-a Inv-loop μ-loop
+add-a c = omega arith
+
+loop-less : tie.Need-loop-less Inv-loop μ-loop
+loop-less c = omega arith
+
+loop-again : tie.Need-loop-again Inv-loop μ-loop
+loop-again c =
+    let a = c .before .before .before .before .before .args in
+    let l = c .before .before .before .loop in
+    (omega arith, some-next (l .a) (λ k. sameName (a .names .now) k (a .b)) (l .inv .1) (sym (c .before .same-name .ensures) ∙ c .if1 .left))
+
+returns-2 : tie.Need-returns-2 Inv-loop μ-loop
+returns-2 c =
+    let a = c .before .before .before .args in
+    let l = c .before .loop in
+    some-end (l .a) (a .b) (λ k. sameName (a .names .now) k (a .b)) (omega arith) (l .inv .1)
+
+pub repeats-earlier-spec : {M : Type 1} → statement M
+repeats-earlier-spec =
+    tie.close
+    (tie.spec
+    Inv-loop
+    μ-loop
+    loop-holds
+    same-name-requires
+    returns
+    add-a
+    loop-less
+    loop-again
+    returns-2)

@@ -1,0 +1,64 @@
+-- `file_names::repeats_name` meets its contract: none of the names before b is equal to an earlier one.
+use Prim.Native.Nat.{_-_, _/_, _≤_}
+use mathlib.Core.Path.{_≡_, refl, sym, _∙_}
+use mathlib.Core.Bool.{false}
+use native.Mathlib.Omega.{arith}
+use lib.ListN.{length}
+use Rattle.sets.specs.Tests.{some}
+use Rattle.file_spec.specs.Names.{sameName, repeatsName}
+use Rattle.file_spec.proofs.Walks.{some-next, some-stop, some-end}
+use Rattle.file_names.proofs.repeats_name.Statement.{statement}
+use Rattle.file_names.proofs.repeats_name.Tie as tie
+
+abbrev Inv-loop : tie.InvT-loop
+Inv-loop names count b₀ b = (b ≤ count) × (some b (λ k. some k (λ a. sameName names a k)) ≡ false)
+
+abbrev μ-loop : tie.MeasureT-loop
+μ-loop names count b₀ b = count - b
+
+loop-holds : tie.Need-loop-holds Inv-loop μ-loop
+unfolding some
+loop-holds c = (omega arith, refl)
+
+repeats-earlier-requires : tie.Need-repeats-earlier-requires Inv-loop μ-loop
+repeats-earlier-requires c κs = omega arith
+
+returns : tie.Need-returns Inv-loop μ-loop
+unfolding repeatsName
+returns c =
+    let a = c .before .before .before .before .before .args in
+    let l = c .before .before .before .loop in
+    some-stop (length (a .names .now) / 8) (λ k. some k (λ b. sameName (a .names .now) b k)) (l .b) (omega arith) (sym (c .before .repeats-earlier .ensures) ∙ c .if1 .taken)
+
+add-b : tie.Need-add-b Inv-loop μ-loop
+add-b c = omega arith
+
+loop-less : tie.Need-loop-less Inv-loop μ-loop
+loop-less c = omega arith
+
+loop-again : tie.Need-loop-again Inv-loop μ-loop
+loop-again c =
+    let a = c .before .before .before .before .before .args in
+    let l = c .before .before .before .loop in
+    (omega arith, some-next (l .b) (λ k. some k (λ b. sameName (a .names .now) b k)) (l .inv .1) (sym (c .before .repeats-earlier .ensures) ∙ c .if1 .left))
+
+returns-2 : tie.Need-returns-2 Inv-loop μ-loop
+unfolding repeatsName
+returns-2 c =
+    let a = c .before .before .before .args in
+    let l = c .before .loop in
+    some-end (l .b) (length (a .names .now) / 8) (λ k. some k (λ b. sameName (a .names .now) b k)) (omega arith) (l .inv .1)
+
+pub repeats-name-spec : {M : Type 1} → statement M
+repeats-name-spec =
+    tie.close
+    (tie.spec
+    Inv-loop
+    μ-loop
+    loop-holds
+    repeats-earlier-requires
+    returns
+    add-b
+    loop-less
+    loop-again
+    returns-2)

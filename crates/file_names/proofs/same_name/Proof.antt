@@ -1,0 +1,84 @@
+-- `file_names::same_name` meets its contract: the bytes before i agree.
+use Prim.Native.Nat.{ℕ, _+_, _-_, _*_, _≤_}
+use mathlib.Core.Path.{_≡_, refl, ap, sym, _∙_}
+use mathlib.Core.Bool.{true}
+use native.Mathlib.Omega.{arith}
+use borrow.Author.Tests.{eq-eqb, ne-eqb}
+use lib.Dec.{eqb}
+use lib.ListN.{length, getD}
+use Rattle.sets.specs.Tests.{every}
+use Rattle.sets.proofs.Tests.{every-next, every-stop}
+use Rattle.file_names.proofs.same_name.Statement.{statement}
+use Rattle.file_names.proofs.same_name.Tie as tie
+
+abbrev Inv-loop : tie.InvT-loop
+Inv-loop names a b i₀ i = (i ≤ 8) × (every i (λ k. eqb (getD names (8 * a + k) 0) (getD names (8 * b + k) 0)) ≡ true)
+
+abbrev μ-loop : tie.MeasureT-loop
+μ-loop names a b i₀ i = 8 - i
+
+loop-holds : tie.Need-loop-holds Inv-loop μ-loop
+unfolding every
+loop-holds c = (omega arith, refl)
+
+mul-if1 : tie.Need-mul-if1 Inv-loop μ-loop
+mul-if1 c = omega arith
+
+add-if1 : tie.Need-add-if1 Inv-loop μ-loop
+add-if1 c = omega arith
+
+shared-slice-read-if1 : tie.Need-shared-slice-read-if1 Inv-loop μ-loop
+shared-slice-read-if1 c = omega arith
+
+mul-if1-2 : tie.Need-mul-if1-2 Inv-loop μ-loop
+mul-if1-2 c = omega arith
+
+add-if1-2 : tie.Need-add-if1-2 Inv-loop μ-loop
+add-if1-2 c = omega arith
+
+shared-slice-read-if1-2 : tie.Need-shared-slice-read-if1-2 Inv-loop μ-loop
+shared-slice-read-if1-2 c = omega arith
+
+returns : tie.Need-returns Inv-loop μ-loop
+returns c =
+    let a = c .before .before .before .before .before .args in
+    let l = c .before .before .before .before .loop in
+    sym (every-stop 8 (λ k. eqb (getD (a .names .now) (8 * a .a + k) 0) (getD (a .names .now) (8 * a .b + k) 0)) (l .i) (omega arith) (ne-eqb _ _ (c .if1 .taken)))
+
+add-i : tie.Need-add-i Inv-loop μ-loop
+add-i c = omega arith
+
+loop-less : tie.Need-loop-less Inv-loop μ-loop
+loop-less c = omega arith
+
+loop-again : tie.Need-loop-again Inv-loop μ-loop
+loop-again c =
+    let a = c .before .before .before .before .before .args in
+    let l = c .before .before .before .before .loop in
+    (omega arith, every-next (l .i) (λ k. eqb (getD (a .names .now) (8 * a .a + k) 0) (getD (a .names .now) (8 * a .b + k) 0)) (l .inv .1) (eq-eqb _ _ (c .if1 .left)))
+
+returns-2 : tie.Need-returns-2 Inv-loop μ-loop
+returns-2 c =
+    let a = c .before .before .args in
+    let l = c .before .loop in
+    let e : l .i ≡ 8 = omega arith in
+    sym (ap (λ (x : ℕ). every x (λ k. eqb (getD (a .names .now) (8 * a .a + k) 0) (getD (a .names .now) (8 * a .b + k) 0))) (sym e) ∙ l .inv .1)
+
+pub same-name-spec : {M : Type 1} → statement M
+same-name-spec =
+    tie.close
+    (tie.spec
+    Inv-loop
+    μ-loop
+    loop-holds
+    mul-if1
+    add-if1
+    shared-slice-read-if1
+    mul-if1-2
+    add-if1-2
+    shared-slice-read-if1-2
+    returns
+    add-i
+    loop-less
+    loop-again
+    returns-2)

@@ -1,0 +1,106 @@
+-- The rows of a file: what an accepted file has, and the first row that applies.
+use Prim.Native.Nat.{ℕ, _<_}
+use mathlib.Core.Path.{_≡_, refl, _∙_}
+use mathlib.Core.Bool.{true, false}
+use mathlib.Core.List.{List}
+use mathlib.Core.Logic.{_↔_}
+use Rattle.refusals.specs.Rows.{firstRow}
+use Rattle.refusals.proofs.Rows.{FirstApplies, NoneApplies, first-row-iff, no-row-iff, numbered, numbered-rows, first-left, first-right, first-parts}
+use Rattle.theory.specs.Passing.{WellFormed, Passing}
+use Rattle.file_spec.specs.File.{headOf, trailer, partBefore, ruleIn, clausesOf, countsOf}
+use Rattle.file_spec.specs.Rows.{numberRows, trailerRows, listRows, layoutRows, someNested, clauseRows, componentRows, formedRows, bodyRows, bodyRow}
+use Rattle.file_spec.specs.Rows.{nameRows, prefaceRows, prefaceRow, fileRows, fileRow, oldRows, oldRow}
+use Rattle.file_spec.proofs.TrailerRows.{Placed, placed, trailer-numbered, trailer-numbers}
+use Rattle.file_spec.proofs.Parts.{counts-length}
+use Rattle.file_spec.proofs.Formed.{formed, formed-parts, formed-passing, formed-apart}
+
+pub layout-numbered : (f : List ℕ) → numbered (layoutRows f) ≡ true
+unfolding numbered layoutRows trailerRows numberRows listRows
+layout-numbered f = refl
+
+pub body-numbered : (f : List ℕ) → numbered (bodyRows f) ≡ true
+unfolding numbered bodyRows layoutRows trailerRows numberRows listRows formedRows clauseRows componentRows
+body-numbered f = refl
+
+pub file-numbered : (f : List ℕ) → numbered (fileRows f) ≡ true
+unfolding numbered fileRows bodyRows layoutRows trailerRows numberRows listRows formedRows clauseRows componentRows prefaceRows nameRows
+file-numbered f = refl
+
+pub old-numbered : (f : List ℕ) → numbered (oldRows f) ≡ true
+unfolding numbered oldRows layoutRows trailerRows numberRows listRows componentRows
+old-numbered f = refl
+
+module _ (f : List ℕ) where
+  -- what rows 1 to 10 give
+  pub laid : firstRow (layoutRows f) ≡ 0 → (firstRow (trailerRows f) ≡ 0) × (firstRow (listRows (trailer f 0) (countsOf f) (clausesOf f)) ≡ 0)
+  unfolding layoutRows
+  laid e = first-parts (trailerRows f) _ (trailer-numbered f) e
+
+  pub laid-formed : firstRow (layoutRows f) ≡ 0 → WellFormed (ruleIn f)
+  laid-formed e =
+      let r = laid e in
+      let p = placed f (r .0) in
+      formed (headOf f) (countsOf f) (clausesOf f) (trailer-numbers f (r .0)) (counts-length f (p .fits)) (r .1)
+
+  pub rows-layout : (k : ℕ) → (k ≡ 0 → ⊥) → k ≡ firstRow (layoutRows f) → k ≡ bodyRow f
+  unfolding bodyRow bodyRows
+  rows-layout k n e = first-left (layoutRows f) _ k n e
+
+  pub rows-formed : firstRow (layoutRows f) ≡ 0 → bodyRow f ≡ firstRow (formedRows (ruleIn f))
+  unfolding bodyRow bodyRows
+  rows-formed e = first-right (layoutRows f) _ (layout-numbered f) e
+
+  -- ---- what rows 1 to 11 and 20 pass
+
+  body-parts : bodyRow f ≡ 0 → (firstRow (layoutRows f) ≡ 0) × (firstRow (formedRows (ruleIn f)) ≡ 0)
+  unfolding bodyRow bodyRows
+  body-parts e = first-parts (layoutRows f) _ (layout-numbered f) e
+
+  pub body-placed : bodyRow f ≡ 0 → Placed f
+  body-placed e = placed f (laid (body-parts e .0) .0)
+
+  pub body-passing : bodyRow f ≡ 0 → Passing (ruleIn f)
+  body-passing e = let r = body-parts e in formed-passing (ruleIn f) (laid-formed (r .0)) (r .1)
+
+  -- ---- then rows 21 to 23
+
+  pub rows-body : (k : ℕ) → (k ≡ 0 → ⊥) → k ≡ bodyRow f → k ≡ fileRow f
+  unfolding bodyRow fileRow fileRows
+  rows-body k n e = first-left (bodyRows f) _ k n e
+
+  pub rows-preface : bodyRow f ≡ 0 → fileRow f ≡ prefaceRow f
+  unfolding bodyRow prefaceRow fileRow fileRows
+  rows-preface e = first-right (bodyRows f) _ (body-numbered f) e
+
+  -- ---- an accepted file
+
+  pub accepted-rows : fileRow f ≡ 0 → (bodyRow f ≡ 0) × (prefaceRow f ≡ 0)
+  unfolding bodyRow prefaceRow fileRow fileRows
+  accepted-rows e = first-parts (bodyRows f) _ (body-numbered f) e
+
+  pub accepted-placed : fileRow f ≡ 0 → Placed f
+  accepted-placed e = body-placed (accepted-rows e .0)
+
+  -- The rule of an accepted file passes every check of 01, and none of its entries has a clause that contains another.
+  pub accepted-passing : fileRow f ≡ 0 → Passing (ruleIn f)
+  accepted-passing e = body-passing (accepted-rows e .0)
+
+  pub accepted-apart : fileRow f ≡ 0 → someNested (ruleIn f) ≡ false
+  accepted-apart e = formed-apart (ruleIn f) (body-parts (accepted-rows e .0) .1)
+
+  -- 02: "On a file that the new readers accept, both must reach equal verdicts.": the reader of 01 accepts it too
+  pub old-accepts : fileRow f ≡ 0 → oldRow f ≡ 0
+  unfolding oldRow oldRows
+  old-accepts e =
+      let r = body-parts (accepted-rows e .0) in
+      first-right (layoutRows f) _ (layout-numbered f) (r .0) ∙ formed-parts (ruleIn f) (r .1) .1
+
+  -- A row's number is answered exactly if the row applies and none before it.
+  pub file-row-iff : (k : ℕ) → 0 < k → (fileRow f ≡ k) ↔ FirstApplies (fileRows f) k
+  unfolding fileRow
+  file-row-iff k p = first-row-iff (fileRows f) k p
+
+  -- A file is accepted exactly if no row applies.
+  pub file-accepted-iff : (fileRow f ≡ 0) ↔ NoneApplies (fileRows f)
+  unfolding fileRow
+  file-accepted-iff = no-row-iff (fileRows f) (numbered-rows (fileRows f) (file-numbered f))

@@ -1,0 +1,172 @@
+// The reader of rule files, which tries the rows of the rule's group, and the preface.
+use file_rows::rule::lists_row;
+use file_rows::trailer::read_count;
+use file_rows::trailer::read_head;
+use file_rows::trailer::trailer_row;
+use rule_entries::Head;
+ghost use mathlib.Core.Path.{_≡_};
+ghost use Prim.Native.Nat.{_+_, _-_, _≤_};
+ghost use lib.ListN.{length};
+ghost use Rattle.refusals.specs.Rows.{firstRow};
+ghost use Rattle.theory.specs.Passing.{WellFormed};
+ghost use Rattle.rule_entries.specs.Entries.{ruleOf};
+ghost use Rattle.file_spec.specs.File.{clauseCount, entryCount, countsOf, clausesOf, namesOf};
+ghost use Rattle.file_spec.specs.Rows.{layoutRows, componentRows, formedRows, bodyRow, fileRow};
+ghost use Rattle.file_read.specs.declared.Read.the-variants.{Accepted};
+ghost use Rattle.file_read.specs.Read.{layoutOf, readOf, prefaceOf};
+
+// Where a file's rule stands: its numbers, the place of its first clause, and how many clauses it has.
+pub struct Layout {
+    pub head: Head,
+    pub at: usize,
+    pub clauses: usize,
+}
+
+// The answer of the reader: the layout of an accepted file, or the number of the first row that refuses it.
+pub enum Read {
+    Accepted(Layout),
+    Refused(u8),
+}
+
+// Where the parts of a file stand that has room for them.
+pub fn lay_out(f: &[u8]) -> Layout
+    requires { ⌜ (8 ≤ length (now f)) × (clauseCount (now f) + entryCount (now f) ≤ length (now f) - 8) ⌝ }
+    ensures { λ r. ⌜ r ≡ layoutOf (now (f .entry)) ⌝ }
+{
+    let head = read_head(f);
+    let clauses = read_count(f);
+    let n = head.n;
+    let s = head.s;
+    let at = f.len() - 8 - (clauses + n * s);
+    Layout {
+        head: head,
+        at: at,
+        clauses: clauses,
+    }
+}
+
+// The first of rows 1 to 10 that refuses a file, or 0.
+pub fn layout_row(f: &[u8]) -> u8
+    ensures { λ r. ⌜ r ≡ firstRow (layoutRows (now (f .entry))) ⌝ }
+{
+    let first = trailer_row(f);
+    if first != 0 {
+        return first;
+    }
+    let l = lay_out(f);
+    let h = l.head;
+    let n = h.n;
+    let at = l.at;
+    let c = l.clauses;
+    let end = f.len() - 8;
+    lists_row(n, &f[at + c..end], &f[at..at + c])
+}
+
+// 11 where a component of a well-formed rule is mixed, else 0.
+pub fn components_row(h: Head, counts: &[u8], clauses: &[u8]) -> u8
+    requires { ⌜ WellFormed (ruleOf h (now counts) (now clauses)) ⌝ }
+    ensures { λ r. ⌜ r ≡ firstRow (componentRows (ruleOf h (now (counts .entry)) (now (clauses .entry)))) ⌝ }
+{
+    if rule_components::is_mixed(h, counts, clauses) {
+        return 11;
+    }
+    0
+}
+
+// The first of rows 20 and 11 that refuses a well-formed rule, or 0.
+pub fn formed_row(h: Head, counts: &[u8], clauses: &[u8]) -> u8
+    requires { ⌜ WellFormed (ruleOf h (now counts) (now clauses)) ⌝ }
+    ensures { λ r. ⌜ r ≡ firstRow (formedRows (ruleOf h (now (counts .entry)) (now (clauses .entry)))) ⌝ }
+{
+    let first = file_clauses::clauses_row(h, counts, clauses);
+    if first != 0 {
+        return first;
+    }
+    components_row(h, counts, clauses)
+}
+
+// The first of rows 1 to 11 and 20 that refuses a file, or 0.
+fn body_row(f: &[u8]) -> u8
+    ensures { λ r. ⌜ r ≡ bodyRow (now (f .entry)) ⌝ }
+{
+    let first = layout_row(f);
+    if first != 0 {
+        return first;
+    }
+    let l = lay_out(f);
+    let h = l.head;
+    let at = l.at;
+    let c = l.clauses;
+    let end = f.len() - 8;
+    formed_row(h, &f[at + c..end], &f[at..at + c])
+}
+
+// The first row that refuses a file, or 0.
+fn file_row(f: &[u8]) -> u8
+    ensures { λ r. ⌜ r ≡ fileRow (now (f .entry)) ⌝ }
+{
+    let first = body_row(f);
+    if first != 0 {
+        return first;
+    }
+    let l = lay_out(f);
+    let h = l.head;
+    let s = h.s;
+    let at = l.at;
+    file_names::preface_row(&f[..at], s)
+}
+
+// Where the rule of a file stands, or the number of the first row that refuses the file.
+pub fn read_rule(f: &[u8]) -> Read
+    ensures { λ r. ⌜ r ≡ readOf (now (f .entry)) ⌝ }
+{
+    let first = file_row(f);
+    if first != 0 {
+        return Read::Refused(first);
+    }
+    Read::Accepted(lay_out(f))
+}
+
+// The count bytes of an accepted file.
+pub fn counts_of(f: &[u8], l: Layout) -> &[u8]
+    requires { ⌜ readOf (now f) ≡ Accepted l ⌝ }
+    ensures { λ r. ⌜ now r ≡ countsOf (now (f .entry)) ⌝ }
+{
+    let start = l.at + l.clauses;
+    let end = f.len() - 8;
+    &f[start..end]
+}
+
+// The clause bytes of an accepted file.
+pub fn clauses_of(f: &[u8], l: Layout) -> &[u8]
+    requires { ⌜ readOf (now f) ≡ Accepted l ⌝ }
+    ensures { λ r. ⌜ now r ≡ clausesOf (now (f .entry)) ⌝ }
+{
+    let start = l.at;
+    let end = start + l.clauses;
+    &f[start..end]
+}
+
+// The name bytes of an accepted file, 8 for each letter, or none.
+pub fn names_of(f: &[u8], l: Layout) -> &[u8]
+    requires { ⌜ readOf (now f) ≡ Accepted l ⌝ }
+    ensures { λ r. ⌜ now r ≡ namesOf (now (f .entry)) ⌝ }
+{
+    let h = l.head;
+    let s = h.s;
+    let at = l.at;
+    file_names::names_in(&f[..at], s)
+}
+
+// The preface of a file: the part before its first clause, or the empty part of a refused file.
+pub fn preface(f: &[u8]) -> &[u8]
+    ensures { λ r. ⌜ now r ≡ prefaceOf (now (f .entry)) ⌝ }
+{
+    match read_rule(f) {
+        Read::Accepted(l) => {
+            let at = l.at;
+            &f[..at]
+        }
+        Read::Refused(_) => &f[..0],
+    }
+}

@@ -1,0 +1,40 @@
+-- `file_rows::rule::numbers_row` meets its contract: each return is one row's law.
+use native.Mathlib.Omega.{arith}
+use Rattle.file_spec.proofs.Numbers.{under-3, over-3, under-4, over-4, row-5, row-6, pass-6}
+use borrow.Author.Needs.{needs}
+use Rattle.sets.proofs.Bits.{shl-one}
+use Rattle.file_rows.proofs.rule.numbers_row.Statement.{statement}
+use Rattle.file_rows.proofs.rule.numbers_row.Tie as tie
+
+returns : tie.Need-returns
+returns c = under-3 (c .before .args .h) (omega arith)
+
+returns-2 : tie.Need-returns-2
+returns-2 c = over-3 (c .before .before .args .h) (omega arith) (omega arith)
+
+returns-3 : tie.Need-returns-3
+returns-3 c = under-4 (c .before .before .before .args .h) (omega arith) (omega arith) (omega arith)
+
+returns-4 : tie.Need-returns-4
+returns-4 c = over-4 (c .before .before .before .before .args .h) (omega arith) (omega arith) (omega arith) (omega arith)
+
+shl-states : tie.Need-shl-states
+shl-states c = search needs
+
+returns-5 : tie.Need-returns-5
+returns-5 c = row-5 (c .before .before .before .before .before .args .h) (omega arith) (omega arith) (omega arith) (omega arith) (omega arith)
+
+returns-6 : tie.Need-returns-6
+returns-6 c =
+    let h = c .before .before .before .before .before .before .args .h in
+    row-6 h (omega arith) (omega arith) (omega arith) (omega arith) (omega arith) (omega (arith, shl-one 64 (h .n) (omega arith)))
+
+returns-7 : tie.Need-returns-7
+returns-7 c =
+    let h = c .before .before .before .before .before .before .args .h in
+    pass-6 h (omega arith) (omega arith) (omega arith) (omega arith) (omega arith) (omega (arith, shl-one 64 (h .n) (omega arith)))
+
+pub numbers-row-spec : {M : Type 1} → statement M
+numbers-row-spec =
+    tie.close
+    (tie.spec returns returns-2 returns-3 returns-4 shl-states returns-5 returns-6 returns-7)

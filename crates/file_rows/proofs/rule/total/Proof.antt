@@ -1,0 +1,56 @@
+-- `file_rows::rule::total` meets its contract: the sum so far and the sum of the bytes from i on make the whole.
+use Prim.Native.Nat.{_≤_, _-_, _+_, _*_}
+use mathlib.Core.Path.{_≡_}
+use native.Mathlib.Omega.{arith}
+use lib.ListN.{length, drop}
+use Rattle.sets.specs.Lists.{sum}
+use Rattle.sets.proofs.Walks.{sum-next, sum-end}
+use Rattle.file_rows.proofs.rule.total.Statement.{statement}
+use Rattle.file_rows.proofs.rule.total.Tie as tie
+
+abbrev Inv-loop : tie.InvT-loop
+Inv-loop xs t₀ i₀ t i = (i ≤ length xs) × (t ≤ 255 * i) × (t + sum (drop i xs) ≡ sum xs)
+
+abbrev μ-loop : tie.MeasureT-loop
+μ-loop xs t₀ i₀ t i = length xs - i
+
+loop-holds : tie.Need-loop-holds Inv-loop μ-loop
+loop-holds c = omega arith
+
+shared-slice-read-t : tie.Need-shared-slice-read-t Inv-loop μ-loop
+shared-slice-read-t c = omega arith
+
+cast-t : tie.Need-cast-t Inv-loop μ-loop
+cast-t c = omega (arith, c .shared-slice-known .given (c .before .before .loop .i))
+
+add-t : tie.Need-add-t Inv-loop μ-loop
+add-t c = omega (arith, c .shared-slice-known .given (c .before .before .loop .i))
+
+add-i : tie.Need-add-i Inv-loop μ-loop
+add-i c = omega arith
+
+loop-less : tie.Need-loop-less Inv-loop μ-loop
+loop-less c = omega arith
+
+loop-again : tie.Need-loop-again Inv-loop μ-loop
+loop-again c =
+    let l = c .before .before .loop in
+    omega (arith, c .shared-slice-known .given (l .i), sum-next (c .before .before .before .args .xs .now) (l .i) (omega arith))
+
+returns : tie.Need-returns Inv-loop μ-loop
+returns c = omega (arith, sum-end (c .before .before .args .xs .now) (c .before .loop .i) (omega arith))
+
+pub total-spec : {M : Type 1} → statement M
+total-spec =
+    tie.close
+    (tie.spec
+    Inv-loop
+    μ-loop
+    loop-holds
+    shared-slice-read-t
+    cast-t
+    add-t
+    add-i
+    loop-less
+    loop-again
+    returns)

@@ -1,0 +1,3 @@
+// Rows 1 to 10 of a rule file: those of its trailer, and those of a rule's numbers and lists.
+pub mod rule;
+pub mod trailer;

@@ -1,0 +1,70 @@
+-- `file_tidy::tidy` meets its contract: the rule's row where one refuses, else what is written of the tidied rule.
+use mathlib.Core.Path.{_≡_, sym, _∙_}
+use borrow.Author.Needs.{needs}
+use Rattle.refusals.specs.Rows.{firstRow}
+use Rattle.file_spec.specs.File.{trailer, partBefore}
+use Rattle.file_spec.proofs.TrailerRows.{Placed}
+use Rattle.file_tidy_spec.specs.Tidied.{tidyRows}
+use Rattle.file_tidy_spec.proofs.Laws.{tidy-laid, tidy-served, tidy-preface, names-few, refused-by, served-by}
+use Rattle.file_tidy.proofs.Parts.{laid-out}
+use Rattle.file_tidy.proofs.tidy.Statement.{statement}
+use Rattle.file_tidy.proofs.tidy.Tie as tie
+
+rule-row-requires : tie.Need-rule-row-requires
+rule-row-requires c κs = search needs
+
+returns : tie.Need-returns
+returns c =
+    let a = c .before .before .before .before .args in
+    refused-by (a .file .now) (a .out .now) (c .before .rule-row .result) (c .if1 .taken) (c .before .rule-row .ensures)
+
+-- no row of the rule's group but 20 refuses
+pass : (c : tie.Else1) → firstRow (tidyRows (c .before .before .before .before .args .file .now)) ≡ 0
+pass c = sym (c .before .rule-row .ensures) ∙ c .if1 .left
+
+known : (c : tie.Else1) → Placed (c .before .before .before .before .args .file .now)
+known c = let f = c .before .before .before .before .args .file .now in laid-out f (tidy-laid f (pass c))
+
+read-head-requires : tie.Need-read-head-requires
+read-head-requires c κs = known c .long
+
+counts-in-requires : tie.Need-counts-in-requires
+counts-in-requires c κs = (known (c .before) .long, known (c .before) .fits)
+
+clauses-in-requires : tie.Need-clauses-in-requires
+clauses-in-requires c κs = (known (c .before .before) .long, known (c .before .before) .fits)
+
+names-of-requires : tie.Need-names-of-requires
+names-of-requires c κs = pass (c .before .before .before)
+
+write-tidied-requires : tie.Need-write-tidied-requires
+write-tidied-requires c κs =
+    let f = c .before .before .before .before .before .before .before .before .before .args .file .now in
+    let e = pass (c .before .before .before .before .before) in
+    let w = tidy-served f e .formed in
+    rw (c .before .before .before .before .read-head .ensures, c .before .before .before .counts-in .ensures, c .before .before .clauses-in .ensures, c .before .names-of .ensures)
+    (w, names-few (trailer f 1) (partBefore f) (tidy-preface f e) (w .few-letters))
+
+same-length : tie.Need-same-length
+same-length c = search needs
+
+returns-2 : tie.Need-returns-2
+returns-2 c =
+    let a = c .before .before .before .before .before .before .before .before .before .before .before .before .args in
+    let w = rw (c .before .before .before .before .before .before .before .read-head .ensures, c .before .before .before .before .before .before .counts-in .ensures, c .before .before .before .before .before .clauses-in .ensures, c .before .before .before .before .names-of .ensures) at (c .before .before .write-tidied .ensures) in
+    let s = served-by (a .file .now) (a .out .now) (pass (c .before .before .before .before .before .before .before .before)) in
+    (w .0 ∙ s .0, w .1 ∙ s .1)
+
+pub tidy-spec : {M : Type 1} → statement M
+tidy-spec =
+    tie.close
+    (tie.spec
+    rule-row-requires
+    returns
+    read-head-requires
+    counts-in-requires
+    clauses-in-requires
+    names-of-requires
+    write-tidied-requires
+    same-length
+    returns-2)

@@ -1,0 +1,127 @@
+-- `file_tidy::write_tidied` meets its contract: the tidied rule stands in the fronts of two arrays, and is laid out where the slice has room.
+use Prim.Native.Nat.{ℕ, _+_, _≤_, _<_}
+use mathlib.Core.Path.{_≡_, sym, _∙_, ap}
+use mathlib.Core.List.{List, _++_}
+use native.Mathlib.Omega.{arith}
+use borrow.Author.Needs.{needs}
+use lib.ListN.{length}
+use lib.Seq.{length-take-le}
+use Rattle.rule_entries.specs.Entries.{ruleOf}
+use Rattle.rule_entries.proofs.Entries.{entries-few}
+use Rattle.rule_tidy_spec.specs.Tidy.{tidyRule}
+use Rattle.file_spec.specs.File.{bodyOf}
+use Rattle.file_spec.specs.Names.{prefaceFrom}
+use Rattle.file_write.proofs.Names.{preface-most}
+use Rattle.file_write_spec.specs.Written.{after}
+use Rattle.file_tidy_spec.specs.declared.Tidied.the-variants.{Length}
+use Rattle.file_tidy_spec.proofs.Laws.{clauses-few, in-bytes, short, enough}
+use Rattle.file_tidy.proofs.Filled.{Fronts, fronts}
+use Rattle.file_tidy.proofs.write_tidied.Statement.{statement}
+use Rattle.file_tidy.proofs.write_tidied.Tie as tie
+
+slice-aggregate-tidy-rule : tie.Need-slice-aggregate-tidy-rule
+slice-aggregate-tidy-rule c = search needs
+
+slice-aggregate-tidy-rule-2 : tie.Need-slice-aggregate-tidy-rule-2
+slice-aggregate-tidy-rule-2 c = search needs
+
+tidy-rule-requires : tie.Need-tidy-rule-requires
+tidy-rule-requires c κs =
+    let a = c .before .before .before .before .before .before .args in
+    let w = c .before .before .before .before .before .before .pre .0 in
+    (w, entries-few (ruleOf (a .h) (a .counts .now) (a .clauses .now)) w, clauses-few (ruleOf (a .h) (a .counts .now) (a .clauses .now)) w)
+
+-- the tidied rule in the two arrays
+known : (c : tie.After-tidy-rule) →
+    let a = c .before .before .before .before .before .before .before .args in
+    Fronts (a .h) (a .counts .now) (a .clauses .now) (c .tidy-rule .last .1 .1 .1 .0) (c .tidy-rule .last .1 .1 .1 .1 .0) (c .tidy-rule .result)
+known c =
+    let a = c .before .before .before .before .before .before .before .args in
+    let t = c .tidy-rule .ensures in
+    fronts (a .h) (a .counts .now) (a .clauses .now) _ _ (c .tidy-rule .last .1 .1 .1 .0) (c .tidy-rule .last .1 .1 .1 .1 .0) (c .tidy-rule .result)
+    (c .before .before .before .before .before .before .before .pre .0) (t .0) (t .1 .0) (t .1 .1)
+
+preface-length-requires : tie.Need-preface-length-requires
+preface-length-requires c κs = c .before .before .before .before .before .before .before .before .before .pre .1
+
+-- the parts are short
+small : (c : tie.After-preface-length) →
+    let a = c .before .before .before .before .before .before .before .before .before .before .args in (c .preface-length .result ≤ 130) × (length (a .counts .now) ≤ 128) × (c .before .before .before .tidy-rule .result ≤ 1024)
+small c =
+    let a = c .before .before .before .before .before .before .before .before .before .before .args in
+    let k = known (c .before .before .before) in
+    (omega (arith, c .preface-length .ensures, preface-most (a .names .now), c .before .before .before .before .before .before .before .before .before .before .pre .1), k .few-entries, k .few-clauses)
+
+add-length : tie.Need-add-length
+add-length c = omega (arith, small c)
+
+add-length-2 : tie.Need-add-length-2
+add-length-2 c = omega (arith, small c)
+
+add-length-3 : tie.Need-add-length-3
+add-length-3 c = omega (arith, small c)
+
+returns : tie.Need-returns
+returns c =
+    let a = c .before .before .before .before .before .before .before .before .before .before .before .args in
+    let file = prefaceFrom (a .names .now) ++ bodyOf (tidyRule (ruleOf (a .h) (a .counts .now) (a .clauses .now))) in
+    let lacks : length (a .out .now) < length file = omega (arith, known (c .before .before .before .before) .long (a .names .now), c .before .preface-length .ensures, c .if1 .taken) in
+    short file (a .out .now) lacks
+
+array-share-prefix-counts2 : tie.Need-array-share-prefix-counts2
+array-share-prefix-counts2 c = known (c .before .before .before .before) .counts-room
+
+slice-aggregate-fill : tie.Need-slice-aggregate-fill
+slice-aggregate-fill c = sym (length-take-le _ _ (known (c .before .before .before .before .before) .counts-room))
+
+array-share-prefix-clauses2 : tie.Need-array-share-prefix-clauses2
+array-share-prefix-clauses2 c = known (c .before .before .before .before .before) .clauses-room
+
+slice-aggregate-fill-2 : tie.Need-slice-aggregate-fill-2
+slice-aggregate-fill-2 c = sym (length-take-le _ _ (known (c .before .before .before .before .before .before) .clauses-room))
+
+fill-requires : tie.Need-fill-requires
+fill-requires c κs =
+    let a = c .before .before .before .before .before .before .before .before .before .before .before .before .before .before .args in
+    let k = known (c .before .before .before .before .before .before .before) in
+    let t = c .before .before .before .before .before .before .before .tidy-rule in
+    let x = length-take-le (t .result) (t .last .1 .1 .1 .1 .0) (k .clauses-room) in
+    let y = length-take-le (length (a .counts .now)) (t .last .1 .1 .1 .0) (k .counts-room) in (
+      in-bytes (a .h) (a .counts .now) (a .clauses .now) (c .before .before .before .before .before .before .before .before .before .before .before .before .before .before .pre .0) _ (omega (arith, x, k .few-clauses)),
+      c .before .before .before .before .preface-length .ensures,
+      omega (arith, x, y, c .before .before .before .if1 .left),
+    )
+
+same-length : tie.Need-same-length
+same-length c = search needs
+
+returns-2 : tie.Need-returns-2
+returns-2 c =
+    let a = c .before .before .before .before .before .before .before .before .before .before .before .before .before .before .before .before .before .args in
+    let k = known (c .before .before .before .before .before .before .before .before .before .before) in
+    let file = prefaceFrom (a .names .now) ++ bodyOf (tidyRule (ruleOf (a .h) (a .counts .now) (a .clauses .now))) in
+    let p = c .before .before .before .before .before .before .before .preface-length in
+    let long : length file ≡ p .result + c .before .before .before .before .before .before .before .before .before .before .tidy-rule .result + length (a .counts .now) + 8 = omega (arith, k .long (a .names .now), p .ensures) in
+    let has : length file ≤ length (a .out .now) = omega (arith, long, c .before .before .before .before .before .before .if1 .left) in
+    let e = enough file (a .out .now) has in
+    (ap Length (sym long) ∙ e .0, c .before .before .fill .ensures ∙ ap (λ (x : List ℕ). after 0 x (a .out .now)) (k .file (a .names .now)) ∙ e .1)
+
+pub write-tidied-spec : {M : Type 1} → statement M
+write-tidied-spec =
+    tie.close
+    (tie.spec
+    slice-aggregate-tidy-rule
+    slice-aggregate-tidy-rule-2
+    tidy-rule-requires
+    preface-length-requires
+    add-length
+    add-length-2
+    add-length-3
+    returns
+    array-share-prefix-counts2
+    slice-aggregate-fill
+    array-share-prefix-clauses2
+    slice-aggregate-fill-2
+    fill-requires
+    same-length
+    returns-2)

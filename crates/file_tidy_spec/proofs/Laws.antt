@@ -1,0 +1,170 @@
+-- Laws of the tidy tool's definitions: the answer by the tests that led there.
+use Prim.Native.Nat.{ℕ, zero, suc, _+_, _-_, _*_, _≤_, _<_}
+use mathlib.Core.Path.{_≡_, refl, ap, sym, _∙_}
+use mathlib.Core.Logic.{_⊎_, inl, inr, ⊎-elim}
+use mathlib.Core.Bool.{true, false}
+use mathlib.Core.List.{List, [], _∷_, _++_, List·Memᴰ, List·Memᴰ·head, List·Memᴰ·tail}
+use native.Mathlib.Omega.{arith}
+use borrow.Author.Tests.{le-ltb, lt-ltb}
+use lib.ListN.{length, length-append}
+use Rattle.sets.specs.Lists.{sum}
+use Rattle.refusals.specs.Rows.{firstRow}
+use Rattle.sets.proofs.Bools.{bif}
+use Rattle.refusals.proofs.Rows.{numbered, first-left, first-right, first-parts}
+use Rattle.theory.specs.Rule.{Rule}
+use Rattle.theory.specs.Passing.{WellFormed, Passing}
+use Rattle.rule_entries.proofs.Entries.{entries-few, accepting-small}
+use Rattle.rule_entries.specs.declared.Head.{Head}
+use Rattle.rule_entries.specs.Entries.{ruleOf}
+use Rattle.rule_tidy_spec.specs.Tidy.{tidyRule}
+use Rattle.rule_tidy_spec.proofs.Entries.{counts-length, clauses-length}
+use Rattle.file_spec.specs.File.{trailer, partBefore, namesOf, ruleIn, bodyOf, trailerOf}
+use Rattle.file_spec.specs.Names.{namesTag, hasNames, namesBefore, prefaceFrom}
+use Rattle.file_spec.specs.Rows.{numberRows, listRows, trailerRows, layoutRows, componentRows, nameRows, prefaceRows}
+use Rattle.file_spec.proofs.Formed.{passing}
+use Rattle.file_spec.proofs.Names.{fit-21, past-21, no-names, names-room, names-long, names-length, written-row}
+use Rattle.file_read.proofs.FileRows.{layout-numbered, laid-formed}
+use Rattle.file_write_spec.specs.Written.{InBytes, sliceRows, after}
+use Rattle.file_tidy_spec.specs.declared.Tidied.the-variants.{Length, Refused}
+use Rattle.file_tidy_spec.specs.Tidied.{tidyRows, tidyFile, tidyRow, answer, tidiedOf, sliceTidied}
+
+-- ---- the rule's rows but 20
+
+module _ (f : List ℕ) where
+  rows-numbered : numbered (tidyRows f) ≡ true
+  unfolding numbered tidyRows layoutRows trailerRows numberRows listRows componentRows prefaceRows nameRows
+  rows-numbered = refl
+
+  components-numbered : numbered (componentRows (ruleIn f)) ≡ true
+  unfolding numbered componentRows
+  components-numbered = refl
+
+  pub by-layout : (k : ℕ) → (k ≡ 0 → ⊥) → k ≡ firstRow (layoutRows f) → k ≡ firstRow (tidyRows f)
+  unfolding tidyRows
+  by-layout k n e = first-left (layoutRows f) _ k n e
+
+  pub by-components : firstRow (layoutRows f) ≡ 0 → (k : ℕ) → (k ≡ 0 → ⊥) → k ≡ firstRow (componentRows (ruleIn f)) → k ≡ firstRow (tidyRows f)
+  unfolding tidyRows
+  by-components e k n d = first-left (componentRows (ruleIn f)) _ k n d ∙ sym (first-right (layoutRows f) _ (layout-numbered f) e)
+
+  pub past-components : firstRow (layoutRows f) ≡ 0 → firstRow (componentRows (ruleIn f)) ≡ 0
+      → firstRow (tidyRows f) ≡ firstRow (prefaceRows (trailer f 1) (partBefore f))
+  unfolding tidyRows
+  past-components e d = first-right (layoutRows f) _ (layout-numbered f) e ∙ first-right (componentRows (ruleIn f)) _ components-numbered d
+
+  -- what they pass
+  pub tidy-laid : firstRow (tidyRows f) ≡ 0 → firstRow (layoutRows f) ≡ 0
+  unfolding tidyRows
+  tidy-laid e = first-parts (layoutRows f) _ (layout-numbered f) e .0
+
+  past-laid : firstRow (tidyRows f) ≡ 0 → (firstRow (componentRows (ruleIn f)) ≡ 0) × (firstRow (prefaceRows (trailer f 1) (partBefore f)) ≡ 0)
+  unfolding tidyRows
+  past-laid e = first-parts (componentRows (ruleIn f)) _ components-numbered (first-parts (layoutRows f) _ (layout-numbered f) e .1)
+
+  pub tidy-served : firstRow (tidyRows f) ≡ 0 → Passing (ruleIn f)
+  tidy-served e = passing (ruleIn f) (laid-formed f (tidy-laid e)) (past-laid e .0)
+
+  pub tidy-preface : firstRow (tidyRows f) ≡ 0 → firstRow (prefaceRows (trailer f 1) (partBefore f)) ≡ 0
+  tidy-preface e = past-laid e .1
+
+  -- ---- what the tool answers and leaves in a slice that held old
+
+  module _ (old : List ℕ) where
+    said : (k : ℕ) → (k ≡ 0 → ⊥) → k ≡ tidyRow f (length old) → (Refused k ≡ tidiedOf f (length old)) × (old ≡ sliceTidied f old)
+    unfolding tidiedOf answer sliceTidied after
+    said zero n e = absurd (n refl)
+    said (suc k) n e = rw (← e) (refl, refl)
+
+    pub refused-by : (k : ℕ) → (k ≡ 0 → ⊥) → k ≡ firstRow (tidyRows f) → (Refused k ≡ tidiedOf f (length old)) × (old ≡ sliceTidied f old)
+    unfolding tidyRow
+    refused-by k n e = said k n (first-left (tidyRows f) _ k n e)
+
+    -- where they pass, the slice alone decides
+    pub past-rows : firstRow (tidyRows f) ≡ 0 → tidyRow f (length old) ≡ firstRow (sliceRows (length old) (tidyFile f))
+    unfolding tidyRow
+    past-rows e = first-right (tidyRows f) _ rows-numbered e
+
+    pub served-by : firstRow (tidyRows f) ≡ 0
+        → (answer (firstRow (sliceRows (length old) (tidyFile f))) (tidyFile f) ≡ tidiedOf f (length old))
+        × (after (firstRow (sliceRows (length old) (tidyFile f))) (tidyFile f) old ≡ sliceTidied f old)
+    unfolding tidiedOf sliceTidied
+    served-by e = rw (past-rows e) (refl, refl)
+
+-- ---- row 16
+
+module _ (file old : List ℕ) where
+  pub short : length old < length file → (Refused 16 ≡ answer (firstRow (sliceRows (length old) file)) file) × (old ≡ after (firstRow (sliceRows (length old) file)) file old)
+  unfolding sliceRows firstRow answer after
+  short l = rw (lt-ltb _ _ l) (refl, refl)
+
+  pub enough : length file ≤ length old
+      → (Length (length file) ≡ answer (firstRow (sliceRows (length old) file)) file) × (after 0 file old ≡ after (firstRow (sliceRows (length old) file)) file old)
+  unfolding sliceRows firstRow answer
+  enough l = rw (le-ltb _ _ l) (refl, refl)
+
+-- ---- the names of a preface that rows 21 to 23 pass
+
+module _ (s : ℕ) (p : List ℕ) (e : firstRow (prefaceRows s p) ≡ 0) where
+  pub names-whole : (length (namesBefore s p) ≡ 0) ⊎ (length (namesBefore s p) ≡ 8 * s)
+  names-whole = bif (hasNames p) (λ h. inr (names-length s p h (fit-21 s p e))) (λ h. inl (ap length (no-names s p h)))
+
+  pub names-few : s ≤ 16 → length (namesBefore s p) ≤ 128
+  names-few l = ⊎-elim (λ z. omega arith) (λ z. omega arith) names-whole
+
+  -- written as a whole preface they pass again
+  pub names-pass : firstRow (prefaceRows s (prefaceFrom (namesBefore s p))) ≡ 0
+  names-pass = written-row s (namesBefore s p) names-whole ∙ (sym (past-21 s p (fit-21 s p e)) ∙ e)
+
+  -- and are no longer than the preface
+  none-long : (names : List ℕ) → names ≡ [] → length (prefaceFrom names) ≡ 0
+  unfolding prefaceFrom
+  none-long names z = rw z
+
+  some-long : (names : List ℕ) → length (prefaceFrom names) ≤ length names + 2
+  unfolding prefaceFrom
+  some-long [] = omega arith
+  some-long (x ∷ xs) = omega (arith, length-append (x ∷ xs) namesTag)
+
+  pub names-shorter : length (prefaceFrom (namesBefore s p)) ≤ length p
+  names-shorter =
+      bif (hasNames p)
+      (λ h. omega (arith, some-long (namesBefore s p), names-length s p h (fit-21 s p e), names-room s p h (fit-21 s p e), names-long s p h))
+      (λ h. omega (arith, none-long (namesBefore s p) (no-names s p h)))
+
+-- ---- sizes
+
+pub length-tidied : (p : List ℕ) (r : Rule) → length (p ++ bodyOf r) ≡ length p + length (r .clauses) + length (r .counts) + 8
+unfolding bodyOf trailerOf
+length-tidied p r = simp length-append (omega arith)
+
+sum-le : (xs : List ℕ) → ((x : ℕ) → List·Memᴰ x xs → x ≤ 8) → sum xs ≤ 8 * length xs
+unfolding sum
+sum-le [] h = omega arith
+sum-le (x ∷ xs) h = let a = h x (List·Memᴰ·head refl) in let b = sum-le xs (λ y m. h y (List·Memᴰ·tail m)) in omega arith
+
+module _ (r : Rule) (w : WellFormed r) where
+  pub clauses-few : length (r .clauses) ≤ 1024
+  clauses-few = omega (arith, sum-le (r .counts) (w .few-clauses), entries-few r w, w .all-clauses)
+
+  -- the tidied rule has as many entries and no more clauses
+  pub tidied-entries : length (tidyRule r .counts) ≡ length (r .counts)
+  unfolding tidyRule
+  tidied-entries = counts-length (r .n) (r .counts) (r .clauses)
+
+  pub tidied-clauses : length (tidyRule r .clauses) ≤ length (r .clauses)
+  unfolding tidyRule
+  tidied-clauses = omega (arith, clauses-length (r .n) (r .counts) (r .clauses), w .all-clauses)
+
+pub in-bytes : (h : Head) (counts clauses : List ℕ) → WellFormed (ruleOf h counts clauses) → (c : ℕ) → c ≤ 1024 → InBytes h c
+in-bytes h counts clauses w c l = record {
+  n = omega (arith, w .few-states);
+  s = omega (arith, w .few-letters);
+  initial = omega (arith, w .initial-state, w .few-states);
+  accepting = accepting-small (ruleOf h counts clauses) w;
+  count = omega arith;
+}
+
+-- where nothing refuses, the rule's rows but 20 pass
+pub rows-passed : (f : List ℕ) (room : ℕ) → tidyRow f room ≡ 0 → firstRow (tidyRows f) ≡ 0
+unfolding tidyRow
+rows-passed f room e = first-parts (tidyRows f) _ (rows-numbered f) e .0

@@ -1,0 +1,33 @@
+-- `file_write::layout::fill` meets its contract: the preface, then the rest of the file.
+use mathlib.Core.Path.{_≡_, _∙_}
+use native.Mathlib.Omega.{arith}
+use borrow.Author.Needs.{needs}
+use lib.ListN.{length}
+use Rattle.rule_entries.specs.Entries.{ruleOf}
+use Rattle.file_spec.specs.File.{bodyOf}
+use Rattle.file_spec.specs.Names.{prefaceFrom}
+use Rattle.file_write_spec.proofs.Laws.{length-body}
+use Rattle.file_write.proofs.Names.{fill-both}
+use Rattle.file_write.proofs.layout.fill.Statement.{statement}
+use Rattle.file_write.proofs.layout.fill.Tie as tie
+
+fill-names-requires : tie.Need-fill-names-requires
+fill-names-requires c κs = search needs
+
+fill-rule-requires : tie.Need-fill-rule-requires
+fill-rule-requires c κs = search needs
+
+same-length : tie.Need-same-length
+same-length c = search needs
+
+returns : tie.Need-returns
+returns c =
+    let a = c .before .before .before .before .before .before .before .before .before .before .before .before .args in
+    let p = c .before .before .before .before .before .before .before .before .before .before .before .before .pre in
+    let f = bodyOf (ruleOf (a .h) (a .counts .now) (a .clauses .now)) in
+    c .before .before .fill-rule .ensures
+    ∙ rw (c .before .before .before .before .before .before .fill-names .ensures)
+    (fill-both (a .out .now) (prefaceFrom (a .names .now)) f (a .at) (p .1) (omega (arith, p .2, length-body (a .h) (a .counts .now) (a .clauses .now))))
+
+pub fill-spec : {M : Type 1} → statement M
+fill-spec = tie.close (tie.spec fill-names-requires fill-rule-requires same-length returns)

@@ -1,0 +1,40 @@
+-- `file_write::layout::fill_names` meets its contract: the names, then 4E 4D.
+use Prim.Native.Nat.{_+_, _≤_}
+use mathlib.Core.Path.{_≡_, _∙_}
+use native.Mathlib.Omega.{arith}
+use borrow.Author.Needs.{needs}
+use lib.ListN.{length}
+use Rattle.file_write_spec.proofs.Laws.{length-preface}
+use Rattle.file_write.proofs.Names.{fill-none, fill-some}
+use Rattle.file_write.proofs.layout.fill_names.Statement.{statement}
+use Rattle.file_write.proofs.layout.fill_names.Tie as tie
+
+returns : tie.Need-returns
+returns c = let a = c .before .before .before .args in fill-none (a .out .now) (a .names .now) (c .if1 .taken)
+
+-- there is room for the names and 4E 4D
+room : (c : tie.Else1) → length (c .before .before .before .args .names .now) + 2 ≤ length (c .before .before .before .args .out .now)
+room c = omega (arith, c .before .before .before .pre, length-preface (c .before .before .before .args .names .now) .1 (c .if1 .left))
+
+put-requires : tie.Need-put-requires
+put-requires c κs = omega (arith, room (c .before))
+
+slice-aggregate-put : tie.Need-slice-aggregate-put
+slice-aggregate-put c = search needs
+
+put-requires-2 : tie.Need-put-requires-2
+put-requires-2 c κs = omega (arith, room (c .before .before .before .before .before .before))
+
+same-length : tie.Need-same-length
+same-length c = search needs
+
+returns-2 : tie.Need-returns-2
+returns-2 c =
+    let a = c .before .before .before .before .before .before .before .before .before .before .before .before .args in
+    let e = c .before .before .before .before .before .before .before .before .before in
+    c .before .before .put2 .ensures ∙ rw (c .before .before .before .before .before .before .before .put .ensures) (fill-some (a .out .now) (a .names .now) (e .if1 .left) (room e))
+
+pub fill-names-spec : {M : Type 1} → statement M
+fill-names-spec =
+    tie.close
+    (tie.spec returns put-requires slice-aggregate-put put-requires-2 same-length returns-2)

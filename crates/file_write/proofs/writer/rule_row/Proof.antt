@@ -1,0 +1,75 @@
+-- `file_write::writer::rule_row` meets its contract: each return is one law, from the answers of the callees.
+use Prim.Native.Nat.{_*_}
+use mathlib.Core.Path.{_≡_, sym, _∙_}
+use native.Mathlib.Omega.{arith}
+use borrow.Author.Needs.{needs}
+use lib.ListN.{length}
+use Rattle.refusals.specs.Rows.{firstRow}
+use Rattle.file_spec.specs.Rows.{numberRows, listRows}
+use Rattle.file_spec.proofs.Numbers.{ranges}
+use Rattle.file_spec.proofs.Formed.{formed}
+use Rattle.file_write_spec.proofs.Laws.{by-numbers, by-entries, by-lists, by-formed}
+use Rattle.file_write.proofs.writer.rule_row.Statement.{statement}
+use Rattle.file_write.proofs.writer.rule_row.Tie as tie
+
+numbers-row-requires : tie.Need-numbers-row-requires
+numbers-row-requires c κs = search needs
+
+returns : tie.Need-returns
+returns c =
+    let a = c .before .before .before .before .args in
+    by-numbers (a .h) (a .counts .now) (a .clauses .now) (c .before .numbers-row .result) (c .if1 .taken) (c .before .numbers-row .ensures)
+
+-- no row of the numbers refuses
+pass : (c : tie.Else1) → firstRow (numberRows (c .before .before .before .before .args .h)) ≡ 0
+pass c = sym (c .before .numbers-row .ensures) ∙ c .if1 .left
+
+mul-if2 : tie.Need-mul-if2
+mul-if2 c = omega (arith, ranges (c .before .before .before .before .args .h) (pass c))
+
+returns-2 : tie.Need-returns-2
+returns-2 c =
+    let a = c .before .before .before .before .before .args in
+    by-entries (a .h) (a .counts .now) (a .clauses .now) (pass (c .before)) (omega arith)
+
+-- the counts are n × s
+entries-are : (c : tie.Else2) → length (c .before .before .before .before .before .args .counts .now) ≡ c .before .before .before .before .before .args .h .n * c .before .before .before .before .before .args .h .s
+entries-are c = omega arith
+
+lists-row-requires : tie.Need-lists-row-requires
+lists-row-requires c κs =
+    let r = ranges (c .before .before .before .before .before .args .h) (pass (c .before)) in
+    (r .few-states, omega (arith, entries-are c, r .few-entries))
+
+returns-3 : tie.Need-returns-3
+returns-3 c =
+    let a = c .before .before .before .before .before .before .before .args in
+    by-lists (a .h) (a .counts .now) (a .clauses .now) (pass (c .before .before .before)) (entries-are (c .before .before)) (c .before .lists-row .result) (c .if3 .taken)
+    (c .before .lists-row .ensures)
+
+-- no row of the lists refuses
+listed : (c : tie.Else3) → firstRow (listRows (c .before .before .before .before .before .before .before .args .h .n) (c .before .before .before .before .before .before .before .args .counts .now) (c .before .before .before .before .before .before .before .args .clauses .now)) ≡ 0
+listed c = sym (c .before .lists-row .ensures) ∙ c .if3 .left
+
+formed-row-requires : tie.Need-formed-row-requires
+formed-row-requires c κs =
+    let a = c .before .before .before .before .before .before .before .args in
+    formed (a .h) (a .counts .now) (a .clauses .now) (pass (c .before .before .before)) (entries-are (c .before .before)) (listed c)
+
+returns-4 : tie.Need-returns-4
+returns-4 c =
+    let a = c .before .before .before .before .before .before .before .before .args in
+    c .formed-row .ensures ∙ sym (by-formed (a .h) (a .counts .now) (a .clauses .now) (pass (c .before .before .before .before)) (entries-are (c .before .before .before)) (listed (c .before)))
+
+pub rule-row-spec : {M : Type 1} → statement M
+rule-row-spec =
+    tie.close
+    (tie.spec
+    numbers-row-requires
+    returns
+    mul-if2
+    returns-2
+    lists-row-requires
+    returns-3
+    formed-row-requires
+    returns-4)

@@ -1,0 +1,3 @@
+// The writer: the bytes of a file, and the entry.
+pub mod layout;
+pub mod writer;

@@ -1,6 +1,0 @@
-pub mod Examples
-pub mod Numbers
-pub mod ListRows
-pub mod TrailerRows
-pub mod Parts
-pub mod Formed

@@ -1,0 +1,1 @@
+// Endless walks in a graph with marked nodes: definitions and laws of pruning and of nested fixed points, no code.

@@ -1,0 +1,134 @@
+-- `judge_choices_fill::choose_accepting` meets its contract: the places before p have the choices of their accepting states.
+use Prim.Native.Nat.{ℕ, _+_, _-_, _*_, _^_, _≤_, _<_}
+use mathlib.Core.Path.{_≡_, refl, sym, _∙_, ap}
+use mathlib.Core.Bool.{_&&_}
+use native.Mathlib.Omega.{arith}
+use lib.Bits.{bitAnd, and-lt}
+use lib.ListN.{length, getD}
+use Rattle.sets.specs.Masks.{bit}
+use Rattle.sets.proofs.Bits.{bit-and}
+use Rattle.theory.specs.Truth.{truthMasks}
+use Rattle.theory.specs.Word.{places, nextPlace, letterAt}
+use Rattle.rule_entries.specs.Entries.{ruleOf}
+use Rattle.rule_entries.proofs.Entries.{accepting-small}
+use Rattle.judge_choices_spec.specs.Rounds.{Started, Tried}
+use Rattle.judge_choices_spec.proofs.Filled.{started-none, started-step}
+use Rattle.judge_choices_spec.proofs.Places.{masks-long, masks-low, next-low, letters-fit, row-fits, row-few}
+use borrow.Author.Needs.{needs}
+use Rattle.judge_choices_fill.proofs.choose_accepting.Statement.{statement}
+use Rattle.judge_choices_fill.proofs.choose_accepting.Tie as tie
+
+abbrev Inv-loop : tie.InvT-loop
+Inv-loop h counts starts clauses classes lead cycle masks choices₀ accepting at end p₀ choices p =
+    (p ≤ places lead cycle) × Started (ruleOf h counts clauses) lead cycle (truthMasks (ruleOf h counts clauses) lead cycle) p choices₀ choices
+
+abbrev μ-loop : tie.MeasureT-loop
+μ-loop h counts starts clauses classes lead cycle masks choices₀ accepting at end p₀ choices p = places lead cycle - p
+
+cast-accepting : tie.Need-cast-accepting Inv-loop μ-loop
+cast-accepting c = let a = c .before .before .before .before .before .before .before .args in omega (arith, accepting-small (ruleOf (a .h) (a .counts .now) (a .clauses .now)) (c .before .before .before .before .before .before .before .pre .0 .passing .formed))
+
+add-end : tie.Need-add-end Inv-loop μ-loop
+add-end c = omega (arith, c .before .before .before .before .before .before .before .pre .0 .few-places)
+
+loop-holds : tie.Need-loop-holds Inv-loop μ-loop
+loop-holds c =
+    let a = c .before .before .before .before .before .before .before .args in
+    let p = c .before .before .before .before .before .before .before .pre in
+    (omega arith, started-none (ruleOf (a .h) (a .counts .now) (a .clauses .now)) (p .0 .passing) (a .lead .now) (a .cycle .now) (p .0 .word) (a .choices .now))
+
+next-place-requires : tie.Need-next-place-requires Inv-loop μ-loop
+next-place-requires c κs = (c .loop-test .taken, omega (arith, c .before .before .before .before .before .before .before .before .before .pre .0 .few-places))
+
+-- the place that follows is one
+next-is : (c : tie.After-next-place Inv-loop μ-loop) → c .next-place .result ≡ nextPlace (c .before .before .before .before .before .before .before .before .before .before .args .lead .now) (c .before .before .before .before .before .before .before .before .before .before .args .cycle .now) (c .before .before .loop .p)
+next-is c = c .next-place .ensures (c .before .before .before .before .before .before .before .before .before .before .args .lead .now) (c .before .before .before .before .before .before .before .before .before .before .args .cycle .now) refl refl
+
+follows : (c : tie.After-next-place Inv-loop μ-loop) → c .next-place .result < places (c .before .before .before .before .before .before .before .before .before .before .args .lead .now) (c .before .before .before .before .before .before .before .before .before .before .args .cycle .now)
+follows c = rw (next-is c) (next-low _ _ _ _ _ _ (c .before .before .before .before .before .before .before .before .before .before .pre .0) (c .before .before .loop .p) (c .before .loop-test .taken))
+
+shared-slice-read-all : tie.Need-shared-slice-read-all Inv-loop μ-loop
+shared-slice-read-all c = omega (arith, follows (c .before), masks-long _ _ _ _ _ _ (c .before .before .before .before .before .before .before .before .before .before .before .pre .0))
+
+letter-at-requires : tie.Need-letter-at-requires Inv-loop μ-loop
+letter-at-requires c κs = c .before .before .loop-test .taken
+
+cast-choose-each : tie.Need-cast-choose-each Inv-loop μ-loop
+cast-choose-each c = search needs
+
+shared-slice-read-choose-each : tie.Need-shared-slice-read-choose-each Inv-loop μ-loop
+shared-slice-read-choose-each c = omega (arith, masks-long _ _ _ _ _ _ (c .before .before .before .before .before .before .before .before .before .before .before .before .before .pre .0), c .before .before .before .before .loop-test .taken)
+
+mul-choose-each : tie.Need-mul-choose-each Inv-loop μ-loop
+mul-choose-each c = omega (arith, row-few _ _ _ _ _ _ (c .before .before .before .before .before .before .before .before .before .before .before .before .before .before .before .pre .0) (c .before .before .before .before .before .before .before .loop .p) (c .before .before .before .before .before .before .loop-test .taken))
+
+choose-each-requires : tie.Need-choose-each-requires Inv-loop μ-loop
+choose-each-requires c κs =
+    let a = c .before .before .before .before .before .before .before .before .before .before .before .before .before .before .before .args in
+    let p = c .before .before .before .before .before .before .before .before .before .before .before .before .before .before .before .pre in
+    let l = c .before .before .before .before .before .before .before .loop in
+    let t = c .before .before .before .before .before .before .loop-test .taken in
+    let w = p .0 .passing .formed in (
+      w,
+      p .0 .beginnings,
+      p .0 .components,
+      rw (c .before .before .before .letter-at .ensures) (letters-fit _ _ _ _ _ _ (p .0) (l .p) t),
+      masks-low _ _ _ _ _ _ (p .0) (c .before .before .before .before .before .next-place .result),
+      masks-low _ _ _ _ _ _ (p .0) (c .before .before .before .before .before .next-place .result),
+      and-lt (a .h .n) (getD (a .masks .now) (l .p) 0) (a .h .accepting) (masks-low _ _ _ _ _ _ (p .0) (l .p)) (w .accepting-states),
+      omega (arith, row-fits _ _ _ _ _ _ (p .0) (l .p) t, p .1, l .inv .1 .long),
+    )
+
+add-p : tie.Need-add-p Inv-loop μ-loop
+add-p c = omega (arith, c .before .before .before .before .before .before .before .before .before .loop-test .taken, c .before .before .before .before .before .before .before .before .before .before .before .before .before .before .before .before .before .before .pre .0 .few-places)
+
+loop-less : tie.Need-loop-less Inv-loop μ-loop
+loop-less c = omega (arith, c .before .before .before .before .before .before .before .before .before .loop-test .taken)
+
+loop-again : tie.Need-loop-again Inv-loop μ-loop
+loop-again c =
+    let l = c .before .before .before .before .before .before .before .before .before .before .loop in
+    let a = c .before .before .before .before .before .before .before .before .before .before .before .before .before .before .before .before .before .before .args in
+    let p = c .before .before .before .before .before .before .before .before .before .before .before .before .before .before .before .before .before .before .pre in
+    let r = ruleOf (a .h) (a .counts .now) (a .clauses .now) in
+    let f = c .before .before .choose-each in
+    let T = truthMasks r (a .lead .now) (a .cycle .now) in
+    let F : Tried r (letterAt (a .lead .now) (a .cycle .now) (l .p)) (getD T (nextPlace (a .lead .now) (a .cycle .now) (l .p)) 0) (getD T (nextPlace (a .lead .now) (a .cycle .now) (l .p)) 0)
+    (bitAnd (getD T (l .p) 0) (a .h .accepting)) (l .p * a .h .n) (l .choices) (f .last .1 .1 .1 .1 .1 .1 .1 .1 .1 .0) (f .result)
+    = rw (c .before .before .before .before .before .before .letter-at .ensures, next-is (c .before .before .before .before .before .before .before .before), p .0 .truths) at (f .ensures) in (
+      omega (arith, c .before .before .before .before .before .before .before .before .before .loop-test .taken),
+      started-step r (p .0 .passing) (a .lead .now) (a .cycle .now) (p .0 .word) (l .p) (bitAnd (getD T (l .p) 0) (a .h .accepting)) (a .choices .now) (l .choices) (f .last .1 .1 .1 .1 .1 .1 .1 .1 .1 .0) (f .result)
+          (c .before .before .before .before .before .before .before .before .before .loop-test .taken) (λ q k. bit-and (getD T (l .p) 0) (a .h .accepting) q) (l .inv .1) F,
+    )
+
+same-length : tie.Need-same-length Inv-loop μ-loop
+same-length c = c .before .loop .inv .1 .long
+
+returns : tie.Need-returns Inv-loop μ-loop
+returns c =
+    let l = c .before .loop in
+    let a = c .before .before .before .before .before .before .before .before .before .args in
+    let e : l .p ≡ places (a .lead .now) (a .cycle .now) = omega (arith, l .inv .0, c .loop-test .left) in
+    rw (c .before .before .before .before .before .before .before .before .before .pre .0 .truths) (rw e at (l .inv .1))
+
+pub choose-accepting-spec : {M : Type 1} → statement M
+choose-accepting-spec =
+    tie.close
+    (tie.spec
+    Inv-loop
+    μ-loop
+    cast-accepting
+    add-end
+    loop-holds
+    next-place-requires
+    shared-slice-read-all
+    letter-at-requires
+    cast-choose-each
+    shared-slice-read-choose-each
+    mul-choose-each
+    choose-each-requires
+    add-p
+    loop-less
+    loop-again
+    same-length
+    returns)

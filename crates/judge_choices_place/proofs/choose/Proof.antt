@@ -1,0 +1,61 @@
+-- `judge_choices_place::choose` meets its contract.
+use mathlib.Core.Path.{_≡_, sym, ap, _∙_}
+use Prim.Native.Nat.{_<_, _≤_}
+use native.Mathlib.Omega.{arith}
+use lib.ListN.{length}
+use Rattle.theory.specs.Rule.{entry}
+use Rattle.rule_entries.specs.Entries.{ruleOf}
+use Rattle.rule_entries.specs.Met.{isMet}
+use Rattle.judge_choices_spec.specs.Rounds.{putMet}
+use Rattle.judge_choices_spec.proofs.Tries.{entry-few, clause-listed}
+use borrow.Author.Needs.{needs}
+use Rattle.judge_choices_place.proofs.choose.Statement.{statement}
+use Rattle.judge_choices_place.proofs.choose.Tie as tie
+
+met-at-requires : tie.Need-met-at-requires
+met-at-requires c κs = search needs
+
+enum-known-j : tie.Need-enum-known-j
+enum-known-j c = search needs
+
+cast-choices : tie.Need-cast-choices
+cast-choices c =
+    let a = c .before .before .before .before .before .before .before .args in
+    let p = c .before .before .before .before .before .before .before .pre in
+    let r = ruleOf (a .h) (a .counts .now) (a .clauses .now) in
+    let l = clause-listed (a .set) (entry r (a .q) (a .a)) (c .before .j .given .0 .0) (sym (c .before .before .before .met-at .ensures) ∙ c .before .j .given .1) in
+    omega (arith, l, entry-few r (p .0) (a .q) (a .a) (p .2) (p .3))
+
+slice-write-choices : tie.Need-slice-write-choices
+slice-write-choices c = search needs
+
+enum-told : tie.Need-enum-told
+enum-told c = search needs
+
+same-length : tie.Need-same-length
+same-length c = search needs
+
+returns : tie.Need-returns
+unfolding isMet putMet
+returns c =
+    let e = sym (c .before .before .before .met-at .ensures) ∙ c .before .j .given .1 in
+    rw e search needs
+
+returns-2 : tie.Need-returns-2
+unfolding isMet putMet
+returns-2 c =
+    let e = sym (c .before .before .met-at .ensures) ∙ c .enum-told .given .1 in
+    rw e search needs
+
+pub choose-spec : {M : Type 1} → statement M
+choose-spec =
+    tie.close
+    (tie.spec
+    met-at-requires
+    enum-known-j
+    cast-choices
+    slice-write-choices
+    enum-told
+    same-length
+    returns
+    returns-2)

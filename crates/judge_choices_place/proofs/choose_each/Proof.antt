@@ -1,0 +1,158 @@
+-- `judge_choices_place::choose_each` meets its contract: the states found and those left that meet a clause stay the same.
+use Prim.Native.Nat.{ℕ, _+_, _-_, _*_, _%_, _^_, _<_, _≤_}
+use mathlib.Core.Path.{_≡_, refl, sym, ap, _∙_}
+use mathlib.Core.Logic.{_⊎_, ⊎-elim}
+use mathlib.Core.Bool.{true, false, _&&_, cond}
+use mathlib.Core.List.{List}
+use native.Mathlib.Omega.{arith}
+use native.Mathlib.Nat.{lt-of-le-of-lt}
+use lib.Bits.{bitAnd, bitOr, and-le-r, or-lt}
+use lib.Count.{trailingZeros}
+use lib.ListN.{length, getD}
+use lib.Pow.{pow-lt, pow-pos}
+use Rattle.sets.specs.Tests.{Set}
+use Rattle.sets.specs.Masks.{bit}
+use Rattle.sets.proofs.Bits.{bit-none, bit-below, shl-one}
+use Rattle.sets.proofs.Members.{least-lt}
+use Rattle.set_masks.specs.Sets.{differenceOf}
+use Rattle.theory.specs.Rule.{entry, satisfies}
+use Rattle.rule_entries.specs.Entries.{ruleOf}
+use Rattle.rule_entries.specs.Met.{metOf, isMet}
+use Rattle.rule_entries.proofs.Clauses.{met-entry}
+use Rattle.rule_entries.proofs.Entries.{entry-states}
+use Rattle.judge_place.proofs.Walks.{least-member, walked, walk-yes, walk-no, walk-end}
+use Rattle.judge_choices_spec.specs.Choice.{numberOf, aimOf}
+use Rattle.judge_choices_spec.specs.Rounds.{putMet, metNumber}
+use Rattle.judge_choices_spec.proofs.Tries.{aim-set, put-length, here-yes, here-no, others-on}
+use borrow.Author.Needs.{needs}
+use Rattle.judge_choices_place.proofs.choose_each.Statement.{statement}
+use Rattle.judge_choices_place.proofs.choose_each.Tie as tie
+
+abbrev Inv-loop : tie.InvT-loop
+Inv-loop h counts starts clauses classes a all near states choices₀ base found₀ left₀ choices found left =
+    (left ≤ states)
+    × (found < 2 ^ h .n)
+    × ((q : ℕ) → walked (λ p. satisfies (h .n) (bit (aimOf (ruleOf h counts clauses) all near p)) (entry (ruleOf h counts clauses) p a)) found left q
+    ≡ (bit states q && satisfies (h .n) (bit (aimOf (ruleOf h counts clauses) all near q)) (entry (ruleOf h counts clauses) q a)))
+    × (length choices ≡ length choices₀)
+    × ((q : ℕ) → q < h .n → getD choices (base + q) 0 ≡ cond (bit found q) (metNumber (ruleOf h counts clauses) a all near q) (getD choices₀ (base + q) 0))
+    × ((i : ℕ) → (i < base) ⊎ (base + h .n ≤ i) → getD choices i 0 ≡ getD choices₀ i 0)
+
+abbrev μ-loop : tie.MeasureT-loop
+μ-loop h counts starts clauses classes a all near states choices₀ base found₀ left₀ choices found left = left
+
+loop-holds : tie.Need-loop-holds Inv-loop μ-loop
+loop-holds c = (omega arith, pow-pos (c .before .before .before .args .h .n), λ q. rw (bit-none q), refl, λ q l. rw (bit-none q), λ i k. refl)
+
+-- the states left are the rule's, and the least of them is one
+few : (c : tie.In-loop Inv-loop μ-loop) → c .before .loop .left < 256
+few c = omega (arith, c .before .before .before .before .before .fits .states)
+
+below : (c : tie.In-loop Inv-loop μ-loop) → trailingZeros 8 (c .before .loop .left) < c .before .before .before .before .before .args .h .n
+below c =
+    bit-below (c .before .before .before .before .before .args .h .n) (c .before .loop .left) _ (lt-of-le-of-lt (c .before .loop .inv .0) (c .before .before .before .before .before .pre .6)) (least-member (c .before .loop .left) (omega arith) (few c))
+
+cast-q : tie.Need-cast-q Inv-loop μ-loop
+cast-q c = omega (arith, below c, c .before .before .before .before .before .pre .0 .few-states)
+
+element-copy-out-class : tie.Need-element-copy-out-class Inv-loop μ-loop
+element-copy-out-class c = omega (arith, below c, c .before .before .before .before .before .pre .0 .few-states)
+
+difference-requires : tie.Need-difference-requires Inv-loop μ-loop
+difference-requires c κs = search needs
+
+add-choose : tie.Need-add-choose Inv-loop μ-loop
+add-choose c = omega (arith, below (c .before .before .before), c .before .before .before .before .before .before .before .before .pre .7, c .before .before .before .before .before .before .before .before .good)
+
+choose-requires : tie.Need-choose-requires Inv-loop μ-loop
+choose-requires c κs = let p = c .before .before .before .before .before .before .before .before .pre in (p .0, p .1, below (c .before .before .before), p .3, omega (arith, below (c .before .before .before), p .7, c .before .before .before .before .loop .inv .3))
+
+cast-found : tie.Need-cast-found Inv-loop μ-loop
+cast-found c = omega (arith, below (c .before .before .before .before .before .before .before), c .before .before .before .before .before .before .before .before .before .before .before .before .pre .0 .few-states)
+
+shl-found : tie.Need-shl-found Inv-loop μ-loop
+shl-found c = omega (arith, below (c .before .before .before .before .before .before .before), c .before .before .before .before .before .before .before .before .before .before .before .before .pre .0 .few-states)
+
+sub-left : tie.Need-sub-left Inv-loop μ-loop
+sub-left c = omega arith
+
+loop-less : tie.Need-loop-less Inv-loop μ-loop
+loop-less c = omega (arith, and-le-r (c .before .before .before .before .before .before .before .before .loop .left) (c .before .before .before .before .before .before .before .before .loop .left - 1))
+
+loop-again : tie.Need-loop-again Inv-loop μ-loop
+loop-again c =
+    let l = c .before .before .before .before .before .before .before .before .loop in
+    let a = c .before .before .before .before .before .before .before .before .before .before .before .before .args in
+    let p = c .before .before .before .before .before .before .before .before .before .before .before .before .pre in
+    let r = ruleOf (a .h) (a .counts .now) (a .clauses .now) in
+    let f : Set = λ x. satisfies (a .h .n) (bit (aimOf r (a .all) (a .near) x)) (entry r x (a .a)) in
+    let q = trailingZeros 8 (l .left) in
+    let k = below (c .before .before .before .before .before .before .before) in
+    let pos : 0 < l .left = omega arith in
+    let small = few (c .before .before .before .before .before .before .before) in
+    let e : q < 8 = omega (arith, k, p .0 .few-states) in
+    let one : 1 * 2 ^ q % 2 ^ 8 ≡ 2 ^ q = shl-one 8 q e in
+    let class = getD (a .classes .now) q 0 in
+    let aims : bitOr (c .before .before .before .before .before .difference .result) (bitAnd (a .near) class) ≡ aimOf r (a .all) (a .near) q
+    = ap (λ (x : ℕ). bitOr x (bitAnd (a .near) class)) (c .before .before .before .before .before .difference .ensures) ∙ aim-set r (p .0 .few-states) (a .all) (a .near) q class (p .4) (p .5) (p .2 .at q k) in
+    let m = metOf (aimOf r (a .all) (a .near) q) (entry r q (a .a)) in
+    let chosen = c .before .before .before .choose .ensures in
+    let met : c .before .before .before .choose .result ≡ isMet m = chosen .0 ∙ ap (λ (s : ℕ). isMet (metOf s (entry r q (a .a)))) aims in
+    let new : c .before .before .before .choose .last .1 .1 .1 .1 .1 .1 .1 .0 ≡ putMet m (a .base + q) (l .choices) = chosen .1 ∙ ap (λ (s : ℕ). putMet (metOf s (entry r q (a .a))) (a .base + q) (l .choices)) aims in
+    let test : c .before .before .before .choose .result ≡ f q = met ∙ met-entry (a .h .n) (aimOf r (a .all) (a .near) q) (entry r q (a .a)) (p .0 .few-states) (entry-states r (p .0) q (a .a) k (p .3)) in
+    let room : a .base + a .h .n ≤ length (l .choices) = omega (arith, p .7, l .inv .3) in
+    let number : ℕ → ℕ = metNumber r (a .a) (a .all) (a .near) in (
+      omega (arith, and-le-r (l .left) (l .left - 1)),
+      ⊎-elim
+          (λ w. rw (w .1, one) (or-lt (a .h .n) (l .found) (2 ^ q) (l .inv .1) (pow-lt k)))
+          (λ w. rw (w .1) (l .inv .1))
+          (c .if1 .came),
+      λ x. ⊎-elim
+          (λ w. rw (w .1, one) (walk-yes f (l .found) (l .left) pos small (sym test ∙ w .0 .taken) x) ∙ l .inv .2 x)
+          (λ w. rw (w .1) (walk-no f (l .found) (l .left) pos small (sym test ∙ w .0 .left) x) ∙ l .inv .2 x)
+          (c .if1 .came),
+      ap length new ∙ put-length m (a .base + q) (l .choices) ∙ l .inv .3,
+      λ x i. ap (λ (ys : List ℕ). getD ys (a .base + x) 0) new ∙ ⊎-elim
+          (λ w. rw (w .1, one) (here-yes (a .h .n) (a .base) number (a .choices .now) (l .choices) (l .found) room (l .inv .4) m q k (sym met ∙ w .0 .taken) refl x i))
+          (λ w. rw (w .1) (here-no (a .h .n) (a .base) number (a .choices .now) (l .choices) (l .found) room (l .inv .4) m q k (sym met ∙ w .0 .left) x i))
+          (c .if1 .came),
+      λ i j. ap (λ (ys : List ℕ). getD ys i 0) new ∙ others-on (a .h .n) (a .base) number (a .choices .now) (l .choices) (l .found) room (l .inv .4) m q k (l .inv .5) i j,
+    )
+
+same-length : tie.Need-same-length Inv-loop μ-loop
+same-length c = c .before .loop .inv .3
+
+returns : tie.Need-returns Inv-loop μ-loop
+returns c =
+    let l = c .before .loop in
+    let a = c .before .before .before .before .before .args in
+    let r = ruleOf (a .h) (a .counts .now) (a .clauses .now) in
+    let f : Set = λ x. satisfies (a .h .n) (bit (aimOf r (a .all) (a .near) x)) (entry r x (a .a)) in
+    let e : l .left ≡ 0 = omega arith in
+    record {
+      long = l .inv .3;
+      low = l .inv .1;
+      those = λ q. sym (walk-end f (l .found) q) ∙ (rw e at (l .inv .2 q));
+      here = l .inv .4;
+      others = l .inv .5;
+    }
+
+pub choose-each-spec : {M : Type 1} → statement M
+choose-each-spec =
+    tie.close
+    (tie.spec
+    Inv-loop
+    μ-loop
+    loop-holds
+    cast-q
+    element-copy-out-class
+    difference-requires
+    add-choose
+    choose-requires
+    cast-found
+    shl-found
+    sub-left
+    loop-less
+    loop-again
+    same-length
+    returns)

@@ -1,0 +1,133 @@
+-- `judge_choices_rounds::round` meets its contract: a round at the places that are no longer left.
+use Prim.Native.Nat.{ℕ, _+_, _-_, _*_, _^_, _≤_, _<_}
+use mathlib.Core.Path.{_≡_, refl, sym, _∙_, ap}
+use mathlib.Core.Bool.{Bool, true, false, _&&_, _||_, not, and-true}
+use native.Mathlib.Omega.{arith}
+use native.Mathlib.Nat.{lt-of-le-of-lt, lt-of-lt-of-le}
+use lib.Bits.{bitAnd, and-le-r}
+use lib.Count.{trailingZeros}
+use lib.ListN.{length, getD, length-set}
+use lib.Pow.{pow-mono}
+use Rattle.sets.specs.Masks.{bit}
+use Rattle.sets.proofs.Bits.{bit-below, bit-none}
+use Rattle.sets.proofs.Members.{least-lt}
+use Rattle.theory.specs.Word.{places}
+use Rattle.rule_entries.specs.Entries.{ruleOf}
+use Rattle.judge_choices_spec.specs.Rounds.{Round}
+use Rattle.judge_choices_spec.proofs.Places.{least-in, still-left, was-left, now-done, mark-lt}
+use Rattle.judge_choices_spec.proofs.Rounds.{round-start, round-step, round-ext}
+use Rattle.judge_choices_rounds.proofs.round.Statement.{statement}
+use Rattle.judge_choices_rounds.proofs.round.Tie as tie
+
+abbrev Inv-loop : tie.InvT-loop
+Inv-loop h counts starts clauses classes lead cycle masks near after₀ choices₀ work changed₀ left₀ after choices changed left =
+    (length after ≡ 64)
+    × (left ≤ work)
+    × ((x : ℕ) → bit left x ≡ true → bit work x ≡ true)
+    × Round (ruleOf h counts clauses) lead cycle masks near (λ x. bit work x && not (bit left x)) choices₀ choices after changed
+
+abbrev μ-loop : tie.MeasureT-loop
+μ-loop h counts starts clauses classes lead cycle masks near after₀ choices₀ work changed₀ left₀ after choices changed left = left
+
+loop-holds : tie.Need-loop-holds Inv-loop μ-loop
+loop-holds c =
+    let a = c .before .before .before .before .before .before .args in
+    let p = c .before .before .before .before .before .before .pre in (
+      p .5,
+      omega arith,
+      λ x t. t,
+      rw (p .3) (round-start (ruleOf (a .h) (a .counts .now) (a .clauses .now)) (a .lead .now) (a .cycle .now) (a .masks .now) (a .near .now) (λ x. bit (a .work) x && not (bit (a .work) x)) (a .choices .now)
+          (λ x l. contrary (bit (a .work) x)) (p .1)),
+    )
+  where
+    contrary : (b : Bool) → (b && not b) ≡ false
+    contrary true = refl
+    contrary false = refl
+
+-- what is left is places of the word, and the least of them is one
+small : (c : tie.In-loop Inv-loop μ-loop) → c .before .loop .left < 2 ^ places (c .before .before .before .before .before .before .before .before .args .lead .now) (c .before .before .before .before .before .before .before .before .args .cycle .now)
+small c = lt-of-le-of-lt (c .before .loop .inv .1) (c .before .before .before .before .before .before .before .before .pre .4)
+
+few : (c : tie.In-loop Inv-loop μ-loop) → c .before .loop .left < 2 ^ 64
+few c = lt-of-lt-of-le (small c) (pow-mono (c .before .before .before .before .before .before .before .before .pre .0 .few-places))
+
+below : (c : tie.In-loop Inv-loop μ-loop) → trailingZeros 64 (c .before .loop .left) < places (c .before .before .before .before .before .before .before .before .args .lead .now) (c .before .before .before .before .before .before .before .before .args .cycle .now)
+below c = bit-below (places (c .before .before .before .before .before .before .before .before .args .lead .now) (c .before .before .before .before .before .before .before .before .args .cycle .now)) (c .before .loop .left) _ (small c) (least-in 64 (c .before .loop .left) (omega arith) (few c))
+
+low : (c : tie.In-loop Inv-loop μ-loop) → trailingZeros 64 (c .before .loop .left) < 64
+low c = omega (arith, below c, c .before .before .before .before .before .before .before .before .pre .0 .few-places)
+
+cast-p : tie.Need-cast-p Inv-loop μ-loop
+cast-p c = omega (arith, low c)
+
+choose-at-requires : tie.Need-choose-at-requires Inv-loop μ-loop
+choose-at-requires c κs =
+    let p = c .before .before .before .before .before .before .before .before .before .pre in
+    (p .0, p .1, omega (arith, p .2, c .before .before .loop .inv .3 .long), below (c .before))
+
+element-copy-out-after : tie.Need-element-copy-out-after Inv-loop μ-loop
+element-copy-out-after c = low (c .before .before .before .before)
+
+element-write-after : tie.Need-element-write-after Inv-loop μ-loop
+element-write-after c = low (c .before .before .before .before .before)
+
+mark-requires : tie.Need-mark-requires Inv-loop μ-loop
+mark-requires c κs = low (c .before .before .before .before .before)
+
+sub-left : tie.Need-sub-left Inv-loop μ-loop
+sub-left c = omega arith
+
+loop-less : tie.Need-loop-less Inv-loop μ-loop
+loop-less c = omega (arith, and-le-r (c .before .before .before .before .before .before .before .loop .left) (c .before .before .before .before .before .before .before .loop .left - 1))
+
+loop-again : tie.Need-loop-again Inv-loop μ-loop
+loop-again c =
+    let l = c .before .before .before .before .before .before .before .loop in
+    let a = c .before .before .before .before .before .before .before .before .before .before .before .before .before .before .args in
+    let p = c .before .before .before .before .before .before .before .before .before .before .before .before .before .before .pre in
+    let r = ruleOf (a .h) (a .counts .now) (a .clauses .now) in
+    let x = trailingZeros 64 (l .left) in
+    let pos : 0 < l .left = omega arith in
+    let s = few (c .before .before .before .before .before .before) in
+    let k = below (c .before .before .before .before .before .before) in
+    let m = c .mark .ensures in (
+      length-set (l .after) x _ ∙ l .inv .0,
+      omega (arith, and-le-r (l .left) (l .left - 1)),
+      λ y t. l .inv .2 y (still-left 64 (l .left) pos s y t),
+      round-step r (a .lead .now) (a .cycle .now) (a .masks .now) (a .near .now) (λ y. bit (a .work) y && not (bit (l .left) y)) (λ y. bit (a .work) y && not (bit (bitAnd (l .left) (l .left - 1)) y))
+          (a .choices .now) (l .choices) (c .before .before .before .before .choose-at .last .1 .1 .1 .1 .1 .1 .1 .1 .1 .0) (l .after) (l .changed) (c .mark .result) x (c .before .before .before .before .choose-at .result) k (l .inv .0) (p .0 .few-places)
+          (was-left 64 (l .left) pos s (a .work)) (λ y j. now-done 64 (l .left) pos s (a .work) (l .inv .2) y) (p .1 x k) m
+          (mark-lt (places (a .lead .now) (a .cycle .now)) (l .changed) (c .mark .result) x (c .before .before .before .before .choose-at .result) k (l .inv .3 .few) m)
+          (l .inv .3) (c .before .before .before .before .choose-at .ensures),
+    )
+
+same-length : tie.Need-same-length Inv-loop μ-loop
+same-length c = c .before .loop .inv .3 .long
+
+returns : tie.Need-returns Inv-loop μ-loop
+returns c =
+    let l = c .before .loop in
+    let a = c .before .before .before .before .before .before .before .before .args in
+    let e : l .left ≡ 0 = omega arith in (
+      round-ext (ruleOf (a .h) (a .counts .now) (a .clauses .now)) (a .lead .now) (a .cycle .now) (a .masks .now) (a .near .now) (λ y. bit (a .work) y && not (bit (l .left) y)) (bit (a .work))
+          (a .choices .now) (l .choices) (l .after) (l .changed) (λ y k. rw (e, bit-none y) (sym (and-true (bit (a .work) y)))) (l .inv .3),
+      l .inv .0,
+    )
+
+pub round-spec : {M : Type 1} → statement M
+round-spec =
+    tie.close
+    (tie.spec
+    Inv-loop
+    μ-loop
+    loop-holds
+    cast-p
+    choose-at-requires
+    element-copy-out-after
+    element-write-after
+    mark-requires
+    sub-left
+    loop-less
+    loop-again
+    same-length
+    returns)

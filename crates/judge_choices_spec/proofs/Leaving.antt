@@ -1,0 +1,206 @@
+-- The distance by plans is the number of rounds after which the pair is discharged, and a plan whose clauses come nearer leaves within it.
+use mathlib.Core.Path.{_≡_, refl, sym, _∙_, ap}
+use mathlib.Core.Logic.{_⊎_, ⊎-elim}
+use mathlib.Core.Bool.{true, false, cond}
+use mathlib.Core.List.{List, [], _∷_, List·Memᴰ, List·Memᴰ·not-nil, List·Memᴰ·cases-cons}
+use Prim.Native.Nat.{ℕ, zero, suc, _+_, _-_, _≤_, _<_}
+use native.Mathlib.Omega.{arith}
+use lib.Dec.{eqb, leb}
+use lib.ListN.{length, getD}
+use borrow.Author.Tests.{leb-true, le-leb, eqb-true, eqb-false, eq-eqb}
+use Rattle.sets.specs.Tests.{Set}
+use Rattle.sets.specs.Masks.{bit, inside}
+use Rattle.sets.proofs.Bools.{bif, and-i, or-l, or-r, clash}
+use Rattle.sets.proofs.Members.{inside-at, inside-all}
+use Rattle.theory.specs.Automaton.{Automaton, Layered}
+use Rattle.theory.specs.Core.{isOpen, mix}
+use Rattle.theory.specs.Plan.{Reach, Accepts}
+use Rattle.theory.specs.Plan.Reach.{here, on}
+use Rattle.theory.specs.Rule.{satisfies}
+use Rattle.theory_laws.proofs.Certified.{discharged}
+use Rattle.theory_laws.proofs.Pursuit.{open-rej, mix-in, mix-out, settled-rej, discharged-open}
+use Rattle.theory_laws.proofs.PlanOfSet.{δ, δ-leb, δ-pos, aim, Good, Aimed, nearer, good-on, lower, aimed-valid, aimed-fair}
+use Rattle.judge_choices_spec.specs.Distance as dist
+use Rattle.judge_choices_spec.specs.Distance.{After, Left, Leaves, Distance, Nearer, Suits}
+
+-- a clause of an entry inside a set satisfies it
+pub satisfies-in : (n : ℕ) (X : Set) (cs : List ℕ) (c : ℕ) → List·Memᴰ c cs → inside n X c ≡ true → satisfies n X cs ≡ true
+unfolding satisfies
+satisfies-in n X [] c m e = absurd (List·Memᴰ·not-nil m)
+satisfies-in n X (d ∷ cs) c m e =
+    ⊎-elim
+    (λ x. or-l (inside n X d) (satisfies n X cs) (ap (inside n X) (sym x) ∙ e))
+    (λ k. or-r (inside n X d) (satisfies n X cs) (satisfies-in n X cs c k e))
+    (List·Memᴰ·cases-cons m)
+
+module _ (A : Automaton) (nx w : ℕ → ℕ) where
+  -- ---- a plan, begun one step later
+  module _ (pick : ℕ → ℕ → ℕ) (q p r : ℕ) (l : r < A .n) (b : bit (pick q p) r ≡ true) where
+    reach-before : (x y : ℕ) → Reach A nx w pick r (nx p) x y → Reach A nx w pick q p x y
+    reach-before x y here = on r (nx p) here l b refl
+    reach-before x y (on {q = q′} {p = p′} s z c m k e) = on s z (reach-before q′ p′ c) m k e
+
+    after-before : (d x y : ℕ) → After A nx w pick r (nx p) d x y → After A nx w pick q p (suc d) x y
+    after-before d x y dist.here = dist.on r (nx p) dist.here l b refl
+    after-before d x y (dist.on {d = e} {q = q′} {p = p′} s z c m k i) = dist.on s z (after-before e q′ p′ c) m k i
+
+  -- a plan that accepts from a pair accepts from each pair that it reaches in a step
+  later : (q p : ℕ) (P : Accepts A nx w q p) (r : ℕ) → r < A .n → bit (P .pick q p) r ≡ true → Accepts A nx w r (nx p)
+  later q p P r l b = record {
+    pick = P .pick;
+    valid = λ x y c. P .valid x y (reach-before (P .pick) q p r l b x y c);
+    fair = λ x y c a s m k d. P .fair x y (reach-before (P .pick) q p r l b x y c) a s m k d;
+  }
+
+module _ (A : Automaton) (H : Layered A) (L : ℕ) (nx w : ℕ → ℕ) (stays : (p : ℕ) → p < L → nx p < L) (S : ℕ → Set)
+    (exact : (p q : ℕ) → p < L → q < A .n → S p q ≡ satisfies (A .n) (S (nx p)) (A .entry q (w p)))
+    (N : ℕ) (near : (p q : ℕ) → q < A .n → isOpen A (S p) q ≡ true → discharged A nx w S p N q ≡ true)
+    (sound : (q p : ℕ) → q < A .n → p < L → Accepts A nx w q p → S p q ≡ true) where
+  -- a plan that has left after d steps discharges within d rounds
+  pub left-discharged : (d q p : ℕ) → q < A .n → p < L → A .accepting q ≡ false → (P : Accepts A nx w q p) → Left A nx w (P .pick) q p d → discharged A nx w S p d q ≡ true
+  unfolding discharged later
+  left-discharged zero q p l k a P f = absurd (f q p dist.here refl)
+  left-discharged (suc d) q p l k a P f =
+      and-i (open-rej A (S p) q a ∙ sound q p l k P)
+      (settled-rej A (S (nx p)) (discharged A nx w S (nx p) d) q _ a
+      ∙ satisfies-in (A .n) _ _ (P .pick q p) (P .valid q p here) (inside-all (A .n) _ (P .pick q p) (λ r m b.
+      bif (eqb (A .component r) (A .component q))
+      (λ t. let c = eqb-true _ _ t in
+      mix-in A q _ _ r t ∙ left-discharged d r (nx p) m (stays p k) (H .pure r q m l c ∙ a) (later A nx w q p P r m b)
+      (λ x y z e. f x y (after-before A nx w (P .pick) q p r m b d x y z) (e ∙ c)))
+      (λ t. mix-out A q _ _ r t ∙ sound r (nx p) m (stays p k) (later A nx w q p P r m b)))))
+
+  abbrev delta : ℕ → ℕ → ℕ
+  delta = δ A H L nx w stays S exact N near
+
+  abbrev True : ℕ → ℕ → Type 0
+  True = Good A H L nx w stays S exact N near
+
+  rejecting-open : (q p : ℕ) → True q p → A .accepting q ≡ false → isOpen A (S p) q ≡ true
+  rejecting-open q p g a = open-rej A (S p) q a ∙ g .true-in
+
+  module _ (pick : ℕ → ℕ → ℕ) (P : Aimed A H L nx w stays S exact N near pick) where
+    module _ (q p : ℕ) (g : True q p) (a : A .accepting q ≡ false) where
+      -- along the plan: true, no higher, and in the component nearer by as many steps
+      record Along (d x y : ℕ) : Type 0 where
+        good : True x y
+        height : H .height x ≤ H .height q
+        nearer-by : A .component x ≡ A .component q → delta y x + d ≤ delta p q
+
+      along-on : (d x y r : ℕ) → Along d x y → r < A .n → bit (pick x y) r ≡ true → Along (suc d) r (nx y)
+      along-on d x y r h l b =
+          let low = lower A H L nx w stays S exact N near pick P x y r (h .good) l b in
+          record {
+            good = good-on A H L nx w stays S exact N near pick P x y r (h .good) l b;
+            height = ⊎-elim (λ c. let e = H .level r x l (h .good .below) c in let k = h .height in omega arith) (λ k. let j = h .height in omega arith) low;
+            nearer-by = λ e.
+                let top = H .level r q l (g .below) e in
+                let j = h .height in
+                ⊎-elim
+                (λ c. let same : A .component x ≡ A .component q = sym c ∙ e in
+                let n = nearer A H L nx w stays S exact N near pick P x y r (h .good) l b (H .pure x q (h .good .below) (g .below) same ∙ a) c .1 in
+                let k = h .nearer-by same in
+                omega arith)
+                (λ k. omega arith)
+                low;
+          }
+
+      along : (d x y : ℕ) → After A nx w pick q p d x y → Along d x y
+      along d x y dist.here = record { good = g; height = omega arith; nearer-by = λ e. omega arith }
+      along d x y (dist.on {d = e} {q = q′} {p = p′} r z c l b i) = rw i (along-on e q′ p′ r (along e q′ p′ c) l b)
+
+      -- the plan has left after as many steps as the distance says
+      pub leaves-in-time : Left A nx w pick q p (delta p q)
+      leaves-in-time x y c e =
+          let h = along (delta p q) x y c in
+          let k = h .nearer-by e in
+          let z = δ-pos A H L nx w stays S exact N near y x (h .good .below) (rejecting-open x y (h .good) (H .pure x q (h .good .below) (g .below) e ∙ a)) in
+          omega arith
+
+    unfoldable pub plan-of : (q p : ℕ) → True q p → Accepts A nx w q p
+    plan-of q p g = record {
+      pick = pick;
+      valid = aimed-valid A H L nx w stays S exact N near pick P q p g;
+      fair = aimed-fair A H L nx w stays S exact N near pick P q p g;
+    }
+
+    -- the rounds count the distance
+    pub distance : (q p : ℕ) → True q p → A .accepting q ≡ false → Distance A nx w q p (delta p q)
+    unfolding plan-of
+    distance q p g a = record {
+      leaves = record { plan = plan-of q p g; left = leaves-in-time q p g a };
+      least = λ e v. leb-true (delta p q) e (δ-leb A H L nx w stays S exact N near p q (g .below) (rejecting-open q p g a) e
+          ∙ left-discharged e q p (g .below) (g .place) a (v .plan) (v .left));
+    }
+
+    one-distance : (q p : ℕ) → True q p → A .accepting q ≡ false → (d : ℕ) → Distance A nx w q p d → d ≡ delta p q
+    one-distance q p g a d v =
+        let x = v .least (delta p q) (distance q p g a .leaves) in
+        let y = distance q p g a .least d (v .leaves) in
+        omega arith
+
+    -- a clause will do exactly if it is inside what the choice aims at
+    module _ (q p : ℕ) (g : True q p) (c : ℕ) where
+      abbrev aims : Set
+      aims = aim A H L nx w stays S exact N near q p
+
+      good-at : (r : ℕ) → r < A .n → S (nx p) r ≡ true → True r (nx p)
+      good-at r l t = record { below = l; place = stays p (g .place); true-in = t }
+
+      aim-acc : A .accepting q ≡ true → (r : ℕ) → aims r ≡ S (nx p) r
+      unfolding aim
+      aim-acc a r = rw a
+
+      aim-out : A .accepting q ≡ false → (r : ℕ) → eqb (A .component r) (A .component q) ≡ false → aims r ≡ S (nx p) r
+      unfolding aim
+      aim-out a r t = rw a (mix-out A q _ _ r t)
+
+      aim-in : A .accepting q ≡ false → (r : ℕ) → eqb (A .component r) (A .component q) ≡ true → aims r ≡ discharged A nx w S (nx p) (delta p q - 1) r
+      unfolding aim
+      aim-in a r t = rw a (mix-in A q _ _ r t)
+
+      nearer-in : A .accepting q ≡ false → (r : ℕ) → r < A .n → (e : A .component r ≡ A .component q) → aims r ≡ true → (S (nx p) r ≡ true) × (delta (nx p) r < delta p q)
+      nearer-in a r l e t =
+          let v = sym (aim-in a r (eq-eqb _ _ e)) ∙ t in
+          let o = discharged-open A nx w S (nx p) (delta p q - 1) r v in
+          let h = leb-true (delta (nx p) r) (delta p q - 1) (δ-leb A H L nx w stays S exact N near (nx p) r l o (delta p q - 1) ∙ v) in
+          let k = δ-pos A H L nx w stays S exact N near p q (g .below) (rejecting-open q p g a) in
+          (sym (open-rej A (S (nx p)) r (H .pure r q l (g .below) e ∙ a)) ∙ o, omega arith)
+
+      aim-true : (r : ℕ) → r < A .n → aims r ≡ true → S (nx p) r ≡ true
+      aim-true r l t =
+          bif (A .accepting q)
+          (λ a. sym (aim-acc a r) ∙ t)
+          (λ a. bif (eqb (A .component r) (A .component q))
+          (λ v. nearer-in a r l (eqb-true _ _ v) t .0)
+          (λ v. sym (aim-out a r v) ∙ t))
+
+      pub inside-suits : inside (A .n) aims c ≡ true → Suits A nx w q p c
+      inside-suits e = record {
+        truths = λ r l b. plan-of r (nx p) (good-at r l (aim-true r l (inside-at (A .n) aims c e r l b)));
+        nearer = λ a r l b s.
+            let n = nearer-in a r l s (inside-at (A .n) aims c e r l b) in
+            record {
+              here = delta p q;
+              there = delta (nx p) r;
+              from-here = distance q p g a;
+              from-there = distance r (nx p) (good-at r l (n .0)) (H .pure r q l (g .below) s ∙ a);
+              smaller = n .1;
+            };
+      }
+
+      pub suits-inside : Suits A nx w q p c → inside (A .n) aims c ≡ true
+      suits-inside v = inside-all (A .n) aims c (λ r l b.
+          let t = sound r (nx p) l (stays p (g .place)) (v .truths r l b) in
+          bif (A .accepting q)
+          (λ a. aim-acc a r ∙ t)
+          (λ a. bif (eqb (A .component r) (A .component q))
+          (λ s. let e = eqb-true _ _ s in
+          let n = v .nearer a r l b e in
+          let a′ = H .pure r q l (g .below) e ∙ a in
+          let x = one-distance q p g a (n .here) (n .from-here) in
+          let y = one-distance r (nx p) (good-at r l t) a′ (n .there) (n .from-there) in
+          let z = n .smaller in
+          aim-in a r s ∙ sym (δ-leb A H L nx w stays S exact N near (nx p) r l (rejecting-open r (nx p) (good-at r l t) a′) (delta p q - 1))
+          ∙ le-leb (delta (nx p) r) (delta p q - 1) (omega arith))
+          (λ s. aim-out a r s ∙ t)))

@@ -1,0 +1,51 @@
+-- Distances and choices, by plans.
+use mathlib.Core.Path.{_≡_}
+use mathlib.Core.Bool.{true, false}
+use Prim.Native.Nat.{ℕ, suc, _≤_, _<_}
+use lib.ListN.{length, getD}
+use Rattle.sets.specs.Masks.{bit}
+use Rattle.theory.specs.Automaton.{Automaton}
+use Rattle.theory.specs.Plan.{Accepts}
+
+-- next is the place that follows a place, letter the letter there
+module _ (A : Automaton) (next letter : ℕ → ℕ) where
+  -- the pairs that a plan reaches from state a at place x after just so many steps
+  pub data After (pick : ℕ → ℕ → ℕ) (a x : ℕ) : ℕ → ℕ → ℕ → Type 0 where
+    here : After pick a x 0 a x
+    on : {d q p : ℕ} (r y : ℕ) → After pick a x d q p → r < A .n → bit (pick q p) r ≡ true → y ≡ next p → After pick a x (suc d) r y
+
+  -- 02: the plan "has left the component on all its paths after d steps": no path of d steps ends in it.
+  -- "an empty clause leaves it in one step": it begins no path of one step.
+  abbrev pub Left : (ℕ → ℕ → ℕ) → ℕ → ℕ → ℕ → Type 0
+  Left pick a x d = (q p : ℕ) → After pick a x d q p → A .component q ≡ A .component a → ⊥
+
+  -- 02: "some accepting plan from the pair has left the component on all its paths after d steps"
+  pub record Leaves (a x d : ℕ) : Type 0 where
+    pub plan : Accepts A next letter a x
+    pub left : Left (plan .pick) a x d
+
+  -- 02: "Distance is the least d such that some accepting plan from the pair has left the component on all its paths after d steps"
+  pub record Distance (a x d : ℕ) : Type 0 where
+    pub leaves : Leaves a x d
+    pub least : (e : ℕ) → Leaves a x e → d ≤ e
+
+  -- state r at place y has a smaller distance than state q at place p
+  pub record Nearer (r y q p : ℕ) : Type 0 where
+    pub here : ℕ
+    pub there : ℕ
+    pub from-here : Distance q p here
+    pub from-there : Distance r y there
+    pub smaller : there < here
+
+  -- the clause c will do for state q at place p
+  pub record Suits (q p c : ℕ) : Type 0 where
+    -- 02: "whose states are all true at the next place"
+    pub truths : (r : ℕ) → r < A .n → bit c r ≡ true → Accepts A next letter r (next p)
+    -- 02, for a rejecting state: "and, within the component, have a smaller distance"
+    pub nearer : A .accepting q ≡ false → (r : ℕ) → r < A .n → bit c r ≡ true → A .component r ≡ A .component q → Nearer r (next p) q p
+
+  -- 02: the choice of a true pair: clause number k, "0 for the entry's first", is "the first clause" of the entry that will do
+  pub record Choice (q p k : ℕ) : Type 0 where
+    pub listed : k < length (A .entry q (letter p))
+    pub suits : Suits q p (getD (A .entry q (letter p)) k 0)
+    pub first : (j : ℕ) → j < k → Suits q p (getD (A .entry q (letter p)) j 0) → ⊥

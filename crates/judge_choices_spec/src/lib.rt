@@ -1,0 +1,1 @@
+// Definitions and laws of the clauses that carry a verdict.

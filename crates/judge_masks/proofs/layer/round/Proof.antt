@@ -1,0 +1,95 @@
+-- `judge_masks::layer::round` meets its contract: a walk over the places from the last on.
+use Prim.Native.Nat.{ℕ, _+_, _-_, _<_, _≤_}
+use mathlib.Core.Path.{_≡_, sym, _∙_}
+use mathlib.Core.Bool.{true, false, not}
+use lib.Dec.{eqb}
+use Rattle.judge_place.specs.Rounds.{opened}
+use native.Mathlib.Omega.{arith}
+use lib.ListN.{length, getD}
+use borrow.Author.Tests.{eqb-true, eqb-false}
+use Rattle.sets.proofs.Bools.{not-t, not-f}
+use Rattle.rule_entries.specs.Entries.{ruleOf}
+use Rattle.judge_place.proofs.Rounds.{Walk, walk-start, walk-changed, walk-same, walk-end}
+use Rattle.judge_masks.proofs.layer.round.Statement.{statement}
+use Rattle.judge_masks.proofs.layer.round.Tie as tie
+
+abbrev Inv-loop : tie.InvT-loop
+Inv-loop h counts starts clauses cycle layer masks₀ changed₀ p₀ masks changed p =
+    (p ≤ length cycle) × ((i : ℕ) → getD masks i 0 < 256) × Walk (ruleOf h counts clauses) cycle layer masks₀ masks changed p
+
+abbrev μ-loop : tie.MeasureT-loop
+μ-loop h counts starts clauses cycle layer masks₀ changed₀ p₀ masks changed p = p
+
+loop-holds : tie.Need-loop-holds Inv-loop μ-loop
+loop-holds c = (omega arith, λ i. c .slice-known .given i .fits, walk-start _ _ _ _)
+
+sub-p : tie.Need-sub-p Inv-loop μ-loop
+sub-p c = omega arith
+
+open-at-requires : tie.Need-open-at-requires Inv-loop μ-loop
+open-at-requires c κs = let z = c .before .before .before .before .before .before .before .pre in (z .0, z .1, c .before .before .loop .inv .2 .long ∙ z .2, omega arith)
+
+loop-less : tie.Need-loop-less Inv-loop μ-loop
+loop-less c = omega arith
+
+loop-again : tie.Need-loop-again Inv-loop μ-loop
+loop-again c =
+    let a = c .before .before .before .before .before .before .before .before .before .before .before .args in
+    let z = c .before .before .before .before .before .before .before .before .before .before .before .pre in
+    let l = c .before .before .before .before .before .before .loop in
+    let r = ruleOf (a .h) (a .counts .now) (a .clauses .now) in
+    let v = opened r (a .cycle .now) (a .layer) (l .masks) (l .p - 1) in
+    let o = getD (l .masks) (l .p - 1) 0 in
+    let e = c .before .before .before .open-at .ensures in
+    let told : not (eqb v o) ≡ true = sym (e .1) ∙ c .if1 .taken in
+    let one : l .p - 1 + 1 ≡ l .p = omega arith in
+    let w : Walk r (a .cycle .now) (a .layer) (a .masks .now) (l .masks) (l .changed) (l .p - 1 + 1) = rw one (l .inv .2) in (
+      omega arith,
+      λ i. c .before .slice-known2 .given i .fits,
+      rw (e .0) (walk-changed r (a .cycle .now) (a .layer) (a .masks .now) (z .0 .passing) (z .0 .word .repeats) (l .masks) (l .changed) (l .p - 1) w (z .2) (omega arith) (l .inv .1 (l .p - 1)) (eqb-false v o (not-t (eqb v o) told))),
+    )
+
+loop-less-2 : tie.Need-loop-less-2 Inv-loop μ-loop
+loop-less-2 c = omega arith
+
+loop-again-2 : tie.Need-loop-again-2 Inv-loop μ-loop
+loop-again-2 c =
+    let a = c .before .before .before .before .before .before .before .before .before .before .before .args in
+    let z = c .before .before .before .before .before .before .before .before .before .before .before .pre in
+    let l = c .before .before .before .before .before .before .loop in
+    let r = ruleOf (a .h) (a .counts .now) (a .clauses .now) in
+    let v = opened r (a .cycle .now) (a .layer) (l .masks) (l .p - 1) in
+    let o = getD (l .masks) (l .p - 1) 0 in
+    let e = c .before .before .before .open-at .ensures in
+    let told : not (eqb v o) ≡ false = sym (e .1) ∙ c .if1 .left in
+    let one : l .p - 1 + 1 ≡ l .p = omega arith in
+    let w : Walk r (a .cycle .now) (a .layer) (a .masks .now) (l .masks) (l .changed) (l .p - 1 + 1) = rw one (l .inv .2) in (
+      omega arith,
+      λ i. c .before .slice-known2 .given i .fits,
+      rw (e .0) (walk-same r (a .cycle .now) (a .layer) (a .masks .now) (z .0 .passing) (z .0 .word .repeats) (l .masks) (l .changed) (l .p - 1) w (z .2) (omega arith) (l .inv .1 (l .p - 1)) (eqb-true v o (not-f (eqb v o) told))),
+    )
+
+same-length : tie.Need-same-length Inv-loop μ-loop
+same-length c = c .before .loop .inv .2 .long
+
+returns : tie.Need-returns Inv-loop μ-loop
+returns c =
+    let l = c .before .loop in
+    let e : l .p ≡ 0 = omega arith in
+    walk-end _ _ _ _ _ _ (rw e at (l .inv .2))
+
+pub round-spec : {M : Type 1} → statement M
+round-spec =
+    tie.close
+    (tie.spec
+    Inv-loop
+    μ-loop
+    loop-holds
+    sub-p
+    open-at-requires
+    loop-less
+    loop-again
+    loop-less-2
+    loop-again-2
+    same-length
+    returns)

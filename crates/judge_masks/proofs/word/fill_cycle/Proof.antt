@@ -1,0 +1,89 @@
+-- `judge_masks::word::fill_cycle` meets its contract: before each height the masks are right for the heights below it.
+use Prim.Native.Nat.{ℕ, _+_, _-_, _≤_}
+use mathlib.Core.Path.{_≡_, sym, ap, _∙_}
+use native.Mathlib.Omega.{arith}
+use borrow.Author.Needs.{needs}
+use lib.ListN.{length, replicate}
+use Rattle.sets.proofs.Masks.{mask-lt}
+use Rattle.rule_entries.specs.Entries.{ruleOf}
+use Rattle.rule_entries.proofs.Entries.{accepting-small}
+use Rattle.judge_place.specs.Rounds.{Part}
+use Rattle.judge_place.proofs.Heights.{layer-is}
+use Rattle.judge_place.proofs.Rounds.{part-start, part-end}
+use Rattle.judge_masks.proofs.word.fill_cycle.Statement.{statement}
+use Rattle.judge_masks.proofs.word.fill_cycle.Tie as tie
+
+abbrev Inv-loop : tie.InvT-loop
+Inv-loop h counts starts clauses reach cycle masks₀ n top height₀ masks height =
+    (height ≤ h .n + 1) × Part (ruleOf h counts clauses) cycle height masks
+
+abbrev μ-loop : tie.MeasureT-loop
+μ-loop h counts starts clauses reach cycle masks₀ n top height₀ masks height = h .n + 1 - height
+
+cast-fill-with : tie.Need-cast-fill-with Inv-loop μ-loop
+cast-fill-with c = let w = c .before .before .before .before .before .before .pre .0 .passing .formed in omega (arith, accepting-small _ w)
+
+fill-with-requires : tie.Need-fill-with-requires Inv-loop μ-loop
+fill-with-requires c κs = search needs
+
+cast-top : tie.Need-cast-top Inv-loop μ-loop
+cast-top c = omega (arith, c .before .before .before .before .before .before .before .before .before .pre .0 .passing .formed .few-states)
+
+loop-holds : tie.Need-loop-holds Inv-loop μ-loop
+loop-holds c =
+    let a = c .before .before .before .before .before .before .before .before .before .args in
+    let z = c .before .before .before .before .before .before .before .before .before .pre in
+    let closed : c .before .before .fill-with .last .0 ≡ replicate (length (a .masks .now)) (a .h .accepting) = c .before .before .fill-with .ensures in (
+      omega arith,
+      part-start (ruleOf (a .h) (a .counts .now) (a .clauses .now)) (z .0 .passing) (a .cycle .now) (c .before .before .fill-with .last .0) (closed ∙ ap (λ (x : ℕ). replicate x (a .h .accepting)) (z .2)),
+    )
+
+at-height-requires : tie.Need-at-height-requires Inv-loop μ-loop
+at-height-requires c κs = c .before .before .before .before .before .before .before .before .before .before .before .pre .0 .passing .formed .few-states
+
+solve-layer-requires : tie.Need-solve-layer-requires Inv-loop μ-loop
+solve-layer-requires c κs =
+    let z = c .before .before .before .before .before .before .before .before .before .before .before .before .before .pre in
+    (z .0, rw (c .before .at-height .ensures) (mask-lt _ _), c .before .before .before .loop .inv .1 .long)
+
+add-height : tie.Need-add-height Inv-loop μ-loop
+add-height c = omega (arith, c .before .before .before .before .before .before .before .before .before .before .before .before .before .before .before .before .pre .0 .passing .formed .few-states)
+
+loop-less : tie.Need-loop-less Inv-loop μ-loop
+loop-less c = omega arith
+
+loop-again : tie.Need-loop-again Inv-loop μ-loop
+loop-again c =
+    let a = c .before .before .before .before .before .before .before .before .before .before .before .before .before .before .before .before .args in
+    let z = c .before .before .before .before .before .before .before .before .before .before .before .before .before .before .before .before .pre in
+    let l = c .before .before .before .before .before .before .loop in
+    let r = ruleOf (a .h) (a .counts .now) (a .clauses .now) in
+    (omega arith, c .before .before .solve-layer .ensures (l .height) (c .before .before .before .before .at-height .ensures ∙ layer-is r (z .0 .passing .formed .few-states) (a .reach .now) (z .1) (l .height)) (l .inv .1))
+
+same-length : tie.Need-same-length Inv-loop μ-loop
+same-length c = c .before .loop .inv .1 .long ∙ sym (c .before .before .before .before .before .before .before .before .before .before .before .pre .2)
+
+returns : tie.Need-returns Inv-loop μ-loop
+returns c =
+    let a = c .before .before .before .before .before .before .before .before .before .before .before .args in
+    let l = c .before .loop in
+    let e : l .height ≡ a .h .n + 1 = omega arith in
+    part-end (ruleOf (a .h) (a .counts .now) (a .clauses .now)) (c .before .before .before .before .before .before .before .before .before .before .before .pre .0 .passing) (a .cycle .now) (l .masks) (rw e at (l .inv .1))
+
+pub fill-cycle-spec : {M : Type 1} → statement M
+fill-cycle-spec =
+    tie.close
+    (tie.spec
+    Inv-loop
+    μ-loop
+    cast-fill-with
+    fill-with-requires
+    cast-top
+    loop-holds
+    at-height-requires
+    solve-layer-requires
+    add-height
+    loop-less
+    loop-again
+    same-length
+    returns)

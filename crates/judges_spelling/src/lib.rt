@@ -1,0 +1,1 @@
+// Both judges and the spellings of a word: theorems, no code.

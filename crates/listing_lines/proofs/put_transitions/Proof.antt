@@ -1,0 +1,95 @@
+-- `listing_lines::put_transitions` meets its contract: the lines of the first i transitions are written.
+use Prim.Native.Nat.{ℕ, _≤_, _-_}
+use mathlib.Core.Path.{_≡_, ap, ap₂, _∙_}
+use native.Mathlib.Omega.{arith}
+use borrow.Author.Needs.{needs, scaled-fits}
+use lib.ListN.{length, take, getD}
+use Rattle.theory.specs.Run.{sourceOf, letterOf}
+use Rattle.listing_lines_spec.specs.Lines.{tLine, transitionLine, transitionLines}
+use Rattle.slice_text.specs.Put.{Put}
+use Rattle.slice_text.proofs.Puts.{put-length}
+use Rattle.listing_lines_spec.proofs.Lines.{room-line, put-line, put-no-lines, put-lines}
+use Rattle.listing_lines.proofs.put_transitions.Statement.{statement}
+use Rattle.listing_lines.proofs.put_transitions.Tie as tie
+
+abbrev Inv-loop : tie.InvT-loop
+Inv-loop out₀ at list end₀ i₀ out end i = (i ≤ length list) × Put out₀ at (transitionLines (take i list)) out end
+
+abbrev μ-loop : tie.MeasureT-loop
+μ-loop out₀ at list end₀ i₀ out end i = length list - i
+
+loop-holds : tie.Need-loop-holds Inv-loop μ-loop
+loop-holds c =
+    let a = c .before .before .args in
+    (omega arith, put-no-lines transitionLine (a .list .now) (a .out .now) (a .at) (c .before .before .pre))
+
+mul-t : tie.Need-mul-t Inv-loop μ-loop
+mul-t c =
+    let s = c .before .before .before .before in
+    scaled-fits _ (length (s .args .list .now)) 8 (omega arith) (s .good .1 .1 .0 .1)
+
+shared-slice-read-t : tie.Need-shared-slice-read-t Inv-loop μ-loop
+shared-slice-read-t c = omega arith
+
+source-of-requires : tie.Need-source-of-requires Inv-loop μ-loop
+source-of-requires c κs = search needs
+
+letter-of-requires : tie.Need-letter-of-requires Inv-loop μ-loop
+letter-of-requires c κs = search needs
+
+target-of-requires : tie.Need-target-of-requires Inv-loop μ-loop
+target-of-requires c κs = search needs
+
+-- the line that is written
+text-is : (c : tie.After-target-of Inv-loop μ-loop) → let a = c .before .before .before .before .before .before .before .before .args in let i = c .before .before .before .before .before .loop .i in
+    tLine (c .before .before .source-of .result) (c .before .letter-of .result) (c .target-of .result) ≡ transitionLine i (getD (a .list .now) i 0)
+text-is c =
+    let a = c .before .before .before .before .before .before .before .before .args in let i = c .before .before .before .before .before .loop .i in
+    ap₂ (λ (p q : ℕ). tLine p q (c .target-of .result)) (c .before .before .source-of .ensures) (c .before .letter-of .ensures)
+    ∙ ap (λ (p : ℕ). tLine (sourceOf (getD (a .list .now) i 0)) (letterOf (getD (a .list .now) i 0)) p) (c .target-of .ensures)
+
+put-transition-requires : tie.Need-put-transition-requires Inv-loop μ-loop
+put-transition-requires c κs =
+    let a = c .before .before .before .before .before .before .before .before .before .args in
+    let l = c .before .before .before .before .before .before .loop in
+    room-line transitionLine (a .list .now) (l .i) (omega arith) (l .inv .1) _ (text-is (c .before)) (c .before .before .before .before .before .before .before .before .before .pre)
+
+add-i : tie.Need-add-i Inv-loop μ-loop
+add-i c = omega arith
+
+loop-less : tie.Need-loop-less Inv-loop μ-loop
+loop-less c = omega arith
+
+loop-again : tie.Need-loop-again Inv-loop μ-loop
+loop-again c =
+    let a = c .before .before .before .before .before .before .before .before .before .before .before .before .args in
+    let l = c .before .before .before .before .before .before .before .before .before .loop in
+    (omega arith, put-line transitionLine (a .list .now) (l .i) (omega arith) (l .inv .1) _ (text-is (c .before .before .before .before)) (c .before .before .put-transition .ensures))
+
+same-length : tie.Need-same-length Inv-loop μ-loop
+same-length c = put-length (c .before .loop .inv .1)
+
+returns : tie.Need-returns Inv-loop μ-loop
+returns c =
+    let a = c .before .before .before .before .args in
+    let l = c .before .loop in
+    put-lines transitionLine (a .list .now) (l .i) (omega arith) (l .inv .1)
+
+pub put-transitions-spec : {M : Type 1} → statement M
+put-transitions-spec =
+    tie.close
+    (tie.spec
+    Inv-loop
+    μ-loop
+    loop-holds
+    mul-t
+    shared-slice-read-t
+    source-of-requires
+    letter-of-requires
+    target-of-requires
+    put-transition-requires
+    add-i
+    loop-less
+    loop-again
+    same-length
+    returns)

@@ -1,0 +1,46 @@
+-- `listing_text::initial_of` meets its contract.
+use Prim.Native.Nat.{_<_}
+use mathlib.Core.Path.{_≡_, sym, _∙_, ap}
+use native.Mathlib.Omega.{arith}
+use borrow.Author.Needs.{needs}
+use Rattle.file_read.specs.declared.Layout.{Layout}
+use Rattle.file_spec.specs.File.{trailer}
+use Rattle.file_read.proofs.Answer.{Served, served, turned-away}
+use Rattle.listing_text.proofs.initial_of.Statement.{statement}
+use Rattle.listing_text.proofs.initial_of.Tie as tie
+
+read-rule-requires : tie.Need-read-rule-requires
+read-rule-requires c κs = search needs
+
+enum-told : tie.Need-enum-told
+enum-told c = search needs
+
+enum-known-l : tie.Need-enum-known-l
+enum-known-l c = search needs
+
+-- the file is accepted
+accepted : (c : tie.After-l) → Served (c .before .before .before .before .args .file .now) (c .l .given .0 .0)
+accepted c =
+    served (c .before .before .before .before .args .file .now) (c .l .given .0 .0) (sym (c .before .before .read-rule .ensures) ∙ c .l .given .1)
+
+initial-is : (c : tie.After-l) → c .l .given .0 .0 .head .initial ≡ trailer (c .before .before .before .before .args .file .now) 2
+initial-is c = ap (λ (l : Layout). l .head .initial) (accepted c .layout)
+
+small : (c : tie.After-l) → c .l .given .0 .0 .head .initial < 8
+small c = let F = accepted c .passing .formed in omega (arith, initial-is c, F .initial-state, F .few-states)
+
+cast-result : tie.Need-cast-result
+cast-result c = omega (arith, small (c .before .before .before))
+
+returns : tie.Need-returns
+returns c =
+    let k = c .enum-told .given .0 .0 in
+    let t = turned-away (c .before .before .before .before .args .file .now) k (sym (c .before .before .read-rule .ensures) ∙ c .enum-told .given .1) in
+    (omega arith, λ e. absurd (t .1 e))
+
+returns-2 : tie.Need-returns-2
+returns-2 c = (small (c .before .before .before), λ e. initial-is (c .before .before .before))
+
+pub initial-of-spec : {M : Type 1} → statement M
+initial-of-spec =
+    tie.close (tie.spec read-rule-requires enum-told enum-known-l cast-result returns returns-2)

@@ -1,0 +1,19 @@
+-- `listing_text::listing` meets its contract: the slice has room for every listing.
+use native.Mathlib.Omega.{arith}
+use Rattle.slice_text.proofs.Puts.{put-first, put-length}
+use Rattle.listing_spec.proofs.Room.{listing-most}
+use Rattle.listing_text.proofs.listing.Statement.{statement}
+use Rattle.listing_text.proofs.listing.Tie as tie
+
+put-listing-requires : tie.Need-put-listing-requires
+put-listing-requires c κs =
+    omega (arith, listing-most (c .before .before .args .file .now), c .before .before .good)
+
+returns : tie.Need-returns
+returns c =
+    let P = c .put-listing .ensures in
+    let p = put-first P in
+    (p .0, (p .1, omega (arith, P .fits, put-length P)))
+
+pub listing-spec : {M : Type 1} → statement M
+listing-spec = tie.close (tie.spec put-listing-requires returns)

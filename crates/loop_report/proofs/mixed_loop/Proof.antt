@@ -1,0 +1,108 @@
+-- `loop_report::mixed_loop` meets its contract: the layout's row where one refuses, else the report on the rule.
+use Prim.Native.Nat.{_+_, _-_, _≤_}
+use mathlib.Core.Path.{_≡_, sym, _∙_}
+use native.Mathlib.Omega.{arith}
+use lib.ListN.{length}
+use Rattle.refusals.specs.Rows.{firstRow}
+use Rattle.file_spec.specs.File.{ruleIn}
+use Rattle.file_spec.specs.Rows.{layoutRows}
+use Rattle.file_spec.proofs.Parts.{clauses-part, counts-part}
+use Rattle.file_spec.proofs.TrailerRows.{Placed, placed}
+use Rattle.file_read.proofs.FileRows.{laid, laid-formed}
+use Rattle.loop_spec.specs.Search.{loopOf}
+use Rattle.loop_report.specs.Report.{formedRows, answer, after}
+use Rattle.loop_report.proofs.Rows.{refused, passed, meant}
+use borrow.Author.Needs.{needs}
+use Rattle.loop_report.proofs.mixed_loop.Statement.{statement}
+use Rattle.loop_report.proofs.mixed_loop.Tie as tie
+
+layout-row-requires : tie.Need-layout-row-requires
+layout-row-requires c κs = search needs
+
+returns : tie.Need-returns
+returns c =
+    let a = c .before .before .before .before .args in
+    let e = refused (a .file .now) (a .out .now) (c .before .layout-row .result) (c .if1 .taken) (c .before .layout-row .ensures) in
+    (e .0, (e .1, meant (a .file .now) (a .out .now) (a .out .now) _ (e .0) (e .1)))
+
+-- no row of the layout refuses
+pass : (c : tie.Else1) → firstRow (layoutRows (c .before .before .before .before .args .file .now)) ≡ 0
+pass c = sym (c .before .layout-row .ensures) ∙ c .if1 .left
+
+-- so the parts are in their places
+known : (c : tie.Else1) → Placed (c .before .before .before .before .args .file .now)
+known c = let f = c .before .before .before .before .args .file .now in placed f (laid f (pass c) .0)
+
+lay-out-requires : tie.Need-lay-out-requires
+lay-out-requires c κs = (known c .long, known c .fits)
+
+-- the counts end where the trailer begins
+bounds : (c : tie.After-lay-out) → c .lay-out .result .at + c .lay-out .result .clauses ≤ length (c .before .before .before .before .before .args .file .now) - 8
+bounds c = rw (c .lay-out .ensures) (omega (arith, known (c .before)))
+
+sub-end : tie.Need-sub-end
+sub-end c = known (c .before .before) .long
+
+add-report : tie.Need-add-report
+add-report c = omega (arith, bounds (c .before))
+
+sub-report : tie.Need-sub-report
+sub-report c = omega (arith, bounds (c .before))
+
+part-report-start : tie.Need-part-report-start
+part-report-start c = omega (arith, bounds (c .before))
+
+part-report-end : tie.Need-part-report-end
+part-report-end c = search needs
+
+add-report-2 : tie.Need-add-report-2
+add-report-2 c = omega (arith, bounds (c .before .before))
+
+sub-report-2 : tie.Need-sub-report-2
+sub-report-2 c = search needs
+
+part-report-start-2 : tie.Need-part-report-start-2
+part-report-start-2 c = search needs
+
+part-report-end-2 : tie.Need-part-report-end-2
+part-report-end-2 c = omega (arith, bounds (c .before .before))
+
+report-requires : tie.Need-report-requires
+report-requires c κs =
+    let f = c .before .before .before .before .before .before .before .before .before .args .file .now in
+    let p = known (c .before .before .before .before .before) in
+    rw (c .before .before .before .before .lay-out .ensures, counts-part f (p .fits), clauses-part f (p .fits)) (laid-formed f (pass (c .before .before .before .before .before)))
+
+same-length : tie.Need-same-length
+same-length c = search needs
+
+returns-2 : tie.Need-returns-2
+returns-2 c =
+    let a = c .before .before .before .before .before .before .before .before .before .before .before .before .args in
+    let f = a .file .now in
+    let old = a .out .now in
+    let q = c .before .before .before .before .before .before .before .before in
+    let p = known q in
+    let w = rw (c .before .before .before .before .before .before .before .lay-out .ensures, counts-part f (p .fits), clauses-part f (p .fits)) at (c .before .before .report .ensures) in
+    let e = passed f old _ (c .before .before .report .result) (pass q) (w .0) (w .1) in
+    (e .0, (e .1, meant f old _ (c .before .before .report .result) (e .0) (e .1)))
+
+pub mixed-loop-spec : {M : Type 1} → statement M
+mixed-loop-spec =
+    tie.close
+    (tie.spec
+    layout-row-requires
+    returns
+    lay-out-requires
+    sub-end
+    add-report
+    sub-report
+    part-report-start
+    part-report-end
+    add-report-2
+    sub-report-2
+    part-report-start-2
+    part-report-end-2
+    report-requires
+    same-length
+    returns-2)

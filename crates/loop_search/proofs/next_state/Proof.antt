@@ -1,0 +1,60 @@
+-- `loop_search::next_state` meets its contract: the least state that the successors and the ways have in common.
+use mathlib.Core.Path.{_≡_, ap}
+use native.Mathlib.Omega.{arith}
+use lib.Bits.{bitAnd}
+use lib.Count.{trailing-le}
+use lib.ListN.{getD}
+use Rattle.sets.specs.Masks.{bit}
+use Rattle.loop_spec.specs.declared.Ways.{Ways}
+use Rattle.loop_spec.specs.Search.{ways}
+use Rattle.loop_search.proofs.Writes.{least-common}
+use borrow.Author.Needs.{needs}
+use Rattle.loop_search.proofs.next_state.Statement.{statement}
+use Rattle.loop_search.proofs.next_state.Tie as tie
+
+ways-to-requires : tie.Need-ways-to-requires
+ways-to-requires c κs = search needs
+
+element-copy-out-result : tie.Need-element-copy-out-result
+element-copy-out-result c = search needs
+
+cast-result : tie.Need-cast-result
+cast-result c = omega (arith, trailing-le 8 (bitAnd (getD (c .before .before .before .before .args .es .now) (c .before .before .before .before .args .q) 0) (c .before .before .before .ways-to .result .any)))
+
+returns : tie.Need-returns
+returns c =
+    let a = c .before .before .before .before .args in
+    let w = c .before .before .before .before .pre in
+    let v = c .before .before .before .ways-to in
+    let x = getD (a .es .now) (a .q) 0 in
+    let m = ways (a .n) (a .es .now) (bit (a .others)) (a .t) (a .k) .any in
+    let e : v .result .any ≡ m = ap (λ (y : Ways). y .any) (v .ensures) in
+    rw (e, c .before .before .if1 .taken) (least-common (a .n) x m (w .0 .0) (rw (c .before .before .if1 .taken) at (w .1)))
+
+element-copy-out-result-2 : tie.Need-element-copy-out-result-2
+element-copy-out-result-2 c = search needs
+
+cast-result-2 : tie.Need-cast-result-2
+cast-result-2 c = omega (arith, trailing-le 8 (bitAnd (getD (c .before .before .before .before .args .es .now) (c .before .before .before .before .args .q) 0) (c .before .before .before .ways-to .result .mixed)))
+
+returns-2 : tie.Need-returns-2
+returns-2 c =
+    let a = c .before .before .before .before .args in
+    let w = c .before .before .before .before .pre in
+    let v = c .before .before .before .ways-to in
+    let x = getD (a .es .now) (a .q) 0 in
+    let m = ways (a .n) (a .es .now) (bit (a .others)) (a .t) (a .k) .mixed in
+    let e : v .result .mixed ≡ m = ap (λ (y : Ways). y .mixed) (v .ensures) in
+    rw (e, c .before .before .if1 .left) (least-common (a .n) x m (w .0 .0) (rw (c .before .before .if1 .left) at (w .1)))
+
+pub next-state-spec : {M : Type 1} → statement M
+next-state-spec =
+    tie.close
+    (tie.spec
+    ways-to-requires
+    element-copy-out-result
+    cast-result
+    returns
+    element-copy-out-result-2
+    cast-result-2
+    returns-2)

@@ -1,0 +1,65 @@
+-- `loop_search::start_of` meets its contract: the least length so far, and the first state that has it.
+use Prim.Native.Nat.{_-_, _≤_}
+use mathlib.Core.Path.{_≡_, _∙_}
+use mathlib.Core.Logic.{⊎-elim}
+use native.Mathlib.Omega.{arith}
+use Rattle.loop_search.proofs.Starts.{Least, from, from-is, least-none, least-less, least-kept, begun}
+use Rattle.loop_search.proofs.start_of.Statement.{statement}
+use Rattle.loop_search.proofs.start_of.Tie as tie
+
+abbrev Inv-loop : tie.InvT-loop
+Inv-loop es n accepting at₀ further₀ t₀ at further t = (t ≤ n) × Least n (from n es accepting) t at further
+
+abbrev μ-loop : tie.MeasureT-loop
+μ-loop es n accepting at₀ further₀ t₀ at further t = n - t
+
+loop-holds : tie.Need-loop-holds Inv-loop μ-loop
+loop-holds c = let a = c .args in (omega arith, least-none (a .n) (from (a .n) (a .es .now) (a .accepting)))
+
+others-of-requires : tie.Need-others-of-requires Inv-loop μ-loop
+others-of-requires c κs = (c .before .before .pre .0, c .loop-test .taken, c .before .before .pre .1)
+
+further-from-requires : tie.Need-further-from-requires Inv-loop μ-loop
+further-from-requires c κs = (c .before .before .before .pre .0, c .before .loop-test .taken)
+
+add-t : tie.Need-add-t Inv-loop μ-loop
+add-t c = omega arith
+
+loop-less : tie.Need-loop-less Inv-loop μ-loop
+loop-less c = omega arith
+
+loop-again : tie.Need-loop-again Inv-loop μ-loop
+loop-again c =
+    let a = c .before .before .before .before .before .args in
+    let l = c .before .before .before .before .loop in
+    let g = from (a .n) (a .es .now) (a .accepting) in
+    let v = c .before .further-from .result in
+    let o = c .before .before .others-of in
+    let e : v ≡ g (l .t) = c .before .further-from .ensures ∙ from-is (a .n) (a .es .now) (a .accepting) (o .result) (l .t) (o .ensures) in (
+      omega arith,
+      ⊎-elim
+          (λ s. rw (s .1, s .2) (least-less (a .n) g (l .t) (l .at) (l .further) v e (omega (arith, s .0 .taken)) (l .inv .1)))
+          (λ s. rw (s .1, s .2) (least-kept (a .n) g (l .t) (l .at) (l .further) v e (omega (arith, s .0 .left)) (l .inv .1)))
+          (c .if1 .came),
+    )
+
+returns : tie.Need-returns Inv-loop μ-loop
+returns c =
+    let a = c .before .before .args in
+    let l = c .before .loop in
+    let e : l .t ≡ a .n = omega arith in
+    begun (a .n) (a .es .now) (a .accepting) (l .at) (l .further) (rw e at (l .inv .1))
+
+pub start-of-spec : {M : Type 1} → statement M
+start-of-spec =
+    tie.close
+    (tie.spec
+    Inv-loop
+    μ-loop
+    loop-holds
+    others-of-requires
+    further-from-requires
+    add-t
+    loop-less
+    loop-again
+    returns)

@@ -1,0 +1,75 @@
+-- `loop_ways::sources_of` meets its contract: the mask up to q.
+use Prim.Native.Nat.{ℕ, _-_, _≤_}
+use mathlib.Core.Path.{_≡_, refl, _∙_, ap}
+use mathlib.Core.Bool.{_&&_}
+use native.Mathlib.Omega.{arith}
+use borrow.Author.Needs.{needs}
+use lib.ListN.{getD}
+use Rattle.sets.specs.Tests.{some, one}
+use Rattle.sets.specs.Masks.{bit, mask}
+use Rattle.sets.proofs.Masks.{put-bit}
+use Rattle.loop_spec.specs.Search.{leadsBy, sources}
+use Rattle.loop_ways.proofs.Steps.{meets-below}
+use Rattle.loop_ways.proofs.sources_of.Statement.{statement}
+use Rattle.loop_ways.proofs.sources_of.Tie as tie
+
+abbrev Inv-loop : tie.InvT-loop
+Inv-loop es n set found₀ q₀ found q = (q ≤ n) × (found ≡ mask q (λ p. some n (λ t. leadsBy es p t && bit set t)))
+
+abbrev μ-loop : tie.MeasureT-loop
+μ-loop es n set found₀ q₀ found q = n - q
+
+loop-holds : tie.Need-loop-holds Inv-loop μ-loop
+unfolding mask
+loop-holds c = (omega arith, refl)
+
+element-copy-out-meets : tie.Need-element-copy-out-meets Inv-loop μ-loop
+element-copy-out-meets c = omega arith
+
+meets-requires : tie.Need-meets-requires Inv-loop μ-loop
+meets-requires c κs = search needs
+
+cast-found : tie.Need-cast-found Inv-loop μ-loop
+cast-found c = omega arith
+
+shl-found : tie.Need-shl-found Inv-loop μ-loop
+shl-found c = omega arith
+
+add-q : tie.Need-add-q Inv-loop μ-loop
+add-q c = omega arith
+
+loop-less : tie.Need-loop-less Inv-loop μ-loop
+loop-less c = omega arith
+
+loop-again : tie.Need-loop-again Inv-loop μ-loop
+loop-again c =
+    let l = c .before .before .before .loop in
+    let a = c .before .before .before .before .args in
+    let w = c .before .before .before .before .pre in
+    let e = c .meets .ensures ∙ ap one (meets-below (a .n) (getD (a .es .now) (l .q) 0) (a .set) (w .0) (w .1)) in (
+      omega arith,
+      rw (l .inv .1) (put-bit (l .q) (c .meets .result) (λ p. some (a .n) (λ t. leadsBy (a .es .now) p t && bit (a .set) t)) (omega arith) e),
+    )
+
+returns : tie.Need-returns Inv-loop μ-loop
+unfolding sources
+returns c =
+    let a = c .before .before .args in
+    let e : c .before .loop .q ≡ a .n = omega arith in
+    c .before .loop .inv .1 ∙ ap (λ (x : ℕ). mask x (λ p. some (a .n) (λ t. leadsBy (a .es .now) p t && bit (a .set) t))) e
+
+pub sources-of-spec : {M : Type 1} → statement M
+sources-of-spec =
+    tie.close
+    (tie.spec
+    Inv-loop
+    μ-loop
+    loop-holds
+    element-copy-out-meets
+    meets-requires
+    cast-found
+    shl-found
+    add-q
+    loop-less
+    loop-again
+    returns)

@@ -1,0 +1,28 @@
+// The tidy spelling of a word.
+use crate::Answer;
+use crate::refused;
+use crate::served;
+use word_spelling::TidyWord;
+ghost use mathlib.Core.Path.{_≡_};
+ghost use lib.ListN.{length};
+ghost use Rattle.theory.specs.Word.{letters};
+ghost use Rattle.word_spelling_spec.specs.Spelling.{Tidy, tidyLead, tidyCycle};
+ghost use Rattle.word_spelling.specs.Tidied.{tidyLetters, tidyRow, tidyWordOf, after};
+ghost use Rattle.mulgreddi.specs.Answers.{tidyWordAnswer};
+
+// Writes the tidy spelling of a word to the start of out, lead-in then cycle; the lengths of both.
+#[no_mangle]
+pub extern "C" fn mulgreddi_tidy_word(lead: &[u8], cycle: &[u8], out: &mut [u8]) -> Answer
+    ensures { λ r. ⌜ r ≡ tidyWordAnswer (tidyWordOf (now (lead .entry)) (now (cycle .entry)) (length (now (out .entry)))) ⌝ }
+    ensures { λ _. ⌜ now (out .exit)
+        ≡ after (tidyRow (now (lead .entry)) (now (cycle .entry)) (length (now (out .entry))))
+        (tidyLetters (now (lead .entry)) (now (cycle .entry))) (now (out .entry)) ⌝ }
+    ensures { λ _. ⌜ (tidyRow (now (lead .entry)) (now (cycle .entry)) (length (now (out .entry))) ≡ 0
+        → Tidy (letters (now (lead .entry)) (now (cycle .entry))) (tidyLead (now (lead .entry)) (now (cycle .entry)))
+        (tidyCycle (now (lead .entry)) (now (cycle .entry)))) ⌝ }
+{
+    match word_spelling::tidy_word(lead, cycle, out) {
+        TidyWord::Spelling(lengths) => served(lengths.lead as u64, lengths.cycle as u64),
+        TidyWord::Refused(row) => refused(row),
+    }
+}

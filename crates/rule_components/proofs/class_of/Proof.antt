@@ -1,0 +1,87 @@
+-- `rule_components::class_of` meets its contract: the mask up to p.
+use Prim.Native.Nat.{ℕ, _-_, _≤_}
+use mathlib.Core.Path.{_≡_, refl, sym}
+use mathlib.Core.Bool.{Bool, _&&_}
+use native.Mathlib.Omega.{arith}
+use lib.ListN.{getD}
+use Rattle.sets.specs.Masks.{bit, mask}
+use Rattle.sets.proofs.Masks.{put-bit}
+use Rattle.rule_components.proofs.Mixed.{both-bits}
+use Rattle.rule_components.proofs.class_of.Statement.{statement}
+use Rattle.rule_components.proofs.class_of.Tie as tie
+
+abbrev Inv-loop : tie.InvT-loop
+Inv-loop reach n q class₀ p₀ class p = (p ≤ n) × (class ≡ mask p (λ t. bit (getD reach q 0) t && bit (getD reach t 0) q))
+
+abbrev μ-loop : tie.MeasureT-loop
+μ-loop reach n q class₀ p₀ class p = n - p
+
+loop-holds : tie.Need-loop-holds Inv-loop μ-loop
+unfolding mask
+loop-holds c = (omega arith, refl)
+
+element-copy-out-class : tie.Need-element-copy-out-class Inv-loop μ-loop
+element-copy-out-class c = omega arith
+
+cast-class : tie.Need-cast-class Inv-loop μ-loop
+cast-class c = omega arith
+
+shr-class : tie.Need-shr-class Inv-loop μ-loop
+shr-class c = omega arith
+
+element-copy-out-class-2 : tie.Need-element-copy-out-class-2 Inv-loop μ-loop
+element-copy-out-class-2 c = omega arith
+
+cast-class-2 : tie.Need-cast-class-2 Inv-loop μ-loop
+cast-class-2 c = omega arith
+
+shr-class-2 : tie.Need-shr-class-2 Inv-loop μ-loop
+shr-class-2 c = omega arith
+
+cast-class-3 : tie.Need-cast-class-3 Inv-loop μ-loop
+cast-class-3 c = omega arith
+
+shl-class : tie.Need-shl-class Inv-loop μ-loop
+shl-class c = omega arith
+
+add-p : tie.Need-add-p Inv-loop μ-loop
+add-p c = omega arith
+
+loop-less : tie.Need-loop-less Inv-loop μ-loop
+loop-less c = omega arith
+
+loop-again : tie.Need-loop-again Inv-loop μ-loop
+loop-again c =
+    let l = c .before .before .before .loop in
+    let es = c .before .before .before .before .args .reach .now in
+    let q = c .before .before .before .before .args .q in
+    let p = l .p in
+    let f : ℕ → Bool = λ t. bit (getD es q 0) t && bit (getD es t 0) q in (
+      omega arith,
+      rw (l .inv .1) (put-bit p _ f (omega arith) (omega (arith, both-bits (getD es q 0) (getD es p 0) p q))),
+    )
+
+returns : tie.Need-returns Inv-loop μ-loop
+returns c =
+    let e : c .before .loop .p ≡ c .before .before .args .n = omega arith in
+    rw (sym e) (c .before .loop .inv .1)
+
+pub class-of-spec : {M : Type 1} → statement M
+class-of-spec =
+    tie.close
+    (tie.spec
+    Inv-loop
+    μ-loop
+    loop-holds
+    element-copy-out-class
+    cast-class
+    shr-class
+    element-copy-out-class-2
+    cast-class-2
+    shr-class-2
+    cast-class-3
+    shl-class
+    add-p
+    loop-less
+    loop-again
+    returns)

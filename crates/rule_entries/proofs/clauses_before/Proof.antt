@@ -1,0 +1,63 @@
+-- `rule_entries::clauses_before` meets its contract: the sum of the counts passed.
+use Prim.Native.Nat.{ℕ, _+_, _*_, _-_, _≤_}
+use mathlib.Core.Path.{_≡_, refl, ap, sym, _∙_}
+use native.Mathlib.Omega.{arith}
+use lib.ListN.{take, getD}
+use Rattle.sets.specs.Lists.{sum}
+use Rattle.sets.proofs.Walks.{sum-take}
+use Rattle.rule_entries.proofs.clauses_before.Statement.{statement}
+use Rattle.rule_entries.proofs.clauses_before.Tie as tie
+
+abbrev Inv-loop : tie.InvT-loop
+Inv-loop counts i total₀ k₀ total k = (k ≤ i) × (total ≤ 255 * k) × (total ≡ sum (take k counts))
+
+abbrev μ-loop : tie.MeasureT-loop
+μ-loop counts i total₀ k₀ total k = i - k
+
+loop-holds : tie.Need-loop-holds Inv-loop μ-loop
+unfolding sum
+loop-holds c = (omega arith, omega arith, refl)
+
+shared-slice-read-total : tie.Need-shared-slice-read-total Inv-loop μ-loop
+shared-slice-read-total c = omega arith
+
+cast-total : tie.Need-cast-total Inv-loop μ-loop
+cast-total c = omega (arith, c .shared-slice-known .given (c .before .before .loop .k))
+
+add-total : tie.Need-add-total Inv-loop μ-loop
+add-total c = omega (arith, c .shared-slice-known .given (c .before .before .loop .k))
+
+add-k : tie.Need-add-k Inv-loop μ-loop
+add-k c = omega arith
+
+loop-less : tie.Need-loop-less Inv-loop μ-loop
+loop-less c = omega arith
+
+loop-again : tie.Need-loop-again Inv-loop μ-loop
+loop-again c =
+    let l = c .before .before .loop in
+    let counts = c .before .before .before .args .counts .now in (
+      omega arith,
+      omega (arith, c .shared-slice-known .given (l .k)),
+      ap (λ (x : ℕ). x + getD counts (l .k) 0) (l .inv .2) ∙ sym (sum-take counts (l .k) (omega arith)),
+    )
+
+returns : tie.Need-returns Inv-loop μ-loop
+returns c =
+    let e : c .before .loop .k ≡ c .before .before .args .i = omega arith in
+    rw (sym e) (c .before .loop .inv .2)
+
+pub clauses-before-spec : {M : Type 1} → statement M
+clauses-before-spec =
+    tie.close
+    (tie.spec
+    Inv-loop
+    μ-loop
+    loop-holds
+    shared-slice-read-total
+    cast-total
+    add-total
+    add-k
+    loop-less
+    loop-again
+    returns)

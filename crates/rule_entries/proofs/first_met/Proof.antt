@@ -1,0 +1,113 @@
+-- `rule_entries::first_met` meets its contract. Of the clauses from j on the first that is met is the answer; of the clause at hand the states passed are in the set.
+use Prim.Native.Nat.{_<_, _≤_, _-_}
+use mathlib.Core.Path.{_≡_, refl, ap, sym, _∙_}
+use mathlib.Core.Bool.{true, false}
+use native.Mathlib.Omega.{arith}
+use lib.ListN.{length, drop, getD}
+use lib.Count.{trailingZeros}
+use lib.Bits.{and-le-r}
+use Rattle.sets.specs.Masks.{bit, inside}
+use Rattle.rule_entries.specs.Met.{metFrom}
+use Rattle.sets.proofs.Members.{least-lt}
+use Rattle.rule_entries.proofs.Clauses.{missing, present, no-state, met-next, met-here, met-none}
+use Rattle.rule_entries.proofs.first_met.Statement.{statement}
+use Rattle.rule_entries.proofs.first_met.Tie as tie
+
+abbrev Inv-loop : tie.InvT-loop
+Inv-loop set clauses j₀ left₀ j left = (j ≡ j₀) × (left < 256) × (inside 8 (bit set) (getD clauses j₀ 0) ≡ inside 8 (bit set) left)
+
+abbrev μ-loop : tie.MeasureT-loop
+μ-loop set clauses j₀ left₀ j left = left
+
+abbrev Inv-clauses : tie.InvT-clauses
+Inv-clauses set clauses j₀ j = (j ≤ length clauses) × (metFrom set clauses 0 ≡ metFrom set (drop j clauses) j)
+
+abbrev μ-clauses : tie.MeasureT-clauses
+μ-clauses set clauses j₀ j = length clauses - j
+
+clauses-holds : tie.Need-clauses-holds Inv-loop μ-loop Inv-clauses μ-clauses
+clauses-holds c = (omega arith, refl)
+
+shared-slice-read-left : tie.Need-shared-slice-read-left Inv-loop μ-loop Inv-clauses μ-clauses
+shared-slice-read-left c = omega arith
+
+loop-holds : tie.Need-loop-holds Inv-loop μ-loop Inv-clauses μ-clauses
+loop-holds c = (refl, omega (arith, c .shared-slice-known .given (c .before .before .clauses .j)), refl)
+
+-- the least state of what is left is a state
+below : (c : tie.In-loop Inv-loop μ-loop Inv-clauses μ-clauses) → trailingZeros 8 (c .before .loop .left) < 8
+below c = least-lt 8 (c .before .loop .left) (omega arith) (omega arith)
+
+cast-if2 : tie.Need-cast-if2 Inv-loop μ-loop Inv-clauses μ-clauses
+cast-if2 c = omega (arith, below c)
+
+shr-if2 : tie.Need-shr-if2 Inv-loop μ-loop Inv-clauses μ-clauses
+shr-if2 c = below c
+
+add-j : tie.Need-add-j Inv-loop μ-loop Inv-clauses μ-clauses
+add-j c = omega arith
+
+clauses-less : tie.Need-clauses-less Inv-loop μ-loop Inv-clauses μ-clauses
+clauses-less c = omega arith
+
+clauses-again : tie.Need-clauses-again Inv-loop μ-loop Inv-clauses μ-clauses
+clauses-again c =
+    let s = c .before .before .before .before .before .before .args .set in
+    let cl = c .before .before .before .before .before .before .args .clauses .now in
+    let l = c .before .before .loop .left in
+    let j = c .before .before .before .before .before .clauses .j in
+    let gone : inside 8 (bit s) (getD cl j 0) ≡ false = c .before .before .loop .inv .2 ∙ missing s l (omega arith) (omega arith) (c .if2 .taken) in (
+      omega arith,
+      rw (c .before .before .loop .inv .0) (c .before .before .before .before .before .clauses .inv .1 ∙ met-next s cl j (omega arith) gone),
+    )
+
+sub-left : tie.Need-sub-left Inv-loop μ-loop Inv-clauses μ-clauses
+sub-left c = omega arith
+
+loop-less : tie.Need-loop-less Inv-loop μ-loop Inv-clauses μ-clauses
+loop-less c = omega (arith, and-le-r (c .before .before .loop .left) (c .before .before .loop .left - 1))
+
+loop-again : tie.Need-loop-again Inv-loop μ-loop Inv-clauses μ-clauses
+loop-again c =
+    let s = c .before .before .before .before .before .before .args .set in
+    let l = c .before .before .loop .left in (
+      c .before .before .loop .inv .0,
+      omega (arith, and-le-r l (l - 1)),
+      c .before .before .loop .inv .2 ∙ present s l (omega arith) (omega arith) (c .if2 .left),
+    )
+
+returns : tie.Need-returns Inv-loop μ-loop Inv-clauses μ-clauses
+returns c =
+    let s = c .before .before .args .set in
+    let cl = c .before .before .args .clauses .now in
+    sym (c .before .clauses .inv .1 ∙ met-none s cl (c .before .clauses .j) (c .if1 .taken))
+
+returns-2 : tie.Need-returns-2 Inv-loop μ-loop Inv-clauses μ-clauses
+returns-2 c =
+    let s = c .before .before .before .before .before .args .set in
+    let cl = c .before .before .before .before .before .args .clauses .now in
+    let j = c .before .before .before .before .clauses .j in
+    let all : inside 8 (bit s) (getD cl j 0) ≡ true = c .before .loop .inv .2 ∙ ap (inside 8 (bit s)) (c .loop-test .left) ∙ no-state (bit s) in
+    rw (c .before .loop .inv .0) (sym (c .before .before .before .before .clauses .inv .1 ∙ met-here s cl j (omega arith) all))
+
+pub first-met-spec : {M : Type 1} → statement M
+first-met-spec =
+    tie.close
+    (tie.spec
+    Inv-loop
+    μ-loop
+    Inv-clauses
+    μ-clauses
+    clauses-holds
+    shared-slice-read-left
+    loop-holds
+    cast-if2
+    shr-if2
+    add-j
+    clauses-less
+    clauses-again
+    sub-left
+    loop-less
+    loop-again
+    returns
+    returns-2)

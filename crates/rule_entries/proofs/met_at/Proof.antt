@@ -1,0 +1,109 @@
+-- `rule_entries::met_at` meets its contract: the part of the clauses is the entry.
+use Prim.Native.Nat.{_+_, _*_, _-_, _<_, _≤_}
+use mathlib.Core.Path.{_≡_, sym, ap, _∙_}
+use native.Mathlib.Omega.{arith}
+use lib.ListN.{length, getD, take, drop}
+use Rattle.sets.specs.Masks.{bit}
+use Rattle.theory.specs.Rule.{entry, satisfies}
+use Rattle.rule_entries.specs.Entries.{ruleOf}
+use Rattle.rule_entries.specs.Met.{isMet, metOf}
+use Rattle.rule_entries.proofs.Entries.{entry-number, entry-fits, entry-part, entry-states, entries-few}
+use Rattle.rule_entries.proofs.Clauses.{met-entry}
+use borrow.Author.Needs.{needs}
+use Rattle.rule_entries.proofs.met_at.Statement.{statement}
+use Rattle.rule_entries.proofs.met_at.Tie as tie
+use Rattle.rule_entries.proofs.met_at.Reads as reads
+use Rattle.rule_entries.proofs.met_at.Lts as lts
+use Rattle.rule_entries.proofs.first_met.Reads as first-met-reads
+
+abbrev At : Type 0
+At = lts.After-struct-known (first-met-reads.Asked, first-met-reads.Learnt) reads.Pre reads.Post
+
+-- the entry's number is one of an entry
+number : (c : At) → c .before .before .before .args .q * c .before .before .before .args .h .s + c .before .before .before .args .a < 128
+number c =
+    let a = c .before .before .before .args in
+    let p = c .before .before .before .pre in
+    let r = ruleOf (a .h) (a .counts .now) (a .clauses .now) in
+    let k = entry-number r (p .0) (a .q) (a .a) (p .2) (p .3) in
+    let f = entries-few r (p .0) in
+    omega arith
+
+listed : (c : At) → c .before .before .before .args .q * c .before .before .before .args .h .s + c .before .before .before .args .a < length (c .before .before .before .args .counts .now)
+listed c =
+    let a = c .before .before .before .args in
+    let p = c .before .before .before .pre in
+    entry-number (ruleOf (a .h) (a .counts .now) (a .clauses .now)) (p .0) (a .q) (a .a) (p .2) (p .3)
+
+-- its clauses are among the rule's
+fits : (c : At) → let a = c .before .before .before .args in getD (a .starts .now) (a .q * a .h .s + a .a) 0 + getD (a .counts .now) (a .q * a .h .s + a .a) 0 ≤ length (a .clauses .now)
+fits c =
+    let a = c .before .before .before .args in
+    let p = c .before .before .before .pre in
+    rw (p .1 .at (a .q * a .h .s + a .a) (listed c)) (entry-fits (ruleOf (a .h) (a .counts .now) (a .clauses .now)) (p .0) (a .q) (a .a) (p .2) (p .3))
+
+mul-i : tie.Need-mul-i
+mul-i c = omega (arith, number c)
+
+add-i : tie.Need-add-i
+add-i c = omega (arith, number c)
+
+mul-start : tie.Need-mul-start
+mul-start c = omega (arith, number c)
+
+element-copy-out-start : tie.Need-element-copy-out-start
+element-copy-out-start c = number c
+
+cast-start : tie.Need-cast-start
+cast-start c = omega (arith, fits (c .before), c .before .before .before .before .good)
+
+shared-slice-read-end : tie.Need-shared-slice-read-end
+shared-slice-read-end c = listed (c .before .before)
+
+cast-end : tie.Need-cast-end
+cast-end c = let a = c .before .before .before .before .before .args in omega (arith, c .shared-slice-known3 .given (a .q * a .h .s + a .a))
+
+add-end : tie.Need-add-end
+add-end c = omega (arith, fits (c .before .before), c .before .before .before .before .before .good)
+
+sub-first-met : tie.Need-sub-first-met
+sub-first-met c = search needs
+
+part-first-met-start : tie.Need-part-first-met-start
+part-first-met-start c = search needs
+
+part-first-met-end : tie.Need-part-first-met-end
+part-first-met-end c = let h = fits (c .before .before) in search needs
+
+first-met-requires : tie.Need-first-met-requires
+first-met-requires c κs = search needs
+
+returns : tie.Need-returns
+returns c =
+    let a = c .before .before .before .before .before .before .before .args in
+    let r = ruleOf (a .h) (a .counts .now) (a .clauses .now) in
+    let p = c .before .before .before .before .before .before .before .pre in
+    let i = a .q * a .h .s + a .a in
+    let at = c .before .before .before .before in
+    let n : getD (a .starts .now) i 0 + getD (a .counts .now) i 0 - getD (a .starts .now) i 0 ≡ getD (a .counts .now) i 0 = omega arith in
+    let part : take (getD (a .starts .now) i 0 + getD (a .counts .now) i 0 - getD (a .starts .now) i 0) (drop (getD (a .starts .now) i 0) (a .clauses .now)) ≡ entry r (a .q) (a .a)
+    = rw (n, p .1 .at i (listed at)) (sym (entry-part r (p .0) (a .q) (a .a) (p .2) (p .3))) in
+    c .first-met .ensures ∙ ap (metOf (a .set)) part
+
+pub met-at-spec : {M : Type 1} → statement M
+met-at-spec =
+    tie.close
+    (tie.spec
+    mul-i
+    add-i
+    mul-start
+    element-copy-out-start
+    cast-start
+    shared-slice-read-end
+    cast-end
+    add-end
+    sub-first-met
+    part-first-met-start
+    part-first-met-end
+    first-met-requires
+    returns)

@@ -1,0 +1,44 @@
+-- `rule_entries::satisfied` meets its contract: a clause is met exactly if the set satisfies the entry.
+use mathlib.Core.Path.{_≡_, sym, ap, _∙_}
+use Rattle.sets.specs.Masks.{bit}
+use Rattle.theory.specs.Rule.{entry, satisfies}
+use Rattle.rule_entries.specs.Entries.{ruleOf}
+use Rattle.rule_entries.specs.Met.{isMet, metOf}
+use Rattle.rule_entries.proofs.Entries.{entry-states}
+use Rattle.rule_entries.proofs.Clauses.{met-entry}
+use borrow.Author.Needs.{needs}
+use Rattle.rule_entries.proofs.satisfied.Statement.{statement}
+use Rattle.rule_entries.proofs.satisfied.Tie as tie
+
+met-at-requires : tie.Need-met-at-requires
+met-at-requires c κs = search needs
+
+enum-told : tie.Need-enum-told
+enum-told c = search needs
+
+enum-told-2 : tie.Need-enum-told-2
+enum-told-2 c = search needs
+
+-- whether a clause of the entry was met
+answer : (c : tie.After-met-at) →
+    let a = c .before .before .before .args in
+    isMet (c .met-at .result) ≡ satisfies (a .h .n) (bit (a .set)) (entry (ruleOf (a .h) (a .counts .now) (a .clauses .now)) (a .q) (a .a))
+answer c =
+    let a = c .before .before .before .args in
+    let r = ruleOf (a .h) (a .counts .now) (a .clauses .now) in
+    let p = c .before .before .before .pre in
+    ap isMet (c .met-at .ensures)
+    ∙ met-entry (a .h .n) (a .set) (entry r (a .q) (a .a)) (p .0 .few-states) (entry-states r (p .0) (a .q) (a .a) (p .2) (p .3))
+
+returns : tie.Need-returns
+unfolding isMet
+returns c = sym (ap isMet (c .enum-told .given .1)) ∙ answer (c .before .before)
+
+returns-2 : tie.Need-returns-2
+unfolding isMet
+returns-2 c = sym (ap isMet (c .enum-told2 .given .1)) ∙ answer (c .before .before)
+
+pub satisfied-spec : {M : Type 1} → statement M
+satisfied-spec =
+    tie.close
+    (tie.spec met-at-requires enum-told enum-told-2 returns returns-2)

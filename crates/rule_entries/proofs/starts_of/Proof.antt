@@ -1,0 +1,73 @@
+-- `rule_entries::starts_of` meets its contract: the elements before i are the sums of the counts before them.
+use Prim.Native.Nat.{ℕ, _-_, _*_, _<_, _≤_}
+use mathlib.Core.Path.{_≡_, refl, sym, _∙_}
+use native.Mathlib.Omega.{arith}
+use lib.ListN.{length, take, getD, length-set}
+use Rattle.sets.specs.Lists.{sum}
+use Rattle.sets.proofs.Walks.{sum-take, put-next}
+use Rattle.rule_entries.proofs.starts_of.Statement.{statement}
+use Rattle.rule_entries.proofs.starts_of.Tie as tie
+
+abbrev Inv-loop : tie.InvT-loop
+Inv-loop counts starts₀ total₀ i₀ starts total i =
+    (length starts ≡ 128) × (i ≤ length counts) × (total ≡ sum (take i counts)) × (total ≤ 255 * i) × ((j : ℕ) → j < i → getD starts j 0 ≡ sum (take j counts))
+
+abbrev μ-loop : tie.MeasureT-loop
+μ-loop counts starts₀ total₀ i₀ starts total i = length counts - i
+
+loop-holds : tie.Need-loop-holds Inv-loop μ-loop
+unfolding sum
+loop-holds c = (refl, omega arith, refl, omega arith, λ j l. absurd (omega arith))
+
+mul-starts : tie.Need-mul-starts Inv-loop μ-loop
+mul-starts c = omega arith
+
+array-write-starts : tie.Need-array-write-starts Inv-loop μ-loop
+array-write-starts c = omega arith
+
+shared-slice-read-total : tie.Need-shared-slice-read-total Inv-loop μ-loop
+shared-slice-read-total c = omega arith
+
+cast-total : tie.Need-cast-total Inv-loop μ-loop
+cast-total c = omega (arith, c .shared-slice-known .given (c .before .before .loop .i))
+
+add-total : tie.Need-add-total Inv-loop μ-loop
+add-total c = omega (arith, c .shared-slice-known .given (c .before .before .loop .i))
+
+add-i : tie.Need-add-i Inv-loop μ-loop
+add-i c = omega arith
+
+loop-less : tie.Need-loop-less Inv-loop μ-loop
+loop-less c = omega arith
+
+loop-again : tie.Need-loop-again Inv-loop μ-loop
+loop-again c =
+    let l = c .before .before .loop in
+    let xs = c .before .before .before .args .counts .now in
+    let k = c .before .loop-test .taken in (
+      length-set (l .starts) (l .i) (l .total) ∙ l .inv .0,
+      omega arith,
+      rw (l .inv .2) (sym (sum-take xs (l .i) k)),
+      omega (arith, c .shared-slice-known .given (l .i)),
+      put-next (λ j. sum (take j xs)) (l .starts) (l .i) (l .total) (omega arith) (l .inv .2) (l .inv .4),
+    )
+
+returns : tie.Need-returns Inv-loop μ-loop
+returns c = record { at = λ i l. c .before .loop .inv .4 i (omega arith) }
+
+pub starts-of-spec : {M : Type 1} → statement M
+starts-of-spec =
+    tie.close
+    (tie.spec
+    Inv-loop
+    μ-loop
+    loop-holds
+    mul-starts
+    array-write-starts
+    shared-slice-read-total
+    cast-total
+    add-total
+    add-i
+    loop-less
+    loop-again
+    returns)

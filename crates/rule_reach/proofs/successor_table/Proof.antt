@@ -1,0 +1,62 @@
+-- `rule_reach::successor_table` meets its contract: the table up to q.
+use Prim.Native.Nat.{ℕ, _-_, _≤_}
+use mathlib.Core.Path.{_≡_, ap, _∙_}
+use native.Mathlib.Omega.{arith}
+use Rattle.sets.specs.Masks.{mask}
+use Rattle.theory.specs.Components.{leads}
+use Rattle.rule_entries.specs.Entries.{ruleOf}
+use Rattle.rule_reach.specs.Tables.{table as tableOf}
+use Rattle.rule_reach.proofs.Tables.{table-none, table-set}
+use Rattle.rule_reach.proofs.successor_table.Statement.{statement}
+use Rattle.rule_reach.proofs.successor_table.Tie as tie
+
+abbrev Inv-loop : tie.InvT-loop
+Inv-loop h counts clauses table₀ q₀ table q = (q ≤ h .n) × (table ≡ tableOf q (λ p. mask (h .n) (leads (ruleOf h counts clauses) p)))
+
+abbrev μ-loop : tie.MeasureT-loop
+μ-loop h counts clauses table₀ q₀ table q = h .n - q
+
+loop-holds : tie.Need-loop-holds Inv-loop μ-loop
+loop-holds c = (omega arith, table-none _)
+
+successors-requires : tie.Need-successors-requires Inv-loop μ-loop
+successors-requires c κs = (c .before .before .before .before .before .pre, c .if1 .taken)
+
+array-write-table : tie.Need-array-write-table Inv-loop μ-loop
+array-write-table c = omega (arith, c .before .before .before .before .before .before .pre .few-states)
+
+add-q : tie.Need-add-q Inv-loop μ-loop
+add-q c = omega arith
+
+loop-less : tie.Need-loop-less Inv-loop μ-loop
+loop-less c = omega arith
+
+loop-again : tie.Need-loop-again Inv-loop μ-loop
+loop-again c =
+    let l = c .before .before .before .loop in
+    let a = c .before .before .before .before .before .before .args in
+    let w = c .before .before .before .before .before .before .pre in (
+      omega arith,
+      rw (l .inv .1) (table-set (l .q) (λ p. mask (a .h .n) (leads (ruleOf (a .h) (a .counts .now) (a .clauses .now)) p)) (c .successors .result) (omega (arith, w .few-states)) (c .successors .ensures)),
+    )
+
+returns : tie.Need-returns Inv-loop μ-loop
+returns c =
+    let l = c .before .before .loop in
+    let a = c .before .before .before .before .before .args in
+    let e : l .q ≡ a .h .n = omega arith in
+    l .inv .1 ∙ ap (λ (x : ℕ). tableOf x (λ p. mask (a .h .n) (leads (ruleOf (a .h) (a .counts .now) (a .clauses .now)) p))) e
+
+pub successor-table-spec : {M : Type 1} → statement M
+successor-table-spec =
+    tie.close
+    (tie.spec
+    Inv-loop
+    μ-loop
+    loop-holds
+    successors-requires
+    array-write-table
+    add-q
+    loop-less
+    loop-again
+    returns)

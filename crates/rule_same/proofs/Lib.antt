@@ -1,0 +1,3 @@
+pub mod Prefaces
+pub mod Same
+pub mod SameNames

@@ -1,0 +1,89 @@
+-- `rule_same::entries::clauses_satisfy` meets its contract: the clauses passed all satisfy the second entry.
+use Prim.Native.Nat.{_-_, _≤_}
+use mathlib.Core.Path.{_≡_, refl, ap, sym, _∙_}
+use mathlib.Core.Bool.{true, false}
+use native.Mathlib.Omega.{arith}
+use borrow.Author.Needs.{needs}
+use lib.ListN.{length, drop, getD}
+use Rattle.sets.specs.Masks.{bit}
+use Rattle.sets.specs.Lists.{allOf}
+use Rattle.sets.proofs.Walks.{all-next, all-stop, all-end}
+use Rattle.theory.specs.Rule.{satisfies}
+use Rattle.rule_entries.specs.Met.{isMet}
+use Rattle.rule_entries.proofs.Clauses.{met-satisfies}
+use Rattle.rule_same.proofs.entries.clauses_satisfy.Statement.{statement}
+use Rattle.rule_same.proofs.entries.clauses_satisfy.Tie as tie
+
+abbrev Inv-loop : tie.InvT-loop
+Inv-loop first second j₀ j = (j ≤ length first) × (allOf first (λ c. satisfies 8 (bit c) second) ≡ allOf (drop j first) (λ c. satisfies 8 (bit c) second))
+
+abbrev μ-loop : tie.MeasureT-loop
+μ-loop first second j₀ j = length first - j
+
+loop-holds : tie.Need-loop-holds Inv-loop μ-loop
+loop-holds c = (omega arith, refl)
+
+shared-slice-read-first-met : tie.Need-shared-slice-read-first-met Inv-loop μ-loop
+shared-slice-read-first-met c = omega arith
+
+first-met-requires : tie.Need-first-met-requires Inv-loop μ-loop
+first-met-requires c κs = search needs
+
+enum-told : tie.Need-enum-told Inv-loop μ-loop
+enum-told c = search needs
+
+add-j : tie.Need-add-j Inv-loop μ-loop
+add-j c = omega arith
+
+loop-less : tie.Need-loop-less Inv-loop μ-loop
+loop-less c = omega arith
+
+-- a clause is met exactly if the set satisfies the entry
+met : (c : tie.After-first-met Inv-loop μ-loop) →
+    let a = c .before .before .before .before .before .before .args in
+    isMet (c .first-met .result) ≡ satisfies 8 (bit (getD (a .first .now) (c .before .before .before .loop .j) 0)) (a .second .now)
+met c =
+    let a = c .before .before .before .before .before .before .args in
+    ap isMet (c .first-met .ensures) ∙ met-satisfies (getD (a .first .now) (c .before .before .before .loop .j) 0) (a .second .now)
+
+loop-again : tie.Need-loop-again Inv-loop μ-loop
+unfolding isMet
+loop-again c =
+    let a = c .before .before .before .before .before .before .before .before .args in
+    let l = c .before .before .before .before .before .loop in
+    let e : satisfies 8 (bit (getD (a .first .now) (l .j) 0)) (a .second .now) ≡ true = sym (met (c .before .before)) ∙ ap isMet (c .enum-told .given .1) in
+    (omega arith, l .inv .1 ∙ all-next (λ x. satisfies 8 (bit x) (a .second .now)) (a .first .now) (l .j) (omega arith) e)
+
+enum-told-2 : tie.Need-enum-told-2 Inv-loop μ-loop
+enum-told-2 c = search needs
+
+returns : tie.Need-returns Inv-loop μ-loop
+unfolding isMet
+returns c =
+    let a = c .before .before .before .before .before .before .before .before .args in
+    let l = c .before .before .before .before .before .loop in
+    let e : satisfies 8 (bit (getD (a .first .now) (l .j) 0)) (a .second .now) ≡ false = sym (met (c .before .before)) ∙ ap isMet (c .enum-told2 .given .1) in
+    sym (l .inv .1 ∙ all-stop (λ x. satisfies 8 (bit x) (a .second .now)) (a .first .now) (l .j) (omega arith) e)
+
+returns-2 : tie.Need-returns-2 Inv-loop μ-loop
+returns-2 c =
+    let a = c .before .before .before .before .args in
+    let l = c .before .loop in
+    sym (l .inv .1 ∙ all-end (λ x. satisfies 8 (bit x) (a .second .now)) (a .first .now) (l .j) (c .loop-test .left))
+
+pub clauses-satisfy-spec : {M : Type 1} → statement M
+clauses-satisfy-spec =
+    tie.close
+    (tie.spec
+    Inv-loop
+    μ-loop
+    loop-holds
+    shared-slice-read-first-met
+    first-met-requires
+    enum-told
+    add-j
+    loop-less
+    loop-again
+    enum-told-2
+    returns
+    returns-2)

@@ -1,0 +1,69 @@
+-- `rule_same::files::same_bodies` meets its contract: the second rule has the first one's numbers, so the entries decide.
+use mathlib.Core.Path.{_≡_, ap, sym, _∙_}
+use Rattle.sets.proofs.Bools.{not-t, not-f}
+use Rattle.rule_same.specs.Same.{verdict, sameBodies}
+use Rattle.rule_same.proofs.Same.{numbers-differ, both-formed, same-told}
+use borrow.Author.Needs.{needs}
+use Rattle.rule_same.proofs.files.same_bodies.Statement.{statement}
+use Rattle.rule_same.proofs.files.same_bodies.Tie as tie
+
+same-numbers-requires : tie.Need-same-numbers-requires
+same-numbers-requires c κs = search needs
+
+returns : tie.Need-returns
+returns c =
+    let a = c .before .before .before .before .before .before .args in
+    let p = c .before .before .before .before .before .before .pre in
+    numbers-differ (a .first .now) (a .second .now) (a .l) (a .m) (p .0) (p .1) (sym (c .before .same-numbers .ensures) ∙ not-t _ (c .if1 .taken))
+
+counts-of-requires : tie.Need-counts-of-requires
+counts-of-requires c κs = search needs
+
+clauses-of-requires : tie.Need-clauses-of-requires
+clauses-of-requires c κs = search needs
+
+counts-of-requires-2 : tie.Need-counts-of-requires-2
+counts-of-requires-2 c κs = search needs
+
+clauses-of-requires-2 : tie.Need-clauses-of-requires-2
+clauses-of-requires-2 c κs = search needs
+
+same-entries-requires : tie.Need-same-entries-requires
+same-entries-requires c κs =
+    let a = c .before .before .before .before .before .before .before .before .before .before .args in
+    let p = c .before .before .before .before .before .before .before .before .before .before .pre in
+    both-formed (a .first .now) (a .second .now) (a .l) (a .m) (p .0) (p .1) (sym (c .before .before .before .before .before .same-numbers .ensures) ∙ not-f _ (c .before .before .before .before .if1 .left))
+    (c .before .before .before .counts-of .ensures) (c .before .before .clauses-of .ensures) (c .before .counts-of2 .ensures) (c .clauses-of2 .ensures)
+
+-- what the comparison of all entries says of the files
+told : (c : tie.After-same-entries) →
+    let a = c .before .before .before .before .before .before .before .before .before .before .before .args in
+    verdict (c .same-entries .result) ≡ sameBodies (a .first .now) (a .second .now)
+told c =
+    let a = c .before .before .before .before .before .before .before .before .before .before .before .args in
+    let p = c .before .before .before .before .before .before .before .before .before .before .before .pre in
+    same-told (a .first .now) (a .second .now) (a .l) (a .m) (p .0) (p .1) (sym (c .before .before .before .before .before .before .same-numbers .ensures) ∙ not-f _ (c .before .before .before .before .before .if1 .left))
+    (c .before .before .before .before .counts-of .ensures) (c .before .before .before .clauses-of .ensures) (c .before .before .counts-of2 .ensures) (c .before .clauses-of2 .ensures)
+    (c .same-entries .result) (c .same-entries .ensures)
+
+returns-2 : tie.Need-returns-2
+unfolding verdict
+returns-2 c = ap verdict (sym (c .if2 .taken)) ∙ told (c .before)
+
+returns-3 : tie.Need-returns-3
+unfolding verdict
+returns-3 c = ap verdict (sym (c .if2 .left)) ∙ told (c .before)
+
+pub same-bodies-spec : {M : Type 1} → statement M
+same-bodies-spec =
+    tie.close
+    (tie.spec
+    same-numbers-requires
+    returns
+    counts-of-requires
+    clauses-of-requires
+    counts-of-requires-2
+    clauses-of-requires-2
+    same-entries-requires
+    returns-2
+    returns-3)

@@ -1,0 +1,4 @@
+// Sameness of rules: their entries and their names, then their files.
+pub mod entries;
+pub mod files;
+pub mod names;

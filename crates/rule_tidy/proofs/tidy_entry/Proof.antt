@@ -1,0 +1,71 @@
+-- `rule_tidy::tidy_entry` meets its contract: the first k elements are what stays of the clauses passed.
+use Prim.Native.Nat.{ℕ, _+_, _-_, _≤_}
+use mathlib.Core.Path.{_≡_, refl, sym, _∙_, ap}
+use mathlib.Core.List.{List}
+use native.Mathlib.Omega.{arith}
+use lib.ListN.{length, take, drop}
+use Rattle.rule_tidy_spec.specs.Tidy.{tidyFrom, tidyEntry}
+use Rattle.rule_tidy.proofs.Laws.{tidy-next, tidy-end, drop-later, filled-by}
+use Rattle.rule_tidy.proofs.tidy_entry.Statement.{statement}
+use Rattle.rule_tidy.proofs.tidy_entry.Tie as tie
+
+abbrev Inv-loop : tie.InvT-loop
+Inv-loop clauses out₀ k₀ i₀ out k i =
+    (i ≤ length clauses) × (k ≤ i) × (length out ≡ length out₀) × (drop k out ≡ drop k out₀) × (tidyFrom 8 clauses (take k out) (drop i clauses) ≡ tidyEntry 8 clauses)
+
+abbrev μ-loop : tie.MeasureT-loop
+μ-loop clauses out₀ k₀ i₀ out k i = length clauses - i
+
+loop-holds : tie.Need-loop-holds Inv-loop μ-loop
+unfolding tidyEntry
+loop-holds c = (omega arith, omega arith, refl, refl, refl)
+
+shared-slice-read-keep : tie.Need-shared-slice-read-keep Inv-loop μ-loop
+shared-slice-read-keep c = omega arith
+
+keep-requires : tie.Need-keep-requires Inv-loop μ-loop
+keep-requires c κs = omega arith
+
+add-i : tie.Need-add-i Inv-loop μ-loop
+add-i c = omega arith
+
+loop-less : tie.Need-loop-less Inv-loop μ-loop
+loop-less c = omega arith
+
+loop-again : tie.Need-loop-again Inv-loop μ-loop
+loop-again c =
+    let a = c .before .before .before .before .before .before .before .before .before .args in
+    let l = c .before .before .before .before .before .before .loop in
+    let K = c .before .before .keep .ensures in (
+      omega arith,
+      omega (arith, K .most),
+      K .long ∙ l .inv .2,
+      K .rest ∙ drop-later (l .out) (a .out .now) (l .k) (c .before .before .keep .result) (K .fewest) (l .inv .3),
+      ap (λ (f : List ℕ). tidyFrom 8 (a .clauses .now) f (drop (l .i + 1) (a .clauses .now))) (K .front)
+          ∙ sym (tidy-next (a .clauses .now) (take (l .k) (l .out)) (l .i) (omega arith)) ∙ l .inv .4,
+    )
+
+same-length : tie.Need-same-length Inv-loop μ-loop
+same-length c = c .before .loop .inv .2
+
+returns : tie.Need-returns Inv-loop μ-loop
+returns c =
+    let a = c .before .before .before .before .args in
+    let l = c .before .loop in
+    filled-by (tidyEntry 8 (a .clauses .now)) (l .out) (a .out .now) (l .k) (omega arith)
+    (sym (tidy-end (a .clauses .now) (take (l .k) (l .out)) (l .i) (omega arith)) ∙ l .inv .4) (l .inv .3)
+
+pub tidy-entry-spec : {M : Type 1} → statement M
+tidy-entry-spec =
+    tie.close
+    (tie.spec
+    Inv-loop
+    μ-loop
+    loop-holds
+    shared-slice-read-keep
+    keep-requires
+    add-i
+    loop-less
+    loop-again
+    same-length
+    returns)

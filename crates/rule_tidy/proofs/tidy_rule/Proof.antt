@@ -1,0 +1,35 @@
+-- `rule_tidy::tidy_rule` meets its contract: the clauses of a well-formed rule are over its states.
+use Prim.Native.Nat.{ℕ}
+use mathlib.Core.Path.{_∙_, ap}
+use mathlib.Core.List.{List}
+use borrow.Author.Needs.{needs}
+use lib.ListN.{length}
+use Rattle.rule_tidy_spec.specs.Tidy.{tidyRule}
+use Rattle.rule_tidy_spec.proofs.Eight.{counts-eight, clauses-eight}
+use Rattle.rule_tidy.specs.Filled.{filled}
+use Rattle.rule_tidy.proofs.tidy_rule.Statement.{statement}
+use Rattle.rule_tidy.proofs.tidy_rule.Tie as tie
+
+tidy-lists-requires : tie.Need-tidy-lists-requires
+tidy-lists-requires c κs = search needs
+
+same-length : tie.Need-same-length
+same-length c = search needs
+
+same-length-2 : tie.Need-same-length-2
+same-length-2 c = search needs
+
+returns : tie.Need-returns
+unfolding tidyRule
+returns c =
+    let a = c .before .before .before .before .before .before .before .before .before .before .before .args in
+    let w = c .before .before .before .before .before .before .before .before .before .before .before .pre .0 in
+    let t = c .before .before .before .before .tidy-lists .ensures in
+    let e = counts-eight (a .h .n) (w .few-states) (a .counts .now) (a .clauses .now) (w .clause-states) in
+    let f = clauses-eight (a .h .n) (w .few-states) (a .counts .now) (a .clauses .now) (w .clause-states) in (
+      t .0 ∙ ap length f,
+      (t .1 .0 ∙ ap (λ (x : List ℕ). filled x (a .counts2 .now)) e, t .1 .1 ∙ ap (λ (x : List ℕ). filled x (a .clauses2 .now)) f),
+    )
+
+pub tidy-rule-spec : {M : Type 1} → statement M
+tidy-rule-spec = tie.close (tie.spec tidy-lists-requires same-length same-length-2 returns)

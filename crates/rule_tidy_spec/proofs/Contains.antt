@@ -1,0 +1,73 @@
+-- Clauses inside one another, and the sets that satisfy an entry.
+use mathlib.Core.Path.{_≡_, refl, sym, _∙_, ap}
+use mathlib.Core.Logic.{⊎-elim, by-cases}
+use mathlib.Core.Bool.{true, false, not}
+use mathlib.Core.List.{List, [], _∷_, List·Memᴰ, List·Memᴰ·head, List·Memᴰ·tail, List·Memᴰ·cases-cons, List·Memᴰ·not-nil}
+use Prim.Native.Nat.{ℕ, _^_, _<_}
+use native.Mathlib.Omega.{arith}
+use native.Mathlib.Decide.{ℕ-discrete}
+use Rattle.sets.specs.Tests.{Set}
+use Rattle.sets.specs.Masks.{bit, inside}
+use Rattle.sets.proofs.Bools.{bif, clash, and-l, and-r, and-i, or-l, or-r, or-cases, not-t, iff}
+use Rattle.sets.proofs.Bits.{bit-ext, subset-le}
+use Rattle.sets.proofs.Members.{inside-at, inside-all}
+use Rattle.theory.specs.Rule.{satisfies}
+use Rattle.rule_tidy_spec.specs.Tidy.{contains, properlyContains}
+
+pub contains-refl : (n c : ℕ) → contains n c c ≡ true
+contains-refl n c = inside-all n (bit c) c (λ q l b. b)
+
+-- what contains c contains what c contains
+pub inside-trans : (n : ℕ) (X : Set) (c d : ℕ) → inside n X c ≡ true → contains n c d ≡ true → inside n X d ≡ true
+inside-trans n X c d e h = inside-all n X d (λ q l b. inside-at n X c e q l (inside-at n (bit c) d h q l b))
+
+-- clauses over n states that contain each other are equal
+pub contains-antisym : (n c d : ℕ) → c < 2 ^ n → d < 2 ^ n → contains n c d ≡ true → contains n d c ≡ true → c ≡ d
+contains-antisym n c d k l e h =
+    bit-ext n c d k l (λ q m. iff (bit c q) (bit d q) (inside-at n (bit d) c h q m) (inside-at n (bit c) d e q m))
+
+pub properly-out : (n c d : ℕ) → properlyContains n c d ≡ true → (contains n c d ≡ true) × (contains n d c ≡ false)
+unfolding properlyContains
+properly-out n c d e = (and-l (contains n c d) (not (contains n d c)) e, not-t (contains n d c) (and-r (contains n c d) (not (contains n d c)) e))
+
+-- a clause that is contained, and not properly, contains in turn
+pub not-properly : (n c d : ℕ) → properlyContains n c d ≡ false → contains n c d ≡ true → contains n d c ≡ true
+unfolding properlyContains
+not-properly n c d e h = bif (contains n d c) (λ t. t) (λ t. clash (and-i h (ap not t)) e)
+
+-- no clause contains itself properly
+pub properly-irrefl : (n c : ℕ) → properlyContains n c c ≡ false
+unfolding properlyContains
+properly-irrefl n c = rw (contains-refl n c)
+
+-- what is not contained is not contained properly
+pub properly-none : (n c d : ℕ) → contains n c d ≡ false → properlyContains n c d ≡ false
+unfolding properlyContains
+properly-none n c d e = rw e
+
+-- a clause over n states is smaller than one that contains it properly
+pub properly-lt : (n c d : ℕ) → d < 2 ^ n → properlyContains n c d ≡ true → d < c
+properly-lt n c d l e =
+    let r = properly-out n c d e in
+    let h = subset-le n d c l (inside-at n (bit c) d (r .0)) in
+    by-cases (ℕ-discrete d c) (λ x. clash (rw x (contains-refl n c)) (r .1)) (λ x. omega arith)
+
+-- ---- the clause that a set contains
+
+pub met-out : (n : ℕ) (X : Set) (cs : List ℕ) → satisfies n X cs ≡ true → (c : ℕ) × List·Memᴰ c cs × (inside n X c ≡ true)
+unfolding satisfies
+met-out n X [] e = clash e refl
+met-out n X (c ∷ cs) e =
+    ⊎-elim
+    (λ t. (c, List·Memᴰ·head refl, t))
+    (λ t. let r = met-out n X cs t in (r .0, List·Memᴰ·tail (r .1), r .2))
+    (or-cases (inside n X c) (satisfies n X cs) e)
+
+pub met-in : (n : ℕ) (X : Set) (cs : List ℕ) (c : ℕ) → List·Memᴰ c cs → inside n X c ≡ true → satisfies n X cs ≡ true
+unfolding satisfies
+met-in n X [] c m e = absurd (List·Memᴰ·not-nil m)
+met-in n X (d ∷ cs) c m e =
+    ⊎-elim
+    (λ p. or-l (inside n X d) (satisfies n X cs) (ap (inside n X) (sym p) ∙ e))
+    (λ k. or-r (inside n X d) (satisfies n X cs) (met-in n X cs c k e))
+    (List·Memᴰ·cases-cons m)

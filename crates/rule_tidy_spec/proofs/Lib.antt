@@ -1,0 +1,9 @@
+pub mod Cases
+pub mod Contains
+pub mod Minimal
+pub mod Unnested
+pub mod Entries
+pub mod Eight
+pub mod Rules
+pub mod Plans
+pub mod Builds

@@ -1,0 +1,61 @@
+-- `set_masks::union_over` meets its contract.
+use Prim.Native.Nat.{_<_, _-_}
+use native.Mathlib.Omega.{arith}
+use lib.Bits.{and-le-r}
+use lib.Count.{trailingZeros}
+use Rattle.sets.proofs.Members.{least-lt}
+use Rattle.set_masks.proofs.Over.{Joined, start, turn, done}
+use Rattle.set_masks.proofs.union_over.Statement.{statement}
+use Rattle.set_masks.proofs.union_over.Tie as tie
+
+abbrev Inv-loop : tie.InvT-loop
+Inv-loop m es r₀ left₀ r left = (left < 256) × Joined es m r left
+
+abbrev μ-loop : tie.MeasureT-loop
+μ-loop m es r₀ left₀ r left = left
+
+loop-holds : tie.Need-loop-holds Inv-loop μ-loop
+loop-holds c = (omega arith, start (c .args .es .now) (c .args .m))
+
+-- the least state of what is left is a state
+below : (c : tie.In-loop Inv-loop μ-loop) → trailingZeros 8 (c .before .loop .left) < 8
+below c = least-lt 8 (c .before .loop .left) (omega arith) (omega arith)
+
+cast-q : tie.Need-cast-q Inv-loop μ-loop
+cast-q c = omega (arith, below c)
+
+element-copy-out-r : tie.Need-element-copy-out-r Inv-loop μ-loop
+element-copy-out-r c = omega (arith, below c)
+
+sub-left : tie.Need-sub-left Inv-loop μ-loop
+sub-left c = omega arith
+
+loop-less : tie.Need-loop-less Inv-loop μ-loop
+loop-less c = omega (arith, and-le-r (c .before .before .loop .left) (c .before .before .loop .left - 1))
+
+loop-again : tie.Need-loop-again Inv-loop μ-loop
+loop-again c =
+    let es = c .before .before .before .args .es .now in
+    let l = c .before .before .loop in (
+      omega (arith, and-le-r (l .left) (l .left - 1)),
+      turn es (c .before .before .before .args .m) (l .r) (l .left) (omega arith) (omega arith) (l .inv .1),
+    )
+
+returns : tie.Need-returns Inv-loop μ-loop
+returns c =
+    let l = c .before .loop in
+    done (c .before .before .args .es .now) (c .before .before .args .m) (l .r) (l .left) (c .loop-test .left) (l .inv .1)
+
+pub union-over-spec : {M : Type 1} → statement M
+union-over-spec =
+    tie.close
+    (tie.spec
+    Inv-loop
+    μ-loop
+    loop-holds
+    cast-q
+    element-copy-out-r
+    sub-left
+    loop-less
+    loop-again
+    returns)

@@ -1,0 +1,27 @@
+-- `slice_text::put_word` meets its contract: a blank, then the digits.
+use native.Mathlib.Omega.{arith}
+use borrow.Author.Needs.{needs}
+use Rattle.slice_text.specs.Decimal.{word}
+use Rattle.slice_text.proofs.Decimal.{word-length}
+use Rattle.slice_text.proofs.Puts.{put-then}
+use Rattle.slice_text.proofs.put_word.Statement.{statement}
+use Rattle.slice_text.proofs.put_word.Tie as tie
+
+put-byte-requires : tie.Need-put-byte-requires
+put-byte-requires c κs = let a = c .before .before .args in omega (arith, word-length (a .x))
+
+put-decimal-requires : tie.Need-put-decimal-requires
+put-decimal-requires c κs =
+    let a = c .before .before .before .before .before .before .args in
+    omega (arith, word-length (a .x))
+
+same-length : tie.Need-same-length
+same-length c = search needs
+
+returns : tie.Need-returns
+unfolding word
+returns c =
+    put-then (c .before .before .before .before .before .before .put-byte .ensures) (c .before .before .put-decimal .ensures)
+
+pub put-word-spec : {M : Type 1} → statement M
+put-word-spec = tie.close (tie.spec put-byte-requires put-decimal-requires same-length returns)

@@ -1,0 +1,98 @@
+-- `table_fixpoints::fixpoints::settle` meets its contract.
+use mathlib.Core.Path.{_≡_, sym, _∙_}
+use mathlib.Core.Logic.{inl, inr}
+use mathlib.Core.Bool.{true, false, true≢false}
+use Prim.Native.Nat.{_-_, _≤_}
+use native.Mathlib.Omega.{arith}
+use borrow.Author.Needs.{needs}
+use lib.ListN.{getD}
+use Rattle.graph_walks.specs.Marks.{settled, goesOut}
+use Rattle.graph_walks.specs.Rounds.{Settling}
+use Rattle.graph_walks.proofs.Rounds.{settling-start, settling-next}
+use Rattle.table_fixpoints.proofs.fixpoints.settle.Statement.{statement}
+use Rattle.table_fixpoints.proofs.fixpoints.settle.Tie as tie
+
+abbrev Inv-loop : tie.InvT-loop
+Inv-loop marks₀ from to changed₀ i₀ marks changed i = (from ≤ i) × (i ≤ to) × Settling from i marks₀ marks changed
+
+abbrev μ-loop : tie.MeasureT-loop
+μ-loop marks₀ from to changed₀ i₀ marks changed i = to - i
+
+loop-holds : tie.Need-loop-holds Inv-loop μ-loop
+loop-holds c = (omega arith, omega arith, settling-start _ _)
+
+slice-read-v : tie.Need-slice-read-v Inv-loop μ-loop
+slice-read-v c = omega (arith, c .before .before .loop .inv .2 .long)
+
+settled-mark-requires : tie.Need-settled-mark-requires Inv-loop μ-loop
+settled-mark-requires c κs = search needs
+
+slice-write-marks : tie.Need-slice-write-marks Inv-loop μ-loop
+slice-write-marks c = omega arith
+
+add-i : tie.Need-add-i Inv-loop μ-loop
+add-i c = omega arith
+
+goes-out-requires : tie.Need-goes-out-requires Inv-loop μ-loop
+goes-out-requires c κs = search needs
+
+loop-less : tie.Need-loop-less Inv-loop μ-loop
+loop-less c = omega arith
+
+loop-again : tie.Need-loop-again Inv-loop μ-loop
+loop-again c =
+    let a = c .before .before .before .before .before .before .before .args in
+    let l = c .before .before .before .before .before .loop in
+    let s = l .inv .2 in
+    let v = getD (l .marks) (l .i) 0 in
+    let told : goesOut v ≡ true = sym (c .before .goes-out .ensures) ∙ c .if1 .taken in
+    let mark : c .before .before .settled-mark .result ≡ settled v = c .before .before .settled-mark .ensures in (
+      omega arith,
+      omega arith,
+      rw mark (settling-next (a .from) (a .marks .now) (l .i) (l .marks) (l .changed) s (l .inv .0) (omega (arith, s .long)) true (λ e. inr told) (λ e. absurd (true≢false e))),
+    )
+
+loop-less-2 : tie.Need-loop-less-2 Inv-loop μ-loop
+loop-less-2 c = omega arith
+
+loop-again-2 : tie.Need-loop-again-2 Inv-loop μ-loop
+loop-again-2 c =
+    let a = c .before .before .before .before .before .before .before .args in
+    let l = c .before .before .before .before .before .loop in
+    let s = l .inv .2 in
+    let v = getD (l .marks) (l .i) 0 in
+    let told : goesOut v ≡ false = sym (c .before .goes-out .ensures) ∙ c .if1 .left in
+    let mark : c .before .before .settled-mark .result ≡ settled v = c .before .before .settled-mark .ensures in (
+      omega arith,
+      omega arith,
+      rw mark (settling-next (a .from) (a .marks .now) (l .i) (l .marks) (l .changed) s (l .inv .0) (omega (arith, s .long)) (l .changed) (λ e. inl e) (λ e. (e, told))),
+    )
+
+same-length : tie.Need-same-length Inv-loop μ-loop
+same-length c = c .before .loop .inv .2 .long
+
+returns : tie.Need-returns Inv-loop μ-loop
+returns c =
+    let a = c .before .before .before .args in
+    let l = c .before .loop in
+    let e : l .i ≡ a .to = omega arith in
+    rw e at (l .inv .2)
+
+pub settle-spec : {M : Type 1} → statement M
+settle-spec =
+    tie.close
+    (tie.spec
+    Inv-loop
+    μ-loop
+    loop-holds
+    slice-read-v
+    settled-mark-requires
+    slice-write-marks
+    add-i
+    goes-out-requires
+    loop-less
+    loop-again
+    loop-less-2
+    loop-again-2
+    same-length
+    returns)

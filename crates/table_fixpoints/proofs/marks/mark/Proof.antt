@@ -1,0 +1,55 @@
+-- `table_fixpoints::marks::mark` meets its contract.
+use Prim.Native.Nat.{_<_}
+use native.Mathlib.Omega.{arith}
+use borrow.Author.Needs.{needs}
+use lib.ListN.{getD}
+use Rattle.graph_walks.proofs.Marking.{mark-yes, mark-no}
+use Rattle.table_fixpoints.proofs.marks.mark.Statement.{statement}
+use Rattle.table_fixpoints.proofs.marks.mark.Tie as tie
+
+slice-read-if1 : tie.Need-slice-read-if1
+slice-read-if1 c = search needs
+
+returns : tie.Need-returns
+returns c = let a = c .before .before .args in mark-no (a .x) (a .y) (a .marks .now) (λ d. omega arith)
+
+slice-read-v : tie.Need-slice-read-v
+slice-read-v c = search needs
+
+returns-2 : tie.Need-returns-2
+returns-2 c = let a = c .before .before .before .before .args in mark-no (a .x) (a .y) (a .marks .now) (λ d. omega arith)
+
+returns-3 : tie.Need-returns-3
+returns-3 c = let a = c .before .before .before .before .before .args in mark-no (a .x) (a .y) (a .marks .now) (λ d. omega arith)
+
+add-marks : tie.Need-add-marks
+add-marks c = search needs
+
+slice-write-marks : tie.Need-slice-write-marks
+slice-write-marks c = search needs
+
+same-length : tie.Need-same-length
+same-length c = search needs
+
+returns-4 : tie.Need-returns-4
+returns-4 c =
+    let a = c .before .before .before .before .before .args in
+    let ms = a .marks .now in
+    let known : 1 < getD ms (a .y) 0 = omega arith in
+    let member : 0 < getD ms (a .x) 0 = omega arith in
+    let free : getD ms (a .x) 0 < 3 = omega arith in
+    mark-yes (a .x) (a .y) ms (record { known = known; member = member; free = free })
+
+pub mark-spec : {M : Type 1} → statement M
+mark-spec =
+    tie.close
+    (tie.spec
+    slice-read-if1
+    returns
+    slice-read-v
+    returns-2
+    returns-3
+    add-marks
+    slice-write-marks
+    same-length
+    returns-4)

@@ -1,0 +1,95 @@
+-- `table_fixpoints::marks::mark_all` meets its contract.
+use mathlib.Core.Path.{_≡_}
+use mathlib.Core.Bool.{true}
+use Prim.Native.Nat.{_-_, _≤_, _<_}
+use native.Mathlib.Omega.{arith}
+use borrow.Author.Needs.{needs}
+use lib.ListN.{length, getD}
+use Rattle.sets.proofs.Lists.{mem-at}
+use Rattle.table_lent.specs.Lent.{inBoth}
+use Rattle.table_fixpoints_spec.proofs.Loops.{or-now, or-before, Passed, passed-start, passed-next, passed-end}
+use Rattle.table_fixpoints.proofs.marks.mark_all.Statement.{statement}
+use Rattle.table_fixpoints.proofs.marks.mark_all.Tie as tie
+
+abbrev Inv-loop : tie.InvT-loop
+Inv-loop moves movebytes letter marks₀ here there m changed₀ i₀ marks changed i =
+    (i ≤ m) × Passed letter here there (inBoth moves movebytes .numbers) marks₀ marks changed i
+
+abbrev μ-loop : tie.MeasureT-loop
+μ-loop moves movebytes letter marks₀ here there m changed₀ i₀ marks changed i = m - i
+
+count-requires : tie.Need-count-requires Inv-loop μ-loop
+count-requires c κs = search needs
+
+loop-holds : tie.Need-loop-holds Inv-loop μ-loop
+loop-holds c = (omega arith, passed-start _ _ _ _ _)
+
+element-requires : tie.Need-element-requires Inv-loop μ-loop
+element-requires c κs = omega arith
+
+add-i : tie.Need-add-i Inv-loop μ-loop
+add-i c = omega arith
+
+mark-over-requires : tie.Need-mark-over-requires Inv-loop μ-loop
+mark-over-requires c κs =
+    let a = c .before .before .before .before .before .before .before .before .args in
+    let l = c .before .before .before .loop in
+    let ts = inBoth (a .moves .now) (a .movebytes .now) .numbers in
+    let inside : l .i < length ts = omega arith in
+    let e : c .before .element .result ≡ getD ts (l .i) 0 = c .before .element .ensures in
+    let q = c .before .before .before .before .before .before .before .before .pre (getD ts (l .i) 0) (mem-at ts (l .i) inside) in
+    let long : length (l .marks) ≡ length (a .marks .now) = l .inv .1 .long in
+    (omega (arith, q .0), omega (arith, q .1))
+
+loop-less : tie.Need-loop-less Inv-loop μ-loop
+loop-less c = omega arith
+
+loop-again : tie.Need-loop-again Inv-loop μ-loop
+loop-again c =
+    let a = c .before .before .before .before .before .before .before .before .before .before .before .before .args in
+    let l = c .before .before .before .before .before .before .before .loop in
+    let o = c .before .before .before .mark-over .ensures in (
+      omega arith,
+      passed-next (a .letter) (a .here) (a .there) _ (a .marks .now) (l .marks) _ (l .changed) _ true (l .i) _ (omega arith) (l .inv .1)
+          (c .before .before .before .before .before .element .ensures) (o .0) (o .1) (or-now (l .changed) _ (c .if1 .taken)),
+    )
+
+loop-less-2 : tie.Need-loop-less-2 Inv-loop μ-loop
+loop-less-2 c = omega arith
+
+loop-again-2 : tie.Need-loop-again-2 Inv-loop μ-loop
+loop-again-2 c =
+    let a = c .before .before .before .before .before .before .before .before .before .before .before .before .args in
+    let l = c .before .before .before .before .before .before .before .loop in
+    let o = c .before .before .before .mark-over .ensures in (
+      omega arith,
+      passed-next (a .letter) (a .here) (a .there) _ (a .marks .now) (l .marks) _ (l .changed) _ (l .changed) (l .i) _ (omega arith) (l .inv .1)
+          (c .before .before .before .before .before .element .ensures) (o .0) (o .1) (or-before (l .changed) _ (c .if1 .left)),
+    )
+
+same-length : tie.Need-same-length Inv-loop μ-loop
+same-length c = c .before .loop .inv .1 .long
+
+returns : tie.Need-returns Inv-loop μ-loop
+returns c =
+    let a = c .before .before .before .before .before .before .args in
+    let l = c .before .loop in
+    passed-end (a .letter) (a .here) (a .there) (inBoth (a .moves .now) (a .movebytes .now) .numbers) (a .marks .now) (l .marks) (l .changed) (l .i) (omega arith) (l .inv .1)
+
+pub mark-all-spec : {M : Type 1} → statement M
+mark-all-spec =
+    tie.close
+    (tie.spec
+    Inv-loop
+    μ-loop
+    count-requires
+    loop-holds
+    element-requires
+    add-i
+    mark-over-requires
+    loop-less
+    loop-again
+    loop-less-2
+    loop-again-2
+    same-length
+    returns)

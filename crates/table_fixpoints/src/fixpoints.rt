@@ -1,0 +1,102 @@
+// Takes nodes out of the product of a table and a cycle until those with an endless walk are left, or those with one that meets
+// accepting nodes again and again.
+use crate::rounds::mark_place;
+use crate::rounds::mark_until_stable;
+ghost use mathlib.Core.Path.{_≡_};
+ghost use mathlib.Core.Logic.{_⊎_};
+ghost use Prim.Native.Nat.{ℕ, _≤_};
+ghost use lib.ListN.{length, getD};
+ghost use Rattle.table_lent.specs.Lent.{inBoth};
+ghost use Rattle.graph_walks.specs.Walks.{Pruned, Solved};
+ghost use Rattle.table_fixpoints_spec.specs.Product.{NodeEdge, Fits};
+ghost use Rattle.graph_walks.specs.Marks.{settled, goesOut};
+ghost use Rattle.graph_walks.specs.Rounds.{Settling, PruneRound, SolveRound};
+
+// A mark after settling: 0 if the node is not marked, else without its mark.
+fn settled_mark(v: u8) -> u8
+    ensures { λ r. ⌜ r ≡ settled v ⌝ }
+{
+    if v < 3 {
+        return 0;
+    }
+    v - 2
+}
+
+// Whether settling takes a node with mark v out.
+fn goes_out(v: u8) -> bool
+    ensures { λ r. ⌜ r ≡ goesOut v ⌝ }
+{
+    if 3 <= v {
+        return false;
+    }
+    0 < v
+}
+
+// Of the nodes from `from` up to `to`, takes out those that are not marked, and the marks off the others; whether a node went out.
+fn settle(marks: &mut [u8], from: usize, to: usize) -> bool
+    requires { ⌜ (from ≤ to) × (to ≤ length (now marks)) ⌝ }
+    ensures { λ r. ⌜ Settling from to (now (marks .entry)) (now (marks .exit)) r ⌝ }
+{
+    let mut changed = false;
+    let mut i = from;
+    while i < to {
+        let v = marks[i];
+        marks[i] = settled_mark(v);
+        i += 1;
+        if goes_out(v) {
+            changed = true;
+        }
+    }
+    changed
+}
+
+// One round over the places from the last to the first: nodes without an edge to a node that is in go out.
+fn prune_round(moves: &[u64], movebytes: &[u8], cycle: &[u8], n: usize, marks: &mut [u8]) -> bool
+    requires { ⌜ Fits n (now cycle) (inBoth (now moves) (now movebytes) .numbers) (now marks)
+        × ((x : ℕ) → (getD (now marks) x 0 ≡ 0) ⊎ (getD (now marks) x 0 ≡ 2)) ⌝ }
+    ensures { λ r. ⌜ PruneRound (NodeEdge n (now (cycle .entry)) (inBoth (now (moves .entry)) (now (movebytes .entry)) .numbers))
+        (now (marks .entry)) (now (marks .exit)) r ⌝ }
+{
+    let mut changed = false;
+    let mut p = cycle.len();
+    while 0 < p {
+        p -= 1;
+        mark_place(moves, movebytes, cycle, n, marks, p);
+        if settle(marks, p * n, p * n + n) {
+            changed = true;
+        }
+    }
+    changed
+}
+
+// Takes out nodes without an endless walk, until a round finds none.
+pub fn prune(moves: &[u64], movebytes: &[u8], cycle: &[u8], n: usize, marks: &mut [u8])
+    requires { ⌜ Fits n (now cycle) (inBoth (now moves) (now movebytes) .numbers) (now marks)
+        × ((x : ℕ) → (getD (now marks) x 0 ≡ 0) ⊎ (getD (now marks) x 0 ≡ 2)) ⌝ }
+    ensures { λ _. ⌜
+        Pruned (NodeEdge n (now (cycle .entry)) (inBoth (now (moves .entry)) (now (movebytes .entry)) .numbers)) (now (marks .entry))
+        (now (marks .exit)) ⌝ }
+{
+    while prune_round(moves, movebytes, cycle, n, marks) {}
+}
+
+// Takes out the nodes without a walk to an accepting one; whether there were such.
+fn solve_round(moves: &[u64], movebytes: &[u8], cycle: &[u8], n: usize, marks: &mut [u8]) -> bool
+    requires { ⌜ Fits n (now cycle) (inBoth (now moves) (now movebytes) .numbers) (now marks) × ((x : ℕ) → getD (now marks) x 0 ≤ 2) ⌝ }
+    ensures { λ r. ⌜ SolveRound (NodeEdge n (now (cycle .entry)) (inBoth (now (moves .entry)) (now (movebytes .entry)) .numbers))
+        (now (marks .entry)) (now (marks .exit)) r ⌝ }
+{
+    mark_until_stable(moves, movebytes, cycle, n, marks);
+    let end = marks.len();
+    settle(marks, 0, end)
+}
+
+// Takes out nodes until from each that is left a walk leads to an accepting one that is left.
+pub fn solve(moves: &[u64], movebytes: &[u8], cycle: &[u8], n: usize, marks: &mut [u8])
+    requires { ⌜ Fits n (now cycle) (inBoth (now moves) (now movebytes) .numbers) (now marks) × ((x : ℕ) → getD (now marks) x 0 ≤ 2) ⌝ }
+    ensures { λ _. ⌜
+        Solved (NodeEdge n (now (cycle .entry)) (inBoth (now (moves .entry)) (now (movebytes .entry)) .numbers)) (now (marks .entry))
+        (now (marks .exit)) ⌝ }
+{
+    while solve_round(moves, movebytes, cycle, n, marks) {}
+}

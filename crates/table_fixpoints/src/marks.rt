@@ -1,0 +1,73 @@
+// Marks the source of a transition whose target is accepting or marked.
+use codes::letter_of;
+use codes::source_of;
+use codes::target_of;
+use table_lent::count;
+use table_lent::element;
+ghost use mathlib.Core.Path.{_≡_};
+ghost use mathlib.Core.List.{List·Memᴰ};
+ghost use Prim.Native.Nat.{ℕ, _+_, _<_};
+ghost use lib.ListN.{length};
+ghost use Rattle.theory.specs.Run.{sourceOf, targetOf};
+ghost use Rattle.table_lent.specs.Lent.{inBoth};
+ghost use Rattle.graph_walks.specs.Marks.{marked, isNew};
+ghost use Rattle.table_fixpoints_spec.specs.Marks.{markedOver, isNewOver, markedAll, isNewAll};
+
+// Marks x if it is in and y is accepting or marked; whether others may be marked for that.
+fn mark(marks: &mut [u8], x: usize, y: usize) -> bool
+    requires { ⌜ (x < length (now marks)) × (y < length (now marks)) ⌝ }
+    ensures { λ r. ⌜ (now (marks .exit) ≡ marked x y (now (marks .entry))) × (r ≡ isNew x y (now (marks .entry))) ⌝ }
+{
+    if marks[y] < 2 {
+        return false;
+    }
+    let v = marks[x];
+    if v == 0 {
+        return false;
+    }
+    if 2 < v {
+        return false;
+    }
+    marks[x] = v + 2;
+    v == 1
+}
+
+// The same for the ends of a transition, if it is one over the letter.
+fn mark_over(t: u64, letter: usize, marks: &mut [u8], here: usize, there: usize) -> bool
+    requires { ⌜ (here + sourceOf t < length (now marks)) × (there + targetOf t < length (now marks)) ⌝ }
+    ensures { λ r. ⌜ (now (marks .exit) ≡ markedOver letter here there t (now (marks .entry)))
+        × (r ≡ isNewOver letter here there t (now (marks .entry))) ⌝ }
+{
+    if letter_of(t) != letter {
+        return false;
+    }
+    mark(marks, here + source_of(t), there + target_of(t))
+}
+
+// The same for every transition.
+pub fn mark_all(
+    moves: &[u64],
+    movebytes: &[u8],
+    letter: usize,
+    marks: &mut [u8],
+    here: usize,
+    there: usize,
+) -> bool
+    requires { ⌜ ((t : ℕ) → List·Memᴰ t (inBoth (now moves) (now movebytes) .numbers) → (here + sourceOf t < length (now marks))
+        × (there + targetOf t < length (now marks))) ⌝ }
+    ensures { λ r. ⌜ (now (marks .exit)
+        ≡ markedAll letter here there (inBoth (now (moves .entry)) (now (movebytes .entry)) .numbers) (now (marks .entry)))
+        × (r ≡ isNewAll letter here there (inBoth (now (moves .entry)) (now (movebytes .entry)) .numbers) (now (marks .entry))) ⌝ }
+{
+    let m = count(moves, movebytes);
+    let mut changed = false;
+    let mut i = 0;
+    while i < m {
+        let t = element(moves, movebytes, i);
+        i += 1;
+        if mark_over(t, letter, marks, here, there) {
+            changed = true;
+        }
+    }
+    changed
+}

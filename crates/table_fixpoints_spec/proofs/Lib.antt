@@ -1,0 +1,4 @@
+pub mod Marking
+pub mod Places
+pub mod Pruning
+pub mod Loops

@@ -1,0 +1,70 @@
+// The judge of words on a built table.
+use file_read::Read;
+use file_read::read_rule;
+use table_call::Start;
+use table_call::judge_lent;
+ghost use Rattle.table_lent.specs.Lent.{inWords, inBytes};
+ghost use Rattle.table_judge.specs.Tables.{JudgedTable};
+
+// Whether an accepting run of a table over a word begins in an initial macrostate, and the lowest number of one where it does.
+// Refused by the rows of the rule, word, table and slices, in this order, and scratch is then unchanged; else it is zero throughout.
+pub fn judge_table(
+    file: &[u8],
+    lead: &[u8],
+    cycle: &[u8],
+    codes: &[u64],
+    transitions: &[u64],
+    scratch: &mut [u8],
+) -> Start
+    ensures { λ r. ⌜ JudgedTable (now (file .entry)) (now (lead .entry)) (now (cycle .entry)) (inWords (now (codes .entry)))
+        (inWords (now (transitions .entry))) (now (scratch .entry)) (now (scratch .exit)) r ⌝ }
+{
+    match read_rule(file) {
+        Read::Accepted(l) => {
+            let h = l.head;
+            judge_lent(
+                h,
+                lead,
+                cycle,
+                codes,
+                &file[..0],
+                transitions,
+                &file[..0],
+                scratch,
+            )
+        }
+        Read::Refused(k) => Start::Refused(k),
+    }
+}
+
+// The same for a table in bytes, each code and transition as 8 bytes, low byte first.
+pub fn judge_table_bytes(
+    file: &[u8],
+    lead: &[u8],
+    cycle: &[u8],
+    codes: &[u8],
+    transitions: &[u8],
+    scratch: &mut [u8],
+) -> Start
+    ensures { λ r. ⌜ JudgedTable (now (file .entry)) (now (lead .entry)) (now (cycle .entry)) (inBytes (now (codes .entry)))
+        (inBytes (now (transitions .entry))) (now (scratch .entry)) (now (scratch .exit)) r ⌝ }
+{
+    match read_rule(file) {
+        Read::Accepted(l) => {
+            let h = l.head;
+            let codewords = [0u64; 1];
+            let movewords = [0u64; 1];
+            judge_lent(
+                h,
+                lead,
+                cycle,
+                &codewords[..0],
+                codes,
+                &movewords[..0],
+                transitions,
+                scratch,
+            )
+        }
+        Read::Refused(k) => Start::Refused(k),
+    }
+}

@@ -1,0 +1,38 @@
+-- `element` meets its contract.
+use mathlib.Core.Path.{sym, _∙_}
+use native.Mathlib.Omega.{arith}
+use borrow.Author.Needs.{needs}
+use Rattle.table_lent.proofs.element.Statement.{statement}
+use Rattle.table_lent.proofs.element.Tie as tie
+use Rattle.table_lent.proofs.Reading.{both-length, both-low, both-high}
+
+mul-result : tie.Need-mul-result
+mul-result c = search needs
+
+shared-slice-read-result : tie.Need-shared-slice-read-result
+shared-slice-read-result c = omega arith
+
+returns : tie.Need-returns
+returns c =
+    let a = c .before .before .before .before .args in
+    sym (both-low (a .words .now) (a .bytes .now) (a .i) (omega arith))
+
+mul-word-at : tie.Need-mul-word-at
+mul-word-at c =
+    let a = c .before .before .before .args in
+    omega (arith, both-length (a .words .now) (a .bytes .now))
+
+word-at-requires : tie.Need-word-at-requires
+word-at-requires c κs =
+    let a = c .before .before .before .args in
+    omega (arith, both-length (a .words .now) (a .bytes .now))
+
+returns-2 : tie.Need-returns-2
+returns-2 c =
+    let a = c .before .before .before .before .args in
+    c .word-at .ensures ∙ sym (both-high (a .words .now) (a .bytes .now) (a .i) (omega arith) (omega (arith, both-length (a .words .now) (a .bytes .now))))
+
+pub element-spec : {M : Type 1} → statement M
+element-spec =
+    tie.close
+    (tie.spec mul-result shared-slice-read-result returns mul-word-at word-at-requires returns-2)

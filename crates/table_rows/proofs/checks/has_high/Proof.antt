@@ -1,0 +1,73 @@
+-- `has_high` meets its contract. The loop's invariant: the test of the whole list is that of what is left of it.
+use Prim.Native.Nat.{_-_, _<_, _≤_, _^_}
+use mathlib.Core.Path.{_≡_, refl, sym, _∙_, ap}
+use native.Mathlib.Omega.{arith}
+use lib.ListN.{drop}
+use borrow.Author.Needs.{needs}
+use Rattle.sets.specs.Lists.{anyOf}
+use Rattle.sets.proofs.Walks.{any-next, any-stop, any-end}
+use Rattle.table_lent.specs.Lent.{inBoth, isHigh}
+use Rattle.table_rows.proofs.Faults.{high, not-high}
+use Rattle.table_rows.proofs.checks.has_high.Statement.{statement}
+use Rattle.table_rows.proofs.checks.has_high.Tie as tie
+
+abbrev Inv-loop : tie.InvT-loop
+Inv-loop words bytes n i₀ i = anyOf (inBoth words bytes .numbers) isHigh ≡ anyOf (drop i (inBoth words bytes .numbers)) isHigh
+
+abbrev μ-loop : tie.MeasureT-loop
+μ-loop words bytes n i₀ i = n - i
+
+count-requires : tie.Need-count-requires Inv-loop μ-loop
+count-requires c κs = search needs
+
+loop-holds : tie.Need-loop-holds Inv-loop μ-loop
+loop-holds c = refl
+
+element-requires : tie.Need-element-requires Inv-loop μ-loop
+element-requires c κs = omega arith
+
+returns : tie.Need-returns Inv-loop μ-loop
+returns c =
+    let a = c .before .before .before .before .before .before .before .args in
+    let xs = inBoth (a .words .now) (a .bytes .now) .numbers in
+    let l = c .before .before .before .loop in
+    let x = c .before .element .result in
+    let above : 2 ^ 48 ≤ x = omega arith in
+    sym (l .inv ∙ any-stop isHigh xs (l .i) (omega arith) (ap isHigh (sym (c .before .element .ensures)) ∙ high x above))
+
+add-i : tie.Need-add-i Inv-loop μ-loop
+add-i c = search needs
+
+loop-less : tie.Need-loop-less Inv-loop μ-loop
+loop-less c = search needs
+
+loop-again : tie.Need-loop-again Inv-loop μ-loop
+loop-again c =
+    let a = c .before .before .before .before .before .before .before .args in
+    let xs = inBoth (a .words .now) (a .bytes .now) .numbers in
+    let l = c .before .before .before .loop in
+    let x = c .before .element .result in
+    let below : x < 2 ^ 48 = omega arith in
+    l .inv ∙ any-next isHigh xs (l .i) (omega arith) (ap isHigh (sym (c .before .element .ensures)) ∙ not-high x below)
+
+returns-2 : tie.Need-returns-2 Inv-loop μ-loop
+returns-2 c =
+    let a = c .before .before .before .before .before .args in
+    let xs = inBoth (a .words .now) (a .bytes .now) .numbers in
+    let l = c .before .loop in
+    sym (l .inv ∙ any-end isHigh xs (l .i) (omega arith))
+
+pub has-high-spec : {M : Type 1} → statement M
+has-high-spec =
+    tie.close
+    (tie.spec
+    Inv-loop
+    μ-loop
+    count-requires
+    loop-holds
+    element-requires
+    returns
+    add-i
+    loop-less
+    loop-again
+    returns-2)

@@ -1,0 +1,53 @@
+-- `is_astray` meets its contract.
+use Prim.Native.Nat.{_<_}
+use mathlib.Core.Path.{sym}
+use native.Mathlib.Omega.{arith}
+use borrow.Author.Needs.{needs}
+use Rattle.theory.specs.Run.{sourceOf, letterOf, targetOf}
+use Rattle.table_rows.proofs.Faults.{source-astray, letter-astray, target-astray, in-range}
+use Rattle.table_rows.proofs.checks.is_astray.Statement.{statement}
+use Rattle.table_rows.proofs.checks.is_astray.Tie as tie
+
+source-of-requires : tie.Need-source-of-requires
+source-of-requires c κs = search needs
+
+returns : tie.Need-returns
+returns c =
+    let a = c .before .before .args in
+    sym (source-astray (a .n) (a .s) (a .t) (omega arith))
+
+letter-of-requires : tie.Need-letter-of-requires
+letter-of-requires c κs = search needs
+
+returns-2 : tie.Need-returns-2
+returns-2 c =
+    let a = c .before .before .before .before .args in
+    sym (letter-astray (a .n) (a .s) (a .t) (omega arith))
+
+target-of-requires : tie.Need-target-of-requires
+target-of-requires c κs = search needs
+
+returns-3 : tie.Need-returns-3
+returns-3 c =
+    let a = c .before .before .before .before .before .before .args in
+    sym (target-astray (a .n) (a .s) (a .t) (omega arith))
+
+returns-4 : tie.Need-returns-4
+returns-4 c =
+    let a = c .before .before .before .before .before .before .args in
+    let source : sourceOf (a .t) < a .n = omega arith in
+    let letter : letterOf (a .t) < a .s = omega arith in
+    let target : targetOf (a .t) < a .n = omega arith in
+    sym (in-range (a .n) (a .s) (a .t) source letter target)
+
+pub is-astray-spec : {M : Type 1} → statement M
+is-astray-spec =
+    tie.close
+    (tie.spec
+    source-of-requires
+    returns
+    letter-of-requires
+    returns-2
+    target-of-requires
+    returns-3
+    returns-4)

@@ -1,0 +1,6 @@
+pub mod Cycles
+pub mod Solution
+pub mod LeadIns
+pub mod Entering
+pub mod Flagging
+pub mod Parts

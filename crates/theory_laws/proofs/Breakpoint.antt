@@ -1,0 +1,149 @@
+-- The sets of an accepting run are certified.
+use mathlib.Core.Path.{_≡_, refl, sym, _∙_, ap}
+use mathlib.Core.Logic.{by-cases}
+use mathlib.Core.Bool.{true, _&&_}
+use Prim.Native.Nat.{ℕ, zero, suc, _+_, _-_, _≤_, _<_}
+use native.Mathlib.Omega.{arith}
+use native.Mathlib.Decide.{ℕ-discrete}
+use native.Mathlib.Nat.{add-zero, zero-add}
+use lib.Dec.{leb}
+use borrow.Author.Tests.{leb-true, le-leb, eq-eqb}
+use Rattle.sets.specs.Tests.{Set}
+use Rattle.sets.proofs.Bools.{and-l, and-r, and-i}
+use Rattle.sets.proofs.Tests.{largest-ge}
+use Rattle.theory.specs.Automaton.{Automaton, Layered}
+use Rattle.theory.specs.Core.{isOpen, settled, test, openOf, nextComponent}
+use Rattle.theory_laws.proofs.Certified.{discharged, Certified, Run}
+use Rattle.theory_laws.proofs.Cores.{next-below, next-last, next-low}
+use Rattle.theory_laws.proofs.Ranks.{settled-open, levAt, lev-test, rank-pos}
+use Rattle.theory_laws.proofs.Settled.{settled-mono}
+
+module _ (A : Automaton) (H : Layered A) (B : ℕ) (w : ℕ → ℕ) (S : ℕ → Set) (r : ℕ → ℕ → ℕ) (K k : ℕ → ℕ) (run : Run A B w S r K k) where
+  -- the open states of component C at i are discharged within d
+  Clear : ℕ → ℕ → ℕ → Type 0
+  Clear i d C = (q : ℕ) → q < A .n → A .component q ≡ C → isOpen A (S i) q ≡ true → discharged A suc w S i d q ≡ true
+
+  discharged-intro : (i d q : ℕ) → isOpen A (S i) q ≡ true → settled A (S (suc i)) (discharged A suc w S (suc i) d) q (A .entry q (w i)) ≡ true → discharged A suc w S i (suc d) q ≡ true
+  unfolding discharged
+  discharged-intro i d q o t = and-i o t
+
+  -- one step earlier
+  earlier : (i d C : ℕ) → Clear (suc i) d C → Clear i (suc d) C
+  unfolding Clear
+  earlier i d C h q l c o = discharged-intro i d q o (settled-mono A _ (isOpen A (S (suc i))) _ q _ (λ p m s t. h p m (s ∙ c) t) (settled-open A H B w S (run .backed .exact) i q l o))
+
+  far-earlier : (t i d C : ℕ) → Clear (i + t) d C → (e : ℕ) × Clear i e C
+  far-earlier zero i d C h = (d, rw add-zero at h)
+  far-earlier (suc t) i d C h =
+      let x : i + suc t ≡ suc i + t = omega arith in
+      let f = far-earlier t (suc i) d C (rw x at h) in
+      (suc (f .0), earlier i (f .0) C (f .1))
+
+  -- the classes that are left at i are discharged by the next accepting step
+  Left : ℕ → ℕ → Type 0
+  Left i d = (q : ℕ) → q < A .n → A .component q ≡ K i → isOpen A (S i) q ≡ true → r i q ≤ k i → discharged A suc w S i d q ≡ true
+
+  left-0 : (i : ℕ) → k i ≡ 0 → Left i 0
+  unfolding Left
+  left-0 i z q l c o h = let p = rank-pos A H B w S (run .backed .exact) r (run .backed .bound) (run .backed .ranked) i q l o in absurd (omega arith)
+
+  left-suc : (i d : ℕ) → (k i ≡ 0 → ⊥) → Left (suc i) d → Left i (suc d)
+  unfolding Left test openOf
+  left-suc i d nz f q l c o h =
+      let low = largest-ge (A .n) (λ q. openOf A (S i) (K i) q && leb (r i q) (k i)) (levAt A B w S r i) q l (and-i (and-i (eq-eqb _ _ c) o) (le-leb _ _ h)) in
+      let e = run .stay-k i nz in
+      let pass : test A (S (suc i)) (r (suc i)) q (A .entry q (w i)) (k (suc i)) ≡ true
+      = sym (lev-test A H B w S (run .backed .exact) r (run .backed .bound) i q l o (k (suc i))) ∙ le-leb (levAt A B w S r i q) (k (suc i)) (omega arith) in
+      discharged-intro i d q o (settled-mono A _ _ _ q _
+      (λ p m s t. f p m (s ∙ c ∙ sym (run .stay-K i nz)) (and-l (isOpen A (S (suc i)) p) _ t) (leb-true _ _ (and-r (isOpen A (S (suc i)) p) _ t))) pass)
+
+  left-go : (t i : ℕ) → k (i + t) ≡ 0 → (d : ℕ) × Left i d
+  left-go zero i e = (0, left-0 i (rw add-zero at e))
+  left-go (suc t) i e =
+      by-cases (ℕ-discrete (k i) 0)
+      (λ z. (0, left-0 i z))
+      (λ nz. let x : i + suc t ≡ suc i + t = omega arith in
+      let f = left-go t (suc i) (rw x at e) in
+      (suc (f .0), left-suc i (f .0) nz (f .1)))
+
+  -- after an accepting step all of the new component is discharged
+  turn : (i : ℕ) → k i ≡ 0 → (d : ℕ) × Clear (suc i) d (nextComponent A (K i))
+  unfolding Clear Left openOf
+  turn i z =
+      let a = run .accepts (suc i) in
+      let x : suc i + (a .0 - suc i) ≡ a .0 = omega (arith, a .1) in
+      let f = left-go (a .0 - suc i) (suc i) (ap k x ∙ a .2) in (
+        f .0,
+        λ q l c o. f .1 q l (c ∙ sym (run .turn-K i z)) o
+            (let m = largest-ge (A .n) (openOf A (S (suc i)) (K (suc i))) (r (suc i)) q l (and-i (eq-eqb _ _ (c ∙ sym (run .turn-K i z))) o) in
+            let e = run .turn-k i z in omega arith),
+      )
+
+  -- the next accepting step, with the same component at work
+  record Stop (i C : ℕ) : Type 0 where
+    at : ℕ
+    later : i ≤ at
+    zero-k : k at ≡ 0
+    comp-K : K at ≡ C
+
+  stop-go : (t i : ℕ) → k (i + t) ≡ 0 → Stop i (K i)
+  stop-go zero i e = record { at = i; later = omega arith; zero-k = rw add-zero at e; comp-K = refl }
+  stop-go (suc t) i e =
+      by-cases (ℕ-discrete (k i) 0)
+      (λ z. record { at = i; later = omega arith; zero-k = z; comp-K = refl })
+      (λ nz. let x : i + suc t ≡ suc i + t = omega arith in
+      let f = stop-go t (suc i) (rw x at e) in
+      record { at = f .at; later = omega (arith, f .later); zero-k = f .zero-k; comp-K = f .comp-K ∙ run .stay-K i nz })
+
+  stop : (i : ℕ) → Stop i (K i)
+  stop i =
+      let a = run .accepts i in
+      let x : i + (a .0 - i) ≡ a .0 = omega (arith, a .1) in
+      stop-go (a .0 - i) i (ap k x ∙ a .2)
+
+  next-stop : (i C : ℕ) → Stop i C → Stop i (nextComponent A C)
+  next-stop i C s =
+      let f = stop (suc (s .at)) in
+      record { at = f .at; later = omega (arith, f .later, s .later); zero-k = f .zero-k; comp-K = f .comp-K ∙ run .turn-K (s .at) (s .zero-k) ∙ ap (nextComponent A) (s .comp-K) }
+
+  -- from a stop at C, a stop at C + t
+  up : (i C t : ℕ) → C + t < A .components → Stop i C → Stop i (C + t)
+  up i C zero h s = rw add-zero s
+  up i C (suc t) h s =
+      let x : C + suc t ≡ suc (C + t) = omega arith in
+      rw (x, ← next-below A (C + t) (omega arith)) (next-stop i (C + t) (up i C t (omega arith) s))
+
+  pub comp-below : (i : ℕ) → 0 < A .components → K i < A .components
+  comp-below zero h = rw (run .start-K) h
+  comp-below (suc i) h =
+      by-cases (ℕ-discrete (k i) 0)
+      (λ z. rw (run .turn-K i z) (next-low A (K i) (comp-below i h)))
+      (λ nz. rw (run .stay-K i nz) (comp-below i h))
+
+  stop-at : (i C : ℕ) → C < A .components → Stop i C
+  stop-at i C h =
+      let b = comp-below i (omega arith) in
+      let x : suc (K i + (A .components - suc (K i))) ≡ A .components = omega arith in
+      let s = up i (K i) (A .components - suc (K i)) (omega arith) (stop i) in
+      let z : Stop i 0 = rw (next-last A (K i + (A .components - suc (K i))) x) at (next-stop i _ s) in
+      rw zero-add at (up i 0 C (omega arith) z)
+
+  -- every component is discharged from every step
+  clear-from : (i C C′ : ℕ) → nextComponent A C′ ≡ C → Stop i C′ → (d : ℕ) × Clear i d C
+  clear-from i C C′ e s =
+      let t = turn (s .at) (s .zero-k) in
+      let x : suc (s .at) ≡ i + (suc (s .at) - i) = omega (arith, s .later) in
+      far-earlier (suc (s .at) - i) i (t .0) C (rw (x, s .comp-K, e) at (t .1))
+
+  clear : (i C : ℕ) → C < A .components → (d : ℕ) × Clear i d C
+  clear i zero h =
+      let x : suc (A .components - 1) ≡ A .components = omega arith in
+      clear-from i 0 (A .components - 1) (next-last A (A .components - 1) x) (stop-at i (A .components - 1) (omega arith))
+  clear i (suc C) h = clear-from i (suc C) C (next-below A C h) (stop-at i C (omega arith))
+
+  pub certified : Certified A suc w S
+  unfolding Clear
+  certified = record {
+    exact = run .backed .exact;
+    finite = λ i q l o. let c = clear i (A .component q) (H .few q l) in (c .0, c .1 q l refl o);
+  }

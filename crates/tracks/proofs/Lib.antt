@@ -1,7 +1,0 @@
-pub mod Endless
-pub mod Cycles
-pub mod Solution
-pub mod LeadIns
-pub mod Entering
-pub mod Flagging
-pub mod Parts

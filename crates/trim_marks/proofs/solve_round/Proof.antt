@@ -1,0 +1,30 @@
+-- `solve_round` meets its contract.
+use mathlib.Core.Path.{_∙_}
+use borrow.Author.Needs.{needs}
+use Rattle.graph_walks.proofs.Rounds.{solve-round}
+use Rattle.trim_marks.proofs.solve_round.Statement.{statement}
+use Rattle.trim_marks.proofs.solve_round.Tie as tie
+
+sweep-out-requires : tie.Need-sweep-out-requires
+sweep-out-requires c κs = search needs
+
+settle-requires : tie.Need-settle-requires
+settle-requires c κs = search needs
+
+same-length : tie.Need-same-length
+same-length c = search needs
+
+returns : tie.Need-returns
+returns c =
+    let s = c .before .before .settle .ensures in
+    let o = c .before .before .before .before .before .before .sweep-out .ensures in
+    (solve-round _ _ _ _ _ (c .before .before .before .before .before .before .before .before .before .before .pre .1) (o .0) (s .0), s .1 ∙ o .1)
+
+pub solve-round-spec : {M : Type 1} → statement M
+solve-round-spec =
+    tie.close
+    (tie.spec
+    sweep-out-requires
+    settle-requires
+    same-length
+    returns)

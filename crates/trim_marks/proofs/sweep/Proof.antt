@@ -1,0 +1,113 @@
+-- `sweep` meets its contract.
+use mathlib.Core.Path.{_≡_, refl, ap₂, _∙_}
+use mathlib.Core.Bool.{true}
+use Prim.Native.Nat.{ℕ, _-_, _≤_, _<_}
+use native.Mathlib.Omega.{arith}
+use borrow.Author.Needs.{needs}
+use lib.ListN.{length, getD}
+use Rattle.sets.proofs.Lists.{mem-at}
+use Rattle.theory.specs.Run.{sourceOf, targetOf}
+use Rattle.graph_walks.specs.Marks.{marked, isNew}
+use Rattle.trim_spec.specs.Tagged.{highs}
+use Rattle.trim_spec.proofs.Loops.{or-now, or-before, SweptTo, none-swept, sweep-next, all-swept}
+use Rattle.trim_marks.proofs.sweep.Statement.{statement}
+use Rattle.trim_marks.proofs.sweep.Tie as tie
+
+abbrev Inv-loop : tie.InvT-loop
+Inv-loop codes₀ transitions changed₀ i₀ codes changed i = (i ≤ length transitions) × SweptTo transitions codes₀ codes changed i
+
+abbrev μ-loop : tie.MeasureT-loop
+μ-loop codes₀ transitions changed₀ i₀ codes changed i = length transitions - i
+
+loop-holds : tie.Need-loop-holds Inv-loop μ-loop
+loop-holds c = (omega arith, none-swept _ _)
+
+mul-t : tie.Need-mul-t Inv-loop μ-loop
+mul-t c = search needs
+
+shared-slice-read-t : tie.Need-shared-slice-read-t Inv-loop μ-loop
+shared-slice-read-t c = search needs
+
+add-i : tie.Need-add-i Inv-loop μ-loop
+add-i c = search needs
+
+source-of-requires : tie.Need-source-of-requires Inv-loop μ-loop
+source-of-requires c κs = search needs
+
+target-of-requires : tie.Need-target-of-requires Inv-loop μ-loop
+target-of-requires c κs = search needs
+
+mark-requires : tie.Need-mark-requires Inv-loop μ-loop
+mark-requires c κs =
+    let a = c .before .before .before .before .before .before .before .before .args in
+    let l = c .before .before .before .before .before .loop in
+    let ts = a .transitions .now in
+    let t = getD ts (l .i) 0 in
+    let m = mem-at ts (l .i) (omega arith) in
+    let long : length (l .codes) ≡ length (a .codes .now) = l .inv .1 .long in
+    let source : c .before .source-of .result ≡ sourceOf t = c .before .source-of .ensures in
+    let target : c .target-of .result ≡ targetOf t = c .target-of .ensures in
+    (omega (arith, c .before .before .before .before .before .before .before .before .pre .sources t m), omega (arith, c .before .before .before .before .before .before .before .before .pre .targets t m))
+
+loop-less : tie.Need-loop-less Inv-loop μ-loop
+loop-less c = omega arith
+
+loop-again : tie.Need-loop-again Inv-loop μ-loop
+loop-again c =
+    let a = c .before .before .before .before .before .before .before .before .before .before .before .before .args in
+    let l = c .before .before .before .before .before .before .before .before .before .loop in
+    let t = getD (a .transitions .now) (l .i) 0 in
+    let source : c .before .before .before .before .before .source-of .result ≡ sourceOf t = c .before .before .before .before .before .source-of .ensures in
+    let target : c .before .before .before .before .target-of .result ≡ targetOf t = c .before .before .before .before .target-of .ensures in
+    let o = c .before .before .before .mark .ensures in (
+      omega arith,
+      sweep-next (a .transitions .now) (a .codes .now) (l .codes) _ (l .changed) _ true (l .i) t (omega arith) (l .inv .1) refl (c .before .before .before .mark .kept .0)
+          (o .0 ∙ ap₂ (λ (x y : ℕ). marked x y (highs (l .codes))) source target) (o .1) (o .2 ∙ ap₂ (λ (x y : ℕ). isNew x y (highs (l .codes))) source target)
+          (or-now (l .changed) _ (c .if1 .taken)),
+    )
+
+loop-less-2 : tie.Need-loop-less-2 Inv-loop μ-loop
+loop-less-2 c = omega arith
+
+loop-again-2 : tie.Need-loop-again-2 Inv-loop μ-loop
+loop-again-2 c =
+    let a = c .before .before .before .before .before .before .before .before .before .before .before .before .args in
+    let l = c .before .before .before .before .before .before .before .before .before .loop in
+    let t = getD (a .transitions .now) (l .i) 0 in
+    let source : c .before .before .before .before .before .source-of .result ≡ sourceOf t = c .before .before .before .before .before .source-of .ensures in
+    let target : c .before .before .before .before .target-of .result ≡ targetOf t = c .before .before .before .before .target-of .ensures in
+    let o = c .before .before .before .mark .ensures in (
+      omega arith,
+      sweep-next (a .transitions .now) (a .codes .now) (l .codes) _ (l .changed) _ (l .changed) (l .i) t (omega arith) (l .inv .1) refl (c .before .before .before .mark .kept .0)
+          (o .0 ∙ ap₂ (λ (x y : ℕ). marked x y (highs (l .codes))) source target) (o .1) (o .2 ∙ ap₂ (λ (x y : ℕ). isNew x y (highs (l .codes))) source target)
+          (or-before (l .changed) _ (c .if1 .left)),
+    )
+
+same-length : tie.Need-same-length Inv-loop μ-loop
+same-length c = c .before .loop .inv .1 .long
+
+returns : tie.Need-returns Inv-loop μ-loop
+returns c =
+    let a = c .before .before .before .before .args in
+    let l = c .before .loop in
+    all-swept (a .transitions .now) (a .codes .now) (l .codes) (l .changed) (l .i) (omega arith) (l .inv .1)
+
+pub sweep-spec : {M : Type 1} → statement M
+sweep-spec =
+    tie.close
+    (tie.spec
+    Inv-loop
+    μ-loop
+    loop-holds
+    mul-t
+    shared-slice-read-t
+    add-i
+    source-of-requires
+    target-of-requires
+    mark-requires
+    loop-less
+    loop-again
+    loop-less-2
+    loop-again-2
+    same-length
+    returns)

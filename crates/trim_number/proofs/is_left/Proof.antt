@@ -1,0 +1,59 @@
+-- `is_left` meets its contract.
+use mathlib.Core.Path.{_≡_, sym, ap, _∙_}
+use mathlib.Core.Bool.{true, false}
+use Prim.Native.Nat.{ℕ, _/_, _^_, _<_}
+use native.Mathlib.Omega.{arith}
+use borrow.Author.Needs.{needs}
+use lib.ListN.{getD}
+use Rattle.theory.specs.Run.{sourceOf, targetOf}
+use Rattle.trim_spec.specs.Tagged.{highs}
+use Rattle.trim_spec.proofs.Ends.{left-not, left-by}
+use Rattle.trim_number.proofs.is_left.Statement.{statement}
+use Rattle.trim_number.proofs.is_left.Tie as tie
+
+source-of-requires : tie.Need-source-of-requires
+source-of-requires c κs = search needs
+
+mul-if1 : tie.Need-mul-if1
+mul-if1 c = search needs
+
+shared-slice-read-if1 : tie.Need-shared-slice-read-if1
+shared-slice-read-if1 c = search needs
+
+returns : tie.Need-returns
+returns c =
+    let a = c .before .before .before .before .args in
+    let xs = a .codes .now in
+    let out : getD xs (c .before .before .source-of .result) 0 / 2 ^ 48 ≡ 0 = omega arith in
+    let source : getD xs (sourceOf (a .t)) 0 / 2 ^ 48 ≡ 0 = rw (c .before .before .source-of .ensures) at out in
+    sym (left-not xs (a .t) source)
+
+target-of-requires : tie.Need-target-of-requires
+target-of-requires c κs = search needs
+
+mul-result : tie.Need-mul-result
+mul-result c = search needs
+
+shared-slice-read-result : tie.Need-shared-slice-read-result
+shared-slice-read-result c = search needs
+
+returns-2 : tie.Need-returns-2
+returns-2 c =
+    let a = c .before .before .before .before .before .before .args in
+    let xs = a .codes .now in
+    let in-there : 0 < getD xs (c .before .before .before .before .source-of .result) 0 / 2 ^ 48 = omega arith in
+    let source : 0 < getD xs (sourceOf (a .t)) 0 / 2 ^ 48 = rw (c .before .before .before .before .source-of .ensures) at in-there in
+    rw (c .before .target-of .ensures) (left-by xs (a .t) source)
+
+pub is-left-spec : {M : Type 1} → statement M
+is-left-spec =
+    tie.close
+    (tie.spec
+    source-of-requires
+    mul-if1
+    shared-slice-read-if1
+    returns
+    target-of-requires
+    mul-result
+    shared-slice-read-result
+    returns-2)

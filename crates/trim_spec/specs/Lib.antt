@@ -1,0 +1,4 @@
+pub mod Matters
+pub mod Trimmed
+pub mod Graph
+pub mod Tagged

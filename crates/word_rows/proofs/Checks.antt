@@ -1,0 +1,138 @@
+-- Rows 12 to 14: each row, and the words that pass.
+use mathlib.Core.Path.{_≡_, refl, sym, _∙_}
+use mathlib.Core.Logic.{_↔_}
+use mathlib.Core.Bool.{Bool, true, false, _||_}
+use mathlib.Core.List.{List, [], _∷_, List·Memᴰ}
+use Prim.Native.Nat.{ℕ, zero, suc, _≤_, _<_}
+use native.Mathlib.Omega.{arith}
+use lib.Dec.{eqb, leb, ltb}
+use lib.ListN.{length}
+use borrow.Author.Tests.{eqb-true, eqb-false, eq-eqb, ne-eqb, ltb-false, lt-ltb, le-ltb, leb-false, lt-leb}
+use Rattle.sets.specs.Lists.{anyOf}
+use Rattle.refusals.specs.Rows.{Check, firstRow}
+use Rattle.sets.proofs.Bools.{bif, or-fl, or-fr, or-l, or-r}
+use Rattle.sets.proofs.Lists.{any-none, none-any}
+use Rattle.refusals.proofs.Rows.{row-yes, row-no, numbered, first-left, first-right}
+use Rattle.theory.specs.Word.{WordOver}
+use Rattle.word_rows.specs.Words.{lengthRows, letterRows, lengthRow, wordRows, wordRow}
+
+abbrev over : List ℕ → List ℕ → Bool
+over lead cycle = ltb 32 (length lead) || ltb 32 (length cycle)
+
+abbrev empty-row : List ℕ → Check
+empty-row cycle = record { applies = eqb (length cycle) 0; number = 12 }
+
+abbrev over-row : List ℕ → List ℕ → Check
+over-row lead cycle = record { applies = over lead cycle; number = 13 }
+
+module _ (lead cycle : List ℕ) where
+  -- 12
+  pub empty-cycle : length cycle ≡ 0 → lengthRow lead cycle ≡ 12
+  unfolding lengthRow lengthRows
+  empty-cycle e = row-yes (empty-row cycle) (over-row lead cycle ∷ []) (eq-eqb (length cycle) 0 e)
+
+  long : 0 < length cycle → over lead cycle ≡ true → lengthRow lead cycle ≡ 13
+  unfolding lengthRow lengthRows
+  long h e = row-no (empty-row cycle) (over-row lead cycle ∷ []) (ne-eqb (length cycle) 0 (λ z. omega arith)) ∙ row-yes (over-row lead cycle) [] e
+
+  -- 13
+  pub long-lead : 0 < length cycle → 32 < length lead → lengthRow lead cycle ≡ 13
+  long-lead h l = long h (or-l (ltb 32 (length lead)) (ltb 32 (length cycle)) (lt-ltb 32 (length lead) l))
+
+  pub long-cycle : 0 < length cycle → 32 < length cycle → lengthRow lead cycle ≡ 13
+  long-cycle h l = long h (or-r (ltb 32 (length lead)) (ltb 32 (length cycle)) (lt-ltb 32 (length cycle) l))
+
+  short : length lead ≤ 32 → length cycle ≤ 32 → over lead cycle ≡ false
+  short a b = rw (le-ltb 32 (length lead) a, le-ltb 32 (length cycle) b)
+
+  pub no-length-row : 0 < length cycle → length lead ≤ 32 → length cycle ≤ 32 → lengthRow lead cycle ≡ 0
+  unfolding lengthRow lengthRows firstRow
+  no-length-row h a b =
+      row-no (empty-row cycle) (over-row lead cycle ∷ []) (ne-eqb (length cycle) 0 (λ z. omega arith)) ∙ row-no (over-row lead cycle) [] (short a b)
+
+  -- a word that rows 12 and 13 let pass
+  pub record Short : Type 0 where
+    pub repeats : 0 < length cycle
+    pub lead-short : length lead ≤ 32
+    pub cycle-short : length cycle ≤ 32
+
+  pub short-of : lengthRow lead cycle ≡ 0 → Short
+  short-of e =
+      bif (eqb (length cycle) 0)
+      (λ t. let x : 12 ≡ 0 = sym (empty-cycle (eqb-true (length cycle) 0 t)) ∙ e in absurd (omega arith))
+      (λ t. let n = eqb-false (length cycle) 0 t in
+      let pos : 0 < length cycle = omega arith in
+      bif (over lead cycle)
+      (λ o. let x : 13 ≡ 0 = sym (long pos o) ∙ e in absurd (omega arith))
+      (λ o. record {
+        repeats = pos;
+        lead-short = ltb-false 32 (length lead) (or-fl (ltb 32 (length lead)) (ltb 32 (length cycle)) o);
+        cycle-short = ltb-false 32 (length cycle) (or-fr (ltb 32 (length lead)) (ltb 32 (length cycle)) o);
+      }))
+
+-- rows 12 and 13 have numbers
+pub lengths-numbered : (lead cycle : List ℕ) → numbered (lengthRows lead cycle) ≡ true
+unfolding numbered lengthRows
+lengths-numbered lead cycle = refl
+
+module _ (s : ℕ) (lead cycle : List ℕ) where
+  -- rows 12 and 13 come first
+  pub word-lengths : (k : ℕ) → 0 < k → lengthRow lead cycle ≡ k → wordRow s lead cycle ≡ k
+  unfolding wordRow wordRows lengthRow
+  word-lengths k p e = sym (first-left (lengthRows lead cycle) (letterRows s lead cycle) k (λ z. omega arith) (sym e))
+
+  after : lengthRow lead cycle ≡ 0 → wordRow s lead cycle ≡ firstRow (letterRows s lead cycle)
+  unfolding wordRow wordRows lengthRow
+  after e = first-right (lengthRows lead cycle) (letterRows s lead cycle) (lengths-numbered lead cycle) e
+
+  -- 14
+  pub lead-letter : lengthRow lead cycle ≡ 0 → anyOf lead (λ a. leb s a) ≡ true → wordRow s lead cycle ≡ 14
+  unfolding letterRows firstRow
+  lead-letter e t = after e ∙ rw t
+
+  pub cycle-letter : lengthRow lead cycle ≡ 0 → anyOf cycle (λ a. leb s a) ≡ true → wordRow s lead cycle ≡ 14
+  unfolding letterRows firstRow
+  cycle-letter e t = after e ∙ rw (or-r (anyOf lead (λ a. leb s a)) (anyOf cycle (λ a. leb s a)) t)
+
+  pub no-word-row : lengthRow lead cycle ≡ 0 → anyOf lead (λ a. leb s a) ≡ false → anyOf cycle (λ a. leb s a) ≡ false → wordRow s lead cycle ≡ 0
+  unfolding letterRows firstRow
+  no-word-row e t v = after e ∙ rw (t, v)
+
+  all-below : (xs : List ℕ) → anyOf xs (λ a. leb s a) ≡ false → (a : ℕ) → List·Memᴰ a xs → a < s
+  all-below xs e a m = leb-false s a (any-none xs (λ b. leb s b) a e m)
+
+  none-over : (xs : List ℕ) → ((a : ℕ) → List·Memᴰ a xs → a < s) → anyOf xs (λ a. leb s a) ≡ false
+  none-over xs h = none-any xs (λ a. leb s a) (λ a m. lt-leb s a (h a m))
+
+  -- a word that passes rows 12 to 14
+  pub record PassingWord : Type 0 where
+    pub lengths : Short lead cycle
+    pub over-letters : WordOver s lead cycle
+
+  passed : (k : ℕ) → lengthRow lead cycle ≡ k → wordRow s lead cycle ≡ 0 → k ≡ 0
+  passed zero f e = refl
+  passed (suc k) f e = let x : suc k ≡ 0 = sym (word-lengths (suc k) (omega arith) f) ∙ e in omega arith
+
+  pub passing-of : wordRow s lead cycle ≡ 0 → PassingWord
+  passing-of e =
+      let none : lengthRow lead cycle ≡ 0 = passed (lengthRow lead cycle) refl e in
+      bif (anyOf lead (λ a. leb s a))
+      (λ t. let x : 14 ≡ 0 = sym (lead-letter none t) ∙ e in absurd (omega arith))
+      (λ t. bif (anyOf cycle (λ a. leb s a))
+      (λ v. let x : 14 ≡ 0 = sym (cycle-letter none v) ∙ e in absurd (omega arith))
+      (λ v. record {
+        lengths = short-of lead cycle none;
+        over-letters = record { repeats = short-of lead cycle none .repeats; lead-letters = all-below lead t; cycle-letters = all-below cycle v };
+      }))
+
+  -- a word that passes is a word over s letters with at most 32 letters in lead-in and cycle, and conversely
+  pub passing-iff : (wordRow s lead cycle ≡ 0) ↔ PassingWord
+  passing-iff = (
+    passing-of,
+    λ p. no-word-row (no-length-row lead cycle (p .lengths .repeats) (p .lengths .lead-short) (p .lengths .cycle-short))
+        (none-over lead (p .over-letters .lead-letters)) (none-over cycle (p .over-letters .cycle-letters)),
+  )
+
+  -- so it is a word of the theory
+  pub word-over : wordRow s lead cycle ≡ 0 → WordOver s lead cycle
+  word-over e = passing-of e .over-letters

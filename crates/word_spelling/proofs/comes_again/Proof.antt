@@ -1,0 +1,83 @@
+-- `word_spelling::comes_again` meets its contract.
+use Prim.Native.Nat.{_≤_, _<_, _-_}
+use mathlib.Core.Path.{_≡_, refl, sym, _∙_}
+use mathlib.Core.List.{[]}
+use native.Mathlib.Omega.{arith}
+use lib.ListN.{length}
+use Rattle.sets.specs.Tests.{every}
+use Rattle.theory.specs.Word.{nextPlace}
+use Rattle.theory_laws.proofs.Places.{next-place-low}
+use Rattle.word_spelling.proofs.Walks.{AgainTo, laterOf, later-first, later-next, again-next, again-stop, again-end}
+use Rattle.word_spelling.proofs.comes_again.Statement.{statement}
+use Rattle.word_spelling.proofs.comes_again.Tie as tie
+
+abbrev Inv-loop : tie.InvT-loop
+Inv-loop cycle d n j₀ later₀ j later =
+    (j ≤ length cycle) × (later < length cycle) × (later ≡ laterOf cycle d j) × AgainTo cycle d j
+
+abbrev μ-loop : tie.MeasureT-loop
+μ-loop cycle d n j₀ later₀ j later = length cycle - j
+
+loop-holds : tie.Need-loop-holds Inv-loop μ-loop
+unfolding every
+loop-holds c =
+    let a = c .before .args in
+    (omega arith, c .before .pre, later-first (a .cycle .now) (omega (arith, c .before .pre)) (a .d) (c .before .pre), refl)
+
+shared-slice-read-if1 : tie.Need-shared-slice-read-if1 Inv-loop μ-loop
+shared-slice-read-if1 c = omega arith
+
+shared-slice-read-if1-2 : tie.Need-shared-slice-read-if1-2 Inv-loop μ-loop
+shared-slice-read-if1-2 c = omega arith
+
+returns : tie.Need-returns Inv-loop μ-loop
+returns c =
+    let a = c .before .before .before .before .before .before .args in
+    let l = c .before .before .before .before .loop in
+    let h : 0 < length (a .cycle .now) = omega arith in
+    sym (again-stop (a .cycle .now) h (a .d) (l .j) (l .later) (omega arith) (l .inv .2) (c .if1 .taken))
+
+next-place-requires : tie.Need-next-place-requires Inv-loop μ-loop
+next-place-requires c κs = omega arith
+
+add-j : tie.Need-add-j Inv-loop μ-loop
+add-j c = omega arith
+
+loop-less : tie.Need-loop-less Inv-loop μ-loop
+loop-less c = omega arith
+
+loop-again : tie.Need-loop-again Inv-loop μ-loop
+loop-again c =
+    let a = c .before .before .before .before .before .before .before .args in
+    let l = c .before .before .before .before .before .loop in
+    let h : 0 < length (a .cycle .now) = omega arith in
+    let low : nextPlace [] (a .cycle .now) (l .later) < length (a .cycle .now) = omega (arith, next-place-low [] (a .cycle .now) h (l .later) (omega arith)) in
+    let e : c .next-place .result ≡ nextPlace [] (a .cycle .now) (l .later) = c .next-place .ensures [] (a .cycle .now) refl refl in (
+      omega arith,
+      rw e low,
+      e ∙ later-next (a .cycle .now) h (a .d) (l .j) (l .later) (l .inv .2),
+      again-next (a .cycle .now) h (a .d) (l .j) (l .later) (omega arith) (l .inv .2) (c .before .if1 .left) (l .inv .3),
+    )
+
+returns-2 : tie.Need-returns-2 Inv-loop μ-loop
+returns-2 c =
+    let a = c .before .before .before .args in
+    let l = c .before .loop in
+    let h : 0 < length (a .cycle .now) = omega (arith, c .before .before .before .pre) in
+    sym (again-end (a .cycle .now) h (a .d) (l .j) (omega arith) (l .inv .3))
+
+pub comes-again-spec : {M : Type 1} → statement M
+comes-again-spec =
+    tie.close
+    (tie.spec
+    Inv-loop
+    μ-loop
+    loop-holds
+    shared-slice-read-if1
+    shared-slice-read-if1-2
+    returns
+    next-place-requires
+    add-j
+    loop-less
+    loop-again
+    returns-2)

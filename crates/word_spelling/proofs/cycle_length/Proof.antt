@@ -1,0 +1,63 @@
+-- `word_spelling::cycle_length` meets its contract.
+use Prim.Native.Nat.{_≤_, _-_}
+use mathlib.Core.Path.{_≡_, sym, _∙_}
+use mathlib.Core.Bool.{false}
+use native.Mathlib.Omega.{arith}
+use lib.ListN.{length}
+use borrow.Author.Needs.{needs}
+use Rattle.word_spelling_spec.specs.Spelling.{comesAgain}
+use Rattle.word_spelling_spec.proofs.Tidied.{own-again}
+use Rattle.word_spelling.proofs.Walks.{NoneTo, none-first, none-next, found}
+use Rattle.word_spelling.proofs.cycle_length.Statement.{statement}
+use Rattle.word_spelling.proofs.cycle_length.Tie as tie
+
+abbrev Inv-loop : tie.InvT-loop
+Inv-loop cycle d₀ d = (1 ≤ d) × (d ≤ length cycle) × NoneTo cycle d
+
+abbrev μ-loop : tie.MeasureT-loop
+μ-loop cycle d₀ d = length cycle - d
+
+loop-holds : tie.Need-loop-holds Inv-loop μ-loop
+loop-holds c = (omega arith, c .before .pre, none-first (c .before .args .cycle .now))
+
+comes-again-requires : tie.Need-comes-again-requires Inv-loop μ-loop
+comes-again-requires c κs = omega arith
+
+returns : tie.Need-returns Inv-loop μ-loop
+returns c =
+    let v = c .before .before .before .before .before .args .cycle .now in
+    let l = c .before .before .before .loop in
+    sym (found v (l .d) (omega arith) (sym (c .before .comes-again .ensures) ∙ c .if1 .taken) (l .inv .2))
+
+add-d : tie.Need-add-d Inv-loop μ-loop
+add-d c = omega arith
+
+loop-less : tie.Need-loop-less Inv-loop μ-loop
+loop-less c = omega arith
+
+loop-again : tie.Need-loop-again Inv-loop μ-loop
+loop-again c =
+    let v = c .before .before .before .before .before .args .cycle .now in
+    let l = c .before .before .before .loop in
+    (omega arith, omega arith, none-next v (l .d) (omega arith) (sym (c .before .comes-again .ensures) ∙ c .if1 .left) (l .inv .2))
+
+returns-2 : tie.Need-returns-2 Inv-loop μ-loop
+returns-2 c =
+    let v = c .before .before .before .args .cycle .now in
+    let l = c .before .loop in
+    let e : l .d ≡ length v = omega arith in
+    sym (found v (l .d) (omega arith) (rw e (own-again v (c .before .before .before .pre))) (l .inv .2))
+
+pub cycle-length-spec : {M : Type 1} → statement M
+cycle-length-spec =
+    tie.close
+    (tie.spec
+    Inv-loop
+    μ-loop
+    loop-holds
+    comes-again-requires
+    returns
+    add-d
+    loop-less
+    loop-again
+    returns-2)

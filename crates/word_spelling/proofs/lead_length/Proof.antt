@@ -1,0 +1,86 @@
+-- `word_spelling::lead_length` meets its contract.
+use Prim.Native.Nat.{_+_, _-_, _≤_, _<_}
+use mathlib.Core.Path.{_≡_, refl, sym, _∙_, ap}
+use native.Mathlib.Omega.{arith}
+use lib.ListN.{length}
+use Rattle.theory.specs.Word.{letters, letterAt, places}
+use Rattle.word_spelling_spec.specs.Spelling.{shortened}
+use Rattle.word_spelling.proofs.Walks.{shorter, shortest}
+use Rattle.word_spelling.proofs.lead_length.Statement.{statement}
+use Rattle.word_spelling.proofs.lead_length.Tie as tie
+
+abbrev Inv-loop : tie.InvT-loop
+Inv-loop lead cycle p m₀ m = (m ≤ length lead) × (shortened (letters lead cycle) p (length lead) ≡ shortened (letters lead cycle) p m)
+
+abbrev μ-loop : tie.MeasureT-loop
+μ-loop lead cycle p m₀ m = m
+
+loop-holds : tie.Need-loop-holds Inv-loop μ-loop
+loop-holds c = (omega arith, refl)
+
+sub-letter-at : tie.Need-sub-letter-at Inv-loop μ-loop
+sub-letter-at c = omega arith
+
+letter-at-requires : tie.Need-letter-at-requires Inv-loop μ-loop
+letter-at-requires c κs = omega arith
+
+sub-letter-at-2 : tie.Need-sub-letter-at-2 Inv-loop μ-loop
+sub-letter-at-2 c = omega arith
+
+add-letter-at : tie.Need-add-letter-at Inv-loop μ-loop
+add-letter-at c = omega arith
+
+letter-at-requires-2 : tie.Need-letter-at-requires-2 Inv-loop μ-loop
+letter-at-requires-2 c κs = omega arith
+
+returns : tie.Need-returns Inv-loop μ-loop
+returns c =
+    let s = c .before .before .before .before .before .before .before in
+    let a = s .args in
+    let l = c .before .before .before .before .loop in
+    let fits : l .m - 1 + a .p < places (a .lead .now) (a .cycle .now) = omega arith in
+    let n : letterAt (a .lead .now) (a .cycle .now) (l .m - 1) ≡ letterAt (a .lead .now) (a .cycle .now) (l .m - 1 + a .p) → ⊥
+    = λ e. c .if1 .taken (c .before .before .letter-at .ensures ∙ e ∙ sym (c .before .letter-at2 .ensures)) in
+    sym (l .inv .1 ∙ shortest (a .lead .now) (a .cycle .now) (s .pre .0) (a .p) (l .m) (omega arith) fits n)
+
+sub-m : tie.Need-sub-m Inv-loop μ-loop
+sub-m c = omega arith
+
+loop-less : tie.Need-loop-less Inv-loop μ-loop
+loop-less c = omega arith
+
+loop-again : tie.Need-loop-again Inv-loop μ-loop
+loop-again c =
+    let s = c .before .before .before .before .before .before .before in
+    let a = s .args in
+    let l = c .before .before .before .before .loop in
+    let fits : l .m - 1 + a .p < places (a .lead .now) (a .cycle .now) = omega arith in
+    let e : letterAt (a .lead .now) (a .cycle .now) (l .m - 1) ≡ letterAt (a .lead .now) (a .cycle .now) (l .m - 1 + a .p)
+    = sym (c .before .before .letter-at .ensures) ∙ c .if1 .left ∙ c .before .letter-at2 .ensures in
+    (omega arith, l .inv .1 ∙ shorter (a .lead .now) (a .cycle .now) (s .pre .0) (a .p) (l .m) (omega arith) fits e)
+
+returns-2 : tie.Need-returns-2 Inv-loop μ-loop
+unfolding shortened
+returns-2 c =
+    let s = c .before .before .before .before in
+    let l = c .before .loop in
+    let e : l .m ≡ 0 = omega arith in
+    e ∙ sym (l .inv .1 ∙ ap (shortened (letters (s .args .lead .now) (s .args .cycle .now)) (s .args .p)) e)
+
+pub lead-length-spec : {M : Type 1} → statement M
+lead-length-spec =
+    tie.close
+    (tie.spec
+    Inv-loop
+    μ-loop
+    loop-holds
+    sub-letter-at
+    letter-at-requires
+    sub-letter-at-2
+    add-letter-at
+    letter-at-requires-2
+    returns
+    sub-m
+    loop-less
+    loop-again
+    returns-2)

@@ -1,0 +1,24 @@
+/* Writes rule F, "some time letter 1", with a name for each letter, reads it back and compares it with the rule without names.
+ * Run: names */
+#include <mulgreddi.h>
+#include <stdio.h>
+
+int main(void)
+{
+    const uint8_t counts[] = {1, 1}, clauses[] = {1, 0};
+    const uint8_t names[] = "WAIT    GO      ";
+    uint8_t named[64], plain[64];
+    mulgreddi_answer a = mulgreddi_write_named(1, 2, 0, 0, counts, 2, clauses, 2, names, 16, named, sizeof named);
+    mulgreddi_answer b = mulgreddi_write(1, 2, 0, 0, counts, 2, clauses, 2, plain, sizeof plain);
+    if (a.refusal || b.refusal)
+        return 1;
+    mulgreddi_answer c = mulgreddi_check(named, a.first);
+    printf("%llu bytes, preface %llu, of it names %llu\n", (unsigned long long)a.first, (unsigned long long)c.first, (unsigned long long)c.second);
+    for (uint64_t letter = 0; letter < c.second / 8; letter++)
+        printf("letter %llu: %.8s\n", (unsigned long long)letter, (const char *)named + c.first - 2 - c.second + 8 * letter);
+    a = mulgreddi_same_rules(named, a.first, plain, b.first);
+    printf("with and without names: %s\n", a.first ? "the same" : "different");
+    a = mulgreddi_write_named(1, 2, 0, 0, counts, 2, clauses, 2, names, 15, named, sizeof named);
+    printf("15 name bytes: refused %llu\n", (unsigned long long)a.refusal);
+    return 0;
+}
