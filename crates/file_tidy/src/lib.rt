@@ -105,8 +105,8 @@ fn write_tidied(h: Head, counts: &[u8], clauses: &[u8], names: &[u8], out: &mut 
     Tidied::Length(length)
 }
 
-// Writes the file of a file's tidied rule, with its names, to the start of out and answers its length, or refuses by the rule's group but 20, and by 16, and
-// leaves out as it was.
+// Writes the file of a file's tidied rule, with its names, to the start of out and answers its length,
+// or refuses by the rule's group but 20, and by 16, and leaves out as it was.
 pub fn tidy(file: &[u8], out: &mut [u8]) -> Tidied
     ensures { λ r. ⌜ r ≡ tidiedOf (now (file .entry)) (length (now (out .entry))) ⌝ }
     ensures { λ _. ⌜ now (out .exit) ≡ sliceTidied (now (file .entry)) (now (out .entry)) ⌝ }

@@ -62,7 +62,7 @@ pub fn fill_both(
     );
 }
 
-// Whether a rule that passes every check accepts the word; the masks of the word and its choices are written from the starts of their slices on.
+// Whether a rule that passes every check accepts the word; its masks and choices are written from the starts of their slices on.
 // Refused by rows 12 to 14 and 16, and both slices are then unchanged.
 pub fn judge_choices_read(
     h: Head,

@@ -128,8 +128,8 @@ pub fn places_before(changed: u64, at: usize, end: usize) -> u64
     before | 1 << (end - 1)
 }
 
-// The choices of the rejecting states: in round d those of distance d. A round looks only at places whose next place changed in the round before.
-// No distance is above places × states.
+// The choices of the rejecting states: in round d those of distance d. A round looks only at places
+// whose next place changed in the round before. No distance is above places × states.
 pub fn choose_rejecting(
     h: Head,
     counts: &[u8],
