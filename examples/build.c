@@ -1,43 +1,53 @@
-/* Builds the automata of the rule files beside it, whole and with only the macrostates that matter, and prints that of rule F.
+/* Builds the automata of the rule files beside it, whole and with only the macrostates that matter, and prints those of rule F and of a rule
+ * whose initial state is not state 0.
  * Run: build FOLDER */
 #include <mulgreddi.h>
 #include <stdio.h>
 
-static uint64_t codes[65536], transitions[1048576];
+enum { MACROSTATES = MULGREDDI_MACROSTATES_MAX, TRANSITIONS = MULGREDDI_TRANSITIONS_MAX };
 
-/* Builds the rule in FOLDER/NAME; the answer is refusal 1 where the file cannot be read. */
-static mulgreddi_answer build(const char *folder, const char *name, int trimmed)
+static uint64_t codes[MACROSTATES], transitions[TRANSITIONS];
+static uint8_t file[4096];
+static size_t file_len;
+
+typedef unsigned long long number;
+
+/* The file FOLDER/NAME; one that cannot be read is empty, which is refused by 1. */
+static void load(const char *folder, const char *name)
 {
     char path[4096];
-    uint8_t file[4096];
-    size_t n = 0;
     snprintf(path, sizeof path, "%s/%s", folder, name);
+    file_len = 0;
     FILE *f = fopen(path, "rb");
     if (f) {
-        n = fread(file, 1, sizeof file, f);
+        file_len = fread(file, 1, sizeof file, f);
         fclose(f);
     }
-    if (trimmed)
-        return mulgreddi_build_trimmed(file, n, codes, 65536, transitions, 1048576);
-    return mulgreddi_build(file, n, codes, 65536, transitions, 1048576);
+}
+
+static void print_table(mulgreddi_answer built)
+{
+    for (uint64_t m = 0; m < built.first; m++)
+        printf("macrostate %llu: code %llu%s%s\n", (number)m, (number)codes[m],
+               mulgreddi_code_initial(codes[m], mulgreddi_initial_state(file, file_len)) ? ", initial" : "",
+               mulgreddi_code_accepting(codes[m]) ? ", accepting" : "");
+    for (uint64_t t = 0; t < built.second; t++)
+        printf("%llu over letter %u to %llu\n", (number)mulgreddi_source(transitions[t]), mulgreddi_letter(transitions[t]),
+               (number)mulgreddi_target(transitions[t]));
 }
 
 int main(int argc, char **argv)
 {
     const char *folder = argc > 1 ? argv[1] : ".";
-    const char *names[] = {"D.rule", "E.rule", "I.rule", "Z.rule", "F.rule"};
-    mulgreddi_answer a = {0, 0, 0};
-    for (size_t i = 0; i < 5; i++) {
-        mulgreddi_answer left = build(folder, names[i], 1);
-        a = build(folder, names[i], 0);
-        printf("%s: refusal %llu, %llu macrostates, %llu transitions; %llu and %llu that matter\n", names[i], (unsigned long long)a.refusal,
-               (unsigned long long)a.first, (unsigned long long)a.second, (unsigned long long)left.first, (unsigned long long)left.second);
+    const char *names[] = {"D.rule", "E.rule", "I.rule", "Z.rule", "F.rule", "begins.rule"};
+    for (size_t i = 0; i < 6; i++) {
+        load(folder, names[i]);
+        mulgreddi_answer left = mulgreddi_build_trimmed(file, file_len, codes, MACROSTATES, transitions, TRANSITIONS);
+        mulgreddi_answer a = mulgreddi_build(file, file_len, codes, MACROSTATES, transitions, TRANSITIONS);
+        printf("%s: refusal %llu, %llu macrostates, %llu transitions; %llu and %llu that matter\n", names[i], (number)a.refusal,
+               (number)a.first, (number)a.second, (number)left.first, (number)left.second);
+        if (i >= 4)
+            print_table(a);
     }
-    for (uint64_t m = 0; m < a.first; m++)
-        printf("macrostate %llu: code %llu%s%s\n", (unsigned long long)m, (unsigned long long)codes[m],
-               (codes[m] & 1) && codes[m] >> 40 == 0 ? ", initial" : "", codes[m] >> 44 == 0 ? ", accepting" : "");
-    for (uint64_t t = 0; t < a.second; t++)
-        printf("%llu over letter %llu to %llu\n", (unsigned long long)(transitions[t] >> 24), (unsigned long long)(transitions[t] >> 16 & 255),
-               (unsigned long long)(transitions[t] & 65535));
     return 0;
 }

@@ -46,9 +46,10 @@ int main(int argc, char **argv)
     a = mulgreddi_mixed_loop(file, n, loop, sizeof loop);
     if (a.refusal)
         return 1;
+    unsigned accepting = mulgreddi_accepting_mask(file, n);
     printf("shortest mixed loop:");
     for (size_t i = 0; i < a.first; i++)
-        printf(" %u (%s),", loop[i], file[n - 5] >> loop[i] & 1 ? "accepting" : "rejecting");
+        printf(" %u (%s),", loop[i], accepting >> loop[i] & 1 ? "accepting" : "rejecting");
     printf(" and again\n");
     return 0;
 }

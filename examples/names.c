@@ -14,8 +14,8 @@ int main(void)
         return 1;
     mulgreddi_answer c = mulgreddi_check(named, a.first);
     printf("%llu bytes, preface %llu, of it names %llu\n", (unsigned long long)a.first, (unsigned long long)c.first, (unsigned long long)c.second);
-    for (uint64_t letter = 0; letter < c.second / 8; letter++)
-        printf("letter %llu: %.8s\n", (unsigned long long)letter, (const char *)named + c.first - 2 - c.second + 8 * letter);
+    for (unsigned letter = 0; letter < mulgreddi_letters(named, a.first); letter++)
+        printf("letter %u: %.8s\n", letter, mulgreddi_letter_name(named, c, letter));
     a = mulgreddi_same_rules(named, a.first, plain, b.first);
     printf("with and without names: %s\n", a.first ? "the same" : "different");
     a = mulgreddi_write_named(1, 2, 0, 0, counts, 2, clauses, 2, names, 15, named, sizeof named);

@@ -6,7 +6,7 @@
 #include <stdlib.h>
 #include <string.h>
 
-enum { MACROSTATES = 512, TRANSITIONS = 4096, PLACES = 64 };
+enum { MACROSTATES = 512, TRANSITIONS = 4096, PLACES = MULGREDDI_PLACES_MAX };
 
 typedef unsigned long long number;
 
@@ -48,9 +48,9 @@ static void mark(const word *w, mulgreddi_answer built, uint8_t *on)
             more = 0;
             for (uint64_t i = 0; i < built.second; i++)
                 for (size_t p = 0; p < places; p++) {
-                    uint64_t t = transitions[i];
-                    size_t x = (t >> 24) * places + p, y = (t & 65535) * places + next_place(w, p);
-                    if ((t >> 16 & 255) == letter_at(w, p) && on[x] && !to[x] && on[y] && (to[y] || codes[t & 65535] >> 44 == 0))
+                    uint64_t t = transitions[i], target = mulgreddi_target(t);
+                    size_t x = mulgreddi_source(t) * places + p, y = target * places + next_place(w, p);
+                    if (mulgreddi_letter(t) == letter_at(w, p) && on[x] && !to[x] && on[y] && (to[y] || mulgreddi_code_accepting(codes[target])))
                         to[x] = 1, more = 1;
                 }
         }
@@ -69,11 +69,11 @@ static void walk(const word *w, mulgreddi_answer built, uint64_t m)
     printf("  run:");
     while (!seen[m * places + p]) {
         seen[m * places + p] = 1;
-        printf(" %llu%s", (number)m, codes[m] >> 44 == 0 ? "*" : "");
-        uint64_t i = 0;
-        while (transitions[i] >> 24 != m || (transitions[i] >> 16 & 255) != letter_at(w, p) || !on[(transitions[i] & 65535) * places + next_place(w, p)])
-            i++;
-        m = transitions[i] & 65535;
+        printf(" %llu%s", (number)m, mulgreddi_code_accepting(codes[m]) ? "*" : "");
+        const uint64_t *t = transitions;
+        while (mulgreddi_source(*t) != m || mulgreddi_letter(*t) != letter_at(w, p) || !on[mulgreddi_target(*t) * places + next_place(w, p)])
+            t++;
+        m = mulgreddi_target(*t);
         p = next_place(w, p);
     }
     printf(", then again from %llu at place %zu (* accepting)\n", (number)m, p);

@@ -1,14 +1,40 @@
 /* Mulgreddi: unambiguous Büchi automata from alternating weak ones.
  *
- * Every function ends, stays inside the memory lent to it, and keeps nothing. A slice is a pointer and a length: of uint8_t in bytes,
- * of uint64_t in elements. A pointer is not NULL, even where the length is 0. A slice that is written overlaps no other slice of the call.
- * A slice of uint64_t is aligned to 8 bytes.
+ * A slice is a pointer and a length. The length of a slice of uint8_t is in bytes (file_len); where the bytes are 64-bit numbers, 8 bytes
+ * each, low byte first, its name says so (codes_bytes). The length of a slice of uint64_t is in elements (codes_count). A pointer is not
+ * NULL, even where the length is 0. A slice that is written overlaps no other slice of the call. A slice of uint64_t is aligned to 8 bytes.
+ *
+ * Every function ends, stays inside the memory lent to it, and keeps nothing. There is no state between calls, nothing to set up and nothing
+ * to free, so several threads may call at once, each with its own written slices. A call needs at most MULGREDDI_STACK bytes of stack.
  */
 #ifndef MULGREDDI_H
 #define MULGREDDI_H
 
 #include <stddef.h>
 #include <stdint.h>
+
+/* The version, by which the Makefile and the pkg-config file go. With a new major number some input is answered otherwise than before;
+ * docs/CHANGELOG.md tells which. */
+#define MULGREDDI_VERSION_MAJOR 2
+#define MULGREDDI_VERSION_MINOR 0
+#define MULGREDDI_VERSION_PATCH 0
+#define MULGREDDI_TEXT_OF_(a, b, c) #a "." #b "." #c
+#define MULGREDDI_TEXT_OF(a, b, c) MULGREDDI_TEXT_OF_(a, b, c)
+#define MULGREDDI_VERSION MULGREDDI_TEXT_OF(MULGREDDI_VERSION_MAJOR, MULGREDDI_VERSION_MINOR, MULGREDDI_VERSION_PATCH)
+
+/* Limits and rooms. */
+#define MULGREDDI_STATES_MAX 8             /* states of a rule */
+#define MULGREDDI_LETTERS_MAX 16           /* letters of a rule */
+#define MULGREDDI_LEAD_MAX 32              /* letters of a lead-in */
+#define MULGREDDI_CYCLE_MAX 32             /* letters of a cycle */
+#define MULGREDDI_PLACES_MAX 64            /* places of a word: bytes that hold the masks of any word, or any tidy spelling */
+#define MULGREDDI_CHOICES_MAX 512          /* bytes that hold the choices of any word */
+#define MULGREDDI_NAME_BYTES 8             /* bytes of a letter's name */
+#define MULGREDDI_RULE_MAX 1290            /* bytes that hold any written or tidied file: names 130, clauses 1024, counts 128, trailer 8 */
+#define MULGREDDI_MACROSTATES_MAX 65536    /* elements of codes that are used */
+#define MULGREDDI_TRANSITIONS_MAX 1048576  /* elements of transitions that are used */
+#define MULGREDDI_EVENTS_MAX 320           /* bytes of an event table: 64 lines of 5 */
+#define MULGREDDI_STACK 65536              /* bytes of stack that a call needs at most; measured (tests/stack.c): under 10,000 */
 
 #ifdef __cplusplus
 extern "C" {
@@ -50,6 +76,40 @@ enum {
     MULGREDDI_COVERED_LINE = 26,     /* an event line all of whose pairs fall in earlier lines */
     MULGREDDI_NO_LINE = 27           /* an event in no line */
 };
+
+/* The text of a refusal, one for each constant above: what is wrong with the input, in a few words. */
+static inline const char *mulgreddi_refusal_text(uint64_t refusal)
+{
+    switch (refusal) {
+    case 0: return "served";
+    case MULGREDDI_SHORT_FILE: return "the file has fewer than 8 bytes";
+    case MULGREDDI_NO_TAG: return "the file does not end with the tag 41 57";
+    case MULGREDDI_STATES: return "the number of states is not 1 to 8";
+    case MULGREDDI_LETTERS: return "the number of letters is not 1 to 16";
+    case MULGREDDI_INITIAL: return "the initial state is not a state of the rule";
+    case MULGREDDI_ACCEPTING: return "the accepting mask names a state that the rule does not have";
+    case MULGREDDI_CUT: return "clauses and counts do not fit before the trailer, or there are not states x letters counts";
+    case MULGREDDI_COUNT: return "an entry has more than 8 clauses";
+    case MULGREDDI_SUM: return "the counts do not add up to the number of clauses";
+    case MULGREDDI_CLAUSE: return "a clause names a state that the rule does not have";
+    case MULGREDDI_MIXED: return "a component has accepting and rejecting states";
+    case MULGREDDI_NO_CYCLE: return "the cycle of a word is empty";
+    case MULGREDDI_LONG_WORD: return "a lead-in or a cycle has more than 32 letters";
+    case MULGREDDI_LETTER: return "a letter of the word is not a letter of the rule";
+    case MULGREDDI_TABLE: return "codes and transitions are not a table";
+    case MULGREDDI_SLICE: return "a result or scratch slice is too short";
+    case MULGREDDI_MACROSTATE_ROOM: return "more reachable macrostates than room";
+    case MULGREDDI_TRANSITION_ROOM: return "more transitions than room";
+    case MULGREDDI_CLAUSE_INSIDE: return "a clause contains or repeats another clause of its entry";
+    case MULGREDDI_NAMES: return "the names do not fit: 8 bytes are needed for each letter";
+    case MULGREDDI_NAME_BYTE: return "a byte of a name is not printable ASCII (20 to 7e)";
+    case MULGREDDI_EQUAL_NAMES: return "two letters have the same name";
+    case MULGREDDI_EVENT_LINE: return "an event line has lowest above highest or no letter of the rule, is cut off, or is the 65th";
+    case MULGREDDI_COVERED_LINE: return "an event line can never be first: earlier lines hold all of its events";
+    case MULGREDDI_NO_LINE: return "an event of the log is in no event line";
+    default: return "not a refusal of this version";
+    }
+}
 
 /* Reads a rule file. The rule's refusals. first: the length of the preface, which is the start of the file itself. second: the number of name
  * bytes, 8 * s or 0; they stand right before the last two bytes of the preface, letter 0 first. */
@@ -118,15 +178,15 @@ mulgreddi_answer mulgreddi_judge_choices(const uint8_t *file, size_t file_len,
  * accepting if bits 44 to 47 are 0. Over every endless sequence of letters at most one run accepts; over a lead-in and a cycle, one exactly if the
  * rule accepts the word. The rule's refusals, which change nothing, and 17 and 18, which set both slices to zero throughout. Room is the length of the
  * slice, at most 65,536 macrostates and 1,048,576 transitions; a room that is exactly the count is served. */
-mulgreddi_answer mulgreddi_build(const uint8_t *file, size_t file_len, uint64_t *codes, size_t codes_len,
-                                 uint64_t *transitions, size_t transitions_len);
+mulgreddi_answer mulgreddi_build(const uint8_t *file, size_t file_len, uint64_t *codes, size_t codes_count,
+                                 uint64_t *transitions, size_t transitions_count);
 
 /* As mulgreddi_build, with only the macrostates that matter: those reachable ones from which an accepting run on some lead-in and cycle, of any
  * length, exists; codes ascending, transitions by the new numbers. A rule that accepts no word gives 0 and 0. Every accepting run of the table of
  * mulgreddi_build is one of this table, by the new numbers, and the other way round. Refused as mulgreddi_build: 17 and 18 count the reachable
  * table, not what is left of it, so both slices must have room for it. */
-mulgreddi_answer mulgreddi_build_trimmed(const uint8_t *file, size_t file_len, uint64_t *codes, size_t codes_len,
-                                         uint64_t *transitions, size_t transitions_len);
+mulgreddi_answer mulgreddi_build_trimmed(const uint8_t *file, size_t file_len, uint64_t *codes, size_t codes_count,
+                                         uint64_t *transitions, size_t transitions_count);
 
 /* Judges a word on a table: does an accepting run over it begin in an initial macrostate? first: 1 yes, 0 no; second: with yes, the lowest number of an
  * initial macrostate where one begins, else 0. The table is any that passes refusal 15, built from the rule or not; on one built from this file, first
@@ -137,7 +197,7 @@ mulgreddi_answer mulgreddi_build_trimmed(const uint8_t *file, size_t file_len, u
  * or target is out of range, or a length that 8 does not divide. */
 mulgreddi_answer mulgreddi_judge_table(const uint8_t *file, size_t file_len,
                                        const uint8_t *lead, size_t lead_len, const uint8_t *cycle, size_t cycle_len,
-                                       const uint8_t *codes, size_t codes_len, const uint8_t *transitions, size_t transitions_len,
+                                       const uint8_t *codes, size_t codes_bytes, const uint8_t *transitions, size_t transitions_bytes,
                                        uint8_t *scratch, size_t scratch_len);
 
 /* Translates a log into letters by an event table. events has up to 64 lines of five bytes: lowest and highest kind, lowest and highest drive, letter. log has
@@ -146,6 +206,34 @@ mulgreddi_answer mulgreddi_judge_table(const uint8_t *file, size_t file_len,
  * The rule's refusals, 25 over the whole table, 26, 27, and 16 where letters is shorter than the number of events. */
 mulgreddi_answer mulgreddi_translate(const uint8_t *file, size_t file_len, const uint8_t *events, size_t events_len,
                                      const uint8_t *log, size_t log_len, uint8_t *letters, size_t letters_len);
+
+/* Helpers: what a caller reads off a file that was served, a code and a transition. */
+
+/* Of a rule file that mulgreddi_check serves: the numbers of its trailer. */
+static inline unsigned mulgreddi_states(const uint8_t *file, size_t file_len) { return file[file_len - 8]; }
+static inline unsigned mulgreddi_letters(const uint8_t *file, size_t file_len) { return file[file_len - 7]; }
+static inline unsigned mulgreddi_initial_state(const uint8_t *file, size_t file_len) { return file[file_len - 6]; }
+static inline unsigned mulgreddi_accepting_mask(const uint8_t *file, size_t file_len) { return file[file_len - 5]; }
+static inline unsigned mulgreddi_clauses(const uint8_t *file, size_t file_len) { return file[file_len - 4] + 256u * file[file_len - 3]; }
+
+/* The name of a letter: 8 bytes of the file, without a zero after them; NULL where the rule has no names. checked is the answer of
+ * mulgreddi_check. */
+static inline const char *mulgreddi_letter_name(const uint8_t *file, mulgreddi_answer checked, unsigned letter)
+{
+    if (checked.second == 0)
+        return NULL;
+    return (const char *)file + (checked.first - 2 - checked.second + MULGREDDI_NAME_BYTES * letter);
+}
+
+/* Of a macrostate's code: the set of states claimed true, as a mask; is it initial, for a rule with this initial state; is it accepting. */
+static inline unsigned mulgreddi_code_set(uint64_t code) { return (unsigned)(code & 255); }
+static inline int mulgreddi_code_initial(uint64_t code, unsigned initial_state) { return (code >> initial_state & 1) && code >> 40 == 0; }
+static inline int mulgreddi_code_accepting(uint64_t code) { return code >> 44 == 0; }
+
+/* Of a transition: the numbers of the macrostates that it leaves and enters, and its letter. */
+static inline uint64_t mulgreddi_source(uint64_t transition) { return transition >> 24; }
+static inline unsigned mulgreddi_letter(uint64_t transition) { return (unsigned)(transition >> 16 & 255); }
+static inline uint64_t mulgreddi_target(uint64_t transition) { return transition & 65535; }
 
 #ifdef __cplusplus
 }
