@@ -1,0 +1,807 @@
+/* mulgreddi: the library's calls on the command line. `mulgreddi --help` tells how it is used.
+ *
+ * It reads files and words, calls the library and prints what is answered; what is right or wrong with a rule, a word or a table is said
+ * by the library alone. Exit status: 0 served and yes, 1 no or different, 2 refused, 3 wrong usage or a file that cannot be read or written. */
+#define _XOPEN_SOURCE 700
+#include <mulgreddi.h>
+
+#include <errno.h>
+#include <signal.h>
+#include <stdarg.h>
+#include <stdio.h>
+#include <stdlib.h>
+#include <string.h>
+#include <sys/time.h>
+#include <unistd.h>
+
+enum { YES = 0, NO = 1, REFUSED = 2, FAULT = 3 };
+
+typedef unsigned long long number;
+
+typedef struct {
+    const char *name, *operands, *options, *help;
+    int least, most; /* how many operands */
+    int (*run)(int count, char **operand);
+} command;
+
+static const command *running;
+
+/* ---- messages */
+
+static void say(const char *format, ...)
+{
+    va_list list;
+    fflush(stdout);
+    fputs("mulgreddi: ", stderr);
+    va_start(list, format);
+    vfprintf(stderr, format, list);
+    va_end(list);
+    fputc('\n', stderr);
+}
+
+static _Noreturn void usage(const char *format, const char *what)
+{
+    fflush(stdout);
+    fprintf(stderr, "mulgreddi %s: ", running->name);
+    fprintf(stderr, format, what);
+    fprintf(stderr, "\nusage: mulgreddi %s %s\n", running->name, running->operands);
+    exit(FAULT);
+}
+
+static _Noreturn void cannot(const char *path)
+{
+    say("%s: %s", path, strerror(errno));
+    exit(FAULT);
+}
+
+/* Long work tells on a terminal's standard error how long it has been going on. */
+static const char *work;
+static volatile sig_atomic_t seconds;
+
+static void tick(int signal)
+{
+    char line[64], digits[12];
+    size_t length = 0, left = sizeof digits;
+    (void)signal;
+    seconds++;
+    for (int n = seconds; n > 0; n /= 10)
+        digits[--left] = (char)('0' + n % 10);
+    line[length++] = '\r';
+    for (const char *c = work; *c && length < 40; c++)
+        line[length++] = *c;
+    line[length++] = ' ';
+    while (left < sizeof digits)
+        line[length++] = digits[left++];
+    line[length++] = ' ';
+    line[length++] = 's';
+    if (write(STDERR_FILENO, line, length) < 0)
+        return;
+}
+
+static void begin(const char *what)
+{
+    struct sigaction action;
+    const struct itimerval every = {{1, 0}, {1, 0}};
+    if (!isatty(STDERR_FILENO))
+        return;
+    work = what;
+    seconds = 0;
+    memset(&action, 0, sizeof action);
+    action.sa_handler = tick;
+    action.sa_flags = SA_RESTART;
+    sigaction(SIGALRM, &action, NULL);
+    setitimer(ITIMER_REAL, &every, NULL);
+}
+
+static void end(void)
+{
+    const struct itimerval never = {{0, 0}, {0, 0}};
+    if (!isatty(STDERR_FILENO))
+        return;
+    setitimer(ITIMER_REAL, &never, NULL);
+    if (seconds > 0)
+        fputs("\r\033[K", stderr);
+}
+
+/* ---- options: the words of the command line that begin with --, each at most once */
+
+enum { OPTIONS = 4 };
+static struct { const char *name, *value; } given[OPTIONS];
+
+/* What was given for an option: its value, or "" where it has none, or NULL where it was not given. */
+static const char *option(const char *name)
+{
+    for (int i = 0; i < OPTIONS && given[i].name; i++)
+        if (strcmp(given[i].name, name) == 0)
+            return given[i].value;
+    return NULL;
+}
+
+/* ---- files */
+
+typedef struct {
+    const char *path;
+    uint8_t *at;
+    size_t len;
+} bytes;
+
+static void *room(size_t size)
+{
+    void *at = calloc(size ? size : 1, 1);
+    if (!at)
+        cannot("memory");
+    return at;
+}
+
+static int stdin_taken;
+
+/* - is standard input, for one operand. */
+static FILE *open_to_read(const char *path)
+{
+    if (strcmp(path, "-") == 0) {
+        if (stdin_taken++)
+            usage("- stands for standard input, which can be read once%s", "");
+        return stdin;
+    }
+    FILE *f = fopen(path, "rb");
+    if (!f)
+        cannot(path);
+    return f;
+}
+
+static bytes load(const char *path)
+{
+    bytes b = {path, NULL, 0};
+    size_t size = 4096, got = 0;
+    FILE *f = open_to_read(path);
+    b.at = room(size);
+    while ((got = fread(b.at + b.len, 1, size - b.len, f)) > 0) {
+        b.len += got;
+        if (b.len == size) {
+            uint8_t *more = realloc(b.at, size *= 2);
+            if (!more)
+                cannot("memory");
+            b.at = more;
+        }
+    }
+    if (ferror(f))
+        cannot(path);
+    if (f != stdin)
+        fclose(f);
+    if (strcmp(path, "-") == 0)
+        b.path = "standard input";
+    return b;
+}
+
+/* Writes bytes to a file, or to standard output where path is NULL. */
+static void save(const char *path, const void *at, size_t len)
+{
+    FILE *f = path ? fopen(path, "wb") : stdout;
+    if (!f || fwrite(at, 1, len, f) != len || (path ? fclose(f) : fflush(f)) != 0)
+        cannot(path ? path : "standard output");
+}
+
+/* ---- rules */
+
+typedef struct {
+    bytes file;
+    mulgreddi_answer checked;
+    unsigned states, letters, initial, accepting;
+} rule;
+
+/* Prints states as {0,2}. */
+static void print_set(FILE *to, unsigned mask)
+{
+    const char *before = "";
+    fputc('{', to);
+    for (unsigned q = 0; q < 8; q++)
+        if (mask >> q & 1) {
+            fprintf(to, "%s%u", before, q);
+            before = ",";
+        }
+    fputc('}', to);
+}
+
+static void print_loop(FILE *to, const bytes *file, const uint8_t *loop, uint64_t length)
+{
+    unsigned accepting = mulgreddi_accepting_mask(file->at, file->len);
+    for (uint64_t i = 0; i < length; i++)
+        fprintf(to, "%s%u (%s)", i ? ", " : "", loop[i], accepting >> loop[i] & 1 ? "accepting" : "rejecting");
+}
+
+/* Tells a refusal: its number, its text and, where the library tells it, the spot. */
+static int refused(const char *what, uint64_t refusal, const bytes *file)
+{
+    say("%s: refused %llu: %s", what, (number)refusal, mulgreddi_refusal_text(refusal));
+    if (file && refusal == MULGREDDI_MIXED) {
+        uint8_t loop[MULGREDDI_LONGEST_LOOP];
+        mulgreddi_answer a = mulgreddi_mixed_loop(file->at, file->len, loop, sizeof loop);
+        if (a.refusal == 0 && a.first > 0) {
+            fputs("mulgreddi: shortest mixed loop: ", stderr);
+            print_loop(stderr, file, loop, a.first);
+            fputc('\n', stderr);
+        }
+    }
+    if (file && refusal == MULGREDDI_CLAUSE_INSIDE)
+        say("`mulgreddi tidy` drops such clauses");
+    return REFUSED;
+}
+
+static int word_refused(const char *text, uint64_t refusal)
+{
+    say("word %s: refused %llu: %s", text, (number)refusal, mulgreddi_refusal_text(refusal));
+    return REFUSED;
+}
+
+/* Reads and checks a rule file; a refused one ends the program. */
+static rule open_rule(const char *path)
+{
+    rule r = {load(path), {0, 0, 0}, 0, 0, 0, 0};
+    r.checked = mulgreddi_check(r.file.at, r.file.len);
+    if (r.checked.refusal)
+        exit(refused(r.file.path, r.checked.refusal, &r.file));
+    r.states = mulgreddi_states(r.file.at, r.file.len);
+    r.letters = mulgreddi_letters(r.file.at, r.file.len);
+    r.initial = mulgreddi_initial_state(r.file.at, r.file.len);
+    r.accepting = mulgreddi_accepting_mask(r.file.at, r.file.len);
+    return r;
+}
+
+/* The states of clause number `which` of the entry of a state and a letter, as a mask. */
+static unsigned clause_of(const rule *r, unsigned state, unsigned letter, unsigned which)
+{
+    const uint8_t *clause = r->file.at + r->checked.first, *count = clause + mulgreddi_clauses(r->file.at, r->file.len);
+    for (unsigned entry = 0; entry < state * r->letters + letter; entry++)
+        clause += count[entry];
+    return clause[which];
+}
+
+/* ---- letters and words */
+
+/* The length of a letter's name without the blanks at its end. */
+static size_t name_length(const char *name)
+{
+    size_t length = MULGREDDI_NAME_BYTES;
+    while (length > 0 && name[length - 1] == ' ')
+        length--;
+    return length;
+}
+
+/* Whether a name can stand in a word: it has no blank, comma or colon, does not begin with -, and is no number. */
+static int plain(const char *name, size_t length)
+{
+    size_t digits = 0;
+    for (size_t i = 0; i < length; i++) {
+        if (name[i] == ' ' || name[i] == ',' || name[i] == ':')
+            return 0;
+        digits += name[i] >= '0' && name[i] <= '9';
+    }
+    return length > 0 && name[0] != '-' && digits < length;
+}
+
+/* A letter is written by its name, if it has one that can stand in a word, else by its number. */
+static void print_letter(const rule *r, unsigned letter)
+{
+    const char *name = r && letter < r->letters ? mulgreddi_letter_name(r->file.at, r->checked, letter) : NULL;
+    if (name && plain(name, name_length(name)))
+        printf("%.*s", (int)name_length(name), name);
+    else
+        printf("%u", letter);
+}
+
+static void print_letters(const rule *r, const uint8_t *letters, size_t length)
+{
+    for (size_t i = 0; i < length; i++) {
+        if (i > 0)
+            putchar(',');
+        print_letter(r, letters[i]);
+    }
+}
+
+typedef struct {
+    size_t lead_len, cycle_len;
+    uint8_t *lead, *cycle;
+} word;
+
+static void print_word(const rule *r, word w)
+{
+    print_letters(r, w.lead, w.lead_len);
+    putchar(':');
+    print_letters(r, w.cycle, w.cycle_len);
+}
+
+/* The letter that a text of this length writes, or -1. */
+static int letter_of(const rule *r, const char *text, size_t length)
+{
+    unsigned value = 0;
+    size_t digits = 0;
+    while (digits < length && text[digits] >= '0' && text[digits] <= '9' && value < 256)
+        value = value * 10 + (unsigned)(text[digits++] - '0');
+    if (length > 0 && digits == length)
+        return value < 256 ? (int)value : -1;
+    for (unsigned letter = 0; r && letter < r->letters; letter++) {
+        const char *name = mulgreddi_letter_name(r->file.at, r->checked, letter);
+        if (name && length > 0 && name_length(name) == length && memcmp(name, text, length) == 0)
+            return (int)letter;
+    }
+    return -1;
+}
+
+/* Reads letters from text up to its end or a colon, with commas between them; answers where it stopped. */
+static const char *read_letters(const rule *r, const char *text, const char *whole, uint8_t *letters, size_t *count)
+{
+    *count = 0;
+    text += strspn(text, " \t\r\n");
+    if (*text == 0 || *text == ':')
+        return text;
+    for (;;) {
+        text += strspn(text, " \t");
+        size_t span = strcspn(text, ",:"), length = span;
+        while (length > 0 && strchr(" \t\r\n", text[length - 1]))
+            length--;
+        int letter = letter_of(r, text, length);
+        if (letter < 0) {
+            say("word %s: no letter is written so: %.*s", whole, (int)length, text);
+            exit(FAULT);
+        }
+        letters[(*count)++] = (uint8_t)letter;
+        text += span;
+        if (*text != ',')
+            return text;
+        text++;
+    }
+}
+
+/* A word is written LEAD:CYCLE, letters with commas between them. */
+static word read_word(const rule *r, const char *text)
+{
+    word w = {0, 0, room(strlen(text) + 1), room(strlen(text) + 1)};
+    const char *rest = read_letters(r, text, text, w.lead, &w.lead_len);
+    if (*rest == ':')
+        rest = read_letters(r, rest + 1, text, w.cycle, &w.cycle_len);
+    else
+        rest = ":";
+    if (*rest) {
+        say("word %s: a word is a lead-in, one colon and a cycle, as 0,1:0 or :0,1", text);
+        exit(FAULT);
+    }
+    return w;
+}
+
+/* A word of a command without a rule has names if --rule gives them. */
+static const rule *rule_of_names(void)
+{
+    static rule r;
+    if (!option("rule"))
+        return NULL;
+    r = open_rule(option("rule"));
+    return &r;
+}
+
+/* ---- tables */
+
+static uint64_t codes[MULGREDDI_MACROSTATES_MAX], transitions[MULGREDDI_TRANSITIONS_MAX];
+
+static mulgreddi_answer build(const rule *r)
+{
+    mulgreddi_answer a;
+    begin("building");
+    if (option("trimmed"))
+        a = mulgreddi_build_trimmed(r->file.at, r->file.len, codes, MULGREDDI_MACROSTATES_MAX, transitions, MULGREDDI_TRANSITIONS_MAX);
+    else
+        a = mulgreddi_build(r->file.at, r->file.len, codes, MULGREDDI_MACROSTATES_MAX, transitions, MULGREDDI_TRANSITIONS_MAX);
+    end();
+    return a;
+}
+
+/* Numbers as bytes, low byte first, which is how the library reads tables. */
+static uint8_t *low_first(const uint64_t *numbers, uint64_t count)
+{
+    uint8_t *out = room(8 * count);
+    for (uint64_t i = 0; i < 8 * count; i++)
+        out[i] = (uint8_t)(numbers[i / 8] >> 8 * (i % 8));
+    return out;
+}
+
+/* ---- the commands */
+
+static int check(int count, char **operand)
+{
+    int status = YES;
+    for (int i = 0; i < count; i++) {
+        bytes file = load(operand[i]);
+        mulgreddi_answer a = mulgreddi_check(file.at, file.len);
+        if (a.refusal) {
+            status = refused(file.path, a.refusal, &file);
+            continue;
+        }
+        printf("%s: states %u, letters %u, initial %u, accepting ", file.path, mulgreddi_states(file.at, file.len),
+               mulgreddi_letters(file.at, file.len), mulgreddi_initial_state(file.at, file.len));
+        print_set(stdout, mulgreddi_accepting_mask(file.at, file.len));
+        printf(", clauses %u, preface %llu, %s", mulgreddi_clauses(file.at, file.len), (number)a.first, a.second ? "names" : "no names");
+        for (unsigned letter = 0; letter < a.second / MULGREDDI_NAME_BYTES; letter++) {
+            const char *name = mulgreddi_letter_name(file.at, a, letter);
+            printf(" %u=%.*s", letter, (int)name_length(name), name);
+        }
+        printf("\n");
+    }
+    return status;
+}
+
+static int list(int count, char **operand)
+{
+    bytes file = load(operand[0]);
+    rule r = {file, mulgreddi_check(file.at, file.len), 0, 0, 0, 0};
+    mulgreddi_answer a = build(&r);
+    (void)count;
+    if (a.refusal) {
+        printf("refused %llu\n", (number)a.refusal);
+        return refused(file.path, a.refusal, &file);
+    }
+    printf("built %llu %llu\n", (number)a.first, (number)a.second);
+    for (unsigned letter = 0; letter < r.checked.second / MULGREDDI_NAME_BYTES; letter++)
+        printf("n %u %.8s\n", letter, mulgreddi_letter_name(file.at, r.checked, letter));
+    unsigned initial = mulgreddi_initial_state(file.at, file.len);
+    for (uint64_t m = 0; m < a.first; m++)
+        printf("m %llu %llu %c %c\n", (number)m, (number)codes[m], mulgreddi_code_initial(codes[m], initial) ? 'i' : '-',
+               mulgreddi_code_accepting(codes[m]) ? 'a' : '-');
+    for (uint64_t t = 0; t < a.second; t++)
+        printf("t %llu %u %llu\n", (number)mulgreddi_source(transitions[t]), mulgreddi_letter(transitions[t]),
+               (number)mulgreddi_target(transitions[t]));
+    return YES;
+}
+
+static int build_table(int count, char **operand)
+{
+    rule r = open_rule(operand[0]);
+    mulgreddi_answer a = build(&r);
+    uint64_t initial = 0, accepting = 0;
+    (void)count;
+    if (a.refusal)
+        return refused(r.file.path, a.refusal, &r.file);
+    for (uint64_t m = 0; m < a.first; m++) {
+        initial += mulgreddi_code_initial(codes[m], r.initial) != 0;
+        accepting += mulgreddi_code_accepting(codes[m]) != 0;
+    }
+    if (option("codes"))
+        save(option("codes"), low_first(codes, a.first), 8 * a.first);
+    if (option("transitions"))
+        save(option("transitions"), low_first(transitions, a.second), 8 * a.second);
+    printf("macrostates %llu, initial %llu, accepting %llu, transitions %llu\n", (number)a.first, (number)initial, (number)accepting,
+           (number)a.second);
+    return YES;
+}
+
+/* Prints, place by place, the states from which the rule accepts and the clause that each one takes. */
+static void print_choices(const rule *r, word w, const uint8_t *choices)
+{
+    for (size_t place = 0; place < w.lead_len + w.cycle_len; place++) {
+        unsigned letter = place < w.lead_len ? w.lead[place] : w.cycle[place - w.lead_len];
+        const char *before = " ";
+        printf("  place %zu, letter ", place);
+        print_letter(r, letter);
+        printf(":");
+        for (unsigned state = 0; state < r->states; state++) {
+            unsigned choice = choices[place * r->states + state];
+            if (choice == 255)
+                continue;
+            printf("%sstate %u by clause %u ", before, state, choice);
+            print_set(stdout, clause_of(r, state, letter, choice));
+            before = ", ";
+        }
+        printf("%s\n", *before == ',' ? "" : " none");
+    }
+}
+
+static int judge_on_table(const rule *r, const char *text, word w)
+{
+    static bytes c, t;
+    static uint8_t *scratch;
+    size_t scratch_len;
+    if (!c.at) {
+        c = load(option("codes"));
+        t = load(option("transitions"));
+        scratch = room(c.len / 8 * MULGREDDI_PLACES_MAX);
+    }
+    scratch_len = c.len / 8 * MULGREDDI_PLACES_MAX;
+    begin("judging");
+    mulgreddi_answer a = mulgreddi_judge_table(r->file.at, r->file.len, w.lead, w.lead_len, w.cycle, w.cycle_len, c.at, c.len, t.at, t.len,
+                                               scratch, scratch_len);
+    end();
+    if (a.refusal)
+        return a.refusal == MULGREDDI_TABLE ? refused(c.path, a.refusal, NULL) : word_refused(text, a.refusal);
+    print_word(r, w);
+    if (a.first)
+        printf(" yes from %llu\n", (number)a.second);
+    else
+        printf(" no\n");
+    return a.first ? YES : NO;
+}
+
+static int judge_word(const rule *r, const char *text)
+{
+    uint8_t masks[MULGREDDI_PLACES_MAX], choices[MULGREDDI_CHOICES_MAX];
+    word w = read_word(r, text);
+    if (option("codes"))
+        return judge_on_table(r, text, w);
+    mulgreddi_answer a = mulgreddi_judge_choices(r->file.at, r->file.len, w.lead, w.lead_len, w.cycle, w.cycle_len, masks, sizeof masks,
+                                                 choices, sizeof choices);
+    if (a.refusal)
+        return word_refused(text, a.refusal);
+    print_word(r, w);
+    printf(" %s masks ", a.first ? "yes" : "no");
+    for (size_t place = 0; place < w.lead_len + w.cycle_len; place++)
+        printf("%s%02x", place == w.lead_len ? ":" : place ? "," : "", masks[place]);
+    printf("\n");
+    if (option("choices"))
+        print_choices(r, w, choices);
+    free(w.lead);
+    free(w.cycle);
+    return a.first ? YES : NO;
+}
+
+static int judge(int count, char **operand)
+{
+    rule r = open_rule(operand[0]);
+    int status = YES, one;
+    if (!option("codes") != !option("transitions"))
+        usage("--codes and --transitions are given together%s", "");
+    for (int i = 1; i < count; i++) {
+        if (strcmp(operand[i], "-") != 0) {
+            one = judge_word(&r, operand[i]);
+            status = one > status ? one : status;
+            continue;
+        }
+        char *line = NULL;
+        size_t size = 0;
+        FILE *f = open_to_read("-");
+        while (getline(&line, &size, f) > 0) {
+            line[strcspn(line, "\r\n")] = 0;
+            if (line[strspn(line, " \t")] == 0)
+                continue;
+            one = judge_word(&r, line);
+            status = one > status ? one : status;
+        }
+        free(line);
+    }
+    return status;
+}
+
+static int tidy(int count, char **operand)
+{
+    uint8_t out[MULGREDDI_RULE_MAX];
+    bytes file = load(operand[0]);
+    (void)count;
+    if (!option("out") && isatty(STDOUT_FILENO))
+        usage("the tidied file is bytes: name a file with --out, or send standard output to one%s", "");
+    mulgreddi_answer a = mulgreddi_tidy(file.at, file.len, out, sizeof out);
+    if (a.refusal)
+        return refused(file.path, a.refusal, &file);
+    save(option("out"), out, a.first);
+    if (option("out"))
+        printf("%s: %u of %u clauses kept, %llu bytes\n", file.path, mulgreddi_clauses(out, a.first), mulgreddi_clauses(file.at, file.len),
+               (number)a.first);
+    return YES;
+}
+
+static int loop(int count, char **operand)
+{
+    uint8_t out[MULGREDDI_LONGEST_LOOP];
+    bytes file = load(operand[0]);
+    (void)count;
+    mulgreddi_answer a = mulgreddi_mixed_loop(file.at, file.len, out, sizeof out);
+    if (a.refusal)
+        return refused(file.path, a.refusal, &file);
+    if (a.first == 0)
+        printf("none");
+    print_loop(stdout, &file, out, a.first);
+    printf("\n");
+    return a.first == 0 ? YES : NO;
+}
+
+static int same(int count, char **operand)
+{
+    bytes a = load(operand[0]), b = load(operand[1]);
+    (void)count;
+    mulgreddi_answer answer = mulgreddi_same_rules(a.at, a.len, b.at, b.len);
+    if (answer.refusal) {
+        const bytes *file = mulgreddi_check(a.at, a.len).refusal ? &a : &b;
+        return refused(file->path, answer.refusal, file);
+    }
+    printf("%s\n", answer.first ? "same" : "different");
+    return answer.first ? YES : NO;
+}
+
+static int same_word(int count, char **operand)
+{
+    const rule *r = rule_of_names();
+    word a = read_word(r, operand[0]), b = read_word(r, operand[1]);
+    (void)count;
+    mulgreddi_answer answer = mulgreddi_same_words(a.lead, a.lead_len, a.cycle, a.cycle_len, b.lead, b.lead_len, b.cycle, b.cycle_len);
+    if (answer.refusal) {
+        int first = mulgreddi_same_words(a.lead, a.lead_len, a.cycle, a.cycle_len, a.lead, a.lead_len, a.cycle, a.cycle_len).refusal != 0;
+        return word_refused(operand[first ? 0 : 1], answer.refusal);
+    }
+    printf("%s\n", answer.first ? "same" : "different");
+    return answer.first ? YES : NO;
+}
+
+static int tidy_word(int count, char **operand)
+{
+    uint8_t out[MULGREDDI_PLACES_MAX];
+    const rule *r = rule_of_names();
+    word w = read_word(r, operand[0]);
+    (void)count;
+    mulgreddi_answer a = mulgreddi_tidy_word(w.lead, w.lead_len, w.cycle, w.cycle_len, out, sizeof out);
+    if (a.refusal)
+        return word_refused(operand[0], a.refusal);
+    print_word(r, (word){a.first, a.second, out, out + a.first});
+    printf("\n");
+    return YES;
+}
+
+static int translate(int count, char **operand)
+{
+    rule r = open_rule(operand[0]);
+    bytes events = load(operand[1]), log = load(operand[2]);
+    size_t cycle = 0;
+    (void)count;
+    if (option("cycle")) {
+        const char *digits = option("cycle");
+        char *rest;
+        unsigned long value = strtoul(digits, &rest, 10);
+        if (*digits < '0' || *digits > '9' || *rest)
+            usage("--cycle=%s is no number", digits);
+        cycle = value;
+    }
+    uint8_t *letters = room(log.len / 2);
+    mulgreddi_answer a = mulgreddi_translate(r.file.at, r.file.len, events.at, events.len, log.at, log.len, letters, log.len / 2);
+    if (a.refusal)
+        return refused(a.refusal == MULGREDDI_NO_LINE ? log.path : events.path, a.refusal, NULL);
+    if (!option("cycle"))
+        print_letters(&r, letters, a.first);
+    else if (cycle <= a.first)
+        print_word(&r, (word){a.first - cycle, cycle, letters, letters + a.first - cycle});
+    else {
+        say("%s: %llu events, too few for this cycle", log.path, (number)a.first);
+        return FAULT;
+    }
+    printf("\n");
+    return YES;
+}
+
+static const command commands[] = {
+    {"check", "FILE..", "",
+     "Reads rule files and prints, a line each: states, letters, initial state, accepting states, number of\n"
+     "clauses, length of the preface in bytes, names of the letters. 0 where all are accepted.\n",
+     1, 4096, check},
+    {"list", "[--trimmed] FILE", "trimmed",
+     "Prints the listing of the rule's automaton: a line `built`, macrostates, transitions; of a rule with names\n"
+     "a line `n`, letter, name for each letter; a line `m`, number, code, `i` if initial, `a` if accepting for\n"
+     "each macrostate; a line `t`, source, letter, target for each transition. Room for 65,536 macrostates and\n"
+     "1,048,576 transitions. A refusal is the line `refused` and the number.\n"
+     "  --trimmed            only the macrostates that matter: those from which an accepting run exists\n",
+     1, 1, list},
+    {"judge", "[--choices] [--codes=FILE --transitions=FILE] FILE WORD..", "choices codes= transitions=",
+     "Judges words on the rule and prints a line each: the word, yes or no, and the masks: for each place, as\n"
+     "two hexadecimal digits, the states from which the rule accepts there, state q having weight 2 to the q.\n"
+     "A word - reads words from standard input, a line each. 0 where all are accepted, 1 where one is not,\n"
+     "2 where one is refused.\n"
+     "  --choices            a line a place more: the clause that carries the verdict of each accepting state\n"
+     "  --codes=FILE --transitions=FILE\n"
+     "                       judges on the table that `build` wrote to these files instead, and prints the\n"
+     "                       number of the macrostate where the accepting run begins\n",
+     2, 1 << 20, judge},
+    {"build", "[--trimmed] [--codes=FILE] [--transitions=FILE] FILE", "trimmed codes= transitions=",
+     "Builds the unambiguous automaton of the rule and prints how many macrostates it has, how many of them are\n"
+     "initial and accepting, and how many transitions.\n"
+     "  --trimmed            only the macrostates that matter: those from which an accepting run exists\n"
+     "  --codes=FILE         writes the codes of the macrostates there, 8 bytes each, low byte first\n"
+     "  --transitions=FILE   writes the transitions there, source * 16777216 + letter * 65536 + target, likewise\n",
+     1, 1, build_table},
+    {"tidy", "[--out=FILE] FILE", "out=",
+     "Writes the rule file without clauses that contain or repeat another of their entry to standard output.\n"
+     "The rule stays the same on every word.\n"
+     "  --out=FILE           writes it there and prints how many clauses were kept\n",
+     1, 1, tidy},
+    {"loop", "FILE", "",
+     "Prints the shortest loop of states through accepting and rejecting ones, which is where a rule that is\n"
+     "refused by 11 is to be mended, or `none`. 0 where there is none, 1 where there is one.\n",
+     1, 1, loop},
+    {"same", "FILE FILE", "",
+     "Prints whether two files are the same rule: `same` (0) or `different` (1).\n",
+     2, 2, same},
+    {"same-word", "[--rule=FILE] WORD WORD", "rule=",
+     "Prints whether two words are the same endless sequence: `same` (0) or `different` (1).\n"
+     "  --rule=FILE          the rule whose names the words use\n",
+     2, 2, same_word},
+    {"tidy-word", "[--rule=FILE] WORD", "rule=",
+     "Prints the tidy spelling of a word: the shortest cycle, then the shortest lead-in.\n"
+     "  --rule=FILE          the rule whose names the word uses\n",
+     1, 1, tidy_word},
+    {"translate", "[--cycle=N] FILE EVENTS LOG", "cycle=",
+     "Prints the letters of the rule that a log's events are, by an event table: EVENTS has up to 64 lines of\n"
+     "five bytes (lowest and highest kind, lowest and highest drive, letter), LOG two bytes an event.\n"
+     "  --cycle=N            prints a word: the last N letters are its cycle, those before its lead-in\n",
+     3, 3, translate},
+};
+
+enum { COMMANDS = sizeof commands / sizeof *commands };
+
+static void help(FILE *to)
+{
+    fputs("usage: mulgreddi COMMAND [OPTION..] OPERAND..\n", to);
+    for (int i = 0; i < COMMANDS; i++)
+        fprintf(to, "  %-10s %s\n", commands[i].name, commands[i].operands);
+    fputs("A FILE is a rule file; - is standard input. A WORD is LEAD:CYCLE, a lead-in that may be empty and a cycle that\n"
+          "repeats for ever, letters with commas between them: 0,1:0 or :0,1. Where the rule has names, a letter is written\n"
+          "by its name without the blanks at its end (its number will do, too), or by its number if the name has a blank,\n"
+          "comma or colon in it, begins with - or is a number.\n"
+          "Exit status: 0 served and yes, 1 no or different, 2 refused, 3 wrong usage or a file that cannot be read or written.\n"
+          "`mulgreddi COMMAND --help` tells more, `mulgreddi --version` the version.\n", to);
+}
+
+/* Takes the options out of the words that follow the command; what is left are its operands, whose number is answered. */
+static int take_options(int count, char **words)
+{
+    int left = 0, taken = 0, over = 0;
+    for (int i = 0; i < count; i++) {
+        char *text = words[i];
+        if (over || text[0] != '-' || text[1] == 0) {
+            words[left++] = text;
+            continue;
+        }
+        if (strcmp(text, "--") == 0) {
+            over = 1;
+            continue;
+        }
+        if (strcmp(text, "--help") == 0 || strcmp(text, "-h") == 0) {
+            printf("usage: mulgreddi %s %s\n%s", running->name, running->operands, running->help);
+            exit(YES);
+        }
+        size_t length = strcspn(text, "=");
+        const char *known = text[1] == '-' && length > 2 ? running->options : "";
+        while (*known && (strncmp(known, text + 2, length - 2) != 0 || strchr(" =", known[length - 2]) == NULL)) {
+            known += strcspn(known, " ");
+            known += strspn(known, " ");
+        }
+        int valued = *known && known[length - 2] == '=';
+        if (!*known || taken == OPTIONS || valued != (text[length] == '='))
+            usage("%s: no such option, or a value too many or too few", text);
+        given[taken].value = valued ? text + length + 1 : "";
+        text[length] = 0;
+        given[taken++].name = text + 2;
+    }
+    return left;
+}
+
+int main(int argc, char **argv)
+{
+    if (argc < 2) {
+        help(stderr);
+        return FAULT;
+    }
+    if (strcmp(argv[1], "--help") == 0 || strcmp(argv[1], "-h") == 0) {
+        help(stdout);
+        return YES;
+    }
+    if (strcmp(argv[1], "--version") == 0) {
+        printf("mulgreddi %s\n", MULGREDDI_VERSION);
+        return YES;
+    }
+    for (running = commands; running < commands + COMMANDS && strcmp(running->name, argv[1]) != 0; running++)
+        ;
+    if (running == commands + COMMANDS) {
+        fprintf(stderr, "mulgreddi: no command %s; `mulgreddi --help` lists them\n", argv[1]);
+        return FAULT;
+    }
+    int count = take_options(argc - 2, argv + 2);
+    if (count < running->least)
+        usage("an operand is missing%s", "");
+    if (count > running->most)
+        usage("%s: an operand too many", argv[2 + running->most]);
+    int status = running->run(count, argv + 2);
+    if (fflush(stdout) != 0 || ferror(stdout))
+        cannot("standard output");
+    return status;
+}
