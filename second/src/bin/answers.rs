@@ -1,0 +1,412 @@
+//! The second program's answers to the command line: what `mulgreddi` must
+//! print on standard output, and its exit status. Told on standard error is the
+//! number of a refusal alone.
+
+use std::collections::HashMap;
+use std::io::{self, Read, Write};
+use std::process::exit;
+use std::{env, fs};
+
+use second::build::{build, Macrostate};
+use second::choices::{judge_choices, FALSE};
+use second::events::translate;
+use second::mixed::mixed_loop;
+use second::names::Name;
+use second::rule::{read_named, same_rules, take_apart, Named};
+use second::spelling::tidy_word;
+use second::table::judge_table;
+use second::tidy::tidy;
+use second::trim::build_trimmed;
+use second::word::same_words;
+
+const YES: i32 = 0;
+const NO: i32 = 1;
+const REFUSED: i32 = 2;
+const FAULT: i32 = 3;
+
+const MACROSTATES: usize = 65_536;
+const TRANSITIONS: usize = 1_048_576;
+
+/// What was printed, as far as a refusal lets it come.
+struct Printed {
+    out: Vec<u8>,
+}
+
+impl Printed {
+    fn line(&mut self, line: &str) {
+        self.out.extend(line.bytes());
+        self.out.push(b'\n');
+    }
+
+    fn end(&self, status: i32) -> ! {
+        io::stdout().write_all(&self.out).unwrap();
+        exit(status)
+    }
+
+    fn served<T>(&self, answer: Result<T, u8>) -> T {
+        answer.unwrap_or_else(|number| {
+            eprintln!("refused {number}");
+            self.end(REFUSED)
+        })
+    }
+}
+
+fn load(path: &str) -> Vec<u8> {
+    let mut bytes = Vec::new();
+    if path == "-" {
+        io::stdin().read_to_end(&mut bytes).unwrap();
+    } else {
+        bytes = fs::read(path).unwrap_or_else(|_| exit(FAULT));
+    }
+    bytes
+}
+
+fn shown(path: &str) -> &str {
+    match path {
+        "-" => "standard input",
+        path => path,
+    }
+}
+
+fn set(mask: u8) -> String {
+    let states = (0..8).filter(|q| mask >> q & 1 == 1);
+    let states: Vec<_> = states.map(|q| q.to_string()).collect();
+    format!("{{{}}}", states.join(","))
+}
+
+fn trimmed(name: &Name) -> String {
+    String::from_utf8_lossy(name).trim_end().to_string()
+}
+
+/// A letter as it is printed: by its name, or by its number where there is no
+/// name or it cannot stand in a word.
+fn letter(names: &Option<Vec<Name>>, letter: u8) -> String {
+    let name = names.as_ref().and_then(|names| names.get(letter as usize));
+    let name = name.map(trimmed).filter(|name| {
+        !name.is_empty()
+            && !name.starts_with('-')
+            && !name.contains([' ', ',', ':'])
+            && !name.bytes().all(|byte| byte.is_ascii_digit())
+    });
+    name.unwrap_or(letter.to_string())
+}
+
+fn letters(names: &Option<Vec<Name>>, own: &[u8]) -> String {
+    let own: Vec<_> = own.iter().map(|&l| letter(names, l)).collect();
+    own.join(",")
+}
+
+fn word(names: &Option<Vec<Name>>, lead: &[u8], cycle: &[u8]) -> String {
+    format!("{}:{}", letters(names, lead), letters(names, cycle))
+}
+
+/// A word as it is written, LEAD:CYCLE.
+fn read_word(names: &Option<Vec<Name>>, text: &str) -> (Vec<u8>, Vec<u8>) {
+    let part = |text: &str| -> Vec<u8> {
+        if text.trim().is_empty() {
+            return Vec::new();
+        }
+        let number = |text: &str| {
+            let named = names.iter().flatten().position(|name| trimmed(name) == text);
+            text.parse().ok().or(named.map(|letter| letter as u8))
+        };
+        let own = text.split(',').map(|text| number(text.trim()));
+        own.map(|own| own.unwrap_or_else(|| exit(FAULT))).collect()
+    };
+    let (lead, cycle) = text.split_once(':').unwrap_or_else(|| exit(FAULT));
+    (part(lead), part(cycle))
+}
+
+fn masks(masks: &[u8], lead: usize) -> String {
+    let hex = |part: &[u8]| -> String {
+        let part: Vec<_> = part.iter().map(|mask| format!("{mask:02x}")).collect();
+        part.join(",")
+    };
+    format!("{}:{}", hex(&masks[..lead]), hex(&masks[lead..]))
+}
+
+type Tables = (Vec<u64>, Vec<u64>);
+
+fn table(file: &[u8], trim: bool) -> Result<Tables, u8> {
+    match trim {
+        true => build_trimmed(file, MACROSTATES, TRANSITIONS),
+        false => build(file, MACROSTATES, TRANSITIONS),
+    }
+}
+
+fn bytes(numbers: &[u64]) -> Vec<u8> {
+    numbers.iter().flat_map(|n| n.to_le_bytes()).collect()
+}
+
+fn check(printed: &mut Printed, paths: &[String]) -> i32 {
+    let mut status = YES;
+    for path in paths {
+        let Named {
+            rule,
+            preface,
+            names,
+        } = match read_named(&load(path)) {
+            Ok(named) => named,
+            Err(number) => {
+                eprintln!("refused {number}");
+                status = REFUSED;
+                continue;
+            }
+        };
+        let clauses = rule.entries.iter().flatten().flatten().count();
+        let mut line = format!(
+            "{}: states {}, letters {}, initial {}, accepting {}, clauses {clauses}, preface {preface}, ",
+            shown(path),
+            rule.states,
+            rule.letters,
+            rule.initial,
+            set(rule.accepting)
+        );
+        line += if names.is_some() { "names" } else { "no names" };
+        for (letter, name) in names.iter().flatten().enumerate() {
+            line += &format!(" {letter}={}", trimmed(name));
+        }
+        printed.line(&line);
+    }
+    status
+}
+
+fn list(printed: &mut Printed, path: &str, trim: bool) -> i32 {
+    let file = load(path);
+    let (codes, transitions) = match table(&file, trim) {
+        Ok(table) => table,
+        Err(number) => {
+            printed.line(&format!("refused {number}"));
+            return REFUSED;
+        }
+    };
+    let named = read_named(&file).unwrap();
+    printed.line(&format!("built {} {}", codes.len(), transitions.len()));
+    for (letter, name) in named.names.iter().flatten().enumerate() {
+        printed.line(&format!("n {letter} {}", String::from_utf8_lossy(name)));
+    }
+    for (number, &code) in codes.iter().enumerate() {
+        let macrostate = Macrostate::from_code(code);
+        let mark = |yes, mark| if yes { mark } else { "-" };
+        let initial = mark(macrostate.is_initial(&named.rule), "i");
+        let accepting = mark(macrostate.is_accepting(), "a");
+        printed.line(&format!("m {number} {code} {initial} {accepting}"));
+    }
+    for t in transitions {
+        let (source, letter, target) = (t / 16_777_216, t / 65_536 % 256, t % 65_536);
+        printed.line(&format!("t {source} {letter} {target}"));
+    }
+    YES
+}
+
+fn build_command(printed: &mut Printed, path: &str, options: &HashMap<String, String>) -> i32 {
+    let file = load(path);
+    let (codes, transitions) = printed.served(table(&file, options.contains_key("trimmed")));
+    let rule = read_named(&file).unwrap().rule;
+    let macrostates: Vec<_> = codes.iter().map(|&c| Macrostate::from_code(c)).collect();
+    let initial = macrostates.iter().filter(|m| m.is_initial(&rule)).count();
+    let accepting = macrostates.iter().filter(|m| m.is_accepting()).count();
+    if let Some(path) = options.get("codes") {
+        fs::write(path, bytes(&codes)).unwrap();
+    }
+    if let Some(path) = options.get("transitions") {
+        fs::write(path, bytes(&transitions)).unwrap();
+    }
+    printed.line(&format!(
+        "macrostates {}, initial {initial}, accepting {accepting}, transitions {}",
+        codes.len(),
+        transitions.len()
+    ));
+    YES
+}
+
+fn judge_one(
+    printed: &mut Printed,
+    file: &[u8],
+    named: &Named,
+    text: &str,
+    options: &HashMap<String, String>,
+) -> i32 {
+    let (lead, cycle) = read_word(&named.names, text);
+    let (rule, names) = (&named.rule, &named.names);
+    let spelled = word(names, &lead, &cycle);
+    if let (Some(codes), Some(transitions)) = (options.get("codes"), options.get("transitions")) {
+        let (codes, transitions) = (load(codes), load(transitions));
+        let answer = judge_table(file, [&lead, &cycle], [&codes, &transitions], usize::MAX);
+        return match answer {
+            Ok(Some(number)) => {
+                printed.line(&format!("{spelled} yes from {number}"));
+                YES
+            }
+            Ok(None) => {
+                printed.line(&format!("{spelled} no"));
+                NO
+            }
+            Err(number) => {
+                eprintln!("refused {number}");
+                REFUSED
+            }
+        };
+    }
+    let judged = match judge_choices(file, &lead, &cycle, 64, 512) {
+        Ok(judged) => judged,
+        Err(number) => {
+            eprintln!("refused {number}");
+            return REFUSED;
+        }
+    };
+    let verdict = if judged.yes { "yes" } else { "no" };
+    let all = masks(&judged.masks, lead.len());
+    printed.line(&format!("{spelled} {verdict} masks {all}"));
+    if options.contains_key("choices") {
+        for (place, &own) in lead.iter().chain(&cycle).enumerate() {
+            let chosen = (0..rule.states).filter_map(|q| {
+                let choice = judged.choices[place * rule.states + q];
+                let clause = rule.entries[q][own as usize].get(choice as usize);
+                let clause = clause.filter(|_| choice != FALSE)?;
+                Some(format!("state {q} by clause {choice} {}", set(*clause)))
+            });
+            let chosen: Vec<_> = chosen.collect();
+            let chosen = match chosen.is_empty() {
+                true => "none".to_string(),
+                false => chosen.join(", "),
+            };
+            let own = letter(names, own);
+            printed.line(&format!("  place {place}, letter {own}: {chosen}"));
+        }
+    }
+    if judged.yes {
+        YES
+    } else {
+        NO
+    }
+}
+
+fn judge(printed: &mut Printed, operands: &[String], options: &HashMap<String, String>) -> i32 {
+    let file = load(&operands[0]);
+    let named = printed.served(read_named(&file));
+    let mut status = YES;
+    for text in &operands[1..] {
+        let mut texts = vec![text.clone()];
+        if text == "-" {
+            let lines = String::from_utf8(load("-")).unwrap();
+            let lines = lines.lines().filter(|line| !line.trim().is_empty());
+            texts = lines.map(str::to_string).collect();
+        }
+        for text in texts {
+            status = status.max(judge_one(printed, &file, &named, &text, options));
+        }
+    }
+    status
+}
+
+fn loop_command(printed: &mut Printed, path: &str) -> i32 {
+    let file = load(path);
+    let Some(states) = printed.served(mixed_loop(&file)) else {
+        printed.line("none");
+        return YES;
+    };
+    let accepting = take_apart(&file).unwrap().0.accepting;
+    let told = states.iter().map(|&q| match accepting >> q & 1 {
+        1 => format!("{q} (accepting)"),
+        _ => format!("{q} (rejecting)"),
+    });
+    printed.line(&told.collect::<Vec<_>>().join(", "));
+    NO
+}
+
+fn tidy_command(printed: &mut Printed, path: &str, out: Option<&String>) -> i32 {
+    let file = load(path);
+    let tidied = printed.served(tidy(&file));
+    let Some(out) = out else {
+        printed.out = tidied;
+        return YES;
+    };
+    fs::write(out, &tidied).unwrap();
+    let clauses = |file: &[u8]| take_apart(file).unwrap().0.entries.concat().concat().len();
+    printed.line(&format!(
+        "{}: {} of {} clauses kept, {} bytes",
+        shown(path),
+        clauses(&tidied),
+        clauses(&file),
+        tidied.len()
+    ));
+    YES
+}
+
+fn same(printed: &mut Printed, same: bool) -> i32 {
+    printed.line(if same { "same" } else { "different" });
+    if same {
+        YES
+    } else {
+        NO
+    }
+}
+
+fn translate_command(
+    printed: &mut Printed,
+    operands: &[String],
+    options: &HashMap<String, String>,
+) -> i32 {
+    let [file, events, log] = [0, 1, 2].map(|i| load(&operands[i]));
+    let names = printed.served(read_named(&file)).names;
+    let own = printed.served(translate(&file, &events, &log, usize::MAX));
+    match options.get("cycle") {
+        None => printed.line(&letters(&names, &own)),
+        Some(cycle) => {
+            let lead = own.len() - cycle.parse::<usize>().unwrap();
+            printed.line(&word(&names, &own[..lead], &own[lead..]));
+        }
+    }
+    YES
+}
+
+fn main() {
+    let mut arguments = env::args().skip(1);
+    let command = arguments.next().unwrap_or_else(|| exit(FAULT));
+    let mut operands = Vec::new();
+    let mut options = HashMap::new();
+    for argument in arguments {
+        match argument.strip_prefix("--") {
+            None => operands.push(argument),
+            Some(option) => {
+                let (name, value) = option.split_once('=').unwrap_or((option, ""));
+                options.insert(name.to_string(), value.to_string());
+            }
+        }
+    }
+    let printed = &mut Printed { out: Vec::new() };
+    let named = |printed: &Printed| {
+        let file = options.get("rule").map(|path| load(path));
+        file.and_then(|file| printed.served(read_named(&file)).names)
+    };
+    let status = match command.as_str() {
+        "check" => check(printed, &operands),
+        "list" => list(printed, &operands[0], options.contains_key("trimmed")),
+        "judge" => judge(printed, &operands, &options),
+        "build" => build_command(printed, &operands[0], &options),
+        "tidy" => tidy_command(printed, &operands[0], options.get("out")),
+        "loop" => loop_command(printed, &operands[0]),
+        "same" => {
+            let [a, b] = [0, 1].map(|i| load(&operands[i]));
+            let answer = printed.served(same_rules(&a, &b));
+            same(printed, answer)
+        }
+        "same-word" => {
+            let names = named(printed);
+            let [a, b] = [0, 1].map(|i| read_word(&names, &operands[i]));
+            let answer = printed.served(same_words([&a.0, &a.1], [&b.0, &b.1]));
+            same(printed, answer)
+        }
+        "tidy-word" => {
+            let names = named(printed);
+            let (lead, cycle) = read_word(&names, &operands[0]);
+            let (lead, cycle) = printed.served(tidy_word(&lead, &cycle));
+            printed.line(&word(&names, &lead, &cycle));
+            YES
+        }
+        "translate" => translate_command(printed, &operands, &options),
+        _ => FAULT,
+    };
+    printed.end(status)
+}
