@@ -1,20 +1,31 @@
 # Mulgreddi: unambiguous Büchi automata from alternating weak ones.
 #   make lib                   the static library, build/libmulgreddi.a
-#   make install PREFIX=DIR    header, library and a pkg-config file to DIR
-#   make list < FILE           the listing of a rule file
-#   make test                  the gate: library and listing program, comparison with the second program, C examples, proofs
+#   make tool                  the command line, build/mulgreddi
+#   make list < FILE           the listing of a rule file; nothing else is on standard output
+#   make install PREFIX=DIR    command line, listing program, header, library, pkg-config file and man page to DIR (default /usr/local)
+#   make uninstall PREFIX=DIR  takes them away again
+#   make test                  the gate: library and listing program, comparison with the second program, C examples, command line, proofs
+#   make check-tool            of it the tests of the command line, of the header and of the installation
 #   make bench                 times of the library beside those of the second program and of a C++ program without proofs, and of the step back alone
 #   make soak SECONDS=600      the comparison with new seeds until the time is up
+#   make clean                 removes build/ and target/
+#   make help                  this list
+
+# a step fails where any part of it does
+SHELL := /bin/bash
+.SHELLFLAGS := -eu -o pipefail -c
 
 CC ?= cc
 CXX ?= c++
 CFLAGS ?= -O2 -std=c11 -Wall -Wextra -Werror
 SECONDS ?= 600
 PREFIX ?= /usr/local
-VERSION := 1.0.0
 BUILD := build
+# the header has the version
+VERSION := $(shell awk '/define MULGREDDI_VERSION_(MAJOR|MINOR|PATCH) / { v = v d $$3; d = "." } END { print v }' include/mulgreddi.h)
 LIB := $(BUILD)/libmulgreddi.a
 PROGRAM := $(BUILD)/listing
+TOOL := $(BUILD)/mulgreddi
 SOURCES := crates.txt $(shell find crates -type f -not -path '*/must-fail/*')
 CARGO := CARGO_TARGET_DIR=$(CURDIR)/$(BUILD)/cargo MULGREDDI_LIB=$(CURDIR)/$(BUILD) cargo
 EXAMPLES := $(patsubst examples/%.c,$(BUILD)/%,$(wildcard examples/*.c))
@@ -24,31 +35,55 @@ ifndef BESIDE
 .NOTPARALLEL:
 endif
 
-.PHONY: lib install list listings test bench soak compare second examples clean
+.PHONY: lib tool install uninstall list listings test check-tool bench soak compare second examples clean help
 
 lib: $(LIB)
+
+# a line for each crate on standard error, everything in build/log
+QUIETLY := tools/quietly.sh $(BUILD)/log
 
 # `rt check` proves crates side by side, which `rt staticlib` alone would not
 BELOW := $(shell sed -n 's/^mulgreddi://p' crates.txt)
 $(LIB): $(SOURCES)
-	rt check $(BELOW)
-	rt staticlib mulgreddi
-	mkdir -p $(BUILD)
-	cp target/staticlib/libmulgreddi.a $@
+	@echo 'Proving and compiling the library: up to 17 minutes from nothing on two cores. A line for each crate follows.' >&2
+	@$(QUIETLY)/lib-check rt check $(BELOW)
+	@$(QUIETLY)/lib rt staticlib mulgreddi
+	@cp target/staticlib/libmulgreddi.a $@
+	@echo '$@ is ready; $(BUILD)/log has all that was printed.' >&2
 
-# header, library and a pkg-config file
-install: $(LIB)
-	install -d $(DESTDIR)$(PREFIX)/include $(DESTDIR)$(PREFIX)/lib/pkgconfig
-	install -m 644 include/mulgreddi.h $(DESTDIR)$(PREFIX)/include/mulgreddi.h
-	install -m 644 $(LIB) $(DESTDIR)$(PREFIX)/lib/libmulgreddi.a
-	printf '%s\n' 'prefix=$(PREFIX)' 'Name: mulgreddi' 'Description: unambiguous Büchi automata from alternating weak ones' 'Version: $(VERSION)' \
-	    'Cflags: -I$${prefix}/include' 'Libs: -L$${prefix}/lib -lmulgreddi' > $(DESTDIR)$(PREFIX)/lib/pkgconfig/mulgreddi.pc
+# the command line stands on the header and the library alone
+tool: $(TOOL)
+
+$(TOOL): tools/mulgreddi.c include/mulgreddi.h $(LIB)
+	@$(CC) $(CFLAGS) -Iinclude -o $@ $< $(LIB)
+	@echo '$@ is ready.' >&2
+
+# PREFIX may be relative: the pkg-config file has it absolute
+TO := $(abspath $(PREFIX))
+install: $(LIB) $(TOOL) $(PROGRAM)
+	@install -d $(DESTDIR)$(TO)/bin $(DESTDIR)$(TO)/include $(DESTDIR)$(TO)/lib/pkgconfig $(DESTDIR)$(TO)/share/man/man1
+	@install -m 755 $(TOOL) $(DESTDIR)$(TO)/bin/mulgreddi
+	@install -m 755 $(PROGRAM) $(DESTDIR)$(TO)/bin/mulgreddi-listing
+	@install -m 644 include/mulgreddi.h $(DESTDIR)$(TO)/include/mulgreddi.h
+	@install -m 644 $(LIB) $(DESTDIR)$(TO)/lib/libmulgreddi.a
+	@printf '%s\n' 'prefix=$(TO)' 'Name: mulgreddi' 'Description: unambiguous Büchi automata from alternating weak ones' 'Version: $(VERSION)' \
+	    'Cflags: -I$${prefix}/include' 'Libs: -L$${prefix}/lib -lmulgreddi' > $(DESTDIR)$(TO)/lib/pkgconfig/mulgreddi.pc
+	@sed 's/@VERSION@/$(VERSION)/' docs/mulgreddi.1 > $(DESTDIR)$(TO)/share/man/man1/mulgreddi.1
+	@echo 'mulgreddi $(VERSION) is installed in $(DESTDIR)$(TO).' >&2
+
+uninstall:
+	@rm -f $(addprefix $(DESTDIR)$(TO)/,bin/mulgreddi bin/mulgreddi-listing include/mulgreddi.h lib/libmulgreddi.a lib/pkgconfig/mulgreddi.pc \
+	    share/man/man1/mulgreddi.1)
+
+help:
+	@sed -n 's/^#   //p' Makefile
 
 # on standard output is the listing alone
 $(PROGRAM): $(SOURCES)
-	@rt check listing < /dev/null >&2
-	@mkdir -p $(BUILD)
+	@echo 'Proving and compiling the listing program: as long as the library from nothing. A line for each crate follows.' >&2
+	@$(QUIETLY)/listing rt check listing
 	@cp target/bin/listing $@
+	@echo '$@ is ready; $(BUILD)/log has all that was printed.' >&2
 
 list: $(PROGRAM)
 	@$(PROGRAM)
@@ -103,13 +138,29 @@ $(BUILD)/%: examples/%.c include/mulgreddi.h $(LIB)
 examples: $(EXAMPLES)
 	for e in $(EXAMPLES); do $$e examples > $$e.out && diff examples/$$(basename $$e).expected $$e.out || exit 1; done
 
+# the command line: its transcripts, the second program's answers to the same commands, listings beside the listing program's, a text for
+# each refusal, the stack that calls need, and an installation
+SECOND_TOOL := $(BUILD)/cargo/release/answers
+TRANSCRIPTS := $(wildcard tests/tool/*.txt)
+check-tool: $(TOOL) $(PROGRAM) $(BUILD)/stack
+	tests/tool/run.sh $(TOOL) examples $(BUILD)/transcripts $(TRANSCRIPTS)
+	$(CARGO) build --release --offline --quiet --manifest-path second/Cargo.toml --bin answers
+	tests/tool/run.sh --answers $(SECOND_TOOL) examples $(BUILD)/transcripts-second $(filter-out tests/tool/usage.txt,$(TRANSCRIPTS))
+	tests/listings.sh $(TOOL) $(PROGRAM) $(wildcard examples/*.rule) compare/data/room_m512.rule compare/data/room_t4096.rule
+	tests/refusals.sh include/mulgreddi.h
+	$(BUILD)/stack $(wildcard examples/[A-Z].rule) bench/cap_62_s16.rule bench/trans_1_1.rule
+	MAKE='$(MAKE)' tests/install.sh $(BUILD)/installed $(VERSION)
+
+$(BUILD)/stack: tests/stack.c include/mulgreddi.h $(LIB)
+	$(CC) $(CFLAGS) -pthread -Iinclude -o $@ $< $(LIB)
+
 # what the library and the listing stand on is proved in one go, the listing program while the comparison runs;
 # `rt ci` is last: its closing line is the gate's
 test:
-	rt check $(BELOW) listing_spec listing_lines
+	@$(QUIETLY)/test rt check $(BELOW) listing_spec listing_lines
 	$(MAKE) lib
 	$(MAKE) --jobs=2 BESIDE=1 $(PROGRAM) second compare
-	$(MAKE) listings examples
+	$(MAKE) listings examples check-tool
 	rt ci
 
 clean:
