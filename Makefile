@@ -80,7 +80,7 @@ help:
 
 # on standard output is the listing alone
 $(PROGRAM): $(SOURCES)
-	@echo 'Proving and compiling the listing program: as long as the library from nothing. A line for each crate follows.' >&2
+	@echo 'Proving and compiling the listing program: up to 8 minutes on two cores after the library. A line for each crate follows.' >&2
 	@$(QUIETLY)/listing rt check listing
 	@cp target/bin/listing $@
 	@echo '$@ is ready; $(BUILD)/log has all that was printed.' >&2
@@ -138,12 +138,15 @@ $(BUILD)/%: examples/%.c include/mulgreddi.h $(LIB)
 examples: $(EXAMPLES)
 	for e in $(EXAMPLES); do $$e examples > $$e.out && diff examples/$$(basename $$e).expected $$e.out || exit 1; done
 
-# the command line: its transcripts, the second program's answers to the same commands, listings beside the listing program's, a text for
-# each refusal, the stack that calls need, and an installation
+# the command line: its transcripts and README's session, the second program's answers to the same commands, listings beside the listing
+# program's, a text for each refusal, the stack that calls need, and an installation
 SECOND_TOOL := $(BUILD)/cargo/release/answers
 TRANSCRIPTS := $(wildcard tests/tool/*.txt)
 check-tool: $(TOOL) $(PROGRAM) $(BUILD)/stack
 	tests/tool/run.sh $(TOOL) examples $(BUILD)/transcripts $(TRANSCRIPTS)
+	awk '/^<!-- session/ { on = 1 } /^<!-- end/ { on = 0 } on && sub(/^    /, "")' README.md > $(BUILD)/README.txt
+	mkdir -p $(BUILD)/new-folder
+	tests/tool/run.sh $(TOOL) $(BUILD)/new-folder $(BUILD)/transcripts $(BUILD)/README.txt
 	$(CARGO) build --release --offline --quiet --manifest-path second/Cargo.toml --bin answers
 	tests/tool/run.sh --answers $(SECOND_TOOL) examples $(BUILD)/transcripts-second $(filter-out tests/tool/usage.txt,$(TRANSCRIPTS))
 	tests/listings.sh $(TOOL) $(PROGRAM) $(wildcard examples/*.rule) compare/data/room_m512.rule compare/data/room_t4096.rule

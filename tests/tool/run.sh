@@ -17,7 +17,9 @@ ln -s "$program" "$work/bin/mulgreddi"
 PATH=$work/bin:$PATH
 failed=0
 for transcript in "$@"; do
-    cp "$examples"/*.rule "$examples"/*.events "$examples"/*.log "$work/here"
+    for file in "$examples"/*.{rule,events,log}; do
+        if [ -e "$file" ]; then cp "$file" "$work/here"; fi
+    done
     now=$out/$(basename "$transcript")
     grep '^\$ ' "$transcript" | while IFS= read -r line; do
         printf '%s\n' "$line"
