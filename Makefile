@@ -151,6 +151,7 @@ check-tool: $(TOOL) $(PROGRAM) $(BUILD)/stack
 	tests/tool/run.sh --answers $(SECOND_TOOL) examples $(BUILD)/transcripts-second $(filter-out tests/tool/usage.txt,$(TRANSCRIPTS))
 	tests/listings.sh $(TOOL) $(PROGRAM) $(wildcard examples/*.rule) compare/data/room_m512.rule compare/data/room_t4096.rule
 	tests/refusals.sh include/mulgreddi.h
+	! nm $(LIB) | grep -E ' [bBcCdDsS] ' # no state between calls
 	$(BUILD)/stack $(wildcard examples/[A-Z].rule) bench/cap_62_s16.rule bench/trans_1_1.rule
 	MAKE='$(MAKE)' tests/install.sh $(BUILD)/installed $(VERSION)
 

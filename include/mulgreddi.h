@@ -4,8 +4,9 @@
  * each, low byte first, its name says so (codes_bytes). The length of a slice of uint64_t is in elements (codes_count). A pointer is not
  * NULL, even where the length is 0. A slice that is written overlaps no other slice of the call. A slice of uint64_t is aligned to 8 bytes.
  *
- * Every function ends, stays inside the memory lent to it, and keeps nothing. There is no state between calls, nothing to set up and nothing
- * to free, so several threads may call at once, each with its own written slices. A call needs at most MULGREDDI_STACK bytes of stack.
+ * Every function ends, stays inside the memory lent to it, and keeps nothing. There is no state between calls, nothing to set up and
+ * nothing to free, so several threads may call at once, each with its own written slices. A call needs at most MULGREDDI_STACK bytes of
+ * stack.
  */
 #ifndef MULGREDDI_H
 #define MULGREDDI_H
@@ -69,7 +70,7 @@ enum {
     MULGREDDI_MACROSTATE_ROOM = 17,  /* more reachable macrostates than room */
     MULGREDDI_TRANSITION_ROOM = 18,  /* more transitions than room */
     MULGREDDI_CLAUSE_INSIDE = 20,    /* an entry with a clause that contains another of its clauses; a repeat counts */
-    MULGREDDI_NAMES = 21,            /* 4e 4d before the clauses and fewer than 8 * s bytes before it; when writing: neither none nor 8 * s name bytes */
+    MULGREDDI_NAMES = 21,            /* 4e 4d before the clauses and under 8 * s bytes before it; when writing: neither none nor 8 * s */
     MULGREDDI_NAME_BYTE = 22,        /* a name byte outside 20..7e */
     MULGREDDI_EQUAL_NAMES = 23,      /* two equal names */
     MULGREDDI_EVENT_LINE = 25,       /* an event line with lowest above highest, a letter not below s, cut off, or the 65th */
@@ -111,98 +112,124 @@ static inline const char *mulgreddi_refusal_text(uint64_t refusal)
     }
 }
 
-/* Reads a rule file. The rule's refusals. first: the length of the preface, which is the start of the file itself. second: the number of name
- * bytes, 8 * s or 0; they stand right before the last two bytes of the preface, letter 0 first. */
+/* Reads a rule file.
+ * first: the length of the preface, which is the start of the file itself. second: the number of name bytes, 8 * s or 0; they stand right
+ * before the last two bytes of the preface, letter 0 first (mulgreddi_letter_name).
+ * The rule's refusals. */
 mulgreddi_answer mulgreddi_check(const uint8_t *file, size_t file_len);
 
-/* Writes the file of a rule, with no preface, to the start of out; first: its length, clauses_len + counts_len + 8. What follows in out is
- * not touched. counts go by state, then letter; clauses stand in the same order, one mask each. The rule's refusals from 3 on, then 16. */
+/* Writes the file of a rule, with no preface, to the start of out. What follows in out is not touched.
+ * counts go by state, then letter; clauses stand in the same order, one mask each.
+ * first: the file's length, clauses_len + counts_len + 8.
+ * The rule's refusals from 3 on, then 16. */
 mulgreddi_answer mulgreddi_write(uint32_t n, uint32_t s, uint32_t initial, uint32_t accepting,
                                  const uint8_t *counts, size_t counts_len,
                                  const uint8_t *clauses, size_t clauses_len,
                                  uint8_t *out, size_t out_len);
 
-/* As mulgreddi_write, with names: 8 bytes from 20 to 7e for each letter, letter 0 first, no two equal; or none (names_len 0). The file begins with
- * the names and 4e 4d, or with the clauses where there are none; first: its length, clauses_len + counts_len + 8, and names_len + 2 more with
- * names. What follows in out is not touched. The rule's refusals from 3 on, then 16. */
+/* As mulgreddi_write, with names: 8 bytes from 20 to 7e for each letter, letter 0 first, no two equal; or none (names_len 0).
+ * The file begins with the names and 4e 4d, or with the clauses where there are none.
+ * first: the file's length, clauses_len + counts_len + 8, and names_len + 2 more with names.
+ * The rule's refusals from 3 on, then 16. */
 mulgreddi_answer mulgreddi_write_named(uint32_t n, uint32_t s, uint32_t initial, uint32_t accepting,
                                        const uint8_t *counts, size_t counts_len,
                                        const uint8_t *clauses, size_t clauses_len,
                                        const uint8_t *names, size_t names_len,
                                        uint8_t *out, size_t out_len);
 
-/* Writes the tidied rule of a file to the start of out, laid out as mulgreddi_write does it; first: its length. Of each entry the first copy of every
- * minimal clause stays, in order: a clause is dropped if it contains an earlier kept one or properly contains any. The tidied rule is satisfied by the
- * same sets in every entry, so it has the same truth masks on every word. The names of
- * the file are kept. The rule's refusals but 20, and 11 by the rule as it stands; then 16. */
+/* Writes the tidied rule of a file to the start of out, laid out as mulgreddi_write_named does it. The names of the file are kept.
+ * Of each entry the first copy of every minimal clause stays, in order: a clause is dropped if it contains an earlier kept one or properly
+ * contains any. Every entry is satisfied by the same sets, so the tidied rule has the same truth masks on every word.
+ * first: the file's length, at most MULGREDDI_RULE_MAX.
+ * The rule's refusals but 20, with 11 by the rule as it stands; then 16. */
 mulgreddi_answer mulgreddi_tidy(const uint8_t *file, size_t file_len, uint8_t *out, size_t out_len);
 
 /* The longest list of states that mulgreddi_mixed_loop writes. */
 #define MULGREDDI_LONGEST_LOOP 8
-/* Reports the shortest mixed loop of a rule: the fewest-step closed walk over leads-to steps that passes an accepting and a rejecting state; among
- * shortest ones the least list of states, number by number, wherever it begins. Writes its states, a byte each, to the start of out; first: their number,
- * 0 where no component is mixed. Refusals 1 to 10 and 20 (not 11), then 16. */
+/* Reports the shortest mixed loop of a rule: the fewest-step closed walk over leads-to steps that passes an accepting and a rejecting
+ * state. Among shortest ones it is the least list of states, number by number, wherever it begins. Its states are written to the start of
+ * out, a byte each.
+ * first: the number of states, 0 where no component is mixed.
+ * Refusals 1 to 10 and 20 (not 11), then 16. */
 mulgreddi_answer mulgreddi_mixed_loop(const uint8_t *file, size_t file_len, uint8_t *out, size_t out_len);
 
-/* Whether two rule files are the same rule: n, s, initial state and accepting mask agree, every entry is satisfied by the same sets,
- * and both lack names or all names agree. first: 1 same, 0 not. The rule's refusals, of the first file, then of the second. */
+/* Whether two rule files are the same rule: n, s, initial state and accepting mask agree, every entry is satisfied by the same sets, and
+ * both lack names or all names agree.
+ * first: 1 same, 0 not.
+ * The rule's refusals, of the first file, then of the second. */
 mulgreddi_answer mulgreddi_same_rules(const uint8_t *first, size_t first_len, const uint8_t *second, size_t second_len);
 
-/* Whether two words are the same endless sequence: they agree at every step. first: 1 same, 0 not. Refusals 12 and 13, of the first word, then of the second. */
+/* Whether two words are the same endless sequence: they agree at every step.
+ * first: 1 same, 0 not.
+ * Refusals 12 and 13, of the first word, then of the second. */
 mulgreddi_answer mulgreddi_same_words(const uint8_t *lead1, size_t lead1_len, const uint8_t *cycle1, size_t cycle1_len,
                                       const uint8_t *lead2, size_t lead2_len, const uint8_t *cycle2, size_t cycle2_len);
 
-/* Writes the tidy spelling of a word to the start of out, lead-in, then cycle: the shortest cycle, then the shortest lead-in. first: length of its lead-in,
- * second: of its cycle. Two words are the same exactly if their tidy spellings are equal. Refusals 12, 13 and 16 (out shorter than the spelling). */
-mulgreddi_answer mulgreddi_tidy_word(const uint8_t *lead, size_t lead_len, const uint8_t *cycle, size_t cycle_len, uint8_t *out, size_t out_len);
+/* Writes the tidy spelling of a word to the start of out, lead-in, then cycle: the shortest cycle, then the shortest lead-in. Two words are
+ * the same exactly if their tidy spellings are equal.
+ * first: the length of its lead-in. second: of its cycle.
+ * Refusals 12, 13 and 16 (out shorter than the spelling; MULGREDDI_PLACES_MAX bytes always suffice). */
+mulgreddi_answer mulgreddi_tidy_word(const uint8_t *lead, size_t lead_len, const uint8_t *cycle, size_t cycle_len,
+                                     uint8_t *out, size_t out_len);
 
-/* Judges a word on the rule: does the rule accept it, from its initial state at place 0? first: 1 yes, 0 no. The word is a lead-in of 0 to 32 letters
- * and a cycle of 1 to 32 that repeats for ever, one letter a byte. masks needs lead_len + cycle_len bytes: its byte p becomes the mask of
- * the states from which the rule accepts at place p; what follows is not touched. The rule's refusals, 12 to 14, 16. */
+/* Judges a word on the rule: does the rule accept it, from its initial state at place 0?
+ * The word is a lead-in of 0 to 32 letters and a cycle of 1 to 32 that repeats for ever, one letter a byte. Places run through lead-in,
+ * then cycle. masks needs lead_len + cycle_len bytes: its byte p becomes the mask of the states from which the rule accepts at place p;
+ * what follows is not touched.
+ * first: 1 yes, 0 no.
+ * The rule's refusals, 12 to 14, 16. */
 mulgreddi_answer mulgreddi_judge(const uint8_t *file, size_t file_len,
                                  const uint8_t *lead, size_t lead_len, const uint8_t *cycle, size_t cycle_len,
                                  uint8_t *masks, size_t masks_len);
 
-/* As mulgreddi_judge, and says which clause carried the verdict: byte place * n + state of choices becomes the number of a clause of that state and the
- * letter there, 0 for the entry's first, or 255 where the rule does not accept from that pair. For an accepting state it is the first clause whose states
- * are all true at the next place; for a rejecting one the first whose states are all true there and, within the component, have a smaller distance (the
- * least number of steps after which some accepting plan has left the component on all its paths). The choices form an accepting plan from every true pair.
+/* As mulgreddi_judge, and says which clause carried the verdict: byte place * n + state of choices becomes the number of a clause of that
+ * state and the letter there, 0 for the entry's first, or 255 where the rule does not accept from that pair.
+ * For an accepting state it is the first clause whose states are all true at the next place; for a rejecting one the first whose states are
+ * all true there and, within the component, have a smaller distance (the least number of steps after which some accepting plan has left the
+ * component on all its paths). The choices form an accepting plan from every true pair.
  * choices needs (lead_len + cycle_len) * n bytes, else 16; what follows in both slices is not touched. */
 mulgreddi_answer mulgreddi_judge_choices(const uint8_t *file, size_t file_len,
                                          const uint8_t *lead, size_t lead_len, const uint8_t *cycle, size_t cycle_len,
                                          uint8_t *masks, size_t masks_len, uint8_t *choices, size_t choices_len);
 
-/* Builds the unambiguous automaton of a rule. codes gets the codes of all reachable macrostates, ascending; a macrostate's number is its place there,
- * from 0. transitions gets source * 16777216 + letter * 65536 + target, ascending. Unused elements of both become 0.
- * first: macrostates, second: transitions. A macrostate is initial if its set (bits 0 to 7) holds the initial state and bits 40 to 47 are 0,
- * accepting if bits 44 to 47 are 0. Over every endless sequence of letters at most one run accepts; over a lead-in and a cycle, one exactly if the
- * rule accepts the word. The rule's refusals, which change nothing, and 17 and 18, which set both slices to zero throughout. Room is the length of the
- * slice, at most 65,536 macrostates and 1,048,576 transitions; a room that is exactly the count is served. */
+/* Builds the unambiguous automaton of a rule.
+ * codes gets the codes of all reachable macrostates, ascending; a macrostate's number is its place there, from 0. transitions gets
+ * source * 16777216 + letter * 65536 + target, ascending. Unused elements of both become 0.
+ * A macrostate is initial if its set (bits 0 to 7) holds the initial state and bits 40 to 47 are 0, accepting if bits 44 to 47 are 0
+ * (mulgreddi_code_initial, mulgreddi_code_accepting). Over every endless sequence of letters at most one run accepts; over a lead-in and a
+ * cycle, one exactly if the rule accepts the word.
+ * first: macrostates. second: transitions.
+ * The rule's refusals, which change nothing, and 17 and 18, which set both slices to zero throughout. Room is the length of the slice, at
+ * most 65,536 macrostates and 1,048,576 transitions; a room that is exactly the count is served. */
 mulgreddi_answer mulgreddi_build(const uint8_t *file, size_t file_len, uint64_t *codes, size_t codes_count,
                                  uint64_t *transitions, size_t transitions_count);
 
-/* As mulgreddi_build, with only the macrostates that matter: those reachable ones from which an accepting run on some lead-in and cycle, of any
- * length, exists; codes ascending, transitions by the new numbers. A rule that accepts no word gives 0 and 0. Every accepting run of the table of
- * mulgreddi_build is one of this table, by the new numbers, and the other way round. Refused as mulgreddi_build: 17 and 18 count the reachable
- * table, not what is left of it, so both slices must have room for it. */
+/* As mulgreddi_build, with only the macrostates that matter: those reachable ones from which an accepting run on some lead-in and cycle, of
+ * any length, exists; codes ascending, transitions by the new numbers. A rule that accepts no word gives 0 and 0.
+ * Every accepting run of the table of mulgreddi_build is one of this table, by the new numbers, and the other way round.
+ * Refused as mulgreddi_build: 17 and 18 count the reachable table, not what is left of it, so both slices must have room for it. */
 mulgreddi_answer mulgreddi_build_trimmed(const uint8_t *file, size_t file_len, uint64_t *codes, size_t codes_count,
                                          uint64_t *transitions, size_t transitions_count);
 
-/* Judges a word on a table: does an accepting run over it begin in an initial macrostate? first: 1 yes, 0 no; second: with yes, the lowest number of an
- * initial macrostate where one begins, else 0. The table is any that passes refusal 15, built from the rule or not; on one built from this file, first
- * is that of mulgreddi_judge, and at most one accepting run begins at all. codes and transitions are bytes, 8 a number, low byte first, so pass
- * 8 * count bytes of each slice of a build, the counts being its answer, and not the whole room: unused zeros are refused by 15, or, where the build
- * has no transition, one zero is read as transition 0. The cast from uint64_t * to uint8_t * is right on little-endian machines. scratch needs macrostates * (lead_len + cycle_len) bytes; it is zero throughout after yes and no.
- * The rule's refusals, 12 to 16; 15: over 65,536 codes, codes or transitions not strictly ascending, a code with a bit above 47, a transition whose source, letter
- * or target is out of range, or a length that 8 does not divide. */
+/* Judges a word on a table: does an accepting run over it begin in an initial macrostate?
+ * The table is any that passes refusal 15, built from the rule or not; on one built from this file, first is that of mulgreddi_judge, and
+ * at most one accepting run begins at all.
+ * codes and transitions are bytes, 8 a number, low byte first. Pass 8 * count bytes of each slice of a build, the counts being its answer,
+ * and not the whole room: unused zeros are refused by 15, or, where the build has no transition, one zero is read as transition 0. The cast
+ * from uint64_t * to uint8_t * is right on little-endian machines.
+ * scratch needs macrostates * (lead_len + cycle_len) bytes; it is zero throughout after yes and no.
+ * first: 1 yes, 0 no. second: with yes, the lowest number of an initial macrostate where one begins, else 0.
+ * The rule's refusals, 12 to 16; 15: over 65,536 codes, codes or transitions not strictly ascending, a code with a bit above 47, a
+ * transition whose source, letter or target is out of range, or a length that 8 does not divide. */
 mulgreddi_answer mulgreddi_judge_table(const uint8_t *file, size_t file_len,
                                        const uint8_t *lead, size_t lead_len, const uint8_t *cycle, size_t cycle_len,
                                        const uint8_t *codes, size_t codes_bytes, const uint8_t *transitions, size_t transitions_bytes,
                                        uint8_t *scratch, size_t scratch_len);
 
-/* Translates a log into letters by an event table. events has up to 64 lines of five bytes: lowest and highest kind, lowest and highest drive, letter. log has
- * two bytes an event, kind and drive; an odd last byte is no event yet and is left unread. The first line that holds an event's two bytes gives its
- * letter. first: how many letters stand at the start of letters, one per event, in order; what follows is not touched.
+/* Translates a log into letters by an event table. The first line that holds an event's two bytes gives its letter.
+ * events has up to 64 lines of five bytes: lowest and highest kind, lowest and highest drive, letter. log has two bytes an event, kind and
+ * drive; an odd last byte is no event yet and is left unread. letters gets one letter per event, in order; what follows is not touched.
+ * first: the number of letters.
  * The rule's refusals, 25 over the whole table, 26, 27, and 16 where letters is shorter than the number of events. */
 mulgreddi_answer mulgreddi_translate(const uint8_t *file, size_t file_len, const uint8_t *events, size_t events_len,
                                      const uint8_t *log, size_t log_len, uint8_t *letters, size_t letters_len);

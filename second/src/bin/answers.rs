@@ -107,7 +107,10 @@ fn read_word(names: &Option<Vec<Name>>, text: &str) -> (Vec<u8>, Vec<u8>) {
             return Vec::new();
         }
         let number = |text: &str| {
-            let named = names.iter().flatten().position(|name| trimmed(name) == text);
+            let named = names
+                .iter()
+                .flatten()
+                .position(|name| trimmed(name) == text);
             text.parse().ok().or(named.map(|letter| letter as u8))
         };
         let own = text.split(',').map(|text| number(text.trim()));
