@@ -73,9 +73,21 @@ static void translate(void)
 }
 
 static const struct { const char *name; void (*call)(void); } calls[] = {
-    {"nothing", nothing}, {"check", check}, {"write", write_rule}, {"write_named", write_named}, {"tidy", tidy}, {"mixed_loop", mixed_loop},
-    {"same_rules", same_rules}, {"same_words", same_words}, {"tidy_word", tidy_word}, {"judge", judge}, {"judge_choices", judge_choices},
-    {"build_trimmed", build_trimmed}, {"build", build}, {"judge_table", judge_table}, {"translate", translate},
+    {"nothing", nothing},
+    {"check", check},
+    {"write", write_rule},
+    {"write_named", write_named},
+    {"tidy", tidy},
+    {"mixed_loop", mixed_loop},
+    {"same_rules", same_rules},
+    {"same_words", same_words},
+    {"tidy_word", tidy_word},
+    {"judge", judge},
+    {"judge_choices", judge_choices},
+    {"build_trimmed", build_trimmed},
+    {"build", build},
+    {"judge_table", judge_table},
+    {"translate", translate},
 };
 
 enum { CALLS = sizeof calls / sizeof *calls };
