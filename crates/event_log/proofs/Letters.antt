@@ -18,7 +18,7 @@ use Rattle.sets.proofs.Walks.{drop-next}
 use Rattle.sets.proofs.Lists.{tabulate-at, length-tabulate}
 use Rattle.event_spec.specs.Events.{lineCount, lineByte, holds, firstLine, letterOf, eventCount, kindAt, driveAt, known, lettersOf}
 use Rattle.event_spec.specs.Translation.{hasUnknown}
-use Rattle.event_spec.proofs.Ranges.{first-found}
+use Rattle.event_laws.proofs.Ranges.{first-found}
 use Rattle.event_table.specs.Masks.{Masks}
 use Rattle.event_table.proofs.Meets.{meet, none-of, empty-of, least-first}
 use Rattle.event_table.proofs.Turns.{some-next}

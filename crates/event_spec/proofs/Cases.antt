@@ -1,5 +1,6 @@
 -- Worked tables and logs under rule F, which has two letters: what a translation answers and writes.
 use mathlib.Core.Path.{_≡_, refl}
+use mathlib.Core.Bool.{false}
 use mathlib.Core.List.{List, [], _∷_}
 use Prim.Native.Nat.{ℕ}
 use lib.ListN.{length}
@@ -36,36 +37,41 @@ served = record { answers = refl; writes = refl }
 
 -- ---- the row that refuses first, under two letters
 
+-- what an evaluation of it unfolds
+unfoldable deciding : ℕ
+unfolding callRow callRows firstRow faultyTable hasCovered hasUnknown faulty covered known holds spans every some
+deciding = 0
+
 -- 26: a line covered by one earlier line, by two together, by three together; a line partly covered is served
 abbrev table-26 : List ℕ → Type 0
 table-26 t = callRow 2 t [] 0 ≡ 26
 
 -- an exact repeat, in the same table with another letter
 repeated : table-26 (0 ∷ 1 ∷ 0 ∷ 1 ∷ 0 ∷ 0 ∷ 1 ∷ 0 ∷ 1 ∷ 1 ∷ [])
-unfolding callRow callRows firstRow faultyTable hasCovered faulty covered holds spans every some
+unfolding deciding
 repeated = refl
 
 -- "in earlier lines": kinds 0 to 1 in the first and 2 to 3 in the second
 by-two : table-26 (0 ∷ 1 ∷ 0 ∷ 1 ∷ 0 ∷ 2 ∷ 3 ∷ 0 ∷ 1 ∷ 1 ∷ 0 ∷ 3 ∷ 0 ∷ 1 ∷ 0 ∷ [])
-unfolding callRow callRows firstRow faultyTable hasCovered faulty covered holds spans every some
+unfolding deciding
 by-two = refl
 
 by-three : table-26 (0 ∷ 0 ∷ 0 ∷ 2 ∷ 0 ∷ 1 ∷ 2 ∷ 0 ∷ 0 ∷ 1 ∷ 1 ∷ 2 ∷ 1 ∷ 2 ∷ 0 ∷ 0 ∷ 2 ∷ 0 ∷ 2 ∷ 1 ∷ [])
-unfolding callRow callRows firstRow faultyTable hasCovered faulty covered holds spans every some
+unfolding deciding
 by-three = refl
 
 partly : callRow 2 (0 ∷ 1 ∷ 0 ∷ 1 ∷ 0 ∷ 0 ∷ 2 ∷ 0 ∷ 1 ∷ 1 ∷ []) (2 ∷ 1 ∷ []) 1 ≡ 0
-unfolding callRow callRows firstRow faultyTable hasCovered hasUnknown faulty covered known holds spans every some
+unfolding deciding
 partly = refl
 
 -- kind 1 and drive 5 are in the line, kind 5 and drive 1 in none
 kind-and-drive : (callRow 2 (0 ∷ 1 ∷ 5 ∷ 6 ∷ 1 ∷ []) (1 ∷ 5 ∷ []) 1 ≡ 0) × (callRow 2 (0 ∷ 1 ∷ 5 ∷ 6 ∷ 1 ∷ []) (5 ∷ 1 ∷ []) 1 ≡ 27)
-unfolding callRow callRows firstRow faultyTable hasCovered hasUnknown faulty covered known holds spans every some
+unfolding deciding
 kind-and-drive = (refl, refl)
 
 -- an odd last byte of a kind in no line: no event, nothing refused, no letter wanted
 odd-byte : (callRow 2 two (9 ∷ []) 0 ≡ 0) × (callRow 2 two (0 ∷ 0 ∷ 9 ∷ []) 1 ≡ 0) × (callRow 2 two (0 ∷ 0 ∷ 9 ∷ 9 ∷ []) 2 ≡ 27)
-unfolding two callRow callRows firstRow faultyTable hasCovered hasUnknown faulty covered known holds spans every some
+unfolding two deciding
 odd-byte = (refl, refl, refl)
 
 -- "They come in this order .. and before 16": 25 before 26, 26 before 27, 27 before 16
@@ -74,7 +80,7 @@ order :
     × (callRow 2 (0 ∷ 1 ∷ 0 ∷ 1 ∷ 0 ∷ 0 ∷ 1 ∷ 0 ∷ 1 ∷ 1 ∷ []) (9 ∷ 9 ∷ []) 0 ≡ 26)
     × (callRow 2 two (9 ∷ 9 ∷ []) 0 ≡ 27)
     × (callRow 2 two (0 ∷ 0 ∷ []) 0 ≡ 16)
-unfolding two callRow callRows firstRow faultyTable hasCovered hasUnknown faulty covered known holds spans every some
+unfolding two deciding
 order = (refl, refl, refl, refl)
 
 -- 25: a kind, then a drive, with lowest above highest; letter 2; a last line of four bytes, one of a single byte
@@ -84,7 +90,7 @@ table-25 :
     × (callRow 2 (0 ∷ 0 ∷ 0 ∷ 0 ∷ 2 ∷ []) [] 0 ≡ 25)
     × (callRow 2 (0 ∷ 0 ∷ 0 ∷ 0 ∷ []) [] 0 ≡ 25)
     × (callRow 2 (0 ∷ 0 ∷ 0 ∷ 0 ∷ 0 ∷ 0 ∷ []) [] 0 ≡ 25)
-unfolding callRow callRows firstRow faultyTable faulty every some
+unfolding deciding
 table-25 = (refl, refl, refl, refl, refl)
 
 -- n lines, each for its own kind
@@ -92,7 +98,12 @@ lines : ℕ → List ℕ
 unfolding flat tabulate
 lines n = flat (tabulate n (λ j. j) 0) (λ j. j ∷ j ∷ 0 ∷ 0 ∷ 1 ∷ [])
 
+-- 64 lines are no fault by their number
+lines-64 : (t : List ℕ) → length t ≡ 320 → some 64 (faulty 2 t) ≡ false → faultyTable 2 t ≡ false
+unfolding faultyTable
+lines-64 t e f = rw (e, f) refl
+
 -- no line at all, 64 lines, 65 lines
 line-counts : (callRow 2 [] [] 0 ≡ 0) × (callRow 2 (lines 64) (63 ∷ 0 ∷ []) 1 ≡ 0) × (callRow 2 (lines 65) [] 0 ≡ 25)
-unfolding lines flat tabulate callRow callRows firstRow faultyTable hasCovered hasUnknown faulty covered known holds spans every some
+unfolding lines flat tabulate deciding
 line-counts = (refl, refl, refl)

@@ -1,6 +1,1 @@
 pub mod Cases
-pub mod Ranges
-pub mod Lines
-pub mod Rows
-pub mod Words
-pub mod Prefaces

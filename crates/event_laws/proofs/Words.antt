@@ -11,10 +11,10 @@ use Rattle.sets.proofs.Bools.{or-fl, or-fr, not-f}
 use Rattle.sets.proofs.Tests.{some-no}
 use Rattle.sets.proofs.Lists.{tabulate-out}
 use Rattle.theory.specs.Word.{WordOver}
 use Rattle.event_spec.specs.Events.{lineCount, lineByte, holds, firstLine, letterOf, eventCount, kindAt, driveAt, known, lettersOf}
 use Rattle.event_spec.specs.Translation.{faulty, faultyTable, hasUnknown, callRow}
-use Rattle.event_spec.proofs.Ranges.{first-found}
-use Rattle.event_spec.proofs.Rows.{call-passes}
+use Rattle.event_laws.proofs.Ranges.{first-found}
+use Rattle.event_laws.proofs.Rows.{call-passes}
 
 module _ (s : ℕ) (t : List ℕ) (sound : faultyTable s t ≡ false) where
   no-fault : some (lineCount t) (faulty s t) ≡ false

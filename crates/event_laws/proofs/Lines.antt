@@ -9,9 +9,9 @@ use lib.ListN.{length, getD}
 use Rattle.sets.specs.Tests.{some, first}
 use Rattle.sets.proofs.Bools.{bif, clash, and-l, and-r, and-i}
 use Rattle.sets.proofs.Tests.{some-no}
 use Rattle.event_spec.specs.Events.{within, between, lineCount, lineByte, spans, holds, firstLine, covered}
 use Rattle.event_spec.specs.Translation.{hasCovered}
-use Rattle.event_spec.proofs.Ranges.{within-out, within-in, between-at, between-not, first-is, none-before, first-found}
+use Rattle.event_laws.proofs.Ranges.{within-out, within-in, between-at, between-not, first-is, none-before, first-found}
 
 module _ (t : List ℕ) where
   -- a pair that line j holds lies in its four bounds

@@ -1,0 +1,5 @@
+pub mod Ranges
+pub mod Lines
+pub mod Rows
+pub mod Words
+pub mod Prefaces
