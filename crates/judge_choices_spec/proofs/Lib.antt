@@ -1,7 +1,1 @@
 pub mod Cases
-pub mod Leaving
-pub mod Meaning
-pub mod Tries
-pub mod Rounds
-pub mod Places
-pub mod Filled

@@ -1,4 +1,4 @@
--- The choices of a word, computed. proofs/Meaning proves them to be those by plans, so what stands here has not to be believed.
+-- The choices of a word, computed. judge_choices_laws/proofs/Meaning proves them to be those by plans, so what stands here has not to be believed.
 use mathlib.Core.Path.{_≡_}
 use mathlib.Core.Bool.{_&&_, not, cond}
 use mathlib.Core.List.{List}

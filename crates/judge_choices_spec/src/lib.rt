@@ -1,1 +1,1 @@
-// Definitions and laws of the clauses that carry a verdict.
+// Definitions of the clauses that carry a verdict, with worked rules.

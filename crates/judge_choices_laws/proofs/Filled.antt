@@ -21,10 +21,10 @@ use Rattle.theory.specs.Word.{places, nextPlace, letterAt, WordOver}
 use Rattle.theory.specs.Truth.{truthMasks}
 use Rattle.theory_laws.proofs.Satisfies.{satisfies-ext}
 use Rattle.theory_laws.proofs.Truth.{truth-exact}
 use Rattle.judge_choices_spec.specs.Choice.{aimOf, choiceAt, choicesBy, choicesOf}
 use Rattle.judge_choices_spec.specs.Rounds.{metNumber, Tried, Started, Ended}
-use Rattle.judge_choices_spec.proofs.Meaning.{aim-bit, mix-same, choice-accepting, choice-false}
-use Rattle.judge_choices_spec.proofs.Rounds.{apart}
+use Rattle.judge_choices_laws.proofs.Meaning.{aim-bit, mix-same, choice-accepting, choice-false}
+use Rattle.judge_choices_laws.proofs.Rounds.{apart}
 
 module _ (r : Rule) (P : Passing r) (lead cycle : List ℕ) (W : WordOver (r .s) lead cycle) where
   abbrev T : List ℕ

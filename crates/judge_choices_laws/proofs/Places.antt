@@ -24,8 +24,8 @@ use Rattle.theory.specs.Rule.{Rule}
 use Rattle.theory.specs.Word.{places, nextPlace, letterAt}
 use Rattle.theory_laws.proofs.Places.{next-place-low, next-place-last, next-place-other}
 use Rattle.theory_laws.proofs.Truth.{truth-length, truth-lt}
 use Rattle.judge_choices_spec.specs.Rounds.{Ready}
-use Rattle.judge_choices_spec.proofs.Meaning.{letter-low}
+use Rattle.judge_choices_laws.proofs.Meaning.{letter-low}
 
 -- ---- a place marked
 

@@ -38,10 +38,10 @@ use Rattle.rule_entries.specs.declared.Met.the-variants.{Clause}
 use Rattle.rule_entries.specs.Met.{metOf}
 use Rattle.rule_entries.proofs.Clauses.{Met-at, met-first, satisfies-wide}
 use Rattle.rule_entries.proofs.Entries.{entry-states}
 use Rattle.judge_choices_spec.specs.Distance.{Choice}
 use Rattle.judge_choices_spec.specs.Choice.{noChoice, numberOf, aimOf, nearer, nearAt, distanceAt, aimAt, choiceAt, choicesBy, choicesOf, planOf, Written}
 use Rattle.judge_choices_spec.specs.Rounds.{metNumber}
-use Rattle.judge_choices_spec.proofs.Leaving.{plan-of, inside-suits, suits-inside}
+use Rattle.judge_choices_laws.proofs.Leaving.{plan-of, inside-suits, suits-inside}
 
 -- a set by the states inside and outside q's component
 pub aim-bit : (r : Rule) (all near q x : ℕ) → x < r .n → bit (aimOf r all near q) x ≡ mix (automaton r) q (bit all) (bit near) x

@@ -1,0 +1,6 @@
+pub mod Leaving
+pub mod Meaning
+pub mod Tries
+pub mod Rounds
+pub mod Places
+pub mod Filled
