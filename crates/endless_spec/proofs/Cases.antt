@@ -41,7 +41,7 @@ abbrev stays : ℕ → ℕ
 stays zero = 1
 stays (suc i) = 2
 
-initial-1 : begun (holdsInitial F) 257 ≡ true
+pub initial-1 : begun (holdsInitial F) 257 ≡ true
 unfolding begun bit componentIn classesIn
 initial-1 = refl
 
@@ -145,7 +145,7 @@ third-again (suc zero) = (3, omega arith, refl)
 third-again (suc (suc zero)) = (3, omega arith, refl)
 third-again (suc (suc (suc i))) = let (j, l, e) = third-again i in (suc (suc (suc j)), omega arith, e)
 
-accepting-1 : isAccepting (getD codesF 1 0) ≡ true
+pub accepting-1 : isAccepting (getD codesF 1 0) ≡ true
 unfolding isAccepting classesIn
 accepting-1 = refl
 

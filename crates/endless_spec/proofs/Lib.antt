@@ -1,2 +1,3 @@
-pub mod Endless
 pub mod Cases
+pub mod Blocks
+pub mod Endless
