@@ -1,3 +1,4 @@
 pub mod Cases
 pub mod Blocks
 pub mod Endless
+pub mod FreeBreakpoint
