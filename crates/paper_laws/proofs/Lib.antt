@@ -1,0 +1,4 @@
+pub mod Halves
+pub mod Dual
+pub mod Levels
+pub mod Definition7

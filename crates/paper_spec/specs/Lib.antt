@@ -1,0 +1,3 @@
+pub mod Halves
+pub mod Definition7
+pub mod Examples

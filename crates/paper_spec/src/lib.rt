@@ -1,0 +1,1 @@
+// The step back in the words of source 000: its Definition 7 (R1' and R2'), and 01's step on rejecting and on accepting components alone.
