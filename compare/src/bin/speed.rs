@@ -58,6 +58,16 @@ fn figures(times: &[Duration]) -> String {
     format!("{:8.1} {:8.1}", mean * 1e6, longest * 1e6)
 }
 
+/// The shortest of five runs of each of two calls, in turns: neither finds the rule warmer than the other.
+fn in_turns(mut one: impl FnMut(), mut other: impl FnMut()) -> (Duration, Duration) {
+    let turns: Vec<_> = (0..5)
+        .map(|_| (shortest(1, &mut one), shortest(1, &mut other)))
+        .collect();
+    let least = |times: Vec<Duration>| times.into_iter().min().unwrap();
+    let (ones, others) = turns.into_iter().unzip();
+    (least(ones), least(others))
+}
+
 /// The judge on words of 64 places, and the judge that shows the choices.
 fn judge_times(shape: Shape, name: &str, states: usize, letters: usize) {
     let mut random = Random::new(7);
@@ -67,53 +77,63 @@ fn judge_times(shape: Shape, name: &str, states: usize, letters: usize) {
         let file = sample::file(&sample::rule(&mut random, shape, states, letters));
         let lead = sample::letters(&mut random, letters, 32);
         let cycle = sample::letters(&mut random, letters, 32);
-        let mut masks = [0u8; 64];
-        ours.push(time(|| {
-            let answer = unsafe {
-                mulgreddi_judge(
-                    file.as_ptr(),
-                    file.len(),
-                    lead.as_ptr(),
-                    lead.len(),
-                    cycle.as_ptr(),
-                    cycle.len(),
-                    masks.as_mut_ptr(),
-                    masks.len(),
-                )
-            };
-            black_box((answer.refusal, answer.first, answer.second));
-        }));
+        let (mut masks, mut same_masks, mut choices) = ([0u8; 64], [0u8; 64], [0u8; 512]);
+        let (plain, shown) = in_turns(
+            || {
+                let answer = unsafe {
+                    mulgreddi_judge(
+                        file.as_ptr(),
+                        file.len(),
+                        lead.as_ptr(),
+                        lead.len(),
+                        cycle.as_ptr(),
+                        cycle.len(),
+                        masks.as_mut_ptr(),
+                        masks.len(),
+                    )
+                };
+                black_box((answer.refusal, answer.first, answer.second));
+            },
+            || {
+                let answer = unsafe {
+                    mulgreddi_judge_choices(
+                        file.as_ptr(),
+                        file.len(),
+                        lead.as_ptr(),
+                        lead.len(),
+                        cycle.as_ptr(),
+                        cycle.len(),
+                        same_masks.as_mut_ptr(),
+                        same_masks.len(),
+                        choices.as_mut_ptr(),
+                        choices.len(),
+                    )
+                };
+                black_box((answer.refusal, answer.first, answer.second));
+            },
+        );
+        ours.push(plain);
+        our_choices.push(shown);
         theirs.push(time(|| {
             black_box(judge(&file, &lead, &cycle, 64).is_ok());
-        }));
-        let mut choices = [0u8; 512];
-        our_choices.push(time(|| {
-            let answer = unsafe {
-                mulgreddi_judge_choices(
-                    file.as_ptr(),
-                    file.len(),
-                    lead.as_ptr(),
-                    lead.len(),
-                    cycle.as_ptr(),
-                    cycle.len(),
-                    masks.as_mut_ptr(),
-                    masks.len(),
-                    choices.as_mut_ptr(),
-                    choices.len(),
-                )
-            };
-            black_box((answer.refusal, answer.first, answer.second));
         }));
         their_choices.push(time(|| {
             black_box(judge_choices(&file, &lead, &cycle, 64, 512).is_ok());
         }));
     }
-    for (call, ours, theirs) in [
-        ("judge", ours, theirs),
-        ("judge_choices", our_choices, their_choices),
+    let sum = |times: &[Duration]| times.iter().sum::<Duration>().as_secs_f64();
+    let ratio = sum(&our_choices) / sum(&ours);
+    for (call, ours, theirs, note) in [
+        ("judge", ours, theirs, String::new()),
+        (
+            "judge_choices",
+            our_choices,
+            their_choices,
+            format!("  {ratio:.2} times the judge"),
+        ),
     ] {
         println!(
-            "{call:13} {name:12} {states} states {letters:2} letters {} {}",
+            "{call:13} {name:12} {states} states {letters:2} letters {} {}{note}",
             figures(&ours),
             figures(&theirs)
         );
