@@ -2,7 +2,7 @@
 use Prim.Native.Nat.{ℕ}
 use mathlib.Core.Path.{_≡_, refl}
 use mathlib.Core.List.{List, [], _∷_}
-use lib.ListN.{length}
+use lib.ListN.{length, replicate}
 use Rattle.sets.specs.Tests.{every, some}
 use Rattle.sets.specs.Masks.{bit, mask, inside}
 use Rattle.sets.specs.Lists.{anyOf, sum}
@@ -40,7 +40,12 @@ pub entries-7 : writeRow (headFrom 1 1 0 1) (0x00 ∷ 0x09 ∷ []) [] [] 9 ≡ 7
 unfolding writeRow givenRuleRows ruleRows numberRows firstRow
 entries-7 = refl
 
--- 65,536 clauses, of which the counts know none: 9
+-- 65,536 clauses, of which the counts know none: 9, and no room changes it
+pub zeros-9 : writeRow (headFrom 1 1 0 1) (0x00 ∷ []) (replicate 65536 0) [] 0 ≡ 9
+unfolding writeRow givenRuleRows ruleRows sliceRows numberRows listRows formedRows clauseRows componentRows givenRows nameRows repeatsName prefaceFrom firstRow anyOf sum bodyOf trailerOf someNested nested inside every mixed together reaches within leads named entry some bit mask
+zeros-9 = refl
+
+-- and whatever the clauses are
 pub many-9 : (clauses : List ℕ) (room : ℕ) → length clauses ≡ 65536 → writeRow (headFrom 1 1 0 1) (0x00 ∷ []) clauses [] room ≡ 9
 unfolding writeRow givenRuleRows ruleRows numberRows listRows firstRow anyOf sum
 many-9 clauses room e = rw e
