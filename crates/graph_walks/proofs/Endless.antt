@@ -36,7 +36,7 @@ module _ (E : ℕ → ℕ → Type 0) (marks : List ℕ) (sound : (x : ℕ) → 
   after-next (suc i) s = after-next i (go (s .toward))
 
   arrival : {x : ℕ} (l : 0 < getD marks x 0) (t : Toward E marks x) → (d : ℕ) × (1 < getD marks (after (suc d) (record { at = x; stays = l; toward = t }) .at) 0)
-  arrival l (arrives y e a) = (0, a)
+  arrival l (arrives y e a) = let accepts : 1 < getD marks y 0 = omega arith in (0, accepts)
   arrival l (passes y e m t) = let r = arrival m t in (suc (r .0), r .1)
 
   pub record Endless (m : ℕ) : Type 0 where
