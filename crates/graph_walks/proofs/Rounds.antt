@@ -154,19 +154,8 @@ module _ (E : ℕ → ℕ → Type 0) where
     keeps = λ z w h. q .keeps z w (p .keeps z w h);
   }
 
-  pruned-sum : (old new : List ℕ) → Pruned E old new → sum new ≤ sum old
+  pub pruned-sum : (old new : List ℕ) → Pruned E old new → sum new ≤ sum old
   pruned-sum old new p = sum-le new old (p .long) (λ x. ⊎-elim (λ e. omega arith) (λ e. omega arith) (p .each x))
-
-  pub prune-start : (ms : List ℕ) → ((x : ℕ) → (getD ms x 0 ≡ 0) ⊎ (getD ms x 0 ≡ 2)) → PruneRound E ms ms false
-  prune-start ms even = record { pruned = pruned-start ms; even = even; less = λ e. absurd (false≢true e) }
-
-  pub prune-then : (old mid new : List ℕ) (a b c : Bool) → (c ≡ true → (a ≡ true) ⊎ (b ≡ true)) → PruneRound E old mid a → PruneRound E mid new b → PruneRound E old new c
-  prune-then old mid new a b c s p q = record {
-    pruned = pruned-then old mid new (p .pruned) (q .pruned);
-    even = q .even;
-    less = λ e. let f = pruned-sum old mid (p .pruned) in let g = pruned-sum mid new (q .pruned) in
-        ⊎-elim (λ t. omega (arith, p .less t)) (λ t. omega (arith, q .less t)) (s e);
-  }
 
 -- ---- marking until nothing is new
 

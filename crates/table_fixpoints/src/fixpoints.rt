@@ -2,9 +2,11 @@
 // accepting nodes again and again.
 use crate::rounds::mark_place;
 use crate::rounds::mark_until_stable;
+use crate::rounds::place_before;
+use crate::rounds::waiting_after;
 ghost use mathlib.Core.Path.{_≡_};
 ghost use mathlib.Core.Logic.{_⊎_};
-ghost use Prim.Native.Nat.{ℕ, _≤_};
+ghost use Prim.Native.Nat.{ℕ, _≤_, _<_};
 ghost use lib.ListN.{length, getD};
 ghost use Rattle.table_lent.specs.Lent.{inBoth};
 ghost use Rattle.graph_walks.specs.Walks.{Pruned, Solved};
@@ -50,26 +52,18 @@ fn settle(marks: &mut [u8], from: usize, to: usize) -> bool
     changed
 }
 
-// One round over the places from the last to the first: nodes without an edge to a node that is in go out.
-fn prune_round(moves: &[u64], movebytes: &[u8], cycle: &[u8], n: usize, marks: &mut [u8]) -> bool
+// Nodes at place p without an edge to a node that is in go out; whether there were such.
+fn prune_place(moves: &[u64], movebytes: &[u8], cycle: &[u8], n: usize, marks: &mut [u8], p: usize) -> bool
     requires { ⌜ Fits n (now cycle) (inBoth (now moves) (now movebytes) .numbers) (now marks)
-        × ((x : ℕ) → (getD (now marks) x 0 ≡ 0) ⊎ (getD (now marks) x 0 ≡ 2)) ⌝ }
+        × ((x : ℕ) → (getD (now marks) x 0 ≡ 0) ⊎ (getD (now marks) x 0 ≡ 2)) × (p < length (now cycle)) ⌝ }
     ensures { λ r. ⌜ PruneRound (NodeEdge n (now (cycle .entry)) (inBoth (now (moves .entry)) (now (movebytes .entry)) .numbers))
         (now (marks .entry)) (now (marks .exit)) r ⌝ }
 {
-    let mut changed = false;
-    let mut p = cycle.len();
-    while 0 < p {
-        p -= 1;
-        mark_place(moves, movebytes, cycle, n, marks, p);
-        if settle(marks, p * n, p * n + n) {
-            changed = true;
-        }
-    }
-    changed
+    mark_place(moves, movebytes, false, cycle, n, marks, p);
+    settle(marks, p * n, p * n + n)
 }
 
-// Takes out nodes without an endless walk, until a round finds none.
+// Takes out nodes without an endless walk: at the places from the last to the first and round again, while one waits.
 pub fn prune(moves: &[u64], movebytes: &[u8], cycle: &[u8], n: usize, marks: &mut [u8])
     requires { ⌜ Fits n (now cycle) (inBoth (now moves) (now movebytes) .numbers) (now marks)
         × ((x : ℕ) → (getD (now marks) x 0 ≡ 0) ⊎ (getD (now marks) x 0 ≡ 2)) ⌝ }
@@ -77,7 +71,13 @@ pub fn prune(moves: &[u64], movebytes: &[u8], cycle: &[u8], n: usize, marks: &mu
         Pruned (NodeEdge n (now (cycle .entry)) (inBoth (now (moves .entry)) (now (movebytes .entry)) .numbers)) (now (marks .entry))
         (now (marks .exit)) ⌝ }
 {
-    while prune_round(moves, movebytes, cycle, n, marks) {}
+    let mut waiting = cycle.len();
+    let mut p = 0;
+    while 0 < waiting {
+        p = place_before(cycle.len(), p);
+        let new = prune_place(moves, movebytes, cycle, n, marks, p);
+        waiting = waiting_after(new, waiting);
+    }
 }
 
 // Takes out the nodes without a walk to an accepting one; whether there were such.

@@ -1,14 +1,12 @@
--- The loops over transitions and over places: what is done and what is left make the whole.
+-- The loop over transitions: what is done and what is left make the whole.
 use mathlib.Core.Path.{_≡_, refl, sym, ap, _∙_}
 use mathlib.Core.Bool.{Bool, true, false, _||_, or-false, or-true, or-assoc}
 use mathlib.Core.List.{List, [], _∷_}
-use Prim.Native.Nat.{ℕ, suc, _+_, _-_, _≤_, _<_}
-use native.Mathlib.Omega.{arith}
+use Prim.Native.Nat.{ℕ, _+_, _≤_, _<_}
 use lib.ListN.{length, getD, drop, drop-of-length-le}
 use Rattle.sets.proofs.Walks.{drop-next}
-use Rattle.table_fixpoints_spec.specs.Marks.{markedOver, isNewOver, markedAll, isNewAll, markedAt, isNewAt, markedBelow, isNewBelow}
+use Rattle.table_fixpoints_spec.specs.Marks.{markedOver, isNewOver, markedAll, isNewAll}
 use Rattle.table_fixpoints_spec.proofs.Marking.{round-over}
-use Rattle.table_fixpoints_spec.proofs.Places.{round-at}
 
 pub or-now : (a b : Bool) → b ≡ true → true ≡ (a || b)
 or-now a b e = rw e (sym (or-true a))
@@ -56,38 +54,3 @@ module _ (letter here there : ℕ) (ts old : List ℕ) where
 pub all-same : (letter here a b : ℕ) (ts ms new : List ℕ) (r : Bool) → a ≡ b
     → (new ≡ markedAll letter here a ts ms) × (r ≡ isNewAll letter here a ts ms) → (new ≡ markedAll letter here b ts ms) × (r ≡ isNewAll letter here b ts ms)
 all-same letter here a b ts ms new r e q = rw (sym e) q
-
--- ---- the places before p are left
-
-module _ (n : ℕ) (cycle ts old : List ℕ) where
-  pub record Descended (ms : List ℕ) (changed : Bool) (p : ℕ) : Type 0 where
-    pub long : length ms ≡ length old
-    pub marks : markedBelow n cycle ts p ms ≡ markedBelow n cycle ts (length cycle) old
-    pub new : (changed || isNewBelow n cycle ts p ms) ≡ isNewBelow n cycle ts (length cycle) old
-
-  descended-down : (ms next : List ℕ) (changed r now : Bool) (p : ℕ) → Descended ms changed (suc p)
-      → next ≡ markedAt n cycle ts p ms → r ≡ isNewAt n cycle ts p ms → now ≡ (changed || r) → Descended next now p
-  unfolding markedBelow isNewBelow
-  descended-down ms next changed r now p w e f g = record {
-    long = ap length e ∙ round-at n cycle ts p ms .long ∙ w .long;
-    marks = ap (markedBelow n cycle ts p) e ∙ w .marks;
-    new = ap (λ (l : List ℕ). now || isNewBelow n cycle ts p l) e
-        ∙ ap (λ (b : Bool). b || isNewBelow n cycle ts p (markedAt n cycle ts p ms)) (g ∙ ap (λ (b : Bool). changed || b) f)
-        ∙ or-assoc changed (isNewAt n cycle ts p ms) (isNewBelow n cycle ts p (markedAt n cycle ts p ms))
-        ∙ w .new;
-  }
-
-  pub descended-start : Descended old false (length cycle)
-  descended-start = record { long = refl; marks = refl; new = refl }
-
-  -- place p - 1; r says whether it brought something new
-  pub descended-next : (ms next : List ℕ) (changed r now : Bool) (p : ℕ) → 0 < p → Descended ms changed p
-      → next ≡ markedAt n cycle ts (p - 1) ms → r ≡ isNewAt n cycle ts (p - 1) ms → now ≡ (changed || r) → Descended next now (p - 1)
-  descended-next ms next changed r now p l w e f g =
-      let one : suc (p - 1) ≡ p = omega arith in
-      descended-down ms next changed r now (p - 1) (rw one w) e f g
-
-  pub descended-end : (ms : List ℕ) (changed : Bool) → Descended ms changed 0
-      → (ms ≡ markedBelow n cycle ts (length cycle) old) × (changed ≡ isNewBelow n cycle ts (length cycle) old)
-  unfolding markedBelow isNewBelow
-  descended-end ms changed w = (w .marks, sym (or-false changed) ∙ w .new)

@@ -1,22 +1,23 @@
--- Edges by their places: what marking does at one place, and at all of them from the last to the first.
+-- Edges by their places: what marking does at one place.
 use mathlib.Core.Path.{_≡_, refl, sym, ap, _∙_}
-use mathlib.Core.Logic.{inl, inr, by-cases}
-use mathlib.Core.Bool.{Bool, true, false}
+use mathlib.Core.Logic.{_⊎_, ⊎-elim}
+use mathlib.Core.Bool.{true, false}
 use mathlib.Core.List.{List, [], List·Memᴰ, _∷_, List·Memᴰ·head, List·Memᴰ·tail}
-use Prim.Native.Nat.{ℕ, zero, suc, _+_, _-_, _*_, _/_, _≤_, _<_}
+use Prim.Native.Nat.{ℕ, _+_, _-_, _*_, _/_, _≤_, _<_}
 use native.Mathlib.Omega.{arith}
 use native.Mathlib.Nat.{suc-mul, zero-mul, mul-le-mul-right}
-use native.Mathlib.Decide.{ℕ-discrete}
 use lib.Arith.{digits-lt, digits-div}
-use lib.ListN.{length}
+use lib.ListN.{length, getD}
+use Rattle.sets.specs.Lists.{tabulate}
 use Rattle.theory.specs.Run.{sourceOf, targetOf}
 use Rattle.theory.specs.Word.{nextPlace, letterAt}
 use Rattle.theory_laws.proofs.Places.{next-place-last, next-place-other, next-place-low}
+use Rattle.graph_walks.specs.Walks.{Toward}
 use Rattle.graph_walks.specs.Marks.{isDue, marked, isNew}
 use Rattle.graph_walks.specs.Rounds.{Marking}
-use Rattle.graph_walks.proofs.Marking.{Round, round-none, round-of, round-then}
+use Rattle.graph_walks.proofs.Marking.{Round, round-of, marking-start}
 use Rattle.table_fixpoints_spec.specs.Product.{NodeEdge, Fits}
-use Rattle.table_fixpoints_spec.specs.Marks.{markedAt, isNewAt, markedBelow, isNewBelow, markedOver, isNewOver, markedAll, isNewAll}
+use Rattle.table_fixpoints_spec.specs.Marks.{markedAt, isNewAt, turned, ordered, markedOver, isNewOver, markedAll, isNewAll}
 use Rattle.table_fixpoints_spec.proofs.Marking.{Over, round-all, marking-all}
 
 -- ---- examples: two codes, letters 0 and 1 in turn, a transition from 0 over 0 to 1 and one from 1 over 1 to 0: an endless walk along nodes 0 and 3
@@ -38,18 +39,23 @@ pub around : ExampleEdge 3 0
 unfolding nextPlace letterAt
 around = record { place = 1; transition = 16842752; inside = omega arith; listed = List·Memᴰ·tail (List·Memᴰ·head refl); letter = refl; source = refl; target = refl }
 
--- node 0 accepting: the last place first, then the first
+-- node 0 accepting: the last place, then the first
 last-place : markedAt 2 exampleCycle exampleTransitions 1 (2 ∷ 1 ∷ 1 ∷ 1 ∷ []) ≡ 2 ∷ 1 ∷ 1 ∷ 3 ∷ []
 unfolding isDue marked markedOver markedAll nextPlace letterAt
 last-place = refl
 
-first-round : (markedBelow 2 exampleCycle exampleTransitions 2 (2 ∷ 1 ∷ 1 ∷ 1 ∷ []) ≡ 4 ∷ 1 ∷ 1 ∷ 3 ∷ []) × (isNewBelow 2 exampleCycle exampleTransitions 2 (2 ∷ 1 ∷ 1 ∷ 1 ∷ []) ≡ true)
-unfolding isDue marked isNew markedOver isNewOver markedAll isNewAll markedBelow isNewBelow nextPlace letterAt
-first-round = (refl, refl)
+first-place : (markedAt 2 exampleCycle exampleTransitions 0 (2 ∷ 1 ∷ 1 ∷ 3 ∷ []) ≡ 4 ∷ 1 ∷ 1 ∷ 3 ∷ []) × (isNewAt 2 exampleCycle exampleTransitions 0 (2 ∷ 1 ∷ 1 ∷ 3 ∷ []) ≡ false)
+unfolding isDue marked isNew markedOver isNewOver markedAll isNewAll nextPlace letterAt
+first-place = (refl, refl)
 
-second-round : (markedBelow 2 exampleCycle exampleTransitions 2 (4 ∷ 1 ∷ 1 ∷ 3 ∷ []) ≡ 4 ∷ 1 ∷ 1 ∷ 3 ∷ []) × (isNewBelow 2 exampleCycle exampleTransitions 2 (4 ∷ 1 ∷ 1 ∷ 3 ∷ []) ≡ false)
-unfolding isDue marked isNew markedOver isNewOver markedAll isNewAll markedBelow isNewBelow nextPlace letterAt
-second-round = (refl, refl)
+-- three codes and the cycle 0: transitions from 0 to 1 and from 1 to 2, which is accepting; from the first on one node is marked, from the last on both are
+chain-forward : markedAt 3 (0 ∷ []) (ordered false (1 ∷ 16777218 ∷ [])) 0 (1 ∷ 1 ∷ 2 ∷ []) ≡ 1 ∷ 3 ∷ 2 ∷ []
+unfolding isDue marked markedOver markedAll nextPlace letterAt
+chain-forward = refl
+
+chain-back : markedAt 3 (0 ∷ []) (ordered true (1 ∷ 16777218 ∷ [])) 0 (1 ∷ 1 ∷ 2 ∷ []) ≡ 3 ∷ 3 ∷ 2 ∷ []
+unfolding isDue marked markedOver markedAll nextPlace letterAt turned tabulate
+chain-back = refl
 
 -- ---- numbers
 
@@ -86,14 +92,15 @@ module _ (n : ℕ) (cycle ts : List ℕ) where
     rw (f .marked) (digits-lt {q = nextPlace [] cycle p} {m = length cycle} {c = n} (let k = next-place-low [] cycle (f .repeats) p (omega arith) in omega arith) (f .targets t m)),
   )
 
--- ---- marking place by place
+-- ---- marking at one place
+
+toward-edge : (E : ℕ → ℕ → Type 0) (b : List ℕ) {x : ℕ} → Toward E b x → (y : ℕ) × E x y
+toward-edge E b (Toward.arrives y e h) = (y, e)
+toward-edge E b (Toward.passes y e h t) = (y, e)
 
 module _ (n : ℕ) (cycle ts : List ℕ) where
   abbrev pub At : ℕ → ℕ → ℕ → Type 0
   At p x y = (e : NodeEdge n cycle ts x y) × (e .place ≡ p)
-
-  abbrev pub Below : ℕ → ℕ → ℕ → Type 0
-  Below p x y = (e : NodeEdge n cycle ts x y) × (e .place < p)
 
   abbrev OverAt : ℕ → ℕ → ℕ → Type 0
   OverAt p x y = Over (letterAt [] cycle p) (p * n) (nextPlace [] cycle p * n) ts x y
@@ -127,27 +134,17 @@ module _ (n : ℕ) (cycle ts : List ℕ) where
   pub at-long : (p : ℕ) (ms new : List ℕ) → new ≡ markedAt n cycle ts p ms → length new ≡ length ms
   at-long p ms new e = ap length e ∙ round-at p ms .long
 
-  pub round-below : (p : ℕ) (ms : List ℕ) → Round (Below p) ms (markedBelow n cycle ts p ms) (isNewBelow n cycle ts p ms)
-  unfolding markedBelow isNewBelow
-  round-below zero ms = round-none (Below 0) (λ x y e. omega (arith, e .1)) ms
-  round-below (suc p) ms =
-      round-then (At p) (Below p) (Below (suc p))
-      (λ x y e. by-cases (ℕ-discrete (e .0 .place) p) (λ q. inl (e .0, q)) (λ q. inr (e .0, omega (arith, e .1))))
-      ms _ _ _ _ (round-at p ms) (round-below p (markedAt n cycle ts p ms))
-
   module _ (E : ℕ → ℕ → Type 0) (b : List ℕ) where
     pub marking-at : (p : ℕ) → p < length cycle → ((x y : ℕ) → At p x y → E x y) → (ms : List ℕ) → Marking E b ms → Marking E b (markedAt n cycle ts p ms)
     marking-at p l e ms m = marking-all E b (letterAt [] cycle p) (p * n) (nextPlace [] cycle p * n) ts (λ x y o. e x y (over-edge p l x y o)) ms m
 
-    pub marking-below : (p : ℕ) → p ≤ length cycle → ((x y : ℕ) → NodeEdge n cycle ts x y → E x y) → (ms : List ℕ) → Marking E b ms → Marking E b (markedBelow n cycle ts p ms)
-    unfolding markedBelow
-    marking-below zero l e ms m = m
-    marking-below (suc p) l e ms m = marking-below p (omega arith) e (markedAt n cycle ts p ms) (marking-at p l (λ x y a. e x y (a .0)) ms m)
-
-  -- all places
-  module _ (ms new : List ℕ) (e : new ≡ markedBelow n cycle ts (length cycle) ms) where
-    pub round-whole : (changed r : Bool) → r ≡ changed → r ≡ isNewBelow n cycle ts (length cycle) ms → Round (NodeEdge n cycle ts) ms new changed
-    round-whole changed r g f = rw (e, sym g ∙ f) (round-of _ _ (λ x y q. (q, q .inside)) _ _ _ (round-below (length cycle) ms))
-
-    pub marking-whole : (b : List ℕ) → Marking (NodeEdge n cycle ts) b ms → Marking (NodeEdge n cycle ts) b new
-    marking-whole b m = rw e (marking-below (NodeEdge n cycle ts) b (length cycle) (omega arith) (λ x y q. q) ms m)
+  -- nodes at other places stay as they are
+  pub elsewhere : (ms : List ℕ) (p : ℕ) → Fits n cycle ts ms → p < length cycle → (x : ℕ) → (x < p * n) ⊎ (p * n + n ≤ x) → getD (markedAt n cycle ts p ms) x 0 ≡ getD ms x 0
+  elsewhere ms p f l x o =
+      ⊎-elim (λ e. e)
+      (λ t. let a = toward-edge (At p) ms {x = x} (t .2) .1 in
+      let e = a .0 in
+      let k : x ≡ p * n + sourceOf (e .transition) = e .source ∙ ap (λ (i : ℕ). i * n + sourceOf (e .transition)) (a .1) in
+      let h = f .sources _ (e .listed) in
+      absurd (⊎-elim (λ a. omega arith) (λ a. omega arith) o))
+      (marking-at (At p) ms p l (λ x y a. a) ms (marking-start (At p) ms) .each x)

@@ -1,5 +1,5 @@
 -- A round of pruning at one place of the cycle, and an example.
-use mathlib.Core.Path.{_≡_, sym, ap, _∙_}
+use mathlib.Core.Path.{_≡_, sym, _∙_}
 use mathlib.Core.Logic.{_⊎_, inl, inr, ⊎-elim}
 use mathlib.Core.Bool.{Bool}
 use mathlib.Core.List.{List, [], _∷_}
@@ -7,13 +7,13 @@ use Prim.Native.Nat.{ℕ, zero, suc, _+_, _*_, _≤_, _<_}
 use native.Mathlib.Omega.{arith}
 use lib.ListN.{length, getD}
 use Rattle.theory.specs.Run.{sourceOf}
-use Rattle.graph_walks.specs.Walks.{Walk, Toward, Solved}
+use Rattle.graph_walks.specs.Walks.{Walk, Solved}
 use Rattle.graph_walks.specs.Rounds.{Settling, Marking, PruneRound}
 use Rattle.graph_walks.proofs.Marking.{marking-start}
 use Rattle.graph_walks.proofs.Rounds.{where-cases, back-each, back-stays, back-less}
 use Rattle.table_fixpoints_spec.specs.Product.{NodeEdge, Fits}
 use Rattle.table_fixpoints_spec.specs.Marks.{markedAt}
-use Rattle.table_fixpoints_spec.proofs.Places.{At, same-place, round-at, marking-at, ExampleEdge, on, around}
+use Rattle.table_fixpoints_spec.proofs.Places.{At, same-place, elsewhere, round-at, marking-at, ExampleEdge, on, around}
 
 -- ---- an example
 
@@ -44,10 +44,6 @@ turns-stay new s = (s .keeps turns walk members again 0, s .keeps turns walk mem
 
 -- ---- one place
 
-toward-edge : (E : ℕ → ℕ → Type 0) (b : List ℕ) {x : ℕ} → Toward E b x → (y : ℕ) × E x y
-toward-edge E b (Toward.arrives y e h) = (y, e)
-toward-edge E b (Toward.passes y e h t) = (y, e)
-
 module _ (n : ℕ) (cycle ts : List ℕ) where
   -- the nodes at place p without an edge to a node that is in go out
   pub prune-at : (ms new : List ℕ) (p : ℕ) (changed : Bool) → Fits n cycle ts ms → ((x : ℕ) → (getD ms x 0 ≡ 0) ⊎ (getD ms x 0 ≡ 2)) → p < length cycle
@@ -76,14 +72,7 @@ module _ (n : ℕ) (cycle ts : List ℕ) where
       inside x y e a b = same-place n p (e .place) (sourceOf (e .transition)) (f .sources _ (e .listed)) (rw (sym (e .source)) a) (rw (sym (e .source)) b)
 
       out : (x : ℕ) → (x < p * n) ⊎ (p * n + n ≤ x) → getD mid x 0 ≡ getD ms x 0
-      out x o =
-          ⊎-elim (λ e. e)
-          (λ t. let a = toward-edge (At n cycle ts p) ms {x = x} (t .2) .1 in
-          let e = a .0 in
-          let k : x ≡ p * n + sourceOf (e .transition) = e .source ∙ ap (λ (i : ℕ). i * n + sourceOf (e .transition)) (a .1) in
-          let h = f .sources _ (e .listed) in
-          absurd (⊎-elim (λ a. omega arith) (λ a. omega arith) o))
-          (m .each x)
+      out = elsewhere n cycle ts ms p f l
 
       each : (x : ℕ) → (getD new x 0 ≡ 0) ⊎ (getD new x 0 ≡ getD ms x 0)
       each = back-each (At n cycle ts p) ms mid new (p * n) (p * n + n) changed low m s out

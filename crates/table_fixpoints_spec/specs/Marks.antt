@@ -1,8 +1,10 @@
--- Marks along the transitions over a letter, and over the places of a cycle.
+-- Marks along the transitions over a letter, at a place of a cycle, and the order in which transitions are taken.
 use mathlib.Core.Bool.{Bool, false, _&&_, _||_, cond}
 use mathlib.Core.List.{List, [], _∷_}
-use Prim.Native.Nat.{ℕ, zero, suc, _+_, _*_}
+use Prim.Native.Nat.{ℕ, suc, _+_, _-_, _*_}
 use lib.Dec.{eqb}
+use lib.ListN.{length, getD}
+use Rattle.sets.specs.Lists.{tabulate}
 use Rattle.theory.specs.Run.{sourceOf, letterOf, targetOf}
 use Rattle.theory.specs.Word.{nextPlace, letterAt}
 use Rattle.graph_walks.specs.Marks.{marked, isNew}
@@ -23,7 +25,7 @@ module _ (letter here there : ℕ) where
   isNewAll [] ms = false
   isNewAll (t ∷ ts) ms = isNewOver t ms || isNewAll ts (markedOver t ms)
 
--- the places of a cycle, from the one before p down to the first
+-- the nodes at place p of a cycle
 module _ (n : ℕ) (cycle transitions : List ℕ) where
   abbrev pub markedAt : ℕ → List ℕ → List ℕ
   markedAt p ms = markedAll (letterAt [] cycle p) (p * n) (nextPlace [] cycle p * n) transitions ms
@@ -31,10 +33,9 @@ module _ (n : ℕ) (cycle transitions : List ℕ) where
   abbrev pub isNewAt : ℕ → List ℕ → Bool
   isNewAt p ms = isNewAll (letterAt [] cycle p) (p * n) (nextPlace [] cycle p * n) transitions ms
 
-  unfoldable pub markedBelow : ℕ → List ℕ → List ℕ
-  markedBelow zero ms = ms
-  markedBelow (suc p) ms = markedBelow p (markedAt p ms)
+-- the transitions from the last to the first, and in the order in which a sweep takes them
+unfoldable pub turned : List ℕ → List ℕ
+turned ts = tabulate (length ts) (λ i. getD ts (length ts - suc i) 0) 0
 
-  unfoldable pub isNewBelow : ℕ → List ℕ → Bool
-  isNewBelow zero ms = false
-  isNewBelow (suc p) ms = isNewAt p ms || isNewBelow p (markedAt p ms)
+abbrev pub ordered : Bool → List ℕ → List ℕ
+ordered back ts = cond back (turned ts) ts

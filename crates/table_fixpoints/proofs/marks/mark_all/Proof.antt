@@ -7,16 +7,18 @@ use borrow.Author.Needs.{needs}
 use lib.ListN.{length, getD}
 use Rattle.sets.proofs.Lists.{mem-at}
 use Rattle.table_lent.specs.Lent.{inBoth}
+use Rattle.table_fixpoints_spec.specs.Marks.{ordered}
+use Rattle.table_fixpoints_spec.proofs.Orders.{ordered-long, ordered-from}
 use Rattle.table_fixpoints_spec.proofs.Loops.{or-now, or-before, Passed, passed-start, passed-next, passed-end}
 use Rattle.table_fixpoints.proofs.marks.mark_all.Statement.{statement}
 use Rattle.table_fixpoints.proofs.marks.mark_all.Tie as tie
 
 abbrev Inv-loop : tie.InvT-loop
-Inv-loop moves movebytes letter marks₀ here there m changed₀ i₀ marks changed i =
-    (i ≤ m) × Passed letter here there (inBoth moves movebytes .numbers) marks₀ marks changed i
+Inv-loop moves movebytes back letter marks₀ here there m changed₀ i₀ marks changed i =
+    (i ≤ m) × Passed letter here there (ordered back (inBoth moves movebytes .numbers)) marks₀ marks changed i
 
 abbrev μ-loop : tie.MeasureT-loop
-μ-loop moves movebytes letter marks₀ here there m changed₀ i₀ marks changed i = m - i
+μ-loop moves movebytes back letter marks₀ here there m changed₀ i₀ marks changed i = m - i
 
 count-requires : tie.Need-count-requires Inv-loop μ-loop
 count-requires c κs = search needs
@@ -24,8 +26,8 @@ count-requires c κs = search needs
 loop-holds : tie.Need-loop-holds Inv-loop μ-loop
 loop-holds c = (omega arith, passed-start _ _ _ _ _)
 
-element-requires : tie.Need-element-requires Inv-loop μ-loop
-element-requires c κs = omega arith
+element-from-requires : tie.Need-element-from-requires Inv-loop μ-loop
+element-from-requires c κs = (c .before .before .count .ensures, omega arith)
 
 add-i : tie.Need-add-i Inv-loop μ-loop
 add-i c = omega arith
@@ -35,9 +37,10 @@ mark-over-requires c κs =
     let a = c .before .before .before .before .before .before .before .before .args in
     let l = c .before .before .before .loop in
     let ts = inBoth (a .moves .now) (a .movebytes .now) .numbers in
-    let inside : l .i < length ts = omega arith in
-    let e : c .before .element .result ≡ getD ts (l .i) 0 = c .before .element .ensures in
-    let q = c .before .before .before .before .before .before .before .before .pre (getD ts (l .i) 0) (mem-at ts (l .i) inside) in
+    let us = ordered (a .back) ts in
+    let inside : l .i < length us = omega (arith, ordered-long (a .back) ts) in
+    let e : c .before .element-from .result ≡ getD us (l .i) 0 = c .before .element-from .ensures in
+    let q = c .before .before .before .before .before .before .before .before .pre (getD us (l .i) 0) (ordered-from (a .back) ts _ (mem-at us (l .i) inside)) in
     let long : length (l .marks) ≡ length (a .marks .now) = l .inv .1 .long in
     (omega (arith, q .0), omega (arith, q .1))
 
@@ -48,10 +51,11 @@ loop-again : tie.Need-loop-again Inv-loop μ-loop
 loop-again c =
     let a = c .before .before .before .before .before .before .before .before .before .before .before .before .args in
     let l = c .before .before .before .before .before .before .before .loop in
-    let o = c .before .before .before .mark-over .ensures in (
+    let o = c .before .before .before .mark-over .ensures in
+    let long = ordered-long (a .back) (inBoth (a .moves .now) (a .movebytes .now) .numbers) in (
       omega arith,
       passed-next (a .letter) (a .here) (a .there) _ (a .marks .now) (l .marks) _ (l .changed) _ true (l .i) _ (omega arith) (l .inv .1)
-          (c .before .before .before .before .before .element .ensures) (o .0) (o .1) (or-now (l .changed) _ (c .if1 .taken)),
+          (c .before .before .before .before .before .element-from .ensures) (o .0) (o .1) (or-now (l .changed) _ (c .if1 .taken)),
     )
 
 loop-less-2 : tie.Need-loop-less-2 Inv-loop μ-loop
@@ -61,10 +65,11 @@ loop-again-2 : tie.Need-loop-again-2 Inv-loop μ-loop
 loop-again-2 c =
     let a = c .before .before .before .before .before .before .before .before .before .before .before .before .args in
     let l = c .before .before .before .before .before .before .before .loop in
-    let o = c .before .before .before .mark-over .ensures in (
+    let o = c .before .before .before .mark-over .ensures in
+    let long = ordered-long (a .back) (inBoth (a .moves .now) (a .movebytes .now) .numbers) in (
       omega arith,
       passed-next (a .letter) (a .here) (a .there) _ (a .marks .now) (l .marks) _ (l .changed) _ (l .changed) (l .i) _ (omega arith) (l .inv .1)
-          (c .before .before .before .before .before .element .ensures) (o .0) (o .1) (or-before (l .changed) _ (c .if1 .left)),
+          (c .before .before .before .before .before .element-from .ensures) (o .0) (o .1) (or-before (l .changed) _ (c .if1 .left)),
     )
 
 same-length : tie.Need-same-length Inv-loop μ-loop
@@ -74,7 +79,9 @@ returns : tie.Need-returns Inv-loop μ-loop
 returns c =
     let a = c .before .before .before .before .before .before .args in
     let l = c .before .loop in
-    passed-end (a .letter) (a .here) (a .there) (inBoth (a .moves .now) (a .movebytes .now) .numbers) (a .marks .now) (l .marks) (l .changed) (l .i) (omega arith) (l .inv .1)
+    let ts = inBoth (a .moves .now) (a .movebytes .now) .numbers in
+    let long = ordered-long (a .back) ts in
+    passed-end (a .letter) (a .here) (a .there) (ordered (a .back) ts) (a .marks .now) (l .marks) (l .changed) (l .i) (omega arith) (l .inv .1)
 
 pub mark-all-spec : {M : Type 1} → statement M
 mark-all-spec =
@@ -84,7 +91,7 @@ mark-all-spec =
     μ-loop
     count-requires
     loop-holds
-    element-requires
+    element-from-requires
     add-i
     mark-over-requires
     loop-less

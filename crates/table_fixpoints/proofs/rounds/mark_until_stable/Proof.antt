@@ -1,49 +1,65 @@
--- `table_fixpoints::rounds::mark_until_stable` meets its contract: each round but the last marks a node.
-use mathlib.Core.Path.{refl}
-use mathlib.Core.Bool.{true, false}
-use Prim.Native.Nat.{_*_, _-_}
+-- `table_fixpoints::rounds::mark_until_stable` meets its contract: at places that do not wait nothing is left to mark.
+use mathlib.Core.Path.{_≡_}
+use Prim.Native.Nat.{_*_, _-_, _+_, _<_}
 use native.Mathlib.Omega.{arith}
 use lib.ListN.{length}
 use Rattle.sets.specs.Lists.{sum}
 use Rattle.table_lent.specs.Lent.{inBoth}
-use Rattle.table_fixpoints_spec.specs.Product.{NodeEdge}
-use Rattle.graph_walks.specs.Rounds.{Marking}
-use Rattle.graph_walks.proofs.Marking.{marking-start}
-use Rattle.table_fixpoints_spec.proofs.Places.{fits-long, round-whole, marking-whole}
-use Rattle.graph_walks.proofs.Rounds.{marking-sum, stable}
+use Rattle.table_fixpoints_spec.proofs.Places.{fits-long}
+use Rattle.table_fixpoints_spec.proofs.Waiting.{Left, left-after, before-low, Around, around-start, around-next, around-end, around-less}
 use Rattle.table_fixpoints.proofs.rounds.mark_until_stable.Statement.{statement}
 use Rattle.table_fixpoints.proofs.rounds.mark_until_stable.Tie as tie
 
 abbrev Inv-loop : tie.InvT-loop
-Inv-loop moves movebytes cycle n marks₀ marks = Marking (NodeEdge n cycle (inBoth moves movebytes .numbers)) marks₀ marks
+Inv-loop moves movebytes cycle n marks₀ back₀ waiting₀ p₀ marks back waiting p = Around n cycle (inBoth moves movebytes .numbers) marks₀ marks p waiting
 
 abbrev μ-loop : tie.MeasureT-loop
-μ-loop moves movebytes cycle n marks₀ marks = 4 * length marks₀ - sum marks
+μ-loop moves movebytes cycle n marks₀ back₀ waiting₀ p₀ marks back waiting p = 4 * length marks₀ - sum marks + waiting
 
 loop-holds : tie.Need-loop-holds Inv-loop μ-loop
-loop-holds c = marking-start _ _
+loop-holds c = around-start _ _ _ _ (c .before .before .before .before .pre .0 .repeats)
 
-mark-round-requires : tie.Need-mark-round-requires Inv-loop μ-loop
-mark-round-requires c κs = fits-long _ _ _ _ _ (c .before .loop .inv .long) (c .before .before .before .before .before .before .pre .0)
+place-before-requires : tie.Need-place-before-requires Inv-loop μ-loop
+place-before-requires c κs = c .before .loop .inv .inside
+
+mark-place-requires : tie.Need-mark-place-requires Inv-loop μ-loop
+mark-place-requires c κs =
+    let v = c .before .before .before .loop .inv in
+    (fits-long _ _ _ _ _ (v .marking .long) (c .before .before .before .before .before .before .before .before .pre .0), rw (c .before .place-before .ensures) (before-low _ _ (v .inside)))
+
+waiting-after-requires : tie.Need-waiting-after-requires Inv-loop μ-loop
+waiting-after-requires c κs = c .before .before .before .before .before .loop-test .taken
+
+-- how many places wait then
+left : (c : tie.After-waiting-after Inv-loop μ-loop) → Left (c .before .before .before .mark-place .result) (c .before .before .before .before .before .before .before .loop .waiting) (c .waiting-after .result)
+left c = rw (c .waiting-after .ensures) (left-after _ _ (c .before .before .before .before .before .before .loop-test .taken))
+
+-- the marks then
+swept : (c : tie.After-waiting-after Inv-loop μ-loop)
+    → Around (c .before .before .before .before .before .before .before .before .before .before .before .before .args .n) (c .before .before .before .before .before .before .before .before .before .before .before .before .args .cycle .now) (inBoth (c .before .before .before .before .before .before .before .before .before .before .before .before .args .moves .now) (c .before .before .before .before .before .before .before .before .before .before .before .before .args .movebytes .now) .numbers) (c .before .before .before .before .before .before .before .before .before .before .before .before .args .marks .now)
+        (c .before .before .before .mark-place .last .1 .1 .1 .1 .1 .0) (c .before .before .before .before .before .place-before .result) (c .waiting-after .result)
+swept c =
+    let l = c .before .before .before .before .before .before .before .loop in
+    let m = c .before .before .before .mark-place .ensures in
+    around-next _ _ _ _ (l .marks) _ (l .back) _ (l .p) _ (l .waiting) _ (fits-long _ _ _ _ _ (l .inv .marking .long) (c .before .before .before .before .before .before .before .before .before .before .before .before .pre .0)) (l .inv) (c .before .before .before .before .before .place-before .ensures) (m .0) (m .1) (left c)
 
 loop-less : tie.Need-loop-less Inv-loop μ-loop
 loop-less c =
-    let e = c .before .before .before .mark-round .ensures in
-    let r = round-whole _ _ _ _ _ (e .0) true _ (c .if1 .taken) (e .1) in
-    let m = marking-whole _ _ _ _ _ (e .0) _ (c .before .before .before .before .before .loop .inv) in
-    omega (arith, r .grown refl, marking-sum _ _ _ (c .before .before .before .before .before .before .before .before .before .before .pre .1) m)
+    let l = c .before .before .before .before .before .before .before .loop in
+    let m = c .before .before .before .mark-place .ensures in
+    around-less _ _ _ _ (l .marks) _ (l .back) _ _ _ (l .waiting) _ (c .before .before .before .before .before .before .before .before .before .before .before .before .pre .1) (swept c) (m .0) (m .1) (left c)
 
 loop-again : tie.Need-loop-again Inv-loop μ-loop
-loop-again c = marking-whole _ _ _ _ _ (c .before .before .before .mark-round .ensures .0) _ (c .before .before .before .before .before .loop .inv)
+loop-again c = swept c
 
 same-length : tie.Need-same-length Inv-loop μ-loop
-same-length c = marking-whole _ _ _ _ _ (c .before .before .before .mark-round .ensures .0) _ (c .before .before .before .before .before .loop .inv) .long
+same-length c = c .before .loop .inv .marking .long
 
 returns : tie.Need-returns Inv-loop μ-loop
 returns c =
-    let e = c .before .before .before .mark-round .ensures in
-    let m = c .before .before .before .before .before .loop .inv in
-    stable _ _ _ _ m (marking-whole _ _ _ _ _ (e .0) _ m) (round-whole _ _ _ _ _ (e .0) false _ (c .if1 .left) (e .1))
+    let l = c .before .loop in
+    let none : l .waiting ≡ 0 = omega arith in
+    around-end _ _ _ _ (l .marks) (l .p) (rw none at (l .inv))
 
 pub mark-until-stable-spec : {M : Type 1} → statement M
 mark-until-stable-spec =
@@ -52,7 +68,9 @@ mark-until-stable-spec =
     Inv-loop
     μ-loop
     loop-holds
-    mark-round-requires
+    place-before-requires
+    mark-place-requires
+    waiting-after-requires
     loop-less
     loop-again
     same-length
