@@ -1,33 +1,75 @@
--- Components one after the other.
-use mathlib.Core.Path.{refl, _∙_}
+-- Components one after the other: those of one kind, and both kinds together.
+use mathlib.Core.Path.{_≡_, refl, sym, _∙_, ap}
 use mathlib.Core.Logic.{by-cases}
+use mathlib.Core.Bool.{Bool, true, false, _&&_, not, cond}
 use mathlib.Core.List.{List}
-use Prim.Native.Nat.{ℕ, _+_, _*_, _≤_, _<_}
+use Prim.Native.Nat.{ℕ, zero, suc, _+_, _*_, _^_, _≤_, _<_}
 use native.Mathlib.Omega.{arith}
-use native.Mathlib.Decide.{ℕ-discrete}
+use native.Mathlib.Decide.{decLt, ℕ-discrete}
 use native.Mathlib.Numerals.{add-one}
-use lib.ListN.{length, getD, set}
+use lib.Dec.{ltb}
+use lib.ListN.{length, getD, set, length-set}
 use lib.Seq.{getD-set-same, getD-set-other}
+use borrow.Author.Tests.{lt-ltb, le-ltb}
+use Rattle.sets.specs.Tests.{Set}
+use Rattle.sets.proofs.Bools.{bif}
 use Rattle.build_cores.specs.Used.{sumOf}
-use Rattle.build_step_back.specs.Step.{Back, Stepped}
+use Rattle.build_step_back.specs.Step.{Stepped, ranksIn, BackOf, Back}
 
-pub record Turn (opens : List ℕ) (letter opened : ℕ) (parts : List ℕ) (low : List ℕ) (levels : List ℕ) (ranks c : ℕ) : Type 0 where
-  pub bound : ranks ≤ c * 4294967296
-  pub back : Back opens letter opened parts c low ranks levels
+-- another number is below c + 1 exactly if it is below c
+below-other : (d c : ℕ) → (d ≡ c → ⊥) → ltb d (c + 1) ≡ ltb d c
+below-other d c n = by-cases (decLt d c)
+    (λ h. lt-ltb d (c + 1) (omega arith) ∙ sym (lt-ltb d c h))
+    (λ h. le-ltb d (c + 1) (omega arith) ∙ sym (le-ltb d c (omega arith)))
 
-pub start : (opens : List ℕ) (letter opened : ℕ) (parts low levels : List ℕ) → Turn opens letter opened parts low levels 0 0
+-- what is summed over one kind and over the other is summed over both
+sum-both : (kind : Set) (f : ℕ → ℕ) (n : ℕ) → sumOf n (λ c. cond (kind c) (f c) 0) + sumOf n (λ c. cond (not (kind c)) (f c) 0) ≡ sumOf n f
 unfolding sumOf
-start opens letter opened parts low levels = record { bound = omega arith; back = record { ranked = refl; levelled = λ c h. absurd (omega arith) } }
+sum-both kind f zero = refl
+sum-both kind f (suc n) =
+    bif (kind n)
+    (λ t. rw t (omega (arith, sum-both kind f n)))
+    (λ t. rw t (omega (arith, sum-both kind f n)))
 
-pub next : (opens : List ℕ) (letter opened : ℕ) (parts low levels : List ℕ) (ranks c r l : ℕ) → c < length levels → r < 4294967296 → Turn opens letter opened parts low levels ranks c
-    → Stepped opens letter opened (getD parts c 0) low r l → Turn opens letter opened parts low (set levels c l) (ranks + r) (c + 1)
-unfolding sumOf
-next opens letter opened parts low levels ranks c r l h k w s = record {
-  bound = omega (arith, w .bound);
-  back = record {
-    ranked = rw (add-one c) (omega (arith, w .back .ranked, s .ranked));
-    levelled = λ d b. by-cases (ℕ-discrete d c)
-        (λ e. rw e (getD-set-same levels c l 0 h ∙ s .levelled))
-        (λ e. getD-set-other levels c d l 0 e ∙ w .back .levelled d (omega arith));
-  };
+module _ (kind : Set) (opens : List ℕ) (letter opened : ℕ) (parts low before : List ℕ) where
+  pub start : BackOf kind opens letter opened parts 0 low before 0 before
+  unfolding sumOf
+  start = record { ranked = refl; levelled = λ c. rw (le-ltb c 0 (omega arith)); long = refl; bound = omega arith }
+
+  module _ (levels : List ℕ) (ranks c : ℕ) (w : BackOf kind opens letter opened parts c low before ranks levels) where
+    -- a component of the kind
+    pub next : (r l : ℕ) → kind c ≡ true → c < length levels → r < 4294967296 → Stepped opens letter opened (getD parts c 0) low r l
+        → BackOf kind opens letter opened parts (c + 1) low before (ranks + r) (set levels c l)
+    unfolding sumOf
+    next r l k h b s = record {
+      ranked = rw (add-one c, k) (omega (arith, w .ranked, s .ranked));
+      levelled = λ d. by-cases (ℕ-discrete d c)
+          (λ e. rw (e, lt-ltb c (c + 1) (omega arith), k) (getD-set-same levels c l 0 h ∙ s .levelled))
+          (λ e. rw (below-other d c e) (getD-set-other levels c d l 0 e ∙ w .levelled d));
+      long = length-set levels c l ∙ w .long;
+      bound = omega (arith, w .bound);
+    }
+
+    -- a component of the other kind
+    pub skip : kind c ≡ false → BackOf kind opens letter opened parts (c + 1) low before ranks levels
+    unfolding sumOf
+    skip k = record {
+      ranked = rw (add-one c, k) (omega (arith, w .ranked));
+      levelled = λ d. by-cases (ℕ-discrete d c)
+          (λ e. rw (e, lt-ltb c (c + 1) (omega arith), k) (w .levelled c ∙ rw (le-ltb c c (omega arith))))
+          (λ e. rw (below-other d c e) (w .levelled d));
+      long = w .long;
+      bound = omega (arith, w .bound);
+    }
+
+-- both kinds together
+pub both : (kind : Set) (opens : List ℕ) (letter opened : ℕ) (parts : List ℕ) (components : ℕ) (low before : List ℕ) (ranks₁ : ℕ) (levels₁ : List ℕ) (ranks₂ : ℕ) (levels₂ : List ℕ)
+    → BackOf kind opens letter opened parts components low before ranks₁ levels₁
+    → BackOf (λ c. not (kind c)) opens letter opened parts components low levels₁ ranks₂ levels₂
+    → Back opens letter opened parts components low (ranks₁ + ranks₂) levels₂
+both kind opens letter opened parts components low before ranks₁ levels₁ ranks₂ levels₂ x y = record {
+  ranked = omega (arith, x .ranked, y .ranked, sum-both kind (ranksIn opens letter opened parts low) components);
+  levelled = λ c h. bif (kind c)
+      (λ k. y .levelled c ∙ rw (lt-ltb c components h, k) (x .levelled c ∙ rw (lt-ltb c components h, k)))
+      (λ k. y .levelled c ∙ rw (lt-ltb c components h, k));
 }

@@ -1,10 +1,10 @@
 -- The step back of one component, on masks of open states.
 use mathlib.Core.Path.{_≡_}
-use mathlib.Core.Bool.{true, _&&_, cond}
+use mathlib.Core.Bool.{true, _&&_, not, cond}
 use mathlib.Core.List.{List}
-use Prim.Native.Nat.{ℕ, suc, _+_, _*_, _≤_, _<_}
-use lib.Dec.{eqb, leb}
-use lib.ListN.{getD}
+use Prim.Native.Nat.{ℕ, suc, _+_, _*_, _^_, _≤_, _<_}
+use lib.Dec.{eqb, leb, ltb}
+use lib.ListN.{length, getD}
 use lib.Bits.{bitAnd, bitOr, bitXor}
 use Rattle.sets.specs.Tests.{Set, some, count, first, largest}
 use Rattle.sets.specs.Masks.{bit}
@@ -60,6 +60,23 @@ module _ (opens : List ℕ) (letter opened : ℕ) (parts : List ℕ) (low : List
 
   abbrev pub levelsIn : ℕ → ℕ
   levelsIn c = levelDigits (bit (goal opens letter opened (getD parts c 0) low)) (level opens letter opened (getD parts c 0) low)
+
+module _ (parts : List ℕ) (accepting : ℕ) where
+  -- component c has no state of the accepting mask: it is rejecting
+  unfoldable pub rejectingPart : Set
+  rejectingPart c = eqb (bitAnd (getD parts c 0) accepting) 0
+
+  -- it is accepting
+  unfoldable pub acceptingPart : Set
+  unfolding rejectingPart
+  acceptingPart c = not (rejectingPart c)
+
+-- what the step back over the components of one kind leaves: their ranks, their levels, and the levels before of all other components
+pub record BackOf (kind : Set) (opens : List ℕ) (letter opened : ℕ) (parts : List ℕ) (components : ℕ) (low before : List ℕ) (ranks : ℕ) (levels : List ℕ) : Type 0 where
+  pub ranked : ranks ≡ sumOf components (λ c. cond (kind c) (ranksIn opens letter opened parts low c) 0)
+  pub levelled : (c : ℕ) → getD levels c 0 ≡ cond (ltb c components && kind c) (levelsIn opens letter opened parts low c) (getD before c 0)
+  pub long : length levels ≡ length before
+  pub bound : ranks ≤ components * 2 ^ 32
 
 -- what the step back leaves
 pub record Back (opens : List ℕ) (letter opened : ℕ) (parts : List ℕ) (components : ℕ) (low : List ℕ) (ranks : ℕ) (levels : List ℕ) : Type 0 where

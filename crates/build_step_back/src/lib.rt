@@ -1,9 +1,10 @@
-// The step back over one letter: the earlier core, and the levels of its classes.
+// The step back over one letter, in the order of Definition 7 of source 000: rejecting components (R1'), then accepting ones (R2').
+// What it leaves is the earlier core, and the levels of its classes.
 ghost use mathlib.Core.Path.{_≡_};
 ghost use Prim.Native.Nat.{ℕ, _+_, _*_, _^_, _<_, _≤_};
-ghost use lib.ListN.{getD};
+ghost use lib.ListN.{length, getD};
 ghost use lib.Bits.{bitXor};
-ghost use Rattle.build_step_back.specs.Step.{Rising, Stepped, Back};
+ghost use Rattle.build_step_back.specs.Step.{Rising, Stepped, rejectingPart, acceptingPart, BackOf, Back};
 
 // Ranks and levels of one component.
 pub struct Step {
@@ -12,6 +13,7 @@ pub struct Step {
 }
 
 // The earlier ranks of one component, and in nibble k the largest level of its k lowest classes.
+// The table of open states has taken the dual of accepting entries, so both kinds of components go the same way here.
 pub fn step_component(
     opens: &[u8; 4096],
     letter: usize,
@@ -37,8 +39,12 @@ pub fn step_component(
             j += 1;
             continue;
         }
+        // The states x ^ prev have level j: they are class m, and j is above all levels so far, the largest of which is `last`.
         m += 1;
         ranks += build_cores::spread(x ^ prev) * m;
+        // The k lowest classes now include class m for k from m on. The nibbles from m on all hold `last`; they become j:
+        // 0x1111.. has a 1 in each of its 16 nibbles; shifted by 4 * m the 1s stand in the nibbles from m on, and those above the top fall off;
+        // times j - last, each of these nibbles has the difference. Levels are at most 8, so no sum leaves its nibble.
         levels += (0x1111_1111_1111_1111u64 << (4 * m)) * (j as u64 - last);
         last = j as u64;
         prev = x;
@@ -54,6 +60,76 @@ fn wide(x: u32) -> u64
     x as u64
 }
 
+// Definition 7, R1': the earlier ranks of the rejecting components. Their levels go to their places of levels, the other places stay.
+pub fn step_rejecting(
+    opens: &[u8; 4096],
+    letter: usize,
+    opened: u8,
+    parts: &[u8; 8],
+    components: usize,
+    accepting: u8,
+    low: &[u8; 16],
+    levels: &mut [u64; 8],
+) -> u64
+    requires { ⌜ (components ≤ 8)
+        × ((c : ℕ) → c < components → Rising (now opens) letter opened (getD (now parts) c 0) (now low))
+        × (length (now levels) ≡ 8) ⌝ }
+    ensures { λ r. ⌜ BackOf (rejectingPart (now (parts .entry)) accepting) (now (opens .entry)) letter opened (now (parts .entry)) components
+        (now (low .entry)) (now (levels .entry)) r (now (levels .exit)) ⌝ }
+{
+    let mut ranks: u64 = 0;
+    let mut c = 0;
+    while c < components {
+        let part = parts[c];
+        if part & accepting != 0 {
+            c += 1;
+            continue;
+        }
+        let step = step_component(opens, letter, opened, part, low);
+        let r = step.ranks;
+        let l = step.levels;
+        ranks += wide(r);
+        levels[c] = l;
+        c += 1;
+    }
+    ranks
+}
+
+// Definition 7, R2': the same for the accepting components.
+pub fn step_accepting(
+    opens: &[u8; 4096],
+    letter: usize,
+    opened: u8,
+    parts: &[u8; 8],
+    components: usize,
+    accepting: u8,
+    low: &[u8; 16],
+    levels: &mut [u64; 8],
+) -> u64
+    requires { ⌜ (components ≤ 8)
+        × ((c : ℕ) → c < components → Rising (now opens) letter opened (getD (now parts) c 0) (now low))
+        × (length (now levels) ≡ 8) ⌝ }
+    ensures { λ r. ⌜ BackOf (acceptingPart (now (parts .entry)) accepting) (now (opens .entry)) letter opened (now (parts .entry)) components
+        (now (low .entry)) (now (levels .entry)) r (now (levels .exit)) ⌝ }
+{
+    let mut ranks: u64 = 0;
+    let mut c = 0;
+    while c < components {
+        let part = parts[c];
+        if part & accepting == 0 {
+            c += 1;
+            continue;
+        }
+        let step = step_component(opens, letter, opened, part, low);
+        let r = step.ranks;
+        let l = step.levels;
+        ranks += wide(r);
+        levels[c] = l;
+        c += 1;
+    }
+    ranks
+}
+
 // Ranks of the earlier core, and in place c the levels of component c.
 pub struct Earlier {
     pub ranks: u64,
@@ -67,23 +143,37 @@ pub fn step_back(
     opened: u8,
     parts: &[u8; 8],
     components: usize,
+    accepting: u8,
     low: &[u8; 16],
 ) -> Earlier
     requires { ⌜ (components ≤ 8) × ((c : ℕ) → c < components → Rising (now opens) letter opened (getD (now parts) c 0) (now low)) ⌝ }
     ensures { λ r. ⌜ Back (now (opens .entry)) letter opened (now (parts .entry)) components (now (low .entry)) (r .ranks) (r .levels) ⌝ }
 {
-    let mut ranks: u64 = 0;
     let mut levels = [0u64; 8];
-    let mut c = 0;
-    while c < components {
-        let step = step_component(opens, letter, opened, parts[c], low);
-        let r = step.ranks;
-        let l = step.levels;
-        ranks += wide(r);
-        levels[c] = l;
-        c += 1;
+    let rejecting = step_rejecting(
+        opens,
+        letter,
+        opened,
+        parts,
+        components,
+        accepting,
+        low,
+        &mut levels,
+    );
+    let others = step_accepting(
+        opens,
+        letter,
+        opened,
+        parts,
+        components,
+        accepting,
+        low,
+        &mut levels,
+    );
+    Earlier {
+        ranks: rejecting + others,
+        levels,
     }
-    Earlier { ranks, levels }
 }
 
 // The number of a core: the set in bits 0 to 7, the ranks above.
