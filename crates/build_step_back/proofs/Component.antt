@@ -1,24 +1,27 @@
 -- The levels of a component's states, from the masks of those up to a level.
-use mathlib.Core.Path.{_≡_, ap, sym, _∙_}
+use mathlib.Core.Path.{_≡_, refl, ap, sym, _∙_}
 use mathlib.Core.Logic.{by-cases}
-use mathlib.Core.Bool.{true, _&&_}
+use mathlib.Core.Bool.{Bool, true, false, _&&_, not}
 use mathlib.Core.List.{List}
-use Prim.Native.Nat.{ℕ, _+_, _-_, _*_, _^_, _≤_, _<_}
+use Prim.Native.Nat.{ℕ, _+_, _-_, _*_, _%_, _^_, _≤_, _<_}
 use native.Mathlib.Omega.{arith}
 use native.Mathlib.Decide.{decLe}
-use lib.Dec.{leb}
+use lib.Dec.{leb, ltb}
 use lib.Bits.{bitAnd, bitOr, bitXor, and-le-r}
 use lib.ListN.{getD}
 use borrow.Author.Tests.{lt-ltb, le-leb, lt-leb}
 use Rattle.sets.specs.Tests.{one}
-use Rattle.sets.specs.Masks.{bit}
+use Rattle.sets.specs.Masks.{bit, xor}
 use Rattle.sets.specs.Digits.{num}
 use Rattle.sets.proofs.Bools.{bif, clash}
-use Rattle.sets.proofs.Tests.{count-max, first-hits, first-le}
-use Rattle.sets.proofs.Bits.{bit-ext}
-use Rattle.build_step_back.specs.Step.{valued, goal, upto, level, Rising, Stepped}
-use Rattle.build_step_back.proofs.Masks.{ones-from}
-use Rattle.build_step_back.proofs.Classes.{State, done, stay, go, all-le, ranks-lt, levels-lt}
+use Rattle.sets.proofs.Tests.{first-hits, first-le}
+use Rattle.sets.proofs.Bits.{bit-xor, bit-none, bit-ext}
+use Rattle.build_step_back.specs.Step.{goal, upto, level, Rising, Stepped}
+use Rattle.build_step_back.proofs.Classes.{State, start, levels-room, stay, ranks-room, go, done-ranks, done-levels, none-ranks, none-levels}
+
+xor-and : (a b : Bool) → xor a (a && b) ≡ a && not b
+xor-and true b = refl
+xor-and false b = refl
 
 module _ (opens : List ℕ) (letter opened part : ℕ) (low : List ℕ) (r : Rising opens letter opened part low) where
   abbrev pub G : ℕ
@@ -59,47 +62,60 @@ module _ (opens : List ℕ) (letter opened part : ℕ) (low : List ℕ) (r : Ris
   unfolding goal
   goal-small h = omega (arith, and-le-r (getD opens (letter * 256 + opened) 0) part)
 
-  abbrev pub At : ℕ → ℕ → ℕ → ℕ → ℕ → ℕ → Type 0
+  abbrev pub At : ℕ → ℕ → ℕ → ℕ → ℕ → Type 0
   At = State (bit G) L level-low
 
-  -- at level 9 all have come in
-  pub all-in : part < 256 → (prev m last ranks levels j : ℕ) → At prev m last ranks levels j → 8 < j → prev ≡ G
-  all-in hp prev m last ranks levels j s h =
-      bit-ext 8 prev G (s .small) (goal-small hp) (λ q l. s .bits q l ∙ bif (bit G q) (λ t. rw (t, lt-ltb (L q) j (omega (arith, level-low q l t)))) (λ t. rw t))
-
-  pub stepped : (prev m last ranks levels j : ℕ) → At prev m last ranks levels j → prev ≡ G → Stepped opens letter opened part low ranks levels
-  stepped prev m last ranks levels j s e =
-      let d = done (bit G) L level-low prev m last ranks levels j s (λ q h. ap (λ (x : ℕ). bit x q) e) in
-      record { ranked = d .0; levelled = d .1 }
-
-  pub upto-small : part < 256 → (j : ℕ) → U j < 256
+  upto-small : part < 256 → (j : ℕ) → U j < 256
   unfolding upto
   upto-small h j = omega (arith, and-le-r (getD opens (letter * 256 + bitOr (bitXor opened (bitAnd opened part)) (bitAnd (getD low j 0) part)) 0) part)
 
-  -- a turn of the loop
-  pub record Turn (m last ranks levels j : ℕ) (x y : ℕ) : Type 0 where
-    pub deep : j ≤ 8
-    pub few : m ≤ 8
-    pub back : last ≤ j
-    pub ranks-fit : ranks + num 16 8 (λ q. one (bit (bitXor x y) q)) * (m + 1) < 2 ^ 32
-    pub levels-fit : levels + ones-from (m + 1) * (j - last) < 2 ^ 64
+  -- a mask with the states of the goal is the goal
+  same-goal : part < 256 → (x : ℕ) → x < 256 → ((q : ℕ) → q < 8 → bit x q ≡ bit G q) → x ≡ G
+  same-goal hp x h e = bit-ext 8 x G h (goal-small hp) e
 
-  module _ (hp : part < 256) (prev m last ranks levels j : ℕ) (s : At prev m last ranks levels j) (more : prev ≡ G → ⊥) where
+  pub begin : part < 256 → (G ≡ 0 → ⊥) → At 0 1229782938247303440 0 0 0
+  begin hp ne = start (bit G) L level-low (λ e. ne (sym (same-goal hp 0 (omega arith) e)))
+
+  -- no open state
+  pub nothing : G ≡ 0 → Stepped opens letter opened part low 0 0
+  nothing e =
+      let n : (q : ℕ) → q < 8 → bit G q ≡ false = λ q h. ap (λ (x : ℕ). bit x q) e ∙ bit-none q in
+      record { ranked = none-ranks (bit G) L level-low n; levelled = none-levels (bit G) L level-low n }
+
+  pub stepped : (prev ones ranks levels j : ℕ) → At prev ones ranks levels j → prev ≡ G → (1229782938247303440 ≤ levels) × Stepped opens letter opened part low ranks (levels - 1229782938247303440)
+  stepped prev ones ranks levels j s e =
+      let a : (q : ℕ) → q < 8 → bit prev q ≡ bit G q = λ q h. ap (λ (x : ℕ). bit x q) e in
+      let d = done-levels (bit G) L level-low prev ones ranks levels j s a in (
+        omega arith,
+        record { ranked = done-ranks (bit G) L level-low prev ones ranks levels j s a; levelled = omega arith },
+      )
+
+  -- ---- a turn of the loop
+
+  module _ (hp : part < 256) (prev ones ranks levels j : ℕ) (s : At prev ones ranks levels j) (more : prev ≡ G → ⊥) where
+    left : ((q : ℕ) → q < 8 → bit prev q ≡ bit G q) → ⊥
+    left e = more (same-goal hp prev (s .small) e)
+
+    -- at level 9 all have come in
     pub deep-in : j ≤ 8
-    deep-in = by-cases (decLe j 8) (λ a. a) (λ a. absurd (more (all-in hp prev m last ranks levels j s (omega arith))))
+    deep-in = by-cases (decLe j 8) (λ a. a) (λ a. absurd (left (λ q h. s .bits q h ∙ bif (bit G q) (λ t. rw (t, lt-ltb (L q) j (omega (arith, level-low q h t)))) (λ t. rw t))))
 
-    pub on-same : U j ≡ prev → At prev m last ranks levels (j + 1)
-    on-same e = stay (bit G) L level-low (U j) prev m last ranks levels j (upto-small hp j) (λ q h. upto-bits j (omega (arith, deep-in)) q h) s e
+    bits-at : (q : ℕ) → q < 8 → bit (U j) q ≡ bit G q && leb (L q) j
+    bits-at q h = upto-bits j (omega (arith, deep-in)) q h
 
-    pub on-new : (U j ≡ prev → ⊥) → At (U j) (m + 1) j (ranks + num 16 8 (λ q. one (bit (bitXor (U j) prev) q)) * (m + 1)) (levels + ones-from (m + 1) * (j - last)) (j + 1)
-    on-new e = go (bit G) L level-low (U j) prev m last ranks levels j (upto-small hp j) (λ q h. upto-bits j (omega (arith, deep-in)) q h) s e
+    -- the states that have not come in
+    late-bit : (q : ℕ) → q < 8 → bit (bitXor G prev) q ≡ bit G q && not (ltb (L q) j)
+    late-bit q h = bit-xor G prev q ∙ ap (xor (bit G q)) (s .bits q h) ∙ xor-and (bit G q) (ltb (L q) j)
 
-    pub turn : (U j ≡ prev → ⊥) → Turn m last ranks levels j (U j) prev
-    turn e =
-        let t = on-new e in record {
-          deep = deep-in;
-          few = omega (arith, deep-in, s .found, count-max j (valued (bit G) L));
-          back = omega (arith, s .latest, all-le (bit G) L level-low j);
-          ranks-fit = omega (arith, t .ranked, ranks-lt (bit G) L level-low (j + 1));
-          levels-fit = omega (arith, t .levelled, levels-lt (bit G) L level-low (j + 1));
-        }
+    pub levels-fit : levels + ones < 2 ^ 64
+    levels-fit = levels-room (bit G) L level-low (U j) prev ones ranks levels j (upto-small hp j) bits-at s deep-in
+
+    pub on-same : U j ≡ prev → At prev ones ranks (levels + ones) (j + 1)
+    on-same e = stay (bit G) L level-low (U j) prev ones ranks levels j (upto-small hp j) bits-at s e left
+
+    module _ (ne : U j ≡ prev → ⊥) where
+      pub ranks-fit : ranks + num 16 8 (λ q. one (bit (bitXor G prev) q)) < 2 ^ 32
+      ranks-fit = ranks-room (bit G) L level-low (U j) prev ones ranks levels j (upto-small hp j) bits-at s (bitXor G prev) late-bit ne deep-in
+
+      pub on-new : At (U j) (ones * 2 ^ 4 % 2 ^ 64) (ranks + num 16 8 (λ q. one (bit (bitXor G prev) q))) (levels + ones) (j + 1)
+      on-new = go (bit G) L level-low (U j) prev ones ranks levels j (upto-small hp j) bits-at s (bitXor G prev) late-bit ne deep-in

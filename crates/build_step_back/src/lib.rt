@@ -6,6 +6,9 @@ ghost use lib.ListN.{length, getD};
 ghost use lib.Bits.{bitXor};
 ghost use Rattle.build_step_back.specs.Step.{Rising, Stepped, rejectingPart, acceptingPart, BackOf, Back};
 
+// A 1 in each nibble but the lowest.
+const ONES: u64 = 0x1111_1111_1111_1110;
+
 // Ranks and levels of one component.
 pub struct Step {
     pub ranks: u32,
@@ -25,31 +28,37 @@ pub fn step_component(
     ensures { λ r. ⌜ Stepped (now (opens .entry)) letter opened part (now (low .entry)) (r .ranks) (r .levels) ⌝ }
 {
     let row = letter * 256;
-    let outside = opened ^ (opened & part);
+    let outside = (opened ^ (opened & part)) as usize;
     let goal = opens[row + opened as usize] & part;
+    if goal == 0 {
+        return Step {
+            ranks: 0,
+            levels: 0,
+        };
+    }
     let mut prev = 0u8;
-    let mut m = 0u32;
-    let mut last = 0u64;
+    // A 1 in each nibble from 1 on: those of the classes that are still to come. Nibble 0, of no class, stays 0.
+    let mut ones = ONES;
     let mut ranks = 0u32;
     let mut levels = 0u64;
     let mut j = 0;
     while prev != goal {
-        let x = opens[row + (outside | (low[j] & part)) as usize] & part;
+        let x = opens[row + (outside | (low[j] & part) as usize)] & part;
+        // Classes that are still to come have a level of at least j: their nibbles, which hold j, now hold j + 1, one more than the level.
+        // Levels are at most 8, so no sum leaves its nibble.
+        levels += ones;
+        j += 1;
         if x == prev {
-            j += 1;
             continue;
         }
-        // The states x ^ prev have level j: they are class m, and j is above all levels so far, the largest of which is `last`.
-        m += 1;
-        ranks += build_cores::spread(x ^ prev) * m;
-        // The k lowest classes now include class m for k from m on. The nibbles from m on all hold `last`; they become j:
-        // 0x1111.. has a 1 in each of its 16 nibbles; shifted by 4 * m the 1s stand in the nibbles from m on, and those above the top fall off;
-        // times j - last, each of these nibbles has the difference. Levels are at most 8, so no sum leaves its nibble.
-        levels += (0x1111_1111_1111_1111u64 << (4 * m)) * (j as u64 - last);
-        last = j as u64;
+        // The states x ^ prev have level j - 1 and are the next class, whose nibble is done: the lowest of the 1s goes, by a shift.
+        ones = ones << 4;
+        // They, and all states that come later, are one class higher than what came before.
+        ranks += build_cores::spread(goal ^ prev);
         prev = x;
-        j += 1;
     }
+    // The nibbles above the last class have gone up with it: each from 1 on holds one more than the largest level of so many classes.
+    levels -= ONES;
     Step { ranks, levels }
 }
 
