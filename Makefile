@@ -153,7 +153,7 @@ check-tool: $(TOOL) $(PROGRAM) $(BUILD)/stack
 	tests/refusals.sh include/mulgreddi.h
 	nm $(LIB) > $(BUILD)/symbols
 	if grep -E ' [bBcCdDsS] ' $(BUILD)/symbols; then echo 'the library keeps state between calls'; exit 1; fi
-	$(BUILD)/stack $(wildcard examples/[A-Z].rule) bench/cap_62_s16.rule bench/trans_1_1.rule
+	$(BUILD)/stack $(wildcard examples/[A-Z].rule) bench/and_71_s16.rule
 	MAKE='$(MAKE)' tests/install.sh $(BUILD)/installed $(VERSION)
 
 $(BUILD)/stack: tests/stack.c include/mulgreddi.h $(LIB)
