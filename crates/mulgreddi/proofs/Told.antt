@@ -8,8 +8,8 @@ use Rattle.loop_spec.specs.Loops.{Reported}
 use Rattle.loop_spec.specs.declared.Report.{Report}
 use Rattle.loop_spec.specs.declared.Report.the-variants.{States, Nothing, Refused}
 use Rattle.loop_report.specs.Report.{told}
-use Rattle.mulgreddi.specs.declared.Answer.{Answer}
-use Rattle.mulgreddi.specs.Loops.{loopAnswer}
+use Rattle.mulgreddi_answers.specs.declared.Answer.{Answer}
+use Rattle.mulgreddi_answers.specs.Answers.{loopAnswer}
 
 first-told : (a : Report) → told a ≡ loopAnswer a .first
 unfolding told loopAnswer

@@ -1,3 +1,1 @@
-pub mod Answers
-pub mod Loops
-pub mod Tidied
+pub mod Check

@@ -1,8 +1,5 @@
 // The judge that shows the choice, for C.
-use crate::Answer;
-use crate::refused;
-use crate::served;
-use judge_spec::Verdict;
+use mulgreddi_answers::Answer;
 ghost use mathlib.Core.Path.{_≡_};
 ghost use lib.ListN.{length};
 ghost use Rattle.theory.specs.Truth.{truthMasks};
@@ -10,7 +7,7 @@ ghost use Rattle.file_spec.specs.File.{ruleIn};
 ghost use Rattle.judge_spec.specs.Judge.{verdict, holdsStart, after, Meant};
 ghost use Rattle.judge_choices_spec.specs.Choice.{choicesOf, Written};
 ghost use Rattle.judge_choices.specs.Judge.{choicesRow};
-ghost use Rattle.mulgreddi.specs.Answers.{verdictAnswer};
+ghost use Rattle.mulgreddi_answers.specs.Answers.{verdictAnswer};
 
 // Whether the rule accepts the word; writes the masks of the states from which it accepts, a byte a place, and for each pair of a place
 // and a state the number of the clause that carries its verdict, or 255.
@@ -48,9 +45,5 @@ pub extern "C" fn mulgreddi_judge_choices(
         let k = choicesRow f u v (length (now (masks .entry))) (length (now (choices .entry))) in
         k ≡ 0 → Written (ruleIn f) u v (now (choices .exit))) ⌝ }
 {
-    match judge_choices::judge_choices(file, lead, cycle, masks, choices) {
-        Verdict::Yes => served(1, 0),
-        Verdict::No => served(0, 0),
-        Verdict::Refused(row) => refused(row),
-    }
+    mulgreddi_answers::verdict(judge_choices::judge_choices(file, lead, cycle, masks, choices))
 }

@@ -1,12 +1,9 @@
 // The C interface: the translation of a log.
-use crate::Answer;
-use crate::refused;
-use crate::served;
-use event_spec::Translated;
+use mulgreddi_answers::Answer;
 ghost use mathlib.Core.Path.{_≡_};
 ghost use lib.ListN.{length};
 ghost use Rattle.event_spec.specs.Translation.{translatedOf, lettersAfter};
-ghost use Rattle.mulgreddi.specs.Answers.{translatedAnswer};
+ghost use Rattle.mulgreddi_answers.specs.Answers.{translatedAnswer};
 
 // Translates a log into letters by an event table; how many.
 #[no_mangle]
@@ -22,8 +19,5 @@ pub extern "C" fn mulgreddi_translate(
     ensures { λ _. ⌜ now (letters .exit)
         ≡ lettersAfter (now (file .entry)) (now (events .entry)) (now (log .entry)) (now (letters .entry)) ⌝ }
 {
-    match event_translate::translate(file, events, log, letters) {
-        Translated::Letters(count) => served(count as u64, 0),
-        Translated::Refused(row) => refused(row),
-    }
+    mulgreddi_answers::translated(event_translate::translate(file, events, log, letters))
 }

@@ -7,13 +7,8 @@ pub mod tidy;
 pub mod trimmed;
 pub mod word;
 
-use build::Built;
 use file_read::Read;
-use file_write_spec::Written;
-use judge_spec::Verdict;
-use rule_same::entries::SameRules;
-use table_call::Start;
-use word_same::SameWords;
+use mulgreddi_answers::Answer;
 ghost use mathlib.Core.Path.{_≡_};
 ghost use mathlib.Core.Logic.{_↔_};
 ghost use mathlib.Core.List.{[]};
@@ -32,38 +27,9 @@ ghost use Rattle.file_write_spec.specs.Written.{headFrom, writtenOf, sliceAfter
 ghost use Rattle.word_spelling_spec.specs.Spelling.{Agree};
 ghost use Rattle.word_same.specs.Same.{sameRow, sameWordsOf};
 ghost use Rattle.word_same.specs.declared.SameWords.the-variants.{Same};
-ghost use Rattle.mulgreddi.specs.Answers.{refusedAs, servedAs, readAnswer, writtenAnswer};
-ghost use Rattle.mulgreddi.specs.Answers.{sameRulesAnswer, sameWordsAnswer, verdictAnswer, builtAnswer, startAnswer};
-
-// refusal is 0 where the input was served; else first and second are 0.
-#[repr(C)]
-pub struct Answer {
-    pub refusal: u64,
-    pub first: u64,
-    pub second: u64,
-}
-
-// The answer of a refusal.
-pub fn refused(row: u8) -> Answer
-    ensures { λ r. ⌜ r ≡ refusedAs row ⌝ }
-{
-    Answer {
-        refusal: row as u64,
-        first: 0,
-        second: 0,
-    }
-}
-
-// The answer of a served call.
-pub fn served(first: u64, second: u64) -> Answer
-    ensures { λ r. ⌜ r ≡ servedAs first second ⌝ }
-{
-    Answer {
-        refusal: 0,
-        first: first,
-        second: second,
-    }
-}
+ghost use Rattle.mulgreddi_answers.specs.Answers.{writtenAnswer, sameRulesAnswer, sameWordsAnswer, verdictAnswer};
+ghost use Rattle.mulgreddi_answers.specs.Answers.{builtAnswer, startAnswer};
+ghost use Rattle.mulgreddi.specs.Check.{readAnswer};
 
 // Reads a rule file; the length of its preface, and how many bytes of names stand right before the preface's last two bytes.
 #[no_mangle]
@@ -73,9 +39,9 @@ pub extern "C" fn mulgreddi_check(file: &[u8]) -> Answer
     match file_read::read_rule(file) {
         Read::Accepted(layout) => {
             let names = file_read::names_of(file, layout);
-            served(layout.at as u64, names.len() as u64)
+            mulgreddi_answers::served(layout.at as u64, names.len() as u64)
         }
-        Read::Refused(row) => refused(row),
+        Read::Refused(row) => mulgreddi_answers::refused(row),
     }
 }
 
@@ -96,10 +62,7 @@ pub extern "C" fn mulgreddi_write(
     ensures { λ _. ⌜ now (out .exit)
         ≡ sliceAfter (headFrom n s initial accepting) (now (counts .entry)) (now (clauses .entry)) [] (now (out .entry)) ⌝ }
 {
-    match file_write::writer::write_rule(n, s, initial, accepting, counts, clauses, out) {
-        Written::Length(length) => served(length as u64, 0),
-        Written::Refused(row) => refused(row),
-    }
+    mulgreddi_answers::written(file_write::writer::write_rule(n, s, initial, accepting, counts, clauses, out))
 }
 
 // Whether two rule files are the same rule.
@@ -107,11 +70,7 @@ pub extern "C" fn mulgreddi_write(
 pub extern "C" fn mulgreddi_same_rules(first: &[u8], second: &[u8]) -> Answer
     ensures { λ r. ⌜ r ≡ sameRulesAnswer (sameRulesOf (now (first .entry)) (now (second .entry))) ⌝ }
 {
-    match rule_same::files::same_rules(first, second) {
-        SameRules::Same => served(1, 0),
-        SameRules::Different => served(0, 0),
-        SameRules::Refused(row) => refused(row),
-    }
+    mulgreddi_answers::same_rules(rule_same::files::same_rules(first, second))
 }
 
 // Whether two words agree at every step.
@@ -128,11 +87,7 @@ pub extern "C" fn mulgreddi_same_words(
         → (sameWordsOf (now (lead1 .entry)) (now (cycle1 .entry)) (now (lead2 .entry)) (now (cycle2 .entry)) ≡ Same)
         ↔ Agree (now (lead1 .entry)) (now (cycle1 .entry)) (now (lead2 .entry)) (now (cycle2 .entry))) ⌝ }
 {
-    match word_same::same_words(lead1, cycle1, lead2, cycle2) {
-        SameWords::Same => served(1, 0),
-        SameWords::Different => served(0, 0),
-        SameWords::Refused(row) => refused(row),
-    }
+    mulgreddi_answers::same_words(word_same::same_words(lead1, cycle1, lead2, cycle2))
 }
 
 // Whether the rule accepts the word; writes the masks of the states from which it accepts, a byte a place.
@@ -146,11 +101,7 @@ pub extern "C" fn mulgreddi_judge(
     ensures { λ r. ⌜ ((v : Verdict) × (r ≡ verdictAnswer v)
         × Judged (now (file .entry)) (now (lead .entry)) (now (cycle .entry)) (now (masks .entry)) (now (masks .exit)) v) ⌝ }
 {
-    match judge::judge(file, lead, cycle, masks) {
-        Verdict::Yes => served(1, 0),
-        Verdict::No => served(0, 0),
-        Verdict::Refused(row) => refused(row),
-    }
+    mulgreddi_answers::verdict(judge::judge(file, lead, cycle, masks))
 }
 
 // Builds the unambiguous automaton of a rule file: codes and transitions, both ascending, zeros after them; both counts.
@@ -160,10 +111,7 @@ pub extern "C" fn mulgreddi_build(file: &[u8], codes: &mut [u64], transitions: &
         × TableBuilt (now (file .entry)) (now (codes .entry)) (now (transitions .entry)) b
         (now (codes .exit)) (now (transitions .exit))) ⌝ }
 {
-    match build::build(file, codes, transitions) {
-        Built::Table(counts) => served(counts.macrostates as u64, counts.transitions as u64),
-        Built::Refused(row) => refused(row),
-    }
+    mulgreddi_answers::built(build::build(file, codes, transitions))
 }
 
 // Judges a word on a table of codes and transitions in bytes; 1 for yes, 0 for no, and with yes the lowest number where an accepting run
@@ -182,9 +130,5 @@ pub extern "C" fn mulgreddi_judge_table(
         × JudgedTable (now (file .entry)) (now (lead .entry)) (now (cycle .entry)) (inBytes (now (codes .entry)))
         (inBytes (now (transitions .entry))) (now (scratch .entry)) (now (scratch .exit)) a) ⌝ }
 {
-    match table_judge::judge_table_bytes(file, lead, cycle, codes, transitions, scratch) {
-        Start::Yes(number) => served(1, number as u64),
-        Start::No => served(0, 0),
-        Start::Refused(row) => refused(row),
-    }
+    mulgreddi_answers::start(table_judge::judge_table_bytes(file, lead, cycle, codes, transitions, scratch))
 }

@@ -1,14 +1,11 @@
 // The report of a mixed loop.
-use crate::Answer;
-use crate::refused;
-use crate::served;
-use loop_spec::Report;
+use mulgreddi_answers::Answer;
 ghost use mathlib.Core.Path.{_≡_};
 ghost use lib.ListN.{length, take};
 ghost use Rattle.file_spec.specs.File.{ruleIn};
 ghost use Rattle.loop_spec.specs.Loops.{Reported};
 ghost use Rattle.loop_report.specs.Report.{reportRow, reportOf, sliceAfter};
-ghost use Rattle.mulgreddi.specs.Loops.{loopAnswer};
+ghost use Rattle.mulgreddi_answers.specs.Answers.{loopAnswer};
 
 // The shortest mixed loop of a rule file: writes its states to the start of out; their number, 0 for none.
 #[no_mangle]
@@ -18,9 +15,5 @@ pub extern "C" fn mulgreddi_mixed_loop(file: &[u8], out: &mut [u8]) -> Answer
     ensures { λ r. ⌜ (reportRow (now (file .entry)) (length (now (out .entry))) ≡ 0
         → Reported (ruleIn (now (file .entry))) (take (r .first) (now (out .exit)))) ⌝ }
 {
-    match loop_report::mixed_loop(file, out) {
-        Report::States(count) => served(count as u64, 0),
-        Report::Nothing => served(0, 0),
-        Report::Refused(row) => refused(row),
-    }
+    mulgreddi_answers::reported(loop_report::mixed_loop(file, out))
 }

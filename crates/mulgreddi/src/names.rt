@@ -1,12 +1,9 @@
 // The writer with names for letters.
-use crate::Answer;
-use crate::refused;
-use crate::served;
-use file_write_spec::Written;
+use mulgreddi_answers::Answer;
 ghost use mathlib.Core.Path.{_≡_};
 ghost use lib.ListN.{length};
 ghost use Rattle.file_write_spec.specs.Written.{headFrom, writtenOf, sliceAfter};
-ghost use Rattle.mulgreddi.specs.Answers.{writtenAnswer};
+ghost use Rattle.mulgreddi_answers.specs.Answers.{writtenAnswer};
 
 // Writes the file of a rule with names, none or 8 bytes a letter, to the start of out; its length.
 #[no_mangle]
@@ -28,8 +25,5 @@ pub extern "C" fn mulgreddi_write_named(
         ≡ sliceAfter (headFrom n s initial accepting) (now (counts .entry)) (now (clauses .entry)) (now (names .entry))
         (now (out .entry)) ⌝ }
 {
-    match file_write::writer::write_named(n, s, initial, accepting, counts, clauses, names, out) {
-        Written::Length(length) => served(length as u64, 0),
-        Written::Refused(row) => refused(row),
-    }
+    mulgreddi_answers::written(file_write::writer::write_named(n, s, initial, accepting, counts, clauses, names, out))
 }

@@ -1,8 +1,5 @@
 // The trimmed build in the C interface.
-use crate::Answer;
-use crate::refused;
-use crate::served;
-use build::Built;
+use mulgreddi_answers::Answer;
 ghost use mathlib.Core.Path.{_≡_};
 ghost use lib.ListN.{length, take};
 ghost use Rattle.theory.specs.Demand.{Demand3};
@@ -12,7 +9,7 @@ ghost use Rattle.build.specs.declared.Built.the-variants.{Table};
 ghost use Rattle.build_trimmed.specs.Answers.{trimmedOf, trimmedCodesAfter, trimmedTransitionsAfter};
 ghost use Rattle.trim_spec.specs.Matters.{ListsMattering};
 ghost use Rattle.file_spec.specs.File.{ruleIn};
-ghost use Rattle.mulgreddi.specs.Answers.{builtAnswer};
+ghost use Rattle.mulgreddi_answers.specs.Answers.{builtAnswer};
 
 // Builds the macrostates of a rule file that matter and the transitions between them, both ascending, zeros after them; both counts.
 #[no_mangle]
@@ -40,8 +37,5 @@ pub extern "C" fn mulgreddi_build_trimmed(
         → NeverTwo (ruleIn (now (file .entry))) (take (n .macrostates) (now (codes .exit)))
         (take (n .transitions) (now (transitions .exit)))) ⌝ }
 {
-    match build_trimmed::build_trimmed(file, codes, transitions) {
-        Built::Table(counts) => served(counts.macrostates as u64, counts.transitions as u64),
-        Built::Refused(row) => refused(row),
-    }
+    mulgreddi_answers::built(build_trimmed::build_trimmed(file, codes, transitions))
 }

@@ -1,14 +1,11 @@
 // The tidy spelling of a word.
-use crate::Answer;
-use crate::refused;
-use crate::served;
-use word_spelling::TidyWord;
+use mulgreddi_answers::Answer;
 ghost use mathlib.Core.Path.{_≡_};
 ghost use lib.ListN.{length};
 ghost use Rattle.theory.specs.Word.{letters};
 ghost use Rattle.word_spelling_spec.specs.Spelling.{Tidy, tidyLead, tidyCycle};
 ghost use Rattle.word_spelling.specs.Tidied.{tidyLetters, tidyRow, tidyWordOf, after};
-ghost use Rattle.mulgreddi.specs.Answers.{tidyWordAnswer};
+ghost use Rattle.mulgreddi_answers.specs.Answers.{tidyWordAnswer};
 
 // Writes the tidy spelling of a word to the start of out, lead-in then cycle; the lengths of both.
 #[no_mangle]
@@ -21,8 +18,5 @@ pub extern "C" fn mulgreddi_tidy_word(lead: &[u8], cycle: &[u8], out: &mut [u8])
         → Tidy (letters (now (lead .entry)) (now (cycle .entry))) (tidyLead (now (lead .entry)) (now (cycle .entry)))
         (tidyCycle (now (lead .entry)) (now (cycle .entry)))) ⌝ }
 {
-    match word_spelling::tidy_word(lead, cycle, out) {
-        TidyWord::Spelling(lengths) => served(lengths.lead as u64, lengths.cycle as u64),
-        TidyWord::Refused(row) => refused(row),
-    }
+    mulgreddi_answers::tidy_word(word_spelling::tidy_word(lead, cycle, out))
 }

@@ -6,7 +6,8 @@ use mathlib.Core.List.{List}
 use lib.ListN.{length}
 use Rattle.file_spec.specs.File.{namesOf}
 use Rattle.file_read.specs.declared.Read.{Read}
-use Rattle.mulgreddi.specs.Answers.{servedAs, readAnswer}
+use Rattle.mulgreddi_answers.specs.Answers.{servedAs}
+use Rattle.mulgreddi.specs.Check.{readAnswer}
 use Rattle.mulgreddi.proofs.mulgreddi_check.Statement.{statement}
 use Rattle.mulgreddi.proofs.mulgreddi_check.Tie as tie
 

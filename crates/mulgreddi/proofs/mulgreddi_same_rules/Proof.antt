@@ -1,54 +1,19 @@
 -- `mulgreddi_same_rules` meets its contract: its numbers are those of what the sameness test answers.
 use borrow.Author.Needs.{needs}
-use mathlib.Core.Path.{sym, _∙_, ap}
-use Rattle.mulgreddi.specs.Answers.{sameRulesAnswer}
+use mathlib.Core.Path.{_∙_, ap}
+use Rattle.mulgreddi_answers.specs.Answers.{sameRulesAnswer}
 use Rattle.mulgreddi.proofs.mulgreddi_same_rules.Statement.{statement}
 use Rattle.mulgreddi.proofs.mulgreddi_same_rules.Tie as tie
 
 same-rules-requires : tie.Need-same-rules-requires
 same-rules-requires c κs = search needs
 
-enum-told : tie.Need-enum-told
-enum-told c = search needs
-
-served-requires : tie.Need-served-requires
-served-requires c κs = search needs
-
-enum-told-2 : tie.Need-enum-told-2
-enum-told-2 c = search needs
-
-served-requires-2 : tie.Need-served-requires-2
-served-requires-2 c κs = search needs
-
-enum-known-row : tie.Need-enum-known-row
-enum-known-row c = search needs
-
-refused-requires : tie.Need-refused-requires
-refused-requires c κs = search needs
+same-rules-requires-2 : tie.Need-same-rules-requires-2
+same-rules-requires-2 c κs = search needs
 
 returns : tie.Need-returns
-unfolding sameRulesAnswer
-returns c = c .served .ensures ∙ sym (ap sameRulesAnswer (sym (c .before .before .before .same-rules .ensures) ∙ c .before .enum-told .given .1))
-
-returns-2 : tie.Need-returns-2
-unfolding sameRulesAnswer
-returns-2 c = c .served2 .ensures ∙ sym (ap sameRulesAnswer (sym (c .before .before .before .same-rules .ensures) ∙ c .before .enum-told2 .given .1))
-
-returns-3 : tie.Need-returns-3
-unfolding sameRulesAnswer
-returns-3 c = c .refused .ensures ∙ sym (ap sameRulesAnswer (sym (c .before .before .before .before .same-rules .ensures) ∙ c .before .before .row .given .1))
+returns c =
+    c .same-rules2 .ensures ∙ ap sameRulesAnswer (c .before .same-rules .ensures)
 
 pub mulgreddi-same-rules-spec : {M : Type 1} → statement M
-mulgreddi-same-rules-spec =
-    tie.close
-    (tie.spec
-    same-rules-requires
-    enum-told
-    served-requires
-    enum-told-2
-    served-requires-2
-    enum-known-row
-    refused-requires
-    returns
-    returns-2
-    returns-3)
+mulgreddi-same-rules-spec = tie.close (tie.spec same-rules-requires same-rules-requires-2 returns)

@@ -1,16 +1,16 @@
 -- For each case of an answer, 01's number and values.
 use Prim.Native.Nat.{ℕ}
-use mathlib.Core.List.{List}
-use lib.ListN.{length}
-use Rattle.mulgreddi.specs.declared.Answer.{Answer}
+use Rattle.mulgreddi_answers.specs.declared.Answer.{Answer}
 use Rattle.build.specs.declared.Built.{Built}
 use Rattle.build.specs.declared.Built.the-variants as build
 use Rattle.event_spec.specs.declared.Translated.{Translated}
 use Rattle.event_spec.specs.declared.Translated.the-variants as events
+use Rattle.file_tidy_spec.specs.declared.Tidied.{Tidied}
+use Rattle.file_tidy_spec.specs.declared.Tidied.the-variants as tidied
 use Rattle.judge_spec.specs.declared.Verdict.{Verdict}
 use Rattle.judge_spec.specs.declared.Verdict.the-variants as judge
-use Rattle.file_read.specs.declared.Read.{Read}
-use Rattle.file_read.specs.declared.Read.the-variants as read
+use Rattle.loop_spec.specs.declared.Report.{Report}
+use Rattle.loop_spec.specs.declared.Report.the-variants as report
 use Rattle.rule_same.specs.declared.entries.SameRules.{SameRules}
 use Rattle.rule_same.specs.declared.entries.SameRules.the-variants as rules
 use Rattle.table_call.specs.declared.Start.{Start}
@@ -29,15 +29,21 @@ refusedAs row = record { refusal = row; first = 0; second = 0 }
 abbrev pub servedAs : ℕ → ℕ → Answer
 servedAs first second = record { refusal = 0; first = first; second = second }
 
--- the length of the preface, and how many of its bytes are names
-unfoldable pub readAnswer : Read → List ℕ → Answer
-readAnswer (read.Accepted layout) names = servedAs (layout .at) (length names)
-readAnswer (read.Refused row) names = refusedAs row
-
 -- the length of the written file
 unfoldable pub writtenAnswer : Written → Answer
 writtenAnswer (written.Length length) = servedAs length 0
 writtenAnswer (written.Refused row) = refusedAs row
+
+-- the length of the tidied file
+unfoldable pub tidiedAnswer : Tidied → Answer
+tidiedAnswer (tidied.Length length) = servedAs length 0
+tidiedAnswer (tidied.Refused row) = refusedAs row
+
+-- the number of states of the mixed loop, 0 for none
+unfoldable pub loopAnswer : Report → Answer
+loopAnswer (report.States count) = servedAs count 0
+loopAnswer report.Nothing = servedAs 0 0
+loopAnswer (report.Refused row) = refusedAs row
 
 -- the number of letters written
 unfoldable pub translatedAnswer : Translated → Answer
