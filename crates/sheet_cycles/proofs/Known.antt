@@ -1,0 +1,89 @@
+-- The search for a known cycle.
+use mathlib.Core.Path.{_≡_, refl, sym, _∙_, ap, ap₂}
+use mathlib.Core.Bool.{Bool, true, false, false≢true}
+use mathlib.Core.Logic.{⊎-elim, by-cases}
+use mathlib.Core.List.{List, [], _∷_, _++_, List·Memᴰ, List·Memᴰ·head, List·Memᴰ·append-cases, List·Memᴰ·eq-of-singleton, List·Memᴰ·not-nil, Memᴰ·cast, Memᴰ·append-left, Memᴰ·append-right}
+use Prim.Native.Nat.{ℕ, zero, suc, _+_, _≤_, _<_}
+use native.Mathlib.Omega.{arith}
+use native.Mathlib.Decide.{decLt}
+use native.Mathlib.Numerals.{add-one}
+use lib.ListN.{length, getD, take, drop, set, length-append}
+use lib.Seq.{getD-set-same, getD-set-other}
+use Rattle.sets.proofs.Bools.{bif}
+use Rattle.word_spelling_spec.specs.Spelling.{sameLetters}
+use Rattle.word_spelling_spec.proofs.Same.{letters-equal, letters-iff}
+use Rattle.sheet_spec.specs.Sheet.{isKnown}
+use Rattle.sheet_laws.proofs.Distinct.{known-iff}
+use Rattle.sheet_cycles.specs.Known.{partAt, knownOf, Found}
+
+module _ (sheet from size : List ℕ) where
+  known-in : (n k : ℕ) → k < n → List·Memᴰ (partAt sheet from size k) (knownOf sheet from size n)
+  unfolding knownOf
+  known-in zero k l = absurd (omega arith)
+  known-in (suc n) k l =
+      by-cases (decLt k n) (λ h. Memᴰ·append-left (partAt sheet from size n ∷ []) (known-in n k h))
+      (λ h. let e : k ≡ n = omega arith in Memᴰ·append-right (knownOf sheet from size n) (List·Memᴰ·head (ap (partAt sheet from size) e)))
+
+  pub known-length : (n : ℕ) → length (knownOf sheet from size n) ≡ n
+  unfolding knownOf
+  known-length zero = refl
+  known-length (suc n) = length-append (knownOf sheet from size n) (partAt sheet from size n ∷ []) ∙ omega (arith, known-length n)
+
+  module _ (c : List ℕ) where
+    -- none of the first k is c
+    abbrev pub NotTo : ℕ → Type 0
+    NotTo k = isKnown c (knownOf sheet from size k) ≡ false
+
+    pub not-start : NotTo 0
+    unfolding knownOf isKnown
+    not-start = refl
+
+    not-more : (k : ℕ) → sameLetters (partAt sheet from size k) c ≡ false → NotTo k → NotTo (suc k)
+    unfolding knownOf
+    not-more k e t =
+        bif (isKnown c (knownOf sheet from size k ++ (partAt sheet from size k ∷ [])))
+        (λ y. absurd (⊎-elim
+        (λ m. false≢true (sym t ∙ known-iff c (knownOf sheet from size k) .1 m))
+        (λ m. false≢true (sym e ∙ letters-iff (partAt sheet from size k) c .1 (sym (List·Memᴰ·eq-of-singleton m))))
+        (List·Memᴰ·append-cases (knownOf sheet from size k) (known-iff c (knownOf sheet from size k ++ (partAt sheet from size k ∷ [])) .0 y))))
+        (λ y. y)
+
+    pub not-next : (k : ℕ) → sameLetters (partAt sheet from size k) c ≡ false → NotTo k → NotTo (k + 1)
+    not-next k e t = ap (λ (x : ℕ). isKnown c (knownOf sheet from size x)) (add-one k) ∙ not-more k e t
+
+    pub found-here : (n k : ℕ) → k < n → sameLetters (partAt sheet from size k) c ≡ true → Found sheet from size n c k
+    found-here n k l e =
+        let q = letters-equal (partAt sheet from size k) c e in
+        record {
+          most = omega arith;
+          same = λ h. (known-iff c (knownOf sheet from size n) .1 (Memᴰ·cast (sym q) (known-in n k l)), q);
+          none = λ h. absurd (omega arith);
+        }
+
+    pub found-none : (n k : ℕ) → k ≡ n → NotTo k → Found sheet from size n c k
+    found-none n k e t = record {
+      most = omega arith;
+      same = λ h. absurd (omega arith);
+      none = λ h. ap (λ (x : ℕ). isKnown c (knownOf sheet from size x)) (sym h) ∙ t;
+    }
+
+-- ---- one more part
+
+module _ (sheet from size : List ℕ) (n x y : ℕ) where
+  pub part-set : (k : ℕ) → k < n → partAt sheet (set from n x) (set size n y) k ≡ partAt sheet from size k
+  part-set k l = ap₂ (λ (a b : ℕ). take a (drop b sheet)) (getD-set-other size n k y 0 (λ e. omega arith)) (getD-set-other from n k x 0 (λ e. omega arith))
+
+  -- the first k parts, k at most n, are those of before
+  known-set : (k : ℕ) → k ≤ n → knownOf sheet (set from n x) (set size n y) k ≡ knownOf sheet from size k
+  unfolding knownOf
+  known-set zero h = refl
+  known-set (suc k) h = ap₂ (λ (ks : List (List ℕ)) (c : List ℕ). ks ++ (c ∷ [])) (known-set k (omega arith)) (part-set k (omega arith))
+
+  pub part-new : n < length from → n < length size → partAt sheet (set from n x) (set size n y) n ≡ take y (drop x sheet)
+  part-new h l = ap₂ (λ (a b : ℕ). take a (drop b sheet)) (getD-set-same size n y 0 l) (getD-set-same from n x 0 h)
+
+  pub known-more : n < length from → n < length size → knownOf sheet (set from n x) (set size n y) (n + 1) ≡ knownOf sheet from size n ++ (take y (drop x sheet) ∷ [])
+  unfolding knownOf
+  known-more h l =
+      ap (knownOf sheet (set from n x) (set size n y)) (add-one n)
+      ∙ ap₂ (λ (ks : List (List ℕ)) (c : List ℕ). ks ++ (c ∷ [])) (known-set n (omega arith)) (part-new h l)

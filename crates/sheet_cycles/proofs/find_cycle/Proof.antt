@@ -1,0 +1,102 @@
+-- `sheet_cycles::find_cycle` meets its contract: none of the first k is the cycle.
+use Prim.Native.Nat.{ℕ, _+_, _-_, _≤_, _<_}
+use mathlib.Core.Path.{_≡_, refl, sym, _∙_, ap}
+use mathlib.Core.Bool.{true, false}
+use native.Mathlib.Omega.{arith}
+use lib.ListN.{length, getD, take, drop}
+use borrow.Author.Needs.{needs}
+use Rattle.word_spelling_spec.specs.Spelling.{sameLetters}
+use Rattle.sheet_cycles.specs.Known.{partAt}
+use Rattle.sheet_cycles.proofs.Known.{NotTo, not-start, not-next, found-here, found-none}
+use Rattle.sheet_cycles.proofs.find_cycle.Statement.{statement}
+use Rattle.sheet_cycles.proofs.find_cycle.Tie as tie
+
+abbrev Inv-loop : tie.InvT-loop
+Inv-loop sheet from size n cycle k₀ k = (k ≤ n) × NotTo sheet from size cycle k
+
+abbrev μ-loop : tie.MeasureT-loop
+μ-loop sheet from size n cycle k₀ k = n - k
+
+loop-holds : tie.Need-loop-holds Inv-loop μ-loop
+loop-holds c = let a = c .before .before .before .before .args in (omega arith, not-start (a .sheet .now) (a .from .now) (a .size .now) (a .cycle .now))
+
+mul-start : tie.Need-mul-start Inv-loop μ-loop
+mul-start c = omega (arith, c .before .before .before .before .before .before .pre .few)
+
+shared-slice-read-start : tie.Need-shared-slice-read-start Inv-loop μ-loop
+shared-slice-read-start c = omega (arith, c .before .before .before .before .before .before .before .pre .few, c .before .before .before .before .before .before .before .pre .froms)
+
+mul-end : tie.Need-mul-end Inv-loop μ-loop
+mul-end c = omega (arith, c .before .before .before .before .before .before .before .pre .few)
+
+shared-slice-read-end : tie.Need-shared-slice-read-end Inv-loop μ-loop
+shared-slice-read-end c = omega (arith, c .before .before .before .before .before .before .before .before .pre .few, c .before .before .before .before .before .before .before .before .pre .sizes)
+
+add-end : tie.Need-add-end Inv-loop μ-loop
+add-end c = omega (arith, c .before .before .before .before .before .before .before .before .pre .within (c .before .before .before .loop .k) (omega arith))
+
+sub-same-letters : tie.Need-sub-same-letters Inv-loop μ-loop
+sub-same-letters c = omega arith
+
+part-same-letters-start : tie.Need-part-same-letters-start Inv-loop μ-loop
+part-same-letters-start c = omega arith
+
+part-same-letters-end : tie.Need-part-same-letters-end Inv-loop μ-loop
+part-same-letters-end c = omega (arith, c .before .before .before .before .before .before .before .before .pre .within (c .before .before .before .loop .k) (omega arith))
+
+same-letters-requires : tie.Need-same-letters-requires Inv-loop μ-loop
+same-letters-requires c κs = search needs
+
+returns : tie.Need-returns Inv-loop μ-loop
+returns c =
+    let a = c .before .before .before .before .before .before .before .before .before .before .before .args in
+    let k = c .before .before .before .before .before .before .loop .k in
+    let s = getD (a .from .now) k 0 in
+    let q : s + getD (a .size .now) k 0 - s ≡ getD (a .size .now) k 0 = omega arith in
+    let e : sameLetters (partAt (a .sheet .now) (a .from .now) (a .size .now) k) (a .cycle .now) ≡ true
+    = ap (λ (x : ℕ). sameLetters (take x (drop s (a .sheet .now))) (a .cycle .now)) (sym q) ∙ sym (c .before .same-letters .ensures) ∙ c .if1 .taken in
+    found-here (a .sheet .now) (a .from .now) (a .size .now) (a .cycle .now) (a .n) k (omega arith) e
+
+add-k : tie.Need-add-k Inv-loop μ-loop
+add-k c = omega arith
+
+loop-less : tie.Need-loop-less Inv-loop μ-loop
+loop-less c = omega arith
+
+loop-again : tie.Need-loop-again Inv-loop μ-loop
+loop-again c =
+    let a = c .before .before .before .before .before .before .before .before .before .before .before .args in
+    let k = c .before .before .before .before .before .before .loop .k in
+    let s = getD (a .from .now) k 0 in
+    let q : s + getD (a .size .now) k 0 - s ≡ getD (a .size .now) k 0 = omega arith in
+    let e : sameLetters (partAt (a .sheet .now) (a .from .now) (a .size .now) k) (a .cycle .now) ≡ false
+    = ap (λ (x : ℕ). sameLetters (take x (drop s (a .sheet .now))) (a .cycle .now)) (sym q) ∙ sym (c .before .same-letters .ensures) ∙ c .if1 .left in
+    (omega arith, not-next (a .sheet .now) (a .from .now) (a .size .now) (a .cycle .now) k e (c .before .before .before .before .before .before .loop .inv .1))
+
+returns-2 : tie.Need-returns-2 Inv-loop μ-loop
+returns-2 c =
+    let a = c .before .before .before .before .before .before .args in
+    let l = c .before .loop in
+    found-none (a .sheet .now) (a .from .now) (a .size .now) (a .cycle .now) (a .n) (l .k) (omega arith) (l .inv .1)
+
+pub find-cycle-spec : {M : Type 1} → statement M
+find-cycle-spec =
+    tie.close
+    (tie.spec
+    Inv-loop
+    μ-loop
+    loop-holds
+    mul-start
+    shared-slice-read-start
+    mul-end
+    shared-slice-read-end
+    add-end
+    sub-same-letters
+    part-same-letters-start
+    part-same-letters-end
+    same-letters-requires
+    returns
+    add-k
+    loop-less
+    loop-again
+    returns-2)

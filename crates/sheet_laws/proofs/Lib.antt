@@ -1,0 +1,4 @@
+pub mod Distinct
+pub mod Walk
+pub mod Alone
+pub mod Shared

@@ -1,0 +1,42 @@
+-- `sheet_words::count_words` meets its contract.
+use Prim.Native.Nat.{_+_, _-_, _≤_}
+use mathlib.Core.Path.{_≡_, refl, sym}
+use native.Mathlib.Omega.{arith}
+use lib.ListN.{length}
+use Rattle.sheet_words.proofs.Places.{CountedTo, counted-next, counted-end}
+use Rattle.sheet_words.proofs.count_words.Statement.{statement}
+use Rattle.sheet_words.proofs.count_words.Tie as tie
+
+abbrev Inv-loop : tie.InvT-loop
+Inv-loop sheet n₀ at₀ n at = (n ≤ at) × (at ≤ length sheet) × CountedTo sheet at n
+
+abbrev μ-loop : tie.MeasureT-loop
+μ-loop sheet n₀ at₀ n at = length sheet - at
+
+loop-holds : tie.Need-loop-holds Inv-loop μ-loop
+loop-holds c = (omega arith, omega arith, omega arith)
+
+next-word-requires : tie.Need-next-word-requires Inv-loop μ-loop
+next-word-requires c κs = omega arith
+
+add-n : tie.Need-add-n Inv-loop μ-loop
+add-n c = omega arith
+
+loop-less : tie.Need-loop-less Inv-loop μ-loop
+loop-less c = omega arith
+
+loop-again : tie.Need-loop-again Inv-loop μ-loop
+loop-again c =
+    let l = c .before .before .loop in
+    let e = c .next-word .ensures in
+    (omega (arith, e), e .within, counted-next (c .before .before .before .before .args .sheet .now) (l .at) (c .next-word .result) (l .n) e (l .inv .2))
+
+returns : tie.Need-returns Inv-loop μ-loop
+returns c =
+    let l = c .before .loop in
+    counted-end (c .before .before .before .args .sheet .now) (l .at) (l .n) (omega arith) (l .inv .2)
+
+pub count-words-spec : {M : Type 1} → statement M
+count-words-spec =
+    tie.close
+    (tie.spec Inv-loop μ-loop loop-holds next-word-requires add-n loop-less loop-again returns)
