@@ -26,13 +26,13 @@ use Rattle.build.specs.Built.{roomRow, builtBy, sliceAfter, buildRow, builtOf, 
 use Rattle.build.proofs.RoomRows.{room-few}
 use Rattle.trim_spec.specs.Matters.{ListsMattering}
 use Rattle.trim_spec.specs.Trimmed.{liveMarks, picked, isLeft, renumbered, trimmedCodes, trimmedTransitions}
-use Rattle.trim_spec.proofs.Mattering.{table-inside, narrow-at}
-use Rattle.trim_spec.proofs.Numbers.{picked-length, number-max}
-use Rattle.trim_spec.proofs.Renumbering.{renumbered-yes, renumbered-no, renumbered-are}
-use Rattle.trim_spec.proofs.Sweeping.{flags-length, live-solved}
-use Rattle.trim_spec.proofs.Trimmed.{trimmed-lists, trimmed-demand3}
+use Rattle.trim_laws.proofs.Mattering.{table-inside, narrow-at}
+use Rattle.trim_laws.proofs.Numbers.{picked-length, number-max}
+use Rattle.trim_laws.proofs.Renumbering.{renumbered-yes, renumbered-no, renumbered-are}
+use Rattle.trim_laws.proofs.Sweeping.{flags-length, live-solved}
+use Rattle.trim_laws.proofs.Trimmed.{trimmed-lists, trimmed-demand3}
 use Rattle.build_trimmed.specs.Trimming.{Trimmable, padded, Trimming}
-use Rattle.build_trimmed.specs.Answers.{trimmedOf, trimmedCodesAfter, trimmedTransitionsAfter}
+use Rattle.build_trimmed_spec.specs.Answers.{trimmedOf, trimmedCodesAfter, trimmedTransitionsAfter}
 
 -- ---- by the first row that refuses
 

@@ -1,3 +1,2 @@
 pub mod Trimming
 pub mod Answer
-pub mod Cases

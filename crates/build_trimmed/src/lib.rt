@@ -16,7 +16,7 @@ ghost use Rattle.build.specs.declared.Counts.{Counts};
 ghost use Rattle.build.specs.declared.Built.the-variants.{Table};
 ghost use Rattle.trim_spec.specs.Matters.{ListsMattering};
 ghost use Rattle.build_trimmed.specs.Trimming.{Trimmable, Trimming};
-ghost use Rattle.build_trimmed.specs.Answers.{trimmedOf, trimmedCodesAfter, trimmedTransitionsAfter};
+ghost use Rattle.build_trimmed_spec.specs.Answers.{trimmedOf, trimmedCodesAfter, trimmedTransitionsAfter};
 
 // Trims a table in place: what matters stays at the front of both slices, by new numbers, and zeros come behind.
 pub fn trim(codes: &mut [u64], transitions: &mut [u64]) -> Counts

@@ -16,8 +16,8 @@ use Rattle.table_lent.specs.Lent.{inWords, tableRow}
 use Rattle.table_rows.specs.Passed.{Passed}
 use Rattle.table_rows.proofs.Passed.{passes}
 use Rattle.trim_spec.specs.Trimmed.{trimmedCodes, trimmedTransitions}
-use Rattle.trim_spec.proofs.Narrow.{narrow}
-use Rattle.trim_spec.proofs.Trimmed.{trimmed-room, trimmed-lists}
+use Rattle.trim_laws.proofs.Narrow.{narrow}
+use Rattle.trim_laws.proofs.Trimmed.{trimmed-room, trimmed-lists}
 
 module _ (r : Rule) (P : Passing r) (room : length (macrostates r) ≤ 65536) where
   -- the parts of a listed transition are in range

@@ -6,7 +6,7 @@ ghost use Rattle.theory.specs.Demand.{Demand3};
 ghost use Rattle.endless_spec.specs.Endless.{NeverTwo};
 ghost use Rattle.build.specs.declared.Counts.{Counts};
 ghost use Rattle.build.specs.declared.Built.the-variants.{Table};
-ghost use Rattle.build_trimmed.specs.Answers.{trimmedOf, trimmedCodesAfter, trimmedTransitionsAfter};
+ghost use Rattle.build_trimmed_spec.specs.Answers.{trimmedOf, trimmedCodesAfter, trimmedTransitionsAfter};
 ghost use Rattle.trim_spec.specs.Matters.{ListsMattering};
 ghost use Rattle.file_spec.specs.File.{ruleIn};
 ghost use Rattle.mulgreddi_answers.specs.Answers.{builtAnswer};

@@ -18,7 +18,7 @@ use Rattle.theory.specs.Table.{reachedIn, reached, digitals, candidates, cores,
 use Rattle.theory.proofs.AboutExamples as examples
 use Rattle.graph_walks.specs.Marks.{isDue, marked, isNew, goesOut}
 use Rattle.graph_walks.specs.Marks as marks
-use Rattle.trim_spec.specs.Trimmed.{flagOf, flags, swept, isNewIn, sweptOut, settledAll, solvedIn, liveMarks, picked, trimmedCodes, trimmedTransitions}
+use Rattle.trim_spec.specs.Trimmed.{flagOf, flags, swept, isNewIn, sweptOut, settledAll, solvedIn, liveMarks, picked, isLive, newNumber, trimmedCodes, trimmedTransitions, isLeft, renumber, renumbered}
 
 -- what an evaluation of the lists of a rule unfolds
 unfoldable computed : ℕ
@@ -44,9 +44,14 @@ transitions-of r kept moves e f = ap (transitionsOf (automaton r) (r .s)) e ∙ 
 
 -- ---- D
 
-kept-D : keptOf (0 ∷ 257 ∷ 4098 ∷ 4355 ∷ 4611 ∷ 8451 ∷ 17592186044673 ∷ 17592186048514 ∷ 17592186048771 ∷ 17592186049027 ∷ 17592186052867 ∷ 35184372093443 ∷ 35184372097283 ∷ [])
-    (65536 ∷ 65543 ∷ 33554432 ∷ 33554438 ∷ 33619974 ∷ 33619976 ∷ 33619979 ∷ 33619980 ∷ 67108871 ∷ 67108872 ∷ 67108875 ∷ 67108876 ∷ 117440512 ∷ 117440513 ∷ 117506054 ∷ 117506056 ∷ 117506058 ∷ 117506059 ∷ 150994946 ∷ 150994947 ∷ 150994948 ∷ 150994949 ∷ 184549383 ∷ 184549384 ∷ 184549385 ∷ 184549388 ∷ [])
-    ≡ (0 ∷ 4098 ∷ 4611 ∷ 17592186048514 ∷ 17592186049027 ∷ 35184372093443 ∷ [])
+-- the table of D, as 01 lists it
+abbrev codesD : List ℕ
+codesD = 0 ∷ 257 ∷ 4098 ∷ 4355 ∷ 4611 ∷ 8451 ∷ 17592186044673 ∷ 17592186048514 ∷ 17592186048771 ∷ 17592186049027 ∷ 17592186052867 ∷ 35184372093443 ∷ 35184372097283 ∷ []
+
+abbrev movesD : List ℕ
+movesD = 65536 ∷ 65543 ∷ 33554432 ∷ 33554438 ∷ 33619974 ∷ 33619976 ∷ 33619979 ∷ 33619980 ∷ 67108871 ∷ 67108872 ∷ 67108875 ∷ 67108876 ∷ 117440512 ∷ 117440513 ∷ 117506054 ∷ 117506056 ∷ 117506058 ∷ 117506059 ∷ 150994946 ∷ 150994947 ∷ 150994948 ∷ 150994949 ∷ 184549383 ∷ 184549384 ∷ 184549385 ∷ 184549388 ∷ []
+
+kept-D : keptOf codesD movesD ≡ (0 ∷ 4098 ∷ 4611 ∷ 17592186048514 ∷ 17592186049027 ∷ 35184372093443 ∷ [])
 unfolding solving
 kept-D = refl
 
@@ -54,6 +59,12 @@ moves-D : transitionsOf (automaton D) 2 (0 ∷ 4098 ∷ 4611 ∷ 17592186048514 
     ≡ (65536 ∷ 65539 ∷ 16777216 ∷ 16842757 ∷ 33554435 ∷ 33554437 ∷ 50331648 ∷ 50397189 ∷ 67108865 ∷ 67108866 ∷ 83886083 ∷ 83886084 ∷ [])
 unfolding computed
 moves-D = refl
+
+-- the transitions of the table between the numbers that are left, by their new numbers, are the same
+renumbered-D : renumbered (liveMarks codesD movesD) movesD
+    ≡ (65536 ∷ 65539 ∷ 16777216 ∷ 16842757 ∷ 33554435 ∷ 33554437 ∷ 50331648 ∷ 50397189 ∷ 67108865 ∷ 67108866 ∷ 83886083 ∷ 83886084 ∷ [])
+unfolding solving renumbered isLeft renumber isLive newNumber count
+renumbered-D = refl
 
 pub codes-D : trimmedCodes D ≡ (0 ∷ 4098 ∷ 4611 ∷ 17592186048514 ∷ 17592186049027 ∷ 35184372093443 ∷ [])
 codes-D = codes-of D _ _ _ examples.macrostates-D examples.transitions-D kept-D

@@ -1,14 +1,1 @@
-pub mod Sweeping
-pub mod Numbers
-pub mod Folding
-pub mod Mattering
-pub mod Runs
-pub mod Empty
-pub mod Trimmed
-pub mod Renumbering
-pub mod Tagged
-pub mod Loops
-pub mod Rewriting
-pub mod Ends
-pub mod Narrow
 pub mod Cases

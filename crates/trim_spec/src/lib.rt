@@ -1,1 +1,1 @@
-// The macrostates of a built table that matter, and the table of these alone: definitions and laws.
+// The macrostates of a built table that matter, and the table of these alone: definitions, and the tables of worked rules.

@@ -4,7 +4,7 @@ use Prim.Native.Nat.{_-_, _≤_}
 use native.Mathlib.Omega.{arith}
 use borrow.Author.Needs.{needs, scaled-fits}
 use lib.ListN.{length, getD}
-use Rattle.trim_spec.proofs.Tagged.{FlaggedTo, none-flagged, flag-next, all-flagged}
+use Rattle.trim_laws.proofs.Tagged.{FlaggedTo, none-flagged, flag-next, all-flagged}
 use Rattle.trim_marks.proofs.flag.Statement.{statement}
 use Rattle.trim_marks.proofs.flag.Tie as tie
 

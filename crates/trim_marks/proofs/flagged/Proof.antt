@@ -2,7 +2,7 @@
 use mathlib.Core.Path.{sym, _∙_}
 use native.Mathlib.Omega.{arith}
 use borrow.Author.Needs.{needs}
-use Rattle.trim_spec.proofs.Sweeping.{flag-accepting, flag-other}
+use Rattle.trim_laws.proofs.Sweeping.{flag-accepting, flag-other}
 use Rattle.trim_marks.proofs.flagged.Statement.{statement}
 use Rattle.trim_marks.proofs.flagged.Tie as tie
 

@@ -7,7 +7,7 @@ use lib.Dec.{eqb}
 use lib.ListN.{getD}
 use Rattle.graph_walks.proofs.Marking.{mark-yes, mark-no}
 use Rattle.trim_spec.specs.Tagged.{highs}
-use Rattle.trim_spec.proofs.Tagged.{highs-at, raised}
+use Rattle.trim_laws.proofs.Tagged.{highs-at, raised}
 use Rattle.trim_marks.proofs.mark.Statement.{statement}
 use Rattle.trim_marks.proofs.mark.Tie as tie
 

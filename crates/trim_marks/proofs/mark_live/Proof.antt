@@ -9,7 +9,7 @@ use Rattle.graph_walks.proofs.Unique.{solved-unique}
 use Rattle.trim_spec.specs.Graph.{Step}
 use Rattle.trim_spec.specs.Trimmed.{flags}
 use Rattle.trim_spec.specs.Tagged.{highs}
-use Rattle.trim_spec.proofs.Sweeping.{flags-low, live-solved}
+use Rattle.trim_laws.proofs.Sweeping.{flags-low, live-solved}
 use Rattle.trim_marks.proofs.mark_live.Statement.{statement}
 use Rattle.trim_marks.proofs.mark_live.Tie as tie
 

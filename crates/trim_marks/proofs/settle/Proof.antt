@@ -10,7 +10,7 @@ use Rattle.graph_walks.specs.Marks.{settled, goesOut}
 use Rattle.graph_walks.specs.Rounds.{Settling}
 use Rattle.graph_walks.proofs.Rounds.{settling-start, settling-next}
 use Rattle.trim_spec.specs.Tagged.{highs, lows}
-use Rattle.trim_spec.proofs.Tagged.{highs-at, highs-length, carried}
+use Rattle.trim_laws.proofs.Tagged.{highs-at, highs-length, carried}
 use Rattle.trim_marks.proofs.settle.Statement.{statement}
 use Rattle.trim_marks.proofs.settle.Tie as tie
 

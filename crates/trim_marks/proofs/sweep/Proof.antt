@@ -9,7 +9,7 @@ use Rattle.sets.proofs.Lists.{mem-at}
 use Rattle.theory.specs.Run.{sourceOf, targetOf}
 use Rattle.graph_walks.specs.Marks.{marked, isNew}
 use Rattle.trim_spec.specs.Tagged.{highs}
-use Rattle.trim_spec.proofs.Loops.{or-now, or-before, SweptTo, none-swept, sweep-next, all-swept}
+use Rattle.trim_laws.proofs.Loops.{or-now, or-before, SweptTo, none-swept, sweep-next, all-swept}
 use Rattle.trim_marks.proofs.sweep.Statement.{statement}
 use Rattle.trim_marks.proofs.sweep.Tie as tie
 

@@ -10,7 +10,7 @@ use Rattle.graph_walks.proofs.Marking.{marking-start}
 use Rattle.graph_walks.proofs.Rounds.{marking-sum, stable}
 use Rattle.trim_spec.specs.Graph.{Step}
 use Rattle.trim_spec.specs.Tagged.{highs, lows}
-use Rattle.trim_spec.proofs.Sweeping.{sweep-marking, sweep-round}
+use Rattle.trim_laws.proofs.Sweeping.{sweep-marking, sweep-round}
 use Rattle.trim_marks.proofs.sweep_out.Statement.{statement}
 use Rattle.trim_marks.proofs.sweep_out.Tie as tie
 

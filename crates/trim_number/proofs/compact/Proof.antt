@@ -5,8 +5,8 @@ use native.Mathlib.Omega.{arith}
 use borrow.Author.Needs.{needs, scaled-fits}
 use lib.ListN.{length, getD}
 use Rattle.trim_spec.specs.Tagged.{compacted}
-use Rattle.trim_spec.proofs.Ends.{compacted-none}
-use Rattle.trim_spec.proofs.Tagged.{compacted-in, compacted-not}
+use Rattle.trim_laws.proofs.Ends.{compacted-none}
+use Rattle.trim_laws.proofs.Tagged.{compacted-in, compacted-not}
 use Rattle.trim_number.proofs.Compacting.{Compacting, compact-start, compact-at, compact-keep, compact-skip, compact-count, compact-end}
 use Rattle.trim_number.proofs.compact.Statement.{statement}
 use Rattle.trim_number.proofs.compact.Tie as tie

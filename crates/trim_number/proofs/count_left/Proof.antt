@@ -6,9 +6,9 @@ use borrow.Author.Needs.{needs}
 use lib.ListN.{length, getD}
 use Rattle.trim_spec.specs.Trimmed.{newNumber}
 use Rattle.trim_spec.specs.Tagged.{highs}
-use Rattle.trim_spec.proofs.Numbers.{number-max}
-use Rattle.trim_spec.proofs.Rewriting.{number-start, number-yes, number-no}
-use Rattle.trim_spec.proofs.Tagged.{highs-at}
+use Rattle.trim_laws.proofs.Numbers.{number-max}
+use Rattle.trim_laws.proofs.Rewriting.{number-start, number-yes, number-no}
+use Rattle.trim_laws.proofs.Tagged.{highs-at}
 use Rattle.trim_number.proofs.count_left.Statement.{statement}
 use Rattle.trim_number.proofs.count_left.Tie as tie
 

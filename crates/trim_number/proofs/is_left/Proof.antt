@@ -7,7 +7,7 @@ use borrow.Author.Needs.{needs}
 use lib.ListN.{getD}
 use Rattle.theory.specs.Run.{sourceOf, targetOf}
 use Rattle.trim_spec.specs.Tagged.{highs}
-use Rattle.trim_spec.proofs.Ends.{left-not, left-by}
+use Rattle.trim_laws.proofs.Ends.{left-not, left-by}
 use Rattle.trim_number.proofs.is_left.Statement.{statement}
 use Rattle.trim_number.proofs.is_left.Tie as tie
 

@@ -4,7 +4,7 @@ use Prim.Native.Nat.{_-_, _/_, _^_, _<_}
 use native.Mathlib.Omega.{arith}
 use borrow.Author.Needs.{needs, scaled-fits}
 use lib.ListN.{length, getD}
-use Rattle.trim_spec.proofs.Rewriting.{NumberedTo, none-numbered, number-skip, number-put, number-room, all-numbered}
+use Rattle.trim_laws.proofs.Rewriting.{NumberedTo, none-numbered, number-skip, number-put, number-room, all-numbered}
 use Rattle.trim_number.proofs.number.Statement.{statement}
 use Rattle.trim_number.proofs.number.Tie as tie
 

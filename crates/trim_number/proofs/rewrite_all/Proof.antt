@@ -9,7 +9,7 @@ use Rattle.sets.proofs.Lists.{mem-at}
 use Rattle.theory.specs.Run.{sourceOf, targetOf}
 use Rattle.trim_spec.specs.Trimmed.{isLeft}
 use Rattle.trim_spec.specs.Tagged.{highs, rewrite, rewritten}
-use Rattle.trim_spec.proofs.Ends.{rewritten-yes, rewritten-no, rewritten-none}
+use Rattle.trim_laws.proofs.Ends.{rewritten-yes, rewritten-no, rewritten-none}
 use Rattle.trim_number.proofs.Compacting.{Compacting, compact-start, compact-at, compact-keep, compact-skip, compact-count, compact-end}
 use Rattle.trim_number.proofs.rewrite_all.Statement.{statement}
 use Rattle.trim_number.proofs.rewrite_all.Tie as tie

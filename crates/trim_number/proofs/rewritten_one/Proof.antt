@@ -5,7 +5,7 @@ use native.Mathlib.Omega.{arith}
 use borrow.Author.Needs.{needs}
 use lib.ListN.{getD}
 use Rattle.theory.specs.Run.{sourceOf, letterOf, targetOf}
-use Rattle.trim_spec.proofs.Ends.{left-source, left-target, rewrite-is}
+use Rattle.trim_laws.proofs.Ends.{left-source, left-target, rewrite-is}
 use Rattle.trim_number.proofs.rewritten_one.Statement.{statement}
 use Rattle.trim_number.proofs.rewritten_one.Tie as tie
 

@@ -11,10 +11,10 @@ use native.Mathlib.Decide.{ℕ-discrete}
 use mathlib.Core.Logic.{by-cases}
 use Rattle.sets.proofs.Bools.{and-l, and-r}
 use Rattle.theory.specs.Run.{sourceOf, letterOf, targetOf}
 use Rattle.trim_spec.specs.Trimmed.{isLive, isLeft}
 use Rattle.trim_spec.specs.Tagged.{highs, compacted, rewrite, rewritten}
-use Rattle.trim_spec.proofs.Numbers.{live-yes, live-no, live-is}
-use Rattle.trim_spec.proofs.Tagged.{highs-at}
+use Rattle.trim_laws.proofs.Numbers.{live-yes, live-no, live-is}
+use Rattle.trim_laws.proofs.Tagged.{highs-at}
 
 module _ (xs : List ℕ) (t : ℕ) where
   pub left-not : getD xs (sourceOf t) 0 / 2 ^ 48 ≡ 0 → isLeft (highs xs) t ≡ false

@@ -19,11 +19,11 @@ use Rattle.theory.specs.Table.{Transition, ListsReachable, transitionsOf}
 use Rattle.theory_laws.proofs.Layers.{layered}
 use Rattle.theory_laws.proofs.Tables.{letters-fit, steps-ascending, steps-iff, source-is, letter-is, target-is}
 use Rattle.graph_walks.specs.Walks.{Solved}
 use Rattle.trim_spec.specs.Graph.{Step}
 use Rattle.trim_spec.specs.Trimmed.{flags, isLive, newNumber, picked, isLeft, renumber, renumbered}
-use Rattle.trim_spec.proofs.Numbers.{live-yes, live-is, picked-at, number-low, picked-from, number-less, number-max}
-use Rattle.trim_spec.proofs.Mattering.{taken-apart, live-long}
-use Rattle.trim_spec.proofs.Runs.{kept-room}
+use Rattle.trim_laws.proofs.Numbers.{live-yes, live-is, picked-at, number-low, picked-from, number-less, number-max}
+use Rattle.trim_laws.proofs.Mattering.{taken-apart, live-long}
+use Rattle.trim_laws.proofs.Runs.{kept-room}
 
 -- ---- an example: of three numbers the middle one is out
 

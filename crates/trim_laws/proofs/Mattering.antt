@@ -23,12 +23,12 @@ use Rattle.graph_walks.specs.Walks.{Walk, Solved}
 use Rattle.graph_walks.proofs.Sums.{has-place}
 use Rattle.graph_walks.proofs.Endless.{endless}
 use Rattle.graph_walks.proofs.Closing.{closes}
 use Rattle.trim_spec.specs.Matters.{GoesOn, Matters}
 use Rattle.trim_spec.specs.Graph.{Step, Inside}
 use Rattle.trim_spec.specs.Trimmed.{flagOf, flags}
-use Rattle.trim_spec.proofs.Narrow.{narrow}
-use Rattle.trim_spec.proofs.Sweeping.{flags-length, flags-at, flag-in, flag-accepting, accepting-flag}
-use Rattle.trim_spec.proofs.Folding.{leadOf, cycleOf, at, at-first, letter-at, at-next, at-again, folded-word}
+use Rattle.trim_laws.proofs.Narrow.{narrow}
+use Rattle.trim_laws.proofs.Sweeping.{flags-length, flags-at, flag-in, flag-accepting, accepting-flag}
+use Rattle.trim_laws.proofs.Folding.{leadOf, cycleOf, at, at-first, letter-at, at-next, at-again, folded-word}
 
 module _ (r : Rule) (P : Passing r) (codes ts : List ℕ) (L : ListsReachable r codes ts) (room : length codes ≤ 65536) where
   abbrev A : Automaton

@@ -12,10 +12,10 @@ use lib.Seq.{ext-getD}
 use borrow.Author.Tests.{lt-ltb, le-ltb}
 use Rattle.graph_walks.specs.Marks.{settled}
 use Rattle.graph_walks.proofs.Sums.{split-set}
 use Rattle.trim_spec.specs.Trimmed.{flagOf, flags, picked}
 use Rattle.trim_spec.specs.Tagged.{highs, lows, compacted}
-use Rattle.trim_spec.proofs.Numbers.{picked-in, picked-not}
-use Rattle.trim_spec.proofs.Sweeping.{flags-length, flags-at}
+use Rattle.trim_laws.proofs.Numbers.{picked-in, picked-not}
+use Rattle.trim_laws.proofs.Sweeping.{flags-length, flags-at}
 
 pub highs-length : (xs : List ℕ) → length (highs xs) ≡ length xs
 unfolding highs

@@ -15,11 +15,11 @@ use Rattle.theory.specs.Table.{macrostates, transitions}
 use Rattle.theory.specs.Word.{WordOver}
 use Rattle.theory_laws.proofs.Demand.{demand3}
 use Rattle.theory_laws.proofs.Tables.{lists-reachable}
 use Rattle.trim_spec.specs.Matters.{ListsMattering}
 use Rattle.trim_spec.specs.Trimmed.{liveMarks, trimmedCodes, trimmedTransitions}
-use Rattle.trim_spec.proofs.Sweeping.{live-solved}
-use Rattle.trim_spec.proofs.Runs.{kept-room, kept-are, survives, comes-from, kept-demand3}
-use Rattle.trim_spec.proofs.Empty.{empty-iff}
+use Rattle.trim_laws.proofs.Sweeping.{live-solved}
+use Rattle.trim_laws.proofs.Runs.{kept-room, kept-are, survives, comes-from, kept-demand3}
+use Rattle.trim_laws.proofs.Empty.{empty-iff}
 
 module _ (r : Rule) (P : Passing r) (room : length (macrostates r) ≤ 65536) where
   pub trimmed-room : length (trimmedCodes r) ≤ 65536

@@ -19,8 +19,8 @@ use Rattle.theory_laws.proofs.Demand.{letters-low}
 use Rattle.theory_laws.proofs.Layers.{layered}
 use Rattle.theory_laws.proofs.Places.{letter-first, letter-behind}
 use Rattle.theory_laws.proofs.Tables.{few-states, components-there, reachable-macrostate}
 use Rattle.trim_spec.specs.Matters.{Matters, ListsMattering}
-use Rattle.trim_spec.proofs.Mattering.{number, number-low, number-is, number-moves, number-again}
+use Rattle.trim_laws.proofs.Mattering.{number, number-low, number-is, number-moves, number-again}
 
 -- ---- a macrostate before one that matters does
 

@@ -23,7 +23,7 @@ use Rattle.graph_walks.specs.Marks.{isDue, marked, isNew, goesOut}
 use Rattle.graph_walks.specs.Marks as marks
 use Rattle.build.specs.declared.Built.the-variants.{Table, Refused}
 use Rattle.trim_spec.specs.Trimmed.{flagOf, flags, swept, isNewIn, sweptOut, settledAll, solvedIn, liveMarks, picked, trimmedCodes, trimmedTransitions}
-use Rattle.build_trimmed.specs.Answers.{trimmedOf}
+use Rattle.build_trimmed_spec.specs.Answers.{trimmedOf}
 
 abbrev fileD : List ℕ
 fileD = 0x02 ∷ 0x00 ∷ 0x01 ∷ 0x01 ∷ 0x00 ∷ 0x01 ∷ 0x01 ∷ 0x02 ∷ 0x02 ∷ 0x00 ∷ 0x00 ∷ 0x03 ∷ 0x00 ∷ 0x41 ∷ 0x57 ∷ []

@@ -18,11 +18,11 @@ use Rattle.theory.specs.Table.{Transition, ListsReachable, transitionsOf}
 use Rattle.theory_laws.proofs.Layers.{layered}
 use Rattle.theory_laws.proofs.Tables.{letters-fit, steps-ascending, steps-iff, transition-leads}
 use Rattle.graph_walks.specs.Walks.{Solved}
 use Rattle.trim_spec.specs.Matters.{ListsMattering}
 use Rattle.trim_spec.specs.Graph.{Step}
 use Rattle.trim_spec.specs.Trimmed.{flags, picked, newNumber}
-use Rattle.trim_spec.proofs.Numbers.{picked-length, picked-at, number-low, picked-from, picked-out, picked-mem, picked-asc, number-max}
-use Rattle.trim_spec.proofs.Mattering.{goes-by, reachable-at, live-long, live-low, run-live, matters-iff}
+use Rattle.trim_laws.proofs.Numbers.{picked-length, picked-at, number-low, picked-from, picked-out, picked-mem, picked-asc, number-max}
+use Rattle.trim_laws.proofs.Mattering.{goes-by, reachable-at, live-long, live-low, run-live, matters-iff}
 
 module _ (r : Rule) (P : Passing r) (codes ts : List ℕ) (L : ListsReachable r codes ts) (room : length codes ≤ 65536)
     (live : List ℕ) (S : Solved (Step ts) (flags codes) live) where

@@ -13,12 +13,12 @@ use Rattle.sets.proofs.Bools.{bif, clash, and-i, and-l, and-r}
 use Rattle.sets.proofs.Tests.{count-max}
 use Rattle.theory.specs.Run.{sourceOf, letterOf, targetOf}
 use Rattle.graph_walks.proofs.Sums.{split-set}
 use Rattle.trim_spec.specs.Graph.{Inside}
 use Rattle.trim_spec.specs.Trimmed.{picked, isLive, newNumber, isLeft, renumber, renumbered}
 use Rattle.trim_spec.specs.Tagged.{highs, lows, tagOf, Numbered, rewrite, rewritten}
-use Rattle.trim_spec.proofs.Numbers.{live-yes, live-no, live-is, picked-in, picked-not, number-up}
-use Rattle.trim_spec.proofs.Renumbering.{renumbered-yes}
-use Rattle.trim_spec.proofs.Tagged.{highs-at, highs-length, highs-set, lows-set}
+use Rattle.trim_laws.proofs.Numbers.{live-yes, live-no, live-is, picked-in, picked-not, number-up}
+use Rattle.trim_laws.proofs.Renumbering.{renumbered-yes}
+use Rattle.trim_laws.proofs.Tagged.{highs-at, highs-length, highs-set, lows-set}
 
 -- ---- counting one by one
 

@@ -1,0 +1,1 @@
+// What the trimmed build answers, with rule D as the worked example.

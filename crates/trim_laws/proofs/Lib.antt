@@ -1,0 +1,13 @@
+pub mod Sweeping
+pub mod Numbers
+pub mod Folding
+pub mod Mattering
+pub mod Runs
+pub mod Empty
+pub mod Trimmed
+pub mod Renumbering
+pub mod Tagged
+pub mod Loops
+pub mod Rewriting
+pub mod Ends
+pub mod Narrow
