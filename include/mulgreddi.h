@@ -220,7 +220,12 @@ mulgreddi_answer mulgreddi_build_trimmed(const uint8_t *file, size_t file_len, u
  * scratch needs macrostates * (lead_len + cycle_len) bytes; it is zero throughout after yes and no.
  * first: 1 yes, 0 no. second: with yes, the lowest number of an initial macrostate where one begins, else 0.
  * The rule's refusals, 12 to 16; 15: over 65,536 codes, codes or transitions not strictly ascending, a code with a bit above 47, a
- * transition whose source, letter or target is out of range, or a length that 8 does not divide. */
+ * transition whose source, letter or target is out of range, or a length that 8 does not divide.
+ * Time: with one byte a node, a node being a macrostate at a place of the cycle, it takes at most about (accepting nodes + 1) *
+ * (rejecting nodes + cycle_len + 1) passes over the transitions, and as many again as there are nodes. Built tables take few: 0.02 to 0.5 s
+ * of CPU at the caps. A table made to be slow is not refused: the slowest kind known, a chain of accepting macrostates behind a chain of
+ * rejecting ones whose numbers go to and fro, took 0.9 s with 1,025 codes and 5.0 s with 2,049, and grows with the third power. Judge
+ * tables of strangers with a time limit of your own. */
 mulgreddi_answer mulgreddi_judge_table(const uint8_t *file, size_t file_len,
                                        const uint8_t *lead, size_t lead_len, const uint8_t *cycle, size_t cycle_len,
                                        const uint8_t *codes, size_t codes_bytes, const uint8_t *transitions, size_t transitions_bytes,

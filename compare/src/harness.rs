@@ -57,6 +57,8 @@ pub struct Harness {
     entry: &'static str,
     verdict: bool,
     seed: u64,
+    /// CPU seconds of the last call.
+    last: f64,
 }
 
 /// The harness, for a signal that ends a call.
@@ -105,6 +107,7 @@ impl Harness {
             entry: "",
             verdict: false,
             seed: 0,
+            last: 0.0,
         }
     }
 
@@ -198,13 +201,21 @@ impl Harness {
         }
     }
 
+    /// The last call must have taken less CPU time than this.
+    pub fn within(&self, seconds: f64) {
+        if self.last > seconds {
+            let last = self.last;
+            self.fail(&format!("the call took {last:.1} s, over {seconds} s"));
+        }
+    }
+
     /// Makes the call and compares its answer and every lent slice.
     pub fn call(&mut self, expected: Expected, call: impl FnOnce() -> Answer) {
         HARNESS.store(self, Ordering::Relaxed);
         alarm(ENDLESS);
         let start = unsafe { clock() };
         let answer = call();
-        let last = unsafe { clock() - start } as f64 / 1e6;
+        self.last = unsafe { clock() - start } as f64 / 1e6;
         alarm(0);
         let wanted = match expected {
             Ok((first, second)) => Answer {
@@ -224,7 +235,7 @@ impl Harness {
         if let Some(fault) = self.lender.fault() {
             self.fail(&format!("{fault}; both answer {answer:?}"));
         }
-        let verdict = self.verdict;
+        let (verdict, last) = (self.verdict, self.last);
         let tally = self.tally();
         tally.longest = tally.longest.max(last);
         tally.comparisons += 1;

@@ -1,4 +1,5 @@
 //! What the comparison and the times share.
 
+pub mod chains;
 pub mod library;
 pub mod stored;

@@ -8,6 +8,7 @@ use std::io::Write;
 use std::process::{Command, Stdio};
 use std::time::{Duration, Instant};
 
+use compare::chains::{self, Order};
 use compare::library::{
     mulgreddi_build, mulgreddi_build_trimmed, mulgreddi_judge, mulgreddi_judge_choices,
     mulgreddi_judge_table, mulgreddi_tidy_word, mulgreddi_translate, Answer,
@@ -169,6 +170,38 @@ fn spelling_times(part: usize) {
         "tidy_word     a part of {part:2} letters      {} {}",
         figures(&ours),
         figures(&theirs)
+    );
+}
+
+/// The judge on a table of chains of this length, and a cycle of one letter.
+fn chain_times(length: u64, accepting: Order, rejecting: Order) {
+    let [codes, transitions] = chains::table(length, accepting, rejecting, false);
+    let mut scratch = vec![0u8; codes.len()];
+    let milliseconds = cpu(1, || {
+        let answer = unsafe {
+            mulgreddi_judge_table(
+                sample::F.as_ptr(),
+                sample::F.len(),
+                [].as_ptr(),
+                0,
+                [0].as_ptr(),
+                1,
+                codes.as_ptr().cast(),
+                8 * codes.len(),
+                transitions.as_ptr().cast(),
+                8 * transitions.len(),
+                scratch.as_mut_ptr(),
+                scratch.len(),
+            )
+        };
+        black_box((answer.refusal, answer.first, answer.second));
+    });
+    println!(
+        "chains, accepting {:10} rejecting {:10} {milliseconds:9.1}  {} {}",
+        format!("{accepting:?}"),
+        format!("{rejecting:?}"),
+        codes.len(),
+        transitions.len()
     );
 }
 
@@ -487,6 +520,15 @@ fn main() {
     for path in std::env::args().skip(1) {
         let file = std::fs::read(&path).unwrap_or_else(|error| panic!("{path}: {error}"));
         table_times(&path, &file);
+    }
+    println!("CPU milliseconds on a table of chains; macrostates transitions");
+    for accepting in [Order::Ascending, Order::Descending] {
+        for rejecting in [Order::Ascending, Order::Descending] {
+            chain_times(4_096, accepting, rejecting);
+        }
+    }
+    for length in [512, 1_024, 2_048] {
+        chain_times(length, Order::Ascending, Order::Zigzag);
     }
     println!("CPU milliseconds: build, build of what matters, the difference; macrostates transitions before and after");
     for path in std::env::args().skip(1) {

@@ -1,5 +1,6 @@
 //! The judge of words on a built table.
 
+use compare::chains::{self, Order};
 use compare::library::mulgreddi_judge_table;
 use compare::stored::LARGE;
 use second::build::{build, Macrostate};
@@ -144,6 +145,25 @@ fn examples(harness: &mut Harness) {
     }
     long_tables(harness);
     large_tables(harness);
+    long_chains(harness);
+}
+
+/// The length of a chain, and the CPU seconds that a call on chains may take.
+const CHAIN: u64 = 4_096;
+const SECONDS: f64 = 2.0;
+
+/// Both chains in both orders of their numbers.
+fn long_chains(harness: &mut Harness) {
+    for accepting in [Order::Ascending, Order::Descending] {
+        for rejecting in [Order::Ascending, Order::Descending] {
+            for (looped, said) in [(false, Ok((0, 0))), (true, Ok((1, 0)))] {
+                let [codes, transitions] = chains::table(CHAIN, accepting, rejecting, looped);
+                let expected = compare_table(harness, &F, [&[], &[0]], &codes, &transitions);
+                harness.by_01(&expected.0, &said);
+                harness.within(SECONDS);
+            }
+        }
+    }
 }
 
 /// The most codes, one more, and more transitions than a build can hold.
