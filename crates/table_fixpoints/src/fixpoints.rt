@@ -53,7 +53,14 @@ fn settle(marks: &mut [u8], from: usize, to: usize) -> bool
 }
 
 // Nodes at place p without an edge to a node that is in go out; whether there were such.
-fn prune_place(moves: &[u64], movebytes: &[u8], cycle: &[u8], n: usize, marks: &mut [u8], p: usize) -> bool
+fn prune_place(
+    moves: &[u64],
+    movebytes: &[u8],
+    cycle: &[u8],
+    n: usize,
+    marks: &mut [u8],
+    p: usize,
+) -> bool
     requires { ⌜ Fits n (now cycle) (inBoth (now moves) (now movebytes) .numbers) (now marks)
         × ((x : ℕ) → (getD (now marks) x 0 ≡ 0) ⊎ (getD (now marks) x 0 ≡ 2)) × (p < length (now cycle)) ⌝ }
     ensures { λ r. ⌜ PruneRound (NodeEdge n (now (cycle .entry)) (inBoth (now (moves .entry)) (now (movebytes .entry)) .numbers))

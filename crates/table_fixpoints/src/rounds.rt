@@ -32,7 +32,15 @@ pub fn mark_place(
     if p + 1 == cycle.len() {
         there = 0;
     }
-    mark_all(moves, movebytes, back, cycle[p] as usize, marks, here, there)
+    mark_all(
+        moves,
+        movebytes,
+        back,
+        cycle[p] as usize,
+        marks,
+        here,
+        there,
+    )
 }
 
 // The place before p in a cycle of c places.

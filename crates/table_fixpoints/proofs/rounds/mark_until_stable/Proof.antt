@@ -37,7 +37,7 @@ left c = rw (c .waiting-after .ensures) (left-after _ _ (c .before .before .befo
 -- the marks then
 swept : (c : tie.After-waiting-after Inv-loop μ-loop)
     → Around (c .before .before .before .before .before .before .before .before .before .before .before .before .args .n) (c .before .before .before .before .before .before .before .before .before .before .before .before .args .cycle .now) (inBoth (c .before .before .before .before .before .before .before .before .before .before .before .before .args .moves .now) (c .before .before .before .before .before .before .before .before .before .before .before .before .args .movebytes .now) .numbers) (c .before .before .before .before .before .before .before .before .before .before .before .before .args .marks .now)
-        (c .before .before .before .mark-place .last .1 .1 .1 .1 .1 .0) (c .before .before .before .before .before .place-before .result) (c .waiting-after .result)
+    (c .before .before .before .mark-place .last .1 .1 .1 .1 .1 .0) (c .before .before .before .before .before .place-before .result) (c .waiting-after .result)
 swept c =
     let l = c .before .before .before .before .before .before .before .loop in
     let m = c .before .before .before .mark-place .ensures in
