@@ -22,6 +22,10 @@ room-len cap len =
     (λ t. let e = room-short cap len (ltb-true len cap t) in omega arith)
     (λ t. let h = ltb-false len cap t in let e = room-capped cap len h in omega arith)
 
+-- the room r of a slice is no more than its length
+pub room-fits : (cap len r : ℕ) → r ≡ roomOf cap len → r ≤ len
+room-fits cap len r e = omega (arith, room-len cap len)
+
 pub room-cap : (cap len : ℕ) → roomOf cap len ≤ cap
 room-cap cap len =
     bif (ltb len cap)

@@ -2,7 +2,7 @@
 use mathlib.Core.Path.{_≡_, refl, sym, _∙_, ap}
 use mathlib.Core.Logic.{_↔_}
 use mathlib.Core.Bool.{Bool, true, false, true≢false}
-use mathlib.Core.List.{List, _++_}
+use mathlib.Core.List.{List, _∷_, [], _++_}
 use Prim.Native.Nat.{ℕ, zero, suc, _<_}
 use native.Mathlib.Omega.{arith}
 use lib.ListN.{length, getD, drop, List·getD-append}
@@ -22,6 +22,16 @@ use Rattle.judge_spec.specs.declared.Verdict.{Verdict}
 use Rattle.judge_spec.specs.declared.Verdict.the-variants.{Yes, No, Refused}
 use Rattle.judge_spec.specs.Judge.{callRow, judgeRow, verdict, holdsStart, judgeOf, after, Meant, JudgeCalled, Judged}
 use Rattle.judge_spec.proofs.Rows.{call-passes, file-refuses, file-passes}
+
+-- ---- examples: two masks at the start of a slice of three bytes, and a refusal
+
+two-masks : after 0 (1 ∷ 3 ∷ []) (9 ∷ 8 ∷ 7 ∷ []) ≡ 1 ∷ 3 ∷ 7 ∷ []
+unfolding after
+two-masks = refl
+
+no-masks : after 14 (1 ∷ 3 ∷ []) (9 ∷ 8 ∷ 7 ∷ []) ≡ 9 ∷ 8 ∷ 7 ∷ []
+unfolding after
+no-masks = refl
 
 -- an answer is yes where the test holds, no where it does not
 yes-iff : (b : Bool) → (verdict 0 b ≡ Yes) ↔ (b ≡ true)

@@ -7,8 +7,7 @@ use lib.Seq.{length-take-le}
 use Rattle.theory.specs.Table.{macrostatesFrom}
 use Rattle.slice_search.specs.Places.{zeroedFrom}
 use Rattle.build_closure_spec.specs.Keys.{startOf}
-use Rattle.build_lists.specs.Room.{roomOf}
-use Rattle.build_lists.proofs.Room.{room-len}
+use Rattle.build_lists.proofs.Room.{room-fits}
 use Rattle.build_lists.proofs.Padding.{whole, fits-whole, padded-full, padded}
 use borrow.Author.Needs.{needs}
 use Rattle.build_lists.proofs.list_codes.Statement.{statement}
@@ -18,14 +17,12 @@ room-of-requires : tie.Need-room-of-requires
 room-of-requires c κs = search needs
 
 slice-relend-prefix-reachable : tie.Need-slice-relend-prefix-reachable
-slice-relend-prefix-reachable c =
-    let room : c .room-of .result ≡ roomOf 65536 (length (c .before .before .args .codes .now)) = c .room-of .ensures in
-    omega (arith, room-len 65536 (length (c .before .before .args .codes .now)))
+slice-relend-prefix-reachable c = room-fits _ _ _ (c .room-of .ensures)
 
 slice-aggregate-reachable : tie.Need-slice-aggregate-reachable
 slice-aggregate-reachable c =
     let xs = c .before .before .before .args .codes .now in
-    sym (length-take-le (c .before .room-of .result) xs (omega (arith, room-len 65536 (length xs), c .before .room-of .ensures)))
+    sym (length-take-le (c .before .room-of .result) xs (room-fits _ _ _ (c .before .room-of .ensures)))
 
 reachable-requires : tie.Need-reachable-requires
 reachable-requires c κs = search needs
@@ -38,7 +35,7 @@ returns c =
     let a = c .before .before .before .before .before .before .before .args in
     let g = c .before .before .before .reachable in
     λ r T.
-    padded-full 65536 (c .before .before .before .before .before .room-of .result) (a .codes .now) (g .last .0) (c .before .before .before .before .before .room-of .ensures) (g .ensures r T .long) (macrostatesFrom r (startOf r (a .shape .holds))) (g .result .m) (g .result .full) (c .if1 .taken) (g .ensures r T .crowded (c .if1 .taken))
+    padded-full _ (c .before .before .before .before .before .room-of .result) (a .codes .now) (g .last .0) (c .before .before .before .before .before .room-of .ensures) (g .ensures r T .long) (macrostatesFrom r (startOf r (a .shape .holds))) (g .result .m) (g .result .full) (c .if1 .taken) (g .ensures r T .crowded (c .if1 .taken))
 
 zero-from-requires : tie.Need-zero-from-requires
 zero-from-requires c κs =
@@ -46,10 +43,10 @@ zero-from-requires c κs =
     let g = c .before .before .before .before .reachable in
     let room = c .before .before .before .before .before .before .room-of in
     let L = g .ensures (c .before .before .before .before .before .before .before .before .pre .0) (c .before .before .before .before .before .before .before .before .pre .1) in
-    let long = whole 65536 (room .result) xs (g .last .0) (room .ensures) (L .long) in
-    let few = room-len 65536 (length xs) in
-    let fits = fits-whole 65536 (room .result) xs (g .last .0) (room .ensures) (L .long) (g .result .m) (L .fits) in
-    omega (arith, room .ensures)
+    let long = whole _ (room .result) xs (g .last .0) (room .ensures) (L .long) in
+    let few = room-fits _ _ _ (room .ensures) in
+    let fits = fits-whole _ (room .result) xs (g .last .0) (room .ensures) (L .long) (g .result .m) (L .fits) in
+    omega arith
 
 same-length-2 : tie.Need-same-length-2
 same-length-2 c = search needs
@@ -62,7 +59,7 @@ returns-2 c =
     let zeros : c .before .before .zero-from .last .0 ≡ zeroedFrom (g .result .m) (g .last .0 ++ drop (room .result) (a .codes .now)) = c .before .before .zero-from .ensures in
     λ r T.
     let L = g .ensures r T in
-    padded 65536 (room .result) (a .codes .now) (g .last .0) (room .ensures) (L .long) (macrostatesFrom r (startOf r (a .shape .holds))) (g .result .m) (L .fits) (L .listed (c .before .before .before .before .if1 .left)) (c .before .before .zero-from .last .0) zeros
+    padded _ (room .result) (a .codes .now) (g .last .0) (room .ensures) (L .long) (macrostatesFrom r (startOf r (a .shape .holds))) (g .result .m) (L .fits) (L .listed (c .before .before .before .before .if1 .left)) (c .before .before .zero-from .last .0) zeros
 
 pub list-codes-spec : {M : Type 1} → statement M
 list-codes-spec =
