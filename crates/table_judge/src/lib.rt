@@ -22,18 +22,10 @@ pub fn judge_table(
     match read_rule(file) {
         Read::Accepted(l) => {
             let h = l.head;
-            judge_lent(
-                h,
-                lead,
-                cycle,
-                codes,
-                &file[..0],
-                transitions,
-                &file[..0],
-                scratch,
-            )
+            let none = &file[..0];
+            judge_lent(h, lead, cycle, codes, none, transitions, none, scratch)
         }
-        Read::Refused(k) => Start::Refused(k),
+        Read::Refused(row) => Start::Refused(row),
     }
 }
 
@@ -52,18 +44,9 @@ pub fn judge_table_bytes(
     match read_rule(file) {
         Read::Accepted(l) => {
             let h = l.head;
-            let codewords = [0u64; 1];
-            let movewords = [0u64; 1];
-            judge_lent(
-                h,
-                lead,
-                cycle,
-                &codewords[..0],
-                codes,
-                &movewords[..0],
-                transitions,
-                scratch,
-            )
+            let words = [0u64; 1];
+            let none = &words[..0];
+            judge_lent(h, lead, cycle, none, codes, none, transitions, scratch)
         }
         Read::Refused(k) => Start::Refused(k),
     }

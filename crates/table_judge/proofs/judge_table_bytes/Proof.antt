@@ -14,23 +14,17 @@ read-rule-requires c κs = search needs
 enum-known-l : tie.Need-enum-known-l
 enum-known-l c = search needs
 
-array-share-prefix-codewords : tie.Need-array-share-prefix-codewords
-array-share-prefix-codewords c = search needs
+array-share-prefix-words : tie.Need-array-share-prefix-words
+array-share-prefix-words c = search needs
 
-slice-aggregate-judge-lent : tie.Need-slice-aggregate-judge-lent
-slice-aggregate-judge-lent c = search needs
-
-array-share-prefix-movewords : tie.Need-array-share-prefix-movewords
-array-share-prefix-movewords c = search needs
-
-slice-aggregate-judge-lent-2 : tie.Need-slice-aggregate-judge-lent-2
-slice-aggregate-judge-lent-2 c = search needs
+slice-aggregate-none : tie.Need-slice-aggregate-none
+slice-aggregate-none c = search needs
 
 judge-lent-requires : tie.Need-judge-lent-requires
 judge-lent-requires c κs =
-    let f = c .before .before .before .before .before .before .before .before .before .before .before .before .before .before .args .file .now in
-    let l = c .before .before .before .before .before .l .given .0 .0 in
-    initial-low f l (served f l (sym (c .before .before .before .before .before .before .before .read-rule .ensures) ∙ c .before .before .before .before .before .l .given .1))
+    let f = c .before .before .before .before .before .before .before .before .before .before .before .before .before .args .file .now in
+    let l = c .before .before .before .before .l .given .0 .0 in
+    initial-low f l (served f l (sym (c .before .before .before .before .before .before .read-rule .ensures) ∙ c .before .before .before .before .l .given .1))
 
 enum-known-k : tie.Need-enum-known-k
 enum-known-k c = search needs
@@ -40,11 +34,11 @@ same-length c = search needs
 
 returns : tie.Need-returns
 returns c =
-    let a = c .before .before .before .before .before .before .before .before .before .before .before .before .before .before .before .before .before .args in
-    let l = c .before .before .before .before .before .before .before .before .l .given .0 .0 in
+    let a = c .before .before .before .before .before .before .before .before .before .before .before .before .before .before .before .before .args in
+    let l = c .before .before .before .before .before .before .before .l .given .0 .0 in
     let j = c .before .before .judge-lent in
     judged-called (a .file .now) (a .lead .now) (a .cycle .now) (inBytes (a .codes .now)) (inBytes (a .transitions .now)) (a .scratch .now) l (j .last .1 .1 .1 .1 .1 .1 .1 .0) (j .result)
-    (served (a .file .now) l (sym (c .before .before .before .before .before .before .before .before .before .before .read-rule .ensures) ∙ c .before .before .before .before .before .before .before .before .l .given .1))
+    (served (a .file .now) l (sym (c .before .before .before .before .before .before .before .before .before .read-rule .ensures) ∙ c .before .before .before .before .before .before .before .l .given .1))
     (rw (both-bytes (a .codes .now), both-bytes (a .transitions .now)) at (j .ensures))
 
 returns-2 : tie.Need-returns-2
@@ -60,10 +54,8 @@ judge-table-bytes-spec =
     (tie.spec
     read-rule-requires
     enum-known-l
-    array-share-prefix-codewords
-    slice-aggregate-judge-lent
-    array-share-prefix-movewords
-    slice-aggregate-judge-lent-2
+    array-share-prefix-words
+    slice-aggregate-none
     judge-lent-requires
     enum-known-k
     same-length
