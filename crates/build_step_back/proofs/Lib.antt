@@ -5,3 +5,4 @@ pub mod Sum
 pub mod Theory
 pub mod Tables
 pub mod Codes
+pub mod Halves

@@ -67,10 +67,10 @@ module _ (A : Automaton) (H : Layered A) (s : ℕ) (opens parts : List ℕ) (P :
   pub opened-small : opened < 256
   opened-small = rw (lowest 15 (omega arith)) (mask-lt 8 (λ p. ltb 0 (rankAt v p) && leb (rankAt v p) 15))
 
-  part-small : (c : ℕ) → c < A .components → getD parts c 0 < 256
+  pub part-small : (c : ℕ) → c < A .components → getD parts c 0 < 256
   part-small c l = rw (P .part c l) (let h = mask-lt (A .n) (λ q. eqb (A .component q) c) in let p = pow-mono {i = A .n} {j = 8} (P .few-states) in omega arith)
 
-  masks-at : (c : ℕ) → c < A .components → Masks A opens a opened (getD parts c 0) low c (setOf A v) (rankAt v)
+  pub masks-at : (c : ℕ) → c < A .components → Masks A opens a opened (getD parts c 0) low c (setOf A v) (rankAt v)
   masks-at c l = record {
     few = P .few-states;
     letters = omega (arith, O .few-letters);
