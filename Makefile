@@ -35,7 +35,7 @@ ifndef BESIDE
 .NOTPARALLEL:
 endif
 
-.PHONY: lib tool install uninstall list listings test check-tool bench soak compare second examples clean help
+.PHONY: lib tool install uninstall list listings tables test check-tool bench soak compare second examples clean help
 
 lib: $(LIB)
 
@@ -102,6 +102,12 @@ compare: $(LIB)
 listings: $(LIB) $(PROGRAM)
 	$(CARGO) run --release --offline --quiet --manifest-path compare/Cargo.toml --bin listings -- $(PROGRAM) examples
 
+# what the build, the trimmed build and the listing give for every rule file of the repository, held to what they gave before M-101
+RULES := $(sort $(wildcard examples/*.rule bench/*.rule compare/data/*.rule))
+tables: $(LIB) $(PROGRAM)
+	$(CARGO) run --release --offline --quiet --manifest-path compare/Cargo.toml --bin tables -- $(PROGRAM) $(RULES) > $(BUILD)/tables.out
+	diff compare/data/tables.expected $(BUILD)/tables.out
+
 soak: $(LIB)
 	$(CARGO) run --release --offline --quiet --manifest-path compare/Cargo.toml -- --seconds $(SECONDS)
 
@@ -165,7 +171,7 @@ test:
 	@$(QUIETLY)/test rt check $(BELOW) listing_spec listing_lines
 	$(MAKE) lib
 	$(MAKE) --jobs=2 BESIDE=1 $(PROGRAM) second compare
-	$(MAKE) listings examples check-tool
+	$(MAKE) listings tables examples check-tool
 	rt ci
 
 clean:
