@@ -41,7 +41,15 @@ fn step_letters(
     let mut steps = tally.steps;
     let mut a = 0;
     while a < shape.s {
-        let before = build_step_back::step_back(opens, a, opened, parts, shape.components, shape.accepting, low);
+        let before = build_step_back::step_back(
+            opens,
+            a,
+            opened,
+            parts,
+            shape.components,
+            shape.accepting,
+            low,
+        );
         let levels = before.levels;
         let level = levels[(ranks % 8) as usize];
         sum = wrapping_add_u64(sum, wrapping_add_u64(before.ranks, level));

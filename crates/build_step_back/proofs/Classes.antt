@@ -315,7 +315,7 @@ module _ (P : Set) (l : ℕ → ℕ) (low : (q : ℕ) → q < 8 → P q ≡ true
       ranks-up : ranks + num 16 8 (λ q. one (bit d q)) ≡ ranksSoFar (suc (s .m)) (suc j)
       ranks-up =
           (let e : ranks + num 16 8 (λ q. one (bit d q)) ≡ num 16 8 (rankSoFar (s .m) j) + num 16 8 (λ q. one (late j q)) * 1
-              = omega (arith, s .ranked, ranks-digits (s .m) j, num-ext 16 (omega arith) 8 (λ q. one (bit d q)) (λ q. one (late j q)) (λ q h. ap one (bd q h))) in e)
+          = omega (arith, s .ranked, ranks-digits (s .m) j, num-ext 16 (omega arith) 8 (λ q. one (bit d q)) (λ q. one (late j q)) (λ q h. ap one (bd q h))) in e)
           ∙ num-add 16 8 (rankSoFar (s .m) j) (λ q. one (late j q)) 1
           ∙ num-ext 16 (omega arith) 8 _ _ (λ q h. rank-up (s .m) j q counted)
           ∙ sym (ranks-digits (suc (s .m)) (suc j))

@@ -72,7 +72,8 @@ module _ (parts : List ℕ) (accepting : ℕ) where
   acceptingPart c = not (rejectingPart c)
 
 -- what the step back over the components of one kind leaves: their ranks, their levels, and the levels before of all other components
-pub record BackOf (kind : Set) (opens : List ℕ) (letter opened : ℕ) (parts : List ℕ) (components : ℕ) (low before : List ℕ) (ranks : ℕ) (levels : List ℕ) : Type 0 where
+pub record BackOf (kind : Set) (opens : List ℕ) (letter opened : ℕ) (parts : List ℕ) (components : ℕ) (low before : List ℕ)
+    (ranks : ℕ) (levels : List ℕ) : Type 0 where
   pub ranked : ranks ≡ sumOf components (λ c. cond (kind c) (ranksIn opens letter opened parts low c) 0)
   pub levelled : (c : ℕ) → getD levels c 0 ≡ cond (ltb c components && kind c) (levelsIn opens letter opened parts low c) (getD before c 0)
   pub long : length levels ≡ length before

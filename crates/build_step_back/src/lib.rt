@@ -83,8 +83,8 @@ pub fn step_rejecting(
     requires { ⌜ (components ≤ 8)
         × ((c : ℕ) → c < components → Rising (now opens) letter opened (getD (now parts) c 0) (now low))
         × (length (now levels) ≡ 8) ⌝ }
-    ensures { λ r. ⌜ BackOf (rejectingPart (now (parts .entry)) accepting) (now (opens .entry)) letter opened (now (parts .entry)) components
-        (now (low .entry)) (now (levels .entry)) r (now (levels .exit)) ⌝ }
+    ensures { λ r. ⌜ BackOf (rejectingPart (now (parts .entry)) accepting) (now (opens .entry)) letter opened (now (parts .entry))
+        components (now (low .entry)) (now (levels .entry)) r (now (levels .exit)) ⌝ }
 {
     let mut ranks: u64 = 0;
     let mut c = 0;
@@ -118,8 +118,8 @@ pub fn step_accepting(
     requires { ⌜ (components ≤ 8)
         × ((c : ℕ) → c < components → Rising (now opens) letter opened (getD (now parts) c 0) (now low))
         × (length (now levels) ≡ 8) ⌝ }
-    ensures { λ r. ⌜ BackOf (acceptingPart (now (parts .entry)) accepting) (now (opens .entry)) letter opened (now (parts .entry)) components
-        (now (low .entry)) (now (levels .entry)) r (now (levels .exit)) ⌝ }
+    ensures { λ r. ⌜ BackOf (acceptingPart (now (parts .entry)) accepting) (now (opens .entry)) letter opened (now (parts .entry))
+        components (now (low .entry)) (now (levels .entry)) r (now (levels .exit)) ⌝ }
 {
     let mut ranks: u64 = 0;
     let mut c = 0;

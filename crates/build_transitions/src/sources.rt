@@ -46,7 +46,15 @@ pub fn sources_of(
         → Sources w letter code r) ⌝ }
 {
     let opened = low[15];
-    let before = build_step_back::step_back(opens, letter, opened, parts, components, accepting, low);
+    let before = build_step_back::step_back(
+        opens,
+        letter,
+        opened,
+        parts,
+        components,
+        accepting,
+        low,
+    );
     let ranks = before.ranks;
     let levels = before.levels;
     let opened_before = opens[letter * 256 + opened as usize];

@@ -93,7 +93,15 @@ fn visit_letter(
         (now (keys .exit)) (g .m) (g .full)) ⌝ }
 {
     let opened = low[15];
-    let before = build_step_back::step_back(opens, letter, opened, parts, shape.components, shape.accepting, low);
+    let before = build_step_back::step_back(
+        opens,
+        letter,
+        opened,
+        parts,
+        shape.components,
+        shape.accepting,
+        low,
+    );
     let earlier = earlier_core(opens, letter, opened, shape.accepting, before.ranks);
     let levels = before.levels;
     move_keys(

@@ -1,5 +1,6 @@
--- Definition 7 of source 000, in its words: R1' and R2'. Its letters here: C is the component of q; Q₁ is the set of the later core (its Q₁ at i+1)
--- and t its ranks, so r' ≺ r is t r' < t r; S and ranks are the earlier core (its Q₁ at i, and its order). The states Q are those below n.
+-- Definition 7 of source 000, in its words: R1' and R2'. Its letters here: C is the component of q; Q₁ is the set of the later core
+-- (its Q₁ at i+1) and t its ranks, so r' ≺ r is t r' < t r; S and ranks are the earlier core (its Q₁ at i, and its order).
+-- The states Q are those below n.
 use mathlib.Core.Path.{_≡_}
 use mathlib.Core.Logic.{_↔_}
 use mathlib.Core.Bool.{Bool, true, false, _&&_, _||_, not}
@@ -11,8 +12,8 @@ use Rattle.sets.specs.Masks.{bit}
 use Rattle.theory.specs.Rule.{satisfies}
 use Rattle.theory.specs.Automaton.{Automaton}
 
--- 000, section 2: the dual of an entry exchanges "ff and tt" and "∧ and ∨". An entry is a disjunction of clauses, each the conjunction of its states,
--- so X satisfies the dual entry if X has some state of every clause. No clause: always. An empty clause: never.
+-- 000, section 2: the dual of an entry exchanges "ff and tt" and "∧ and ∨". An entry is a disjunction of clauses, each the conjunction
+-- of its states, so X satisfies the dual entry if X has some state of every clause. No clause: always. An empty clause: never.
 unfoldable pub satisfiesDual : ℕ → Set → List ℕ → Bool
 satisfiesDual n X [] = true
 satisfiesDual n X (c ∷ cs) = some n (λ p. bit c p && X p) && satisfiesDual n X cs

@@ -30,8 +30,8 @@ module _ (A : Automaton) where
   -- The same as far as its accepting components go. 01: "its states outside S if it is accepting"
   pub record EarlierAccepting (a : ℕ) (S : Set) (r : ℕ → ℕ) (T : Set) (t : ℕ → ℕ) (l : ℕ → ℕ) : Type 0 where
     pub exact : (q : ℕ) → q < A .n → A .accepting q ≡ true → S q ≡ satisfies (A .n) T (A .entry q a)
-    -- the least j such that: "take the states outside both K and T's set, with those open states of rank at most j; the states left over do not
-    -- satisfy q's entry"
+    -- the least j such that: "take the states outside both K and T's set, with those open states of rank at most j; the states left over
+    -- do not satisfy q's entry"
     pub level : (q : ℕ) → q < A .n → A .accepting q ≡ true → S q ≡ false
         → Least (λ j. acceptingSettled A T (λ p. not (T p) && leb (t p) j) q (A .entry q a)) (l q)
     pub ordered : (q p : ℕ) → q < A .n → p < A .n → A .component q ≡ A .component p → A .accepting q ≡ true → S q ≡ false → S p ≡ false

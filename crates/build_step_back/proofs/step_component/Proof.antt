@@ -97,7 +97,7 @@ unfolding upto goal
 add-ranks c =
     let a = c .before .before .before .before .before .before .before .before .args in let l = c .before .before .before .before .before .loop in
     rw (c .spread .ensures)
-        (omega (arith, ranks-fit (a .opens .now) (a .letter) (a .opened) (a .part) (a .low .now) (l .inv .0) (omega arith) (l .prev) (l .ones) (l .ranks) (l .levels) (l .j) (l .inv .2) (more (c .before .before .before .before)) (c .before .if2 .left)))
+    (omega (arith, ranks-fit (a .opens .now) (a .letter) (a .opened) (a .part) (a .low .now) (l .inv .0) (omega arith) (l .prev) (l .ones) (l .ranks) (l .levels) (l .j) (l .inv .2) (more (c .before .before .before .before)) (c .before .if2 .left)))
 
 loop-less-2 : tie.Need-loop-less-2 Inv-loop μ-loop
 loop-less-2 c = omega (arith, deep (c .before .before .before .before))
