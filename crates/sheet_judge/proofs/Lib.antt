@@ -1,0 +1,3 @@
+pub mod Fronts
+pub mod Loop
+pub mod Calls
