@@ -73,6 +73,7 @@ enum {
     MULGREDDI_NAMES = 21,            /* 4e 4d before the clauses and under 8 * s bytes before it; when writing: neither none nor 8 * s */
     MULGREDDI_NAME_BYTE = 22,        /* a name byte outside 20..7e */
     MULGREDDI_EQUAL_NAMES = 23,      /* two equal names */
+    MULGREDDI_WORDS = 24,            /* a sheet of more than 64 words */
     MULGREDDI_EVENT_LINE = 25,       /* an event line with lowest above highest, a letter not below s, cut off, or the 65th */
     MULGREDDI_COVERED_LINE = 26,     /* an event line all of whose pairs fall in earlier lines */
     MULGREDDI_NO_LINE = 27           /* an event in no line */
@@ -191,6 +192,17 @@ mulgreddi_answer mulgreddi_judge(const uint8_t *file, size_t file_len,
 mulgreddi_answer mulgreddi_judge_choices(const uint8_t *file, size_t file_len,
                                          const uint8_t *lead, size_t lead_len, const uint8_t *cycle, size_t cycle_len,
                                          uint8_t *masks, size_t masks_len, uint8_t *choices, size_t choices_len);
+
+/* Judges up to 64 words on one rule, each as if alone.
+ * A sheet gives for each word two length bytes, lead-in and cycle, then its letters; the next word begins after as many letters as the two
+ * bytes say. Byte i of answers becomes 1 if the rule accepts word i, 0 if not, or the number of a faulty word: 12, 13 (also for a word that
+ * the sheet's end cuts off, and for a lone length byte) or 14; the others are still answered. Bytes 64 * i to 64 * i + 63 of masks become
+ * the word's masks, those past its places 0, a faulty word's all 0. What follows in both slices is not touched.
+ * first: words. second: cycles filled, which is the number of distinct cycles of the tidy spellings of the words that are not faulty.
+ * The rule's refusals, 24 for a sheet of more than 64 words, a cut-off one counted, and 16 where answers has less than a byte or masks less
+ * than 64 bytes for each word. */
+mulgreddi_answer mulgreddi_judge_sheet(const uint8_t *file, size_t file_len, const uint8_t *sheet, size_t sheet_len,
+                                       uint8_t *answers, size_t answers_len, uint8_t *masks, size_t masks_len);
 
 /* Builds the unambiguous automaton of a rule.
  * codes gets the codes of all reachable macrostates, ascending; a macrostate's number is its place there, from 0. transitions gets

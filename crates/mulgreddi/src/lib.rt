@@ -3,6 +3,7 @@ pub mod choices;
 pub mod event;
 pub mod loops;
 pub mod names;
+pub mod sheet;
 pub mod tidy;
 pub mod trimmed;
 pub mod word;

@@ -13,6 +13,8 @@ use Rattle.loop_spec.specs.declared.Report.{Report}
 use Rattle.loop_spec.specs.declared.Report.the-variants as report
 use Rattle.rule_same.specs.declared.entries.SameRules.{SameRules}
 use Rattle.rule_same.specs.declared.entries.SameRules.the-variants as rules
+use Rattle.sheet_spec.specs.declared.SheetAnswer.{SheetAnswer}
+use Rattle.sheet_spec.specs.declared.SheetAnswer.the-variants as sheet
 use Rattle.table_call.specs.declared.Start.{Start}
 use Rattle.table_call.specs.declared.Start.the-variants as tables
 use Rattle.word_same.specs.declared.SameWords.{SameWords}
@@ -71,6 +73,11 @@ unfoldable pub verdictAnswer : Verdict → Answer
 verdictAnswer judge.Yes = servedAs 1 0
 verdictAnswer judge.No = servedAs 0 0
 verdictAnswer (judge.Refused row) = refusedAs row
+
+-- the number of words on the sheet, and of cycles filled
+unfoldable pub sheetAnswer : SheetAnswer → Answer
+sheetAnswer (sheet.Judged totals) = servedAs (totals .words) (totals .cycles)
+sheetAnswer (sheet.Refused row) = refusedAs row
 
 -- "It answers both counts": macrostates, transitions
 unfoldable pub builtAnswer : Built → Answer

@@ -6,13 +6,14 @@ use file_write_spec::Written;
 use judge_spec::Verdict;
 use loop_spec::Report;
 use rule_same::entries::SameRules;
+use sheet_spec::SheetAnswer;
 use table_call::Start;
 use word_same::SameWords;
 use word_spelling::TidyWord;
 ghost use mathlib.Core.Path.{_≡_};
 ghost use Rattle.mulgreddi_answers.specs.Answers.{refusedAs, servedAs, writtenAnswer, tidiedAnswer, loopAnswer};
 ghost use Rattle.mulgreddi_answers.specs.Answers.{sameRulesAnswer, sameWordsAnswer, tidyWordAnswer, verdictAnswer};
-ghost use Rattle.mulgreddi_answers.specs.Answers.{builtAnswer, startAnswer, translatedAnswer};
+ghost use Rattle.mulgreddi_answers.specs.Answers.{builtAnswer, sheetAnswer, startAnswer, translatedAnswer};
 
 // refusal is 0 where the input was served; else first and second are 0.
 #[repr(C)]
@@ -115,6 +116,16 @@ pub fn verdict(answer: Verdict) -> Answer
         Verdict::Yes => served(1, 0),
         Verdict::No => served(0, 0),
         Verdict::Refused(row) => refused(row),
+    }
+}
+
+// The number of words on the sheet, and of cycles filled.
+pub fn sheet(answer: SheetAnswer) -> Answer
+    ensures { λ r. ⌜ r ≡ sheetAnswer answer ⌝ }
+{
+    match answer {
+        SheetAnswer::Judged(totals) => served(totals.words as u64, totals.cycles as u64),
+        SheetAnswer::Refused(row) => refused(row),
     }
 }
 
