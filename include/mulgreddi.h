@@ -106,6 +106,7 @@ static inline const char *mulgreddi_refusal_text(uint64_t refusal)
     case MULGREDDI_NAMES: return "the names do not fit: 8 bytes are needed for each letter";
     case MULGREDDI_NAME_BYTE: return "a byte of a name is not printable ASCII (20 to 7e)";
     case MULGREDDI_EQUAL_NAMES: return "two letters have the same name";
+    case MULGREDDI_WORDS: return "the sheet has more than 64 words";
     case MULGREDDI_EVENT_LINE: return "an event line has lowest above highest or no letter of the rule, is cut off, or is the 65th";
     case MULGREDDI_COVERED_LINE: return "an event line can never be first: earlier lines hold all of its events";
     case MULGREDDI_NO_LINE: return "an event of the log is in no event line";

@@ -51,6 +51,19 @@ static void judge_choices(void)
     mulgreddi_judge_choices(file, file_len, lead, 32, cycle, 32, masks, sizeof masks, choices, sizeof choices);
 }
 
+/* 64 words of 64 letters */
+static void judge_sheet(void)
+{
+    static uint8_t sheet[64 * 66], answers[64], all[64 * 64];
+    for (int i = 0; i < 64; i++) {
+        sheet[66 * i] = sheet[66 * i + 1] = 32;
+        memcpy(sheet + 66 * i + 2, lead, 32);
+        memcpy(sheet + 66 * i + 34, cycle, 32);
+        sheet[66 * i + 2 + i % 32] = 0;
+    }
+    mulgreddi_judge_sheet(file, file_len, sheet, sizeof sheet, answers, sizeof answers, all, sizeof all);
+}
+
 static void build_trimmed(void)
 {
     mulgreddi_build_trimmed(file, file_len, codes, MULGREDDI_MACROSTATES_MAX, transitions, MULGREDDI_TRANSITIONS_MAX);
@@ -84,6 +97,7 @@ static const struct { const char *name; void (*call)(void); } calls[] = {
     {"tidy_word", tidy_word},
     {"judge", judge},
     {"judge_choices", judge_choices},
+    {"judge_sheet", judge_sheet},
     {"build_trimmed", build_trimmed},
     {"build", build},
     {"judge_table", judge_table},

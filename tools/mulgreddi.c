@@ -493,6 +493,13 @@ static void print_choices(const rule *r, word w, const uint8_t *choices)
     }
 }
 
+static void print_masks(const uint8_t *masks, size_t lead_len, size_t places)
+{
+    for (size_t place = 0; place < places; place++)
+        printf("%s%02x", place == lead_len ? ":" : place ? "," : "", masks[place]);
+    printf("\n");
+}
+
 static int judge_on_table(const rule *r, const char *text, word w)
 {
     static bytes c, t;
@@ -530,9 +537,7 @@ static int judge_word(const rule *r, const char *text)
         return word_refused(text, a.refusal);
     print_word(r, w);
     printf(" %s masks ", a.first ? "yes" : "no");
-    for (size_t place = 0; place < w.lead_len + w.cycle_len; place++)
-        printf("%s%02x", place == w.lead_len ? ":" : place ? "," : "", masks[place]);
-    printf("\n");
+    print_masks(masks, w.lead_len, w.lead_len + w.cycle_len);
     if (option("choices"))
         print_choices(r, w, choices);
     free(w.lead);
@@ -564,6 +569,63 @@ static int judge(int count, char **operand)
         }
         free(line);
     }
+    return status;
+}
+
+/* The sheet of words that are written a line each: of each word two length bytes, then its letters. */
+static bytes sheet_of_lines(const rule *r, const char *path)
+{
+    bytes lines = load(path), sheet = {lines.path, room(2 * lines.len + 2), 0};
+    lines.at[lines.len] = 0;
+    for (char *line = (char *)lines.at, *next; line; line = next) {
+        if ((next = strchr(line, '\n')))
+            *next++ = 0;
+        if (line[strspn(line, " \t\r")] == 0)
+            continue;
+        word w = read_word(r, line);
+        if (w.lead_len > 255 || w.cycle_len > 255) {
+            say("word %s: a sheet has no room for so many letters", line);
+            exit(FAULT);
+        }
+        sheet.at[sheet.len++] = (uint8_t)w.lead_len;
+        sheet.at[sheet.len++] = (uint8_t)w.cycle_len;
+        memcpy(sheet.at + sheet.len, w.lead, w.lead_len);
+        memcpy(sheet.at + sheet.len + w.lead_len, w.cycle, w.cycle_len);
+        sheet.len += w.lead_len + w.cycle_len;
+    }
+    return sheet;
+}
+
+static int sheet(int count, char **operand)
+{
+    uint8_t answers[64], masks[64 * 64];
+    rule r = open_rule(operand[0]);
+    bytes s = option("lines") ? sheet_of_lines(&r, operand[1]) : load(operand[1]);
+    int status = YES;
+    (void)count;
+    mulgreddi_answer a = mulgreddi_judge_sheet(r.file.at, r.file.len, s.at, s.len, answers, sizeof answers, masks, sizeof masks);
+    if (a.refusal)
+        return refused(s.path, a.refusal, NULL);
+    size_t at = 0;
+    for (uint64_t i = 0; i < a.first; i++) {
+        size_t left = s.len - at, lead = s.at[at], cycle = left > 1 ? s.at[at + 1] : 0;
+        if (left < 2 || left - 2 < lead + cycle)
+            printf("cut off");
+        else
+            print_word(&r, (word){lead, cycle, s.at + at + 2, s.at + at + 2 + lead});
+        at += 2 + lead + cycle;
+        if (answers[i] > 1) {
+            printf(" refused %u\n", answers[i]);
+            say("word %llu of %s: refused %u: %s", (number)i, s.path, answers[i], mulgreddi_refusal_text(answers[i]));
+            status = REFUSED;
+            continue;
+        }
+        printf(" %s masks ", answers[i] ? "yes" : "no");
+        print_masks(masks + 64 * i, lead, lead + cycle);
+        if (!answers[i] && status == YES)
+            status = NO;
+    }
+    printf("words %llu, cycles %llu\n", (number)a.first, (number)a.second);
     return status;
 }
 
@@ -699,6 +761,12 @@ static const command commands[] = {
      "  --codes=FILE         writes the codes of the macrostates there, 8 bytes each, low byte first\n"
      "  --transitions=FILE   writes the transitions there, source * 16777216 + letter * 65536 + target, likewise\n",
      1, 1, build_table},
+    {"sheet", "[--lines] FILE SHEET", "lines",
+     "Judges a sheet of up to 64 words on the rule, as `judge` would each: prints a line for each, and then how\n"
+     "many words there are and how many cycles were filled, words whose tidy spellings have the same cycle\n"
+     "sharing one. A SHEET has for each word two bytes, the lengths of lead-in and cycle, and then its letters.\n"
+     "  --lines              SHEET is a text with a word in each line, as `judge` takes them\n",
+     2, 2, sheet},
     {"tidy", "[--out=FILE] FILE", "out=",
      "Writes the rule file without clauses that contain or repeat another of their entry to standard output.\n"
      "The rule stays the same on every word.\n"

@@ -13,6 +13,7 @@ use second::events::translate;
 use second::mixed::mixed_loop;
 use second::names::Name;
 use second::rule::{read_named, same_rules, take_apart, Named};
+use second::sheet::{entries, judge_sheet, Entry};
 use second::spelling::tidy_word;
 use second::table::judge_table;
 use second::tidy::tidy;
@@ -303,6 +304,48 @@ fn judge(printed: &mut Printed, operands: &[String], options: &HashMap<String, S
     status
 }
 
+fn sheet(printed: &mut Printed, operands: &[String], lines: bool) -> i32 {
+    let file = load(&operands[0]);
+    let names = printed.served(read_named(&file)).names;
+    let mut sheet = load(&operands[1]);
+    if lines {
+        let text = String::from_utf8(sheet).unwrap();
+        let words = text.lines().filter(|line| !line.trim().is_empty());
+        let words = words.map(|line| read_word(&names, line));
+        let words = words.map(|(lead, cycle)| {
+            let lengths = vec![lead.len() as u8, cycle.len() as u8];
+            [lengths, lead, cycle].concat()
+        });
+        sheet = words.collect::<Vec<_>>().concat();
+    }
+    let answered = printed.served(judge_sheet(&file, &sheet, 64, 4_096));
+    let mut status = YES;
+    for (i, entry) in entries(&sheet).iter().enumerate() {
+        let (spelled, lead, places) = match *entry {
+            Entry::Whole(lead, cycle) => (
+                word(&names, lead, cycle),
+                lead.len(),
+                lead.len() + cycle.len(),
+            ),
+            _ => ("cut off".to_string(), 0, 0),
+        };
+        let own = match answered.answers[i] {
+            0 | 1 => masks(&answered.masks[64 * i..64 * i + places], lead),
+            _ => String::new(),
+        };
+        let (line, one) = match answered.answers[i] {
+            0 => (format!("no masks {own}"), NO),
+            1 => (format!("yes masks {own}"), YES),
+            number => (format!("refused {number}"), REFUSED),
+        };
+        printed.line(&format!("{spelled} {line}"));
+        status = status.max(one);
+    }
+    let (words, cycles) = (answered.answers.len(), answered.cycles);
+    printed.line(&format!("words {words}, cycles {cycles}"));
+    status
+}
+
 fn loop_command(printed: &mut Printed, path: &str) -> i32 {
     let file = load(path);
     let Some(states) = printed.served(mixed_loop(&file)) else {
@@ -388,6 +431,7 @@ fn main() {
         "list" => list(printed, &operands[0], options.contains_key("trimmed")),
         "judge" => judge(printed, &operands, &options),
         "build" => build_command(printed, &operands[0], &options),
+        "sheet" => sheet(printed, &operands, options.contains_key("lines")),
         "tidy" => tidy_command(printed, &operands[0], options.get("out")),
         "loop" => loop_command(printed, &operands[0]),
         "same" => {
