@@ -117,6 +117,16 @@ extern "C" {
         choices: *mut u8,
         choices_length: usize,
     ) -> Answer;
+    pub fn mulgreddi_judge_sheet(
+        file: *const u8,
+        file_length: usize,
+        sheet: *const u8,
+        sheet_length: usize,
+        answers: *mut u8,
+        answers_length: usize,
+        masks: *mut u8,
+        masks_length: usize,
+    ) -> Answer;
     pub fn mulgreddi_translate(
         file: *const u8,
         file_length: usize,

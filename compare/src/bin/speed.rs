@@ -11,7 +11,7 @@ use std::time::{Duration, Instant};
 use compare::chains::{self, Order};
 use compare::library::{
     mulgreddi_build, mulgreddi_build_trimmed, mulgreddi_judge, mulgreddi_judge_choices,
-    mulgreddi_judge_table, mulgreddi_tidy_word, mulgreddi_translate, Answer,
+    mulgreddi_judge_sheet, mulgreddi_judge_table, mulgreddi_tidy_word, mulgreddi_translate, Answer,
 };
 use compare::stored::{LARGE, OVER};
 use second::build::build;
@@ -203,6 +203,58 @@ fn chain_times(length: u64, accepting: Order, rejecting: Order) {
         codes.len(),
         transitions.len()
     );
+}
+
+/// A sheet of 64 words on one cycle beside as many calls of the judge.
+fn sheet_times(shape: Shape, name: &str) {
+    let mut random = Random::new(11);
+    let (mut sheets, mut alone) = (Vec::new(), Vec::new());
+    for _ in 0..100 {
+        let file = sample::file(&sample::rule(&mut random, shape, 8, 16));
+        let cycle = sample::letters(&mut random, 16, 32);
+        let leads: Vec<Vec<u8>> = (0..64)
+            .map(|_| sample::letters(&mut random, 16, 32))
+            .collect();
+        let mut sheet = Vec::new();
+        for lead in &leads {
+            sheet.extend([32, 32]);
+            sheet.extend(lead.iter().chain(&cycle));
+        }
+        let (mut answers, mut masks) = ([0u8; 64], [0u8; 4_096]);
+        sheets.push(time(|| {
+            let answer = unsafe {
+                mulgreddi_judge_sheet(
+                    file.as_ptr(),
+                    file.len(),
+                    sheet.as_ptr(),
+                    sheet.len(),
+                    answers.as_mut_ptr(),
+                    answers.len(),
+                    masks.as_mut_ptr(),
+                    masks.len(),
+                )
+            };
+            black_box((answer.refusal, answer.first, answer.second));
+        }));
+        alone.push(time(|| {
+            for lead in &leads {
+                let answer = unsafe {
+                    mulgreddi_judge(
+                        file.as_ptr(),
+                        file.len(),
+                        lead.as_ptr(),
+                        lead.len(),
+                        cycle.as_ptr(),
+                        cycle.len(),
+                        masks.as_mut_ptr(),
+                        masks.len(),
+                    )
+                };
+                black_box((answer.refusal, answer.first, answer.second));
+            }
+        }));
+    }
+    println!("sheet {name:12} {} {}", figures(&sheets), figures(&alone));
 }
 
 /// Ten million events by a table of 64 lines, as bench/reference_events.cpp makes them.
@@ -549,4 +601,9 @@ fn main() {
             judge_times(Shape::VeryWeak, "very weak", states, letters);
         }
     }
+    println!("microseconds for 64 words on one cycle        on a sheet: mean, longest; each alone: mean, longest");
+    sheet_times(Shape::One, "one");
+    sheet_times(Shape::Layers, "layers");
+    sheet_times(Shape::Rings, "rings");
+    sheet_times(Shape::VeryWeak, "very weak");
 }

@@ -7,6 +7,7 @@ mod build_trimmed;
 mod check;
 mod judge;
 mod judge_choices;
+mod judge_sheet;
 mod judge_table;
 mod mixed_loop;
 mod same_rules;
@@ -31,6 +32,7 @@ pub fn all() -> Vec<Entry> {
         mixed_loop::ENTRY,
         tidy_word::ENTRY,
         judge_choices::ENTRY,
+        judge_sheet::ENTRY,
         translate::ENTRY,
         build_trimmed::ENTRY,
     ]
