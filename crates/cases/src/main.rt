@@ -105,6 +105,14 @@ fn run_build(call: &[u8]) {
     build_into(part(call, 1), &mut codes[0..n], &mut transitions[0..m]);
 }
 
+fn say_start(answer: Start) {
+    match answer {
+        Start::Yes(number) => say_answer(0, 1, number),
+        Start::No => say_answer(0, 0, 0),
+        Start::Refused(row) => say_answer(row, 0, 0),
+    }
+}
+
 fn judge_table_into(
     file: &[u8],
     lead: &[u8],
@@ -115,11 +123,7 @@ fn judge_table_into(
 ) {
     let answer = table_judge::judge_table_bytes(file, lead, cycle, codes, transitions, scratch);
     say_bytes(scratch);
-    match answer {
-        Start::Yes(number) => say_answer(0, 1, number),
-        Start::No => say_answer(0, 0, 0),
-        Start::Refused(row) => say_answer(row, 0, 0),
-    }
+    say_start(answer);
 }
 
 fn run_judge_table(call: &[u8]) {
@@ -135,6 +139,38 @@ fn run_judge_table(call: &[u8]) {
     );
 }
 
+// The judge on the numbers that a build leaves in its two slices.
+fn judge_built_into(
+    file: &[u8],
+    lead: &[u8],
+    cycle: &[u8],
+    codes: &mut [u64],
+    transitions: &mut [u64],
+    scratch: &mut [u8],
+) {
+    build::build(file, codes, transitions);
+    let answer = table_judge::judge_table(file, lead, cycle, codes, transitions, scratch);
+    say_bytes(scratch);
+    say_start(answer);
+}
+
+fn run_judge_built(call: &[u8]) {
+    let mut codes = lent_numbers();
+    let mut transitions = lent_numbers();
+    let mut scratch = lent_bytes();
+    let n = byte(call, 1);
+    let m = byte(call, 2);
+    let room = byte(call, 3);
+    judge_built_into(
+        part(call, 1),
+        part(call, 2),
+        part(call, 3),
+        &mut codes[0..n],
+        &mut transitions[0..m],
+        &mut scratch[0..room],
+    );
+}
+
 fn run(call: &[u8]) {
     say(part(call, 0));
     match byte(call, 0) {
@@ -144,7 +180,8 @@ fn run(call: &[u8]) {
         3 => run_same_words(part(call, 1), part(call, 2), part(call, 3), part(call, 4)),
         4 => run_judge(call),
         5 => run_build(call),
-        _ => run_judge_table(call),
+        6 => run_judge_table(call),
+        _ => run_judge_built(call),
     }
 }
 

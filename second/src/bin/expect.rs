@@ -123,40 +123,59 @@ impl Calls {
         table: [&[u8]; 2],
         room: u8,
     ) {
-        let judged = judge_table(file, word, table, room.into());
-        // "Scratch ends all zero."
-        let (scratch, answer) = match judged {
-            Ok(start) => (
-                vec![0; room.into()],
-                Ok(start.map_or((0, 0), |number| (1, number))),
-            ),
-            Err(row) => (vec![], Err(row)),
-        };
-        let holds = kept(&scratch, room);
+        let (holds, answer) = start(file, word, table, room);
         let parts = [&[file], &word[..], &table[..]].concat();
         self.add(name, (6, &[room]), &parts, &holds, answer);
     }
 
     fn build(&mut self, name: &str, file: &[u8], rooms: [u8; 2]) {
-        let built = build(file, rooms[0].into(), rooms[1].into());
-        // "unused elements become 0"; "1 to 16 change no lent slice, 17 and 18
-        // set both room slices to zero throughout"; "refusals from 19 on change
-        // no lent slice"
-        let (lists, rest, answer) = match built {
-            Ok((codes, transitions)) => {
-                let counts = (codes.len(), transitions.len());
-                ([codes, transitions], 0, Ok(counts))
-            }
-            Err(row @ (17 | 18)) => ([vec![], vec![]], 0, Err(row)),
-            Err(row) => ([vec![], vec![]], LENT.into(), Err(row)),
-        };
-        let mut holds = Vec::new();
-        for (mut list, room) in lists.into_iter().zip(rooms) {
-            list.resize(room.into(), rest);
-            holds.extend(numbers(&list));
-        }
+        let (lists, answer) = slices(file, rooms);
+        let holds = lists.map(|list| numbers(&list)).concat();
         self.add(name, (5, &rooms), &[file], &holds, answer);
     }
+
+    /// The build, then the judge on the numbers that its two slices hold.
+    fn judge_built(&mut self, name: &str, file: &[u8], word: [&[u8]; 2], rooms: [u8; 3]) {
+        let [n, m, room] = rooms;
+        let (lists, _) = slices(file, [n, m]);
+        let table = lists.map(|list| bytes(&list));
+        let (holds, answer) = start(file, word, [&table[0], &table[1]], room);
+        let parts = [&[file], &word[..]].concat();
+        self.add(name, (7, &rooms), &parts, &holds, answer);
+    }
+}
+
+/// What scratch of `room` bytes holds after the judge on a table, and its answer.
+fn start(file: &[u8], word: [&[u8]; 2], table: [&[u8]; 2], room: u8) -> (Vec<u8>, Answer) {
+    // "Scratch ends all zero."
+    let (scratch, answer) = match judge_table(file, word, table, room.into()) {
+        Ok(start) => (
+            vec![0; room.into()],
+            Ok(start.map_or((0, 0), |number| (1, number))),
+        ),
+        Err(row) => (vec![], Err(row)),
+    };
+    (kept(&scratch, room), answer)
+}
+
+/// What both slices hold after a build, and its answer.
+fn slices(file: &[u8], rooms: [u8; 2]) -> ([Vec<u64>; 2], Answer) {
+    let built = build(file, rooms[0].into(), rooms[1].into());
+    // "unused elements become 0"; "1 to 16 change no lent slice, 17 and 18 set
+    // both room slices to zero throughout"; "refusals from 19 on change no lent
+    // slice"
+    let (mut lists, rest, answer) = match built {
+        Ok((codes, transitions)) => {
+            let counts = (codes.len(), transitions.len());
+            ([codes, transitions], 0, Ok(counts))
+        }
+        Err(row @ (17 | 18)) => ([vec![], vec![]], 0, Err(row)),
+        Err(row) => ([vec![], vec![]], LENT.into(), Err(row)),
+    };
+    for (list, room) in lists.iter_mut().zip(rooms) {
+        list.resize(room.into(), rest);
+    }
+    (lists, answer)
 }
 
 fn numbers(list: &[u64]) -> Vec<u8> {
@@ -241,7 +260,18 @@ fn cases(calls: &mut Calls) {
         let (codes, transitions) = build(file, 255, 255).unwrap();
         let table = [&bytes(&codes)[..], &bytes(&transitions)];
         calls.judge_table(&format!("case {number}, table"), file, word, table, 16);
+        let counts = [codes.len() as u8, transitions.len() as u8];
+        let name = format!("case {number}, built");
+        calls.judge_built(&name, file, word, [counts[0], counts[1], 16]);
     }
+    let word: [&[u8]; 2] = [&[0, 1], &[0]];
+    calls.judge_built("case 5, scratch short", F, word, [3, 7, 8]);
+    calls.judge_built("case 5, zeros after the codes", F, word, [4, 7, 16]);
+    calls.judge_built("case 5, no room", F, word, [2, 7, 16]);
+    calls.judge_built("case 9, built", D, [&[], &[0]], [13, 26, 13]);
+    calls.judge_built("Z, built", Z, [&[], &[0]], [1, 0, 1]);
+    calls.judge_built("Z, row 14", Z, [&[], &[1]], [1, 0, 1]);
+    calls.judge_built("row 11, built", REFUSED[10].1, [&[], &[]], [1, 1, 1]);
 }
 
 /// A preface that can be read in the output.
