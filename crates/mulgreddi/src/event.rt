@@ -19,5 +19,5 @@ pub extern "C" fn mulgreddi_translate(
     ensures { λ _. ⌜ now (letters .exit)
         ≡ lettersAfter (now (file .entry)) (now (events .entry)) (now (log .entry)) (now (letters .entry)) ⌝ }
 {
-    mulgreddi_answers::translated(event_translate::translate(file, events, log, letters))
+    mulgreddi_answers_tables::translated(event_translate::translate(file, events, log, letters))
 }

@@ -40,7 +40,7 @@ pub extern "C" fn mulgreddi_check(file: &[u8]) -> Answer
     match file_read::read_rule(file) {
         Read::Accepted(layout) => {
             let names = file_read::names_of(file, layout);
-            mulgreddi_answers::served(layout.at as u64, names.len() as u64)
+            mulgreddi_answers_rules::checked(layout.at, names.len())
         }
         Read::Refused(row) => mulgreddi_answers::refused(row),
     }
@@ -63,7 +63,7 @@ pub extern "C" fn mulgreddi_write(
     ensures { λ _. ⌜ now (out .exit)
         ≡ sliceAfter (headFrom n s initial accepting) (now (counts .entry)) (now (clauses .entry)) [] (now (out .entry)) ⌝ }
 {
-    mulgreddi_answers::written(file_write::writer::write_rule(n, s, initial, accepting, counts, clauses, out))
+    mulgreddi_answers_rules::written(file_write::writer::write_rule(n, s, initial, accepting, counts, clauses, out))
 }
 
 // Whether two rule files are the same rule.
@@ -71,7 +71,7 @@ pub extern "C" fn mulgreddi_write(
 pub extern "C" fn mulgreddi_same_rules(first: &[u8], second: &[u8]) -> Answer
     ensures { λ r. ⌜ r ≡ sameRulesAnswer (sameRulesOf (now (first .entry)) (now (second .entry))) ⌝ }
 {
-    mulgreddi_answers::same_rules(rule_same::files::same_rules(first, second))
+    mulgreddi_answers_rules::same_rules(rule_same::files::same_rules(first, second))
 }
 
 // Whether two words agree at every step.
@@ -88,7 +88,7 @@ pub extern "C" fn mulgreddi_same_words(
         → (sameWordsOf (now (lead1 .entry)) (now (cycle1 .entry)) (now (lead2 .entry)) (now (cycle2 .entry)) ≡ Same)
         ↔ Agree (now (lead1 .entry)) (now (cycle1 .entry)) (now (lead2 .entry)) (now (cycle2 .entry))) ⌝ }
 {
-    mulgreddi_answers::same_words(word_same::same_words(lead1, cycle1, lead2, cycle2))
+    mulgreddi_answers_words::same_words(word_same::same_words(lead1, cycle1, lead2, cycle2))
 }
 
 // Whether the rule accepts the word; writes the masks of the states from which it accepts, a byte a place.
@@ -102,7 +102,7 @@ pub extern "C" fn mulgreddi_judge(
     ensures { λ r. ⌜ ((v : Verdict) × (r ≡ verdictAnswer v)
         × Judged (now (file .entry)) (now (lead .entry)) (now (cycle .entry)) (now (masks .entry)) (now (masks .exit)) v) ⌝ }
 {
-    mulgreddi_answers::verdict(judge::judge(file, lead, cycle, masks))
+    mulgreddi_answers_words::verdict(judge::judge(file, lead, cycle, masks))
 }
 
 // Builds the unambiguous automaton of a rule file: codes and transitions, both ascending, zeros after them; both counts.
@@ -112,7 +112,7 @@ pub extern "C" fn mulgreddi_build(file: &[u8], codes: &mut [u64], transitions: &
         × TableBuilt (now (file .entry)) (now (codes .entry)) (now (transitions .entry)) b
         (now (codes .exit)) (now (transitions .exit))) ⌝ }
 {
-    mulgreddi_answers::built(build::build(file, codes, transitions))
+    mulgreddi_answers_tables::built(build::build(file, codes, transitions))
 }
 
 // Judges a word on a table of codes and transitions in bytes; 1 for yes, 0 for no, and with yes the lowest number where an accepting run
@@ -131,5 +131,5 @@ pub extern "C" fn mulgreddi_judge_table(
         × JudgedTable (now (file .entry)) (now (lead .entry)) (now (cycle .entry)) (inBytes (now (codes .entry)))
         (inBytes (now (transitions .entry))) (now (scratch .entry)) (now (scratch .exit)) a) ⌝ }
 {
-    mulgreddi_answers::start(table_judge::judge_table_bytes(file, lead, cycle, codes, transitions, scratch))
+    mulgreddi_answers_tables::start(table_judge::judge_table_bytes(file, lead, cycle, codes, transitions, scratch))
 }

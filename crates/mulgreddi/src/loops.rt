@@ -15,5 +15,5 @@ pub extern "C" fn mulgreddi_mixed_loop(file: &[u8], out: &mut [u8]) -> Answer
     ensures { λ r. ⌜ (reportRow (now (file .entry)) (length (now (out .entry))) ≡ 0
         → Reported (ruleIn (now (file .entry))) (take (r .first) (now (out .exit)))) ⌝ }
 {
-    mulgreddi_answers::reported(loop_report::mixed_loop(file, out))
+    mulgreddi_answers_rules::reported(loop_report::mixed_loop(file, out))
 }

@@ -17,5 +17,5 @@ pub extern "C" fn mulgreddi_judge_sheet(
         × SheetJudged (now (file .entry)) (now (sheet .entry)) (now (answers .entry)) (now (masks .entry))
         (now (answers .exit)) (now (masks .exit)) v) ⌝ }
 {
-    mulgreddi_answers::sheet(sheet_judge::judge_sheet(file, sheet, answers, masks))
+    mulgreddi_answers_words::sheet(sheet_judge::judge_sheet(file, sheet, answers, masks))
 }

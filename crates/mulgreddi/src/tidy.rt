@@ -11,5 +11,5 @@ pub extern "C" fn mulgreddi_tidy(file: &[u8], out: &mut [u8]) -> Answer
     ensures { λ r. ⌜ r ≡ tidiedAnswer (tidiedOf (now (file .entry)) (length (now (out .entry)))) ⌝ }
     ensures { λ _. ⌜ now (out .exit) ≡ sliceTidied (now (file .entry)) (now (out .entry)) ⌝ }
 {
-    mulgreddi_answers::tidied(file_tidy::tidy(file, out))
+    mulgreddi_answers_rules::tidied(file_tidy::tidy(file, out))
 }

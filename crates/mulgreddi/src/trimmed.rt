@@ -37,5 +37,5 @@ pub extern "C" fn mulgreddi_build_trimmed(
         → NeverTwo (ruleIn (now (file .entry))) (take (n .macrostates) (now (codes .exit)))
         (take (n .transitions) (now (transitions .exit)))) ⌝ }
 {
-    mulgreddi_answers::built(build_trimmed::build_trimmed(file, codes, transitions))
+    mulgreddi_answers_tables::built(build_trimmed::build_trimmed(file, codes, transitions))
 }

@@ -18,5 +18,5 @@ pub extern "C" fn mulgreddi_tidy_word(lead: &[u8], cycle: &[u8], out: &mut [u8])
         → Tidy (letters (now (lead .entry)) (now (cycle .entry))) (tidyLead (now (lead .entry)) (now (cycle .entry)))
         (tidyCycle (now (lead .entry)) (now (cycle .entry)))) ⌝ }
 {
-    mulgreddi_answers::tidy_word(word_spelling::tidy_word(lead, cycle, out))
+    mulgreddi_answers_words::tidy_word(word_spelling::tidy_word(lead, cycle, out))
 }

@@ -20,8 +20,8 @@ enum-known-layout c = search needs
 names-of-requires : tie.Need-names-of-requires
 names-of-requires c κs = sym (c .before .before .before .read-rule .ensures) ∙ c .before .layout .given .1
 
-served-requires : tie.Need-served-requires
-served-requires c κs = search needs
+checked-requires : tie.Need-checked-requires
+checked-requires c κs = search needs
 
 enum-known-row : tie.Need-enum-known-row
 enum-known-row c = search needs
@@ -34,7 +34,7 @@ unfolding readAnswer
 returns c =
     let f = c .before .before .before .before .before .before .before .args .file .now in
     let l = c .before .before .before .layout .given .0 .0 in
-    c .served .ensures
+    c .checked .ensures
     ∙ ap (λ (names : List ℕ). servedAs (l .at) (length names)) (c .before .names-of .ensures)
     ∙ sym (ap (λ (r : Read). readAnswer r (namesOf f)) (sym (c .before .before .before .before .before .read-rule .ensures) ∙ c .before .before .before .layout .given .1))
 
@@ -52,7 +52,7 @@ mulgreddi-check-spec =
     read-rule-requires
     enum-known-layout
     names-of-requires
-    served-requires
+    checked-requires
     enum-known-row
     refused-requires
     returns

@@ -1,0 +1,38 @@
+// The answers on tables and logs as the three numbers of the C interface: builds, the judge on a table, translated logs.
+use build::Built;
+use event_spec::Translated;
+use mulgreddi_answers::Answer;
+use table_call::Start;
+ghost use mathlib.Core.Path.{_≡_};
+ghost use Rattle.mulgreddi_answers.specs.Answers.{builtAnswer, startAnswer, translatedAnswer};
+
+// Both counts.
+pub fn built(answer: Built) -> Answer
+    ensures { λ r. ⌜ r ≡ builtAnswer answer ⌝ }
+{
+    match answer {
+        Built::Table(counts) => mulgreddi_answers::served(counts.macrostates as u64, counts.transitions as u64),
+        Built::Refused(row) => mulgreddi_answers::refused(row),
+    }
+}
+
+// 1 and the number for yes, 0 for no.
+pub fn start(answer: Start) -> Answer
+    ensures { λ r. ⌜ r ≡ startAnswer answer ⌝ }
+{
+    match answer {
+        Start::Yes(number) => mulgreddi_answers::served(1, number as u64),
+        Start::No => mulgreddi_answers::served(0, 0),
+        Start::Refused(row) => mulgreddi_answers::refused(row),
+    }
+}
+
+// The number of letters written.
+pub fn translated(answer: Translated) -> Answer
+    ensures { λ r. ⌜ r ≡ translatedAnswer answer ⌝ }
+{
+    match answer {
+        Translated::Letters(letters) => mulgreddi_answers::served(letters as u64, 0),
+        Translated::Refused(row) => mulgreddi_answers::refused(row),
+    }
+}
