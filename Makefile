@@ -30,6 +30,9 @@ SOURCES := crates.txt $(shell find crates -type f -not -path '*/must-fail/*')
 CARGO := CARGO_TARGET_DIR=$(CURDIR)/$(BUILD)/cargo MULGREDDI_LIB=$(CURDIR)/$(BUILD) cargo
 EXAMPLES := $(patsubst examples/%.c,$(BUILD)/%,$(wildcard examples/*.c))
 
+# checks that `rt` runs side by side: it waits for all of a group before it starts the next, so more than there are cores
+export RT_JOBS ?= 4
+
 # one `rt` at a time; of the gate's steps that run side by side only one calls it
 ifndef BESIDE
 .NOTPARALLEL:
