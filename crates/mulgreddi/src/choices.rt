@@ -45,5 +45,11 @@ pub extern "C" fn mulgreddi_judge_choices(
         let k = choicesRow f u v (length (now (masks .entry))) (length (now (choices .entry))) in
         k ≡ 0 → Written (ruleIn f) u v (now (choices .exit))) ⌝ }
 {
-    mulgreddi_answers_words::verdict(judge_choices::judge_choices(file, lead, cycle, masks, choices))
+    mulgreddi_answers_words::verdict(judge_choices::judge_choices(
+        file,
+        lead,
+        cycle,
+        masks,
+        choices,
+    ))
 }

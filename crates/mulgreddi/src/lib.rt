@@ -63,7 +63,15 @@ pub extern "C" fn mulgreddi_write(
     ensures { λ _. ⌜ now (out .exit)
         ≡ sliceAfter (headFrom n s initial accepting) (now (counts .entry)) (now (clauses .entry)) [] (now (out .entry)) ⌝ }
 {
-    mulgreddi_answers_rules::written(file_write::writer::write_rule(n, s, initial, accepting, counts, clauses, out))
+    mulgreddi_answers_rules::written(file_write::writer::write_rule(
+        n,
+        s,
+        initial,
+        accepting,
+        counts,
+        clauses,
+        out,
+    ))
 }
 
 // Whether two rule files are the same rule.
@@ -131,5 +139,12 @@ pub extern "C" fn mulgreddi_judge_table(
         × JudgedTable (now (file .entry)) (now (lead .entry)) (now (cycle .entry)) (inBytes (now (codes .entry)))
         (inBytes (now (transitions .entry))) (now (scratch .entry)) (now (scratch .exit)) a) ⌝ }
 {
-    mulgreddi_answers_tables::start(table_judge::judge_table_bytes(file, lead, cycle, codes, transitions, scratch))
+    mulgreddi_answers_tables::start(table_judge::judge_table_bytes(
+        file,
+        lead,
+        cycle,
+        codes,
+        transitions,
+        scratch,
+    ))
 }

@@ -25,5 +25,14 @@ pub extern "C" fn mulgreddi_write_named(
         ≡ sliceAfter (headFrom n s initial accepting) (now (counts .entry)) (now (clauses .entry)) (now (names .entry))
         (now (out .entry)) ⌝ }
 {
-    mulgreddi_answers_rules::written(file_write::writer::write_named(n, s, initial, accepting, counts, clauses, names, out))
+    mulgreddi_answers_rules::written(file_write::writer::write_named(
+        n,
+        s,
+        initial,
+        accepting,
+        counts,
+        clauses,
+        names,
+        out,
+    ))
 }

@@ -11,7 +11,10 @@ pub fn built(answer: Built) -> Answer
     ensures { λ r. ⌜ r ≡ builtAnswer answer ⌝ }
 {
     match answer {
-        Built::Table(counts) => mulgreddi_answers::served(counts.macrostates as u64, counts.transitions as u64),
+        Built::Table(counts) => mulgreddi_answers::served(
+            counts.macrostates as u64,
+            counts.transitions as u64,
+        ),
         Built::Refused(row) => mulgreddi_answers::refused(row),
     }
 }

@@ -23,7 +23,10 @@ pub fn tidy_word(answer: TidyWord) -> Answer
     ensures { λ r. ⌜ r ≡ tidyWordAnswer answer ⌝ }
 {
     match answer {
-        TidyWord::Spelling(lengths) => mulgreddi_answers::served(lengths.lead as u64, lengths.cycle as u64),
+        TidyWord::Spelling(lengths) => mulgreddi_answers::served(
+            lengths.lead as u64,
+            lengths.cycle as u64,
+        ),
         TidyWord::Refused(row) => mulgreddi_answers::refused(row),
     }
 }
@@ -44,7 +47,10 @@ pub fn sheet(answer: SheetAnswer) -> Answer
     ensures { λ r. ⌜ r ≡ sheetAnswer answer ⌝ }
 {
     match answer {
-        SheetAnswer::Judged(totals) => mulgreddi_answers::served(totals.words as u64, totals.cycles as u64),
+        SheetAnswer::Judged(totals) => mulgreddi_answers::served(
+            totals.words as u64,
+            totals.cycles as u64,
+        ),
         SheetAnswer::Refused(row) => mulgreddi_answers::refused(row),
     }
 }
