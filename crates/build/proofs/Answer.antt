@@ -12,7 +12,8 @@ use Rattle.refusals.proofs.Rows.{row-yes, row-no, first-left, first-right, firs
 use Rattle.theory.specs.Rule.{Rule}
 use Rattle.theory.specs.Demand.{Demand3}
 use Rattle.theory.specs.Passing.{Passing}
-use Rattle.theory.specs.Table.{macrostatesFrom, transitionsFrom, macrostates, transitions, ListsReachable}
+use Rattle.theory.specs.Table.{ListsReachable}
+use Rattle.theory.specs.TableComputed.{macrostatesFrom, transitionsFrom, macrostates, transitions}
 use Rattle.theory_laws.proofs.Demand.{demand3}
 use Rattle.theory_laws.proofs.Tables.{lists-reachable}
 use Rattle.rule_entries.specs.Entries.{ruleOf}
@@ -21,7 +22,8 @@ use Rattle.file_read.specs.declared.Read.the-variants.{Accepted}
 use Rattle.file_spec.specs.File.{countsOf, clausesOf, ruleIn}
 use Rattle.file_read.specs.Read.{readOf}
 use Rattle.file_read.proofs.Answer.{served, lent-rule}
-use Rattle.file_spec.specs.Rows.{fileRow, fileRows, layoutRows, trailerRows, numberRows, listRows, clauseRows, componentRows, formedRows, bodyRows, nameRows, prefaceRows}
+use Rattle.file_spec.specs.Rows.{fileRow, fileRows, layoutRows, trailerRows, bodyRows, nameRows, prefaceRows}
+use Rattle.file_spec.specs.RuleRows.{numberRows, listRows, clauseRows, componentRows, formedRows}
 use Rattle.file_read.proofs.FileRows.{file-numbered, accepted-passing}
 use Rattle.build_closure_spec.specs.Keys.{startOf}
 use Rattle.build.specs.declared.Counts.{Counts}

@@ -11,7 +11,8 @@ use Rattle.theory.specs.Automaton.{automaton}
 use Rattle.theory.specs.Macrostate.{holdsInitial}
 use Rattle.theory.specs.Passing.{Passing}
 use Rattle.theory.specs.Rule.{Rule}
-use Rattle.theory.specs.Table.{macrostates, transitions, macrostatesFrom, transitionsFrom, Transition, ListsReachable}
+use Rattle.theory.specs.Table.{Transition, ListsReachable}
+use Rattle.theory.specs.TableComputed.{macrostates, transitions, macrostatesFrom, transitionsFrom}
 use Rattle.theory_laws.proofs.Tables.{reachable-iff, macrostates-ascending, transitions-ascending, transition-iff}
 use Rattle.build_lists.specs.Room.{codesRoom}
 use Rattle.build_lists.proofs.Room.{room-cap}

@@ -7,7 +7,7 @@ use native.Mathlib.Omega.{arith}
 use lib.ListN.{length, take, replicate}
 use lib.Seq.{take-append-seam}
 use Rattle.theory.specs.Rule.{Rule}
-use Rattle.theory.specs.Table.{macrostatesFrom}
+use Rattle.theory.specs.TableComputed.{macrostatesFrom}
 use Rattle.build_closure_spec.specs.Keys.{startOf}
 use Rattle.build.specs.declared.Built.{Built}
 use Rattle.build.specs.declared.Built.the-variants.{Table, Refused}

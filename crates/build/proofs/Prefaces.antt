@@ -4,7 +4,7 @@ use mathlib.Core.Path.{_≡_, refl}
 use mathlib.Core.List.{List, _++_}
 use lib.ListN.{length}
 use Rattle.refusals.specs.Rows.{firstRow}
-use Rattle.theory.specs.Table.{macrostates, transitions}
+use Rattle.theory.specs.TableComputed.{macrostates, transitions}
 use Rattle.file_spec.specs.File.{ruleIn}
 use Rattle.file_spec.specs.Rows.{prefaceRow, fileRow, oldRows}
 use Rattle.file_read.proofs.Prefaces.{answer-after, old-answer}

@@ -7,10 +7,11 @@ use mathlib.Core.List.{List, _++_}
 use lib.ListN.{length, replicate}
 use Rattle.theory.specs.Rule.{Rule}
 use Rattle.theory.specs.Passing.{Passing}
-use Rattle.theory.specs.Table.{macrostates, transitions}
+use Rattle.theory.specs.TableComputed.{macrostates, transitions}
 use Rattle.refusals.specs.Rows.{firstRow}
 use Rattle.file_spec.specs.File.{ruleIn, bodyOf}
-use Rattle.file_spec.specs.Rows.{someNested, prefaceRows}
+use Rattle.file_spec.specs.Rows.{prefaceRows}
+use Rattle.file_spec.specs.RuleRows.{someNested}
 use Rattle.file_read.proofs.Layouts.{layout-accepted}
 use Rattle.build.specs.declared.Built.the-variants.{Table}
 use Rattle.build_lists.specs.Room.{codesRoom, transitionsRoom}

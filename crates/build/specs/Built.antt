@@ -5,7 +5,7 @@ use Prim.Native.Nat.{ℕ, zero, suc, _-_}
 use lib.Dec.{ltb, eqb}
 use lib.ListN.{length, replicate}
 use Rattle.refusals.specs.Rows.{Check, firstRow, check}
-use Rattle.theory.specs.Table.{macrostates, transitions}
+use Rattle.theory.specs.TableComputed.{macrostates, transitions}
 use Rattle.file_spec.specs.File.{ruleIn}
 use Rattle.file_spec.specs.Rows.{fileRows}
 use Rattle.build_lists.specs.Room.{codesRoom, transitionsRoom}

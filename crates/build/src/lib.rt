@@ -9,7 +9,7 @@ ghost use mathlib.Core.Bool.{true};
 ghost use lib.ListN.{length, take};
 ghost use Rattle.theory.specs.Rule.{Rule};
 ghost use Rattle.theory.specs.Passing.{Passing};
-ghost use Rattle.theory.specs.Table.{macrostatesFrom, transitionsFrom};
+ghost use Rattle.theory.specs.TableComputed.{macrostatesFrom, transitionsFrom};
 ghost use Rattle.rule_entries.specs.Entries.{ruleOf};
 ghost use Rattle.build_closure_spec.specs.Keys.{startOf};
 ghost use Rattle.build_closure_spec.specs.Tables.{RuleTables};

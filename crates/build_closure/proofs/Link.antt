@@ -14,8 +14,10 @@ use Rattle.sets.specs.Digits.{num}
 use Rattle.sets.proofs.Tests.{first-max, largest-le}
 use Rattle.sets.proofs.Digits.{num-lt}
 use Rattle.theory.specs.Rule.{Rule}
-use Rattle.theory.specs.Automaton.{Automaton, automaton, Layered}
-use Rattle.theory.specs.Core.{Core, test, levelOf, nextComponent}
+use Rattle.theory.specs.Automaton.{Automaton, automaton}
+use Rattle.theory.specs.Layered.{Layered}
+use Rattle.theory.specs.Core.{Core, test, nextComponent}
+use Rattle.theory.specs.CoreComputed.{levelOf}
 use Rattle.theory.specs.Code.{pack, setIn, rankIn, componentIn, classesIn, wellCoded}
 use Rattle.theory.specs.Macrostate.{begun, Macrostate, Goes, Reachable}
 use Rattle.theory.specs.Macrostate as macrostate

@@ -12,7 +12,7 @@ use Rattle.theory.specs.Rule.{Rule}
 use Rattle.theory.specs.Passing.{Passing}
 use Rattle.theory.specs.Automaton.{automaton}
 use Rattle.theory.specs.Macrostate.{Reachable}
-use Rattle.theory.specs.Table.{macrostatesFrom}
+use Rattle.theory.specs.TableComputed.{macrostatesFrom}
 use Rattle.theory_laws.proofs.Layers.{layered}
 use Rattle.theory_laws.proofs.Tables.{few-states, components-there, reachable-macrostate, reachable-iff, macrostates-ascending}
 use Rattle.slice_sort.specs.Order.{Distinct, Arranged, ArrangedFirst}

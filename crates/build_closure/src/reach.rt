@@ -10,7 +10,7 @@ ghost use lib.ListN.{length, getD, take, drop};
 ghost use Rattle.theory.specs.Rule.{Rule};
 ghost use Rattle.theory.specs.Automaton.{automaton};
 ghost use Rattle.theory.specs.Macrostate.{Reachable};
-ghost use Rattle.theory.specs.Table.{macrostatesFrom};
+ghost use Rattle.theory.specs.TableComputed.{macrostatesFrom};
 ghost use Rattle.build_closure_spec.specs.Keys.{codeOf, KeyOf, startOf};
 ghost use Rattle.build_closure_spec.specs.Tables.{RuleTables};
 ghost use Rattle.build_closure.specs.Closure.{Gathered, Listed};

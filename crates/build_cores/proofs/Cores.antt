@@ -18,7 +18,7 @@ use Rattle.sets.proofs.Bits.{bit-mask-all}
 use Rattle.sets.proofs.Digits.{num-ext, num-add, num-lt}
 use Rattle.theory.specs.Automaton.{Automaton}
 use Rattle.theory.specs.Core.{Core, isOpen, openOf}
-use Rattle.theory.specs.Core as core
+use Rattle.theory.specs.CoreComputed as core
 use Rattle.theory_laws.proofs.Cores.{core-rank-comp, core-rank-max, open-of-rank, classes-are}
 use Rattle.build_cores.specs.Vectors.{rankAt, Within, visited}
 use Rattle.build_cores.specs.Used.{taken, used, classCount, gapless, sizesOf, capsOf}

@@ -8,7 +8,7 @@ use Rattle.theory.specs.Rule.{Rule}
 use Rattle.theory.specs.Automaton.{automaton}
 use Rattle.theory.specs.Components.{components}
 use Rattle.theory.specs.Passing.{Passing}
-use Rattle.theory.specs.Table.{transitionsFrom}
+use Rattle.theory.specs.TableComputed.{transitionsFrom}
 use Rattle.rule_components.specs.declared.Components.{Components}
 use Rattle.rule_components.specs.Numbered.{componentsOf}
 use Rattle.build_opens.specs.Opens.{Opens}

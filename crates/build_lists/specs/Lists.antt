@@ -5,7 +5,7 @@ use mathlib.Core.List.{List, _++_}
 use Prim.Native.Nat.{ℕ, _-_, _≤_, _<_}
 use lib.ListN.{length, take, replicate}
 use Rattle.theory.specs.Rule.{Rule}
-use Rattle.theory.specs.Table.{macrostatesFrom}
+use Rattle.theory.specs.TableComputed.{macrostatesFrom}
 use Rattle.build_closure_spec.specs.Keys.{startOf}
 use Rattle.build_lists.specs.Room.{roomOf}
 

@@ -3,7 +3,7 @@ use build_closure_spec::Shape;
 use slice_insert::Grow;
 ghost use mathlib.Core.Path.{_≡_};
 ghost use Rattle.theory.specs.Rule.{Rule};
-ghost use Rattle.theory.specs.Table.{macrostatesFrom, transitionsFrom};
+ghost use Rattle.theory.specs.TableComputed.{macrostatesFrom, transitionsFrom};
 ghost use Rattle.build_closure_spec.specs.Keys.{startOf};
 ghost use Rattle.build_closure_spec.specs.Tables.{RuleTables};
 ghost use Rattle.build_lists.specs.Room.{roomOf};

@@ -16,9 +16,10 @@ use Rattle.sets.proofs.Masks.{mask-lt}
 use Rattle.sets.proofs.Digits.{num-ext, num-lt}
 use Rattle.theory.specs.Rule.{satisfies}
 use Rattle.theory.specs.Automaton.{Automaton}
-use Rattle.theory.specs.Core.{Core, levelOf, rankOf, openOf, nextComponent}
+use Rattle.theory.specs.Core.{Core, openOf, nextComponent}
+use Rattle.theory.specs.CoreComputed.{levelOf, rankOf}
 use Rattle.theory.specs.Code.{fields, pack, setIn, rankIn, componentIn, classesIn, wellCoded}
-use Rattle.theory.specs.Macrostate.{before, onward, goes}
+use Rattle.theory.specs.MacrostateComputed.{before, onward, goes}
 use Rattle.theory_laws.proofs.Classes.{rank-max}
 use Rattle.theory_laws.proofs.Cores.{next-low}
 use Rattle.theory_laws.proofs.Goes.{rank-small, set-trim, rank-trim, before-set, before-rank, is-before, turn-component, turn-classes, stay-component, stay-classes, is-turned, is-stayed, goes-before, goes-onward, is-goes, component-small, classes-small}

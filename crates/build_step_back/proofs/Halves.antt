@@ -16,8 +16,9 @@ use Rattle.sets.specs.Digits.{num}
 use Rattle.sets.proofs.Bools.{bif, clash, and-i}
 use Rattle.sets.proofs.Bits.{bit-and, bit-none, bit-ext}
 use Rattle.sets.proofs.Digits.{num-ext, digit-num, pow16}
-use Rattle.theory.specs.Automaton.{Automaton, Layered}
-use Rattle.theory.specs.Core.{rankOf}
+use Rattle.theory.specs.Automaton.{Automaton}
+use Rattle.theory.specs.Layered.{Layered}
+use Rattle.theory.specs.CoreComputed.{rankOf}
 use Rattle.theory_laws.proofs.Classes.{rank-max}
 use Rattle.build_cores.specs.Vectors.{rankAt, Within}
 use Rattle.build_cores.specs.Used.{capsOf}

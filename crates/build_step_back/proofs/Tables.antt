@@ -20,8 +20,10 @@ use Rattle.sets.proofs.Masks.{mask-lt, bit-mask}
 use Rattle.sets.proofs.Bits.{bit-xor, bit-high, mask-unique}
 use Rattle.sets.proofs.Digits.{num-ext, digit-num, pow16}
 use Rattle.theory.specs.Rule.{satisfies}
-use Rattle.theory.specs.Automaton.{Automaton, Layered}
-use Rattle.theory.specs.Core.{Earlier, isOpen, rankOf, openOf, nextComponent}
+use Rattle.theory.specs.Automaton.{Automaton}
+use Rattle.theory.specs.Layered.{Layered}
+use Rattle.theory.specs.Core.{Earlier, isOpen, openOf, nextComponent}
+use Rattle.theory.specs.CoreComputed.{rankOf}
 use Rattle.theory_laws.proofs.Satisfies.{satisfies-ext}
 use Rattle.theory_laws.proofs.Cores.{open-ext, earlier-of}
 use Rattle.build_cores.specs.Vectors.{rankAt, Within}

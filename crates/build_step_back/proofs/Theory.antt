@@ -15,7 +15,8 @@ use Rattle.sets.specs.Masks.{bit, xor}
 use Rattle.theory.specs.Rule.{satisfies}
 use Rattle.sets.specs.Digits.{num}
 use Rattle.theory.specs.Automaton.{Automaton}
-use Rattle.theory.specs.Core.{isOpen, mix, rejectingSettled, acceptingSettled, settled, test, levelOf, taken, rankOf, openOf}
+use Rattle.theory.specs.Core.{isOpen, mix, rejectingSettled, acceptingSettled, settled, test, openOf}
+use Rattle.theory.specs.CoreComputed.{levelOf, taken, rankOf}
 use Rattle.sets.proofs.Bools.{bif, clash, and-l, and-r, and-i, xor-twice}
 use Rattle.theory_laws.proofs.Satisfies.{satisfies-ext}
 use Rattle.sets.proofs.Tests.{some-ext, some-trim, count-ext, first-ext, largest-ext, largest-trim, largest-values}

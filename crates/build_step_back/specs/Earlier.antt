@@ -6,7 +6,8 @@ use Rattle.sets.specs.Tests.{Set, largest}
 use Rattle.sets.specs.Masks.{mask}
 use Rattle.theory.specs.Rule.{satisfies}
 use Rattle.theory.specs.Automaton.{Automaton}
-use Rattle.theory.specs.Core.{levelOf, rankOf, openOf, nextComponent}
+use Rattle.theory.specs.Core.{openOf, nextComponent}
+use Rattle.theory.specs.CoreComputed.{levelOf, rankOf}
 use Rattle.build_cores.specs.Vectors.{rankAt}
 use Rattle.build_cores.specs.Parts.{setOf, vectorOf}
 

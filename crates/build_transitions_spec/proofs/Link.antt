@@ -14,7 +14,8 @@ use Rattle.sets.specs.Masks.{mask}
 use Rattle.sets.proofs.Masks.{mask-lt}
 use Rattle.theory.specs.Automaton.{Automaton}
 use Rattle.theory.specs.Code.{setIn, rankIn, classesIn}
-use Rattle.theory.specs.Macrostate.{Macrostate, goes}
+use Rattle.theory.specs.Macrostate.{Macrostate}
+use Rattle.theory.specs.MacrostateComputed.{goes}
 use Rattle.codes.specs.Codes.{ranksIn}
 use Rattle.build_cores.specs.Parts.{Parts, vectorOf}
 use Rattle.build_cores.specs.Used.{gapless, capsOf}

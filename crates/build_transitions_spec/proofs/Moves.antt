@@ -13,9 +13,10 @@ use Rattle.sets.proofs.Bools.{and-l, and-r, and-i}
 use Rattle.sets.proofs.Lists.{mem-at}
 use Rattle.sets.proofs.Ascending.{asc-ext}
 use Rattle.theory.specs.Automaton.{Automaton}
-use Rattle.theory.specs.Macrostate.{goes}
+use Rattle.theory.specs.MacrostateComputed.{goes}
 use Rattle.theory.specs.Run.{sourceOf, letterOf, targetOf}
-use Rattle.theory.specs.Table.{transitionsOf, Transition}
+use Rattle.theory.specs.Table.{Transition}
+use Rattle.theory.specs.TableComputed.{transitionsOf}
 use Rattle.theory_laws.proofs.Goes.{goes-iff}
 use Rattle.theory_laws.proofs.Tables.{source-is, letter-is, target-is, steps-iff, steps-ascending}
 use Rattle.codes.specs.Codes.{ranksIn, transitionOf}

@@ -15,7 +15,7 @@ use Rattle.theory.specs.Components.{components}
 use Rattle.theory.specs.Macrostate.{Reachable}
 use Rattle.theory.specs.Passing.{Passing}
 use Rattle.theory.specs.Rule.{Rule}
-use Rattle.theory.specs.Table.{macrostatesFrom, transitionsFrom}
+use Rattle.theory.specs.TableComputed.{macrostatesFrom, transitionsFrom}
 use Rattle.theory_laws.proofs.Cores.{classes-max}
 use Rattle.theory_laws.proofs.Layers.{layered}
 use Rattle.theory_laws.proofs.Tables.{few-states, components-there, reachable-iff, reachable-macrostate, reachable-classes, macrostates-ascending}

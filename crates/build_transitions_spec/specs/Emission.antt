@@ -9,9 +9,10 @@ use lib.ListN.{length, getD, take, drop}
 use Rattle.sets.specs.Tests.{Set}
 use Rattle.theory.specs.Automaton.{Automaton}
 use Rattle.theory.specs.Code.{classesIn}
-use Rattle.theory.specs.Macrostate.{Macrostate, goes}
+use Rattle.theory.specs.Macrostate.{Macrostate}
+use Rattle.theory.specs.MacrostateComputed.{goes}
 use Rattle.theory.specs.Run.{sourceOf, letterOf, targetOf}
-use Rattle.theory.specs.Table.{transitionsOf}
+use Rattle.theory.specs.TableComputed.{transitionsOf}
 use Rattle.codes.specs.Codes.{transitionOf}
 use Rattle.build_breakpoint.specs.Onward.{candidateIn}
 use Rattle.build_transitions_spec.specs.Listing.{passing, Appended, Outcome}

@@ -7,7 +7,8 @@ use lib.Dec.{leb, ltb}
 use lib.ListN.{length, getD, take}
 use Rattle.sets.specs.Masks.{bit, mask}
 use Rattle.sets.specs.Lists.{Ascending}
-use Rattle.theory.specs.Automaton.{Automaton, Layered}
+use Rattle.theory.specs.Automaton.{Automaton}
+use Rattle.theory.specs.Layered.{Layered}
 use Rattle.theory.specs.Code.{classesIn}
 use Rattle.theory.specs.Macrostate.{Macrostate}
 use Rattle.codes.specs.Codes.{ranksIn}

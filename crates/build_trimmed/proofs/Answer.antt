@@ -12,7 +12,8 @@ use Rattle.theory.specs.Automaton.{automaton}
 use Rattle.theory.specs.Demand.{Demand3}
 use Rattle.theory.specs.Passing.{Passing}
 use Rattle.theory.specs.Rule.{Rule}
-use Rattle.theory.specs.Table.{macrostates, transitions, ListsReachable}
+use Rattle.theory.specs.Table.{ListsReachable}
+use Rattle.theory.specs.TableComputed.{macrostates, transitions}
 use Rattle.theory_laws.proofs.Tables.{lists-reachable}
 use Rattle.endless_spec.specs.Endless.{NeverTwo}
 use Rattle.endless_spec.proofs.Endless.{never-two}

@@ -18,7 +18,8 @@ use Rattle.theory.specs.Automaton.{automaton}
 use Rattle.theory.specs.Word.{places, WordOver, letters}
 use Rattle.theory.specs.Plan.{AcceptsFrom, AcceptsWord}
 use Rattle.theory.specs.Macrostate.{holdsInitial, isInitial, isAccepting, Reachable}
-use Rattle.theory.specs.Table.{macrostates, transitions, Transition}
+use Rattle.theory.specs.Table.{Transition}
+use Rattle.theory.specs.TableComputed.{macrostates, transitions}
 use Rattle.theory.specs.Truth.{truthMasks}
 use Rattle.theory_laws.proofs.Tables.{reachable-iff, macrostates-ascending, transitions-ascending, transition-iff}
 use Rattle.theory_laws.proofs.Truth.{truth-length, truth-lt, truth-accepts}
@@ -27,10 +28,11 @@ use Rattle.file_spec.specs.File.{ruleIn}
 use Rattle.file_spec.specs.Rows.{fileRow}
 use Rattle.file_read.proofs.FileRows.{accepted-passing}
 use Rattle.word_rows.specs.Words.{wordRow}
-use Rattle.word_spelling_spec.specs.Spelling.{sameLetters}
+use Rattle.word_spelling_spec.specs.SpellingComputed.{sameLetters}
 use Rattle.word_rows.proofs.Checks.{word-over}
 use Rattle.word_spelling_spec.proofs.Same.{letters-equal}
-use Rattle.cases_starred.specs.Claim.{Line, Start, unsaid, from, Expected, builds, judges, Case, codesOf, Builds, Said, Judges, through, Begins, Starts, Meets, Claim}
+use Rattle.cases_starred.specs.Claim.{codesOf, Builds, Said, Judges, through, Begins, Starts, Meets, Claim}
+use Rattle.cases_starred.specs.Case.{Line, Start, unsaid, from, Expected, builds, judges, Case}
 use Rattle.cases_starred.proofs.Lasso.{conj, conj-at, loops, loop-accepts}
 
 -- two lists of numbers are equal

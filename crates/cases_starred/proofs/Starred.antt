@@ -15,19 +15,23 @@ use Rattle.sets.proofs.Bools.{and-l, and-r}
 use Rattle.theory.specs.Automaton.{automaton}
 use Rattle.theory.specs.Code.{fields, pack, componentIn, classesIn, setIn, rankIn, wellCoded}
 use Rattle.theory.specs.Components.{named, leads, within, reaches, together, smallest, isSmallest, component, components, mixed}
-use Rattle.theory.specs.Core.{isOpen, mix, rejectingSettled, acceptingSettled, settled, test, levelOf, taken, rankOf, isCore, openOf, nextComponent}
-use Rattle.theory.specs.Macrostate.{begun, isAccepting, before, onward, goes}
+use Rattle.theory.specs.Core.{isOpen, mix, rejectingSettled, acceptingSettled, settled, test, openOf, nextComponent}
+use Rattle.theory.specs.CoreComputed.{levelOf, taken, rankOf, isCore}
+use Rattle.theory.specs.Macrostate.{begun, isAccepting}
+use Rattle.theory.specs.MacrostateComputed.{before, onward, goes}
 use Rattle.theory.specs.Rule.{entry, satisfies}
-use Rattle.theory.specs.Table.{reachedIn, reached, digitals, candidates, cores, codesFrom, transitionsOf, macrostatesFrom, transitionsFrom, macrostates, transitions}
+use Rattle.theory.specs.TableComputed.{reachedIn, reached, digitals, candidates, cores, codesFrom, transitionsOf, macrostatesFrom, transitionsFrom, macrostates, transitions}
 use Rattle.theory.specs.Truth.{heightOf, layer, roundsAt, solvedBelow, truthMasks}
 use Rattle.theory.specs.Word.{nextPlace, letterAt, place}
 use Rattle.file_spec.specs.File.{tagged, clausesOf, countsOf}
 use Rattle.file_spec.specs.Names.{hasNames, namesBefore, repeatsName}
-use Rattle.file_spec.specs.Rows.{numberRows, listRows, trailerRows, layoutRows, nested, someNested, clauseRows, componentRows, formedRows, bodyRows, nameRows, prefaceRows, fileRows, fileRow}
+use Rattle.file_spec.specs.Rows.{trailerRows, layoutRows, bodyRows, nameRows, prefaceRows, fileRows, fileRow}
+use Rattle.file_spec.specs.RuleRows.{numberRows, listRows, nested, someNested, clauseRows, componentRows, formedRows}
 use Rattle.word_rows.specs.Words.{lengthRows, letterRows, wordRows, wordRow}
-use Rattle.word_spelling_spec.specs.Spelling.{sameLetters}
+use Rattle.word_spelling_spec.specs.SpellingComputed.{sameLetters}
 use Rattle.cases_starred.specs.Files.{F, D, E, I, Z}
-use Rattle.cases_starred.specs.Claim.{Case, codesOf, Claim}
+use Rattle.cases_starred.specs.Claim.{codesOf, Claim}
+use Rattle.cases_starred.specs.Case.{Case}
 use Rattle.cases_starred.specs.Starred.{case1, case2, case3, case4, case5, case6, case7, case8, case9, starred}
 use Rattle.cases_starred.proofs.Lasso.{conj, loops}
 use Rattle.cases_starred.proofs.Checks.{allMarks, startPasses, passes, casePasses, claim}

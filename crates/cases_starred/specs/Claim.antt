@@ -1,4 +1,4 @@
--- A case of 01, and what it claims of the definitions, from the bytes of its file on.
+-- What a case of 01 claims of the definitions, from the bytes of its file on.
 use mathlib.Core.Path.{_≡_}
 use mathlib.Core.Logic.{_↔_}
 use mathlib.Core.Bool.{Bool, true, false}
@@ -12,38 +12,13 @@ use Rattle.theory.specs.Automaton.{automaton}
 use Rattle.theory.specs.Word.{places, letters}
 use Rattle.theory.specs.Plan.{AcceptsFrom, AcceptsWord}
 use Rattle.theory.specs.Macrostate.{holdsInitial, isInitial, isAccepting, Reachable}
-use Rattle.theory.specs.Table.{macrostates, transitions, Transition}
+use Rattle.theory.specs.Table.{Transition}
+use Rattle.theory.specs.TableComputed.{macrostates, transitions}
 use Rattle.theory.specs.Run.{AcceptingRun}
 use Rattle.file_spec.specs.File.{ruleIn}
 use Rattle.file_spec.specs.Rows.{fileRow}
 use Rattle.word_rows.specs.Words.{wordRow}
-
--- ---- what a case gives
-
--- 01: "An m line: number, code, i if initial, a if accepting." The number is the place of the line.
-pub record Line : Type 0 where
-  pub code : ℕ
-  pub initial : Bool
-  pub accepting : Bool
-
--- what a case says of a run over its word
-pub data Start : Type 0 where
-  -- nothing
-  unsaid : Start
-  -- "run from number ..", with the code there: the run goes through the numbers of first, then through those of loop for ever
-  from : (number code : ℕ) (first loop : List ℕ) → Start
-
-pub data Expected : Type 0 where
-  -- "Line one: macrostates, transitions", then the m lines and the packed transitions
-  builds : (codeCount moveCount : ℕ) (lines : List Line) (moves : List ℕ) → Expected
-  -- a word, "yes" or "no", the masks, and the run
-  judges : (lead cycle : List ℕ) (accepted : Bool) (masks : List ℕ) (start : Start) → Expected
-
-pub record Case : Type 0 where
-  pub file : List ℕ
-  pub expected : Expected
-
--- ---- what it claims
+use Rattle.cases_starred.specs.Case.{Line, Start, unsaid, from, Expected, builds, judges, Case}
 
 -- the codes of the lines, in their order
 unfoldable pub codesOf : List Line → List ℕ

@@ -1,3 +1,4 @@
 pub mod Files
+pub mod Case
 pub mod Claim
 pub mod Starred

@@ -3,7 +3,7 @@ use mathlib.Core.Bool.{Bool, true, false}
 use mathlib.Core.List.{List, [], _∷_}
 use Prim.Native.Nat.{ℕ, _+_, _*_}
 use Rattle.cases_starred.specs.Files.{F, D, E, I, Z}
-use Rattle.cases_starred.specs.Claim.{Line, unsaid, from, builds, judges, Case}
+use Rattle.cases_starred.specs.Case.{Line, unsaid, from, builds, judges, Case}
 
 -- an m line without its number: the code, whether it is initial, whether it is accepting
 abbrev pub m : ℕ → Bool → Bool → Line

@@ -17,7 +17,7 @@ use Rattle.theory.specs.Automaton.{automaton}
 use Rattle.theory.specs.Components.{mixed}
 use Rattle.theory.specs.Passing.{Passing}
 use Rattle.theory.specs.Rule.{Rule, entry, satisfies}
-use Rattle.theory.specs.Run.{CodeRun}
+use Rattle.theory.specs.CodeRuns.{CodeRun}
 use Rattle.theory_laws.proofs.Codes.{code-unique}
 use Rattle.theory_laws.proofs.Components.{unmixed-iff}
 use Rattle.theory_laws.proofs.Layers.{layered}

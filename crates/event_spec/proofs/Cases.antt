@@ -12,7 +12,8 @@ use Rattle.theory.specs.Rule.{entry}
 use Rattle.theory.specs.Components.{named, leads, within, reaches, together, mixed}
 use Rattle.file_spec.specs.File.{tagged, clausesOf, countsOf}
 use Rattle.file_spec.specs.Names.{hasNames, namesBefore, repeatsName}
-use Rattle.file_spec.specs.Rows.{numberRows, listRows, trailerRows, layoutRows, nested, someNested, clauseRows, componentRows, formedRows, bodyRows, nameRows, prefaceRows, fileRows}
+use Rattle.file_spec.specs.Rows.{trailerRows, layoutRows, bodyRows, nameRows, prefaceRows, fileRows}
+use Rattle.file_spec.specs.RuleRows.{numberRows, listRows, nested, someNested, clauseRows, componentRows, formedRows}
 use Rattle.event_spec.specs.declared.Translated.{Translated}
 use Rattle.event_spec.specs.declared.Translated.the-variants.{Letters, Refused}
 use Rattle.event_spec.specs.Events.{spans, holds, firstLine, letterOf, covered, known, lettersOf}

@@ -17,7 +17,7 @@ use Rattle.sets.proofs.Members.{inside-at, inside-all, inside-trim}
 use Rattle.theory.specs.Rule.{Rule, entry}
 use Rattle.theory.specs.Passing.{WellFormed}
 use Rattle.rule_entries.proofs.Entries.{entry-states}
-use Rattle.file_spec.specs.Rows.{containsAt, nested}
+use Rattle.file_spec.specs.RuleRows.{containsAt, nested}
 
 -- ---- one clause
 

@@ -8,7 +8,7 @@ ghost use Rattle.refusals.specs.Rows.{firstRow};
 ghost use Rattle.theory.specs.Rule.{entry};
 ghost use Rattle.theory.specs.Passing.{WellFormed};
 ghost use Rattle.rule_entries.specs.Entries.{ruleOf};
-ghost use Rattle.file_spec.specs.Rows.{containsAt, nested, someNested, clauseRows};
+ghost use Rattle.file_spec.specs.RuleRows.{containsAt, nested, someNested, clauseRows};
 
 // Whether i and j are two places, and the clause at i contains the one at j.
 fn contains_at(clauses: &[u8], i: usize, j: usize) -> bool

@@ -10,7 +10,7 @@ use borrow.Author.Tests.{lt-ltb, le-ltb, lt-leb, le-leb, eq-eqb, ne-eqb}
 use lib.Dec.{eqb, leb, ltb}
 use lib.ListN.{length, getD}
 use Rattle.file_spec.specs.Names.{hasNames}
-use Rattle.file_spec.specs.Rows.{outside}
+use Rattle.file_spec.specs.RuleRows.{outside}
 use Rattle.file_spec.proofs.Names.{cutOff}
 
 module _ (p : List ℕ) where

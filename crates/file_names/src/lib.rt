@@ -8,7 +8,8 @@ ghost use Rattle.sets.specs.Tests.{some};
 ghost use Rattle.sets.specs.Lists.{anyOf};
 ghost use Rattle.refusals.specs.Rows.{firstRow};
 ghost use Rattle.file_spec.specs.Names.{hasNames, namesBefore, sameName, repeatsName};
-ghost use Rattle.file_spec.specs.Rows.{outside, nameRows, givenRows, prefaceRows};
+ghost use Rattle.file_spec.specs.Rows.{nameRows, givenRows, prefaceRows};
+ghost use Rattle.file_spec.specs.RuleRows.{outside};
 
 // The last two bytes of a preface with names.
 pub const NAMES_TAG: [u8; 2] = [0x4E, 0x4D];

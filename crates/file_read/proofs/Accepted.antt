@@ -11,7 +11,8 @@ use Rattle.sets.proofs.Bools.{and-l, and-r}
 use Rattle.sets.proofs.Lists.{mem-at}
 use Rattle.file_spec.specs.File.{trailer, tagged, clauseCount, entryCount, clausesAt, clausesOf, countsOf, ruleIn, trailerOf, bodyOf}
 use Rattle.file_spec.specs.Names.{namesTag, hasNames, namesBefore, repeatsName}
-use Rattle.file_spec.specs.Rows.{fileRow, numberRows, listRows, trailerRows, layoutRows, nested, someNested, clauseRows, componentRows, formedRows, bodyRows, nameRows, prefaceRows, fileRows}
+use Rattle.file_spec.specs.Rows.{fileRow, trailerRows, layoutRows, bodyRows, nameRows, prefaceRows, fileRows}
+use Rattle.file_spec.specs.RuleRows.{numberRows, listRows, nested, someNested, clauseRows, componentRows, formedRows}
 use Rattle.file_read.specs.Read.{unrefused, prefaceOf}
 use Rattle.file_spec.proofs.Parts.{clauses-length}
 use Rattle.file_read.proofs.FileRows.{accepted-placed}

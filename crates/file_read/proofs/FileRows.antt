@@ -8,7 +8,8 @@ use Rattle.refusals.specs.Rows.{firstRow}
 use Rattle.refusals.proofs.Rows.{FirstApplies, NoneApplies, first-row-iff, no-row-iff, numbered, numbered-rows, first-left, first-right, first-parts}
 use Rattle.theory.specs.Passing.{WellFormed, Passing}
 use Rattle.file_spec.specs.File.{headOf, trailer, partBefore, ruleIn, clausesOf, countsOf}
-use Rattle.file_spec.specs.Rows.{numberRows, trailerRows, listRows, layoutRows, someNested, clauseRows, componentRows, formedRows, bodyRows, bodyRow}
+use Rattle.file_spec.specs.Rows.{trailerRows, layoutRows, bodyRows, bodyRow}
+use Rattle.file_spec.specs.RuleRows.{numberRows, listRows, someNested, clauseRows, componentRows, formedRows}
 use Rattle.file_spec.specs.Rows.{nameRows, prefaceRows, prefaceRow, fileRows, fileRow, oldRows, oldRow}
 use Rattle.file_spec.proofs.TrailerRows.{Placed, placed, trailer-numbered, trailer-numbers}
 use Rattle.file_spec.proofs.Parts.{counts-length}

@@ -11,7 +11,8 @@ use Rattle.theory.specs.Rule.{Rule}
 use Rattle.theory.specs.Passing.{WellFormed, Passing}
 use Rattle.file_spec.specs.File.{trailer, tagged, headOf, clauseCount, entryCount, clausesAt, clausesOf, countsOf, partBefore, namesOf, ruleIn, trailerOf, bodyOf}
 use Rattle.file_spec.specs.Names.{namesBefore}
-use Rattle.file_spec.specs.Rows.{layoutRows, trailerRows, someNested, bodyRow, prefaceRows, prefaceRow, fileRow}
+use Rattle.file_spec.specs.Rows.{layoutRows, trailerRows, bodyRow, prefaceRows, prefaceRow, fileRow}
+use Rattle.file_spec.specs.RuleRows.{someNested}
 use Rattle.file_read.specs.Read.{prefaceOf}
 use Rattle.file_spec.proofs.TrailerRows.{pass-7, rows-lists}
 use Rattle.file_spec.proofs.Names.{no-preface}

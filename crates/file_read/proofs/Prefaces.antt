@@ -19,7 +19,8 @@ use Rattle.theory.specs.Rule.{Rule}
 use Rattle.file_spec.specs.File.{trailer, tagged, headOf, clauseCount, entryCount, clausesAt, clausesOf, countsOf, partBefore, namesOf, ruleIn}
 use Rattle.file_spec.specs.Names.{repeatsName}
 use Rattle.file_spec.proofs.Names.{cutOff}
-use Rattle.file_spec.specs.Rows.{outside, numberRows, trailerRows, layoutRows, bodyRows, bodyRow, nameRows, prefaceRows, prefaceRow, fileRows, fileRow, oldRows, oldRow}
+use Rattle.file_spec.specs.Rows.{trailerRows, layoutRows, bodyRows, bodyRow, nameRows, prefaceRows, prefaceRow, fileRows, fileRow, oldRows, oldRow}
+use Rattle.file_spec.specs.RuleRows.{outside, numberRows}
 use Rattle.file_read.specs.Read.{prefaceOf}
 use Rattle.file_spec.proofs.TrailerRows.{row-1, row-2, row-numbers, row-7, rows-trailer}
 use Rattle.file_read.proofs.FileRows.{file-numbered, old-numbered, old-accepts, accepted-placed, accepted-rows, rows-layout, rows-body, rows-preface}

@@ -11,7 +11,8 @@ ghost use Rattle.refusals.specs.Rows.{firstRow};
 ghost use Rattle.theory.specs.Passing.{WellFormed};
 ghost use Rattle.rule_entries.specs.Entries.{ruleOf};
 ghost use Rattle.file_spec.specs.File.{clauseCount, entryCount, countsOf, clausesOf, namesOf};
-ghost use Rattle.file_spec.specs.Rows.{layoutRows, componentRows, formedRows, bodyRow, fileRow};
+ghost use Rattle.file_spec.specs.Rows.{layoutRows, bodyRow, fileRow};
+ghost use Rattle.file_spec.specs.RuleRows.{componentRows, formedRows};
 ghost use Rattle.file_read.specs.declared.Read.the-variants.{Accepted};
 ghost use Rattle.file_read.specs.Read.{layoutOf, readOf, prefaceOf};
 

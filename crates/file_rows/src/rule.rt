@@ -6,7 +6,7 @@ ghost use lib.ListN.{length};
 ghost use lib.Dec.{leb};
 ghost use Rattle.sets.specs.Lists.{anyOf, sum};
 ghost use Rattle.refusals.specs.Rows.{firstRow};
-ghost use Rattle.file_spec.specs.Rows.{numberRows, listRows};
+ghost use Rattle.file_spec.specs.RuleRows.{numberRows, listRows};
 
 // Whether some byte is k or more.
 fn any_from(xs: &[u8], k: usize) -> bool

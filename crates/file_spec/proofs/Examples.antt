@@ -10,7 +10,8 @@ use Rattle.theory.specs.Rule.{Rule, entry}
 use Rattle.theory.specs.Components.{named, leads, within, reaches, together, mixed}
 use Rattle.file_spec.specs.File.{tagged, clausesOf, countsOf, namesOf, ruleIn, trailerOf, bodyOf}
 use Rattle.file_spec.specs.Names.{hasNames, namesBefore, repeatsName}
-use Rattle.file_spec.specs.Rows.{numberRows, listRows, trailerRows, layoutRows, nested, someNested, clauseRows, componentRows, formedRows, bodyRows, nameRows, prefaceRows, fileRows, fileRow}
+use Rattle.file_spec.specs.Rows.{trailerRows, layoutRows, bodyRows, nameRows, prefaceRows, fileRows, fileRow}
+use Rattle.file_spec.specs.RuleRows.{numberRows, listRows, nested, someNested, clauseRows, componentRows, formedRows}
 
 -- ---- the table of refusals
 

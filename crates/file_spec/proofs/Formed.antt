@@ -16,7 +16,7 @@ use Rattle.theory.specs.Passing.{WellFormed, Passing}
 use Rattle.theory_laws.proofs.Components.{unmixed-iff}
 use Rattle.rule_entries.specs.declared.Head.{Head}
 use Rattle.rule_entries.specs.Entries.{ruleOf}
-use Rattle.file_spec.specs.Rows.{numberRows, listRows, someNested, clauseRows, componentRows, formedRows, namesBeyond}
+use Rattle.file_spec.specs.RuleRows.{numberRows, listRows, someNested, clauseRows, componentRows, formedRows, namesBeyond}
 use Rattle.file_spec.proofs.Numbers.{ranges, pass-6}
 use Rattle.file_spec.proofs.ListRows.{pass-10}
 

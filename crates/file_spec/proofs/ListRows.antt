@@ -8,7 +8,7 @@ use lib.ListN.{length}
 use lib.Dec.{leb}
 use Rattle.sets.specs.Lists.{anyOf, sum}
 use Rattle.refusals.specs.Rows.{firstRow}
-use Rattle.file_spec.specs.Rows.{listRows}
+use Rattle.file_spec.specs.RuleRows.{listRows}
 
 module _ (n : ℕ) (counts clauses : List ℕ) where
   pub row-8 : anyOf counts (leb 9) ≡ true → 8 ≡ firstRow (listRows n counts clauses)

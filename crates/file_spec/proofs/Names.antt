@@ -16,7 +16,8 @@ use Rattle.sets.proofs.Bools.{bif, clash, and-l, and-r, or-cases}
 use Rattle.refusals.proofs.Rows.{numbered, first-pass}
 use Rattle.sets.proofs.Walks.{drop-next}
 use Rattle.file_spec.specs.Names.{namesTag, hasNames, namesBefore, repeatsName, prefaceFrom}
-use Rattle.file_spec.specs.Rows.{outside, nameRows, givenRows, prefaceRows}
+use Rattle.file_spec.specs.Rows.{nameRows, givenRows, prefaceRows}
+use Rattle.file_spec.specs.RuleRows.{outside}
 
 -- ---- the rows
 

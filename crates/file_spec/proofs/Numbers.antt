@@ -8,7 +8,7 @@ use Rattle.refusals.specs.Rows.{firstRow}
 use Rattle.sets.proofs.Bools.{or-fl, or-fr}
 use Rattle.refusals.proofs.Rows.{first-pass}
 use Rattle.rule_entries.specs.declared.Head.{Head}
-use Rattle.file_spec.specs.Rows.{numberRows, namesBeyond, outside}
+use Rattle.file_spec.specs.RuleRows.{numberRows, namesBeyond, outside}
 
 -- what rows 3 to 6 ask
 pub record Ranges (h : Head) : Type 0 where

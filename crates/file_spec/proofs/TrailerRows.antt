@@ -9,7 +9,8 @@ use lib.Dec.{ltb}
 use Rattle.refusals.specs.Rows.{firstRow}
 use Rattle.refusals.proofs.Rows.{numbered, first-left, first-right, first-parts, first-pass}
 use Rattle.file_spec.specs.File.{tagged, headOf, clauseCount, entryCount, clausesOf, countsOf, trailer}
-use Rattle.file_spec.specs.Rows.{numberRows, trailerRows, listRows, layoutRows}
+use Rattle.file_spec.specs.Rows.{trailerRows, layoutRows}
+use Rattle.file_spec.specs.RuleRows.{numberRows, listRows}
 use Rattle.file_spec.proofs.Numbers.{Ranges, ranges}
 
 pub numbers-numbered : (f : List ℕ) → numbered (numberRows (headOf f)) ≡ true

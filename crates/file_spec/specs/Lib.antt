@@ -1,3 +1,4 @@
 pub mod File
 pub mod Names
+pub mod RuleRows
 pub mod Rows

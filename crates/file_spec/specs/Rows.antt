@@ -1,50 +1,14 @@
--- The refusals of a rule and of a rule file, in order of checking.
-use Prim.Native.Nat.{ℕ, _+_, _-_, _*_, _^_}
+-- The refusals of a rule file, in order of checking, and of names that are given.
+use Prim.Native.Nat.{ℕ, _+_, _-_, _*_}
 use mathlib.Core.List.{List, [], _∷_, _++_}
-use mathlib.Core.Bool.{Bool, not, _&&_, _||_}
-use lib.ListN.{length, getD}
-use lib.Dec.{ltb, leb, eqb}
-use Rattle.sets.specs.Tests.{some}
-use Rattle.sets.specs.Masks.{bit, inside}
-use Rattle.sets.specs.Lists.{anyOf, sum}
+use mathlib.Core.Bool.{not, _&&_, _||_}
+use lib.ListN.{length}
+use lib.Dec.{ltb, eqb}
+use Rattle.sets.specs.Lists.{anyOf}
 use Rattle.refusals.specs.Rows.{Check, firstRow, check}
-use Rattle.theory.specs.Rule.{Rule, entry}
-use Rattle.theory.specs.Components.{mixed}
-use Rattle.rule_entries.specs.declared.Head.{Head}
 use Rattle.file_spec.specs.File.{trailer, tagged, headOf, clauseCount, entryCount, clausesOf, countsOf, partBefore, ruleIn}
 use Rattle.file_spec.specs.Names.{hasNames, namesBefore, repeatsName}
-
--- x is outside a..b
-abbrev pub outside : ℕ → ℕ → ℕ → Bool
-outside a b x = ltb x a || ltb b x
-
--- the mask m "namesBeyond a state not below n"
-abbrev pub namesBeyond : ℕ → ℕ → Bool
-namesBeyond n m = leb (2 ^ n) m
-
--- rows 3 to 6, of a rule's numbers
-unfoldable pub numberRows : Head → List Check
-numberRows h =
-    -- "n outside 1..8"
-    check (outside 1 8 (h .n)) 3
-    -- "s outside 1..16"
-    ∷ check (outside 1 16 (h .s)) 4
-    -- "initial state not below n"
-    ∷ check (leb (h .n) (h .initial)) 5
-    -- "accepting mask namesBeyond a state not below n"
-    ∷ check (namesBeyond (h .n) (h .accepting)) 6
-    ∷ []
-
--- rows 8 to 10, of a rule's lists
-unfoldable pub listRows : ℕ → List ℕ → List ℕ → List Check
-listRows n counts clauses =
-    -- "a count over 8"
-    check (anyOf counts (λ x. ltb 8 x)) 8
-    -- "counts do not sum to c"
-    ∷ check (not (eqb (sum counts) (length clauses))) 9
-    -- "a clause namesBeyond a state not below n"
-    ∷ check (anyOf clauses (namesBeyond n)) 10
-    ∷ []
+use Rattle.file_spec.specs.RuleRows.{outside, numberRows, listRows, componentRows, formedRows}
 
 -- rows 1 to 7, of a file's trailer
 unfoldable pub trailerRows : List ℕ → List Check
@@ -61,61 +25,33 @@ trailerRows f =
 unfoldable pub layoutRows : List ℕ → List Check
 layoutRows f = trailerRows f ++ listRows (trailer f 0) (countsOf f) (clausesOf f)
 
--- the clauses cs of an entry over n states: clause i "contains another of its clauses", j; at two different places equal clauses contain each other
-abbrev pub containsAt : ℕ → List ℕ → ℕ → ℕ → Bool
-containsAt n cs i j = not (eqb i j) && inside n (bit (getD cs i 0)) (getD cs j 0)
-
--- 02: "an entry with a clause that contains another of its clauses"
-unfoldable pub nested : ℕ → List ℕ → Bool
-nested n cs = some (length cs) (λ i. some (length cs) (λ j. containsAt n cs i j))
-
--- some entry of the rule is nested; clauses of different entries are not compared
-unfoldable pub someNested : Rule → Bool
-someNested r = some (r .n) (λ q. some (r .s) (λ a. nested (r .n) (entry r q a)))
-
--- row 20, of a rule's entries. 02: "after 10 and before 11"
-unfoldable pub clauseRows : Rule → List Check
-clauseRows r =
-    -- "an entry with a clause that contains another of its clauses"
-    check (someNested r) 20 ∷ []
-
--- row 11, of a rule's components
-unfoldable pub componentRows : Rule → List Check
-componentRows r =
-    -- "a mixed component"
-    check (mixed r) 11 ∷ []
-
--- rows 20 and 11, of a rule that rows 1 to 10 pass
-unfoldable pub formedRows : Rule → List Check
-formedRows r = clauseRows r ++ componentRows r
-
 -- rows 1 to 11 and 20: what a file is refused for whatever its preface is
 unfoldable pub bodyRows : List ℕ → List Check
 bodyRows f = layoutRows f ++ formedRows (ruleIn f)
 
--- rows 22 and 23, of the bytes of namesBeyond
+-- rows 22 and 23, of the bytes of names
 unfoldable pub nameRows : List ℕ → List Check
-nameRows namesBeyond =
+nameRows names =
     -- "a name byte outside 20 to 7E"
-    check (anyOf namesBeyond (outside 0x20 0x7E)) 22
-    -- "two equal namesBeyond"
-    ∷ check (repeatsName namesBeyond) 23
+    check (anyOf names (outside 0x20 0x7E)) 22
+    -- "two equal names"
+    ∷ check (repeatsName names) 23
     ∷ []
 
 -- rows 21 to 23, of a preface before a rule of s letters. 02: "all three after 11"
 unfoldable pub prefaceRows : ℕ → List ℕ → List Check
 prefaceRows s p =
-    -- "namesBeyond that do not fit in the preface"
+    -- "names that do not fit in the preface"
     check (hasNames p && ltb (length p - 2) (8 * s)) 21
     ∷ nameRows (namesBefore s p)
 
 -- rows 21 to 23, of name bytes that are given to the writer for s letters
 unfoldable pub givenRows : ℕ → List ℕ → List Check
-givenRows s namesBeyond =
+givenRows s names =
     -- "name bytes given to it that are neither none nor 8 × s are 21"
-    check (not (eqb (length namesBeyond) 0 || eqb (length namesBeyond) (8 * s))) 21
+    check (not (eqb (length names) 0 || eqb (length names) (8 * s))) 21
     -- "and it tries 22 and 23 too"
-    ∷ nameRows namesBeyond
+    ∷ nameRows names
 
 -- the rule's group
 unfoldable pub fileRows : List ℕ → List Check

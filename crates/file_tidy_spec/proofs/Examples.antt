@@ -11,7 +11,8 @@ use Rattle.theory.specs.Components.{named, leads, within, reaches, together, mi
 use Rattle.rule_tidy_spec.specs.Tidy.{properlyContains, drops, tidyFrom, tidyEntry, tidyCounts, tidyClauses, tidyRule}
 use Rattle.file_spec.specs.File.{tagged, clausesOf, countsOf, trailerOf, bodyOf}
 use Rattle.file_spec.specs.Names.{hasNames, namesBefore, repeatsName, prefaceFrom}
-use Rattle.file_spec.specs.Rows.{numberRows, listRows, trailerRows, layoutRows, nested, someNested, clauseRows, componentRows, formedRows, bodyRows, nameRows, prefaceRows, fileRows, fileRow}
+use Rattle.file_spec.specs.Rows.{trailerRows, layoutRows, bodyRows, nameRows, prefaceRows, fileRows, fileRow}
+use Rattle.file_spec.specs.RuleRows.{numberRows, listRows, nested, someNested, clauseRows, componentRows, formedRows}
 use Rattle.file_write_spec.specs.Written.{sliceRows, after}
 use Rattle.file_tidy_spec.specs.declared.Tidied.the-variants.{Length, Refused}
 use Rattle.file_tidy_spec.specs.Tidied.{tidyRows, tidyRow, answer, tidiedOf, sliceTidied}

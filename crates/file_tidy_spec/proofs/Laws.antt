@@ -20,7 +20,8 @@ use Rattle.rule_tidy_spec.specs.Tidy.{tidyRule}
 use Rattle.rule_tidy_spec.proofs.Entries.{counts-length, clauses-length}
 use Rattle.file_spec.specs.File.{trailer, partBefore, namesOf, ruleIn, bodyOf, trailerOf}
 use Rattle.file_spec.specs.Names.{namesTag, hasNames, namesBefore, prefaceFrom}
-use Rattle.file_spec.specs.Rows.{numberRows, listRows, trailerRows, layoutRows, componentRows, nameRows, prefaceRows}
+use Rattle.file_spec.specs.Rows.{trailerRows, layoutRows, nameRows, prefaceRows}
+use Rattle.file_spec.specs.RuleRows.{numberRows, listRows, componentRows}
 use Rattle.file_spec.proofs.Formed.{passing}
 use Rattle.file_spec.proofs.Names.{fit-21, past-21, no-names, names-room, names-long, names-length, written-row}
 use Rattle.file_read.proofs.FileRows.{layout-numbered, laid-formed}

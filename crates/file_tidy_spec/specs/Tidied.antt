@@ -6,7 +6,8 @@ use Rattle.refusals.specs.Rows.{Check, firstRow}
 use Rattle.rule_tidy_spec.specs.Tidy.{tidyRule}
 use Rattle.file_spec.specs.File.{trailer, partBefore, namesOf, ruleIn, bodyOf}
 use Rattle.file_spec.specs.Names.{prefaceFrom}
-use Rattle.file_spec.specs.Rows.{layoutRows, componentRows, prefaceRows}
+use Rattle.file_spec.specs.Rows.{layoutRows, prefaceRows}
+use Rattle.file_spec.specs.RuleRows.{componentRows}
 use Rattle.file_write_spec.specs.Written.{sliceRows, after}
 use Rattle.file_tidy_spec.specs.declared.Tidied.{Tidied}
 use Rattle.file_tidy_spec.specs.declared.Tidied.the-variants.{Length, Refused}

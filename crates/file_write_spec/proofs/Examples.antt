@@ -11,7 +11,8 @@ use Rattle.theory.specs.Rule.{entry}
 use Rattle.theory.specs.Components.{named, leads, within, reaches, together, mixed}
 use Rattle.file_spec.specs.File.{trailerOf, bodyOf}
 use Rattle.file_spec.specs.Names.{repeatsName, prefaceFrom}
-use Rattle.file_spec.specs.Rows.{numberRows, listRows, nested, someNested, clauseRows, componentRows, formedRows, nameRows, givenRows}
+use Rattle.file_spec.specs.Rows.{nameRows, givenRows}
+use Rattle.file_spec.specs.RuleRows.{numberRows, listRows, nested, someNested, clauseRows, componentRows, formedRows}
 use Rattle.file_write_spec.specs.Written.{headFrom, ruleRows, givenRuleRows, sliceRows, writeRow, after, sliceAfter}
 
 -- Z into a slice of ten bytes: nine are written, the last is as it was

@@ -18,7 +18,8 @@ use Rattle.rule_entries.specs.declared.Head.{Head}
 use Rattle.rule_entries.specs.Entries.{ruleOf}
 use Rattle.file_spec.specs.File.{bodyOf, trailerOf}
 use Rattle.file_spec.specs.Names.{namesTag, prefaceFrom}
-use Rattle.file_spec.specs.Rows.{numberRows, listRows, someNested, clauseRows, componentRows, formedRows, nameRows, givenRows}
+use Rattle.file_spec.specs.Rows.{nameRows, givenRows}
+use Rattle.file_spec.specs.RuleRows.{numberRows, listRows, someNested, clauseRows, componentRows, formedRows}
 use Rattle.file_spec.proofs.Formed.{formed, formed-passing, formed-apart}
 use Rattle.file_write_spec.specs.declared.Written.the-variants.{Length, Refused}
 use Rattle.file_write_spec.specs.Written.{InBytes, ruleRows, givenRuleRows, sliceRows, fileOf, writeRow, answer, writtenOf, after, sliceAfter}

@@ -9,7 +9,8 @@ use Rattle.rule_entries.specs.declared.Head.{Head}
 use Rattle.rule_entries.specs.Entries.{ruleOf}
 use Rattle.file_spec.specs.File.{bodyOf}
 use Rattle.file_spec.specs.Names.{prefaceFrom}
-use Rattle.file_spec.specs.Rows.{numberRows, listRows, formedRows, givenRows}
+use Rattle.file_spec.specs.Rows.{givenRows}
+use Rattle.file_spec.specs.RuleRows.{numberRows, listRows, formedRows}
 use Rattle.file_write_spec.specs.declared.Written.{Written}
 use Rattle.file_write_spec.specs.declared.Written.the-variants.{Length, Refused}
 

@@ -12,7 +12,8 @@ use Rattle.sets.specs.Tests.{Set}
 use Rattle.sets.specs.Masks.{bit, inside}
 use Rattle.sets.proofs.Bools.{bif, and-i, or-l, or-r, clash}
 use Rattle.sets.proofs.Members.{inside-at, inside-all}
-use Rattle.theory.specs.Automaton.{Automaton, Layered}
+use Rattle.theory.specs.Automaton.{Automaton}
+use Rattle.theory.specs.Layered.{Layered}
 use Rattle.theory.specs.Core.{isOpen, mix}
 use Rattle.theory.specs.Plan.{Reach, Accepts}
 use Rattle.theory.specs.Plan.Reach.{here, on}

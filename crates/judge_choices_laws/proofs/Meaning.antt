@@ -20,7 +20,8 @@ use Rattle.sets.proofs.Tests.{first-leb}
 use Rattle.sets.proofs.Lists.{mem-at, tabulate-at, length-tabulate}
 use Rattle.sets.proofs.Members.{inside-at, inside-all, inside-trim}
 use Rattle.theory.specs.Rule.{Rule, entry, satisfies}
-use Rattle.theory.specs.Automaton.{Automaton, automaton, Layered}
+use Rattle.theory.specs.Automaton.{Automaton, automaton}
+use Rattle.theory.specs.Layered.{Layered}
 use Rattle.theory.specs.Core.{isOpen, mix}
 use Rattle.theory.specs.Passing.{Passing}
 use Rattle.theory.specs.Plan.{Accepts, AcceptsFrom}

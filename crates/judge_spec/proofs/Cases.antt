@@ -13,7 +13,8 @@ use Rattle.theory.specs.Word.{nextPlace, letterAt}
 use Rattle.theory.specs.Truth.{heightOf, layer, roundsAt, solvedBelow, truthMasks}
 use Rattle.file_spec.specs.File.{tagged, clausesOf, countsOf, ruleIn}
 use Rattle.file_spec.specs.Names.{hasNames, namesBefore, repeatsName}
-use Rattle.file_spec.specs.Rows.{numberRows, listRows, trailerRows, layoutRows, nested, someNested, clauseRows, componentRows, formedRows, bodyRows, nameRows, prefaceRows, fileRows}
+use Rattle.file_spec.specs.Rows.{trailerRows, layoutRows, bodyRows, nameRows, prefaceRows, fileRows}
+use Rattle.file_spec.specs.RuleRows.{numberRows, listRows, nested, someNested, clauseRows, componentRows, formedRows}
 use Rattle.word_rows.specs.Words.{lengthRows, letterRows, wordRows}
 use Rattle.judge_spec.specs.declared.Verdict.{Verdict}
 use Rattle.judge_spec.specs.declared.Verdict.the-variants.{Yes, No, Refused}

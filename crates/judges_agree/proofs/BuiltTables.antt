@@ -10,7 +10,7 @@ use Rattle.theory.specs.Macrostate.{holdsInitial}
 use Rattle.theory.specs.Passing.{Passing}
 use Rattle.theory.specs.Rule.{Rule}
 use Rattle.theory.specs.Run.{sourceOf, letterOf, targetOf}
-use Rattle.theory.specs.Table.{macrostates, transitions, macrostatesFrom, transitionsFrom}
+use Rattle.theory.specs.TableComputed.{macrostates, transitions, macrostatesFrom, transitionsFrom}
 use Rattle.theory_laws.proofs.Layers.{layered}
 use Rattle.theory_laws.proofs.Tables.{few-states, components-there, letters-fit, reachable-iff, reachable-macrostate, macrostates-ascending, transitions-ascending, transition-iff, transition-leads}
 use Rattle.build_transitions_spec.proofs.Link.{code-low}

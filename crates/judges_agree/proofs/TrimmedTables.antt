@@ -9,7 +9,7 @@ use Rattle.theory.specs.Macrostate.{holdsInitial}
 use Rattle.theory.specs.Passing.{Passing}
 use Rattle.theory.specs.Rule.{Rule}
 use Rattle.theory.specs.Run.{sourceOf, letterOf, targetOf}
-use Rattle.theory.specs.Table.{macrostates}
+use Rattle.theory.specs.TableComputed.{macrostates}
 use Rattle.theory_laws.proofs.Layers.{layered}
 use Rattle.theory_laws.proofs.Tables.{few-states, components-there, letters-fit, reachable-macrostate, transition-leads}
 use Rattle.table_lent.specs.Lent.{inWords, tableRow}

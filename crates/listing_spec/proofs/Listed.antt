@@ -8,7 +8,7 @@ use lib.Dec.{ltb}
 use lib.ListN.{length, take, replicate, length-append}
 use lib.Seq.{take-append-seam}
 use Rattle.theory.specs.Macrostate.{isInitial}
-use Rattle.theory.specs.Table.{macrostates, transitions}
+use Rattle.theory.specs.TableComputed.{macrostates, transitions}
 use Rattle.file_spec.specs.File.{namesOf, ruleIn, namedIn}
 use Rattle.file_spec.specs.Rows.{fileRow, fileRows}
 use Rattle.refusals.proofs.Rows.{first-parts, first-pass}

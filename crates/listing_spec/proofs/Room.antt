@@ -18,13 +18,14 @@ use Rattle.theory.specs.Macrostate.{holdsInitial, isInitial}
 use Rattle.theory.specs.Passing.{Passing}
 use Rattle.theory.specs.Rule.{Rule}
 use Rattle.theory.specs.Run.{sourceOf, letterOf, targetOf}
-use Rattle.theory.specs.Table.{macrostates, transitions, macrostatesFrom, transitionsFrom}
+use Rattle.theory.specs.TableComputed.{macrostates, transitions, macrostatesFrom, transitionsFrom}
 use Rattle.theory_laws.proofs.Layers.{layered}
 use Rattle.theory_laws.proofs.Tables.{few-states, components-there, letters-fit, reachable-iff, reachable-macrostate, transition-iff, transition-leads}
 use Rattle.file_spec.specs.File.{NamedRule, trailer, partBefore, namesOf, ruleIn, namedIn}
 use Rattle.file_spec.specs.Names.{hasNames}
 use Rattle.file_spec.proofs.Names.{fit-21, names-length, no-names}
-use Rattle.file_spec.specs.Rows.{numberRows, listRows, trailerRows, layoutRows, clauseRows, componentRows, formedRows, bodyRows, nameRows, prefaceRows, prefaceRow, fileRow, fileRows}
+use Rattle.file_spec.specs.Rows.{trailerRows, layoutRows, bodyRows, nameRows, prefaceRows, prefaceRow, fileRow, fileRows}
+use Rattle.file_spec.specs.RuleRows.{numberRows, listRows, clauseRows, componentRows, formedRows}
 use Rattle.refusals.proofs.Rows.{row-yes, row-no, first-left, first-right}
 use Rattle.file_read.proofs.FileRows.{file-numbered, accepted-rows, accepted-passing}
 use Rattle.build_transitions_spec.proofs.Link.{code-low}

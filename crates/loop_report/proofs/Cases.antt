@@ -6,7 +6,8 @@ use Rattle.sets.specs.Tests.{every}
 use Rattle.sets.specs.Masks.{inside}
 use Rattle.refusals.specs.Rows.{firstRow}
 use Rattle.file_spec.specs.File.{tagged, clausesOf, countsOf}
-use Rattle.file_spec.specs.Rows.{numberRows, listRows, trailerRows, layoutRows, nested, someNested, clauseRows}
+use Rattle.file_spec.specs.Rows.{trailerRows, layoutRows}
+use Rattle.file_spec.specs.RuleRows.{numberRows, listRows, nested, someNested, clauseRows}
 use Rattle.loop_spec.specs.declared.Report.the-variants.{States, Nothing, Refused}
 use Rattle.loop_spec.proofs.Cases.{computed as searched}
 use Rattle.loop_report.specs.Report.{sliceRows, formedRows, reportRow, answer, reportOf, after, sliceAfter}

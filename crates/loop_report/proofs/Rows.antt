@@ -10,7 +10,8 @@ use Rattle.refusals.specs.Rows.{firstRow}
 use Rattle.refusals.proofs.Rows.{numbered, first-left, first-right, first-parts}
 use Rattle.theory.specs.Rule.{Rule}
 use Rattle.file_spec.specs.File.{ruleIn}
-use Rattle.file_spec.specs.Rows.{layoutRows, clauseRows}
+use Rattle.file_spec.specs.Rows.{layoutRows}
+use Rattle.file_spec.specs.RuleRows.{clauseRows}
 use Rattle.file_read.proofs.FileRows.{layout-numbered, laid-formed}
 use Rattle.loop_spec.specs.Loops.{Reported}
 use Rattle.loop_spec.specs.Search.{loopOf}

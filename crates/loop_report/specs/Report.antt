@@ -6,7 +6,8 @@ use lib.ListN.{length, drop}
 use Rattle.refusals.specs.Rows.{Check, firstRow, check}
 use Rattle.theory.specs.Rule.{Rule}
 use Rattle.file_spec.specs.File.{ruleIn}
-use Rattle.file_spec.specs.Rows.{layoutRows, clauseRows}
+use Rattle.file_spec.specs.Rows.{layoutRows}
+use Rattle.file_spec.specs.RuleRows.{clauseRows}
 use Rattle.loop_spec.specs.Search.{loopOf}
 use Rattle.loop_spec.specs.declared.Report.{Report}
 use Rattle.loop_spec.specs.declared.Report.the-variants.{States, Nothing, Refused}

@@ -3,7 +3,8 @@ use mulgreddi_answers::Answer;
 ghost use mathlib.Core.Path.{_≡_};
 ghost use lib.ListN.{length};
 ghost use Rattle.theory.specs.Word.{letters};
-ghost use Rattle.word_spelling_spec.specs.Spelling.{Tidy, tidyLead, tidyCycle};
+ghost use Rattle.word_spelling_spec.specs.Spelling.{Tidy};
+ghost use Rattle.word_spelling_spec.specs.SpellingComputed.{tidyLead, tidyCycle};
 ghost use Rattle.word_spelling.specs.Tidied.{tidyLetters, tidyRow, tidyWordOf, after};
 ghost use Rattle.mulgreddi_answers.specs.Answers.{tidyWordAnswer};
 

@@ -7,9 +7,11 @@ use native.Mathlib.Omega.{arith}
 use native.Mathlib.Decide.{decLe}
 use Rattle.sets.specs.Tests.{Set}
 use Rattle.sets.proofs.Bools.{bif, not-t}
-use Rattle.theory.specs.Automaton.{Automaton, Layered}
+use Rattle.theory.specs.Automaton.{Automaton}
+use Rattle.theory.specs.Layered.{Layered}
 use Rattle.theory.specs.Rule.{satisfies}
-use Rattle.theory.specs.Core.{isOpen, Core, Earlier, levelOf, rankOf}
+use Rattle.theory.specs.Core.{isOpen, Core, Earlier}
+use Rattle.theory.specs.CoreComputed.{levelOf, rankOf}
 use Rattle.theory_laws.proofs.Pursuit.{open-acc, open-rej}
 use Rattle.theory_laws.proofs.Cores.{core-rank-max, earlier-of}
 use Rattle.paper_spec.specs.Definition7.{Consistent, LocallyConsistent, witnessR1, witnessR2}

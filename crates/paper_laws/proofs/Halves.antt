@@ -7,7 +7,8 @@ use Prim.Native.Nat.{ℕ, _<_}
 use lib.Dec.{leb}
 use Rattle.sets.specs.Tests.{Set}
 use Rattle.sets.proofs.Bools.{bif, not-t}
-use Rattle.theory.specs.Automaton.{Automaton, Layered}
+use Rattle.theory.specs.Automaton.{Automaton}
+use Rattle.theory.specs.Layered.{Layered}
 use Rattle.theory.specs.Core.{Least, isOpen, rejectingSettled, acceptingSettled, test, Core, Earlier}
 use Rattle.theory_laws.proofs.Pursuit.{open-acc, open-rej, settled-acc, settled-rej}
 use Rattle.theory_laws.proofs.Settled.{settled-ext}

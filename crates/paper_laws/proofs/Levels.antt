@@ -11,7 +11,8 @@ use borrow.Author.Tests.{eqb-true, eq-eqb, lt-ltb, le-ltb, le-leb, lt-leb}
 use Rattle.sets.specs.Tests.{Set, some, largest}
 use Rattle.sets.proofs.Bools.{bif, clash, and-l, and-r, and-i, not-t}
 use Rattle.sets.proofs.Tests.{some-get, some-at, largest-hit}
-use Rattle.theory.specs.Automaton.{Automaton, Layered}
+use Rattle.theory.specs.Automaton.{Automaton}
+use Rattle.theory.specs.Layered.{Layered}
 use Rattle.theory.specs.Rule.{satisfies}
 use Rattle.theory.specs.Core.{isOpen, mix, rejectingSettled, acceptingSettled, test, Core, Earlier, openOf}
 use Rattle.theory_laws.proofs.Pursuit.{open-acc, open-rej}

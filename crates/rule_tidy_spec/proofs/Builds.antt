@@ -8,10 +8,12 @@ use Rattle.sets.specs.Tests.{every, some, count, first, largest}
 use Rattle.theory.specs.Automaton.{automaton}
 use Rattle.theory.specs.Code.{fields, pack, componentIn, classesIn, setIn, rankIn, wellCoded}
 use Rattle.theory.specs.Components.{named, leads, within, reaches, together, smallest, isSmallest, component, components}
-use Rattle.theory.specs.Core.{isOpen, mix, rejectingSettled, acceptingSettled, settled, test, levelOf, taken, rankOf, isCore, openOf, nextComponent}
-use Rattle.theory.specs.Macrostate.{begun, before, onward, goes}
+use Rattle.theory.specs.Core.{isOpen, mix, rejectingSettled, acceptingSettled, settled, test, openOf, nextComponent}
+use Rattle.theory.specs.CoreComputed.{levelOf, taken, rankOf, isCore}
+use Rattle.theory.specs.Macrostate.{begun}
+use Rattle.theory.specs.MacrostateComputed.{before, onward, goes}
 use Rattle.theory.specs.Rule.{entry, satisfies}
-use Rattle.theory.specs.Table.{reachedIn, reached, digitals, candidates, cores, codesFrom, macrostatesFrom, macrostates}
+use Rattle.theory.specs.TableComputed.{reachedIn, reached, digitals, candidates, cores, codesFrom, macrostatesFrom, macrostates}
 use Rattle.rule_tidy_spec.proofs.Cases.{glued, split}
 
 pub macrostates-glued : macrostates glued ≡ 257 ∷ 4355 ∷ 4611 ∷ 8451 ∷ 17592186048771 ∷ 35184372093443 ∷ 35184372097283 ∷ []

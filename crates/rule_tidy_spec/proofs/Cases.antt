@@ -8,7 +8,7 @@ use Rattle.sets.specs.Lists.{anyOf, among, sum}
 use Rattle.theory.specs.Rule.{Rule, entry}
 use Rattle.theory.specs.Components.{named, leads, within, reaches, together, smallest, isSmallest, components}
 use Rattle.rule_tidy_spec.specs.Tidy.{properlyContains, drops, tidyFrom, tidyEntry, tidyCounts, tidyClauses, tidyRule, minimal, firstMinimal}
-use Rattle.file_spec.specs.Rows.{nested, someNested}
+use Rattle.file_spec.specs.RuleRows.{nested, someNested}
 
 -- ---- entries over three states
 

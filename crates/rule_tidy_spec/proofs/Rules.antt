@@ -19,7 +19,7 @@ use Rattle.theory.specs.Components.{named, leads, LeadsTo, here, step, Together
 use Rattle.theory.specs.Passing.{WellFormed, Passing}
 use Rattle.theory_laws.proofs.Components.{clause-leads}
 use Rattle.rule_tidy_spec.specs.Tidy.{tidyEntry, tidyCounts, tidyClauses, tidyRule}
-use Rattle.file_spec.specs.Rows.{nested, someNested}
+use Rattle.file_spec.specs.RuleRows.{nested, someNested}
 use Rattle.rule_tidy_spec.proofs.Minimal.{tidy-satisfies}
 use Rattle.rule_tidy_spec.proofs.Unnested.{tidy-unnested, unnested-stays}
 use Rattle.rule_tidy_spec.proofs.Entries.{entry-listed, tidy-listed, counts-length, counts-sum, clauses-listed, counts-few, entry-tidy}

@@ -14,7 +14,7 @@ use Rattle.sets.proofs.Bools.{bif, clash, and-i}
 use Rattle.sets.proofs.Tests.{some-none, some-no}
 use Rattle.sets.proofs.Lists.{mem-at, place-of, among-no}
 use Rattle.rule_tidy_spec.specs.Tidy.{contains, tidyEntry, minimal, firstMinimal}
-use Rattle.file_spec.specs.Rows.{nested}
+use Rattle.file_spec.specs.RuleRows.{nested}
 use Rattle.rule_tidy_spec.proofs.Contains.{contains-refl, properly-irrefl, properly-none}
 use Rattle.rule_tidy_spec.proofs.Minimal.{minimal-in, minimal-only, tidy-minimal, first-keep, first-out, first-distinct}
 

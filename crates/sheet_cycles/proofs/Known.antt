@@ -10,7 +10,7 @@ use native.Mathlib.Numerals.{add-one}
 use lib.ListN.{length, getD, take, drop, set, length-append}
 use lib.Seq.{getD-set-same, getD-set-other}
 use Rattle.sets.proofs.Bools.{bif}
-use Rattle.word_spelling_spec.specs.Spelling.{sameLetters}
+use Rattle.word_spelling_spec.specs.SpellingComputed.{sameLetters}
 use Rattle.word_spelling_spec.proofs.Same.{letters-equal, letters-iff}
 use Rattle.sheet_spec.specs.Sheet.{isKnown}
 use Rattle.sheet_laws.proofs.Distinct.{known-iff}

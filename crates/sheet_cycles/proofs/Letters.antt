@@ -8,7 +8,7 @@ use lib.ListN.{length, getD, drop, drop-of-length-le}
 use borrow.Author.Tests.{eq-eqb, ne-eqb}
 use Rattle.sets.proofs.Bools.{bif}
 use Rattle.sets.proofs.Walks.{drop-next}
-use Rattle.word_spelling_spec.specs.Spelling.{sameLetters}
+use Rattle.word_spelling_spec.specs.SpellingComputed.{sameLetters}
 use Rattle.word_spelling_spec.proofs.Same.{letters-equal}
 
 pub lengths-differ : (xs ys : List ℕ) → (length xs ≡ length ys → ⊥) → sameLetters xs ys ≡ false

@@ -7,7 +7,7 @@ ghost use lib.ListN.{length, take, drop};
 ghost use Rattle.rule_entries.specs.Entries.{ruleOf};
 ghost use Rattle.rule_reach.specs.Tables.{closuresOf};
 ghost use Rattle.judge_place.specs.Starts.{CycleReady};
-ghost use Rattle.word_spelling_spec.specs.Spelling.{sameLetters};
+ghost use Rattle.word_spelling_spec.specs.SpellingComputed.{sameLetters};
 ghost use Rattle.sheet_cycles.specs.Known.{Parts, Found};
 ghost use Rattle.sheet_cycles.specs.Filled.{Filled, Learnt};
 
@@ -51,7 +51,8 @@ pub struct Learned {
     pub cycles: usize,
 }
 
-// The number of the cycle that is the sheet's part of p bytes from byte begin on; n cycles are known. A new one is added and its masks are filled.
+// The number of the cycle that is the sheet's part of p bytes from byte begin on; n cycles are known. A new one is added, and its
+// masks are filled.
 pub fn learn_cycle(
     h: Head,
     counts: &[u8],

@@ -9,7 +9,7 @@ use native.Mathlib.Decide.{decLt}
 use lib.ListN.{length, getD, length-append, List·getD-append}
 use lib.Seq.{getD-append-seam}
 use Rattle.sets.proofs.Bools.{bif}
-use Rattle.word_spelling_spec.specs.Spelling.{sameLetters}
+use Rattle.word_spelling_spec.specs.SpellingComputed.{sameLetters}
 use Rattle.word_spelling_spec.proofs.Same.{letters-equal, letters-iff}
 use Rattle.sheet_spec.specs.Words.{SheetWord, faultOf}
 use Rattle.sheet_spec.specs.Sheet.{isKnown, learn, learnBy, cyclesAfter}

@@ -16,7 +16,8 @@ use Rattle.theory_laws.proofs.Places.{letter-behind}
 use Rattle.theory_laws.proofs.Truth.{truth-length}
 use Rattle.theory_laws.proofs.TruthLaws.{truth-cons}
 use Rattle.judge_place.specs.Starts.{backOver}
-use Rattle.word_spelling_spec.specs.Spelling.{Agree, cycleLength, leadLength, tidyLead, tidyCycle}
+use Rattle.word_spelling_spec.specs.Spelling.{Agree}
+use Rattle.word_spelling_spec.specs.SpellingComputed.{cycleLength, leadLength, tidyLead, tidyCycle}
 use Rattle.word_spelling_spec.proofs.Steps.{place-is, letters-behind}
 use Rattle.word_spelling_spec.proofs.Tidied.{tidied, tidy-lead-length, lead-max, cycle-max}
 use Rattle.word_spelling_spec.proofs.Truths.{mask-spelled}

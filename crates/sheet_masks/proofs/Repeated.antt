@@ -14,7 +14,7 @@ use Rattle.theory.specs.Truth.{truthMasks}
 use Rattle.theory.specs.Word.{places, nextPlace, place}
 use Rattle.theory_laws.proofs.Truth.{truth-length}
 use Rattle.judge_place.specs.Starts.{backOver}
-use Rattle.word_spelling_spec.specs.Spelling.{leadLength, tidyCycle}
+use Rattle.word_spelling_spec.specs.SpellingComputed.{leadLength, tidyCycle}
 use Rattle.word_spelling_spec.proofs.Tidied.{lead-max}
 use Rattle.sheet_laws.proofs.Shared.{tail-mask, whole-masks}
 use Rattle.sheet_masks.specs.Repeats.{repeated}

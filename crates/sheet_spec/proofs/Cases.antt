@@ -13,9 +13,10 @@ use Rattle.theory.specs.Truth.{heightOf, layer, roundsAt, solvedBelow, truthMas
 use Rattle.theory.specs.Word.{nextPlace, letterAt, place}
 use Rattle.file_spec.specs.File.{tagged, clausesOf, countsOf, ruleIn}
 use Rattle.file_spec.specs.Names.{hasNames, namesBefore, repeatsName}
-use Rattle.file_spec.specs.Rows.{numberRows, listRows, trailerRows, layoutRows, nested, someNested, clauseRows, componentRows, formedRows, bodyRows, nameRows, prefaceRows, fileRows}
+use Rattle.file_spec.specs.Rows.{trailerRows, layoutRows, bodyRows, nameRows, prefaceRows, fileRows}
+use Rattle.file_spec.specs.RuleRows.{numberRows, listRows, nested, someNested, clauseRows, componentRows, formedRows}
 use Rattle.word_rows.specs.Words.{letterRows}
-use Rattle.word_spelling_spec.specs.Spelling.{comesAgain, cycleLength, shortened, leadLength, tidyCycle, sameLetters}
+use Rattle.word_spelling_spec.specs.SpellingComputed.{comesAgain, cycleLength, shortened, leadLength, tidyCycle, sameLetters}
 use Rattle.sheet_spec.specs.Words.{SheetWord, lone, spelled, wordsIn, wordsOf, leadOf, cycleOf, lengthFaults, faultOf}
 use Rattle.sheet_spec.specs.Sheet.{answerOf, masksOf, allMasks, isKnown, learn, cyclesAfter, cycleCount, sheetRows, sheetRow, sheetOf}
 use Rattle.sheet_spec.specs.declared.SheetAnswer.the-variants.{Judged, Refused}

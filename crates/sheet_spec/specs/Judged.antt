@@ -10,7 +10,7 @@ use Rattle.file_spec.specs.File.{ruleIn}
 use Rattle.judge_spec.specs.declared.Verdict.{Verdict}
 use Rattle.judge_spec.specs.declared.Verdict.the-variants as judge
 use Rattle.judge_spec.specs.Judge.{judgeRow, judgeOf, after}
-use Rattle.word_spelling_spec.specs.Spelling.{tidyCycle}
+use Rattle.word_spelling_spec.specs.SpellingComputed.{tidyCycle}
 use Rattle.sheet_spec.specs.Words.{SheetWord, spelled, wordsOf, leadOf, cycleOf, faultOf}
 use Rattle.sheet_spec.specs.Sheet.{answerOf, masksOf, allMasks, cyclesAfter, sheetRow, sheetOf}
 use Rattle.sheet_spec.specs.declared.SheetAnswer.{SheetAnswer}

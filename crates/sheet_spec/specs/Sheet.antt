@@ -12,7 +12,7 @@ use Rattle.theory.specs.Word.{places}
 use Rattle.file_spec.specs.File.{ruleIn}
 use Rattle.file_spec.specs.Rows.{fileRows}
 use Rattle.judge_spec.specs.Judge.{holdsStart}
-use Rattle.word_spelling_spec.specs.Spelling.{tidyCycle, sameLetters}
+use Rattle.word_spelling_spec.specs.SpellingComputed.{tidyCycle, sameLetters}
 use Rattle.sheet_spec.specs.Words.{SheetWord, wordsOf, leadOf, cycleOf, faultOf}
 use Rattle.sheet_spec.specs.declared.SheetAnswer.{SheetAnswer}
 use Rattle.sheet_spec.specs.declared.SheetAnswer.the-variants.{Judged, Refused}

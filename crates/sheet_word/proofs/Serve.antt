@@ -11,7 +11,7 @@ use Rattle.theory.specs.Rule.{Rule}
 use Rattle.theory.specs.Truth.{truthMasks}
 use Rattle.theory.specs.Word.{places, WordOver}
 use Rattle.judge_place.specs.Starts.{backOver}
-use Rattle.word_spelling_spec.specs.Spelling.{cycleLength, leadLength, tidyLead, tidyCycle}
+use Rattle.word_spelling_spec.specs.SpellingComputed.{cycleLength, leadLength, tidyLead, tidyCycle}
 use Rattle.word_spelling_spec.proofs.Tidied.{cycle-pos, tidy-lead-length}
 use Rattle.sheet_laws.proofs.Shared.{cycle-long, cycle-repeats, lead-long, lead-within, cycle-within, tidy-part, tidy-front, tidy-over}
 use Rattle.sheet_masks.specs.Repeats.{repeated}

@@ -12,7 +12,7 @@ use Rattle.theory.specs.Truth.{truthMasks}
 use Rattle.theory.specs.Word.{places}
 use Rattle.theory_laws.proofs.Truth.{truth-length}
 use Rattle.judge_spec.specs.Judge.{holdsStart}
-use Rattle.word_spelling_spec.specs.Spelling.{tidyCycle}
+use Rattle.word_spelling_spec.specs.SpellingComputed.{tidyCycle}
 use Rattle.sheet_spec.specs.Words.{SheetWord, leadOf, cycleOf, faultOf}
 use Rattle.sheet_spec.specs.Sheet.{answerBy, answerOf, masksBy, masksOf, learn, learnBy}
 use Rattle.sheet_words.specs.Places.{wordFrom}

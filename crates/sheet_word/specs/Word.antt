@@ -9,7 +9,7 @@ use Rattle.theory.specs.Truth.{truthMasks}
 use Rattle.theory.specs.Word.{places}
 use Rattle.rule_entries.specs.Starts.{EntryStarts}
 use Rattle.rule_reach.specs.Tables.{closuresOf}
-use Rattle.word_spelling_spec.specs.Spelling.{tidyCycle}
+use Rattle.word_spelling_spec.specs.SpellingComputed.{tidyCycle}
 use Rattle.sheet_spec.specs.Words.{faultOf}
 use Rattle.sheet_spec.specs.Sheet.{answerOf, masksOf, learn, learnBy}
 use Rattle.sheet_words.specs.Places.{wordFrom}

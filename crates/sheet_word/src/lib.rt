@@ -14,7 +14,8 @@ ghost use Rattle.theory.specs.Word.{WordOver};
 ghost use Rattle.rule_entries.specs.Entries.{ruleOf};
 ghost use Rattle.sheet_word.specs.Word.{SheetReady, Served, WordJudged};
 
-// The masks of the word whose lead-in begins at byte first, with the two lengths, written to the block; n cycles are known. How many are known now.
+// The masks of the word whose lead-in begins at byte first, with the two lengths, written to the block; n cycles are known. How many are
+// known now.
 fn serve_word(
     h: Head,
     counts: &[u8],

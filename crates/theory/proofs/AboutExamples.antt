@@ -14,12 +14,15 @@ use Rattle.sets.specs.Tests.{Set, every, some, count, first, largest}
 use Rattle.theory.specs.Automaton.{automaton}
 use Rattle.theory.specs.Code.{fields, pack, componentIn, classesIn, setIn, rankIn, wellCoded}
 use Rattle.theory.specs.Components.{named, leads, within, reaches, together, smallest, isSmallest, component, components}
-use Rattle.theory.specs.Core.{Least, isOpen, Core, mix, rejectingSettled, acceptingSettled, settled, test, levelOf, taken, rankOf, isCore, openOf, nextComponent}
+use Rattle.theory.specs.Core.{Least, isOpen, Core, mix, rejectingSettled, acceptingSettled, settled, test, openOf, nextComponent}
+use Rattle.theory.specs.CoreComputed.{levelOf, taken, rankOf, isCore}
 use Rattle.theory.specs.Examples.{F, D, E, I, Z, X}
-use Rattle.theory.specs.Macrostate.{begun, isInitial, isAccepting, Macrostate, Goes, begins, before, onward, goes}
+use Rattle.theory.specs.Macrostate.{begun, isInitial, isAccepting, Macrostate, Goes, begins}
+use Rattle.theory.specs.MacrostateComputed.{before, onward, goes}
 use Rattle.theory.specs.Plan.{here, AcceptsWord}
 use Rattle.theory.specs.Rule.{entry, satisfies}
-use Rattle.theory.specs.Table.{reachedIn, reached, digitals, candidates, cores, codesFrom, transitionsOf, macrostatesFrom, transitionsFrom, macrostates, transitions, ListsReachable}
+use Rattle.theory.specs.Table.{ListsReachable}
+use Rattle.theory.specs.TableComputed.{reachedIn, reached, digitals, candidates, cores, codesFrom, transitionsOf, macrostatesFrom, transitionsFrom, macrostates, transitions}
 use Rattle.theory.specs.Word.{nextPlace, letterAt}
 
 -- what an evaluation unfolds

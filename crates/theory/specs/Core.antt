@@ -4,8 +4,8 @@ use mathlib.Core.Logic.{_↔_}
 use mathlib.Core.Bool.{Bool, true, false, _&&_, not, cond}
 use mathlib.Core.List.{List}
 use Prim.Native.Nat.{ℕ, suc, _≤_, _<_}
-use lib.Dec.{eqb, leb, ltb}
-use Rattle.sets.specs.Tests.{Set, every, some, count, first}
+use lib.Dec.{eqb, leb}
+use Rattle.sets.specs.Tests.{Set}
 use Rattle.theory.specs.Rule.{satisfies}
 use Rattle.theory.specs.Automaton.{Automaton}
 
@@ -57,26 +57,6 @@ module _ (A : Automaton) where
     pub ordered : (q p : ℕ) → q < A .n → p < A .n → A .component q ≡ A .component p → isOpen S q ≡ true → isOpen S p ≡ true → (r q ≤ r p) ↔ (l q ≤ l p)
     -- "closed up to 1, 2, and so on"
     pub core : Core S r
-
-  -- ---- the same, computed (equal: level-least in theory_laws/proofs/Levels, rank-unique and core-iff in theory_laws/proofs/Cores)
-
-  -- the level, for ranks of at most B
-  unfoldable pub levelOf : ℕ → Set → (ℕ → ℕ) → ℕ → List ℕ → ℕ
-  levelOf B T t q e = first B (test T t q e) 0
-
-  -- some open state of component K has the level j; l gives the levels
-  unfoldable pub taken : Set → (ℕ → ℕ) → ℕ → ℕ → Bool
-  taken S l K j = some (A .n) (λ p. eqb (A .component p) K && (isOpen S p && eqb (l p) j))
-
-  -- levels closed up to 1, 2, ..
-  unfoldable pub rankOf : Set → (ℕ → ℕ) → ℕ → ℕ
-  rankOf S l q = cond (isOpen S q) (count (suc (l q)) (taken S l (A .component q))) 0
-
-  -- whether S and r are a core
-  unfoldable pub isCore : Set → (ℕ → ℕ) → Bool
-  isCore S r = every (A .n) (λ q. cond (isOpen S q)
-      (ltb 0 (r q) && every (r q) (λ j. some (A .n) (λ p. eqb (A .component p) (A .component q) && (isOpen S p && eqb (r p) (suc j)))))
-      (eqb (r q) 0))
 
   -- ---- classes
 

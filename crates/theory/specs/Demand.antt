@@ -1,16 +1,13 @@
 -- The last sentence of demand 3, of a rule and two lists; that the build is not refused for room and leaves these lists is build/proofs, built-with-room.
 use mathlib.Core.Path.{_≡_}
 use mathlib.Core.Logic.{_↔_}
-use mathlib.Core.Bool.{true}
 use mathlib.Core.List.{List}
-use Prim.Native.Nat.{ℕ, _<_}
+use Prim.Native.Nat.{ℕ}
 use Rattle.theory.specs.Rule.{Rule}
-use Rattle.theory.specs.Word.{WordOver, nextPlace, place, letters}
-use Rattle.theory.specs.Automaton.{automaton}
-use Rattle.theory.specs.Plan.{AcceptsFrom, AcceptsWord}
-use Rattle.theory.specs.Code.{setIn}
+use Rattle.theory.specs.Word.{WordOver, letters}
+use Rattle.theory.specs.Plan.{AcceptsWord}
 use Rattle.theory.specs.Macrostate.{holdsInitial}
-use Rattle.theory.specs.Run.{AcceptingRun, CodeRun}
+use Rattle.theory.specs.Run.{AcceptingRun}
 
 pub record Demand3 (r : Rule) (codes transitions : List ℕ) : Type 0 where
   -- "On every word over the rule's letters, with any finite lead-in and any non-empty cycle, however long,
@@ -19,8 +16,3 @@ pub record Demand3 (r : Rule) (codes transitions : List ℕ) : Type 0 where
       → AcceptsWord r lead cycle ↔ ((x : ℕ → ℕ) × AcceptingRun codes transitions (holdsInitial r) (letters lead cycle) x)
   -- "and never two accepting runs that differ at any step": over any endless sequence of letters
   pub unambiguous : (w x y : ℕ → ℕ) → AcceptingRun codes transitions (holdsInitial r) w x → AcceptingRun codes transitions (holdsInitial r) w y → (i : ℕ) → x i ≡ y i
-
--- What demand 3 follows from: c is an accepting run of codes over the word, and its set at each step is the truth at the step's place
-pub record WordRun (r : Rule) (lead cycle : List ℕ) (c : ℕ → ℕ) : Type 0 where
-  pub run : CodeRun (automaton r) (letters lead cycle) c
-  pub truth : (i q : ℕ) → q < r .n → (setIn (automaton r) (c i) q ≡ true) ↔ AcceptsFrom r lead cycle q (place (nextPlace lead cycle) i)

@@ -3,12 +3,17 @@ pub mod Components
 pub mod Passing
 pub mod Word
 pub mod Automaton
+pub mod Layered
 pub mod Plan
 pub mod Core
+pub mod CoreComputed
 pub mod Code
 pub mod Macrostate
+pub mod MacrostateComputed
 pub mod Table
+pub mod TableComputed
 pub mod Run
 pub mod Demand
+pub mod CodeRuns
 pub mod Examples
 pub mod Truth

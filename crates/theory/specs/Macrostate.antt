@@ -1,13 +1,13 @@
 -- Macrostates, their steps, and the reachable ones.
 use mathlib.Core.Path.{_≡_}
-use mathlib.Core.Bool.{Bool, true, _&&_, cond, Bool·beq}
+use mathlib.Core.Bool.{Bool, true, _&&_}
 use Prim.Native.Nat.{ℕ, _<_}
 use lib.Dec.{eqb, leb}
-use Rattle.sets.specs.Tests.{Set, every, largest}
+use Rattle.sets.specs.Tests.{Set, largest}
 use Rattle.sets.specs.Masks.{bit}
-use Rattle.theory.specs.Rule.{Rule, satisfies}
+use Rattle.theory.specs.Rule.{Rule}
 use Rattle.theory.specs.Automaton.{Automaton}
-use Rattle.theory.specs.Core.{Core, Earlier, levelOf, rankOf, openOf, nextComponent}
+use Rattle.theory.specs.Core.{Core, Earlier, openOf, nextComponent}
 use Rattle.theory.specs.Code.{setIn, rankIn, componentIn, classesIn, wellCoded}
 
 -- a macrostate where a run may begin: the start condition holds, "K is 0 and k is 0"
@@ -50,22 +50,3 @@ module _ (A : Automaton) where
   pub data Reachable (s : ℕ) (start : Set) : ℕ → Type 0 where
     begins : {c : ℕ} → Macrostate c → begun start c ≡ true → Reachable s start c
     goesTo : {c d : ℕ} (a : ℕ) → Reachable s start c → a < s → Macrostate d → Goes c a d → Reachable s start d
-
-  -- ---- the same, computed (equal: goes-iff in theory_laws/proofs/Goes)
-
-  -- the core of c is the one before the core of d at letter a
-  unfoldable pub before : ℕ → ℕ → ℕ → Bool
-  before c a d =
-      every (A .n) (λ q. Bool·beq (setIn A c q) (satisfies (A .n) (setIn A d) (A .entry q a)))
-      && every (A .n) (λ q. eqb (rankIn A c q) (rankOf A (setIn A c) (λ p. levelOf A 15 (setIn A d) (rankIn A d) p (A .entry p a)) q))
-
-  -- component and classes left go on
-  unfoldable pub onward : ℕ → ℕ → ℕ → Bool
-  onward c a d =
-      cond (eqb (classesIn c) 0)
-      (eqb (componentIn d) (nextComponent A (componentIn c)) && eqb (classesIn d) (largest (A .n) (openOf A (setIn A d) (componentIn d)) (rankIn A d)))
-      (eqb (componentIn d) (componentIn c)
-      && eqb (classesIn d) (largest (A .n) (λ q. openOf A (setIn A c) (componentIn c) q && leb (rankIn A c q) (classesIn c)) (λ p. levelOf A 15 (setIn A d) (rankIn A d) p (A .entry p a))))
-
-  unfoldable pub goes : ℕ → ℕ → ℕ → Bool
-  goes c a d = before c a d && onward c a d

@@ -5,9 +5,7 @@ use mathlib.Core.List.{List, List·Memᴰ}
 use Prim.Native.Nat.{ℕ, suc, _/_, _%_, _<_}
 use lib.ListN.{length, getD}
 use Rattle.sets.specs.Tests.{Set}
-use Rattle.theory.specs.Automaton.{Automaton}
-use Rattle.theory.specs.Code.{componentIn, classesIn}
-use Rattle.theory.specs.Macrostate.{begun, isAccepting, Macrostate, Goes}
+use Rattle.theory.specs.Macrostate.{begun, isAccepting}
 
 -- the parts of a packed transition
 abbrev pub sourceOf : ℕ → ℕ
@@ -37,11 +35,3 @@ module _ (codes transitions : List ℕ) where
   pub record AcceptingRun (start : Set) (w x : ℕ → ℕ) : Type 0 where
     pub run : Run start w x
     pub again : (i : ℕ) → (j : ℕ) × (i < j) × (isAccepting (getD codes (x j) 0) ≡ true)
-
--- An accepting run as a sequence of codes, over the letters w, with no start condition but "K is 0 and k is 0"
-pub record CodeRun (A : Automaton) (w c : ℕ → ℕ) : Type 0 where
-  pub macrostate : (i : ℕ) → Macrostate A (c i)
-  pub component : componentIn (c 0) ≡ 0
-  pub classes : classesIn (c 0) ≡ 0
-  pub steps : (i : ℕ) → Goes A (c i) (w i) (c (suc i))
-  pub again : (i : ℕ) → (j : ℕ) × (i < j) × (isAccepting (c j) ≡ true)

@@ -11,7 +11,8 @@ use borrow.Author.Tests.{leb-true, le-leb, eq-eqb}
 use Rattle.sets.specs.Tests.{Set}
 use Rattle.sets.proofs.Bools.{and-l, and-r, and-i}
 use Rattle.sets.proofs.Tests.{largest-ge}
-use Rattle.theory.specs.Automaton.{Automaton, Layered}
+use Rattle.theory.specs.Automaton.{Automaton}
+use Rattle.theory.specs.Layered.{Layered}
 use Rattle.theory.specs.Core.{isOpen, settled, test, openOf, nextComponent}
 use Rattle.theory_laws.proofs.Certified.{discharged, Certified, Run}
 use Rattle.theory_laws.proofs.Cores.{next-below, next-last, next-low}

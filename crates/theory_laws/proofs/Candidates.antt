@@ -14,7 +14,7 @@ use Rattle.sets.proofs.Lists.{tabulate-0, flat-in}
 use Rattle.sets.proofs.Masks.{mask-lt, mask-trim}
 use Rattle.theory.specs.Automaton.{Automaton}
 use Rattle.theory.specs.Code.{setIn, rankIn, componentIn, classesIn, fields, pack, wellCoded}
-use Rattle.theory.specs.Table.{digitals, candidates}
+use Rattle.theory.specs.TableComputed.{digitals, candidates}
 use Rattle.theory_laws.proofs.Goes.{set-trim, rank-trim}
 
 digitals-in : (b m : ℕ) (f : ℕ → ℕ) → ((j : ℕ) → j < m → f j < b) → List·Memᴰ (num 16 m f) (digitals b m)

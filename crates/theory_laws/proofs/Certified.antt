@@ -6,7 +6,8 @@ use lib.Dec.{eqb, leb}
 use Rattle.sets.specs.Tests.{Set, largest}
 use Rattle.theory.specs.Rule.{satisfies}
 use Rattle.theory.specs.Automaton.{Automaton}
-use Rattle.theory.specs.Core.{isOpen, settled, levelOf, rankOf, openOf, nextComponent}
+use Rattle.theory.specs.Core.{isOpen, settled, openOf, nextComponent}
+use Rattle.theory.specs.CoreComputed.{levelOf, rankOf}
 
 module _ (A : Automaton) where
   module _ (nx w : ℕ → ℕ) (S : ℕ → Set) where

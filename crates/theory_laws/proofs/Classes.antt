@@ -11,7 +11,8 @@ use Rattle.sets.specs.Tests.{Set, some, count, one}
 use Rattle.sets.proofs.Bools.{bif, and-l, and-r, and-i}
 use Rattle.sets.proofs.Tests.{count-ext, some-ext, some-at, count-le, count-lt, count-max, count-sub}
 use Rattle.theory.specs.Automaton.{Automaton}
-use Rattle.theory.specs.Core.{isOpen, taken, rankOf, openOf}
+use Rattle.theory.specs.Core.{isOpen, openOf}
+use Rattle.theory.specs.CoreComputed.{taken, rankOf}
 
 one-not : (b : Bool) → one b + one (not b) ≡ 1
 one-not true = refl

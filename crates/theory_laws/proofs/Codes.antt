@@ -4,10 +4,12 @@ use mathlib.Core.Bool.{true}
 use Prim.Native.Nat.{ℕ, suc}
 use borrow.Author.Tests.{eqb-true}
 use Rattle.sets.specs.Tests.{Set}
-use Rattle.theory.specs.Automaton.{Automaton, Layered}
+use Rattle.theory.specs.Automaton.{Automaton}
+use Rattle.theory.specs.Layered.{Layered}
 use Rattle.theory.specs.Code.{setIn, rankIn, componentIn, classesIn, pack, wellCoded}
-use Rattle.theory.specs.Macrostate.{isAccepting, goes}
-use Rattle.theory.specs.Run.{CodeRun}
+use Rattle.theory.specs.Macrostate.{isAccepting}
+use Rattle.theory.specs.MacrostateComputed.{goes}
+use Rattle.theory.specs.CodeRuns.{CodeRun}
 use Rattle.theory_laws.proofs.Certified.{Run}
 use Rattle.theory_laws.proofs.Goes.{rank-small, set-trim, rank-trim, before-rank, goes-before, goes-onward, stay-classes, goes-iff}
 use Rattle.theory_laws.proofs.Unambiguous.{same-S, same-r, same-Kk}

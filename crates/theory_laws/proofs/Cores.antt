@@ -11,8 +11,10 @@ use borrow.Author.Tests.{eqb-true, eq-eqb, ne-eqb, lt-ltb, le-ltb, ltb-true, leb
 use Rattle.sets.specs.Tests.{Set, every, one, some, count, largest}
 use Rattle.sets.proofs.Bools.{bif, and-l, and-r, and-i, iff}
 use Rattle.sets.proofs.Tests.{every-at, every-all, some-at, some-get, some-none, count-hit, count-max, largest-hit, largest-ge, largest-le}
-use Rattle.theory.specs.Automaton.{Automaton, Layered}
-use Rattle.theory.specs.Core.{isOpen, Core, Earlier, levelOf, taken, rankOf, isCore, openOf, nextComponent}
+use Rattle.theory.specs.Automaton.{Automaton}
+use Rattle.theory.specs.Layered.{Layered}
+use Rattle.theory.specs.Core.{isOpen, Core, Earlier, openOf, nextComponent}
+use Rattle.theory.specs.CoreComputed.{levelOf, taken, rankOf, isCore}
 use Rattle.theory.specs.Rule.{satisfies}
 use Rattle.theory_laws.proofs.Classes.{open-component, open-state, rank-comp, rank-order, rank-open-is, rank-upto, taken-own}
 use Rattle.theory_laws.proofs.Levels.{least-unique, least-classes, level-least}

@@ -14,13 +14,15 @@ use Rattle.sets.proofs.Lists.{mem-at}
 use Rattle.theory.specs.Automaton.{automaton}
 use Rattle.theory.specs.Code.{setIn}
 use Rattle.theory.specs.Components.{components}
-use Rattle.theory.specs.Demand.{Demand3, WordRun}
+use Rattle.theory.specs.Demand.{Demand3}
+use Rattle.theory.specs.CodeRuns.{WordRun}
 use Rattle.theory.specs.Macrostate.{holdsInitial}
 use Rattle.theory.specs.Passing.{Passing}
 use Rattle.theory.specs.Plan.{AcceptsWord}
 use Rattle.theory.specs.Rule.{Rule}
-use Rattle.theory.specs.Run.{AcceptingRun, CodeRun}
-use Rattle.theory.specs.Table.{macrostatesFrom, transitionsFrom, macrostates, transitions}
+use Rattle.theory.specs.Run.{AcceptingRun}
+use Rattle.theory.specs.CodeRuns.{CodeRun}
+use Rattle.theory.specs.TableComputed.{macrostatesFrom, transitionsFrom, macrostates, transitions}
 use Rattle.theory.specs.Word.{WordOver, places, nextPlace, letterAt, place, letters}
 use Rattle.theory_laws.proofs.Acceptance.{Truthful, truthful}
 use Rattle.theory_laws.proofs.Codes.{code-unique}

@@ -23,7 +23,7 @@ use Rattle.theory.specs.Passing.{Passing}
 use Rattle.theory.specs.Plan.{Reach, here, on, AcceptsWord}
 use Rattle.theory.specs.Rule.{entry}
 use Rattle.theory.specs.Run.{AcceptingRun, Leads}
-use Rattle.theory.specs.Table.{macrostates, transitions}
+use Rattle.theory.specs.TableComputed.{macrostates, transitions}
 use Rattle.theory.specs.Word.{nextPlace, letterAt, place, letters, WordOver}
 use Rattle.theory.proofs.AboutExamples.{macrostates-F, macrostates-D, transitions-D, rejecting-cycle}
 use Rattle.theory_laws.proofs.Components.{unmixed-iff}

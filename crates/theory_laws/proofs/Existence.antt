@@ -11,8 +11,10 @@ use borrow.Author.Tests.{leb-true, leb-false, le-leb, lt-leb, eq-eqb, ne-eqb}
 use Rattle.sets.specs.Tests.{Set, count, one, first, largest}
 use Rattle.sets.proofs.Bools.{bif, clash, and-l, and-r}
 use Rattle.sets.proofs.Tests.{first-leb, count-le, some-none, largest-le}
-use Rattle.theory.specs.Automaton.{Automaton, Layered}
-use Rattle.theory.specs.Core.{isOpen, settled, test, taken, rankOf, openOf, nextComponent}
+use Rattle.theory.specs.Automaton.{Automaton}
+use Rattle.theory.specs.Layered.{Layered}
+use Rattle.theory.specs.Core.{isOpen, settled, test, openOf, nextComponent}
+use Rattle.theory.specs.CoreComputed.{taken, rankOf}
 use Rattle.theory.specs.Rule.{satisfies}
 use Rattle.theory_laws.proofs.Certified.{discharged, Backed, Run}
 use Rattle.theory_laws.proofs.Classes.{open-component, open-state, rank-max, rank-order, rank-upto}

@@ -14,7 +14,8 @@ use Rattle.sets.specs.Masks.{bit}
 use Rattle.sets.specs.Tests.{Set}
 use Rattle.sets.proofs.Bools.{bif, and-i}
 use Rattle.sets.proofs.Growth.{still}
-use Rattle.theory.specs.Automaton.{Automaton, Layered}
+use Rattle.theory.specs.Automaton.{Automaton}
+use Rattle.theory.specs.Layered.{Layered}
 use Rattle.theory.specs.Core.{isOpen, mix, settled}
 use Rattle.theory.specs.Rule.{satisfies}
 use Rattle.theory.specs.Word.{place}

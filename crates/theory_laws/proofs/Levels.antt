@@ -9,8 +9,10 @@ use borrow.Author.Tests.{leb-true, le-leb, eq-eqb}
 use Rattle.sets.specs.Tests.{Set, largest}
 use Rattle.sets.proofs.Bools.{bif, and-l, and-r, and-i}
 use Rattle.sets.proofs.Tests.{first-leb, largest-ge}
-use Rattle.theory.specs.Automaton.{Automaton, Layered}
-use Rattle.theory.specs.Core.{Least, isOpen, settled, test, levelOf, openOf}
+use Rattle.theory.specs.Automaton.{Automaton}
+use Rattle.theory.specs.Layered.{Layered}
+use Rattle.theory.specs.Core.{Least, isOpen, settled, test, openOf}
+use Rattle.theory.specs.CoreComputed.{levelOf}
 use Rattle.theory.specs.Rule.{satisfies}
 use Rattle.theory_laws.proofs.Pursuit.{open-acc, open-rej}
 use Rattle.theory_laws.proofs.Settled.{settled-mono, all-acc, all-rej}

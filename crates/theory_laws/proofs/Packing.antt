@@ -16,11 +16,14 @@ use Rattle.sets.proofs.Bools.{bif, and-i, beq-same}
 use Rattle.sets.proofs.Digits.{digit-num, pow16}
 use Rattle.sets.proofs.Masks.{bit-mask, mask-lt, above}
 use Rattle.sets.proofs.Tests.{every-all, largest-le, first-max}
-use Rattle.theory.specs.Automaton.{Automaton, Layered}
+use Rattle.theory.specs.Automaton.{Automaton}
+use Rattle.theory.specs.Layered.{Layered}
 use Rattle.theory.specs.Code.{setIn, rankIn, componentIn, classesIn, fields, pack, wellCoded}
-use Rattle.theory.specs.Core.{levelOf, openOf}
-use Rattle.theory.specs.Macrostate.{isAccepting, Goes, before, onward}
-use Rattle.theory.specs.Run.{CodeRun}
+use Rattle.theory.specs.Core.{openOf}
+use Rattle.theory.specs.CoreComputed.{levelOf}
+use Rattle.theory.specs.Macrostate.{isAccepting, Goes}
+use Rattle.theory.specs.MacrostateComputed.{before, onward}
+use Rattle.theory.specs.CodeRuns.{CodeRun}
 use Rattle.theory_laws.proofs.Breakpoint.{comp-below}
 use Rattle.theory_laws.proofs.Certified.{Run}
 use Rattle.theory_laws.proofs.Goes.{is-goes, goes-iff}

@@ -11,8 +11,10 @@ use borrow.Author.Tests.{leb-true, leb-false, le-leb, lt-leb, eqb-true, eqb-fals
 use Rattle.sets.specs.Tests.{Set, count}
 use Rattle.sets.proofs.Bools.{bif, clash, and-i}
 use Rattle.sets.proofs.Tests.{some-ext, some-at, count-ext, count-le, count-lt}
-use Rattle.theory.specs.Automaton.{Automaton, Layered}
-use Rattle.theory.specs.Core.{isOpen, settled, test, levelOf, taken, rankOf}
+use Rattle.theory.specs.Automaton.{Automaton}
+use Rattle.theory.specs.Layered.{Layered}
+use Rattle.theory.specs.Core.{isOpen, settled, test}
+use Rattle.theory.specs.CoreComputed.{levelOf, taken, rankOf}
 use Rattle.theory.specs.Rule.{satisfies}
 use Rattle.theory_laws.proofs.Certified.{discharged, Certified, Backed}
 use Rattle.theory_laws.proofs.Pursuit.{discharged-open}

@@ -11,7 +11,7 @@ use Rattle.sets.proofs.Bools.{iff, or-cases}
 use Rattle.sets.proofs.Growth.{still}
 use Rattle.sets.proofs.Lists.{among-in, among-out, any-in, any-out, keep-in, keep-out, place-of}
 use Rattle.sets.proofs.Ascending.{sorted-asc, sorted-in, sorted-out}
-use Rattle.theory.specs.Table.{reachedIn, reached}
+use Rattle.theory.specs.TableComputed.{reachedIn, reached}
 
 -- the members of a list that are reached from its starts along the edges
 pub data Along (all : List ℕ) (start : Set) (edge : ℕ → ℕ → Bool) : ℕ → Type 0 where

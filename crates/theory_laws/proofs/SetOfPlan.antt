@@ -12,7 +12,8 @@ use Rattle.sets.specs.Masks.{bit, inside}
 use Rattle.sets.specs.Tests.{Set, count, one}
 use Rattle.sets.proofs.Bools.{bif, or-fl, or-fr, or-cases, not-f, not-t}
 use Rattle.sets.proofs.Tests.{every-not, count-max}
-use Rattle.theory.specs.Automaton.{Automaton, Layered}
+use Rattle.theory.specs.Automaton.{Automaton}
+use Rattle.theory.specs.Layered.{Layered}
 use Rattle.theory.specs.Core.{isOpen, mix}
 use Rattle.theory.specs.Plan.{Reach, here, on, Accepts}
 use Rattle.theory.specs.Rule.{satisfies}

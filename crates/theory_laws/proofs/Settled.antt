@@ -7,7 +7,8 @@ use lib.Dec.{eqb}
 use borrow.Author.Tests.{eqb-true}
 use Rattle.sets.specs.Tests.{Set}
 use Rattle.sets.proofs.Bools.{bif, clash, not-t}
-use Rattle.theory.specs.Automaton.{Automaton, Layered}
+use Rattle.theory.specs.Automaton.{Automaton}
+use Rattle.theory.specs.Layered.{Layered}
 use Rattle.theory.specs.Core.{isOpen, mix, settled}
 use Rattle.theory.specs.Rule.{satisfies}
 use Rattle.theory_laws.proofs.Pursuit.{open-acc, open-rej, mix-in, mix-out, settled-acc, settled-rej}

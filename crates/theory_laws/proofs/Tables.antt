@@ -17,14 +17,19 @@ use Rattle.sets.proofs.Bools.{and-l, and-r, and-i}
 use Rattle.sets.proofs.Lists.{keep-in, keep-out, mem-at, place-of, tabulate-0, tabulate-out, flat-in, flat-out}
 use Rattle.sets.proofs.Tests.{some-at, some-get, largest-le}
 use Rattle.sets.proofs.Ascending.{asc-inj, sorted-asc, sorted-in, sorted-out}
-use Rattle.theory.specs.Automaton.{Automaton, automaton, Layered}
+use Rattle.theory.specs.Automaton.{Automaton, automaton}
+use Rattle.theory.specs.Layered.{Layered}
 use Rattle.theory.specs.Code.{setIn, rankIn, componentIn, classesIn, wellCoded}
-use Rattle.theory.specs.Core.{isCore, openOf}
-use Rattle.theory.specs.Macrostate.{begun, holdsInitial, Macrostate, Goes, goes, Reachable, begins, goesTo}
+use Rattle.theory.specs.Core.{openOf}
+use Rattle.theory.specs.CoreComputed.{isCore}
+use Rattle.theory.specs.Macrostate.{begun, holdsInitial, Macrostate, Goes, Reachable, begins, goesTo}
+use Rattle.theory.specs.MacrostateComputed.{goes}
 use Rattle.theory.specs.Passing.{Passing}
 use Rattle.theory.specs.Rule.{Rule}
-use Rattle.theory.specs.Run.{sourceOf, letterOf, targetOf, Leads, AcceptingRun, CodeRun}
-use Rattle.theory.specs.Table.{candidates, cores, codesFrom, transitionsOf, Transition, macrostatesFrom, transitionsFrom, macrostates, transitions, ListsReachable}
+use Rattle.theory.specs.Run.{sourceOf, letterOf, targetOf, Leads, AcceptingRun}
+use Rattle.theory.specs.CodeRuns.{CodeRun}
+use Rattle.theory.specs.Table.{Transition, ListsReachable}
+use Rattle.theory.specs.TableComputed.{candidates, cores, codesFrom, transitionsOf, macrostatesFrom, transitionsFrom, macrostates, transitions}
 use Rattle.theory_laws.proofs.Candidates.{candidate}
 use Rattle.theory_laws.proofs.Classes.{open-component, open-state}
 use Rattle.theory_laws.proofs.Codes.{code-unique}

@@ -20,7 +20,8 @@ use Rattle.sets.proofs.Lists.{length-tabulate, tabulate-at}
 use Rattle.theory.specs.Rule.{Rule, entry, satisfies}
 use Rattle.theory.specs.Components.{reaches}
 use Rattle.theory.specs.Passing.{Passing}
-use Rattle.theory.specs.Automaton.{Automaton, automaton, Layered}
+use Rattle.theory.specs.Automaton.{Automaton, automaton}
+use Rattle.theory.specs.Layered.{Layered}
 use Rattle.theory.specs.Core.{isOpen, settled}
 use Rattle.theory.specs.Word.{places, nextPlace, letterAt, WordOver}
 use Rattle.theory.specs.Plan.{AcceptsFrom}

@@ -16,7 +16,8 @@ use Rattle.sets.proofs.Bools.{bif, clash, not-t, iff}
 use Rattle.sets.proofs.Bits.{bit-ext, mask-unique}
 use Rattle.theory.specs.Rule.{Rule, entry, satisfies}
 use Rattle.theory.specs.Passing.{Passing}
-use Rattle.theory.specs.Automaton.{Automaton, automaton, Layered}
+use Rattle.theory.specs.Automaton.{Automaton, automaton}
+use Rattle.theory.specs.Layered.{Layered}
 use Rattle.theory.specs.Core.{isOpen, settled}
 use Rattle.theory.specs.Word.{places, nextPlace, letterAt}
 use Rattle.theory.specs.Truth.{heightOf, truthMasks}

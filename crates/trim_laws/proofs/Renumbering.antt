@@ -15,7 +15,8 @@ use Rattle.theory.specs.Automaton.{Automaton, automaton}
 use Rattle.theory.specs.Passing.{Passing}
 use Rattle.theory.specs.Rule.{Rule}
 use Rattle.theory.specs.Run.{sourceOf, letterOf, targetOf, Leads}
-use Rattle.theory.specs.Table.{Transition, ListsReachable, transitionsOf}
+use Rattle.theory.specs.Table.{Transition, ListsReachable}
+use Rattle.theory.specs.TableComputed.{transitionsOf}
 use Rattle.theory_laws.proofs.Layers.{layered}
 use Rattle.theory_laws.proofs.Tables.{letters-fit, steps-ascending, steps-iff, source-is, letter-is, target-is}
 use Rattle.graph_walks.specs.Walks.{Solved}

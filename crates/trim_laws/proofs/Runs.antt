@@ -14,7 +14,8 @@ use Rattle.theory.specs.Macrostate.{begun, isAccepting, holdsInitial, Goes}
 use Rattle.theory.specs.Passing.{Passing}
 use Rattle.theory.specs.Rule.{Rule}
 use Rattle.theory.specs.Run.{Leads, AcceptingRun}
-use Rattle.theory.specs.Table.{Transition, ListsReachable, transitionsOf}
+use Rattle.theory.specs.Table.{Transition, ListsReachable}
+use Rattle.theory.specs.TableComputed.{transitionsOf}
 use Rattle.theory_laws.proofs.Layers.{layered}
 use Rattle.theory_laws.proofs.Tables.{letters-fit, steps-ascending, steps-iff, transition-leads}
 use Rattle.graph_walks.specs.Walks.{Solved}

@@ -10,11 +10,13 @@ use Rattle.sets.specs.Tests.{every, some, count, first, largest}
 use Rattle.theory.specs.Automaton.{automaton}
 use Rattle.theory.specs.Code.{fields, pack, componentIn, classesIn, setIn, rankIn, wellCoded}
 use Rattle.theory.specs.Components.{named, leads, within, reaches, together, smallest, isSmallest, component, components}
-use Rattle.theory.specs.Core.{isOpen, mix, rejectingSettled, acceptingSettled, settled, test, levelOf, taken, rankOf, isCore, openOf, nextComponent}
+use Rattle.theory.specs.Core.{isOpen, mix, rejectingSettled, acceptingSettled, settled, test, openOf, nextComponent}
+use Rattle.theory.specs.CoreComputed.{levelOf, taken, rankOf, isCore}
 use Rattle.theory.specs.Examples.{F, D}
-use Rattle.theory.specs.Macrostate.{begun, isAccepting, before, onward, goes}
+use Rattle.theory.specs.Macrostate.{begun, isAccepting}
+use Rattle.theory.specs.MacrostateComputed.{before, onward, goes}
 use Rattle.theory.specs.Rule.{Rule, entry, satisfies}
-use Rattle.theory.specs.Table.{reachedIn, reached, digitals, candidates, cores, codesFrom, transitionsOf, macrostatesFrom, transitionsFrom, macrostates, transitions}
+use Rattle.theory.specs.TableComputed.{reachedIn, reached, digitals, candidates, cores, codesFrom, transitionsOf, macrostatesFrom, transitionsFrom, macrostates, transitions}
 use Rattle.theory.proofs.AboutExamples as examples
 use Rattle.graph_walks.specs.Marks.{isDue, marked, isNew, goesOut}
 use Rattle.graph_walks.specs.Marks as marks

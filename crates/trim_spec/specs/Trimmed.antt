@@ -10,7 +10,7 @@ use Rattle.theory.specs.Automaton.{automaton}
 use Rattle.theory.specs.Macrostate.{isAccepting}
 use Rattle.theory.specs.Rule.{Rule}
 use Rattle.theory.specs.Run.{sourceOf, letterOf, targetOf}
-use Rattle.theory.specs.Table.{macrostates, transitions, transitionsOf}
+use Rattle.theory.specs.TableComputed.{macrostates, transitions, transitionsOf}
 use Rattle.graph_walks.specs.Marks.{marked, isNew, settled, goesOut}
 
 -- ---- marks of a table's numbers: 0 for one that is out, 1 for one that is in, 2 for one that is in and accepting

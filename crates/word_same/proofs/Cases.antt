@@ -7,7 +7,7 @@ use Rattle.refusals.specs.Rows.{firstRow}
 use Rattle.sets.specs.Tests.{every}
 use Rattle.theory.specs.Word.{nextPlace, letterAt, place}
 use Rattle.word_rows.specs.Words.{lengthRows}
-use Rattle.word_spelling_spec.specs.Spelling.{sameWord}
+use Rattle.word_spelling_spec.specs.SpellingComputed.{sameWord}
 use Rattle.word_same.specs.declared.SameWords.the-variants.{Same, Different, Refused}
 use Rattle.word_same.specs.Same.{sameRow, sameWordsOf}
 

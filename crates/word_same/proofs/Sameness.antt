@@ -16,7 +16,8 @@ use Rattle.refusals.proofs.Rows.{first-left, first-right, first-parts}
 use Rattle.theory.specs.Word.{places, nextPlace, letterAt, place, letters}
 use Rattle.word_rows.specs.Words.{lengthRows, lengthRow}
 use Rattle.word_rows.proofs.Checks.{lengths-numbered, short-of}
-use Rattle.word_spelling_spec.specs.Spelling.{Agree, sameWord, tidyLead, tidyCycle}
+use Rattle.word_spelling_spec.specs.Spelling.{Agree}
+use Rattle.word_spelling_spec.specs.SpellingComputed.{sameWord, tidyLead, tidyCycle}
 use Rattle.word_spelling_spec.proofs.Same.{same-word-iff}
 use Rattle.word_spelling_spec.proofs.Tidied.{same-tidy}
 use Rattle.word_same.specs.declared.SameWords.the-variants.{Same, Different, Refused}

@@ -6,7 +6,8 @@ use mathlib.Core.List.{List, _++_}
 use Prim.Native.Nat.{ℕ, zero, suc}
 use Rattle.refusals.specs.Rows.{firstRow}
 use Rattle.word_rows.specs.Words.{lengthRows}
-use Rattle.word_spelling_spec.specs.Spelling.{Agree, sameWord}
+use Rattle.word_spelling_spec.specs.Spelling.{Agree}
+use Rattle.word_spelling_spec.specs.SpellingComputed.{sameWord}
 use Rattle.word_same.specs.declared.SameWords.{SameWords}
 use Rattle.word_same.specs.declared.SameWords.the-variants.{Same, Different, Refused}
 

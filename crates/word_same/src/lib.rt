@@ -6,7 +6,7 @@ ghost use mathlib.Core.Path.{_≡_};
 ghost use Prim.Native.Nat.{_+_, _<_};
 ghost use lib.ListN.{length};
 ghost use Rattle.theory.specs.Word.{places};
-ghost use Rattle.word_spelling_spec.specs.Spelling.{sameWord};
+ghost use Rattle.word_spelling_spec.specs.SpellingComputed.{sameWord};
 ghost use Rattle.word_same.specs.Same.{Compared};
 
 // The answer of the sameness test.

@@ -12,7 +12,7 @@ use Rattle.refusals.proofs.Rows.{row-yes, row-no, first-left, first-right}
 use Rattle.theory.specs.Word.{letters}
 use Rattle.word_rows.specs.Words.{lengthRows, lengthRow}
 use Rattle.word_rows.proofs.Checks.{lengths-numbered, short-of}
-use Rattle.word_spelling_spec.specs.Spelling.{cycleLength, shortened, leadLength, tidyLead, tidyCycle}
+use Rattle.word_spelling_spec.specs.SpellingComputed.{cycleLength, shortened, leadLength, tidyLead, tidyCycle}
 use Rattle.word_spelling_spec.proofs.Tidied.{cycle-max, lead-max, tidied, tidy-letters, tidy-lead-length, tidy-cycle-length}
 use Rattle.word_spelling.specs.declared.TidyWord.{TidyWord}
 use Rattle.word_spelling.specs.declared.TidyWord.the-variants.{Spelling, Refused}

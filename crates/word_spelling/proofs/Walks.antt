@@ -12,7 +12,7 @@ use borrow.Author.Tests.{eq-eqb, ne-eqb}
 use Rattle.sets.specs.Tests.{every, first}
 use Rattle.sets.proofs.Tests.{every-next, every-stop, first-yes, first-no}
 use Rattle.theory.specs.Word.{places, nextPlace, letterAt, place, letters}
-use Rattle.word_spelling_spec.specs.Spelling.{comesAgain, cycleLength, shortened}
+use Rattle.word_spelling_spec.specs.SpellingComputed.{comesAgain, cycleLength, shortened}
 use Rattle.word_spelling_spec.proofs.Steps.{place-is, letter-is}
 use Rattle.word_spelling_spec.proofs.Tidied.{shortened-same, shortened-other}
 

@@ -7,7 +7,8 @@ use lib.ListN.{length, drop}
 use Rattle.refusals.specs.Rows.{Check, check, firstRow}
 use Rattle.theory.specs.Word.{letters}
 use Rattle.word_rows.specs.Words.{lengthRows}
-use Rattle.word_spelling_spec.specs.Spelling.{Tidy, tidyLead, tidyCycle}
+use Rattle.word_spelling_spec.specs.Spelling.{Tidy}
+use Rattle.word_spelling_spec.specs.SpellingComputed.{tidyLead, tidyCycle}
 use Rattle.word_spelling.specs.declared.TidyWord.{TidyWord}
 use Rattle.word_spelling.specs.declared.TidyWord.the-variants.{Spelling, Refused}
 

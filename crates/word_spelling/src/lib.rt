@@ -7,7 +7,7 @@ ghost use mathlib.Core.List.{_++_};
 ghost use Prim.Native.Nat.{_≤_, _<_};
 ghost use lib.ListN.{length, take, drop};
 ghost use Rattle.theory.specs.Word.{places, letters};
-ghost use Rattle.word_spelling_spec.specs.Spelling.{comesAgain, cycleLength, shortened};
+ghost use Rattle.word_spelling_spec.specs.SpellingComputed.{comesAgain, cycleLength, shortened};
 ghost use Rattle.word_spelling.specs.Tidied.{Tidied};
 
 // The lengths of a lead-in and a cycle.

@@ -6,7 +6,7 @@ use Prim.Native.Nat.{ℕ, zero, suc}
 use lib.ListN.{replicate}
 use Rattle.sets.specs.Tests.{every, first}
 use Rattle.theory.specs.Word.{nextPlace, letterAt, place}
-use Rattle.word_spelling_spec.specs.Spelling.{comesAgain, cycleLength, shortened, leadLength, tidyLead, tidyCycle, sameWord}
+use Rattle.word_spelling_spec.specs.SpellingComputed.{comesAgain, cycleLength, shortened, leadLength, tidyLead, tidyCycle, sameWord}
 
 -- what an evaluation unfolds
 unfoldable computed : ℕ

@@ -14,7 +14,8 @@ use Rattle.sets.proofs.Bools.{bif, and-l, and-r, and-i}
 use Rattle.sets.proofs.Tests.{every-at, every-all}
 use Rattle.sets.proofs.Walks.{drop-next}
 use Rattle.theory.specs.Word.{places, letters}
-use Rattle.word_spelling_spec.specs.Spelling.{Agree, sameWord, sameLetters}
+use Rattle.word_spelling_spec.specs.Spelling.{Agree}
+use Rattle.word_spelling_spec.specs.SpellingComputed.{sameWord, sameLetters}
 use Rattle.word_spelling_spec.proofs.Steps.{letters-again}
 
 -- ---- steps

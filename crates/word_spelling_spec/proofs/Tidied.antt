@@ -14,7 +14,8 @@ use Rattle.sets.specs.Tests.{Set, every, first}
 use Rattle.sets.proofs.Bools.{bif}
 use Rattle.sets.proofs.Tests.{every-at, every-all, first-at, first-le}
 use Rattle.theory.specs.Word.{places, letters}
-use Rattle.word_spelling_spec.specs.Spelling.{Agree, Spells, Tidy, comesAgain, cycleLength, shortened, leadLength, tidyLead, tidyCycle}
+use Rattle.word_spelling_spec.specs.Spelling.{Agree, Spells, Tidy}
+use Rattle.word_spelling_spec.specs.SpellingComputed.{comesAgain, cycleLength, shortened, leadLength, tidyLead, tidyCycle}
 use Rattle.word_spelling_spec.proofs.Steps.{letter-is, letters-again, letters-behind}
 use Rattle.word_spelling_spec.proofs.Periods.{Repeats, repeats-later, spelled-repeats, spelled-at, lead-length, cycle-length, repeats-spells, repeats-sooner}
 

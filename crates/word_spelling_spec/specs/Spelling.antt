@@ -1,12 +1,9 @@
 -- Words as spellings of endless sequences of letters, and the tidy spelling of a sequence.
 use mathlib.Core.Path.{_≡_}
-use mathlib.Core.Bool.{Bool, true, false, _&&_}
-use mathlib.Core.List.{List, [], _∷_, _++_}
-use Prim.Native.Nat.{ℕ, zero, suc, _+_, _≤_, _<_}
-use lib.Dec.{eqb}
-use lib.ListN.{length, take, drop}
-use Rattle.sets.specs.Tests.{every, first}
-use Rattle.theory.specs.Word.{places, letters}
+use mathlib.Core.List.{List}
+use Prim.Native.Nat.{ℕ, _≤_, _<_}
+use lib.ListN.{length}
+use Rattle.theory.specs.Word.{letters}
 
 -- 02: "Two words are from now on the same if they agree at every step": steps without end, words of any length
 abbrev pub Agree : List ℕ → List ℕ → List ℕ → List ℕ → Type 0
@@ -24,43 +21,3 @@ pub record Tidy (w : ℕ → ℕ) (lead cycle : List ℕ) : Type 0 where
   pub shortest-cycle : (l c : List ℕ) → Spells w l c → length cycle ≤ length c
   -- none with a cycle of that length has a shorter lead-in
   pub shortest-lead : (l c : List ℕ) → Spells w l c → length c ≡ length cycle → length lead ≤ length l
-
--- ---- the tidy spelling, computed: proofs/Tidied proves that it is the one that `Tidy` describes
-
--- whether each letter of the cycle comes again d steps on
-unfoldable pub comesAgain : List ℕ → ℕ → Bool
-comesAgain cycle d = every (length cycle) (λ j. eqb (letters [] cycle (j + d)) (letters [] cycle j))
-
--- the length of the shortest cycle
-unfoldable pub cycleLength : List ℕ → ℕ
-cycleLength cycle = first (length cycle) (comesAgain cycle) 1
-
--- how many of the first m steps of w are left once the last step is taken away as long as its letter is the one p steps on
-unfoldable pub shortened : (ℕ → ℕ) → ℕ → ℕ → ℕ
-shortened w p zero = 0
-shortened w p (suc m) = elim (eqb (w m) (w (m + p))) [ true ↦ shortened w p m | false ↦ suc m ]
-
--- the length of the shortest lead-in before the shortest cycle
-unfoldable pub leadLength : List ℕ → List ℕ → ℕ
-leadLength lead cycle = shortened (letters lead cycle) (cycleLength cycle) (length lead)
-
--- the tidy spelling of a word begins with the letters of its first places
-unfoldable pub tidyLead : List ℕ → List ℕ → List ℕ
-tidyLead lead cycle = take (leadLength lead cycle) lead
-
-unfoldable pub tidyCycle : List ℕ → List ℕ → List ℕ
-tidyCycle lead cycle = take (cycleLength cycle) (drop (leadLength lead cycle) (lead ++ cycle))
-
--- whether two lists of letters are equal
-unfoldable pub sameLetters : List ℕ → List ℕ → Bool
-sameLetters [] [] = true
-sameLetters [] (y ∷ ys) = false
-sameLetters (x ∷ xs) [] = false
-sameLetters (x ∷ xs) (y ∷ ys) = eqb x y && sameLetters xs ys
-
--- ---- sameness, computed: proofs/Same proves that it is agreement at every step
-
--- whether two words agree at as many steps as both have places together
-unfoldable pub sameWord : List ℕ → List ℕ → List ℕ → List ℕ → Bool
-sameWord lead₁ cycle₁ lead₂ cycle₂ =
-    every (places lead₁ cycle₁ + places lead₂ cycle₂) (λ i. eqb (letters lead₁ cycle₁ i) (letters lead₂ cycle₂ i))

@@ -4,7 +4,7 @@ use native.Mathlib.Omega.{arith}
 use lib.ListN.{length, drop}
 use mathlib.Core.List.{_++_}
 use lib.Seq.{length-take-le}
-use Rattle.theory.specs.Table.{macrostatesFrom}
+use Rattle.theory.specs.TableComputed.{macrostatesFrom}
 use Rattle.slice_search.specs.Places.{zeroedFrom}
 use Rattle.build_closure_spec.specs.Keys.{startOf}
 use Rattle.build_lists.proofs.Room.{room-fits}

@@ -5,7 +5,7 @@ use native.Mathlib.Omega.{arith}
 use lib.ListN.{length, drop}
 use lib.Seq.{length-take-le}
 use Rattle.theory.specs.Automaton.{automaton}
-use Rattle.theory.specs.Table.{transitionsFrom}
+use Rattle.theory.specs.TableComputed.{transitionsFrom}
 use Rattle.slice_search.specs.Places.{zeroedFrom}
 use Rattle.build_closure_spec.specs.Keys.{startOf}
 use Rattle.build_lists.specs.Room.{roomOf}

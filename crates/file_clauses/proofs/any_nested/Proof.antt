@@ -6,7 +6,7 @@ use native.Mathlib.Omega.{arith}
 use Rattle.sets.specs.Tests.{some}
 use Rattle.theory.specs.Rule.{entry}
 use Rattle.rule_entries.specs.Entries.{ruleOf}
-use Rattle.file_spec.specs.Rows.{nested, someNested}
+use Rattle.file_spec.specs.RuleRows.{nested, someNested}
 use Rattle.file_spec.proofs.Walks.{some-next, some-stop, some-end}
 use Rattle.file_clauses.proofs.any_nested.Statement.{statement}
 use Rattle.file_clauses.proofs.any_nested.Tie as tie

@@ -5,7 +5,7 @@ use mathlib.Core.Bool.{false}
 use native.Mathlib.Omega.{arith}
 use lib.ListN.{length}
 use Rattle.sets.specs.Tests.{some}
-use Rattle.file_spec.specs.Rows.{containsAt, nested}
+use Rattle.file_spec.specs.RuleRows.{containsAt, nested}
 use Rattle.file_spec.proofs.Walks.{some-next, some-stop, some-end}
 use Rattle.file_clauses.proofs.is_nested.Statement.{statement}
 use Rattle.file_clauses.proofs.is_nested.Tie as tie

@@ -7,7 +7,7 @@ use borrow.Author.Needs.{needs}
 use Rattle.sets.specs.Tests.{some}
 use Rattle.theory.specs.Rule.{entry}
 use Rattle.rule_entries.specs.Entries.{ruleOf}
-use Rattle.file_spec.specs.Rows.{nested}
+use Rattle.file_spec.specs.RuleRows.{nested}
 use Rattle.file_spec.proofs.Walks.{some-next, some-stop, some-end}
 use Rattle.file_clauses.proofs.Nested.{nested-entry}
 use Rattle.file_clauses.proofs.nested_state.Statement.{statement}

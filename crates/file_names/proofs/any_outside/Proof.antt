@@ -5,7 +5,7 @@ use native.Mathlib.Omega.{arith}
 use lib.ListN.{length, drop, getD}
 use Rattle.sets.specs.Lists.{anyOf}
 use Rattle.sets.proofs.Walks.{any-next, any-stop, any-end}
-use Rattle.file_spec.specs.Rows.{outside}
+use Rattle.file_spec.specs.RuleRows.{outside}
 use Rattle.file_names.proofs.Tests.{byte-low, byte-high, byte-within}
 use Rattle.file_names.proofs.any_outside.Statement.{statement}
 use Rattle.file_names.proofs.any_outside.Tie as tie

@@ -3,7 +3,7 @@ use mathlib.Core.Path.{_≡_, sym, _∙_}
 use mathlib.Core.Bool.{false}
 use borrow.Author.Needs.{needs}
 use Rattle.sets.specs.Lists.{anyOf}
-use Rattle.file_spec.specs.Rows.{outside}
+use Rattle.file_spec.specs.RuleRows.{outside}
 use Rattle.file_spec.proofs.Names.{row-22, row-23, pass-23}
 use Rattle.file_names.proofs.names_row.Statement.{statement}
 use Rattle.file_names.proofs.names_row.Tie as tie

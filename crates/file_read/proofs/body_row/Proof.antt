@@ -6,7 +6,8 @@ use borrow.Author.Needs.{needs}
 use lib.ListN.{length}
 use Rattle.refusals.specs.Rows.{firstRow}
 use Rattle.file_spec.specs.File.{ruleIn}
-use Rattle.file_spec.specs.Rows.{layoutRows, formedRows}
+use Rattle.file_spec.specs.Rows.{layoutRows}
+use Rattle.file_spec.specs.RuleRows.{formedRows}
 use Rattle.file_spec.proofs.Parts.{clauses-part, counts-part}
 use Rattle.file_spec.proofs.TrailerRows.{Placed, placed}
 use Rattle.file_read.proofs.FileRows.{laid, laid-formed, rows-layout, rows-formed}

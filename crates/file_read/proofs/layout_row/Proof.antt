@@ -6,7 +6,8 @@ use borrow.Author.Needs.{needs}
 use lib.ListN.{length}
 use Rattle.refusals.specs.Rows.{firstRow}
 use Rattle.file_spec.specs.File.{trailer, clausesOf, countsOf}
-use Rattle.file_spec.specs.Rows.{trailerRows, listRows}
+use Rattle.file_spec.specs.Rows.{trailerRows}
+use Rattle.file_spec.specs.RuleRows.{listRows}
 use Rattle.file_spec.proofs.Parts.{clauses-part, counts-part, counts-length}
 use Rattle.file_spec.proofs.TrailerRows.{Placed, placed, rows-trailer, rows-lists}
 use Rattle.file_read.proofs.layout_row.Statement.{statement}

@@ -3,7 +3,8 @@ use mathlib.Core.Path.{_≡_, sym, _∙_}
 use borrow.Author.Needs.{needs}
 use Rattle.refusals.specs.Rows.{firstRow}
 use Rattle.file_spec.specs.File.{trailer, partBefore, ruleIn}
-use Rattle.file_spec.specs.Rows.{layoutRows, componentRows, prefaceRows}
+use Rattle.file_spec.specs.Rows.{layoutRows, prefaceRows}
+use Rattle.file_spec.specs.RuleRows.{componentRows}
 use Rattle.file_spec.proofs.TrailerRows.{Placed}
 use Rattle.file_read.proofs.FileRows.{laid-formed}
 use Rattle.file_tidy_spec.proofs.Laws.{by-layout, by-components, past-components}

@@ -3,7 +3,7 @@ use mathlib.Core.Path.{_≡_, sym, _∙_}
 use lib.ListN.{length}
 use Rattle.refusals.specs.Rows.{firstRow}
 use Rattle.rule_entries.specs.Entries.{ruleOf}
-use Rattle.file_spec.specs.Rows.{clauseRows}
+use Rattle.file_spec.specs.RuleRows.{clauseRows}
 use Rattle.loop_spec.specs.Search.{loopOf}
 use Rattle.loop_report.proofs.Rows.{answer-refused, after-refused, row-clauses, row-slice}
 use borrow.Author.Needs.{needs}

@@ -5,7 +5,7 @@ use mathlib.Core.Bool.{true, false}
 use native.Mathlib.Omega.{arith}
 use lib.ListN.{length, getD, take, drop}
 use borrow.Author.Needs.{needs}
-use Rattle.word_spelling_spec.specs.Spelling.{sameLetters}
+use Rattle.word_spelling_spec.specs.SpellingComputed.{sameLetters}
 use Rattle.sheet_cycles.specs.Known.{partAt}
 use Rattle.sheet_cycles.proofs.Known.{NotTo, not-start, not-next, found-here, found-none}
 use Rattle.sheet_cycles.proofs.find_cycle.Statement.{statement}

@@ -3,7 +3,7 @@ use Prim.Native.Nat.{_≤_, _-_}
 use mathlib.Core.Path.{_≡_, refl, sym, _∙_}
 use native.Mathlib.Omega.{arith}
 use lib.ListN.{length, drop}
-use Rattle.word_spelling_spec.specs.Spelling.{sameLetters}
+use Rattle.word_spelling_spec.specs.SpellingComputed.{sameLetters}
 use Rattle.sheet_cycles.proofs.Letters.{lengths-differ, letter-same, letter-differs, letters-end}
 use Rattle.sheet_cycles.proofs.same_letters.Statement.{statement}
 use Rattle.sheet_cycles.proofs.same_letters.Tie as tie

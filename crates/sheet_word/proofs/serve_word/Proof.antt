@@ -8,7 +8,7 @@ use borrow.Author.Needs.{needs}
 use Rattle.theory.specs.Truth.{truthMasks}
 use Rattle.theory.specs.Word.{letters}
 use Rattle.rule_entries.specs.Entries.{ruleOf}
-use Rattle.word_spelling_spec.specs.Spelling.{cycleLength, shortened, leadLength}
+use Rattle.word_spelling_spec.specs.SpellingComputed.{cycleLength, shortened, leadLength}
 use Rattle.sheet_spec.specs.Sheet.{learn}
 use Rattle.sheet_cycles.specs.Known.{knownOf}
 use Rattle.sheet_word.proofs.Serve.{lead-at-most, cycle-at-most, cycle-least, part, part-over, part-long, front-letters, served-masks}

@@ -5,7 +5,7 @@ use native.Mathlib.Omega.{arith}
 use borrow.Author.Needs.{needs}
 use Rattle.word_rows.specs.Words.{lengthRow}
 use Rattle.word_rows.proofs.Checks.{short-of}
-use Rattle.word_spelling_spec.specs.Spelling.{sameWord}
+use Rattle.word_spelling_spec.specs.SpellingComputed.{sameWord}
 use Rattle.word_same.proofs.Sameness.{first-refused, second-refused, answered-same, answered-different}
 use Rattle.word_same.proofs.same_words.Statement.{statement}
 use Rattle.word_same.proofs.same_words.Tie as tie

@@ -4,7 +4,7 @@ use mathlib.Core.Path.{_≡_, refl, sym, _∙_, ap}
 use native.Mathlib.Omega.{arith}
 use lib.ListN.{length}
 use Rattle.theory.specs.Word.{letters, letterAt, places}
-use Rattle.word_spelling_spec.specs.Spelling.{shortened}
+use Rattle.word_spelling_spec.specs.SpellingComputed.{shortened}
 use Rattle.word_spelling.proofs.Walks.{shorter, shortest}
 use Rattle.word_spelling.proofs.lead_length.Statement.{statement}
 use Rattle.word_spelling.proofs.lead_length.Tie as tie

@@ -5,7 +5,7 @@ use native.Mathlib.Omega.{arith}
 use lib.ListN.{length}
 use borrow.Author.Needs.{needs}
 use Rattle.word_rows.proofs.Checks.{short-of}
-use Rattle.word_spelling_spec.specs.Spelling.{leadLength, cycleLength}
+use Rattle.word_spelling_spec.specs.SpellingComputed.{leadLength, cycleLength}
 use Rattle.word_spelling_spec.proofs.Tidied.{cycle-max}
 use Rattle.word_spelling.proofs.Answers.{Found, found, word-refused, slice-refused, served}
 use Rattle.word_spelling.proofs.tidy_word.Statement.{statement}

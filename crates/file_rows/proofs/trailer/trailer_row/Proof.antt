@@ -8,7 +8,7 @@ use borrow.Author.Tests.{not-true, not-false}
 use lib.ListN.{length}
 use Rattle.refusals.specs.Rows.{firstRow}
 use Rattle.file_spec.specs.File.{tagged, headOf, clauseCount, entryCount}
-use Rattle.file_spec.specs.Rows.{numberRows}
+use Rattle.file_spec.specs.RuleRows.{numberRows}
 use Rattle.file_spec.proofs.Numbers.{ranges}
 use Rattle.file_spec.proofs.TrailerRows.{row-1, row-2, row-numbers, row-7, pass-7}
 use Rattle.file_rows.proofs.trailer.trailer_row.Statement.{statement}

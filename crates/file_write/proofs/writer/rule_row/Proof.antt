@@ -5,7 +5,7 @@ use native.Mathlib.Omega.{arith}
 use borrow.Author.Needs.{needs}
 use lib.ListN.{length}
 use Rattle.refusals.specs.Rows.{firstRow}
-use Rattle.file_spec.specs.Rows.{numberRows, listRows}
+use Rattle.file_spec.specs.RuleRows.{numberRows, listRows}
 use Rattle.file_spec.proofs.Numbers.{ranges}
 use Rattle.file_spec.proofs.Formed.{formed}
 use Rattle.file_write_spec.proofs.Laws.{by-numbers, by-entries, by-lists, by-formed}
