@@ -311,41 +311,44 @@ fn translate_times() {
     );
 }
 
-/// A build at full room beside the build of what matters.
-fn trim_times(name: &str, file: &[u8]) {
+/// A build at full room and the build of what matters, in turns, seven runs
+/// of each; the difference of the least CPU times is the trimming.
+fn trim_times(name: &str, file: &[u8]) -> f64 {
     let mut codes = vec![0u64; 65_536];
     let mut transitions = vec![0u64; 1_048_576];
     let calls: [unsafe extern "C" fn(*const u8, usize, *mut u64, usize, *mut u64, usize) -> Answer;
         2] = [mulgreddi_build, mulgreddi_build_trimmed];
-    let both = calls.map(|call| {
-        let mut answer = Answer {
-            refusal: 0,
-            first: 0,
-            second: 0,
-        };
-        let milliseconds = cpu(3, || {
-            answer = unsafe {
-                call(
-                    file.as_ptr(),
-                    file.len(),
-                    codes.as_mut_ptr(),
-                    codes.len(),
-                    transitions.as_mut_ptr(),
-                    transitions.len(),
-                )
-            };
-        });
-        (milliseconds, answer)
-    });
-    let [(whole, built), (trimmed, kept)] = both;
+    let mut least = [f64::MAX; 2];
+    let mut counts = [(0, 0); 2];
+    for _ in 0..7 {
+        for (number, call) in calls.into_iter().enumerate() {
+            let milliseconds = cpu(1, || {
+                let answer = unsafe {
+                    call(
+                        file.as_ptr(),
+                        file.len(),
+                        codes.as_mut_ptr(),
+                        codes.len(),
+                        transitions.as_mut_ptr(),
+                        transitions.len(),
+                    )
+                };
+                counts[number] = (answer.first, answer.second);
+            });
+            least[number] = least[number].min(milliseconds);
+        }
+    }
+    let [whole, trimmed] = least;
+    let [built, kept] = counts;
     println!(
         "trim {name:52} {whole:9.1} {trimmed:9.1} {:9.1}  {} {} to {} {}",
         trimmed - whole,
-        built.first,
-        built.second,
-        kept.first,
-        kept.second
+        built.0,
+        built.1,
+        kept.0,
+        kept.1
     );
+    trimmed - whole
 }
 
 /// A rule with one component for each size, the first holding the initial
@@ -583,10 +586,12 @@ fn main() {
         chain_times(length, Order::Ascending, Order::Zigzag);
     }
     println!("CPU milliseconds: build, build of what matters, the difference; macrostates transitions before and after");
+    let mut sum = 0.0;
     for path in std::env::args().skip(1) {
         let file = std::fs::read(&path).unwrap_or_else(|error| panic!("{path}: {error}"));
-        trim_times(&path, &file);
+        sum += trim_times(&path, &file);
     }
+    println!("trimming, all of them {sum:9.1}");
     println!("CPU milliseconds for ten million events: library, second program");
     translate_times();
     println!("microseconds a call                           library: mean, longest; second program: mean, longest");
