@@ -1,107 +1,73 @@
--- Sweeps until one adds nothing.
+-- Rounds until one adds nothing.
 use mathlib.Core.Path.{_≡_, sym, _∙_}
-use mathlib.Core.Logic.{⊎-elim}
+use mathlib.Core.Logic.{by-cases}
 use mathlib.Core.Bool.{Bool, true, false, true≢false, false≢true}
-use mathlib.Core.List.{List, _++_, List·Memᴰ, List·Memᴰ·not-nil, Memᴰ·append-left, List·Memᴰ·append-cases}
-use Prim.Native.Nat.{ℕ, _+_, _≤_, _<_}
+use mathlib.Core.List.{List}
+use Prim.Native.Nat.{ℕ, _≤_, _<_}
 use native.Mathlib.Omega.{arith}
-use lib.ListN.{length, take, drop, length-append, length-drop}
-use lib.Seq.{length-take-le, take-add}
-use Rattle.sets.specs.Lists.{Ascending, none}
-use Rattle.slice_sort.specs.Order.{Distinct, ArrangedFirst}
-use Rattle.slice_sort.proofs.Distinct.{both-distinct, longer, rearranged-in, rearranged-out, arranged-asc}
-use Rattle.build_closure_spec.specs.Growth.{Parted, From, Added}
-use Rattle.build_closure.specs.Closure.{Reached, begins, leads, Gathered}
+use native.Mathlib.Decide.{decLt}
+use lib.ListN.{length}
+use Rattle.slice_sort.proofs.Distinct.{longer}
+use Rattle.build_chains_spec.specs.Chains.{keyAt, Lists, Chained}
+use Rattle.build_chains_spec.specs.Growth.{Grown, After}
+use Rattle.build_chains_spec.proofs.Growth.{lists-kept, key-kept, all-in}
+use Rattle.build_closure_spec.specs.Reached.{Reached, begins, leads}
+use Rattle.build_closure.specs.Closure.{keysOf, Gathered}
+use Rattle.build_closure.proofs.Gathering.{keys-long, lists-in, in-lists, keys-once}
 
--- what is added to an ascending part whose members are in R, and is in R, is too much where it finds no room
-module _ (F R : ℕ → Type 0) (n : ℕ) (xs ys : List ℕ) (r : ℕ) (full : Bool) (a : Added F n xs 0 ys r full) (asc : Ascending (take n xs)) where
-  abbrev both : List ℕ
-  both = take n ys ++ take r (drop n ys)
-
-  apart : (y : ℕ) → List·Memᴰ y (take n ys) → List·Memᴰ y (take r (drop n ys)) → ⊥
-  apart y k j = ⊎-elim (λ i. List·Memᴰ·not-nil i) (λ i. i .1 (rw (a .old) at k)) (a .only y j)
-
-  pub both-once : Distinct both
-  both-once = both-distinct (take n ys) (take r (drop n ys)) (rw (a .old) asc) (a .ascends) apart
-
-  module _ (old : (y : ℕ) → List·Memᴰ y (take n xs) → R y) (new : (y : ℕ) → F y → R y) where
-    pub both-sound : (y : ℕ) → List·Memᴰ y both → R y
-    both-sound y k = ⊎-elim (λ i. old y (rw (a .old) at i)) (λ i. ⊎-elim (λ j. absurd (List·Memᴰ·not-nil j)) (λ j. new y (j .0)) (a .only y i)) (List·Memᴰ·append-cases (take n ys) k)
-
-    pub crowd : full ≡ true → (l : List ℕ) → ((y : ℕ) → R y → List·Memᴰ y l) → length xs < length l
-    crowd e l h =
-        let o = a .over e in
-        let g = a .fits in
-        let long : length both ≡ length ys = length-append (take n ys) (take r (drop n ys)) ∙ omega (arith, length-take-le n ys (omega arith), length-take-le r (drop n ys) (omega (arith, length-drop n ys)), o .filled) in
-        let z = longer both (o .one) l both-once (λ k. o .lacks (List·Memᴰ·append-cases (take n ys) k)) (h (o .one) (new (o .one) (o .from))) (λ y k. h y (both-sound y k)) in
-        omega (arith, a .long)
+-- no room: the list is full with numbers of R, and one more of them is not there
+pub gathered-full : (R W F : ℕ → Type 0) (xs : List ℕ) (n : ℕ) (ys heads last : List ℕ) (m : ℕ) (full : Bool) → Grown W F xs n ys heads last m full → full ≡ true
+    → ((p : ℕ) → p < n → R (keyAt xs p)) → ((y : ℕ) → F y → R y) → (zs : List ℕ) → length xs ≡ length zs → Gathered R zs ys m full
+gathered-full R W F xs n ys heads last m full g e old new zs l = record {
+  long = g .long ∙ l;
+  fits = g .chained .fits;
+  once = λ t. absurd (true≢false (sym e ∙ t));
+  sound = λ t. absurd (true≢false (sym e ∙ t));
+  whole = λ t. absurd (true≢false (sym e ∙ t));
+  crowded = λ t k h.
+      let o = g .over e in
+      let all = all-in W F xs n ys heads last m full g R old new in
+      let f = g .chained .fits in
+      let z = longer (keysOf m ys) (o .one) k (keys-once m ys f (g .chained .once)) (λ i. o .lacks (in-lists m ys f (o .one) i)) (h (o .one) (new (o .one) (o .from)))
+      (λ y i. let q = in-lists m ys f y i in h y (rw (q .2) at (all (q .0) (q .1)))) in
+      omega (arith, keys-long m ys f, o .filled, g .long);
+}
 
 module _ (first : ℕ → Type 0) (edge : ℕ → ℕ → Type 0) where
-  -- the first n elements ascend, are reached, and hold the first ones
-  pub record Closing (xs : List ℕ) (n : ℕ) : Type 0 where
-    pub fits : n ≤ length xs
-    pub ascends : Ascending (take n xs)
-    pub sound : (y : ℕ) → List·Memᴰ y (take n xs) → Reached first edge y
-    pub holds : (y : ℕ) → first y → List·Memᴰ y (take n xs)
+  -- n keys, all reached, the first ones among them; what those before place `from` lead to is listed
+  pub record Closing (xs heads last : List ℕ) (n from : ℕ) : Type 0 where
+    pub chained : Chained xs heads last n
+    pub place : from ≤ n
+    pub sound : (p : ℕ) → p < n → Reached first edge (keyAt xs p)
+    pub holds : (y : ℕ) → first y → Lists xs n y
+    pub closed : (p y : ℕ) → p < from → edge (keyAt xs p) y → Lists xs n y
 
-  module _ (xs : List ℕ) (n : ℕ) (c : Closing xs n) (ys : List ℕ) (r : ℕ) (full : Bool) (a : Added (From edge (take n xs)) n xs 0 ys r full) where
-    led : (y : ℕ) → From edge (take n xs) y → Reached first edge y
-    led y f = leads (c .sound (f .0) (f .1)) (f .2)
-
-    pub close-full : (zs : List ℕ) → length xs ≡ length zs → full ≡ true → Gathered (Reached first edge) zs ys n true
-    close-full zs l e = record {
-      long = a .long ∙ l;
-      fits = omega (arith, a .fits);
-      ascends = λ f. absurd (true≢false f);
-      sound = λ f. absurd (true≢false f);
-      whole = λ f. absurd (true≢false f);
-      crowded = λ f k h. omega (arith, l, crowd (From edge (take n xs)) (Reached first edge) n xs ys r full a (c .ascends) (c .sound) led e k h);
+  module _ (xs heads last : List ℕ) (n from : ℕ) (c : Closing xs heads last n from) where
+    -- a round
+    pub close-next : (ys hs ls : List ℕ) (m : ℕ) (full : Bool) → Grown (After from n xs edge) (Reached first edge) xs n ys hs ls m full → full ≡ false → Closing ys hs ls m n
+    close-next ys hs ls m full g e = record {
+      chained = g .chained;
+      place = g .more;
+      sound = all-in (After from n xs edge) (Reached first edge) xs n ys hs ls m full g (Reached first edge) (c .sound) (λ y h. h);
+      holds = λ y f. lists-kept (After from n xs edge) (Reached first edge) xs n ys hs ls m full g y (c .holds y f);
+      closed = λ p y l d.
+          let k : edge (keyAt xs p) y = rw (key-kept (After from n xs edge) (Reached first edge) xs n ys hs ls m full g p l) at d in
+          by-cases (decLt p from)
+          (λ h. lists-kept (After from n xs edge) (Reached first edge) xs n ys hs ls m full g y (c .closed p y h k))
+          (λ h. g .whole e y (p, omega arith, l, k));
     }
 
-    -- nothing new: all is there
-    complete : full ≡ false → r ≡ 0 → {y : ℕ} → Reached first edge y → List·Memᴰ y (take n xs)
-    complete e z (begins f) = c .holds _ f
-    complete e z (leads {x} {y} q d) =
-        ⊎-elim (λ k. rw (a .old) at k) (λ k. absurd (List·Memᴰ·not-nil (rw z at k))) (a .whole e y (x, complete e z q, d))
+    -- every key was used: all is there
+    complete : n ≤ from → {y : ℕ} → Reached first edge y → Lists xs n y
+    complete z (begins f) = c .holds _ f
+    complete z (leads {x} {y} q d) = let i = complete z q in c .closed (i .0) y (omega (arith, i .1)) (rw (i .2) d)
 
-    pub close-end : (zs : List ℕ) → length xs ≡ length zs → full ≡ false → r ≡ 0 → Gathered (Reached first edge) zs ys n false
-    close-end zs l e z = record {
-      long = a .long ∙ l;
-      fits = omega (arith, a .fits);
-      ascends = λ f. rw (a .old) (c .ascends);
-      sound = λ f y m. c .sound y (rw (a .old) at m);
-      whole = λ f y m. rw (a .old) (complete e z m);
-      crowded = λ f. absurd (false≢true f);
+    pub close-end : (zs : List ℕ) → length xs ≡ length zs → n ≤ from → Gathered (Reached first edge) zs xs n false
+    close-end zs l z = record {
+      long = l;
+      fits = c .chained .fits;
+      once = λ t. keys-once n xs (c .chained .fits) (c .chained .once);
+      sound = λ t y k. let q = in-lists n xs (c .chained .fits) y k in rw (q .2) at (c .sound (q .0) (q .1));
+      whole = λ t y k. lists-in n xs (c .chained .fits) y (complete z k);
+      crowded = λ t. absurd (false≢true t);
     }
-
-    -- something new, sorted in
-    pub close-next : (zs : List ℕ) → ArrangedFirst ys (n + r) zs → length zs ≡ length ys → Closing zs (n + r)
-    close-next zs s l =
-        let b = rw (take-add n r ys) at (s .front) in
-        let R = Reached first edge in record {
-          fits = omega (arith, a .fits);
-          ascends = arranged-asc (both (From edge (take n xs)) R n xs ys r full a (c .ascends)) (take (n + r) zs) (both-once (From edge (take n xs)) R n xs ys r full a (c .ascends)) b;
-          sound = λ y k. both-sound (From edge (take n xs)) R n xs ys r full a (c .ascends) (c .sound) led y (rearranged-out (take n ys ++ take r (drop n ys)) (take (n + r) zs) y (b .rearranged) k);
-          holds = λ y f. rearranged-in (take n ys ++ take r (drop n ys)) (take (n + r) zs) y (b .rearranged) (Memᴰ·append-left {s = take n ys} (take r (drop n ys)) (rw (a .old) (c .holds y f)));
-        }
-
--- what is added to an empty slice
-module _ (F : ℕ → Type 0) (xs ys : List ℕ) (r : ℕ) (full : Bool) (a : Added F 0 xs 0 ys r full) where
-  pub first-out : (y : ℕ) → List·Memᴰ y (take r ys) → F y
-  first-out y k = ⊎-elim (λ i. absurd (List·Memᴰ·not-nil i)) (λ i. i .0) (a .only y k)
-
-  pub first-into : full ≡ false → (y : ℕ) → F y → List·Memᴰ y (take r ys)
-  first-into t y f = ⊎-elim (λ i. absurd (List·Memᴰ·not-nil i)) (λ i. i) (a .whole t y f)
-
-  pub first-parted : Parted r ys 0
-  first-parted = record { fits = omega (arith, a .fits); old = a .ascends; new = none }
-
-  pub first-full : (R : ℕ → Type 0) → ((y : ℕ) → F y → R y) → full ≡ true → Gathered R xs ys r full
-  first-full R f e = record {
-    long = a .long;
-    fits = omega (arith, a .fits);
-    ascends = λ t. absurd (true≢false (sym e ∙ t));
-    sound = λ t. absurd (true≢false (sym e ∙ t));
-    whole = λ t. absurd (true≢false (sym e ∙ t));
-    crowded = λ t l h. omega (arith, crowd F R 0 xs ys r full a none (λ y k. absurd (List·Memᴰ·not-nil k)) f t l h);
-  }

@@ -1,5 +1,5 @@
-pub mod Closing
 pub mod Codes
-pub mod Link
-pub mod Listing
+pub mod Gathering
 pub mod Walk
+pub mod Closing
+pub mod Listing

@@ -2,10 +2,10 @@
 use mathlib.Core.Path.{_≡_, refl, ap, sym, _∙_}
 use mathlib.Core.Bool.{Bool, true, false, true≢false, false≢true}
 use mathlib.Core.List.{List, map, List·Memᴰ, Memᴰ·map, Memᴰ·of-map}
-use Prim.Native.Nat.{ℕ, _^_, _<_}
+use Prim.Native.Nat.{ℕ, _<_}
 use native.Mathlib.Omega.{arith}
-use lib.ListN.{length, getD, take, drop, length-map}
-use lib.Seq.{length-take-le, take-at}
+use lib.ListN.{length, take, drop, length-map}
+use lib.Seq.{take-at}
 use Rattle.sets.specs.Tests.{Set}
 use Rattle.sets.proofs.Ascending.{asc-ext}
 use Rattle.theory.specs.Rule.{Rule}
@@ -16,12 +16,12 @@ use Rattle.theory.specs.TableComputed.{macrostatesFrom}
 use Rattle.theory_laws.proofs.Layers.{layered}
 use Rattle.theory_laws.proofs.Tables.{few-states, components-there, reachable-macrostate, reachable-iff, macrostates-ascending}
 use Rattle.slice_sort.specs.Order.{Distinct, Arranged, ArrangedFirst}
-use Rattle.slice_sort.proofs.Distinct.{distinct-map, rearranged-in, rearranged-out, arranged-asc}
-use Rattle.build_closure.specs.Closure.{Gathered, Listed}
+use Rattle.slice_sort.proofs.Distinct.{rearranged-in, rearranged-out, arranged-asc}
+use Rattle.build_closure.specs.Closure.{keysOf, Gathered, Listed}
 use Rattle.build_closure_spec.specs.Keys.{keyOf, codeOf, KeyOf}
 use Rattle.build_closure.proofs.Codes.{coded}
-use Rattle.build_closure_spec.proofs.Keys.{code-key, key-parts}
-use Rattle.build_closure_spec.proofs.Moves.{member}
+use Rattle.build_closure_spec.proofs.Keys.{code-key}
+use Rattle.build_closure.proofs.Gathering.{distinct-through, keys-long}
 use Rattle.build_step_back.proofs.Codes.{pair-low}
 
 -- the numbers of R as those of another predicate
@@ -29,7 +29,7 @@ pub gathered-as : (R Q : ℕ → Type 0) (ws xs ys : List ℕ) (m : ℕ) (full :
 gathered-as R Q ws xs ys m full l f g a = record {
   long = a .long ∙ l;
   fits = a .fits;
-  ascends = a .ascends;
+  once = a .once;
   sound = λ t y k. f y (a .sound t y k);
   whole = λ t y k. a .whole t y (g y k);
   crowded = λ t k h. omega (arith, l, a .crowded t k (λ y q. h y (f y q)));
@@ -49,39 +49,32 @@ module _ (r : Rule) (P : Passing r) (start : Set) (xs ys : List ℕ) (m : ℕ) w
       (g .crowded refl (map keyOf (macrostatesFrom r start)) (λ y k. rw (k .2) (Memᴰ·map keyOf (reachable-iff r P start (k .0) .1 (k .1)))))
 
   module _ (g : Gathered (KeyOf R) xs ys m false) where
-    key-code : (y : ℕ) → List·Memᴰ y (take m ys) → keyOf (codeOf y) ≡ y
+    key-code : (y : ℕ) → List·Memᴰ y (keysOf m ys) → keyOf (codeOf y) ≡ y
     key-code y k = let s = g .sound refl y k in rw (s .2) (ap keyOf (code-of-key (s .0) (s .1)))
 
-    -- keys have the bits of codes
-    pub keys-low : (i : ℕ) → i < m → getD ys i 0 < 2 ^ 48
-    keys-low i h =
-        let s = g .sound refl (getD ys i 0) (member m ys (g .fits) i h) in
-        let p = pair-low (automaton r) (s .0) (reachable-macrostate (automaton r) (layered r P) (few-states r P) (components-there r P) (r .s) start (s .1) .coded) in
-        omega (arith, s .2, key-parts (s .0))
+    codes-distinct : Distinct (map codeOf (keysOf m ys))
+    codes-distinct = distinct-through codeOf (keysOf m ys) (g .once refl) (λ x y k l e. sym (key-code x k) ∙ ap keyOf e ∙ key-code y l)
 
-    codes-distinct : Distinct (map codeOf (take m ys))
-    codes-distinct = distinct-map codeOf (take m ys) (g .ascends refl) (λ x y k l e. sym (key-code x k) ∙ ap keyOf e ∙ key-code y l)
+    long : length (map codeOf (keysOf m ys)) ≡ m
+    long = length-map (keysOf m ys) codeOf ∙ keys-long m ys (g .fits)
 
-    long : length (map codeOf (take m ys)) ≡ m
-    long = length-map (take m ys) codeOf ∙ length-take-le m ys (g .fits)
-
-    code-in : (c : ℕ) → List·Memᴰ c (map codeOf (take m ys)) → R c
+    code-in : (c : ℕ) → List·Memᴰ c (map codeOf (keysOf m ys)) → R c
     code-in c k =
-        let b = Memᴰ·of-map codeOf (take m ys) k in
+        let b = Memᴰ·of-map codeOf (keysOf m ys) k in
         let s = g .sound refl (b .0) (b .1) in
         let e : s .0 ≡ c = sym (code-of-key (s .0) (s .1)) ∙ ap codeOf (sym (s .2)) ∙ b .2 in rw e at (s .1)
 
-    in-code : (c : ℕ) → R c → List·Memᴰ c (map codeOf (take m ys))
+    in-code : (c : ℕ) → R c → List·Memᴰ c (map codeOf (keysOf m ys))
     in-code c q = rw (code-of-key c q) at (Memᴰ·map codeOf (g .whole refl (keyOf c) (c, q, refl)))
 
     -- after to_codes and sort_first the first m elements are the list of the reachable macrostates
     pub all-listed : (zs ws : List ℕ) → zs ≡ coded m ys → ArrangedFirst zs m ws → take m ws ≡ macrostatesFrom r start
     all-listed zs ws e a =
-        let front : take m zs ≡ map codeOf (take m ys) = ap (take m) e ∙ take-at (map codeOf (take m ys)) (drop m ys) m long in
-        let b : Arranged (map codeOf (take m ys)) (take m ws) = rw front at (a .front) in
-        asc-ext (take m ws) (macrostatesFrom r start) (arranged-asc (map codeOf (take m ys)) (take m ws) codes-distinct b) (macrostates-ascending r P start)
-        (λ c k. reachable-iff r P start c .1 (code-in c (rearranged-out (map codeOf (take m ys)) (take m ws) c (b .rearranged) k)))
-        (λ c k. rearranged-in (map codeOf (take m ys)) (take m ws) c (b .rearranged) (in-code c (reachable-iff r P start c .0 k)))
+        let front : take m zs ≡ map codeOf (keysOf m ys) = ap (take m) e ∙ take-at (map codeOf (keysOf m ys)) (drop m ys) m long in
+        let b : Arranged (map codeOf (keysOf m ys)) (take m ws) = rw front at (a .front) in
+        asc-ext (take m ws) (macrostatesFrom r start) (arranged-asc (map codeOf (keysOf m ys)) (take m ws) codes-distinct b) (macrostates-ascending r P start)
+        (λ c k. reachable-iff r P start c .1 (code-in c (rearranged-out (map codeOf (keysOf m ys)) (take m ws) c (b .rearranged) k)))
+        (λ c k. rearranged-in (map codeOf (keysOf m ys)) (take m ws) c (b .rearranged) (in-code c (reachable-iff r P start c .0 k)))
 
   -- the contract of reachable, where there is no room and where there is
   pub listed-full : (full : Bool) → full ≡ true → Gathered (KeyOf R) xs ys m full → Listed (macrostatesFrom r start) xs ys m full

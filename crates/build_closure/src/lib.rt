@@ -1,3 +1,3 @@
-// The closure in the lent slice: sweeps over the cores until nothing is added, then keys turned into codes.
+// The closure in the lent slice: rounds over the cores until nothing is added, then keys turned into codes.
 pub mod reach;
-pub mod sweeps;
+pub mod rounds;

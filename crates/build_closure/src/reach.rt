@@ -1,54 +1,56 @@
-// The reachable macrostates of a rule in a lent slice: sweeps over all cores, until one adds nothing.
-use crate::sweeps::close;
-use crate::sweeps::firsts;
+// The reachable macrostates of a rule in a lent slice: rounds over all cores, until one adds nothing.
+use crate::rounds::close;
+use crate::rounds::firsts;
+use build_chains_spec::Grow;
 use build_closure_spec::Shape;
-use slice_insert::Grow;
 ghost use mathlib.Core.Path.{_≡_};
 ghost use mathlib.Core.List.{_++_, map};
-ghost use Prim.Native.Nat.{ℕ, _^_, _<_, _≤_};
-ghost use lib.ListN.{length, getD, take, drop};
+ghost use Prim.Native.Nat.{_≤_};
+ghost use lib.ListN.{length, drop};
 ghost use Rattle.theory.specs.Rule.{Rule};
 ghost use Rattle.theory.specs.Automaton.{automaton};
 ghost use Rattle.theory.specs.Macrostate.{Reachable};
 ghost use Rattle.theory.specs.TableComputed.{macrostatesFrom};
 ghost use Rattle.build_closure_spec.specs.Keys.{codeOf, KeyOf, startOf};
 ghost use Rattle.build_closure_spec.specs.Tables.{RuleTables};
-ghost use Rattle.build_closure.specs.Closure.{Gathered, Listed};
+ghost use Rattle.build_closure.specs.Closure.{keysOf, Gathered, Listed};
 
-// The keys of the reachable macrostates, ascending; full if they are more than the slice has room for.
+// The keys of the reachable macrostates, with links; full if they are more than the slice has room for.
 pub fn reach(keys: &mut [u64], shape: Shape, opens: &[u8; 4096], parts: &[u8; 8]) -> Grow
-    requires { ⌜ ((r : Rule) × RuleTables r (now opens) (now parts) shape) ⌝ }
+    requires { ⌜ ((r : Rule) × RuleTables r (now opens) (now parts) shape) × (length (now keys) ≤ 65536) ⌝ }
     ensures { λ g. ⌜ ((r : Rule)
         → RuleTables r (now (opens .entry)) (now (parts .entry)) shape
         → Gathered (KeyOf (Reachable (automaton r) (r .s) (startOf r (shape .holds)))) (now (keys .entry)) (now (keys .exit))
         (g .m) (g .full)) ⌝ }
 {
     let caps = build_cores::largest_ranks(parts, shape.components);
-    let g = firsts(keys, shape, parts, caps);
+    let mut heads = [0u16; 16384];
+    let mut last = [0u32; 256];
+    let g = firsts(keys, &mut heads, &mut last, shape, parts, caps);
     if g.full {
         return g;
     }
-    close(keys, g.m, shape, opens, parts, caps)
+    close(keys, &mut heads, &mut last, g.m, shape, opens, parts, caps)
 }
 
 // ---- codes
 
-// The code of each of the first n keys, in its place.
+// The code of each of the first n keys, in its place; the links are taken off.
 pub fn to_codes(keys: &mut [u64], n: usize)
-    requires { ⌜ (n ≤ length (now keys)) × ((i : ℕ) → i < n → getD (now keys) i 0 < 2 ^ 48) ⌝ }
-    ensures { λ _. ⌜ now (keys .exit) ≡ map codeOf (take n (now (keys .entry))) ++ drop n (now (keys .entry)) ⌝ }
+    requires { ⌜ n ≤ length (now keys) ⌝ }
+    ensures { λ _. ⌜ now (keys .exit) ≡ map codeOf (keysOf n (now (keys .entry))) ++ drop n (now (keys .entry)) ⌝ }
 {
     let mut i = 0;
     while i < n {
         let key = keys[i];
-        keys[i] = ((key & 0xff) << 40) | (key >> 8);
+        keys[i] = ((key & 0xff) << 40) | ((key & 0x0000_ffff_ffff_ffff) >> 8);
         i += 1;
     }
 }
 
 // The codes of the reachable macrostates, ascending; full if they are more than the slice has room for.
 pub fn reachable(codes: &mut [u64], shape: Shape, opens: &[u8; 4096], parts: &[u8; 8]) -> Grow
-    requires { ⌜ ((r : Rule) × RuleTables r (now opens) (now parts) shape) ⌝ }
+    requires { ⌜ ((r : Rule) × RuleTables r (now opens) (now parts) shape) × (length (now codes) ≤ 65536) ⌝ }
     ensures { λ g. ⌜ ((r : Rule)
         → RuleTables r (now (opens .entry)) (now (parts .entry)) shape
         → Listed (macrostatesFrom r (startOf r (shape .holds))) (now (codes .entry)) (now (codes .exit)) (g .m) (g .full)) ⌝ }

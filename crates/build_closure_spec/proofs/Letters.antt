@@ -2,8 +2,8 @@
 use mathlib.Core.Path.{_≡_, ap, ap₂, sym, _∙_}
 use mathlib.Core.Logic.{by-cases}
 use mathlib.Core.Bool.{cond}
-use mathlib.Core.List.{List, List·Memᴰ}
-use Prim.Native.Nat.{ℕ, _+_, _*_, _%_, _^_, _≤_, _<_}
+use mathlib.Core.List.{List}
+use Prim.Native.Nat.{ℕ, _+_, _*_, _/_, _%_, _^_, _≤_, _<_}
 use native.Mathlib.Omega.{arith}
 use native.Mathlib.Decide.{decLt}
 use lib.Dec.{ltb}
@@ -11,6 +11,7 @@ use lib.ListN.{getD}
 use lib.Bits.{bitXor}
 use borrow.Author.Tests.{lt-ltb, le-ltb}
 use Rattle.sets.proofs.Digits.{num-lt}
+use Rattle.sets.proofs.Masks.{mask-lt}
 use Rattle.theory.specs.Rule.{Rule}
 use Rattle.theory.specs.Automaton.{Automaton, automaton}
 use Rattle.theory_laws.proofs.Classes.{rank-max}
@@ -24,10 +25,12 @@ use Rattle.build_step_back.specs.Earlier.{coreOf, backOf, ontoOf, earlierSet, e
 use Rattle.build_step_back.proofs.Tables.{rises-at, set-is, ranks-is, onward-is}
 use Rattle.build_step_back.proofs.Codes.{back-low}
 use Rattle.build_closure_spec.specs.declared.Shape.{Shape}
-use Rattle.build_closure_spec.specs.Growth.{From}
+use Rattle.build_chains_spec.specs.Chains.{keyAt, Chained}
+use Rattle.build_chains_spec.specs.Growth.{After}
+use Rattle.build_chains_spec.proofs.Growth.{Upto}
 use Rattle.build_closure_spec.specs.Keys.{Paired, Cored, Moved, LeadsOver, LeadsAt, KeyEdge}
 use Rattle.build_closure_spec.specs.Tables.{RuleTables, Lowest}
-use Rattle.build_closure_spec.proofs.Growth.{Upto}
+use Rattle.build_closure_spec.specs.Reached.{leads, ReachedKey, AllReached}
 use Rattle.build_closure_spec.proofs.Starting.{within-all, accepting-fits, accepting-same, core-is}
 
 -- an earlier core has ranks of at most 8, so its vector has 32 bits
@@ -43,31 +46,25 @@ module _ (A : Automaton) (small : A .n ≤ 8) (a v : ℕ) where
   ranks-low = num-lt 16 (omega arith) 8 (λ q. cond (ltb q (A .n)) (earlierRank A a v q) 0) (λ q k. rank-low q)
 
 -- the same keys go on to the same keys
-pub from-same : (e e′ c c′ : ℕ) (f g : ℕ → ℕ) (old : List ℕ) → e ≡ e′ → c ≡ c′ → ((x : ℕ) → List·Memᴰ x old → f (x % 256) ≡ g (x % 256)) → (y : ℕ) → From (Moved e c f) old y → From (Moved e′ c′ g) old y
-from-same e e′ c c′ f g old p q h y m = (
+pub moved-same : (from n : ℕ) (xs : List ℕ) (e e′ c c′ : ℕ) (f g : ℕ → ℕ) → e ≡ e′ → c ≡ c′ → ((p : ℕ) → p < n → f (keyAt xs p % 256) ≡ g (keyAt xs p % 256)) → (y : ℕ) → After from n xs (Moved e c f) y → After from n xs (Moved e′ c′ g) y
+moved-same from n xs e e′ c c′ f g p q h y m = (
   m .0,
   m .1,
+  m .2,
   record {
-    from = m .2 .from ∙ p;
-    to = m .2 .to ∙ ap₂ (λ (x z : ℕ). x * 256 + z) q (h (m .0) (m .1));
+    from = m .3 .from ∙ p;
+    to = m .3 .to ∙ ap₂ (λ (x z : ℕ). x * 256 + z) q (h (m .0) (m .2));
   },
 )
 
--- what visit adds, letter by letter
-module _ (A : Automaton) (parts : List ℕ) (C s v : ℕ) (old : List ℕ) where
-  pub letters-in : Cored parts C v → (y : ℕ) → Upto (λ b. From (LeadsOver A v b) old) s y → LeadsAt A parts C s old v y
-  letters-in w y h = (w, (h .2 .0, h .2 .1, (h .0, h .1, h .2 .2)))
+module _ (A : Automaton) (parts : List ℕ) (C s from n : ℕ) (xs : List ℕ) where
+  -- what visit adds, letter by letter
+  pub letters-out : (v y : ℕ) → LeadsAt A parts C s from n xs v y → Upto (λ b. After from n xs (LeadsOver A v b)) s y
+  letters-out v y h = (h .1 .3 .0, h .1 .3 .1, (h .1 .0, h .1 .1, h .1 .2, h .1 .3 .2))
 
-  pub letters-out : (y : ℕ) → LeadsAt A parts C s old v y → Upto (λ b. From (LeadsOver A v b) old) s y
-  letters-out y h = (h .1 .2 .0, h .1 .2 .1, (h .1 .0, h .1 .1, h .1 .2 .2))
-
--- what a sweep adds, vector by vector
-module _ (A : Automaton) (parts : List ℕ) (C s : ℕ) (old : List ℕ) where
-  pub edges-in : (y : ℕ) → ((v : ℕ) × LeadsAt A parts C s old v y) → From (KeyEdge A parts C s) old y
-  edges-in y h = (h .1 .1 .0, h .1 .1 .1, (h .0, h .1 .0, h .1 .1 .2))
-
-  pub edges-out : (y : ℕ) → From (KeyEdge A parts C s) old y → (v : ℕ) × LeadsAt A parts C s old v y
-  edges-out y h = (h .2 .0, (h .2 .1, (h .0, h .1, h .2 .2)))
+  -- what a round adds, vector by vector
+  pub edges-out : (y : ℕ) → After from n xs (KeyEdge A parts C s) y → (v : ℕ) × LeadsAt A parts C s from n xs v y
+  edges-out y h = (h .3 .0, (h .3 .1, (h .0, h .1, h .2, h .3 .2)))
 
 module _ (r : Rule) (opens parts : List ℕ) (shape : Shape) (T : RuleTables r opens parts shape) (a v : ℕ) (known : a < shape .s) (w : Cored parts (shape .components) v) (low : List ℕ) (L : Lowest v low) where
   within : Within 8 v (capsOf parts ((automaton r) .components))
@@ -104,16 +101,35 @@ module _ (r : Rule) (opens parts : List ℕ) (shape : Shape) (T : RuleTables r o
         ap (λ (c : ℕ). onwardIn v parts c levels pair) (T .shaped .components-are)
         ∙ onward-is (automaton r) (layered r (T .shaped .passing)) (r .s) opens parts (T .shaped .masks) (T .table) a v letter within low L ranks levels back (rw (T .shaped .components-are) at (w .passes)) pair h (omega (arith, T .shaped .components-are))
 
-    module _ (core earlier : ℕ) (ec : core ≡ v * 2 ^ 8 + bitXor (getD low 15 0) (shape .accepting)) (ee : earlier ≡ ranks * 2 ^ 8 + bitXor (getD opens (a * 256 + getD low 15 0) 0) (shape .accepting)) (old : List ℕ) (p : Paired (shape .components) old) where
+    module _ (core earlier : ℕ) (ec : core ≡ v * 2 ^ 8 + bitXor (getD low 15 0) (shape .accepting)) (ee : earlier ≡ ranks * 2 ^ 8 + bitXor (getD opens (a * 256 + getD low 15 0) 0) (shape .accepting)) (from n : ℕ) (xs : List ℕ) (p : Paired (shape .components) xs n) where
       core-same : core ≡ coreOf (automaton r) v
       core-same = ec ∙ core-is r parts shape (T .shaped) v (w .within) low L
 
-      onto-same : (x : ℕ) → List·Memᴰ x old → onwardIn v parts (shape .components) levels (x % 256) ≡ ontoOf (automaton r) a v (x % 256)
-      onto-same x m = onto-is (x % 256) (omega arith) (let h = p x m in omega arith)
+      onto-same : (q : ℕ) → q < n → onwardIn v parts (shape .components) levels (keyAt xs q % 256) ≡ ontoOf (automaton r) a v (keyAt xs q % 256)
+      onto-same q l = onto-is (keyAt xs q % 256) (omega arith) (let h = p q l in omega arith)
 
       -- what move_keys adds is what leads over the letter
-      pub leads-in : (y : ℕ) → From (Moved earlier core (onwardIn v parts (shape .components) levels)) old y → From (LeadsOver (automaton r) v a) old y
-      leads-in = from-same earlier (backOf (automaton r) a v) core (coreOf (automaton r) v) (onwardIn v parts (shape .components) levels) (ontoOf (automaton r) a v) old (ee ∙ earlier-is) core-same onto-same
+      pub leads-in : (y : ℕ) → After from n xs (Moved earlier core (onwardIn v parts (shape .components) levels)) y → After from n xs (LeadsOver (automaton r) v a) y
+      leads-in = moved-same from n xs earlier (backOf (automaton r) a v) core (coreOf (automaton r) v) (onwardIn v parts (shape .components) levels) (ontoOf (automaton r) a v) (ee ∙ earlier-is) core-same onto-same
 
-      pub leads-out : (y : ℕ) → From (LeadsOver (automaton r) v a) old y → From (Moved earlier core (onwardIn v parts (shape .components) levels)) old y
-      leads-out = from-same (backOf (automaton r) a v) earlier (coreOf (automaton r) v) core (ontoOf (automaton r) a v) (onwardIn v parts (shape .components) levels) old (sym (ee ∙ earlier-is)) (sym core-same) (λ x m. sym (onto-same x m))
+      pub leads-out : (y : ℕ) → After from n xs (LeadsOver (automaton r) v a) y → After from n xs (Moved earlier core (onwardIn v parts (shape .components) levels)) y
+      leads-out = moved-same from n xs (backOf (automaton r) a v) earlier (coreOf (automaton r) v) core (ontoOf (automaton r) a v) (onwardIn v parts (shape .components) levels) (sym (ee ∙ earlier-is)) (sym core-same) (λ q l. sym (onto-same q l))
+
+  -- ---- the clock
+
+  earlier-set : backOf (automaton r) a v % 256 ≡ bitXor (getD opens (a * 256 + getD low 15 0) 0) (shape .accepting)
+  unfolding backOf
+  earlier-set =
+      let e = set-is (automaton r) (layered r (T .shaped .passing)) (r .s) opens parts (T .shaped .masks) (T .table) a v letter within low L (shape .accepting) (accepting-fits r parts shape (T .shaped)) (λ q l. accepting-same r parts shape (T .shaped) q) in
+      omega (arith, mask-lt 8 (earlierSet (automaton r) a v))
+
+  -- where no key of the earlier set stands from place `from` on, nothing leads over the letter
+  pub nothing-new : (xs heads last : List ℕ) (n from : ℕ) → Chained xs heads last n → getD last (bitXor (getD opens (a * 256 + getD low 15 0) 0) (shape .accepting)) 0 ≤ from → (y : ℕ) → After from n xs (LeadsOver (automaton r) v a) y → ⊥
+  nothing-new xs heads last n from C h y m =
+      let e : keyAt xs (m .0) / 256 % 256 ≡ bitXor (getD opens (a * 256 + getD low 15 0) 0) (shape .accepting) = ap (λ (x : ℕ). x % 256) (m .3 .from) ∙ earlier-set in
+      let c : m .0 < getD last (bitXor (getD opens (a * 256 + getD low 15 0) 0) (shape .accepting)) 0 = rw e at (C .clock (m .0) (m .2)) in
+      omega (arith, m .1)
+
+  -- what is led to is reached
+  pub led : (n : ℕ) (xs : List ℕ) → AllReached r parts shape xs n → (y : ℕ) → After 0 n xs (LeadsOver (automaton r) v a) y → ReachedKey r parts shape y
+  led n xs all y m = leads (all (m .0) (m .2)) (v, w, (a, known, m .3))

@@ -1,5 +1,5 @@
 pub mod Keys
-pub mod Growth
-pub mod Moves
+pub mod Link
 pub mod Starting
 pub mod Letters
+pub mod Moves

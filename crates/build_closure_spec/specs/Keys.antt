@@ -1,7 +1,7 @@
 -- Keys: macrostates as they are gathered, the core first, so that the keys of one core stand together.
 use mathlib.Core.Path.{_≡_}
 use mathlib.Core.Bool.{Bool, true, not, cond}
-use mathlib.Core.List.{List, List·Memᴰ}
+use mathlib.Core.List.{List}
 use Prim.Native.Nat.{ℕ, _+_, _*_, _/_, _%_, _^_, _<_}
 use lib.ListN.{getD}
 use Rattle.sets.specs.Tests.{Set, every}
@@ -11,7 +11,8 @@ use Rattle.theory.specs.Automaton.{Automaton, automaton}
 use Rattle.build_cores.specs.Vectors.{Within}
 use Rattle.build_cores.specs.Used.{gapless, capsOf}
 use Rattle.build_step_back.specs.Earlier.{coreOf, backOf, ontoOf}
-use Rattle.build_closure_spec.specs.Growth.{From}
+use Rattle.build_chains_spec.specs.Chains.{keyAt}
+use Rattle.build_chains_spec.specs.Growth.{After}
 
 -- 01: "bits 0 to 7 S, four bits from 8 + 4 × q for the rank of q, 40 to 43 K, 44 to 47 k": a code is the pair K + 16 k above a core of 40 bits.
 -- Its key is the core above the pair.
@@ -29,9 +30,9 @@ KeyOf R y = (c : ℕ) × R c × (y ≡ keyOf c)
 unfoldable pub startOf : Rule → Bool → Set
 startOf r holds c = cond holds (bit c (r .initial)) (not (bit c (r .initial)))
 
--- every key has the number of a component
-abbrev pub Paired : ℕ → List ℕ → Type 0
-Paired components l = (x : ℕ) → List·Memᴰ x l → x % 16 < components
+-- each of the first n keys has the number of a component
+abbrev pub Paired : ℕ → List ℕ → ℕ → Type 0
+Paired components xs n = (p : ℕ) → p < n → keyAt xs p % 16 < components
 
 -- v is one of the vectors that are visited, and passes the test: the vector of a core (vector-cored and code-macrostate of build_closure/proofs/Link)
 pub record Cored (parts : List ℕ) (components v : ℕ) : Type 0 where
@@ -51,9 +52,9 @@ LeadsOver A v a x y = Moved (backOf A a v) (coreOf A v) (ontoOf A a v) x y
 abbrev pub Leads : Automaton → ℕ → ℕ → ℕ → ℕ → Type 0
 Leads A s v x y = (a : ℕ) × (a < s) × LeadsOver A v a x y
 
--- a key of the list goes over one of s letters to y, a key of the core of the vector v, which is visited
-abbrev pub LeadsAt : Automaton → List ℕ → ℕ → ℕ → List ℕ → ℕ → ℕ → Type 0
-LeadsAt A parts components s old v y = Cored parts components v × From (Leads A s v) old y
+-- a key from place `from` up to place n goes over one of s letters to y, a key of the core of the vector v, which is visited
+abbrev pub LeadsAt : Automaton → List ℕ → ℕ → ℕ → ℕ → ℕ → List ℕ → ℕ → ℕ → Type 0
+LeadsAt A parts components s from n xs v y = Cored parts components v × After from n xs (Leads A s v) y
 
 -- the key x goes over one of s letters to the key y
 abbrev pub KeyEdge : Automaton → List ℕ → ℕ → ℕ → ℕ → ℕ → Type 0

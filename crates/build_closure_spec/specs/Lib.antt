@@ -1,3 +1,3 @@
-pub mod Growth
 pub mod Keys
+pub mod Reached
 pub mod Tables

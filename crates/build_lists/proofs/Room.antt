@@ -31,3 +31,7 @@ room-cap cap len =
     bif (ltb len cap)
     (λ t. let h = ltb-true len cap t in let e = room-short cap len h in omega arith)
     (λ t. let e = room-capped cap len (ltb-false len cap t) in omega arith)
+
+-- nor than the cap
+pub room-most : (cap len r : ℕ) → r ≡ roomOf cap len → r ≤ cap
+room-most cap len r e = omega (arith, room-cap cap len)

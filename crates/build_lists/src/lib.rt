@@ -1,6 +1,6 @@
 // The two lists of the build, each in a lent slice with zeros after it.
+use build_chains_spec::Grow;
 use build_closure_spec::Shape;
-use slice_insert::Grow;
 ghost use mathlib.Core.Path.{_≡_};
 ghost use Rattle.theory.specs.Rule.{Rule};
 ghost use Rattle.theory.specs.TableComputed.{macrostatesFrom, transitionsFrom};

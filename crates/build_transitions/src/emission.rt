@@ -1,7 +1,7 @@
 // The transitions between listed codes, found target by target and packed with the target first, so that they come in ascending order.
 use crate::letters::emit_letter;
 use crate::sources::sources_of;
-use slice_insert::Grow;
+use build_chains_spec::Grow;
 ghost use Prim.Native.Nat.{_<_, _≤_};
 ghost use lib.ListN.{length};
 ghost use Rattle.theory.specs.Automaton.{Automaton};

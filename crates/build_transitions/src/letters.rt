@@ -1,5 +1,5 @@
 // The transitions into one code over one letter.
-use slice_insert::Grow;
+use build_chains_spec::Grow;
 ghost use Prim.Native.Nat.{_<_, _≤_};
 ghost use lib.ListN.{length};
 ghost use Rattle.build_transitions_spec.specs.Ready.{Ordered};

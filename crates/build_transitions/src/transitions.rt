@@ -1,6 +1,6 @@
 // The transitions between listed codes: found with the target first, then turned around and sorted.
 use crate::emission::emit;
-use slice_insert::Grow;
+use build_chains_spec::Grow;
 ghost use mathlib.Core.Path.{_≡_};
 ghost use mathlib.Core.List.{_++_, map};
 ghost use Prim.Native.Nat.{ℕ, _^_, _<_, _≤_};

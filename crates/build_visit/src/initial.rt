@@ -1,6 +1,6 @@
 // The keys of the macrostates of one core where a run may begin.
+use build_chains_spec::Grow;
 use build_closure_spec::Shape;
-use slice_insert::Grow;
 ghost use mathlib.Core.Path.{_≡_};
 ghost use mathlib.Core.Bool.{not, cond};
 ghost use Prim.Native.Nat.{_<_};
@@ -9,7 +9,8 @@ ghost use Rattle.sets.specs.Masks.{bit, xor};
 ghost use Rattle.theory.specs.Rule.{Rule};
 ghost use Rattle.build_cores.specs.Vectors.{rankAt, Within};
 ghost use Rattle.build_cores.specs.Used.{capsOf};
-ghost use Rattle.build_closure_spec.specs.Growth.{Parted, Added};
+ghost use Rattle.build_chains_spec.specs.Chains.{Chained};
+ghost use Rattle.build_chains_spec.specs.Growth.{Grown};
 ghost use Rattle.build_closure_spec.specs.Keys.{StartsAt};
 ghost use Rattle.build_closure_spec.specs.Tables.{Shaped};
 
@@ -40,28 +41,31 @@ fn begins(ranks: u64, shape: Shape) -> bool
 }
 
 // Adds the key with K 0 and k 0 of the core of these ranks, if a run may begin there; none if the ranks are no core's.
-pub fn visit_first(keys: &mut [u64], new: usize, ranks: u64, shape: Shape, parts: &[u8; 8]) -> Grow
+pub fn visit_first(
+    keys: &mut [u64],
+    heads: &mut [u16; 16384],
+    last: &mut [u32; 256],
+    n: usize,
+    ranks: u64,
+    shape: Shape,
+    parts: &[u8; 8],
+) -> Grow
     requires { ⌜ ((r : Rule) × Shaped r (now parts) shape)
-        × Parted 0 (now keys) new
+        × Chained (now keys) (now heads) (now last) n
         × Within 8 ranks (capsOf (now parts) (shape .components)) ⌝ }
     ensures { λ g. ⌜ ((r : Rule)
         → Shaped r (now (parts .entry)) shape
-        → Added (StartsAt r (now (parts .entry)) (shape .components) (shape .holds) ranks) 0 (now (keys .entry)) new
-        (now (keys .exit)) (g .m) (g .full)) ⌝ }
+        → Grown (StartsAt r (now (parts .entry)) (shape .components) (shape .holds) ranks)
+        (StartsAt r (now (parts .entry)) (shape .components) (shape .holds) ranks) (now (keys .entry)) n (now (keys .exit))
+        (now (heads .exit)) (now (last .exit)) (g .m) (g .full)) ⌝ }
 {
     if !begins(ranks, shape) {
-        return Grow {
-            m: new,
-            full: false,
-        };
+        return Grow { m: n, full: false };
     }
     if !build_cores::is_core(ranks, parts, shape.components) {
-        return Grow {
-            m: new,
-            full: false,
-        };
+        return Grow { m: n, full: false };
     }
     let low = build_cores::lowest(ranks);
     let core = build_step_back::core_of(low[15], shape.accepting, ranks);
-    slice_insert::insert(keys, new, core << 8)
+    build_chains::admit(keys, heads, last, n, core << 8)
 }

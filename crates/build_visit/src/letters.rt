@@ -1,27 +1,28 @@
-// The keys that one core adds to those gathered: those of its steps back.
+// The keys that one core adds to those listed: those of its steps back.
+use build_chains_spec::Grow;
 use build_closure_spec::Shape;
-use slice_insert::Grow;
 ghost use mathlib.Core.Path.{_≡_};
-ghost use Prim.Native.Nat.{_+_, _*_, _^_, _<_, _≤_};
+ghost use Prim.Native.Nat.{_+_, _*_, _%_, _^_, _<_, _≤_};
 ghost use lib.Bits.{bitXor};
-ghost use lib.ListN.{take, getD};
+ghost use lib.ListN.{getD};
 ghost use Rattle.theory.specs.Rule.{Rule};
 ghost use Rattle.theory.specs.Automaton.{automaton};
-ghost use Rattle.slice_search.specs.Places.{below};
 ghost use Rattle.build_cores.specs.Vectors.{Within};
 ghost use Rattle.build_cores.specs.Used.{capsOf};
 ghost use Rattle.build_breakpoint.specs.Onward.{onwardIn};
-ghost use Rattle.build_closure_spec.specs.Growth.{Parted, From, Added};
+ghost use Rattle.build_chains_spec.specs.Chains.{Chained};
+ghost use Rattle.build_chains_spec.specs.Growth.{Grown, After};
 ghost use Rattle.build_closure_spec.specs.Keys.{Paired, Cored, Moved, LeadsOver, LeadsAt};
+ghost use Rattle.build_closure_spec.specs.Reached.{ReachedKey, AllReached};
 ghost use Rattle.build_closure_spec.specs.Tables.{RuleTables, Lowest};
 
-// Adds the keys of a core that the first n keys lead to over a letter: each key of the earlier core goes on to one.
-// The keys of the core itself stand from place own on.
-fn move_keys(
+// Adds the key of a core that a key leads to over a letter, if it is one of the earlier core.
+fn move_key(
     keys: &mut [u64],
+    heads: &mut [u16; 16384],
+    last: &mut [u32; 256],
     n: usize,
-    new: usize,
-    own: usize,
+    key: u64,
     core: u64,
     earlier: u64,
     ranks: u64,
@@ -29,32 +30,83 @@ fn move_keys(
     components: usize,
     levels: &[u64; 8],
 ) -> Grow
-    requires { ⌜ Parted n (now keys) new
-        × Paired components (take n (now keys))
+    requires { ⌜ Chained (now keys) (now heads) (now last) n
+        × (key % 16 < components)
+        × (components ≤ 8)
+        × (core < 2 ^ 40) ⌝ }
+    ensures { λ g. ⌜ Grown (Moved earlier core (onwardIn ranks (now (parts .entry)) components (now (levels .entry))) key)
+        (Moved earlier core (onwardIn ranks (now (parts .entry)) components (now (levels .entry))) key) (now (keys .entry)) n
+        (now (keys .exit)) (now (heads .exit)) (now (last .exit)) (g .m) (g .full) ⌝ }
+{
+    if key >> 8 != earlier {
+        return Grow { m: n, full: false };
+    }
+    let pair = build_breakpoint::onward(key & 0xff, ranks, parts, components, levels);
+    build_chains::admit(keys, heads, last, n, (core << 8) | pair)
+}
+
+// Adds the keys of a core that the n keys from place `from` on lead to over a letter: the keys of the earlier core stand in one chain.
+fn move_keys(
+    keys: &mut [u64],
+    heads: &mut [u16; 16384],
+    last: &mut [u32; 256],
+    n: usize,
+    from: usize,
+    core: u64,
+    earlier: u64,
+    ranks: u64,
+    parts: &[u8; 8],
+    components: usize,
+    levels: &[u64; 8],
+) -> Grow
+    requires { ⌜ Chained (now keys) (now heads) (now last) n
+        × (from < n)
+        × Paired components (now keys) n
         × (components ≤ 8)
         × (core < 2 ^ 40)
-        × (earlier < 2 ^ 40)
-        × (own ≡ below (core * 256) (take n (now keys))) ⌝ }
-    ensures { λ g. ⌜ Added
-        (From (Moved earlier core (onwardIn ranks (now (parts .entry)) components (now (levels .entry))))
-        (take n (now (keys .entry)))) n (now (keys .entry)) new (now (keys .exit)) (g .m) (g .full) ⌝ }
+        × (earlier < 2 ^ 40) ⌝ }
+    ensures { λ g. ⌜ Grown
+        (After from n (now (keys .entry))
+        (Moved earlier core (onwardIn ranks (now (parts .entry)) components (now (levels .entry)))))
+        (After 0 n (now (keys .entry))
+        (Moved earlier core (onwardIn ranks (now (parts .entry)) components (now (levels .entry))))) (now (keys .entry)) n
+        (now (keys .exit)) (now (heads .exit)) (now (last .exit)) (g .m) (g .full) ⌝ }
 {
-    let mut m = new;
-    let mut i = slice_search::place(keys, n, earlier << 8);
-    while i < n {
+    let mut m = n;
+    let mut i = heads[build_chains::bucket(earlier)] as usize;
+    while from <= i {
         let x = keys[i];
-        if x >> 8 != earlier {
-            return Grow { m, full: false };
-        }
-        let pair = build_breakpoint::onward(x & 0xff, ranks, parts, components, levels);
-        let g = slice_insert::put_from(keys, n, m, own, (core << 8) | pair);
+        let g = move_key(
+            keys,
+            heads,
+            last,
+            m,
+            x & 0x0000_ffff_ffff_ffff,
+            core,
+            earlier,
+            ranks,
+            parts,
+            components,
+            levels,
+        );
         if g.full {
             return g;
         }
         m = g.m;
-        i += 1;
+        if i == 0 {
+            return Grow { m, full: false };
+        }
+        i = (x >> 48) as usize;
     }
     Grow { m, full: false }
+}
+
+// The set before a letter, of the set with these open states.
+fn set_before(opens: &[u8; 4096], letter: usize, opened: u8, accepting: u8) -> u8
+    requires { ⌜ letter < 16 ⌝ }
+    ensures { λ s. ⌜ s ≡ bitXor (getD (now (opens .entry)) (letter * 256 + opened) 0) accepting ⌝ }
+{
+    opens[letter * 256 + opened as usize] ^ accepting
 }
 
 // The number of the core with these open states and ranks before a letter.
@@ -65,12 +117,28 @@ fn earlier_core(opens: &[u8; 4096], letter: usize, opened: u8, accepting: u8, ra
     build_step_back::core_of(opens[letter * 256 + opened as usize], accepting, ranks)
 }
 
-// Adds the keys of the core of these ranks that the first n keys lead to over one letter.
+// The place after the last key of a set.
+fn last_of(last: &[u32; 256], set: u8) -> u32
+    ensures { λ r. ⌜ r ≡ getD (now (last .entry)) set 0 ⌝ }
+{
+    last[set as usize]
+}
+
+// The same number.
+fn wide(x: u32) -> usize
+    ensures { λ r. ⌜ r ≡ x ⌝ }
+{
+    x as usize
+}
+
+// Adds the keys of the core of these ranks that the n keys from place `from` on lead to over one letter. The letter is skipped
+// where no key of the earlier set stands there.
 fn visit_letter(
     keys: &mut [u64],
+    heads: &mut [u16; 16384],
+    last: &mut [u32; 256],
     n: usize,
-    new: usize,
-    own: usize,
+    from: usize,
     core: u64,
     ranks: u64,
     low: &[u8; 16],
@@ -79,20 +147,24 @@ fn visit_letter(
     opens: &[u8; 4096],
     parts: &[u8; 8],
 ) -> Grow
-    requires { ⌜ ((r : Rule) × RuleTables r (now opens) (now parts) shape)
-        × Parted n (now keys) new
-        × Paired (shape .components) (take n (now keys))
+    requires { ⌜ ((r : Rule) × RuleTables r (now opens) (now parts) shape × AllReached r (now parts) shape (now keys) n)
+        × Chained (now keys) (now heads) (now last) n
+        × (from < n)
         × Cored (now parts) (shape .components) ranks
         × Lowest ranks (now low)
         × (letter < shape .s)
-        × (core ≡ ranks * 2 ^ 8 + bitXor (getD (now low) 15 0) (shape .accepting))
-        × (own ≡ below (core * 256) (take n (now keys))) ⌝ }
+        × (core ≡ ranks * 2 ^ 8 + bitXor (getD (now low) 15 0) (shape .accepting)) ⌝ }
     ensures { λ g. ⌜ ((r : Rule)
         → RuleTables r (now (opens .entry)) (now (parts .entry)) shape
-        → Added (From (LeadsOver (automaton r) ranks letter) (take n (now (keys .entry)))) n (now (keys .entry)) new
-        (now (keys .exit)) (g .m) (g .full)) ⌝ }
+        → AllReached r (now (parts .entry)) shape (now (keys .entry)) n
+        → Grown (After from n (now (keys .entry)) (LeadsOver (automaton r) ranks letter)) (ReachedKey r (now (parts .entry)) shape)
+        (now (keys .entry)) n (now (keys .exit)) (now (heads .exit)) (now (last .exit)) (g .m) (g .full)) ⌝ }
 {
     let opened = low[15];
+    let set = set_before(opens, letter, opened, shape.accepting);
+    if wide(last_of(last, set)) <= from {
+        return Grow { m: n, full: false };
+    }
     let before = build_step_back::step_back(
         opens,
         letter,
@@ -106,9 +178,10 @@ fn visit_letter(
     let levels = before.levels;
     move_keys(
         keys,
+        heads,
+        last,
         n,
-        new,
-        own,
+        from,
         core,
         earlier,
         ranks,
@@ -118,38 +191,51 @@ fn visit_letter(
     )
 }
 
-// Adds the keys of the core of these ranks that the first n keys lead to; none if the ranks are no core's.
+// Adds the keys of the core of these ranks that the n keys from place `from` on lead to; none if the ranks are no core's.
 pub fn visit(
     keys: &mut [u64],
+    heads: &mut [u16; 16384],
+    last: &mut [u32; 256],
     n: usize,
-    new: usize,
+    from: usize,
     ranks: u64,
     shape: Shape,
     opens: &[u8; 4096],
     parts: &[u8; 8],
 ) -> Grow
-    requires { ⌜ ((r : Rule) × RuleTables r (now opens) (now parts) shape)
-        × Parted n (now keys) new
-        × Paired (shape .components) (take n (now keys))
+    requires { ⌜ ((r : Rule) × RuleTables r (now opens) (now parts) shape × AllReached r (now parts) shape (now keys) n)
+        × Chained (now keys) (now heads) (now last) n
+        × (from < n)
         × Within 8 ranks (capsOf (now parts) (shape .components)) ⌝ }
     ensures { λ g. ⌜ ((r : Rule)
         → RuleTables r (now (opens .entry)) (now (parts .entry)) shape
-        → Added (LeadsAt (automaton r) (now (parts .entry)) (shape .components) (shape .s) (take n (now (keys .entry))) ranks) n
-        (now (keys .entry)) new (now (keys .exit)) (g .m) (g .full)) ⌝ }
+        → AllReached r (now (parts .entry)) shape (now (keys .entry)) n
+        → Grown (LeadsAt (automaton r) (now (parts .entry)) (shape .components) (shape .s) from n (now (keys .entry)) ranks)
+        (ReachedKey r (now (parts .entry)) shape) (now (keys .entry)) n (now (keys .exit)) (now (heads .exit)) (now (last .exit))
+        (g .m) (g .full)) ⌝ }
 {
     if !build_cores::is_core(ranks, parts, shape.components) {
-        return Grow {
-            m: new,
-            full: false,
-        };
+        return Grow { m: n, full: false };
     }
     let low = build_cores::lowest(ranks);
     let core = build_step_back::core_of(low[15], shape.accepting, ranks);
-    let own = slice_search::place(keys, n, core << 8);
-    let mut m = new;
+    let mut m = n;
     let mut a = 0;
     while a < shape.s {
-        let g = visit_letter(keys, n, m, own, core, ranks, &low, a, shape, opens, parts);
+        let g = visit_letter(
+            keys,
+            heads,
+            last,
+            m,
+            from,
+            core,
+            ranks,
+            &low,
+            a,
+            shape,
+            opens,
+            parts,
+        );
         if g.full {
             return g;
         }

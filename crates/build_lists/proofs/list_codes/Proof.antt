@@ -7,7 +7,7 @@ use lib.Seq.{length-take-le}
 use Rattle.theory.specs.TableComputed.{macrostatesFrom}
 use Rattle.slice_search.specs.Places.{zeroedFrom}
 use Rattle.build_closure_spec.specs.Keys.{startOf}
-use Rattle.build_lists.proofs.Room.{room-fits}
+use Rattle.build_lists.proofs.Room.{room-fits, room-most}
 use Rattle.build_lists.proofs.Padding.{whole, fits-whole, padded-full, padded}
 use borrow.Author.Needs.{needs}
 use Rattle.build_lists.proofs.list_codes.Statement.{statement}
@@ -25,7 +25,10 @@ slice-aggregate-reachable c =
     sym (length-take-le (c .before .room-of .result) xs (room-fits _ _ _ (c .before .room-of .ensures)))
 
 reachable-requires : tie.Need-reachable-requires
-reachable-requires c κs = search needs
+reachable-requires c κs =
+    let xs = c .before .before .before .args .codes .now in
+    let room = c .before .room-of in
+    (c .before .before .before .pre, omega (arith, length-take-le (room .result) xs (room-fits _ _ _ (room .ensures)), room-most _ _ _ (room .ensures)))
 
 same-length : tie.Need-same-length
 same-length c = search needs

@@ -3,7 +3,7 @@ use mathlib.Core.Path.{_∙_}
 use native.Mathlib.Omega.{arith}
 use borrow.Author.Needs.{needs}
 use Rattle.build_closure_spec.specs.Keys.{startOf}
-use Rattle.build_closure.proofs.Listing.{keys-low, listed-full, listed-all}
+use Rattle.build_closure.proofs.Listing.{listed-full, listed-all}
 use Rattle.build_closure.proofs.reach.reachable.Statement.{statement}
 use Rattle.build_closure.proofs.reach.reachable.Tie as tie
 
@@ -19,12 +19,10 @@ returns c =
     λ r T. listed-full r (T .shaped .passing) (startOf r (a .shape .holds)) (a .codes .now) (g .last .0) (g .result .m) (g .result .full) (c .if1 .taken) (g .ensures r T)
 
 to-codes-requires : tie.Need-to-codes-requires
-to-codes-requires c κs =
-    let a = c .before .before .before .before .before .before .before .args in let p = c .before .before .before .before .before .before .before .pre in let g = c .before .before .before .before .reach in let e = g .ensures (p .0) (p .1) in
-    (e .fits, keys-low (p .0) (p .1 .shaped .passing) (startOf (p .0) (a .shape .holds)) (a .codes .now) (g .last .0) (g .result .m) (rw (c .before .if1 .left) at e))
+to-codes-requires c κs = let p = c .before .before .before .before .before .before .before .pre in c .before .before .before .before .reach .ensures (p .0 .0) (p .0 .1) .fits
 
 sort-first-requires : tie.Need-sort-first-requires
-sort-first-requires c κs = let p = c .before .before .before .before .before .before .before .before .before .before .before .pre in omega (arith, c .before .before .before .before .before .before .before .before .reach .ensures (p .0) (p .1) .fits, c .before .before .before .to-codes .kept .0)
+sort-first-requires c κs = let p = c .before .before .before .before .before .before .before .before .before .before .before .pre in omega (arith, c .before .before .before .before .before .before .before .before .reach .ensures (p .0 .0) (p .0 .1) .fits, c .before .before .before .to-codes .kept .0)
 
 same-length-2 : tie.Need-same-length-2
 same-length-2 c = search needs

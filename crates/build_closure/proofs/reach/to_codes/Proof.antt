@@ -38,7 +38,7 @@ loop-less c = search needs
 loop-again : tie.Need-loop-again Inv-loop μ-loop
 loop-again c =
     let a = c .before .before .before .args in let p = c .before .before .before .pre in let l = c .before .before .loop in
-    (omega arith, length-set (l .keys) (l .i) _ ∙ l .inv .1, coded-next (l .i) (a .keys .now) (l .keys) (omega (arith, p .0)) (p .1 (l .i) (omega arith)) (l .inv .2))
+    (omega arith, length-set (l .keys) (l .i) _ ∙ l .inv .1, coded-next (l .i) (a .keys .now) (l .keys) (omega (arith, p)) (l .inv .2))
 
 same-length : tie.Need-same-length Inv-loop μ-loop
 same-length c = search needs

@@ -1,14 +1,13 @@
 -- `build_visit::initial::visit_first` meets its contract.
-use mathlib.Core.Path.{_≡_, sym, subst, _∙_}
+use mathlib.Core.Path.{_≡_, sym, _∙_}
 use native.Mathlib.Omega.{arith}
 use borrow.Author.Tests.{not-true, not-false}
 use borrow.Author.Needs.{needs}
-use Prim.Native.Nat.{ℕ, _*_, _%_, _^_, _<_}
+use Prim.Native.Nat.{_*_, _%_, _^_, _<_}
 use Rattle.sets.proofs.Bools.{clash}
-use Rattle.slice_insert.specs.Insertion.{Inserted}
+use Rattle.build_chains_spec.proofs.Growth.{grown-none, grown-as}
 use Rattle.build_closure_spec.specs.Keys.{StartsAt}
 use Rattle.build_closure_spec.proofs.Keys.{first-key}
-use Rattle.build_closure_spec.proofs.Growth.{added-none, added-as, inserted-added}
 use Rattle.build_closure_spec.proofs.Starting.{few, initial-low, vector-low, core-fits, start-is, first-in, first-out}
 use Rattle.build_visit.proofs.initial.visit_first.Statement.{statement}
 use Rattle.build_visit.proofs.initial.visit_first.Tie as tie
@@ -19,8 +18,8 @@ begins-requires c κs = let p = c .before .pre in initial-low (p .0 .0) (c .befo
 returns : tie.Need-returns
 returns c =
     let a = c .before .before .before .args in let p = c .before .before .before .pre in
-    λ r S. added-none 0 (StartsAt r (a .parts .now) (a .shape .components) (a .shape .holds) (a .ranks)) (a .keys .now) (a .new) (p .1)
-    (λ y f. clash (f .1 .start) (sym (start-is r (a .parts .now) (a .shape) S (a .ranks) (p .2)) ∙ sym (c .before .begins .ensures) ∙ not-true _ (c .if1 .taken)))
+    λ r S. grown-none (StartsAt r (a .parts .now) (a .shape .components) (a .shape .holds) (a .ranks)) (StartsAt r (a .parts .now) (a .shape .components) (a .shape .holds) (a .ranks)) (a .keys .now) (a .heads .now) (a .last .now) (a .n) (p .1)
+    (λ y f. absurd (clash (f .1 .start) (sym (start-is r (a .parts .now) (a .shape) S (a .ranks) (p .2)) ∙ sym (c .before .begins .ensures) ∙ not-true _ (c .if1 .taken))))
 
 is-core-requires : tie.Need-is-core-requires
 is-core-requires c κs = let p = c .before .before .before .pre in few (p .0 .0) (c .before .before .before .args .parts .now) (c .before .before .before .args .shape) (p .0 .1)
@@ -28,8 +27,8 @@ is-core-requires c κs = let p = c .before .before .before .pre in few (p .0 .0)
 returns-2 : tie.Need-returns-2
 returns-2 c =
     let a = c .before .before .before .before .before .args in let p = c .before .before .before .before .before .pre in
-    λ r S. added-none 0 (StartsAt r (a .parts .now) (a .shape .components) (a .shape .holds) (a .ranks)) (a .keys .now) (a .new) (p .1)
-    (λ y f. clash (f .0 .passes) (sym (c .before .is-core .ensures) ∙ not-true _ (c .if2 .taken)))
+    λ r S. grown-none (StartsAt r (a .parts .now) (a .shape .components) (a .shape .holds) (a .ranks)) (StartsAt r (a .parts .now) (a .shape .components) (a .shape .holds) (a .ranks)) (a .keys .now) (a .heads .now) (a .last .now) (a .n) (p .1)
+    (λ y f. absurd (clash (f .0 .passes) (sym (c .before .is-core .ensures) ∙ not-true _ (c .if2 .taken))))
 
 lowest-requires : tie.Need-lowest-requires
 lowest-requires c κs = search needs
@@ -40,31 +39,30 @@ array-read-core-of c = search needs
 core-of-requires : tie.Need-core-of-requires
 core-of-requires c κs = let a = c .before .before .before .before .before .before .args in let p = c .before .before .before .before .before .before .pre in vector-low (p .0 .0) (a .parts .now) (a .shape) (p .0 .1) (a .ranks) (p .2)
 
-insert-requires : tie.Need-insert-requires
-insert-requires c κs = search needs
+-- the core has 40 bits
+fits : (c : tie.After-core-of) → c .core-of .result < 2 ^ 40
+fits c = let a = c .before .before .before .before .before .before .before .args in let p = c .before .before .before .before .before .before .before .pre in omega (arith, c .core-of .ensures, core-fits (p .0 .0) (a .parts .now) (a .shape) (p .0 .1) (a .ranks) (p .2) (c .before .lowest .result) (c .before .lowest .ensures))
+
+-- its first key
+key : (c : tie.After-core-of) → c .core-of .result * 2 ^ 8 % 2 ^ 64 ≡ c .core-of .result * 256
+key c = first-key (c .core-of .result) (fits c)
+
+admit-requires : tie.Need-admit-requires
+admit-requires c κs = let p = c .before .before .before .before .before .before .before .before .before .before .pre in (p .1, omega (arith, key (c .before .before .before), fits (c .before .before .before)))
 
 same-length : tie.Need-same-length
 same-length c = search needs
 
--- the core's first key is put
-put : (c : tie.After-insert) → Inserted (c .before .before .before .before .before .before .before .before .before .args .keys .now) (c .before .before .before .before .before .before .before .before .before .args .new) (c .before .before .core-of .result * 256) (c .insert .last .0) (c .insert .result .m) (c .insert .result .full)
-put c =
-    let a = c .before .before .before .before .before .before .before .before .before .args in let p = c .before .before .before .before .before .before .before .before .before .pre in let g = c .insert in let core = c .before .before .core-of .result in
-    let found : Inserted (a .keys .now) (a .new) (core * 2 ^ 8 % 2 ^ 64) (g .last .0) (g .result .m) (g .result .full) = g .ensures in
-    let fits : core < 2 ^ 40 = omega (arith, c .before .before .core-of .ensures, core-fits (p .0 .0) (a .parts .now) (a .shape) (p .0 .1) (a .ranks) (p .2) (c .before .before .before .lowest .result) (c .before .before .before .lowest .ensures)) in
-    subst (λ (x : ℕ). Inserted (a .keys .now) (a .new) x (g .last .0) (g .result .m) (g .result .full)) (first-key core fits) found
-
 returns-3 : tie.Need-returns-3
 returns-3 c =
-    let a = c .before .before .before .before .before .before .before .before .before .before .before .args in let p = c .before .before .before .before .before .before .before .before .before .before .before .pre in let g = c .before .before .insert in let core = c .before .before .before .before .core-of .result in
+    let a = c .before .before .before .before .before .before .before .before .before .before .before .before .before .args in let p = c .before .before .before .before .before .before .before .before .before .before .before .before .before .pre in let g = c .before .before .admit in let core = c .before .before .before .before .before .before .core-of .result in let low = c .before .before .before .before .before .before .before .lowest in
     λ r S.
-    added-as 0 (λ y. y ≡ core * 256) (a .keys .now) (a .new) (g .last .0) (g .result .m) (g .result .full)
-    (inserted-added (a .keys .now) (a .new) (core * 256) (g .last .0) (g .result .m) (g .result .full) (g .kept .0) (p .1 .new) (put (c .before .before)))
-    (StartsAt r (a .parts .now) (a .shape .components) (a .shape .holds) (a .ranks))
-    (first-in r (a .parts .now) (a .shape) S (a .ranks) (p .2) (c .before .before .before .before .before .lowest .result) (c .before .before .before .before .before .lowest .ensures) core (c .before .before .before .before .core-of .ensures)
-    (sym (c .before .before .before .before .before .before .before .is-core .ensures) ∙ not-false _ (c .before .before .before .before .before .before .if2 .left))
-    (sym (start-is r (a .parts .now) (a .shape) S (a .ranks) (p .2)) ∙ sym (c .before .before .before .before .before .before .before .before .before .begins .ensures) ∙ not-false _ (c .before .before .before .before .before .before .before .before .if1 .left)))
-    (λ t. first-out r (a .parts .now) (a .shape) S (a .ranks) (p .2) (c .before .before .before .before .before .lowest .result) (c .before .before .before .before .before .lowest .ensures) core (c .before .before .before .before .core-of .ensures))
+    grown-as (λ z. z ≡ core * 2 ^ 8 % 2 ^ 64) (λ z. z ≡ core * 2 ^ 8 % 2 ^ 64) (a .keys .now) (a .n) (g .last .0) (g .last .1 .0) (g .last .1 .1 .0) (g .result .m) (g .result .full) (g .ensures) (StartsAt r (a .parts .now) (a .shape .components) (a .shape .holds) (a .ranks)) (StartsAt r (a .parts .now) (a .shape .components) (a .shape .holds) (a .ranks))
+    (λ t y f. first-out r (a .parts .now) (a .shape) S (a .ranks) (p .2) (low .result) (low .ensures) core (c .before .before .before .before .before .before .core-of .ensures) y f ∙ sym (key (c .before .before .before .before .before .before)))
+    (λ y e. first-in r (a .parts .now) (a .shape) S (a .ranks) (p .2) (low .result) (low .ensures) core (c .before .before .before .before .before .before .core-of .ensures)
+    (sym (c .before .before .before .before .before .before .before .before .before .is-core .ensures) ∙ not-false _ (c .before .before .before .before .before .before .before .before .if2 .left))
+    (sym (start-is r (a .parts .now) (a .shape) S (a .ranks) (p .2)) ∙ sym (c .before .before .before .before .before .before .before .before .before .before .before .begins .ensures) ∙ not-false _ (c .before .before .before .before .before .before .before .before .before .before .if1 .left))
+    y (e ∙ key (c .before .before .before .before .before .before)))
 
 pub visit-first-spec : {M : Type 1} → statement M
 visit-first-spec =
@@ -77,6 +75,6 @@ visit-first-spec =
     lowest-requires
     array-read-core-of
     core-of-requires
-    insert-requires
+    admit-requires
     same-length
     returns-3)

@@ -1,115 +1,103 @@
--- `build_visit::letters::move_keys` meets its contract.
-use Prim.Native.Nat.{ℕ, _+_, _-_, _*_, _%_, _^_, _<_}
+-- `build_visit::letters::move_keys` meets its contract: a walk along the chain of the earlier core.
+use Prim.Native.Nat.{ℕ, _%_, _^_, _<_}
 use mathlib.Core.Path.{_≡_, ap, subst, _∙_}
 use native.Mathlib.Omega.{arith}
-use lib.ListN.{getD, take}
-use lib.Bits.{bitAnd, bitOr, and-mask}
+use lib.ListN.{getD}
+use lib.Bits.{bitAnd, and-mask}
 use borrow.Author.Needs.{needs}
-use Rattle.codes.proofs.Low.{put-byte}
-use Rattle.slice_search.specs.Places.{below}
-use Rattle.slice_insert.specs.Insertion.{Placed}
 use Rattle.build_breakpoint.specs.Onward.{onwardIn}
-use Rattle.build_closure_spec.proofs.Keys.{first-key}
-use Rattle.build_closure_spec.proofs.Moves.{onward-low, Turn, turn-start, paired-at, own-below, turn-end, turn-stop, turn-next, turn-full}
+use Rattle.build_chains_spec.specs.Chains.{keyAt}
+use Rattle.build_chains_spec.specs.Growth.{Grown}
+use Rattle.build_chains_spec.proofs.Chains.{bucket-low, head-low}
+use Rattle.build_closure_spec.specs.Keys.{Moved}
+use Rattle.build_closure_spec.proofs.Moves.{Turn, turn-start, turn-inside, turn-read, turn-stop, turn-full, turn-end, turn-next}
 use Rattle.build_visit.proofs.letters.move_keys.Statement.{statement}
 use Rattle.build_visit.proofs.letters.move_keys.Tie as tie
 
 abbrev Inv-loop : tie.InvT-loop
-Inv-loop keys₀ n new own core earlier ranks parts components levels m₀ i₀ keys m i = Turn n earlier core (onwardIn ranks parts components levels) keys₀ new keys m i
+Inv-loop keys₀ heads₀ last₀ n from core earlier ranks parts components levels m₀ i₀ keys heads last m i = Turn earlier core (onwardIn ranks parts components levels) from keys₀ n keys heads last m i
 
 abbrev μ-loop : tie.MeasureT-loop
-μ-loop keys₀ n new own core earlier ranks parts components levels m₀ i₀ keys m i = n - i
+μ-loop keys₀ heads₀ last₀ n from core earlier ranks parts components levels m₀ i₀ keys heads last m i = i
 
-place-requires : tie.Need-place-requires Inv-loop μ-loop
-place-requires c κs = search needs
+bucket-requires : tie.Need-bucket-requires Inv-loop μ-loop
+bucket-requires c κs = search needs
+
+known : (c : tie.After-bucket Inv-loop μ-loop) → c .bucket .result < 16384
+known c = rw (c .bucket .ensures) (bucket-low (c .before .before .args .earlier))
+
+mul-i : tie.Need-mul-i Inv-loop μ-loop
+mul-i c = omega (arith, known c)
+
+element-copy-out-i : tie.Need-element-copy-out-i Inv-loop μ-loop
+element-copy-out-i c = known c
+
+cast-i : tie.Need-cast-i Inv-loop μ-loop
+cast-i c = let a = c .before .before .before .args in let p = c .before .before .before .pre in omega (arith, head-low (a .keys .now) (a .heads .now) (a .last .now) (a .n) (p .0) (c .before .bucket .result) (known (c .before)))
 
 loop-holds : tie.Need-loop-holds Inv-loop μ-loop
-loop-holds c =
-    let a = c .before .before .before .args in let p = c .before .before .before .pre in
-    let found : c .place .result ≡ below (a .earlier * 2 ^ 8 % 2 ^ 64) (take (a .n) (a .keys .now)) = c .place .ensures in
-    turn-start (a .n) (a .earlier) (a .core) (onwardIn (a .ranks) (a .parts .now) (a .components) (a .levels .now)) (a .keys .now) (a .new) (p .0) (c .place .result)
-    (found ∙ ap (λ (x : ℕ). below x (take (a .n) (a .keys .now))) (first-key (a .earlier) (p .4)))
+loop-holds c = let a = c .before .before .before .args in let p = c .before .before .before .pre in rw (c .before .bucket .ensures) (turn-start (a .earlier) (a .core) (onwardIn (a .ranks) (a .parts .now) (a .components) (a .levels .now)) (a .from) (a .keys .now) (a .n) (a .heads .now) (a .last .now) (p .0) (p .1))
+
+inside : (c : tie.In-loop Inv-loop μ-loop) → c .before .loop .i < c .before .before .before .before .before .args .n
+inside c = let a = c .before .before .before .before .before .args in let l = c .before .loop in turn-inside (a .earlier) (a .core) (onwardIn (a .ranks) (a .parts .now) (a .components) (a .levels .now)) (a .from) (a .keys .now) (a .n) (l .keys) (l .heads) (l .last) (l .m) (l .i) (l .inv)
+
+read : (c : tie.In-loop Inv-loop μ-loop) → getD (c .before .loop .keys) (c .before .loop .i) 0 ≡ getD (c .before .before .before .before .before .args .keys .now) (c .before .loop .i) 0
+read c = let a = c .before .before .before .before .before .args in let l = c .before .loop in turn-read (a .earlier) (a .core) (onwardIn (a .ranks) (a .parts .now) (a .components) (a .levels .now)) (a .from) (a .keys .now) (a .n) (l .keys) (l .heads) (l .last) (l .m) (l .i) (l .inv)
 
 mul-x : tie.Need-mul-x Inv-loop μ-loop
-mul-x c = search needs
+mul-x c = let p = c .before .before .before .before .before .pre in omega (arith, inside c, p .0 .fits, p .0 .few)
 
 slice-read-x : tie.Need-slice-read-x Inv-loop μ-loop
-slice-read-x c = search needs
+slice-read-x c = let p = c .before .before .before .before .before .before .pre in omega (arith, inside (c .before), p .0 .fits, c .before .before .loop .inv .grown .long)
+
+-- the key that was read
+key : (c : tie.In-loop Inv-loop μ-loop) → bitAnd (getD (c .before .loop .keys) (c .before .loop .i) 0) 281474976710655 ≡ keyAt (c .before .before .before .before .before .args .keys .now) (c .before .loop .i)
+key c = and-mask (getD (c .before .loop .keys) (c .before .loop .i) 0) 48 ∙ ap (λ (x : ℕ). x % 2 ^ 48) (read c)
+
+move-key-requires : tie.Need-move-key-requires Inv-loop μ-loop
+move-key-requires c κs = let p = c .before .before .before .before .before .before .before .before .before .pre in (c .before .before .before .before .before .loop .inv .grown .chained, rw (key (c .before .before .before .before)) (p .2 (c .before .before .before .before .before .loop .i) (inside (c .before .before .before .before))), p .3, p .4)
+
+-- what was added
+moved : (c : tie.After-move-key Inv-loop μ-loop)
+    → Grown (Moved (c .before .before .before .before .before .before .before .before .before .before .args .earlier) (c .before .before .before .before .before .before .before .before .before .before .args .core) (onwardIn (c .before .before .before .before .before .before .before .before .before .before .args .ranks) (c .before .before .before .before .before .before .before .before .before .before .args .parts .now) (c .before .before .before .before .before .before .before .before .before .before .args .components) (c .before .before .before .before .before .before .before .before .before .before .args .levels .now)) (keyAt (c .before .before .before .before .before .before .before .before .before .before .args .keys .now) (c .before .before .before .before .before .before .loop .i)))
+    (Moved (c .before .before .before .before .before .before .before .before .before .before .args .earlier) (c .before .before .before .before .before .before .before .before .before .before .args .core) (onwardIn (c .before .before .before .before .before .before .before .before .before .before .args .ranks) (c .before .before .before .before .before .before .before .before .before .before .args .parts .now) (c .before .before .before .before .before .before .before .before .before .before .args .components) (c .before .before .before .before .before .before .before .before .before .before .args .levels .now)) (keyAt (c .before .before .before .before .before .before .before .before .before .before .args .keys .now) (c .before .before .before .before .before .before .loop .i)))
+    (c .before .before .before .before .before .before .loop .keys) (c .before .before .before .before .before .before .loop .m) (c .move-key .last .0) (c .move-key .last .1 .0) (c .move-key .last .1 .1 .0) (c .move-key .result .m) (c .move-key .result .full)
+moved c =
+    let a = c .before .before .before .before .before .before .before .before .before .before .args in let l = c .before .before .before .before .before .before .loop in let g = c .move-key in
+    subst (λ (x : ℕ). Grown (Moved (a .earlier) (a .core) (onwardIn (a .ranks) (a .parts .now) (a .components) (a .levels .now)) x) (Moved (a .earlier) (a .core) (onwardIn (a .ranks) (a .parts .now) (a .components) (a .levels .now)) x) (l .keys) (l .m) (g .last .0) (g .last .1 .0) (g .last .1 .1 .0) (g .result .m) (g .result .full))
+    (key (c .before .before .before .before .before)) (g .ensures)
 
 same-length : tie.Need-same-length Inv-loop μ-loop
-same-length c = search needs
+same-length c = let g = c .before .before .before .move-key in g .kept .0 ∙ c .before .before .before .before .before .before .before .before .before .loop .inv .grown .long
 
 returns : tie.Need-returns Inv-loop μ-loop
 returns c =
-    let a = c .before .before .before .before .before .before .before .args in let p = c .before .before .before .before .before .before .before .pre in let l = c .before .before .before .loop in
-    turn-stop (a .n) (a .earlier) (a .core) (onwardIn (a .ranks) (a .parts .now) (a .components) (a .levels .now)) (a .keys .now) (a .new) (p .0) (l .keys) (l .m) (l .i) (l .inv) (c .before .before .loop-test .taken) (c .if1 .taken)
-
--- the pair of the key that was read
-pair : (c : tie.Else1 Inv-loop μ-loop) → getD (c .before .before .before .loop .keys) (c .before .before .before .loop .i) 0 % 256 % 16 < c .before .before .before .before .before .before .before .args .components
-pair c =
-    let a = c .before .before .before .before .before .before .before .args in let p = c .before .before .before .before .before .before .before .pre in let l = c .before .before .before .loop in
-    paired-at (a .n) (a .earlier) (a .core) (onwardIn (a .ranks) (a .parts .now) (a .components) (a .levels .now)) (a .keys .now) (a .new) (p .0) (l .keys) (l .m) (l .i) (l .inv) (a .components) (p .1) (c .before .before .loop-test .taken)
-
-onward-requires : tie.Need-onward-requires Inv-loop μ-loop
-onward-requires c κs =
-    let l = c .before .before .before .loop in let e = and-mask (getD (l .keys) (l .i) 0) 8 in
-    (omega (arith, e), omega (arith, e, pair c), c .before .before .before .before .before .before .before .pre .2)
-
--- the pair that it goes on to
-onto : (c : tie.After-onward Inv-loop μ-loop) → c .onward .result ≡ onwardIn (c .before .before .before .before .before .before .before .before .args .ranks) (c .before .before .before .before .before .before .before .before .args .parts .now) (c .before .before .before .before .before .before .before .before .args .components) (c .before .before .before .before .before .before .before .before .args .levels .now) (getD (c .before .before .before .before .loop .keys) (c .before .before .before .before .loop .i) 0 % 256)
-onto c =
-    let a = c .before .before .before .before .before .before .before .before .args in let l = c .before .before .before .before .loop in
-    let found : c .onward .result ≡ onwardIn (a .ranks) (a .parts .now) (a .components) (a .levels .now) (bitAnd (getD (l .keys) (l .i) 0) 255) = c .onward .ensures in
-    found ∙ ap (onwardIn (a .ranks) (a .parts .now) (a .components) (a .levels .now)) (and-mask (getD (l .keys) (l .i) 0) 8)
-
--- the key with that pair
-key : (c : tie.After-onward Inv-loop μ-loop) → bitOr (c .before .before .before .before .before .before .before .before .args .core * 2 ^ 8 % 2 ^ 64) (c .onward .result) ≡ c .before .before .before .before .before .before .before .before .args .core * 256 + c .onward .result
-key c =
-    let a = c .before .before .before .before .before .before .before .before .args in let p = c .before .before .before .before .before .before .before .before .pre in let l = c .before .before .before .before .loop in
-    put-byte (a .core) (c .onward .result) (omega (arith, p .3)) (omega (arith, onto c, onward-low (a .ranks) (a .parts .now) (a .components) (a .levels .now) (getD (l .keys) (l .i) 0 % 256) (p .2) (pair (c .before))))
-
-put-from-requires : tie.Need-put-from-requires Inv-loop μ-loop
-put-from-requires c κs =
-    let a = c .before .before .before .before .before .before .before .before .before .args in let p = c .before .before .before .before .before .before .before .before .before .pre in let l = c .before .before .before .before .before .loop in
-    let h = own-below (a .n) (a .earlier) (a .core) (onwardIn (a .ranks) (a .parts .now) (a .components) (a .levels .now)) (a .keys .now) (a .new) (p .0) (l .keys) (l .m) (l .i) (l .inv) (a .own) (bitOr (a .core * 2 ^ 8 % 2 ^ 64) (c .before .onward .result)) (p .5) (omega (arith, key (c .before))) in
-    (l .inv .added .fits, rw (l .inv .added .old) (p .0 .old), l .inv .added .ascends, h)
-
--- what was put
-put : (c : tie.After-put-from Inv-loop μ-loop)
-    → Placed (c .before .before .before .before .before .before .loop .keys) (c .before .before .before .before .before .before .before .before .before .before .args .n) (c .before .before .before .before .before .before .loop .m)
-    (c .before .before .before .before .before .before .before .before .before .before .args .core * 256 + onwardIn (c .before .before .before .before .before .before .before .before .before .before .args .ranks) (c .before .before .before .before .before .before .before .before .before .before .args .parts .now) (c .before .before .before .before .before .before .before .before .before .before .args .components) (c .before .before .before .before .before .before .before .before .before .before .args .levels .now) (getD (c .before .before .before .before .before .before .loop .keys) (c .before .before .before .before .before .before .loop .i) 0 % 256))
-    (c .put-from .last .0) (c .put-from .result .m) (c .put-from .result .full)
-put c =
-    let a = c .before .before .before .before .before .before .before .before .before .before .args in let l = c .before .before .before .before .before .before .loop in let g = c .put-from in
-    let found : Placed (l .keys) (a .n) (l .m) (bitOr (a .core * 2 ^ 8 % 2 ^ 64) (c .before .before .onward .result)) (g .last .0) (g .result .m) (g .result .full) = g .ensures in
-    subst (λ (x : ℕ). Placed (l .keys) (a .n) (l .m) x (g .last .0) (g .result .m) (g .result .full)) (key (c .before .before) ∙ ap (λ (x : ℕ). a .core * 256 + x) (onto (c .before .before))) found
+    let a = c .before .before .before .before .before .before .before .before .before .before .before .before .before .args in let l = c .before .before .before .before .before .before .before .before .before .loop in let g = c .before .before .before .move-key in
+    turn-full (a .earlier) (a .core) (onwardIn (a .ranks) (a .parts .now) (a .components) (a .levels .now)) (a .from) (a .keys .now) (a .n) (l .keys) (l .heads) (l .last) (l .m) (l .i) (l .inv) (g .last .0) (g .last .1 .0) (g .last .1 .1 .0) (g .result .m) (g .result .full) (moved (c .before .before .before)) (c .if1 .taken)
 
 same-length-2 : tie.Need-same-length-2 Inv-loop μ-loop
-same-length-2 c = search needs
+same-length-2 c = let g = c .before .before .before .before .move-key in g .kept .0 ∙ c .before .before .before .before .before .before .before .before .before .before .loop .inv .grown .long
 
 returns-2 : tie.Need-returns-2 Inv-loop μ-loop
 returns-2 c =
-    let g = c .before .before .before .put-from in let a = c .before .before .before .before .before .before .before .before .before .before .before .before .before .args in let p = c .before .before .before .before .before .before .before .before .before .before .before .before .before .pre in let l = c .before .before .before .before .before .before .before .before .before .loop in
-    turn-full (a .n) (a .earlier) (a .core) (onwardIn (a .ranks) (a .parts .now) (a .components) (a .levels .now)) (a .keys .now) (a .new) (p .0) (l .keys) (l .m) (l .i) (l .inv) (c .before .before .before .before .before .before .before .before .loop-test .taken) (c .before .before .before .before .before .before .if1 .left) (g .last .0) (g .result .m) (g .result .full) (g .kept .0) (put (c .before .before .before)) (c .if2 .taken)
-
-add-i : tie.Need-add-i Inv-loop μ-loop
-add-i c = search needs
+    let a = c .before .before .before .before .before .before .before .before .before .before .before .before .before .before .args in let l = c .before .before .before .before .before .before .before .before .before .before .loop in let g = c .before .before .before .before .move-key in
+    turn-end (a .earlier) (a .core) (onwardIn (a .ranks) (a .parts .now) (a .components) (a .levels .now)) (a .from) (a .keys .now) (a .n) (l .keys) (l .heads) (l .last) (l .m) (l .i) (l .inv) (g .last .0) (g .last .1 .0) (g .last .1 .1 .0) (g .result .m) (g .result .full) (moved (c .before .before .before .before)) (c .before .if1 .left) (c .if2 .taken)
 
 loop-less : tie.Need-loop-less Inv-loop μ-loop
-loop-less c = search needs
+loop-less c =
+    let p = c .before .before .before .before .before .before .before .before .before .before .before .before .before .before .pre in let l = c .before .before .before .before .before .before .before .before .before .before .loop in
+    let z = p .0 .links (l .i) (omega (arith, c .if2 .left)) (inside (c .before .before .before .before .before .before .before .before .before)) .inside in rw (read (c .before .before .before .before .before .before .before .before .before)) (omega (arith, c .if2 .left))
 
 loop-again : tie.Need-loop-again Inv-loop μ-loop
 loop-again c =
-    let g = c .before .before .before .put-from in let a = c .before .before .before .before .before .before .before .before .before .before .before .before .before .args in let p = c .before .before .before .before .before .before .before .before .before .before .before .before .before .pre in let l = c .before .before .before .before .before .before .before .before .before .loop in
-    turn-next (a .n) (a .earlier) (a .core) (onwardIn (a .ranks) (a .parts .now) (a .components) (a .levels .now)) (a .keys .now) (a .new) (p .0) (l .keys) (l .m) (l .i) (l .inv) (c .before .before .before .before .before .before .before .before .loop-test .taken) (c .before .before .before .before .before .before .if1 .left) (g .last .0) (g .result .m) (g .result .full) (g .kept .0) (put (c .before .before .before)) (c .if2 .left)
+    let a = c .before .before .before .before .before .before .before .before .before .before .before .before .before .before .args in let p = c .before .before .before .before .before .before .before .before .before .before .before .before .before .before .pre in let l = c .before .before .before .before .before .before .before .before .before .before .loop in let g = c .before .before .before .before .move-key in
+    rw (read (c .before .before .before .before .before .before .before .before .before)) (turn-next (a .earlier) (a .core) (onwardIn (a .ranks) (a .parts .now) (a .components) (a .levels .now)) (a .from) (a .keys .now) (a .n) (l .keys) (l .heads) (l .last) (l .m) (l .i) (l .inv) (g .last .0) (g .last .1 .0) (g .last .1 .1 .0) (g .result .m) (g .result .full) (moved (c .before .before .before .before)) (c .before .if1 .left) (a .heads .now) (a .last .now) (p .0) (c .if2 .left))
 
 same-length-3 : tie.Need-same-length-3 Inv-loop μ-loop
-same-length-3 c = search needs
+same-length-3 c = c .before .loop .inv .grown .long
 
 returns-3 : tie.Need-returns-3 Inv-loop μ-loop
-returns-3 c =
-    let a = c .before .before .before .before .before .args in let p = c .before .before .before .before .before .pre in let l = c .before .loop in
-    turn-end (a .n) (a .earlier) (a .core) (onwardIn (a .ranks) (a .parts .now) (a .components) (a .levels .now)) (a .keys .now) (a .new) (p .0) (l .keys) (l .m) (l .i) (l .inv) (c .loop-test .left)
+returns-3 c = let a = c .before .before .before .before .before .args in let l = c .before .loop in turn-stop (a .earlier) (a .core) (onwardIn (a .ranks) (a .parts .now) (a .components) (a .levels .now)) (a .from) (a .keys .now) (a .n) (l .keys) (l .heads) (l .last) (l .m) (l .i) (l .inv) (omega (arith, c .loop-test .left))
 
 pub move-keys-spec : {M : Type 1} → statement M
 move-keys-spec =
@@ -117,17 +105,18 @@ move-keys-spec =
     (tie.spec
     Inv-loop
     μ-loop
-    place-requires
+    bucket-requires
+    mul-i
+    element-copy-out-i
+    cast-i
     loop-holds
     mul-x
     slice-read-x
+    move-key-requires
     same-length
     returns
-    onward-requires
-    put-from-requires
     same-length-2
     returns-2
-    add-i
     loop-less
     loop-again
     same-length-3

@@ -1,0 +1,89 @@
+-- `build_chains::put` meets its contract.
+use Prim.Native.Nat.{ℕ, _+_, _*_, _/_, _%_, _^_, _<_}
+use mathlib.Core.Path.{_≡_, ap, _∙_}
+use native.Mathlib.Omega.{arith}
+use native.Mathlib.Nat.{mod-eq-of-lt}
+use lib.ListN.{getD, set}
+use lib.Bits.{bitOr, and-mask, or-shifted}
+use borrow.Author.Needs.{needs}
+use Rattle.build_chains_spec.specs.Chains.{bucketOf}
+use Rattle.build_chains_spec.proofs.Chains.{bucket-low, head-low}
+use Rattle.build_chains.proofs.put.Statement.{statement}
+use Rattle.build_chains.proofs.put.Tie as tie
+
+bucket-requires : tie.Need-bucket-requires
+bucket-requires c κs = search needs
+
+known : (c : tie.After-bucket) → c .bucket .result < 16384
+known c = rw (c .bucket .ensures) (bucket-low (c .before .before .args .key / 256))
+
+mul-keys : tie.Need-mul-keys
+mul-keys c = omega (arith, known c)
+
+element-copy-out-keys : tie.Need-element-copy-out-keys
+element-copy-out-keys c = known c
+
+head : (c : tie.After-keys) → getD (c .before .before .before .args .heads .now) (c .before .bucket .result) 0 < 65536
+head c = let a = c .before .before .before .args in let p = c .before .before .before .pre in head-low (a .keys .now) (a .heads .now) (a .last .now) (a .n) (p .0) (c .before .bucket .result) (known (c .before))
+
+cast-keys : tie.Need-cast-keys
+cast-keys c = omega (arith, head c)
+
+mul-keys-2 : tie.Need-mul-keys-2
+mul-keys-2 c = search needs
+
+slice-write-keys : tie.Need-slice-write-keys
+slice-write-keys c = search needs
+
+cast-heads : tie.Need-cast-heads
+cast-heads c = let p = c .before .before .before .pre in omega (arith, p .0 .few)
+
+mul-heads : tie.Need-mul-heads
+mul-heads c = omega (arith, known (c .before))
+
+element-write-heads : tie.Need-element-write-heads
+element-write-heads c = known (c .before)
+
+cast-last : tie.Need-cast-last
+cast-last c = let p = c .before .before .before .pre in omega (arith, p .0 .few)
+
+add-last : tie.Need-add-last
+add-last c = let p = c .before .before .before .pre in omega (arith, p .0 .few)
+
+mul-last : tie.Need-mul-last
+mul-last c = omega (arith, and-mask (c .before .before .before .args .key / 256) 8)
+
+element-write-last : tie.Need-element-write-last
+element-write-last c = omega (arith, and-mask (c .before .before .before .args .key / 256) 8)
+
+same-length : tie.Need-same-length
+same-length c = search needs
+
+returns : tie.Need-returns
+returns c =
+    let a = c .before .before .before .args in let p = c .before .before .before .pre in let e = c .before .bucket .ensures in
+    let h = getD (a .heads .now) (c .before .bucket .result) 0 in
+    let fits : h * 2 ^ 48 < 2 ^ 64 = omega (arith, head c) in
+    let element : bitOr (h * 2 ^ 48 % 2 ^ 64) (a .key) ≡ getD (a .heads .now) (bucketOf (a .key / 256)) 0 * 2 ^ 48 + a .key
+    = ap (λ (x : ℕ). bitOr x (a .key)) (mod-eq-of-lt fits) ∙ or-shifted h 48 (a .key) (p .2) ∙ ap (λ (b : ℕ). getD (a .heads .now) b 0 * 2 ^ 48 + a .key) e in
+    (ap (set (a .keys .now) (a .n)) element, ap (λ (b : ℕ). set (a .heads .now) b (a .n)) e, ap (λ (s : ℕ). set (a .last .now) s (a .n + 1)) (and-mask (a .key / 256) 8))
+
+pub put-spec : {M : Type 1} → statement M
+put-spec =
+    tie.close
+    (tie.spec
+    bucket-requires
+    mul-keys
+    element-copy-out-keys
+    cast-keys
+    mul-keys-2
+    slice-write-keys
+    cast-heads
+    mul-heads
+    element-write-heads
+    cast-last
+    add-last
+    mul-last
+    element-write-last
+    same-length
+    returns)

@@ -1,0 +1,77 @@
+// A list of keys in a lent slice, with chains through it: the keys of a core stand in one chain.
+use build_chains_spec::Grow;
+ghost use mathlib.Core.Path.{_≡_};
+ghost use mathlib.Core.Bool.{true, false};
+ghost use Prim.Native.Nat.{_+_, _*_, _/_, _%_, _^_, _<_};
+ghost use lib.ListN.{length, getD, set};
+ghost use Rattle.build_chains_spec.specs.Chains.{bucketOf, Lists, Chained};
+ghost use Rattle.build_chains_spec.specs.Growth.{Grown};
+
+// The bucket of a core. Any number below 16,384 would do that is one for each core.
+pub fn bucket(core: u64) -> usize
+    requires { ⌜ core < 2 ^ 40 ⌝ }
+    ensures { λ r. ⌜ r ≡ bucketOf core ⌝ }
+{
+    ((((core >> 8) * 2654435761) >> 18) & 16383) as usize
+}
+
+// Puts a key at place n. Its link is the head of its bucket, and the head is then n.
+fn put(keys: &mut [u64], heads: &mut [u16; 16384], last: &mut [u32; 256], n: usize, key: u64)
+    requires { ⌜ Chained (now keys) (now heads) (now last) n × (n < length (now keys)) × (key < 2 ^ 48) ⌝ }
+    ensures { λ _. ⌜ (now (keys .exit)
+        ≡ set (now (keys .entry)) n (getD (now (heads .entry)) (bucketOf (key / 256)) 0 * 2 ^ 48 + key))
+        × (now (heads .exit) ≡ set (now (heads .entry)) (bucketOf (key / 256)) n)
+        × (now (last .exit) ≡ set (now (last .entry)) (key / 256 % 256) (n + 1)) ⌝ }
+{
+    let core = key >> 8;
+    let b = bucket(core);
+    keys[n] = ((heads[b] as u64) << 48) | key;
+    heads[b] = n as u16;
+    last[(core & 0xff) as usize] = n as u32 + 1;
+}
+
+// Whether a key is one of the first n, by a walk along the chain of its bucket.
+pub fn lists(keys: &[u64], heads: &[u16; 16384], last: &[u32; 256], n: usize, key: u64) -> bool
+    requires { ⌜ Chained (now keys) (now heads) (now last) n × (key < 2 ^ 48) ⌝ }
+    ensures { λ r. ⌜ (r ≡ true → Lists (now (keys .entry)) n key) × (r ≡ false → Lists (now (keys .entry)) n key → ⊥) ⌝ }
+{
+    if n == 0 {
+        return false;
+    }
+    let mut i = heads[bucket(key >> 8)] as usize;
+    loop {
+        let x = keys[i];
+        if x & 0x0000_ffff_ffff_ffff == key {
+            return true;
+        }
+        if i == 0 {
+            return false;
+        }
+        i = (x >> 48) as usize;
+    }
+}
+
+// Adds a key to the first n, unless it is one of them. It is full if they fill the slice.
+pub fn admit(
+    keys: &mut [u64],
+    heads: &mut [u16; 16384],
+    last: &mut [u32; 256],
+    n: usize,
+    key: u64,
+) -> Grow
+    requires { ⌜ Chained (now keys) (now heads) (now last) n × (key < 2 ^ 48) ⌝ }
+    ensures { λ g. ⌜ Grown (λ z. z ≡ key) (λ z. z ≡ key) (now (keys .entry)) n (now (keys .exit)) (now (heads .exit))
+        (now (last .exit)) (g .m) (g .full) ⌝ }
+{
+    if lists(keys, heads, last, n, key) {
+        return Grow { m: n, full: false };
+    }
+    if n == keys.len() {
+        return Grow { m: n, full: true };
+    }
+    put(keys, heads, last, n, key);
+    Grow {
+        m: n + 1,
+        full: false,
+    }
+}

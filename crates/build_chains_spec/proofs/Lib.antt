@@ -1,0 +1,3 @@
+pub mod Chains
+pub mod Growth
+pub mod Walks

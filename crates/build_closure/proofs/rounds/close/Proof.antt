@@ -1,0 +1,78 @@
+-- `build_closure::rounds::close` meets its contract.
+use Prim.Native.Nat.{ℕ, _-_, _≤_}
+use mathlib.Core.Path.{_≡_, refl, _∙_}
+use native.Mathlib.Omega.{arith}
+use lib.ListN.{length}
+use Rattle.theory.specs.Rule.{Rule}
+use Rattle.theory.specs.Automaton.{automaton}
+use Rattle.build_chains_spec.specs.Chains.{Lists, Chained}
+use Rattle.build_chains_spec.specs.Growth.{After}
+use Rattle.build_chains_spec.proofs.Growth.{all-in}
+use Rattle.build_closure_spec.specs.Keys.{KeyEdge, First}
+use Rattle.build_closure_spec.specs.Reached.{ReachedKey, AllReached}
+use Rattle.build_closure_spec.specs.Tables.{RuleTables}
+use Rattle.build_closure.proofs.Closing.{Closing, gathered-full, close-next, close-end}
+use Rattle.build_closure.proofs.rounds.close.Statement.{statement}
+use Rattle.build_closure.proofs.rounds.close.Tie as tie
+
+abbrev Inv-loop : tie.InvT-loop
+Inv-loop keys₀ heads₀ last₀ first shape opens parts caps from₀ n₀ keys heads last from n =
+    Chained keys heads last n × (from ≤ n) × (length keys ≡ length keys₀)
+    × ((r : Rule) → RuleTables r opens parts shape → AllReached r parts shape keys₀ first → AllReached r parts shape keys n)
+    × ((r : Rule) → RuleTables r opens parts shape → AllReached r parts shape keys₀ first → ((y : ℕ) → First r parts (shape .components) (shape .holds) y → Lists keys₀ first y)
+    → Closing (First r parts (shape .components) (shape .holds)) (KeyEdge (automaton r) parts (shape .components) (shape .s)) keys heads last n from)
+
+abbrev μ-loop : tie.MeasureT-loop
+μ-loop keys₀ heads₀ last₀ first shape opens parts caps from₀ n₀ keys heads last from n = length keys₀ - from
+
+loop-holds : tie.Need-loop-holds Inv-loop μ-loop
+loop-holds c = let p = c .before .pre in (p .1, omega arith, refl, λ r T R. R, λ r T R H. record { chained = p .1; place = omega arith; sound = R; holds = H; closed = λ q y l d. absurd (omega arith) })
+
+round-requires : tie.Need-round-requires Inv-loop μ-loop
+round-requires c κs = let p = c .before .before .before .before .before .before .pre in let l = c .before .before .before .before .loop in ((p .0 .0, p .0 .1, l .inv .3 (p .0 .0) (p .0 .1) (p .0 .2)), l .inv .0, c .before .before .before .loop-test .taken, p .2)
+
+same-length : tie.Need-same-length Inv-loop μ-loop
+same-length c = c .before .before .before .round .kept .0 ∙ c .before .before .before .before .before .before .before .before .loop .inv .2
+
+returns : tie.Need-returns Inv-loop μ-loop
+returns c =
+    let a = c .before .before .before .before .before .before .before .before .before .before .args in let l = c .before .before .before .before .before .before .before .before .loop in let g = c .before .before .before .round in
+    λ r T R H. gathered-full (ReachedKey r (a .parts .now) (a .shape)) (After (l .from) (l .n) (l .keys) (KeyEdge (automaton r) (a .parts .now) (a .shape .components) (a .shape .s))) (ReachedKey r (a .parts .now) (a .shape)) (l .keys) (l .n) (g .last .0) (g .last .1 .0) (g .last .1 .1 .0) (g .result .m) (g .result .full) (g .ensures r T (l .inv .3 r T R)) (c .if1 .taken) (l .inv .3 r T R) (λ y h. h) (a .keys .now) (l .inv .2)
+
+loop-less : tie.Need-loop-less Inv-loop μ-loop
+loop-less c =
+    let p = c .before .before .before .before .before .before .before .before .before .before .pre in let l = c .before .before .before .before .before .before .before .before .loop in let G = c .before .before .before .round .ensures (p .0 .0) (p .0 .1) (l .inv .3 (p .0 .0) (p .0 .1) (p .0 .2)) in
+    omega (arith, c .before .before .before .before .before .before .before .loop-test .taken, l .inv .0 .fits, l .inv .2, G .more)
+
+loop-again : tie.Need-loop-again Inv-loop μ-loop
+loop-again c =
+    let a = c .before .before .before .before .before .before .before .before .before .before .args in let p = c .before .before .before .before .before .before .before .before .before .before .pre in let l = c .before .before .before .before .before .before .before .before .loop in let g = c .before .before .before .round in let G = g .ensures (p .0 .0) (p .0 .1) (l .inv .3 (p .0 .0) (p .0 .1) (p .0 .2)) in (
+      G .chained,
+      omega (arith, G .more),
+      g .kept .0 ∙ l .inv .2,
+      (λ r T R. let C = g .ensures r T (l .inv .3 r T R) in all-in (After (l .from) (l .n) (l .keys) (KeyEdge (automaton r) (a .parts .now) (a .shape .components) (a .shape .s))) (ReachedKey r (a .parts .now) (a .shape)) (l .keys) (l .n) (g .last .0) (g .last .1 .0) (g .last .1 .1 .0) (g .result .m) (g .result .full) C (ReachedKey r (a .parts .now) (a .shape)) (l .inv .3 r T R) (λ y h. h)),
+      (λ r T R H. close-next (First r (a .parts .now) (a .shape .components) (a .shape .holds)) (KeyEdge (automaton r) (a .parts .now) (a .shape .components) (a .shape .s)) (l .keys) (l .heads) (l .last) (l .n) (l .from) (l .inv .4 r T R H) (g .last .0) (g .last .1 .0) (g .last .1 .1 .0) (g .result .m) (g .result .full) (g .ensures r T (l .inv .3 r T R)) (c .if1 .left)),
+    )
+
+same-length-2 : tie.Need-same-length-2 Inv-loop μ-loop
+same-length-2 c = c .before .loop .inv .2
+
+returns-2 : tie.Need-returns-2 Inv-loop μ-loop
+returns-2 c =
+    let a = c .before .before .before .args in let l = c .before .loop in
+    λ r T R H. close-end (First r (a .parts .now) (a .shape .components) (a .shape .holds)) (KeyEdge (automaton r) (a .parts .now) (a .shape .components) (a .shape .s)) (l .keys) (l .heads) (l .last) (l .n) (l .from) (l .inv .4 r T R H) (a .keys .now) (l .inv .2) (omega (arith, c .loop-test .left))
+
+pub close-spec : {M : Type 1} → statement M
+close-spec =
+    tie.close
+    (tie.spec
+    Inv-loop
+    μ-loop
+    loop-holds
+    round-requires
+    same-length
+    returns
+    loop-less
+    loop-again
+    same-length-2
+    returns-2)

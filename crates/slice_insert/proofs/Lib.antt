@@ -1,3 +1,0 @@
-pub mod Shift
-pub mod Insertion
-pub mod Growth
