@@ -61,6 +61,6 @@ pub fn reachable(codes: &mut [u64], shape: Shape, opens: &[u8; 4096], parts: &[u
     }
     let m = g.m;
     to_codes(codes, m);
-    slice_sort::sort_first(codes, m);
+    slice_sort_bytes::sort_first(codes, m);
     Grow { m, full: false }
 }

@@ -48,6 +48,6 @@ pub fn transitions(
     }
     let m = g.m;
     turn_around(out, m);
-    slice_sort::sort_first(out, m);
+    slice_sort_bytes::sort_first(out, m);
     Grow { m, full: false }
 }
