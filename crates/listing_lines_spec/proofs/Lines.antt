@@ -34,7 +34,8 @@ module _ (line : ℕ → ℕ → List ℕ) where
       omega (arith, length-append (line i x) (lines line (suc i) xs), mul-suc b (length xs))
 
   module _ (xs : List ℕ) (i : ℕ) (h : i < length xs) where
-    lines-next : lines line 0 (take (i + 1) xs) ≡ lines line 0 (take i xs) ++ line i (getD xs i 0)
+    -- one line more
+    pub lines-next : lines line 0 (take (i + 1) xs) ≡ lines line 0 (take i xs) ++ line i (getD xs i 0)
     lines-next =
         ap (λ (k : ℕ). lines line 0 (take k xs)) (add-one i)
         ∙ ap (lines line 0) (take-suc xs i 0 h)

@@ -1,0 +1,47 @@
+-- `hoa_lines::put_edge` meets its contract: its parts one after the other.
+use native.Mathlib.Omega.{arith}
+use borrow.Author.Needs.{needs}
+use Rattle.hoa_spec.specs.Lines.{edgeLine}
+use Rattle.hoa_laws.proofs.Lengths.{edge-length}
+use Rattle.slice_text.proofs.Puts.{put-then}
+use Rattle.hoa_lines.proofs.put_edge.Statement.{statement}
+use Rattle.hoa_lines.proofs.put_edge.Tie as tie
+
+put-byte-requires : tie.Need-put-byte-requires
+put-byte-requires c κs = let a = c .before .before .args in omega (arith, edge-length (a .b) (a .letter) (a .target))
+
+put-label-requires : tie.Need-put-label-requires
+put-label-requires c κs = let a = c .before .before .before .before .before .before .args in (c .before .before .before .before .before .before .pre .0, omega (arith, edge-length (a .b) (a .letter) (a .target)))
+
+put-byte-requires-2 : tie.Need-put-byte-requires-2
+put-byte-requires-2 c κs = let a = c .before .before .before .before .before .before .before .before .before .before .args in omega (arith, edge-length (a .b) (a .letter) (a .target))
+
+put-word-requires : tie.Need-put-word-requires
+put-word-requires c κs = let a = c .before .before .before .before .before .before .before .before .before .before .before .before .before .before .args in omega (arith, edge-length (a .b) (a .letter) (a .target))
+
+put-byte-requires-3 : tie.Need-put-byte-requires-3
+put-byte-requires-3 c κs = let a = c .before .before .before .before .before .before .before .before .before .before .before .before .before .before .before .before .before .before .args in omega (arith, edge-length (a .b) (a .letter) (a .target))
+
+same-length : tie.Need-same-length
+same-length c = search needs
+
+returns : tie.Need-returns
+unfolding edgeLine
+returns c =
+    put-then (c .before .before .before .before .before .before .before .before .before .before .before .before .before .before .before .before .before .before .put-byte .ensures)
+    (put-then (c .before .before .before .before .before .before .before .before .before .before .before .before .before .before .put-label .ensures)
+    (put-then (c .before .before .before .before .before .before .before .before .before .before .put-byte2 .ensures)
+    (put-then (c .before .before .before .before .before .before .put-word .ensures)
+    (c .before .before .put-byte3 .ensures))))
+
+pub put-edge-spec : {M : Type 1} → statement M
+put-edge-spec =
+    tie.close
+    (tie.spec
+    put-byte-requires
+    put-label-requires
+    put-byte-requires-2
+    put-word-requires
+    put-byte-requires-3
+    same-length
+    returns)

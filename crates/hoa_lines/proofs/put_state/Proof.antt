@@ -1,0 +1,71 @@
+-- `hoa_lines::put_state` meets its contract: its words one after the other.
+use mathlib.Core.Path.{_≡_, ap}
+use mathlib.Core.Bool.{Bool, true, false}
+use native.Mathlib.Omega.{arith}
+use borrow.Author.Needs.{needs}
+use Prim.Native.Nat.{ℕ}
+use lib.ListN.{length}
+use Rattle.hoa_spec.specs.Lines.{acceptanceMark, stateLine}
+use Rattle.hoa_laws.proofs.Lengths.{state-length}
+use Rattle.slice_text.proofs.Puts.{put-as, put-then}
+use Rattle.hoa_lines.proofs.put_state.Statement.{statement}
+use Rattle.hoa_lines.proofs.put_state.Tie as tie
+
+-- the line of an accepting macrostate, or of another
+line-is : (accepting value : Bool) (number : ℕ) → accepting ≡ value → stateLine number accepting ≡ stateLine number value
+line-is accepting value number e = ap (stateLine number) e
+
+slice-aggregate-put : tie.Need-slice-aggregate-put
+slice-aggregate-put c = search needs
+
+put-requires : tie.Need-put-requires
+put-requires c κs = let a = c .before .before .before .args in omega (arith, state-length (a .number) (a .accepting))
+
+put-word-requires : tie.Need-put-word-requires
+put-word-requires c κs = let a = c .before .before .before .before .before .before .before .args in omega (arith, state-length (a .number) (a .accepting))
+
+slice-aggregate-put-2 : tie.Need-slice-aggregate-put-2
+slice-aggregate-put-2 c = search needs
+
+put-requires-2 : tie.Need-put-requires-2
+put-requires-2 c κs =
+    let a = c .before .before .before .before .before .before .before .before .before .before .before .before .before .args in
+    omega (arith, state-length (a .number) true, ap length (line-is (a .accepting) true (a .number) (c .before .before .if1 .taken)))
+
+same-length : tie.Need-same-length
+same-length c = search needs
+
+returns : tie.Need-returns
+unfolding stateLine
+returns c =
+    let a = c .before .before .before .before .before .before .before .before .before .before .before .before .before .before .before .before .args in
+    put-as (line-is (a .accepting) true (a .number) (c .before .before .before .before .before .if1 .taken)) (put-then (c .before .before .before .before .before .before .before .before .before .before .before .before .put .ensures) (put-then (c .before .before .before .before .before .before .before .before .put-word .ensures) (c .before .before .put2 .ensures)))
+
+put-byte-requires : tie.Need-put-byte-requires
+put-byte-requires c κs =
+    let a = c .before .before .before .before .before .before .before .before .before .before .before .before .args in
+    omega (arith, state-length (a .number) false, ap length (line-is (a .accepting) false (a .number) (c .before .if1 .left)))
+
+same-length-2 : tie.Need-same-length-2
+same-length-2 c = search needs
+
+returns-2 : tie.Need-returns-2
+unfolding stateLine
+returns-2 c =
+    let a = c .before .before .before .before .before .before .before .before .before .before .before .before .before .before .before .args in
+    put-as (line-is (a .accepting) false (a .number) (c .before .before .before .before .if1 .left)) (put-then (c .before .before .before .before .before .before .before .before .before .before .before .put .ensures) (put-then (c .before .before .before .before .before .before .before .put-word .ensures) (c .before .before .put-byte .ensures)))
+
+pub put-state-spec : {M : Type 1} → statement M
+put-state-spec =
+    tie.close
+    (tie.spec
+    slice-aggregate-put
+    put-requires
+    put-word-requires
+    slice-aggregate-put-2
+    put-requires-2
+    same-length
+    returns
+    put-byte-requires
+    same-length-2
+    returns-2)

@@ -1,0 +1,98 @@
+-- `hoa_text::writer::put_blocks` meets its contract: the lines of the first i macrostates are written, and their transitions stand before place j.
+use Prim.Native.Nat.{_-_, _/_, _≤_}
+use mathlib.Core.Path.{_≡_, _∙_, ap}
+use mathlib.Core.List.{_++_}
+use native.Mathlib.Omega.{arith}
+use borrow.Author.Needs.{needs}
+use lib.ListN.{length, take, drop, getD}
+use Rattle.theory.specs.Macrostate.{isAccepting}
+use Rattle.slice_text.specs.Put.{Put}
+use Rattle.slice_text.proofs.Puts.{put-length}
+use Rattle.listing_lines_spec.specs.Lines.{initialAt, lines}
+use Rattle.listing_lines_spec.proofs.Lines.{room-line, put-line, put-no-lines, put-lines}
+use Rattle.table_lent.specs.Lent.{wordsIn}
+use Rattle.table_lent.proofs.Reading.{words-in-length}
+use Rattle.hoa_spec.specs.Lines.{stateLine}
+use Rattle.hoa_spec.specs.Text.{flagsOf, edgeOf, blockOf}
+use Rattle.hoa_laws.specs.Cursor.{Cursor}
+use Rattle.hoa_laws.proofs.Leaving.{cursor-start, leaving-is, cursor-next}
+use Rattle.hoa_text.proofs.Parts.{flags-count, block-is}
+use Rattle.hoa_text.proofs.writer.put_blocks.Statement.{statement}
+use Rattle.hoa_text.proofs.writer.put_blocks.Tie as tie
+
+abbrev Inv-loop : tie.InvT-loop
+Inv-loop out₀ at b codes moves initial n end₀ j₀ i₀ out end j i =
+    (i ≤ length codes / 8) × Cursor (wordsIn moves) i j × Put out₀ at (lines (blockOf b (wordsIn moves)) 0 (take i (flagsOf (initialAt initial) (wordsIn codes)))) out end
+
+abbrev μ-loop : tie.MeasureT-loop
+μ-loop out₀ at b codes moves initial n end₀ j₀ i₀ out end j i = length codes / 8 - i
+
+loop-holds : tie.Need-loop-holds Inv-loop μ-loop
+loop-holds c =
+    let a = c .before .before .before .args in
+    (omega arith, cursor-start (wordsIn (a .moves .now)), put-no-lines (blockOf (a .b) (wordsIn (a .moves .now))) (flagsOf (initialAt (a .initial)) (wordsIn (a .codes .now))) (a .out .now) (a .at) (c .before .before .before .pre .2))
+
+number-at-requires : tie.Need-number-at-requires Inv-loop μ-loop
+number-at-requires c κs = omega (arith, words-in-length (c .before .before .before .before .before .args .codes .now))
+
+is-accepting-requires : tie.Need-is-accepting-requires Inv-loop μ-loop
+is-accepting-requires c κs = search needs
+
+stretch-end-requires : tie.Need-stretch-end-requires Inv-loop μ-loop
+stretch-end-requires c κs = c .before .before .before .loop .inv .1 .within
+
+-- the lines that are written
+text-is : (c : tie.After-stretch-end Inv-loop μ-loop) → let a = c .before .before .before .before .before .before .before .before .args in let l = c .before .before .before .before .loop in
+    stateLine (l .i) (c .before .is-accepting .result) ++ lines (edgeOf (a .b)) 0 (take (c .stretch-end .result - l .j) (drop (l .j) (wordsIn (a .moves .now))))
+    ≡ blockOf (a .b) (wordsIn (a .moves .now)) (l .i) (getD (flagsOf (initialAt (a .initial)) (wordsIn (a .codes .now))) (l .i) 0)
+text-is c =
+    let a = c .before .before .before .before .before .before .before .before .args in
+    let l = c .before .before .before .before .loop in
+    block-is (initialAt (a .initial)) (a .codes .now) (l .i) (c .before .before .before .loop-test .taken) (a .b) (wordsIn (a .moves .now)) _ (c .before .is-accepting .result) (c .before .is-accepting .ensures ∙ ap isAccepting (c .before .before .number-at .ensures))
+    (leaving-is (wordsIn (a .moves .now)) (c .before .before .before .before .before .before .before .before .pre .1) (l .i) (l .j) (c .stretch-end .result) (l .inv .1) (c .stretch-end .ensures))
+
+put-block-requires : tie.Need-put-block-requires Inv-loop μ-loop
+put-block-requires c κs =
+    let a = c .before .before .before .before .before .before .before .before .before .args in
+    let l = c .before .before .before .before .before .loop in
+    let R = c .before .stretch-end .ensures in
+    (c .before .before .before .before .before .before .before .before .before .pre .0, R .from, R .within, room-line (blockOf (a .b) (wordsIn (a .moves .now))) (flagsOf (initialAt (a .initial)) (wordsIn (a .codes .now))) (l .i) (omega (arith, flags-count (initialAt (a .initial)) (a .codes .now))) (l .inv .2) _ (text-is (c .before)) (c .before .before .before .before .before .before .before .before .before .pre .2))
+
+add-i : tie.Need-add-i Inv-loop μ-loop
+add-i c = omega arith
+
+loop-less : tie.Need-loop-less Inv-loop μ-loop
+loop-less c = omega arith
+
+loop-again : tie.Need-loop-again Inv-loop μ-loop
+loop-again c =
+    let a = c .before .before .before .before .before .before .before .before .before .before .before .before .args in
+    let l = c .before .before .before .before .before .before .before .before .loop in
+    (omega arith, cursor-next (wordsIn (a .moves .now)) (c .before .before .before .before .before .before .before .before .before .before .before .before .pre .1) (l .i) (l .j) (c .before .before .before .before .stretch-end .result) (l .inv .1) (c .before .before .before .before .stretch-end .ensures),
+    put-line (blockOf (a .b) (wordsIn (a .moves .now))) (flagsOf (initialAt (a .initial)) (wordsIn (a .codes .now))) (l .i) (omega (arith, flags-count (initialAt (a .initial)) (a .codes .now))) (l .inv .2) _ (text-is (c .before .before .before .before)) (c .before .before .put-block .ensures))
+
+same-length : tie.Need-same-length Inv-loop μ-loop
+same-length c = put-length (c .before .loop .inv .2)
+
+returns : tie.Need-returns Inv-loop μ-loop
+returns c =
+    let a = c .before .before .before .before .before .args in
+    let l = c .before .loop in
+    put-lines (blockOf (a .b) (wordsIn (a .moves .now))) (flagsOf (initialAt (a .initial)) (wordsIn (a .codes .now))) (l .i) (omega (arith, c .loop-test .left, flags-count (initialAt (a .initial)) (a .codes .now))) (l .inv .2)
+
+pub put-blocks-spec : {M : Type 1} → statement M
+put-blocks-spec =
+    tie.close
+    (tie.spec
+    Inv-loop
+    μ-loop
+    loop-holds
+    number-at-requires
+    is-accepting-requires
+    stretch-end-requires
+    put-block-requires
+    add-i
+    loop-less
+    loop-again
+    same-length
+    returns)

@@ -1,0 +1,87 @@
+-- `hoa_text::writer::put_starts` meets its contract: the start lines of the first i codes are written.
+use Prim.Native.Nat.{_-_, _/_, _≤_}
+use mathlib.Core.Path.{_≡_, _∙_, ap}
+use mathlib.Core.Bool.{cond}
+use mathlib.Core.List.{[]}
+use native.Mathlib.Omega.{arith}
+use borrow.Author.Needs.{needs}
+use lib.ListN.{length, take, getD}
+use Rattle.slice_text.specs.Put.{Put}
+use Rattle.slice_text.proofs.Puts.{put-length}
+use Rattle.listing_lines_spec.specs.Lines.{initialAt, lines}
+use Rattle.listing_lines_spec.proofs.Lines.{room-line, put-line, put-no-lines, put-lines}
+use Rattle.table_lent.specs.Lent.{wordsIn}
+use Rattle.table_lent.proofs.Reading.{words-in-length}
+use Rattle.hoa_spec.specs.Lines.{startLine}
+use Rattle.hoa_spec.specs.Text.{flagsOf, startOf}
+use Rattle.hoa_text.proofs.Parts.{flags-count, start-is}
+use Rattle.hoa_text.proofs.writer.put_starts.Statement.{statement}
+use Rattle.hoa_text.proofs.writer.put_starts.Tie as tie
+
+abbrev Inv-loop : tie.InvT-loop
+Inv-loop out₀ at codes initial n end₀ i₀ out end i =
+    (i ≤ length codes / 8) × Put out₀ at (lines startOf 0 (take i (flagsOf (initialAt initial) (wordsIn codes)))) out end
+
+abbrev μ-loop : tie.MeasureT-loop
+μ-loop out₀ at codes initial n end₀ i₀ out end i = length codes / 8 - i
+
+loop-holds : tie.Need-loop-holds Inv-loop μ-loop
+loop-holds c =
+    let a = c .before .before .args in
+    (omega arith, put-no-lines startOf (flagsOf (initialAt (a .initial)) (wordsIn (a .codes .now))) (a .out .now) (a .at) (c .before .before .pre .1))
+
+number-at-requires : tie.Need-number-at-requires Inv-loop μ-loop
+number-at-requires c κs = omega (arith, words-in-length (c .before .before .before .before .args .codes .now))
+
+is-initial-requires : tie.Need-is-initial-requires Inv-loop μ-loop
+is-initial-requires c κs = c .before .before .before .before .before .pre .0
+
+-- the line that is written
+text-is : (c : tie.After-is-initial Inv-loop μ-loop) → let a = c .before .before .before .before .before .before .args in let i = c .before .before .before .loop .i in
+    cond (c .is-initial .result) (startLine i) [] ≡ startOf i (getD (flagsOf (initialAt (a .initial)) (wordsIn (a .codes .now))) i 0)
+text-is c =
+    let a = c .before .before .before .before .before .before .args in
+    start-is (initialAt (a .initial)) (a .codes .now) (c .before .before .before .loop .i) (c .before .before .loop-test .taken) (c .is-initial .result) (c .is-initial .ensures ∙ ap (initialAt (a .initial)) (c .before .number-at .ensures))
+
+put-start-requires : tie.Need-put-start-requires Inv-loop μ-loop
+put-start-requires c κs =
+    let a = c .before .before .before .before .before .before .before .args in
+    let l = c .before .before .before .before .loop in
+    room-line startOf (flagsOf (initialAt (a .initial)) (wordsIn (a .codes .now))) (l .i) (omega (arith, flags-count (initialAt (a .initial)) (a .codes .now))) (l .inv .1) _ (text-is (c .before)) (c .before .before .before .before .before .before .before .pre .1)
+
+add-i : tie.Need-add-i Inv-loop μ-loop
+add-i c = omega arith
+
+loop-less : tie.Need-loop-less Inv-loop μ-loop
+loop-less c = omega arith
+
+loop-again : tie.Need-loop-again Inv-loop μ-loop
+loop-again c =
+    let a = c .before .before .before .before .before .before .before .before .before .before .args in
+    let l = c .before .before .before .before .before .before .before .loop in
+    (omega arith, put-line startOf (flagsOf (initialAt (a .initial)) (wordsIn (a .codes .now))) (l .i) (omega (arith, flags-count (initialAt (a .initial)) (a .codes .now))) (l .inv .1) _ (text-is (c .before .before .before .before)) (c .before .before .put-start .ensures))
+
+same-length : tie.Need-same-length Inv-loop μ-loop
+same-length c = put-length (c .before .loop .inv .1)
+
+returns : tie.Need-returns Inv-loop μ-loop
+returns c =
+    let a = c .before .before .before .before .args in
+    let l = c .before .loop in
+    put-lines startOf (flagsOf (initialAt (a .initial)) (wordsIn (a .codes .now))) (l .i) (omega (arith, c .loop-test .left, flags-count (initialAt (a .initial)) (a .codes .now))) (l .inv .1)
+
+pub put-starts-spec : {M : Type 1} → statement M
+put-starts-spec =
+    tie.close
+    (tie.spec
+    Inv-loop
+    μ-loop
+    loop-holds
+    number-at-requires
+    is-initial-requires
+    put-start-requires
+    add-i
+    loop-less
+    loop-again
+    same-length
+    returns)
