@@ -1,0 +1,3 @@
+pub mod Examples
+pub mod Room
+pub mod Rows

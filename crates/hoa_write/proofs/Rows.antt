@@ -1,0 +1,82 @@
+-- The rows of a call: which part refuses first, and the answer by the row.
+use mathlib.Core.Path.{_≡_, refl, sym, _∙_}
+use mathlib.Core.Bool.{true}
+use mathlib.Core.List.{List, [], _∷_, _++_}
+use Prim.Native.Nat.{ℕ, zero, suc, _≤_, _<_}
+use native.Mathlib.Omega.{arith}
+use lib.Dec.{ltb}
+use lib.ListN.{length, drop}
+use borrow.Author.Tests.{lt-ltb, le-ltb}
+use Rattle.refusals.specs.Rows.{Check, check, firstRow}
+use Rattle.refusals.proofs.Rows.{numbered, first-left, first-right}
+use Rattle.file_spec.specs.File.{ruleIn}
+use Rattle.file_spec.specs.Rows.{fileRows, fileRow}
+use Rattle.file_read.proofs.FileRows.{file-numbered}
+use Rattle.file_write_spec.specs.declared.Written.{Written}
+use Rattle.file_write_spec.specs.declared.Written.the-variants.{Length, Refused}
+use Rattle.file_write_spec.specs.Written.{answer, after}
+use Rattle.table_lent.specs.Lent.{Lent, tableRows, tableRow}
+use Rattle.hoa_write.specs.Written.{lentText, callRows, callRow, writeRow, fileText, hoaWritten, hoaAfter, Called}
+
+module _ (s initial : ℕ) (codes transitions : Lent) where
+  abbrev text : List ℕ
+  text = lentText s initial codes transitions
+
+  table-numbered : numbered (tableRows s codes transitions) ≡ true
+  unfolding numbered tableRows
+  table-numbered = refl
+
+  module _ (room : ℕ) where
+    -- row 15
+    pub table-refuses : (k : ℕ) → (k ≡ 0 → ⊥) → k ≡ tableRow s codes transitions → k ≡ callRow s initial codes transitions room
+    unfolding callRow callRows tableRow
+    table-refuses k n e = first-left (tableRows s codes transitions) (check (ltb room (length text)) 16 ∷ []) k n e
+
+    table-passes : tableRow s codes transitions ≡ 0 → callRow s initial codes transitions room ≡ firstRow (check (ltb room (length text)) 16 ∷ [])
+    unfolding callRow callRows tableRow
+    table-passes e = first-right (tableRows s codes transitions) (check (ltb room (length text)) 16 ∷ []) table-numbered e
+
+    -- row 16
+    pub slice-refuses : tableRow s codes transitions ≡ 0 → room < length text → 16 ≡ callRow s initial codes transitions room
+    unfolding firstRow
+    slice-refuses e l = sym (table-passes e ∙ rw (lt-ltb room (length text) l))
+
+    pub call-served : tableRow s codes transitions ≡ 0 → length text ≤ room → callRow s initial codes transitions room ≡ 0
+    unfolding firstRow
+    call-served e l = table-passes e ∙ rw (le-ltb room (length text) l)
+
+  -- ---- a rule of s letters that is read
+
+  module _ (old : List ℕ) where
+    pub called-refused : (k : ℕ) → (k ≡ 0 → ⊥) → k ≡ callRow s initial codes transitions (length old) → Called s initial codes transitions old old (Refused k)
+    unfolding answer after
+    called-refused zero n e = absurd (n refl)
+    called-refused (suc k) n e = record { answers = rw (sym e) refl; written = rw (sym e) refl }
+
+    pub called-served : callRow s initial codes transitions (length old) ≡ 0 → (n : ℕ) (new : List ℕ) → n ≡ length text → new ≡ text ++ drop (length text) old
+        → Called s initial codes transitions old new (Length n)
+    unfolding answer after
+    called-served e n new l w = record { answers = rw (e, l) refl; written = rw e w }
+
+-- ---- a file
+
+module _ (f : List ℕ) (codes transitions : Lent) where
+  file-passes : (room : ℕ) → fileRow f ≡ 0 → writeRow f codes transitions room ≡ callRow (ruleIn f .s) (ruleIn f .initial) codes transitions room
+  unfolding writeRow callRow fileRow
+  file-passes room e = first-right (fileRows f) _ (file-numbered f) e
+
+  file-refuses : (room k : ℕ) → (k ≡ 0 → ⊥) → k ≡ fileRow f → k ≡ writeRow f codes transitions room
+  unfolding writeRow fileRow
+  file-refuses room k n e = first-left (fileRows f) _ k n e
+
+  -- the answer and the slice of a file that is refused
+  pub refused : (k : ℕ) (old : List ℕ) → (k ≡ 0 → ⊥) → k ≡ fileRow f → (Refused k ≡ hoaWritten f codes transitions (length old)) × (old ≡ hoaAfter f codes transitions old)
+  unfolding hoaWritten hoaAfter answer after
+  refused zero old n e = absurd (n refl)
+  refused (suc k) old n e = let j = sym (file-refuses (length old) (suc k) n e) in (rw j refl, rw j refl)
+
+  -- the answer and the slice of a file that is accepted
+  pub accepted : (old new : List ℕ) (v : Written) → fileRow f ≡ 0 → Called (ruleIn f .s) (ruleIn f .initial) codes transitions old new v
+      → (v ≡ hoaWritten f codes transitions (length old)) × (new ≡ hoaAfter f codes transitions old)
+  unfolding hoaWritten hoaAfter
+  accepted old new v e c = let j = file-passes (length old) e in (rw j (c .answers), rw j (c .written))

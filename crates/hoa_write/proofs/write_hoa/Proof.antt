@@ -1,0 +1,72 @@
+-- `hoa_write::write_hoa` meets its contract: what the reader answers, then the writer under the rule that was read.
+use mathlib.Core.Path.{_≡_, sym, _∙_, subst}
+use native.Mathlib.Omega.{arith}
+use Rattle.theory.specs.Rule.{Rule}
+use Rattle.file_read.specs.declared.Layout.{Layout}
+use Rattle.file_read.specs.declared.Read.the-variants.{Accepted}
+use Rattle.file_read.specs.Read.{readOf}
+use Rattle.file_read.proofs.Answer.{served, served-letters, turned-away}
+use Rattle.table_lent.specs.Lent.{inBytes}
+use Rattle.table_judge.proofs.Answers.{initial-low}
+use Rattle.hoa_write.specs.Written.{Called}
+use Rattle.hoa_write.proofs.Rows.{accepted, refused}
+use borrow.Author.Needs.{needs}
+use Rattle.hoa_write.proofs.write_hoa.Statement.{statement}
+use Rattle.hoa_write.proofs.write_hoa.Tie as tie
+
+read-rule-requires : tie.Need-read-rule-requires
+read-rule-requires c κs = search needs
+
+enum-known-l : tie.Need-enum-known-l
+enum-known-l c = search needs
+
+-- the file was read
+read : (c : tie.After-l) → readOf (c .before .before .before .before .before .before .before .args .file .now) ≡ Accepted (c .l .given .0 .0)
+read c = sym (c .before .before .read-rule .ensures) ∙ c .l .given .1
+
+cast-write-read : tie.Need-cast-write-read
+cast-write-read c =
+    let f = c .before .before .before .before .before .before .before .before .before .args .file .now in
+    let l = c .before .before .l .given .0 .0 in
+    omega (arith, initial-low f l (served f l (read (c .before .before))))
+
+write-read-requires : tie.Need-write-read-requires
+write-read-requires c κs =
+    let f = c .before .before .before .before .before .before .before .before .before .before .args .file .now in
+    let l = c .before .before .before .l .given .0 .0 in
+    (served-letters f l (read (c .before .before .before)), initial-low f l (served f l (read (c .before .before .before))))
+
+enum-known-k : tie.Need-enum-known-k
+enum-known-k c = search needs
+
+same-length : tie.Need-same-length
+same-length c = search needs
+
+returns : tie.Need-returns
+returns c =
+    let a = c .before .before .before .before .before .before .before .before .before .before .before .before .before .args in
+    let l = c .before .before .before .before .before .before .l .given .0 .0 in
+    let v = served (a .file .now) l (read (c .before .before .before .before .before .before)) in
+    let w = c .before .before .write-read in
+    accepted (a .file .now) (inBytes (a .codes .now)) (inBytes (a .transitions .now)) (a .text .now) (w .last .1 .1 .1 .1 .0) (w .result) (v .row)
+    (subst (λ (r : Rule). Called (r .s) (r .initial) (inBytes (a .codes .now)) (inBytes (a .transitions .now)) (a .text .now) (w .last .1 .1 .1 .1 .0) (w .result)) (v .rule) (w .ensures))
+
+returns-2 : tie.Need-returns-2
+returns-2 c =
+    let a = c .before .before .before .before .before .before .before .before .args in
+    let k = c .before .k .given .0 .0 in
+    let t = turned-away (a .file .now) k (sym (c .before .before .before .read-rule .ensures) ∙ c .before .k .given .1) in
+    refused (a .file .now) (inBytes (a .codes .now)) (inBytes (a .transitions .now)) k (a .text .now) (λ e. t .1 (t .0 ∙ e)) (sym (t .0))
+
+pub write-hoa-spec : {M : Type 1} → statement M
+write-hoa-spec =
+    tie.close
+    (tie.spec
+    read-rule-requires
+    enum-known-l
+    cast-write-read
+    write-read-requires
+    enum-known-k
+    same-length
+    returns
+    returns-2)

@@ -1,0 +1,108 @@
+-- `hoa_write::write_read` meets its contract: the row that refuses, or the text.
+use mathlib.Core.Path.{_≡_, sym, _∙_, ap}
+use mathlib.Core.List.{List, _++_}
+use Prim.Native.Nat.{ℕ, _≤_, _<_}
+use native.Mathlib.Omega.{arith}
+use lib.ListN.{length, drop}
+use borrow.Author.Tests.{leb-true, leb-false, not-true, not-false}
+use Rattle.slice_text.proofs.Puts.{put-first}
+use Rattle.listing_lines_spec.specs.Lines.{initialAt}
+use Rattle.table_lent.specs.Lent.{wordsIn, inBytes, tableRow}
+use Rattle.table_lent.proofs.Reading.{both-bytes}
+use Rattle.hoa_spec.specs.Text.{flagsOf, automatonText}
+use Rattle.hoa_write.specs.Written.{lentText}
+use Rattle.hoa_write.proofs.Room.{bytes-passed, text-is}
+use Rattle.hoa_write.proofs.Rows.{table-refuses, slice-refuses, call-served, called-refused, called-served}
+use borrow.Author.Needs.{needs}
+use Rattle.hoa_write.proofs.write_read.Statement.{statement}
+use Rattle.hoa_write.proofs.write_read.Tie as tie
+
+array-share-prefix-codewords : tie.Need-array-share-prefix-codewords
+array-share-prefix-codewords c = search needs
+
+slice-aggregate-table-row : tie.Need-slice-aggregate-table-row
+slice-aggregate-table-row c = search needs
+
+array-share-prefix-movewords : tie.Need-array-share-prefix-movewords
+array-share-prefix-movewords c = search needs
+
+slice-aggregate-table-row-2 : tie.Need-slice-aggregate-table-row-2
+slice-aggregate-table-row-2 c = search needs
+
+table-row-requires : tie.Need-table-row-requires
+table-row-requires c κs = search needs
+
+-- row 15 or 0
+row-is : (c : tie.After-table-row) → let a = c .before .before .before .before .before .before .args in c .table-row .result ≡ tableRow (a .s) (inBytes (a .codes .now)) (inBytes (a .moves .now))
+row-is c = let a = c .before .before .before .before .before .before .args in rw (both-bytes (a .codes .now), both-bytes (a .moves .now)) at (c .table-row .ensures)
+
+returns : tie.Need-returns
+returns c =
+    let a = c .before .before .before .before .before .before .before .args in
+    called-refused (a .s) (a .initial) (inBytes (a .codes .now)) (inBytes (a .moves .now)) (a .text .now) (c .before .table-row .result) (c .if1 .taken)
+    (table-refuses (a .s) (a .initial) (inBytes (a .codes .now)) (inBytes (a .moves .now)) (length (a .text .now)) (c .before .table-row .result) (c .if1 .taken) (row-is (c .before)))
+
+-- row 15 lets the table through
+passes : (c : tie.Else1) → let a = c .before .before .before .before .before .before .before .args in tableRow (a .s) (inBytes (a .codes .now)) (inBytes (a .moves .now)) ≡ 0
+passes c = sym (row-is (c .before)) ∙ c .if1 .left
+
+propositions-of-requires : tie.Need-propositions-of-requires
+propositions-of-requires c κs = c .before .before .before .before .before .before .before .pre .0
+
+fits-requires : tie.Need-fits-requires
+fits-requires c κs =
+    let a = c .before .before .before .before .before .before .before .before .args in
+    (c .propositions-of .ensures .1, c .before .before .before .before .before .before .before .before .pre .1, bytes-passed (a .s) (a .codes .now) (a .moves .now) (passes (c .before)))
+
+-- the text that is written is the table's
+text : (c : tie.After-propositions-of) → let a = c .before .before .before .before .before .before .before .before .args in
+    lentText (a .s) (a .initial) (inBytes (a .codes .now)) (inBytes (a .moves .now)) ≡ automatonText (c .propositions-of .result) (flagsOf (initialAt (a .initial)) (wordsIn (a .codes .now))) (wordsIn (a .moves .now))
+text c = let a = c .before .before .before .before .before .before .before .before .args in text-is (a .s) (a .codes .now) (a .moves .now) (a .initial) (c .propositions-of .result) (c .propositions-of .ensures .0)
+
+returns-2 : tie.Need-returns-2
+returns-2 c =
+    let a = c .before .before .before .before .before .before .before .before .before .before .args in
+    let room : length (a .text .now) < length (lentText (a .s) (a .initial) (inBytes (a .codes .now)) (inBytes (a .moves .now))) =
+    rw (text (c .before .before)) (leb-false _ _ (sym (c .before .fits2 .ensures) ∙ not-true _ (c .if2 .taken))) in
+    called-refused (a .s) (a .initial) (inBytes (a .codes .now)) (inBytes (a .moves .now)) (a .text .now) 16 (λ z. omega arith)
+    (slice-refuses (a .s) (a .initial) (inBytes (a .codes .now)) (inBytes (a .moves .now)) (length (a .text .now)) (passes (c .before .before .before)) room)
+
+-- there is room for it
+fitting : (c : tie.Else2) → let a = c .before .before .before .before .before .before .before .before .before .before .args in
+    length (automatonText (c .before .before .propositions-of .result) (flagsOf (initialAt (a .initial)) (wordsIn (a .codes .now))) (wordsIn (a .moves .now))) ≤ length (a .text .now)
+fitting c = leb-true _ _ (sym (c .before .fits2 .ensures) ∙ not-false _ (c .if2 .left))
+
+put-text-requires : tie.Need-put-text-requires
+put-text-requires c κs =
+    let a = c .before .before .before .before .before .before .before .before .before .before .before .args in
+    (c .before .before .before .propositions-of .ensures .1, c .before .before .before .before .before .before .before .before .before .before .before .pre .1, bytes-passed (a .s) (a .codes .now) (a .moves .now) (passes (c .before .before .before .before)) .transitions-ascend, fitting (c .before))
+
+same-length : tie.Need-same-length
+same-length c = search needs
+
+returns-3 : tie.Need-returns-3
+returns-3 c =
+    let a = c .before .before .before .before .before .before .before .before .before .before .before .before .before .before .args in
+    let P = put-first (c .before .before .put-text .ensures) in
+    let e = text (c .before .before .before .before .before .before) in
+    let room : length (lentText (a .s) (a .initial) (inBytes (a .codes .now)) (inBytes (a .moves .now))) ≤ length (a .text .now) = rw e (fitting (c .before .before .before .before)) in
+    called-served (a .s) (a .initial) (inBytes (a .codes .now)) (inBytes (a .moves .now)) (a .text .now)
+    (call-served (a .s) (a .initial) (inBytes (a .codes .now)) (inBytes (a .moves .now)) (length (a .text .now)) (passes (c .before .before .before .before .before .before .before)) room)
+    _ _ (P .0 ∙ ap length (sym e)) (P .1 ∙ ap (λ (s : List ℕ). s ++ drop (length s) (a .text .now)) (sym e))
+
+pub write-read-spec : {M : Type 1} → statement M
+write-read-spec =
+    tie.close
+    (tie.spec
+    array-share-prefix-codewords
+    slice-aggregate-table-row
+    array-share-prefix-movewords
+    slice-aggregate-table-row-2
+    table-row-requires
+    returns
+    propositions-of-requires
+    fits-requires
+    returns-2
+    put-text-requires
+    same-length
+    returns-3)
