@@ -33,7 +33,7 @@ pub fn put_states(out: &mut [u8], at: usize, states: usize) -> usize
     ensures { λ r. ⌜ Put (now (out .entry)) at (statesLine states) (now (out .exit)) r ⌝ }
 {
     let a = slice_text::put(out, at, b"States:");
-    let b = slice_text::put_word(out, a, states as u64);
+    let b = slice_digits::put_number(out, a, states as u64);
     slice_text::put_byte(out, b, b'\n')
 }
 
@@ -46,7 +46,7 @@ pub fn put_start(out: &mut [u8], at: usize, number: usize, initial: bool) -> usi
         return at;
     }
     let a = slice_text::put(out, at, b"Start:");
-    let b = slice_text::put_word(out, a, number as u64);
+    let b = slice_digits::put_number(out, a, number as u64);
     slice_text::put_byte(out, b, b'\n')
 }
 
@@ -76,7 +76,7 @@ pub fn put_state(out: &mut [u8], at: usize, number: usize, accepting: bool) -> u
     ensures { λ r. ⌜ Put (now (out .entry)) at (stateLine number accepting) (now (out .exit)) r ⌝ }
 {
     let a = slice_text::put(out, at, b"State:");
-    let b = slice_text::put_word(out, a, number as u64);
+    let b = slice_digits::put_number(out, a, number as u64);
     if accepting {
         return slice_text::put(out, b, b" {0}\n");
     }
@@ -122,6 +122,6 @@ pub fn put_edge(out: &mut [u8], at: usize, b: usize, letter: usize, target: usiz
     let a = slice_text::put_byte(out, at, b'[');
     let c = put_label(out, a, b, letter);
     let d = slice_text::put_byte(out, c, b']');
-    let e = slice_text::put_word(out, d, target as u64);
+    let e = slice_digits::put_number(out, d, target as u64);
     slice_text::put_byte(out, e, b'\n')
 }

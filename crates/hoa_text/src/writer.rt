@@ -1,10 +1,10 @@
 // The text of a table, written into a slice. Each function answers the place after what it wrote.
+use crate::table::number_at;
+use crate::table::stretch_end;
 use codes::is_accepting;
 use codes::is_initial;
 use codes::letter_of;
 use codes::target_of;
-use crate::table::number_at;
-use crate::table::stretch_end;
 use hoa_lines::put_ap;
 use hoa_lines::put_edge;
 use hoa_lines::put_start;

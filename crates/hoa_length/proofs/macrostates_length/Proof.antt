@@ -77,12 +77,13 @@ loop-again c =
     let start = start-is initial (a .codes .now) (l .i) low (c .before .before .before .is-initial .result) (c .before .before .before .is-initial .ensures ∙ ap initial (c .before .before .before .before .number-at .ensures)) in
     let state = state-is initial (a .codes .now) (l .i) low (c .before .before .is-accepting .result) (c .before .before .is-accepting .ensures ∙ ap isAccepting (c .before .before .before .before .number-at .ensures)) in
     let starts = sum-next startOf flags (l .i) (l .starts) (cond (c .before .before .before .is-initial .result) (startLine (l .i)) []) among (l .inv .1) start in
-    let states = sum-next stateOf flags (l .i) (l .states) (stateLine (l .i) (c .before .before .is-accepting .result)) among (l .inv .2) state in
-    (omega arith,
-    omega (arith, starts, c .before .start-length .ensures),
-    omega (arith, states, c .state-length .ensures),
-    omega (arith, l .inv .3, c .before .start-length .ensures, start-room (c .before .before .before .is-initial .result) (l .i) (small (c .before .before .before .before .before))),
-    omega (arith, l .inv .4, c .state-length .ensures, state-short (l .i) (c .before .before .is-accepting .result) (small (c .before .before .before .before .before))))
+    let states = sum-next stateOf flags (l .i) (l .states) (stateLine (l .i) (c .before .before .is-accepting .result)) among (l .inv .2) state in (
+      omega arith,
+      omega (arith, starts, c .before .start-length .ensures),
+      omega (arith, states, c .state-length .ensures),
+      omega (arith, l .inv .3, c .before .start-length .ensures, start-room (c .before .before .before .is-initial .result) (l .i) (small (c .before .before .before .before .before))),
+      omega (arith, l .inv .4, c .state-length .ensures, state-short (l .i) (c .before .before .is-accepting .result) (small (c .before .before .before .before .before))),
+    )
 
 add-result : tie.Need-add-result Inv-loop μ-loop
 add-result c = omega (arith, c .before .before .before .pre .1, words-in-length (c .before .before .before .args .codes .now))

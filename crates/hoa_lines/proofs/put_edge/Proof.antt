@@ -16,8 +16,8 @@ put-label-requires c κs = let a = c .before .before .before .before .before .be
 put-byte-requires-2 : tie.Need-put-byte-requires-2
 put-byte-requires-2 c κs = let a = c .before .before .before .before .before .before .before .before .before .before .args in omega (arith, edge-length (a .b) (a .letter) (a .target))
 
-put-word-requires : tie.Need-put-word-requires
-put-word-requires c κs = let a = c .before .before .before .before .before .before .before .before .before .before .before .before .before .before .args in omega (arith, edge-length (a .b) (a .letter) (a .target))
+put-number-requires : tie.Need-put-number-requires
+put-number-requires c κs = let a = c .before .before .before .before .before .before .before .before .before .before .before .before .before .before .args in omega (arith, edge-length (a .b) (a .letter) (a .target))
 
 put-byte-requires-3 : tie.Need-put-byte-requires-3
 put-byte-requires-3 c κs = let a = c .before .before .before .before .before .before .before .before .before .before .before .before .before .before .before .before .before .before .args in omega (arith, edge-length (a .b) (a .letter) (a .target))
@@ -31,7 +31,7 @@ returns c =
     put-then (c .before .before .before .before .before .before .before .before .before .before .before .before .before .before .before .before .before .before .put-byte .ensures)
     (put-then (c .before .before .before .before .before .before .before .before .before .before .before .before .before .before .put-label .ensures)
     (put-then (c .before .before .before .before .before .before .before .before .before .before .put-byte2 .ensures)
-    (put-then (c .before .before .before .before .before .before .put-word .ensures)
+    (put-then (c .before .before .before .before .before .before .put-number .ensures)
     (c .before .before .put-byte3 .ensures))))
 
 pub put-edge-spec : {M : Type 1} → statement M
@@ -41,7 +41,7 @@ put-edge-spec =
     put-byte-requires
     put-label-requires
     put-byte-requires-2
-    put-word-requires
+    put-number-requires
     put-byte-requires-3
     same-length
     returns)

@@ -30,8 +30,8 @@ put-requires c κs =
     let a = c .before .before .before .before .args in
     omega (arith, start-length (a .number), ap length (line-is (a .initial) true (a .number) (not-false (a .initial) (c .before .before .if1 .left))))
 
-put-word-requires : tie.Need-put-word-requires
-put-word-requires c κs =
+put-number-requires : tie.Need-put-number-requires
+put-number-requires c κs =
     let a = c .before .before .before .before .before .before .before .before .args in
     omega (arith, start-length (a .number), ap length (line-is (a .initial) true (a .number) (not-false (a .initial) (c .before .before .before .before .before .before .if1 .left))))
 
@@ -48,7 +48,7 @@ unfolding startLine
 returns-2 c =
     let a = c .before .before .before .before .before .before .before .before .before .before .before .before .before .before .before .args in
     put-as (line-is (a .initial) true (a .number) (not-false (a .initial) (c .before .before .before .before .before .before .before .before .before .before .before .before .before .if1 .left)))
-    (put-then (c .before .before .before .before .before .before .before .before .before .before .put .ensures) (put-then (c .before .before .before .before .before .before .put-word .ensures) (c .before .before .put-byte .ensures)))
+    (put-then (c .before .before .before .before .before .before .before .before .before .before .put .ensures) (put-then (c .before .before .before .before .before .before .put-number .ensures) (c .before .before .put-byte .ensures)))
 
 pub put-start-spec : {M : Type 1} → statement M
 put-start-spec =
@@ -57,7 +57,7 @@ put-start-spec =
     returns
     slice-aggregate-put
     put-requires
-    put-word-requires
+    put-number-requires
     put-byte-requires
     same-length
     returns-2)

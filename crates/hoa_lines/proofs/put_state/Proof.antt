@@ -21,8 +21,8 @@ slice-aggregate-put c = search needs
 put-requires : tie.Need-put-requires
 put-requires c κs = let a = c .before .before .before .args in omega (arith, state-length (a .number) (a .accepting))
 
-put-word-requires : tie.Need-put-word-requires
-put-word-requires c κs = let a = c .before .before .before .before .before .before .before .args in omega (arith, state-length (a .number) (a .accepting))
+put-number-requires : tie.Need-put-number-requires
+put-number-requires c κs = let a = c .before .before .before .before .before .before .before .args in omega (arith, state-length (a .number) (a .accepting))
 
 slice-aggregate-put-2 : tie.Need-slice-aggregate-put-2
 slice-aggregate-put-2 c = search needs
@@ -39,7 +39,7 @@ returns : tie.Need-returns
 unfolding stateLine
 returns c =
     let a = c .before .before .before .before .before .before .before .before .before .before .before .before .before .before .before .before .args in
-    put-as (line-is (a .accepting) true (a .number) (c .before .before .before .before .before .if1 .taken)) (put-then (c .before .before .before .before .before .before .before .before .before .before .before .before .put .ensures) (put-then (c .before .before .before .before .before .before .before .before .put-word .ensures) (c .before .before .put2 .ensures)))
+    put-as (line-is (a .accepting) true (a .number) (c .before .before .before .before .before .if1 .taken)) (put-then (c .before .before .before .before .before .before .before .before .before .before .before .before .put .ensures) (put-then (c .before .before .before .before .before .before .before .before .put-number .ensures) (c .before .before .put2 .ensures)))
 
 put-byte-requires : tie.Need-put-byte-requires
 put-byte-requires c κs =
@@ -53,7 +53,7 @@ returns-2 : tie.Need-returns-2
 unfolding stateLine
 returns-2 c =
     let a = c .before .before .before .before .before .before .before .before .before .before .before .before .before .before .before .args in
-    put-as (line-is (a .accepting) false (a .number) (c .before .before .before .before .if1 .left)) (put-then (c .before .before .before .before .before .before .before .before .before .before .before .put .ensures) (put-then (c .before .before .before .before .before .before .before .put-word .ensures) (c .before .before .put-byte .ensures)))
+    put-as (line-is (a .accepting) false (a .number) (c .before .before .before .before .if1 .left)) (put-then (c .before .before .before .before .before .before .before .before .before .before .before .put .ensures) (put-then (c .before .before .before .before .before .before .before .put-number .ensures) (c .before .before .put-byte .ensures)))
 
 pub put-state-spec : {M : Type 1} → statement M
 put-state-spec =
@@ -61,7 +61,7 @@ put-state-spec =
     (tie.spec
     slice-aggregate-put
     put-requires
-    put-word-requires
+    put-number-requires
     slice-aggregate-put-2
     put-requires-2
     same-length

@@ -13,8 +13,8 @@ slice-aggregate-put c = search needs
 put-requires : tie.Need-put-requires
 put-requires c κs = omega (arith, states-length (c .before .before .before .args .states))
 
-put-word-requires : tie.Need-put-word-requires
-put-word-requires c κs = omega (arith, states-length (c .before .before .before .before .before .before .before .args .states))
+put-number-requires : tie.Need-put-number-requires
+put-number-requires c κs = omega (arith, states-length (c .before .before .before .before .before .before .before .args .states))
 
 put-byte-requires : tie.Need-put-byte-requires
 put-byte-requires c κs = omega (arith, states-length (c .before .before .before .before .before .before .before .before .before .before .before .args .states))
@@ -24,7 +24,7 @@ same-length c = search needs
 
 returns : tie.Need-returns
 unfolding statesLine
-returns c = put-then (c .before .before .before .before .before .before .before .before .before .before .put .ensures) (put-then (c .before .before .before .before .before .before .put-word .ensures) (c .before .before .put-byte .ensures))
+returns c = put-then (c .before .before .before .before .before .before .before .before .before .before .put .ensures) (put-then (c .before .before .before .before .before .before .put-number .ensures) (c .before .before .put-byte .ensures))
 
 pub put-states-spec : {M : Type 1} → statement M
 put-states-spec =
@@ -32,7 +32,7 @@ put-states-spec =
     (tie.spec
     slice-aggregate-put
     put-requires
-    put-word-requires
+    put-number-requires
     put-byte-requires
     same-length
     returns)

@@ -67,9 +67,11 @@ loop-less c = omega arith
 loop-again : tie.Need-loop-again Inv-loop μ-loop
 loop-again c =
     let a = c .before .before .before .before .before .before .before .before .before .before .before .before .args in
-    let l = c .before .before .before .before .before .before .before .before .loop in
-    (omega arith, cursor-next (wordsIn (a .moves .now)) (c .before .before .before .before .before .before .before .before .before .before .before .before .pre .1) (l .i) (l .j) (c .before .before .before .before .stretch-end .result) (l .inv .1) (c .before .before .before .before .stretch-end .ensures),
-    put-line (blockOf (a .b) (wordsIn (a .moves .now))) (flagsOf (initialAt (a .initial)) (wordsIn (a .codes .now))) (l .i) (omega (arith, flags-count (initialAt (a .initial)) (a .codes .now))) (l .inv .2) _ (text-is (c .before .before .before .before)) (c .before .before .put-block .ensures))
+    let l = c .before .before .before .before .before .before .before .before .loop in (
+      omega arith,
+      cursor-next (wordsIn (a .moves .now)) (c .before .before .before .before .before .before .before .before .before .before .before .before .pre .1) (l .i) (l .j) (c .before .before .before .before .stretch-end .result) (l .inv .1) (c .before .before .before .before .stretch-end .ensures),
+      put-line (blockOf (a .b) (wordsIn (a .moves .now))) (flagsOf (initialAt (a .initial)) (wordsIn (a .codes .now))) (l .i) (omega (arith, flags-count (initialAt (a .initial)) (a .codes .now))) (l .inv .2) _ (text-is (c .before .before .before .before)) (c .before .before .put-block .ensures),
+    )
 
 same-length : tie.Need-same-length Inv-loop μ-loop
 same-length c = put-length (c .before .loop .inv .2)

@@ -79,9 +79,12 @@ loop-again : tie.Need-loop-again Inv-loop μ-loop
 loop-again c =
     let a = c .before .before .before .before .before .before .before .before .before .before .before .args in
     let l = c .before .before .before .before .before .before .before .before .loop in
-    let next : l .i + 1 - a .j ≡ l .i - a .j + 1 = omega (arith, l .inv .0) in
-    (omega arith, omega arith, put-as (ap (λ (x : ℕ). lines (edgeOf (a .b)) 0 (take x (part (a .moves .now) (a .j) (a .k)))) next)
-    (put-line (edgeOf (a .b)) (part (a .moves .now) (a .j) (a .k)) (l .i - a .j) (listed (c .before .before .before .before .before .before .before)) (l .inv .2) _ (text-is (c .before .before .before .before)) (c .before .before .put-edge .ensures)))
+    let next : l .i + 1 - a .j ≡ l .i - a .j + 1 = omega (arith, l .inv .0) in (
+      omega arith,
+      omega arith,
+      put-as (ap (λ (x : ℕ). lines (edgeOf (a .b)) 0 (take x (part (a .moves .now) (a .j) (a .k)))) next)
+          (put-line (edgeOf (a .b)) (part (a .moves .now) (a .j) (a .k)) (l .i - a .j) (listed (c .before .before .before .before .before .before .before)) (l .inv .2) _ (text-is (c .before .before .before .before)) (c .before .before .put-edge .ensures)),
+    )
 
 same-length : tie.Need-same-length Inv-loop μ-loop
 same-length c = put-length (c .before .loop .inv .2)

@@ -1,0 +1,41 @@
+-- `slice_digits::put_four` meets its contract: the digits before the last two, then these.
+use native.Mathlib.Omega.{arith}
+use Rattle.slice_text.proofs.Puts.{put-as, put-then}
+use Rattle.slice_digits.proofs.Pairs.{pair-last, pair-length}
+use borrow.Author.Needs.{needs}
+use Rattle.slice_digits.proofs.put_four.Statement.{statement}
+use Rattle.slice_digits.proofs.put_four.Tie as tie
+
+put-two-requires : tie.Need-put-two-requires
+put-two-requires c κs = search needs
+
+same-length : tie.Need-same-length
+same-length c = search needs
+
+returns : tie.Need-returns
+returns c = search needs
+
+put-two-requires-2 : tie.Need-put-two-requires-2
+put-two-requires-2 c κs = let s = c .before .before .before in (omega (arith, s .pre .0), omega (arith, s .pre .1, pair-length (s .args .x) (c .before .if1 .left)))
+
+put-pair-requires : tie.Need-put-pair-requires
+put-pair-requires c κs = omega (arith, c .before .before .before .put-two2 .ensures .ends, c .before .before .before .before .before .before .before .pre .1, pair-length (c .before .before .before .before .before .before .before .args .x) (c .before .before .before .before .before .if1 .left))
+
+same-length-2 : tie.Need-same-length-2
+same-length-2 c = search needs
+
+returns-2 : tie.Need-returns-2
+returns-2 c =
+    put-as (pair-last (c .before .before .before .before .before .before .before .before .before .before .args .x) (c .before .before .before .before .before .before .before .before .if1 .left)) (put-then (c .before .before .before .before .before .before .put-two2 .ensures) (c .before .before .put-pair .ensures))
+
+pub put-four-spec : {M : Type 1} → statement M
+put-four-spec =
+    tie.close
+    (tie.spec
+    put-two-requires
+    same-length
+    returns
+    put-two-requires-2
+    put-pair-requires
+    same-length-2
+    returns-2)

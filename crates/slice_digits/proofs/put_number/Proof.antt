@@ -1,0 +1,42 @@
+-- `slice_digits::put_number` meets its contract: a blank, then the digits.
+use native.Mathlib.Omega.{arith}
+use Rattle.slice_text.specs.Decimal.{word}
+use Rattle.slice_text.proofs.Decimal.{word-length}
+use Rattle.slice_text.proofs.Puts.{put-then}
+use borrow.Author.Needs.{needs}
+use Rattle.slice_digits.proofs.put_number.Statement.{statement}
+use Rattle.slice_digits.proofs.put_number.Tie as tie
+
+put-word-requires : tie.Need-put-word-requires
+put-word-requires c κs = search needs
+
+same-length : tie.Need-same-length
+same-length c = search needs
+
+returns : tie.Need-returns
+returns c = search needs
+
+put-byte-requires : tie.Need-put-byte-requires
+put-byte-requires c κs = omega (arith, c .before .before .before .pre, word-length (c .before .before .before .args .x))
+
+put-six-requires : tie.Need-put-six-requires
+put-six-requires c κs = (omega (arith, c .before .before .before .before .before .if1 .left), omega (arith, c .before .before .before .before .before .before .before .pre, word-length (c .before .before .before .before .before .before .before .args .x)))
+
+same-length-2 : tie.Need-same-length-2
+same-length-2 c = search needs
+
+returns-2 : tie.Need-returns-2
+unfolding word
+returns-2 c = put-then (c .before .before .before .before .before .before .put-byte .ensures) (c .before .before .put-six .ensures)
+
+pub put-number-spec : {M : Type 1} → statement M
+put-number-spec =
+    tie.close
+    (tie.spec
+    put-word-requires
+    same-length
+    returns
+    put-byte-requires
+    put-six-requires
+    same-length-2
+    returns-2)
