@@ -244,6 +244,19 @@ mulgreddi_answer mulgreddi_judge_table(const uint8_t *file, size_t file_len,
                                        const uint8_t *codes, size_t codes_bytes, const uint8_t *transitions, size_t transitions_bytes,
                                        uint8_t *scratch, size_t scratch_len);
 
+/* A slice of so many bytes has room for the text of every table with so many macrostates and transitions. */
+#define MULGREDDI_HOA_BOUND(macrostates, transitions) (30 * (size_t)(macrostates) + 20 * (size_t)(transitions) + 153)
+
+/* Writes a table as a text that model checkers read, in the Hanoi Omega-Automata format, version 1.
+ * Macrostates are states by their numbers, with Büchi acceptance on states. Letters are valuations of the fewest propositions e0, e1, .. that
+ * tell the rule's letters apart, e0 being the lowest bit; a single letter has the label t. Each table has one text, fixed byte for byte in
+ * docs/FORMAT.md. It goes to the start of text; what follows is not touched.
+ * The table is any that passes refusal 15, built from the rule or not, in bytes as for mulgreddi_judge_table.
+ * first: the length of the text.
+ * The rule's refusals, 15, and 16 where text is shorter than the table's text; MULGREDDI_HOA_BOUND bytes are always enough. */
+mulgreddi_answer mulgreddi_write_hoa(const uint8_t *file, size_t file_len, const uint8_t *codes, size_t codes_bytes,
+                                     const uint8_t *transitions, size_t transitions_bytes, uint8_t *text, size_t text_len);
+
 /* Translates a log into letters by an event table. The first line that holds an event's two bytes gives its letter.
  * events has up to 64 lines of five bytes: lowest and highest kind, lowest and highest drive, letter. log has two bytes an event, kind and
  * drive; an odd last byte is no event yet and is left unread. letters gets one letter per event, in order; what follows is not touched.

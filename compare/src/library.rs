@@ -145,4 +145,14 @@ extern "C" {
         transitions: *mut u64,
         transitions_length: usize,
     ) -> Answer;
+    pub fn mulgreddi_write_hoa(
+        file: *const u8,
+        file_length: usize,
+        codes: *const u8,
+        codes_length: usize,
+        transitions: *const u8,
+        transitions_length: usize,
+        text: *mut u8,
+        text_length: usize,
+    ) -> Answer;
 }

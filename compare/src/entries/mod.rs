@@ -16,6 +16,7 @@ mod tidy;
 mod tidy_word;
 mod translate;
 mod write;
+mod write_hoa;
 mod write_named;
 
 pub fn all() -> Vec<Entry> {
@@ -35,5 +36,6 @@ pub fn all() -> Vec<Entry> {
         judge_sheet::ENTRY,
         translate::ENTRY,
         build_trimmed::ENTRY,
+        write_hoa::ENTRY,
     ]
 }

@@ -1,6 +1,7 @@
 // The C interface: every public entry, its answer as three numbers. include/mulgreddi.h declares and documents it.
 pub mod choices;
 pub mod event;
+pub mod hoa;
 pub mod loops;
 pub mod names;
 pub mod sheet;

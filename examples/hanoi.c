@@ -1,0 +1,35 @@
+/* Writes the automaton of rule D as a text that model checkers read.
+ * Run: hanoi FOLDER */
+#include <mulgreddi.h>
+#include <stdio.h>
+#include <stdlib.h>
+
+static uint64_t codes[65536], transitions[1048576];
+
+int main(int argc, char **argv)
+{
+    const char *folder = argc > 1 ? argv[1] : ".";
+    char path[4096];
+    uint8_t file[4096];
+    snprintf(path, sizeof path, "%s/D.rule", folder);
+    FILE *f = fopen(path, "rb");
+    if (!f)
+        return 1;
+    size_t n = fread(file, 1, sizeof file, f);
+    fclose(f);
+    mulgreddi_answer a = mulgreddi_build(file, n, codes, 65536, transitions, 1048576);
+    if (a.refusal != 0)
+        return 1;
+    size_t room = MULGREDDI_HOA_BOUND(a.first, a.second);
+    uint8_t *text = malloc(room);
+    if (!text)
+        return 1;
+    mulgreddi_answer w = mulgreddi_write_hoa(file, n, (const uint8_t *)codes, 8 * a.first, (const uint8_t *)transitions, 8 * a.second, text, room);
+    if (w.refusal != 0)
+        return 1;
+    fwrite(text, 1, w.first, stdout);
+    mulgreddi_answer s = mulgreddi_write_hoa(file, n, (const uint8_t *)codes, 8 * a.first, (const uint8_t *)transitions, 8 * a.second, text, w.first - 1);
+    printf("one byte less: refused %llu\n", (unsigned long long)s.refusal);
+    free(text);
+    return 0;
+}
