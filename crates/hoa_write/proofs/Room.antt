@@ -47,7 +47,7 @@ module _ (s : ℕ) (codes ts : List ℕ) (P : Passed s codes ts) where
         let n = flags-length initial codes in
         omega (arith, text-bound b (flagsOf initial codes) ts four (omega (arith, P .few)) from-codes, n)
 
--- 02: MULGREDDI_HOA_BOUND, "a length that is proved never to meet 16"
+-- a text is at most as long as the bound
 pub bound-suffices : (s initial : ℕ) (codes transitions : Lent) → s ≤ 16 → tableRow s codes transitions ≡ 0
     → length (lentText s initial codes transitions) ≤ bound (length (codes .numbers)) (length (transitions .numbers))
 unfolding textOf

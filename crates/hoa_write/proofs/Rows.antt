@@ -61,7 +61,7 @@ module _ (s initial : ℕ) (codes transitions : Lent) where
 -- ---- a file
 
 module _ (f : List ℕ) (codes transitions : Lent) where
-  file-passes : (room : ℕ) → fileRow f ≡ 0 → writeRow f codes transitions room ≡ callRow (ruleIn f .s) (ruleIn f .initial) codes transitions room
+  pub file-passes : (room : ℕ) → fileRow f ≡ 0 → writeRow f codes transitions room ≡ callRow (ruleIn f .s) (ruleIn f .initial) codes transitions room
   unfolding writeRow callRow fileRow
   file-passes room e = first-right (fileRows f) _ (file-numbered f) e
 
