@@ -80,6 +80,15 @@ static void judge_table(void)
                           8 * built.second, scratch, 64 * built.first);
 }
 
+static uint8_t text[MULGREDDI_HOA_BOUND(MULGREDDI_MACROSTATES_MAX, MULGREDDI_TRANSITIONS_MAX)];
+static mulgreddi_answer written;
+
+static void write_hoa(void)
+{
+    written = mulgreddi_write_hoa(file, file_len, (const uint8_t *)codes, 8 * built.first, (const uint8_t *)transitions, 8 * built.second,
+                                  text, sizeof text);
+}
+
 static void translate(void)
 {
     mulgreddi_translate(file, file_len, events, sizeof events, log_bytes, sizeof log_bytes, out, sizeof out);
@@ -101,6 +110,7 @@ static const struct { const char *name; void (*call)(void); } calls[] = {
     {"build_trimmed", build_trimmed},
     {"build", build},
     {"judge_table", judge_table},
+    {"write_hoa", write_hoa},
     {"translate", translate},
 };
 

@@ -472,6 +472,24 @@ static int build_table(int count, char **operand)
     return YES;
 }
 
+static int hoa(int count, char **operand)
+{
+    rule r = open_rule(operand[0]);
+    mulgreddi_answer a = build(&r), written;
+    (void)count;
+    if (a.refusal)
+        return refused(r.file.path, a.refusal, &r.file);
+    size_t size = MULGREDDI_HOA_BOUND(a.first, a.second);
+    uint8_t *c = low_first(codes, a.first), *t = low_first(transitions, a.second), *text = room(size);
+    begin("writing");
+    written = mulgreddi_write_hoa(r.file.at, r.file.len, c, 8 * a.first, t, 8 * a.second, text, size);
+    end();
+    if (written.refusal)
+        return refused(r.file.path, written.refusal, &r.file);
+    save(option("out"), text, written.first);
+    return YES;
+}
+
 /* Prints, place by place, the states from which the rule accepts and the clause that each one takes. */
 static void print_choices(const rule *r, word w, const uint8_t *choices)
 {
@@ -744,6 +762,12 @@ static const command commands[] = {
      "1,048,576 transitions. A refusal is the line `refused` and the number.\n"
      "  --trimmed            only the macrostates that matter: those from which an accepting run exists\n",
      1, 1, list},
+    {"hoa", "[--trimmed] [--out=FILE] FILE", "trimmed out=",
+     "Writes the rule's automaton as a text in the Hanoi Omega-Automata format, version 1, which model checkers and\n"
+     "viewers read: a letter is the valuation of propositions e0, e1, .. that its number has in binary.\n"
+     "  --trimmed            only the macrostates that matter: those from which an accepting run exists\n"
+     "  --out=FILE           writes it there instead of to standard output\n",
+     1, 1, hoa},
     {"judge", "[--choices] [--codes=FILE --transitions=FILE] FILE WORD..", "choices codes= transitions=",
      "Judges words on the rule and prints a line each: the word, yes or no, and the masks: for each place, as\n"
      "two hexadecimal digits, the states from which the rule accepts there, state q having weight 2 to the q.\n"

@@ -10,6 +10,7 @@ use std::{env, fs};
 use second::build::{build, Macrostate};
 use second::choices::{judge_choices, FALSE};
 use second::events::translate;
+use second::hoa::write_hoa;
 use second::mixed::mixed_loop;
 use second::names::Name;
 use second::rule::{read_named, same_rules, take_apart, Named};
@@ -224,6 +225,17 @@ fn build_command(printed: &mut Printed, path: &str, options: &HashMap<String, St
     YES
 }
 
+fn hoa(printed: &mut Printed, path: &str, options: &HashMap<String, String>) -> i32 {
+    let file = load(path);
+    let (codes, transitions) = printed.served(table(&file, options.contains_key("trimmed")));
+    let text = printed.served(write_hoa(&file, &codes, &transitions, usize::MAX));
+    match options.get("out") {
+        None => printed.out = text,
+        Some(path) => fs::write(path, text).unwrap(),
+    }
+    YES
+}
+
 fn judge_one(
     printed: &mut Printed,
     file: &[u8],
@@ -429,6 +441,7 @@ fn main() {
     let status = match command.as_str() {
         "check" => check(printed, &operands),
         "list" => list(printed, &operands[0], options.contains_key("trimmed")),
+        "hoa" => hoa(printed, &operands[0], &options),
         "judge" => judge(printed, &operands, &options),
         "build" => build_command(printed, &operands[0], &options),
         "sheet" => sheet(printed, &operands, options.contains_key("lines")),
