@@ -124,6 +124,10 @@ $(BUILD)/reference_events: bench/reference_events.cpp
 	mkdir -p $(BUILD)
 	$(CXX) -O2 -std=c++17 -o $@ $<
 
+# bench/reference_hoa.cpp writes the text of a table, and reads it, in C++ beside the library
+$(BUILD)/reference_hoa: bench/reference_hoa.cpp include/mulgreddi.h $(LIB)
+	$(CXX) -O2 -std=c++17 -Iinclude -o $@ $< $(LIB)
+
 # bench/reference02.cpp trims in place, and next to it with a heap
 $(BUILD)/reference02: bench/reference02.cpp
 	mkdir -p $(BUILD)
@@ -134,11 +138,12 @@ STEP_BACK := target/bin/bench_step_back
 $(STEP_BACK): $(SOURCES)
 	rt check bench_step_back
 
-bench: $(LIB) $(STEP_BACK) $(BUILD)/reference $(BUILD)/reference02 $(BUILD)/reference_events
+bench: $(LIB) $(STEP_BACK) $(BUILD)/reference $(BUILD)/reference02 $(BUILD)/reference_events $(BUILD)/reference_hoa
 	STEP_BACK=$(CURDIR)/$(STEP_BACK) $(CARGO) run --release --offline --quiet --manifest-path compare/Cargo.toml --bin speed -- $(wildcard $(CURDIR)/bench/*.rule)
 	$(BUILD)/reference $(wildcard bench/*.rule)
 	$(BUILD)/reference02 trim $(wildcard bench/*.rule)
 	$(BUILD)/reference_events
+	$(BUILD)/reference_hoa $(wildcard bench/*.rule)
 
 $(BUILD)/%: examples/%.c include/mulgreddi.h $(LIB)
 	$(CC) $(CFLAGS) -Iinclude -o $@ $< $(LIB)
