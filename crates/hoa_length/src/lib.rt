@@ -1,10 +1,9 @@
-// How long the text of a table is: each line is written into a small room of its own, and their lengths are added up.
+// How long the text of a table is: line by line, added up. Lines that are few are written into a small room, edge lines are counted.
 use codes::is_accepting;
 use codes::is_initial;
 use codes::letter_of;
 use codes::target_of;
 use hoa_lines::put_ap;
-use hoa_lines::put_edge;
 use hoa_lines::put_start;
 use hoa_lines::put_state;
 use hoa_lines::put_states;
@@ -17,7 +16,8 @@ ghost use lib.ListN.{length};
 ghost use Rattle.theory.specs.Run.{sourceOf};
 ghost use Rattle.listing_lines_spec.specs.Lines.{initialAt, lines};
 ghost use Rattle.table_lent.specs.Lent.{wordsIn};
-ghost use Rattle.hoa_spec.specs.Lines.{startLine, stateLine, edgeLine};
+ghost use Rattle.slice_text.specs.Decimal.{word};
+ghost use Rattle.hoa_spec.specs.Lines.{startLine, stateLine, label, edgeLine};
 ghost use Rattle.hoa_spec.specs.Text.{flagsOf, startOf, stateOf, edgeOf, automatonText};
 
 // A start line, or nothing.
@@ -38,13 +38,49 @@ fn state_length(number: usize, accepting: bool) -> usize
     put_state(&mut line, 0, number, accepting)
 }
 
+// A number and the blank before it.
+fn word_length(x: usize) -> usize
+    requires { ⌜ x ≤ 65536 ⌝ }
+    ensures { λ r. ⌜ r ≡ length (word x) ⌝ }
+{
+    if x < 10 {
+        return 2;
+    }
+    if x < 100 {
+        return 3;
+    }
+    if x < 1000 {
+        return 4;
+    }
+    if x < 10000 {
+        return 5;
+    }
+    6
+}
+
+// A label.
+fn label_length(b: usize, letter: usize) -> usize
+    requires { ⌜ b ≤ 4 ⌝ }
+    ensures { λ r. ⌜ r ≡ length (label b letter) ⌝ }
+{
+    if b == 0 {
+        return 1;
+    }
+    let mut total = 2 - (letter & 1);
+    let mut i = 1;
+    while i < b {
+        total += 3 - ((letter >> i) & 1);
+        i += 1;
+    }
+    total
+}
+
 // An edge line.
 fn edge_length(b: usize, letter: usize, target: usize) -> usize
     requires { ⌜ (b ≤ 4) × (target ≤ 65536) ⌝ }
     ensures { λ r. ⌜ r ≡ length (edgeLine b letter target) ⌝ }
 {
-    let mut line = [0u8; 32];
-    put_edge(&mut line, 0, b, letter, target)
+    label_length(b, letter) + word_length(target) + 3
 }
 
 // All start lines and state lines.

@@ -1,20 +1,35 @@
--- `hoa_length::edge_length` meets its contract.
-use mathlib.Core.Path.{_∙_}
+-- `hoa_length::edge_length` meets its contract: the label, the target, and what stands around them.
+use Prim.Native.Nat.{_+_, _≤_}
 use native.Mathlib.Omega.{arith}
-use native.Mathlib.Nat.{zero-add}
 use borrow.Author.Needs.{needs}
-use Rattle.hoa_laws.proofs.Lengths.{edge-short}
+use Rattle.hoa_laws.proofs.Lengths.{word-short, label-length, edge-length}
 use Rattle.hoa_length.proofs.edge_length.Statement.{statement}
 use Rattle.hoa_length.proofs.edge_length.Tie as tie
 
-slice-aggregate-put-edge : tie.Need-slice-aggregate-put-edge
-slice-aggregate-put-edge c = search needs
+label-length-requires : tie.Need-label-length-requires
+label-length-requires c κs = search needs
 
-put-edge-requires : tie.Need-put-edge-requires
-put-edge-requires c κs = let a = c .before .args in (c .before .pre .0, omega (arith, edge-short (a .b) (a .letter) (a .target) (c .before .pre .0) (c .before .pre .1)))
+word-length-requires : tie.Need-word-length-requires
+word-length-requires c κs = search needs
+
+-- neither is long
+short : (c : tie.After-word-length) → c .before .label-length .result + c .word-length .result ≤ 17
+short c =
+    let a = c .before .before .args in
+    let p = c .before .before .pre in
+    omega (arith, c .before .label-length .ensures, c .word-length .ensures, label-length (a .b) (a .letter) (p .0), word-short (a .target) (p .1))
+
+add-result : tie.Need-add-result
+add-result c = omega (arith, short c)
+
+add-result-2 : tie.Need-add-result-2
+add-result-2 c = omega (arith, short c)
 
 returns : tie.Need-returns
-returns c = c .before .put-edge .ensures .ends ∙ zero-add _
+returns c =
+    let a = c .before .before .args in
+    omega (arith, c .before .label-length .ensures, c .word-length .ensures, edge-length (a .b) (a .letter) (a .target))
 
 pub edge-length-spec : {M : Type 1} → statement M
-edge-length-spec = tie.close (tie.spec slice-aggregate-put-edge put-edge-requires returns)
+edge-length-spec =
+    tie.close (tie.spec label-length-requires word-length-requires add-result add-result-2 returns)
