@@ -1,4 +1,4 @@
 pub mod Examples
 pub mod Room
 pub mod Rows
-pub mod Bound
+pub mod Served
