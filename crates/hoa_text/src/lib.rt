@@ -1,3 +1,3 @@
-// The text of a table that is lent in bytes: written into a slice, and how long it is.
+// The text of a table that is lent in bytes, written into a slice.
 pub mod table;
 pub mod writer;
