@@ -202,18 +202,18 @@ module _ (f xs zs : List ℕ) (n : Counts) (e : Table n ≡ trimmedOf f (length 
   unfolding trimmedOf
   counts = table-by (buildRow f (length xs) (length zs)) (trimmedCodes (ruleIn f)) (trimmedTransitions (ruleIn f)) n e
 
-  rows : (fileRow f ≡ 0) × (roomRow (macrostates (ruleIn f)) (transitions (ruleIn f)) (length xs) (length zs) ≡ 0)
+  pub rows : (fileRow f ≡ 0) × (roomRow (macrostates (ruleIn f)) (transitions (ruleIn f)) (length xs) (length zs) ≡ 0)
   unfolding buildRow roomRow fileRow
   rows = first-parts (fileRows f) _ (file-numbered f) (counts .0)
 
-  small : length (macrostates (ruleIn f)) ≤ 65536
+  pub small : length (macrostates (ruleIn f)) ≤ 65536
   small = room-few (macrostates (ruleIn f)) (transitions (ruleIn f)) (length xs) (length zs) (rows .1)
 
-  codes-are : take (n .macrostates) (trimmedCodesAfter f xs (length zs)) ≡ trimmedCodes (ruleIn f)
+  pub codes-are : take (n .macrostates) (trimmedCodesAfter f xs (length zs)) ≡ trimmedCodes (ruleIn f)
   unfolding trimmedCodesAfter
   codes-are = ap₂ (λ (k : ℕ) (l : List ℕ). take k l) (counts .1) (slice-none (buildRow f (length xs) (length zs)) (trimmedCodes (ruleIn f)) xs (counts .0)) ∙ take-append-seam (trimmedCodes (ruleIn f)) _
 
-  transitions-are : take (n .transitions) (trimmedTransitionsAfter f (length xs) zs) ≡ trimmedTransitions (ruleIn f)
+  pub transitions-are : take (n .transitions) (trimmedTransitionsAfter f (length xs) zs) ≡ trimmedTransitions (ruleIn f)
   unfolding trimmedTransitionsAfter
   transitions-are = ap₂ (λ (k : ℕ) (l : List ℕ). take k l) (counts .2) (slice-none (buildRow f (length xs) (length zs)) (trimmedTransitions (ruleIn f)) zs (counts .0)) ∙ take-append-seam (trimmedTransitions (ruleIn f)) _
 

@@ -55,6 +55,14 @@ module _ (r : Rule) (c a d : ℕ) (known : a < r .s) (M : Macrostate (automaton 
     };
   }
 
+  pub before-lead : matters-before .lead ≡ a ∷ D .lead
+  unfolding matters-before
+  before-lead = refl
+
+  pub before-cycle : matters-before .cycle ≡ D .cycle
+  unfolding matters-before
+  before-cycle = refl
+
 module _ (r : Rule) (P : Passing r) where
   -- so does the initial macrostate that it is reached from
   from-initial : {c : ℕ} → Reachable (automaton r) (r .s) (holdsInitial r) c → Matters r c → (d : ℕ) × (begun (holdsInitial r) d ≡ true) × Macrostate (automaton r) d × Matters r d
@@ -63,7 +71,8 @@ module _ (r : Rule) (P : Passing r) where
       from-initial R (matters-before r c a d l (reachable-macrostate (automaton r) (layered r P) (few-states r P) (components-there r P) (r .s) (holdsInitial r) R) G K)
 
   module _ (codes ts : List ℕ) (L : ListsReachable r codes ts) (room : length codes ≤ 65536) (D : Demand3 r codes ts) where
-    accepted : (d : ℕ) → begun (holdsInitial r) d ≡ true → Macrostate (automaton r) d → (K : Matters r d) → AcceptsWord r (K .lead) (K .cycle)
+    -- a word over which an initial macrostate goes on for ever is accepted
+    pub accepted : (d : ℕ) → begun (holdsInitial r) d ≡ true → Macrostate (automaton r) d → (K : Matters r d) → AcceptsWord r (K .lead) (K .cycle)
     accepted d e M K =
         let w = letters (K .lead) (K .cycle) in
         let first : Reachable (automaton r) (r .s) (holdsInitial r) (K .run 0) = rw (K .begins) (begins M e) in

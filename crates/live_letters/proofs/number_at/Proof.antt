@@ -1,0 +1,59 @@
+-- `live_letters::number_at` meets its contract.
+use mathlib.Core.Path.{_≡_, _∙_, ap}
+use Prim.Native.Nat.{ℕ, suc, _+_, _*_}
+use native.Mathlib.Numerals.{add-one}
+use native.Mathlib.Omega.{arith}
+use lib.ListN.{getD}
+use Rattle.live_spec.specs.State.{numberAt}
+use borrow.Author.Needs.{needs}
+use Rattle.live_letters.proofs.number_at.Statement.{statement}
+use Rattle.live_letters.proofs.number_at.Tie as tie
+
+byte-at-requires : tie.Need-byte-at-requires
+byte-at-requires c κs = search needs
+
+cast-n : tie.Need-cast-n
+cast-n c = search needs
+
+add-byte-at : tie.Need-add-byte-at
+add-byte-at c = search needs
+
+byte-at-requires-2 : tie.Need-byte-at-requires-2
+byte-at-requires-2 c κs = search needs
+
+cast-n-2 : tie.Need-cast-n-2
+cast-n-2 c = search needs
+
+mul-n : tie.Need-mul-n
+mul-n c = search needs
+
+add-n : tie.Need-add-n
+add-n c = search needs
+
+-- the second byte
+high : (c : tie.After-byte-at2) → c .byte-at2 .result ≡ getD (c .before .before .before .args .state .now) (suc (c .before .before .before .args .at)) 0
+high c =
+    let a = c .before .before .before .args in
+    c .byte-at2 .ensures ∙ ap (λ (k : ℕ). getD (a .state .now) k 0) (add-one (a .at))
+
+returns : tie.Need-returns
+unfolding numberAt
+returns c = omega (arith, high (c .before))
+
+returns-2 : tie.Need-returns-2
+unfolding numberAt
+returns-2 c = omega (arith, high (c .before))
+
+pub number-at-spec : {M : Type 1} → statement M
+number-at-spec =
+    tie.close
+    (tie.spec
+    byte-at-requires
+    cast-n
+    add-byte-at
+    byte-at-requires-2
+    cast-n-2
+    mul-n
+    add-n
+    returns
+    returns-2)

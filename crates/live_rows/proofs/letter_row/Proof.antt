@@ -1,0 +1,59 @@
+-- `live_rows::letter_row` meets its contract: a law for each call.
+use native.Mathlib.Omega.{arith}
+use Rattle.live_rows.proofs.Checks.{letter-start, letter-withdraw, letter-mark, letter-return, letter-unknown, letter-known}
+use borrow.Author.Needs.{needs}
+use Rattle.live_rows.proofs.letter_row.Statement.{statement}
+use Rattle.live_rows.proofs.letter_row.Tie as tie
+
+enum-told : tie.Need-enum-told
+enum-told c = search needs
+
+enum-known-call : tie.Need-enum-known-call
+enum-known-call c = search needs
+
+cast-if1 : tie.Need-cast-if1
+cast-if1 c = search needs
+
+returns : tie.Need-returns
+returns c = let a = c .before .before .before .before .args in letter-unknown (a .s) (a .call) _ (c .before .before .call .given .1) (omega (arith, c .if1 .taken))
+
+enum-told-2 : tie.Need-enum-told-2
+enum-told-2 c = search needs
+
+enum-told-3 : tie.Need-enum-told-3
+enum-told-3 c = search needs
+
+enum-told-4 : tie.Need-enum-told-4
+enum-told-4 c = search needs
+
+returns-2 : tie.Need-returns-2
+returns-2 c = let a = c .before .before .args in letter-start (a .s) (a .call) (c .enum-told .given .1)
+
+returns-3 : tie.Need-returns-3
+returns-3 c = let a = c .before .before .before .before .args in letter-known (a .s) (a .call) _ (c .before .before .call .given .1) (omega (arith, c .if1 .left))
+
+returns-4 : tie.Need-returns-4
+returns-4 c = let a = c .before .before .args in letter-withdraw (a .s) (a .call) (c .enum-told2 .given .1)
+
+returns-5 : tie.Need-returns-5
+returns-5 c = let a = c .before .before .args in letter-mark (a .s) (a .call) _ (c .enum-told3 .given .1)
+
+returns-6 : tie.Need-returns-6
+returns-6 c = let a = c .before .before .args in letter-return (a .s) (a .call) _ (c .enum-told4 .given .1)
+
+pub letter-row-spec : {M : Type 1} → statement M
+letter-row-spec =
+    tie.close
+    (tie.spec
+    enum-told
+    enum-known-call
+    cast-if1
+    returns
+    enum-told-2
+    enum-told-3
+    enum-told-4
+    returns-2
+    returns-3
+    returns-4
+    returns-5
+    returns-6)

@@ -1,0 +1,80 @@
+-- `live_set::begin_set` meets its contract.
+use mathlib.Core.Path.{_≡_, refl, sym, _∙_, ap}
+use Prim.Native.Nat.{ℕ, _-_, _<_, _≤_}
+use native.Mathlib.Omega.{arith}
+use lib.ListN.{length, getD, length-set}
+use Rattle.sets.specs.Masks.{bit}
+use Rattle.sets.specs.Tests.{one}
+use Rattle.sets.proofs.Walks.{put-next}
+use Rattle.theory.specs.Macrostate.{begun}
+use Rattle.table_lent.specs.Lent.{wordsIn}
+use Rattle.table_lent.proofs.Reading.{words-in-length, words-in-at}
+use Rattle.live_set.proofs.Sets.{initial-end}
+use Rattle.live_set.proofs.begin_set.Statement.{statement}
+use Rattle.live_set.proofs.begin_set.Tie as tie
+
+abbrev Inv-loop : tie.InvT-loop
+Inv-loop initial codes set₀ i₀ set i =
+    (length set ≡ length set₀) × (i ≤ length set₀) × ((j : ℕ) → j < i → getD set j 0 ≡ one (begun (λ c. bit c initial) (getD (wordsIn codes) j 0)))
+
+abbrev μ-loop : tie.MeasureT-loop
+μ-loop initial codes set₀ i₀ set i = length set₀ - i
+
+loop-holds : tie.Need-loop-holds Inv-loop μ-loop
+loop-holds c = (refl, omega arith, λ j l. absurd (omega arith))
+
+mul-word-at : tie.Need-mul-word-at Inv-loop μ-loop
+mul-word-at c = omega (arith, words-in-length (c .before .before .before .before .args .codes .now))
+
+word-at-requires : tie.Need-word-at-requires Inv-loop μ-loop
+word-at-requires c κs = omega (arith, words-in-length (c .before .before .before .before .args .codes .now))
+
+first-byte-requires : tie.Need-first-byte-requires Inv-loop μ-loop
+first-byte-requires c κs = c .before .before .before .before .before .pre .0
+
+slice-write-set : tie.Need-slice-write-set Inv-loop μ-loop
+slice-write-set c = omega arith
+
+add-i : tie.Need-add-i Inv-loop μ-loop
+add-i c = omega arith
+
+loop-less : tie.Need-loop-less Inv-loop μ-loop
+loop-less c = omega arith
+
+loop-again : tie.Need-loop-again Inv-loop μ-loop
+loop-again c =
+    let a = c .before .before .before .before .before .before .args in
+    let l = c .before .before .before .loop in
+    let code : c .before .word-at .result ≡ getD (wordsIn (a .codes .now)) (l .i) 0 =
+    c .before .word-at .ensures ∙ sym (words-in-at (a .codes .now) (l .i) (omega (arith, words-in-length (a .codes .now)))) in (
+      length-set (l .set) (l .i) _ ∙ l .inv .0,
+      omega arith,
+      put-next (λ j. one (begun (λ x. bit x (a .initial)) (getD (wordsIn (a .codes .now)) j 0))) (l .set) (l .i) _ (omega arith)
+          (c .first-byte .ensures ∙ ap (λ (x : ℕ). one (begun (λ y. bit y (a .initial)) x)) code) (l .inv .2),
+    )
+
+same-length : tie.Need-same-length Inv-loop μ-loop
+same-length c = c .before .loop .inv .0
+
+returns : tie.Need-returns Inv-loop μ-loop
+returns c =
+    let a = c .before .before .before .before .args in
+    let l = c .before .loop in
+    initial-end (a .initial) (wordsIn (a .codes .now)) (l .set) (l .inv .0 ∙ c .before .before .before .before .pre .1) (λ j k. l .inv .2 j (omega (arith, l .inv .0, c .before .before .before .before .pre .1)))
+
+pub begin-set-spec : {M : Type 1} → statement M
+begin-set-spec =
+    tie.close
+    (tie.spec
+    Inv-loop
+    μ-loop
+    loop-holds
+    mul-word-at
+    word-at-requires
+    first-byte-requires
+    slice-write-set
+    add-i
+    loop-less
+    loop-again
+    same-length
+    returns)

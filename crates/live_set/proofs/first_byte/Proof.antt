@@ -1,0 +1,18 @@
+-- `live_set::first_byte` meets its contract.
+use mathlib.Core.Path.{sym, _∙_, ap}
+use borrow.Author.Needs.{needs}
+use Rattle.sets.specs.Tests.{one}
+use Rattle.live_set.proofs.first_byte.Statement.{statement}
+use Rattle.live_set.proofs.first_byte.Tie as tie
+
+is-initial-requires : tie.Need-is-initial-requires
+is-initial-requires c κs = search needs
+
+returns : tie.Need-returns
+returns c = ap one (sym (c .if1 .taken) ∙ c .before .is-initial .ensures)
+
+returns-2 : tie.Need-returns-2
+returns-2 c = ap one (sym (c .if1 .left) ∙ c .before .is-initial .ensures)
+
+pub first-byte-spec : {M : Type 1} → statement M
+first-byte-spec = tie.close (tie.spec is-initial-requires returns returns-2)

@@ -1,0 +1,84 @@
+-- `live_set::show_set` meets its contract.
+use mathlib.Core.Path.{_≡_, sym, _∙_}
+use Prim.Native.Nat.{_-_, _≤_}
+use native.Mathlib.Omega.{arith}
+use borrow.Author.Needs.{needs}
+use Rattle.live_spec.specs.Afresh.{isIn, membersOf}
+use Rattle.live_spec.specs.State.{setIn}
+use Rattle.live_spec.specs.Effects.{shown}
+use Rattle.live_set.proofs.Shown.{Showing, showing-start, showing-next, showing-end, shown-at}
+use Rattle.live_set.proofs.show_set.Statement.{statement}
+use Rattle.live_set.proofs.show_set.Tie as tie
+
+abbrev Inv-loop : tie.InvT-loop
+Inv-loop n state set₀ members₀ i₀ set members i = (i ≤ n) × Showing (isIn (setIn state)) set₀ set members i
+
+abbrev μ-loop : tie.MeasureT-loop
+μ-loop n state set₀ members₀ i₀ set members i = n - i
+
+loop-holds : tie.Need-loop-holds Inv-loop μ-loop
+loop-holds c =
+    let a = c .before .before .args in
+    (omega arith, showing-start (isIn (setIn (a .state .now))) (a .set .now))
+
+add-flag : tie.Need-add-flag Inv-loop μ-loop
+add-flag c = omega arith
+
+shared-slice-read-flag : tie.Need-shared-slice-read-flag Inv-loop μ-loop
+shared-slice-read-flag c = omega arith
+
+flag-requires : tie.Need-flag-requires Inv-loop μ-loop
+flag-requires c κs = search needs
+
+slice-write-set : tie.Need-slice-write-set Inv-loop μ-loop
+slice-write-set c = omega arith
+
+cast-members : tie.Need-cast-members Inv-loop μ-loop
+cast-members c = omega arith
+
+add-members : tie.Need-add-members Inv-loop μ-loop
+add-members c = omega arith
+
+add-i : tie.Need-add-i Inv-loop μ-loop
+add-i c = omega arith
+
+loop-less : tie.Need-loop-less Inv-loop μ-loop
+loop-less c = omega arith
+
+loop-again : tie.Need-loop-again Inv-loop μ-loop
+loop-again c =
+    let a = c .before .before .before .before .before .before .args in
+    let l = c .before .before .before .loop in
+    let e = c .flag .ensures ∙ shown-at (a .state .now) (l .i) in
+    (omega arith, showing-next (isIn (setIn (a .state .now))) (a .set .now) (l .set) (l .members) (l .i) (c .flag .result) (omega arith) e (l .inv .1))
+
+same-length : tie.Need-same-length Inv-loop μ-loop
+same-length c = c .before .loop .inv .1 .long
+
+returns : tie.Need-returns Inv-loop μ-loop
+unfolding shown membersOf
+returns c =
+    let a = c .before .before .before .before .args in
+    let l = c .before .loop in
+    let all : l .i ≡ a .n = omega arith in
+    let s = rw all at (l .inv .1) in
+    (showing-end (isIn (setIn (a .state .now))) (a .set .now) (l .set) (l .members) (a .n) (c .before .before .before .before .pre .1) s, s .counted)
+
+pub show-set-spec : {M : Type 1} → statement M
+show-set-spec =
+    tie.close
+    (tie.spec
+    Inv-loop
+    μ-loop
+    loop-holds
+    add-flag
+    shared-slice-read-flag
+    flag-requires
+    slice-write-set
+    cast-members
+    add-members
+    add-i
+    loop-less
+    loop-again
+    same-length
+    returns)

@@ -1,0 +1,89 @@
+-- `live_set::sweep` meets its contract.
+use mathlib.Core.Path.{_≡_, sym, _∙_}
+use Prim.Native.Nat.{_-_, _/_, _<_, _≤_}
+use native.Mathlib.Omega.{arith}
+use lib.ListN.{length, getD, take}
+use Rattle.sets.proofs.Lists.{mem-at}
+use Rattle.theory.specs.Run.{sourceOf, targetOf}
+use Rattle.table_lent.specs.Lent.{wordsIn}
+use Rattle.table_lent.proofs.Reading.{words-in-length, words-in-at}
+use Rattle.live_set.specs.Sweeps.{Swept, moved}
+use Rattle.live_set.proofs.Sets.{swept-start, swept-next, swept-end}
+use Rattle.live_set.proofs.sweep.Statement.{statement}
+use Rattle.live_set.proofs.sweep.Tie as tie
+
+abbrev Inv-loop : tie.InvT-loop
+Inv-loop letter transitions set₀ m i₀ set i = (i ≤ m) × Swept letter (take i (wordsIn transitions)) set₀ set
+
+abbrev μ-loop : tie.MeasureT-loop
+μ-loop letter transitions set₀ m i₀ set i = m - i
+
+loop-holds : tie.Need-loop-holds Inv-loop μ-loop
+loop-holds c = (omega arith, swept-start (c .before .before .args .letter) (wordsIn (c .before .before .args .transitions .now)) (c .before .before .args .set .now) (c .before .before .pre .1))
+
+mul-word-at : tie.Need-mul-word-at Inv-loop μ-loop
+mul-word-at c = omega arith
+
+word-at-requires : tie.Need-word-at-requires Inv-loop μ-loop
+word-at-requires c κs = omega arith
+
+-- the transition at place i, and that its ends are in range
+at : (c : tie.After-word-at Inv-loop μ-loop) → c .word-at .result ≡ getD (wordsIn (c .before .before .before .before .before .args .transitions .now)) (c .before .before .loop .i) 0
+at c =
+    let bytes = c .before .before .before .before .before .args .transitions .now in
+    c .word-at .ensures ∙ sym (words-in-at bytes (c .before .before .loop .i) (omega arith))
+
+move-over-requires : tie.Need-move-over-requires Inv-loop μ-loop
+move-over-requires c κs =
+    let a = c .before .before .before .before .before .before .args in
+    let inside = c .before .before .before .before .before .before .pre .0 in
+    let l = c .before .before .before .loop in
+    let ts = wordsIn (a .transitions .now) in
+    let m = mem-at ts (l .i) (omega (arith, words-in-length (a .transitions .now))) in
+    let long : length (l .set) ≡ length (a .set .now) = l .inv .1 .long in
+    let e = at (c .before) in
+    (rw e (omega (arith, inside .sources (getD ts (l .i) 0) m)), rw e (omega (arith, inside .targets (getD ts (l .i) 0) m)))
+
+add-i : tie.Need-add-i Inv-loop μ-loop
+add-i c = omega arith
+
+loop-less : tie.Need-loop-less Inv-loop μ-loop
+loop-less c = omega arith
+
+loop-again : tie.Need-loop-again Inv-loop μ-loop
+loop-again c =
+    let a = c .before .before .before .before .before .before .before .before .before .args in
+    let pre = c .before .before .before .before .before .before .before .before .before .pre in
+    let l = c .before .before .before .before .before .before .loop in
+    let ts = wordsIn (a .transitions .now) in
+    let inside : l .i < length ts = omega (arith, words-in-length (a .transitions .now)) in
+    let m = mem-at ts (l .i) inside in
+    let next = swept-next (a .letter) ts (a .set .now) (pre .1) (l .set) (l .i) inside (pre .0 .sources _ m) (pre .0 .targets _ m) (l .inv .1) in
+    let e : c .before .before .move-over .last .1 .1 .0 ≡ moved (a .letter) (getD ts (l .i) 0) (l .set) = c .before .before .move-over .ensures ∙ rw (at (c .before .before .before .before)) in
+    (omega arith, rw e next)
+
+same-length : tie.Need-same-length Inv-loop μ-loop
+same-length c = c .before .loop .inv .1 .long
+
+returns : tie.Need-returns Inv-loop μ-loop
+returns c =
+    let a = c .before .before .before .before .args in
+    let l = c .before .loop in
+    let ts = wordsIn (a .transitions .now) in
+    swept-end (a .letter) ts (a .set .now) (c .before .before .before .before .pre .1) (l .set) (l .i) (omega (arith, words-in-length (a .transitions .now))) (l .inv .1)
+
+pub sweep-spec : {M : Type 1} → statement M
+sweep-spec =
+    tie.close
+    (tie.spec
+    Inv-loop
+    μ-loop
+    loop-holds
+    mul-word-at
+    word-at-requires
+    move-over-requires
+    add-i
+    loop-less
+    loop-again
+    same-length
+    returns)

@@ -1,0 +1,61 @@
+-- `live_state::set_part::begin` meets its contract.
+use mathlib.Core.Path.{_≡_, _∙_, ap}
+use mathlib.Core.List.{List}
+use Prim.Native.Nat.{ℕ, _+_, _-_, _/_}
+use native.Mathlib.Omega.{arith}
+use lib.ListN.{length, drop, length-drop}
+use lib.Seq.{length-take-le}
+use Rattle.table_lent.specs.Lent.{wordsIn}
+use Rattle.table_lent.proofs.Reading.{words-in-length}
+use Rattle.live_spec.specs.State.{setAt}
+use Rattle.live_spec.specs.Effects.{put, withSet}
+use Rattle.live_letters.proofs.Puts.{put-mid}
+use Rattle.live_state.proofs.Replays.{initial-long}
+use borrow.Author.Needs.{needs}
+use Rattle.live_state.proofs.set_part.begin.Statement.{statement}
+use Rattle.live_state.proofs.set_part.begin.Tie as tie
+
+add-end : tie.Need-add-end
+add-end c = search needs
+
+sub-begin-set : tie.Need-sub-begin-set
+sub-begin-set c = search needs
+
+part-begin-set-start : tie.Need-part-begin-set-start
+part-begin-set-start c = search needs
+
+part-begin-set-end : tie.Need-part-begin-set-end
+part-begin-set-end c = omega (arith, words-in-length (c .before .before .args .codes .now))
+
+begin-set-requires : tie.Need-begin-set-requires
+begin-set-requires c κs =
+    let a = c .before .before .before .args in
+    let w = words-in-length (a .codes .now) in
+    let k = setAt + length (a .codes .now) / 8 - setAt in
+    let same : k ≡ length (wordsIn (a .codes .now)) = omega arith in
+    (c .before .before .before .pre .0, length-take-le k (drop setAt (a .state .now)) (omega (arith, length-drop setAt (a .state .now))) ∙ same)
+
+same-length : tie.Need-same-length
+same-length c = search needs
+
+returns : tie.Need-returns
+unfolding withSet
+returns c =
+    let a = c .before .before .before .before .before .before .args in
+    let w = words-in-length (a .codes .now) in
+    let e = c .before .before .begin-set .ensures in
+    let long = ap (λ (l : List ℕ). length l) e ∙ initial-long (a .initial) (wordsIn (a .codes .now)) in
+    let same : length (wordsIn (a .codes .now)) ≡ setAt + length (a .codes .now) / 8 - setAt = omega arith in
+    put-mid setAt _ _ (a .state .now) (long ∙ same) ∙ ap (λ (s : List ℕ). put setAt s (a .state .now)) e
+
+pub begin-spec : {M : Type 1} → statement M
+begin-spec =
+    tie.close
+    (tie.spec
+    add-end
+    sub-begin-set
+    part-begin-set-start
+    part-begin-set-end
+    begin-set-requires
+    same-length
+    returns)

@@ -1,0 +1,87 @@
+-- `live_state::set_part::replay` meets its contract.
+use mathlib.Core.Path.{_≡_, refl, _∙_, ap, ap₂}
+use mathlib.Core.List.{List}
+use Prim.Native.Nat.{ℕ, _+_, _-_, _≤_, _<_}
+use native.Mathlib.Omega.{arith}
+use lib.ListN.{length, getD}
+use Rattle.table_lent.specs.Lent.{wordsIn}
+use Rattle.live_spec.specs.Afresh.{stepped}
+use Rattle.live_spec.specs.State.{setIn, lettersIn, lettersAtByte, numberIn}
+use Rattle.live_spec.specs.Effects.{withSet}
+use Rattle.live_state.proofs.Replays.{number-low, after, replay-start, replay-long, replay-letter, replay-next, replay-end}
+use Rattle.live_state.proofs.set_part.replay.Statement.{statement}
+use Rattle.live_state.proofs.set_part.replay.Tie as tie
+
+abbrev Inv-loop : tie.InvT-loop
+Inv-loop n transitions state₀ m i₀ state i = (i ≤ m) × (length state ≡ length state₀) × (state ≡ withSet (after n (wordsIn transitions) state₀ i) state₀)
+
+abbrev μ-loop : tie.MeasureT-loop
+μ-loop n transitions state₀ m i₀ state i = m - i
+
+number-at-requires : tie.Need-number-at-requires Inv-loop μ-loop
+number-at-requires c κs = omega arith
+
+loop-holds : tie.Need-loop-holds Inv-loop μ-loop
+loop-holds c =
+    let a = c .before .before .before .before .args in
+    (omega arith, refl, replay-start (a .n) (wordsIn (a .transitions .now)) (a .state .now) (c .before .before .before .before .pre .1))
+
+add-letter : tie.Need-add-letter Inv-loop μ-loop
+add-letter c = omega (arith, number-low (c .before .before .before .before .before .before .args .state .now), c .before .before .number-at .ensures)
+
+slice-read-letter : tie.Need-slice-read-letter Inv-loop μ-loop
+slice-read-letter c = omega (arith, c .before .before .loop .inv .1, number-low (c .before .before .before .before .before .before .before .args .state .now), c .before .before .before .number-at .ensures)
+
+step-requires : tie.Need-step-requires Inv-loop μ-loop
+step-requires c κs =
+    let pre = c .before .before .before .before .before .before .before .before .pre in
+    (pre .0, omega (arith, pre .1, c .before .before .before .loop .inv .1))
+
+add-i : tie.Need-add-i Inv-loop μ-loop
+add-i c = omega arith
+
+loop-less : tie.Need-loop-less Inv-loop μ-loop
+loop-less c = omega arith
+
+loop-again : tie.Need-loop-again Inv-loop μ-loop
+loop-again c =
+    let a = c .before .before .before .before .before .before .before .before .before .before .before .args in
+    let pre = c .before .before .before .before .before .before .before .before .before .before .before .pre in
+    let l = c .before .before .before .before .before .before .loop in
+    let ts = wordsIn (a .transitions .now) in
+    let more : l .i < numberIn (a .state .now) = omega (arith, c .before .before .before .before .before .before .before .number-at .ensures) in
+    let letter : getD (l .state) (lettersAtByte + l .i) 0 ≡ getD (lettersIn (a .state .now)) (l .i) 0 =
+    ap (λ (s : List ℕ). getD s (lettersAtByte + l .i) 0) (l .inv .2) ∙ replay-letter (a .n) ts (a .state .now) (pre .1) (l .i) more in
+    let next : c .before .before .step .last .1 .1 .1 .0 ≡ withSet (after (a .n) ts (a .state .now) (l .i + 1)) (a .state .now) =
+    c .before .before .step .ensures
+    ∙ ap₂ (λ (x : ℕ) (s : List ℕ). withSet (stepped (a .n) ts x (setIn s)) s) letter (l .inv .2)
+    ∙ replay-next (a .n) ts (a .state .now) (pre .1) (l .i) more (pre .0) in
+    (omega arith, ap (λ (s : List ℕ). length s) next ∙ replay-long (a .n) ts (a .state .now) (pre .1) (l .i + 1), next)
+
+same-length : tie.Need-same-length Inv-loop μ-loop
+same-length c = c .before .loop .inv .1
+
+returns : tie.Need-returns Inv-loop μ-loop
+returns c =
+    let a = c .before .before .before .before .before .before .args in
+    let pre = c .before .before .before .before .before .before .pre in
+    let l = c .before .loop in
+    let all : numberIn (a .state .now) ≤ l .i = omega (arith, c .before .before .number-at .ensures) in
+    l .inv .2 ∙ replay-end (a .n) (wordsIn (a .transitions .now)) (a .state .now) (pre .1) (l .i) all
+
+pub replay-spec : {M : Type 1} → statement M
+replay-spec =
+    tie.close
+    (tie.spec
+    Inv-loop
+    μ-loop
+    number-at-requires
+    loop-holds
+    add-letter
+    slice-read-letter
+    step-requires
+    add-i
+    loop-less
+    loop-again
+    same-length
+    returns)

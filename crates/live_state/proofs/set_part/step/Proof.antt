@@ -1,0 +1,60 @@
+-- `live_state::set_part::step` meets its contract.
+use mathlib.Core.Path.{_≡_, sym, _∙_, ap}
+use mathlib.Core.List.{List}
+use Prim.Native.Nat.{ℕ, _+_, _-_}
+use native.Mathlib.Omega.{arith}
+use lib.ListN.{length, take, drop, length-drop}
+use lib.Seq.{length-take-le}
+use Rattle.table_lent.specs.Lent.{wordsIn}
+use Rattle.live_spec.specs.State.{setAt}
+use Rattle.live_spec.specs.Effects.{put, withSet}
+use Rattle.live_letters.proofs.Puts.{put-mid}
+use Rattle.live_state.proofs.Replays.{step-part, step-long}
+use borrow.Author.Needs.{needs}
+use Rattle.live_state.proofs.set_part.step.Statement.{statement}
+use Rattle.live_state.proofs.set_part.step.Tie as tie
+
+add-end : tie.Need-add-end
+add-end c = search needs
+
+sub-step-set : tie.Need-sub-step-set
+sub-step-set c = search needs
+
+part-step-set-start : tie.Need-part-step-set-start
+part-step-set-start c = search needs
+
+part-step-set-end : tie.Need-part-step-set-end
+part-step-set-end c = search needs
+
+step-set-requires : tie.Need-step-set-requires
+step-set-requires c κs =
+    let a = c .before .before .before .args in
+    let long : length (take (setAt + a .n - setAt) (drop setAt (a .state .now))) ≡ a .n =
+    length-take-le (setAt + a .n - setAt) (drop setAt (a .state .now)) (omega (arith, length-drop setAt (a .state .now))) ∙ omega arith in
+    rw long (c .before .before .before .pre .0)
+
+same-length : tie.Need-same-length
+same-length c = search needs
+
+returns : tie.Need-returns
+unfolding withSet
+returns c =
+    let a = c .before .before .before .before .before .before .args in
+    let pre = c .before .before .before .before .before .before .pre in
+    let ts = wordsIn (a .transitions .now) in
+    let same : setAt + a .n - setAt ≡ a .n = omega arith in
+    let e = c .before .before .step-set .ensures ∙ step-part setAt (setAt + a .n - setAt) (a .n) (a .letter) ts (a .state .now) same (pre .1) (pre .0) in
+    let long = ap (λ (l : List ℕ). length l) e ∙ step-long (a .n) ts (a .letter) (drop setAt (a .state .now)) in
+    put-mid setAt _ _ (a .state .now) (long ∙ sym same) ∙ ap (λ (s : List ℕ). put setAt s (a .state .now)) e
+
+pub step-spec : {M : Type 1} → statement M
+step-spec =
+    tie.close
+    (tie.spec
+    add-end
+    sub-step-set
+    part-step-set-start
+    part-step-set-end
+    step-set-requires
+    same-length
+    returns)
