@@ -128,7 +128,7 @@ $(BUILD)/reference_events: bench/reference_events.cpp
 $(BUILD)/reference_hoa: bench/reference_hoa.cpp include/mulgreddi.h $(LIB)
 	$(CXX) -O2 -std=c++17 -Iinclude -o $@ $< $(LIB)
 
-# bench/reference02.cpp trims in place, and next to it with a heap
+# bench/reference02.cpp trims in place and follows a log live, and next to each does it with a heap
 $(BUILD)/reference02: bench/reference02.cpp
 	mkdir -p $(BUILD)
 	$(CXX) -O2 -std=c++17 -o $@ $<
@@ -142,6 +142,7 @@ bench: $(LIB) $(STEP_BACK) $(BUILD)/reference $(BUILD)/reference02 $(BUILD)/refe
 	STEP_BACK=$(CURDIR)/$(STEP_BACK) $(CARGO) run --release --offline --quiet --manifest-path compare/Cargo.toml --bin speed -- $(wildcard $(CURDIR)/bench/*.rule)
 	$(BUILD)/reference $(wildcard bench/*.rule)
 	$(BUILD)/reference02 trim $(wildcard bench/*.rule)
+	$(BUILD)/reference02 live $(wildcard bench/*.rule)
 	$(BUILD)/reference_events
 	$(BUILD)/reference_hoa $(wildcard bench/*.rule)
 

@@ -4,9 +4,9 @@
  * each, low byte first, its name says so (codes_bytes). The length of a slice of uint64_t is in elements (codes_count). A pointer is not
  * NULL, even where the length is 0. A slice that is written overlaps no other slice of the call. A slice of uint64_t is aligned to 8 bytes.
  *
- * Every function ends, stays inside the memory lent to it, and keeps nothing. There is no state between calls, nothing to set up and
- * nothing to free, so several threads may call at once, each with its own written slices. A call needs at most MULGREDDI_STACK bytes of
- * stack.
+ * Every function ends, stays inside the memory lent to it, and keeps nothing. There is no state between calls but what the caller lends
+ * to the live calls, nothing to set up and nothing to free, so several threads may call at once, each with its own written slices. A call
+ * needs at most MULGREDDI_STACK bytes of stack.
  */
 #ifndef MULGREDDI_H
 #define MULGREDDI_H
@@ -35,6 +35,9 @@
 #define MULGREDDI_MACROSTATES_MAX 65536    /* elements of codes that are used */
 #define MULGREDDI_TRANSITIONS_MAX 1048576  /* elements of transitions that are used */
 #define MULGREDDI_EVENTS_MAX 320           /* bytes of an event table: 64 lines of 5 */
+#define MULGREDDI_LIVE_STATE 74290         /* bytes of the state of a live log */
+#define MULGREDDI_LIVE_LETTERS 512         /* letters that a live log holds */
+#define MULGREDDI_LIVE_MARKS 16            /* marks of a live log, 0 to 15 */
 #define MULGREDDI_STACK 65536              /* bytes of stack that a call needs at most; measured (tests/stack.c): under 10,000 */
 
 #ifdef __cplusplus
@@ -76,7 +79,11 @@ enum {
     MULGREDDI_WORDS = 24,            /* a sheet of more than 64 words */
     MULGREDDI_EVENT_LINE = 25,       /* an event line with lowest above highest, a letter not below s, cut off, or the 65th */
     MULGREDDI_COVERED_LINE = 26,     /* an event line all of whose pairs fall in earlier lines */
-    MULGREDDI_NO_LINE = 27           /* an event in no line */
+    MULGREDDI_NO_LINE = 27,          /* an event in no line */
+    MULGREDDI_LOG_FULL = 30,         /* arrival at 512 letters */
+    MULGREDDI_LOG_EMPTY = 31,        /* withdrawal from none */
+    MULGREDDI_MARK = 32,             /* mark number above 15 */
+    MULGREDDI_MARK_NOT_SET = 33      /* return to a mark not set since the start */
 };
 
 /* The text of a refusal, one for each constant above: what is wrong with the input, in a few words. */
@@ -97,7 +104,7 @@ static inline const char *mulgreddi_refusal_text(uint64_t refusal)
     case MULGREDDI_MIXED: return "a component has accepting and rejecting states";
     case MULGREDDI_NO_CYCLE: return "the cycle of a word is empty";
     case MULGREDDI_LONG_WORD: return "a lead-in or a cycle has more than 32 letters";
-    case MULGREDDI_LETTER: return "a letter of the word is not a letter of the rule";
+    case MULGREDDI_LETTER: return "a letter is not one of the rule's";
     case MULGREDDI_TABLE: return "codes and transitions are not a table";
     case MULGREDDI_SLICE: return "a result or scratch slice is too short";
     case MULGREDDI_MACROSTATE_ROOM: return "more reachable macrostates than room";
@@ -110,6 +117,10 @@ static inline const char *mulgreddi_refusal_text(uint64_t refusal)
     case MULGREDDI_EVENT_LINE: return "an event line has lowest above highest or no letter of the rule, is cut off, or is the 65th";
     case MULGREDDI_COVERED_LINE: return "an event line can never be first: earlier lines hold all of its events";
     case MULGREDDI_NO_LINE: return "an event of the log is in no event line";
+    case MULGREDDI_LOG_FULL: return "the live log holds 512 letters already";
+    case MULGREDDI_LOG_EMPTY: return "the live log holds no letter to withdraw";
+    case MULGREDDI_MARK: return "the number of a mark is not 0 to 15";
+    case MULGREDDI_MARK_NOT_SET: return "the mark was not set since the start";
     default: return "not a refusal of this version";
     }
 }
@@ -264,6 +275,41 @@ mulgreddi_answer mulgreddi_write_hoa(const uint8_t *file, size_t file_len, const
  * The rule's refusals, 25 over the whole table, 26, 27, and 16 where letters is shorter than the number of events. */
 mulgreddi_answer mulgreddi_translate(const uint8_t *file, size_t file_len, const uint8_t *events, size_t events_len,
                                      const uint8_t *log, size_t log_len, uint8_t *letters, size_t letters_len);
+
+/* Follow a log live, on the table of mulgreddi_build_trimmed: which macrostates are reachable from the initial ones over the letters held?
+ * Start with none; then letters arrive, and the last one may be withdrawn. Sixteen marks, 0 to 15, may be set, set again and returned to;
+ * a return brings back the letters and the set held when that mark was last set, and changes no mark. A start clears all marks.
+ *
+ * Every call but the start gets the rule, the table and the state of the call before it, all as they were; state may be copied elsewhere in
+ * between. Then the set is the one worked out afresh over the letters held: it is empty exactly if no continuation of them, with a lead-in
+ * and a cycle of any length, is accepted by the rule. Of any other bytes in state and any other table that refusal 15 lets pass, a call
+ * ends, stays inside its memory and does as told in docs/FORMAT.md.
+ *
+ * codes and transitions are bytes, as for mulgreddi_judge_table. state has MULGREDDI_LIVE_STATE bytes, of any content before a start. set
+ * gets a byte for each macrostate, 1 in the set and 0 not; what it held before is not read. What follows in both slices is not touched.
+ * first: letters held. second: macrostates in the set.
+ * The rule's refusals, 14 for a letter that arrives, 15, one of 30 to 33, and 16; a refused call changes nothing. 30 to 33 are tried on
+ * whatever bytes state has, one that is not there being 0.
+ * Time: an arrival goes once over the transitions, a withdrawal and a return once for each letter then held. */
+mulgreddi_answer mulgreddi_live_start(const uint8_t *file, size_t file_len, const uint8_t *codes, size_t codes_bytes,
+                                      const uint8_t *transitions, size_t transitions_bytes,
+                                      uint8_t *state, size_t state_len, uint8_t *set, size_t set_len);
+/* A letter arrives: 14 if it is not below s, 30 where 512 letters are held. */
+mulgreddi_answer mulgreddi_live_arrive(const uint8_t *file, size_t file_len, uint32_t letter, const uint8_t *codes, size_t codes_bytes,
+                                       const uint8_t *transitions, size_t transitions_bytes,
+                                       uint8_t *state, size_t state_len, uint8_t *set, size_t set_len);
+/* The last letter is withdrawn: 31 where none is held. */
+mulgreddi_answer mulgreddi_live_withdraw(const uint8_t *file, size_t file_len, const uint8_t *codes, size_t codes_bytes,
+                                         const uint8_t *transitions, size_t transitions_bytes,
+                                         uint8_t *state, size_t state_len, uint8_t *set, size_t set_len);
+/* A mark is set, or set again: 32 if it is above 15. Letters and set stay. */
+mulgreddi_answer mulgreddi_live_mark(const uint8_t *file, size_t file_len, uint32_t mark, const uint8_t *codes, size_t codes_bytes,
+                                     const uint8_t *transitions, size_t transitions_bytes,
+                                     uint8_t *state, size_t state_len, uint8_t *set, size_t set_len);
+/* Back to a mark: 32 if it is above 15, then 33 if it was not set since the start. */
+mulgreddi_answer mulgreddi_live_return(const uint8_t *file, size_t file_len, uint32_t mark, const uint8_t *codes, size_t codes_bytes,
+                                       const uint8_t *transitions, size_t transitions_bytes,
+                                       uint8_t *state, size_t state_len, uint8_t *set, size_t set_len);
 
 /* Helpers: what a caller reads off a file that was served, a code and a transition. */
 

@@ -94,6 +94,20 @@ static void translate(void)
     mulgreddi_translate(file, file_len, events, sizeof events, log_bytes, sizeof log_bytes, out, sizeof out);
 }
 
+/* letters, a mark and a return, on the table that was built last */
+static void live(void)
+{
+    static uint8_t state[MULGREDDI_LIVE_STATE], set[MULGREDDI_MACROSTATES_MAX];
+    const uint8_t *c = (const uint8_t *)codes, *t = (const uint8_t *)transitions;
+    size_t cn = 8 * built.first, tn = 8 * built.second;
+    mulgreddi_live_start(file, file_len, c, cn, t, tn, state, sizeof state, set, sizeof set);
+    mulgreddi_live_mark(file, file_len, 0, c, cn, t, tn, state, sizeof state, set, sizeof set);
+    mulgreddi_live_arrive(file, file_len, 0, c, cn, t, tn, state, sizeof state, set, sizeof set);
+    mulgreddi_live_arrive(file, file_len, 0, c, cn, t, tn, state, sizeof state, set, sizeof set);
+    mulgreddi_live_withdraw(file, file_len, c, cn, t, tn, state, sizeof state, set, sizeof set);
+    mulgreddi_live_return(file, file_len, 0, c, cn, t, tn, state, sizeof state, set, sizeof set);
+}
+
 static const struct { const char *name; void (*call)(void); } calls[] = {
     {"nothing", nothing},
     {"check", check},
@@ -112,6 +126,7 @@ static const struct { const char *name; void (*call)(void); } calls[] = {
     {"judge_table", judge_table},
     {"write_hoa", write_hoa},
     {"translate", translate},
+    {"live", live},
 };
 
 enum { CALLS = sizeof calls / sizeof *calls };

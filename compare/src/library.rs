@@ -155,4 +155,67 @@ extern "C" {
         text: *mut u8,
         text_length: usize,
     ) -> Answer;
+    pub fn mulgreddi_live_start(
+        file: *const u8,
+        file_length: usize,
+        codes: *const u8,
+        codes_length: usize,
+        transitions: *const u8,
+        transitions_length: usize,
+        state: *mut u8,
+        state_length: usize,
+        set: *mut u8,
+        set_length: usize,
+    ) -> Answer;
+    pub fn mulgreddi_live_arrive(
+        file: *const u8,
+        file_length: usize,
+        letter: u32,
+        codes: *const u8,
+        codes_length: usize,
+        transitions: *const u8,
+        transitions_length: usize,
+        state: *mut u8,
+        state_length: usize,
+        set: *mut u8,
+        set_length: usize,
+    ) -> Answer;
+    pub fn mulgreddi_live_withdraw(
+        file: *const u8,
+        file_length: usize,
+        codes: *const u8,
+        codes_length: usize,
+        transitions: *const u8,
+        transitions_length: usize,
+        state: *mut u8,
+        state_length: usize,
+        set: *mut u8,
+        set_length: usize,
+    ) -> Answer;
+    pub fn mulgreddi_live_mark(
+        file: *const u8,
+        file_length: usize,
+        mark: u32,
+        codes: *const u8,
+        codes_length: usize,
+        transitions: *const u8,
+        transitions_length: usize,
+        state: *mut u8,
+        state_length: usize,
+        set: *mut u8,
+        set_length: usize,
+    ) -> Answer;
+    pub fn mulgreddi_live_return(
+        file: *const u8,
+        file_length: usize,
+        mark: u32,
+        codes: *const u8,
+        codes_length: usize,
+        transitions: *const u8,
+        transitions_length: usize,
+        state: *mut u8,
+        state_length: usize,
+        set: *mut u8,
+        set_length: usize,
+    ) -> Answer;
 }

@@ -11,7 +11,8 @@ use std::time::{Duration, Instant};
 use compare::chains::{self, Order};
 use compare::library::{
     mulgreddi_build, mulgreddi_build_trimmed, mulgreddi_judge, mulgreddi_judge_choices,
-    mulgreddi_judge_sheet, mulgreddi_judge_table, mulgreddi_tidy_word, mulgreddi_translate, Answer,
+    mulgreddi_judge_sheet, mulgreddi_judge_table, mulgreddi_live_arrive, mulgreddi_live_start,
+    mulgreddi_live_withdraw, mulgreddi_tidy_word, mulgreddi_translate, Answer,
 };
 use compare::stored::{LARGE, OVER};
 use second::build::build;
@@ -351,6 +352,112 @@ fn trim_times(name: &str, file: &[u8]) -> f64 {
     trimmed - whole
 }
 
+/// A log followed live: the calls on one rule, its trimmed table and a state.
+struct Live {
+    file: Vec<u8>,
+    codes: Vec<u64>,
+    transitions: Vec<u64>,
+    state: Vec<u8>,
+    set: Vec<u8>,
+}
+
+impl Live {
+    fn new(file: Vec<u8>) -> Option<Self> {
+        let mut codes = vec![0u64; 65_536];
+        let mut transitions = vec![0u64; 1_048_576];
+        let kept = unsafe {
+            mulgreddi_build_trimmed(
+                file.as_ptr(),
+                file.len(),
+                codes.as_mut_ptr(),
+                codes.len(),
+                transitions.as_mut_ptr(),
+                transitions.len(),
+            )
+        };
+        codes.truncate(kept.first as usize);
+        transitions.truncate(kept.second as usize);
+        (kept.refusal == 0).then_some(Live {
+            file,
+            codes,
+            transitions,
+            state: vec![0; 74_290],
+            set: vec![0; 65_536],
+        })
+    }
+
+    /// A start, an arrival, or the withdrawal of the last letter.
+    fn call(&mut self, call: Option<Option<u32>>) -> Answer {
+        let (f, c, t) = (&self.file, &self.codes, &self.transitions);
+        let (b, s) = (&mut self.state, &mut self.set);
+        let (codes, moves) = (c.as_ptr().cast(), t.as_ptr().cast());
+        let (cn, tn, bn, sn) = (8 * c.len(), 8 * t.len(), b.len(), s.len());
+        let (b, s) = (b.as_mut_ptr(), s.as_mut_ptr());
+        unsafe {
+            match call {
+                None => {
+                    mulgreddi_live_start(f.as_ptr(), f.len(), codes, cn, moves, tn, b, bn, s, sn)
+                }
+                Some(Some(letter)) => {
+                    let (file, length) = (f.as_ptr(), f.len());
+                    mulgreddi_live_arrive(file, length, letter, codes, cn, moves, tn, b, bn, s, sn)
+                }
+                Some(None) => {
+                    let (file, length) = (f.as_ptr(), f.len());
+                    mulgreddi_live_withdraw(file, length, codes, cn, moves, tn, b, bn, s, sn)
+                }
+            }
+        }
+    }
+}
+
+/// 512 arrivals that keep the set non-empty, as reference02 draws them, and
+/// then a withdrawal.
+fn live_times(name: &str, file: Vec<u8>) {
+    let s = u64::from(file[file.len() - 7]);
+    let Some(mut live) = Live::new(file) else {
+        return;
+    };
+    if live.call(None).second == 0 {
+        return;
+    }
+    let (mut seed, mut letters, mut most) = (1u64, Vec::new(), 0);
+    while letters.len() < 512 {
+        let letter = (0..64).find_map(|_| {
+            seed = seed.wrapping_mul(6_364_136_223_846_793_005);
+            seed = seed.wrapping_add(1_442_695_040_888_963_407);
+            let letter = ((seed >> 33) % s) as u32;
+            let members = live.call(Some(Some(letter))).second;
+            most = most.max(members);
+            if members == 0 {
+                live.call(Some(None));
+            }
+            (members != 0).then_some(letter)
+        });
+        let Some(letter) = letter else {
+            break;
+        };
+        letters.push(letter);
+    }
+    let arrivals = cpu(3, || {
+        live.call(None);
+        for &letter in &letters {
+            black_box(live.call(Some(Some(letter))).second);
+        }
+    });
+    let held = live.state.clone();
+    let withdrawal = cpu(3, || {
+        live.state.copy_from_slice(&held);
+        black_box(live.call(Some(None)).second);
+    });
+    println!(
+        "live {name:52} {arrivals:9.1} {withdrawal:9.1}  {} {}, {} letters, {most}",
+        live.codes.len(),
+        live.transitions.len(),
+        letters.len()
+    );
+}
+
 /// A rule with one component for each size, the first holding the initial
 /// state; a component leads to itself, in a ring, and to later ones.
 fn composed(random: &mut Random, sizes: &[(usize, bool)], letters: usize, most: usize) -> Rule {
@@ -592,6 +699,11 @@ fn main() {
         sum += trim_times(&path, &file);
     }
     println!("trimming, all of them {sum:9.1}");
+    println!("CPU milliseconds: 512 arrivals, a withdrawal; macrostates transitions, letters, the largest set");
+    for path in std::env::args().skip(1) {
+        let file = std::fs::read(&path).unwrap_or_else(|error| panic!("{path}: {error}"));
+        live_times(&path, file);
+    }
     println!("CPU milliseconds for ten million events: library, second program");
     translate_times();
     println!("microseconds a call                           library: mean, longest; second program: mean, longest");

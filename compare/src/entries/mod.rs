@@ -9,6 +9,7 @@ mod judge;
 mod judge_choices;
 mod judge_sheet;
 mod judge_table;
+mod live;
 mod mixed_loop;
 mod same_rules;
 mod same_words;
@@ -37,5 +38,6 @@ pub fn all() -> Vec<Entry> {
         translate::ENTRY,
         build_trimmed::ENTRY,
         write_hoa::ENTRY,
+        live::ENTRY,
     ]
 }

@@ -2,6 +2,7 @@
 pub mod choices;
 pub mod event;
 pub mod hoa;
+pub mod live;
 pub mod loops;
 pub mod names;
 pub mod sheet;

@@ -9,6 +9,8 @@ use Rattle.file_tidy_spec.specs.declared.Tidied.{Tidied}
 use Rattle.file_tidy_spec.specs.declared.Tidied.the-variants as tidied
 use Rattle.judge_spec.specs.declared.Verdict.{Verdict}
 use Rattle.judge_spec.specs.declared.Verdict.the-variants as judge
+use Rattle.live_spec.specs.declared.LiveAnswer.{LiveAnswer}
+use Rattle.live_spec.specs.declared.LiveAnswer.the-variants as live
 use Rattle.loop_spec.specs.declared.Report.{Report}
 use Rattle.loop_spec.specs.declared.Report.the-variants as report
 use Rattle.rule_same.specs.declared.entries.SameRules.{SameRules}
@@ -51,6 +53,11 @@ loopAnswer (report.Refused row) = refusedAs row
 unfoldable pub translatedAnswer : Translated → Answer
 translatedAnswer (events.Letters letters) = servedAs letters 0
 translatedAnswer (events.Refused row) = refusedAs row
+
+-- the number of letters held, and of macrostates in the set
+unfoldable pub liveAnswer : LiveAnswer → Answer
+liveAnswer (live.Live counts) = servedAs (counts .letters) (counts .macrostates)
+liveAnswer (live.Refused row) = refusedAs row
 
 -- 1 same, 0 not
 unfoldable pub sameRulesAnswer : SameRules → Answer

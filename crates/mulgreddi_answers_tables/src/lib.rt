@@ -1,10 +1,11 @@
-// The answers on tables and logs as the three numbers of the C interface: builds, the judge on a table, translated logs.
+// The answers on tables and logs as the three numbers of the C interface: builds, the judge on a table, translated and live logs.
 use build::Built;
 use event_spec::Translated;
+use live_spec::LiveAnswer;
 use mulgreddi_answers::Answer;
 use table_call::Start;
 ghost use mathlib.Core.Path.{_≡_};
-ghost use Rattle.mulgreddi_answers.specs.Answers.{builtAnswer, startAnswer, translatedAnswer};
+ghost use Rattle.mulgreddi_answers.specs.Answers.{builtAnswer, liveAnswer, startAnswer, translatedAnswer};
 
 // Both counts.
 pub fn built(answer: Built) -> Answer
@@ -37,5 +38,18 @@ pub fn translated(answer: Translated) -> Answer
     match answer {
         Translated::Letters(letters) => mulgreddi_answers::served(letters as u64, 0),
         Translated::Refused(row) => mulgreddi_answers::refused(row),
+    }
+}
+
+// The number of letters held, and of macrostates in the set.
+pub fn live(answer: LiveAnswer) -> Answer
+    ensures { λ r. ⌜ r ≡ liveAnswer answer ⌝ }
+{
+    match answer {
+        LiveAnswer::Live(held) => mulgreddi_answers::served(
+            held.letters as u64,
+            held.macrostates as u64,
+        ),
+        LiveAnswer::Refused(row) => mulgreddi_answers::refused(row),
     }
 }
