@@ -11,6 +11,7 @@ use second::build::{build, Macrostate};
 use second::choices::{judge_choices, FALSE};
 use second::events::translate;
 use second::hoa::write_hoa;
+use second::live::{Lent, Log};
 use second::mixed::mixed_loop;
 use second::names::Name;
 use second::rule::{read_named, same_rules, take_apart, Named};
@@ -419,6 +420,91 @@ fn translate_command(
     YES
 }
 
+/// A line of a log followed live: a letter that arrives, or another call; the
+/// exit status of one that is not served.
+fn call(log: &mut Log, lent: &Lent, names: &Option<Vec<Name>>, line: &str) -> Result<Vec<u8>, i32> {
+    let names = names.iter().flatten();
+    let named = names.map(trimmed).position(|name| name == line);
+    let letter = line.parse().ok().or(named.map(|letter| letter as u8));
+    let number = |word| line.strip_prefix(word).and_then(|text| text.parse().ok());
+    let answer = if line == "start" {
+        let answer = Log::start(lent);
+        answer.map(|(new, set)| {
+            *log = new;
+            set
+        })
+    } else if line == "withdraw" {
+        log.withdraw(lent)
+    } else if let Some(mark) = number("mark ") {
+        log.mark(lent, mark)
+    } else if let Some(mark) = number("return ") {
+        log.back(lent, mark)
+    } else {
+        log.arrive(lent, letter.ok_or(FAULT)?)
+    };
+    answer.map_err(refused)
+}
+
+fn refused(number: u8) -> i32 {
+    eprintln!("refused {number}");
+    REFUSED
+}
+
+fn follow(printed: &mut Printed, operands: &[String], options: &HashMap<String, String>) -> i32 {
+    let file = load(&operands[0]);
+    let names = printed.served(read_named(&file)).names;
+    let (codes, transitions) = printed.served(table(&file, true));
+    let lent = Lent {
+        file: &file,
+        codes: &codes,
+        transitions: &transitions,
+        room: codes.len(),
+    };
+    let (mut log, set) = printed.served(Log::start(&lent));
+    let (mut status, mut left) = (YES, 0);
+    let mut tell = |what: &str, letters: usize, answer: Result<Vec<u8>, i32>| match answer {
+        Err(fault) => status = status.max(fault),
+        Ok(set) => {
+            left = set.iter().filter(|&&byte| byte == 1).count();
+            let none = match left {
+                0 => ", no continuation is accepted",
+                _ => "",
+            };
+            printed.line(&format!(
+                "{what}: letters {letters}, macrostates {left}{none}"
+            ));
+        }
+    };
+    tell("start", 0, Ok(set));
+    let events = options.get("events").map(|path| load(path));
+    let source = load(operands.get(1).map_or("-", |path| path));
+    if let Some(events) = events {
+        if let Err(number) = translate(&file, &events, &[], 0) {
+            return refused(number);
+        }
+        for event in source.chunks_exact(2) {
+            let what = format!("event {:02x} {:02x}", event[0], event[1]);
+            let letter = translate(&file, &events, event, 1);
+            let answer = letter.and_then(|letter| log.arrive(&lent, letter[0]));
+            tell(&what, log.letters().len(), answer.map_err(refused));
+        }
+    } else {
+        let source = String::from_utf8(source).unwrap();
+        for line in source
+            .lines()
+            .map(str::trim)
+            .filter(|line| !line.is_empty())
+        {
+            let answer = call(&mut log, &lent, &names, line);
+            tell(line, log.letters().len(), answer);
+        }
+    }
+    match (status, left) {
+        (YES, 0) => NO,
+        (status, _) => status,
+    }
+}
+
 fn main() {
     let mut arguments = env::args().skip(1);
     let command = arguments.next().unwrap_or_else(|| exit(FAULT));
@@ -466,6 +552,7 @@ fn main() {
             YES
         }
         "translate" => translate_command(printed, &operands, &options),
+        "follow" => follow(printed, &operands, &options),
         _ => FAULT,
     };
     printed.end(status)
