@@ -847,7 +847,7 @@ static void follow_lines(live *l, FILE *log)
 /* Events of two bytes each, as they come; an odd last byte is no event yet. */
 static void follow_events(live *l, const bytes *events, FILE *log)
 {
-    uint8_t event[2], letter[1];
+    uint8_t event[2] = {0, 0}, letter[1];
     mulgreddi_answer a = mulgreddi_translate(l->r.file.at, l->r.file.len, events->at, events->len, event, 0, letter, 0);
     if (a.refusal)
         exit(refused(events->path, a.refusal, NULL));

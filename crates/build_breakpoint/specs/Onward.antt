@@ -1,7 +1,7 @@
 -- How component and classes left go on, on the tables of the step back. A pair of K and k is the number K + 16 k.
 use mathlib.Core.Bool.{cond}
 use mathlib.Core.List.{List}
-use Prim.Native.Nat.{ℕ, suc, _+_, _-_, _*_, _/_, _%_, _^_}
+use Prim.Native.Nat.{ℕ, suc, _+_, _*_, _/_, _%_, _^_}
 use lib.Dec.{eqb}
 use lib.ListN.{getD}
 use Rattle.build_cores.specs.Used.{classCount}
@@ -9,9 +9,6 @@ use Rattle.build_cores.specs.Used.{classCount}
 -- 01: "the next component (after the last, component 0)"
 unfoldable pub nextIn : ℕ → ℕ → ℕ
 nextIn components c = cond (eqb (suc c) components) 0 (suc c)
-
-unfoldable pub previousIn : ℕ → ℕ → ℕ
-previousIn components c = cond (eqb c 0) (components - 1) (c - 1)
 
 -- ranks are those of the later core, levels those of the step back to the earlier one
 module _ (ranks : ℕ) (parts : List ℕ) (components : ℕ) (levels : List ℕ) where
@@ -26,11 +23,3 @@ module _ (ranks : ℕ) (parts : List ℕ) (components : ℕ) (levels : List ℕ)
   unfoldable pub onwardIn : ℕ → ℕ
   unfolding nextIn
   onwardIn pair = cond (eqb (pair / 16) 0) (nextIn components (pair % 16) + 16 * classesAt (nextIn components (pair % 16))) (pair % 16 + 16 * levelAt (pair % 16) (pair / 16))
-
-  -- the pair with k = p that goes on to the pair, or 256
-  unfoldable pub candidateIn : ℕ → ℕ → ℕ
-  unfolding previousIn
-  candidateIn pair p =
-      cond (eqb p 0)
-      (cond (eqb (classesAt (pair % 16)) (pair / 16)) (previousIn components (pair % 16)) 256)
-      (cond (eqb (levelAt (pair % 16) p) (pair / 16)) (pair % 16 + 16 * p) 256)

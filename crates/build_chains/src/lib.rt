@@ -4,7 +4,7 @@ ghost use mathlib.Core.Path.{_≡_};
 ghost use mathlib.Core.Bool.{true, false};
 ghost use Prim.Native.Nat.{_+_, _*_, _/_, _%_, _^_, _<_};
 ghost use lib.ListN.{length, getD, set};
-ghost use Rattle.build_chains_spec.specs.Chains.{bucketOf, Lists, Chained};
+ghost use Rattle.build_chains_spec.specs.Chains.{bucketOf, Found, Before, Chained};
 ghost use Rattle.build_chains_spec.specs.Growth.{Grown};
 
 // The bucket of a core. Any number below 16,384 would do that is one for each core.
@@ -16,7 +16,7 @@ pub fn bucket(core: u64) -> usize
 }
 
 // Puts a key at place n. Its link is the head of its bucket, and the head is then n.
-fn put(keys: &mut [u64], heads: &mut [u16; 16384], last: &mut [u32; 256], n: usize, key: u64)
+pub fn put(keys: &mut [u64], heads: &mut [u16; 16384], last: &mut [u32; 256], n: usize, key: u64)
     requires { ⌜ Chained (now keys) (now heads) (now last) n × (n < length (now keys)) × (key < 2 ^ 48) ⌝ }
     ensures { λ _. ⌜ (now (keys .exit)
         ≡ set (now (keys .entry)) n (getD (now (heads .entry)) (bucketOf (key / 256)) 0 * 2 ^ 48 + key))
@@ -30,24 +30,52 @@ fn put(keys: &mut [u64], heads: &mut [u16; 16384], last: &mut [u32; 256], n: usi
     last[(core & 0xff) as usize] = n as u32 + 1;
 }
 
-// Whether a key is one of the first n, by a walk along the chain of its bucket.
-pub fn lists(keys: &[u64], heads: &[u16; 16384], last: &[u32; 256], n: usize, key: u64) -> bool
+// The place of a key among the first n, by a walk along the chain of its bucket; n if it is not there.
+pub fn find(keys: &[u64], heads: &[u16; 16384], last: &[u32; 256], n: usize, key: u64) -> usize
     requires { ⌜ Chained (now keys) (now heads) (now last) n × (key < 2 ^ 48) ⌝ }
-    ensures { λ r. ⌜ (r ≡ true → Lists (now (keys .entry)) n key) × (r ≡ false → Lists (now (keys .entry)) n key → ⊥) ⌝ }
+    ensures { λ r. ⌜ Found (now (keys .entry)) n key r ⌝ }
 {
     if n == 0 {
-        return false;
+        return n;
     }
     let mut i = heads[bucket(key >> 8)] as usize;
     loop {
         let x = keys[i];
         if x & 0x0000_ffff_ffff_ffff == key {
-            return true;
+            return i;
         }
         if i == 0 {
-            return false;
+            return n;
         }
         i = (x >> 48) as usize;
+    }
+}
+
+// Whether the core of the key at place j stands at a lower place too, by a walk along the chain below it.
+pub fn core_before(
+    keys: &[u64],
+    heads: &[u16; 16384],
+    last: &[u32; 256],
+    n: usize,
+    j: usize,
+) -> bool
+    requires { ⌜ Chained (now keys) (now heads) (now last) n × (j < n) ⌝ }
+    ensures { λ r. ⌜ (r ≡ true → Before (now (keys .entry)) j) × (r ≡ false → Before (now (keys .entry)) j → ⊥) ⌝ }
+{
+    if j == 0 {
+        return false;
+    }
+    let own = keys[j];
+    let mut q = (own >> 48) as usize;
+    loop {
+        let x = keys[q];
+        if (x & 0x0000_ffff_ffff_ffff) >> 8 == (own & 0x0000_ffff_ffff_ffff) >> 8 {
+            return true;
+        }
+        if q == 0 {
+            return false;
+        }
+        q = (x >> 48) as usize;
     }
 }
 
@@ -63,7 +91,7 @@ pub fn admit(
     ensures { λ g. ⌜ Grown (λ z. z ≡ key) (λ z. z ≡ key) (now (keys .entry)) n (now (keys .exit)) (now (heads .exit))
         (now (last .exit)) (g .m) (g .full) ⌝ }
 {
-    if lists(keys, heads, last, n, key) {
+    if find(keys, heads, last, n, key) < n {
         return Grow { m: n, full: false };
     }
     if n == keys.len() {

@@ -17,8 +17,11 @@ pub record Walked (Q : ℕ → Type 0) (xs : List ℕ) (n b i : ℕ) : Type 0 wh
   pub met : (p : ℕ) → done ≤ p → p < n → bucketAt xs p ≡ b → Q p
 
 module _ (Q : ℕ → Type 0) (xs : List ℕ) (n b : ℕ) where
+  pub walk-from : (i : ℕ) → 0 < n → Begins xs n b i → Walked Q xs n b i
+  walk-from i h g = record { done = n; some = h; fits = omega arith; begins = g; met = λ p k j e. absurd (omega arith) }
+
   pub walk-start : (heads last : List ℕ) → Chained xs heads last n → 0 < n → b < 16384 → Walked Q xs n b (getD heads b 0)
-  walk-start heads last C h l = record { done = n; some = h; fits = omega arith; begins = C .begin b l; met = λ p k j e. absurd (omega arith) }
+  walk-start heads last C h l = walk-from (getD heads b 0) h (C .begin b l)
 
   module _ (i : ℕ) (w : Walked Q xs n b i) where
     pub walk-inside : i < n
@@ -35,13 +38,13 @@ module _ (Q : ℕ → Type 0) (xs : List ℕ) (n b : ℕ) where
         (λ k. w .met p (omega arith) l e)
 
     -- on to the link
-    pub walk-next : (heads last : List ℕ) → Chained xs heads last n → (i ≡ 0 → ⊥) → Q i → Walked Q xs n b (linkAt xs i)
-    walk-next heads last C o q =
+    pub walk-next : ((p : ℕ) → 0 < p → p < n → Begins xs p (bucketAt xs p) (linkAt xs p)) → (i ≡ 0 → ⊥) → Q i → Walked Q xs n b (linkAt xs i)
+    walk-next links o q =
         let own : bucketAt xs i ≡ b = ⊎-elim (λ z. absurd (o z)) (λ e. e) (w .begins .own) in record {
           done = i;
           some = omega arith;
           fits = omega (arith, walk-inside);
-          begins = rw own at (C .links i (omega arith) walk-inside);
+          begins = rw own at (links i (omega arith) walk-inside);
           met = met-too q;
         }
 

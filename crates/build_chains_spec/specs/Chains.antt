@@ -25,6 +25,15 @@ bucketAt xs p = bucketOf (keyAt xs p / 256)
 abbrev pub Lists : List ℕ → ℕ → ℕ → Type 0
 Lists xs n y = (p : ℕ) × (p < n) × (keyAt xs p ≡ y)
 
+-- r is the place of y among the first n keys, or n if it is not there
+pub record Found (xs : List ℕ) (n y r : ℕ) : Type 0 where
+  pub hit : r < n → keyAt xs r ≡ y
+  pub none : n ≤ r → Lists xs n y → ⊥
+
+-- the core of the key at place j stands at a lower place too
+abbrev pub Before : List ℕ → ℕ → Type 0
+Before xs j = (q : ℕ) × (q < j) × (keyAt xs q / 256 ≡ keyAt xs j / 256)
+
 -- the chain of bucket b below place n begins at place top: no place of the bucket below n is above it. It is place 0, or of the bucket.
 pub record Begins (xs : List ℕ) (n b top : ℕ) : Type 0 where
   pub inside : top ≤ n - 1

@@ -1,7 +1,7 @@
 -- Keys become codes, one after the other.
 use mathlib.Core.Path.{_≡_, refl, ap, sym, _∙_}
 use mathlib.Core.List.{List, [], _∷_, _++_, map}
-use Prim.Native.Nat.{ℕ, zero, suc, _+_, _*_, _/_, _%_, _^_, _<_}
+use Prim.Native.Nat.{ℕ, zero, suc, _+_, _*_, _/_, _%_, _^_, _≤_, _<_}
 use native.Mathlib.Omega.{arith}
 use native.Mathlib.Nat.{mod-eq-of-lt}
 use native.Mathlib.Numerals.{add-one}
@@ -23,6 +23,18 @@ coded-suc : (i : ℕ) (xs : List ℕ) → i < length xs → set (coded i xs) i (
 coded-suc i [] h = absurd (omega arith)
 coded-suc zero (x ∷ xs) h = refl
 coded-suc (suc i) (x ∷ xs) h = ap (λ (l : List ℕ). codeOf (x % 2 ^ 48) ∷ l) (coded-suc i xs (omega arith))
+
+-- the codes, one by one
+pub coded-at : (n p : ℕ) (xs : List ℕ) → p < n → n ≤ length xs → getD (coded n xs) p 0 ≡ codeOf (getD xs p 0 % 2 ^ 48)
+coded-at zero p xs h l = absurd (omega arith)
+coded-at (suc n) p [] h l = absurd (omega arith)
+coded-at (suc n) zero (x ∷ xs) h l = refl
+coded-at (suc n) (suc p) (x ∷ xs) h l = coded-at n p xs (omega arith) (omega arith)
+
+pub coded-long : (n : ℕ) (xs : List ℕ) → n ≤ length xs → length (coded n xs) ≡ length xs
+coded-long zero xs l = refl
+coded-long (suc n) [] l = absurd (omega arith)
+coded-long (suc n) (x ∷ xs) l = ap suc (coded-long n xs (omega arith))
 
 -- a code from its element, by shifts and masks
 code-put : (y : ℕ) → bitOr (bitAnd y 255 * 2 ^ 40 % 2 ^ 64) (bitAnd y 281474976710655 / 2 ^ 8) ≡ codeOf (y % 2 ^ 48)

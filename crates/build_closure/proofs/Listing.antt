@@ -21,7 +21,8 @@ use Rattle.build_closure.specs.Closure.{keysOf, Gathered, Listed}
 use Rattle.build_closure_spec.specs.Keys.{keyOf, codeOf, KeyOf}
 use Rattle.build_closure.proofs.Codes.{coded}
 use Rattle.build_closure_spec.proofs.Keys.{code-key}
-use Rattle.build_closure.proofs.Gathering.{distinct-through, keys-long}
+use Rattle.build_closure_spec.proofs.Distinct.{distinct-through}
+use Rattle.build_closure.proofs.Gathering.{keys-long}
 use Rattle.build_step_back.proofs.Codes.{pair-low}
 
 -- the numbers of R as those of another predicate

@@ -3,3 +3,4 @@ pub mod Link
 pub mod Starting
 pub mod Letters
 pub mod Moves
+pub mod Distinct

@@ -166,25 +166,20 @@ module _ (A : Automaton) (H : Layered A) (parts : List ℕ) (P : Parts A parts) 
     pub vector-core : c % 2 ^ 40 ≡ coreOf A vector
     vector-core = core-is A parts P c 0 c (M .coded) (M .component) (M .coded) (M .core)
 
-  -- a step of macrostates is an edge of keys
-  pub step-out : (s c a d : ℕ) → Macrostate A c → Macrostate A d → a < s → Goes A c a d → KeyEdge A parts (A .components) s (keyOf c) (keyOf d)
-  step-out s c a d M N h G =
+  -- a step of macrostates is one of keys
+  pub step-leads : (c a d : ℕ) → Macrostate A c → (N : Macrostate A d) → Goes A c a d → LeadsOver A (vector d N) a (keyOf c) (keyOf d)
+  step-leads c a d M N G =
       let e = goes-is A parts P c a d (M .coded) (M .component) (N .coded) (N .core) .0 (goes-iff A H c a d .1 G) in
-      let low = pair-low A c (M .coded) in (
-        vector d N,
-        vector-cored d N,
-        (
-          a,
-          h,
-          record {
-            from = key-core c low ∙ e .0;
-            to = key-to (e .1 ∙ ap (ontoOf A a (vector d N)) (sym (key-pair c low)));
-          },
-        ),
-      )
+      let low = pair-low A c (M .coded) in record {
+        from = key-core c low ∙ e .0;
+        to = key-to (e .1 ∙ ap (ontoOf A a (vector d N)) (sym (key-pair c low)));
+      }
     where
       key-to : {z : ℕ} → d / 2 ^ 40 ≡ z → keyOf d ≡ coreOf A (vector d N) * 256 + z
       key-to {z} q = key-parts d ∙ ap₂ (λ (x y : ℕ). x * 256 + y) (vector-core d N) q
+
+  pub step-out : (s c a d : ℕ) → Macrostate A c → Macrostate A d → a < s → Goes A c a d → KeyEdge A parts (A .components) s (keyOf c) (keyOf d)
+  step-out s c a d M N h G = (vector d N, vector-cored d N, (a, h, step-leads c a d M N G))
 
   -- ---- where a run may begin
 

@@ -108,4 +108,4 @@ module _ (earlier core : ℕ) (onto : ℕ → ℕ) (from : ℕ) (xs : List ℕ) 
 
         -- on along the link
         pub turn-next : (hs′ ls′ : List ℕ) → Chained xs hs′ ls′ n → (i ≡ 0 → ⊥) → Turn zs heads last u (linkAt xs i)
-        turn-next hs′ ls′ C o = record { grown = after; walked = walk-next (Gone zs u) xs n (bucketOf earlier) i now hs′ ls′ C o here }
+        turn-next hs′ ls′ C o = record { grown = after; walked = walk-next (Gone zs u) xs n (bucketOf earlier) i now (C .links) o here }

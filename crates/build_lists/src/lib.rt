@@ -36,34 +36,30 @@ pub fn list_codes(codes: &mut [u64], shape: Shape, opens: &[u8; 4096], parts: &[
     Grow { m, full: false }
 }
 
-// Fills the slice with the transitions between the first n codes, ascending, and zeros. It is full if there are more of them than room.
+// Fills the slice with the transitions between the first n codes, ascending, and zeros; the codes stay as they are. It is full if there are
+// more of them than room.
 pub fn list_transitions(
     out: &mut [u64],
-    codes: &[u64],
+    codes: &mut [u64],
     n: usize,
     shape: Shape,
     opens: &[u8; 4096],
     parts: &[u8; 8],
 ) -> Grow
     requires { ⌜ ((r : Rule) × RuleTables r (now opens) (now parts) shape × Codes r (shape .holds) (now codes) n) ⌝ }
-    ensures { λ g. ⌜ ((r : Rule)
+    ensures { λ g. ⌜ (now (codes .exit) ≡ now (codes .entry))
+        × ((r : Rule)
         → RuleTables r (now (opens .entry)) (now (parts .entry)) shape
         → Codes r (shape .holds) (now (codes .entry)) n
         → Padded 1048576 (transitionsFrom r (startOf r (shape .holds))) (now (out .entry)) (now (out .exit)) (g .m) (g .full)) ⌝ }
 {
     let room = room_of(1048576, out.len());
-    let s = shape.s;
-    let accepting = shape.accepting;
-    let components = shape.components;
     let g = build_transitions::transitions::transitions(
         &mut out[..room],
-        codes,
-        n,
-        s,
-        accepting,
+        &mut codes[..n],
+        shape,
         opens,
         parts,
-        components,
     );
     if g.full {
         return g;

@@ -1,5 +1,4 @@
-// The transitions into the lent slice: the sources of a target, letter by letter, target by target.
-pub mod emission;
-pub mod letters;
+// The transitions into the lent slice: chains through the codes, then core by core the steps back over each letter.
+pub mod cores;
 pub mod sources;
 pub mod transitions;

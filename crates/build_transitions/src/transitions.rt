@@ -1,53 +1,68 @@
-// The transitions between listed codes: found with the target first, then turned around and sorted.
-use crate::emission::emit;
+// The transitions between the listed codes, ascending. While they are found the codes are keys with chains through them.
+use crate::cores::emit;
 use build_chains_spec::Grow;
+use build_closure_spec::Shape;
 ghost use mathlib.Core.Path.{_≡_};
-ghost use mathlib.Core.List.{_++_, map};
 ghost use Prim.Native.Nat.{ℕ, _^_, _<_, _≤_};
-ghost use lib.ListN.{length, getD, take, drop};
-ghost use Rattle.theory.specs.Automaton.{Automaton};
-ghost use Rattle.build_transitions_spec.specs.Ready.{EmissionReady};
-ghost use Rattle.build_transitions_spec.specs.Emission.{turned, Filled};
+ghost use lib.ListN.{length, getD};
+ghost use Rattle.sets.specs.Lists.{Ascending};
+ghost use Rattle.theory.specs.Rule.{Rule};
+ghost use Rattle.theory.specs.TableComputed.{macrostatesFrom, transitionsFrom};
+ghost use Rattle.build_chains_spec.specs.Chains.{keyAt, Chained};
+ghost use Rattle.build_closure_spec.specs.Keys.{keyOf, startOf};
+ghost use Rattle.build_closure_spec.specs.Tables.{RuleTables};
+ghost use Rattle.build_closure.specs.Closure.{Listed};
 
-// Exchanges source and target in the first m elements.
-fn turn_around(xs: &mut [u64], m: usize)
-    requires { ⌜ (m ≤ length (now xs)) × ((i : ℕ) → i < m → getD (now xs) i 0 < 2 ^ 40) ⌝ }
-    ensures { λ _. ⌜ now (xs .exit) ≡ map turned (take m (now (xs .entry))) ++ drop m (now (xs .entry)) ⌝ }
+// Turns the codes into keys, each in its place, with chains through them.
+fn chain(codes: &mut [u64], heads: &mut [u16; 16384], last: &mut [u32; 256])
+    requires { ⌜ Chained (now codes) (now heads) (now last) 0
+        × Ascending (now codes)
+        × ((p : ℕ) → p < length (now codes) → getD (now codes) p 0 < 2 ^ 48) ⌝ }
+    ensures { λ _. ⌜ Chained (now (codes .exit)) (now (heads .exit)) (now (last .exit)) (length (now (codes .entry)))
+        × ((p : ℕ) → p < length (now (codes .entry)) → keyAt (now (codes .exit)) p ≡ keyOf (getD (now (codes .entry)) p 0)) ⌝ }
 {
-    let mut i = 0;
-    while i < m {
-        let y = xs[i];
-        xs[i] = codes::pack_transition(
-            codes::target_of(y),
-            codes::letter_of(y),
-            codes::source_of(y),
+    let mut p = 0;
+    while p < codes.len() {
+        let code = codes[p];
+        build_chains::put(
+            codes,
+            heads,
+            last,
+            p,
+            ((code & 0x00ff_ffff_ffff) << 8) | (code >> 40),
         );
-        i += 1;
+        p += 1;
     }
 }
 
-// Fills the start of out with the transitions between the first n codes over s letters, ascending. It is full if there are more of them
-// than room.
+// Fills the start of out with the transitions between the codes, ascending; they stay as they are. It is full if there are more than room.
 pub fn transitions(
     out: &mut [u64],
-    codes: &[u64],
-    n: usize,
-    s: usize,
-    accepting: u8,
+    codes: &mut [u64],
+    shape: Shape,
     opens: &[u8; 4096],
     parts: &[u8; 8],
-    components: usize,
 ) -> Grow
-    requires { ⌜ ((w : Automaton) × EmissionReady w s accepting (now opens) (now parts) components (now codes) n) ⌝ }
-    ensures { λ r. ⌜ Filled s accepting (now (opens .entry)) (now (parts .entry)) components (now (codes .entry)) n (now (out .entry))
-        (now (out .exit)) (r .m) (r .full) ⌝ }
+    requires { ⌜ ((r : Rule)
+        × RuleTables r (now opens) (now parts) shape
+        × (now codes ≡ macrostatesFrom r (startOf r (shape .holds))))
+        × (length (now codes) ≤ 65536) ⌝ }
+    ensures { λ g. ⌜ (now (codes .exit) ≡ now (codes .entry))
+        × ((r : Rule)
+        → RuleTables r (now (opens .entry)) (now (parts .entry)) shape
+        → now (codes .entry) ≡ macrostatesFrom r (startOf r (shape .holds))
+        → Listed (transitionsFrom r (startOf r (shape .holds))) (now (out .entry)) (now (out .exit)) (g .m) (g .full)) ⌝ }
 {
-    let g = emit(out, codes, n, s, accepting, opens, parts, components);
+    let n = codes.len();
+    let mut heads = [0u16; 16384];
+    let mut last = [0u32; 256];
+    chain(codes, &mut heads, &mut last);
+    let g = emit(out, codes, &heads, &last, n, shape, opens, parts);
+    build_closure::reach::to_codes(codes, n);
     if g.full {
         return g;
     }
     let m = g.m;
-    turn_around(out, m);
     slice_sort_bytes::sort_first(out, m);
     Grow { m, full: false }
 }

@@ -1,6 +1,6 @@
+pub mod Emission
+pub mod Sources
+pub mod Letters
+pub mod Cores
+pub mod Chaining
 pub mod Listing
-pub mod Letter
-pub mod Turning
-pub mod Link
-pub mod Moves
-pub mod Rules

@@ -1,124 +1,138 @@
--- Laws of the numbers that pass a test.
+-- The transitions that are written, sorted, are those of the rule; or those are more than there is room for.
 use mathlib.Core.Path.{_≡_, refl, ap, sym, _∙_}
-use mathlib.Core.Logic.{⊎-elim, by-cases}
 use mathlib.Core.Bool.{true, false}
-use mathlib.Core.List.{List, [], _∷_, _++_, List·Memᴰ, List·Memᴰ·head, List·Memᴰ·tail, List·Memᴰ·not-nil, List·Memᴰ·append-cases, List·Memᴰ·eq-of-singleton, Memᴰ·append-left, Memᴰ·append-right}
-use Prim.Native.Nat.{ℕ, zero, suc, _+_, _-_, _≤_, _<_}
+use mathlib.Core.List.{List, List·Memᴰ}
+use Prim.Native.Nat.{ℕ, _/_, _%_, _^_, _≤_, _<_}
 use native.Mathlib.Omega.{arith}
-use native.Mathlib.Decide.{ℕ-discrete}
-use lib.ListN.{length, drop, set, length-append, length-set}
-use lib.Seq.{drop-drop, drop-set-lt}
+use lib.ListN.{length, getD, take}
+use lib.Seq.{length-take-le, getD-take}
 use Rattle.sets.specs.Tests.{Set}
-use Rattle.sets.specs.Lists.{Above, end, more, Ascending, none, from}
-use Rattle.sets.proofs.Bools.{bif}
-use Rattle.build_transitions_spec.specs.Listing.{passing, Appended}
+use Rattle.sets.proofs.Lists.{place-of, mem-at}
+use Rattle.sets.proofs.Ascending.{asc-ext}
+use Rattle.theory.specs.Automaton.{Automaton, automaton}
+use Rattle.theory.specs.Macrostate.{Macrostate, Goes, Reachable}
+use Rattle.theory.specs.Rule.{Rule}
+use Rattle.theory.specs.Table.{Transition}
+use Rattle.theory.specs.TableComputed.{macrostatesFrom, transitionsFrom}
+use Rattle.theory_laws.proofs.Layers.{layered}
+use Rattle.theory_laws.proofs.Tables.{few-states, components-there, reachable-iff, reachable-macrostate, transition-iff, transitions-ascending}
+use Rattle.codes.specs.Codes.{transitionOf}
+use Rattle.slice_sort.specs.Order.{Distinct, ArrangedFirst}
+use Rattle.slice_sort.proofs.Distinct.{longer, rearranged-in, rearranged-out, arranged-asc}
+use Rattle.build_step_back.proofs.Codes.{pair-low}
+use Rattle.build_chains_spec.specs.Chains.{keyAt}
+use Rattle.build_closure_spec.specs.Keys.{startOf, keyOf, codeOf, Cored, LeadsOver}
+use Rattle.build_closure_spec.specs.Reached.{AllReached}
+use Rattle.build_closure_spec.specs.Tables.{RuleTables}
+use Rattle.build_closure_spec.specs.declared.Shape.{Shape}
+use Rattle.build_closure_spec.proofs.Distinct.{distinct-at}
+use Rattle.build_closure_spec.proofs.Keys.{code-key, key-core}
+use Rattle.build_closure_spec.proofs.Link.{vector, vector-core, step-in, step-leads, reached-out}
+use Rattle.build_transitions_spec.specs.Emission.{Stands, Emitted, Done, vectorAt}
+use Rattle.build_transitions_spec.proofs.Cores.{core-vector, key-cored}
 
--- ---- one number more
+pub code-low : {A : Automaton} {x : ℕ} → Macrostate A x → x < 2 ^ 48
+code-low {A} {x} M = omega (arith, pair-low A x (M .coded))
 
-pub passing-yes : (f : Set) (t : ℕ) → f t ≡ true → passing f (suc t) ≡ passing f t ++ (t ∷ [])
-unfolding passing
-passing-yes f t e = rw (e, passing)
+-- ---- what stands in a slice
 
-pub passing-no : (f : Set) (t : ℕ) → f t ≡ false → passing f (suc t) ≡ passing f t
-unfolding passing
-passing-no f t e = rw (e, passing)
+module _ (ys : List ℕ) (m : ℕ) (fits : m ≤ length ys) where
+  stands-in : (y : ℕ) → Stands 0 ys m y → List·Memᴰ y (take m ys)
+  stands-in y s =
+      let l : s .0 < length (take m ys) = omega (arith, s .2, length-take-le m ys fits) in
+      rw (getD-take m ys (s .0) 0 (s .2), s .3) at (mem-at (take m ys) (s .0) l)
 
--- none of the d numbers from t on passes
-none-after : (f : Set) (d t : ℕ) → ((y : ℕ) → t ≤ y → y < d + t → f y ≡ true → ⊥) → passing f (d + t) ≡ passing f t
-none-after f zero t h = ap (passing f) (omega arith)
-none-after f (suc d) t h =
-    let e : suc d + t ≡ suc (d + t) = omega arith in
-    ap (passing f) e
-    ∙ passing-no f (d + t) (bif (f (d + t)) (λ b. absurd (h (d + t) (omega arith) (omega arith) b)) (λ b. b))
-    ∙ none-after f d t (λ y a b. h y a (omega arith))
+  in-stands : (y : ℕ) → List·Memᴰ y (take m ys) → Stands 0 ys m y
+  in-stands y k =
+      let p = place-of (take m ys) y k in
+      let l : p .0 < m = omega (arith, p .1, length-take-le m ys fits) in
+      (p .0, omega arith, l, sym (getD-take m ys (p .0) 0 l) ∙ p .2)
 
--- none from t to u passes
-pub none-between : (f : Set) (t u : ℕ) → t ≤ u → ((y : ℕ) → t ≤ y → y < u → f y ≡ true → ⊥) → passing f u ≡ passing f t
-none-between f t u l h =
-    let e : u ≡ (u - t) + t = omega arith in
-    ap (passing f) e ∙ none-after f (u - t) t (λ y a b. h y a (omega arith))
+  once-distinct : ((p q : ℕ) → 0 ≤ p → p < q → q < m → getD ys p 0 ≡ getD ys q 0 → ⊥) → Distinct (take m ys)
+  once-distinct h =
+      distinct-at (take m ys)
+      (λ i j a b e. let l : j < m = omega (arith, length-take-le m ys fits) in h i j (omega arith) a l (sym (getD-take m ys i 0 (omega arith)) ∙ e ∙ getD-take m ys j 0 l))
 
--- only v does
-pub one-between : (f : Set) (t v u : ℕ) → t ≤ v → v < u → f v ≡ true → ((y : ℕ) → t ≤ y → y < u → f y ≡ true → y ≡ v) → passing f u ≡ passing f t ++ (v ∷ [])
-one-between f t v u a b e h =
-    none-between f (suc v) u (omega arith) (λ y k l g. let z = h y (omega arith) l g in omega arith)
-    ∙ passing-yes f v e
-    ∙ ap (λ (l : List ℕ). l ++ (v ∷ [])) (none-between f t v a (λ y k l g. let z = h y k (omega arith) g in omega arith))
+module _ (r : Rule) (opens parts : List ℕ) (shape : Shape) (T : RuleTables r opens parts shape) where
+  abbrev start : Set
+  start = startOf r (shape .holds)
 
-grows : (f : Set) (d t : ℕ) → length (passing f t) ≤ length (passing f (d + t))
-grows f zero t = let e : zero + t ≡ t = omega arith in rw e (omega arith)
-grows f (suc d) t =
-    let e : suc d + t ≡ suc (d + t) = omega arith in
-    let ih = grows f d t in
-    rw e (bif (f (d + t))
-    (λ b. rw (passing-yes f (d + t) b) (let z = length-append (passing f (d + t)) ((d + t) ∷ []) in omega arith))
-    (λ b. rw (passing-no f (d + t) b) ih))
+  abbrev A : Automaton
+  A = automaton r
 
-pub no-shorter : (f : Set) (t u : ℕ) → t ≤ u → length (passing f t) ≤ length (passing f u)
-no-shorter f t u l = let e : (u - t) + t ≡ u = omega arith in rw e at (grows f (u - t) t)
+  abbrev codes : List ℕ
+  codes = macrostatesFrom r start
 
-pub one-more : (f : Set) (t v u : ℕ) → t ≤ v → v < u → f v ≡ true → length (passing f t) < length (passing f u)
-one-more f t v u a b e =
-    let x = no-shorter f t v a in
-    let y = no-shorter f (suc v) u (omega arith) in
-    let z : length (passing f (suc v)) ≡ length (passing f v) + 1 = ap length (passing-yes f v e) ∙ length-append (passing f v) (v ∷ []) in
-    omega arith
+  abbrev n : ℕ
+  n = length codes
 
--- ---- members
+  abbrev code : ℕ → ℕ
+  code p = getD codes p 0
 
-pub passing-out : (f : Set) (t y : ℕ) → List·Memᴰ y (passing f t) → (y < t) × (f y ≡ true)
-unfolding passing
-passing-out f zero y m = absurd (List·Memᴰ·not-nil m)
-passing-out f (suc t) y m =
-    bif (f t)
-    (λ b. ⊎-elim (λ k. let z = passing-out f t y k in (omega (arith, z .0), z .1)) (λ k. let e = List·Memᴰ·eq-of-singleton k in (omega arith, rw e b)) (List·Memᴰ·append-cases (passing f t) (rw (passing-yes f t b) at m)))
-    (λ b. let z = passing-out f t y (rw (passing-no f t b) at m) in (omega (arith, z .0), z .1))
+  reached : (p : ℕ) → p < n → Reachable A (r .s) start (code p)
+  reached p l = reachable-iff r (T .shaped .passing) start (code p) .0 (mem-at codes p l)
 
-pub passing-in : (f : Set) (t y : ℕ) → y < t → f y ≡ true → List·Memᴰ y (passing f t)
-passing-in f zero y h e = absurd (omega arith)
-passing-in f (suc t) y h e =
-    by-cases (ℕ-discrete y t)
-    (λ k. rw (passing-yes f t (rw k at e)) (Memᴰ·append-right (passing f t) (List·Memᴰ·head k)))
-    (λ k. let z = passing-in f t y (omega arith) e in
-    bif (f t) (λ b. rw (passing-yes f t b) (Memᴰ·append-left (t ∷ []) z)) (λ b. rw (passing-no f t b) z))
+  pub macrostate : (p : ℕ) → p < n → Macrostate A (code p)
+  macrostate p l = reachable-macrostate A (layered r (T .shaped .passing)) (few-states r (T .shaped .passing)) (components-there r (T .shaped .passing)) (r .s) start (reached p l)
 
-above-end : (b : ℕ) (l : List ℕ) (v : ℕ) → b < v → ((y : ℕ) → List·Memᴰ y l → y < v) → Above b l → Above b (l ++ (v ∷ []))
-above-end b [] v h g a = more h end
-above-end b (x ∷ l) v h g (more k a) = more k (above-end x l v (g x (List·Memᴰ·head refl)) (λ y m. g y (List·Memᴰ·tail m)) a)
+  back : (p : ℕ) → p < n → codeOf (keyOf (code p)) ≡ code p
+  back p l = code-key (code p) (pair-low A (code p) (macrostate p l .coded))
 
--- a larger number at the end
-pub asc-end : (l : List ℕ) (v : ℕ) → ((y : ℕ) → List·Memᴰ y l → y < v) → Ascending l → Ascending (l ++ (v ∷ []))
-asc-end [] v g a = from end
-asc-end (x ∷ l) v g (from a) = from (above-end x l v (g x (List·Memᴰ·head refl)) (λ y m. g y (List·Memᴰ·tail m)) a)
+  -- keys holds the keys of the codes
+  module _ (few : n ≤ 65536) (keys : List ℕ) (is : (p : ℕ) → p < n → keyAt keys p ≡ keyOf (code p)) where
+    pub all-reached : AllReached r parts shape keys n
+    all-reached p l = reached-out r parts shape (T .shaped) (keyAt keys p) (code p, reached p l, is p l)
 
-pub passing-asc : (f : Set) (t : ℕ) → Ascending (passing f t)
-unfolding passing
-passing-asc f zero = none
-passing-asc f (suc t) =
-    bif (f t)
-    (λ b. rw (passing-yes f t b) (asc-end (passing f t) t (λ y m. passing-out f t y m .0) (passing-asc f t)))
-    (λ b. rw (passing-no f t b) (passing-asc f t))
+    vector-is : (j : ℕ) (l : j < n) → vector A (layered r (T .shaped .passing)) parts (T .shaped .masks) (code j) (macrostate j l) ≡ vectorAt keys j
+    vector-is j l =
+        let M = macrostate j l in
+        let v = vector A (layered r (T .shaped .passing)) parts (T .shaped .masks) (code j) M in
+        sym (ap (λ (x : ℕ). x / 256 / 256) (is j l) ∙ ap (λ (x : ℕ). x / 256) (key-core (code j) (pair-low A (code j) (M .coded)) ∙ vector-core A (layered r (T .shaped .passing)) parts (T .shaped .masks) (code j) M) ∙ core-vector A v)
 
--- ---- the slice
+    done-in : (y : ℕ) → List·Memᴰ y (transitionsFrom r start) → Done A (shape .s) keys n n y
+    done-in y k =
+        let t = transition-iff r (T .shaped .passing) start few y .0 k in
+        at (t .source) (t .letter) (t .target) (t .source-listed) (t .letter-known) (t .target-listed) (t .packed) (t .steps)
+      where
+        at : (x a j : ℕ) → x < n → a < r .s → j < n → y ≡ transitionOf x a j → Goes A (code x) a (code j) → Done A (shape .s) keys n n y
+        at x a j hx ha hj e G =
+            let L : LeadsOver A (vectorAt keys j) a (keyAt keys x) (keyAt keys j)
+            = rw (← vector-is j hj, is x hx, is j hj) (step-leads A (layered r (T .shaped .passing)) parts (T .shaped .masks) (code x) a (code j) (macrostate x hx) (macrostate j hj) G) in
+            (j, hj, (a, omega (arith, T .shaped .letters-are), (x, hx, (j, hj, L, e))))
 
-pub drop-more : (xs ys : List ℕ) (r t : ℕ) → r ≤ t → drop r ys ≡ drop r xs → drop t ys ≡ drop t xs
-drop-more xs ys r t l e =
-    let k : r + (t - r) ≡ t = omega arith in
-    rw (← k) (sym (drop-drop (t - r) r ys) ∙ ap (drop (t - r)) e ∙ drop-drop (t - r) r xs)
+    goes-on : (v : ℕ) → Cored parts (shape .components) v → (p t a : ℕ) → p < n → t < n → LeadsOver A v a (keyAt keys p) (keyAt keys t) → Goes A (code p) a (code t)
+    goes-on v w p t a hp ht L =
+        let s = step-in A (layered r (T .shaped .passing)) parts (T .shaped .masks) v (rw (T .shaped .components-are) at w) (code p) a (keyAt keys t) (macrostate p hp) (rw (is p hp) at L) in
+        let e : s .0 ≡ code t = sym (code-key (s .0) (pair-low A (s .0) (s .1 .coded))) ∙ ap codeOf (sym (s .3) ∙ is t ht) ∙ back t ht in
+        rw e at (s .2)
 
-pub appended-none : (xs : List ℕ) (m : ℕ) → m ≤ length xs → Appended xs m xs m
-appended-none xs m h = record { more = omega arith; fits = h; rest = refl }
+    done-out : (y : ℕ) → Done A (shape .s) keys n n y → List·Memᴰ y (transitionsFrom r start)
+    done-out y d =
+        let f = d .2 .2 in
+        let w = key-cored r opens parts shape T (keyAt keys (d .0)) (all-reached (d .0) (d .1)) .0 in
+        transition-iff r (T .shaped .passing) start few y .1 (record {
+          source = f .0;
+          letter = d .2 .0;
+          target = f .2 .0;
+          source-listed = f .1;
+          letter-known = omega (arith, d .2 .1, T .shaped .letters-are);
+          target-listed = f .2 .1;
+          packed = f .2 .3;
+          steps = goes-on (vectorAt keys (d .0)) w (f .0) (f .2 .0) (d .2 .0) (f .1) (f .2 .1) (f .2 .2);
+        })
 
-pub appended-one : (xs : List ℕ) (m : ℕ) (ys : List ℕ) (r v : ℕ) → r < length ys → Appended xs m ys r → Appended xs m (set ys r v) (r + 1)
-appended-one xs m ys r v h a = record {
-  more = omega (arith, a .more);
-  fits = simp length-set (omega arith);
-  rest = drop-set-lt (r + 1) ys r v (omega arith) ∙ drop-more xs ys r (r + 1) (omega arith) (a .rest);
-}
+    module _ (xs ys : List ℕ) (m : ℕ) where
+      -- sorted
+      pub all-written : Emitted (Done A (shape .s) keys n n) xs 0 ys m false → (us : List ℕ) → ArrangedFirst ys m us → take m us ≡ transitionsFrom r start
+      all-written g us a =
+          asc-ext (take m us) (transitionsFrom r start) (arranged-asc (take m ys) (take m us) (once-distinct ys m (g .fits) (g .once)) (a .front)) (transitions-ascending r (T .shaped .passing) start)
+          (λ y k. let s = in-stands ys m (g .fits) y (rearranged-out (take m ys) (take m us) y (a .front .rearranged) k) in done-out y (rw (s .3) at (g .only (s .0) (s .1) (s .2))))
+          (λ y k. rearranged-in (take m ys) (take m us) y (a .front .rearranged) (stands-in ys m (g .fits) y (g .whole refl y (done-in y k))))
 
-pub appended-then : (xs : List ℕ) (m : ℕ) (ys : List ℕ) (r : ℕ) (zs : List ℕ) (t : ℕ) → Appended xs m ys r → Appended ys r zs t → Appended xs m zs t
-appended-then xs m ys r zs t a b = record {
-  more = omega (arith, a .more, b .more);
-  fits = b .fits;
-  rest = b .rest ∙ drop-more xs ys r t (b .more) (a .rest);
-}
+      -- 18: "more transitions than room"
+      pub overfull : Emitted (Done A (shape .s) keys n n) xs 0 ys m true → length xs < length (transitionsFrom r start)
+      overfull g =
+          let o = g .over refl in
+          let z = longer (take m ys) (o .one) (transitionsFrom r start) (once-distinct ys m (g .fits) (g .once)) (λ k. o .lacks (in-stands ys m (g .fits) (o .one) k)) (done-out (o .one) (o .from))
+          (λ y k. let s = in-stands ys m (g .fits) y k in done-out y (rw (s .3) at (g .only (s .0) (s .1) (s .2)))) in
+          omega (arith, length-take-le m ys (g .fits), o .filled, g .long)

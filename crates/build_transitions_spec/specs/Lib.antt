@@ -1,3 +1,1 @@
-pub mod Listing
-pub mod Ready
 pub mod Emission

@@ -102,7 +102,7 @@ fn move_keys(
 }
 
 // The set before a letter, of the set with these open states.
-fn set_before(opens: &[u8; 4096], letter: usize, opened: u8, accepting: u8) -> u8
+pub fn set_before(opens: &[u8; 4096], letter: usize, opened: u8, accepting: u8) -> u8
     requires { ⌜ letter < 16 ⌝ }
     ensures { λ s. ⌜ s ≡ bitXor (getD (now (opens .entry)) (letter * 256 + opened) 0) accepting ⌝ }
 {
@@ -110,7 +110,7 @@ fn set_before(opens: &[u8; 4096], letter: usize, opened: u8, accepting: u8) -> u
 }
 
 // The number of the core with these open states and ranks before a letter.
-fn earlier_core(opens: &[u8; 4096], letter: usize, opened: u8, accepting: u8, ranks: u64) -> u64
+pub fn earlier_core(opens: &[u8; 4096], letter: usize, opened: u8, accepting: u8, ranks: u64) -> u64
     requires { ⌜ (letter < 16) × (ranks < 2 ^ 32) ⌝ }
     ensures { λ c. ⌜ c ≡ ranks * 2 ^ 8 + bitXor (getD (now (opens .entry)) (letter * 256 + opened) 0) accepting ⌝ }
 {
@@ -118,7 +118,7 @@ fn earlier_core(opens: &[u8; 4096], letter: usize, opened: u8, accepting: u8, ra
 }
 
 // The place after the last key of a set.
-fn last_of(last: &[u32; 256], set: u8) -> u32
+pub fn last_of(last: &[u32; 256], set: u8) -> u32
     ensures { λ r. ⌜ r ≡ getD (now (last .entry)) set 0 ⌝ }
 {
     last[set as usize]

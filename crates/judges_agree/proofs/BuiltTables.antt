@@ -13,7 +13,7 @@ use Rattle.theory.specs.Run.{sourceOf, letterOf, targetOf}
 use Rattle.theory.specs.TableComputed.{macrostates, transitions, macrostatesFrom, transitionsFrom}
 use Rattle.theory_laws.proofs.Layers.{layered}
 use Rattle.theory_laws.proofs.Tables.{few-states, components-there, letters-fit, reachable-iff, reachable-macrostate, macrostates-ascending, transitions-ascending, transition-iff, transition-leads}
-use Rattle.build_transitions_spec.proofs.Link.{code-low}
+use Rattle.build_transitions_spec.proofs.Listing.{code-low}
 use Rattle.codes.specs.Bytes.{bytesOfAll}
 use Rattle.table_lent.specs.Lent.{inWords, inBytes, tableRow}
 use Rattle.table_lent.proofs.Bytes.{bytes-lent}

@@ -50,12 +50,12 @@ same-length-4 c = search needs
 
 returns-2 : tie.Need-returns-2
 returns-2 c =
-    let a = c .before .before .before .before .before .before .before .before .before .before .before .before .before .before .before .before .before .before .before .before .before .args in
-    let g = c .before .before .before .before .before .before .before .before .before .before .before .before .before .before .before .before .before .list-codes in
-    let e = c .before .before .before .before .before .before .before .before .before .before .before .list-transitions in
+    let a = c .before .before .before .before .before .before .before .before .before .before .before .before .before .before .before .before .before .before .before .before .before .before .before .args in
+    let g = c .before .before .before .before .before .before .before .before .before .before .before .before .before .before .before .before .before .before .before .list-codes in
+    let e = c .before .before .before .before .before .before .before .before .before .before .before .before .before .list-transitions in
     λ r T.
-    let C = codes-listed r (a .shape .holds) (a .codes .now) (g .last .0) (g .result .m) (g .result .full) (c .before .before .before .before .before .before .before .before .before .before .before .before .before .before .if1 .left) (g .ensures r T) in
-    made-18 (macrostatesFrom r (startOf r (a .shape .holds))) (transitionsFrom r (startOf r (a .shape .holds))) (a .codes .now) (a .out .now) (g .last .0) (e .last .0) (c .before .before .before .before .before .before .zero-all3 .last .0) (c .before .before .zero-all4 .last .0) (g .result .m) (e .result .m) (g .result .full) (e .result .full) (c .before .before .before .before .before .before .before .before .before .before .before .before .before .before .if1 .left) (c .before .before .before .before .before .before .before .before .if2 .taken) (g .ensures r T) (e .ensures r T C) (c .before .before .before .before .before .before .zero-all3 .ensures) (c .before .before .zero-all4 .ensures)
+    let C = codes-listed r (a .shape .holds) (a .codes .now) (g .last .0) (g .result .m) (g .result .full) (c .before .before .before .before .before .before .before .before .before .before .before .before .before .before .before .before .if1 .left) (g .ensures r T) in
+    made-18 (macrostatesFrom r (startOf r (a .shape .holds))) (transitionsFrom r (startOf r (a .shape .holds))) (a .codes .now) (a .out .now) (g .last .0) (e .last .0) (c .before .before .before .before .before .before .zero-all3 .last .0) (c .before .before .zero-all4 .last .0) (g .result .m) (e .result .m) (g .result .full) (e .result .full) (c .before .before .before .before .before .before .before .before .before .before .before .before .before .before .before .before .if1 .left) (c .before .before .before .before .before .before .before .before .if2 .taken) (g .ensures r T) (e .ensures .1 r T C) (rw (e .ensures .0) at (c .before .before .before .before .before .before .zero-all3 .ensures)) (c .before .before .zero-all4 .ensures)
 
 same-length-5 : tie.Need-same-length-5
 same-length-5 c = search needs
@@ -65,12 +65,12 @@ same-length-6 c = search needs
 
 returns-3 : tie.Need-returns-3
 returns-3 c =
-    let a = c .before .before .before .before .before .before .before .before .before .before .before .before .before .args in
-    let g = c .before .before .before .before .before .before .before .before .before .list-codes in
-    let e = c .before .before .before .list-transitions in
+    let a = c .before .before .before .before .before .before .before .before .before .before .before .before .before .before .before .args in
+    let g = c .before .before .before .before .before .before .before .before .before .before .before .list-codes in
+    let e = c .before .before .before .before .before .list-transitions in
     λ r T.
-    let C = codes-listed r (a .shape .holds) (a .codes .now) (g .last .0) (g .result .m) (g .result .full) (c .before .before .before .before .before .before .if1 .left) (g .ensures r T) in
-    made-table (macrostatesFrom r (startOf r (a .shape .holds))) (transitionsFrom r (startOf r (a .shape .holds))) (a .codes .now) (a .out .now) (g .last .0) (e .last .0) (g .result .m) (e .result .m) (g .result .full) (e .result .full) (c .before .before .before .before .before .before .if1 .left) (c .if2 .left) (g .ensures r T) (e .ensures r T C) (omega arith) (omega arith)
+    let C = codes-listed r (a .shape .holds) (a .codes .now) (g .last .0) (g .result .m) (g .result .full) (c .before .before .before .before .before .before .before .before .if1 .left) (g .ensures r T) in
+    rw (e .ensures .0) (made-table (macrostatesFrom r (startOf r (a .shape .holds))) (transitionsFrom r (startOf r (a .shape .holds))) (a .codes .now) (a .out .now) (g .last .0) (e .last .0) (g .result .m) (e .result .m) (g .result .full) (e .result .full) (c .before .before .before .before .before .before .before .before .if1 .left) (c .if2 .left) (g .ensures r T) (e .ensures .1 r T C) (omega arith) (omega arith))
 
 pub build-table-spec : {M : Type 1} → statement M
 build-table-spec =

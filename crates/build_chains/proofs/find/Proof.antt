@@ -1,15 +1,14 @@
--- `build_chains::lists` meets its contract: the walk along the chain of a key meets it, if it is there.
+-- `build_chains::find` meets its contract: the walk along the chain of a key meets it, if it is there.
 use Prim.Native.Nat.{ℕ, _/_, _^_, _<_}
 use mathlib.Core.Path.{_≡_, sym, _∙_, ap}
-use mathlib.Core.Bool.{true≢false, false≢true}
 use native.Mathlib.Omega.{arith}
 use lib.Bits.{and-mask}
 use lib.ListN.{getD}
 use Rattle.build_chains_spec.specs.Chains.{keyAt, bucketOf}
 use Rattle.build_chains_spec.proofs.Chains.{bucket-low, head-low}
 use Rattle.build_chains_spec.proofs.Walks.{Walked, walk-start, walk-inside, walk-next, walk-end}
-use Rattle.build_chains.proofs.lists.Statement.{statement}
-use Rattle.build_chains.proofs.lists.Tie as tie
+use Rattle.build_chains.proofs.find.Statement.{statement}
+use Rattle.build_chains.proofs.find.Tie as tie
 
 abbrev Inv-loop : tie.InvT-loop
 Inv-loop keys heads last n key i₀ i = Walked (λ p. keyAt keys p ≡ key → ⊥) keys n (bucketOf (key / 256)) i
@@ -18,7 +17,7 @@ abbrev μ-loop : tie.MeasureT-loop
 μ-loop keys heads last n key i₀ i = i
 
 returns : tie.Need-returns Inv-loop μ-loop
-returns c = (λ t. absurd (false≢true t), λ t h. omega (arith, h .1, c .if1 .taken))
+returns c = record { hit = λ l. absurd (omega arith); none = λ l h. omega (arith, h .1, c .if1 .taken) }
 
 bucket-requires : tie.Need-bucket-requires Inv-loop μ-loop
 bucket-requires c κs = let p = c .before .before .pre in omega (arith, p .1)
@@ -52,7 +51,7 @@ shared-slice-read-x c = omega (arith, inside (c .before), c .before .before .bef
 returns-2 : tie.Need-returns-2 Inv-loop μ-loop
 returns-2 c =
     let a = c .before .before .before .before .before .before .before .args in let i = c .before .before .loop .i in
-    (λ t. (i, inside (c .before .before), sym (and-mask (getD (a .keys .now) i 0) 48) ∙ c .if2 .taken), λ t. absurd (true≢false t))
+    record { hit = λ l. sym (and-mask (getD (a .keys .now) i 0) 48) ∙ c .if2 .taken; none = λ l. absurd (let h = inside (c .before .before) in omega arith) }
 
 -- the key at the place is another
 other : (c : tie.Else2 Inv-loop μ-loop) → keyAt (c .before .before .before .before .before .before .before .args .keys .now) (c .before .before .loop .i) ≡ c .before .before .before .before .before .before .before .args .key → ⊥
@@ -61,12 +60,12 @@ other c e = c .if2 .left (and-mask (getD (c .before .before .before .before .bef
 returns-3 : tie.Need-returns-3 Inv-loop μ-loop
 returns-3 c =
     let a = c .before .before .before .before .before .before .before .before .args in let l = c .before .before .before .loop in let last : l .i ≡ 0 = omega (arith, c .if3 .taken) in
-    (λ t. absurd (false≢true t), λ t h. walk-end (λ p. keyAt (a .keys .now) p ≡ a .key → ⊥) (a .keys .now) (a .n) (bucketOf (a .key / 256)) (l .i) (l .inv) last (other (c .before)) (h .0) (h .1) (ap (λ (y : ℕ). bucketOf (y / 256)) (h .2)) (h .2))
+    record { hit = λ l. absurd (omega arith); none = λ z h. walk-end (λ p. keyAt (a .keys .now) p ≡ a .key → ⊥) (a .keys .now) (a .n) (bucketOf (a .key / 256)) (l .i) (l .inv) last (other (c .before)) (h .0) (h .1) (ap (λ (y : ℕ). bucketOf (y / 256)) (h .2)) (h .2) }
 
 next : (c : tie.Else3 Inv-loop μ-loop) → Walked (λ p. keyAt (c .before .before .before .before .before .before .before .before .args .keys .now) p ≡ c .before .before .before .before .before .before .before .before .args .key → ⊥) (c .before .before .before .before .before .before .before .before .args .keys .now) (c .before .before .before .before .before .before .before .before .args .n) (bucketOf (c .before .before .before .before .before .before .before .before .args .key / 256)) (getD (c .before .before .before .before .before .before .before .before .args .keys .now) (c .before .before .before .loop .i) 0 / 2 ^ 48)
 next c =
     let a = c .before .before .before .before .before .before .before .before .args in let p = c .before .before .before .before .before .before .before .before .pre in let l = c .before .before .before .loop in
-    walk-next (λ p. keyAt (a .keys .now) p ≡ a .key → ⊥) (a .keys .now) (a .n) (bucketOf (a .key / 256)) (l .i) (l .inv) (a .heads .now) (a .last .now) (p .0) (c .if3 .left) (other (c .before))
+    walk-next (λ p. keyAt (a .keys .now) p ≡ a .key → ⊥) (a .keys .now) (a .n) (bucketOf (a .key / 256)) (l .i) (l .inv) (p .0 .links) (c .if3 .left) (other (c .before))
 
 loop-less : tie.Need-loop-less Inv-loop μ-loop
 loop-less c =
@@ -76,8 +75,8 @@ loop-less c =
 loop-again : tie.Need-loop-again Inv-loop μ-loop
 loop-again c = next c
 
-pub lists-spec : {M : Type 1} → statement M
-lists-spec =
+pub find-spec : {M : Type 1} → statement M
+find-spec =
     tie.close
     (tie.spec
     Inv-loop

@@ -1,0 +1,65 @@
+-- `build_transitions::transitions::chain` meets its contract, code by code.
+use Prim.Native.Nat.{_-_, _≤_, _<_}
+use mathlib.Core.Path.{_≡_}
+use native.Mathlib.Omega.{arith}
+use lib.ListN.{length, getD}
+use borrow.Author.Needs.{needs}
+use Rattle.build_transitions_spec.proofs.Chaining.{Chaining, key-read, key-low, chaining-start, chaining-next}
+use Rattle.build_transitions.proofs.transitions.chain.Statement.{statement}
+use Rattle.build_transitions.proofs.transitions.chain.Tie as tie
+
+abbrev Inv-loop : tie.InvT-loop
+Inv-loop codes₀ heads₀ last₀ p₀ codes heads last p = (p ≤ length codes₀) × Chaining codes₀ codes heads last p
+
+abbrev μ-loop : tie.MeasureT-loop
+μ-loop codes₀ heads₀ last₀ p₀ codes heads last p = length codes₀ - p
+
+loop-holds : tie.Need-loop-holds Inv-loop μ-loop
+loop-holds c = let a = c .before .args in (omega arith, chaining-start (a .codes .now) (a .heads .now) (a .last .now) (c .before .pre .0))
+
+mul-code : tie.Need-mul-code Inv-loop μ-loop
+mul-code c = search needs
+
+slice-read-code : tie.Need-slice-read-code Inv-loop μ-loop
+slice-read-code c = search needs
+
+put-requires : tie.Need-put-requires Inv-loop μ-loop
+put-requires c κs =
+    let a = c .before .before .before .before .before .before .before .args in let p = c .before .before .before .before .before .before .before .pre in let l = c .before .before .before .before .before .loop in let inside : l .p < length (a .codes .now) = omega (arith, c .before .before .before .before .loop-test .taken, l .inv .1 .long) in
+    (l .inv .1 .chained, omega (arith, inside, l .inv .1 .long), rw (key-read (a .codes .now) (l .codes) (l .heads) (l .last) (l .p) (l .inv .1) (p .2 (l .p) inside)) (key-low (getD (a .codes .now) (l .p) 0) (p .2 (l .p) inside)))
+
+add-p : tie.Need-add-p Inv-loop μ-loop
+add-p c = search needs
+
+loop-less : tie.Need-loop-less Inv-loop μ-loop
+loop-less c = let l = c .before .before .before .before .before .before .before .before .loop in omega (arith, c .before .before .before .before .before .before .before .loop-test .taken, l .inv .1 .long)
+
+loop-again : tie.Need-loop-again Inv-loop μ-loop
+loop-again c =
+    let a = c .before .before .before .before .before .before .before .before .before .before .args in let p = c .before .before .before .before .before .before .before .before .before .before .pre in let l = c .before .before .before .before .before .before .before .before .loop in let e = c .before .before .put .ensures in let inside : l .p < length (a .codes .now) = omega (arith, c .before .before .before .before .before .before .before .loop-test .taken, l .inv .1 .long) in
+    (omega arith, rw (e .0, e .1, e .2) (chaining-next (a .codes .now) (p .1) (p .2) (l .codes) (l .heads) (l .last) (l .p) (l .inv .1) inside _ (key-read (a .codes .now) (l .codes) (l .heads) (l .last) (l .p) (l .inv .1) (p .2 (l .p) inside))))
+
+same-length : tie.Need-same-length Inv-loop μ-loop
+same-length c = c .before .loop .inv .1 .long
+
+returns : tie.Need-returns Inv-loop μ-loop
+returns c =
+    let l = c .before .loop in let a = c .before .before .before .args in
+    let e : l .p ≡ length (a .codes .now) = omega (arith, l .inv .0, l .inv .1 .long, c .loop-test .left) in
+    (rw e at (l .inv .1 .chained), λ p h. l .inv .1 .done p (omega arith))
+
+pub chain-spec : {M : Type 1} → statement M
+chain-spec =
+    tie.close
+    (tie.spec
+    Inv-loop
+    μ-loop
+    loop-holds
+    mul-code
+    slice-read-code
+    put-requires
+    add-p
+    loop-less
+    loop-again
+    same-length
+    returns)
