@@ -1,0 +1,12 @@
+pub mod Decimals
+pub mod Lines
+pub mod Starts
+pub mod Edges
+pub mod Blocks
+pub mod Marks
+pub mod Carried
+pub mod Once
+pub mod Theorems
+pub mod Taking
+pub mod Heads
+pub mod Labels
