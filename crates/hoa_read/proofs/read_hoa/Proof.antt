@@ -1,0 +1,58 @@
+-- `hoa_read::read_hoa` meets its contract.
+use mathlib.Core.Logic.{inl, inr}
+use native.Mathlib.Omega.{arith}
+use Rattle.hoa_read_spec.specs.Reading.{no-table, short}
+use Rattle.hoa_read.proofs.Surveys.{text-ended}
+use Rattle.hoa_read.proofs.Stores.{no-shape, whole-carries, flags-stored, moves-stored, all-read}
+use borrow.Author.Needs.{needs}
+use Rattle.hoa_read.proofs.read_hoa.Statement.{statement}
+use Rattle.hoa_read.proofs.read_hoa.Tie as tie
+
+take-text-requires : tie.Need-take-text-requires
+take-text-requires c κs = search needs
+
+returns : tie.Need-returns
+returns c = no-table (no-shape (c .before .before .take-text .ensures .absent (c .if1 .taken)))
+
+returns-2 : tie.Need-returns-2
+returns-2 c = let W = c .before .before .before .take-text .ensures .found (omega arith) in let n = W .macrostates in short (whole-carries W) (inl (omega arith))
+
+returns-3 : tie.Need-returns-3
+returns-3 c = let W = c .before .before .before .before .take-text .ensures .found (omega arith) in let n = W .transitions in short (whole-carries W) (inr (omega arith))
+
+take-starts-requires : tie.Need-take-starts-requires
+take-starts-requires c κs = let W = c .before .before .before .before .before .take-text .ensures .found (omega arith) in let n = W .macrostates in let f = W .shaped .few in (text-ended (c .before .before .before .before .before .before .before .before .before .args .text .now) _ (W .flags) (W .moves) (W .text-is), W .within, omega arith)
+
+take-blocks-requires : tie.Need-take-blocks-requires
+take-blocks-requires c κs = let W = c .before .before .before .before .before .before .before .before .before .take-text .ensures .found (omega arith) in let n = W .macrostates in let f = W .shaped .few in (text-ended (c .before .before .before .before .before .before .before .before .before .before .before .before .before .args .text .now) _ (W .flags) (W .moves) (W .text-is), W .some, W .goes-on, W .shaped .propositions, omega arith)
+
+same-length : tie.Need-same-length
+same-length c = search needs
+
+same-length-2 : tie.Need-same-length-2
+same-length-2 c = search needs
+
+returns-4 : tie.Need-returns-4
+returns-4 c =
+    let a = c .before .before .before .before .before .before .before .before .before .before .before .before .before .before .before .before .args in
+    let r = c .before .before .before .before .before .before .before .before .before .before .before .before .take-text .result in
+    let W = c .before .before .before .before .before .before .before .before .before .before .before .before .take-text .ensures .found (omega arith) in
+    let S = c .before .before .before .before .before .before .take-starts in
+    let B = c .before .before .take-blocks in
+    all-read (a .text .now) (r .macrostates) (r .propositions) (r .accepting) (r .transitions) (r .starts) (r .blocks) W (a .flags .now) (a .transitions .now) (omega arith) (omega arith)
+    (flags-stored (a .text .now) (r .macrostates) (r .propositions) (r .accepting) (r .transitions) (r .starts) (r .blocks) W (a .flags .now) (S .result .last) (S .result .end) _ (S .ensures) (omega arith))
+    (moves-stored (a .text .now) (r .macrostates) (r .propositions) (r .accepting) (r .transitions) (r .starts) (r .blocks) W (a .transitions .now) (B .result .accepting) (B .result .count) (B .result .end) _ (B .ensures) (omega arith))
+
+pub read-hoa-spec : {M : Type 1} → statement M
+read-hoa-spec =
+    tie.close
+    (tie.spec
+    take-text-requires
+    returns
+    returns-2
+    returns-3
+    take-starts-requires
+    take-blocks-requires
+    same-length
+    same-length-2
+    returns-4)

@@ -1,0 +1,155 @@
+-- `hoa_read_parts::take_edges` meets its contract: the edge lines up to place end were read, and their transitions stored.
+use Prim.Native.Nat.{ℕ, _+_, _-_, _≤_, _<_}
+use mathlib.Core.Path.{_≡_, refl, _∙_, ap}
+use mathlib.Core.List.{List, [], _∷_, _++_}
+use native.Mathlib.Omega.{arith}
+use lib.ListN.{length, length-append}
+use lib.Seq.{sets, length-sets}
+use Rattle.hoa_read_parts_laws.specs.Parts.{Edging}
+use Rattle.hoa_read_parts_laws.proofs.Edging.{edging-none, no-edge-end, no-edge-here, edges-some, edges-no-line, edges-no-order, edging-next, move-small, edge-later, move-stored}
+use borrow.Author.Needs.{needs}
+use Rattle.hoa_read_parts.proofs.take_edges.Statement.{statement}
+use Rattle.hoa_read_parts.proofs.take_edges.Tie as tie
+
+abbrev Inv-loop : tie.InvT-loop
+Inv-loop text p b n i transitions₀ m count₀ low₀ end₀ transitions count low end =
+    (p ≤ end) × (count ≤ end) × (edges : List ℕ) × Edging text p b n i edges low end × (count ≡ m + length edges)
+    × (transitions ≡ sets transitions₀ m edges)
+
+abbrev μ-loop : tie.MeasureT-loop
+μ-loop text p b n i transitions₀ m count₀ low₀ end₀ transitions count low end = length text - end
+
+loop-holds : tie.Need-loop-holds Inv-loop μ-loop
+loop-holds c = let a = c .before .before .args in (omega arith, omega arith, [], edging-none (a .text .now) (a .p) (a .b) (a .n) (a .i) (omega arith), omega arith, refl)
+
+shared-slice-read-if1 : tie.Need-shared-slice-read-if1 Inv-loop μ-loop
+shared-slice-read-if1 c = omega arith
+
+same-length : tie.Need-same-length Inv-loop μ-loop
+same-length c =
+    let a = c .before .before .before .before .before .before .args in
+    let l = c .before .before .before .loop in
+    ap length (l .inv .5) ∙ length-sets (a .transitions .now) (a .m) (l .inv .2)
+
+returns : tie.Need-returns Inv-loop μ-loop
+returns c =
+    let a = c .before .before .before .before .before .before .args in
+    let l = c .before .before .before .loop in
+    edges-some (omega arith) record {
+      edges = l .inv .2;
+      low = l .low;
+      read = l .inv .3;
+      next = no-edge-here (a .text .now) (l .end) (omega arith) (c .if1 .taken);
+      few = l .inv .1;
+      counted = l .inv .4;
+      stored = l .inv .5;
+    }
+
+take-edge-requires : tie.Need-take-edge-requires Inv-loop μ-loop
+take-edge-requires c κs = (c .before .before .before .before .before .before .pre .0, omega arith, omega arith, omega arith, omega arith)
+
+same-length-2 : tie.Need-same-length-2 Inv-loop μ-loop
+same-length-2 c =
+    let a = c .before .before .before .before .before .before .before .before .args in
+    let l = c .before .before .before .before .before .loop in
+    ap length (l .inv .5) ∙ length-sets (a .transitions .now) (a .m) (l .inv .2)
+
+returns-2 : tie.Need-returns-2 Inv-loop μ-loop
+returns-2 c =
+    let a = c .before .before .before .before .before .before .before .before .args in
+    let l = c .before .before .before .before .before .loop in
+    let T = c .before .take-edge in
+    edges-no-line (a .text .now) (a .p) (a .b) (a .n) (a .i) (l .inv .2) (l .low) (l .end) (l .inv .3) (omega arith) (c .before .before .if1 .left) (T .result .value) (T .result .end) (T .ensures) (c .if2 .taken) refl
+
+same-length-3 : tie.Need-same-length-3 Inv-loop μ-loop
+same-length-3 c =
+    let a = c .before .before .before .before .before .before .before .before .before .args in
+    let l = c .before .before .before .before .before .before .loop in
+    ap length (l .inv .5) ∙ length-sets (a .transitions .now) (a .m) (l .inv .2)
+
+returns-3 : tie.Need-returns-3 Inv-loop μ-loop
+returns-3 c =
+    let a = c .before .before .before .before .before .before .before .before .before .args in
+    let l = c .before .before .before .before .before .before .loop in
+    let T = c .before .before .take-edge in
+    edges-no-order (a .text .now) (a .p) (a .b) (a .n) (a .i) (l .inv .2) (l .low) (l .end) (l .inv .3) (omega arith) (c .before .before .before .if1 .left) (T .result .value) (T .result .end) (T .ensures) (omega arith) (c .if3 .taken) refl
+
+store-move-requires : tie.Need-store-move-requires Inv-loop μ-loop
+store-move-requires c κs = search needs
+
+add-count : tie.Need-add-count Inv-loop μ-loop
+add-count c = omega arith
+
+add-low : tie.Need-add-low Inv-loop μ-loop
+add-low c =
+    let a = c .before .before .before .before .before .before .before .before .before .before .before .before .before .args in
+    let l = c .before .before .before .before .before .before .before .before .before .before .loop in
+    let T = c .before .before .before .before .before .before .take-edge in
+    omega (arith, move-small (a .text .now) (a .p) (a .b) (a .n) (a .i) (l .inv .2) (l .low) (l .end) (l .inv .3) (omega arith) (c .before .before .before .before .before .before .before .if1 .left) (T .result .value) (T .result .end) (T .ensures) (omega arith) (omega arith))
+
+-- the line ends later than it began
+later-now : (c : tie.After-slice-known2 Inv-loop μ-loop) → (c .before .before .before .before .before .before .before .before .before .before .loop .end < c .before .before .before .before .before .before .take-edge .result .end) × (c .before .before .before .before .before .before .take-edge .result .end ≤ length (c .before .before .before .before .before .before .before .before .before .before .before .before .before .args .text .now))
+later-now c =
+    let a = c .before .before .before .before .before .before .before .before .before .before .before .before .before .args in
+    let l = c .before .before .before .before .before .before .before .before .before .before .loop in
+    let T = c .before .before .before .before .before .before .take-edge in
+    (edge-later (a .text .now) (a .p) (a .b) (a .n) (a .i) (l .inv .2) (l .low) (l .end) (l .inv .3) (omega arith) (c .before .before .before .before .before .before .before .if1 .left) (T .result .value) (T .result .end) (T .ensures) (omega arith), T .ensures .found (omega arith) .1)
+
+loop-less : tie.Need-loop-less Inv-loop μ-loop
+loop-less c = omega (arith, later-now c)
+
+loop-again : tie.Need-loop-again Inv-loop μ-loop
+loop-again c =
+    let a = c .before .before .before .before .before .before .before .before .before .before .before .before .before .args in
+    let l = c .before .before .before .before .before .before .before .before .before .before .loop in
+    let T = c .before .before .before .before .before .before .take-edge in (
+      omega (arith, later-now c),
+      omega (arith, later-now c),
+      l .inv .2 ++ (T .result .value ∷ []),
+      edging-next (a .text .now) (a .p) (a .b) (a .n) (a .i) (l .inv .2) (l .low) (l .end) (l .inv .3) (omega arith) (c .before .before .before .before .before .before .before .if1 .left) (T .result .value) (T .result .end) (T .ensures) (omega arith) (c .before .before .before .before .if3 .left),
+      omega (arith, length-append (l .inv .2) (T .result .value ∷ [])),
+      move-stored (a .transitions .now) (a .m) (l .inv .2) (l .count) (T .result .value) (l .inv .4) (l .inv .5) (c .before .before .store-move .ensures),
+    )
+
+same-length-4 : tie.Need-same-length-4 Inv-loop μ-loop
+same-length-4 c =
+    let a = c .before .before .before .before .args in
+    let l = c .before .loop in
+    ap length (l .inv .5) ∙ length-sets (a .transitions .now) (a .m) (l .inv .2)
+
+returns-4 : tie.Need-returns-4 Inv-loop μ-loop
+returns-4 c =
+    let a = c .before .before .before .before .args in
+    let l = c .before .loop in
+    edges-some (omega arith) record {
+      edges = l .inv .2;
+      low = l .low;
+      read = l .inv .3;
+      next = no-edge-end (a .text .now) (l .end) (c .loop-test .left);
+      few = l .inv .1;
+      counted = l .inv .4;
+      stored = l .inv .5;
+    }
+
+pub take-edges-spec : {M : Type 1} → statement M
+take-edges-spec =
+    tie.close
+    (tie.spec
+    Inv-loop
+    μ-loop
+    loop-holds
+    shared-slice-read-if1
+    same-length
+    returns
+    take-edge-requires
+    same-length-2
+    returns-2
+    same-length-3
+    returns-3
+    store-move-requires
+    add-count
+    add-low
+    loop-less
+    loop-again
+    same-length-4
+    returns-4)

@@ -1,0 +1,4 @@
+pub mod Lists
+pub mod Starting
+pub mod Edging
+pub mod Blocking

@@ -1,0 +1,1 @@
+// What is read of a table's text, part by part.
