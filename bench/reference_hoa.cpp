@@ -182,14 +182,20 @@ static bool job(const char *path) {
   double measured = best([&] { write_into(length); });
   printf("%s %zu %zu %zu\n", path, codes.size(), transitions.size(), length);
   printf("  write %.1f %.1f %.2f; into just its length %.1f %.2f\n", library, plain, library / plain, measured, measured / plain);
-  vector<u8> flags(65536);
-  vector<u64> carried(1048576);
+  vector<u8> flags(65536), marks(65536);
+  vector<u64> carried(1048576), moves(1048576);
   size_t states = 0, count = 0;
   bool read = true;
+  mulgreddi_answer back = {};
+  library = best([&] {
+    back = mulgreddi_read_hoa(text.data(), length, marks.data(), marks.size(), moves.data(), moves.size());
+  });
   plain = best([&] { read = read && read_text(own.data(), length, flags, carried, states, count); });
   carried.resize(count);
   if (!read || states != codes.size() || carried != transitions) return false;
-  printf("  read  %.1f\n", plain);
+  if (back.refusal || back.first != states || back.second != count || memcmp(marks.data(), flags.data(), states)) return false;
+  if (memcmp(moves.data(), carried.data(), 8 * count)) return false;
+  printf("  read  %.1f %.1f %.2f\n", library, plain, library / plain);
   return true;
 }
 

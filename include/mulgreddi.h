@@ -72,6 +72,7 @@ enum {
     MULGREDDI_SLICE = 16,            /* result or scratch slice too short */
     MULGREDDI_MACROSTATE_ROOM = 17,  /* more reachable macrostates than room */
     MULGREDDI_TRANSITION_ROOM = 18,  /* more transitions than room */
+    MULGREDDI_NO_TABLE = 19,         /* no table that passes 15, under any rule, has this text */
     MULGREDDI_CLAUSE_INSIDE = 20,    /* an entry with a clause that contains another of its clauses; a repeat counts */
     MULGREDDI_NAMES = 21,            /* 4e 4d before the clauses and under 8 * s bytes before it; when writing: neither none nor 8 * s */
     MULGREDDI_NAME_BYTE = 22,        /* a name byte outside 20..7e */
@@ -109,6 +110,7 @@ static inline const char *mulgreddi_refusal_text(uint64_t refusal)
     case MULGREDDI_SLICE: return "a result or scratch slice is too short";
     case MULGREDDI_MACROSTATE_ROOM: return "more reachable macrostates than room";
     case MULGREDDI_TRANSITION_ROOM: return "more transitions than room";
+    case MULGREDDI_NO_TABLE: return "no table has this text";
     case MULGREDDI_CLAUSE_INSIDE: return "a clause contains or repeats another clause of its entry";
     case MULGREDDI_NAMES: return "the names do not fit: 8 bytes are needed for each letter";
     case MULGREDDI_NAME_BYTE: return "a byte of a name is not printable ASCII (20 to 7e)";
@@ -267,6 +269,14 @@ mulgreddi_answer mulgreddi_judge_table(const uint8_t *file, size_t file_len,
  * The rule's refusals, 15, and 16 where text is shorter than the table's text; MULGREDDI_HOA_BOUND bytes are always enough. */
 mulgreddi_answer mulgreddi_write_hoa(const uint8_t *file, size_t file_len, const uint8_t *codes, size_t codes_bytes,
                                      const uint8_t *transitions, size_t transitions_bytes, uint8_t *text, size_t text_len);
+
+/* Reads back a text that mulgreddi_write_hoa writes, for any rule and any table that passes 15, and no other text.
+ * flags gets a byte a macrostate: 1 where it is initial plus 2 where it is accepting. transitions gets the transitions, packed as in a build.
+ * Both go to the start of their slices; what follows is not touched. Codes and the number of letters are not in the text.
+ * first: the number of macrostates. second: the number of transitions.
+ * 19 where no table that passes 15, under any rule, has this text; then 16 where flags or transitions is too short. */
+mulgreddi_answer mulgreddi_read_hoa(const uint8_t *text, size_t text_len, uint8_t *flags, size_t flags_len,
+                                    uint64_t *transitions, size_t transitions_count);
 
 /* Translates a log into letters by an event table. The first line that holds an event's two bytes gives its letter.
  * events has up to 64 lines of five bytes: lowest and highest kind, lowest and highest drive, letter. log has two bytes an event, kind and

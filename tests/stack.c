@@ -89,6 +89,13 @@ static void write_hoa(void)
                                   text, sizeof text);
 }
 
+static void read_hoa(void)
+{
+    static uint8_t flags[MULGREDDI_MACROSTATES_MAX];
+    static uint64_t read[MULGREDDI_TRANSITIONS_MAX];
+    mulgreddi_read_hoa(text, written.first, flags, sizeof flags, read, MULGREDDI_TRANSITIONS_MAX);
+}
+
 static void translate(void)
 {
     mulgreddi_translate(file, file_len, events, sizeof events, log_bytes, sizeof log_bytes, out, sizeof out);
@@ -125,6 +132,7 @@ static const struct { const char *name; void (*call)(void); } calls[] = {
     {"build", build},
     {"judge_table", judge_table},
     {"write_hoa", write_hoa},
+    {"read_hoa", read_hoa},
     {"translate", translate},
     {"live", live},
 };

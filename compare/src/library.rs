@@ -155,6 +155,14 @@ extern "C" {
         text: *mut u8,
         text_length: usize,
     ) -> Answer;
+    pub fn mulgreddi_read_hoa(
+        text: *const u8,
+        text_length: usize,
+        flags: *mut u8,
+        flags_length: usize,
+        transitions: *mut u64,
+        transitions_length: usize,
+    ) -> Answer;
     pub fn mulgreddi_live_start(
         file: *const u8,
         file_length: usize,

@@ -11,6 +11,7 @@ mod judge_sheet;
 mod judge_table;
 mod live;
 mod mixed_loop;
+mod read_hoa;
 mod same_rules;
 mod same_words;
 mod tidy;
@@ -38,6 +39,7 @@ pub fn all() -> Vec<Entry> {
         translate::ENTRY,
         build_trimmed::ENTRY,
         write_hoa::ENTRY,
+        read_hoa::ENTRY,
         live::ENTRY,
     ]
 }

@@ -7,6 +7,8 @@ use Rattle.event_spec.specs.declared.Translated.{Translated}
 use Rattle.event_spec.specs.declared.Translated.the-variants as events
 use Rattle.file_tidy_spec.specs.declared.Tidied.{Tidied}
 use Rattle.file_tidy_spec.specs.declared.Tidied.the-variants as tidied
+use Rattle.hoa_read_spec.specs.declared.HoaRead.{HoaRead}
+use Rattle.hoa_read_spec.specs.declared.HoaRead.the-variants as hoa
 use Rattle.judge_spec.specs.declared.Verdict.{Verdict}
 use Rattle.judge_spec.specs.declared.Verdict.the-variants as judge
 use Rattle.live_spec.specs.declared.LiveAnswer.{LiveAnswer}
@@ -90,6 +92,11 @@ sheetAnswer (sheet.Refused row) = refusedAs row
 unfoldable pub builtAnswer : Built → Answer
 builtAnswer (build.Table counts) = servedAs (counts .macrostates) (counts .transitions)
 builtAnswer (build.Refused row) = refusedAs row
+
+-- the numbers of macrostates and transitions that a text carries
+unfoldable pub hoaReadAnswer : HoaRead → Answer
+hoaReadAnswer (hoa.Table sizes) = servedAs (sizes .macrostates) (sizes .transitions)
+hoaReadAnswer (hoa.Refused row) = refusedAs row
 
 -- 01: "it answers no, or yes with the lowest number": 1 and the number for yes, 0 for no
 abbrev pub startAnswer : Start → Answer

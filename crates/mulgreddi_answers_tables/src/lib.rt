@@ -1,11 +1,13 @@
-// The answers on tables and logs as the three numbers of the C interface: builds, the judge on a table, translated and live logs.
+// The answers on tables and logs as the three numbers of the C interface: builds, the judge on a table, texts read back, translated and
+// live logs.
 use build::Built;
 use event_spec::Translated;
+use hoa_read_spec::HoaRead;
 use live_spec::LiveAnswer;
 use mulgreddi_answers::Answer;
 use table_call::Start;
 ghost use mathlib.Core.Path.{_≡_};
-ghost use Rattle.mulgreddi_answers.specs.Answers.{builtAnswer, liveAnswer, startAnswer, translatedAnswer};
+ghost use Rattle.mulgreddi_answers.specs.Answers.{builtAnswer, hoaReadAnswer, liveAnswer, startAnswer, translatedAnswer};
 
 // Both counts.
 pub fn built(answer: Built) -> Answer
@@ -17,6 +19,19 @@ pub fn built(answer: Built) -> Answer
             counts.transitions as u64,
         ),
         Built::Refused(row) => mulgreddi_answers::refused(row),
+    }
+}
+
+// Both numbers that a text carries.
+pub fn read_back(answer: HoaRead) -> Answer
+    ensures { λ r. ⌜ r ≡ hoaReadAnswer answer ⌝ }
+{
+    match answer {
+        HoaRead::Table(sizes) => mulgreddi_answers::served(
+            sizes.macrostates as u64,
+            sizes.transitions as u64,
+        ),
+        HoaRead::Refused(row) => mulgreddi_answers::refused(row),
     }
 }
 
