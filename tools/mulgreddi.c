@@ -490,6 +490,26 @@ static int hoa(int count, char **operand)
     return YES;
 }
 
+static int read_hoa(int count, char **operand)
+{
+    bytes text = load(operand[0]);
+    /* a text has more bytes than macrostates and transitions */
+    uint8_t *flags = room(text.len);
+    uint64_t *t = room(8 * text.len);
+    (void)count;
+    begin("reading");
+    mulgreddi_answer a = mulgreddi_read_hoa(text.at, text.len, flags, text.len, t, text.len);
+    end();
+    if (a.refusal)
+        return refused(text.path, a.refusal, NULL);
+    printf("read %llu %llu\n", (number)a.first, (number)a.second);
+    for (uint64_t m = 0; m < a.first; m++)
+        printf("m %llu %c %c\n", (number)m, flags[m] & 1 ? 'i' : '-', flags[m] & 2 ? 'a' : '-');
+    for (uint64_t i = 0; i < a.second; i++)
+        printf("t %llu %u %llu\n", (number)mulgreddi_source(t[i]), mulgreddi_letter(t[i]), (number)mulgreddi_target(t[i]));
+    return YES;
+}
+
 /* Prints, place by place, the states from which the rule accepts and the clause that each one takes. */
 static void print_choices(const rule *r, word w, const uint8_t *choices)
 {
@@ -906,6 +926,11 @@ static const command commands[] = {
      "  --trimmed            only the macrostates that matter: those from which an accepting run exists\n"
      "  --out=FILE           writes it there instead of to standard output\n",
      1, 1, hoa},
+    {"read-hoa", "FILE", "",
+     "Reads a text that `hoa` wrote, and no other, and prints what it carries: a line `read`, macrostates,\n"
+     "transitions; a line `m`, number, `i` if initial, `a` if accepting for each macrostate; a line `t`, source,\n"
+     "letter, target for each transition.\n",
+     1, 1, read_hoa},
     {"judge", "[--choices] [--codes=FILE --transitions=FILE] FILE WORD..", "choices codes= transitions=",
      "Judges words on the rule and prints a line each: the word, yes or no, and the masks: for each place, as\n"
      "two hexadecimal digits, the states from which the rule accepts there, state q having weight 2 to the q.\n"

@@ -10,7 +10,7 @@ use std::{env, fs};
 use second::build::{build, Macrostate};
 use second::choices::{judge_choices, FALSE};
 use second::events::translate;
-use second::hoa::write_hoa;
+use second::hoa::{read_hoa, write_hoa, ACCEPTING, INITIAL};
 use second::live::{Lent, Log};
 use second::mixed::mixed_loop;
 use second::names::Name;
@@ -233,6 +233,22 @@ fn hoa(printed: &mut Printed, path: &str, options: &HashMap<String, String>) -> 
     match options.get("out") {
         None => printed.out = text,
         Some(path) => fs::write(path, text).unwrap(),
+    }
+    YES
+}
+
+fn read_hoa_command(printed: &mut Printed, path: &str) -> i32 {
+    let carried = printed.served(read_hoa(&load(path), usize::MAX, usize::MAX));
+    let (flags, transitions) = (carried.flags, carried.transitions);
+    printed.line(&format!("read {} {}", flags.len(), transitions.len()));
+    for (number, flags) in flags.iter().enumerate() {
+        let initial = if flags & INITIAL != 0 { "i" } else { "-" };
+        let accepting = if flags & ACCEPTING != 0 { "a" } else { "-" };
+        printed.line(&format!("m {number} {initial} {accepting}"));
+    }
+    for t in transitions {
+        let (source, letter, target) = (t / 16_777_216, t / 65_536 % 256, t % 65_536);
+        printed.line(&format!("t {source} {letter} {target}"));
     }
     YES
 }
@@ -528,6 +544,7 @@ fn main() {
         "check" => check(printed, &operands),
         "list" => list(printed, &operands[0], options.contains_key("trimmed")),
         "hoa" => hoa(printed, &operands[0], &options),
+        "read-hoa" => read_hoa_command(printed, &operands[0]),
         "judge" => judge(printed, &operands, &options),
         "build" => build_command(printed, &operands[0], &options),
         "sheet" => sheet(printed, &operands, options.contains_key("lines")),
