@@ -48,7 +48,7 @@ pub fn firsts(
     }
 }
 
-// One round over all cores: adds all keys that the n keys from place `from` on lead to.
+// One round over all sets of open states: adds all keys that the n keys from place `from` on lead to.
 fn round(
     keys: &mut [u64],
     heads: &mut [u16; 16384],
@@ -72,18 +72,31 @@ fn round(
         (ReachedKey r (now (parts .entry)) shape) (now (keys .entry)) n (now (keys .exit)) (now (heads .exit)) (now (last .exit))
         (g .m) (g .full)) ⌝ }
 {
+    let low = build_cores::lowest(caps);
+    let all = low[15];
     let mut m = n;
-    let mut t = 0;
+    let mut x = 0u8;
     loop {
-        let g = build_visit::letters::visit(keys, heads, last, m, from, t, shape, opens, parts);
+        let g = build_visit::spans::visit_set(
+            keys,
+            heads,
+            last,
+            m,
+            from,
+            x,
+            all,
+            shape,
+            opens,
+            parts,
+        );
         if g.full {
             return g;
         }
         m = g.m;
-        if t == caps {
+        if x == all {
             return Grow { m, full: false };
         }
-        t = build_cores::next_ranks(t, caps);
+        x += 1;
     }
 }
 

@@ -4,3 +4,5 @@ pub mod Starting
 pub mod Letters
 pub mod Moves
 pub mod Distinct
+pub mod Sets
+pub mod Walk

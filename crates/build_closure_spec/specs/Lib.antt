@@ -1,3 +1,4 @@
 pub mod Keys
 pub mod Reached
 pub mod Tables
+pub mod Sets

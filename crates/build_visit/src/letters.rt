@@ -125,7 +125,7 @@ pub fn last_of(last: &[u32; 256], set: u8) -> u32
 }
 
 // The same number.
-fn wide(x: u32) -> usize
+pub fn wide(x: u32) -> usize
     ensures { λ r. ⌜ r ≡ x ⌝ }
 {
     x as usize

@@ -12,7 +12,7 @@ use Rattle.build_chains_spec.proofs.Growth.{Upto, grown-as, upto-start, upto-fu
 use Rattle.build_closure_spec.specs.Keys.{StartsAt, First}
 use Rattle.build_closure_spec.specs.Tables.{Shaped}
 use Rattle.build_closure_spec.proofs.Starting.{caps-low}
-use Rattle.build_closure.proofs.Walk.{walk-next, walk-end}
+use Rattle.build_closure_spec.proofs.Walk.{walk-next, walk-end}
 use Rattle.build_closure.proofs.rounds.firsts.Statement.{statement}
 use Rattle.build_closure.proofs.rounds.firsts.Tie as tie
 

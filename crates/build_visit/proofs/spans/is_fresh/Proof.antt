@@ -1,0 +1,64 @@
+-- `build_visit::spans::is_fresh` meets its contract. The loop's invariant: nothing new stands before the letters below a.
+use Prim.Native.Nat.{ℕ, _+_, _-_, _*_, _<_, _≤_}
+use mathlib.Core.Path.{_≡_, sym}
+use mathlib.Core.Logic.{by-cases}
+use mathlib.Core.Bool.{true≢false}
+use native.Mathlib.Omega.{arith}
+use native.Mathlib.Decide.{decLt}
+use lib.Bits.{bitXor}
+use lib.ListN.{getD}
+use borrow.Author.Needs.{needs}
+use Rattle.build_visit.proofs.spans.is_fresh.Statement.{statement}
+use Rattle.build_visit.proofs.spans.is_fresh.Tie as tie
+
+abbrev Inv-loop : tie.InvT-loop
+Inv-loop opens last from x shape a₀ a = (a ≤ shape .s) × ((b : ℕ) → b < a → getD last (bitXor (getD opens (b * 256 + x) 0) (shape .accepting)) 0 ≤ from)
+
+abbrev μ-loop : tie.MeasureT-loop
+μ-loop opens last from x shape a₀ a = shape .s - a
+
+loop-holds : tie.Need-loop-holds Inv-loop μ-loop
+loop-holds c = (omega arith, λ b h. absurd (omega arith))
+
+set-before-requires : tie.Need-set-before-requires Inv-loop μ-loop
+set-before-requires c κs = omega (arith, c .if1 .taken, c .before .before .before .pre)
+
+last-of-requires : tie.Need-last-of-requires Inv-loop μ-loop
+last-of-requires c κs = search needs
+
+wide-requires : tie.Need-wide-requires Inv-loop μ-loop
+wide-requires c κs = search needs
+
+returns : tie.Need-returns Inv-loop μ-loop
+returns c = λ t. absurd (true≢false t)
+
+add-a : tie.Need-add-a Inv-loop μ-loop
+add-a c = search needs
+
+loop-less : tie.Need-loop-less Inv-loop μ-loop
+loop-less c = omega (arith, c .before .before .before .before .if1 .taken)
+
+loop-again : tie.Need-loop-again Inv-loop μ-loop
+loop-again c =
+    let a = c .before .before .before .before .before .before .before .args in let l = c .before .before .before .before .before .before .loop in
+    let old : getD (a .last .now) (bitXor (getD (a .opens .now) (l .a * 256 + a .x) 0) (a .shape .accepting)) 0 ≤ a .from = rw (← c .before .before .before .set-before .ensures) (let z : getD (a .last .now) (c .before .before .before .set-before .result) 0 ≤ a .from = omega (arith, c .before .wide .ensures, c .before .before .last-of .ensures, c .if2 .left) in z) in
+    (omega (arith, c .before .before .before .before .if1 .taken), λ b h. by-cases (decLt b (l .a)) (λ k. l .inv .1 b k) (λ k. let e : b ≡ l .a = omega arith in rw e old))
+
+returns-2 : tie.Need-returns-2 Inv-loop μ-loop
+returns-2 c = λ t b h. c .before .before .loop .inv .1 b (omega (arith, c .if1 .left))
+
+pub is-fresh-spec : {M : Type 1} → statement M
+is-fresh-spec =
+    tie.close
+    (tie.spec
+    Inv-loop
+    μ-loop
+    loop-holds
+    set-before-requires
+    last-of-requires
+    wide-requires
+    returns
+    add-a
+    loop-less
+    loop-again
+    returns-2)
