@@ -114,8 +114,13 @@ tables: $(LIB) $(PROGRAM)
 soak: $(LIB)
 	$(CARGO) run --release --offline --quiet --manifest-path compare/Cargo.toml -- --seconds $(SECONDS)
 
-# bench/reference.cpp is the same kind of algorithm in C++, without proofs, checks and refusals of files: for speed alone
+# bench/reference.cpp is the build in C++ by sweeps over all cores, without proofs, checks and refusals of files: for speed alone
 $(BUILD)/reference: bench/reference.cpp
+	mkdir -p $(BUILD)
+	$(CXX) -O2 -std=c++17 -o $@ $<
+
+# bench/chains.cpp is the build by chains in C++, the library's algorithm with a table more
+$(BUILD)/chains: bench/chains.cpp
 	mkdir -p $(BUILD)
 	$(CXX) -O2 -std=c++17 -o $@ $<
 
@@ -138,9 +143,10 @@ STEP_BACK := target/bin/bench_step_back
 $(STEP_BACK): $(SOURCES)
 	rt check bench_step_back
 
-bench: $(LIB) $(STEP_BACK) $(BUILD)/reference $(BUILD)/reference02 $(BUILD)/reference_events $(BUILD)/reference_hoa
+bench: $(LIB) $(STEP_BACK) $(BUILD)/reference $(BUILD)/chains $(BUILD)/reference02 $(BUILD)/reference_events $(BUILD)/reference_hoa
 	STEP_BACK=$(CURDIR)/$(STEP_BACK) $(CARGO) run --release --offline --quiet --manifest-path compare/Cargo.toml --bin speed -- $(wildcard $(CURDIR)/bench/*.rule)
 	$(BUILD)/reference $(wildcard bench/*.rule)
+	for r in $(wildcard bench/*.rule); do echo "$$r $$($(BUILD)/chains B $$r)"; done
 	$(BUILD)/reference02 trim $(wildcard bench/*.rule)
 	$(BUILD)/reference02 live $(wildcard bench/*.rule)
 	$(BUILD)/reference_events
@@ -168,7 +174,7 @@ check-tool: $(TOOL) $(PROGRAM) $(BUILD)/stack
 	tests/refusals.sh include/mulgreddi.h
 	nm $(LIB) > $(BUILD)/symbols
 	if grep -E ' [bBcCdDsS] ' $(BUILD)/symbols; then echo 'the library keeps state between calls'; exit 1; fi
-	$(BUILD)/stack $(wildcard examples/[A-Z].rule) bench/and_71_s16.rule
+	$(BUILD)/stack $(wildcard examples/[A-Z].rule) bench/and_71_s16.rule bench/cap_62_s16.rule
 	MAKE='$(MAKE)' tests/install.sh $(BUILD)/installed $(VERSION)
 
 $(BUILD)/stack: tests/stack.c include/mulgreddi.h $(LIB)
