@@ -13,9 +13,10 @@ use Rattle.live_spec.specs.declared.LiveCall.{LiveCall}
 use Rattle.live_spec.specs.declared.LiveCall.the-variants.{Start, Arrive, Withdraw, Mark, Return}
 use Rattle.live_spec.specs.Afresh.{afresh}
 use Rattle.live_spec.specs.History.{History, begun, later, Moment, unset, at, isSet, lettersAt, Log, empty, called, logOf, held, markOf, Serves, Served, followed, Keeps}
-use Rattle.live_spec.specs.State.{stateLength, logBytes, stateOf, padded}
+use Rattle.live_spec.specs.State.{stateLength, twoBytes, logBytes, stateOf, padded}
 use Rattle.live_spec.specs.Called.{effect}
-use Rattle.live_laws.proofs.States.{bytesOf, log-bytes, remark-low, start-leaves, arrive-leaves, withdraw-leaves, return-leaves, mark-leaves}
+use Rattle.live_laws.proofs.Reached.{afresh-length}
+use Rattle.live_laws.proofs.States.{flagBytes, numberBytes, markBytes, bytesOf, long, log-bytes, remark-low, start-leaves, arrive-leaves, withdraw-leaves, return-leaves, mark-leaves}
 
 -- ---- served calls keep to 512 letters
 
@@ -80,6 +81,26 @@ module _ (q : ℕ) (codes ts : List ℕ) where
         → effect c q codes ts (stateOf q codes ts h ++ rest) ≡ stateOf q codes ts (later h c) ++ rest
     unfolding logOf
     call-goes s h c rest S k n = ap (effect c q codes ts) (state-bytes h rest) ∙ log-goes s (logOf h) c rest (small s h S) k n ∙ sym (state-bytes (later h c) rest)
+
+  -- it has as many bytes as state
+  pub state-long : (s : ℕ) (h : History) → Served s h → length codes ≤ 65536 → length (stateOf q codes ts h) ≡ stateLength
+  unfolding stateOf logBytes flagBytes numberBytes markBytes
+  state-long s h S few =
+      let g = logOf h in
+      let K = small s h S in
+      let t = twoBytes (length (g .letters)) in
+      let f = flagBytes (g .marks) in
+      let n = numberBytes (g .marks) in
+      let l = padded 512 (g .letters) in
+      let m = markBytes (g .marks) in
+      let v = padded 65536 (afresh q codes ts (g .letters)) in
+      let L = long (g .letters) (g .marks) (afresh q codes ts (g .letters)) (K .few-letters) (K .few-marked) (let e = afresh-length q codes ts (g .letters) in omega (arith, e, few)) in
+      let e₁ = length-append (t ++ (f ++ (n ++ (l ++ m)))) v in
+      let e₂ = length-append t (f ++ (n ++ (l ++ m))) in
+      let e₃ = length-append f (n ++ (l ++ m)) in
+      let e₄ = length-append n (l ++ m) in
+      let e₅ = length-append l m in
+      omega (arith, e₁, e₂, e₃, e₄, e₅, L .number-long, L .flags-long, L .numbers-long, L .letters-long, L .marks-long, L .set-long)
 
   -- ---- an arrival and then a withdrawal
 

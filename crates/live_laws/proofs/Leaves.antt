@@ -6,7 +6,7 @@ use native.Mathlib.Omega.{arith}
 use native.Mathlib.Nat.{zero-add}
 use lib.Dec.{ltb}
 use lib.ListN.{length, getD, take, drop, take-append-drop}
-use lib.Seq.{ext-getD}
+use lib.Seq.{ext-getD, take-at}
 use Rattle.sets.specs.Lists.{tabulate}
 use Rattle.sets.specs.Tests.{one, count}
 use Rattle.sets.proofs.Lists.{length-tabulate, tabulate-at}
@@ -24,7 +24,7 @@ use Rattle.live_spec.specs.State.{stateLength, stateOf, numberIn, isMarked, set
 use Rattle.live_spec.specs.Effects.{put, shown}
 use Rattle.live_spec.specs.Called.{effect, answerBy, leftBy, CalledBy, Gets, TrimmedTable, Leaves}
 use Rattle.live_laws.proofs.Empty.{some-left, none-left}
-use Rattle.live_laws.proofs.Histories.{Onward, Small, small, state-bytes, start-goes, call-goes}
+use Rattle.live_laws.proofs.Histories.{Onward, Small, small, state-bytes, state-long, start-goes, call-goes}
 use Rattle.live_laws.proofs.Reached.{Bytes, in-one, afresh-length, afresh-bytes, reached-iff}
 use Rattle.live_laws.proofs.States.{bytesOf, number-held, flag-held, set-at}
 
@@ -103,6 +103,10 @@ module _ (r : Rule) (P : Passing r) (codes ts : List ℕ) (room : length codes �
       ap (effect c (r .initial) codes ts) (sym (take-append-drop stateLength state) ∙ ap (λ (x : List ℕ). x ++ drop stateLength state) e)
       ∙ call-goes (r .initial) codes ts room (inside .sources) (r .s) h c (drop stateLength state) S k n
 
+  front : (h : History) (state set state′ set′ : List ℕ) (v : LiveAnswer) → Leaves r codes ts h state set state′ set′ v → take stateLength state′ ≡ stateOf (r .initial) codes ts h
+  front h state set state′ set′ v L =
+      ap (take stateLength) (L .state-left) ∙ take-at (stateOf (r .initial) codes ts h) (drop stateLength state) stateLength (state-long (r .initial) codes ts (r .s) h (L .served) room)
+
   pub leaves : (h : History) (c : LiveCall) (state set state′ set′ : List ℕ) (v : LiveAnswer) → Served (r .s) h → Serves (r .s) (logOf h) c → Gets c (r .initial) codes ts h state
       → CalledBy 0 c (r .initial) codes ts state set state′ set′ v → Leaves r codes ts (later h c) state set state′ set′ v
   leaves h Start state set state′ set′ v S k e C = by-effect h Start state set state′ set′ v (S, k) (start-goes (r .initial) codes ts room (inside .sources) h state) C
@@ -110,3 +114,11 @@ module _ (r : Rule) (P : Passing r) (codes ts : List ℕ) (room : length codes �
   leaves h Withdraw state set state′ set′ v S k e C = by-effect h Withdraw state set state′ set′ v (S, k) (got h Withdraw state S k tt e) C
   leaves h (Mark m) state set state′ set′ v S k e C = by-effect h (Mark m) state set state′ set′ v (S, k) (got h (Mark m) state S k tt e) C
   leaves h (Return m) state set state′ set′ v S k e C = by-effect h (Return m) state set state′ set′ v (S, k) (got h (Return m) state S k tt e) C
+
+  -- what was left is what the next call gets
+  pub left-is-got : (h : History) (c : LiveCall) (state set state′ set′ : List ℕ) (v : LiveAnswer) → Leaves r codes ts h state set state′ set′ v → Onward c → Gets c (r .initial) codes ts h state′
+  left-is-got h Start state set state′ set′ v L n = absurd n
+  left-is-got h (Arrive a) state set state′ set′ v L n = front h state set state′ set′ v L
+  left-is-got h Withdraw state set state′ set′ v L n = front h state set state′ set′ v L
+  left-is-got h (Mark m) state set state′ set′ v L n = front h state set state′ set′ v L
+  left-is-got h (Return m) state set state′ set′ v L n = front h state set state′ set′ v L
