@@ -68,7 +68,7 @@ fn flag_all(set: &mut [u8])
 }
 
 // Takes bit 0 off each byte.
-fn halve_all(set: &mut [u8])
+pub fn halve_all(set: &mut [u8])
     ensures { λ _. ⌜ now (set .exit) ≡ map (λ v. v / 2) (now (set .entry)) ⌝ }
 {
     let mut i = 0;
@@ -79,7 +79,7 @@ fn halve_all(set: &mut [u8])
 }
 
 // Sets bit 1 of a transition's target, if the transition is one over the letter from a source in the set.
-fn move_over(t: u64, letter: usize, set: &mut [u8])
+pub fn move_over(t: u64, letter: usize, set: &mut [u8])
     requires { ⌜ (sourceOf t < length (now set)) × (targetOf t < length (now set)) ⌝ }
     ensures { λ _. ⌜ now (set .exit) ≡ moved letter t (now (set .entry)) ⌝ }
 {
