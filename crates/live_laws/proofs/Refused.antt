@@ -46,6 +46,6 @@ refused-by-log q s codes ts few h S (Return m) state e =
     bif (ltb 15 m)
     (λ t. row-yes (check (ltb 15 m) 32) (check (not (isMarked state m)) 33 ∷ []) t ∙ sym (row-yes (check (ltb 15 m) 32) (check (not (isSet (logOf h .marks m))) 33 ∷ []) t))
     (λ t. let l : m ≤ 15 = ltb-false 15 m t in
-        row-no (check (ltb 15 m) 32) (check (not (isMarked state m)) 33 ∷ []) t
-        ∙ ap (λ (b : Bool). firstRow (check (not b) 33 ∷ [])) (mark-of q s codes ts few h S state e m (omega (arith, l)))
-        ∙ sym (row-no (check (ltb 15 m) 32) (check (not (isSet (logOf h .marks m))) 33 ∷ []) t))
+    row-no (check (ltb 15 m) 32) (check (not (isMarked state m)) 33 ∷ []) t
+    ∙ ap (λ (b : Bool). firstRow (check (not b) 33 ∷ [])) (mark-of q s codes ts few h S state e m (omega (arith, l)))
+    ∙ sym (row-no (check (ltb 15 m) 32) (check (not (isSet (logOf h .marks m))) 33 ∷ []) t))

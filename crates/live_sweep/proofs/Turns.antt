@@ -1,14 +1,14 @@
 -- The sweep that tries row 15, one transition a turn.
 use mathlib.Core.Path.{_≡_, refl, sym, _∙_, ap, ap₂}
 use mathlib.Core.Logic.{by-cases}
-use mathlib.Core.Bool.{Bool, true, false, _||_, not}
+use mathlib.Core.Bool.{Bool, true, false, not}
 use mathlib.Core.List.{List, map}
 use Prim.Native.Nat.{ℕ, _+_, _-_, _/_, _%_, _≤_, _<_}
 use native.Mathlib.Decide.{ℕ-discrete, decLt}
 use native.Mathlib.Omega.{arith}
-use lib.Dec.{leb, ltb}
+use lib.Dec.{ltb}
 use lib.ListN.{length, getD, take, drop}
-use borrow.Author.Tests.{eq-eqb, ne-eqb, lt-ltb, le-ltb, le-leb, lt-leb, ltb-true, ltb-false, not-true, not-false}
+use borrow.Author.Tests.{eq-eqb, ne-eqb, lt-ltb, le-ltb, ltb-true, ltb-false, not-true, not-false}
 use Rattle.sets.specs.Tests.{one}
 use Rattle.sets.specs.Lists.{anyOf}
 use Rattle.sets.proofs.Bools.{bif}
@@ -19,6 +19,7 @@ use Rattle.theory.specs.Run.{sourceOf, letterOf, targetOf}
 use Rattle.slice_search.specs.Places.{ascends}
 use Rattle.slice_search.proofs.Ascends.{ascends-asc}
 use Rattle.table_lent.specs.Lent.{isAstray}
+use Rattle.table_rows.proofs.Faults.{source-astray, letter-astray, target-astray, in-range, range}
 use Rattle.live_spec.specs.Afresh.{stepped}
 use Rattle.live_set.specs.Sweeps.{flagOf, moved, Swept}
 use Rattle.live_set.proofs.Sets.{moved-other, swept-start, swept-next, swept-end, mapped, arrived}
@@ -26,28 +27,8 @@ use Rattle.live_sweep.specs.Tried.{passes, limitOf, Sourced, Told, Tried
 
 -- ---- one transition
 
-or-true : (u : Bool) → u || true ≡ true
-or-true true = refl
-or-true false = refl
-
 pub true-false : true ≡ false → ⊥
 true-false r = let z : _≡_ {A = ℕ} 1 0 = ap one r in omega arith
-
-module _ (n s t : ℕ) where
-  pub astray-source : n ≤ sourceOf t → isAstray n s t ≡ true
-  astray-source l = rw (le-leb n (sourceOf t) l)
-
-  astray-letter : s ≤ letterOf t → isAstray n s t ≡ true
-  astray-letter l = rw (le-leb s (letterOf t) l) (or-true (leb n (sourceOf t)))
-
-  astray-target : n ≤ targetOf t → isAstray n s t ≡ true
-  astray-target l = rw (le-leb n (targetOf t) l) (ap (λ (u : Bool). leb n (sourceOf t) || u) (or-true (leb s (letterOf t))) ∙ or-true (leb n (sourceOf t)))
-
-  in-range : sourceOf t < n → letterOf t < s → targetOf t < n → isAstray n s t ≡ false
-  in-range x l y = rw (lt-leb n (sourceOf t) x, lt-leb s (letterOf t) l, lt-leb n (targetOf t) y)
-
-  target-in : isAstray n s t ≡ false → targetOf t < n
-  target-in e = by-cases (decLt (targetOf t) n) (λ l. l) (λ x. absurd (true-false (sym (astray-target (omega arith)) ∙ e)))
 
 -- the limit by the letter
 module _ (s n a l : ℕ) where
@@ -83,11 +64,11 @@ module _ (s a t : ℕ) (before : List ℕ) where
       let n = length before in
       told-out
       (by-cases (decLt (letterOf t) s)
-      (λ b. astray-target n s t (omega (arith, limit-other s n a (letterOf t) x b)))
-      (λ b. astray-letter n s t (omega arith)))
+      (λ b. target-astray n s t (omega (arith, limit-other s n a (letterOf t) x b)))
+      (λ b. letter-astray n s t (omega arith)))
 
   pub told-target : length before ≤ targetOf t → Told s a t before before false
-  told-target l = told-out (astray-target (length before) s t l)
+  told-target l = told-out (target-astray (length before) s t l)
 
   pub told-yes : (after : List ℕ) → a < s → letterOf t ≡ a → sourceOf t < length before → targetOf t < length before → after ≡ moved a t before → Told s a t before after true
   told-yes after b e f g h = told-in after (in-range (length before) s t f (omega arith) g) h
@@ -116,7 +97,7 @@ module _ (s a : ℕ) (ts before : List ℕ) (low : (y : ℕ) → getD before y 0
         record {
           swept =
               rw (d .yes refl ∙ ap (λ (z : ℕ). moved a z after) e)
-              (swept-next a ts before low after i l (omega (arith, u .swept .long, x)) (target-in (length before) s (getD ts i 0) in-it) (u .swept));
+              (swept-next a ts before low after i l (omega (arith, u .swept .long, x)) (range (length before) s (getD ts i 0) in-it .2) (u .swept));
           inside = u .inside ∙ any-next (isAstray (length before) s) ts i l in-it;
         }
 
@@ -160,7 +141,7 @@ sourced-last n ts e h x d =
           (λ q. rw q (omega arith))
           (λ q. let a = asc-at ts (ascends-asc ts e) (p .0) (length ts - 1) (omega (arith, p .1)) (omega arith) in omega arith) in
           omega (arith, ltb-true x n r, p .2, below);
-      no = λ r s. any-in ts (isAstray n s) top (mem-at ts (length ts - 1) (omega arith)) (astray-source n s top (omega (arith, ltb-false x n r)));
+      no = λ r s. any-in ts (isAstray n s) top (mem-at ts (length ts - 1) (omega arith)) (source-astray n s top (omega (arith, ltb-false x n r)));
     }
 
 -- ---- the verdict

@@ -19,7 +19,7 @@ ghost use Rattle.live_sweep.specs.Tried.{risesFour, limitOf, Sourced, To
 // ---- order
 
 // The number at place i.
-fn element(bytes: &[u8], i: usize) -> u64
+pub fn element(bytes: &[u8], i: usize) -> u64
     requires { ⌜ i < length (wordsIn (now bytes)) ⌝ }
     ensures { λ r. ⌜ r ≡ getD (wordsIn (now (bytes .entry))) i 0 ⌝ }
 {

@@ -1,0 +1,77 @@
+-- `live_arrive::can_try` meets its contract.
+use mathlib.Core.Path.{sym}
+use native.Mathlib.Omega.{arith}
+use borrow.Author.Tests.{not-false}
+use Rattle.table_lent.specs.Lent.{wordsIn}
+use Rattle.table_lent.proofs.Reading.{words-in-length}
+use Rattle.live_sweep.proofs.Turns.{true-false}
+use borrow.Author.Needs.{needs}
+use Rattle.live_arrive.proofs.can_try.Statement.{statement}
+use Rattle.live_arrive.proofs.can_try.Tie as tie
+
+returns : tie.Need-returns
+returns c = λ e. absurd (true-false (sym e))
+
+number-at-requires : tie.Need-number-at-requires
+number-at-requires c κs = search needs
+
+returns-2 : tie.Need-returns-2
+returns-2 c = λ e. absurd (true-false (sym e))
+
+returns-3 : tie.Need-returns-3
+returns-3 c = λ e. absurd (true-false (sym e))
+
+returns-4 : tie.Need-returns-4
+returns-4 c = λ e. absurd (true-false (sym e))
+
+returns-5 : tie.Need-returns-5
+returns-5 c = λ e. absurd (true-false (sym e))
+
+returns-6 : tie.Need-returns-6
+returns-6 c = λ e. absurd (true-false (sym e))
+
+returns-7 : tie.Need-returns-7
+returns-7 c = λ e. absurd (true-false (sym e))
+
+codes-pass-requires : tie.Need-codes-pass-requires
+codes-pass-requires c κs = search needs
+
+returns-8 : tie.Need-returns-8
+returns-8 c = λ e. absurd (true-false (sym e))
+
+has-flags-requires : tie.Need-has-flags-requires
+has-flags-requires c κs = search needs
+
+returns-9 : tie.Need-returns-9
+returns-9 c =
+    let a = c .before .before .before .before .before .before .before .before .before .before .before .before .before .before .args in
+    let w = words-in-length (a .codes .now) in
+    λ e.
+    record {
+      known = omega arith;
+      free = omega arith;
+      long = omega arith;
+      whole = omega arith;
+      whole-transitions = omega arith;
+      few = omega arith;
+      fits = omega arith;
+      coded = c .before .before .codes-pass .ensures (not-false (c .before .before .codes-pass .result) (c .before .if8 .left));
+      flags = λ y l. c .has-flags .ensures e y (omega arith);
+    }
+
+pub can-try-spec : {M : Type 1} → statement M
+can-try-spec =
+    tie.close
+    (tie.spec
+    returns
+    number-at-requires
+    returns-2
+    returns-3
+    returns-4
+    returns-5
+    returns-6
+    returns-7
+    codes-pass-requires
+    returns-8
+    has-flags-requires
+    returns-9)

@@ -1,0 +1,49 @@
+-- `live_arrive::codes_pass` meets its contract.
+use mathlib.Core.Path.{_≡_, sym, _∙_, ap}
+use mathlib.Core.Bool.{true}
+use Prim.Native.Nat.{ℕ, _-_, _/_, _^_}
+use native.Mathlib.Omega.{arith}
+use borrow.Author.Tests.{not-false, eqb-true}
+use lib.ListN.{length, getD}
+use Rattle.slice_search.specs.Places.{ascends}
+use Rattle.table_lent.specs.Lent.{wordsIn}
+use Rattle.table_lent.proofs.Reading.{words-in-length}
+use Rattle.live_sweep.proofs.Turns.{true-false}
+use Rattle.live_arrive.proofs.Arrivals.{coded-none, coded-last}
+use borrow.Author.Needs.{needs}
+use Rattle.live_arrive.proofs.codes_pass.Statement.{statement}
+use Rattle.live_arrive.proofs.codes_pass.Tie as tie
+
+-- the codes ascend
+rises : (c : tie.Else1) → ascends (wordsIn (c .before .before .before .args .codes .now)) ≡ true
+rises c = sym (c .before .is-ascending .ensures) ∙ not-false (c .before .is-ascending .result) (c .if1 .left)
+
+is-ascending-requires : tie.Need-is-ascending-requires
+is-ascending-requires c κs = search needs
+
+returns : tie.Need-returns
+returns c = λ e. absurd (true-false (sym e))
+
+returns-2 : tie.Need-returns-2
+returns-2 c =
+    let bytes = c .before .before .before .before .args .codes .now in
+    λ e. coded-none (wordsIn bytes) (rises (c .before)) (omega (arith, words-in-length bytes))
+
+sub-element : tie.Need-sub-element
+sub-element c = search needs
+
+element-requires : tie.Need-element-requires
+element-requires c κs = omega (arith, words-in-length (c .before .before .before .before .args .codes .now))
+
+returns-3 : tie.Need-returns-3
+returns-3 c =
+    let bytes = c .before .before .before .before .before .args .codes .now in
+    let cs = wordsIn bytes in
+    let w = words-in-length bytes in
+    let last : c .element .result ≡ getD cs (length cs - 1) 0 = c .element .ensures ∙ ap (λ (k : ℕ). getD cs (k - 1) 0) (sym w) in
+    λ e. coded-last cs (rises (c .before .before)) (omega arith) (ap (λ (x : ℕ). x / 2 ^ 48) (sym last) ∙ eqb-true (c .element .result / 2 ^ 48) 0 e)
+
+pub codes-pass-spec : {M : Type 1} → statement M
+codes-pass-spec =
+    tie.close
+    (tie.spec is-ascending-requires returns returns-2 sub-element element-requires returns-3)

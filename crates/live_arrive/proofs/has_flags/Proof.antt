@@ -1,0 +1,61 @@
+-- `live_arrive::has_flags` meets its contract: no byte before i is above `most`.
+use Prim.Native.Nat.{ℕ, _-_, _+_, _≤_, _<_}
+use native.Mathlib.Omega.{arith}
+use borrow.Author.Needs.{needs}
+use borrow.Author.Tests.{leb-true}
+use mathlib.Core.Logic.{by-cases}
+use native.Mathlib.Decide.{ℕ-discrete}
+use lib.ListN.{getD}
+use Rattle.live_spec.specs.State.{setAt}
+use Rattle.live_arrive.proofs.has_flags.Statement.{statement}
+use Rattle.live_arrive.proofs.has_flags.Tie as tie
+
+abbrev Inv-loop : tie.InvT-loop
+Inv-loop n state most₀ i₀ most i = (i ≤ n) × ((j : ℕ) → j < i → getD state (setAt + j) 0 ≤ most)
+
+abbrev μ-loop : tie.MeasureT-loop
+μ-loop n state most₀ i₀ most i = n - i
+
+loop-holds : tie.Need-loop-holds Inv-loop μ-loop
+loop-holds c = (omega arith, λ j l. absurd (omega arith))
+
+add-larger : tie.Need-add-larger Inv-loop μ-loop
+add-larger c = omega arith
+
+shared-slice-read-larger : tie.Need-shared-slice-read-larger Inv-loop μ-loop
+shared-slice-read-larger c = omega arith
+
+larger-requires : tie.Need-larger-requires Inv-loop μ-loop
+larger-requires c κs = search needs
+
+add-i : tie.Need-add-i Inv-loop μ-loop
+add-i c = omega arith
+
+loop-less : tie.Need-loop-less Inv-loop μ-loop
+loop-less c = omega arith
+
+loop-again : tie.Need-loop-again Inv-loop μ-loop
+loop-again c =
+    let l = c .before .before .before .loop in
+    let e = c .larger .ensures in
+    (omega arith, λ j k. by-cases (ℕ-discrete j (l .i)) (λ x. rw x (e .1)) (λ x. omega (arith, l .inv .1 j (omega arith), e .0)))
+
+returns : tie.Need-returns Inv-loop μ-loop
+returns c =
+    let l = c .before .loop in
+    λ e y k. omega (arith, l .inv .1 y (omega arith), leb-true (l .most) 1 e)
+
+pub has-flags-spec : {M : Type 1} → statement M
+has-flags-spec =
+    tie.close
+    (tie.spec
+    Inv-loop
+    μ-loop
+    loop-holds
+    add-larger
+    shared-slice-read-larger
+    larger-requires
+    add-i
+    loop-less
+    loop-again
+    returns)
