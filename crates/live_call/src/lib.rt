@@ -1,6 +1,8 @@
 // The five calls that follow a log live: start, arrival, withdrawal, mark and return.
 use file_read::Read;
 use file_read::read_rule;
+use live_arrive::Quick;
+use live_arrive::try_quickly;
 use live_letters::number_at;
 use live_rows::call_row;
 use live_set::show_set;
@@ -14,9 +16,10 @@ use live_state::effects::start;
 use live_state::effects::withdraw;
 use rule_entries::Head;
 ghost use mathlib.Core.Path.{_≡_};
-ghost use Prim.Native.Nat.{_≤_, _<_};
+ghost use Prim.Native.Nat.{_+_, _≤_, _<_};
 ghost use lib.ListN.{length};
 ghost use Rattle.table_lent.specs.Lent.{wordsIn, inBytes};
+ghost use Rattle.live_spec.specs.State.{setAt};
 ghost use Rattle.live_spec.specs.Rows.{callRow};
 ghost use Rattle.live_spec.specs.Called.{effect, CalledBy, LiveCalled};
 ghost use Rattle.live_state.specs.Ready.{Ready};
@@ -37,7 +40,21 @@ fn change(call: LiveCall, initial: u32, codes: &[u8], transitions: &[u8], state:
     }
 }
 
-// The same, and the set written to its slice; how many letters are held, and how many macrostates are in the set.
+// Writes the set of a table's macrostates to its slice; how many letters are held, and how many macrostates are in the set.
+fn count(codes: &[u8], state: &[u8], set: &mut [u8]) -> LiveCounts
+    requires { ⌜ (setAt + length (wordsIn (now codes)) ≤ length (now state)) × (length (wordsIn (now codes)) ≤ length (now set)) ⌝ }
+    ensures { λ r. ⌜ Counted (length (wordsIn (now (codes .entry)))) (now (state .entry))
+        (now (set .entry)) (now (state .entry)) (now (set .exit)) r ⌝ }
+{
+    let macrostates = show_set(codes.len() / 8, state, set);
+    let letters = number_at(state, 0);
+    LiveCounts {
+        letters,
+        macrostates,
+    }
+}
+
+// The call, and what it leaves counted.
 fn serve(
     call: LiveCall,
     initial: u32,
@@ -53,16 +70,11 @@ fn serve(
         (now (set .entry)) (now (state .exit)) (now (set .exit)) r ⌝ }
 {
     change(call, initial, codes, transitions, state);
-    let macrostates = show_set(codes.len() / 8, state, set);
-    let letters = number_at(state, 0);
-    LiveCounts {
-        letters,
-        macrostates,
-    }
+    count(codes, state, set)
 }
 
-// The call for a rule that was read.
-fn call_read(
+// The call for a rule that was read: its rows, then what it makes.
+fn call_by_rows(
     h: Head,
     call: LiveCall,
     codes: &[u8],
@@ -82,6 +94,30 @@ fn call_read(
         return LiveAnswer::Refused(row);
     }
     LiveAnswer::Live(serve(call, h.initial as u32, codes, transitions, state, set))
+}
+
+// The same. An arrival is tried at once where no row but 15 for its transitions can refuse it.
+fn call_read(
+    h: Head,
+    call: LiveCall,
+    codes: &[u8],
+    transitions: &[u8],
+    state: &mut [u8],
+    set: &mut [u8],
+) -> LiveAnswer
+    requires { ⌜ (h .initial < 8) × (h .s ≤ 16) ⌝ }
+    ensures { λ r. ⌜ CalledBy
+        (callRow call (h .s) (inBytes (now (codes .entry))) (inBytes (now (transitions .entry))) (now (state .entry))
+        (length (now (set .entry))))
+        call (h .initial) (wordsIn (now (codes .entry))) (wordsIn (now (transitions .entry)))
+        (now (state .entry)) (now (set .entry)) (now (state .exit)) (now (set .exit)) r ⌝ }
+{
+    let room = set.len();
+    match try_quickly(call, h.s, codes, transitions, state, room) {
+        Quick::Served => LiveAnswer::Live(count(codes, state, set)),
+        Quick::Refused => LiveAnswer::Refused(15),
+        Quick::Untried => call_by_rows(h, call, codes, transitions, state, set),
+    }
 }
 
 // A call for a rule's file and a table in bytes, each code and transition as 8 bytes, low byte first. It changes state, and writes the

@@ -1,60 +1,96 @@
--- `live_call::call_read` meets its contract: the rows, then the call.
-use mathlib.Core.Path.{sym, subst, _∙_}
+-- `live_call::call_read` meets its contract: an arrival that was made or refused at once, or the rows and the call.
+use mathlib.Core.Path.{_≡_, sym, subst}
+use mathlib.Core.List.{List}
 use Prim.Native.Nat.{ℕ}
+use native.Mathlib.Omega.{arith}
 use lib.ListN.{length}
-use Rattle.table_lent.specs.Lent.{wordsIn}
+use Rattle.table_lent.specs.Lent.{wordsIn, inBytes}
 use Rattle.live_spec.specs.declared.LiveAnswer.the-variants.{Refused}
+use Rattle.live_spec.specs.Rows.{callRow}
 use Rattle.live_spec.specs.Called.{CalledBy}
-use Rattle.live_call.proofs.Served.{ready, fits, call-passed, refused-by, served-by}
+use Rattle.live_call.specs.Callable.{Counted}
+use Rattle.live_call.proofs.Served.{ready, fits, refused-by, served-by}
 use borrow.Author.Needs.{needs}
 use Rattle.live_call.proofs.call_read.Statement.{statement}
 use Rattle.live_call.proofs.call_read.Tie as tie
 
-call-row-requires : tie.Need-call-row-requires
-call-row-requires c κs = search needs
+try-quickly-requires : tie.Need-try-quickly-requires
+try-quickly-requires c κs = search needs
+
+enum-told : tie.Need-enum-told
+enum-told c = search needs
+
+count-requires : tie.Need-count-requires
+count-requires c κs =
+    let a = c .before .before .before .before .before .before .before .before .before .before .before .before .args in
+    let e = c .before .before .before .before .before .before .try-quickly .ensures .served (c .before .before .enum-told .given .1) in
+    let R = ready (a .call) (a .h .s) (a .codes .now) (a .transitions .now) (a .state .now) (length (a .set .now)) e in
+    (omega (arith, R .few, R .long, c .before .before .before .before .before .before .try-quickly .kept .1 .1 .1 .1 .0), fits (a .call) (a .h .s) (a .codes .now) (a .transitions .now) (a .state .now) (length (a .set .now)) e)
+
+enum-told-2 : tie.Need-enum-told-2
+enum-told-2 c = search needs
+
+enum-told-3 : tie.Need-enum-told-3
+enum-told-3 c = search needs
+
+call-by-rows-requires : tie.Need-call-by-rows-requires
+call-by-rows-requires c κs = search needs
 
 same-length : tie.Need-same-length
 same-length c = search needs
 
-returns : tie.Need-returns
-returns c =
-    let a = c .before .before .before .before .before .before .before .args in
-    subst (λ (k : ℕ). CalledBy k (a .call) (a .h .initial) (wordsIn (a .codes .now)) (wordsIn (a .transitions .now)) (a .state .now) (a .set .now) (a .state .now) (a .set .now) (Refused (c .before .call-row .result))) (c .before .call-row .ensures)
-    (refused-by (c .before .call-row .result) (a .call) (a .h .initial) (wordsIn (a .codes .now)) (wordsIn (a .transitions .now)) (a .state .now) (a .set .now) (c .if1 .taken))
-
-cast-serve : tie.Need-cast-serve
-cast-serve c = search needs
-
-serve-requires : tie.Need-serve-requires
-serve-requires c κs =
-    let a = c .before .before .before .before .before .before .before .before .before .before .args in
-    let e = sym (c .before .before .before .before .call-row .ensures) ∙ c .before .before .before .if1 .left in (
-      c .before .before .before .before .before .before .before .before .before .before .pre .0,
-      ready (a .call) (a .h .s) (a .codes .now) (a .transitions .now) (a .state .now) (length (a .set .now)) e,
-      call-passed (a .call) (a .h .s) (a .codes .now) (a .transitions .now) (a .state .now) (length (a .set .now)) e (c .before .before .before .before .before .before .before .before .before .before .pre .1),
-      fits (a .call) (a .h .s) (a .codes .now) (a .transitions .now) (a .state .now) (length (a .set .now)) e,
-    )
-
 same-length-2 : tie.Need-same-length-2
 same-length-2 c = search needs
+
+returns : tie.Need-returns
+returns c =
+    let a = c .before .before .before .before .before .before .before .before .before .before .before .before .before .before .before .args in
+    let t = c .before .before .before .before .before .before .before .before .before .try-quickly in
+    let told = c .before .before .before .before .before .enum-told .given .1 in
+    served-by _ (a .call) (a .h .initial) (wordsIn (a .codes .now)) (wordsIn (a .transitions .now)) (a .state .now) (a .set .now) (t .last .1 .1 .1 .1 .0) (c .before .before .count .last .1 .1 .0) (c .before .before .count .result) (t .ensures .served told)
+    (subst (λ (left : List ℕ). Counted (length (wordsIn (a .codes .now))) left (a .set .now) (t .last .1 .1 .1 .1 .0) (c .before .before .count .last .1 .1 .0) (c .before .before .count .result)) (t .ensures .made told (a .h .initial)) (c .before .before .count .ensures))
 
 same-length-3 : tie.Need-same-length-3
 same-length-3 c = search needs
 
 returns-2 : tie.Need-returns-2
 returns-2 c =
-    let a = c .before .before .before .before .before .before .before .before .before .before .before .before .before .before .before .args in
-    served-by _ (a .call) (a .h .initial) (wordsIn (a .codes .now)) (wordsIn (a .transitions .now)) (a .state .now) (a .set .now) _ _ (c .before .before .before .before .serve .result) (sym (c .before .before .before .before .before .before .before .before .before .call-row .ensures) ∙ c .before .before .before .before .before .before .before .before .if1 .left) (c .before .before .before .before .serve .ensures)
+    let a = c .before .before .before .before .before .before .before .before .before .before .args in
+    let t = c .before .before .before .before .try-quickly in
+    let told = c .enum-told2 .given .1 in
+    subst (λ (k : ℕ). CalledBy k (a .call) (a .h .initial) (wordsIn (a .codes .now)) (wordsIn (a .transitions .now)) (a .state .now) (a .set .now) (t .last .1 .1 .1 .1 .0) (a .set .now) (Refused 15)) (sym (t .ensures .refused told))
+    (subst (λ (left : List ℕ). CalledBy 15 (a .call) (a .h .initial) (wordsIn (a .codes .now)) (wordsIn (a .transitions .now)) (a .state .now) (a .set .now) left (a .set .now) (Refused 15)) (sym (t .ensures .taken-back told))
+    (refused-by 15 (a .call) (a .h .initial) (wordsIn (a .codes .now)) (wordsIn (a .transitions .now)) (a .state .now) (a .set .now) (λ z. omega arith)))
+
+same-length-4 : tie.Need-same-length-4
+same-length-4 c = search needs
+
+same-length-5 : tie.Need-same-length-5
+same-length-5 c = search needs
+
+returns-3 : tie.Need-returns-3
+returns-3 c =
+    let a = c .before .before .before .before .before .before .before .before .before .before .before .before .before .before .before .before .before .args in
+    let t = c .before .before .before .before .before .before .before .before .before .before .before .try-quickly in
+    let told = c .before .before .before .before .before .before .before .enum-told3 .given .1 in
+    subst (λ (state : List ℕ). CalledBy (callRow (a .call) (a .h .s) (inBytes (a .codes .now)) (inBytes (a .transitions .now)) state (length (a .set .now))) (a .call) (a .h .initial) (wordsIn (a .codes .now)) (wordsIn (a .transitions .now)) state (a .set .now)
+    (c .before .before .before .before .call-by-rows .last .1 .1 .1 .1 .0) (c .before .before .before .before .call-by-rows .last .1 .1 .1 .1 .1 .0) (c .before .before .before .before .call-by-rows .result)) (t .ensures .untried told) (c .before .before .before .before .call-by-rows .ensures)
 
 pub call-read-spec : {M : Type 1} → statement M
 call-read-spec =
     tie.close
     (tie.spec
-    call-row-requires
+    try-quickly-requires
+    enum-told
+    count-requires
+    enum-told-2
+    enum-told-3
+    call-by-rows-requires
     same-length
-    returns
-    cast-serve
-    serve-requires
     same-length-2
+    returns
     same-length-3
-    returns-2)
+    returns-2
+    same-length-4
+    same-length-5
+    returns-3)

@@ -1,0 +1,31 @@
+-- `live_call::count` meets its contract: the set shown and the letters counted.
+use mathlib.Core.Path.{refl, sym}
+use Prim.Native.Nat.{_/_}
+use native.Mathlib.Omega.{arith}
+use lib.ListN.{length}
+use Rattle.table_lent.specs.Lent.{wordsIn}
+use Rattle.table_lent.proofs.Reading.{words-in-length}
+use Rattle.live_call.proofs.Effects.{counted}
+use borrow.Author.Needs.{needs}
+use Rattle.live_call.proofs.count.Statement.{statement}
+use Rattle.live_call.proofs.count.Tie as tie
+
+show-set-requires : tie.Need-show-set-requires
+show-set-requires c κs =
+    let w = words-in-length (c .before .before .before .before .args .codes .now) in
+    (omega (arith, c .before .before .before .before .pre .0), omega (arith, c .before .before .before .before .pre .1))
+
+number-at-requires : tie.Need-number-at-requires
+number-at-requires c κs = search needs
+
+same-length : tie.Need-same-length
+same-length c = search needs
+
+returns : tie.Need-returns
+returns c =
+    let a = c .before .before .before .before .before .before .before .before .args in
+    let e = c .before .before .before .show-set .ensures in
+    counted (length (wordsIn (a .codes .now))) (length (a .codes .now) / 8) (a .state .now) (a .set .now) (a .state .now) _ _ _ (sym (words-in-length (a .codes .now))) refl (e .0) (e .1) (c .number-at .ensures)
+
+pub count-spec : {M : Type 1} → statement M
+count-spec = tie.close (tie.spec show-set-requires number-at-requires same-length returns)
