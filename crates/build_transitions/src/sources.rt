@@ -8,7 +8,7 @@ ghost use Rattle.build_chains_spec.specs.Chains.{keyAt, Chained};
 ghost use Rattle.build_closure_spec.specs.Keys.{Paired};
 ghost use Rattle.build_transitions_spec.specs.Emission.{Emitted, Crossing, Crossings};
 
-// Writes the transition from place p, if its key is one of the earlier core and what it goes on to is listed. It is full if there is no room.
+// Writes the transition from place p, if its key is one of the earlier core and what it goes on to is listed; full if there is no room.
 fn emit_source(
     out: &mut [u64],
     m: usize,
