@@ -35,7 +35,7 @@ fn goes_out(v: u8) -> bool
 }
 
 // Of the nodes from `from` up to `to`, takes out those that are not marked, and the marks off the others; whether a node went out.
-fn settle(marks: &mut [u8], from: usize, to: usize) -> bool
+pub fn settle(marks: &mut [u8], from: usize, to: usize) -> bool
     requires { ⌜ (from ≤ to) × (to ≤ length (now marks)) ⌝ }
     ensures { λ r. ⌜ Settling from to (now (marks .entry)) (now (marks .exit)) r ⌝ }
 {

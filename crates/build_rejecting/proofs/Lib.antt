@@ -1,0 +1,2 @@
+pub mod ByLists
+pub mod Answer

@@ -1,0 +1,29 @@
+// The build of the words that a rule rejects: the macrostates reached from where the set lacks the initial state, and the transitions
+// between them, in two lent slices.
+use build::Built;
+use file_read::Read;
+ghost use mathlib.Core.Path.{_≡_};
+ghost use Rattle.build_rejecting_spec.specs.Entry.{RejectingBuilt};
+
+// Writes the codes of the macrostates reached from where the set lacks the initial state and the transitions of a file's rule, both
+// ascending, at the start of the slices, and zeros after them; answers both counts. Rows and refusals are those of the build, 17 and 18
+// by this table.
+pub fn build_rejecting(file: &[u8], codes: &mut [u64], transitions: &mut [u64]) -> Built
+    ensures { λ r. ⌜ RejectingBuilt (now (file .entry)) (now (codes .entry)) (now (transitions .entry)) r
+        (now (codes .exit)) (now (transitions .exit)) ⌝ }
+{
+    match file_read::read_rule(file) {
+        Read::Refused(row) => Built::Refused(row),
+        Read::Accepted(l) => {
+            let h = l.head;
+            build::build_rule(
+                h,
+                file_read::counts_of(file, l),
+                file_read::clauses_of(file, l),
+                false,
+                codes,
+                transitions,
+            )
+        }
+    }
+}

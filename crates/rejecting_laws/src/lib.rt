@@ -1,0 +1,1 @@
+// The laws of the automaton of the words that a rule rejects.

@@ -1,0 +1,2 @@
+pub mod Rejecting
+pub mod RejectingComputed

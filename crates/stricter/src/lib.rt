@@ -1,0 +1,347 @@
+// The comparison of two rules: is every word that rule A accepts accepted by rule B? By the tables of both: A's own, and that of the words
+// that B rejects.
+use build::Built;
+use build::Counts;
+use file_read::Layout;
+use file_read::Read;
+use stricter_entry_spec::Comparison;
+use stricter_entry_spec::Sizes;
+use stricter_spec::Found;
+ghost use mathlib.Core.Path.{_≡_};
+ghost use mathlib.Core.Bool.{_||_};
+ghost use lib.Dec.{ltb};
+ghost use Prim.Native.Nat.{_*_, _≤_};
+ghost use lib.ListN.{length, replicate};
+ghost use Rattle.theory.specs.Rule.{Rule};
+ghost use Rattle.file_spec.specs.File.{ruleIn};
+ghost use Rattle.file_read.specs.Read.{readOf};
+ghost use Rattle.file_read.specs.declared.Read.the-variants.{Accepted};
+ghost use Rattle.build.specs.Filling.{Made};
+ghost use Rattle.stricter_entry_spec.specs.Rows.{Slices};
+ghost use Rattle.stricter_entry_spec.specs.Compared.{Compared};
+ghost use Rattle.stricter.specs.Steps.{codesOf, movesOf, OwnTable, OtherTable, otherRow, pairRow, rowOf, ByRow};
+
+// ---- the tables
+
+// Sets both rooms of a table to zero throughout.
+fn zero_rooms(codes: &mut [u64], transitions: &mut [u64])
+    ensures { λ _. ⌜ now (codes .exit) ≡ replicate (length (now (codes .entry))) 0 ⌝ }
+    ensures { λ _. ⌜ now (transitions .exit) ≡ replicate (length (now (transitions .entry))) 0 ⌝ }
+{
+    slice_search::zero_all(codes);
+    slice_search::zero_all(transitions);
+}
+
+// Builds the table of a file's rule, or, if `holds` is false, that of the words that it rejects.
+fn build_from(
+    file: &[u8],
+    l: Layout,
+    holds: bool,
+    codes: &mut [u64],
+    transitions: &mut [u64],
+) -> Built
+    requires { ⌜ readOf (now file) ≡ Accepted l ⌝ }
+    ensures { λ r. ⌜ Made (codesOf (ruleIn (now (file .entry))) holds) (movesOf (ruleIn (now (file .entry))) holds)
+        (now (codes .entry)) (now (transitions .entry)) r (now (codes .exit)) (now (transitions .exit)) ⌝ }
+{
+    let h = l.head;
+    build::build_rule(
+        h,
+        file_read::counts_of(file, l),
+        file_read::clauses_of(file, l),
+        holds,
+        codes,
+        transitions,
+    )
+}
+
+// ---- the search
+
+// Whether the word slice has under 3 * pairs letters or the scratch under pairs bytes.
+fn lacks_room(pairs: usize, word: &[u8], scratch: &[u8]) -> bool
+    requires { ⌜ pairs ≤ 4294967296 ⌝ }
+    ensures { λ r. ⌜ r ≡ (ltb (length (now (word .entry))) (3 * pairs) || ltb (length (now (scratch .entry))) pairs) ⌝ }
+{
+    if word.len() < 3 * pairs {
+        return true;
+    }
+    scratch.len() < pairs
+}
+
+// Looks for a word that both tables accept.
+fn find_word(
+    n: Counts,
+    m: Counts,
+    ainitial: usize,
+    binitial: usize,
+    acodes: &mut [u64],
+    atransitions: &mut [u64],
+    bcodes: &mut [u64],
+    btransitions: &mut [u64],
+    word: &mut [u8],
+    scratch: &mut [u8],
+) -> Comparison
+    requires { ⌜ ((a b : Rule) × (a .s ≡ b .s) × OwnTable a n ainitial (now acodes) (now atransitions)
+        × OtherTable b m binitial (now bcodes) (now btransitions)
+        × (n .macrostates * m .macrostates ≤ length (now scratch)) × (3 * (n .macrostates * m .macrostates) ≤ length (now word))) ⌝ }
+    ensures { λ r. ⌜ ((a b : Rule) → a .s ≡ b .s
+        → OwnTable a n ainitial (now (acodes .entry)) (now (atransitions .entry))
+        → OtherTable b m binitial (now (bcodes .entry)) (now (btransitions .entry))
+        → ByRow a b 0 (record {
+          codes-a = now (acodes .entry);
+          transitions-a = now (atransitions .entry);
+          codes-b = now (bcodes .entry);
+          transitions-b = now (btransitions .entry);
+          word = now (word .entry);
+          scratch = now (scratch .entry);
+        }) r
+        (record {
+          codes-a = now (acodes .exit);
+          transitions-a = now (atransitions .exit);
+          codes-b = now (bcodes .exit);
+          transitions-b = now (btransitions .exit);
+          word = now (word .exit);
+          scratch = now (scratch .exit);
+        })) ⌝ }
+{
+    let na = n.macrostates;
+    let ta = n.transitions;
+    let nb = m.macrostates;
+    let tb = m.transitions;
+    match stricter_search::search(
+        &acodes[..na],
+        &atransitions[..ta],
+        &bcodes[..nb],
+        &btransitions[..tb],
+        ainitial as u32,
+        binitial as u32,
+        word,
+        scratch,
+    ) {
+        Found::Nothing => Comparison::Yes(Sizes { a: n, b: m }),
+        Found::Word(lead, cycle) => Comparison::No(Sizes { a: n, b: m }, lead, cycle),
+    }
+}
+
+// Compares two rules by their tables. 29 if word or scratch is too short; all four rooms are zero throughout then.
+fn search_tables(
+    n: Counts,
+    m: Counts,
+    ainitial: usize,
+    binitial: usize,
+    acodes: &mut [u64],
+    atransitions: &mut [u64],
+    bcodes: &mut [u64],
+    btransitions: &mut [u64],
+    word: &mut [u8],
+    scratch: &mut [u8],
+) -> Comparison
+    requires { ⌜ ((a b : Rule) × (a .s ≡ b .s) × OwnTable a n ainitial (now acodes) (now atransitions)
+        × OtherTable b m binitial (now bcodes) (now btransitions)) ⌝ }
+    ensures { λ r. ⌜ ((a b : Rule) → a .s ≡ b .s
+        → OwnTable a n ainitial (now (acodes .entry)) (now (atransitions .entry))
+        → OtherTable b m binitial (now (bcodes .entry)) (now (btransitions .entry))
+        → (let lent : Slices = record {
+          codes-a = now (acodes .entry);
+          transitions-a = now (atransitions .entry);
+          codes-b = now (bcodes .entry);
+          transitions-b = now (btransitions .entry);
+          word = now (word .entry);
+          scratch = now (scratch .entry);
+        } in
+        ByRow a b (pairRow a b lent) lent r
+        (record {
+          codes-a = now (acodes .exit);
+          transitions-a = now (atransitions .exit);
+          codes-b = now (bcodes .exit);
+          transitions-b = now (btransitions .exit);
+          word = now (word .exit);
+          scratch = now (scratch .exit);
+        }))) ⌝ }
+{
+    let pairs = n.macrostates * m.macrostates;
+    if lacks_room(pairs, word, scratch) {
+        zero_rooms(acodes, atransitions);
+        zero_rooms(bcodes, btransitions);
+        return Comparison::Refused(29);
+    }
+    find_word(
+        n,
+        m,
+        ainitial,
+        binitial,
+        acodes,
+        atransitions,
+        bcodes,
+        btransitions,
+        word,
+        scratch,
+    )
+}
+
+// ---- the rules
+
+// Compares two rules once A's table is built: builds that of the words that B rejects. 17 or 18 if it has too little room; all four rooms
+// are zero throughout then.
+fn compare_other(
+    b: &[u8],
+    l: Layout,
+    n: Counts,
+    ainitial: usize,
+    acodes: &mut [u64],
+    atransitions: &mut [u64],
+    bcodes: &mut [u64],
+    btransitions: &mut [u64],
+    word: &mut [u8],
+    scratch: &mut [u8],
+) -> Comparison
+    requires { ⌜ ((a : Rule) × (a .s ≡ ruleIn (now b) .s) × OwnTable a n ainitial (now acodes) (now atransitions)
+        × (readOf (now b) ≡ Accepted l)) ⌝ }
+    ensures { λ r. ⌜ ((a : Rule) → a .s ≡ ruleIn (now (b .entry)) .s
+        → OwnTable a n ainitial (now (acodes .entry)) (now (atransitions .entry))
+        → (let lent : Slices = record {
+          codes-a = now (acodes .entry);
+          transitions-a = now (atransitions .entry);
+          codes-b = now (bcodes .entry);
+          transitions-b = now (btransitions .entry);
+          word = now (word .entry);
+          scratch = now (scratch .entry);
+        } in
+        ByRow a (ruleIn (now (b .entry))) (otherRow a (ruleIn (now (b .entry))) lent) lent r
+        (record {
+          codes-a = now (acodes .exit);
+          transitions-a = now (atransitions .exit);
+          codes-b = now (bcodes .exit);
+          transitions-b = now (btransitions .exit);
+          word = now (word .exit);
+          scratch = now (scratch .exit);
+        }))) ⌝ }
+{
+    let binitial = l.head.initial;
+    match build_from(b, l, false, bcodes, btransitions) {
+        Built::Refused(row) => {
+            zero_rooms(acodes, atransitions);
+            Comparison::Refused(row)
+        }
+        Built::Table(m) => search_tables(
+            n,
+            m,
+            ainitial,
+            binitial,
+            acodes,
+            atransitions,
+            bcodes,
+            btransitions,
+            word,
+            scratch,
+        ),
+    }
+}
+
+// Compares the rules of two accepted files.
+fn compare_files(
+    a: &[u8],
+    l: Layout,
+    b: &[u8],
+    m: Layout,
+    acodes: &mut [u64],
+    atransitions: &mut [u64],
+    bcodes: &mut [u64],
+    btransitions: &mut [u64],
+    word: &mut [u8],
+    scratch: &mut [u8],
+) -> Comparison
+    requires { ⌜ (readOf (now a) ≡ Accepted l) × (readOf (now b) ≡ Accepted m) ⌝ }
+    ensures { λ r. ⌜ (let lent : Slices = record {
+      codes-a = now (acodes .entry);
+      transitions-a = now (atransitions .entry);
+      codes-b = now (bcodes .entry);
+      transitions-b = now (btransitions .entry);
+      word = now (word .entry);
+      scratch = now (scratch .entry);
+    } in
+        ByRow (ruleIn (now (a .entry))) (ruleIn (now (b .entry))) (rowOf (ruleIn (now (a .entry))) (ruleIn (now (b .entry))) lent) lent r
+        (record {
+          codes-a = now (acodes .exit);
+          transitions-a = now (atransitions .exit);
+          codes-b = now (bcodes .exit);
+          transitions-b = now (btransitions .exit);
+          word = now (word .exit);
+          scratch = now (scratch .exit);
+        })) ⌝ }
+{
+    if l.head.s != m.head.s {
+        return Comparison::Refused(28);
+    }
+    let ainitial = l.head.initial;
+    match build_from(a, l, true, acodes, atransitions) {
+        Built::Refused(row) => {
+            zero_rooms(bcodes, btransitions);
+            Comparison::Refused(row)
+        }
+        Built::Table(n) => compare_other(
+            b,
+            m,
+            n,
+            ainitial,
+            acodes,
+            atransitions,
+            bcodes,
+            btransitions,
+            word,
+            scratch,
+        ),
+    }
+}
+
+// Whether every word that A accepts is accepted by B, or the lengths of a word that A accepts and B rejects, which it writes to the start
+// of the word slice; leaves A's table and that of the words that B rejects in the rooms, zeros after them, and the scratch zero
+// throughout. If a row refuses, it answers the number of the first: the rules' rows and 28 leave all slices as they are, 17, 18 and 29
+// set all four rooms to zero throughout.
+pub fn stricter(
+    a: &[u8],
+    b: &[u8],
+    acodes: &mut [u64],
+    atransitions: &mut [u64],
+    bcodes: &mut [u64],
+    btransitions: &mut [u64],
+    word: &mut [u8],
+    scratch: &mut [u8],
+) -> Comparison
+    ensures { λ r. ⌜ Compared (now (a .entry)) (now (b .entry))
+        (record {
+          codes-a = now (acodes .entry);
+          transitions-a = now (atransitions .entry);
+          codes-b = now (bcodes .entry);
+          transitions-b = now (btransitions .entry);
+          word = now (word .entry);
+          scratch = now (scratch .entry);
+        }) r
+        (record {
+          codes-a = now (acodes .exit);
+          transitions-a = now (atransitions .exit);
+          codes-b = now (bcodes .exit);
+          transitions-b = now (btransitions .exit);
+          word = now (word .exit);
+          scratch = now (scratch .exit);
+        }) ⌝ }
+{
+    match file_read::read_rule(a) {
+        Read::Refused(row) => Comparison::Refused(row),
+        Read::Accepted(l) => match file_read::read_rule(b) {
+            Read::Refused(other) => Comparison::Refused(other),
+            Read::Accepted(m) => compare_files(
+                a,
+                l,
+                b,
+                m,
+                acodes,
+                atransitions,
+                bcodes,
+                btransitions,
+                word,
+                scratch,
+            ),
+        },
+    }
+}

@@ -1,0 +1,79 @@
+-- The rows of the comparison of two rules, and what the lent slices hold afterwards by the first that refuses.
+use mathlib.Core.Bool.{Bool, _||_, not, cond}
+use mathlib.Core.List.{List, [], _∷_, _++_}
+use Prim.Native.Nat.{ℕ, zero, suc, _-_, _*_}
+use lib.Dec.{ltb, eqb}
+use lib.ListN.{length, replicate}
+use Rattle.refusals.specs.Rows.{Check, firstRow, check}
+use Rattle.theory.specs.Rule.{Rule}
+use Rattle.theory.specs.TableComputed.{macrostates, transitions}
+use Rattle.file_spec.specs.File.{ruleIn}
+use Rattle.file_spec.specs.Rows.{fileRows}
+use Rattle.rejecting_spec.specs.RejectingComputed.{rejectingMacrostates, rejectingTransitions}
+use Rattle.build.specs.Built.{roomRows, refusesRoom}
+
+-- the six lent slices. 02: "Rooms are lent as for building A's table and the table of B begun, with K and k 0, from all cores whose set lacks
+-- B's initial state."
+pub record Slices : Type 0 where
+  pub codes-a : List ℕ
+  pub transitions-a : List ℕ
+  pub codes-b : List ℕ
+  pub transitions-b : List ℕ
+  pub word : List ℕ
+  pub scratch : List ℕ
+
+-- the two tables: A's, and that of the words that B rejects
+pub record Tables : Type 0 where
+  pub codes-a : List ℕ
+  pub transitions-a : List ℕ
+  pub codes-b : List ℕ
+  pub transitions-b : List ℕ
+
+-- 02: "P the macrostates of A × those of B"
+unfoldable pub pairs : Tables → ℕ
+pairs tables = length (tables .codes-a) * length (tables .codes-b)
+
+-- 02: "28, different s"
+unfoldable pub letterRows : Rule → Rule → List Check
+letterRows a b = check (not (eqb (a .s) (b .s))) 28 ∷ []
+
+-- 02: "17 and 18 go by A's reachable table, then B's"
+unfoldable pub tableRows : Tables → Slices → List Check
+tableRows tables lent =
+    roomRows (tables .codes-a) (tables .transitions-a) (length (lent .codes-a)) (length (lent .transitions-a))
+    ++ roomRows (tables .codes-b) (tables .transitions-b) (length (lent .codes-b)) (length (lent .transitions-b))
+
+-- 02: "29, with P .., the word slice under 3 × P letters or the scratch under P bytes"
+unfoldable pub pairRows : Tables → Slices → List Check
+pairRows tables lent = check (ltb (length (lent .word)) (3 * pairs tables) || ltb (length (lent .scratch)) (pairs tables)) 29 ∷ []
+
+-- of two rules: 28 "after both rules", 29 "checked after both builds"
+unfoldable pub rulesRows : Rule → Rule → Tables → Slices → List Check
+rulesRows a b tables lent = letterRows a b ++ (tableRows tables lent ++ pairRows tables lent)
+
+unfoldable pub rulesRow : Rule → Rule → Tables → Slices → ℕ
+rulesRow a b tables lent = firstRow (rulesRows a b tables lent)
+
+-- the tables as they are computed
+abbrev pub tablesOf : Rule → Rule → Tables
+tablesOf a b = record { codes-a = macrostates a; transitions-a = transitions a; codes-b = rejectingMacrostates b; transitions-b = rejectingTransitions b }
+
+-- of two files: the first row that refuses, or 0
+unfoldable pub stricterRow : List ℕ → List ℕ → Slices → ℕ
+stricterRow a b lent = firstRow (fileRows a ++ (fileRows b ++ rulesRows (ruleIn a) (ruleIn b) (tablesOf (ruleIn a) (ruleIn b)) lent))
+
+-- ---- what the slices hold afterwards
+
+-- 02: 17 and 18 "zero all four rooms"; 29, "with the rooms zeroed as for 17"
+abbrev pub zeroesRooms : ℕ → Bool
+zeroesRooms k = refusesRoom k || eqb k 29
+
+-- a room, where the list is to be written. 02: "A served call leaves both tables in the rooms, unused elements 0"
+unfoldable pub roomAfter : ℕ → List ℕ → List ℕ → List ℕ
+roomAfter zero list lent = list ++ replicate (length lent - length list) 0
+roomAfter (suc k) list lent = cond (zeroesRooms (suc k)) (replicate (length lent) 0) lent
+
+-- 02: a served call leaves "the scratch all zero"; "a refused one leaves word slice and scratch as lent"
+unfoldable pub scratchAfter : ℕ → List ℕ → List ℕ
+scratchAfter zero lent = replicate (length lent) 0
+scratchAfter (suc k) lent = lent

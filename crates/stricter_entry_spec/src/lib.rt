@@ -1,0 +1,16 @@
+// What the comparison of two rules answers and leaves, with worked rows.
+use build::Counts;
+
+// The counts of both tables: that of A, and that of the words that B rejects.
+pub struct Sizes {
+    pub a: Counts,
+    pub b: Counts,
+}
+
+// The answer: yes, or no with the lengths of the lead-in and the cycle of a word that A accepts and B rejects, or the number of the first
+// row that refuses.
+pub enum Comparison {
+    Yes(Sizes),
+    No(Sizes, usize, usize),
+    Refused(u8),
+}

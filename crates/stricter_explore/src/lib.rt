@@ -1,0 +1,221 @@
+// A search through the pairs of numbers of two tables that are in, from one of them: each that is met gets a byte that tells the step by
+// which it was met (crate stricter_forest).
+use codes::is_accepting;
+use codes::letter_of;
+use codes::source_of;
+use codes::target_of;
+use slice_search::place;
+use stricter_rows::cut_row;
+ghost use mathlib.Core.Path.{_≡_};
+ghost use mathlib.Core.List.{List·Memᴰ};
+ghost use Prim.Native.Nat.{ℕ, _+_, _*_, _≤_, _<_};
+ghost use lib.ListN.{length, getD};
+ghost use Rattle.sets.specs.Tests.{one};
+ghost use Rattle.theory.specs.Macrostate.{isAccepting};
+ghost use Rattle.theory.specs.Run.{targetOf};
+ghost use Rattle.stricter_laws.specs.Pairs.{PairStep, PairEdge, Paired, Fits, RowCut, Beside};
+ghost use Rattle.stricter_forest.specs.Forest.{kindIn, Marked, Tried, Cleared, Passed, Exhausted, Explored};
+
+// ---- one pair's steps
+
+// Meets the pairs that the transitions of A from place `from` up to `to` lead to beside number q of B.
+fn meet(moves: &[u64], from: usize, to: usize, nb: usize, q: usize, byte: u8, marks: &mut [u8])
+    requires { ⌜ (to ≤ length (now moves)) × (1 < byte)
+        × ((t : ℕ) → List·Memᴰ t (now moves) → targetOf t * nb + q < length (now marks)) ⌝ }
+    ensures { λ _. ⌜ Marked (Beside nb (now (moves .entry)) from to q) byte (now (marks .entry)) (now (marks .exit)) ⌝ }
+{
+    let mut c = from;
+    while c < to {
+        let y = target_of(moves[c]) * nb + q;
+        c += 1;
+        if marks[y] == 1 {
+            marks[y] = byte;
+        }
+    }
+}
+
+// Meets the pairs that the pair of a number of A, whose row is cut, and number j of B leads to.
+fn expand(
+    left: &[u64],
+    cuts: &[usize; 17],
+    right: &[u64],
+    nb: usize,
+    j: usize,
+    base: u8,
+    marks: &mut [u8],
+)
+    requires { ⌜ Paired nb (now left) (now right) (length (now marks)) × (j < nb) × (j < 65536) × (1 < base) × (base ≤ 67) ⌝ }
+    requires { ⌜ ((a : ℕ) → a < 17 → getD (now cuts) a 0 ≤ length (now left)) ⌝ }
+    ensures { λ _. ⌜ ((i : ℕ) → RowCut (now (left .entry)) i (now (cuts .entry))
+        → Tried (PairStep nb (now (left .entry)) (now (right .entry)) (i * nb + j))
+        (PairEdge nb (now (left .entry)) (now (right .entry)) (i * nb + j)) base (now (marks .entry)) (now (marks .exit))) ⌝ }
+{
+    let key = j * 0x0100_0000;
+    let mut k = place(right, right.len(), key as u64);
+    while k < right.len() {
+        let u = right[k];
+        if source_of(u) != j {
+            return;
+        }
+        let a = letter_of(u);
+        meet(
+            left,
+            cuts[a],
+            cuts[a + 1],
+            nb,
+            target_of(u),
+            base + 4 * (a as u8),
+            marks,
+        );
+        k += 1;
+    }
+}
+
+// ---- passes
+
+// On which sides the pair of two codes is accepting.
+fn kind(a: u64, b: u64) -> u8
+    ensures { λ r. ⌜ r ≡ 2 * one (isAccepting a) + one (isAccepting b) ⌝ }
+{
+    if is_accepting(a) {
+        if is_accepting(b) {
+            return 3;
+        }
+        return 2;
+    }
+    if is_accepting(b) {
+        return 1;
+    }
+    0
+}
+
+// Tries the steps of the pair of number i, whose row is cut, and number j if it was met and waits for it; whether it did.
+fn visit(
+    lcodes: &[u64],
+    left: &[u64],
+    cuts: &[usize; 17],
+    rcodes: &[u64],
+    right: &[u64],
+    i: usize,
+    j: usize,
+    marks: &mut [u8],
+) -> bool
+    requires { ⌜ Fits (length (now lcodes)) (length (now rcodes)) (now left) (now right) (now marks) × RowCut (now left) i (now cuts)
+        × (i < length (now lcodes)) × (j < length (now rcodes)) ⌝ }
+    ensures { λ r. ⌜ Passed (PairStep (length (now (rcodes .entry))) (now (left .entry)) (now (right .entry)))
+        (kindIn (now (lcodes .entry)) (now (rcodes .entry)))
+        (i * length (now (rcodes .entry)) + j) (i * length (now (rcodes .entry)) + j + 1) (now (marks .entry)) (now (marks .exit)) r ⌝ }
+{
+    let x = i * rcodes.len() + j;
+    let v = marks[x];
+    if v < 2 {
+        return false;
+    }
+    if 127 < v {
+        return false;
+    }
+    expand(
+        left,
+        cuts,
+        right,
+        rcodes.len(),
+        j,
+        64 + kind(lcodes[i], rcodes[j]),
+        marks,
+    );
+    marks[x] = v + 128;
+    true
+}
+
+// The same for the pairs of number i.
+fn visit_row(
+    lcodes: &[u64],
+    left: &[u64],
+    cuts: &[usize; 17],
+    rcodes: &[u64],
+    right: &[u64],
+    i: usize,
+    marks: &mut [u8],
+) -> bool
+    requires { ⌜ Fits (length (now lcodes)) (length (now rcodes)) (now left) (now right) (now marks) × RowCut (now left) i (now cuts)
+        × (i < length (now lcodes)) ⌝ }
+    ensures { λ r. ⌜ Passed (PairStep (length (now (rcodes .entry))) (now (left .entry)) (now (right .entry)))
+        (kindIn (now (lcodes .entry)) (now (rcodes .entry)))
+        (i * length (now (rcodes .entry))) (i * length (now (rcodes .entry)) + length (now (rcodes .entry)))
+        (now (marks .entry)) (now (marks .exit)) r ⌝ }
+{
+    let mut changed = false;
+    let mut j = 0;
+    while j < rcodes.len() {
+        let k = j;
+        j += 1;
+        if visit(lcodes, left, cuts, rcodes, right, i, k, marks) {
+            changed = true;
+        }
+    }
+    changed
+}
+
+// The same for all pairs.
+fn visit_all(lcodes: &[u64], left: &[u64], rcodes: &[u64], right: &[u64], marks: &mut [u8]) -> bool
+    requires { ⌜ Fits (length (now lcodes)) (length (now rcodes)) (now left) (now right) (now marks) ⌝ }
+    ensures { λ r. ⌜ Passed (PairStep (length (now (rcodes .entry))) (now (left .entry)) (now (right .entry)))
+        (kindIn (now (lcodes .entry)) (now (rcodes .entry))) 0 (length (now (marks .entry))) (now (marks .entry)) (now (marks .exit)) r ⌝ }
+{
+    let mut changed = false;
+    let mut i = 0;
+    while i < lcodes.len() {
+        let cuts = cut_row(left, i);
+        let k = i;
+        i += 1;
+        if visit_row(lcodes, left, &cuts, rcodes, right, k, marks) {
+            changed = true;
+        }
+    }
+    changed
+}
+
+// Tries the steps of all pairs that were met, until none waits.
+fn exhaust(lcodes: &[u64], left: &[u64], rcodes: &[u64], right: &[u64], marks: &mut [u8])
+    requires { ⌜ Fits (length (now lcodes)) (length (now rcodes)) (now left) (now right) (now marks) ⌝ }
+    ensures { λ _. ⌜ Exhausted (PairStep (length (now (rcodes .entry))) (now (left .entry)) (now (right .entry)))
+        (kindIn (now (lcodes .entry)) (now (rcodes .entry))) (now (marks .entry)) (now (marks .exit)) ⌝ }
+{
+    while visit_all(lcodes, left, rcodes, right, marks) {}
+}
+
+// ---- a whole search
+
+// Nothing is met.
+fn clear(marks: &mut [u8])
+    ensures { λ _. ⌜ Cleared (now (marks .entry)) (now (marks .exit)) ⌝ }
+{
+    let mut x = 0;
+    while x < marks.len() {
+        let y = x;
+        x += 1;
+        if marks[y] != 0 {
+            marks[y] = 1;
+        }
+    }
+}
+
+// Meets the pairs that the origin leads to in one step or more, along pairs that are in.
+pub fn explore(
+    lcodes: &[u64],
+    left: &[u64],
+    rcodes: &[u64],
+    right: &[u64],
+    origin: usize,
+    marks: &mut [u8],
+)
+    requires { ⌜ Fits (length (now lcodes)) (length (now rcodes)) (now left) (now right) (now marks) × (origin < length (now marks)) ⌝ }
+    ensures { λ _. ⌜ Explored (PairStep (length (now (rcodes .entry))) (now (left .entry)) (now (right .entry)))
+        (kindIn (now (lcodes .entry)) (now (rcodes .entry))) origin (now (marks .entry)) (now (marks .exit)) ⌝ }
+{
+    clear(marks);
+    let nb = rcodes.len();
+    let cuts = cut_row(left, origin / nb);
+    expand(left, &cuts, right, nb, origin % nb, 3, marks);
+    exhaust(lcodes, left, rcodes, right, marks);
+}

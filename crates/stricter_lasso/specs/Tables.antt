@@ -1,0 +1,30 @@
+-- Where transitions come from, and a way that is found and written.
+use mathlib.Core.Path.{_≡_}
+use mathlib.Core.Bool.{Bool, true}
+use mathlib.Core.List.{List, List·Memᴰ}
+use Prim.Native.Nat.{ℕ, _≤_, _<_}
+use lib.ListN.{length, getD}
+use Rattle.theory.specs.Macrostate.{isAccepting}
+use Rattle.theory.specs.Run.{sourceOf, letterOf, targetOf}
+use Rattle.stricter_forest.specs.Forest.{SameIn}
+use Rattle.stricter_forest.specs.Routes.{RouteAt}
+
+-- whether the transition t goes over the letter to the target, from a number that is accepting or not
+pub record Suits (codes : List ℕ) (t letter target : ℕ) (accepting r : Bool) : Type 0 where
+  pub over : r ≡ true → letterOf t ≡ letter
+  pub to : r ≡ true → targetOf t ≡ target
+  pub from : r ≡ true → isAccepting (getD codes (sourceOf t) 0) ≡ accepting
+  pub all : letterOf t ≡ letter → targetOf t ≡ target → isAccepting (getD codes (sourceOf t) 0) ≡ accepting → r ≡ true
+
+-- where all transitions that do come from
+pub record SourceIs (codes moves : List ℕ) (letter target : ℕ) (accepting : Bool) (r : ℕ) : Type 0 where
+  pub low : r ≤ 65536
+  pub source : (t : ℕ) → List·Memᴰ t moves → letterOf t ≡ letter → targetOf t ≡ target
+      → isAccepting (getD codes (sourceOf t) 0) ≡ accepting → r ≡ sourceOf t
+
+-- a way of n steps was found and written
+pub record Way (S : ℕ → ℕ → ℕ → Type 0) (x y at n : ℕ) (marks found old new : List ℕ) : Type 0 where
+  pub same : SameIn marks found
+  pub written : RouteAt S x y at n old new
+  pub some : 0 < n
+  pub short : n ≤ length marks

@@ -1,0 +1,137 @@
+-- The steps of a pair, found in the rows of its numbers: a row is what stands between two places of an ascending list.
+use mathlib.Core.Path.{_≡_, refl, sym, ap, ap₂, _∙_}
+use mathlib.Core.Logic.{_⊎_, inl, inr, ⊎-elim, by-cases}
+use mathlib.Core.Bool.{Bool, true, false}
+use mathlib.Core.List.{List, List·Memᴰ}
+use Prim.Native.Nat.{ℕ, _+_, _*_, _/_, _%_, _≤_, _<_}
+use native.Mathlib.Omega.{arith}
+use native.Mathlib.Decide.{decLt}
+use lib.Arith.{digits-div, digits-mod}
+use lib.ListN.{length, getD}
+use Rattle.sets.specs.Lists.{Ascending}
+use Rattle.sets.proofs.Ascending.{asc-at}
+use Rattle.sets.proofs.Lists.{place-of, mem-at}
+use Rattle.slice_search.specs.Places.{below}
+use Rattle.slice_search.proofs.Search.{below-le, before-place, from-place}
+use Rattle.theory.specs.Run.{sourceOf, letterOf, targetOf}
+use Rattle.stricter_laws.specs.Pairs.{PairStep, PairEdge, Paired, Fits, RowCut, Led, Beside}
+
+-- ---- two digits
+
+-- a node has one number of each table
+pub node-unique : {nb i j k l : ℕ} → j < nb → l < nb → i * nb + j ≡ k * nb + l → (i ≡ k) × (j ≡ l)
+node-unique {nb} {i} {j} {k} {l} a b e =
+    (sym (digits-div i a) ∙ ap (λ (x : ℕ). x / nb) e ∙ digits-div k b, sym (digits-mod i a) ∙ ap (λ (x : ℕ). x % nb) e ∙ digits-mod k b)
+
+-- ---- rows
+
+module _ (moves : List ℕ) (asc : Ascending moves) (i : ℕ) (cuts : List ℕ) (cut : RowCut moves i cuts) where
+  pub cut-le : (a : ℕ) → a < 17 → getD cuts a 0 ≤ length moves
+  cut-le a l = let e = cut a l in let h = below-le (i * 16777216 + a * 65536) moves in omega arith
+
+  -- what stands in a row has its source and its letter
+  pub row-has : (a c : ℕ) → a < 16 → getD cuts a 0 ≤ c → c < getD cuts (a + 1) 0 → (sourceOf (getD moves c 0) ≡ i) × (letterOf (getD moves c 0) ≡ a)
+  row-has a c l f t =
+      let e = cut a (omega arith) in
+      let g = cut (a + 1) (omega arith) in
+      let h = below-le (i * 16777216 + (a + 1) * 65536) moves in
+      let low = from-place (i * 16777216 + a * 65536) moves asc c (omega arith) (omega arith) in
+      let high = before-place (i * 16777216 + (a + 1) * 65536) moves asc c (omega arith) in
+      (omega arith, omega arith)
+
+  -- and all that has them stands there
+  pub row-all : (t a : ℕ) → List·Memᴰ t moves → sourceOf t ≡ i → letterOf t ≡ a → a < 16
+      → (c : ℕ) × (getD cuts a 0 ≤ c) × (c < getD cuts (a + 1) 0) × (getD moves c 0 ≡ t)
+  row-all t a m s e l =
+      let p = place-of moves t m in
+      let f = cut a (omega arith) in
+      let g = cut (a + 1) (omega arith) in (
+        p .0,
+        by-cases (decLt (p .0) (getD cuts a 0)) (λ h. let k = before-place (i * 16777216 + a * 65536) moves asc (p .0) (omega arith) in absurd (omega (arith, k, p .2))) (λ h. omega arith),
+        by-cases (decLt (p .0) (getD cuts (a + 1) 0)) (λ h. h) (λ h. let k = from-place (i * 16777216 + (a + 1) * 65536) moves asc (p .0) (omega arith) (p .1) in absurd (omega (arith, k, p .2))),
+        p .2,
+      )
+
+-- the next transition beside number q
+pub beside-next : (nb : ℕ) (moves : List ℕ) (from c q y : ℕ) → Beside nb moves from (c + 1) q y → Beside nb moves from c q y ⊎ (y ≡ targetOf (getD moves c 0) * nb + q)
+beside-next nb moves from c q y b =
+    by-cases (decLt (b .place) c)
+    (λ l. inl (record { place = b .place; above = b .above; under = l; node = b .node }))
+    (λ l. let e : b .place ≡ c = omega (arith, b .under) in inr (b .node ∙ ap (λ (k : ℕ). targetOf (getD moves k 0) * nb + q) e))
+
+-- ---- the steps of a pair: the row of j is walked from its start on, beside the rows of i
+
+module _ (nb : ℕ) (ma mb : List ℕ) (j : ℕ) where
+  -- the nodes that the transitions of j's row before place k lead to
+  abbrev pub Walked : List ℕ → ℕ → ℕ → Type 0
+  Walked cuts k y = (p : ℕ) × (below (j * 16777216) mb ≤ p) × (p < k) × Beside nb ma (getD cuts (letterOf (getD mb p 0)) 0) (getD cuts (letterOf (getD mb p 0) + 1) 0) (targetOf (getD mb p 0)) y
+
+  pub walked-none : (cuts : List ℕ) (y : ℕ) → Walked cuts (below (j * 16777216) mb) y → ⊥
+  walked-none cuts y w = omega (arith, w .1, w .2)
+
+  pub walked-next : (cuts : List ℕ) (k u y : ℕ) → u ≡ getD mb k 0 → Walked cuts (k + 1) y
+      → Walked cuts k y ⊎ Beside nb ma (getD cuts (letterOf u) 0) (getD cuts (letterOf u + 1) 0) (targetOf u) y
+  walked-next cuts k u y e w =
+      by-cases (decLt (w .0) k)
+      (λ l. inl (w .0, w .1, l, w .3))
+      (λ l. let q : w .0 ≡ k = omega (arith, w .2) in inr (rw (e, sym q) (w .3)))
+
+module _ (nb : ℕ) (ma mb : List ℕ) (size : ℕ) (paired : Paired nb ma mb size) (j : ℕ) (j-low : j < nb) where
+  module _ (i : ℕ) (cuts : List ℕ) (cut : RowCut ma i cuts) where
+    -- what a transition of j's row leads to, beside the row of i over its letter, the pair steps to
+    pub beside-step : (p y : ℕ) → p < length mb → sourceOf (getD mb p 0) ≡ j
+        → Beside nb ma (getD cuts (letterOf (getD mb p 0)) 0) (getD cuts (letterOf (getD mb p 0) + 1) 0) (targetOf (getD mb p 0)) y → PairStep nb ma mb (i * nb + j) (letterOf (getD mb p 0)) y
+    beside-step p y l s b =
+        let u = getD mb p 0 in
+        let m = mem-at mb p l in
+        let low = paired .lettered u m in
+        let h = row-has ma (paired .ascend-A) i cuts cut (letterOf u) (b .place) low (b .above) (b .under) in
+        let top = cut-le ma (paired .ascend-A) i cuts cut (letterOf u + 1) (omega arith) in
+        record {
+          of-A = getD ma (b .place) 0;
+          of-B = u;
+          listed-A = mem-at ma (b .place) (omega (arith, b .under));
+          listed-B = m;
+          letter-A = h .1;
+          letter-B = refl;
+          source = ap₂ (λ (x y : ℕ). x * nb + y) (sym (h .0)) (sym s);
+          target = b .node;
+        }
+
+    -- all steps of the pair are among them when the row of j ends at k
+    pub step-walked : (k : ℕ) → below (j * 16777216) mb ≤ k → (k < length mb → sourceOf (getD mb k 0) ≡ j → ⊥) → (y : ℕ) → PairEdge nb ma mb (i * nb + j) y → Walked nb ma mb j cuts k y
+    step-walked k from end y (a, s) =
+        let t = s .of-A in
+        let u = s .of-B in
+        let e = node-unique {nb = nb} {i = i} {j = j} {k = sourceOf t} {l = sourceOf u} j-low (paired .sources u (s .listed-B)) (s .source) in
+        let p = place-of mb u (s .listed-B) in
+        let r = row-all ma (paired .ascend-A) i cuts cut t (letterOf u) (s .listed-A) (sym (e .0)) (s .letter-A ∙ sym (s .letter-B)) (paired .lettered u (s .listed-B)) in
+        let start : below (j * 16777216) mb ≤ p .0 =
+        by-cases (decLt (p .0) (below (j * 16777216) mb)) (λ h. let q = before-place (j * 16777216) mb (paired .ascend-B) (p .0) h in absurd (omega (arith, q, p .2, e .1))) (λ h. omega arith) in
+        let stop : p .0 < k =
+        by-cases (decLt (p .0) k) (λ h. h)
+        (λ h. let q = from-place (j * 16777216) mb (paired .ascend-B) k from (omega (arith, p .1)) in
+        let later : getD mb k 0 ≤ u = by-cases (decLt k (p .0)) (λ g. omega (arith, asc-at mb (paired .ascend-B) k (p .0) g (p .1), p .2)) (λ g. let same : k ≡ p .0 = omega arith in rw same (omega (arith, p .2))) in
+        absurd (end (omega (arith, p .1)) (omega (arith, e .1)))) in
+        let same : getD mb (p .0) 0 ≡ u = p .2 in (
+          p .0,
+          start,
+          stop,
+          record {
+            place = r .0;
+            above = rw same (r .1);
+            under = rw same (r .2);
+            node = rw (same, r .3) (s .target);
+          },
+        )
+
+-- ---- two tables and their pairs
+
+pub edge-low : (nb : ℕ) (ma mb : List ℕ) (size : ℕ) → Paired nb ma mb size → (x y : ℕ) → PairEdge nb ma mb x y → x < size
+edge-low nb ma mb size p x y (a, s) = rw (s .source) (p .from (s .of-A) (sourceOf (s .of-B)) (s .listed-A) (p .sources (s .of-B) (s .listed-B)))
+
+pub edge-onto : (nb : ℕ) (ma mb : List ℕ) (size : ℕ) → Paired nb ma mb size → (x y : ℕ) → PairEdge nb ma mb x y → y < size
+edge-onto nb ma mb size p x y (a, s) = rw (s .target) (p .onto (s .of-A) (targetOf (s .of-B)) (s .listed-A) (p .targets (s .of-B) (s .listed-B)))
+
+pub fits-same : (na nb : ℕ) (ma mb ms ns : List ℕ) → length ns ≡ length ms → Fits na nb ma mb ms → Fits na nb ma mb ns
+fits-same na nb ma mb ms ns e f = record { paired = f .paired; marked = e ∙ f .marked; few-A = f .few-A; few-B = f .few-B }

@@ -1,0 +1,1 @@
+// When a rule is stricter than another, with worked words.
