@@ -133,7 +133,7 @@ $(BUILD)/reference_events: bench/reference_events.cpp
 $(BUILD)/reference_hoa: bench/reference_hoa.cpp include/mulgreddi.h $(LIB)
 	$(CXX) -O2 -std=c++17 -Iinclude -o $@ $< $(LIB)
 
-# bench/reference02.cpp trims in place and follows a log live, and next to each does it with a heap
+# bench/reference02.cpp trims in place, follows a log live and compares two rules, and next to each does it with a heap
 $(BUILD)/reference02: bench/reference02.cpp
 	mkdir -p $(BUILD)
 	$(CXX) -O2 -std=c++17 -o $@ $<
@@ -149,6 +149,7 @@ bench: $(LIB) $(STEP_BACK) $(BUILD)/reference $(BUILD)/chains $(BUILD)/reference
 	for r in $(wildcard bench/*.rule); do echo "$$r $$($(BUILD)/chains B $$r)"; done
 	$(BUILD)/reference02 trim $(wildcard bench/*.rule)
 	$(BUILD)/reference02 live $(wildcard bench/*.rule)
+	$(BUILD)/reference02 stricter $(foreach n,1 8,$(foreach b,$(n) $(n)_less,bench/strict_$(n).rule bench/strict_$(b).rule))
 	$(BUILD)/reference_events
 	$(BUILD)/reference_hoa $(wildcard bench/*.rule)
 

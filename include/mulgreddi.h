@@ -44,7 +44,7 @@
 extern "C" {
 #endif
 
-/* The answer of every function. refusal is 0 where the input was served; else it is the number of the first fault
+/* The answer of every function but mulgreddi_stricter. refusal is 0 where the input was served; else it is the number of the first fault
  * (one of those below), and first and second are 0. A value that a function does not name is 0. */
 typedef struct {
     uint64_t refusal, first, second;
@@ -52,7 +52,8 @@ typedef struct {
 
 /* The refusals. Groups are tried in the order rule, word, table, slices, room; the rule's rows are 1 to 10, 20, 11, 21, 22, 23,
  * in this order.
- * 17 and 18 set both room slices to zero throughout; every other refusal changes no lent slice. */
+ * 17 and 18 set both room slices to zero throughout, 17, 18 and 29 of mulgreddi_stricter all four; every other refusal changes no lent
+ * slice. */
 enum {
     MULGREDDI_SHORT_FILE = 1,        /* file under 8 bytes */
     MULGREDDI_NO_TAG = 2,            /* last two bytes not the tag 41 57 */
@@ -81,6 +82,8 @@ enum {
     MULGREDDI_EVENT_LINE = 25,       /* an event line with lowest above highest, a letter not below s, cut off, or the 65th */
     MULGREDDI_COVERED_LINE = 26,     /* an event line all of whose pairs fall in earlier lines */
     MULGREDDI_NO_LINE = 27,          /* an event in no line */
+    MULGREDDI_OTHER_LETTERS = 28,    /* two rules with different numbers of letters */
+    MULGREDDI_PAIR_ROOM = 29,        /* word or scratch of mulgreddi_stricter too short */
     MULGREDDI_LOG_FULL = 30,         /* arrival at 512 letters */
     MULGREDDI_LOG_EMPTY = 31,        /* withdrawal from none */
     MULGREDDI_MARK = 32,             /* mark number above 15 */
@@ -119,6 +122,8 @@ static inline const char *mulgreddi_refusal_text(uint64_t refusal)
     case MULGREDDI_EVENT_LINE: return "an event line has lowest above highest or no letter of the rule, is cut off, or is the 65th";
     case MULGREDDI_COVERED_LINE: return "an event line can never be first: earlier lines hold all of its events";
     case MULGREDDI_NO_LINE: return "an event of the log is in no event line";
+    case MULGREDDI_OTHER_LETTERS: return "the two rules have different numbers of letters";
+    case MULGREDDI_PAIR_ROOM: return "the word slice or the scratch is too short for the pairs of macrostates";
     case MULGREDDI_LOG_FULL: return "the live log holds 512 letters already";
     case MULGREDDI_LOG_EMPTY: return "the live log holds no letter to withdraw";
     case MULGREDDI_MARK: return "the number of a mark is not 0 to 15";
@@ -237,6 +242,37 @@ mulgreddi_answer mulgreddi_build(const uint8_t *file, size_t file_len, uint64_t 
 mulgreddi_answer mulgreddi_build_trimmed(const uint8_t *file, size_t file_len, uint64_t *codes, size_t codes_count,
                                          uint64_t *transitions, size_t transitions_count);
 
+/* As mulgreddi_build, for the words that the rule rejects: the macrostates reached from those whose set lacks the initial state.
+ * In this table a macrostate is initial if its set lacks the initial state and bits 40 to 47 are 0 (mulgreddi_code_initial_rejecting);
+ * accepting is as before. Over every endless sequence of letters at most one run accepts; over a lead-in and a cycle, one exactly if the
+ * rule does not accept the word. Every entry that takes a table (mulgreddi_judge_table, mulgreddi_write_hoa, the live calls) reads initial as in
+ * the table of mulgreddi_build, so none of them is for this one.
+ * Refused as mulgreddi_build, 17 and 18 by this table. */
+mulgreddi_answer mulgreddi_build_rejecting(const uint8_t *file, size_t file_len, uint64_t *codes, size_t codes_count,
+                                           uint64_t *transitions, size_t transitions_count);
+
+/* The answer of mulgreddi_stricter. */
+typedef struct {
+    uint64_t refusal;                       /* 0: served; else all that follows is 0 */
+    uint64_t stricter;                      /* 1 yes, 0 no */
+    uint64_t lead, cycle;                   /* with no: lengths of a word that a accepts and b rejects, lead-in then cycle, at the start of word */
+    uint64_t macrostates_a, transitions_a;  /* the table of a */
+    uint64_t macrostates_b, transitions_b;  /* the table of the words that b rejects */
+} mulgreddi_comparison;
+
+/* Is rule a, the new one, stricter than rule b, the old one: is every word that a accepts, of any length, accepted by b?
+ * codes_a and transitions_a are rooms as for mulgreddi_build of a, codes_b and transitions_b as for mulgreddi_build_rejecting of b. A served
+ * call leaves both tables there, zeros after them. With P the macrostates of the one times those of the other, word needs 3 * P bytes and
+ * scratch P bytes; both builds' counts tell P beforehand. With no, the start of word becomes the letters of a word that a accepts and b
+ * rejects, lead-in then cycle, at most 3 * P together and perhaps over 32 each; which of several it is, is not laid down. The rest of word,
+ * and with yes all of it, is not touched. scratch is zero throughout afterwards.
+ * Refusals: the rule's of a, then of b, 28, 17 and 18 by the table of a, 17 and 18 by that of b, 29. 17, 18 and 29 set all four rooms to
+ * zero throughout; no refusal changes word or scratch. */
+mulgreddi_comparison mulgreddi_stricter(const uint8_t *a, size_t a_len, const uint8_t *b, size_t b_len,
+                                        uint64_t *codes_a, size_t codes_a_count, uint64_t *transitions_a, size_t transitions_a_count,
+                                        uint64_t *codes_b, size_t codes_b_count, uint64_t *transitions_b, size_t transitions_b_count,
+                                        uint8_t *word, size_t word_len, uint8_t *scratch, size_t scratch_len);
+
 /* Judges a word on a table: does an accepting run over it begin in an initial macrostate?
  * The table is any that passes refusal 15, built from the rule or not; on one built from this file, first is that of mulgreddi_judge, and
  * at most one accepting run begins at all.
@@ -339,9 +375,11 @@ static inline const char *mulgreddi_letter_name(const uint8_t *file, mulgreddi_a
     return (const char *)file + (checked.first - 2 - checked.second + MULGREDDI_NAME_BYTES * letter);
 }
 
-/* Of a macrostate's code: the set of states claimed true, as a mask; is it initial, for a rule with this initial state; is it accepting. */
+/* Of a macrostate's code: the set of states claimed true, as a mask; is it initial, for a rule with this initial state, in the tables of
+ * mulgreddi_build and mulgreddi_build_trimmed, and in that of mulgreddi_build_rejecting; is it accepting. */
 static inline unsigned mulgreddi_code_set(uint64_t code) { return (unsigned)(code & 255); }
 static inline int mulgreddi_code_initial(uint64_t code, unsigned initial_state) { return (code >> initial_state & 1) && code >> 40 == 0; }
+static inline int mulgreddi_code_initial_rejecting(uint64_t code, unsigned initial_state) { return !(code >> initial_state & 1) && code >> 40 == 0; }
 static inline int mulgreddi_code_accepting(uint64_t code) { return code >> 44 == 0; }
 
 /* Of a transition: the numbers of the macrostates that it leaves and enters, and its letter. */

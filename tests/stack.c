@@ -69,6 +69,11 @@ static void build_trimmed(void)
     mulgreddi_build_trimmed(file, file_len, codes, MULGREDDI_MACROSTATES_MAX, transitions, MULGREDDI_TRANSITIONS_MAX);
 }
 
+static void build_rejecting(void)
+{
+    mulgreddi_build_rejecting(file, file_len, codes, MULGREDDI_MACROSTATES_MAX, transitions, MULGREDDI_TRANSITIONS_MAX);
+}
+
 static void build(void)
 {
     built = mulgreddi_build(file, file_len, codes, MULGREDDI_MACROSTATES_MAX, transitions, MULGREDDI_TRANSITIONS_MAX);
@@ -129,6 +134,7 @@ static const struct { const char *name; void (*call)(void); } calls[] = {
     {"judge_choices", judge_choices},
     {"judge_sheet", judge_sheet},
     {"build_trimmed", build_trimmed},
+    {"build_rejecting", build_rejecting},
     {"build", build},
     {"judge_table", judge_table},
     {"write_hoa", write_hoa},

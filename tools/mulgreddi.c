@@ -712,6 +712,50 @@ static int same(int count, char **operand)
     return answer.first ? YES : NO;
 }
 
+/* The word that tells two rules apart, in its tidy spelling where it is short enough to be judged. */
+static void print_against(const rule *r, const uint8_t *letters, mulgreddi_comparison c)
+{
+    uint8_t out[MULGREDDI_PLACES_MAX], *at = room(c.lead + c.cycle);
+    memcpy(at, letters, c.lead + c.cycle);
+    mulgreddi_answer a = mulgreddi_tidy_word(at, c.lead, at + c.lead, c.cycle, out, sizeof out);
+    if (a.refusal)
+        print_word(r, (word){c.lead, c.cycle, at, at + c.lead});
+    else
+        print_word(r, (word){a.first, a.second, out, out + a.first});
+    printf("\n");
+}
+
+static int stricter(int count, char **operand)
+{
+    static uint64_t codes_b[MULGREDDI_MACROSTATES_MAX], transitions_b[MULGREDDI_TRANSITIONS_MAX];
+    rule a = open_rule(operand[0]), b = open_rule(operand[1]);
+    (void)count;
+    mulgreddi_answer x = build(&a), y = mulgreddi_build_rejecting(b.file.at, b.file.len, codes_b, MULGREDDI_MACROSTATES_MAX, transitions_b,
+                                                                  MULGREDDI_TRANSITIONS_MAX);
+    if (a.letters != b.letters)
+        return refused(b.file.path, MULGREDDI_OTHER_LETTERS, NULL);
+    if (x.refusal)
+        return refused(a.file.path, x.refusal, NULL);
+    if (y.refusal)
+        return refused(b.file.path, y.refusal, NULL);
+    size_t pairs = x.first * y.first;
+    uint8_t *letters = room(3 * pairs), *scratch = room(pairs);
+    begin("comparing");
+    mulgreddi_comparison c = mulgreddi_stricter(a.file.at, a.file.len, b.file.at, b.file.len, codes, MULGREDDI_MACROSTATES_MAX, transitions,
+                                                MULGREDDI_TRANSITIONS_MAX, codes_b, MULGREDDI_MACROSTATES_MAX, transitions_b,
+                                                MULGREDDI_TRANSITIONS_MAX, letters, 3 * pairs, scratch, pairs);
+    end();
+    if (c.refusal)
+        return refused(b.file.path, c.refusal, NULL);
+    if (c.stricter) {
+        printf("stricter\n");
+        return YES;
+    }
+    printf("not stricter: ");
+    print_against(&a, letters, c);
+    return NO;
+}
+
 static int same_word(int count, char **operand)
 {
     const rule *r = rule_of_names();
@@ -966,6 +1010,10 @@ static const command commands[] = {
     {"same", "FILE FILE", "",
      "Prints whether two files are the same rule: `same` (0) or `different` (1).\n",
      2, 2, same},
+    {"stricter", "NEW OLD", "",
+     "Prints whether every word that the rule NEW accepts, of any length, is accepted by the rule OLD: `stricter`\n"
+     "(0), or `not stricter` and a word that NEW accepts and OLD rejects (1).\n",
+     2, 2, stricter},
     {"same-word", "[--rule=FILE] WORD WORD", "rule=",
      "Prints whether two words are the same endless sequence: `same` (0) or `different` (1).\n"
      "  --rule=FILE          the rule whose names the words use\n",

@@ -19,7 +19,11 @@ impl Order {
             Order::Descending => chain.reverse(),
             Order::Zigzag => {
                 for (i, number) in (0..).zip(&mut chain) {
-                    *number = if i % 2 == 0 { first + i / 2 } else { last - i / 2 };
+                    *number = if i % 2 == 0 {
+                        first + i / 2
+                    } else {
+                        last - i / 2
+                    };
                 }
             }
         }

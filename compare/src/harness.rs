@@ -211,12 +211,7 @@ impl Harness {
 
     /// Makes the call and compares its answer and every lent slice.
     pub fn call(&mut self, expected: Expected, call: impl FnOnce() -> Answer) {
-        HARNESS.store(self, Ordering::Relaxed);
-        alarm(ENDLESS);
-        let start = unsafe { clock() };
-        let answer = call();
-        self.last = unsafe { clock() - start } as f64 / 1e6;
-        alarm(0);
+        let answer = self.timed(call);
         let wanted = match expected {
             Ok((first, second)) => Answer {
                 refusal: 0,
@@ -232,8 +227,36 @@ impl Harness {
         if answer != wanted {
             self.fail(&format!("library {answer:?}, second program {wanted:?}"));
         }
+        self.settle(expected, &format!("{answer:?}"));
+    }
+
+    /// Makes a call, with a limit of CPU time.
+    pub fn timed<T>(&mut self, call: impl FnOnce() -> T) -> T {
+        HARNESS.store(self, Ordering::Relaxed);
+        alarm(ENDLESS);
+        let start = unsafe { clock() };
+        let answer = call();
+        self.last = unsafe { clock() - start } as f64 / 1e6;
+        alarm(0);
+        answer
+    }
+
+    /// What must hold of an answer that no definition decides.
+    pub fn must(&self, holds: bool, what: impl FnOnce() -> String) {
+        if !holds {
+            self.fail(&what());
+        }
+    }
+
+    /// What a lent slice holds now.
+    pub fn held(&self, ticket: Ticket) -> Vec<u8> {
+        self.lender.held(ticket)
+    }
+
+    /// Compares every lent slice after a call that both answer alike, and counts it.
+    pub fn settle(&mut self, expected: Expected, answer: &str) {
         if let Some(fault) = self.lender.fault() {
-            self.fail(&format!("{fault}; both answer {answer:?}"));
+            self.fail(&format!("{fault}; both answer {answer}"));
         }
         let (verdict, last) = (self.verdict, self.last);
         let tally = self.tally();

@@ -171,6 +171,12 @@ impl Lender {
         (lent.pointer, lent.content.len())
     }
 
+    /// What the slice holds now.
+    pub fn held(&self, ticket: Ticket) -> Vec<u8> {
+        let (pointer, length) = self.bytes(ticket);
+        unsafe { std::slice::from_raw_parts(pointer, length) }.to_vec()
+    }
+
     /// The slice must hold `after` once the call has ended.
     pub fn expect(&mut self, ticket: Ticket, after: Vec<u8>) {
         let lent = &mut self.lent[ticket.0];

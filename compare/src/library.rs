@@ -9,6 +9,18 @@ pub struct Answer {
     pub second: u64,
 }
 
+/// The answer of the comparison of two rules.
+#[repr(C)]
+#[derive(Clone, Copy, Debug, Default, PartialEq, Eq)]
+pub struct Comparison {
+    pub refusal: u64,
+    pub stricter: u64,
+    pub lead: u64,
+    pub cycle: u64,
+    pub a: [u64; 2],
+    pub b: [u64; 2],
+}
+
 extern "C" {
     pub fn mulgreddi_check(file: *const u8, length: usize) -> Answer;
     pub fn mulgreddi_write(
@@ -145,6 +157,14 @@ extern "C" {
         transitions: *mut u64,
         transitions_length: usize,
     ) -> Answer;
+    pub fn mulgreddi_build_rejecting(
+        file: *const u8,
+        file_length: usize,
+        codes: *mut u64,
+        codes_length: usize,
+        transitions: *mut u64,
+        transitions_length: usize,
+    ) -> Answer;
     pub fn mulgreddi_write_hoa(
         file: *const u8,
         file_length: usize,
@@ -226,4 +246,22 @@ extern "C" {
         set: *mut u8,
         set_length: usize,
     ) -> Answer;
+    pub fn mulgreddi_stricter(
+        a: *const u8,
+        a_length: usize,
+        b: *const u8,
+        b_length: usize,
+        a_codes: *mut u64,
+        a_codes_length: usize,
+        a_transitions: *mut u64,
+        a_transitions_length: usize,
+        b_codes: *mut u64,
+        b_codes_length: usize,
+        b_transitions: *mut u64,
+        b_transitions_length: usize,
+        word: *mut u8,
+        word_length: usize,
+        scratch: *mut u8,
+        scratch_length: usize,
+    ) -> Comparison;
 }

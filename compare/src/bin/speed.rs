@@ -10,9 +10,10 @@ use std::time::{Duration, Instant};
 
 use compare::chains::{self, Order};
 use compare::library::{
-    mulgreddi_build, mulgreddi_build_trimmed, mulgreddi_judge, mulgreddi_judge_choices,
-    mulgreddi_judge_sheet, mulgreddi_judge_table, mulgreddi_live_arrive, mulgreddi_live_start,
-    mulgreddi_live_withdraw, mulgreddi_tidy_word, mulgreddi_translate, Answer,
+    mulgreddi_build, mulgreddi_build_rejecting, mulgreddi_build_trimmed, mulgreddi_judge,
+    mulgreddi_judge_choices, mulgreddi_judge_sheet, mulgreddi_judge_table, mulgreddi_live_arrive,
+    mulgreddi_live_start, mulgreddi_live_withdraw, mulgreddi_stricter, mulgreddi_tidy_word,
+    mulgreddi_translate, Answer, Comparison,
 };
 use compare::stored::{LARGE, OVER};
 use second::build::build;
@@ -22,6 +23,21 @@ use second::judge::judge;
 use second::rule::Rule;
 use second::sample::{self, Random, Shape};
 use second::spelling::tidy_word;
+
+/// Pairs of rules to compare: each with itself, and with one that has a clause
+/// less.
+const STRICT: [(&str, &[u8], &[u8]); 4] = {
+    let one: &[u8] = include_bytes!("../../../bench/strict_1.rule");
+    let less: &[u8] = include_bytes!("../../../bench/strict_1_less.rule");
+    let eight: &[u8] = include_bytes!("../../../bench/strict_8.rule");
+    let fewer: &[u8] = include_bytes!("../../../bench/strict_8_less.rule");
+    [
+        ("strict_1 strict_1", one, one),
+        ("strict_1 strict_1_less", one, less),
+        ("strict_8 strict_8", eight, eight),
+        ("strict_8 strict_8_less", eight, fewer),
+    ]
+};
 
 /// The shortest of some runs.
 fn shortest(runs: usize, mut call: impl FnMut()) -> Duration {
@@ -312,13 +328,15 @@ fn translate_times() {
     );
 }
 
+/// An entry that builds.
+type Build = unsafe extern "C" fn(*const u8, usize, *mut u64, usize, *mut u64, usize) -> Answer;
+
 /// A build at full room and the build of what matters, in turns, seven runs
 /// of each; the difference of the least CPU times is the trimming.
 fn trim_times(name: &str, file: &[u8]) -> f64 {
     let mut codes = vec![0u64; 65_536];
     let mut transitions = vec![0u64; 1_048_576];
-    let calls: [unsafe extern "C" fn(*const u8, usize, *mut u64, usize, *mut u64, usize) -> Answer;
-        2] = [mulgreddi_build, mulgreddi_build_trimmed];
+    let calls: [Build; 2] = [mulgreddi_build, mulgreddi_build_trimmed];
     let mut least = [f64::MAX; 2];
     let mut counts = [(0, 0); 2];
     for _ in 0..7 {
@@ -350,6 +368,65 @@ fn trim_times(name: &str, file: &[u8]) -> f64 {
         kept.1
     );
     trimmed - whole
+}
+
+/// The comparison of two rules beside both builds alone.
+fn stricter_times(name: &str, a: &[u8], b: &[u8]) {
+    let mut codes = [vec![0u64; 65_536], vec![0u64; 65_536]];
+    let mut transitions = [vec![0u64; 1_048_576], vec![0u64; 1_048_576]];
+    let mut pairs = 1;
+    let builds = cpu(3, || {
+        pairs = 1;
+        for (i, call, file) in [
+            (0, mulgreddi_build as Build, a),
+            (1, mulgreddi_build_rejecting, b),
+        ] {
+            let (codes, transitions) = (&mut codes[i], &mut transitions[i]);
+            let answer = unsafe {
+                call(
+                    file.as_ptr(),
+                    file.len(),
+                    codes.as_mut_ptr(),
+                    codes.len(),
+                    transitions.as_mut_ptr(),
+                    transitions.len(),
+                )
+            };
+            pairs *= answer.first as usize;
+        }
+    });
+    let (mut word, mut scratch) = (vec![0u8; 3 * pairs], vec![0u8; pairs]);
+    let mut answer = Comparison::default();
+    let whole = cpu(3, || {
+        let ([ca, cb], [ta, tb]) = (&mut codes, &mut transitions);
+        answer = unsafe {
+            mulgreddi_stricter(
+                a.as_ptr(),
+                a.len(),
+                b.as_ptr(),
+                b.len(),
+                ca.as_mut_ptr(),
+                ca.len(),
+                ta.as_mut_ptr(),
+                ta.len(),
+                cb.as_mut_ptr(),
+                cb.len(),
+                tb.as_mut_ptr(),
+                tb.len(),
+                word.as_mut_ptr(),
+                word.len(),
+                scratch.as_mut_ptr(),
+                scratch.len(),
+            )
+        };
+    });
+    println!(
+        "stricter {name:24} {builds:9.1} {whole:9.1} {:9.1}  P {pairs}, {} {} {}",
+        whole - builds,
+        answer.stricter,
+        answer.lead,
+        answer.cycle
+    );
 }
 
 /// A log followed live: the calls on one rule, its trimmed table and a state.
@@ -699,6 +776,12 @@ fn main() {
         sum += trim_times(&path, &file);
     }
     println!("trimming, all of them {sum:9.1}");
+    println!(
+        "CPU milliseconds: both builds, the comparison, its difference; P, the answer, letters"
+    );
+    for (name, a, b) in STRICT {
+        stricter_times(name, a, b);
+    }
     println!("CPU milliseconds: 512 arrivals, a withdrawal; macrostates transitions, letters, the largest set");
     for path in std::env::args().skip(1) {
         let file = std::fs::read(&path).unwrap_or_else(|error| panic!("{path}: {error}"));

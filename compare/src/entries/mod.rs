@@ -3,6 +3,7 @@
 use crate::harness::Entry;
 
 mod build;
+mod build_rejecting;
 mod build_trimmed;
 mod check;
 mod judge;
@@ -14,6 +15,7 @@ mod mixed_loop;
 mod read_hoa;
 mod same_rules;
 mod same_words;
+mod stricter;
 mod tidy;
 mod tidy_word;
 mod translate;
@@ -38,8 +40,10 @@ pub fn all() -> Vec<Entry> {
         judge_sheet::ENTRY,
         translate::ENTRY,
         build_trimmed::ENTRY,
+        build_rejecting::ENTRY,
         write_hoa::ENTRY,
         read_hoa::ENTRY,
         live::ENTRY,
+        stricter::ENTRY,
     ]
 }

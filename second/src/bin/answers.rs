@@ -17,6 +17,7 @@ use second::names::Name;
 use second::rule::{read_named, same_rules, take_apart, Named};
 use second::sheet::{entries, judge_sheet, Entry};
 use second::spelling::tidy_word;
+use second::stricter::stricter;
 use second::table::judge_table;
 use second::tidy::tidy;
 use second::trim::build_trimmed;
@@ -418,6 +419,23 @@ fn same(printed: &mut Printed, same: bool) -> i32 {
     }
 }
 
+/// The word is the second program's own: the same as the library's only where
+/// there is one alone.
+fn stricter_command(printed: &mut Printed, operands: &[String]) -> i32 {
+    let [a, b] = [0, 1].map(|i| load(&operands[i]));
+    let rooms = [MACROSTATES, TRANSITIONS, MACROSTATES, TRANSITIONS];
+    let compared = printed.served(stricter(&a, &b, rooms, usize::MAX, usize::MAX));
+    let Some((lead, cycle)) = compared.word else {
+        printed.line("stricter");
+        return YES;
+    };
+    let names = printed.served(read_named(&a)).names;
+    let (lead, cycle) = tidy_word(&lead, &cycle).unwrap_or((lead, cycle));
+    let word = word(&names, &lead, &cycle);
+    printed.line(&format!("not stricter: {word}"));
+    NO
+}
+
 fn translate_command(
     printed: &mut Printed,
     operands: &[String],
@@ -555,6 +573,7 @@ fn main() {
             let answer = printed.served(same_rules(&a, &b));
             same(printed, answer)
         }
+        "stricter" => stricter_command(printed, &operands),
         "same-word" => {
             let names = named(printed);
             let [a, b] = [0, 1].map(|i| read_word(&names, &operands[i]));
