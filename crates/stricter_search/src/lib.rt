@@ -6,12 +6,14 @@ use judge_place::fill_with;
 use stricter_fixpoints::round_both;
 use stricter_lasso::find_word;
 use stricter_spec::Found;
+use stricter_sweeps::prune;
 ghost use mathlib.Core.Path.{_≡_};
 ghost use mathlib.Core.Bool.{true, false, not};
 ghost use Prim.Native.Nat.{_+_, _*_, _≤_, _<_};
 ghost use lib.ListN.{length, replicate};
 ghost use Rattle.sets.specs.Masks.{bit};
 ghost use Rattle.theory.specs.Macrostate.{begun};
+ghost use Rattle.graph_walks.specs.Walks.{Pruned};
 ghost use Rattle.stricter_spec.specs.Search.{Searchable, Searched};
 ghost use Rattle.stricter_laws.specs.Pairs.{PairEdge, Fits};
 ghost use Rattle.stricter_laws.specs.Sweeps.{Narrowed, BothSound};
@@ -19,6 +21,19 @@ ghost use Rattle.stricter_laws.specs.Tests.{acceptsIn, startsIn};
 ghost use Rattle.stricter_search.specs.Starts.{StartsAt, FirstStart};
 
 // ---- the pairs from which both tables can accept
+
+// Takes out pairs that lead to none that is in, by three sweeps: this is far cheaper than a round, and most pairs go.
+fn prune_few(lcodes: &[u64], left: &[u64], rcodes: &[u64], right: &[u64], marks: &mut [u8])
+    requires { ⌜ Fits (length (now lcodes)) (length (now rcodes)) (now left) (now right) (now marks) ⌝ }
+    ensures { λ _. ⌜ Pruned (PairEdge (length (now (rcodes .entry))) (now (left .entry)) (now (right .entry)))
+        (now (marks .entry)) (now (marks .exit)) ⌝ }
+{
+    let mut k: usize = 0;
+    while k < 3 {
+        prune(left, right, lcodes.len(), rcodes.len(), marks);
+        k += 1;
+    }
+}
 
 // Takes pairs out until from each that is left pairs that are left and accepting on either side can be reached.
 fn narrow(lcodes: &[u64], left: &[u64], rcodes: &[u64], right: &[u64], marks: &mut [u8])
@@ -109,6 +124,7 @@ fn search_pairs(
         (now (bcodes .entry)) (now (bmoves .entry)) (λ c. not (bit c binitial)) (now (word .entry)) (now (word .exit)) r ⌝ }
 {
     fill_with(marks, 1);
+    prune_few(acodes, amoves, bcodes, bmoves, marks);
     narrow(acodes, amoves, bcodes, bmoves, marks);
     let start = first_start(acodes, bcodes, ainitial, binitial, marks);
     if start == marks.len() {
