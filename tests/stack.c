@@ -74,6 +74,15 @@ static void build_rejecting(void)
     mulgreddi_build_rejecting(file, file_len, codes, MULGREDDI_MACROSTATES_MAX, transitions, MULGREDDI_TRANSITIONS_MAX);
 }
 
+/* the rule with itself, where the pairs of macrostates are few enough */
+static void stricter(void)
+{
+    static uint64_t codes_b[MULGREDDI_MACROSTATES_MAX], transitions_b[MULGREDDI_TRANSITIONS_MAX];
+    static uint8_t letters[3 << 16], pairs[1 << 16];
+    mulgreddi_stricter(file, file_len, file, file_len, codes, MULGREDDI_MACROSTATES_MAX, transitions, MULGREDDI_TRANSITIONS_MAX, codes_b,
+                       MULGREDDI_MACROSTATES_MAX, transitions_b, MULGREDDI_TRANSITIONS_MAX, letters, sizeof letters, pairs, sizeof pairs);
+}
+
 static void build(void)
 {
     built = mulgreddi_build(file, file_len, codes, MULGREDDI_MACROSTATES_MAX, transitions, MULGREDDI_TRANSITIONS_MAX);
@@ -135,6 +144,7 @@ static const struct { const char *name; void (*call)(void); } calls[] = {
     {"judge_sheet", judge_sheet},
     {"build_trimmed", build_trimmed},
     {"build_rejecting", build_rejecting},
+    {"stricter", stricter},
     {"build", build},
     {"judge_table", judge_table},
     {"write_hoa", write_hoa},
