@@ -12,7 +12,7 @@ use lib.Bits.{bitAnd, bitXor, and-mask, xor-lt}
 use lib.Pow.{pow-mono}
 use borrow.Author.Tests.{lt-ltb, le-ltb, le-leb}
 use Rattle.sets.specs.Tests.{every}
-use Rattle.sets.specs.Masks.{bit, mask, xor}
+use Rattle.sets.specs.Masks.{bit, mask, exclusive}
 use Rattle.sets.proofs.Masks.{mask-lt, bit-mask, above}
 use Rattle.sets.proofs.Bits.{bit-xor, bit-high, mask-unique}
 use Rattle.sets.proofs.Bools.{xor-comm}
@@ -29,22 +29,22 @@ use Rattle.build_closure_spec.specs.declared.Shape.{Shape}
 use Rattle.build_closure_spec.specs.Keys.{startOf, StartsAt}
 use Rattle.build_closure_spec.specs.Tables.{Shaped, Lowest}
 
-xor-true : (a : Bool) → xor a true ≡ not a
+xor-true : (a : Bool) → exclusive a true ≡ not a
 xor-true true = refl
 xor-true false = refl
 
-xor-false : (a : Bool) → xor a false ≡ a
+xor-false : (a : Bool) → exclusive a false ≡ a
 xor-false true = refl
 xor-false false = refl
 
 -- what in_set finds
-pub in-set-ranked : (ranks accepting q : ℕ) → 0 < bitAnd (ranks / 2 ^ (4 * q)) 15 → not (bit accepting q) ≡ xor (bit accepting q) (ltb 0 (rankAt ranks q))
+pub in-set-ranked : (ranks accepting q : ℕ) → 0 < bitAnd (ranks / 2 ^ (4 * q)) 15 → not (bit accepting q) ≡ exclusive (bit accepting q) (ltb 0 (rankAt ranks q))
 unfolding rankAt
-in-set-ranked ranks accepting q h = sym (xor-true (bit accepting q)) ∙ ap (xor (bit accepting q)) (sym (lt-ltb 0 (ranks / 2 ^ (4 * q) % 16) (omega (arith, and-mask (ranks / 2 ^ (4 * q)) 4))))
+in-set-ranked ranks accepting q h = sym (xor-true (bit accepting q)) ∙ ap (exclusive (bit accepting q)) (sym (lt-ltb 0 (ranks / 2 ^ (4 * q) % 16) (omega (arith, and-mask (ranks / 2 ^ (4 * q)) 4))))
 
-pub in-set-closed : (ranks accepting q : ℕ) → bitAnd (ranks / 2 ^ (4 * q)) 15 ≤ 0 → bit accepting q ≡ xor (bit accepting q) (ltb 0 (rankAt ranks q))
+pub in-set-closed : (ranks accepting q : ℕ) → bitAnd (ranks / 2 ^ (4 * q)) 15 ≤ 0 → bit accepting q ≡ exclusive (bit accepting q) (ltb 0 (rankAt ranks q))
 unfolding rankAt
-in-set-closed ranks accepting q h = sym (xor-false (bit accepting q)) ∙ ap (xor (bit accepting q)) (sym (le-ltb 0 (ranks / 2 ^ (4 * q) % 16) (omega (arith, and-mask (ranks / 2 ^ (4 * q)) 4))))
+in-set-closed ranks accepting q h = sym (xor-false (bit accepting q)) ∙ ap (exclusive (bit accepting q)) (sym (le-ltb 0 (ranks / 2 ^ (4 * q) % 16) (omega (arith, and-mask (ranks / 2 ^ (4 * q)) 4))))
 
 -- the number of a core has 40 bits
 pub core-low : (A : Automaton) (v : ℕ) → v < 2 ^ 32 → coreOf A v < 2 ^ 40
@@ -98,9 +98,9 @@ module _ (r : Rule) (parts : List ℕ) (shape : Shape) (S : Shaped r parts shape
 
       set-is : bitXor (getD low 15 0) (shape .accepting) ≡ mask 8 (setOf (automaton r) v)
       set-is = mask-unique 8 (bitXor (getD low 15 0) (shape .accepting)) (setOf (automaton r) v) (xor-lt 8 (getD low 15 0) (shape .accepting) opened-low accepting-low)
-          (λ q k. bit-xor (getD low 15 0) (shape .accepting) q ∙ ap (λ (b : Bool). xor b (bit (shape .accepting) q)) (opened q k) ∙ by-cases (decLt q ((automaton r) .n))
-          (λ l. xor-comm (ltb 0 (rankAt v q)) (bit (shape .accepting) q) ∙ ap (λ (b : Bool). xor b (ltb 0 (rankAt v q))) (accepting-same q) ∙ sym (set-rank (automaton r) v q l))
-          (λ l. ap₂ xor (ap (ltb 0) (rank-beyond (automaton r) parts (S .masks) v within-all q (omega arith) k)) (bit-high ((automaton r) .n) (shape .accepting) q accepting-fits (omega arith)) ∙ sym (set-beyond (automaton r) v q (omega arith))))
+          (λ q k. bit-xor (getD low 15 0) (shape .accepting) q ∙ ap (λ (b : Bool). exclusive b (bit (shape .accepting) q)) (opened q k) ∙ by-cases (decLt q ((automaton r) .n))
+          (λ l. xor-comm (ltb 0 (rankAt v q)) (bit (shape .accepting) q) ∙ ap (λ (b : Bool). exclusive b (ltb 0 (rankAt v q))) (accepting-same q) ∙ sym (set-rank (automaton r) v q l))
+          (λ l. ap₂ exclusive (ap (ltb 0) (rank-beyond (automaton r) parts (S .masks) v within-all q (omega arith) k)) (bit-high ((automaton r) .n) (shape .accepting) q accepting-fits (omega arith)) ∙ sym (set-beyond (automaton r) v q (omega arith))))
 
       pub core-is : v * 2 ^ 8 + bitXor (getD low 15 0) (shape .accepting) ≡ coreOf (automaton r) v
       unfolding coreOf
@@ -110,16 +110,16 @@ module _ (r : Rule) (parts : List ℕ) (shape : Shape) (S : Shaped r parts shape
       core-fits = rw core-is (core-low (automaton r) v vector-low)
 
     -- the start condition, by the rank of the initial state
-    holds-is : xor (bit (shape .accepting) (shape .initial)) (ltb 0 (rankAt v (shape .initial))) ≡ bit (coreOf (automaton r) v) (r .initial)
+    holds-is : exclusive (bit (shape .accepting) (shape .initial)) (ltb 0 (rankAt v (shape .initial))) ≡ bit (coreOf (automaton r) v) (r .initial)
     unfolding coreOf bit
     holds-is =
-        ap (λ (b : Bool). xor b (ltb 0 (rankAt v (shape .initial)))) (accepting-same (shape .initial))
+        ap (λ (b : Bool). exclusive b (ltb 0 (rankAt v (shape .initial)))) (accepting-same (shape .initial))
         ∙ sym (set-rank (automaton r) v (shape .initial) initial-state)
         ∙ sym (bit-mask 8 (setOf (automaton r) v) (shape .initial) initial-low)
         ∙ ap (λ (x : ℕ). eqb x 1) (sym (above v (mask 8 (setOf (automaton r) v)) 8 (shape .initial) initial-low))
         ∙ ap (λ (q : ℕ). eqb ((v * 2 ^ 8 + mask 8 (setOf (automaton r) v)) / 2 ^ q % 2) 1) (S .initial-is)
 
-    pub start-is : cond (shape .holds) (xor (bit (shape .accepting) (shape .initial)) (ltb 0 (rankAt v (shape .initial)))) (not (xor (bit (shape .accepting) (shape .initial)) (ltb 0 (rankAt v (shape .initial)))))
+    pub start-is : cond (shape .holds) (exclusive (bit (shape .accepting) (shape .initial)) (ltb 0 (rankAt v (shape .initial)))) (not (exclusive (bit (shape .accepting) (shape .initial)) (ltb 0 (rankAt v (shape .initial)))))
         ≡ startOf r (shape .holds) (coreOf (automaton r) v)
     unfolding startOf
     start-is = ap (λ (b : Bool). cond (shape .holds) b (not b)) holds-is

@@ -10,7 +10,7 @@ use lib.Dec.{eqb, ltb}
 use lib.ListN.{getD}
 use borrow.Author.Tests.{eqb-true, eq-eqb, lt-ltb, le-ltb, ltb-true, ltb-false}
 use Rattle.sets.specs.Tests.{Set, one, every, count, largest}
-use Rattle.sets.specs.Masks.{bit, xor}
+use Rattle.sets.specs.Masks.{bit, exclusive}
 use Rattle.sets.specs.Digits.{num}
 use Rattle.sets.proofs.Bools.{bif, and-l, and-r, and-i, or-l, or-r, or-tf, or-cases, xor-twice}
 use Rattle.sets.proofs.Tests.{every-at, every-all, some-at, some-get, some-ext, some-trim, count-ext, count-trim, count-max}
@@ -28,18 +28,18 @@ use Rattle.build_cores.proofs.Sums.{sum-ext, sum-ranks, num-nothing}
 use Rattle.build_cores.proofs.Gaps.{count-shift, used-zero, used-suc}
 
 -- the set of a vector, at a state
-pub set-rank : (A : Automaton) (v q : ℕ) → q < A .n → setOf A v q ≡ xor (A .accepting q) (ltb 0 (rankAt v q))
+pub set-rank : (A : Automaton) (v q : ℕ) → q < A .n → setOf A v q ≡ exclusive (A .accepting q) (ltb 0 (rankAt v q))
 unfolding setOf
-set-rank A v q l = ap (λ (b : Bool). b && xor (A .accepting q) (ltb 0 (rankAt v q))) (lt-ltb q (A .n) l)
+set-rank A v q l = ap (λ (b : Bool). b && exclusive (A .accepting q) (ltb 0 (rankAt v q))) (lt-ltb q (A .n) l)
 
 pub set-beyond : (A : Automaton) (v q : ℕ) → A .n ≤ q → setOf A v q ≡ false
 unfolding setOf
-set-beyond A v q l = ap (λ (b : Bool). b && xor (A .accepting q) (ltb 0 (rankAt v q))) (le-ltb q (A .n) l)
+set-beyond A v q l = ap (λ (b : Bool). b && exclusive (A .accepting q) (ltb 0 (rankAt v q))) (le-ltb q (A .n) l)
 
 -- its open states are those with a rank
 pub open-rank : (A : Automaton) (v q : ℕ) → q < A .n → isOpen A (setOf A v) q ≡ ltb 0 (rankAt v q)
 unfolding isOpen
-open-rank A v q l = ap (xor (A .accepting q)) (set-rank A v q l) ∙ xor-twice (A .accepting q) (ltb 0 (rankAt v q))
+open-rank A v q l = ap (exclusive (A .accepting q)) (set-rank A v q l) ∙ xor-twice (A .accepting q) (ltb 0 (rankAt v q))
 
 -- a step down the ranks in use
 down : (v part : ℕ) → gapless v part ≡ true → (j i : ℕ) → j + i < 16 → used v part (j + i) ≡ true → used v part j ≡ true
@@ -179,7 +179,7 @@ module _ (A : Automaton) (parts : List ℕ) (P : Parts A parts) where
     -- and its set
     pub vector-set : (q : ℕ) → q < A .n → setOf A v q ≡ S q
     unfolding isOpen
-    vector-set q l = set-rank A v q l ∙ ap (λ (x : ℕ). xor (A .accepting q) (ltb 0 x)) (vector-rank q l) ∙ ap (xor (A .accepting q)) (sym (open-of-rank A S r C q l)) ∙ xor-twice (A .accepting q) (S q)
+    vector-set q l = set-rank A v q l ∙ ap (λ (x : ℕ). exclusive (A .accepting q) (ltb 0 x)) (vector-rank q l) ∙ ap (exclusive (A .accepting q)) (sym (open-of-rank A S r C q l)) ∙ xor-twice (A .accepting q) (S q)
 
     comp-size : (q : ℕ) → q < A .n → r q ≤ sizeAt A q
     unfolding sizeAt

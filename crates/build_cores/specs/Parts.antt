@@ -6,7 +6,7 @@ use Prim.Native.Nat.{ℕ, _≤_, _<_}
 use lib.Dec.{eqb, ltb}
 use lib.ListN.{getD}
 use Rattle.sets.specs.Tests.{Set, count}
-use Rattle.sets.specs.Masks.{mask, xor}
+use Rattle.sets.specs.Masks.{mask, exclusive}
 use Rattle.sets.specs.Digits.{num}
 use Rattle.theory.specs.Automaton.{Automaton}
 use Rattle.build_cores.specs.Vectors.{rankAt}
@@ -21,7 +21,7 @@ pub record Parts (A : Automaton) (parts : List ℕ) : Type 0 where
 module _ (A : Automaton) where
   -- the set of a core follows from its ranks: the rejecting states with a rank, the accepting states without one
   unfoldable pub setOf : ℕ → Set
-  setOf ranks q = ltb q (A .n) && xor (A .accepting q) (ltb 0 (rankAt ranks q))
+  setOf ranks q = ltb q (A .n) && exclusive (A .accepting q) (ltb 0 (rankAt ranks q))
 
   -- the vector of the ranks r
   unfoldable pub vectorOf : (ℕ → ℕ) → ℕ

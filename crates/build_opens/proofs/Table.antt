@@ -12,7 +12,7 @@ use lib.Seq.{getD-set-same, getD-set-other}
 use lib.Bits.{bitXor, xor-lt}
 use lib.Pow.{pow-mono}
 use Rattle.sets.specs.Tests.{Set, one}
-use Rattle.sets.specs.Masks.{bit, mask, xor}
+use Rattle.sets.specs.Masks.{bit, mask, exclusive}
 use Rattle.sets.proofs.Masks.{mask-lt, bit-mask}
 use Rattle.sets.proofs.Bits.{bit-xor, mask-unique, shl-one}
 use Rattle.sets.proofs.Bools.{xor-comm}
@@ -52,14 +52,14 @@ module _ (r : Rule) (W : WellFormed r) (a opened : ℕ) where
 
   set-same : (q : ℕ) → satisfies (r .n) (bit (bitXor opened (r .accepting))) (entry r q a) ≡ satisfies (r .n) (setFrom (automaton r) opened) (entry r q a)
   unfolding setFrom automaton
-  set-same q = satisfies-ext (r .n) (bit (bitXor opened (r .accepting))) (λ p. xor (bit (r .accepting) p) (bit opened p)) (λ p l. bit-xor opened (r .accepting) p ∙ xor-comm (bit opened p) (bit (r .accepting) p)) (entry r q a)
+  set-same q = satisfies-ext (r .n) (bit (bitXor opened (r .accepting))) (λ p. exclusive (bit (r .accepting) p) (bit opened p)) (λ p l. bit-xor opened (r .accepting) p ∙ xor-comm (bit opened p) (bit (r .accepting) p)) (entry r q a)
 
   pub place-is : bitXor (mask (r .n) met) (r .accepting) ≡ openBefore (automaton r) a opened
   unfolding openBefore automaton isOpen
   place-is =
       mask-unique (r .n) (bitXor (mask (r .n) met) (r .accepting)) (isOpen (automaton r) (λ q. satisfies (r .n) (setFrom (automaton r) opened) (entry r q a)))
       (xor-lt (r .n) (mask (r .n) met) (r .accepting) (mask-lt (r .n) met) (W .accepting-states))
-      (λ q l. bit-xor (mask (r .n) met) (r .accepting) q ∙ xor-comm (bit (mask (r .n) met) q) (bit (r .accepting) q) ∙ ap (xor (bit (r .accepting) q)) (bit-mask (r .n) met q l ∙ set-same q))
+      (λ q l. bit-xor (mask (r .n) met) (r .accepting) q ∙ xor-comm (bit (mask (r .n) met) q) (bit (r .accepting) q) ∙ ap (exclusive (bit (r .accepting) q)) (bit-mask (r .n) met q l ∙ set-same q))
 
 -- ---- the whole table
 

@@ -4,7 +4,7 @@ use mathlib.Core.List.{List}
 use Prim.Native.Nat.{ℕ, _+_, _*_, _≤_, _<_}
 use lib.ListN.{getD}
 use Rattle.sets.specs.Tests.{Set}
-use Rattle.sets.specs.Masks.{bit, mask, xor}
+use Rattle.sets.specs.Masks.{bit, mask, exclusive}
 use Rattle.theory.specs.Rule.{satisfies}
 use Rattle.theory.specs.Automaton.{Automaton}
 use Rattle.theory.specs.Core.{isOpen}
@@ -12,7 +12,7 @@ use Rattle.theory.specs.Core.{isOpen}
 module _ (A : Automaton) where
   -- the set whose open states are those of a mask
   unfoldable pub setFrom : ℕ → Set
-  setFrom opened q = xor (A .accepting q) (bit opened q)
+  setFrom opened q = exclusive (A .accepting q) (bit opened q)
 
   -- the open states of the set before it at letter a; 01: "S holds q exactly if T's set satisfies q's entry."
   unfoldable pub openBefore : ℕ → ℕ → ℕ

@@ -3,7 +3,7 @@ use mathlib.Core.Path.{_≡_, refl}
 use mathlib.Core.List.{List, [], _∷_}
 use Prim.Native.Nat.{ℕ}
 use Rattle.sets.specs.Digits.{num}
-use Rattle.sets.specs.Lists.{keep, among, anyOf, sum, tabulate, flat, insert, sorted}
+use Rattle.sets.specs.Lists.{keep, among, anyOf, sum, tabulate, flat, insertAscending, sorted}
 use Rattle.sets.specs.Masks.{bit, mask, inside}
 use Rattle.refusals.specs.Rows.{firstRow}
 use Rattle.sets.specs.Tests.{every, some, count, first, largest}
@@ -31,7 +31,7 @@ fileE = 0x01 ∷ 0x01 ∷ 0x00 ∷ 0x01 ∷ 0x02 ∷ 0x00 ∷ 0x01 ∷ 0x01 ∷ 
 
 -- what an evaluation unfolds
 unfoldable computed : ℕ
-unfolding rejectingRow rejectingOf rejectingCodesAfter rejectingTransitionsAfter rejectingMacrostates rejectingTransitions sliceAfter builtBy roomRows roomOf fileRows bodyRows formedRows clauseRows someNested nested prefaceRows nameRows hasNames namesBefore repeatsName layoutRows trailerRows numberRows listRows componentRows firstRow tagged clausesOf countsOf mixed isAccepting macrostatesFrom transitionsFrom transitionsOf codesFrom cores candidates digitals tabulate flat keep among anyOf insert sorted reachedIn reached wellCoded pack fields mask num goes before onward begun automaton setIn rankIn componentIn classesIn every satisfies inside bit rankOf levelOf test settled rejectingSettled acceptingSettled mix isOpen taken some count first largest openOf nextComponent isCore component components isSmallest smallest together reaches within leads named entry sum
+unfolding rejectingRow rejectingOf rejectingCodesAfter rejectingTransitionsAfter rejectingMacrostates rejectingTransitions sliceAfter builtBy roomRows roomOf fileRows bodyRows formedRows clauseRows someNested nested prefaceRows nameRows hasNames namesBefore repeatsName layoutRows trailerRows numberRows listRows componentRows firstRow tagged clausesOf countsOf mixed isAccepting macrostatesFrom transitionsFrom transitionsOf codesFrom cores candidates digitals tabulate flat keep among anyOf insertAscending sorted reachedIn reached wellCoded pack fields mask num goes before onward begun automaton setIn rankIn componentIn classesIn every satisfies inside bit rankOf levelOf test settled rejectingSettled acceptingSettled mix isOpen taken some count first largest openOf nextComponent isCore component components isSmallest smallest together reaches within leads named entry sum
 computed = 0
 
 -- E rejects the words with some letter 1

@@ -11,7 +11,7 @@ use lib.Bits.{bitAnd, bitOr, bitXor, and-le-r}
 use lib.ListN.{getD}
 use borrow.Author.Tests.{lt-ltb, le-leb, lt-leb}
 use Rattle.sets.specs.Tests.{one}
-use Rattle.sets.specs.Masks.{bit, xor}
+use Rattle.sets.specs.Masks.{bit, exclusive}
 use Rattle.sets.specs.Digits.{num}
 use Rattle.sets.proofs.Bools.{bif, clash}
 use Rattle.sets.proofs.Tests.{first-hits, first-le}
@@ -19,7 +19,7 @@ use Rattle.sets.proofs.Bits.{bit-xor, bit-none, bit-ext}
 use Rattle.build_step_back.specs.Step.{goal, upto, level, Rising, Stepped}
 use Rattle.build_step_back.proofs.Classes.{State, start, levels-room, stay, ranks-room, go, done-ranks, done-levels, none-ranks, none-levels}
 
-xor-and : (a b : Bool) → xor a (a && b) ≡ a && not b
+xor-and : (a b : Bool) → exclusive a (a && b) ≡ a && not b
 xor-and true b = refl
 xor-and false b = refl
 
@@ -105,7 +105,7 @@ module _ (opens : List ℕ) (letter opened part : ℕ) (low : List ℕ) (r : Ris
 
     -- the states that have not come in
     late-bit : (q : ℕ) → q < 8 → bit (bitXor G prev) q ≡ bit G q && not (ltb (L q) j)
-    late-bit q h = bit-xor G prev q ∙ ap (xor (bit G q)) (s .bits q h) ∙ xor-and (bit G q) (ltb (L q) j)
+    late-bit q h = bit-xor G prev q ∙ ap (exclusive (bit G q)) (s .bits q h) ∙ xor-and (bit G q) (ltb (L q) j)
 
     pub levels-fit : levels + ones < 2 ^ 64
     levels-fit = levels-room (bit G) L level-low (U j) prev ones ranks levels j (upto-small hp j) bits-at s deep-in

@@ -12,7 +12,7 @@ use lib.Bits.{bitXor, xor-lt}
 use lib.Pow.{pow-mono}
 use borrow.Author.Tests.{eq-eqb, ne-eqb, lt-ltb, ltb-true, le-leb}
 use Rattle.sets.specs.Tests.{every, largest}
-use Rattle.sets.specs.Masks.{bit, mask, xor}
+use Rattle.sets.specs.Masks.{bit, mask, exclusive}
 use Rattle.sets.specs.Digits.{num}
 use Rattle.sets.proofs.Bools.{bif, and-l, xor-twice}
 use Rattle.sets.proofs.Tests.{largest-le, largest-ext}
@@ -41,7 +41,7 @@ use Rattle.build_step_back.proofs.Component.{level-low}
 use Rattle.build_breakpoint.proofs.Pairs.{next-lt, onward-turn, onward-stay}
 use Rattle.build_step_back.proofs.Theory.{Masks, rises, ranks-are, left-is}
 
-xor-off : (a b : Bool) → xor (xor a b) a ≡ b
+xor-off : (a b : Bool) → exclusive (exclusive a b) a ≡ b
 xor-off true true = refl
 xor-off true false = refl
 xor-off false true = refl
@@ -110,7 +110,7 @@ module _ (A : Automaton) (H : Layered A) (s : ℕ) (opens parts : List ℕ) (P :
 
   from-opened : (p : ℕ) → p < A .n → setFrom A opened p ≡ setOf A v p
   unfolding setFrom isOpen
-  from-opened p k = ap (xor (A .accepting p)) (opened-bit p k) ∙ xor-twice (A .accepting p) (setOf A v p)
+  from-opened p k = ap (exclusive (A .accepting p)) (opened-bit p k) ∙ xor-twice (A .accepting p) (setOf A v p)
 
   entry-before : getD opens (a * 256 + opened) 0 ≡ openBefore A a opened
   entry-before = O .table a opened letter opened-small
@@ -137,8 +137,8 @@ module _ (A : Automaton) (H : Layered A) (s : ℕ) (opens parts : List ℕ) (P :
     unfolding isOpen
     set-is = mask-unique 8 (bitXor (getD opens (a * 256 + opened) 0) accepting) (earlierSet A a v) (xor-lt 8 (getD opens (a * 256 + opened) 0) accepting (below-256 _ entry-small) (below-256 _ fits))
         (λ q k. bit-xor (getD opens (a * 256 + opened) 0) accepting q ∙ by-cases (decLt q (A .n))
-        (λ l. ap₂ xor (open-is q l) (same q l) ∙ xor-off (A .accepting q) (earlierSet A a v q))
-        (λ l. ap₂ xor (bit-high (A .n) (getD opens (a * 256 + opened) 0) q entry-small (omega arith)) (bit-high (A .n) accepting q fits (omega arith)) ∙ sym (earlier-set-beyond A a v q (omega arith))))
+        (λ l. ap₂ exclusive (open-is q l) (same q l) ∙ xor-off (A .accepting q) (earlierSet A a v q))
+        (λ l. ap₂ exclusive (bit-high (A .n) (getD opens (a * 256 + opened) 0) q entry-small (omega arith)) (bit-high (A .n) accepting q fits (omega arith)) ∙ sym (earlier-set-beyond A a v q (omega arith))))
 
   -- ---- what step_back leaves
 

@@ -11,7 +11,7 @@ use lib.ListN.{getD}
 use lib.Bits.{bitAnd, bitOr, bitXor}
 use borrow.Author.Tests.{eqb-true, eq-eqb, lt-ltb, le-ltb, le-leb, leb-true}
 use Rattle.sets.specs.Tests.{Set, largest}
-use Rattle.sets.specs.Masks.{bit, xor}
+use Rattle.sets.specs.Masks.{bit, exclusive}
 use Rattle.theory.specs.Rule.{satisfies}
 use Rattle.sets.specs.Digits.{num}
 use Rattle.theory.specs.Automaton.{Automaton}
@@ -28,7 +28,7 @@ use Rattle.build_step_back.specs.Step.{goal, upto, level, Rising, valued
 use Rattle.build_opens.specs.Opens.{setFrom, openBefore}
 use Rattle.build_step_back.proofs.Masks.{arg-small}
 
-arg-bit : (o k l : Bool) → xor o (o && k) || (l && k) ≡ cond k l o
+arg-bit : (o k l : Bool) → exclusive o (o && k) || (l && k) ≡ cond k l o
 arg-bit true true true = refl
 arg-bit true true false = refl
 arg-bit true false true = refl
@@ -60,7 +60,7 @@ pub record Masks (W : Automaton) (opens : List ℕ) (a opened part : ℕ) (low :
 
 module _ (W : Automaton) (opens : List ℕ) (a opened part : ℕ) (low : List ℕ) (K : ℕ) (T : Set) (r : ℕ → ℕ) (h : Masks W opens a opened part low K T r) where
   -- a place of the table, at a state
-  entry-is : (m q : ℕ) → m < 256 → q < W .n → bit (getD opens (a * 256 + m) 0) q ≡ xor (W .accepting q) (satisfies (W .n) (setFrom W m) (W .entry q a))
+  entry-is : (m q : ℕ) → m < 256 → q < W .n → bit (getD opens (a * 256 + m) 0) q ≡ exclusive (W .accepting q) (satisfies (W .n) (setFrom W m) (W .entry q a))
   unfolding openBefore isOpen
   entry-is m q l k = ap (λ (x : ℕ). bit x q) (h .table m l) ∙ bit-mask (W .n) (isOpen W (λ q. satisfies (W .n) (setFrom W m) (W .entry q a))) q k
 
@@ -73,7 +73,7 @@ module _ (W : Automaton) (opens : List ℕ) (a opened part : ℕ) (low : List �
   arg-is : (j p : ℕ) → bit (arg j) p ≡ cond (bit part p) (bit (getD low j 0) p) (bit opened p)
   arg-is j p =
       bit-or (bitXor opened (bitAnd opened part)) (bitAnd (getD low j 0) part) p
-      ∙ ap₂ (λ (x y : Bool). x || y) (bit-xor opened (bitAnd opened part) p ∙ ap (xor (bit opened p)) (bit-and opened part p)) (bit-and (getD low j 0) part p)
+      ∙ ap₂ (λ (x y : Bool). x || y) (bit-xor opened (bitAnd opened part) p ∙ ap (exclusive (bit opened p)) (bit-and opened part p)) (bit-and (getD low j 0) part p)
       ∙ arg-bit (bit opened p) (bit part p) (bit (getD low j 0) p)
 
   arg-in : (j p : ℕ) → j < 16 → p < W .n → bit (arg j) p ≡ cond (eqb (W .component p) K) (D j p) (isOpen W T p)
@@ -91,14 +91,14 @@ module _ (W : Automaton) (opens : List ℕ) (a opened part : ℕ) (low : List �
   acc-case : (j q : ℕ) → j < 16 → q < W .n → W .component q ≡ K → W .accepting q ≡ true → (p : ℕ) → p < W .n → setFrom W (arg j) p ≡ not (mix W q (λ r. not (T r)) (D j) p)
   unfolding mix isOpen setFrom
   acc-case j q l m e t p k =
-      ap (xor (W .accepting p)) (arg-in j p l k) ∙ rw e (bif (eqb (W .component p) K)
+      ap (exclusive (W .accepting p)) (arg-in j p l k) ∙ rw e (bif (eqb (W .component p) K)
       (λ u. rw (u, h .pure p q k m (eqb-true _ _ u ∙ sym e) ∙ t))
       (λ u. rw u (xor-twice (W .accepting p) (T p) ∙ sym (Bool·not-not (T p)))))
 
   rej-case : (j q : ℕ) → j < 16 → q < W .n → W .component q ≡ K → W .accepting q ≡ false → (p : ℕ) → p < W .n → setFrom W (arg j) p ≡ mix W q T (D j) p
   unfolding mix isOpen setFrom
   rej-case j q l m e t p k =
-      ap (xor (W .accepting p)) (arg-in j p l k) ∙ rw e (bif (eqb (W .component p) K)
+      ap (exclusive (W .accepting p)) (arg-in j p l k) ∙ rw e (bif (eqb (W .component p) K)
       (λ u. rw (u, h .pure p q k m (eqb-true _ _ u ∙ sym e) ∙ t))
       (λ u. rw u (xor-twice (W .accepting p) (T p))))
 
@@ -115,7 +115,7 @@ module _ (W : Automaton) (opens : List ℕ) (a opened part : ℕ) (low : List �
   accepting-is j q l m e t = ap not (satisfies-ext (W .n) (setFrom W (arg j)) (λ p. not (mix W q (λ r. not (T r)) (D j) p)) (acc-case j q l m e t) (W .entry q a))
 
   -- both
-  pub settled-is : (j q : ℕ) → j < 16 → q < W .n → W .component q ≡ K → xor (W .accepting q) (satisfies (W .n) (setFrom W (arg j)) (W .entry q a)) ≡ settled W T (D j) q (W .entry q a)
+  pub settled-is : (j q : ℕ) → j < 16 → q < W .n → W .component q ≡ K → exclusive (W .accepting q) (satisfies (W .n) (setFrom W (arg j)) (W .entry q a)) ≡ settled W T (D j) q (W .entry q a)
   unfolding settled
   settled-is j q l m e = bif (W .accepting q) (λ t. rw t (accepting-is j q l m e t)) (λ t. rw t (rejecting-is j q l m e t))
 
@@ -125,7 +125,7 @@ module _ (W : Automaton) (opens : List ℕ) (a opened part : ℕ) (low : List �
   test-is j q l m e =
       bit-and (getD opens (a * 256 + arg j) 0) part q
       ∙ ap₂ (λ (x y : Bool). x && y) (entry-is (arg j) q (arg-small opened part (getD low j 0) (h .opened-small) (h .part-small)) m) (h .part-bits q m ∙ eq-eqb (W .component q) K e)
-      ∙ and-true (xor (W .accepting q) (satisfies (W .n) (setFrom W (arg j)) (W .entry q a)))
+      ∙ and-true (exclusive (W .accepting q) (satisfies (W .n) (setFrom W (arg j)) (W .entry q a)))
       ∙ settled-is j q l m e
 
   -- ---- what the code needs to know of its masks
@@ -164,15 +164,15 @@ module _ (W : Automaton) (opens : List ℕ) (a opened part : ℕ) (low : List �
   module _ (S : Set) (exact : (q : ℕ) → q < W .n → S q ≡ satisfies (W .n) T (W .entry q a)) where
     from-opened : (p : ℕ) → p < W .n → setFrom W opened p ≡ T p
     unfolding setFrom isOpen
-    from-opened p k = ap (xor (W .accepting p)) (h .opened-bits p k) ∙ xor-twice (W .accepting p) (T p)
+    from-opened p k = ap (exclusive (W .accepting p)) (h .opened-bits p k) ∙ xor-twice (W .accepting p) (T p)
 
     pub goal-is : (q : ℕ) → q < W .n → W .component q ≡ K → bit (goal opens a opened part low) q ≡ isOpen W S q
     unfolding goal isOpen
     goal-is q m e =
         bit-and (getD opens (a * 256 + opened) 0) part q
         ∙ ap₂ (λ (x y : Bool). x && y) (entry-is opened q (h .opened-small) m) (h .part-bits q m ∙ eq-eqb (W .component q) K e)
-        ∙ and-true (xor (W .accepting q) (satisfies (W .n) (setFrom W opened) (W .entry q a)))
-        ∙ ap (xor (W .accepting q)) (satisfies-ext (W .n) (setFrom W opened) T from-opened (W .entry q a) ∙ sym (exact q m))
+        ∙ and-true (exclusive (W .accepting q) (satisfies (W .n) (setFrom W opened) (W .entry q a)))
+        ∙ ap (exclusive (W .accepting q)) (satisfies-ext (W .n) (setFrom W opened) T from-opened (W .entry q a) ∙ sym (exact q m))
 
     -- ---- levels, ranks, and the classes left
 

@@ -5,7 +5,7 @@ ghost use mathlib.Core.Path.{_≡_};
 ghost use mathlib.Core.Bool.{not, cond};
 ghost use Prim.Native.Nat.{_<_};
 ghost use lib.Dec.{ltb};
-ghost use Rattle.sets.specs.Masks.{bit, xor};
+ghost use Rattle.sets.specs.Masks.{bit, exclusive};
 ghost use Rattle.theory.specs.Rule.{Rule};
 ghost use Rattle.build_cores.specs.Vectors.{rankAt, Within};
 ghost use Rattle.build_cores.specs.Used.{capsOf};
@@ -17,7 +17,7 @@ ghost use Rattle.build_closure_spec.specs.Tables.{Shaped};
 // Whether the set of the core of these ranks holds state q.
 fn in_set(ranks: u64, accepting: u8, q: usize) -> bool
     requires { ⌜ q < 8 ⌝ }
-    ensures { λ b. ⌜ b ≡ xor (bit accepting q) (ltb 0 (rankAt ranks q)) ⌝ }
+    ensures { λ b. ⌜ b ≡ exclusive (bit accepting q) (ltb 0 (rankAt ranks q)) ⌝ }
 {
     let accepts = set_masks::contains(accepting, q as u32);
     if 0 < (ranks >> (4 * q)) & 15 {
@@ -30,8 +30,8 @@ fn in_set(ranks: u64, accepting: u8, q: usize) -> bool
 fn begins(ranks: u64, shape: Shape) -> bool
     requires { ⌜ shape .initial < 8 ⌝ }
     ensures { λ b. ⌜ b
-        ≡ cond (shape .holds) (xor (bit (shape .accepting) (shape .initial)) (ltb 0 (rankAt ranks (shape .initial))))
-        (not (xor (bit (shape .accepting) (shape .initial)) (ltb 0 (rankAt ranks (shape .initial))))) ⌝ }
+        ≡ cond (shape .holds) (exclusive (bit (shape .accepting) (shape .initial)) (ltb 0 (rankAt ranks (shape .initial))))
+        (not (exclusive (bit (shape .accepting) (shape .initial)) (ltb 0 (rankAt ranks (shape .initial))))) ⌝ }
 {
     let here = in_set(ranks, shape.accepting, shape.initial);
     if shape.holds {

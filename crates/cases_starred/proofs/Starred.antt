@@ -7,7 +7,7 @@ use Prim.Native.Nat.{ℕ, zero, suc, _-_, _<_}
 use native.Mathlib.Omega.{arith}
 use lib.ListN.{length, getD}
 use Rattle.sets.specs.Digits.{num}
-use Rattle.sets.specs.Lists.{keep, among, anyOf, sum, tabulate, flat, insert, sorted}
+use Rattle.sets.specs.Lists.{keep, among, anyOf, sum, tabulate, flat, insertAscending, sorted}
 use Rattle.sets.specs.Masks.{bit, mask, inside}
 use Rattle.refusals.specs.Rows.{firstRow}
 use Rattle.sets.specs.Tests.{every, some, count, first, largest}
@@ -42,7 +42,7 @@ unfolding fileRow fileRows bodyRows prefaceRows nameRows hasNames namesBefore re
 rows = 0
 
 unfoldable computed : ℕ
-unfolding truthMasks solvedBelow roundsAt layer heightOf nextPlace letterAt place isAccepting macrostates macrostatesFrom transitions transitionsFrom transitionsOf codesFrom cores candidates digitals tabulate flat keep among anyOf insert sorted reachedIn reached wellCoded pack fields mask num goes before onward begun automaton setIn rankIn componentIn classesIn every satisfies inside bit rankOf levelOf test settled rejectingSettled acceptingSettled mix isOpen taken some count first largest openOf nextComponent isCore component components isSmallest smallest together reaches within leads named entry sum
+unfolding truthMasks solvedBelow roundsAt layer heightOf nextPlace letterAt place isAccepting macrostates macrostatesFrom transitions transitionsFrom transitionsOf codesFrom cores candidates digitals tabulate flat keep among anyOf insertAscending sorted reachedIn reached wellCoded pack fields mask num goes before onward begun automaton setIn rankIn componentIn classesIn every satisfies inside bit rankOf levelOf test settled rejectingSettled acceptingSettled mix isOpen taken some count first largest openOf nextComponent isCore component components isSmallest smallest together reaches within leads named entry sum
 computed = 0
 
 unfoldable checks : ℕ

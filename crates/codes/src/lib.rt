@@ -6,15 +6,8 @@ ghost use Rattle.sets.specs.Masks.{bit};
 ghost use Rattle.theory.specs.Code.{componentIn, classesIn};
 ghost use Rattle.theory.specs.Macrostate.{begun, isAccepting};
 ghost use Rattle.theory.specs.Run.{sourceOf, letterOf, targetOf};
-ghost use Rattle.codes.specs.Codes.{ranksIn, transitionOf};
+ghost use Rattle.codes.specs.Codes.{transitionOf};
 ghost use Rattle.codes.specs.Bytes.{wordAt};
-
-// The eight ranks of a code.
-pub fn ranks_of(code: u64) -> u32
-    ensures { λ r. ⌜ r ≡ ranksIn code ⌝ }
-{
-    ((code >> 8) & 0xffff_ffff) as u32
-}
 
 // The component number K of a code.
 pub fn component_of(code: u64) -> u8

@@ -7,7 +7,7 @@ use native.Mathlib.Omega.{arith}
 use lib.Bits.{bitAnd, bitXor, xor-lt, and-le-l}
 use lib.ListN.{getD}
 use Rattle.sets.specs.Tests.{Set}
-use Rattle.sets.specs.Masks.{bit, xor}
+use Rattle.sets.specs.Masks.{bit, exclusive}
 use Rattle.sets.proofs.Bools.{and-l}
 use Rattle.sets.proofs.Masks.{mask-lt, bit-mask}
 use Rattle.sets.proofs.Bits.{bit-and, bit-xor, mask-unique, subset-le}
@@ -18,7 +18,7 @@ use Rattle.judge_place.specs.Starts.{metBy}
 use Rattle.judge_place.specs.Rounds.{opens, opened}
 
 -- l: in the layer, o: in the old mask, a: accepting, s: the entry is satisfied
-turn : (l o a s : Bool) → xor o ((l && not (xor o a)) && xor ((l && not (xor o a)) && s) a) ≡ cond (l && xor a s) (not a) o
+turn : (l o a s : Bool) → exclusive o ((l && not (exclusive o a)) && exclusive ((l && not (exclusive o a)) && s) a) ≡ cond (l && exclusive a s) (not a) o
 turn false true a s = refl
 turn false false a s = refl
 turn true true true true = refl
@@ -53,7 +53,7 @@ module _ (r : Rule) (cycle : List ℕ) (layer : ℕ) (ms : List ℕ) (p : ℕ) w
       mask-unique 8 (bitXor old (bitAnd c (bitXor met (r .accepting)))) (λ q. cond (bit layer q && opens r cycle ms p q) (not (bit (r .accepting) q)) (bit old q))
       (xor-lt 8 old (bitAnd c (bitXor met (r .accepting))) h (let x = and-le-l c (bitXor met (r .accepting)) in let y = mask-lt 8 (λ x. bit layer x && not (bit (bitXor old (r .accepting)) x)) in omega arith))
       (λ q l.
-      let bc : bit c q ≡ (bit layer q && not (xor (bit old q) (bit (r .accepting) q))) = bit-mask 8 (λ x. bit layer x && not (bit (bitXor old (r .accepting)) x)) q l ∙ ap (λ (b : Bool). bit layer q && not b) (bit-xor old (r .accepting) q) in
+      let bc : bit c q ≡ (bit layer q && not (exclusive (bit old q) (bit (r .accepting) q))) = bit-mask 8 (λ x. bit layer x && not (bit (bitXor old (r .accepting)) x)) q l ∙ ap (λ (b : Bool). bit layer q && not b) (bit-xor old (r .accepting) q) in
       let bm : bit met q ≡ (bit c q && s q) = ap (λ (x : ℕ). bit x q) e ∙ bit-mask 8 (λ x. bit c x && s x) q l in
       rw (bit-xor old (bitAnd c (bitXor met (r .accepting))) q, bit-and c (bitXor met (r .accepting)) q, bit-xor met (r .accepting) q, bm, bc)
       (turn (bit layer q) (bit old q) (bit (r .accepting) q) (s q)))

@@ -12,7 +12,7 @@ use lib.ListN.{length, getD, set, replicate, length-set, length-replicate, getD-
 use lib.Seq.{getD-set-same, getD-set-other, set-getD, ext-getD}
 use borrow.Author.Tests.{eq-eqb, ne-eqb}
 use Rattle.sets.specs.Tests.{Set}
-use Rattle.sets.specs.Masks.{bit, mask, xor}
+use Rattle.sets.specs.Masks.{bit, mask, exclusive}
 use Rattle.sets.proofs.Bools.{bif, and-l, and-r, and-i}
 use Rattle.sets.proofs.Masks.{mask-lt, bit-mask, mask-trim}
 use Rattle.sets.proofs.Bits.{bit-high, bit-ext, subset-le}
@@ -36,15 +36,15 @@ split-set Q ms p v l a b j =
     (λ e. rw (getD-set-other ms p j v 0 e) (b j))
 
 -- a state of one side, and of the other
-xor-self : (a : Bool) → xor a a ≡ false
+xor-self : (a : Bool) → exclusive a a ≡ false
 xor-self true = refl
 xor-self false = refl
 
-xor-other : (a : Bool) → xor a (not a) ≡ true
+xor-other : (a : Bool) → exclusive a (not a) ≡ true
 xor-other true = refl
 xor-other false = refl
 
-xor-back : (a b c : Bool) → xor a b ≡ xor a c → b ≡ c
+xor-back : (a b c : Bool) → exclusive a b ≡ exclusive a c → b ≡ c
 xor-back true b c e = sym (Bool·not-not b) ∙ ap not e ∙ Bool·not-not c
 xor-back false b c e = e
 
@@ -104,7 +104,7 @@ module _ (r : Rule) (P : Passing r) (cycle : List ℕ) (repeats : 0 < length cyc
             (λ x y z e o. bif (opens r cycle ms p x)
             (λ t. sound-step r P [] cycle repeats (λ i. bit (getD ms i 0)) h
             (λ i u c d f. k .known i u (omega arith) d f) (λ i u c d f g. k .sound i u (omega arith) d f g) p x (omega arith) z e t)
-            (λ t. k .sound p x y z e (ap (xor (bit (r .accepting) x)) (sym (opened-no ms p x z e t)) ∙ o)))
+            (λ t. k .sound p x y z e (ap (exclusive (bit (r .accepting) x)) (sym (opened-no ms p x z e t)) ∙ o)))
             (λ i x y z e. k .sound i x y z e) j q a b c;
         later = λ j q a b c. split-set (λ i m. (q : ℕ) → i < length cycle → q < r .n → h < heightOf r q → bit m q ≡ bit (r .accepting) q) ms p w s
             (λ x y z e. opened-out ms p x z (λ t. omega arith) ∙ k .later p x y z e)
@@ -119,12 +119,12 @@ module _ (r : Rule) (P : Passing r) (cycle : List ℕ) (repeats : 0 < length cyc
       let right : (p q : ℕ) → p < length cycle → q < r .n → heightOf r q ≡ h → bit (getD ms p 0) q ≡ bit (T p) q
       = λ p q l m e. layer-truth r P [] cycle repeats (λ i. bit (getD ms i 0)) h
       (λ i u c d f. k .known i u (omega arith) d f) (λ i u c d f g. k .sound i u (omega arith) d f g)
-      (λ i u c m f o. let e = ap (λ (x : ℕ). bit x u) (sym (d i (omega arith))) ∙ opened-yes ms i u m f o in ap (xor (bit (r .accepting) u)) e ∙ xor-other (bit (r .accepting) u))
+      (λ i u c m f o. let e = ap (λ (x : ℕ). bit x u) (sym (d i (omega arith))) ∙ opened-yes ms i u m f o in ap (exclusive (bit (r .accepting) u)) e ∙ xor-other (bit (r .accepting) u))
       p q (omega arith) m e in
       record {
         long = k .long;
         known = λ p q l m e. by-cases (ℕ-discrete (heightOf r q) h) (λ x. right p q l m x) (λ x. k .known p q l m (omega arith));
-        sound = λ p q l m e o. let x = k .later p q l m (omega arith) in absurd (false≢true (sym (ap (xor (bit (r .accepting) q)) x ∙ xor-self (bit (r .accepting) q)) ∙ o));
+        sound = λ p q l m e o. let x = k .later p q l m (omega arith) in absurd (false≢true (sym (ap (exclusive (bit (r .accepting) q)) x ∙ xor-self (bit (r .accepting) q)) ∙ o));
         later = λ p q l m e. k .later p q l m (omega arith);
         low = k .low;
       }
@@ -193,8 +193,8 @@ module _ (r : Rule) (cycle : List ℕ) (layer : ℕ) where
     new-open : (q : ℕ) → q < 8 → openIn r (getD ms p 0) q ≡ true → openIn r new q ≡ true
     new-open q l o =
         bif (bit layer q && opens r cycle ms p q)
-        (λ t. let e : bit new q ≡ not (bit (r .accepting) q) = new-at q l ∙ rw t in ap (xor (bit (r .accepting) q)) e ∙ xor-other (bit (r .accepting) q))
-        (λ t. let e : bit new q ≡ bit (getD ms p 0) q = new-at q l ∙ rw t in ap (xor (bit (r .accepting) q)) e ∙ o)
+        (λ t. let e : bit new q ≡ not (bit (r .accepting) q) = new-at q l ∙ rw t in ap (exclusive (bit (r .accepting) q)) e ∙ xor-other (bit (r .accepting) q))
+        (λ t. let e : bit new q ≡ bit (getD ms p 0) q = new-at q l ∙ rw t in ap (exclusive (bit (r .accepting) q)) e ∙ o)
 
     new-out : (q : ℕ) → q < 8 → bit layer q ≡ false → bit new q ≡ bit (getD ms p 0) q
     new-out q l t = new-at q l ∙ rw t

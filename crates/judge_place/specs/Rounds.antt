@@ -6,7 +6,7 @@ use mathlib.Core.List.{List, [], _∷_}
 use Prim.Native.Nat.{ℕ, _+_, _^_, _<_}
 use lib.Dec.{eqb}
 use lib.ListN.{length, getD}
-use Rattle.sets.specs.Masks.{bit, mask, xor}
+use Rattle.sets.specs.Masks.{bit, mask, exclusive}
 use Rattle.theory.specs.Rule.{Rule, entry, satisfies}
 use Rattle.theory.specs.Word.{nextPlace, letterAt}
 use Rattle.theory.specs.Truth.{heightOf, truthMasks}
@@ -17,12 +17,12 @@ layerOf r h = mask (r .n) (λ q. eqb (heightOf r q) h)
 
 -- q is open in the mask m
 abbrev pub openIn : Rule → ℕ → ℕ → Bool
-openIn r m q = xor (bit (r .accepting) q) (bit m q)
+openIn r m q = exclusive (bit (r .accepting) q) (bit m q)
 
 module _ (r : Rule) (cycle : List ℕ) where
   -- the mask at the following place opens q at place p
   abbrev pub opens : List ℕ → ℕ → ℕ → Bool
-  opens ms p q = xor (bit (r .accepting) q) (satisfies (r .n) (bit (getD ms (nextPlace [] cycle p) 0)) (entry r q (letterAt [] cycle p)))
+  opens ms p q = exclusive (bit (r .accepting) q) (satisfies (r .n) (bit (getD ms (nextPlace [] cycle p) 0)) (entry r q (letterAt [] cycle p)))
 
   -- the mask at place p with the states of the layer opened that the following mask opens
   unfoldable pub opened : ℕ → List ℕ → ℕ → ℕ

@@ -4,7 +4,7 @@ use mathlib.Core.List.{[], _∷_}
 use Prim.Native.Nat.{ℕ}
 use lib.ListN.{replicate}
 use Rattle.sets.specs.Digits.{num}
-use Rattle.sets.specs.Lists.{keep, among, anyOf, sum, tabulate, flat, insert, sorted}
+use Rattle.sets.specs.Lists.{keep, among, anyOf, sum, tabulate, flat, insertAscending, sorted}
 use Rattle.sets.specs.Masks.{bit, mask, inside}
 use Rattle.refusals.specs.Rows.{firstRow}
 use Rattle.sets.specs.Tests.{every, some, count, first, largest}
@@ -29,7 +29,7 @@ use Rattle.listing_spec.specs.Listing.{answerText, listingOf}
 
 -- what an evaluation unfolds
 unfoldable computed : ℕ
-unfolding listingOf answerText tableText builtLine mLine tLine nLine refusedLine lines word decimal digitsIn builtOf builtBy buildRow roomRows roomOf fileRows bodyRows prefaceRows nameRows hasNames namesBefore repeatsName layoutRows trailerRows numberRows listRows formedRows clauseRows someNested nested componentRows firstRow tagged clausesOf countsOf mixed isAccepting macrostates macrostatesFrom transitions transitionsFrom transitionsOf codesFrom cores candidates digitals tabulate flat keep among anyOf insert sorted reachedIn reached wellCoded pack fields mask num goes before onward begun automaton setIn rankIn componentIn classesIn every satisfies inside bit rankOf levelOf test settled rejectingSettled acceptingSettled mix isOpen taken some count first largest openOf nextComponent isCore component components isSmallest smallest together reaches within leads named entry sum
+unfolding listingOf answerText tableText builtLine mLine tLine nLine refusedLine lines word decimal digitsIn builtOf builtBy buildRow roomRows roomOf fileRows bodyRows prefaceRows nameRows hasNames namesBefore repeatsName layoutRows trailerRows numberRows listRows formedRows clauseRows someNested nested componentRows firstRow tagged clausesOf countsOf mixed isAccepting macrostates macrostatesFrom transitions transitionsFrom transitionsOf codesFrom cores candidates digitals tabulate flat keep among anyOf insertAscending sorted reachedIn reached wellCoded pack fields mask num goes before onward begun automaton setIn rankIn componentIn classesIn every satisfies inside bit rankOf levelOf test settled rejectingSettled acceptingSettled mix isOpen taken some count first largest openOf nextComponent isCore component components isSmallest smallest together reaches within leads named entry sum
 computed = 0
 
 -- F: 01 shows these eleven lines

@@ -4,7 +4,7 @@ use mathlib.Core.List.{List, [], _∷_, _++_, map}
 use Prim.Native.Nat.{ℕ}
 use lib.ListN.{length, getD, take, drop, replicate}
 use Rattle.sets.specs.Digits.{num}
-use Rattle.sets.specs.Lists.{keep, among, anyOf, sum, tabulate, flat, insert, sorted}
+use Rattle.sets.specs.Lists.{keep, among, anyOf, sum, tabulate, flat, insertAscending, sorted}
 use Rattle.sets.specs.Masks.{bit, mask, inside}
 use Rattle.sets.specs.Tests.{every, some, count, first, largest}
 use Rattle.refusals.specs.Rows.{firstRow}
@@ -44,7 +44,7 @@ pub codes-F : trimmedCodes F ≡ codesF
 codes-F = trimmed.codes-F
 
 moves-F : transitionsOf (automaton F) 2 codesF ≡ movesF
-unfolding isAccepting transitionsOf tabulate flat keep among anyOf insert sorted wellCoded pack fields mask num goes before onward automaton code.setIn code.rankIn componentIn classesIn every satisfies inside bit rankOf levelOf test settled rejectingSettled acceptingSettled mix isOpen taken some count first largest openOf nextComponent isCore component components isSmallest smallest together reaches within leads named entry sum
+unfolding isAccepting transitionsOf tabulate flat keep among anyOf insertAscending sorted wellCoded pack fields mask num goes before onward automaton code.setIn code.rankIn componentIn classesIn every satisfies inside bit rankOf levelOf test settled rejectingSettled acceptingSettled mix isOpen taken some count first largest openOf nextComponent isCore component components isSmallest smallest together reaches within leads named entry sum
 moves-F = refl
 
 pub transitions-F : trimmedTransitions F ≡ movesF

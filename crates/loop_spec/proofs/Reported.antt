@@ -11,7 +11,7 @@ use lib.Dec.{eqb, ltb}
 use lib.ListN.{length}
 use borrow.Author.Tests.{eqb-true, eq-eqb, lt-ltb, le-ltb, ltb-true}
 use Rattle.sets.specs.Tests.{Set, first, some}
-use Rattle.sets.specs.Masks.{bit, mask, xor}
+use Rattle.sets.specs.Masks.{bit, mask, exclusive}
 use Rattle.sets.specs.Lists.{anyOf}
 use Rattle.sets.proofs.Bools.{bif, clash, and-l, and-r, and-i, or-l, or-r, or-cases}
 use Rattle.sets.proofs.Tests.{first-at, first-le, first-yes, first-no, some-at, some-get}
@@ -47,9 +47,9 @@ module _ (r : Rule) (t : ℕ) (ps : List ℕ) (states : allBelow (r .n) (t ∷ p
   others = bit (othersOf (r .n) (r .accepting) t)
 
   -- of a state of the list
-  others-at : (x : ℕ) → List·Memᴰ x (t ∷ ps) → others x ≡ xor (acc t) (acc x)
+  others-at : (x : ℕ) → List·Memᴰ x (t ∷ ps) → others x ≡ exclusive (acc t) (acc x)
   unfolding othersOf allBelow
-  others-at x m = bit-mask (r .n) (λ p. xor (acc t) (acc p)) x (ltb-true x (r .n) (all-of-at (t ∷ ps) (λ p. ltb p (r .n)) states x m))
+  others-at x m = bit-mask (r .n) (λ p. exclusive (acc t) (acc p)) x (ltb-true x (r .n) (all-of-at (t ∷ ps) (λ p. ltb p (r .n)) states x m))
 
   pub both-other : passesBoth r (t ∷ ps) ≡ true → anyOf (t ∷ ps) others ≡ true
   unfolding passesBoth
@@ -64,7 +64,7 @@ module _ (r : Rule) (t : ℕ) (ps : List ℕ) (states : allBelow (r .n) (t ∷ p
   unfolding passesBoth
   other-both e =
       let y = any-out (t ∷ ps) others e in
-      let d : xor (acc t) (acc (y .0)) ≡ true = sym (others-at (y .0) (y .1)) ∙ y .2 in
+      let d : exclusive (acc t) (acc (y .0)) ≡ true = sym (others-at (y .0) (y .1)) ∙ y .2 in
       bif (acc t)
       (λ b. and-i (any-in (t ∷ ps) acc t (List·Memᴰ·head refl) b) (any-in (t ∷ ps) (λ q. not (acc q)) (y .0) (y .1) (rw b at d)))
       (λ b. and-i (any-in (t ∷ ps) acc (y .0) (y .1) (rw b at d)) (any-in (t ∷ ps) (λ q. not (acc q)) t (List·Memᴰ·head refl) (rw b)))

@@ -6,7 +6,7 @@ use Prim.Native.Nat.{ℕ, zero, suc, _^_}
 use lib.Dec.{ltb}
 use lib.ListN.{getD}
 use Rattle.sets.specs.Tests.{Set, some, first}
-use Rattle.sets.specs.Masks.{bit, mask, xor}
+use Rattle.sets.specs.Masks.{bit, mask, exclusive}
 use Rattle.theory.specs.Rule.{Rule}
 use Rattle.rule_reach.specs.Tables.{successorsOf}
 use Rattle.loop_spec.specs.declared.Ways.{Ways}
@@ -17,7 +17,7 @@ leadsBy es q p = bit (getD es q 0) p
 
 -- the states below n of the other kind than t
 unfoldable pub othersOf : ℕ → ℕ → ℕ → ℕ
-othersOf n accepting t = mask n (λ p. xor (bit accepting t) (bit accepting p))
+othersOf n accepting t = mask n (λ p. exclusive (bit accepting t) (bit accepting p))
 
 -- n states, and for each the mask of the states that it leads to
 module _ (n : ℕ) (es : List ℕ) where

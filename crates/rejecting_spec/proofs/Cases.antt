@@ -4,7 +4,7 @@ use mathlib.Core.Bool.{true, false}
 use mathlib.Core.List.{[], _∷_}
 use Prim.Native.Nat.{ℕ}
 use Rattle.sets.specs.Digits.{num}
-use Rattle.sets.specs.Lists.{keep, among, anyOf, sum, tabulate, flat, insert, sorted}
+use Rattle.sets.specs.Lists.{keep, among, anyOf, sum, tabulate, flat, insertAscending, sorted}
 use Rattle.sets.specs.Masks.{bit, mask, inside}
 use Rattle.sets.specs.Tests.{every, some, count, first, largest}
 use Rattle.theory.specs.Automaton.{automaton}
@@ -22,7 +22,7 @@ use Rattle.rejecting_spec.specs.RejectingComputed.{rejectingMacrostates,
 
 -- what an evaluation unfolds
 unfoldable computed : ℕ
-unfolding rejectingMacrostates rejectingTransitions isAccepting macrostatesFrom transitionsFrom transitionsOf codesFrom cores candidates digitals tabulate flat keep among anyOf insert sorted reachedIn reached wellCoded pack fields mask num goes before onward begun automaton setIn rankIn componentIn classesIn every satisfies inside bit rankOf levelOf test settled rejectingSettled acceptingSettled mix isOpen taken some count first largest openOf nextComponent isCore component components isSmallest smallest together reaches within leads named entry sum
+unfolding rejectingMacrostates rejectingTransitions isAccepting macrostatesFrom transitionsFrom transitionsOf codesFrom cores candidates digitals tabulate flat keep among anyOf insertAscending sorted reachedIn reached wellCoded pack fields mask num goes before onward begun automaton setIn rankIn componentIn classesIn every satisfies inside bit rankOf levelOf test settled rejectingSettled acceptingSettled mix isOpen taken some count first largest openOf nextComponent isCore component components isSmallest smallest together reaches within leads named entry sum
 computed = 0
 
 -- a run begins where the set lacks the initial state, and nowhere else

@@ -14,7 +14,7 @@ use lib.Pow.{pow-pos, pow-mono, pow-lt, shr-lt, shr-shr, split, ones-lt}
 use lib.Arith.{lt-one, digits-div}
 use borrow.Author.Tests.{eqb-true, eqb-false, eq-eqb, ne-eqb, lt-ltb, le-ltb}
 use Rattle.sets.specs.Tests.{Set, one, count}
-use Rattle.sets.specs.Masks.{bit, mask, xor}
+use Rattle.sets.specs.Masks.{bit, mask, exclusive}
 use Rattle.sets.proofs.Bools.{bif, clash, and-r}
 use Rattle.sets.proofs.Tests.{count-ext}
 use Rattle.sets.proofs.Digits.{digits-eq}
@@ -40,7 +40,7 @@ two-or (suc (suc x)) y a b = absurd (omega arith)
 two-or zero (suc (suc y)) a b = absurd (omega arith)
 two-or (suc zero) (suc (suc y)) a b = absurd (omega arith)
 
-two-xor : (x y : ℕ) → x < 2 → y < 2 → eqb (differ x y) 1 ≡ xor (eqb x 1) (eqb y 1)
+two-xor : (x y : ℕ) → x < 2 → y < 2 → eqb (differ x y) 1 ≡ exclusive (eqb x 1) (eqb y 1)
 two-xor zero zero a b = refl
 two-xor zero (suc zero) a b = refl
 two-xor (suc zero) zero a b = refl
@@ -79,7 +79,7 @@ pub bit-or : (a b q : ℕ) → bit (bitOr a b) q ≡ bit a q || bit b q
 unfolding bit
 bit-or a b q = ap (λ (x : ℕ). eqb x 1) (digit-or a b q) ∙ two-or (a / 2 ^ q % 2) (b / 2 ^ q % 2) (omega arith) (omega arith)
 
-pub bit-xor : (a b q : ℕ) → bit (bitXor a b) q ≡ xor (bit a q) (bit b q)
+pub bit-xor : (a b q : ℕ) → bit (bitXor a b) q ≡ exclusive (bit a q) (bit b q)
 unfolding bit
 bit-xor a b q = ap (λ (x : ℕ). eqb x 1) (digit-xor a b q) ∙ two-xor (a / 2 ^ q % 2) (b / 2 ^ q % 2) (omega arith) (omega arith)
 

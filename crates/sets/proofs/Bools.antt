@@ -2,7 +2,7 @@
 use mathlib.Core.Path.{_≡_, refl, sym, _∙_, ap}
 use mathlib.Core.Logic.{_⊎_, inl, inr}
 use mathlib.Core.Bool.{Bool, true, false, _&&_, _||_, not, Bool·beq, true≢false, false≢true, or-true}
-use Rattle.sets.specs.Masks.{xor}
+use Rattle.sets.specs.Masks.{exclusive}
 
 -- a test either way, with its equation
 pub bif {ℓ} : {C : Type ℓ} (b : Bool) → (b ≡ true → C) → (b ≡ false → C) → C
@@ -79,13 +79,13 @@ beq-same false b e = ap (Bool·beq false) (sym e)
 
 -- ---- exactly one of the two
 
-pub xor-comm : (a b : Bool) → xor a b ≡ xor b a
+pub xor-comm : (a b : Bool) → exclusive a b ≡ exclusive b a
 xor-comm true true = refl
 xor-comm true false = refl
 xor-comm false true = refl
 xor-comm false false = refl
 
-pub xor-twice : (a b : Bool) → xor a (xor a b) ≡ b
+pub xor-twice : (a b : Bool) → exclusive a (exclusive a b) ≡ b
 xor-twice true true = refl
 xor-twice true false = refl
 xor-twice false b = refl

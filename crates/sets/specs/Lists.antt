@@ -41,15 +41,15 @@ flat [] f = []
 flat (x ∷ xs) f = f x ++ flat xs f
 
 -- insertion into a strictly ascending list; a number that is there stays once
-unfoldable pub insert : ℕ → List ℕ → List ℕ
-insert x [] = x ∷ []
-insert x (y ∷ ys) = elim (ltb x y) [ true ↦ x ∷ (y ∷ ys) | false ↦ elim (eqb x y) [ true ↦ y ∷ ys | false ↦ y ∷ insert x ys ] ]
+unfoldable pub insertAscending : ℕ → List ℕ → List ℕ
+insertAscending x [] = x ∷ []
+insertAscending x (y ∷ ys) = elim (ltb x y) [ true ↦ x ∷ (y ∷ ys) | false ↦ elim (eqb x y) [ true ↦ y ∷ ys | false ↦ y ∷ insertAscending x ys ] ]
 
 -- the members in strictly ascending order, each once
 unfoldable pub sorted : List ℕ → List ℕ
-unfolding insert
+unfolding insertAscending
 sorted [] = []
-sorted (x ∷ xs) = insert x (sorted xs)
+sorted (x ∷ xs) = insertAscending x (sorted xs)
 
 -- x stands below all of the list, and the list ascends strictly
 pub data Above : ℕ → List ℕ → Type 0 where

@@ -33,5 +33,5 @@ abbrev pub members : ℕ → List ℕ
 members m = membersFrom 8 0 m
 
 -- exactly one of the two
-abbrev pub xor : Bool → Bool → Bool
-xor a b = cond a (not b) b
+abbrev pub exclusive : Bool → Bool → Bool
+exclusive a b = cond a (not b) b

@@ -5,7 +5,7 @@ use Prim.Native.Nat.{ℕ}
 use native.Mathlib.Omega.{arith}
 use lib.ListN.{replicate}
 use Rattle.sets.specs.Digits.{num}
-use Rattle.sets.specs.Lists.{keep, among, anyOf, sum, tabulate, flat, insert, sorted}
+use Rattle.sets.specs.Lists.{keep, among, anyOf, sum, tabulate, flat, insertAscending, sorted}
 use Rattle.sets.specs.Masks.{bit, mask, inside}
 use Rattle.refusals.specs.Rows.{firstRow}
 use Rattle.sets.specs.Tests.{every, some, count, first, largest}
@@ -46,7 +46,7 @@ lengths ca ta cb tb word scratch = record { codes-a = replicate ca 9; transition
 
 -- what an evaluation unfolds
 unfoldable computed : ℕ
-unfolding stricterRow rulesRows letterRows tableRows pairRows pairs roomAfter scratchAfter sizesOf rejectingMacrostates rejectingTransitions roomRows roomOf fileRows bodyRows formedRows clauseRows someNested nested prefaceRows nameRows hasNames namesBefore repeatsName layoutRows trailerRows numberRows listRows componentRows firstRow tagged clausesOf countsOf mixed isAccepting macrostates macrostatesFrom transitions transitionsFrom transitionsOf codesFrom cores candidates digitals tabulate flat keep among anyOf insert sorted reachedIn reached wellCoded pack fields mask num goes before onward begun automaton setIn rankIn componentIn classesIn every satisfies inside bit rankOf levelOf test settled rejectingSettled acceptingSettled mix isOpen taken some count first largest openOf nextComponent isCore component components isSmallest smallest together reaches within leads named entry sum
+unfolding stricterRow rulesRows letterRows tableRows pairRows pairs roomAfter scratchAfter sizesOf rejectingMacrostates rejectingTransitions roomRows roomOf fileRows bodyRows formedRows clauseRows someNested nested prefaceRows nameRows hasNames namesBefore repeatsName layoutRows trailerRows numberRows listRows componentRows firstRow tagged clausesOf countsOf mixed isAccepting macrostates macrostatesFrom transitions transitionsFrom transitionsOf codesFrom cores candidates digitals tabulate flat keep among anyOf insertAscending sorted reachedIn reached wellCoded pack fields mask num goes before onward begun automaton setIn rankIn componentIn classesIn every satisfies inside bit rankOf levelOf test settled rejectingSettled acceptingSettled mix isOpen taken some count first largest openOf nextComponent isCore component components isSmallest smallest together reaches within leads named entry sum
 computed = 0
 
 -- ---- the rows: F's own table has 3 macrostates and 7 transitions, that of the words that E rejects has 3 and 7, so P is 9

@@ -47,9 +47,9 @@ insert-t (suc M) a f =
     let y : one (ltb a (suc M) && not (f a)) ≡ one (ltb a M && not (f a)) = rw (ltb-suc a M n) in
     omega arith)
 
-insert : (M a : ℕ) (f : Set) (b : Bool) → count M (λ j. f j || (b && eqb a j)) ≡ count M f + one (b && (ltb a M && not (f a)))
-insert M a f true = insert-t M a f
-insert M a f false = let x = count-ext M (λ j. f j || false) f (λ q l. or-false (f q)) in omega arith
+insertAscending : (M a : ℕ) (f : Set) (b : Bool) → count M (λ j. f j || (b && eqb a j)) ≡ count M f + one (b && (ltb a M && not (f a)))
+insertAscending M a f true = insert-t M a f
+insertAscending M a f false = let x = count-ext M (λ j. f j || false) f (λ q l. or-false (f q)) in omega arith
 
 -- the values of l at the states of g, counted at the first state of each
 unfoldable firsts : (ℕ → Bool) → (ℕ → ℕ) → ℕ → ℕ → Bool
@@ -64,7 +64,7 @@ values zero m g l = none (suc m)
     none (suc M) = let ih = none M in omega arith
 values (suc n) m g l =
     let ih = values n m g l in
-    let x = insert (suc m) (l n) (λ j. some n (λ p. g p && eqb (l p) j)) (g n) in
+    let x = insertAscending (suc m) (l n) (λ j. some n (λ p. g p && eqb (l p) j)) (g n) in
     x ∙ ap₂ _+_ ih (ap (λ (b : Bool). one (g n && (b && not (some n (λ p. g p && eqb (l p) (l n)))))) (leb·suc-suc (l n) m))
 
 module _ (A : Automaton) (S : Set) where
