@@ -112,11 +112,11 @@ pub fn take_numbered(text: &[u8], p: usize, s: &[u8]) -> Number
         return nothing();
     }
     let w = take_word(text, a);
-    let b = w.end;
-    if b == 0 {
+    let q = w.end;
+    if q == 0 {
         return nothing();
     }
-    let e = take_byte(text, b, b'\n');
+    let e = take_byte(text, q, b'\n');
     Number {
         value: w.value,
         end: e,
@@ -173,18 +173,18 @@ pub fn take_state(text: &[u8], p: usize, i: usize) -> Number
         return nothing();
     }
     let w = take_word(text, a);
-    let b = w.end;
-    if b == 0 {
+    let q = w.end;
+    if q == 0 {
         return nothing();
     }
     if w.value != i {
         return nothing();
     }
-    let c = take(text, b, b" {0}\n");
+    let c = take(text, q, b" {0}\n");
     if c != 0 {
         return Number { value: 1, end: c };
     }
-    let d = take_byte(text, b, b'\n');
+    let d = take_byte(text, q, b'\n');
     Number { value: 0, end: d }
 }
 
@@ -202,12 +202,12 @@ fn take_literal(text: &[u8], p: usize, i: usize) -> Number
             end: a,
         };
     }
-    let b = take_byte(text, p, b'!');
-    if b == 0 {
+    let c = take_byte(text, p, b'!');
+    if c == 0 {
         return nothing();
     }
-    let c = take_byte(text, b, name);
-    Number { value: 0, end: c }
+    let d = take_byte(text, c, name);
+    Number { value: 0, end: d }
 }
 
 // The label of a letter over b propositions: the letter.
@@ -256,11 +256,11 @@ fn take_target(text: &[u8], p: usize) -> Number
         return nothing();
     }
     let w = take_word(text, a);
-    let b = w.end;
-    if b == 0 {
+    let q = w.end;
+    if q == 0 {
         return nothing();
     }
-    let e = take_byte(text, b, b'\n');
+    let e = take_byte(text, q, b'\n');
     Number {
         value: w.value,
         end: e,

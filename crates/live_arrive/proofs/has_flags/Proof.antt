@@ -43,7 +43,7 @@ loop-again c =
 returns : tie.Need-returns Inv-loop μ-loop
 returns c =
     let l = c .before .loop in
-    λ e y k. omega (arith, l .inv .1 y (omega arith), leb-true (l .most) 1 e)
+    λ e y k. omega (arith, l .inv .1 y (omega arith), leb-true)
 
 pub has-flags-spec : {M : Type 1} → statement M
 has-flags-spec =

@@ -10,7 +10,7 @@ returns : tie.Need-returns
 returns c = let a = c .before .args in sym (limit-same (a .s) (a .n) (a .letter) (a .l) (c .if1 .taken))
 
 returns-2 : tie.Need-returns-2
-returns-2 c = let a = c .before .before .args in sym (limit-high (a .s) (a .n) (a .letter) (a .l) (c .if2 .taken))
+returns-2 c = let a = c .before .before .args in sym (limit-high (a .s) (a .n) (a .letter) (a .l) (omega arith))
 
 cast-result : tie.Need-cast-result
 cast-result c = search needs
