@@ -1,10 +1,12 @@
-/* Writes the automaton of rule D as a text that model checkers read.
+/* Writes the automaton of rule D as a text that model checkers read, and reads the text back.
  * Run: hanoi FOLDER */
 #include <mulgreddi.h>
 #include <stdio.h>
 #include <stdlib.h>
+#include <string.h>
 
-static uint64_t codes[65536], transitions[1048576];
+static uint64_t codes[65536], transitions[1048576], back[1048576];
+static uint8_t flags[65536];
 
 int main(int argc, char **argv)
 {
@@ -30,6 +32,14 @@ int main(int argc, char **argv)
     fwrite(text, 1, w.first, stdout);
     mulgreddi_answer s = mulgreddi_write_hoa(file, n, (const uint8_t *)codes, 8 * a.first, (const uint8_t *)transitions, 8 * a.second, text, w.first - 1);
     printf("one byte less: refused %llu\n", (unsigned long long)s.refusal);
+    mulgreddi_answer r = mulgreddi_read_hoa(text, w.first, flags, sizeof flags, back, 1048576);
+    printf("read back: %llu macrostates, %llu transitions, %s; flags", (unsigned long long)r.first, (unsigned long long)r.second,
+           memcmp(back, transitions, 8 * r.second) == 0 ? "the same" : "others");
+    for (uint64_t m = 0; m < r.first; m++)
+        printf(" %u", flags[m]);
+    text[0] = 'h';
+    r = mulgreddi_read_hoa(text, w.first, flags, sizeof flags, back, 1048576);
+    printf("\nanother first byte: refused %llu\n", (unsigned long long)r.refusal);
     free(text);
     return 0;
 }

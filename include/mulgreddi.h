@@ -17,7 +17,7 @@
 /* The version, by which the Makefile and the pkg-config file go. With a new major number some input is answered otherwise than before;
  * docs/CHANGELOG.md tells which. */
 #define MULGREDDI_VERSION_MAJOR 2
-#define MULGREDDI_VERSION_MINOR 0
+#define MULGREDDI_VERSION_MINOR 1
 #define MULGREDDI_VERSION_PATCH 0
 #define MULGREDDI_TEXT_OF_(a, b, c) #a "." #b "." #c
 #define MULGREDDI_TEXT_OF(a, b, c) MULGREDDI_TEXT_OF_(a, b, c)
