@@ -48,7 +48,7 @@ QUIETLY := tools/quietly.sh $(BUILD)/log
 # `rt check` proves crates side by side, which `rt staticlib` alone would not
 BELOW := $(shell sed -n 's/^mulgreddi://p' crates.txt)
 $(LIB): $(SOURCES)
-	@echo 'Proving and compiling the library: up to 17 minutes from nothing on two cores. A line for each crate follows.' >&2
+	@echo 'Proving and compiling the library: about 8 minutes from nothing on two cores. A line for each crate follows.' >&2
 	@$(QUIETLY)/lib-check rt check $(BELOW)
 	@$(QUIETLY)/lib rt staticlib mulgreddi
 	@cp target/staticlib/libmulgreddi.a $@
@@ -83,7 +83,7 @@ help:
 
 # on standard output is the listing alone
 $(PROGRAM): $(SOURCES)
-	@echo 'Proving and compiling the listing program: up to 8 minutes on two cores after the library. A line for each crate follows.' >&2
+	@echo 'Proving and compiling the listing program: about a minute after the library. A line for each crate follows.' >&2
 	@$(QUIETLY)/listing rt check listing
 	@cp target/bin/listing $@
 	@echo '$@ is ready; $(BUILD)/log has all that was printed.' >&2
