@@ -87,7 +87,8 @@ fn put_blocks(
     initial: u32,
 ) -> usize
     requires { ⌜ (b ≤ 4) × Ascending (wordsIn (now moves))
-        × (at + length (lines (blockOf b (wordsIn (now moves))) 0 (flagsOf (initialAt initial) (wordsIn (now codes)))) ≤ length (now out)) ⌝ }
+        × (at + length (lines (blockOf b (wordsIn (now moves))) 0 (flagsOf (initialAt initial) (wordsIn (now codes))))
+        ≤ length (now out)) ⌝ }
     ensures { λ r. ⌜ Put (now (out .entry)) at
         (lines (blockOf b (wordsIn (now (moves .entry)))) 0 (flagsOf (initialAt initial) (wordsIn (now (codes .entry)))))
         (now (out .exit)) r ⌝ }
@@ -124,7 +125,8 @@ pub fn put_text(out: &mut [u8], b: usize, initial: u32, codes: &[u8], moves: &[u
     requires { ⌜ (b ≤ 4) × (initial < 8) × Ascending (wordsIn (now moves))
         × (length (automatonText b (flagsOf (initialAt initial) (wordsIn (now codes))) (wordsIn (now moves))) ≤ length (now out)) ⌝ }
     ensures { λ r. ⌜ Put (now (out .entry)) 0
-        (automatonText b (flagsOf (initialAt initial) (wordsIn (now (codes .entry)))) (wordsIn (now (moves .entry)))) (now (out .exit)) r ⌝ }
+        (automatonText b (flagsOf (initialAt initial) (wordsIn (now (codes .entry)))) (wordsIn (now (moves .entry))))
+        (now (out .exit)) r ⌝ }
 {
     let c = put(out, 0, b"HOA: v1\n");
     let d = put_states(out, c, codes.len() / 8);

@@ -20,7 +20,8 @@ ghost use Rattle.hoa_write.specs.Written.{hoaWritten, hoaAfter, Called};
 fn fits(room: usize, s: usize, b: usize, initial: u32, codes: &[u8], moves: &[u8]) -> bool
     requires { ⌜ (b ≤ 4) × (initial < 8) × Passed s (wordsIn (now codes)) (wordsIn (now moves)) ⌝ }
     ensures { λ r. ⌜ r
-        ≡ leb (length (automatonText b (flagsOf (initialAt initial) (wordsIn (now (codes .entry)))) (wordsIn (now (moves .entry))))) room ⌝ }
+        ≡ leb (length (automatonText b (flagsOf (initialAt initial) (wordsIn (now (codes .entry))))
+        (wordsIn (now (moves .entry))))) room ⌝ }
 {
     if 30 * (codes.len() / 8) + 20 * (moves.len() / 8) + 153 <= room {
         return true;
@@ -31,7 +32,8 @@ fn fits(room: usize, s: usize, b: usize, initial: u32, codes: &[u8], moves: &[u8
 // The same as write_hoa under a rule of s letters with this initial state.
 fn write_read(s: usize, initial: u32, codes: &[u8], moves: &[u8], text: &mut [u8]) -> Written
     requires { ⌜ (s ≤ 16) × (initial < 8) ⌝ }
-    ensures { λ r. ⌜ Called s initial (inBytes (now (codes .entry))) (inBytes (now (moves .entry))) (now (text .entry)) (now (text .exit)) r ⌝ }
+    ensures { λ r. ⌜ Called s initial (inBytes (now (codes .entry))) (inBytes (now (moves .entry)))
+        (now (text .entry)) (now (text .exit)) r ⌝ }
 {
     let codewords = [0u64; 1];
     let movewords = [0u64; 1];
@@ -50,7 +52,8 @@ fn write_read(s: usize, initial: u32, codes: &[u8], moves: &[u8], text: &mut [u8
 // Refused by the rows of the rule file and by rows 15 and 16, in this order, and text is then unchanged.
 pub fn write_hoa(file: &[u8], codes: &[u8], transitions: &[u8], text: &mut [u8]) -> Written
     ensures { λ r. ⌜ r
-        ≡ hoaWritten (now (file .entry)) (inBytes (now (codes .entry))) (inBytes (now (transitions .entry))) (length (now (text .entry))) ⌝ }
+        ≡ hoaWritten (now (file .entry)) (inBytes (now (codes .entry))) (inBytes (now (transitions .entry)))
+        (length (now (text .entry))) ⌝ }
     ensures { λ _. ⌜ now (text .exit)
         ≡ hoaAfter (now (file .entry)) (inBytes (now (codes .entry))) (inBytes (now (transitions .entry))) (now (text .entry)) ⌝ }
 {

@@ -69,8 +69,8 @@ pub fn mark_all(
         × (there + targetOf t < length (now marks))) ⌝ }
     ensures { λ r. ⌜ (now (marks .exit)
         ≡ markedAll letter here there (ordered back (inBoth (now (moves .entry)) (now (movebytes .entry)) .numbers)) (now (marks .entry)))
-        × (r
-        ≡ isNewAll letter here there (ordered back (inBoth (now (moves .entry)) (now (movebytes .entry)) .numbers)) (now (marks .entry))) ⌝ }
+        × (r ≡ isNewAll letter here there (ordered back (inBoth (now (moves .entry)) (now (movebytes .entry)) .numbers))
+        (now (marks .entry))) ⌝ }
 {
     let m = count(moves, movebytes);
     let mut changed = false;
