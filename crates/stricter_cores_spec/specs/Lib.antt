@@ -1,0 +1,4 @@
+pub mod Tags
+pub mod Tables
+pub mod Steps
+pub mod Rounds
