@@ -7,7 +7,7 @@ use native.Mathlib.Omega.{arith}
 use native.Mathlib.Nat.{mul-le-mul}
 use borrow.Author.Tests.{ltb-false}
 use lib.Dec.{ltb}
-use lib.ListN.{length, take, drop, replicate}
+use lib.ListN.{length, take, drop, replicate, take-append-drop}
 use Rattle.refusals.specs.Rows.{firstRow, check}
 use Rattle.refusals.proofs.Rows.{row-yes, row-no}
 use Rattle.sets.specs.Masks.{bit}
@@ -19,8 +19,9 @@ use Rattle.rejecting_spec.specs.Rejecting.{lacksInitial}
 use Rattle.rejecting_spec.specs.RejectingComputed.{rejectingMacrostates, rejectingTransitions}
 use Rattle.build.specs.declared.Counts.{Counts}
 use Rattle.stricter_spec.specs.declared.Found.the-variants.{Nothing, Word}
-use Rattle.stricter_spec.specs.Search.{Searchable, NoShared, Shared, Written, Searched}
-use Rattle.stricter_rules_laws.proofs.Words.{searchable-own, searchable-rejecting, none-shared, shared-against}
+use Rattle.stricter_spec.specs.Search.{NoShared, Shared, Written, Searched}
+use Rattle.stricter_files.specs.Lists.{ListsOf}
+use Rattle.stricter_rules_laws.proofs.Words.{none-shared, shared-against}
 use Rattle.stricter_entry_spec.specs.declared.Sizes.{Sizes}
 use Rattle.stricter_entry_spec.specs.declared.Comparison.{Comparison}
 use Rattle.stricter_entry_spec.specs.declared.Comparison.the-variants.{Yes, No, Refused}
@@ -54,18 +55,14 @@ module _ (a b : Rule) (same : a .s ≡ b .s) (n m : Counts) (p q : ℕ) (cs ts d
   mB : movesB ≡ rejectingTransitions b
   mB = front-moves (rejectingMacrostates b) (rejectingTransitions b) m ds us (X .held)
 
-  -- the tables are ones that the search takes
-  pub own-searchable : Searchable codesA movesA
-  own-searchable = rw (cA, mA) (searchable-own a (O .passing) (O .held .few))
+  -- the tables are those of the rules
+  pub own-lists : ListsOf a (holdsInitial a) codesA movesA
+  unfolding macrostates transitions
+  own-lists = record { few = rw cA (O .held .few); codes-are = cA; moves-are = mA }
 
-  pub other-searchable : Searchable codesB movesB
-  other-searchable = rw (cB, mB) (searchable-rejecting b (X .passing) (X .held .few))
-
-  pub initial-a : p < 8
-  initial-a = let h = O .passing .formed .initial-state in let k = O .passing .formed .few-states in omega (arith, O .initial)
-
-  pub initial-b : q < 8
-  initial-b = let h = X .passing .formed .initial-state in let k = X .passing .formed .few-states in omega (arith, X .initial)
+  pub other-lists : ListsOf b (lacksInitial b) codesB movesB
+  unfolding rejectingMacrostates rejectingTransitions
+  other-lists = record { few = rw cB (X .held .few); codes-are = cB; moves-are = mB }
 
   -- P
   pub pairs-are : n .macrostates * m .macrostates ≡ pairs (tablesOf a b)
@@ -110,16 +107,28 @@ module _ (a b : Rule) (same : a .s ≡ b .s) (n m : Counts) (p q : ℕ) (cs ts d
 
   -- ---- the rooms after it
 
-  pub served : (word scratch word′ scratch′ : List ℕ) (answer : Comparison) → Told a b (tablesOf a b) 0 answer word word′ → scratch′ ≡ replicate (length scratch) 0
+  -- a front that came back as it was, and the rest
+  whole : (n : ℕ) (xs ys : List ℕ) → xs ≡ take n ys → xs ++ drop n ys ≡ ys
+  whole n xs ys e = ap (λ (zs : List ℕ). zs ++ drop n ys) e ∙ take-append-drop n ys
+
+  pub served : (xs zs ys ws : List ℕ) → xs ≡ codesA → zs ≡ movesA → ys ≡ codesB → ws ≡ movesB
+      → (word scratch word′ scratch′ : List ℕ) (answer : Comparison) → Told a b (tablesOf a b) 0 answer word word′ → scratch′ ≡ replicate (length scratch) 0
       → ByRow a b 0 (record { codes-a = cs; transitions-a = ts; codes-b = ds; transitions-b = us; word = word; scratch = scratch }) answer
-      (record { codes-a = cs; transitions-a = ts; codes-b = ds; transitions-b = us; word = word′; scratch = scratch′ })
+      (record {
+        codes-a = xs ++ drop (n .macrostates) cs;
+        transitions-a = zs ++ drop (n .transitions) ts;
+        codes-b = ys ++ drop (m .macrostates) ds;
+        transitions-b = ws ++ drop (m .transitions) us;
+        word = word′;
+        scratch = scratch′;
+      })
   unfolding roomAfter scratchAfter
-  served word scratch word′ scratch′ answer T s = record {
+  served xs zs ys ws e f g h word scratch word′ scratch′ answer T s = record {
     told = T;
-    codes-a-after = O .held .codes-held;
-    transitions-a-after = O .held .moves-held;
-    codes-b-after = X .held .codes-held;
-    transitions-b-after = X .held .moves-held;
+    codes-a-after = whole (n .macrostates) xs cs e ∙ O .held .codes-held;
+    transitions-a-after = whole (n .transitions) zs ts f ∙ O .held .moves-held;
+    codes-b-after = whole (m .macrostates) ys ds g ∙ X .held .codes-held;
+    transitions-b-after = whole (m .transitions) ws us h ∙ X .held .moves-held;
     scratch-after = s;
   }
 

@@ -12,7 +12,6 @@ ghost use mathlib.Core.Bool.{_||_};
 ghost use lib.Dec.{ltb};
 ghost use Prim.Native.Nat.{_*_, _≤_};
 ghost use lib.ListN.{length, replicate};
-ghost use Rattle.theory.specs.Rule.{Rule};
 ghost use Rattle.file_spec.specs.File.{ruleIn};
 ghost use Rattle.file_read.specs.Read.{readOf};
 ghost use Rattle.file_read.specs.declared.Read.the-variants.{Accepted};
@@ -70,10 +69,12 @@ fn lacks_room(pairs: usize, word: &[u8], scratch: &[u8]) -> bool
 
 // Looks for a word that both tables accept.
 fn find_word(
+    a: &[u8],
+    al: Layout,
     n: Counts,
+    b: &[u8],
+    bl: Layout,
     m: Counts,
-    ainitial: usize,
-    binitial: usize,
     acodes: &mut [u64],
     atransitions: &mut [u64],
     bcodes: &mut [u64],
@@ -81,13 +82,12 @@ fn find_word(
     word: &mut [u8],
     scratch: &mut [u8],
 ) -> Comparison
-    requires { ⌜ ((a b : Rule) × (a .s ≡ b .s) × OwnTable a n ainitial (now acodes) (now atransitions)
-        × OtherTable b m binitial (now bcodes) (now btransitions)
-        × (n .macrostates * m .macrostates ≤ length (now scratch)) × (3 * (n .macrostates * m .macrostates) ≤ length (now word))) ⌝ }
-    ensures { λ r. ⌜ ((a b : Rule) → a .s ≡ b .s
-        → OwnTable a n ainitial (now (acodes .entry)) (now (atransitions .entry))
-        → OtherTable b m binitial (now (bcodes .entry)) (now (btransitions .entry))
-        → ByRow a b 0 (record {
+    requires { ⌜ (readOf (now a) ≡ Accepted al) × (readOf (now b) ≡ Accepted bl) × (ruleIn (now a) .s ≡ ruleIn (now b) .s)
+        × OwnTable (ruleIn (now a)) n (al .head .initial) (now acodes) (now atransitions)
+        × OtherTable (ruleIn (now b)) m (bl .head .initial) (now bcodes) (now btransitions)
+        × (n .macrostates * m .macrostates ≤ length (now scratch)) × (3 * (n .macrostates * m .macrostates) ≤ length (now word)) ⌝ }
+    ensures { λ r. ⌜ ByRow (ruleIn (now (a .entry))) (ruleIn (now (b .entry))) 0
+        (record {
           codes-a = now (acodes .entry);
           transitions-a = now (atransitions .entry);
           codes-b = now (bcodes .entry);
@@ -102,19 +102,21 @@ fn find_word(
           transitions-b = now (btransitions .exit);
           word = now (word .exit);
           scratch = now (scratch .exit);
-        })) ⌝ }
+        }) ⌝ }
 {
     let na = n.macrostates;
     let ta = n.transitions;
     let nb = m.macrostates;
     let tb = m.transitions;
     match stricter_search::search(
-        &acodes[..na],
-        &atransitions[..ta],
-        &bcodes[..nb],
-        &btransitions[..tb],
-        ainitial as u32,
-        binitial as u32,
+        a,
+        al,
+        &mut acodes[..na],
+        &mut atransitions[..ta],
+        b,
+        bl,
+        &mut bcodes[..nb],
+        &mut btransitions[..tb],
         word,
         scratch,
     ) {
@@ -125,10 +127,12 @@ fn find_word(
 
 // Compares two rules by their tables. 29 if word or scratch is too short; all four rooms are zero throughout then.
 fn search_tables(
+    a: &[u8],
+    al: Layout,
     n: Counts,
+    b: &[u8],
+    bl: Layout,
     m: Counts,
-    ainitial: usize,
-    binitial: usize,
     acodes: &mut [u64],
     atransitions: &mut [u64],
     bcodes: &mut [u64],
@@ -136,20 +140,19 @@ fn search_tables(
     word: &mut [u8],
     scratch: &mut [u8],
 ) -> Comparison
-    requires { ⌜ ((a b : Rule) × (a .s ≡ b .s) × OwnTable a n ainitial (now acodes) (now atransitions)
-        × OtherTable b m binitial (now bcodes) (now btransitions)) ⌝ }
-    ensures { λ r. ⌜ ((a b : Rule) → a .s ≡ b .s
-        → OwnTable a n ainitial (now (acodes .entry)) (now (atransitions .entry))
-        → OtherTable b m binitial (now (bcodes .entry)) (now (btransitions .entry))
-        → (let lent : Slices = record {
-          codes-a = now (acodes .entry);
-          transitions-a = now (atransitions .entry);
-          codes-b = now (bcodes .entry);
-          transitions-b = now (btransitions .entry);
-          word = now (word .entry);
-          scratch = now (scratch .entry);
-        } in
-        ByRow a b (pairRow a b lent) lent r
+    requires { ⌜ (readOf (now a) ≡ Accepted al) × (readOf (now b) ≡ Accepted bl) × (ruleIn (now a) .s ≡ ruleIn (now b) .s)
+        × OwnTable (ruleIn (now a)) n (al .head .initial) (now acodes) (now atransitions)
+        × OtherTable (ruleIn (now b)) m (bl .head .initial) (now bcodes) (now btransitions) ⌝ }
+    ensures { λ r. ⌜ (let lent : Slices = record {
+      codes-a = now (acodes .entry);
+      transitions-a = now (atransitions .entry);
+      codes-b = now (bcodes .entry);
+      transitions-b = now (btransitions .entry);
+      word = now (word .entry);
+      scratch = now (scratch .entry);
+    } in
+        ByRow (ruleIn (now (a .entry))) (ruleIn (now (b .entry)))
+        (pairRow (ruleIn (now (a .entry))) (ruleIn (now (b .entry))) lent) lent r
         (record {
           codes-a = now (acodes .exit);
           transitions-a = now (atransitions .exit);
@@ -157,7 +160,7 @@ fn search_tables(
           transitions-b = now (btransitions .exit);
           word = now (word .exit);
           scratch = now (scratch .exit);
-        }))) ⌝ }
+        })) ⌝ }
 {
     let pairs = n.macrostates * m.macrostates;
     if lacks_room(pairs, word, scratch) {
@@ -166,10 +169,12 @@ fn search_tables(
         return Comparison::Refused(29);
     }
     find_word(
+        a,
+        al,
         n,
+        b,
+        bl,
         m,
-        ainitial,
-        binitial,
         acodes,
         atransitions,
         bcodes,
@@ -184,10 +189,11 @@ fn search_tables(
 // Compares two rules once A's table is built: builds that of the words that B rejects. 17 or 18 if it has too little room; all four rooms
 // are zero throughout then.
 fn compare_other(
-    b: &[u8],
-    l: Layout,
+    a: &[u8],
+    al: Layout,
     n: Counts,
-    ainitial: usize,
+    b: &[u8],
+    bl: Layout,
     acodes: &mut [u64],
     atransitions: &mut [u64],
     bcodes: &mut [u64],
@@ -195,19 +201,18 @@ fn compare_other(
     word: &mut [u8],
     scratch: &mut [u8],
 ) -> Comparison
-    requires { ⌜ ((a : Rule) × (a .s ≡ ruleIn (now b) .s) × OwnTable a n ainitial (now acodes) (now atransitions)
-        × (readOf (now b) ≡ Accepted l)) ⌝ }
-    ensures { λ r. ⌜ ((a : Rule) → a .s ≡ ruleIn (now (b .entry)) .s
-        → OwnTable a n ainitial (now (acodes .entry)) (now (atransitions .entry))
-        → (let lent : Slices = record {
-          codes-a = now (acodes .entry);
-          transitions-a = now (atransitions .entry);
-          codes-b = now (bcodes .entry);
-          transitions-b = now (btransitions .entry);
-          word = now (word .entry);
-          scratch = now (scratch .entry);
-        } in
-        ByRow a (ruleIn (now (b .entry))) (otherRow a (ruleIn (now (b .entry))) lent) lent r
+    requires { ⌜ (readOf (now a) ≡ Accepted al) × (readOf (now b) ≡ Accepted bl) × (ruleIn (now a) .s ≡ ruleIn (now b) .s)
+        × OwnTable (ruleIn (now a)) n (al .head .initial) (now acodes) (now atransitions) ⌝ }
+    ensures { λ r. ⌜ (let lent : Slices = record {
+      codes-a = now (acodes .entry);
+      transitions-a = now (atransitions .entry);
+      codes-b = now (bcodes .entry);
+      transitions-b = now (btransitions .entry);
+      word = now (word .entry);
+      scratch = now (scratch .entry);
+    } in
+        ByRow (ruleIn (now (a .entry))) (ruleIn (now (b .entry)))
+        (otherRow (ruleIn (now (a .entry))) (ruleIn (now (b .entry))) lent) lent r
         (record {
           codes-a = now (acodes .exit);
           transitions-a = now (atransitions .exit);
@@ -215,19 +220,20 @@ fn compare_other(
           transitions-b = now (btransitions .exit);
           word = now (word .exit);
           scratch = now (scratch .exit);
-        }))) ⌝ }
+        })) ⌝ }
 {
-    let binitial = l.head.initial;
-    match build_from(b, l, false, bcodes, btransitions) {
+    match build_from(b, bl, false, bcodes, btransitions) {
         Built::Refused(row) => {
             zero_rooms(acodes, atransitions);
             Comparison::Refused(row)
         }
         Built::Table(m) => search_tables(
+            a,
+            al,
             n,
+            b,
+            bl,
             m,
-            ainitial,
-            binitial,
             acodes,
             atransitions,
             bcodes,
@@ -273,17 +279,17 @@ fn compare_files(
     if l.head.s != m.head.s {
         return Comparison::Refused(28);
     }
-    let ainitial = l.head.initial;
     match build_from(a, l, true, acodes, atransitions) {
         Built::Refused(row) => {
             zero_rooms(bcodes, btransitions);
             Comparison::Refused(row)
         }
         Built::Table(n) => compare_other(
+            a,
+            l,
+            n,
             b,
             m,
-            n,
-            ainitial,
             acodes,
             atransitions,
             bcodes,

@@ -5,8 +5,10 @@ use codes::letter_of;
 use codes::source_of;
 use codes::target_of;
 use slice_search::place;
+use slice_zeros::next_set;
 use stricter_rows::cut_row;
 ghost use mathlib.Core.Path.{_≡_};
+ghost use mathlib.Core.Bool.{true, false};
 ghost use mathlib.Core.List.{List·Memᴰ};
 ghost use Prim.Native.Nat.{ℕ, _+_, _*_, _≤_, _<_};
 ghost use lib.ListN.{length, getD};
@@ -14,7 +16,7 @@ ghost use Rattle.sets.specs.Tests.{one};
 ghost use Rattle.theory.specs.Macrostate.{isAccepting};
 ghost use Rattle.theory.specs.Run.{targetOf};
 ghost use Rattle.stricter_laws.specs.Pairs.{PairStep, PairEdge, Paired, Fits, RowCut, Beside};
-ghost use Rattle.stricter_forest.specs.Forest.{kindIn, Marked, Tried, Cleared, Passed, Exhausted, Explored};
+ghost use Rattle.stricter_forest.specs.Forest.{kindIn, Marked, Tried, Cleared, Waits, NextWaiting, Passed, Exhausted, Explored};
 
 // ---- one pair's steps
 
@@ -89,7 +91,32 @@ fn kind(a: u64, b: u64) -> u8
     0
 }
 
-// Tries the steps of the pair of number i, whose row is cut, and number j if it was met and waits for it; whether it did.
+// Whether a pair that has the byte was met and waits for its steps to be tried.
+fn waits(v: u8) -> bool
+    ensures { λ r. ⌜ (r ≡ true → (1 < v) × (v < 128)) × (r ≡ false → 1 < v → 128 ≤ v) ⌝ }
+{
+    if v < 2 {
+        return false;
+    }
+    v < 128
+}
+
+// The first pair from `from` on, below `to`, that waits; `to` where there is none.
+fn next_waiting(marks: &[u8], from: usize, to: usize) -> usize
+    requires { ⌜ (from ≤ to) × (to ≤ length (now marks)) ⌝ }
+    ensures { λ r. ⌜ NextWaiting (now (marks .entry)) from to r ⌝ }
+{
+    let mut x = next_set(marks, from, to);
+    while x < to {
+        if waits(marks[x]) {
+            return x;
+        }
+        x = next_set(marks, x + 1, to);
+    }
+    x
+}
+
+// Tries the steps of the pair of number i, whose row is cut, and number j, which waits for it.
 fn visit(
     lcodes: &[u64],
     left: &[u64],
@@ -99,21 +126,15 @@ fn visit(
     i: usize,
     j: usize,
     marks: &mut [u8],
-) -> bool
+)
     requires { ⌜ Fits (length (now lcodes)) (length (now rcodes)) (now left) (now right) (now marks) × RowCut (now left) i (now cuts)
-        × (i < length (now lcodes)) × (j < length (now rcodes)) ⌝ }
-    ensures { λ r. ⌜ Passed (PairStep (length (now (rcodes .entry))) (now (left .entry)) (now (right .entry)))
+        × (i < length (now lcodes)) × (j < length (now rcodes)) × Waits (now marks) (i * length (now rcodes) + j) ⌝ }
+    ensures { λ _. ⌜ Passed (PairStep (length (now (rcodes .entry))) (now (left .entry)) (now (right .entry)))
         (kindIn (now (lcodes .entry)) (now (rcodes .entry)))
-        (i * length (now (rcodes .entry)) + j) (i * length (now (rcodes .entry)) + j + 1) (now (marks .entry)) (now (marks .exit)) r ⌝ }
+        (i * length (now (rcodes .entry)) + j) (i * length (now (rcodes .entry)) + j + 1) (now (marks .entry)) (now (marks .exit)) true ⌝ }
 {
     let x = i * rcodes.len() + j;
     let v = marks[x];
-    if v < 2 {
-        return false;
-    }
-    if 127 < v {
-        return false;
-    }
     expand(
         left,
         cuts,
@@ -124,10 +145,9 @@ fn visit(
         marks,
     );
     marks[x] = v + 128;
-    true
 }
 
-// The same for the pairs of number i.
+// The same for the pairs of number i that wait, of which j is the first.
 fn visit_row(
     lcodes: &[u64],
     left: &[u64],
@@ -135,42 +155,44 @@ fn visit_row(
     rcodes: &[u64],
     right: &[u64],
     i: usize,
+    j: usize,
     marks: &mut [u8],
-) -> bool
+)
     requires { ⌜ Fits (length (now lcodes)) (length (now rcodes)) (now left) (now right) (now marks) × RowCut (now left) i (now cuts)
-        × (i < length (now lcodes)) ⌝ }
-    ensures { λ r. ⌜ Passed (PairStep (length (now (rcodes .entry))) (now (left .entry)) (now (right .entry)))
+        × (i < length (now lcodes)) × (j < length (now rcodes)) × Waits (now marks) (i * length (now rcodes) + j) ⌝ }
+    ensures { λ _. ⌜ Passed (PairStep (length (now (rcodes .entry))) (now (left .entry)) (now (right .entry)))
         (kindIn (now (lcodes .entry)) (now (rcodes .entry)))
-        (i * length (now (rcodes .entry))) (i * length (now (rcodes .entry)) + length (now (rcodes .entry)))
-        (now (marks .entry)) (now (marks .exit)) r ⌝ }
+        (i * length (now (rcodes .entry)) + j) (i * length (now (rcodes .entry)) + length (now (rcodes .entry)))
+        (now (marks .entry)) (now (marks .exit)) true ⌝ }
 {
-    let mut changed = false;
-    let mut j = 0;
-    while j < rcodes.len() {
-        let k = j;
-        j += 1;
-        if visit(lcodes, left, cuts, rcodes, right, i, k, marks) {
-            changed = true;
+    let row = i * rcodes.len();
+    let end = row + rcodes.len();
+    let mut k = j;
+    loop {
+        visit(lcodes, left, cuts, rcodes, right, i, k, marks);
+        let x = next_waiting(marks, row + k + 1, end);
+        if x == end {
+            return;
         }
+        k = x - row;
     }
-    changed
 }
 
-// The same for all pairs.
+// The same for all pairs: a row without a pair that waits is not cut. Whether there was one.
 fn visit_all(lcodes: &[u64], left: &[u64], rcodes: &[u64], right: &[u64], marks: &mut [u8]) -> bool
     requires { ⌜ Fits (length (now lcodes)) (length (now rcodes)) (now left) (now right) (now marks) ⌝ }
     ensures { λ r. ⌜ Passed (PairStep (length (now (rcodes .entry))) (now (left .entry)) (now (right .entry)))
         (kindIn (now (lcodes .entry)) (now (rcodes .entry))) 0 (length (now (marks .entry))) (now (marks .entry)) (now (marks .exit)) r ⌝ }
 {
+    let nb = rcodes.len();
     let mut changed = false;
-    let mut i = 0;
-    while i < lcodes.len() {
+    let mut x = next_waiting(marks, 0, marks.len());
+    while x < marks.len() {
+        let i = x / nb;
         let cuts = cut_row(left, i);
-        let k = i;
-        i += 1;
-        if visit_row(lcodes, left, &cuts, rcodes, right, k, marks) {
-            changed = true;
-        }
+        visit_row(lcodes, left, &cuts, rcodes, right, i, x % nb, marks);
+        changed = true;
+        x = next_waiting(marks, i * nb + nb, marks.len());
     }
     changed
 }
@@ -190,13 +212,10 @@ fn exhaust(lcodes: &[u64], left: &[u64], rcodes: &[u64], right: &[u64], marks: &
 fn clear(marks: &mut [u8])
     ensures { λ _. ⌜ Cleared (now (marks .entry)) (now (marks .exit)) ⌝ }
 {
-    let mut x = 0;
+    let mut x = next_set(marks, 0, marks.len());
     while x < marks.len() {
-        let y = x;
-        x += 1;
-        if marks[y] != 0 {
-            marks[y] = 1;
-        }
+        marks[x] = 1;
+        x = next_set(marks, x + 1, marks.len());
     }
 }
 

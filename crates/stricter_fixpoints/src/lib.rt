@@ -1,103 +1,75 @@
-// Takes pairs of numbers of two tables out until from each that is left pairs that are left and accepting on either side can be reached.
-use codes::is_accepting;
-use stricter_sweeps::sweep_out;
-use table_fixpoints::fixpoints::settle;
+// Sorts out the pairs of numbers of two tables from which both can accept, by the pairs of their cores. While it does, the free bits of
+// both tables hold tags.
+use build_closure_spec::Shape;
+use stricter_cores::narrow;
+use stricter_spread::place_cores;
+use stricter_spread::spread;
+use stricter_tags::tag_table;
+use stricter_tags::untag;
 ghost use mathlib.Core.Path.{_≡_};
-ghost use mathlib.Core.Bool.{true, false};
-ghost use Prim.Native.Nat.{_+_, _*_, _<_};
+ghost use mathlib.Core.List.{List·Memᴰ};
+ghost use Prim.Native.Nat.{ℕ, _*_, _≤_, _<_};
 ghost use lib.ListN.{length};
-ghost use Rattle.stricter_laws.specs.Pairs.{PairEdge, Fits};
-ghost use Rattle.stricter_laws.specs.Sweeps.{flagOf, flagsBy, Flagging, FlagRound, BothRound};
-ghost use Rattle.stricter_laws.specs.Tests.{acceptsIn};
+ghost use Rattle.sets.specs.Tests.{Set};
+ghost use Rattle.theory.specs.Rule.{Rule};
+ghost use Rattle.stricter_cores_spec.specs.Tags.{rowOf};
+ghost use Rattle.stricter_cores_spec.specs.Steps.{CoresFit};
+ghost use Rattle.stricter_spread.specs.Rows.{Standing};
+ghost use Rattle.stricter_fixpoints.specs.Sorted.{Sorted, CoresSorted, TableOf};
 
-// Whether the pair of numbers i and j is accepting on a side: the second, or the first.
-pub fn accepts(lcodes: &[u64], rcodes: &[u64], second: bool, i: usize, j: usize) -> bool
-    requires { ⌜ (i < length (now lcodes)) × (j < length (now rcodes)) ⌝ }
-    ensures { λ r. ⌜ r ≡ acceptsIn (now (lcodes .entry)) (now (rcodes .entry)) second (i * length (now (rcodes .entry)) + j) ⌝ }
-{
-    if second {
-        return is_accepting(rcodes[j]);
-    }
-    is_accepting(lcodes[i])
-}
-
-// A pair's mark: 0 if it is out, 2 if it is in and accepting, else 1.
-fn flagged(accepting: bool, v: u8) -> u8
-    ensures { λ r. ⌜ r ≡ flagOf accepting v ⌝ }
-{
-    if v == 0 {
-        return 0;
-    }
-    if accepting {
-        return 2;
-    }
-    1
-}
-
-// Gives the pairs of number i their marks for a side.
-fn flag_row(lcodes: &[u64], rcodes: &[u64], second: bool, i: usize, marks: &mut [u8])
-    requires { ⌜ (i < length (now lcodes)) × (length (now marks) ≡ length (now lcodes) * length (now rcodes)) ⌝ }
-    ensures { λ _. ⌜ Flagging (acceptsIn (now (lcodes .entry)) (now (rcodes .entry)) second)
-        (i * length (now (rcodes .entry))) (i * length (now (rcodes .entry)) + length (now (rcodes .entry)))
-        (now (marks .entry)) (now (marks .exit)) ⌝ }
-{
-    let base = i * rcodes.len();
-    let mut j = 0;
-    while j < rcodes.len() {
-        let x = base + j;
-        marks[x] = flagged(accepts(lcodes, rcodes, second, i, j), marks[x]);
-        j += 1;
-    }
-}
-
-// Gives all pairs their marks for a side.
-fn flag(lcodes: &[u64], rcodes: &[u64], second: bool, marks: &mut [u8])
-    requires { ⌜ length (now marks) ≡ length (now lcodes) * length (now rcodes) ⌝ }
-    ensures { λ _. ⌜ now (marks .exit) ≡ flagsBy (acceptsIn (now (lcodes .entry)) (now (rcodes .entry)) second) (now (marks .entry)) ⌝ }
-{
-    let mut i = 0;
-    while i < lcodes.len() {
-        flag_row(lcodes, rcodes, second, i, marks);
-        i += 1;
-    }
-}
-
-// Takes out the pairs without a walk to one that is accepting on a side; whether there were such.
-fn round(
-    lcodes: &[u64],
+// Sorts out the pairs of cores of two tagged tables, and gives each pair of numbers the mark of the pair of its cores.
+fn sort_cores(
+    acodes: &[u64],
     left: &[u64],
-    rcodes: &[u64],
+    acount: usize,
+    bcodes: &[u64],
     right: &[u64],
-    second: bool,
+    bcount: usize,
     marks: &mut [u8],
-) -> bool
-    requires { ⌜ Fits (length (now lcodes)) (length (now rcodes)) (now left) (now right) (now marks) ⌝ }
-    ensures { λ r. ⌜ FlagRound (PairEdge (length (now (rcodes .entry))) (now (left .entry)) (now (right .entry)))
-        (acceptsIn (now (lcodes .entry)) (now (rcodes .entry)) second) (now (marks .entry)) (now (marks .exit)) r ⌝ }
+)
+    requires { ⌜ CoresFit (length (now acodes)) (length (now bcodes)) (now left) (now right) (now marks)
+        × Standing (now acodes) × Standing (now bcodes) × (acount ≤ 8) × (bcount ≤ 8) ⌝ }
+    requires { ⌜ ((u : ℕ) → List·Memᴰ u (now right) → rowOf u < length (now bcodes)) ⌝ }
+    ensures { λ _. ⌜ CoresSorted (now (acodes .entry)) (now (left .entry)) acount (now (bcodes .entry)) (now (right .entry)) bcount
+        (now (marks .exit)) ⌝ }
 {
-    flag(lcodes, rcodes, second, marks);
-    sweep_out(left, right, lcodes.len(), rcodes.len(), marks);
-    let end = marks.len();
-    settle(marks, 0, end)
+    place_cores(acodes, bcodes, marks);
+    narrow(acodes, left, acount, bcodes.len(), right, bcount, marks);
+    spread(acodes, bcodes, marks);
 }
 
-// A round for either side; whether a pair went out.
-pub fn round_both(
-    lcodes: &[u64],
-    left: &[u64],
-    rcodes: &[u64],
-    right: &[u64],
+// Gives each pair of numbers of two rules' tables a mark: 0 where it is out. The tables are as they were in the end.
+pub fn sort_pairs(
+    ashape: Shape,
+    aopens: &[u8; 4096],
+    aparts: &[u8; 8],
+    acodes: &mut [u64],
+    amoves: &mut [u64],
+    bshape: Shape,
+    bopens: &[u8; 4096],
+    bparts: &[u8; 8],
+    bcodes: &mut [u64],
+    bmoves: &mut [u64],
     marks: &mut [u8],
-) -> bool
-    requires { ⌜ Fits (length (now lcodes)) (length (now rcodes)) (now left) (now right) (now marks) ⌝ }
-    ensures { λ r. ⌜ BothRound (PairEdge (length (now (rcodes .entry))) (now (left .entry)) (now (right .entry)))
-        (acceptsIn (now (lcodes .entry)) (now (rcodes .entry)) false) (acceptsIn (now (lcodes .entry)) (now (rcodes .entry)) true)
-        (now (marks .entry)) (now (marks .exit)) r ⌝ }
+)
+    requires { ⌜ ((a b : Rule) × (s t : Set) × TableOf a s (now aopens) (now aparts) ashape (now acodes) (now amoves)
+        × TableOf b t (now bopens) (now bparts) bshape (now bcodes) (now bmoves))
+        × (length (now marks) ≡ length (now acodes) * length (now bcodes)) ⌝ }
+    ensures { λ _. ⌜ Sorted (now (acodes .entry)) (now (amoves .entry)) (now (bcodes .entry)) (now (bmoves .entry)) (now (marks .exit)) ⌝ }
+    ensures { λ _. ⌜ (now (acodes .exit) ≡ now (acodes .entry)) × (now (amoves .exit) ≡ now (amoves .entry)) ⌝ }
+    ensures { λ _. ⌜ (now (bcodes .exit) ≡ now (bcodes .entry)) × (now (bmoves .exit) ≡ now (bmoves .entry)) ⌝ }
 {
-    let first = round(lcodes, left, rcodes, right, false, marks);
-    let second = round(lcodes, left, rcodes, right, true, marks);
-    if first {
-        return true;
-    }
-    second
+    tag_table(ashape, aopens, aparts, acodes, amoves);
+    tag_table(bshape, bopens, bparts, bcodes, bmoves);
+    sort_cores(
+        acodes,
+        amoves,
+        ashape.components,
+        bcodes,
+        bmoves,
+        bshape.components,
+        marks,
+    );
+    untag(acodes, amoves);
+    untag(bcodes, bmoves);
 }

@@ -6,3 +6,4 @@ pub mod Reach
 pub mod Routes
 pub mod Parents
 pub mod Words
+pub mod Skips

@@ -3,7 +3,7 @@ use mathlib.Core.Path.{_≡_, sym, ap, ap₂}
 use mathlib.Core.Bool.{Bool, true, false}
 use mathlib.Core.List.{List}
 use mathlib.Core.Logic.{by-cases}
-use Prim.Native.Nat.{ℕ, _+_, _*_, _/_, _%_, _≤_, _<_}
+use Prim.Native.Nat.{ℕ, _+_, _-_, _*_, _/_, _%_, _≤_, _<_}
 use native.Mathlib.Omega.{arith}
 use native.Mathlib.Decide.{decLt}
 use native.Mathlib.Nat.{mul-zero, mod-lt, div-add-mod', div-lt-iff-lt-mul}
@@ -19,7 +19,7 @@ use Rattle.stricter_forest.specs.Forest.{kindIn}
 pub step-lettered : (nb : ℕ) (ma mb : List ℕ) (size : ℕ) → Paired nb ma mb size → (x a y : ℕ) → PairStep nb ma mb x a y → a < 16
 step-lettered nb ma mb size p x a y s = rw (sym (s .letter-B)) (p .lettered (s .of-B) (s .listed-B))
 
-one-low : (b : Bool) → one b ≤ 1
+pub one-low : (b : Bool) → one b ≤ 1
 one-low true = omega arith
 one-low false = omega arith
 
@@ -33,6 +33,9 @@ kind-at ca cb i j l = ap₂ (λ (b d : Bool). 2 * one b + one d) (accepts-first 
 
 pub pair-low : (na nb i j : ℕ) (ma mb ms : List ℕ) → Fits na nb ma mb ms → i < na → j < nb → i * nb + j < length ms
 pair-low na nb i j ma mb ms f l k = rw (f .marked) (digits-lt {q = i} {m = na} {c = nb} l k)
+
+pub row-end : (na nb i : ℕ) (ma mb ms : List ℕ) → Fits na nb ma mb ms → i < na → 0 < nb → i * nb + nb ≤ length ms
+row-end na nb i ma mb ms f l k = let h = pair-low na nb i (nb - 1) ma mb ms f l (omega arith) in omega arith
 
 -- the two numbers of a pair
 pub record Parts (na nb x : ℕ) : Type 0 where

@@ -1,7 +1,7 @@
 -- Passes over the nodes, one after another until none waits.
 use mathlib.Core.Path.{_≡_, refl, sym, ap, subst, _∙_}
 use mathlib.Core.Logic.{_⊎_, inl, inr, ⊎-elim, by-cases}
-use mathlib.Core.Bool.{Bool, true, false, _||_, true≢false, false≢true}
+use mathlib.Core.Bool.{Bool, true, false, _||_, true≢false, false≢true, or-true}
 use mathlib.Core.List.{List, [], _∷_}
 use Prim.Native.Nat.{ℕ, suc, _+_, _*_, _≤_, _<_}
 use native.Mathlib.Omega.{arith}
@@ -11,7 +11,7 @@ use lib.Seq.{getD-set-same, getD-set-other}
 use Rattle.sets.specs.Lists.{sum}
 use Rattle.sets.proofs.Bools.{or-cases, or-fl, or-fr}
 use Rattle.graph_walks.proofs.Sums.{has-place, sum-lt, sum-le, split-set}
-use Rattle.stricter_forest.specs.Forest.{met, Tried, Cleared, Forest, Explored, Passed, Exhausted}
+use Rattle.stricter_forest.specs.Forest.{Tried, Cleared, NoneWaits, Forest, Explored, Passed, Exhausted}
 use Rattle.stricter_forest.proofs.Forest.{met-most, tried-more, tried-within, tried-same, forest-start, forest-tried, forest-done}
 
 -- ---- nothing is met: the nodes below x are done
@@ -24,11 +24,11 @@ pub record Clearing (x : ℕ) (old new : List ℕ) : Type 0 where
 pub clearing-start : (ms : List ℕ) → Clearing 0 ms ms
 clearing-start ms = record { long = refl; each = λ y l. absurd (omega arith); rest = λ y l. refl }
 
-pub clearing-stay : (x : ℕ) (old ms : List ℕ) → getD ms x 0 ≡ 0 → Clearing x old ms → Clearing (x + 1) old ms
-clearing-stay x old ms e c = record {
+-- nodes that are out
+pub clearing-over : (x r : ℕ) (old ms : List ℕ) → x ≤ r → ((y : ℕ) → x ≤ y → y < r → getD ms y 0 ≡ 0) → Clearing x old ms → Clearing r old ms
+clearing-over x r old ms o z c = record {
   long = c .long;
-  each = λ y l. by-cases (decLt y x) (λ h. c .each y h)
-      (λ h. let g : y ≡ x = omega arith in let k = c .rest y (omega arith) in let f : getD ms y 0 ≡ 0 = ap (λ (z : ℕ). getD ms z 0) g ∙ e in inl (sym k ∙ f, f));
+  each = λ y l. by-cases (decLt y x) (λ h. c .each y h) (λ h. let e = z y (omega arith) l in inl (sym (c .rest y (omega arith)) ∙ e, e));
   rest = λ y l. c .rest y (omega arith);
 }
 
@@ -91,14 +91,14 @@ module _ (S : ℕ → ℕ → ℕ → Type 0) (kind : ℕ → ℕ) (lettered : (
     grown = λ e. absurd (false≢true e);
   }
 
-  -- a node that does not wait
-  pub passed-stay : (x : ℕ) (ms : List ℕ) → (1 < getD ms x 0 → 128 ≤ getD ms x 0) → Passed S kind x (x + 1) ms ms false
-  passed-stay x ms h = record {
+  -- nodes none of which waits
+  pub passed-over : (from to : ℕ) (ms : List ℕ) → NoneWaits ms from to → Passed S kind from to ms ms false
+  passed-over from to ms h = record {
     long = refl;
     more = λ y. omega arith;
     within = λ y l. l;
     forest = λ o f. f;
-    still = λ e. (refl, λ y a b l. let g : y ≡ x = omega arith in subst (λ (z : ℕ). 128 ≤ getD ms z 0) (sym g) (h (subst (λ (z : ℕ). 1 < getD ms z 0) g l)));
+    still = λ e. (refl, h);
     grown = λ e. absurd (false≢true e);
   }
 
@@ -135,6 +135,11 @@ module _ (S : ℕ → ℕ → ℕ → Type 0) (kind : ℕ → ℕ) (lettered : (
         (λ h. let k = q .grown h in let g = sum-le old ms (sym (p .long)) (p .more) in omega arith)
         (or-cases a b (sym e ∙ r));
   }
+
+  -- a node or more that waited, and up to r none does
+  pub passed-turn : (from x y r : ℕ) (old ms new : List ℕ) (b : Bool) → Passed S kind from x old ms b → Passed S kind x y ms new true → NoneWaits new y r → Passed S kind from r old new true
+  passed-turn from x y r old ms new b p q h =
+      passed-then from y r old new new true false true (passed-then from x y old ms new b true true p q (sym (or-true b))) (passed-over y r new h) refl
 
   -- ---- a whole search from o
 

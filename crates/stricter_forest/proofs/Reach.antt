@@ -6,7 +6,7 @@ use Prim.Native.Nat.{ℕ, _<_}
 use native.Mathlib.Omega.{arith}
 use lib.ListN.{length, getD}
 use Rattle.sets.specs.Tests.{Set}
-use Rattle.stricter_laws.specs.Sweeps.{Onto}
+use Rattle.stricter_laws.specs.Sound.{Onto}
 use Rattle.stricter_forest.specs.Forest.{met, SameIn, Reaches, Closed, Back, Explored}
 use Rattle.stricter_forest.proofs.Forest.{met-lt}
 

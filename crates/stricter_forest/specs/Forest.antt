@@ -45,6 +45,22 @@ pub record SameIn (old new : List ℕ) : Type 0 where
   pub within : (x : ℕ) → 0 < getD new x 0 → 0 < getD old x 0
   pub kept : (x : ℕ) → 0 < getD old x 0 → 0 < getD new x 0
 
+-- node x was met, and its steps are still to be tried
+pub record Waits (ms : List ℕ) (x : ℕ) : Type 0 where
+  pub big : 1 < getD ms x 0
+  pub small : getD ms x 0 < 128
+
+-- no node from `from` up to `to` waits for it
+abbrev pub NoneWaits : List ℕ → ℕ → ℕ → Type 0
+NoneWaits ms from to = (x : ℕ) → from ≤ x → x < to → 1 < getD ms x 0 → 128 ≤ getD ms x 0
+
+-- r is the first node from `from` on, below `to`, that waits, or `to`
+pub record NextWaiting (ms : List ℕ) (from to r : ℕ) : Type 0 where
+  pub ordered : from ≤ r
+  pub within : r ≤ to
+  pub before : NoneWaits ms from r
+  pub waits : r < to → Waits ms r
+
 module _ (S : ℕ → ℕ → ℕ → Type 0) where
   -- from o, in one step or more, along nodes that are in
   pub data Reaches (ms : List ℕ) (o : ℕ) : ℕ → Type 0 where
@@ -88,7 +104,7 @@ module _ (S : ℕ → ℕ → ℕ → Type 0) where
       pub more : (x : ℕ) → getD old x 0 ≤ getD new x 0
       pub within : (x : ℕ) → 0 < getD new x 0 → 0 < getD old x 0
       pub forest : (o : ℕ) → Forest o old → Forest o new
-      pub still : changed ≡ false → (new ≡ old) × ((x : ℕ) → from ≤ x → x < to → 1 < getD old x 0 → 128 ≤ getD old x 0)
+      pub still : changed ≡ false → (new ≡ old) × NoneWaits old from to
       pub grown : changed ≡ true → sum old < sum new
 
     -- until no node waits

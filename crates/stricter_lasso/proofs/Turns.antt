@@ -9,8 +9,8 @@ use Rattle.sets.specs.Tests.{Set}
 use Rattle.graph_walks.proofs.Sums.{has-place}
 use Rattle.stricter_spec.specs.Search.{Searchable}
 use Rattle.stricter_laws.specs.Pairs.{Fits}
-use Rattle.stricter_laws.specs.Sweeps.{BothSound}
-use Rattle.stricter_laws.proofs.Sweeping.{onto-more}
+use Rattle.stricter_laws.specs.Sound.{BothSound}
+use Rattle.stricter_laws.proofs.Sound.{onto-more}
 use Rattle.stricter_forest.specs.Forest.{met, SameIn, Reaches, Closed, Explored}
 use Rattle.stricter_forest.specs.Routes.{RouteAt, Turning}
 use Rattle.stricter_forest.proofs.Expand.{searchable-paired}

@@ -4,6 +4,7 @@ use codes::is_accepting;
 use codes::letter_of;
 use codes::source_of;
 use codes::target_of;
+use slice_zeros::next_set;
 use stricter_explore::explore;
 use stricter_spec::Found;
 ghost use mathlib.Core.Path.{_≡_};
@@ -15,7 +16,7 @@ ghost use Rattle.sets.specs.Tests.{Set};
 ghost use Rattle.theory.specs.Run.{sourceOf};
 ghost use Rattle.stricter_spec.specs.Search.{Searchable, Searched};
 ghost use Rattle.stricter_laws.specs.Pairs.{PairStep, PairEdge};
-ghost use Rattle.stricter_laws.specs.Sweeps.{BothSound};
+ghost use Rattle.stricter_laws.specs.Sound.{BothSound};
 ghost use Rattle.stricter_laws.specs.Tests.{acceptsIn, startsIn};
 ghost use Rattle.stricter_forest.specs.Forest.{kindIn, SameIn, Reaches, Back, ParentIs};
 ghost use Rattle.stricter_forest.specs.Routes.{RouteAt, Turning};
@@ -185,12 +186,12 @@ fn lowest(lcodes: &[u64], rcodes: &[u64], second: bool, marks: &[u8]) -> usize
     requires { ⌜ ((x : ℕ) × (1 < getD (now marks) x 0) × (acceptsIn (now lcodes) (now rcodes) second x ≡ true)) ⌝ }
     ensures { λ r. ⌜ (1 < getD (now (marks .entry)) r 0) × (acceptsIn (now (lcodes .entry)) (now (rcodes .entry)) second r ≡ true) ⌝ }
 {
-    let mut x = 0;
+    let mut x = next_set(marks, 0, marks.len());
     while x < marks.len() {
         if serves(lcodes, rcodes, second, marks, x) {
             return x;
         }
-        x += 1;
+        x = next_set(marks, x + 1, marks.len());
     }
     0
 }

@@ -1,3 +1,3 @@
 pub mod Rows
-pub mod Sweeping
+pub mod Sound
 pub mod Sides

@@ -1,8 +1,7 @@
 -- The steps of a pair, found in the rows of its numbers: a row is what stands between two places of an ascending list.
 use mathlib.Core.Path.{_≡_, refl, sym, ap, ap₂, _∙_}
-use mathlib.Core.Logic.{_⊎_, inl, inr, ⊎-elim, by-cases}
-use mathlib.Core.Bool.{Bool, true, false}
-use mathlib.Core.List.{List, List·Memᴰ}
+use mathlib.Core.Logic.{_⊎_, inl, inr, by-cases}
+use mathlib.Core.List.{List}
 use Prim.Native.Nat.{ℕ, _+_, _*_, _/_, _%_, _≤_, _<_}
 use native.Mathlib.Omega.{arith}
 use native.Mathlib.Decide.{decLt}
@@ -14,7 +13,7 @@ use Rattle.sets.proofs.Lists.{place-of, mem-at}
 use Rattle.slice_search.specs.Places.{below}
 use Rattle.slice_search.proofs.Search.{below-le, before-place, from-place}
 use Rattle.theory.specs.Run.{sourceOf, letterOf, targetOf}
-use Rattle.stricter_laws.specs.Pairs.{PairStep, PairEdge, Paired, Fits, RowCut, Led, Beside}
+use Rattle.stricter_laws.specs.Pairs.{PairStep, PairEdge, Paired, Fits, RowCut, Beside}
 
 -- ---- two digits
 
@@ -40,17 +39,26 @@ module _ (moves : List ℕ) (asc : Ascending moves) (i : ℕ) (cuts : List ℕ) 
       (omega arith, omega arith)
 
   -- and all that has them stands there
-  pub row-all : (t a : ℕ) → List·Memᴰ t moves → sourceOf t ≡ i → letterOf t ≡ a → a < 16
-      → (c : ℕ) × (getD cuts a 0 ≤ c) × (c < getD cuts (a + 1) 0) × (getD moves c 0 ≡ t)
-  row-all t a m s e l =
-      let p = place-of moves t m in
+  pub row-all : (c a : ℕ) → c < length moves → sourceOf (getD moves c 0) ≡ i → letterOf (getD moves c 0) ≡ a → a < 16
+      → (getD cuts a 0 ≤ c) × (c < getD cuts (a + 1) 0)
+  row-all c a m s e l =
       let f = cut a (omega arith) in
       let g = cut (a + 1) (omega arith) in (
-        p .0,
-        by-cases (decLt (p .0) (getD cuts a 0)) (λ h. let k = before-place (i * 16777216 + a * 65536) moves asc (p .0) (omega arith) in absurd (omega (arith, k, p .2))) (λ h. omega arith),
-        by-cases (decLt (p .0) (getD cuts (a + 1) 0)) (λ h. h) (λ h. let k = from-place (i * 16777216 + (a + 1) * 65536) moves asc (p .0) (omega arith) (p .1) in absurd (omega (arith, k, p .2))),
-        p .2,
+        by-cases (decLt c (getD cuts a 0)) (λ h. let k = before-place (i * 16777216 + a * 65536) moves asc c (omega arith) in absurd (omega arith)) (λ h. omega arith),
+        by-cases (decLt c (getD cuts (a + 1) 0)) (λ h. h) (λ h. let k = from-place (i * 16777216 + (a + 1) * 65536) moves asc c (omega arith) m in absurd (omega arith)),
       )
+
+-- a place of j's row, which ends at k
+pub in-row : (moves : List ℕ) → Ascending moves → (j k : ℕ) → below (j * 16777216) moves ≤ k → (k < length moves → sourceOf (getD moves k 0) ≡ j → ⊥)
+    → (p : ℕ) → p < length moves → sourceOf (getD moves p 0) ≡ j → (below (j * 16777216) moves ≤ p) × (p < k)
+in-row moves asc j k from end p l e = (
+  by-cases (decLt p (below (j * 16777216) moves)) (λ h. let q = before-place (j * 16777216) moves asc p h in absurd (omega arith)) (λ h. omega arith),
+  by-cases (decLt p k) (λ h. h)
+      (λ h. let q = from-place (j * 16777216) moves asc k from (omega arith) in
+      let later : getD moves k 0 ≤ getD moves p 0 =
+      by-cases (decLt k p) (λ g. let a = asc-at moves asc k p g l in omega arith) (λ g. let same : k ≡ p = omega arith in rw same (omega arith)) in
+      absurd (end (omega arith) (omega arith))),
+)
 
 -- the next transition beside number q
 pub beside-next : (nb : ℕ) (moves : List ℕ) (from c q y : ℕ) → Beside nb moves from (c + 1) q y → Beside nb moves from c q y ⊎ (y ≡ targetOf (getD moves c 0) * nb + q)
@@ -65,9 +73,6 @@ module _ (nb : ℕ) (ma mb : List ℕ) (j : ℕ) where
   -- the nodes that the transitions of j's row before place k lead to
   abbrev pub Walked : List ℕ → ℕ → ℕ → Type 0
   Walked cuts k y = (p : ℕ) × (below (j * 16777216) mb ≤ p) × (p < k) × Beside nb ma (getD cuts (letterOf (getD mb p 0)) 0) (getD cuts (letterOf (getD mb p 0) + 1) 0) (targetOf (getD mb p 0)) y
-
-  pub walked-none : (cuts : List ℕ) (y : ℕ) → Walked cuts (below (j * 16777216) mb) y → ⊥
-  walked-none cuts y w = omega (arith, w .1, w .2)
 
   pub walked-next : (cuts : List ℕ) (k u y : ℕ) → u ≡ getD mb k 0 → Walked cuts (k + 1) y
       → Walked cuts k y ⊎ Beside nb ma (getD cuts (letterOf u) 0) (getD cuts (letterOf u + 1) 0) (targetOf u) y
@@ -105,33 +110,22 @@ module _ (nb : ℕ) (ma mb : List ℕ) (size : ℕ) (paired : Paired nb ma mb si
         let u = s .of-B in
         let e = node-unique {nb = nb} {i = i} {j = j} {k = sourceOf t} {l = sourceOf u} j-low (paired .sources u (s .listed-B)) (s .source) in
         let p = place-of mb u (s .listed-B) in
-        let r = row-all ma (paired .ascend-A) i cuts cut t (letterOf u) (s .listed-A) (sym (e .0)) (s .letter-A ∙ sym (s .letter-B)) (paired .lettered u (s .listed-B)) in
-        let start : below (j * 16777216) mb ≤ p .0 =
-        by-cases (decLt (p .0) (below (j * 16777216) mb)) (λ h. let q = before-place (j * 16777216) mb (paired .ascend-B) (p .0) h in absurd (omega (arith, q, p .2, e .1))) (λ h. omega arith) in
-        let stop : p .0 < k =
-        by-cases (decLt (p .0) k) (λ h. h)
-        (λ h. let q = from-place (j * 16777216) mb (paired .ascend-B) k from (omega (arith, p .1)) in
-        let later : getD mb k 0 ≤ u = by-cases (decLt k (p .0)) (λ g. omega (arith, asc-at mb (paired .ascend-B) k (p .0) g (p .1), p .2)) (λ g. let same : k ≡ p .0 = omega arith in rw same (omega (arith, p .2))) in
-        absurd (end (omega (arith, p .1)) (omega (arith, e .1)))) in
+        let o = place-of ma t (s .listed-A) in
+        let r = row-all ma (paired .ascend-A) i cuts cut (o .0) (letterOf u) (o .1) (rw (o .2) (sym (e .0))) (rw (o .2) (s .letter-A ∙ sym (s .letter-B))) (paired .lettered u (s .listed-B)) in
+        let w = in-row mb (paired .ascend-B) j k from end (p .0) (p .1) (rw (p .2) (sym (e .1))) in
         let same : getD mb (p .0) 0 ≡ u = p .2 in (
           p .0,
-          start,
-          stop,
+          w .0,
+          w .1,
           record {
-            place = r .0;
-            above = rw same (r .1);
-            under = rw same (r .2);
-            node = rw (same, r .3) (s .target);
+            place = o .0;
+            above = rw same (r .0);
+            under = rw same (r .1);
+            node = rw (same, o .2) (s .target);
           },
         )
 
 -- ---- two tables and their pairs
-
-pub edge-low : (nb : ℕ) (ma mb : List ℕ) (size : ℕ) → Paired nb ma mb size → (x y : ℕ) → PairEdge nb ma mb x y → x < size
-edge-low nb ma mb size p x y (a, s) = rw (s .source) (p .from (s .of-A) (sourceOf (s .of-B)) (s .listed-A) (p .sources (s .of-B) (s .listed-B)))
-
-pub edge-onto : (nb : ℕ) (ma mb : List ℕ) (size : ℕ) → Paired nb ma mb size → (x y : ℕ) → PairEdge nb ma mb x y → y < size
-edge-onto nb ma mb size p x y (a, s) = rw (s .target) (p .onto (s .of-A) (targetOf (s .of-B)) (s .listed-A) (p .targets (s .of-B) (s .listed-B)))
 
 pub fits-same : (na nb : ℕ) (ma mb ms ns : List ℕ) → length ns ≡ length ms → Fits na nb ma mb ms → Fits na nb ma mb ns
 fits-same na nb ma mb ms ns e f = record { paired = f .paired; marked = e ∙ f .marked; few-A = f .few-A; few-B = f .few-B }

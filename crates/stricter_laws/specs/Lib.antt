@@ -1,3 +1,3 @@
 pub mod Pairs
-pub mod Sweeps
+pub mod Sound
 pub mod Tests

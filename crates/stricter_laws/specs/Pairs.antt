@@ -1,6 +1,5 @@
 -- The product of two tables A and B as a graph: number i of A and number j of B, of nb numbers, are the node i * nb + j.
 use mathlib.Core.Path.{_≡_}
-use mathlib.Core.Bool.{Bool, true, false}
 use mathlib.Core.List.{List, List·Memᴰ}
 use Prim.Native.Nat.{ℕ, _+_, _*_, _≤_, _<_}
 use lib.ListN.{length, getD}
@@ -43,11 +42,6 @@ pub record Fits (na nb : ℕ) (movesA movesB marks : List ℕ) : Type 0 where
 -- the transitions of number i over letter a stand from place cuts a up to cuts (a + 1)
 abbrev pub RowCut : List ℕ → ℕ → List ℕ → Type 0
 RowCut moves i cuts = (a : ℕ) → a < 17 → getD cuts a 0 ≡ below (i * 16777216 + a * 65536) moves
-
--- whether one of the nodes of E has a mark of at least `least`
-pub record Led (E : ℕ → Type 0) (marks : List ℕ) (least : ℕ) (r : Bool) : Type 0 where
-  pub yes : r ≡ true → (y : ℕ) × E y × (least ≤ getD marks y 0)
-  pub no : r ≡ false → (y : ℕ) → E y → getD marks y 0 < least
 
 -- the transitions of A from place `from` up to `to` lead, beside number q of B, to such nodes
 pub record Beside (nb : ℕ) (movesA : List ℕ) (from to q y : ℕ) : Type 0 where

@@ -1,12 +1,12 @@
 -- Over a letter a macrostate is reached from at most one macrostate with k = 0 and at most one with k > 0, both with the same core.
 use mathlib.Core.Path.{_≡_, sym, _∙_, ap, ap₂, fun-ext}
 use mathlib.Core.Logic.{by-cases}
-use mathlib.Core.Bool.{Bool, true, _&&_}
+use mathlib.Core.Bool.{true, _&&_}
 use mathlib.Core.List.{List, List·Memᴰ}
 use Prim.Native.Nat.{ℕ, suc, _-_, _≤_, _<_}
 use native.Mathlib.Omega.{arith}
 use native.Mathlib.Decide.{decLt, ℕ-discrete}
-use lib.Dec.{eqb, leb}
+use lib.Dec.{leb}
 use lib.ListN.{length, getD}
 use borrow.Author.Tests.{eqb-true, eq-eqb, leb-true, le-leb}
 use Rattle.sets.specs.Tests.{Set, largest}
@@ -15,9 +15,8 @@ use Rattle.sets.proofs.Lists.{mem-at}
 use Rattle.sets.proofs.Tests.{largest-ge, largest-le, largest-hit}
 use Rattle.sets.proofs.Ascending.{asc-inj}
 use Rattle.theory.specs.Automaton.{Automaton, automaton}
-use Rattle.theory.specs.Layered.{Layered}
 use Rattle.theory.specs.Code.{setIn, rankIn, componentIn, classesIn, pack, wellCoded}
-use Rattle.theory.specs.Core.{isOpen, openOf, nextComponent}
+use Rattle.theory.specs.Core.{openOf, nextComponent}
 use Rattle.theory.specs.Macrostate.{isAccepting, Macrostate, Goes, Reachable}
 use Rattle.theory.specs.Passing.{Passing}
 use Rattle.theory.specs.Rule.{Rule}
@@ -153,25 +152,25 @@ module _ (r : Rule) (P : Passing r) (start : Set) (room : length (macrostatesFro
   abbrev moves : List ℕ
   moves = transitionsFrom r start
 
-  reachable-at : (x : ℕ) → x < length codes → Reachable A (r .s) start (getD codes x 0)
+  pub reachable-at : (x : ℕ) → x < length codes → Reachable A (r .s) start (getD codes x 0)
   reachable-at x l = reachable-iff r P start (getD codes x 0) .0 (mem-at codes x l)
 
-  macrostate-at : (x : ℕ) → x < length codes → Macrostate A (getD codes x 0)
+  pub macrostate-at : (x : ℕ) → x < length codes → Macrostate A (getD codes x 0)
   macrostate-at x l = reachable-macrostate A (layered r P) (few-states r P) (components-there r P) (r .s) start (reachable-at x l)
 
   full-at : (x : ℕ) → x < length codes → classesIn (getD codes x 0) ≤ classesOf A (getD codes x 0)
   full-at x l = reachable-classes A (layered r P) (few-states r P) (components-there r P) (r .s) start (reachable-at x l)
 
-  listed : (t : ℕ) → List·Memᴰ t moves → Transition A (r .s) codes t
+  pub listed : (t : ℕ) → List·Memᴰ t moves → Transition A (r .s) codes t
   listed t m = transition-iff r P start room t .0 m
 
-  source-of : (t : ℕ) (T : Transition A (r .s) codes t) → sourceOf t ≡ T .source
+  pub source-of : (t : ℕ) (T : Transition A (r .s) codes t) → sourceOf t ≡ T .source
   source-of t T = transition-leads A (r .s) codes (layered r P) (letters-fit r P) room t T .source
 
-  letter-of : (t : ℕ) (T : Transition A (r .s) codes t) → letterOf t ≡ T .letter
+  pub letter-of : (t : ℕ) (T : Transition A (r .s) codes t) → letterOf t ≡ T .letter
   letter-of t T = transition-leads A (r .s) codes (layered r P) (letters-fit r P) room t T .letter
 
-  target-of : (t : ℕ) (T : Transition A (r .s) codes t) → targetOf t ≡ T .target
+  pub target-of : (t : ℕ) (T : Transition A (r .s) codes t) → targetOf t ≡ T .target
   target-of t T = transition-leads A (r .s) codes (layered r P) (letters-fit r P) room t T .target
 
   -- the letters of transitions are those of the rule

@@ -1,7 +1,6 @@
 -- What the words that A's table and the table of B's rejected words share say of the rules.
-use mathlib.Core.Path.{_≡_, sym, _∙_, ap}
+use mathlib.Core.Path.{_≡_}
 use mathlib.Core.Logic.{_⊎_, inl, inr, ⊎-elim}
-use mathlib.Core.Bool.{Bool, true, false, _&&_}
 use mathlib.Core.List.{List}
 use Prim.Native.Nat.{ℕ, _≤_, _<_}
 use lib.ListN.{length}
@@ -12,7 +11,6 @@ use Rattle.theory.specs.Macrostate.{holdsInitial}
 use Rattle.theory.specs.Passing.{Passing}
 use Rattle.theory.specs.Plan.{AcceptsWord}
 use Rattle.theory.specs.Rule.{Rule}
-use Rattle.theory.specs.Run.{AcceptingRun}
 use Rattle.theory.specs.TableComputed.{macrostates, transitions}
 use Rattle.theory.specs.Word.{WordOver, place, letters}
 use Rattle.theory_laws.proofs.Demand.{word-run, demand3}
@@ -21,7 +19,7 @@ use Rattle.rejecting_spec.specs.RejectingComputed.{rejectingMacrostates, reject
 use Rattle.rejecting_laws.proofs.Demand.{rejecting-demand}
 use Rattle.stricter_spec.specs.Search.{Searchable, NoShared, Shared}
 use Rattle.stricter_rules_spec.specs.Rules.{Stricter, Against}
-use Rattle.stricter_rules_laws.proofs.Parents.{searchable, table-inside, letter-low}
+use Rattle.stricter_rules_laws.proofs.Parents.{searchable, letter-low}
 use Rattle.stricter_rules_laws.proofs.Lassos.{lasso-run, lasso-word}
 
 -- whether a rule accepts a word with a cycle is decided: by the truth at place 0

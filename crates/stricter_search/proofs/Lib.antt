@@ -1,2 +1,2 @@
 pub mod Begins
-pub mod Nothing
+pub mod Files

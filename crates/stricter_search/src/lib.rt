@@ -2,51 +2,27 @@
 use codes::classes_of;
 use codes::component_of;
 use codes::is_initial;
+use file_read::Layout;
 use judge_place::fill_with;
-use stricter_fixpoints::round_both;
+use slice_zeros::next_set;
+use stricter_files::sort_files;
 use stricter_lasso::find_word;
 use stricter_spec::Found;
-use stricter_sweeps::prune;
 ghost use mathlib.Core.Path.{_≡_};
-ghost use mathlib.Core.Bool.{true, false, not};
-ghost use Prim.Native.Nat.{_+_, _*_, _≤_, _<_};
+ghost use mathlib.Core.Bool.{false, not};
+ghost use Prim.Native.Nat.{_*_, _≤_, _<_};
 ghost use lib.ListN.{length, replicate};
 ghost use Rattle.sets.specs.Masks.{bit};
-ghost use Rattle.theory.specs.Macrostate.{begun};
-ghost use Rattle.graph_walks.specs.Walks.{Pruned};
+ghost use Rattle.theory.specs.Macrostate.{begun, holdsInitial};
+ghost use Rattle.rejecting_spec.specs.Rejecting.{lacksInitial};
+ghost use Rattle.file_spec.specs.File.{ruleIn};
+ghost use Rattle.file_read.specs.Read.{readOf};
+ghost use Rattle.file_read.specs.declared.Read.the-variants.{Accepted};
 ghost use Rattle.stricter_spec.specs.Search.{Searchable, Searched};
-ghost use Rattle.stricter_laws.specs.Pairs.{PairEdge, Fits};
-ghost use Rattle.stricter_laws.specs.Sweeps.{Narrowed, BothSound};
-ghost use Rattle.stricter_laws.specs.Tests.{acceptsIn, startsIn};
+ghost use Rattle.stricter_laws.specs.Tests.{startsIn};
+ghost use Rattle.stricter_fixpoints.specs.Sorted.{Sorted};
+ghost use Rattle.stricter_files.specs.Lists.{ListsOf};
 ghost use Rattle.stricter_search.specs.Starts.{StartsAt, FirstStart};
-
-// ---- the pairs from which both tables can accept
-
-// Takes out pairs that lead to none that is in, by three sweeps: this is far cheaper than a round, and most pairs go.
-fn prune_few(lcodes: &[u64], left: &[u64], rcodes: &[u64], right: &[u64], marks: &mut [u8])
-    requires { ⌜ Fits (length (now lcodes)) (length (now rcodes)) (now left) (now right) (now marks) ⌝ }
-    ensures { λ _. ⌜ Pruned (PairEdge (length (now (rcodes .entry))) (now (left .entry)) (now (right .entry)))
-        (now (marks .entry)) (now (marks .exit)) ⌝ }
-{
-    let mut k: usize = 0;
-    while k < 3 {
-        prune(left, right, lcodes.len(), rcodes.len(), marks);
-        k += 1;
-    }
-}
-
-// Takes pairs out until from each that is left pairs that are left and accepting on either side can be reached.
-fn narrow(lcodes: &[u64], left: &[u64], rcodes: &[u64], right: &[u64], marks: &mut [u8])
-    requires { ⌜ Fits (length (now lcodes)) (length (now rcodes)) (now left) (now right) (now marks) ⌝ }
-    ensures { λ _. ⌜ Narrowed (PairEdge (length (now (rcodes .entry))) (now (left .entry)) (now (right .entry)))
-        (acceptsIn (now (lcodes .entry)) (now (rcodes .entry)) false) (acceptsIn (now (lcodes .entry)) (now (rcodes .entry)) true)
-        (now (marks .entry)) (now (marks .exit)) ⌝ }
-    ensures { λ _. ⌜ BothSound (PairEdge (length (now (rcodes .entry))) (now (left .entry)) (now (right .entry)))
-        (acceptsIn (now (lcodes .entry)) (now (rcodes .entry)) false) (acceptsIn (now (lcodes .entry)) (now (rcodes .entry)) true)
-        (now (marks .exit)) ⌝ }
-{
-    while round_both(lcodes, left, rcodes, right, marks) {}
-}
 
 // ---- a start pair
 
@@ -94,19 +70,19 @@ fn first_start(acodes: &[u64], bcodes: &[u64], ainitial: u32, binitial: u32, mar
     ensures { λ r. ⌜ FirstStart (startsIn (now (acodes .entry)) (now (bcodes .entry)) (λ c. bit c ainitial) (λ c. not (bit c binitial)))
         (now (marks .entry)) r ⌝ }
 {
-    let mut x = 0;
+    let mut x = next_set(marks, 0, marks.len());
     while x < marks.len() {
         if starts(acodes, bcodes, ainitial, binitial, marks, x) {
             return x;
         }
-        x += 1;
+        x = next_set(marks, x + 1, marks.len());
     }
     x
 }
 
 // ---- the search
 
-// The search with a mark for each pair.
+// The search with a mark for each pair, where the pairs are sorted out.
 fn search_pairs(
     acodes: &[u64],
     amoves: &[u64],
@@ -118,14 +94,11 @@ fn search_pairs(
     marks: &mut [u8],
 ) -> Found
     requires { ⌜ Searchable (now acodes) (now amoves) × Searchable (now bcodes) (now bmoves) × (ainitial < 8) × (binitial < 8)
-        × (length (now marks) ≡ length (now acodes) * length (now bcodes))
+        × Sorted (now acodes) (now amoves) (now bcodes) (now bmoves) (now marks)
         × (3 * (length (now acodes) * length (now bcodes)) ≤ length (now word)) ⌝ }
     ensures { λ r. ⌜ Searched (now (acodes .entry)) (now (amoves .entry)) (λ c. bit c ainitial)
         (now (bcodes .entry)) (now (bmoves .entry)) (λ c. not (bit c binitial)) (now (word .entry)) (now (word .exit)) r ⌝ }
 {
-    fill_with(marks, 1);
-    prune_few(acodes, amoves, bcodes, bmoves, marks);
-    narrow(acodes, amoves, bcodes, bmoves, marks);
     let start = first_start(acodes, bcodes, ainitial, binitial, marks);
     if start == marks.len() {
         return Found::Nothing;
@@ -133,32 +106,77 @@ fn search_pairs(
     find_word(acodes, amoves, bcodes, bmoves, start, word, marks)
 }
 
-// A word that both tables accept, or that there is none; its letters are written at the start of the word slice.
-pub fn search(
-    acodes: &[u64],
-    amoves: &[u64],
-    bcodes: &[u64],
-    bmoves: &[u64],
-    ainitial: u32,
-    binitial: u32,
+// The search on the tables of two files, with a mark for each pair.
+fn search_files(
+    a: &[u8],
+    l: Layout,
+    acodes: &mut [u64],
+    amoves: &mut [u64],
+    b: &[u8],
+    m: Layout,
+    bcodes: &mut [u64],
+    bmoves: &mut [u64],
     word: &mut [u8],
-    scratch: &mut [u8],
+    marks: &mut [u8],
 ) -> Found
-    requires { ⌜ Searchable (now acodes) (now amoves) × Searchable (now bcodes) (now bmoves) × (ainitial < 8) × (binitial < 8)
-        × (length (now acodes) * length (now bcodes) ≤ length (now scratch))
+    requires { ⌜ (readOf (now a) ≡ Accepted l) × ListsOf (ruleIn (now a)) (holdsInitial (ruleIn (now a))) (now acodes) (now amoves)
+        × (readOf (now b) ≡ Accepted m) × ListsOf (ruleIn (now b)) (lacksInitial (ruleIn (now b))) (now bcodes) (now bmoves)
+        × (length (now marks) ≡ length (now acodes) * length (now bcodes))
         × (3 * (length (now acodes) * length (now bcodes)) ≤ length (now word)) ⌝ }
-    ensures { λ r. ⌜ Searched (now (acodes .entry)) (now (amoves .entry)) (λ c. bit c ainitial)
-        (now (bcodes .entry)) (now (bmoves .entry)) (λ c. not (bit c binitial)) (now (word .entry)) (now (word .exit)) r ⌝ }
-    ensures { λ _. ⌜ now (scratch .exit) ≡ replicate (length (now (scratch .entry))) 0 ⌝ }
+    ensures { λ r. ⌜ Searched (now (acodes .entry)) (now (amoves .entry)) (λ c. bit c (l .head .initial))
+        (now (bcodes .entry)) (now (bmoves .entry)) (λ c. not (bit c (m .head .initial))) (now (word .entry)) (now (word .exit)) r ⌝ }
+    ensures { λ _. ⌜ (now (acodes .exit) ≡ now (acodes .entry)) × (now (amoves .exit) ≡ now (amoves .entry)) ⌝ }
+    ensures { λ _. ⌜ (now (bcodes .exit) ≡ now (bcodes .entry)) × (now (bmoves .exit) ≡ now (bmoves .entry)) ⌝ }
 {
-    let pairs = acodes.len() * bcodes.len();
-    let found = search_pairs(
+    let ainitial = l.head.initial as u32;
+    let binitial = m.head.initial as u32;
+    sort_files(a, l, acodes, amoves, b, m, bcodes, bmoves, marks);
+    search_pairs(
         acodes,
         amoves,
         bcodes,
         bmoves,
         ainitial,
         binitial,
+        word,
+        marks,
+    )
+}
+
+// A word that A's table and that of the words that B rejects both accept, or that there is none; its letters are written at the start of
+// the word slice. The tables are as they were in the end, the scratch is zero throughout.
+pub fn search(
+    a: &[u8],
+    l: Layout,
+    acodes: &mut [u64],
+    amoves: &mut [u64],
+    b: &[u8],
+    m: Layout,
+    bcodes: &mut [u64],
+    bmoves: &mut [u64],
+    word: &mut [u8],
+    scratch: &mut [u8],
+) -> Found
+    requires { ⌜ (readOf (now a) ≡ Accepted l) × ListsOf (ruleIn (now a)) (holdsInitial (ruleIn (now a))) (now acodes) (now amoves)
+        × (readOf (now b) ≡ Accepted m) × ListsOf (ruleIn (now b)) (lacksInitial (ruleIn (now b))) (now bcodes) (now bmoves)
+        × (length (now acodes) * length (now bcodes) ≤ length (now scratch))
+        × (3 * (length (now acodes) * length (now bcodes)) ≤ length (now word)) ⌝ }
+    ensures { λ r. ⌜ Searched (now (acodes .entry)) (now (amoves .entry)) (λ c. bit c (l .head .initial))
+        (now (bcodes .entry)) (now (bmoves .entry)) (λ c. not (bit c (m .head .initial))) (now (word .entry)) (now (word .exit)) r ⌝ }
+    ensures { λ _. ⌜ (now (acodes .exit) ≡ now (acodes .entry)) × (now (amoves .exit) ≡ now (amoves .entry)) ⌝ }
+    ensures { λ _. ⌜ (now (bcodes .exit) ≡ now (bcodes .entry)) × (now (bmoves .exit) ≡ now (bmoves .entry)) ⌝ }
+    ensures { λ _. ⌜ now (scratch .exit) ≡ replicate (length (now (scratch .entry))) 0 ⌝ }
+{
+    let pairs = acodes.len() * bcodes.len();
+    let found = search_files(
+        a,
+        l,
+        acodes,
+        amoves,
+        b,
+        m,
+        bcodes,
+        bmoves,
         word,
         &mut scratch[..pairs],
     );

@@ -32,10 +32,10 @@ compare-other-requires c κs =
     let a = c .before .before .before .before .before .before .before .before .before .before .before .before .before .before .before .before .before .before .before .before .before .before .before .before .before .before .before .args in
     let p = c .before .before .before .before .before .before .before .before .before .before .before .before .before .before .before .before .before .before .before .before .before .before .before .before .before .before .before .pre in
     let f = c .before .before .before .before .before .before .before .before .before .before .before .before .before .build-from in (
-      ruleIn (a .a .now),
+      p .0,
+      p .1,
       sym (file-letters (a .a .now) (a .l) (p .0)) ∙ c .before .before .before .before .before .before .before .before .before .before .before .before .before .before .before .before .if1 .left ∙ file-letters (a .b .now) (a .m) (p .1),
       own-table (a .a .now) (a .l) (p .0) (c .before .before .before .before .before .before .before .n .given .0 .0) (a .acodes .now) (a .atransitions .now) _ _ (rw (c .before .before .before .before .before .before .before .n .given .1) at (f .ensures)) (f .kept .1 .1 .1 .0) (f .kept .1 .1 .1 .1 .0),
-      p .1,
     )
 
 same-length : tie.Need-same-length
@@ -89,11 +89,11 @@ returns-3 c =
     let ys = f .last .1 .1 .1 .0 in
     let ws = f .last .1 .1 .1 .1 .0 in
     let lent : Slices = record { codes-a = a .acodes .now; transitions-a = a .atransitions .now; codes-b = a .bcodes .now; transitions-b = a .btransitions .now; word = a .word .now; scratch = a .scratch .now } in
-    let left : Slices = record { codes-a = s .last .1 .1 .1 .1 .0; transitions-a = s .last .1 .1 .1 .1 .1 .0; codes-b = s .last .1 .1 .1 .1 .1 .1 .0; transitions-b = s .last .1 .1 .1 .1 .1 .1 .1 .0; word = s .last .1 .1 .1 .1 .1 .1 .1 .1 .0; scratch = s .last .1 .1 .1 .1 .1 .1 .1 .1 .1 .0 } in
+    let left : Slices = record { codes-a = s .last .1 .1 .1 .1 .1 .0; transitions-a = s .last .1 .1 .1 .1 .1 .1 .0; codes-b = s .last .1 .1 .1 .1 .1 .1 .1 .0; transitions-b = s .last .1 .1 .1 .1 .1 .1 .1 .1 .0; word = s .last .1 .1 .1 .1 .1 .1 .1 .1 .1 .0; scratch = s .last .1 .1 .1 .1 .1 .1 .1 .1 .1 .1 .0 } in
     let M = rw (c .before .before .before .before .before .before .before .before .before .before .before .before .before .before .before .before .before .before .before .before .n .given .1) at (f .ensures) in
     let e = sym (file-letters (a .a .now) (a .l) (p .0)) ∙ c .before .before .before .before .before .before .before .before .before .before .before .before .before .before .before .before .before .before .before .before .before .before .before .before .before .before .before .before .before .if1 .left ∙ file-letters (a .b .now) (a .m) (p .1) in
     own-searched (ruleIn (a .a .now)) (ruleIn (a .b .now)) lent n ys ws (s .result) left e M (f .kept .1 .1 .1 .0) (f .kept .1 .1 .1 .1 .0)
-    (s .ensures (ruleIn (a .a .now)) e (own-table (a .a .now) (a .l) (p .0) n (a .acodes .now) (a .atransitions .now) ys ws M (f .kept .1 .1 .1 .0) (f .kept .1 .1 .1 .1 .0)))
+    (s .ensures)
 
 pub compare-files-spec : {M : Type 1} → statement M
 compare-files-spec =

@@ -21,10 +21,10 @@ enum-known-m c = search needs
 
 search-tables-requires : tie.Need-search-tables-requires
 search-tables-requires c κs =
-    let a = c .before .before .before .before .before .before .before .before .before .before .before .before .before .before .before .before .before .before .before .before .before .before .before .args in
-    let p = c .before .before .before .before .before .before .before .before .before .before .before .before .before .before .before .before .before .before .before .before .before .before .before .pre in
+    let a = c .before .before .before .before .before .before .before .before .before .before .before .before .before .before .before .before .before .before .before .before .before .before .before .before .args in
+    let p = c .before .before .before .before .before .before .before .before .before .before .before .before .before .before .before .before .before .before .before .before .before .before .before .before .pre in
     let f = c .before .before .before .before .before .before .before .before .before .before .before .before .before .build-from in
-    (p .0, ruleIn (a .b .now), p .1, p .2, other-table (a .b .now) (a .l) (p .3) (c .before .before .before .before .before .before .before .m .given .0 .0) (a .bcodes .now) (a .btransitions .now) _ _ (rw (c .before .before .before .before .before .before .before .m .given .1) at (f .ensures)) (f .kept .1 .1 .1 .0) (f .kept .1 .1 .1 .1 .0))
+    (p .0, p .1, p .2, p .3, other-table (a .b .now) (a .bl) (p .1) (c .before .before .before .before .before .before .before .m .given .0 .0) (a .bcodes .now) (a .btransitions .now) _ _ (rw (c .before .before .before .before .before .before .before .m .given .1) at (f .ensures)) (f .kept .1 .1 .1 .0) (f .kept .1 .1 .1 .1 .0))
 
 same-length : tie.Need-same-length
 same-length c = search needs
@@ -40,13 +40,12 @@ same-length-4 c = search needs
 
 returns : tie.Need-returns
 returns c =
-    let a = c .before .before .before .before .before .before .before .before .before .before .before .before .before .before .before .before .before .before .before .before .before .before .before .before .args in
+    let a = c .before .before .before .before .before .before .before .before .before .before .before .before .before .before .before .before .before .before .before .before .before .before .before .before .before .args in
     let f = c .before .before .before .before .before .before .before .before .before .before .before .before .before .before .build-from in
     let z = c .before .before .before .before .zero-rooms in
     let lent : Slices = record { codes-a = a .acodes .now; transitions-a = a .atransitions .now; codes-b = a .bcodes .now; transitions-b = a .btransitions .now; word = a .word .now; scratch = a .scratch .now } in
     let left : Slices = record { codes-a = z .last .0; transitions-a = z .last .1 .0; codes-b = f .last .1 .1 .1 .0; transitions-b = f .last .1 .1 .1 .1 .0; word = a .word .now; scratch = a .scratch .now } in
-    λ x e O.
-    other-turned-away x (ruleIn (a .b .now)) lent (c .before .before .before .before .before .before .before .before .row .given .0 .0) left (rw (c .before .before .before .before .before .before .before .before .row .given .1) at (f .ensures)) (z .ensures .0) (z .ensures .1) refl refl
+    other-turned-away (ruleIn (a .a .now)) (ruleIn (a .b .now)) lent (c .before .before .before .before .before .before .before .before .row .given .0 .0) left (rw (c .before .before .before .before .before .before .before .before .row .given .1) at (f .ensures)) (z .ensures .0) (z .ensures .1) refl refl
 
 same-length-5 : tie.Need-same-length-5
 same-length-5 c = search needs
@@ -68,19 +67,17 @@ same-length-10 c = search needs
 
 returns-2 : tie.Need-returns-2
 returns-2 c =
-    let a = c .before .before .before .before .before .before .before .before .before .before .before .before .before .before .before .before .before .before .before .before .before .before .before .before .before .before .before .before .before .before .before .before .before .before .before .before .args in
-    let p = c .before .before .before .before .before .before .before .before .before .before .before .before .before .before .before .before .before .before .before .before .before .before .before .before .before .before .before .before .before .before .before .before .before .before .before .before .pre in
+    let a = c .before .before .before .before .before .before .before .before .before .before .before .before .before .before .before .before .before .before .before .before .before .before .before .before .before .before .before .before .before .before .before .before .before .before .before .before .before .args in
     let f = c .before .before .before .before .before .before .before .before .before .before .before .before .before .before .before .before .before .before .before .before .before .before .before .before .before .before .build-from in
     let s = c .before .before .before .before .before .before .before .before .before .before .before .before .search-tables in
     let m = c .before .before .before .before .before .before .before .before .before .before .before .before .before .before .before .before .before .before .before .before .m .given .0 .0 in
     let ys = f .last .1 .1 .1 .0 in
     let ws = f .last .1 .1 .1 .1 .0 in
     let lent : Slices = record { codes-a = a .acodes .now; transitions-a = a .atransitions .now; codes-b = a .bcodes .now; transitions-b = a .btransitions .now; word = a .word .now; scratch = a .scratch .now } in
-    let left : Slices = record { codes-a = s .last .1 .1 .1 .1 .0; transitions-a = s .last .1 .1 .1 .1 .1 .0; codes-b = s .last .1 .1 .1 .1 .1 .1 .0; transitions-b = s .last .1 .1 .1 .1 .1 .1 .1 .0; word = s .last .1 .1 .1 .1 .1 .1 .1 .1 .0; scratch = s .last .1 .1 .1 .1 .1 .1 .1 .1 .1 .0 } in
+    let left : Slices = record { codes-a = s .last .1 .1 .1 .1 .1 .1 .0; transitions-a = s .last .1 .1 .1 .1 .1 .1 .1 .0; codes-b = s .last .1 .1 .1 .1 .1 .1 .1 .1 .0; transitions-b = s .last .1 .1 .1 .1 .1 .1 .1 .1 .1 .0; word = s .last .1 .1 .1 .1 .1 .1 .1 .1 .1 .1 .0; scratch = s .last .1 .1 .1 .1 .1 .1 .1 .1 .1 .1 .1 .0 } in
     let M = rw (c .before .before .before .before .before .before .before .before .before .before .before .before .before .before .before .before .before .before .before .before .m .given .1) at (f .ensures) in
-    λ x e O.
-    other-searched x (ruleIn (a .b .now)) lent m ys ws (s .result) left M (f .kept .1 .1 .1 .0) (f .kept .1 .1 .1 .1 .0)
-    (s .ensures x (ruleIn (a .b .now)) e O (other-table (a .b .now) (a .l) (p .3) m (a .bcodes .now) (a .btransitions .now) ys ws M (f .kept .1 .1 .1 .0) (f .kept .1 .1 .1 .1 .0)))
+    other-searched (ruleIn (a .a .now)) (ruleIn (a .b .now)) lent m ys ws (s .result) left M (f .kept .1 .1 .1 .0) (f .kept .1 .1 .1 .1 .0)
+    (s .ensures)
 
 pub compare-other-spec : {M : Type 1} → statement M
 compare-other-spec =

@@ -1,6 +1,7 @@
 -- `search_tables` meets its contract: row 29, then the search.
 use mathlib.Core.Path.{_≡_, refl}
 use native.Mathlib.Omega.{arith}
+use Rattle.file_spec.specs.File.{ruleIn}
 use Rattle.stricter_entry_spec.specs.declared.Comparison.the-variants.{Refused}
 use Rattle.stricter_entry_spec.specs.Rows.{Slices}
 use Rattle.stricter.specs.Steps.{pairRow}
@@ -12,16 +13,16 @@ use Rattle.stricter.proofs.search_tables.Tie as tie
 
 mul-pairs : tie.Need-mul-pairs
 mul-pairs c =
-    let a = c .before .before .before .before .before .before .before .before .args in
-    let p = c .before .before .before .before .before .before .before .before .pre in
-    let h = pairs-small (p .0) (p .1) (p .2) (a .n) (a .m) (a .ainitial) (a .binitial) (a .acodes .now) (a .atransitions .now) (a .bcodes .now) (a .btransitions .now) (p .3) (p .4) in
+    let a = c .before .before .before .before .before .before .before .before .before .before .args in
+    let p = c .before .before .before .before .before .before .before .before .before .before .pre in
+    let h = pairs-small (ruleIn (a .a .now)) (ruleIn (a .b .now)) (p .2) (a .n) (a .m) (a .al .head .initial) (a .bl .head .initial) (a .acodes .now) (a .atransitions .now) (a .bcodes .now) (a .btransitions .now) (p .3) (p .4) in
     record { fits = omega arith }
 
 lacks-room-requires : tie.Need-lacks-room-requires
 lacks-room-requires c κs =
-    let a = c .before .before .before .before .before .before .before .before .before .before .args in
-    let p = c .before .before .before .before .before .before .before .before .before .before .pre in
-    pairs-small (p .0) (p .1) (p .2) (a .n) (a .m) (a .ainitial) (a .binitial) (a .acodes .now) (a .atransitions .now) (a .bcodes .now) (a .btransitions .now) (p .3) (p .4)
+    let a = c .before .before .before .before .before .before .before .before .before .before .before .before .args in
+    let p = c .before .before .before .before .before .before .before .before .before .before .before .before .pre in
+    pairs-small (ruleIn (a .a .now)) (ruleIn (a .b .now)) (p .2) (a .n) (a .m) (a .al .head .initial) (a .bl .head .initial) (a .acodes .now) (a .atransitions .now) (a .bcodes .now) (a .btransitions .now) (p .3) (p .4)
 
 zero-rooms-requires : tie.Need-zero-rooms-requires
 zero-rooms-requires c κs = search needs
@@ -49,21 +50,21 @@ same-length-6 c = search needs
 
 returns : tie.Need-returns
 returns c =
-    let a = c .before .before .before .before .before .before .before .before .before .before .before .before .before .before .before .before .before .before .before .before .before .before .before .before .before .before .args in
+    let a = c .before .before .before .before .before .before .before .before .before .before .before .before .before .before .before .before .before .before .before .before .before .before .before .before .before .before .before .before .args in
+    let p = c .before .before .before .before .before .before .before .before .before .before .before .before .before .before .before .before .before .before .before .before .before .before .before .before .before .before .before .before .pre in
     let z = c .before .before .before .before .before .before .before .before .before .before .before .zero-rooms in
     let v = c .before .before .before .before .zero-rooms2 in
     let lent : Slices = record { codes-a = a .acodes .now; transitions-a = a .atransitions .now; codes-b = a .bcodes .now; transitions-b = a .btransitions .now; word = a .word .now; scratch = a .scratch .now } in
     let left : Slices = record { codes-a = z .last .0; transitions-a = z .last .1 .0; codes-b = v .last .0; transitions-b = v .last .1 .0; word = a .word .now; scratch = a .scratch .now } in
-    λ x y e O X.
-    by-row x y 29 (pairRow x y lent) lent (Refused 29) left (pair-short x y e (a .n) (a .m) (a .ainitial) (a .binitial) (a .acodes .now) (a .atransitions .now) (a .bcodes .now) (a .btransitions .now) O X lent _ (c .before .before .before .before .before .before .before .before .before .before .before .before .before .before .before .lacks-room .ensures) (c .before .before .before .before .before .before .before .before .before .before .before .before .before .before .if1 .taken))
-    (refused-zero x y 29 lent left (λ z. omega arith) refl (z .ensures .0) (z .ensures .1) (v .ensures .0) (v .ensures .1) refl refl)
+    by-row (ruleIn (a .a .now)) (ruleIn (a .b .now)) 29 (pairRow (ruleIn (a .a .now)) (ruleIn (a .b .now)) lent) lent (Refused 29) left (pair-short (ruleIn (a .a .now)) (ruleIn (a .b .now)) (p .2) (a .n) (a .m) (a .al .head .initial) (a .bl .head .initial) (a .acodes .now) (a .atransitions .now) (a .bcodes .now) (a .btransitions .now) (p .3) (p .4) lent _ (c .before .before .before .before .before .before .before .before .before .before .before .before .before .before .before .lacks-room .ensures) (c .before .before .before .before .before .before .before .before .before .before .before .before .before .before .if1 .taken))
+    (refused-zero (ruleIn (a .a .now)) (ruleIn (a .b .now)) 29 lent left (λ z. omega arith) refl (z .ensures .0) (z .ensures .1) (v .ensures .0) (v .ensures .1) refl refl)
 
 find-word-requires : tie.Need-find-word-requires
 find-word-requires c κs =
-    let a = c .before .before .before .before .before .before .before .before .before .before .before .before .before .before .before .before .before .before .args in
-    let p = c .before .before .before .before .before .before .before .before .before .before .before .before .before .before .before .before .before .before .pre in
+    let a = c .before .before .before .before .before .before .before .before .before .before .before .before .before .before .before .before .before .before .before .before .args in
+    let p = c .before .before .before .before .before .before .before .before .before .before .before .before .before .before .before .before .before .before .before .before .pre in
     let lent : Slices = record { codes-a = a .acodes .now; transitions-a = a .atransitions .now; codes-b = a .bcodes .now; transitions-b = a .btransitions .now; word = a .word .now; scratch = a .scratch .now } in
-    let h = roomy (p .0) (p .1) (p .2) (a .n) (a .m) (a .ainitial) (a .binitial) (a .acodes .now) (a .atransitions .now) (a .bcodes .now) (a .btransitions .now) (p .3) (p .4) lent _ (c .before .before .before .before .before .before .before .lacks-room .ensures) (c .before .before .before .before .before .before .if1 .left) in
+    let h = roomy (ruleIn (a .a .now)) (ruleIn (a .b .now)) (p .2) (a .n) (a .m) (a .al .head .initial) (a .bl .head .initial) (a .acodes .now) (a .atransitions .now) (a .bcodes .now) (a .btransitions .now) (p .3) (p .4) lent _ (c .before .before .before .before .before .before .before .lacks-room .ensures) (c .before .before .before .before .before .before .if1 .left) in
     (p .0, p .1, p .2, p .3, p .4, h .0, h .1)
 
 same-length-7 : tie.Need-same-length-7
@@ -86,12 +87,12 @@ same-length-12 c = search needs
 
 returns-2 : tie.Need-returns-2
 returns-2 c =
-    let a = c .before .before .before .before .before .before .before .before .before .before .before .before .before .before .before .before .before .before .before .before .before .before .before .before .before .before .before .before .before .before .before .args in
+    let a = c .before .before .before .before .before .before .before .before .before .before .before .before .before .before .before .before .before .before .before .before .before .before .before .before .before .before .before .before .before .before .before .before .before .args in
+    let p = c .before .before .before .before .before .before .before .before .before .before .before .before .before .before .before .before .before .before .before .before .before .before .before .before .before .before .before .before .before .before .before .before .before .pre in
     let f = c .before .before .before .before .before .before .before .before .before .before .before .before .find-word in
     let lent : Slices = record { codes-a = a .acodes .now; transitions-a = a .atransitions .now; codes-b = a .bcodes .now; transitions-b = a .btransitions .now; word = a .word .now; scratch = a .scratch .now } in
-    let left : Slices = record { codes-a = f .last .1 .1 .1 .1 .0; transitions-a = f .last .1 .1 .1 .1 .1 .0; codes-b = f .last .1 .1 .1 .1 .1 .1 .0; transitions-b = f .last .1 .1 .1 .1 .1 .1 .1 .0; word = f .last .1 .1 .1 .1 .1 .1 .1 .1 .0; scratch = f .last .1 .1 .1 .1 .1 .1 .1 .1 .1 .0 } in
-    λ x y e O X.
-    by-row x y 0 (pairRow x y lent) lent (f .result) left (pair-room x y e (a .n) (a .m) (a .ainitial) (a .binitial) (a .acodes .now) (a .atransitions .now) (a .bcodes .now) (a .btransitions .now) O X lent _ (c .before .before .before .before .before .before .before .before .before .before .before .before .before .before .before .before .before .before .before .before .lacks-room .ensures) (c .before .before .before .before .before .before .before .before .before .before .before .before .before .before .before .before .before .before .before .if1 .left)) (f .ensures x y e O X)
+    let left : Slices = record { codes-a = f .last .1 .1 .1 .1 .1 .1 .0; transitions-a = f .last .1 .1 .1 .1 .1 .1 .1 .0; codes-b = f .last .1 .1 .1 .1 .1 .1 .1 .1 .0; transitions-b = f .last .1 .1 .1 .1 .1 .1 .1 .1 .1 .0; word = f .last .1 .1 .1 .1 .1 .1 .1 .1 .1 .1 .0; scratch = f .last .1 .1 .1 .1 .1 .1 .1 .1 .1 .1 .1 .0 } in
+    by-row (ruleIn (a .a .now)) (ruleIn (a .b .now)) 0 (pairRow (ruleIn (a .a .now)) (ruleIn (a .b .now)) lent) lent (f .result) left (pair-room (ruleIn (a .a .now)) (ruleIn (a .b .now)) (p .2) (a .n) (a .m) (a .al .head .initial) (a .bl .head .initial) (a .acodes .now) (a .atransitions .now) (a .bcodes .now) (a .btransitions .now) (p .3) (p .4) lent _ (c .before .before .before .before .before .before .before .before .before .before .before .before .before .before .before .before .before .before .before .before .lacks-room .ensures) (c .before .before .before .before .before .before .before .before .before .before .before .before .before .before .before .before .before .before .before .if1 .left)) (f .ensures)
 
 pub search-tables-spec : {M : Type 1} → statement M
 search-tables-spec =

@@ -1,48 +1,49 @@
 -- `clear` meets its contract.
 use mathlib.Core.Path.{_≡_, refl}
-use Prim.Native.Nat.{_-_}
+use Prim.Native.Nat.{_+_, _-_, _<_}
 use native.Mathlib.Omega.{arith}
 use borrow.Author.Needs.{needs}
-use lib.ListN.{length}
-use Rattle.stricter_forest.proofs.Passes.{Clearing, clearing-start, clearing-stay, clearing-set, clearing-end}
+use lib.ListN.{length, getD, length-set}
+use Rattle.stricter_forest.proofs.Passes.{Clearing, clearing-start, clearing-over, clearing-set, clearing-end}
 use Rattle.stricter_explore.proofs.clear.Statement.{statement}
 use Rattle.stricter_explore.proofs.clear.Tie as tie
 
 abbrev Inv-loop : tie.InvT-loop
-Inv-loop marks₀ x₀ marks x = (length marks ≡ length marks₀) × Clearing x marks₀ marks
+Inv-loop marks₀ x₀ marks x = (length marks ≡ length marks₀) × (x < length marks → 0 < getD marks x 0) × Clearing x marks₀ marks
 
 abbrev μ-loop : tie.MeasureT-loop
 μ-loop marks₀ x₀ marks x = length marks₀ - x
 
+next-set-requires : tie.Need-next-set-requires Inv-loop μ-loop
+next-set-requires c κs = search needs
+
 loop-holds : tie.Need-loop-holds Inv-loop μ-loop
-loop-holds c = (refl, clearing-start _)
-
-add-x : tie.Need-add-x Inv-loop μ-loop
-add-x c = search needs
-
-slice-read-if1 : tie.Need-slice-read-if1 Inv-loop μ-loop
-slice-read-if1 c = search needs
+loop-holds c = let n = c .next-set .ensures in (refl, n .set, clearing-over 0 _ _ _ (n .before .ordered) (n .before .zeros) (clearing-start _))
 
 slice-write-marks : tie.Need-slice-write-marks Inv-loop μ-loop
 slice-write-marks c = search needs
 
+add-next-set : tie.Need-add-next-set Inv-loop μ-loop
+add-next-set c = search needs
+
+next-set-requires-2 : tie.Need-next-set-requires-2 Inv-loop μ-loop
+next-set-requires-2 c κs = let l = c .before .before .loop in let h = length-set (l .marks) (l .x) 1 in (omega (arith, h, c .before .loop-test .taken), omega arith)
+
 loop-less : tie.Need-loop-less Inv-loop μ-loop
-loop-less c = search needs
+loop-less c = omega (arith, c .next-set2 .ensures .before .ordered, c .before .before .loop-test .taken, c .before .before .before .loop .inv .0)
 
 loop-again : tie.Need-loop-again Inv-loop μ-loop
-loop-again c = let n = clearing-set (c .before .before .before .loop .x) _ (c .before .before .before .loop .marks) (omega arith) (c .before .before .before .loop .inv .1) in (n .long, n)
-
-loop-less-2 : tie.Need-loop-less-2 Inv-loop μ-loop
-loop-less-2 c = search needs
-
-loop-again-2 : tie.Need-loop-again-2 Inv-loop μ-loop
-loop-again-2 c = let n = clearing-stay (c .before .before .before .loop .x) _ (c .before .before .before .loop .marks) (omega arith) (c .before .before .before .loop .inv .1) in (n .long, n)
+loop-again c =
+    let l = c .before .before .before .loop in
+    let n = c .next-set2 .ensures in
+    let m = clearing-over (l .x + 1) _ _ _ (n .before .ordered) (n .before .zeros) (clearing-set (l .x) _ (l .marks) (l .inv .1 (c .before .before .loop-test .taken)) (l .inv .2)) in
+    (m .long, n .set, m)
 
 same-length : tie.Need-same-length Inv-loop μ-loop
 same-length c = c .before .loop .inv .0
 
 returns : tie.Need-returns Inv-loop μ-loop
-returns c = clearing-end (c .before .loop .x) _ (c .before .loop .marks) (omega arith) (c .before .loop .inv .1)
+returns c = clearing-end (c .before .loop .x) _ (c .before .loop .marks) (omega arith) (c .before .loop .inv .2)
 
 pub clear-spec : {M : Type 1} → statement M
 clear-spec =
@@ -50,13 +51,12 @@ clear-spec =
     (tie.spec
     Inv-loop
     μ-loop
+    next-set-requires
     loop-holds
-    add-x
-    slice-read-if1
     slice-write-marks
+    add-next-set
+    next-set-requires-2
     loop-less
     loop-again
-    loop-less-2
-    loop-again-2
     same-length
     returns)

@@ -8,7 +8,7 @@ use Rattle.stricter_laws.specs.Pairs.{PairStep, PairEdge}
 use Rattle.stricter_laws.proofs.Rows.{cut-le}
 use Rattle.stricter_forest.specs.Forest.{kindIn}
 use Rattle.stricter_forest.proofs.Pairs.{step-lettered, kind-low, kind-at, pair-low}
-use Rattle.stricter_forest.proofs.Passes.{passed-stay, passed-visit}
+use Rattle.stricter_forest.proofs.Passes.{passed-visit}
 use Rattle.stricter_explore.proofs.visit.Statement.{statement}
 use Rattle.stricter_explore.proofs.visit.Tie as tie
 
@@ -24,18 +24,6 @@ add-x c = let h = low (c .before .before .before .before .before) in omega arith
 
 slice-read-v : tie.Need-slice-read-v
 slice-read-v c = let h = low (c .before .before .before .before .before .before) in omega arith
-
-returns : tie.Need-returns
-returns c =
-    let a = c .before .before .before .before .before .before .before .args in
-    passed-stay (PairStep (length (a .rcodes .now)) (a .left .now) (a .right .now)) (kindIn (a .lcodes .now) (a .rcodes .now))
-    (step-lettered _ _ _ _ (c .before .before .before .before .before .before .before .pre .0 .paired)) (kind-low _ _) (a .i * length (a .rcodes .now) + a .j) (a .marks .now) (λ h. absurd (omega arith))
-
-returns-2 : tie.Need-returns-2
-returns-2 c =
-    let a = c .before .before .before .before .before .before .before .before .args in
-    passed-stay (PairStep (length (a .rcodes .now)) (a .left .now) (a .right .now)) (kindIn (a .lcodes .now) (a .rcodes .now))
-    (step-lettered _ _ _ _ (c .before .before .before .before .before .before .before .before .pre .0 .paired)) (kind-low _ _) (a .i * length (a .rcodes .now) + a .j) (a .marks .now) (λ h. omega arith)
 
 mul-kind : tie.Need-mul-kind
 mul-kind c = search needs
@@ -53,38 +41,38 @@ kind-requires : tie.Need-kind-requires
 kind-requires c κs = search needs
 
 -- what `kind` answers
-kind-is : (c : tie.After-kind) → c .kind .result ≡ kindIn (c .before .before .before .before .before .before .before .before .before .before .before .args .lcodes .now) (c .before .before .before .before .before .before .before .before .before .before .before .args .rcodes .now) (c .before .before .before .before .before .before .before .before .before .before .before .args .i * length (c .before .before .before .before .before .before .before .before .before .before .before .args .rcodes .now) + c .before .before .before .before .before .before .before .before .before .before .before .args .j)
-kind-is c = c .kind .ensures ∙ sym (kind-at (c .before .before .before .before .before .before .before .before .before .before .before .args .lcodes .now) (c .before .before .before .before .before .before .before .before .before .before .before .args .rcodes .now) (c .before .before .before .before .before .before .before .before .before .before .before .args .i) (c .before .before .before .before .before .before .before .before .before .before .before .args .j) (c .before .before .before .before .before .before .before .before .before .before .before .pre .3))
+kind-is : (c : tie.After-kind) → c .kind .result ≡ kindIn (c .before .before .before .before .before .before .before .before .before .args .lcodes .now) (c .before .before .before .before .before .before .before .before .before .args .rcodes .now) (c .before .before .before .before .before .before .before .before .before .args .i * length (c .before .before .before .before .before .before .before .before .before .args .rcodes .now) + c .before .before .before .before .before .before .before .before .before .args .j)
+kind-is c = c .kind .ensures ∙ sym (kind-at (c .before .before .before .before .before .before .before .before .before .args .lcodes .now) (c .before .before .before .before .before .before .before .before .before .args .rcodes .now) (c .before .before .before .before .before .before .before .before .before .args .i) (c .before .before .before .before .before .before .before .before .before .args .j) (c .before .before .before .before .before .before .before .before .before .pre .3))
 
 add-expand : tie.Need-add-expand
-add-expand c = let e = kind-is c in let h = kind-low (c .before .before .before .before .before .before .before .before .before .before .before .args .lcodes .now) (c .before .before .before .before .before .before .before .before .before .before .before .args .rcodes .now) (c .before .before .before .before .before .before .before .before .before .before .before .args .i * length (c .before .before .before .before .before .before .before .before .before .before .before .args .rcodes .now) + c .before .before .before .before .before .before .before .before .before .before .before .args .j) in omega arith
+add-expand c = let e = kind-is c in let h = kind-low (c .before .before .before .before .before .before .before .before .before .args .lcodes .now) (c .before .before .before .before .before .before .before .before .before .args .rcodes .now) (c .before .before .before .before .before .before .before .before .before .args .i * length (c .before .before .before .before .before .before .before .before .before .args .rcodes .now) + c .before .before .before .before .before .before .before .before .before .args .j) in omega arith
 
 expand-requires : tie.Need-expand-requires
 expand-requires c κs =
-    let a = c .before .before .before .before .before .before .before .before .before .before .before .before .args in
-    let f = c .before .before .before .before .before .before .before .before .before .before .before .before .pre .0 in
+    let a = c .before .before .before .before .before .before .before .before .before .before .args in
+    let f = c .before .before .before .before .before .before .before .before .before .before .pre .0 in
     let e = kind-is (c .before) in
     let h = kind-low (a .lcodes .now) (a .rcodes .now) (a .i * length (a .rcodes .now) + a .j) in (
-      (rw (f .marked) (f .paired), c .before .before .before .before .before .before .before .before .before .before .before .before .pre .3, omega (arith, c .before .before .before .before .before .before .before .before .before .before .before .before .pre .3, f .few-B), omega arith, omega arith),
-      cut-le (a .left .now) (f .paired .ascend-A) (a .i) (a .cuts .now) (c .before .before .before .before .before .before .before .before .before .before .before .before .pre .1),
+      (rw (f .marked) (f .paired), c .before .before .before .before .before .before .before .before .before .before .pre .3, omega (arith, c .before .before .before .before .before .before .before .before .before .before .pre .3, f .few-B), omega arith, omega arith),
+      cut-le (a .left .now) (f .paired .ascend-A) (a .i) (a .cuts .now) (c .before .before .before .before .before .before .before .before .before .before .pre .1),
     )
 
 add-marks : tie.Need-add-marks
 add-marks c = search needs
 
 slice-write-marks : tie.Need-slice-write-marks
-slice-write-marks c = let h = low (c .before .before .before .before .before .before .before .before .before .before .before .before .before .before .before) in omega (arith, c .before .before .expand .ensures (c .before .before .before .before .before .before .before .before .before .before .before .before .before .before .before .args .i) (c .before .before .before .before .before .before .before .before .before .before .before .before .before .before .before .pre .1) .long)
+slice-write-marks c = let h = low (c .before .before .before .before .before .before .before .before .before .before .before .before .before) in omega (arith, c .before .before .expand .ensures (c .before .before .before .before .before .before .before .before .before .before .before .before .before .args .i) (c .before .before .before .before .before .before .before .before .before .before .before .before .before .pre .1) .long)
 
 same-length : tie.Need-same-length
 same-length c = search needs
 
-returns-3 : tie.Need-returns-3
-returns-3 c =
-    let a = c .before .before .before .before .before .before .before .before .before .before .before .before .before .before .before .args in
+returns : tie.Need-returns
+returns c =
+    let a = c .before .before .before .before .before .before .before .before .before .before .before .before .before .args in
     passed-visit (PairStep (length (a .rcodes .now)) (a .left .now) (a .right .now)) (kindIn (a .lcodes .now) (a .rcodes .now))
-    (step-lettered _ _ _ _ (c .before .before .before .before .before .before .before .before .before .before .before .before .before .before .before .pre .0 .paired)) (kind-low _ _) (a .i * length (a .rcodes .now) + a .j) _ _
-    (PairEdge (length (a .rcodes .now)) (a .left .now) (a .right .now) (a .i * length (a .rcodes .now) + a .j)) (a .marks .now) _ refl (omega arith) (omega arith)
-    (ap (λ (k : ℕ). 64 + k) (kind-is (c .before .before .before .before))) (λ b y s. (b, s)) (c .before .before .expand .ensures (a .i) (c .before .before .before .before .before .before .before .before .before .before .before .before .before .before .before .pre .1))
+    (step-lettered _ _ _ _ (c .before .before .before .before .before .before .before .before .before .before .before .before .before .pre .0 .paired)) (kind-low _ _) (a .i * length (a .rcodes .now) + a .j) _ _
+    (PairEdge (length (a .rcodes .now)) (a .left .now) (a .right .now) (a .i * length (a .rcodes .now) + a .j)) (a .marks .now) _ refl (c .before .before .before .before .before .before .before .before .before .before .before .before .before .pre .4 .big) (c .before .before .before .before .before .before .before .before .before .before .before .before .before .pre .4 .small)
+    (ap (λ (k : ℕ). 64 + k) (kind-is (c .before .before .before .before))) (λ b y s. (b, s)) (c .before .before .expand .ensures (a .i) (c .before .before .before .before .before .before .before .before .before .before .before .before .before .pre .1))
 
 pub visit-spec : {M : Type 1} → statement M
 visit-spec =
@@ -93,8 +81,6 @@ visit-spec =
     mul-x
     add-x
     slice-read-v
-    returns
-    returns-2
     mul-kind
     shared-slice-read-kind
     mul-kind-2
@@ -105,4 +91,4 @@ visit-spec =
     add-marks
     slice-write-marks
     same-length
-    returns-3)
+    returns)

@@ -1,82 +1,103 @@
 -- `visit_all` meets its contract.
-use mathlib.Core.Path.{_≡_}
-use mathlib.Core.Bool.{true}
-use Prim.Native.Nat.{_+_, _-_, _*_, _≤_}
+use mathlib.Core.Path.{_≡_, _∙_}
+use Prim.Native.Nat.{_+_, _-_, _*_, _/_, _≤_, _<_}
 use native.Mathlib.Omega.{arith}
-use native.Mathlib.Nat.{zero-mul, suc-mul}
-use native.Mathlib.Numerals.{add-one}
 use borrow.Author.Needs.{needs}
 use lib.ListN.{length}
-use Rattle.table_fixpoints_spec.proofs.Loops.{or-now, or-before}
 use Rattle.stricter_laws.specs.Pairs.{PairStep}
 use Rattle.stricter_laws.proofs.Rows.{fits-same}
-use Rattle.stricter_forest.specs.Forest.{kindIn, Passed}
-use Rattle.stricter_forest.proofs.Pairs.{step-lettered, kind-low}
-use Rattle.stricter_forest.proofs.Passes.{passed-start, passed-then}
+use Rattle.stricter_forest.specs.Forest.{kindIn, Waits, Passed}
+use Rattle.stricter_forest.proofs.Pairs.{step-lettered, kind-low, row-end, Parts, pair-parts}
+use Rattle.stricter_forest.proofs.Passes.{passed-over, passed-turn}
 use Rattle.stricter_explore.proofs.visit_all.Statement.{statement}
 use Rattle.stricter_explore.proofs.visit_all.Tie as tie
 
 abbrev Inv-loop : tie.InvT-loop
-Inv-loop lcodes left rcodes right marks₀ changed₀ i₀ marks changed i =
-    (i ≤ length lcodes) × Passed (PairStep (length rcodes) left right) (kindIn lcodes rcodes) 0 (i * length rcodes) marks₀ marks changed
+Inv-loop lcodes left rcodes right marks₀ nb changed₀ x₀ marks changed x =
+    (x ≤ length marks₀) × (x < length marks₀ → Waits marks x) × Passed (PairStep (length rcodes) left right) (kindIn lcodes rcodes) 0 x marks₀ marks changed
 
 abbrev μ-loop : tie.MeasureT-loop
-μ-loop lcodes left rcodes right marks₀ changed₀ i₀ marks changed i = length lcodes - i
+μ-loop lcodes left rcodes right marks₀ nb changed₀ x₀ marks changed x = length marks₀ - x
+
+next-waiting-requires : tie.Need-next-waiting-requires Inv-loop μ-loop
+next-waiting-requires c κs = search needs
 
 loop-holds : tie.Need-loop-holds Inv-loop μ-loop
 loop-holds c =
-    let a = c .before .before .before .before .before .args in (
-      omega arith,
-      rw (zero-mul (length (a .rcodes .now)))
-          (passed-start (PairStep (length (a .rcodes .now)) (a .left .now) (a .right .now)) (kindIn (a .lcodes .now) (a .rcodes .now))
-          (step-lettered _ _ _ _ (c .before .before .before .before .before .pre .paired)) (kind-low _ _) 0 (a .marks .now)),
+    let a = c .before .before .before .before .before .before .before .args in
+    let n = c .next-waiting .ensures in (
+      n .within,
+      n .waits,
+      passed-over (PairStep (length (a .rcodes .now)) (a .left .now) (a .right .now)) (kindIn (a .lcodes .now) (a .rcodes .now))
+          (step-lettered _ _ _ _ (c .before .before .before .before .before .before .before .pre .paired)) (kind-low _ _) 0 _ (a .marks .now) (n .before),
     )
 
-cut-row-requires : tie.Need-cut-row-requires Inv-loop μ-loop
-cut-row-requires c κs = (c .before .before .before .before .before .before .before .pre .paired .ascend-A, omega (arith, c .before .before .before .before .before .before .before .pre .few-A))
+-- x is below the number of marks
+below : (c : tie.In-loop Inv-loop μ-loop) → c .before .loop .x < length (c .before .before .before .before .before .before .before .before .before .args .marks .now)
+below c = omega (arith, c .loop-test .taken, c .before .loop .inv .2 .long)
 
-add-i : tie.Need-add-i Inv-loop μ-loop
-add-i c = search needs
+-- its two numbers
+numbers : (c : tie.In-loop Inv-loop μ-loop) → Parts (length (c .before .before .before .before .before .before .before .before .before .args .lcodes .now)) (length (c .before .before .before .before .before .before .before .before .before .args .rcodes .now)) (c .before .loop .x)
+numbers c = let a = c .before .before .before .before .before .before .before .before .before .args in pair-parts (length (a .lcodes .now)) (length (a .rcodes .now)) (c .before .loop .x) _ _ (a .marks .now) (c .before .before .before .before .before .before .before .before .before .pre) (below c)
+
+-- the row ends within the marks
+ends : (c : tie.In-loop Inv-loop μ-loop) → c .before .loop .x / length (c .before .before .before .before .before .before .before .before .before .args .rcodes .now) * length (c .before .before .before .before .before .before .before .before .before .args .rcodes .now) + length (c .before .before .before .before .before .before .before .before .before .args .rcodes .now) ≤ length (c .before .before .before .before .before .before .before .before .before .args .marks .now)
+ends c = let a = c .before .before .before .before .before .before .before .before .before .args in row-end (length (a .lcodes .now)) (length (a .rcodes .now)) _ _ _ (a .marks .now) (c .before .before .before .before .before .before .before .before .before .pre) (numbers c .first) (numbers c .some)
+
+div-i : tie.Need-div-i Inv-loop μ-loop
+div-i c = omega (arith, numbers c .some)
+
+cut-row-requires : tie.Need-cut-row-requires Inv-loop μ-loop
+cut-row-requires c κs = (c .before .before .before .before .before .before .before .before .before .pre .paired .ascend-A, omega (arith, numbers c .first, c .before .before .before .before .before .before .before .before .before .pre .few-A))
+
+rem-visit-row : tie.Need-rem-visit-row Inv-loop μ-loop
+rem-visit-row c = omega (arith, numbers (c .before .before) .some)
 
 visit-row-requires : tie.Need-visit-row-requires Inv-loop μ-loop
 visit-row-requires c κs =
-    let a = c .before .before .before .before .before .before .before .before .before .before .args in
-    (fits-same (length (a .lcodes .now)) (length (a .rcodes .now)) _ _ (a .marks .now) (c .before .before .before .before .loop .marks) (c .before .before .before .before .loop .inv .1 .long) (c .before .before .before .before .before .before .before .before .before .before .pre), c .before .before .cut-row .ensures, omega arith)
+    let a = c .before .before .before .before .before .before .before .before .before .before .before .before .args in
+    let l = c .before .before .before .before .loop in
+    let n = numbers (c .before .before .before) in (
+      fits-same (length (a .lcodes .now)) (length (a .rcodes .now)) _ _ (a .marks .now) (l .marks) (l .inv .2 .long) (c .before .before .before .before .before .before .before .before .before .before .before .before .pre),
+      c .before .before .cut-row .ensures,
+      n .first,
+      n .second,
+      rw (n .whole) (l .inv .1 (below (c .before .before .before))),
+    )
+
+mul-next-waiting : tie.Need-mul-next-waiting Inv-loop μ-loop
+mul-next-waiting c = let h = ends (c .before .before .before .before .before .before .before) in omega arith
+
+add-next-waiting : tie.Need-add-next-waiting Inv-loop μ-loop
+add-next-waiting c = let h = ends (c .before .before .before .before .before .before .before) in omega arith
+
+next-waiting-requires-2 : tie.Need-next-waiting-requires-2 Inv-loop μ-loop
+next-waiting-requires-2 c κs = let h = ends (c .before .before .before .before .before .before .before) in (omega (arith, c .before .before .before .visit-row .ensures .long, c .before .before .before .before .before .before .before .before .loop .inv .2 .long), omega arith)
 
 loop-less : tie.Need-loop-less Inv-loop μ-loop
-loop-less c = search needs
+loop-less c = let n = numbers (c .before .before .before .before .before .before .before .before) in omega (arith, c .next-waiting2 .ensures .ordered, n .whole, n .second, below (c .before .before .before .before .before .before .before .before))
 
 loop-again : tie.Need-loop-again Inv-loop μ-loop
 loop-again c =
-    let a = c .before .before .before .before .before .before .before .before .before .before .before .before .before .before .args in
-    let l = c .before .before .before .before .before .before .before .before .loop in
+    let a = c .before .before .before .before .before .before .before .before .before .before .before .before .before .before .before .before .before .args in
+    let l = c .before .before .before .before .before .before .before .before .before .loop in
+    let n = c .next-waiting2 .ensures in
     let nb = length (a .rcodes .now) in
-    let step = passed-then (PairStep nb (a .left .now) (a .right .now)) (kindIn (a .lcodes .now) (a .rcodes .now))
-    (step-lettered _ _ _ _ (c .before .before .before .before .before .before .before .before .before .before .before .before .before .before .pre .paired)) (kind-low _ _) 0 (l .i * nb) (l .i * nb + nb) (a .marks .now) (l .marks) _ (l .changed) _ true
-    (l .inv .1) (c .before .before .before .visit-row .ensures) (or-now (l .changed) _ (c .if1 .taken)) in
-    (omega arith, rw (add-one (l .i), suc-mul (l .i) nb) step)
-
-loop-less-2 : tie.Need-loop-less-2 Inv-loop μ-loop
-loop-less-2 c = search needs
-
-loop-again-2 : tie.Need-loop-again-2 Inv-loop μ-loop
-loop-again-2 c =
-    let a = c .before .before .before .before .before .before .before .before .before .before .before .before .before .before .args in
-    let l = c .before .before .before .before .before .before .before .before .loop in
-    let nb = length (a .rcodes .now) in
-    let step = passed-then (PairStep nb (a .left .now) (a .right .now)) (kindIn (a .lcodes .now) (a .rcodes .now))
-    (step-lettered _ _ _ _ (c .before .before .before .before .before .before .before .before .before .before .before .before .before .before .pre .paired)) (kind-low _ _) 0 (l .i * nb) (l .i * nb + nb) (a .marks .now) (l .marks) _ (l .changed) _ (l .changed)
-    (l .inv .1) (c .before .before .before .visit-row .ensures) (or-before (l .changed) _ (c .if1 .left)) in
-    (omega arith, rw (add-one (l .i), suc-mul (l .i) nb) step)
+    let long : _ ≡ length (a .marks .now) = c .before .before .before .before .visit-row .ensures .long ∙ l .inv .2 .long in (
+      omega (arith, n .within, long),
+      λ h. n .waits (omega (arith, h, long)),
+      passed-turn (PairStep nb (a .left .now) (a .right .now)) (kindIn (a .lcodes .now) (a .rcodes .now)) (step-lettered _ _ _ _ (c .before .before .before .before .before .before .before .before .before .before .before .before .before .before .before .before .before .pre .paired)) (kind-low _ _)
+          0 (l .x) (l .x / nb * nb + nb) _ (a .marks .now) (l .marks) _ (l .changed) (l .inv .2) (rw (numbers (c .before .before .before .before .before .before .before .before) .whole) at (c .before .before .before .before .visit-row .ensures)) (n .before),
+    )
 
 same-length : tie.Need-same-length Inv-loop μ-loop
-same-length c = c .before .loop .inv .1 .long
+same-length c = c .before .loop .inv .2 .long
 
 returns : tie.Need-returns Inv-loop μ-loop
 returns c =
-    let a = c .before .before .before .before .before .before .before .args in
-    let e : c .before .loop .i ≡ length (a .lcodes .now) = omega (arith, c .before .loop .inv .0) in
-    rw (c .before .before .before .before .before .before .before .pre .marked) (rw e at (c .before .loop .inv .1))
+    let l = c .before .loop in
+    let e : l .x ≡ length (c .before .before .before .before .before .before .before .before .before .args .marks .now) = omega (arith, l .inv .0, l .inv .2 .long, c .loop-test .left) in
+    rw e at (l .inv .2)
 
 pub visit-all-spec : {M : Type 1} → statement M
 visit-all-spec =
@@ -84,13 +105,16 @@ visit-all-spec =
     (tie.spec
     Inv-loop
     μ-loop
+    next-waiting-requires
     loop-holds
+    div-i
     cut-row-requires
-    add-i
+    rem-visit-row
     visit-row-requires
+    mul-next-waiting
+    add-next-waiting
+    next-waiting-requires-2
     loop-less
     loop-again
-    loop-less-2
-    loop-again-2
     same-length
     returns)

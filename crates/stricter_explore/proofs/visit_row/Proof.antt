@@ -1,75 +1,95 @@
 -- `visit_row` meets its contract.
-use mathlib.Core.Path.{_≡_}
-use mathlib.Core.Bool.{true}
-use Prim.Native.Nat.{_+_, _-_, _*_, _≤_}
+use mathlib.Core.Path.{_≡_, _∙_}
+use mathlib.Core.Bool.{Bool, true, false}
+use Prim.Native.Nat.{_+_, _-_, _*_, _≤_, _<_}
 use native.Mathlib.Omega.{arith}
-use native.Mathlib.Nat.{add-zero, add-assoc}
-use borrow.Author.Needs.{needs}
 use lib.ListN.{length}
-use Rattle.table_fixpoints_spec.proofs.Loops.{or-now, or-before}
 use Rattle.stricter_laws.specs.Pairs.{PairStep}
 use Rattle.stricter_laws.proofs.Rows.{fits-same}
-use Rattle.stricter_forest.specs.Forest.{kindIn, Passed}
-use Rattle.stricter_forest.proofs.Pairs.{step-lettered, kind-low}
-use Rattle.stricter_forest.proofs.Passes.{passed-start, passed-then}
+use Rattle.stricter_forest.specs.Forest.{kindIn, Waits, Passed}
+use Rattle.stricter_forest.proofs.Pairs.{step-lettered, kind-low, row-end}
+use Rattle.stricter_forest.proofs.Passes.{passed-start, passed-turn}
 use Rattle.stricter_explore.proofs.visit_row.Statement.{statement}
 use Rattle.stricter_explore.proofs.visit_row.Tie as tie
 
 abbrev Inv-loop : tie.InvT-loop
-Inv-loop lcodes left cuts rcodes right i marks₀ changed₀ j₀ marks changed j =
-    (j ≤ length rcodes) × Passed (PairStep (length rcodes) left right) (kindIn lcodes rcodes) (i * length rcodes) (i * length rcodes + j) marks₀ marks changed
+Inv-loop lcodes left cuts rcodes right i j marks₀ row end k₀ marks k =
+    (k < length rcodes) × Waits marks (i * length rcodes + k)
+    × ((b : Bool) × Passed (PairStep (length rcodes) left right) (kindIn lcodes rcodes) (i * length rcodes + j) (i * length rcodes + k) marks₀ marks b)
 
 abbrev μ-loop : tie.MeasureT-loop
-μ-loop lcodes left cuts rcodes right i marks₀ changed₀ j₀ marks changed j = length rcodes - j
+μ-loop lcodes left cuts rcodes right i j marks₀ row end k₀ marks k = length rcodes - k
+
+-- the row ends within the marks
+ends : (c : tie.Start Inv-loop μ-loop) → c .args .i * length (c .args .rcodes .now) + length (c .args .rcodes .now) ≤ length (c .args .marks .now)
+ends c = row-end (length (c .args .lcodes .now)) (length (c .args .rcodes .now)) (c .args .i) _ _ (c .args .marks .now) (c .pre .0) (c .pre .2) (omega (arith, c .pre .3))
+
+mul-row : tie.Need-mul-row Inv-loop μ-loop
+mul-row c = let h = ends (c .before .before .before .before .before) in omega arith
+
+add-end : tie.Need-add-end Inv-loop μ-loop
+add-end c = let h = ends (c .before .before .before .before .before) in omega arith
 
 loop-holds : tie.Need-loop-holds Inv-loop μ-loop
 loop-holds c =
-    let a = c .before .before .before .before .before .args in (
-      omega arith,
-      rw (add-zero (a .i * length (a .rcodes .now)))
-          (passed-start (PairStep (length (a .rcodes .now)) (a .left .now) (a .right .now)) (kindIn (a .lcodes .now) (a .rcodes .now))
-          (step-lettered _ _ _ _ (c .before .before .before .before .before .pre .0 .paired)) (kind-low _ _) (a .i * length (a .rcodes .now)) (a .marks .now)),
+    let a = c .before .before .before .before .before .args in
+    let p = c .before .before .before .before .before .pre in (
+      p .3,
+      p .4,
+      (
+        false,
+        passed-start (PairStep (length (a .rcodes .now)) (a .left .now) (a .right .now)) (kindIn (a .lcodes .now) (a .rcodes .now))
+            (step-lettered _ _ _ _ (p .0 .paired)) (kind-low _ _) (a .i * length (a .rcodes .now) + a .j) (a .marks .now),
+      ),
     )
-
-add-j : tie.Need-add-j Inv-loop μ-loop
-add-j c = search needs
 
 visit-requires : tie.Need-visit-requires Inv-loop μ-loop
 visit-requires c κs =
-    let a = c .before .before .before .before .before .before .before .before .args in
-    (fits-same (length (a .lcodes .now)) (length (a .rcodes .now)) _ _ (a .marks .now) (c .before .before .loop .marks) (c .before .before .loop .inv .1 .long) (c .before .before .before .before .before .before .before .before .pre .0), c .before .before .before .before .before .before .before .before .pre .1, c .before .before .before .before .before .before .before .before .pre .2, omega arith)
+    let a = c .before .before .before .before .before .before .before .args in
+    let p = c .before .before .before .before .before .before .before .pre in
+    let l = c .before .loop in
+    (fits-same (length (a .lcodes .now)) (length (a .rcodes .now)) _ _ (a .marks .now) (l .marks) (l .inv .2 .1 .long) (p .0), p .1, p .2, l .inv .0, l .inv .1)
+
+add-next-waiting : tie.Need-add-next-waiting Inv-loop μ-loop
+add-next-waiting c = let h = ends (c .before .before .before .before .before .before .before .before .before .before .before) in omega (arith, c .before .before .before .before .before .loop .inv .0)
+
+add-next-waiting-2 : tie.Need-add-next-waiting-2 Inv-loop μ-loop
+add-next-waiting-2 c = let h = ends (c .before .before .before .before .before .before .before .before .before .before .before) in omega (arith, c .before .before .before .before .before .loop .inv .0)
+
+next-waiting-requires : tie.Need-next-waiting-requires Inv-loop μ-loop
+next-waiting-requires c κs = let h = ends (c .before .before .before .before .before .before .before .before .before .before .before) in let l = c .before .before .before .before .before .loop in
+    (omega (arith, l .inv .0), omega (arith, c .before .before .before .visit .ensures .long, l .inv .2 .1 .long))
+
+same-length : tie.Need-same-length Inv-loop μ-loop
+same-length c = c .before .before .before .before .before .visit .ensures .long ∙ c .before .before .before .before .before .before .before .loop .inv .2 .1 .long
+
+-- one turn
+turn : (c : tie.After-next-waiting Inv-loop μ-loop) → Passed (PairStep (length (c .before .before .before .before .before .before .before .before .before .before .before .before .args .rcodes .now)) (c .before .before .before .before .before .before .before .before .before .before .before .before .args .left .now) (c .before .before .before .before .before .before .before .before .before .before .before .before .args .right .now)) (kindIn (c .before .before .before .before .before .before .before .before .before .before .before .before .args .lcodes .now) (c .before .before .before .before .before .before .before .before .before .before .before .before .args .rcodes .now))
+    (c .before .before .before .before .before .before .before .before .before .before .before .before .args .i * length (c .before .before .before .before .before .before .before .before .before .before .before .before .args .rcodes .now) + c .before .before .before .before .before .before .before .before .before .before .before .before .args .j) (c .next-waiting .result) (c .before .before .before .before .before .before .before .before .before .before .before .before .args .marks .now) (c .before .before .before .before .visit .last .1 .1 .1 .1 .1 .1 .1 .0) true
+turn c =
+    let a = c .before .before .before .before .before .before .before .before .before .before .before .before .args in
+    let l = c .before .before .before .before .before .before .loop in
+    let row = a .i * length (a .rcodes .now) in
+    passed-turn (PairStep (length (a .rcodes .now)) (a .left .now) (a .right .now)) (kindIn (a .lcodes .now) (a .rcodes .now))
+    (step-lettered _ _ _ _ (c .before .before .before .before .before .before .before .before .before .before .before .before .pre .0 .paired)) (kind-low _ _) (row + a .j) (row + l .k) (row + l .k + 1) _ (a .marks .now) (l .marks) _ (l .inv .2 .0)
+    (l .inv .2 .1) (c .before .before .before .before .visit .ensures) (c .next-waiting .ensures .before)
+
+returns : tie.Need-returns Inv-loop μ-loop
+returns c = rw (c .if1 .taken) at (turn (c .before))
+
+sub-k : tie.Need-sub-k Inv-loop μ-loop
+sub-k c = omega (arith, c .before .next-waiting .ensures .ordered)
 
 loop-less : tie.Need-loop-less Inv-loop μ-loop
-loop-less c = search needs
+loop-less c = omega (arith, c .before .next-waiting .ensures .ordered, c .before .before .before .before .before .before .before .loop .inv .0)
 
 loop-again : tie.Need-loop-again Inv-loop μ-loop
 loop-again c =
-    let a = c .before .before .before .before .before .before .before .before .before .before .before .before .args in
-    let l = c .before .before .before .before .before .before .loop in
+    let a = c .before .before .before .before .before .before .before .before .before .before .before .before .before .args in
+    let n = c .before .next-waiting .ensures in
     let row = a .i * length (a .rcodes .now) in
-    let step = passed-then (PairStep (length (a .rcodes .now)) (a .left .now) (a .right .now)) (kindIn (a .lcodes .now) (a .rcodes .now))
-    (step-lettered _ _ _ _ (c .before .before .before .before .before .before .before .before .before .before .before .before .pre .0 .paired)) (kind-low _ _) row (row + l .j) (row + l .j + 1) (a .marks .now) (l .marks) _ (l .changed) _ true
-    (l .inv .1) (c .before .before .before .visit .ensures) (or-now (l .changed) _ (c .if1 .taken)) in
-    (omega arith, rw (← add-assoc row (l .j) 1) step)
-
-loop-less-2 : tie.Need-loop-less-2 Inv-loop μ-loop
-loop-less-2 c = search needs
-
-loop-again-2 : tie.Need-loop-again-2 Inv-loop μ-loop
-loop-again-2 c =
-    let a = c .before .before .before .before .before .before .before .before .before .before .before .before .args in
-    let l = c .before .before .before .before .before .before .loop in
-    let row = a .i * length (a .rcodes .now) in
-    let step = passed-then (PairStep (length (a .rcodes .now)) (a .left .now) (a .right .now)) (kindIn (a .lcodes .now) (a .rcodes .now))
-    (step-lettered _ _ _ _ (c .before .before .before .before .before .before .before .before .before .before .before .before .pre .0 .paired)) (kind-low _ _) row (row + l .j) (row + l .j + 1) (a .marks .now) (l .marks) _ (l .changed) _ (l .changed)
-    (l .inv .1) (c .before .before .before .visit .ensures) (or-before (l .changed) _ (c .if1 .left)) in
-    (omega arith, rw (← add-assoc row (l .j) 1) step)
-
-same-length : tie.Need-same-length Inv-loop μ-loop
-same-length c = c .before .loop .inv .1 .long
-
-returns : tie.Need-returns Inv-loop μ-loop
-returns c = let e : c .before .loop .j ≡ length (c .before .before .before .before .before .before .before .args .rcodes .now) = omega (arith, c .before .loop .inv .0) in rw e at (c .before .loop .inv .1)
+    let e : row + (c .before .next-waiting .result - row) ≡ c .before .next-waiting .result = omega (arith, n .ordered) in
+    (omega (arith, n .within, n .ordered, c .if1 .left), rw e (n .waits (omega (arith, n .within, c .if1 .left))), (true, rw e (turn (c .before))))
 
 pub visit-row-spec : {M : Type 1} → statement M
 visit-row-spec =
@@ -77,12 +97,15 @@ visit-row-spec =
     (tie.spec
     Inv-loop
     μ-loop
+    mul-row
+    add-end
     loop-holds
-    add-j
     visit-requires
-    loop-less
-    loop-again
-    loop-less-2
-    loop-again-2
+    add-next-waiting
+    add-next-waiting-2
+    next-waiting-requires
     same-length
-    returns)
+    returns
+    sub-k
+    loop-less
+    loop-again)

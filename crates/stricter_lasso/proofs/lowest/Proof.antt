@@ -1,10 +1,9 @@
 -- `lowest` meets its contract.
-use mathlib.Core.Path.{_≡_, sym, ap, subst, _∙_}
-use mathlib.Core.Logic.{by-cases}
-use mathlib.Core.Bool.{true, _&&_}
+use mathlib.Core.Path.{_≡_, sym, _∙_}
+use mathlib.Core.Bool.{Bool, true, _&&_}
+use mathlib.Core.List.{List}
 use Prim.Native.Nat.{ℕ, _-_, _≤_, _<_}
 use native.Mathlib.Omega.{arith}
-use native.Mathlib.Decide.{decLt}
 use borrow.Author.Needs.{needs}
 use borrow.Author.Tests.{lt-ltb, ltb-true}
 use lib.Dec.{ltb}
@@ -12,50 +11,63 @@ use lib.ListN.{length, getD}
 use Rattle.sets.proofs.Bools.{and-l, and-r, and-i, clash}
 use Rattle.graph_walks.proofs.Sums.{has-place}
 use Rattle.stricter_laws.specs.Tests.{acceptsIn}
+use Rattle.stricter_forest.proofs.Skips.{lacking-zeros, lacking-next}
 use Rattle.stricter_lasso.proofs.lowest.Statement.{statement}
 use Rattle.stricter_lasso.proofs.lowest.Tie as tie
 
+-- y is met and accepting on the side
+abbrev Serves : List ℕ → List ℕ → Bool → List ℕ → ℕ → Type 0
+Serves lcodes rcodes second marks y = (1 < getD marks y 0) × (acceptsIn lcodes rcodes second y ≡ true)
+
 abbrev Inv-loop : tie.InvT-loop
-Inv-loop lcodes rcodes second marks x₀ x =
-    (x ≤ length marks) × ((y : ℕ) → y < x → 1 < getD marks y 0 → acceptsIn lcodes rcodes second y ≡ true → ⊥)
+Inv-loop lcodes rcodes second marks x₀ x = (x ≤ length marks) × ((y : ℕ) → y < x → Serves lcodes rcodes second marks y → ⊥)
 
 abbrev μ-loop : tie.MeasureT-loop
 μ-loop lcodes rcodes second marks x₀ x = length marks - x
 
+next-set-requires : tie.Need-next-set-requires Inv-loop μ-loop
+next-set-requires c κs = search needs
+
 loop-holds : tie.Need-loop-holds Inv-loop μ-loop
-loop-holds c = (omega arith, λ y l h k. omega arith)
+loop-holds c =
+    let a = c .before .before .before .before .args in
+    let n = c .next-set .ensures in
+    (n .within, lacking-zeros (a .marks .now) (Serves (a .lcodes .now) (a .rcodes .now) (a .second) (a .marks .now)) (λ y p. omega (arith, p .0)) _ (n .before .zeros))
 
 serves-requires : tie.Need-serves-requires Inv-loop μ-loop
 serves-requires c κs = search needs
 
 returns : tie.Need-returns Inv-loop μ-loop
 returns c =
-    let a = c .before .before .before .before .before .before .before .args in
+    let a = c .before .before .before .before .before .before .before .before .args in
     let x = c .before .before .before .loop .x in
     let e : ltb 1 (getD (a .marks .now) x 0) && acceptsIn (a .lcodes .now) (a .rcodes .now) (a .second) x ≡ true = sym (c .before .serves .ensures) ∙ c .if1 .taken in
     (ltb-true 1 _ (and-l _ _ e), and-r (ltb 1 (getD (a .marks .now) x 0)) _ e)
 
-add-x : tie.Need-add-x Inv-loop μ-loop
-add-x c = search needs
+add-next-set : tie.Need-add-next-set Inv-loop μ-loop
+add-next-set c = search needs
+
+next-set-requires-2 : tie.Need-next-set-requires-2 Inv-loop μ-loop
+next-set-requires-2 c κs = search needs
 
 loop-less : tie.Need-loop-less Inv-loop μ-loop
-loop-less c = search needs
+loop-less c = omega (arith, c .next-set2 .ensures .before .ordered, c .before .before .before .loop-test .taken)
 
 loop-again : tie.Need-loop-again Inv-loop μ-loop
 loop-again c =
-    let a = c .before .before .before .before .before .before .before .args in
-    let x = c .before .before .before .loop .x in (
-      omega arith,
-      λ y l h k. by-cases (decLt y x) (λ g. c .before .before .before .loop .inv .1 y g h k)
-          (λ g. let e : y ≡ x = omega arith in
-          clash (c .before .serves .ensures ∙ and-i (lt-ltb 1 (getD (a .marks .now) x 0) (subst (λ (z : ℕ). 1 < getD (a .marks .now) z 0) e h)) (ap (acceptsIn (a .lcodes .now) (a .rcodes .now) (a .second)) (sym e) ∙ k)) (c .if1 .left)),
+    let a = c .before .before .before .before .before .before .before .before .before .args in
+    let l = c .before .before .before .before .loop in
+    let n = c .next-set2 .ensures in (
+      n .within,
+      lacking-next (a .marks .now) (Serves (a .lcodes .now) (a .rcodes .now) (a .second) (a .marks .now)) (λ y p. omega (arith, p .0)) (l .x) _ (l .inv .1)
+          (λ p. clash (c .before .before .serves .ensures ∙ and-i (lt-ltb 1 (getD (a .marks .now) (l .x) 0) (p .0)) (p .1)) (c .before .if1 .left)) (n .before .zeros),
     )
 
 returns-2 : tie.Need-returns-2 Inv-loop μ-loop
 returns-2 c =
-    let (y, l, e) = c .before .before .before .before .before .pre .1 in
-    let place = has-place (c .before .before .before .before .before .args .marks .now) y (omega arith) in
-    absurd (c .before .loop .inv .1 y (omega arith) l e)
+    let (y, l, e) = c .before .before .before .before .before .before .pre .1 in
+    let place = has-place (c .before .before .before .before .before .before .args .marks .now) y (omega arith) in
+    absurd (c .before .loop .inv .1 y (omega arith) (l, e))
 
 pub lowest-spec : {M : Type 1} → statement M
 lowest-spec =
@@ -63,10 +75,12 @@ lowest-spec =
     (tie.spec
     Inv-loop
     μ-loop
+    next-set-requires
     loop-holds
     serves-requires
     returns
-    add-x
+    add-next-set
+    next-set-requires-2
     loop-less
     loop-again
     returns-2)

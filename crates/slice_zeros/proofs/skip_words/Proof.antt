@@ -1,0 +1,55 @@
+-- `skip_words` meets its contract.
+use Prim.Native.Nat.{_-_, _≤_}
+use native.Mathlib.Omega.{arith}
+use borrow.Author.Needs.{needs}
+use Rattle.slice_zeros.specs.Zeros.{Zeros}
+use Rattle.slice_zeros.proofs.Zeros.{zeros-none, zeros-word}
+use Rattle.slice_zeros.proofs.skip_words.Statement.{statement}
+use Rattle.slice_zeros.proofs.skip_words.Tie as tie
+
+abbrev Inv-loop : tie.InvT-loop
+Inv-loop xs from to i₀ i = Zeros xs from i × (i ≤ to)
+
+abbrev μ-loop : tie.MeasureT-loop
+μ-loop xs from to i₀ i = to - i
+
+loop-holds : tie.Need-loop-holds Inv-loop μ-loop
+loop-holds c = (zeros-none _ _, c .before .pre .0)
+
+sub-loop : tie.Need-sub-loop Inv-loop μ-loop
+sub-loop c = search needs
+
+word-at-requires : tie.Need-word-at-requires Inv-loop μ-loop
+word-at-requires c κs = search needs
+
+returns : tie.Need-returns Inv-loop μ-loop
+returns c = c .before .before .before .loop .inv
+
+add-i : tie.Need-add-i Inv-loop μ-loop
+add-i c = search needs
+
+loop-less : tie.Need-loop-less Inv-loop μ-loop
+loop-less c = search needs
+
+loop-again : tie.Need-loop-again Inv-loop μ-loop
+loop-again c =
+    let l = c .before .before .before .loop in
+    (zeros-word _ _ (l .i) (l .inv .0) (omega (arith, c .if1 .left, c .before .word-at .ensures)), omega (arith, l .inv .1, c .before .before .loop-test .taken))
+
+returns-2 : tie.Need-returns-2 Inv-loop μ-loop
+returns-2 c = c .before .loop .inv
+
+pub skip-words-spec : {M : Type 1} → statement M
+skip-words-spec =
+    tie.close
+    (tie.spec
+    Inv-loop
+    μ-loop
+    loop-holds
+    sub-loop
+    word-at-requires
+    returns
+    add-i
+    loop-less
+    loop-again
+    returns-2)

@@ -1,0 +1,35 @@
+// Places of a byte slice that are not 0, eight bytes at a time where all of them are.
+use codes::word_at;
+ghost use Prim.Native.Nat.{_≤_};
+ghost use lib.ListN.{length};
+ghost use Rattle.slice_zeros.specs.Zeros.{Zeros, NextSet};
+
+// A place from `from` on, up to `to`, before which all bytes are 0: it steps by eight.
+fn skip_words(xs: &[u8], from: usize, to: usize) -> usize
+    requires { ⌜ (from ≤ to) × (to ≤ length (now xs)) ⌝ }
+    ensures { λ r. ⌜ Zeros (now (xs .entry)) from r × (r ≤ to) ⌝ }
+{
+    let mut i = from;
+    while 8 <= to - i {
+        if word_at(xs, i) != 0 {
+            return i;
+        }
+        i += 8;
+    }
+    i
+}
+
+// The first place from `from` on, below `to`, whose byte is not 0; `to` where there is none.
+pub fn next_set(xs: &[u8], from: usize, to: usize) -> usize
+    requires { ⌜ (from ≤ to) × (to ≤ length (now xs)) ⌝ }
+    ensures { λ r. ⌜ NextSet (now (xs .entry)) from to r ⌝ }
+{
+    let mut i = skip_words(xs, from, to);
+    while i < to {
+        if xs[i] != 0 {
+            return i;
+        }
+        i += 1;
+    }
+    i
+}

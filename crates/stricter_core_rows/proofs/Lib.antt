@@ -1,0 +1,3 @@
+pub mod Untagged
+pub mod Parts
+pub mod Steps

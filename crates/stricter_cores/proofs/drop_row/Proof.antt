@@ -1,0 +1,94 @@
+-- `drop_row` meets its contract.
+use mathlib.Core.Path.{_≡_, refl, _∙_}
+use Prim.Native.Nat.{_+_, _-_, _*_, _≤_}
+use native.Mathlib.Omega.{arith}
+use borrow.Author.Needs.{needs}
+use lib.ListN.{length}
+use Rattle.stricter_cores_spec.specs.Steps.{CoreStep}
+use Rattle.stricter_cores_laws.specs.Parts.{Thinned}
+use Rattle.stricter_cores_laws.proofs.Fitting.{ready-same}
+use Rattle.stricter_cores_laws.proofs.Ends.{thinned-start, thinned-then}
+use Rattle.stricter_cores.proofs.drop_row.Statement.{statement}
+use Rattle.stricter_cores.proofs.drop_row.Tie as tie
+
+abbrev Inv-loop : tie.InvT-loop
+Inv-loop left cuts right nb i from marks₀ row end x₀ marks x =
+    (row ≡ i * nb) × (end ≡ i * nb + nb) × (row ≤ x) × (x ≤ end) × Thinned (CoreStep nb left right) marks₀ marks
+
+abbrev μ-loop : tie.MeasureT-loop
+μ-loop left cuts right nb i from marks₀ row end x₀ marks x = end - x
+
+mul-row : tie.Need-mul-row Inv-loop μ-loop
+mul-row c = search needs
+
+add-end : tie.Need-add-end Inv-loop μ-loop
+add-end c = search needs
+
+loop-holds : tie.Need-loop-holds Inv-loop μ-loop
+loop-holds c =
+    let a = c .before .before .before .args in
+    let p = c .before .before .before .pre in
+    (refl, refl, p .3, p .4, thinned-start (CoreStep (a .nb) (a .left .now) (a .right .now)) (a .marks .now))
+
+sub-drop-pair : tie.Need-sub-drop-pair Inv-loop μ-loop
+sub-drop-pair c = search needs
+
+drop-pair-requires : tie.Need-drop-pair-requires Inv-loop μ-loop
+drop-pair-requires c κs =
+    let a = c .before .before .before .before .before .before .args in
+    let p = c .before .before .before .before .before .before .pre in
+    let l = c .before .before .loop in
+    let long : length (l .marks) ≡ length (a .marks .now) = l .inv .4 .long in (
+      (p .0 .0, ready-same (p .0 .0) (a .nb) _ _ (a .marks .now) (l .marks) long (p .0 .1)),
+      p .1,
+      p .2,
+      omega (arith, l .inv .0, l .inv .1, l .inv .2),
+      omega (arith, l .inv .0, l .inv .1, l .inv .2, p .5, long),
+    )
+
+add-next-set : tie.Need-add-next-set Inv-loop μ-loop
+add-next-set c = search needs
+
+next-set-requires : tie.Need-next-set-requires Inv-loop μ-loop
+next-set-requires c κs =
+    let l = c .before .before .before .before .before .before .loop in
+    (omega arith, omega (arith, l .inv .1, c .before .before .before .drop-pair .ensures .long ∙ l .inv .4 .long, c .before .before .before .before .before .before .before .before .before .before .pre .5))
+
+loop-less : tie.Need-loop-less Inv-loop μ-loop
+loop-less c = omega (arith, c .next-set .ensures .before .ordered)
+
+loop-again : tie.Need-loop-again Inv-loop μ-loop
+loop-again c =
+    let a = c .before .before .before .before .before .before .before .before .before .before .before .args in
+    let l = c .before .before .before .before .before .before .before .loop in
+    let s = c .next-set .ensures in (
+      l .inv .0,
+      l .inv .1,
+      omega (arith, l .inv .2, s .before .ordered),
+      s .within,
+      thinned-then (CoreStep (a .nb) (a .left .now) (a .right .now)) (a .marks .now) (l .marks) _ (l .inv .4) (c .before .before .before .before .drop-pair .ensures),
+    )
+
+same-length : tie.Need-same-length Inv-loop μ-loop
+same-length c = c .before .loop .inv .4 .long
+
+returns : tie.Need-returns Inv-loop μ-loop
+returns c = c .before .loop .inv .4
+
+pub drop-row-spec : {M : Type 1} → statement M
+drop-row-spec =
+    tie.close
+    (tie.spec
+    Inv-loop
+    μ-loop
+    mul-row
+    add-end
+    loop-holds
+    sub-drop-pair
+    drop-pair-requires
+    add-next-set
+    next-set-requires
+    loop-less
+    loop-again
+    same-length
+    returns)

@@ -1,0 +1,82 @@
+-- `mark_pair` meets its contract.
+use mathlib.Core.Path.{_≡_}
+use mathlib.Core.Bool.{true}
+use Prim.Native.Nat.{_+_, _*_}
+use native.Mathlib.Omega.{arith}
+use borrow.Author.Needs.{needs}
+use lib.ListN.{getD}
+use Rattle.sets.proofs.Bools.{not-t, not-f}
+use Rattle.stricter_laws.proofs.Rows.{cut-le}
+use Rattle.stricter_cores_spec.specs.Tags.{untagged}
+use Rattle.stricter_cores_spec.specs.Steps.{CoreStep, SparedStep}
+use Rattle.stricter_cores_spec.specs.Rounds.{Leading}
+use Rattle.stricter_tags_laws.proofs.Tags.{untagged-long}
+use Rattle.stricter_cores_laws.proofs.Tries.{tried-stays, tried-marks}
+use Rattle.stricter_cores.proofs.mark_pair.Statement.{statement}
+use Rattle.stricter_cores.proofs.mark_pair.Tie as tie
+
+mul-x : tie.Need-mul-x
+mul-x c = search needs
+
+add-x : tie.Need-add-x
+add-x c = search needs
+
+slice-read-if1 : tie.Need-slice-read-if1
+slice-read-if1 c = search needs
+
+returns : tie.Need-returns
+returns c =
+    let a = c .before .before .before .before .before .args in
+    tried-stays (CoreStep (a .nb) (a .left .now) (a .right .now)) (SparedStep (a .nb) (a .left .now) (a .right .now) (a .second) (a .k)) (a .i * a .nb + a .j) (a .marks .now)
+    (λ h. absurd (omega arith))
+
+leads-requires : tie.Need-leads-requires
+leads-requires c κs =
+    let a = c .before .before .before .before .before .before .args in
+    let p = c .before .before .before .before .before .before .pre in
+    let r = p .0 .1 in (
+      ((p .0 .0, r .fits), p .3, p .4),
+      (λ b l. omega (arith, cut-le (untagged (a .left .now)) (r .fits .ascend-A) (a .i) (a .cuts .now) (p .1) b l, untagged-long (a .left .now)), r .rows),
+    )
+
+same-length : tie.Need-same-length
+same-length c = search needs
+
+-- what the call of `leads` told of the pair
+told : (c : tie.After-leads) → Leading (CoreStep (c .before .before .before .before .before .before .before .args .nb) (c .before .before .before .before .before .before .before .args .left .now) (c .before .before .before .before .before .before .before .args .right .now)) (SparedStep (c .before .before .before .before .before .before .before .args .nb) (c .before .before .before .before .before .before .before .args .left .now) (c .before .before .before .before .before .before .before .args .right .now) (c .before .before .before .before .before .before .before .args .second) (c .before .before .before .before .before .before .before .args .k)) (c .before .before .before .before .before .before .before .args .marks .now) (c .before .before .before .before .before .before .before .args .i * c .before .before .before .before .before .before .before .args .nb + c .before .before .before .before .before .before .before .args .j) (c .leads .result)
+told c = c .leads .ensures (c .before .before .before .before .before .before .before .args .i) (c .before .before .before .before .before .before .before .pre .2) (c .before .before .before .before .before .before .before .pre .1)
+
+returns-2 : tie.Need-returns-2
+returns-2 c =
+    let a = c .before .before .before .before .before .before .before .before .args in
+    tried-stays (CoreStep (a .nb) (a .left .now) (a .right .now)) (SparedStep (a .nb) (a .left .now) (a .right .now) (a .second) (a .k)) (a .i * a .nb + a .j) (a .marks .now)
+    (λ h. told (c .before) .no (not-t _ (c .if2 .taken)))
+
+slice-write-marks : tie.Need-slice-write-marks
+slice-write-marks c = search needs
+
+same-length-2 : tie.Need-same-length-2
+same-length-2 c = search needs
+
+returns-3 : tie.Need-returns-3
+returns-3 c =
+    let a = c .before .before .before .before .before .before .before .before .args in
+    let yes : c .before .leads .result ≡ true = not-f _ (c .if2 .left) in
+    let one : getD (a .marks .now) (a .i * a .nb + a .j) 0 ≡ 1 = omega arith in
+    tried-marks (CoreStep (a .nb) (a .left .now) (a .right .now)) (SparedStep (a .nb) (a .left .now) (a .right .now) (a .second) (a .k)) (a .i * a .nb + a .j) (a .marks .now)
+    one (rw yes at (told (c .before)))
+
+pub mark-pair-spec : {M : Type 1} → statement M
+mark-pair-spec =
+    tie.close
+    (tie.spec
+    mul-x
+    add-x
+    slice-read-if1
+    returns
+    leads-requires
+    same-length
+    returns-2
+    slice-write-marks
+    same-length-2
+    returns-3)

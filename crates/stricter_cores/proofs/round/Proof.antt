@@ -1,0 +1,39 @@
+-- `round` meets its contract.
+use mathlib.Core.Path.{_≡_, sym, subst, _∙_}
+use Prim.Native.Nat.{ℕ, _*_}
+use borrow.Author.Needs.{needs}
+use lib.ListN.{length}
+use Rattle.stricter_cores_spec.specs.Steps.{CoreStep, SparedStep}
+use Rattle.stricter_cores_laws.specs.Parts.{Settled}
+use Rattle.stricter_cores_laws.proofs.Fitting.{only-sub}
+use Rattle.stricter_cores_laws.proofs.Tries.{marking-sub}
+use Rattle.stricter_cores_laws.proofs.Settling.{round-of}
+use Rattle.stricter_cores.proofs.round.Statement.{statement}
+use Rattle.stricter_cores.proofs.round.Tie as tie
+
+sweep-out-requires : tie.Need-sweep-out-requires
+sweep-out-requires c κs = search needs
+
+settle-requires : tie.Need-settle-requires
+settle-requires c κs =
+    let a = c .before .before .before .before .before .before .before .before .before .args in
+    let p = c .before .before .before .before .before .before .before .before .before .pre in
+    let m = c .before .before .before .sweep-out .ensures .marking in (
+      m .long ∙ p .0 .fits .marked,
+      only-sub (a .acodes .now) (a .nb) (a .marks .now) (c .before .before .before .sweep-out .last .1 .1 .1 .1 .1 .1 .0) (marking-sub (CoreStep (a .nb) (a .left .now) (a .right .now)) (SparedStep (a .nb) (a .left .now) (a .right .now) (a .second) (a .k)) (a .marks .now) _ (p .2) m) (p .1),
+    )
+
+same-length : tie.Need-same-length
+same-length c = search needs
+
+returns : tie.Need-returns
+returns c =
+    let a = c .before .before .before .before .before .before .before .before .before .before .before .before .args in
+    let p = c .before .before .before .before .before .before .before .before .before .before .before .before .pre in
+    let w = c .before .before .before .before .before .before .sweep-out .ensures in
+    let e : length (a .acodes .now) * a .nb ≡ length (c .before .before .before .before .before .before .sweep-out .last .1 .1 .1 .1 .1 .1 .0) = sym (w .marking .long ∙ p .0 .fits .marked) in
+    round-of (CoreStep (a .nb) (a .left .now) (a .right .now)) (SparedStep (a .nb) (a .left .now) (a .right .now) (a .second) (a .k)) (a .marks .now) (c .before .before .before .before .before .before .sweep-out .last .1 .1 .1 .1 .1 .1 .0) _ _ (p .2) w
+    (subst (λ (n : ℕ). Settled 0 n (c .before .before .before .before .before .before .sweep-out .last .1 .1 .1 .1 .1 .1 .0) (c .before .before .settle .last .1 .1 .0) (c .before .before .settle .result)) e (c .before .before .settle .ensures))
+
+pub round-spec : {M : Type 1} → statement M
+round-spec = tie.close (tie.spec sweep-out-requires settle-requires same-length returns)

@@ -1,0 +1,90 @@
+-- `rounds` meets its contract.
+use mathlib.Core.Path.{_≡_}
+use mathlib.Core.Bool.{Bool, true}
+use Prim.Native.Nat.{ℕ, _-_, _≤_}
+use native.Mathlib.Omega.{arith}
+use borrow.Author.Needs.{needs}
+use lib.ListN.{length}
+use Rattle.table_fixpoints_spec.proofs.Loops.{or-now, or-before}
+use Rattle.stricter_cores_spec.specs.Steps.{CoreStep, SparedStep}
+use Rattle.stricter_cores_spec.specs.Rounds.{Narrowed}
+use Rattle.stricter_cores_laws.specs.Parts.{Side}
+use Rattle.stricter_cores_laws.proofs.Fitting.{ready-same, only-sub}
+use Rattle.stricter_cores_laws.proofs.Turns.{side-start, side-next}
+use Rattle.stricter_cores.proofs.rounds.Statement.{statement}
+use Rattle.stricter_cores.proofs.rounds.Tie as tie
+
+abbrev Inv-loop : tie.InvT-loop
+Inv-loop acodes left right nb second count marks₀ changed₀ k₀ marks changed k =
+    (k ≤ count) × ((components : Bool → ℕ) → count ≤ components second → Side (CoreStep nb left right) (SparedStep nb left right) components second k marks₀ marks changed)
+
+abbrev μ-loop : tie.MeasureT-loop
+μ-loop acodes left right nb second count marks₀ changed₀ k₀ marks changed k = count - k
+
+loop-holds : tie.Need-loop-holds Inv-loop μ-loop
+loop-holds c =
+    let a = c .before .before .before .before .args in
+    (omega arith, λ n l. side-start (CoreStep (a .nb) (a .left .now) (a .right .now)) (SparedStep (a .nb) (a .left .now) (a .right .now)) n (a .second) (a .marks .now) (c .before .before .before .before .pre .2))
+
+cast-c : tie.Need-cast-c Inv-loop μ-loop
+cast-c c = omega (arith, c .before .before .before .before .before .before .pre .3)
+
+add-k : tie.Need-add-k Inv-loop μ-loop
+add-k c = search needs
+
+round-requires : tie.Need-round-requires Inv-loop μ-loop
+round-requires c κs =
+    let a = c .before .before .before .before .before .before .before .args in
+    let p = c .before .before .before .before .before .before .before .pre in
+    let l = c .before .before .loop in
+    let n : Narrowed (CoreStep (a .nb) (a .left .now) (a .right .now)) (SparedStep (a .nb) (a .left .now) (a .right .now)) (λ s. a .count) (a .marks .now) (l .marks) = l .inv .1 (λ s. a .count) (omega arith) .narrowed in (
+      ready-same (length (a .acodes .now)) (a .nb) _ _ (a .marks .now) (l .marks) (n .long) (p .0),
+      only-sub (a .acodes .now) (a .nb) (a .marks .now) (l .marks) (n .sub) (p .1),
+      n .low,
+      omega (arith, p .3),
+    )
+
+loop-less : tie.Need-loop-less Inv-loop μ-loop
+loop-less c = search needs
+
+loop-again : tie.Need-loop-again Inv-loop μ-loop
+loop-again c =
+    let a = c .before .before .before .before .before .before .before .before .before .before .before .args in
+    let l = c .before .before .before .before .before .before .loop in (
+      omega arith,
+      λ n h. side-next (CoreStep (a .nb) (a .left .now) (a .right .now)) (SparedStep (a .nb) (a .left .now) (a .right .now)) n (a .second) (l .k) (a .marks .now) (l .marks) _ (l .changed) _ true (omega arith) (l .inv .1 n h) (c .before .before .before .round .ensures) (or-now (l .changed) _ (c .if1 .taken)),
+    )
+
+loop-less-2 : tie.Need-loop-less-2 Inv-loop μ-loop
+loop-less-2 c = search needs
+
+loop-again-2 : tie.Need-loop-again-2 Inv-loop μ-loop
+loop-again-2 c =
+    let a = c .before .before .before .before .before .before .before .before .before .before .before .args in
+    let l = c .before .before .before .before .before .before .loop in (
+      omega arith,
+      λ n h. side-next (CoreStep (a .nb) (a .left .now) (a .right .now)) (SparedStep (a .nb) (a .left .now) (a .right .now)) n (a .second) (l .k) (a .marks .now) (l .marks) _ (l .changed) _ (l .changed) (omega arith) (l .inv .1 n h) (c .before .before .before .round .ensures) (or-before (l .changed) _ (c .if1 .left)),
+    )
+
+same-length : tie.Need-same-length Inv-loop μ-loop
+same-length c = c .before .loop .inv .1 (λ s. c .before .before .before .before .before .before .args .count) (omega arith) .narrowed .long
+
+returns : tie.Need-returns Inv-loop μ-loop
+returns c = let e : c .before .loop .k ≡ c .before .before .before .before .before .before .args .count = omega (arith, c .before .loop .inv .0) in rw e at (c .before .loop .inv .1)
+
+pub rounds-spec : {M : Type 1} → statement M
+rounds-spec =
+    tie.close
+    (tie.spec
+    Inv-loop
+    μ-loop
+    loop-holds
+    cast-c
+    add-k
+    round-requires
+    loop-less
+    loop-again
+    loop-less-2
+    loop-again-2
+    same-length
+    returns)

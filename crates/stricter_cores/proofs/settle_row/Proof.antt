@@ -1,0 +1,144 @@
+-- `settle_row` meets its contract.
+use mathlib.Core.Path.{_≡_, refl, sym, _∙_}
+use mathlib.Core.Logic.{inl, inr}
+use mathlib.Core.Bool.{true, true≢false}
+use Prim.Native.Nat.{_+_, _-_, _*_, _≤_, _<_}
+use native.Mathlib.Omega.{arith}
+use borrow.Author.Needs.{needs}
+use lib.ListN.{length}
+use Rattle.sets.proofs.Bools.{not-t}
+use Rattle.table_fixpoints_spec.proofs.Places.{place-room}
+use Rattle.stricter_cores_laws.specs.Parts.{Settled}
+use Rattle.stricter_cores_laws.proofs.Fitting.{row-out}
+use Rattle.stricter_cores_laws.proofs.Settling.{settled-out, settled-start, settled-zeros, settled-next}
+use Rattle.stricter_cores.proofs.settle_row.Statement.{statement}
+use Rattle.stricter_cores.proofs.settle_row.Tie as tie
+
+abbrev Inv-loop : tie.InvT-loop
+Inv-loop acodes nb i marks₀ changed₀ x₀ to marks changed x =
+    (to ≡ i * nb + nb) × (i * nb ≤ x) × (x ≤ to) × (to ≤ length marks₀) × Settled (i * nb) x marks₀ marks changed
+
+abbrev μ-loop : tie.MeasureT-loop
+μ-loop acodes nb i marks₀ changed₀ x₀ to marks changed x = to - x
+
+stands-requires : tie.Need-stands-requires Inv-loop μ-loop
+stands-requires c κs = search needs
+
+returns : tie.Need-returns Inv-loop μ-loop
+returns c =
+    let a = c .before .before .before .before .args in
+    settled-out (a .i * a .nb) (a .i * a .nb + a .nb) (a .marks .now) (row-out (a .acodes .now) (a .nb) (a .marks .now) (c .before .before .before .before .pre .1) (a .i) (sym (c .before .stands .ensures) ∙ not-t _ (c .if1 .taken)))
+
+mul-x : tie.Need-mul-x Inv-loop μ-loop
+mul-x c = let a = c .before .before .before .before .args in omega (arith, place-room (a .nb) (a .i) (length (a .acodes .now)) (c .before .before .before .before .pre .2), c .before .before .before .before .pre .0)
+
+add-to : tie.Need-add-to Inv-loop μ-loop
+add-to c = let a = c .before .before .before .before .args in omega (arith, place-room (a .nb) (a .i) (length (a .acodes .now)) (c .before .before .before .before .pre .2), c .before .before .before .before .pre .0)
+
+loop-holds : tie.Need-loop-holds Inv-loop μ-loop
+loop-holds c =
+    let a = c .before .before .before .before .args in
+    let r : a .i * a .nb + a .nb ≤ length (a .marks .now) = rw (c .before .before .before .before .pre .0) (place-room (a .nb) (a .i) (length (a .acodes .now)) (c .before .before .before .before .pre .2)) in
+    (refl, omega arith, omega arith, r, settled-start (a .i * a .nb) (a .marks .now))
+
+next-set-requires : tie.Need-next-set-requires Inv-loop μ-loop
+next-set-requires c κs = let l = c .before .before .loop in (omega arith, omega (arith, l .inv .3, l .inv .4 .long))
+
+same-length : tie.Need-same-length Inv-loop μ-loop
+same-length c = c .before .before .before .before .loop .inv .4 .long
+
+returns-2 : tie.Need-returns-2 Inv-loop μ-loop
+returns-2 c =
+    let l = c .before .before .before .before .loop in
+    let a = c .before .before .before .before .before .before .before .before .before .args in
+    let s = c .before .next-set .ensures in
+    let e : c .before .next-set .result ≡ a .i * a .nb + a .nb = omega (arith, l .inv .0) in
+    rw e at (settled-zeros (a .i * a .nb) (l .x) (c .before .next-set .result) (a .marks .now) (l .marks) (l .changed) (l .inv .4) (l .inv .1) (s .before .ordered) (s .before .zeros))
+
+-- the place found is one of the row
+room : (c : tie.Else2 Inv-loop μ-loop) → c .before .next-set .result < length (c .before .before .before .before .loop .marks)
+room c = omega (arith, c .before .next-set .ensures .within, c .before .before .before .before .loop .inv .3, c .before .before .before .before .loop .inv .4 .long)
+
+-- the places before it are settled
+reached : (c : tie.Else2 Inv-loop μ-loop)
+    → Settled (c .before .before .before .before .before .before .before .before .before .args .i * c .before .before .before .before .before .before .before .before .before .args .nb) (c .before .next-set .result) (c .before .before .before .before .before .before .before .before .before .args .marks .now) (c .before .before .before .before .loop .marks) (c .before .before .before .before .loop .changed)
+reached c =
+    let l = c .before .before .before .before .loop in
+    let a = c .before .before .before .before .before .before .before .before .before .args in
+    let s = c .before .next-set .ensures in
+    settled-zeros (a .i * a .nb) (l .x) (c .before .next-set .result) (a .marks .now) (l .marks) (l .changed) (l .inv .4) (l .inv .1) (s .before .ordered) (s .before .zeros)
+
+slice-read-v : tie.Need-slice-read-v Inv-loop μ-loop
+slice-read-v c = room (c .before)
+
+slice-write-marks : tie.Need-slice-write-marks Inv-loop μ-loop
+slice-write-marks c = room (c .before)
+
+add-x : tie.Need-add-x Inv-loop μ-loop
+add-x c = omega (arith, room (c .before))
+
+loop-less : tie.Need-loop-less Inv-loop μ-loop
+loop-less c = omega (arith, c .before .before .before .next-set .ensures .before .ordered)
+
+loop-again : tie.Need-loop-again Inv-loop μ-loop
+loop-again c =
+    let a = c .before .before .before .before .before .before .before .before .before .before .before .args in
+    let l = c .before .before .before .before .before .before .loop in
+    let s = c .before .before .before .next-set .ensures in
+    let y = c .before .before .before .next-set .result in (
+      l .inv .0,
+      omega (arith, l .inv .1, s .before .ordered),
+      omega (arith, s .within),
+      l .inv .3,
+      settled-next (a .i * a .nb) y (a .marks .now) (l .marks) (l .changed) (reached (c .before .before)) (omega (arith, l .inv .1, s .before .ordered)) (room (c .before .before)) _ (omega arith) true (λ e. inr (omega arith)) (λ e. absurd (true≢false e)),
+    )
+
+loop-less-2 : tie.Need-loop-less-2 Inv-loop μ-loop
+loop-less-2 c = omega (arith, c .before .before .before .next-set .ensures .before .ordered)
+
+loop-again-2 : tie.Need-loop-again-2 Inv-loop μ-loop
+loop-again-2 c =
+    let a = c .before .before .before .before .before .before .before .before .before .before .before .args in
+    let l = c .before .before .before .before .before .before .loop in
+    let s = c .before .before .before .next-set .ensures in
+    let y = c .before .before .before .next-set .result in (
+      l .inv .0,
+      omega (arith, l .inv .1, s .before .ordered),
+      omega (arith, s .within),
+      l .inv .3,
+      settled-next (a .i * a .nb) y (a .marks .now) (l .marks) (l .changed) (reached (c .before .before)) (omega (arith, l .inv .1, s .before .ordered)) (room (c .before .before)) _ (omega arith) (l .changed) (λ e. inl e) (λ e. (e, λ h. omega arith)),
+    )
+
+same-length-2 : tie.Need-same-length-2 Inv-loop μ-loop
+same-length-2 c = c .before .loop .inv .4 .long
+
+returns-3 : tie.Need-returns-3 Inv-loop μ-loop
+returns-3 c =
+    let l = c .before .loop in
+    let a = c .before .before .before .before .before .before .args in
+    let e : l .x ≡ a .i * a .nb + a .nb = omega (arith, l .inv .0, l .inv .2) in
+    rw e at (l .inv .4)
+
+pub settle-row-spec : {M : Type 1} → statement M
+settle-row-spec =
+    tie.close
+    (tie.spec
+    Inv-loop
+    μ-loop
+    stands-requires
+    returns
+    mul-x
+    add-to
+    loop-holds
+    next-set-requires
+    same-length
+    returns-2
+    slice-read-v
+    slice-write-marks
+    add-x
+    loop-less
+    loop-again
+    loop-less-2
+    loop-again-2
+    same-length-2
+    returns-3)

@@ -1,0 +1,134 @@
+-- `sweep_row` meets its contract.
+use mathlib.Core.Path.{_≡_, refl}
+use mathlib.Core.Bool.{true}
+use Prim.Native.Nat.{_+_, _-_, _*_, _≤_}
+use native.Mathlib.Omega.{arith}
+use borrow.Author.Needs.{needs}
+use lib.ListN.{length}
+use Rattle.table_fixpoints_spec.proofs.Loops.{or-now, or-before}
+use Rattle.stricter_cores_spec.specs.Steps.{CoreStep, SparedStep}
+use Rattle.stricter_cores_spec.specs.Rounds.{Tried}
+use Rattle.stricter_cores_laws.proofs.Fitting.{ready-same}
+use Rattle.stricter_cores_laws.proofs.Tries.{tried-none, tried-zeros, tried-turn}
+use Rattle.stricter_cores.proofs.sweep_row.Statement.{statement}
+use Rattle.stricter_cores.proofs.sweep_row.Tie as tie
+
+abbrev Inv-loop : tie.InvT-loop
+Inv-loop left cuts right nb i from second k marks₀ row end changed₀ x₀ marks changed x =
+    (row ≡ i * nb) × (end ≡ i * nb + nb) × (row ≤ x) × (x ≤ end)
+    × Tried (CoreStep nb left right) (SparedStep nb left right second k) from x marks₀ marks changed
+
+abbrev μ-loop : tie.MeasureT-loop
+μ-loop left cuts right nb i from second k marks₀ row end changed₀ x₀ marks changed x = end - x
+
+mul-row : tie.Need-mul-row Inv-loop μ-loop
+mul-row c = search needs
+
+add-end : tie.Need-add-end Inv-loop μ-loop
+add-end c = search needs
+
+loop-holds : tie.Need-loop-holds Inv-loop μ-loop
+loop-holds c =
+    let a = c .before .before .before .args in
+    let p = c .before .before .before .pre in
+    (refl, refl, p .3, p .4, tried-none (CoreStep (a .nb) (a .left .now) (a .right .now)) (SparedStep (a .nb) (a .left .now) (a .right .now) (a .second) (a .k)) (a .from) (a .from) (a .marks .now) (λ x f t h. omega arith))
+
+next-set-requires : tie.Need-next-set-requires Inv-loop μ-loop
+next-set-requires c κs = let l = c .before .before .loop in (omega arith, omega (arith, l .inv .1, l .inv .4 .long, c .before .before .before .before .before .before .pre .6))
+
+same-length : tie.Need-same-length Inv-loop μ-loop
+same-length c = c .before .before .before .before .loop .inv .4 .long
+
+returns : tie.Need-returns Inv-loop μ-loop
+returns c =
+    let a = c .before .before .before .before .before .before .before .before .args in
+    let l = c .before .before .before .before .loop in
+    let e : c .before .next-set .result ≡ a .i * a .nb + a .nb = omega (arith, l .inv .1) in
+    rw e at (tried-zeros (CoreStep (a .nb) (a .left .now) (a .right .now)) (SparedStep (a .nb) (a .left .now) (a .right .now) (a .second) (a .k)) (a .from) (l .x) (c .before .next-set .result) (a .marks .now) (l .marks) (l .changed) (l .inv .4) (c .before .next-set .ensures .before .zeros))
+
+add-x : tie.Need-add-x Inv-loop μ-loop
+add-x c = search needs
+
+sub-mark-pair : tie.Need-sub-mark-pair Inv-loop μ-loop
+sub-mark-pair c = search needs
+
+mark-pair-requires : tie.Need-mark-pair-requires Inv-loop μ-loop
+mark-pair-requires c κs =
+    let a = c .before .before .before .before .before .before .before .before .before .args in
+    let p = c .before .before .before .before .before .before .before .before .before .pre in
+    let l = c .before .before .before .before .before .loop in
+    let s = c .before .before .next-set .ensures in
+    let long : length (l .marks) ≡ length (a .marks .now) = l .inv .4 .long in (
+      (p .0 .0, ready-same (p .0 .0) (a .nb) _ _ (a .marks .now) (l .marks) long (p .0 .1)),
+      p .1,
+      p .2,
+      omega (arith, l .inv .0, l .inv .1, l .inv .2, s .before .ordered, s .within),
+      p .5,
+      omega (arith, l .inv .0, l .inv .1, l .inv .2, s .before .ordered, s .within, p .6, long),
+    )
+
+loop-less : tie.Need-loop-less Inv-loop μ-loop
+loop-less c = omega (arith, c .before .before .before .before .before .before .next-set .ensures .before .ordered)
+
+loop-again : tie.Need-loop-again Inv-loop μ-loop
+loop-again c =
+    let a = c .before .before .before .before .before .before .before .before .before .before .before .before .before .args in
+    let l = c .before .before .before .before .before .before .before .before .before .loop in
+    let s = c .before .before .before .before .before .before .next-set .ensures in
+    let y = c .before .before .before .before .before .before .next-set .result in
+    let e : a .i * a .nb + (y - a .i * a .nb) ≡ y = omega (arith, l .inv .0, l .inv .2, s .before .ordered) in (
+      l .inv .0,
+      l .inv .1,
+      omega (arith, l .inv .2, s .before .ordered),
+      omega (arith, s .within),
+      tried-turn (CoreStep (a .nb) (a .left .now) (a .right .now)) (SparedStep (a .nb) (a .left .now) (a .right .now) (a .second) (a .k)) (a .from) (l .x) y (a .i * a .nb) (y - a .i * a .nb) (a .marks .now) (l .marks) _ (l .changed) _ true (l .inv .4) (s .before .zeros) e (rw (l .inv .0) at (c .before .before .before .mark-pair .ensures)) (or-now (l .changed) _ (c .if2 .taken)),
+    )
+
+loop-less-2 : tie.Need-loop-less-2 Inv-loop μ-loop
+loop-less-2 c = omega (arith, c .before .before .before .before .before .before .next-set .ensures .before .ordered)
+
+loop-again-2 : tie.Need-loop-again-2 Inv-loop μ-loop
+loop-again-2 c =
+    let a = c .before .before .before .before .before .before .before .before .before .before .before .before .before .args in
+    let l = c .before .before .before .before .before .before .before .before .before .loop in
+    let s = c .before .before .before .before .before .before .next-set .ensures in
+    let y = c .before .before .before .before .before .before .next-set .result in
+    let e : a .i * a .nb + (y - a .i * a .nb) ≡ y = omega (arith, l .inv .0, l .inv .2, s .before .ordered) in (
+      l .inv .0,
+      l .inv .1,
+      omega (arith, l .inv .2, s .before .ordered),
+      omega (arith, s .within),
+      tried-turn (CoreStep (a .nb) (a .left .now) (a .right .now)) (SparedStep (a .nb) (a .left .now) (a .right .now) (a .second) (a .k)) (a .from) (l .x) y (a .i * a .nb) (y - a .i * a .nb) (a .marks .now) (l .marks) _ (l .changed) _ (l .changed) (l .inv .4) (s .before .zeros) e (rw (l .inv .0) at (c .before .before .before .mark-pair .ensures)) (or-before (l .changed) _ (c .if2 .left)),
+    )
+
+same-length-2 : tie.Need-same-length-2 Inv-loop μ-loop
+same-length-2 c = c .before .loop .inv .4 .long
+
+returns-2 : tie.Need-returns-2 Inv-loop μ-loop
+returns-2 c =
+    let a = c .before .before .before .before .before .args in
+    let l = c .before .loop in
+    let e : l .x ≡ a .i * a .nb + a .nb = omega (arith, l .inv .1, l .inv .3) in
+    rw e at (l .inv .4)
+
+pub sweep-row-spec : {M : Type 1} → statement M
+sweep-row-spec =
+    tie.close
+    (tie.spec
+    Inv-loop
+    μ-loop
+    mul-row
+    add-end
+    loop-holds
+    next-set-requires
+    same-length
+    returns
+    add-x
+    sub-mark-pair
+    mark-pair-requires
+    loop-less
+    loop-again
+    loop-less-2
+    loop-again-2
+    same-length-2
+    returns-2)

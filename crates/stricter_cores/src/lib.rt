@@ -1,0 +1,440 @@
+// Rounds over the pairs of cores of two tagged tables: once pairs go out that lead to none that is in, then for each component of either
+// table those that cannot reach a step that spares it, until none goes out.
+use slice_zeros::next_set;
+use stricter_core_rows::cut_row;
+use stricter_core_rows::leads;
+ghost use mathlib.Core.Path.{_≡_};
+ghost use mathlib.Core.Bool.{Bool, true, false, cond};
+ghost use mathlib.Core.List.{List·Memᴰ};
+ghost use Prim.Native.Nat.{ℕ, _+_, _*_, _≤_, _<_};
+ghost use lib.ListN.{length, getD};
+ghost use Rattle.stricter_laws.specs.Pairs.{RowCut};
+ghost use Rattle.stricter_cores_spec.specs.Tags.{rowOf, untagged};
+ghost use Rattle.stricter_cores_spec.specs.Steps.{CoreStep, SparedStep, CoresFit, standsIn, OnlyCores};
+ghost use Rattle.stricter_cores_spec.specs.Rounds.{Tried, Swept, Round, Narrowed, AllSound, Pass};
+ghost use Rattle.stricter_cores_laws.specs.Parts.{Ready, Begun, Waiting, Settled, Side, Raised, Thinned};
+
+// ---- sweeps
+
+// Whether number i stands for its core.
+fn stands(acodes: &[u64], i: usize) -> bool
+    requires { ⌜ i < length (now acodes) ⌝ }
+    ensures { λ r. ⌜ r ≡ standsIn (now (acodes .entry)) i ⌝ }
+{
+    (acodes[i] >> 48) as usize == i
+}
+
+// The first place from `from` on, below `to`, of a pair that is in and not marked, or `to`.
+fn first_waiting(marks: &[u8], from: usize, to: usize) -> usize
+    requires { ⌜ (from ≤ to) × (to ≤ length (now marks)) ⌝ }
+    ensures { λ r. ⌜ Waiting (now (marks .entry)) from to r ⌝ }
+{
+    let mut x = next_set(marks, from, to);
+    while x < to {
+        if marks[x] == 1 {
+            return x;
+        }
+        x = next_set(marks, x + 1, to);
+    }
+    x
+}
+
+// Marks the pair of core i, whose row is cut, and core j if it is in, not marked, and a step that spares component k on a side leads to
+// one that is in, or any step to one that is marked; whether it did.
+fn mark_pair(
+    left: &[u64],
+    cuts: &[usize; 17],
+    right: &[u64],
+    nb: usize,
+    i: usize,
+    j: usize,
+    second: bool,
+    k: u32,
+    marks: &mut [u8],
+) -> bool
+    requires { ⌜ ((na : ℕ) × Ready na nb (now left) (now right) (now marks)) × RowCut (untagged (now left)) i (now cuts)
+        × (i < 65536) × (j < nb) × (k < 8) × (i * nb + j < length (now marks)) ⌝ }
+    ensures { λ r. ⌜ Tried (CoreStep nb (now (left .entry)) (now (right .entry)))
+        (SparedStep nb (now (left .entry)) (now (right .entry)) second k)
+        (i * nb + j) (i * nb + j + 1) (now (marks .entry)) (now (marks .exit)) r ⌝ }
+{
+    let x = i * nb + j;
+    if marks[x] != 1 {
+        return false;
+    }
+    if !leads(left, cuts, right, nb, j, second, k, marks) {
+        return false;
+    }
+    marks[x] = 2;
+    true
+}
+
+// The same for the pairs of core i from place `from` on; pairs that are out are skipped.
+fn sweep_row(
+    left: &[u64],
+    cuts: &[usize; 17],
+    right: &[u64],
+    nb: usize,
+    i: usize,
+    from: usize,
+    second: bool,
+    k: u32,
+    marks: &mut [u8],
+) -> bool
+    requires { ⌜ ((na : ℕ) × Ready na nb (now left) (now right) (now marks)) × RowCut (untagged (now left)) i (now cuts)
+        × (i < 65536) × (i * nb ≤ from) × (from ≤ i * nb + nb) × (k < 8) × (i * nb + nb ≤ length (now marks)) ⌝ }
+    ensures { λ r. ⌜ Tried (CoreStep nb (now (left .entry)) (now (right .entry)))
+        (SparedStep nb (now (left .entry)) (now (right .entry)) second k)
+        from (i * nb + nb) (now (marks .entry)) (now (marks .exit)) r ⌝ }
+{
+    let row = i * nb;
+    let end = row + nb;
+    let mut changed = false;
+    let mut x = from;
+    while x < end {
+        let y = next_set(marks, x, end);
+        if y == end {
+            return changed;
+        }
+        x = y + 1;
+        if mark_pair(left, cuts, right, nb, i, y - row, second, k, marks) {
+            changed = true;
+        }
+    }
+    changed
+}
+
+// The same for the pairs of number i, none of which is in if it does not stand for its core.
+fn visit_row(
+    acodes: &[u64],
+    left: &[u64],
+    right: &[u64],
+    nb: usize,
+    i: usize,
+    second: bool,
+    k: u32,
+    marks: &mut [u8],
+) -> bool
+    requires { ⌜ Ready (length (now acodes)) nb (now left) (now right) (now marks) × OnlyCores (now acodes) nb (now marks)
+        × (i < length (now acodes)) × (k < 8) ⌝ }
+    ensures { λ r. ⌜ Tried (CoreStep nb (now (left .entry)) (now (right .entry)))
+        (SparedStep nb (now (left .entry)) (now (right .entry)) second k)
+        (i * nb) (i * nb + nb) (now (marks .entry)) (now (marks .exit)) r ⌝ }
+{
+    if !stands(acodes, i) {
+        return false;
+    }
+    let row = i * nb;
+    let end = row + nb;
+    let first = first_waiting(marks, row, end);
+    if first == end {
+        return false;
+    }
+    let cuts = cut_row(left, i);
+    sweep_row(left, &cuts, right, nb, i, first, second, k, marks)
+}
+
+// The same for all pairs.
+fn sweep(
+    acodes: &[u64],
+    left: &[u64],
+    right: &[u64],
+    nb: usize,
+    second: bool,
+    k: u32,
+    marks: &mut [u8],
+) -> bool
+    requires { ⌜ Ready (length (now acodes)) nb (now left) (now right) (now marks) × (k < 8)
+        × Begun (CoreStep nb (now left) (now right)) (SparedStep nb (now left) (now right) second k) (now acodes) nb (now marks) ⌝ }
+    ensures { λ r. ⌜ Tried (CoreStep nb (now (left .entry)) (now (right .entry)))
+        (SparedStep nb (now (left .entry)) (now (right .entry)) second k)
+        0 (length (now (acodes .entry)) * nb) (now (marks .entry)) (now (marks .exit)) r ⌝ }
+{
+    let mut changed = false;
+    let mut i = 0;
+    while i < acodes.len() {
+        let p = i;
+        i += 1;
+        if visit_row(acodes, left, right, nb, p, second, k, marks) {
+            changed = true;
+        }
+    }
+    changed
+}
+
+// Sweeps until nothing is new.
+fn sweep_out(
+    acodes: &[u64],
+    left: &[u64],
+    right: &[u64],
+    nb: usize,
+    second: bool,
+    k: u32,
+    marks: &mut [u8],
+)
+    requires { ⌜ Ready (length (now acodes)) nb (now left) (now right) (now marks) × OnlyCores (now acodes) nb (now marks)
+        × ((x : ℕ) → getD (now marks) x 0 ≤ 1) × (k < 8) ⌝ }
+    ensures { λ _. ⌜ Swept (CoreStep nb (now (left .entry)) (now (right .entry)))
+        (SparedStep nb (now (left .entry)) (now (right .entry)) second k) (now (marks .entry)) (now (marks .exit)) ⌝ }
+{
+    while sweep(acodes, left, right, nb, second, k, marks) {}
+}
+
+// ---- rounds
+
+// Takes out the pairs of number i that are not marked, and the marks off the others; whether a pair went out.
+fn settle_row(acodes: &[u64], nb: usize, i: usize, marks: &mut [u8]) -> bool
+    requires { ⌜ (length (now marks) ≡ length (now acodes) * nb) × OnlyCores (now acodes) nb (now marks) × (i < length (now acodes)) ⌝ }
+    ensures { λ r. ⌜ Settled (i * nb) (i * nb + nb) (now (marks .entry)) (now (marks .exit)) r ⌝ }
+{
+    if !stands(acodes, i) {
+        return false;
+    }
+    let mut changed = false;
+    let mut x = i * nb;
+    let to = x + nb;
+    while x < to {
+        let y = next_set(marks, x, to);
+        if y == to {
+            return changed;
+        }
+        let v = marks[y];
+        marks[y] = v >> 1;
+        x = y + 1;
+        if v == 1 {
+            changed = true;
+        }
+    }
+    changed
+}
+
+// The same for all pairs.
+fn settle(acodes: &[u64], nb: usize, marks: &mut [u8]) -> bool
+    requires { ⌜ (length (now marks) ≡ length (now acodes) * nb) × OnlyCores (now acodes) nb (now marks) ⌝ }
+    ensures { λ r. ⌜ Settled 0 (length (now (acodes .entry)) * nb) (now (marks .entry)) (now (marks .exit)) r ⌝ }
+{
+    let mut changed = false;
+    let mut i = 0;
+    while i < acodes.len() {
+        let p = i;
+        i += 1;
+        if settle_row(acodes, nb, p, marks) {
+            changed = true;
+        }
+    }
+    changed
+}
+
+// Takes out the pairs from which no walk takes a step that spares component k on a side; whether there were such.
+fn round(
+    acodes: &[u64],
+    left: &[u64],
+    right: &[u64],
+    nb: usize,
+    second: bool,
+    k: u32,
+    marks: &mut [u8],
+) -> bool
+    requires { ⌜ Ready (length (now acodes)) nb (now left) (now right) (now marks) × OnlyCores (now acodes) nb (now marks)
+        × ((x : ℕ) → getD (now marks) x 0 ≤ 1) × (k < 8) ⌝ }
+    ensures { λ r. ⌜ Round (CoreStep nb (now (left .entry)) (now (right .entry)))
+        (SparedStep nb (now (left .entry)) (now (right .entry)) second k) (now (marks .entry)) (now (marks .exit)) r ⌝ }
+{
+    sweep_out(acodes, left, right, nb, second, k, marks);
+    settle(acodes, nb, marks)
+}
+
+// A round for each of the first `count` components on a side; whether a pair went out.
+fn rounds(
+    acodes: &[u64],
+    left: &[u64],
+    right: &[u64],
+    nb: usize,
+    second: bool,
+    count: usize,
+    marks: &mut [u8],
+) -> bool
+    requires { ⌜ Ready (length (now acodes)) nb (now left) (now right) (now marks) × OnlyCores (now acodes) nb (now marks)
+        × ((x : ℕ) → getD (now marks) x 0 ≤ 1) × (count ≤ 8) ⌝ }
+    ensures { λ r. ⌜ ((components : Bool → ℕ) → count ≤ components second
+        → Side (CoreStep nb (now (left .entry)) (now (right .entry))) (SparedStep nb (now (left .entry)) (now (right .entry))) components
+        second count (now (marks .entry)) (now (marks .exit)) r) ⌝ }
+{
+    let mut changed = false;
+    let mut k = 0;
+    while k < count {
+        let c = k as u32;
+        k += 1;
+        if round(acodes, left, right, nb, second, c, marks) {
+            changed = true;
+        }
+    }
+    changed
+}
+
+// A round for each component of either table; whether a pair went out.
+fn pass(
+    acodes: &[u64],
+    left: &[u64],
+    acount: usize,
+    nb: usize,
+    right: &[u64],
+    bcount: usize,
+    marks: &mut [u8],
+) -> bool
+    requires { ⌜ Ready (length (now acodes)) nb (now left) (now right) (now marks) × OnlyCores (now acodes) nb (now marks)
+        × ((x : ℕ) → getD (now marks) x 0 ≤ 1) × (acount ≤ 8) × (bcount ≤ 8) ⌝ }
+    ensures { λ r. ⌜ Pass (CoreStep nb (now (left .entry)) (now (right .entry))) (SparedStep nb (now (left .entry)) (now (right .entry)))
+        (λ s. cond s bcount acount) (now (marks .entry)) (now (marks .exit)) r ⌝ }
+{
+    let first = rounds(acodes, left, right, nb, false, acount, marks);
+    let second = rounds(acodes, left, right, nb, true, bcount, marks);
+    if first {
+        return true;
+    }
+    second
+}
+
+// Passes until none takes a pair out.
+fn passes(
+    acodes: &[u64],
+    left: &[u64],
+    acount: usize,
+    nb: usize,
+    right: &[u64],
+    bcount: usize,
+    marks: &mut [u8],
+)
+    requires { ⌜ Ready (length (now acodes)) nb (now left) (now right) (now marks) × OnlyCores (now acodes) nb (now marks)
+        × ((x : ℕ) → getD (now marks) x 0 ≤ 1) × (acount ≤ 8) × (bcount ≤ 8) ⌝ }
+    ensures { λ _. ⌜ Narrowed (CoreStep nb (now (left .entry)) (now (right .entry)))
+        (SparedStep nb (now (left .entry)) (now (right .entry)))
+        (λ s. cond s bcount acount) (now (marks .entry)) (now (marks .exit)) ⌝ }
+    ensures { λ _. ⌜ AllSound (CoreStep nb (now (left .entry)) (now (right .entry)))
+        (SparedStep nb (now (left .entry)) (now (right .entry))) (λ s. cond s bcount acount) (now (marks .exit)) ⌝ }
+{
+    while pass(acodes, left, acount, nb, right, bcount, marks) {}
+}
+
+// ---- dead ends
+
+// Marks all pairs that are in.
+fn mark_all(marks: &mut [u8])
+    requires { ⌜ ((x : ℕ) → getD (now marks) x 0 ≤ 1) ⌝ }
+    ensures { λ _. ⌜ Raised (length (now (marks .entry))) (now (marks .entry)) (now (marks .exit)) ⌝ }
+{
+    let end = marks.len();
+    let mut x = next_set(marks, 0, end);
+    while x < end {
+        marks[x] = 2;
+        x = next_set(marks, x + 1, end);
+    }
+}
+
+// Takes out the pair of core i, whose row is cut, and core j if no step leads to a marked one.
+fn drop_pair(
+    left: &[u64],
+    cuts: &[usize; 17],
+    right: &[u64],
+    nb: usize,
+    i: usize,
+    j: usize,
+    marks: &mut [u8],
+)
+    requires { ⌜ ((na : ℕ) × Ready na nb (now left) (now right) (now marks)) × RowCut (untagged (now left)) i (now cuts)
+        × (i < 65536) × (j < nb) × (i * nb + j < length (now marks)) ⌝ }
+    ensures { λ _. ⌜ Thinned (CoreStep nb (now (left .entry)) (now (right .entry))) (now (marks .entry)) (now (marks .exit)) ⌝ }
+{
+    if leads(left, cuts, right, nb, j, false, 0, marks) {
+        return;
+    }
+    marks[i * nb + j] = 0;
+}
+
+// The same for the pairs of core i from place `from` on.
+fn drop_row(
+    left: &[u64],
+    cuts: &[usize; 17],
+    right: &[u64],
+    nb: usize,
+    i: usize,
+    from: usize,
+    marks: &mut [u8],
+)
+    requires { ⌜ ((na : ℕ) × Ready na nb (now left) (now right) (now marks)) × RowCut (untagged (now left)) i (now cuts)
+        × (i < 65536) × (i * nb ≤ from) × (from ≤ i * nb + nb) × (i * nb + nb ≤ length (now marks)) ⌝ }
+    ensures { λ _. ⌜ Thinned (CoreStep nb (now (left .entry)) (now (right .entry))) (now (marks .entry)) (now (marks .exit)) ⌝ }
+{
+    let row = i * nb;
+    let end = row + nb;
+    let mut x = from;
+    while x < end {
+        drop_pair(left, cuts, right, nb, i, x - row, marks);
+        x = next_set(marks, x + 1, end);
+    }
+}
+
+// The same for the pairs of number i.
+fn thin_row(acodes: &[u64], left: &[u64], right: &[u64], nb: usize, i: usize, marks: &mut [u8])
+    requires { ⌜ Ready (length (now acodes)) nb (now left) (now right) (now marks) × (i < length (now acodes)) ⌝ }
+    ensures { λ _. ⌜ Thinned (CoreStep nb (now (left .entry)) (now (right .entry))) (now (marks .entry)) (now (marks .exit)) ⌝ }
+{
+    if !stands(acodes, i) {
+        return;
+    }
+    let row = i * nb;
+    let end = row + nb;
+    let first = next_set(marks, row, end);
+    if first == end {
+        return;
+    }
+    let cuts = cut_row(left, i);
+    drop_row(left, &cuts, right, nb, i, first, marks);
+}
+
+// The same for all pairs.
+fn thin(acodes: &[u64], left: &[u64], right: &[u64], nb: usize, marks: &mut [u8])
+    requires { ⌜ Ready (length (now acodes)) nb (now left) (now right) (now marks) ⌝ }
+    ensures { λ _. ⌜ Thinned (CoreStep nb (now (left .entry)) (now (right .entry))) (now (marks .entry)) (now (marks .exit)) ⌝ }
+{
+    let mut i = 0;
+    while i < acodes.len() {
+        thin_row(acodes, left, right, nb, i, marks);
+        i += 1;
+    }
+}
+
+// Takes out pairs that lead to none that is in: most of them go at once.
+fn drop_ends(acodes: &[u64], left: &[u64], right: &[u64], nb: usize, marks: &mut [u8])
+    requires { ⌜ Ready (length (now acodes)) nb (now left) (now right) (now marks) × OnlyCores (now acodes) nb (now marks)
+        × ((x : ℕ) → getD (now marks) x 0 ≤ 1) ⌝ }
+    ensures { λ _. ⌜ ((components : Bool → ℕ) → Narrowed (CoreStep nb (now (left .entry)) (now (right .entry)))
+        (SparedStep nb (now (left .entry)) (now (right .entry))) components (now (marks .entry)) (now (marks .exit))) ⌝ }
+{
+    mark_all(marks);
+    thin(acodes, left, right, nb, marks);
+    settle(acodes, nb, marks);
+}
+
+// Takes pairs of cores out until from each that is left, for each component of either table, a walk along such pairs spares it.
+pub fn narrow(
+    acodes: &[u64],
+    left: &[u64],
+    acount: usize,
+    nb: usize,
+    right: &[u64],
+    bcount: usize,
+    marks: &mut [u8],
+)
+    requires { ⌜ CoresFit (length (now acodes)) nb (now left) (now right) (now marks) × OnlyCores (now acodes) nb (now marks)
+        × ((x : ℕ) → getD (now marks) x 0 ≤ 1) × (acount ≤ 8) × (bcount ≤ 8) ⌝ }
+    requires { ⌜ ((u : ℕ) → List·Memᴰ u (now right) → rowOf u < nb) ⌝ }
+    ensures { λ _. ⌜ Narrowed (CoreStep nb (now (left .entry)) (now (right .entry)))
+        (SparedStep nb (now (left .entry)) (now (right .entry)))
+        (λ s. cond s bcount acount) (now (marks .entry)) (now (marks .exit)) ⌝ }
+    ensures { λ _. ⌜ AllSound (CoreStep nb (now (left .entry)) (now (right .entry)))
+        (SparedStep nb (now (left .entry)) (now (right .entry))) (λ s. cond s bcount acount) (now (marks .exit)) ⌝ }
+{
+    drop_ends(acodes, left, right, nb, marks);
+    passes(acodes, left, acount, nb, right, bcount, marks);
+}

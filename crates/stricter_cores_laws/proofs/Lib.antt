@@ -1,0 +1,5 @@
+pub mod Fitting
+pub mod Tries
+pub mod Settling
+pub mod Turns
+pub mod Ends

@@ -1,0 +1,1 @@
+// Laws of rounds over pairs of cores: sweeps that mark, settling, and rounds for one component after another.

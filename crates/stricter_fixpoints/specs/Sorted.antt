@@ -1,0 +1,40 @@
+-- Pairs of numbers of two tables that are sorted out: which are in, and what is known of them.
+use mathlib.Core.Path.{_≡_}
+use mathlib.Core.Bool.{true, false, cond}
+use mathlib.Core.List.{List}
+use Prim.Native.Nat.{ℕ, _*_, _≤_, _<_}
+use lib.ListN.{length, getD}
+use Rattle.sets.specs.Tests.{Set}
+use Rattle.theory.specs.Rule.{Rule}
+use Rattle.theory.specs.TableComputed.{macrostatesFrom, transitionsFrom}
+use Rattle.build_closure_spec.specs.declared.Shape.{Shape}
+use Rattle.build_closure_spec.specs.Tables.{RuleTables}
+use Rattle.stricter_spec.specs.Search.{NoShared}
+use Rattle.stricter_laws.specs.Pairs.{PairEdge}
+use Rattle.stricter_laws.specs.Sound.{BothSound}
+use Rattle.stricter_laws.specs.Tests.{acceptsIn, startsIn}
+use Rattle.stricter_cores_spec.specs.Steps.{CoreStep, SparedStep, CoresIn, Spread}
+use Rattle.stricter_cores_spec.specs.Rounds.{Narrowed, AllSound}
+
+-- From each pair that is in, pairs that are in and accepting on either side can be reached;
+-- where no pair that is in may begin, no sequence of letters has an accepting run of each table.
+pub record Sorted (ca ma cb mb marks : List ℕ) : Type 0 where
+  pub long : length marks ≡ length ca * length cb
+  pub sound : BothSound (PairEdge (length cb) ma mb) (acceptsIn ca cb false) (acceptsIn ca cb true) marks
+  pub none : (startA startB : Set) → ((x : ℕ) → 0 < getD marks x 0 → startsIn ca cb startA startB x ≡ true → ⊥) → NoShared ca ma startA cb mb startB
+
+-- the marks come from those of the pairs of cores of two tagged tables, once these are narrowed
+pub record CoresSorted (acodes left : List ℕ) (acount : ℕ) (bcodes right : List ℕ) (bcount : ℕ) (marks : List ℕ) : Type 0 where
+  pub all : List ℕ
+  pub in-all : CoresIn acodes bcodes all
+  pub cores : List ℕ
+  pub narrowed : Narrowed (CoreStep (length bcodes) left right) (SparedStep (length bcodes) left right) (λ s. cond s bcount acount) all cores
+  pub sound : AllSound (CoreStep (length bcodes) left right) (SparedStep (length bcodes) left right) (λ s. cond s bcount acount) cores
+  pub spread : Spread acodes bcodes cores marks
+
+-- codes and moves are a table of the rule r, begun by the start condition; the others are the rule's tables
+pub record TableOf (r : Rule) (start : Set) (opens parts : List ℕ) (shape : Shape) (codes moves : List ℕ) : Type 0 where
+  pub tables : RuleTables r opens parts shape
+  pub few : length codes ≤ 65536
+  pub codes-are : codes ≡ macrostatesFrom r start
+  pub moves-are : moves ≡ transitionsFrom r start

@@ -1,0 +1,41 @@
+-- `tag_table` meets its contract.
+use native.Mathlib.Omega.{arith}
+use borrow.Author.Needs.{needs}
+use Rattle.theory_laws.proofs.Tables.{macrostates-ascending}
+use Rattle.spare_tables.proofs.Tables.{codes-low}
+use Rattle.stricter_tags_moves.proofs.Moves.{code-known}
+use Rattle.stricter_tags.proofs.tag_table.Statement.{statement}
+use Rattle.stricter_tags.proofs.tag_table.Tie as tie
+
+tag-codes-requires : tie.Need-tag-codes-requires
+tag-codes-requires c κs =
+    let a = c .before .before .before .args in
+    let (r, start, T, few, e, f) = c .before .before .before .pre in (
+      few,
+      rw e (macrostates-ascending r (T .shaped .passing) start),
+      λ j l. rw e (
+        codes-low r (T .shaped .passing) start (rw e at few) j (rw e at l),
+        omega (arith, code-known r (a .opens .now) (a .parts .now) (a .shape) T start (rw e at few) j (rw e at l)),
+      ),
+    )
+
+tag-moves-requires : tie.Need-tag-moves-requires
+tag-moves-requires c κs =
+    let (r, start, T, few, e, f) = c .before .before .before .before .before .before .before .before .pre in
+    let t = c .before .before .before .before .tag-codes in
+    (r, start, T, omega (arith, t .kept .0), rw e at (t .ensures), f)
+
+same-length : tie.Need-same-length
+same-length c = search needs
+
+same-length-2 : tie.Need-same-length-2
+same-length-2 c = search needs
+
+returns : tie.Need-returns
+returns c =
+    let t = c .before .before .before .before .before .before .before .tag-codes in
+    λ r start T few e f. (t .ensures, rw e (c .before .before .tag-moves .ensures r start T (omega (arith, t .kept .0)) (rw e at (t .ensures)) f))
+
+pub tag-table-spec : {M : Type 1} → statement M
+tag-table-spec =
+    tie.close (tie.spec tag-codes-requires tag-moves-requires same-length same-length-2 returns)

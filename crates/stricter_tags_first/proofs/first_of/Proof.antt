@@ -1,0 +1,142 @@
+-- `first_of` meets its contract. The loop's invariant: no number below i with the core of i has a pair below h.
+use mathlib.Core.Path.{_≡_, sym, ap, _∙_}
+use Prim.Native.Nat.{ℕ, _+_, _-_, _*_, _/_, _^_, _≤_, _<_}
+use native.Mathlib.Omega.{arith}
+use borrow.Author.Needs.{needs, scaled-fits}
+use lib.Bits.{bitAnd, and-mask}
+use lib.ListN.{length, getD, take}
+use lib.Seq.{length-take-le}
+use Rattle.slice_search.specs.Places.{below}
+use Rattle.slice_search.proofs.Search.{below-le}
+use Rattle.stricter_cores_spec.specs.Tags.{coreIn}
+use Rattle.stricter_tags_first.proofs.First.{None, front-asc, hit, miss, skip, last}
+use Rattle.stricter_tags_first.proofs.first_of.Statement.{statement}
+use Rattle.stricter_tags_first.proofs.first_of.Tie as tie
+
+abbrev Inv-loop : tie.InvT-loop
+Inv-loop codes i components core top h₀ h = (h ≤ getD codes i 0 / 1099511627776) × None codes i h
+
+abbrev μ-loop : tie.MeasureT-loop
+μ-loop codes i components core top h₀ h = getD codes i 0 / 1099511627776 - h
+
+mul-core : tie.Need-mul-core Inv-loop μ-loop
+mul-core c = search needs
+
+shared-slice-read-core : tie.Need-shared-slice-read-core Inv-loop μ-loop
+shared-slice-read-core c = search needs
+
+mul-top : tie.Need-mul-top Inv-loop μ-loop
+mul-top c = search needs
+
+shared-slice-read-top : tie.Need-shared-slice-read-top Inv-loop μ-loop
+shared-slice-read-top c = search needs
+
+loop-holds : tie.Need-loop-holds Inv-loop μ-loop
+loop-holds c = (omega arith, λ j l e. omega arith)
+
+-- the code of i fits
+fits : (c : tie.At-loop Inv-loop μ-loop) → getD (c .before .before .before .before .args .codes .now) (c .before .before .before .before .args .i) 0 < 2 ^ 64
+fits c = omega (arith, c .before .shared-slice-known3 .given (c .before .before .before .before .args .i))
+
+low : (x h : ℕ) → bitAnd x 1099511627775 + h * 1099511627776 ≡ coreIn x + h * 1099511627776
+low x h = ap (λ (y : ℕ). y + h * 1099511627776) (and-mask x 40)
+
+add-h : tie.Need-add-h Inv-loop μ-loop
+add-h c = omega (arith, fits (c .before .before))
+
+loop-less : tie.Need-loop-less Inv-loop μ-loop
+loop-less c = omega arith
+
+loop-again : tie.Need-loop-again Inv-loop μ-loop
+loop-again c =
+    let a = c .before .before .before .before .before .before .args in
+    let p = c .before .before .before .before .before .before .pre in
+    let l = c .before .before .loop in
+    (omega arith, skip (a .codes .now) (a .i) (p .0) (p .1) (l .h) (l .inv .1) (a .components) (p .2) (omega (arith, and-mask (l .h) 4, c .if1 .taken)))
+
+mul-key : tie.Need-mul-key Inv-loop μ-loop
+mul-key c = omega (arith, fits (c .before .before))
+
+add-key : tie.Need-add-key Inv-loop μ-loop
+add-key c =
+    let a = c .before .before .before .before .before .before .args in
+    omega (arith, fits (c .before .before), and-mask (getD (a .codes .now) (a .i) 0) 40)
+
+place-requires : tie.Need-place-requires Inv-loop μ-loop
+place-requires c κs =
+    let a = c .before .before .before .before .before .before .args in
+    let p = c .before .before .before .before .before .before .pre in
+    (omega arith, front-asc (a .codes .now) (a .i) (p .0) (p .1))
+
+-- the place is at most i
+near : (c : tie.After-place Inv-loop μ-loop) → c .place .result ≤ c .before .before .before .before .before .before .before .args .i
+near c =
+    let a = c .before .before .before .before .before .before .before .args in
+    let p = c .before .before .before .before .before .before .before .pre in
+    let b = below-le (bitAnd (getD (a .codes .now) (a .i) 0) 1099511627775 + c .before .before .before .loop .h * 1099511627776) (take (a .i) (a .codes .now)) in
+    omega (arith, c .place .ensures, length-take-le (a .i) (a .codes .now) (omega arith))
+
+mul-if2 : tie.Need-mul-if2 Inv-loop μ-loop
+mul-if2 c =
+    let a = c .before .before .before .before .before .before .before .args in
+    scaled-fits _ (length (a .codes .now)) 8 (omega (arith, near c)) (c .before .before .before .before .before .before .before .good .0 .1)
+
+shared-slice-read-if2 : tie.Need-shared-slice-read-if2 Inv-loop μ-loop
+shared-slice-read-if2 c = omega (arith, near (c .before))
+
+returns : tie.Need-returns Inv-loop μ-loop
+returns c =
+    let a = c .before .before .before .before .before .before .before .before .before .args in
+    let p = c .before .before .before .before .before .before .before .before .before .pre in
+    let l = c .before .before .before .before .before .loop in
+    hit (a .codes .now) (a .i) (p .0) (p .1) (l .h) (l .inv .1) (c .before .before .place .result) (near (c .before .before))
+    (c .if2 .taken ∙ low (getD (a .codes .now) (a .i) 0) (l .h))
+
+add-h-2 : tie.Need-add-h-2 Inv-loop μ-loop
+add-h-2 c = omega (arith, fits (c .before .before .before .before .before))
+
+loop-less-2 : tie.Need-loop-less-2 Inv-loop μ-loop
+loop-less-2 c = omega arith
+
+loop-again-2 : tie.Need-loop-again-2 Inv-loop μ-loop
+loop-again-2 c =
+    let a = c .before .before .before .before .before .before .before .before .before .args in
+    let p = c .before .before .before .before .before .before .before .before .before .pre in
+    let l = c .before .before .before .before .before .loop in (
+      omega arith,
+      miss (a .codes .now) (a .i) (p .0) (p .1) (l .h) (l .inv .1) (c .before .before .place .result)
+          (c .before .before .place .ensures ∙ ap (λ (x : ℕ). below x (take (a .i) (a .codes .now))) (low (getD (a .codes .now) (a .i) 0) (l .h)))
+          (λ e. c .if2 .left (e ∙ sym (low (getD (a .codes .now) (a .i) 0) (l .h)))),
+    )
+
+returns-2 : tie.Need-returns-2 Inv-loop μ-loop
+returns-2 c =
+    let a = c .before .before .before .before .before .args in
+    let p = c .before .before .before .before .before .pre in
+    let l = c .before .loop in
+    last (a .codes .now) (a .i) (p .0) (p .1) (l .h) (l .inv .1) (omega arith)
+
+pub first-of-spec : {M : Type 1} → statement M
+first-of-spec =
+    tie.close
+    (tie.spec
+    Inv-loop
+    μ-loop
+    mul-core
+    shared-slice-read-core
+    mul-top
+    shared-slice-read-top
+    loop-holds
+    add-h
+    loop-less
+    loop-again
+    mul-key
+    add-key
+    place-requires
+    mul-if2
+    shared-slice-read-if2
+    returns
+    add-h-2
+    loop-less-2
+    loop-again-2
+    returns-2)

@@ -1,0 +1,1 @@
+// Tags taken off again, and what they show: laws, no code.

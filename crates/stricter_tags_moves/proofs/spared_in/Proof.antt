@@ -1,0 +1,95 @@
+-- `spared_in` meets its contract.
+use mathlib.Core.Path.{_≡_, refl, ap, _∙_}
+use Prim.Native.Nat.{ℕ, _+_, _-_, _*_, _/_, _%_, _^_, _≤_}
+use native.Mathlib.Omega.{arith}
+use borrow.Author.Needs.{needs}
+use lib.ListN.{getD}
+use Rattle.sets.specs.Masks.{mask}
+use Rattle.sets.specs.Tests.{one}
+use Rattle.stricter_tags_moves.specs.Spared.{sparedBy, sparedIn}
+use Rattle.stricter_tags_moves.proofs.Spared.{mask-put, mask-small}
+use Rattle.stricter_tags_moves.proofs.spared_in.Statement.{statement}
+use Rattle.stricter_tags_moves.proofs.spared_in.Tie as tie
+
+abbrev Inv-loop : tie.InvT-loop
+Inv-loop ranks parts components levels spared₀ k₀ spared k = (k ≤ components) × (spared ≡ mask k (sparedIn ranks parts levels))
+
+abbrev μ-loop : tie.MeasureT-loop
+μ-loop ranks parts components levels spared₀ k₀ spared k = components - k
+
+loop-holds : tie.Need-loop-holds Inv-loop μ-loop
+unfolding mask
+loop-holds c = (omega arith, refl)
+
+element-copy-out-class-count : tie.Need-element-copy-out-class-count Inv-loop μ-loop
+element-copy-out-class-count c = search needs
+
+class-count-requires : tie.Need-class-count-requires Inv-loop μ-loop
+class-count-requires c κs = search needs
+
+cast-classes : tie.Need-cast-classes Inv-loop μ-loop
+cast-classes c = search needs
+
+mul-spared-by : tie.Need-mul-spared-by Inv-loop μ-loop
+mul-spared-by c = search needs
+
+element-copy-out-spared-by : tie.Need-element-copy-out-spared-by Inv-loop μ-loop
+element-copy-out-spared-by c = search needs
+
+spared-by-requires : tie.Need-spared-by-requires Inv-loop μ-loop
+spared-by-requires c κs = search needs
+
+shl-spared : tie.Need-shl-spared Inv-loop μ-loop
+shl-spared c = search needs
+
+-- the mask with one more component
+put : (c : tie.After-spared-by Inv-loop μ-loop)
+    → c .before .before .before .before .before .loop .spared + c .spared-by .result * 2 ^ c .before .before .before .before .before .loop .k % 2 ^ 64
+    ≡ mask (c .before .before .before .before .before .loop .k + 1) (sparedIn (c .before .before .before .before .before .before .args .ranks) (c .before .before .before .before .before .before .args .parts .now) (c .before .before .before .before .before .before .args .levels .now))
+put c =
+    let a = c .before .before .before .before .before .before .args in
+    let l = c .before .before .before .before .before .loop in
+    mask-put (l .k) (l .spared) (c .spared-by .result) (sparedIn (a .ranks) (a .parts .now) (a .levels .now)) (omega arith) (l .inv .1)
+    (c .spared-by .ensures ∙ ap (λ (x : ℕ). one (sparedBy x (getD (a .levels .now) (l .k) 0 / 2 ^ 60 % 16))) (c .before .before .class-count .ensures))
+
+add-spared : tie.Need-add-spared Inv-loop μ-loop
+add-spared c =
+    let a = c .before .before .before .before .before .before .args in
+    let l = c .before .before .before .before .before .loop in
+    omega (arith, put c, mask-small (l .k + 1) (sparedIn (a .ranks) (a .parts .now) (a .levels .now)) (omega arith))
+
+add-k : tie.Need-add-k Inv-loop μ-loop
+add-k c = search needs
+
+loop-less : tie.Need-loop-less Inv-loop μ-loop
+loop-less c = search needs
+
+loop-again : tie.Need-loop-again Inv-loop μ-loop
+loop-again c = (omega arith, put c)
+
+returns : tie.Need-returns Inv-loop μ-loop
+returns c =
+    let a = c .before .before .args in
+    let l = c .before .loop in
+    let e : l .k ≡ a .components = omega arith in
+    l .inv .1 ∙ ap (λ (n : ℕ). mask n (sparedIn (a .ranks) (a .parts .now) (a .levels .now))) e
+
+pub spared-in-spec : {M : Type 1} → statement M
+spared-in-spec =
+    tie.close
+    (tie.spec
+    Inv-loop
+    μ-loop
+    loop-holds
+    element-copy-out-class-count
+    class-count-requires
+    cast-classes
+    mul-spared-by
+    element-copy-out-spared-by
+    spared-by-requires
+    shl-spared
+    add-spared
+    add-k
+    loop-less
+    loop-again
+    returns)

@@ -1,0 +1,50 @@
+-- `spared_over` meets its contract.
+use mathlib.Core.Path.{_∙_}
+use native.Mathlib.Omega.{arith}
+use borrow.Author.Needs.{needs}
+use Rattle.sets.specs.Masks.{mask}
+use Rattle.build_closure_spec.proofs.Letters.{rises}
+use Rattle.build_closure_spec.proofs.Starting.{few}
+use Rattle.stricter_tags_moves.specs.Spared.{sparedIn}
+use Rattle.stricter_tags_moves.proofs.Moves.{over-is}
+use Rattle.stricter_tags_moves.proofs.Spared.{mask-small}
+use Rattle.stricter_tags_moves.proofs.spared_over.Statement.{statement}
+use Rattle.stricter_tags_moves.proofs.spared_over.Tie as tie
+
+lowest-requires : tie.Need-lowest-requires
+lowest-requires c κs = search needs
+
+array-read-step-back : tie.Need-array-read-step-back
+array-read-step-back c = search needs
+
+step-back-requires : tie.Need-step-back-requires
+step-back-requires c κs =
+    let a = c .before .before .args in
+    let p = c .before .before .pre in
+    let e = p .0 in (
+      few (e .0) (a .parts .now) (a .shape) (e .1 .shaped),
+      rises (e .0) (a .opens .now) (a .parts .now) (a .shape) (e .1) (a .letter) (a .ranks) (p .2) (p .1) (c .before .lowest .result) (c .before .lowest .ensures),
+    )
+
+spared-in-requires : tie.Need-spared-in-requires
+spared-in-requires c κs =
+    let a = c .before .before .before .before .before .args in
+    let e = c .before .before .before .before .before .pre .0 in
+    few (e .0) (a .parts .now) (a .shape) (e .1 .shaped)
+
+returns : tie.Need-returns
+returns c =
+    let a = c .before .before .before .before .before .before .args in
+    let p = c .before .before .before .before .before .before .pre in
+    let e = p .0 in
+    let b = c .before .before .before .step-back in
+    let low = c .before .before .before .before .before .lowest in (
+      omega (arith, c .spared-in .ensures, mask-small (a .shape .components) (sparedIn (a .ranks) (a .parts .now) (b .result .levels)) (few (e .0) (a .parts .now) (a .shape) (e .1 .shaped))),
+      λ r T x d N f G. _∙_ {b = mask (a .shape .components) (sparedIn (a .ranks) (a .parts .now) (b .result .levels))} (c .spared-in .ensures)
+          (over-is r (a .opens .now) (a .parts .now) (a .shape) T (a .letter) (a .ranks) (p .2) (p .1) (low .result) (low .ensures) (b .result .ranks) (b .result .levels) (b .ensures) x d N f G),
+    )
+
+pub spared-over-spec : {M : Type 1} → statement M
+spared-over-spec =
+    tie.close
+    (tie.spec lowest-requires array-read-step-back step-back-requires spared-in-requires returns)

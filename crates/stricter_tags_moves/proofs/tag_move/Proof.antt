@@ -1,0 +1,101 @@
+-- `tag_move` meets its contract.
+use mathlib.Core.Path.{_≡_}
+use Prim.Native.Nat.{_/_, _^_, _<_}
+use native.Mathlib.Omega.{arith}
+use borrow.Author.Needs.{needs}
+use mathlib.Core.Bool.{_&&_}
+use lib.Dec.{ltb}
+use lib.Bits.{bitAnd}
+use lib.ListN.{getD}
+use Rattle.sets.specs.Masks.{mask}
+use Rattle.theory.specs.Automaton.{automaton}
+use Rattle.theory.specs.Code.{rankIn}
+use Rattle.theory.specs.Run.{sourceOf, letterOf, targetOf}
+use Rattle.theory.specs.TableComputed.{macrostatesFrom}
+use Rattle.build_cores.specs.Parts.{vectorOf}
+use Rattle.spare_spec.specs.SpareComputed.{spares}
+use Rattle.stricter_tags_moves.proofs.Moves.{target-low, letter-known, step, target, vector-cores, ranks-are, top-low, move-low, tags-are}
+use Rattle.stricter_tags_moves.proofs.tag_move.Statement.{statement}
+use Rattle.stricter_tags_moves.proofs.tag_move.Tie as tie
+
+target-of-requires : tie.Need-target-of-requires
+target-of-requires c κs = search needs
+
+mul-d : tie.Need-mul-d
+mul-d c = search needs
+
+shared-slice-read-d : tie.Need-shared-slice-read-d
+shared-slice-read-d c =
+    let a = c .before .before .before .args in
+    let (r, start, T, few, C, m) = c .before .before .before .pre in
+    omega (arith, c .before .target-of .ensures, C .long, target-low r (a .opens .now) (a .parts .now) (a .shape) T start (a .codes .now) few C (a .t) m)
+
+letter-of-requires : tie.Need-letter-of-requires
+letter-of-requires c κs = search needs
+
+spared-over-requires : tie.Need-spared-over-requires
+spared-over-requires c κs =
+    let a = c .before .before .before .before .args in
+    let (r, start, T, few, C, m) = c .before .before .before .before .pre in
+    let e = ranks-are r (a .opens .now) (a .parts .now) (a .shape) T start (a .codes .now) few C (a .t) m in
+    let h = vector-cores r (a .opens .now) (a .parts .now) (a .shape) T start (a .codes .now) few C (a .t) m in (
+      (r, T),
+      rw (c .before .before .target-of .ensures) (rw e at h),
+      omega (arith, c .letter-of .ensures, letter-known r (a .opens .now) (a .parts .now) (a .shape) T start (a .codes .now) few C (a .t) m),
+    )
+
+-- the number of the core
+top : (c : tie.After-spared-over) → getD (c .before .before .before .before .before .args .codes .now) (c .before .before .before .target-of .result) 0 / 281474976710656 < 65536
+top c =
+    let a = c .before .before .before .before .before .args in
+    let (r, start, T, few, C, m) = c .before .before .before .before .before .pre in
+    rw (c .before .before .before .target-of .ensures) (top-low r (a .opens .now) (a .parts .now) (a .shape) T start (a .codes .now) few C (a .t) m)
+
+low : (c : tie.After-spared-over) → c .before .before .before .before .before .args .t < 1099511627776
+low c =
+    let a = c .before .before .before .before .before .args in
+    let (r, start, T, few, C, m) = c .before .before .before .before .before .pre in
+    move-low r (a .opens .now) (a .parts .now) (a .shape) T start (a .codes .now) few C (a .t) m
+
+mul-result : tie.Need-mul-result
+mul-result c = omega (arith, top c)
+
+add-result : tie.Need-add-result
+add-result c = omega (arith, top c, low c)
+
+mul-result-2 : tie.Need-mul-result-2
+mul-result-2 c = omega (arith, c .spared-over .ensures .0)
+
+add-result-2 : tie.Need-add-result-2
+add-result-2 c = omega (arith, top c, low c, c .spared-over .ensures .0)
+
+returns : tie.Need-returns
+returns c =
+    let a = c .before .before .before .before .before .args in
+    let t = c .before .before .before .target-of in
+    let s = c .spared-over in
+    λ r start T few C m.
+    let N = target r (a .opens .now) (a .parts .now) (a .shape) T start (a .codes .now) few C (a .t) m in
+    let G = step r (a .opens .now) (a .parts .now) (a .shape) T start (a .codes .now) few C (a .t) m in
+    let e = ranks-are r (a .opens .now) (a .parts .now) (a .shape) T start (a .codes .now) few C (a .t) m in
+    let v : vectorOf (automaton r) (rankIn (automaton r) (getD (macrostatesFrom r start) (targetOf (a .t)) 0)) ≡ bitAnd (getD (a .codes .now) (t .result) 0 / 2 ^ 8) 4294967295
+    = rw (t .ensures) e in
+    let spared : s .result ≡ mask 8 (λ K. ltb K ((automaton r) .components) && spares (automaton r) (letterOf (a .t)) (getD (macrostatesFrom r start) (sourceOf (a .t)) 0) (getD (macrostatesFrom r start) (targetOf (a .t)) 0) K)
+    = rw (c .before .letter-of .ensures) at (s .ensures .1 r T (getD (macrostatesFrom r start) (sourceOf (a .t)) 0) (getD (macrostatesFrom r start) (targetOf (a .t)) 0) N v (rw (c .before .letter-of .ensures) G)) in
+    rw (t .ensures)
+    (tags-are r (a .opens .now) (a .parts .now) (a .shape) T start (a .codes .now) few C (a .t) m (s .result) spared)
+
+pub tag-move-spec : {M : Type 1} → statement M
+tag-move-spec =
+    tie.close
+    (tie.spec
+    target-of-requires
+    mul-d
+    shared-slice-read-d
+    letter-of-requires
+    spared-over-requires
+    mul-result
+    add-result
+    mul-result-2
+    add-result-2
+    returns)
