@@ -14,7 +14,7 @@ use Rattle.rule_components.specs.Numbered.{componentsOf}
 use Rattle.file_read.specs.declared.Layout.{Layout}
 use Rattle.file_read.specs.declared.Read.the-variants.{Accepted}
 use Rattle.file_read.specs.Read.{readOf}
-use Rattle.file_read.proofs.Answer.{lent-rule, lent-passing}
+use Rattle.file_read.proofs.Answer.{served, lent-rule, lent-passing}
 use Rattle.file_spec.specs.File.{countsOf, clausesOf, ruleIn}
 use Rattle.build_opens.specs.Opens.{Opens}
 use Rattle.build_lists.proofs.Ready.{tables-of}
@@ -29,15 +29,21 @@ module _ (f : List ℕ) (l : Layout) (p : readOf f ≡ Accepted l) (counts claus
   pub file-accepting : l .head .accepting < 256
   file-accepting = accepting-small (ruleOf (l .head) counts clauses) file-formed
 
-  pub file-table : (opens : List ℕ) → Opens (automaton (ruleOf (l .head) counts clauses)) (l .head .s) opens
-      → (k : Components) → k ≡ componentsOf (ruleOf (l .head) counts clauses) → (holds : Bool) (start : Set) (codes moves : List ℕ)
-      → ListsOf (ruleIn f) start codes moves
-      → TableOf (ruleIn f) start opens (k .masks)
-      (record { s = l .head .s; components = k .count; accepting = l .head .accepting; initial = l .head .initial; holds = holds }) codes moves
-  file-table opens O k e holds start codes moves L = record {
-    tables = subst (λ (r : Rule). RuleTables r opens (k .masks) (record { s = l .head .s; components = k .count; accepting = l .head .accepting; initial = l .head .initial; holds = holds }))
-        (lent-rule f l p counts clauses c d) (tables-of (ruleOf (l .head) counts clauses) (lent-passing f l p counts clauses c d) opens O k e holds);
-    few = L .few;
-    codes-are = L .codes-are;
-    moves-are = L .moves-are;
-  }
+  pub file-tables : (opens : List ℕ) → Opens (automaton (ruleOf (l .head) counts clauses)) (l .head .s) opens
+      → (k : Components) → k ≡ componentsOf (ruleOf (l .head) counts clauses) → (holds : Bool)
+      → RuleTables (ruleIn f) opens (k .masks)
+      (record { s = l .head .s; components = k .count; accepting = l .head .accepting; initial = l .head .initial; holds = holds })
+  file-tables opens O k e holds =
+      subst (λ (r : Rule). RuleTables r opens (k .masks) (record { s = l .head .s; components = k .count; accepting = l .head .accepting; initial = l .head .initial; holds = holds }))
+      (lent-rule f l p counts clauses c d) (tables-of (ruleOf (l .head) counts clauses) (lent-passing f l p counts clauses c d) opens O k e holds)
+
+-- the table as the steps by cores take it
+pub file-table : (f : List ℕ) (l : Layout) → readOf f ≡ Accepted l → (count : ℕ) → count ≡ automaton (ruleIn f) .components
+    → (start : Set) (codes moves : List ℕ) → ListsOf (ruleIn f) start codes moves → TableOf (ruleIn f) start count codes moves
+file-table f l p count e start codes moves L = record {
+  passing = served f l p .passing;
+  counted = e;
+  few = L .few;
+  codes-are = L .codes-are;
+  moves-are = L .moves-are;
+}

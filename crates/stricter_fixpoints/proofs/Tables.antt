@@ -11,7 +11,6 @@ use Rattle.theory.specs.Passing.{Passing}
 use Rattle.theory.specs.Rule.{Rule}
 use Rattle.theory.specs.Run.{letterOf}
 use Rattle.theory.specs.TableComputed.{macrostatesFrom}
-use Rattle.build_closure_spec.specs.declared.Shape.{Shape}
 use Rattle.stricter_spec.specs.Search.{Searchable}
 use Rattle.stricter_rules_laws.proofs.Parents.{searchable}
 use Rattle.stricter_cores_spec.specs.Tags.{firstOf, sparesAt, TaggedCodes, TaggedMoves, coreNumber, rowOf, ontoOf, untagged, plain}
@@ -28,9 +27,9 @@ use Rattle.stricter_fixpoints.proofs.Joined.{stands-first, standing, fi
 
 -- ---- one table
 
-module _ (r : Rule) (start : Set) (opens parts : List ℕ) (shape : Shape) (codes moves : List ℕ) (T : TableOf r start opens parts shape codes moves) where
+module _ (r : Rule) (start : Set) (count : ℕ) (codes moves : List ℕ) (T : TableOf r start count codes moves) where
   P : Passing r
-  P = T .tables .shaped .passing
+  P = T .passing
 
   room : length (macrostatesFrom r start) ≤ 65536
   room = rw (T .codes-are) at (T .few)
@@ -44,18 +43,14 @@ module _ (r : Rule) (start : Set) (opens parts : List ℕ) (shape : Shape) (code
   low-moves : (t : ℕ) → List·Memᴰ t moves → t < 1099511627776
   low-moves = rw (T .moves-are) (moves-low r P start room)
 
-  -- how many components
-  abbrev count : ℕ
-  count = shape .components
-
   pub few-components : count ≤ 8
-  few-components = rw (T .tables .shaped .components-are) (few-parts r P start room)
+  few-components = rw (T .counted) (few-parts r P start room)
 
   abbrev sparesOf : ℕ → ℕ → Bool
   sparesOf t K = sparesAt (automaton r) codes t K
 
   core-of : CoreTable codes moves count (firstOf codes) sparesOf
-  core-of = rw (T .tables .shaped .components-are, T .codes-are, T .moves-are) (core-table r P start room)
+  core-of = rw (T .counted, T .codes-are, T .moves-are) (core-table r P start room)
 
   module _ (tcodes tmoves : List ℕ) (X : TaggedCodes codes tcodes) (Y : TaggedMoves (automaton r) codes moves tmoves) where
     pub codes-again : plain tcodes ≡ codes
@@ -65,7 +60,7 @@ module _ (r : Rule) (start : Set) (opens parts : List ℕ) (shape : Shape) (code
     moves-again = moves-back (automaton r) codes moves tmoves Y low-moves
 
     shown-by : Shown codes moves count (firstOf codes) sparesOf tmoves
-    shown-by = rw (T .tables .shaped .components-are) (shown (automaton r) codes moves tmoves (few-parts r P start room) (T .few) (table-searchable .inside) Y)
+    shown-by = rw (T .counted) (shown (automaton r) codes moves tmoves (few-parts r P start room) (T .few) (table-searchable .inside) Y)
 
     numbered : (i : ℕ) → i < length codes → coreNumber (getD tcodes i 0) ≡ firstOf codes i
     numbered = core-number codes tcodes X low-codes
@@ -90,37 +85,35 @@ module _ (r : Rule) (start : Set) (opens parts : List ℕ) (shape : Shape) (code
 
 -- ---- two tables
 
-module _ (a b : Rule) (s t : Set) (opensA partsA opensB partsB : List ℕ) (shapeA shapeB : Shape) (ca ma cb mb : List ℕ)
-    (A : TableOf a s opensA partsA shapeA ca ma) (B : TableOf b t opensB partsB shapeB cb mb) (tca tma tcb tmb : List ℕ)
+module _ (a b : Rule) (s t : Set) (nA nB : ℕ) (ca ma cb mb : List ℕ) (A : TableOf a s nA ca ma) (B : TableOf b t nB cb mb)
+    (tca tma tcb tmb : List ℕ)
     (X : TaggedCodes ca tca) (Y : TaggedMoves (automaton a) ca ma tma) (U : TaggedCodes cb tcb) (W : TaggedMoves (automaton b) cb mb tmb) where
   pub fits : (marks : List ℕ) → length marks ≡ length ca * length cb → CoresFit (length tca) (length tcb) tma tmb marks
   fits marks e = record {
-    ascend-A = ascends a s opensA partsA shapeA ca ma A tca tma X Y;
-    ascend-B = ascends b t opensB partsB shapeB cb mb B tcb tmb U W;
-    letters-B = letters-low b t opensB partsB shapeB cb mb B tcb tmb U W;
-    onto-A = onto-low-in a s opensA partsA shapeA ca ma A tca tma X Y;
-    onto-B = onto-low-in b t opensB partsB shapeB cb mb B tcb tmb U W;
+    ascend-A = ascends a s nA ca ma A tca tma X Y;
+    ascend-B = ascends b t nB cb mb B tcb tmb U W;
+    letters-B = letters-low b t nB cb mb B tcb tmb U W;
+    onto-A = onto-low-in a s nA ca ma A tca tma X Y;
+    onto-B = onto-low-in b t nB cb mb B tcb tmb U W;
     marked = rw (X .long, U .long) e;
     few-A = rw (X .long) (A .few);
     few-B = rw (U .long) (B .few);
   }
 
   pub sorted : (marks : List ℕ) → length marks ≡ length ca * length cb
-      → CoresSorted tca tma (shapeA .components) tcb tmb (shapeB .components) marks → Sorted ca ma cb mb marks
+      → CoresSorted tca tma nA tcb tmb nB marks → Sorted ca ma cb mb marks
   sorted marks e S =
-      let nA = shapeA .components in
-      let nB = shapeB .components in
-      let CA = core-of a s opensA partsA shapeA ca ma A in
-      let CB = core-of b t opensB partsB shapeB cb mb B in
-      let SA = shown-by a s opensA partsA shapeA ca ma A tca tma X Y in
-      let SB = shown-by b t opensB partsB shapeB cb mb B tcb tmb U W in
-      let numA = numbered a s opensA partsA shapeA ca ma A tca tma X Y in
-      let numB = numbered b t opensB partsB shapeB cb mb B tcb tmb U W in
+      let CA = core-of a s nA ca ma A in
+      let CB = core-of b t nB cb mb B in
+      let SA = shown-by a s nA ca ma A tca tma X Y in
+      let SB = shown-by b t nB cb mb B tcb tmb U W in
+      let numA = numbered a s nA ca ma A tca tma X Y in
+      let numB = numbered b t nB cb mb B tcb tmb U W in
       let N : Narrowed (CoreStep (length cb) tma tmb) (SparedStep (length cb) tma tmb) (λ q. cond q nB nA) (S .all) (S .cores) = rw (U .long) at (S .narrowed) in
       let Q : AllSound (CoreStep (length cb) tma tmb) (SparedStep (length cb) tma tmb) (λ q. cond q nB nA) (S .cores) = rw (U .long) at (S .sound) in
       let same = spread-first ca cb tca tcb (X .long) (U .long) numA numB (S .cores) marks (S .spread) in
       let all = first-in ca cb tca tcb (X .long) (U .long) numA numB (S .all) (S .in-all)
-      (first-stands a s opensA partsA shapeA ca ma A tca tma X Y) (first-stands b t opensB partsB shapeB cb mb B tcb tmb U W) in
+      (first-stands a s nA ca ma A tca tma X Y) (first-stands b t nB cb mb B tcb tmb U W) in
       record {
         long = e;
         sound = both-sound ca ma nA (firstOf ca) (sparesAt (automaton a) ca) CA tma SA cb mb nB (firstOf cb) (sparesAt (automaton b) cb) CB tmb SB

@@ -5,10 +5,10 @@ use mathlib.Core.List.{List}
 use Prim.Native.Nat.{ℕ, _*_, _≤_, _<_}
 use lib.ListN.{length, getD}
 use Rattle.sets.specs.Tests.{Set}
+use Rattle.theory.specs.Automaton.{automaton}
+use Rattle.theory.specs.Passing.{Passing}
 use Rattle.theory.specs.Rule.{Rule}
 use Rattle.theory.specs.TableComputed.{macrostatesFrom, transitionsFrom}
-use Rattle.build_closure_spec.specs.declared.Shape.{Shape}
-use Rattle.build_closure_spec.specs.Tables.{RuleTables}
 use Rattle.stricter_spec.specs.Search.{NoShared}
 use Rattle.stricter_laws.specs.Pairs.{PairEdge}
 use Rattle.stricter_laws.specs.Sound.{BothSound}
@@ -32,9 +32,10 @@ pub record CoresSorted (acodes left : List ℕ) (acount : ℕ) (bcodes right : L
   pub sound : AllSound (CoreStep (length bcodes) left right) (SparedStep (length bcodes) left right) (λ s. cond s bcount acount) cores
   pub spread : Spread acodes bcodes cores marks
 
--- codes and moves are a table of the rule r, begun by the start condition; the others are the rule's tables
-pub record TableOf (r : Rule) (start : Set) (opens parts : List ℕ) (shape : Shape) (codes moves : List ℕ) : Type 0 where
-  pub tables : RuleTables r opens parts shape
+-- codes and moves are a table of the rule r, which passes the checks and has so many components, begun by the start condition
+pub record TableOf (r : Rule) (start : Set) (count : ℕ) (codes moves : List ℕ) : Type 0 where
+  pub passing : Passing r
+  pub counted : count ≡ (automaton r) .components
   pub few : length codes ≤ 65536
   pub codes-are : codes ≡ macrostatesFrom r start
   pub moves-are : moves ≡ transitionsFrom r start
