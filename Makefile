@@ -48,7 +48,7 @@ QUIETLY := tools/quietly.sh $(BUILD)/log
 # `rt check` proves crates side by side, which `rt staticlib` alone would not
 BELOW := $(shell sed -n 's/^mulgreddi://p' crates.txt)
 $(LIB): $(SOURCES)
-	@echo 'Proving and compiling the library: about 8 minutes from nothing on two cores. A line for each crate follows.' >&2
+	@echo 'Proving and compiling the library: 8 to 12 minutes from nothing on two cores. A line for each crate follows.' >&2
 	@$(QUIETLY)/lib-check rt check $(BELOW)
 	@$(QUIETLY)/lib rt staticlib mulgreddi
 	@cp target/staticlib/libmulgreddi.a $@
