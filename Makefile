@@ -4,7 +4,8 @@
 #   make list < FILE           the listing of a rule file; nothing else is on standard output
 #   make install PREFIX=DIR    command line, listing program, header, library, pkg-config file and man page to DIR (default /usr/local)
 #   make uninstall PREFIX=DIR  takes them away again
-#   make test                  the gate: library and listing program, comparison with the second program, C examples, command line, proofs
+#   make test                  the gate: quick checks, proofs and must-fail edits, then library, comparison, listings, tables, examples, command line
+#   make quick                 of it the checks that need nothing proved
 #   make check-tool            of it the tests of the command line, of the header and of the installation
 #   make bench                 times of the library beside those of the second program and of a C++ program without proofs, and of the step back alone
 #   make soak SECONDS=600      the comparison with new seeds until the time is up
@@ -38,7 +39,7 @@ ifndef BESIDE
 .NOTPARALLEL:
 endif
 
-.PHONY: lib tool install uninstall list listings tables test check-tool bench soak compare second examples clean help
+.PHONY: lib tool install uninstall list listings tables test quick prove-all check-tool bench soak compare second examples clean help
 
 lib: $(LIB)
 
@@ -181,14 +182,30 @@ check-tool: $(TOOL) $(PROGRAM) $(BUILD)/stack
 $(BUILD)/stack: tests/stack.c include/mulgreddi.h $(LIB)
 	$(CC) $(CFLAGS) -pthread -Iinclude -o $@ $< $(LIB)
 
-# what the library and the listing stand on is proved in one go, the listing program while the comparison runs;
-# `rt ci` is last: its closing line is the gate's
+# what needs nothing proved, so that a fault there is told in seconds: the layout of the files, must-fail edits that still apply and
+# docs/EDITS.md, which is written from them, a text for each refusal, the second program's own tests
+quick:
+	rt fmt --check
+	tools/edits.sh check
+	tools/edits.sh table | diff docs/EDITS.md -
+	tests/refusals.sh include/mulgreddi.h
+	$(MAKE) second
+
+# Everything is proved once, from nothing, with the must-fail edits; it is shown as it goes and kept in build/log/ci.
+# The library and the listing program are then made from what this leaves in target/.
+prove-all:
+	@mkdir -p $(BUILD)/log
+	@rm -f $(LIB) $(PROGRAM)
+	rt ci 2>&1 | tee $(BUILD)/log/ci
+
+# The closing line of `rt ci` is printed once more at the very end, where every step has passed: a failure before it leaves make's own line.
 test:
-	@$(QUIETLY)/test rt check $(BELOW) listing_spec listing_lines
-	$(MAKE) lib
-	$(MAKE) --jobs=2 BESIDE=1 $(PROGRAM) second compare
+	$(MAKE) quick
+	$(MAKE) prove-all
+	$(MAKE) lib $(PROGRAM)
+	$(MAKE) compare
 	$(MAKE) listings tables examples check-tool
-	rt ci
+	@tail -n 1 $(BUILD)/log/ci | grep -x '[0-9]* passed, 0 failed'
 
 clean:
 	rm -rf $(BUILD) target
