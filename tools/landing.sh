@@ -56,6 +56,7 @@ total_of() {
     sed -nE "s/^${stamp}rt: must-fail [^ ]+: refused, as it must be \((.*; )?([0-9]+) s\)$/\3/p" "$1" |
         awk '{ n++; t += $1 } END { if (n) printf ", %d edits refused in %d s added up", n, t }'
     sed -nE 's/^landing: (load before .*)$/, \1/p' "$1" | tr -d '\n'
+    grep -qE "^${stamp}rt: ok, " "$1" || printf ', UNFINISHED: it has no closing line'
     echo
 }
 
