@@ -182,12 +182,13 @@ check-tool: $(TOOL) $(PROGRAM) $(BUILD)/stack
 $(BUILD)/stack: tests/stack.c include/mulgreddi.h $(LIB)
 	$(CC) $(CFLAGS) -pthread -Iinclude -o $@ $< $(LIB)
 
-# what needs nothing proved, so that a fault there is told in seconds: the layout of the files, must-fail edits that still apply and
-# docs/EDITS.md, which is written from them, a text for each refusal, the second program's own tests
+# what needs nothing proved, so that a fault there is told in seconds: the layout of the files, must-fail edits that still apply, the two
+# pages that are written by scripts (docs/EDITS.md, crates/README.md), a text for each refusal, the second program's own tests
 quick:
 	rt fmt --check
 	tools/edits.sh check
 	tools/edits.sh table | diff docs/EDITS.md -
+	tools/crates.sh | diff crates/README.md -
 	tests/refusals.sh include/mulgreddi.h
 	$(MAKE) second
 

@@ -53,42 +53,15 @@ check() {
     }'
 }
 
-# By subject, in the order of the data; a crate belongs to the longest of these beginnings that its name has.
-subjects='
-sets set_ refusals slice_ graph_|Sets, slices, walks
-theory|The theory: components, plans, macrostates, the computed table
-paper_|Source 000 beside 01
-file_ rule_|Rule files: `mulgreddi_check`
-file_write|The writer: `mulgreddi_write`, `mulgreddi_write_named`
-rule_same|`mulgreddi_same_rules`
-rule_tidy file_tidy|`mulgreddi_tidy`
-loop_|`mulgreddi_mixed_loop`
-word_|Words: `mulgreddi_same_words`, `mulgreddi_tidy_word`
-judge|The judge: `mulgreddi_judge`
-judge_choices|`mulgreddi_judge_choices`
-sheet_|`mulgreddi_judge_sheet`
-codes build|The build: `mulgreddi_build`
-endless_|Endless sequences: both builds
-trim_ build_trimmed|`mulgreddi_build_trimmed`
-rejecting_ build_rejecting|`mulgreddi_build_rejecting`
-table_|The judge on a table: `mulgreddi_judge_table`
-hoa_|Texts for other tools: `mulgreddi_write_hoa`, `mulgreddi_read_hoa`
-event_|`mulgreddi_translate`
-live_|The live log: `mulgreddi_live_start`, `_arrive`, `_withdraw`, `_mark`, `_return`
-stricter spare_|`mulgreddi_stricter`
-listing|The listing program
-mulgreddi|The numbers that C is given
-cases|The starred cases of 01
-'
-
+# by the subjects of tools/subjects.txt
 table() {
-    edits | SUBJECTS=$subjects awk '
+    edits | awk '
     BEGIN {
-        lines = split(ENVIRON["SUBJECTS"], line, "\n")
-        for (i = 1; i <= lines; i++) if (line[i] != "") {
-            bar = index(line[i], "|")
-            title[++titles] = substr(line[i], bar + 1)
-            m = split(substr(line[i], 1, bar - 1), word, " ")
+        while ((getline line < "tools/subjects.txt") > 0) {
+            if (line == "" || line ~ /^#/) continue
+            split(line, column, "|")
+            title[++titles] = column[2]
+            m = split(column[1], word, " ")
             for (j = 1; j <= m; j++) subject[word[j]] = titles
         }
     }
@@ -98,10 +71,13 @@ table() {
         sub(/\.edit$/, "", label)
         found = 0; longest = 0
         for (p in subject) if (index(crate, p) == 1 && length(p) > longest) { longest = length(p); found = subject[p] }
-        if (!found) { print crate ": no subject in tools/edits.sh" > "/dev/stderr"; faults++; next }
+        if (!found) { print crate ": no subject in tools/subjects.txt" > "/dev/stderr"; faults++; next }
         getline told < $0
+        defined = 0
+        while ((getline line < $0) > 0) if (line ~ /^file: specs\//) defined = 1
         close($0)
         sub(/^# /, "", told)
+        if (defined && told !~ /^(defined|computed): /) told = "defined: " told
         gsub(/\|/, "\\|", told)
         rows[found] = rows[found] "| " told " | " crate "/" label " |\n"
         count++
@@ -110,7 +86,7 @@ table() {
         if (faults) exit 1
         print "# Wrong versions that the prover refuses"
         print ""
-        print "Each line is a must-fail edit: a wrong version of the code or, where it says \"defined\" or \"computed\", of a definition. The gate tries all of them, and the"
+        print "Each line is a must-fail edit: a wrong version of the code or, where it says \"defined\" or \"computed\", of a contract or a definition. The gate tries all of them, and the"
         print "prover has to refuse each. `tools/edits.sh table` writes this page from the first line of each edit, crates/CRATE/must-fail/LABEL.edit. There are " count "."
         for (i = 1; i <= titles; i++) if (rows[i] != "") {
             print "\n## " title[i] "\n\n| wrong version | edit |\n|---|---|"

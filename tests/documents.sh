@@ -1,0 +1,101 @@
+#!/usr/bin/env bash
+# What the documents name exists, and what they count is so. Nothing has to be proved for it.
+#   documents.sh          every fault on standard error
+set -euo pipefail
+export LC_ALL=C.UTF-8
+cd "$(dirname "$0")/.."
+mkdir -p build/documents
+faults=0
+fault() { printf '%s\n' "$*" >&2; faults=$((faults + 1)); }
+texts=(README.md docs/PROOF.md docs/HOW.md docs/DECISIONS.md docs/LANDINGS.md docs/CONTRIBUTING.md docs/SPEED.md docs/FORMAT.md docs/RULES.md docs/CHANCE.md)
+for t in "${texts[@]}"; do [ -f "$t" ] || fault "$t: is not there"; done
+code=(README.md docs/PROOF.md docs/HOW.md docs/DECISIONS.md docs/CONTRIBUTING.md tools/subjects.txt)
+
+# ---- names of definitions, theorems, functions and crates
+# all words of the tree without its comments, once each
+words=build/documents/words
+{ find crates -name '*.antt' -exec sed 's/--.*//' {} +; find crates -name '*.rt' -exec sed 's,//.*,,' {} +; cat include/mulgreddi.h tools/*.[ch] Makefile; } |
+    grep -oE "[A-Za-z_][A-Za-z0-9_'′₁₂-]*" | sort -u > "$words"
+sed -n 's/^\([a-z][a-z0-9_]*\):.*/\1/p' crates.txt | sort > build/documents/crates
+sort -u "$words" build/documents/crates > build/documents/known
+git ls-files | sed 's,.*/,,' | sort -u > build/documents/tracked
+for t in "${code[@]}"; do
+    [ -f "$t" ] || continue
+    # a word between backquotes, a path `crate::function`, a field `Record.field`, a file `name.c`, an ending `_of_a_name`; the rest is no name
+    { grep -v '^    ' "$t" | grep -oE '`[^`]+`' || true; } | tr -d '`' | { grep -E "^[A-Za-z_][A-Za-z0-9_:.'′₁₂-]*$" || true; } | sed 's/.*:://' | sort -u > build/documents/named
+    files='\.(c|h|sh|rs|cpp|md|rule|txt|rt)$'
+    { grep -E "$files" build/documents/named || true; } | comm -23 - build/documents/tracked | sed "s,^,$t: no such file: ,"
+    { grep -vE "$files|^_" build/documents/named || true; } | tr '.' '\n' | { grep . || true; } | sort -u | comm -23 - build/documents/known | sed "s,^,$t: no such name: ,"
+    { grep '^_' build/documents/named || true; } | while read -r name; do grep -qE -- "$name\$" "$words" || echo "$t: no name ends so: $name"; done
+done > build/documents/names
+# ---- files and edits, as crate/specs/File, crate/proofs/File, crate/src, crate/edit
+for t in "${code[@]}"; do
+    [ -f "$t" ] || continue
+    { grep -oE '\b[a-z][a-z0-9_]*/[A-Za-z0-9_]+(/[A-Za-z0-9_]+)*' "$t" || true; } | sort -u | while IFS=/ read -r crate part rest; do
+        [ -d "crates/$crate" ] || continue
+        # build/ has what make leaves, and mulgreddi/ is a place of an installation
+        case $crate/$part in build/libmulgreddi | build/listing | build/log | build/mulgreddi | mulgreddi/bin | mulgreddi/lib) continue ;; esac
+        case $part in
+        specs | proofs | src)
+            at=crates/$crate/$part${rest:+/$rest}
+            [ -e "$at" ] || [ -e "$at.antt" ] || [ -e "$at.rt" ] || echo "$t: no such file: $crate/$part/$rest" ;;
+        must-fail) ;;
+        *) [ -e "crates/$crate/must-fail/$part.edit" ] || [ -e "crates/$crate/$part" ] || [ -e "crates/$crate/specs/$part.antt" ] ||
+            [ -e "crates/$crate/proofs/$part.antt" ] || [ -d "crates/$crate/proofs/$part" ] || echo "$t: no such edit or file: $crate/$part" ;;
+        esac
+    done
+done > build/documents/files
+# ---- links to files
+for t in "${texts[@]}" crates/README.md docs/EDITS.md; do
+    [ -f "$t" ] || continue
+    { grep -oE '\]\([^)# ]+' "$t" || true; } | sed 's/^](//' | sort -u | while read -r link; do
+        case $link in http*) ;; *) [ -e "$(dirname "$t")/$link" ] || echo "$t: no such link: $link" ;; esac
+    done
+done > build/documents/links
+# ---- decisions that are cited
+sed -n 's/^- \*\*\([0-9]*\)\..*/\1/p' docs/DECISIONS.md | sort > build/documents/decisions
+for t in "${texts[@]}" include/mulgreddi.h; do
+    [ -f "$t" ] || continue
+    { grep -oE 'DECISIONS(\.md)?,? [0-9]+(, [0-9]+)*( and [0-9]+)?|[Dd]ecisions? [0-9]+(, [0-9]+)*( and [0-9]+)?' "$t" || true; } | { grep -oE '[0-9]+' || true; } | sort -u |
+        comm -23 - build/documents/decisions | while read -r n; do echo "$t: no such decision: $n"; done
+done > build/documents/cited
+uniq -d build/documents/decisions | sed 's/^/docs\/DECISIONS.md: twice: /' > build/documents/twice
+# ---- counts: crates, edits, entries, the files and lines of the reading list
+crates=$(wc -l < build/documents/crates)
+edits=$(find crates -path '*/must-fail/*.edit' | wc -l)
+entries=$(grep -cE '^mulgreddi_[a-z]+ mulgreddi_[a-z_]+\(' include/mulgreddi.h)
+{
+    for t in "${texts[@]}"; do
+        [ -f "$t" ] && [ "$t" != docs/LANDINGS.md ] || continue
+        { grep -oE '[0-9,]+ (crates proved|must-fail edits|passed, 0 failed|C entries|crates by subject)' "$t" || true; } | sort -u | while read -r n what; do
+            case $what in
+            crates*) is=$crates ;;
+            must-fail*) is=$edits ;;
+            passed*) is=$((crates + edits)) ;;
+            C*) is=$entries ;;
+            esac
+            [ "$n" = "$is" ] || echo "$t: $n $what, the tree has $is"
+        done
+    done
+    # rows of the reading list: subject | crate: File, File; crate: File | lines
+    files=0 lines=0 told=0
+    while IFS='|' read -r _ subject list count _; do
+        n=0
+        while read -r crate names; do
+            for name in ${names//,/ }; do
+                file=crates/$crate/specs/$name.antt
+                [ -f "$file" ] || { echo "docs/PROOF.md: the reading list names $crate: $name, which is not there"; continue; }
+                n=$((n + $(wc -l < "$file"))); files=$((files + 1)); told=$((told + $(grep -cvE '^ *$|^use ' "$file")))
+            done
+        done < <(tr ';' '\n' <<< "$list" | sed 's/://')
+        lines=$((lines + n))
+        [ "$n" -eq $((count)) ] || echo "docs/PROOF.md: the reading list counts$count lines for$subject, there are $n"
+    done < <(awk '/^\*\*The reading list/ { on = 1 } on && /^\| / && !/^\| subject/ { print; seen = 1 } on && seen && !/^\|/ { exit }' docs/PROOF.md)
+    said="$files files, $(printf "%'d" $lines) lines, of which $(printf "%'d" $told) are neither blank nor"
+    LC_ALL=C grep -qF "$(echo "$said" | sed ':a;s/\B[0-9]\{3\}\b/,&/;ta')" docs/PROOF.md || echo "docs/PROOF.md: the reading list has $said \`use\`"
+} > build/documents/counts
+parts=(build/documents/{names,files,links,cited,twice,counts})
+cat "${parts[@]}" >&2
+faults=$((faults + $(cat "${parts[@]}" | wc -l)))
+[ "$faults" -eq 0 ] || { echo "$faults faults in the documents" >&2; exit 1; }
+echo 'the documents name what there is'
