@@ -1,8 +1,9 @@
 # Mulgreddi: unambiguous Büchi automata from alternating weak ones.
 #   make lib                   the static library, build/libmulgreddi.a
+#   make shared                the shared library, build/libmulgreddi.so.VERSION
 #   make tool                  the command line, build/mulgreddi
 #   make list < FILE           the listing of a rule file; nothing else is on standard output
-#   make install PREFIX=DIR    command line, listing program, header, library, pkg-config file and man page to DIR (default /usr/local)
+#   make install PREFIX=DIR    command line with completion for bash and man page, listing program, header, both libraries, pkg-config file to DIR (/usr/local)
 #   make uninstall PREFIX=DIR  takes them away again
 #   make test                  the gate: quick checks, proofs and must-fail edits, then library, comparison, listings, tables, examples, command line
 #   make quick                 of it the checks that need nothing proved
@@ -24,7 +25,10 @@ PREFIX ?= /usr/local
 BUILD := build
 # the header has the version
 VERSION := $(shell awk '/define MULGREDDI_VERSION_(MAJOR|MINOR|PATCH) / { v = v d $$3; d = "." } END { print v }' include/mulgreddi.h)
+# with a new major number some input is answered otherwise, so programs are linked to it by that number
+SONAME := libmulgreddi.so.$(firstword $(subst ., ,$(VERSION)))
 LIB := $(BUILD)/libmulgreddi.a
+SHARED := $(BUILD)/libmulgreddi.so.$(VERSION)
 PROGRAM := $(BUILD)/listing
 TOOL := $(BUILD)/mulgreddi
 SOURCES := crates.txt $(shell find crates -type f -not -path '*/must-fail/*')
@@ -39,7 +43,7 @@ ifndef BESIDE
 .NOTPARALLEL:
 endif
 
-.PHONY: lib tool install uninstall list listings tables test quick prove-all check-tool bench soak compare second examples clean help
+.PHONY: lib shared tool install uninstall list listings tables test quick prove-all check-tool bench soak compare second examples clean help
 
 lib: $(LIB)
 
@@ -55,29 +59,45 @@ $(LIB): $(SOURCES)
 	@cp target/staticlib/libmulgreddi.a $@
 	@echo '$@ is ready; $(BUILD)/log has all that was printed.' >&2
 
+# the same code; tools/mulgreddi.map keeps all names but the entries to itself
+shared: $(SHARED)
+
+$(SHARED): $(LIB) tools/mulgreddi.map include/mulgreddi.h
+	@$(CC) -shared -Wl,-soname,$(SONAME) -Wl,--version-script=tools/mulgreddi.map -Wl,--no-undefined -Wl,-z,noexecstack -o $@ \
+	    -Wl,--whole-archive $(LIB) -Wl,--no-whole-archive
+	@echo '$@ is ready.' >&2
+
 # the command line stands on the header and the library alone
 tool: $(TOOL)
 
-$(TOOL): tools/mulgreddi.c include/mulgreddi.h $(LIB)
-	@$(CC) $(CFLAGS) -Iinclude -o $@ $< $(LIB)
+TOOL_SOURCES := $(wildcard tools/*.c)
+$(TOOL): $(TOOL_SOURCES) $(wildcard tools/*.h) include/mulgreddi.h $(LIB)
+	@$(CC) $(CFLAGS) -Iinclude -o $@ $(TOOL_SOURCES) $(LIB)
 	@echo '$@ is ready.' >&2
 
 # PREFIX may be relative: the pkg-config file has it absolute
 TO := $(abspath $(PREFIX))
-install: $(LIB) $(TOOL) $(PROGRAM)
-	@install -d $(DESTDIR)$(TO)/bin $(DESTDIR)$(TO)/include $(DESTDIR)$(TO)/lib/pkgconfig $(DESTDIR)$(TO)/share/man/man1
-	@install -m 755 $(TOOL) $(DESTDIR)$(TO)/bin/mulgreddi
-	@install -m 755 $(PROGRAM) $(DESTDIR)$(TO)/bin/mulgreddi-listing
+# bin/mulgreddi-listing runs the listing program, and tells where its input cannot be read or its listing not be written
+install: $(LIB) $(SHARED) $(TOOL) $(PROGRAM)
+	@install -d $(addprefix $(DESTDIR)$(TO)/,bin include lib/pkgconfig libexec/mulgreddi share/man/man1 share/bash-completion/completions)
+	@install -m 755 $(TOOL) tools/mulgreddi-listing $(DESTDIR)$(TO)/bin
+	@install -m 755 $(PROGRAM) $(DESTDIR)$(TO)/libexec/mulgreddi/listing
 	@install -m 644 include/mulgreddi.h $(DESTDIR)$(TO)/include/mulgreddi.h
 	@install -m 644 $(LIB) $(DESTDIR)$(TO)/lib/libmulgreddi.a
+	@install -m 755 $(SHARED) $(DESTDIR)$(TO)/lib
+	@ln -sf $(notdir $(SHARED)) $(DESTDIR)$(TO)/lib/$(SONAME)
+	@ln -sf $(SONAME) $(DESTDIR)$(TO)/lib/libmulgreddi.so
 	@printf '%s\n' 'prefix=$(TO)' 'Name: mulgreddi' 'Description: unambiguous Büchi automata from alternating weak ones' 'Version: $(VERSION)' \
 	    'Cflags: -I$${prefix}/include' 'Libs: -L$${prefix}/lib -lmulgreddi' > $(DESTDIR)$(TO)/lib/pkgconfig/mulgreddi.pc
 	@sed 's/@VERSION@/$(VERSION)/' docs/mulgreddi.1 > $(DESTDIR)$(TO)/share/man/man1/mulgreddi.1
+	@install -m 644 tools/completion.bash $(DESTDIR)$(TO)/share/bash-completion/completions/mulgreddi
 	@echo 'mulgreddi $(VERSION) is installed in $(DESTDIR)$(TO).' >&2
 
 uninstall:
 	@rm -f $(addprefix $(DESTDIR)$(TO)/,bin/mulgreddi bin/mulgreddi-listing include/mulgreddi.h lib/libmulgreddi.a lib/pkgconfig/mulgreddi.pc \
-	    share/man/man1/mulgreddi.1)
+	    lib/libmulgreddi.so lib/$(SONAME) lib/$(notdir $(SHARED)) libexec/mulgreddi/listing share/man/man1/mulgreddi.1 \
+	    share/bash-completion/completions/mulgreddi)
+	@rmdir $(DESTDIR)$(TO)/libexec/mulgreddi 2> /dev/null || true
 
 help:
 	@sed -n 's/^#   //p' Makefile
@@ -89,8 +109,9 @@ $(PROGRAM): $(SOURCES)
 	@cp target/bin/listing $@
 	@echo '$@ is ready; $(BUILD)/log has all that was printed.' >&2
 
+# `cat` tells where the listing cannot be written, as the program, which is proved, has no exit status
 list: $(PROGRAM)
-	@$(PROGRAM)
+	@$(PROGRAM) | cat
 
 # the second program's own tests; what it expects of the program `cases` is what is stored there
 second:
@@ -161,26 +182,49 @@ $(BUILD)/%: examples/%.c include/mulgreddi.h $(LIB)
 examples: $(EXAMPLES)
 	for e in $(EXAMPLES); do $$e examples > $$e.out && diff examples/$$(basename $$e).expected $$e.out || exit 1; done
 
-# the command line: its transcripts and README's session, the second program's answers to the same commands, listings beside the listing
-# program's, a text for each refusal, the stack that calls need, and an installation
+# the command line: its transcripts and README's session, the second program's answers to the same commands, rules and event tables shown as
+# text and written again (those of the repository and random ones), listings beside the listing program's, a text for each refusal, the stack
+# that calls need, and an installation
 SECOND_TOOL := $(BUILD)/cargo/release/answers
 TRANSCRIPTS := $(wildcard tests/tool/*.txt)
-check-tool: $(TOOL) $(PROGRAM) $(BUILD)/stack
+# usage.txt and streams.txt are about the command line alone: options and help, descriptors, devices and what is left of files
+OWN := tests/tool/usage.txt tests/tool/streams.txt
+check-tool: $(TOOL) $(SHARED) $(PROGRAM) $(BUILD)/stack $(BUILD)/spelling $(BUILD)/shared $(BUILD)/random_rules
 	tests/tool/run.sh $(TOOL) examples $(BUILD)/transcripts $(TRANSCRIPTS)
 	awk '/^<!-- session/ { on = 1 } /^<!-- end/ { on = 0 } on && sub(/^    /, "")' README.md > $(BUILD)/README.txt
 	mkdir -p $(BUILD)/new-folder
 	tests/tool/run.sh $(TOOL) $(BUILD)/new-folder $(BUILD)/transcripts $(BUILD)/README.txt
 	$(CARGO) build --release --offline --quiet --manifest-path second/Cargo.toml --bin answers
-	tests/tool/run.sh --answers $(SECOND_TOOL) examples $(BUILD)/transcripts-second $(filter-out tests/tool/usage.txt,$(TRANSCRIPTS))
+	tests/tool/run.sh --answers $(SECOND_TOOL) examples $(BUILD)/transcripts-second $(filter-out $(OWN),$(TRANSCRIPTS))
+	rm -rf $(BUILD)/random
+	mkdir -p $(BUILD)/random
+	$(BUILD)/random_rules $(BUILD)/random 200
+	tests/round_trip.sh $(TOOL) $(TOOL) $(RULES) $(BUILD)/random/*.rule
+	tests/round_trip.sh $(TOOL) $(SECOND_TOOL) $(RULES) $(BUILD)/random/1[0-4]?.rule
+	tests/round_trip.sh $(SECOND_TOOL) $(TOOL) $(RULES) $(BUILD)/random/1[5-9]?.rule
 	tests/listings.sh $(TOOL) $(PROGRAM) $(wildcard examples/*.rule) compare/data/room_m512.rule compare/data/room_t4096.rule
+	tests/synopsis.sh $(TOOL) docs/mulgreddi.1
+	tests/completion.sh $(TOOL) tools/completion.bash
+	$(BUILD)/spelling
 	tests/refusals.sh include/mulgreddi.h
 	nm $(LIB) > $(BUILD)/symbols
 	if grep -E ' [bBcCdDsS] ' $(BUILD)/symbols; then echo 'the library keeps state between calls'; exit 1; fi
 	$(BUILD)/stack $(wildcard examples/[A-Z].rule) bench/and_71_s16.rule bench/cap_62_s16.rule
-	MAKE='$(MAKE)' tests/install.sh $(BUILD)/installed $(VERSION)
+	tests/shared.sh $(BUILD)/shared $(SHARED) $(SONAME) $(BUILD)/symbols include/mulgreddi.h
+	MAKE='$(MAKE)' tests/install.sh $(BUILD)/installed $(VERSION) $(SONAME)
+
+$(BUILD)/spelling: tests/spelling.c tools/spelling.c tools/tool.h include/mulgreddi.h $(LIB)
+	$(CC) $(CFLAGS) -Iinclude -Itools -o $@ tests/spelling.c tools/spelling.c $(LIB)
+
+$(BUILD)/shared: tests/shared.c include/mulgreddi.h
+	@mkdir -p $(BUILD)
+	$(CC) $(CFLAGS) -Iinclude -o $@ $< -ldl
 
 $(BUILD)/stack: tests/stack.c include/mulgreddi.h $(LIB)
 	$(CC) $(CFLAGS) -pthread -Iinclude -o $@ $< $(LIB)
+
+$(BUILD)/random_rules: tests/random_rules.c include/mulgreddi.h $(LIB)
+	$(CC) $(CFLAGS) -Iinclude -o $@ $< $(LIB)
 
 # what needs nothing proved, so that a fault there is told in seconds: the layout of the files, must-fail edits that still apply, the two
 # pages that are written by scripts (docs/EDITS.md, crates/README.md), a text for each refusal, the second program's own tests

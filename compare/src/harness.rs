@@ -50,8 +50,19 @@ pub struct Tally {
     pub longest: f64,
 }
 
+/// How many random words were judged on a rule.
+#[derive(Default)]
+struct Judged {
+    all: u64,
+    /// As a game, by attractors over all pairs at once.
+    game: u64,
+    /// Component by component.
+    components: u64,
+}
+
 pub struct Harness {
     pub random: Random,
+    judged: Judged,
     lender: Lender,
     tallies: BTreeMap<&'static str, Tally>,
     entry: &'static str,
@@ -102,6 +113,7 @@ impl Harness {
     pub fn new() -> Self {
         Harness {
             random: Random::new(0),
+            judged: Judged::default(),
             lender: Lender::default(),
             tallies: BTreeMap::new(),
             entry: "",
@@ -136,6 +148,14 @@ impl Harness {
     /// Counts a kind of input or answer that was seen.
     pub fn saw(&mut self, kind: &'static str) {
         *self.tally().kinds.entry(kind).or_default() += 1;
+    }
+
+    /// Counts a random word that was judged on a rule: as a game, component by
+    /// component, or by both judges, which agreed.
+    pub fn judged(&mut self, game: bool, components: bool) {
+        self.judged.all += 1;
+        self.judged.game += u64::from(game);
+        self.judged.components += u64::from(components);
     }
 
     /// A pattern for a slice that is written to.
@@ -295,7 +315,20 @@ impl Harness {
 
     /// Prints what was seen; false if something that must be seen was not.
     pub fn report(&self, entries: &[Entry]) -> bool {
+        let Judged {
+            all,
+            game,
+            components,
+        } = self.judged;
+        println!(
+            "random words judged on a rule: {all}, as games {game}, component by component \
+             {components}"
+        );
         let mut whole = true;
+        if 2 * game < all {
+            println!("    FEWER THAN HALF as games");
+            whole = false;
+        }
         for entry in entries {
             let Some(tally) = self.tallies.get(entry.name) else {
                 continue;
@@ -309,9 +342,11 @@ impl Harness {
                 "{}: {} comparisons in {:.1} s, the longest call {:.2} s; {served}",
                 entry.name, tally.comparisons, tally.seconds, tally.longest
             );
-            let seen = tally.refusals.iter();
-            let seen: Vec<String> = seen.map(|(row, n)| format!("{row}: {n}")).collect();
-            println!("    refusals {}", seen.join(", "));
+            if !tally.refusals.is_empty() {
+                let seen = tally.refusals.iter();
+                let seen: Vec<String> = seen.map(|(row, n)| format!("{row}: {n}")).collect();
+                println!("    refusals {}", seen.join(", "));
+            }
             if !entry.kinds.is_empty() {
                 let seen = tally.kinds.iter();
                 let seen: Vec<String> = seen.map(|(kind, n)| format!("{kind}: {n}")).collect();

@@ -127,7 +127,8 @@ mod tests {
     use std::collections::BTreeMap;
 
     use super::*;
-    use crate::judge::{judge, reached_from, rejecting_pair_on_cycle, Pair};
+    use crate::judge::judge;
+    use crate::plans::{self, reached_from, rejecting_pair_on_cycle};
     use crate::sample::{self, Random, D, F, I, SHAPES};
 
     #[test]
@@ -177,52 +178,6 @@ mod tests {
         assert_eq!(judged.choices, [1, 0, 0, 0]);
     }
 
-    /// Calls `found` with every accepting plan that agrees with the clauses
-    /// picked so far.
-    fn every_plan(
-        rule: &Rule,
-        word: &Word,
-        plan: &mut BTreeMap<Pair, u8>,
-        reached: &[Pair],
-        found: &mut dyn FnMut(&BTreeMap<Pair, u8>),
-    ) {
-        let Some((&pair, rest)) = reached.split_last() else {
-            if !rejecting_pair_on_cycle(rule, word, plan) {
-                found(plan);
-            }
-            return;
-        };
-        if plan.contains_key(&pair) {
-            return every_plan(rule, word, plan, rest, found);
-        }
-        for &clause in &rule.entries[pair.0][word.letter(pair.1)] {
-            let mut reached = rest.to_vec();
-            reached.extend(reached_from(word, pair, clause));
-            plan.insert(pair, clause);
-            every_plan(rule, word, plan, &reached, found);
-            plan.remove(&pair);
-        }
-    }
-
-    /// How many steps a plan takes until all its paths from a pair have left
-    /// the pair's component.
-    fn steps_to_leave(word: &Word, plan: &BTreeMap<Pair, u8>, own: u8, start: Pair) -> usize {
-        let mut inside = vec![start];
-        let mut steps = 0;
-        while !inside.is_empty() {
-            let mut next: Vec<Pair> = inside
-                .iter()
-                .flat_map(|&pair| reached_from(word, pair, plan[&pair]))
-                .filter(|pair| own >> pair.0 & 1 == 1)
-                .collect();
-            next.sort_unstable();
-            next.dedup();
-            inside = next;
-            steps += 1;
-        }
-        steps
-    }
-
     #[test]
     fn distances_by_every_plan() {
         let mut random = Random::new(41);
@@ -239,27 +194,15 @@ mod tests {
             let cycle = sample::letters(&mut random, alphabet, cycle);
             let word = Word::of_rule(&rule, &lead, &cycle).unwrap();
             let masks = accepting_masks(&rule, &word);
-            let components = rule.components();
-            let own = |q: usize| {
-                let mut components = components.iter();
-                components.find(|k| k.states.contains(&q)).unwrap().mask()
-            };
-            let mut expected = vec![vec![None; states]; word.places()];
-            for place in 0..word.places() {
-                for q in (0..states).filter(|q| rule.accepting >> q & 1 == 0) {
-                    let mut least: Option<usize> = None;
-                    let start = (q, place);
-                    every_plan(&rule, &word, &mut BTreeMap::new(), &[start], &mut |plan| {
-                        let steps = steps_to_leave(&word, plan, own(q), start);
-                        least = Some(least.map_or(steps, |other| other.min(steps)));
-                    });
-                    expected[place][q] = least;
-                    far += usize::from(least > Some(2));
-                }
-            }
+            let expected = plans::distances(&rule, &word);
+            far += expected.iter().flatten().filter(|&&d| d > Some(2)).count();
             let found = distances(&rule, &word, &masks);
             assert_eq!(found, expected, "{rule:?} {word:?}");
             let chosen = choices(&rule, &word, &masks);
+            assert_eq!(
+                chosen,
+                plans::choices(&rule, &word, &plans::masks(&rule, &word))
+            );
             passed_over += chosen.iter().filter(|&&c| c != 0 && c != FALSE).count();
         }
         assert!(far > 300 && passed_over > 1_000, "{far} {passed_over}");

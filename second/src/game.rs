@@ -1,6 +1,7 @@
 //! A second judge of words on the rule, by another method than the first: a game
 //! between one who picks clauses and one who picks states of them, decided by
-//! attractors over all pairs at once. Components play no part in it.
+//! attractors over all pairs at once. Components play no part in it. It judges
+//! words of any length.
 
 use crate::rule::{read, Rule};
 use crate::word::Word;
@@ -12,64 +13,102 @@ enum Player {
     State,
 }
 
+/// The nodes that each node leads to: where its list begins, and all lists one
+/// after the other, so that long words have room.
+struct Edges {
+    begins: Vec<usize>,
+    nodes: Vec<u32>,
+}
+
+impl Edges {
+    fn of(&self, node: usize) -> impl Iterator<Item = usize> + '_ {
+        let nodes = &self.nodes[self.begins[node]..self.begins[node + 1]];
+        nodes.iter().map(|&to| to as usize)
+    }
+
+    /// Every edge the other way.
+    fn turned(&self) -> Edges {
+        let count = self.begins.len() - 1;
+        let mut begins = vec![0; count + 1];
+        for &to in &self.nodes {
+            begins[to as usize + 1] += 1;
+        }
+        for node in 0..count {
+            begins[node + 1] += begins[node];
+        }
+        let mut place = begins.clone();
+        let mut nodes = vec![0; self.nodes.len()];
+        for from in 0..count {
+            for to in self.of(from) {
+                nodes[place[to]] = from as u32;
+                place[to] += 1;
+            }
+        }
+        Edges { begins, nodes }
+    }
+}
+
 /// A game board on which every node leads somewhere. The player of clauses wins
 /// if accepting nodes come again and again.
-#[derive(Default)]
 struct Board {
     turn: Vec<Player>,
     accepting: Vec<bool>,
-    next: Vec<Vec<usize>>,
-    before: Vec<Vec<usize>>,
+    next: Edges,
+    before: Edges,
 }
 
 impl Board {
-    fn node(&mut self, turn: Player, accepting: bool) -> usize {
-        self.turn.push(turn);
-        self.accepting.push(accepting);
-        self.next.push(Vec::new());
-        self.before.push(Vec::new());
-        self.turn.len() - 1
-    }
-
-    fn edge(&mut self, from: usize, to: usize) {
-        self.next[from].push(to);
-        self.before[to].push(from);
-    }
-
-    /// The board of a rule on a word, pairs first: pair (q, place) is node
-    /// place × n + q.
+    /// The board of a rule on a word: first the pairs, pair (q, place) being node
+    /// place × n + q, then where a pair without a clause leads and where an empty
+    /// clause does, then the clauses of every pair in turn.
     fn new(rule: &Rule, word: &Word) -> Self {
-        let mut board = Board::default();
-        for _ in 0..word.places() {
-            for q in 0..rule.states {
-                board.node(Player::Clause, rule.accepting >> q & 1 == 1);
-            }
-        }
-        // Where a pair without a clause leads, and an empty clause.
-        let lost = board.node(Player::Clause, false);
-        let won = board.node(Player::Clause, true);
-        board.edge(lost, lost);
-        board.edge(won, won);
+        let pairs = word.places() * rule.states;
+        let (lost, won) = (pairs, pairs + 1);
+        let mut accepting = Vec::with_capacity(pairs + 2);
+        let (mut begins, mut nodes) = (vec![0], Vec::new());
+        // The number of the clause that comes next.
+        let mut clause = pairs + 2;
         for place in 0..word.places() {
             for q in 0..rule.states {
-                let pair = place * rule.states + q;
-                let clauses = &rule.entries[q][word.letter(place)];
-                if clauses.is_empty() {
-                    board.edge(pair, lost);
+                accepting.push(rule.accepting >> q & 1 == 1);
+                let count = rule.entries[q][word.letter(place)].len();
+                match count {
+                    0 => nodes.push(lost as u32),
+                    _ => nodes.extend((clause..clause + count).map(|node| node as u32)),
                 }
-                for &clause in clauses {
-                    let node = board.node(Player::State, false);
-                    board.edge(pair, node);
+                clause += count;
+                begins.push(nodes.len());
+            }
+        }
+        assert!(u32::try_from(clause).is_ok(), "a board of {clause} nodes");
+        for (node, stays) in [(lost, false), (won, true)] {
+            accepting.push(stays);
+            nodes.push(node as u32);
+            begins.push(nodes.len());
+        }
+        for place in 0..word.places() {
+            let following = word.following(place) * rule.states;
+            for q in 0..rule.states {
+                for &clause in &rule.entries[q][word.letter(place)] {
                     if clause == 0 {
-                        board.edge(node, won);
+                        nodes.push(won as u32);
                     }
-                    for to in (0..rule.states).filter(|to| clause >> to & 1 == 1) {
-                        board.edge(node, word.following(place) * rule.states + to);
-                    }
+                    let named = (0..rule.states).filter(|to| clause >> to & 1 == 1);
+                    nodes.extend(named.map(|to| (following + to) as u32));
+                    begins.push(nodes.len());
                 }
             }
         }
-        board
+        accepting.resize(clause, false);
+        let mut turn = vec![Player::Clause; pairs + 2];
+        turn.resize(clause, Player::State);
+        let next = Edges { begins, nodes };
+        Board {
+            turn,
+            accepting,
+            before: next.turned(),
+            next,
+        }
     }
 
     /// The nodes on the board that is left from where a player can force the
@@ -78,13 +117,12 @@ impl Board {
         let mut drawn = goals.to_vec();
         let mut waiting: Vec<usize> = (0..drawn.len()).filter(|&node| drawn[node]).collect();
         // How many ways out of a node are not drawn yet.
-        let mut ways: Vec<usize> = self
-            .next
-            .iter()
-            .map(|next| next.iter().filter(|&&to| left[to]).count())
+        let nodes = 0..drawn.len();
+        let mut ways: Vec<u32> = nodes
+            .map(|node| self.next.of(node).filter(|&to| left[to]).count() as u32)
             .collect();
         while let Some(node) = waiting.pop() {
-            for &from in self.before[node].iter().filter(|&&from| left[from]) {
+            for from in self.before.of(node).filter(|&from| left[from]) {
                 ways[from] -= 1;
                 if !drawn[from] && (self.turn[from] == player || ways[from] == 0) {
                     drawn[from] = true;
@@ -131,6 +169,11 @@ pub fn masks(rule: &Rule, word: &Word) -> Vec<u8> {
         .collect()
 }
 
+/// Whether a rule accepts a word of any length over its letters.
+pub fn accepts(rule: &Rule, lead: &[u8], cycle: &[u8]) -> bool {
+    masks(rule, &Word { lead, cycle })[0] >> rule.initial & 1 == 1
+}
+
 /// The judge by this method, on a file: the rule's rows, 12 to 14, then 16.
 pub fn judge(file: &[u8], lead: &[u8], cycle: &[u8], room: usize) -> Result<(bool, Vec<u8>), u8> {
     let (rule, _) = read(file)?;
@@ -145,8 +188,9 @@ pub fn judge(file: &[u8], lead: &[u8], cycle: &[u8], room: usize) -> Result<(boo
 #[cfg(test)]
 mod tests {
     use super::*;
-    use crate::judge::{self, accepting_masks, accepts_by_plans};
+    use crate::judge::{self, accepting_masks};
     use crate::sample::{self, Random, D, E, F, I, SHAPES, Z};
+    use crate::{long, plans};
 
     #[test]
     fn examples() {
@@ -169,6 +213,35 @@ mod tests {
         assert_eq!(judge(&F, &[0, 2], &[0], 2), Err(14));
         assert_eq!(judge(&F, &[0, 2], &[], 2), Err(12));
         assert_eq!(judge(&[0x41, 0x57], &[0, 2], &[], 2), Err(1));
+    }
+
+    /// Words of any length, beside the other judge of such words.
+    #[test]
+    fn long_words() {
+        let rule = |file: &[u8]| read(file).unwrap().0;
+        let mut lead = vec![0; 100_000];
+        assert!(!accepts(&rule(&F), &lead, &[0]));
+        lead.push(1);
+        assert!(accepts(&rule(&F), &lead, &[0]));
+        assert!(!accepts(&rule(&I), &lead, &[0]));
+        assert!(accepts(&rule(&I), &[], &lead));
+        let mut random = Random::new(133);
+        let (mut yes, mut no) = (0, 0);
+        for _ in 0..1_000 {
+            let shape = *random.pick(&SHAPES);
+            let (states, alphabet) = (random.between(1, 8), random.between(1, 3));
+            let rule = sample::rule(&mut random, shape, states, alphabet);
+            let (lead, cycle) = (random.between(0, 400), random.between(1, 400));
+            let lead = sample::letters(&mut random, alphabet, lead);
+            let cycle = sample::letters(&mut random, alphabet, cycle);
+            let (lead, cycle) = (&lead[..], &cycle[..]);
+            let word = Word { lead, cycle };
+            assert_eq!(masks(&rule, &word), long::masks(&rule, &word), "{rule:?}");
+            let accepted = accepts(&rule, lead, cycle);
+            assert_eq!(accepted, long::accepts(&rule, lead, cycle));
+            *(if accepted { &mut yes } else { &mut no }) += 1;
+        }
+        assert!(yes > 200 && no > 200, "{yes} {no}");
     }
 
     #[test]
@@ -211,7 +284,7 @@ mod tests {
             let word = Word::of_rule(&rule, &letters[..lead], &letters[lead..]).unwrap();
             for (place, mask) in masks(&rule, &word).into_iter().enumerate() {
                 for q in 0..states {
-                    let accepts = accepts_by_plans(&rule, &word, (q, place));
+                    let accepts = plans::accepts(&rule, &word, (q, place));
                     assert_eq!(mask >> q & 1 == 1, accepts, "{rule:?} {word:?}");
                 }
             }

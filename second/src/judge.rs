@@ -1,12 +1,7 @@
 //! The judge of words on the rule.
 
-use std::collections::{BTreeMap, BTreeSet};
-
 use crate::rule::{read, Rule};
 use crate::word::Word;
-
-/// A state at a place.
-pub type Pair = (usize, usize);
 
 /// Per place, the mask of the states that the rule accepts from there.
 ///
@@ -48,64 +43,6 @@ pub fn accepting_masks(rule: &Rule, word: &Word) -> Vec<u8> {
         }
     }
     masks
-}
-
-/// Acceptance from a pair by trying every plan: "A plan picks one clause for
-/// each pair of state and place that it reaches". For small rules and words.
-pub fn accepts_by_plans(rule: &Rule, word: &Word, start: Pair) -> bool {
-    try_plans(rule, word, &mut BTreeMap::new(), &mut vec![start])
-}
-
-/// Tries all plans that agree with the clauses picked so far; `reached` are
-/// reached pairs that may still need a clause.
-fn try_plans(
-    rule: &Rule,
-    word: &Word,
-    plan: &mut BTreeMap<Pair, u8>,
-    reached: &mut Vec<Pair>,
-) -> bool {
-    let Some(pair) = reached.pop() else {
-        return !rejecting_pair_on_cycle(rule, word, plan);
-    };
-    let accepted = if plan.contains_key(&pair) {
-        try_plans(rule, word, plan, reached)
-    } else {
-        // "reaches no pair without a clause": an empty entry tries nothing.
-        rule.entries[pair.0][word.letter(pair.1)]
-            .iter()
-            .any(|&clause| {
-                let mut reached = reached.clone();
-                reached.extend(reached_from(word, pair, clause));
-                plan.insert(pair, clause);
-                let accepted = try_plans(rule, word, plan, &mut reached);
-                plan.remove(&pair);
-                accepted
-            })
-    };
-    reached.push(pair);
-    accepted
-}
-
-/// "from the pair it reaches each state of the clause at the following place"
-pub fn reached_from(word: &Word, pair: Pair, clause: u8) -> impl Iterator<Item = Pair> {
-    let place = word.following(pair.1);
-    let states = (0..8).filter(move |&q| clause >> q & 1 == 1);
-    states.map(move |q| (q, place))
-}
-
-/// Whether a plan has a "pair with a rejecting state that lies on a cycle of
-/// reached pairs".
-pub fn rejecting_pair_on_cycle(rule: &Rule, word: &Word, plan: &BTreeMap<Pair, u8>) -> bool {
-    let rejecting = |pair: &&Pair| rule.accepting >> pair.0 & 1 == 0;
-    plan.keys().filter(rejecting).any(|&pair| {
-        let mut seen = BTreeSet::new();
-        let mut waiting = vec![pair];
-        while let Some(from) = waiting.pop() {
-            let next = reached_from(word, from, plan[&from]);
-            waiting.extend(next.filter(|&to| seen.insert(to)));
-        }
-        seen.contains(&pair)
-    })
 }
 
 /// "The judge answers yes or no for the initial state at place 0 and writes,

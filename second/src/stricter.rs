@@ -201,6 +201,7 @@ pub fn stricter(
 mod tests {
     use super::*;
     use crate::build::build;
+    use crate::every::words;
     use crate::long::accepts;
     use crate::sample::{self, Random, D, E, F, I, SHAPES, Z};
 
@@ -260,29 +261,10 @@ mod tests {
         assert_eq!(stricter(&F, &D, [2, 7, m, t], 0, 0), Err(17));
     }
 
-    /// All words with up to so many letters in lead-in and cycle.
-    fn words(letters: usize, longest: usize) -> Vec<LongWord> {
-        let mut lists = vec![vec![vec![]]];
-        for length in 0..longest {
-            let longer = lists[length].iter().flat_map(|list: &Vec<u8>| {
-                (0..letters as u8).map(move |letter| [&list[..], &[letter]].concat())
-            });
-            let longer = longer.collect();
-            lists.push(longer);
-        }
-        let mut words = Vec::new();
-        for lead in lists.iter().flatten() {
-            for cycle in lists[1..].iter().flatten() {
-                words.push((lead.clone(), cycle.clone()));
-            }
-        }
-        words
-    }
-
     #[test]
     fn random_rules() {
         let mut random = Random::new(112);
-        let all: Vec<Vec<LongWord>> = (0..3).map(|letters| words(letters, 4)).collect();
+        let all: Vec<_> = (0..3).map(|letters| words(letters, 4, 4)).collect();
         let (mut yes, mut no) = (0, 0);
         while yes + no < 1_500 {
             let alphabet = random.between(1, 2);
@@ -314,7 +296,7 @@ mod tests {
                 }
                 None => {
                     yes += 1;
-                    for (lead, cycle) in &all[alphabet] {
+                    for [lead, cycle] in &all[alphabet] {
                         let passes = !accepts(&a, lead, cycle) || accepts(&b, lead, cycle);
                         assert!(passes, "{a:?} {b:?} {lead:?} {cycle:?}");
                     }

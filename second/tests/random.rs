@@ -1,7 +1,8 @@
 //! Random rules and words: one definition against another.
 
 use second::build::reachable;
-use second::judge::{accepting_masks, accepts_by_plans};
+use second::judge::accepting_masks;
+use second::plans;
 use second::rule::{read, same_rules, write, Rule};
 use second::sample::{file, letters, rule, Random, SHAPES};
 use second::table::{lowest_start, Table};
@@ -55,7 +56,7 @@ fn fixed_point_and_plans() {
         let masks = accepting_masks(&rule, &word);
         for (place, mask) in masks.into_iter().enumerate() {
             for q in 0..rule.states {
-                let accepts = accepts_by_plans(&rule, &word, (q, place));
+                let accepts = plans::accepts(&rule, &word, (q, place));
                 assert_eq!(mask >> q & 1 == 1, accepts, "{rule:?} {word:?}");
                 *(if accepts { &mut yes } else { &mut no }) += 1;
             }

@@ -24,7 +24,7 @@ pub const ENTRY: Entry = Entry {
 pub type Built = Result<(Vec<u64>, Vec<u64>), u8>;
 
 /// An entry that builds.
-type Build = unsafe extern "C" fn(*const u8, usize, *mut u64, usize, *mut u64, usize) -> Answer;
+pub type Build = unsafe extern "C" fn(*const u8, usize, *mut u64, usize, *mut u64, usize) -> Answer;
 
 fn compare(harness: &mut Harness, file: &[u8], macrostate_room: usize, transition_room: usize) {
     let built = build(file, macrostate_room, transition_room);

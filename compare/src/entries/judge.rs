@@ -13,7 +13,7 @@ pub const ENTRY: Entry = Entry {
     name: "judge",
     refusals: &[RULE, &[12, 13, 14, 16]],
     verdict: true,
-    kinds: &["judged as a game too"],
+    kinds: &["as a game", "component by component too"],
     round: 105_000,
     examples,
     random,
@@ -21,6 +21,20 @@ pub const ENTRY: Entry = Entry {
 
 fn compare(harness: &mut Harness, file: &[u8], word: [&[u8]; 2], room: usize) -> Seen {
     let judged = judge(file, word[0], word[1], room);
+    compare_with(harness, file, word, room, judged)
+}
+
+/// The verdict and the masks, or a refusal.
+type Judged = Result<(bool, Vec<u8>), u8>;
+
+/// Compares with what the second program has answered already.
+fn compare_with(
+    harness: &mut Harness,
+    file: &[u8],
+    word: [&[u8]; 2],
+    room: usize,
+    judged: Judged,
+) -> Seen {
     let masks = harness.pattern(room);
     harness.begin();
     let file = harness.lend("file", file);
@@ -100,14 +114,18 @@ fn random(harness: &mut Harness) {
         let random = &mut harness.random;
         let [lead, cycle] = word(random, alphabet);
         let room = near(random, lead.len() + cycle.len());
-        let by_game = random.once_in(4);
-        compare(harness, &file, [&lead, &cycle], room);
-        if by_game {
-            let judged = judge(&file, &lead, &cycle, room);
-            harness.agree(&judged, &game::judge(&file, &lead, &cycle, room));
-            if judged.is_ok() {
-                harness.saw("judged as a game too");
+        let both = random.once_in(2);
+        let judged = game::judge(&file, &lead, &cycle, room);
+        if both {
+            harness.agree(&judged, &judge(&file, &lead, &cycle, room));
+        }
+        if judged.is_ok() {
+            harness.judged(true, both);
+            harness.saw("as a game");
+            if both {
+                harness.saw("component by component too");
             }
         }
+        compare_with(harness, &file, [&lead, &cycle], room, judged);
     }
 }

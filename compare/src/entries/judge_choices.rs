@@ -1,9 +1,11 @@
 //! The judge that shows which clause carried the verdict.
 
 use compare::library::mulgreddi_judge_choices;
-use second::choices::{judge_choices, FALSE};
+use second::choices::{judge_choices, Judged, FALSE};
+use second::game;
 use second::rule::read;
 use second::sample::{self, Shape, D, F, I};
+use second::word::Word;
 
 use crate::harness::{Entry, Harness, Seen, RULE};
 use crate::input::{any_file, good_file, near, refused, varied, word};
@@ -12,7 +14,7 @@ pub const ENTRY: Entry = Entry {
     name: "judge_choices",
     refusals: &[RULE, &[12, 13, 14, 16]],
     verdict: true,
-    kinds: &[],
+    kinds: &["masks as a game too"],
     round: 100_000,
     examples,
     random,
@@ -20,6 +22,17 @@ pub const ENTRY: Entry = Entry {
 
 fn compare(harness: &mut Harness, file: &[u8], word: [&[u8]; 2], rooms: [usize; 2]) -> Seen {
     let judged = judge_choices(file, word[0], word[1], rooms[0], rooms[1]);
+    compare_with(harness, file, word, rooms, judged)
+}
+
+/// Compares with what the second program has answered already.
+pub fn compare_with(
+    harness: &mut Harness,
+    file: &[u8],
+    word: [&[u8]; 2],
+    rooms: [usize; 2],
+    judged: Result<Judged, u8>,
+) -> Seen {
     let masks = harness.pattern(rooms[0]);
     let choices = harness.pattern(rooms[1]);
     harness.begin();
@@ -110,6 +123,14 @@ fn random(harness: &mut Harness) {
             1 => [near(random, places), places * states],
             _ => [places, near(random, places * states)],
         };
-        compare(harness, &file, [&lead, &cycle], rooms);
+        let judged = judge_choices(&file, &lead, &cycle, rooms[0], rooms[1]);
+        if let Ok(judged) = &judged {
+            let (rule, _) = read(&file).unwrap();
+            let word = Word::of_rule(&rule, &lead, &cycle).unwrap();
+            harness.agree(&judged.masks, &game::masks(&rule, &word));
+            harness.judged(true, true);
+            harness.saw("masks as a game too");
+        }
+        compare_with(harness, &file, [&lead, &cycle], rooms, judged);
     }
 }

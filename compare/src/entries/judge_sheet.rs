@@ -22,6 +22,7 @@ pub const ENTRY: Entry = Entry {
         "word 12",
         "word 13",
         "word 14",
+        "word as a game too",
     ],
     round: 100_000,
     examples,
@@ -245,13 +246,16 @@ fn random(harness: &mut Harness) {
         _ => [answers, masks],
     };
     let seen = compare(harness, &file, &sheet, rooms);
-    // Now and then each word alone, as a game.
-    if let (Ok(_), Ok((rule, _)), true) = (seen.0, &read, harness.random.once_in(50)) {
+    // Each word alone, as a game.
+    if let (Ok(_), Ok((rule, _))) = (seen.0, &read) {
         let judged = judge_sheet(&file, &sheet, rooms[0], rooms[1]).unwrap();
         for (number, entry) in entries(&sheet).iter().enumerate() {
-            let mut alone = entry
-                .word(rule)
-                .map_or(vec![], |word| game::masks(rule, &word));
+            let word = entry.word(rule);
+            if word.is_ok() {
+                harness.judged(true, true);
+                harness.saw("word as a game too");
+            }
+            let mut alone = word.map_or(vec![], |word| game::masks(rule, &word));
             alone.resize(MASKS, 0);
             harness.agree(&&judged.masks[MASKS * number..][..MASKS], &&alone[..]);
         }

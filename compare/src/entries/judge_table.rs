@@ -4,6 +4,7 @@ use compare::chains::{self, Order};
 use compare::library::mulgreddi_judge_table;
 use compare::stored::LARGE;
 use second::build::{build, Macrostate};
+use second::game;
 use second::rule::Rule;
 use second::sample::{self, letters, Random, D, F, I, SHAPES, Z};
 use second::table::judge_table;
@@ -15,7 +16,7 @@ pub const ENTRY: Entry = Entry {
     name: "judge_table",
     refusals: &[RULE, &[12, 13, 14, 15, 16]],
     verdict: true,
-    kinds: &[],
+    kinds: &["as built, word as a game too"],
     round: 105_000,
     examples,
     random,
@@ -228,10 +229,12 @@ fn random(harness: &mut Harness) {
     let rounds = if built.is_some() { 12 } else { 4 };
     for _ in 0..rounds {
         let random = &mut harness.random;
+        let mut whole = false;
         let (mut codes, mut transitions) = match &built {
             Some((codes, transitions)) if !random.once_in(4) => {
                 let (mut codes, mut transitions) = (codes.clone(), transitions.clone());
-                if random.once_in(2) {
+                whole = random.once_in(2);
+                if !whole {
                     damage(random, &rule, &mut codes, &mut transitions);
                 }
                 (codes, transitions)
@@ -240,6 +243,7 @@ fn random(harness: &mut Harness) {
         };
         if random.once_in(6) {
             fault(random, &rule, &mut codes, &mut transitions);
+            whole = false;
         }
         let [lead, cycle] = word(random, rule.letters);
         let (mut code_bytes, mut transition_bytes) = (bytes(&codes), bytes(&transitions));
@@ -258,9 +262,19 @@ fn random(harness: &mut Harness) {
         }
         let room = near(random, codes.len() * (lead.len() + cycle.len()));
         let other = any_file(random);
-        let file = if random.once_in(16) { &other } else { &file };
+        let mut file = &file;
+        if random.once_in(16) {
+            file = &other;
+            whole = false;
+        }
         let word = [&lead[..], &cycle];
-        compare(harness, file, word, [&code_bytes, &transition_bytes], room);
+        let seen = compare(harness, file, word, [&code_bytes, &transition_bytes], room);
+        // On a rule's own table the verdict is that of the rule.
+        if let (true, Ok((yes, _))) = (whole, seen.0) {
+            harness.agree(&(yes == 1), &game::accepts(&rule, &lead, &cycle));
+            harness.judged(true, false);
+            harness.saw("as built, word as a game too");
+        }
     }
 }
 

@@ -1,11 +1,14 @@
-//! The entries of the library.
+//! The entries of the library, and what is tried of several of them by another
+//! method.
 
 use crate::harness::Entry;
 
 mod build;
+mod build_by_text;
 mod build_rejecting;
 mod build_trimmed;
 mod check;
+mod choices_by_plans;
 mod judge;
 mod judge_choices;
 mod judge_sheet;
@@ -13,6 +16,7 @@ mod judge_table;
 mod live;
 mod mixed_loop;
 mod read_hoa;
+mod runs;
 mod same_rules;
 mod same_words;
 mod stricter;
@@ -45,5 +49,8 @@ pub fn all() -> Vec<Entry> {
         read_hoa::ENTRY,
         live::ENTRY,
         stricter::ENTRY,
+        build_by_text::ENTRY,
+        choices_by_plans::ENTRY,
+        runs::ENTRY,
     ]
 }

@@ -2,10 +2,10 @@
 
 use compare::library::{mulgreddi_stricter, Comparison};
 use second::build::{MACROSTATE_CAP, TRANSITION_CAP};
-use second::long::accepts;
 use second::rule::{read, Rule};
 use second::sample::{self, Random, Shape, D, E, F, I, SHAPES, Z};
 use second::stricter::{stricter, Compared};
+use second::{game, long};
 
 use super::build::small_rule;
 use crate::harness::{Entry, Harness, RULE};
@@ -16,7 +16,9 @@ pub const ENTRY: Entry = Entry {
     refusals: &[RULE, &[17, 18, 28, 29]],
     verdict: true,
     kinds: &[
+        "words judged as games",
         "word over 32",
+        "word over 100",
         "P over 100",
         "P over 10,000",
         "P over 100,000",
@@ -137,8 +139,10 @@ fn compare_with(
             // Which word it is, no definition decides.
             lead: answer.lead,
             cycle: answer.cycle,
-            a: [compared.a.0.len() as u64, compared.a.1.len() as u64],
-            b: [compared.b.0.len() as u64, compared.b.1.len() as u64],
+            macrostates_a: compared.a.0.len() as u64,
+            transitions_a: compared.a.1.len() as u64,
+            macrostates_b: compared.b.0.len() as u64,
+            transitions_b: compared.b.1.len() as u64,
             ..Comparison::default()
         },
         Err(number) => Comparison {
@@ -157,20 +161,16 @@ fn compare_with(
             if compared.word.is_none() {
                 harness.must(lead + cycle == 0, || format!("{told}: yes with a word"));
             } else {
-                judge(
-                    harness,
-                    a,
-                    b,
-                    needs(compared).word,
-                    [lead, cycle],
-                    &harness.held(lent_word),
-                );
-                let mut after = word;
                 let held = harness.held(lent_word);
+                judge(harness, a, b, needs(compared).word, [lead, cycle], &held);
+                let mut after = word;
                 after[..lead + cycle].copy_from_slice(&held[..lead + cycle]);
                 harness.expect(lent_word, after);
                 if lead > 32 || cycle > 32 {
                     harness.saw("word over 32");
+                }
+                if lead + cycle > 100 {
+                    harness.saw("word over 100");
                 }
             }
             Ok((answer.stricter, 0))
@@ -180,9 +180,10 @@ fn compare_with(
 }
 
 /// "what must hold of it is that A accepts it and B rejects it", that it has a
-/// cycle and at most 3 × P letters.
+/// cycle and at most 3 × P letters. The word is judged as a game, and component
+/// by component beside it.
 fn judge(
-    harness: &Harness,
+    harness: &mut Harness,
     a: &[u8],
     b: &[u8],
     most: usize,
@@ -200,12 +201,17 @@ fn judge(
         || format!("the word {word:?} has a letter that is none"),
     );
     let (lead, cycle) = word.split_at(lead);
-    harness.must(accepts(&a, lead, cycle), || {
+    harness.must(game::accepts(&a, lead, cycle), || {
         format!("A rejects {lead:?} {cycle:?}")
     });
-    harness.must(!accepts(&b, lead, cycle), || {
+    harness.must(!game::accepts(&b, lead, cycle), || {
         format!("B accepts {lead:?} {cycle:?}")
     });
+    for (rule, accepts) in [(&a, true), (&b, false)] {
+        harness.agree(&accepts, &long::accepts(rule, lead, cycle));
+        harness.judged(true, true);
+    }
+    harness.saw("words judged as games");
 }
 
 fn examples(harness: &mut Harness) {

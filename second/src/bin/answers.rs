@@ -9,19 +9,22 @@ use std::{env, fs};
 
 use second::build::{build, Macrostate};
 use second::choices::{judge_choices, FALSE};
-use second::events::translate;
+use second::event_text;
+use second::events::{translate, LINE};
 use second::hoa::{read_hoa, write_hoa, ACCEPTING, INITIAL};
+use second::lines::lines;
 use second::live::{Lent, Log};
 use second::mixed::mixed_loop;
 use second::names::Name;
 use second::rule::{read_named, same_rules, take_apart, Named};
+use second::rule_text::{self, Fault};
 use second::sheet::{entries, judge_sheet, Entry};
-use second::spelling::tidy_word;
+use second::spelling::{self, tidy_word};
 use second::stricter::stricter;
 use second::table::judge_table;
 use second::tidy::tidy;
 use second::trim::build_trimmed;
-use second::word::same_words;
+use second::word::{same_words, Word};
 
 const YES: i32 = 0;
 const NO: i32 = 1;
@@ -55,21 +58,53 @@ impl Printed {
     }
 }
 
-fn load(path: &str) -> Vec<u8> {
-    let mut bytes = Vec::new();
-    if path == "-" {
-        io::stdin().read_to_end(&mut bytes).unwrap();
-    } else {
-        bytes = fs::read(path).unwrap_or_else(|_| exit(FAULT));
+/// A file that is read, or standard input for `-`.
+fn contents(path: &str) -> io::Result<Vec<u8>> {
+    if path != "-" {
+        return fs::read(path);
     }
-    bytes
+    let mut bytes = Vec::new();
+    io::stdin().read_to_end(&mut bytes)?;
+    Ok(bytes)
 }
 
-fn shown(path: &str) -> &str {
-    match path {
-        "-" => "standard input",
-        path => path,
+fn load(path: &str) -> Vec<u8> {
+    contents(path).unwrap_or_else(|_| exit(FAULT))
+}
+
+/// Writes a file, or to standard output for `-`.
+fn store(printed: &mut Printed, path: &str, bytes: &[u8]) {
+    if path == "-" {
+        printed.out.extend(bytes);
+    } else if fs::write(path, bytes).is_err() {
+        exit(FAULT)
     }
+}
+
+/// A path as it is printed, control bytes escaped.
+fn shown(path: &str) -> String {
+    if path == "-" {
+        return "standard input".to_string();
+    }
+    let escaped = |c: char| match c.is_ascii_control() {
+        true => format!("\\x{:02x}", c as u32),
+        false => c.to_string(),
+    };
+    path.chars().map(escaped).collect()
+}
+
+/// The lines of a text that are not blank; none for a line with a byte 00 or a
+/// carriage return that no newline follows.
+fn text_lines(text: &[u8]) -> Vec<Option<String>> {
+    let lines = lines(text).into_iter().map(|(_, line)| {
+        let whole = !line.contains(&0) && !line.contains(&b'\r');
+        whole.then(|| {
+            String::from_utf8_lossy(line)
+                .trim_matches(BLANKS)
+                .to_string()
+        })
+    });
+    lines.filter(|line| line.as_deref() != Some("")).collect()
 }
 
 fn set(mask: u8) -> String {
@@ -104,24 +139,39 @@ fn word(names: &Option<Vec<Name>>, lead: &[u8], cycle: &[u8]) -> String {
     format!("{}:{}", letters(names, lead), letters(names, cycle))
 }
 
-/// A word as it is written, LEAD:CYCLE.
-fn read_word(names: &Option<Vec<Name>>, text: &str) -> (Vec<u8>, Vec<u8>) {
-    let part = |text: &str| -> Vec<u8> {
-        if text.trim().is_empty() {
-            return Vec::new();
+/// Blanks around letters and lines, and no other white space.
+const BLANKS: [char; 2] = [' ', '\t'];
+
+/// A number is written in decimal digits alone, without a sign.
+fn is_number(text: &str) -> bool {
+    !text.is_empty() && text.bytes().all(|byte| byte.is_ascii_digit())
+}
+
+/// The letter that a text writes: its number, or its name.
+fn letter_of(names: &Option<Vec<Name>>, text: &str) -> Option<u8> {
+    if is_number(text) {
+        return text.parse().ok();
+    }
+    let mut names = names.iter().flatten();
+    let named = names.position(|name| !text.is_empty() && trimmed(name) == text);
+    named.map(|letter| letter as u8)
+}
+
+/// A word as it is written, LEAD:CYCLE; none for what is no word.
+fn read_word(names: &Option<Vec<Name>>, text: &str) -> Option<(Vec<u8>, Vec<u8>)> {
+    let part = |text: &str| -> Option<Vec<u8>> {
+        if text.trim_matches(BLANKS).is_empty() {
+            return Some(Vec::new());
         }
-        let number = |text: &str| {
-            let named = names
-                .iter()
-                .flatten()
-                .position(|name| trimmed(name) == text);
-            text.parse().ok().or(named.map(|letter| letter as u8))
-        };
-        let own = text.split(',').map(|text| number(text.trim()));
-        own.map(|own| own.unwrap_or_else(|| exit(FAULT))).collect()
+        let own = text.split(',').map(|text| text.trim_matches(BLANKS));
+        own.map(|text| letter_of(names, text)).collect()
     };
-    let (lead, cycle) = text.split_once(':').unwrap_or_else(|| exit(FAULT));
-    (part(lead), part(cycle))
+    let (lead, cycle) = text.split_once(':')?;
+    Some((part(lead)?, part(cycle)?))
+}
+
+fn word_or_fault(names: &Option<Vec<Name>>, text: &str) -> (Vec<u8>, Vec<u8>) {
+    read_word(names, text).unwrap_or_else(|| exit(FAULT))
 }
 
 fn masks(masks: &[u8], lead: usize) -> String {
@@ -152,11 +202,14 @@ fn check(printed: &mut Printed, paths: &[String]) -> i32 {
             rule,
             preface,
             names,
-        } = match read_named(&load(path)) {
-            Ok(named) => named,
-            Err(number) => {
-                eprintln!("refused {number}");
-                status = REFUSED;
+        } = match contents(path).map(|file| read_named(&file)) {
+            Ok(Ok(named)) => named,
+            Ok(Err(number)) => {
+                status = status.max(refused(number));
+                continue;
+            }
+            Err(_) => {
+                status = FAULT;
                 continue;
             }
         };
@@ -214,10 +267,10 @@ fn build_command(printed: &mut Printed, path: &str, options: &HashMap<String, St
     let initial = macrostates.iter().filter(|m| m.is_initial(&rule)).count();
     let accepting = macrostates.iter().filter(|m| m.is_accepting()).count();
     if let Some(path) = options.get("codes") {
-        fs::write(path, bytes(&codes)).unwrap();
+        store(printed, path, &bytes(&codes));
     }
     if let Some(path) = options.get("transitions") {
-        fs::write(path, bytes(&transitions)).unwrap();
+        store(printed, path, &bytes(&transitions));
     }
     printed.line(&format!(
         "macrostates {}, initial {initial}, accepting {accepting}, transitions {}",
@@ -231,10 +284,8 @@ fn hoa(printed: &mut Printed, path: &str, options: &HashMap<String, String>) -> 
     let file = load(path);
     let (codes, transitions) = printed.served(table(&file, options.contains_key("trimmed")));
     let text = printed.served(write_hoa(&file, &codes, &transitions, usize::MAX));
-    match options.get("out") {
-        None => printed.out = text,
-        Some(path) => fs::write(path, text).unwrap(),
-    }
+    let out = options.get("out").map_or("-", |path| path);
+    store(printed, out, &text);
     YES
 }
 
@@ -261,7 +312,9 @@ fn judge_one(
     text: &str,
     options: &HashMap<String, String>,
 ) -> i32 {
-    let (lead, cycle) = read_word(&named.names, text);
+    let Some((lead, cycle)) = read_word(&named.names, text) else {
+        return FAULT;
+    };
     let (rule, names) = (&named.rule, &named.names);
     let spelled = word(names, &lead, &cycle);
     if let (Some(codes), Some(transitions)) = (options.get("codes"), options.get("transitions")) {
@@ -276,18 +329,12 @@ fn judge_one(
                 printed.line(&format!("{spelled} no"));
                 NO
             }
-            Err(number) => {
-                eprintln!("refused {number}");
-                REFUSED
-            }
+            Err(number) => refused(number),
         };
     }
     let judged = match judge_choices(file, &lead, &cycle, 64, 512) {
         Ok(judged) => judged,
-        Err(number) => {
-            eprintln!("refused {number}");
-            return REFUSED;
-        }
+        Err(number) => return refused(number),
     };
     let verdict = if judged.yes { "yes" } else { "no" };
     let all = masks(&judged.masks, lead.len());
@@ -321,14 +368,17 @@ fn judge(printed: &mut Printed, operands: &[String], options: &HashMap<String, S
     let named = printed.served(read_named(&file));
     let mut status = YES;
     for text in &operands[1..] {
-        let mut texts = vec![text.clone()];
-        if text == "-" {
-            let lines = String::from_utf8(load("-")).unwrap();
-            let lines = lines.lines().filter(|line| !line.trim().is_empty());
-            texts = lines.map(str::to_string).collect();
+        let texts = match text.as_str() {
+            "-" => text_lines(&load("-")),
+            text => vec![Some(text.to_string())],
+        };
+        // No word at all is no question.
+        if texts.is_empty() {
+            return FAULT;
         }
         for text in texts {
-            status = status.max(judge_one(printed, &file, &named, &text, options));
+            let one = text.map(|text| judge_one(printed, &file, &named, &text, options));
+            status = status.max(one.unwrap_or(FAULT));
         }
     }
     status
@@ -338,18 +388,28 @@ fn sheet(printed: &mut Printed, operands: &[String], lines: bool) -> i32 {
     let file = load(&operands[0]);
     let names = printed.served(read_named(&file)).names;
     let mut sheet = load(&operands[1]);
-    if lines {
-        let text = String::from_utf8(sheet).unwrap();
-        let words = text.lines().filter(|line| !line.trim().is_empty());
-        let words = words.map(|line| read_word(&names, line));
-        let words = words.map(|(lead, cycle)| {
-            let lengths = vec![lead.len() as u8, cycle.len() as u8];
-            [lengths, lead, cycle].concat()
-        });
-        sheet = words.collect::<Vec<_>>().concat();
-    }
-    let answered = printed.served(judge_sheet(&file, &sheet, 64, 4_096));
     let mut status = YES;
+    if lines {
+        let texts = text_lines(&sheet);
+        if texts.is_empty() {
+            return FAULT;
+        }
+        sheet.clear();
+        // A line that is no word is told, and the rest goes on.
+        for text in texts {
+            match text.and_then(|text| read_word(&names, &text)) {
+                None => status = FAULT,
+                Some((lead, cycle)) => {
+                    sheet.extend([lead.len() as u8, cycle.len() as u8]);
+                    sheet.extend([lead, cycle].concat());
+                }
+            }
+        }
+    }
+    let answered = match judge_sheet(&file, &sheet, 64, 4_096) {
+        Ok(answered) => answered,
+        Err(number) => return status.max(refused(number)),
+    };
     for (i, entry) in entries(&sheet).iter().enumerate() {
         let (spelled, lead, places) = match *entry {
             Entry::Whole(lead, cycle) => (
@@ -394,20 +454,75 @@ fn loop_command(printed: &mut Printed, path: &str) -> i32 {
 fn tidy_command(printed: &mut Printed, path: &str, out: Option<&String>) -> i32 {
     let file = load(path);
     let tidied = printed.served(tidy(&file));
-    let Some(out) = out else {
-        printed.out = tidied;
-        return YES;
-    };
-    fs::write(out, &tidied).unwrap();
     let clauses = |file: &[u8]| take_apart(file).unwrap().0.entries.concat().concat().len();
-    printed.line(&format!(
+    let told = format!(
         "{}: {} of {} clauses kept, {} bytes",
         shown(path),
         clauses(&tidied),
         clauses(&file),
         tidied.len()
-    ));
+    );
+    give(printed, out, &tidied, &told)
+}
+
+/// A text that was printed, and a refusal that is told after it.
+fn show(printed: &mut Printed, shown: Result<(Vec<u8>, Option<u8>), u8>) -> i32 {
+    let (text, refusal) = printed.served(shown);
+    printed.out = text;
+    refusal.map_or(YES, refused)
+}
+
+fn text_fault(path: &str, Fault { line, refusal }: Fault) -> i32 {
+    let at = format!("{}:{line}:", shown(path));
+    match refusal {
+        Some(number) => {
+            eprintln!("{at} refused {number}");
+            REFUSED
+        }
+        None => {
+            eprintln!("{at} a fault of the text");
+            FAULT
+        }
+    }
+}
+
+/// Bytes to standard output, or to a file with a line that tells of them.
+fn give(printed: &mut Printed, out: Option<&String>, bytes: &[u8], told: &str) -> i32 {
+    let out = out.map_or("-", |path| path);
+    store(printed, out, bytes);
+    if out != "-" {
+        printed.line(told);
+    }
     YES
+}
+
+fn write_command(printed: &mut Printed, path: &str, out: Option<&String>) -> i32 {
+    let file = match rule_text::write(&load(path)) {
+        Ok(file) => file,
+        Err(fault) => return text_fault(path, fault),
+    };
+    let rule = take_apart(&file).unwrap().0;
+    let told = format!(
+        "{}: states {}, letters {}, clauses {}, {} bytes",
+        shown(path),
+        rule.states,
+        rule.letters,
+        rule.entries.concat().concat().len(),
+        file.len()
+    );
+    give(printed, out, &file, &told)
+}
+
+fn write_events(printed: &mut Printed, operands: &[String], out: Option<&String>) -> i32 {
+    let path = &operands[1];
+    let table = match event_text::write(&load(&operands[0]), &load(path)) {
+        Ok(table) => table,
+        Err(Ok(number)) => return refused(number),
+        Err(Err(fault)) => return text_fault(path, fault),
+    };
+    let (lines, bytes) = (table.len() / LINE, table.len());
+    let told = format!("{}: lines {lines}, {bytes} bytes", shown(path));
+    give(printed, out, &table, &told)
 }
 
 fn same(printed: &mut Printed, same: bool) -> i32 {
@@ -430,7 +545,10 @@ fn stricter_command(printed: &mut Printed, operands: &[String]) -> i32 {
         return YES;
     };
     let names = printed.served(read_named(&a)).names;
-    let (lead, cycle) = tidy_word(&lead, &cycle).unwrap_or((lead, cycle));
+    let (lead, cycle) = spelling::tidy(&Word {
+        lead: &lead,
+        cycle: &cycle,
+    });
     let word = word(&names, &lead, &cycle);
     printed.line(&format!("not stricter: {word}"));
     NO
@@ -446,9 +564,13 @@ fn translate_command(
     let own = printed.served(translate(&file, &events, &log, usize::MAX));
     match options.get("cycle") {
         None => printed.line(&letters(&names, &own)),
+        // "a cycle of 1 to 32", of the letters that there are
         Some(cycle) => {
-            let lead = own.len() - cycle.parse::<usize>().unwrap();
-            printed.line(&word(&names, &own[..lead], &own[lead..]));
+            let cycle = cycle.parse().ok().filter(|&cycle: &usize| cycle > 0);
+            match cycle.and_then(|cycle| own.len().checked_sub(cycle)) {
+                Some(lead) => printed.line(&word(&names, &own[..lead], &own[lead..])),
+                None => return FAULT,
+            }
         }
     }
     YES
@@ -457,10 +579,10 @@ fn translate_command(
 /// A line of a log followed live: a letter that arrives, or another call; the
 /// exit status of one that is not served.
 fn call(log: &mut Log, lent: &Lent, names: &Option<Vec<Name>>, line: &str) -> Result<Vec<u8>, i32> {
-    let names = names.iter().flatten();
-    let named = names.map(trimmed).position(|name| name == line);
-    let letter = line.parse().ok().or(named.map(|letter| letter as u8));
-    let number = |word| line.strip_prefix(word).and_then(|text| text.parse().ok());
+    let number = |word| {
+        let text = line.strip_prefix(word).filter(|text| is_number(text))?;
+        Some(text.parse().unwrap_or(usize::MAX))
+    };
     let answer = if line == "start" {
         let answer = Log::start(lent);
         answer.map(|(new, set)| {
@@ -474,7 +596,7 @@ fn call(log: &mut Log, lent: &Lent, names: &Option<Vec<Name>>, line: &str) -> Re
     } else if let Some(mark) = number("return ") {
         log.back(lent, mark)
     } else {
-        log.arrive(lent, letter.ok_or(FAULT)?)
+        log.arrive(lent, letter_of(names, line).ok_or(FAULT)?)
     };
     answer.map_err(refused)
 }
@@ -523,14 +645,12 @@ fn follow(printed: &mut Printed, operands: &[String], options: &HashMap<String, 
             tell(&what, log.letters().len(), answer.map_err(refused));
         }
     } else {
-        let source = String::from_utf8(source).unwrap();
-        for line in source
-            .lines()
-            .map(str::trim)
-            .filter(|line| !line.is_empty())
-        {
-            let answer = call(&mut log, &lent, &names, line);
-            tell(line, log.letters().len(), answer);
+        for line in text_lines(&source) {
+            let answer = match &line {
+                Some(line) => call(&mut log, &lent, &names, line),
+                None => Err(FAULT),
+            };
+            tell(&line.unwrap_or_default(), log.letters().len(), answer);
         }
     }
     match (status, left) {
@@ -576,17 +696,24 @@ fn main() {
         "stricter" => stricter_command(printed, &operands),
         "same-word" => {
             let names = named(printed);
-            let [a, b] = [0, 1].map(|i| read_word(&names, &operands[i]));
+            let [a, b] = [0, 1].map(|i| word_or_fault(&names, &operands[i]));
             let answer = printed.served(same_words([&a.0, &a.1], [&b.0, &b.1]));
             same(printed, answer)
         }
         "tidy-word" => {
             let names = named(printed);
-            let (lead, cycle) = read_word(&names, &operands[0]);
+            let (lead, cycle) = word_or_fault(&names, &operands[0]);
             let (lead, cycle) = printed.served(tidy_word(&lead, &cycle));
             printed.line(&word(&names, &lead, &cycle));
             YES
         }
+        "show" => show(printed, rule_text::show(&load(&operands[0]))),
+        "write" => write_command(printed, &operands[0], options.get("out")),
+        "show-events" => {
+            let [file, table] = [0, 1].map(|i| load(&operands[i]));
+            show(printed, event_text::show(&file, &table))
+        }
+        "write-events" => write_events(printed, &operands, options.get("out")),
         "translate" => translate_command(printed, &operands, &options),
         "follow" => follow(printed, &operands, &options),
         _ => FAULT,

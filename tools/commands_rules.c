@@ -1,0 +1,195 @@
+/* Commands on rule files: check, tidy, loop, same, stricter. */
+#define _XOPEN_SOURCE 700
+#include "spot.h"
+
+#include <stdlib.h>
+#include <string.h>
+#include <unistd.h>
+
+/* Tells of each letter whose name cannot stand in a word how it is written. */
+static void tell_names(const bytes *file, mulgreddi_answer checked)
+{
+    for (unsigned letter = 0; letter < checked.second / MULGREDDI_NAME_BYTES; letter++) {
+        const char *name = mulgreddi_letter_name(file->at, checked, letter);
+        if (!is_plain(name, name_length(name)))
+            say("%s: the name \"%.*s\" cannot stand in a word; letter %u is written by its number", brief(file->path, PATH_SHOWN),
+                (int)name_length(name), name, letter);
+    }
+}
+
+static int check_file(const char *path)
+{
+    bytes file;
+    if (!try_load(path, &file))
+        return FAULT;
+    mulgreddi_answer a = mulgreddi_check(file.at, file.len);
+    int status = a.refusal ? refused(file.path, a.refusal, &file) : YES;
+    if (status == YES) {
+        print_text(stdout, file.path);
+        printf(": states %u, letters %u, initial %u, accepting ", mulgreddi_states(file.at, file.len), mulgreddi_letters(file.at, file.len),
+               mulgreddi_initial_state(file.at, file.len));
+        print_set(stdout, mulgreddi_accepting_mask(file.at, file.len));
+        printf(", clauses %u, preface %llu, %s", mulgreddi_clauses(file.at, file.len), (number)a.first, a.second ? "names" : "no names");
+        for (unsigned letter = 0; letter < a.second / MULGREDDI_NAME_BYTES; letter++) {
+            const char *name = mulgreddi_letter_name(file.at, a, letter);
+            printf(" %u=%.*s", letter, (int)name_length(name), name);
+        }
+        printf("\n");
+        tell_names(&file, a);
+    }
+    free(file.at);
+    return status;
+}
+
+static int check(int count, char **operand)
+{
+    int status = YES;
+    for (int i = 0; i < count; i++)
+        status = worse(status, check_file(operand[i]));
+    return status;
+}
+
+const command command_check = {
+    "check", "FILE..", "",
+    "Reads rule files and prints, a line each: states, letters, initial state, accepting states, number of\n"
+    "clauses, length of the preface in bytes, names of the letters. 0 where all are accepted.\n",
+    1, 4096, check,
+};
+
+static int tidy(int count, char **operand)
+{
+    uint8_t out[MULGREDDI_RULE_MAX];
+    const char *path = option("out");
+    (void)count;
+    distinct(operand[0], path);
+    if (path && is_standard(path))
+        path = NULL;
+    if (!path && isatty(STDOUT_FILENO))
+        usage("the tidied file is bytes: name a file with --out, or send standard output to one");
+    bytes file = load(operand[0]);
+    mulgreddi_answer a = mulgreddi_tidy(file.at, file.len, out, sizeof out);
+    if (a.refusal)
+        return refused(file.path, a.refusal, &file);
+    save(path, out, a.first);
+    if (path) {
+        print_text(stdout, file.path);
+        printf(": %u of %u clauses kept, %llu bytes\n", mulgreddi_clauses(out, a.first), mulgreddi_clauses(file.at, file.len), (number)a.first);
+    }
+    return YES;
+}
+
+const command command_tidy = {
+    "tidy", "[--out=FILE] FILE", "out=",
+    "Writes the rule file without clauses that contain or repeat another of their entry to standard output.\n"
+    "The rule stays the same on every word.\n"
+    "  --out=FILE           writes it there and prints how many clauses were kept\n",
+    1, 1, tidy,
+};
+
+static int loop(int count, char **operand)
+{
+    uint8_t out[MULGREDDI_LONGEST_LOOP];
+    bytes file = load(operand[0]);
+    (void)count;
+    mulgreddi_answer a = mulgreddi_mixed_loop(file.at, file.len, out, sizeof out);
+    if (a.refusal)
+        return refused(file.path, a.refusal, &file);
+    layout l = layout_of(&file);
+    if (a.first == 0)
+        printf("none");
+    print_loop(stdout, &l, out, a.first);
+    printf("\n");
+    return a.first == 0 ? YES : NO;
+}
+
+const command command_loop = {
+    "loop", "FILE", "",
+    "Prints the shortest loop of states through accepting and rejecting ones, which is where a rule that is\n"
+    "refused by 11 is to be mended, or `none`. 0 where there is none, 1 where there is one.\n",
+    1, 1, loop,
+};
+
+static int same(int count, char **operand)
+{
+    bytes a = load(operand[0]), b = load(operand[1]);
+    (void)count;
+    mulgreddi_answer answer = mulgreddi_same_rules(a.at, a.len, b.at, b.len);
+    if (answer.refusal) {
+        const bytes *file = mulgreddi_check(a.at, a.len).refusal ? &a : &b;
+        return refused(file->path, answer.refusal, file);
+    }
+    printf("%s\n", answer.first ? "same" : "different");
+    return answer.first ? YES : NO;
+}
+
+const command command_same = {
+    "same", "FILE FILE", "",
+    "Prints whether two files are the same rule: `same` (0) or `different` (1).\n",
+    2, 2, same,
+};
+
+/* Prints the word that tells two rules apart, in its tidy spelling, and tells where it is too long to be judged. */
+static void print_against(const rule *r, uint8_t *letters, mulgreddi_comparison c)
+{
+    word w = {c.lead, c.cycle, letters, letters + c.lead};
+    tidy_spelling(&w);
+    print_word(r, w);
+    printf("\n");
+    if (w.lead_len > MULGREDDI_LEAD_MAX || w.cycle_len > MULGREDDI_CYCLE_MAX)
+        say("the word is longer than `judge` takes: a lead-in of %zu letters and a cycle of %zu, where each may have %d", w.lead_len,
+            w.cycle_len, MULGREDDI_LEAD_MAX);
+}
+
+/* Letters are compared by their numbers: tells where two rules name one otherwise. */
+static void tell_other_names(const rule *a, const rule *b)
+{
+    const char *path_a = brief(a->file.path, PATH_SHOWN), *path_b = brief(b->file.path, PATH_SHOWN);
+    if (!a->checked.second != !b->checked.second)
+        say("letters are compared by number: %s has names for them, %s has none", a->checked.second ? path_a : path_b,
+            a->checked.second ? path_b : path_a);
+    for (unsigned letter = 0; a->checked.second && b->checked.second && letter < a->letters; letter++) {
+        const char *x = mulgreddi_letter_name(a->file.at, a->checked, letter), *y = mulgreddi_letter_name(b->file.at, b->checked, letter);
+        if (memcmp(x, y, MULGREDDI_NAME_BYTES) != 0)
+            say("letters are compared by number: %u is \"%.*s\" in %s and \"%.*s\" in %s", letter, (int)name_length(x), x, path_a,
+                (int)name_length(y), y, path_b);
+    }
+}
+
+static int stricter(int count, char **operand)
+{
+    static uint64_t codes_b[MULGREDDI_MACROSTATES_MAX], transitions_b[MULGREDDI_TRANSITIONS_MAX];
+    rule a = open_rule(operand[0]), b = open_rule(operand[1]);
+    (void)count;
+    mulgreddi_answer x = build_of(&a), y = mulgreddi_build_rejecting(b.file.at, b.file.len, codes_b, MULGREDDI_MACROSTATES_MAX, transitions_b,
+                                                                  MULGREDDI_TRANSITIONS_MAX);
+    if (a.letters != b.letters)
+        return refused(b.file.path, MULGREDDI_OTHER_LETTERS, NULL);
+    tell_other_names(&a, &b);
+    if (x.refusal)
+        return refused(a.file.path, x.refusal, NULL);
+    if (y.refusal)
+        return refused(b.file.path, y.refusal, NULL);
+    size_t pairs = x.first * y.first;
+    uint8_t *letters = room(3 * pairs), *scratch = room(pairs);
+    begin_work("comparing");
+    mulgreddi_comparison c = mulgreddi_stricter(a.file.at, a.file.len, b.file.at, b.file.len, codes, MULGREDDI_MACROSTATES_MAX, transitions,
+                                                MULGREDDI_TRANSITIONS_MAX, codes_b, MULGREDDI_MACROSTATES_MAX, transitions_b,
+                                                MULGREDDI_TRANSITIONS_MAX, letters, 3 * pairs, scratch, pairs);
+    end_work();
+    if (c.refusal)
+        return refused(b.file.path, c.refusal, NULL);
+    if (c.stricter) {
+        printf("stricter\n");
+        return YES;
+    }
+    printf("not stricter: ");
+    print_against(&a, letters, c);
+    return NO;
+}
+
+const command command_stricter = {
+    "stricter", "NEW OLD", "",
+    "Prints whether every word that the rule NEW accepts, of any length, is accepted by the rule OLD: `stricter`\n"
+    "(0), or `not stricter` and a word that NEW accepts and OLD rejects (1).\n",
+    2, 2, stricter,
+};

@@ -1,0 +1,137 @@
+/* Letters and words, as they are written on the command line and in lines of text. */
+#include "spot.h"
+
+#include <stdlib.h>
+#include <string.h>
+
+size_t name_length(const char *name)
+{
+    size_t length = MULGREDDI_NAME_BYTES;
+    while (length > 0 && name[length - 1] == ' ')
+        length--;
+    return length;
+}
+
+int is_plain(const char *name, size_t length)
+{
+    size_t digits = 0;
+    for (size_t i = 0; i < length; i++) {
+        if (name[i] == ' ' || name[i] == ',' || name[i] == ':')
+            return 0;
+        digits += name[i] >= '0' && name[i] <= '9';
+    }
+    return length > 0 && name[0] != '-' && digits < length;
+}
+
+void print_letter(const rule *r, unsigned letter)
+{
+    const char *name = r && letter < r->letters ? mulgreddi_letter_name(r->file.at, r->checked, letter) : NULL;
+    if (name && is_plain(name, name_length(name)))
+        printf("%.*s", (int)name_length(name), name);
+    else
+        printf("%u", letter);
+}
+
+void print_letters(const rule *r, const uint8_t *letters, size_t length)
+{
+    for (size_t i = 0; i < length; i++) {
+        if (i > 0)
+            putchar(',');
+        print_letter(r, letters[i]);
+    }
+}
+
+void print_word(const rule *r, word w)
+{
+    print_letters(r, w.lead, w.lead_len);
+    putchar(':');
+    print_letters(r, w.cycle, w.cycle_len);
+}
+
+void print_masks(const uint8_t *masks, size_t lead_len, size_t places)
+{
+    for (size_t place = 0; place < places; place++)
+        printf("%s%02x", place == lead_len ? ":" : place ? "," : "", masks[place]);
+    printf("\n");
+}
+
+int letter_of(const rule *r, const char *text, size_t length)
+{
+    unsigned value = 0;
+    size_t digits = 0;
+    while (digits < length && text[digits] >= '0' && text[digits] <= '9' && value < 256)
+        value = value * 10 + (unsigned)(text[digits++] - '0');
+    if (length > 0 && digits == length)
+        return value < 256 ? (int)value : -1;
+    for (unsigned letter = 0; r && letter < r->letters; letter++) {
+        const char *name = mulgreddi_letter_name(r->file.at, r->checked, letter);
+        if (name && length > 0 && name_length(name) == length && memcmp(name, text, length) == 0)
+            return (int)letter;
+    }
+    return -1;
+}
+
+/* Reads letters from text up to its end or a colon, with commas between them; answers where it stopped, NULL where a letter is misspelt. */
+static const char *read_letters(const rule *r, const char *where, const char *whole, const char *text, uint8_t *letters, size_t *count)
+{
+    text += strspn(text, BLANKS);
+    if (*text == 0 || *text == ':')
+        return text;
+    for (;; text++) {
+        text += strspn(text, BLANKS);
+        size_t span = strcspn(text, ",:"), length = span;
+        while (length > 0 && strchr(BLANKS, text[length - 1]))
+            length--;
+        int letter = letter_of(r, text, length);
+        if (letter < 0) {
+            char shown[WORD_SHOWN + 1] = {0};
+            memcpy(shown, text, length < WORD_SHOWN ? length : WORD_SHOWN);
+            say("%sword %s: no letter is written so: %s%s", where, brief(whole, WORD_SHOWN), shown, length > WORD_SHOWN ? ".." : "");
+            return NULL;
+        }
+        letters[(*count)++] = (uint8_t)letter;
+        text += span;
+        if (*text != ',')
+            return text;
+    }
+}
+
+int read_word(const rule *r, const char *where, const char *text, word *w)
+{
+    size_t size = strlen(text) + 1;
+    *w = (word){0, 0, room(2 * size), NULL};
+    w->cycle = w->lead + size;
+    const char *rest = read_letters(r, where, text, text, w->lead, &w->lead_len);
+    if (rest && *rest == ':')
+        rest = read_letters(r, where, text, rest + 1, w->cycle, &w->cycle_len);
+    else if (rest)
+        rest = ":";
+    if (rest && *rest)
+        say("%sword %s: a word is a lead-in, one colon and a cycle, as 0,1:0 or :0,1", where, brief(text, WORD_SHOWN));
+    if (rest && *rest == 0)
+        return 1;
+    free_word(w);
+    return 0;
+}
+
+void free_word(word *w)
+{
+    free(w->lead);
+    *w = (word){0, 0, NULL, NULL};
+}
+
+int word_refused(const rule *r, const char *where, const char *text, word w, uint64_t refusal)
+{
+    say("%sword %s: refused %llu: %s", where, brief(text, WORD_SHOWN), (number)refusal, mulgreddi_refusal_text(refusal));
+    word_spot(r, where, w, refusal);
+    return REFUSED;
+}
+
+const rule *rule_of_names(void)
+{
+    static rule r;
+    if (!option("rule"))
+        return NULL;
+    r = open_rule(option("rule"));
+    return &r;
+}
