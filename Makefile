@@ -178,6 +178,9 @@ bench: $(LIB) $(STEP_BACK) $(BUILD)/reference $(BUILD)/chains $(BUILD)/reference
 $(BUILD)/%: examples/%.c include/mulgreddi.h $(LIB)
 	$(CC) $(CFLAGS) -Iinclude -o $@ $< $(LIB)
 
+# the cookbook tells the chances of its rules, which this example reads off
+check-tool: $(BUILD)/chance
+
 # each example is run on the rule files beside it, and its output is compared
 examples: $(EXAMPLES)
 	for e in $(EXAMPLES); do $$e examples > $$e.out && diff examples/$$(basename $$e).expected $$e.out || exit 1; done
@@ -207,6 +210,8 @@ check-tool: $(TOOL) $(SHARED) $(PROGRAM) $(BUILD)/stack $(BUILD)/spelling $(BUIL
 	tests/completion.sh $(TOOL) tools/completion.bash
 	$(BUILD)/spelling
 	tests/refusals.sh include/mulgreddi.h
+	tests/rules.sh $(TOOL) $(BUILD)/chance docs examples
+	tests/rules.sh $(SECOND_TOOL) $(BUILD)/chance docs examples
 	nm $(LIB) > $(BUILD)/symbols
 	if grep -E ' [bBcCdDsS] ' $(BUILD)/symbols; then echo 'the library keeps state between calls'; exit 1; fi
 	$(BUILD)/stack $(wildcard examples/[A-Z].rule) bench/and_71_s16.rule bench/cap_62_s16.rule
