@@ -199,7 +199,10 @@ pub fn hold(rust: &str, header: &str, include: &str, file: &Path) -> Result<Stri
         "-pedantic",
         "-fsyntax-only",
     ];
-    let compiled = Command::new(&compiler)
+    // It may be given with flags of its own.
+    let mut words = compiler.split_whitespace();
+    let compiled = Command::new(words.next().unwrap_or("cc"))
+        .args(words)
         .args(flags)
         .args(["-I", include])
         .arg(file)

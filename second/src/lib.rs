@@ -4,6 +4,12 @@
 //! later requests add.
 //!
 //! Every entry answers `Err(number)` with the number of the refusal table.
+//!
+//! What a definition says can be read wrongly twice where it is followed by one
+//! method twice. So some of it is followed by a method of its own as well: words
+//! are judged as games (`game`), all macrostates are tried with each other
+//! (`text_build`), all plans are tried (`plans`), and the runs of a table are
+//! counted (`runs`).
 
 pub mod build;
 pub mod choices;

@@ -87,12 +87,21 @@ pub fn last(text: &[u8]) -> usize {
     lines(text).len().max(1)
 }
 
-/// The words of a line; none if it has a fault of its own: "more than 65,536 bytes
-/// without the line's end, a byte 00 or a lone carriage return, a comma, a quoted
-/// name that does not end, a `\` in it that is none of the three".
+/// The most bytes of a line, without its end.
+const LONGEST: usize = 65_536;
+
+/// Whether a line can be read at all: it has not "more than 65,536 bytes without
+/// the line's end, a byte 00 or a lone carriage return", which are "a fault of its
+/// line wherever it stands".
+pub fn is_whole(line: &[u8]) -> bool {
+    line.len() <= LONGEST && !line.contains(&0) && !line.contains(&b'\r')
+}
+
+/// The words of a line; none if it has a fault of its own: it cannot be read, or
+/// has "a comma, a quoted name that does not end, a `\` in it that is none of the
+/// three".
 pub fn words(line: &[u8]) -> Option<Vec<Word>> {
-    // "a fault of its line wherever it stands"
-    if line.len() > 65_536 || line.contains(&0) || line.contains(&b'\r') {
+    if !is_whole(line) {
         return None;
     }
     let mut words = Vec::new();
@@ -238,6 +247,12 @@ mod tests {
         ] {
             assert_eq!(words(fault), None, "{}", fault.escape_ascii());
         }
+    }
+
+    #[test]
+    fn long_lines() {
+        assert_eq!(words(&[b' '; LONGEST]), Some(vec![]));
+        assert_eq!(words(&[b' '; LONGEST + 1]), None);
     }
 
     #[test]

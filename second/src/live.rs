@@ -138,8 +138,8 @@ impl Log {
 mod tests {
     use super::*;
     use crate::build::Macrostate;
+    use crate::game::accepts;
     use crate::graph::path;
-    use crate::long::accepts;
     use crate::sample::{self, Random, D, E, F, I, SHAPES, Z};
     use crate::trim::build_trimmed;
 

@@ -202,7 +202,7 @@ mod tests {
     use super::*;
     use crate::build::build;
     use crate::every::words;
-    use crate::long::accepts;
+    use crate::game::accepts;
     use crate::sample::{self, Random, D, E, F, I, SHAPES, Z};
 
     const ROOMS: [usize; 4] = [65_536, 1_048_576, 65_536, 1_048_576];

@@ -12,19 +12,19 @@ use second::choices::{judge_choices, FALSE};
 use second::event_text;
 use second::events::{translate, LINE};
 use second::hoa::{read_hoa, write_hoa, ACCEPTING, INITIAL};
-use second::lines::lines;
+use second::lines::{is_whole, lines};
 use second::live::{Lent, Log};
 use second::mixed::mixed_loop;
 use second::names::Name;
 use second::rule::{read_named, same_rules, take_apart, Named};
 use second::rule_text::{self, Fault};
 use second::sheet::{entries, judge_sheet, Entry};
-use second::spelling::{self, tidy_word};
+use second::spelling::tidy_word;
 use second::stricter::stricter;
 use second::table::judge_table;
 use second::tidy::tidy;
 use second::trim::build_trimmed;
-use second::word::{same_words, Word};
+use second::word::same_words;
 
 const YES: i32 = 0;
 const NO: i32 = 1;
@@ -93,17 +93,11 @@ fn shown(path: &str) -> String {
     path.chars().map(escaped).collect()
 }
 
-/// The lines of a text that are not blank; none for a line with a byte 00 or a
-/// carriage return that no newline follows.
+/// The lines of a text that are not blank; none for one that cannot be read.
 fn text_lines(text: &[u8]) -> Vec<Option<String>> {
-    let lines = lines(text).into_iter().map(|(_, line)| {
-        let whole = !line.contains(&0) && !line.contains(&b'\r');
-        whole.then(|| {
-            String::from_utf8_lossy(line)
-                .trim_matches(BLANKS)
-                .to_string()
-        })
-    });
+    let lines = lines(text)
+        .into_iter()
+        .map(|(_, line)| is_whole(line).then(|| String::from_utf8_lossy(line).trim().to_string()));
     lines.filter(|line| line.as_deref() != Some("")).collect()
 }
 
@@ -139,32 +133,30 @@ fn word(names: &Option<Vec<Name>>, lead: &[u8], cycle: &[u8]) -> String {
     format!("{}:{}", letters(names, lead), letters(names, cycle))
 }
 
-/// Blanks around letters and lines, and no other white space.
-const BLANKS: [char; 2] = [' ', '\t'];
-
-/// A number is written in decimal digits alone, without a sign.
-fn is_number(text: &str) -> bool {
-    !text.is_empty() && text.bytes().all(|byte| byte.is_ascii_digit())
+/// A number of decimal digits alone, the largest of the type if it is too large.
+fn number(text: &str) -> Option<usize> {
+    let digits = !text.is_empty() && text.bytes().all(|byte| byte.is_ascii_digit());
+    digits.then(|| text.parse().unwrap_or(usize::MAX))
 }
 
-/// The letter that a text writes: its number, or its name.
-fn letter_of(names: &Option<Vec<Name>>, text: &str) -> Option<u8> {
-    if is_number(text) {
-        return text.parse().ok();
-    }
-    let mut names = names.iter().flatten();
-    let named = names.position(|name| !text.is_empty() && trimmed(name) == text);
-    named.map(|letter| letter as u8)
+/// A letter as it is written, by number or by name. It is a byte: a number over
+/// 255 is none.
+fn read_letter(names: &Option<Vec<Name>>, text: &str) -> Option<u8> {
+    let mut own = names.iter().flatten();
+    let named = own.position(|name| trimmed(name) == text);
+    u8::try_from(number(text).or(named)?).ok()
 }
 
 /// A word as it is written, LEAD:CYCLE; none for what is no word.
 fn read_word(names: &Option<Vec<Name>>, text: &str) -> Option<(Vec<u8>, Vec<u8>)> {
     let part = |text: &str| -> Option<Vec<u8>> {
-        if text.trim_matches(BLANKS).is_empty() {
+        if text.trim().is_empty() {
             return Some(Vec::new());
         }
-        let own = text.split(',').map(|text| text.trim_matches(BLANKS));
-        own.map(|text| letter_of(names, text)).collect()
+        let letters = text.split(',');
+        letters
+            .map(|text| read_letter(names, text.trim()))
+            .collect()
     };
     let (lead, cycle) = text.split_once(':')?;
     Some((part(lead)?, part(cycle)?))
@@ -372,7 +364,7 @@ fn judge(printed: &mut Printed, operands: &[String], options: &HashMap<String, S
             "-" => text_lines(&load("-")),
             text => vec![Some(text.to_string())],
         };
-        // No word at all is no question.
+        // No word is no question.
         if texts.is_empty() {
             return FAULT;
         }
@@ -545,10 +537,7 @@ fn stricter_command(printed: &mut Printed, operands: &[String]) -> i32 {
         return YES;
     };
     let names = printed.served(read_named(&a)).names;
-    let (lead, cycle) = spelling::tidy(&Word {
-        lead: &lead,
-        cycle: &cycle,
-    });
+    let (lead, cycle) = tidy_word(&lead, &cycle).unwrap_or((lead, cycle));
     let word = word(&names, &lead, &cycle);
     printed.line(&format!("not stricter: {word}"));
     NO
@@ -579,10 +568,7 @@ fn translate_command(
 /// A line of a log followed live: a letter that arrives, or another call; the
 /// exit status of one that is not served.
 fn call(log: &mut Log, lent: &Lent, names: &Option<Vec<Name>>, line: &str) -> Result<Vec<u8>, i32> {
-    let number = |word| {
-        let text = line.strip_prefix(word).filter(|text| is_number(text))?;
-        Some(text.parse().unwrap_or(usize::MAX))
-    };
+    let mark = |word| line.strip_prefix(word).and_then(number);
     let answer = if line == "start" {
         let answer = Log::start(lent);
         answer.map(|(new, set)| {
@@ -591,12 +577,12 @@ fn call(log: &mut Log, lent: &Lent, names: &Option<Vec<Name>>, line: &str) -> Re
         })
     } else if line == "withdraw" {
         log.withdraw(lent)
-    } else if let Some(mark) = number("mark ") {
+    } else if let Some(mark) = mark("mark ") {
         log.mark(lent, mark)
-    } else if let Some(mark) = number("return ") {
+    } else if let Some(mark) = mark("return ") {
         log.back(lent, mark)
     } else {
-        log.arrive(lent, letter_of(names, line).ok_or(FAULT)?)
+        log.arrive(lent, read_letter(names, line).ok_or(FAULT)?)
     };
     answer.map_err(refused)
 }
@@ -672,6 +658,14 @@ fn main() {
                 options.insert(name.to_string(), value.to_string());
             }
         }
+    }
+    let least = match command.as_str() {
+        "translate" => 3,
+        "judge" | "sheet" | "same" | "stricter" | "same-word" | "show-events" | "write-events" => 2,
+        _ => 1,
+    };
+    if operands.len() < least {
+        exit(FAULT);
     }
     let printed = &mut Printed { out: Vec::new() };
     let named = |printed: &Printed| {
