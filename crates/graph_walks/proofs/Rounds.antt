@@ -1,21 +1,20 @@
 -- The laws of rounds: what settling takes out, and what walks are kept.
-use mathlib.Core.Path.{_≡_, refl, sym, ap, subst, _∙_}
+use mathlib.Core.Path.{_≡_, refl, sym, ap, _∙_}
 use mathlib.Core.Logic.{_⊎_, inl, inr, ⊎-elim, by-cases}
 use mathlib.Core.Bool.{Bool, true, false, false≢true}
 use mathlib.Core.List.{List, [], _∷_}
 use Prim.Native.Nat.{ℕ, zero, suc, _+_, _-_, _*_, _≤_, _<_}
 use native.Mathlib.Omega.{arith}
 use native.Mathlib.Decide.{decLe, decLt, ℕ-discrete}
-use lib.Dec.{ltb}
 use lib.ListN.{length, getD, set, length-set, List·getD-eq-default}
 use lib.Seq.{ext-getD}
-use borrow.Author.Tests.{ltb-true, lt-ltb, le-ltb}
+use borrow.Author.Tests.{eqb-true, eq-eqb, lt-ltb, le-ltb}
 use Rattle.sets.specs.Lists.{sum}
-use Rattle.sets.proofs.Bools.{clash, and-l, and-r, and-i}
+use Rattle.sets.proofs.Bools.{clash}
 use Rattle.graph_walks.specs.Walks.{Walk, Toward, Pruned, Solved}
 use Rattle.graph_walks.specs.Marks.{settled, goesOut}
 use Rattle.graph_walks.specs.Rounds.{Settling, Marking, Stable, PruneRound, SolveRound}
-use Rattle.graph_walks.proofs.Sums.{split-set, sum-le, sum-lt, sum-most}
+use Rattle.graph_walks.proofs.Sums.{split-set, has-place, sum-le, sum-lt, sum-most}
 use Rattle.graph_walks.proofs.Marking.{Round, marking-start}
 
 -- ---- examples
@@ -25,9 +24,10 @@ settling : (settled 4 ≡ 2) × (settled 3 ≡ 1) × (settled 2 ≡ 0) × (settl
 unfolding settled
 settling = (refl, refl, refl, refl, refl)
 
-going-out : (goesOut 3 ≡ false) × (goesOut 2 ≡ true) × (goesOut 1 ≡ true) × (goesOut 0 ≡ false)
+-- only an accepting node that is not marked counts
+going-out : (goesOut 4 ≡ false) × (goesOut 3 ≡ false) × (goesOut 2 ≡ true) × (goesOut 1 ≡ false) × (goesOut 0 ≡ false)
 unfolding goesOut
-going-out = (refl, refl, refl, refl)
+going-out = (refl, refl, refl, refl, refl)
 
 -- a node that is in and not accepting, with or without an edge to itself
 one-goes-out : (F : ℕ → ℕ → Type 0) → Solved F (1 ∷ []) (0 ∷ [])
@@ -67,13 +67,13 @@ settled-stays : (v : ℕ) → 2 < v → settled v ≡ v - 2
 unfolding settled
 settled-stays v l = rw (le-ltb v 3 l)
 
-goes-facts : (v : ℕ) → goesOut v ≡ true → (0 < v) × (v < 3)
+goes-facts : (v : ℕ) → goesOut v ≡ true → v ≡ 2
 unfolding goesOut
-goes-facts v e = (ltb-true 0 v (and-l (ltb 0 v) _ e), ltb-true v 3 (and-r (ltb 0 v) _ e))
+goes-facts v e = eqb-true v 2 e
 
-goes-yes : (v : ℕ) → 0 < v → v < 3 → goesOut v ≡ true
+goes-yes : (v : ℕ) → v ≡ 2 → goesOut v ≡ true
 unfolding goesOut
-goes-yes v a b = and-i (lt-ltb 0 v a) (lt-ltb v 3 b)
+goes-yes v e = eq-eqb v 2 e
 
 -- inside from .. to, or outside
 pub where-cases : {C : Type 0} (from to x : ℕ) → (from ≤ x → x < to → C) → ((x < from) ⊎ (to ≤ x) → C) → C
@@ -137,9 +137,9 @@ module _ (E : ℕ → ℕ → Type 0) (b ms new : List ℕ) (from to : ℕ) (cha
   back-less e =
       let (x, f, t, g) = s .some e in
       let k = goes-facts (getD ms x 0) g in
-      let gone : getD new x 0 ≡ 0 = s .inside x f t ∙ settled-out (getD ms x 0) (k .1) in
+      let gone : getD new x 0 ≡ 0 = s .inside x f t ∙ settled-out (getD ms x 0) (omega arith) in
       sum-lt new b (s .long ∙ m .long) (λ z. ⊎-elim (λ q. omega arith) (λ q. omega arith) (back-each z)) x
-      (⊎-elim (λ q. omega (arith, k .0)) (λ q. absurd (omega (arith, k .1))) (m .each x))
+      (⊎-elim (λ q. omega arith) (λ q. absurd (omega (arith, q .0, q .1))) (m .each x))
 
 -- ---- pruning, one round after another
 
@@ -203,30 +203,41 @@ module _ (E : ℕ → ℕ → Type 0) (b ms new : List ℕ) (changed : Bool) (lo
       let (j, l, c) = a i in
       stays (z i) (back-along z w h (j - suc i) i j (omega arith) (omega (arith, marking-more E b ms m (z j))))
 
-  -- nothing went out: every node that is in is marked
-  marked-in : changed ≡ false → (x : ℕ) → 0 < getD b x 0 → (2 < getD ms x 0) × Toward E b x
-  marked-in e x h =
-      ⊎-elim
-      (λ q. let r = low x in
-      where-cases 0 (length ms) x
-      (λ f t. clash (goes-yes (getD ms x 0) (omega arith) (omega arith)) (s .none e x f t))
-      (λ o. absurd (⊎-elim (λ t. omega arith) (λ t. let d = List·getD-eq-default ms 0 {n = x} t in omega arith) o)))
-      (λ q. (omega arith, q .2))
-      (m .each x)
+  -- a node that is in is marked if a walk leads from it to an accepting one
+  toward-marked : {x : ℕ} → 0 < getD b x 0 → Toward E b x → 2 < getD ms x 0
+  toward-marked h (Toward.arrives y e l) = k .closed _ y e (omega (arith, marking-more E b ms m y)) h
+  toward-marked h (Toward.passes y e i t) = k .closed _ y e (omega (arith, toward-marked i t)) h
 
-  same : changed ≡ false → new ≡ b
-  same e =
-      ext-getD 0 new b (s .long ∙ m .long)
-      (λ x l. ⊎-elim
-      (λ q. by-cases (decLt 0 (getD b x 0)) (λ h. let t = stays x (marked-in e x h .0) in absurd (omega arith)) (λ h. omega arith))
-      (λ q. q)
-      (each x))
+  -- no accepting node went out
+  accepting-stay : changed ≡ false → (y : ℕ) → 1 < getD b y 0 → 1 < getD new y 0
+  accepting-stay e y l =
+      ⊎-elim
+      (λ z. ⊎-elim
+      (λ q. clash (goes-yes (getD ms y 0) (omega (arith, low y))) (s .none e y (omega arith) (has-place ms y (omega arith))))
+      (λ q. absurd (omega (arith, stays y (omega (arith, q .0)))))
+      (m .each y))
+      (λ q. omega arith)
+      (each y)
+
+  -- so the walks to them go on along nodes that are left
+  toward-left : changed ≡ false → {x : ℕ} → Toward E b x → Toward E new x
+  toward-left e (Toward.arrives y d l) = Toward.arrives y d (accepting-stay e y l)
+  toward-left e (Toward.passes y d h t) = Toward.passes y d (stays y (toward-marked h t)) (toward-left e t)
+
+  -- a node that is left was marked
+  left-toward : (x : ℕ) → 0 < getD new x 0 → Toward E b x
+  left-toward x h =
+      ⊎-elim
+      (λ q. let r = low x in let i = has-place new x h in
+      let z = s .inside x (omega arith) (omega (arith, s .long)) ∙ settled-out (getD ms x 0) (omega arith) in absurd (omega arith))
+      (λ q. q .2)
+      (m .each x)
 
   pub solve-round : SolveRound E b new changed
   solve-round = record {
     long = s .long ∙ m .long;
     each = each;
-    sound = λ e x h. let q = same e in subst (λ (l : List ℕ). Toward E l x) (sym q) (marked-in e x (rw q at h) .1);
+    sound = λ e x h. toward-left e (left-toward x h);
     keeps = keeps;
     less = back-less E b ms new 0 (length ms) changed low m s out;
   }
@@ -252,5 +263,21 @@ module _ (E : ℕ → ℕ → Type 0) where
         r .keeps z w g (λ i. let (j, l, c) = a i in (j, l, ⊎-elim (λ e. absurd (omega (arith, g j))) (λ e. omega arith) (t .each (z j))));
   }
 
+  pub kept-pruned : (old mid new : List ℕ) → Kept E old mid → Pruned E mid new → Kept E old new
+  kept-pruned old mid new t p = record {
+    long = p .long ∙ t .long;
+    each = λ x. ⊎-elim (λ e. inl e) (λ e. ⊎-elim (λ k. inl (e ∙ k)) (λ k. inr (e ∙ k)) (t .each x)) (p .each x);
+    keeps = λ z w h a. p .keeps z w (t .keeps z w h a);
+  }
+
   pub solved : (old mid new : List ℕ) → Kept E old mid → SolveRound E mid new false → Solved E old new
   solved old mid new t r = let q = kept-then old mid new false t r in record { long = q .long; each = q .each; sound = r .sound refl; keeps = q .keeps }
+
+  pub solved-then : (old mid new : List ℕ) → Kept E old mid → Solved E mid new → Solved E old new
+  solved-then old mid new t s = record {
+    long = s .long ∙ t .long;
+    each = λ x. ⊎-elim (λ e. inl e) (λ e. ⊎-elim (λ k. inl (e ∙ k)) (λ k. inr (e ∙ k)) (t .each x)) (s .each x);
+    sound = s .sound;
+    keeps = λ z w h a. let g = t .keeps z w h a in
+        s .keeps z w g (λ i. let (j, l, c) = a i in (j, l, ⊎-elim (λ e. absurd (omega (arith, g j))) (λ e. omega arith) (t .each (z j))));
+  }

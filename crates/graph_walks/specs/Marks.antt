@@ -21,6 +21,6 @@ isNew x y ms = isDue x y ms && eqb (getD ms x 0) 1
 unfoldable pub settled : ℕ → ℕ
 settled v = cond (ltb v 3) 0 (v - 2)
 
--- a node that is in goes out
+-- an accepting node goes out: others may have none to walk to from now on
 unfoldable pub goesOut : ℕ → Bool
-goesOut v = ltb 0 v && ltb v 3
+goesOut v = eqb v 2

@@ -9,7 +9,7 @@ use Rattle.sets.specs.Lists.{sum}
 use Rattle.graph_walks.specs.Walks.{Walk, Toward, Pruned}
 use Rattle.graph_walks.specs.Marks.{settled, goesOut}
 
--- the nodes from `from` up to `to` are settled; whether one goes out
+-- the nodes from `from` up to `to` are settled; whether an accepting one goes out
 pub record Settling (from to : ℕ) (old new : List ℕ) (changed : Bool) : Type 0 where
   pub long : length new ≡ length old
   pub inside : (x : ℕ) → from ≤ x → x < to → getD new x 0 ≡ settled (getD old x 0)
@@ -34,7 +34,7 @@ module _ (E : ℕ → ℕ → Type 0) where
     pub even : (x : ℕ) → (getD new x 0 ≡ 0) ⊎ (getD new x 0 ≡ 2)
     pub less : changed ≡ true → sum new < sum old
 
-  -- a round of solving; whether a node went out
+  -- a round of solving; whether an accepting node went out
   pub record SolveRound (old new : List ℕ) (changed : Bool) : Type 0 where
     pub long : length new ≡ length old
     pub each : (x : ℕ) → (getD new x 0 ≡ 0) ⊎ (getD new x 0 ≡ getD old x 0)

@@ -1,5 +1,4 @@
-// Takes nodes out of the product of a table and a cycle until those with an endless walk are left, or those with one that meets
-// accepting nodes again and again.
+// Takes nodes out of the product of a table and a cycle: those without an endless walk, and those without a walk to an accepting node.
 use crate::rounds::mark_place;
 use crate::rounds::mark_until_stable;
 use crate::rounds::place_before;
@@ -9,7 +8,7 @@ ghost use mathlib.Core.Logic.{_⊎_};
 ghost use Prim.Native.Nat.{ℕ, _≤_, _<_};
 ghost use lib.ListN.{length, getD};
 ghost use Rattle.table_lent.specs.Lent.{inBoth};
-ghost use Rattle.graph_walks.specs.Walks.{Pruned, Solved};
+ghost use Rattle.graph_walks.specs.Walks.{Pruned};
 ghost use Rattle.table_fixpoints_spec.specs.Product.{NodeEdge, Fits};
 ghost use Rattle.graph_walks.specs.Marks.{settled, goesOut};
 ghost use Rattle.graph_walks.specs.Rounds.{Settling, PruneRound, SolveRound};
@@ -24,17 +23,15 @@ fn settled_mark(v: u8) -> u8
     v - 2
 }
 
-// Whether settling takes a node with mark v out.
+// Whether settling takes out an accepting node, v being its mark.
 fn goes_out(v: u8) -> bool
     ensures { λ r. ⌜ r ≡ goesOut v ⌝ }
 {
-    if 3 <= v {
-        return false;
-    }
-    0 < v
+    v == 2
 }
 
-// Of the nodes from `from` up to `to`, takes out those that are not marked, and the marks off the others; whether a node went out.
+// Of the nodes from `from` up to `to`, takes out those that are not marked, and the marks off the others; whether an accepting node went
+// out.
 pub fn settle(marks: &mut [u8], from: usize, to: usize) -> bool
     requires { ⌜ (from ≤ to) × (to ≤ length (now marks)) ⌝ }
     ensures { λ r. ⌜ Settling from to (now (marks .entry)) (now (marks .exit)) r ⌝ }
@@ -87,8 +84,15 @@ pub fn prune(moves: &[u64], movebytes: &[u8], cycle: &[u8], n: usize, marks: &mu
     }
 }
 
-// Takes out the nodes without a walk to an accepting one; whether there were such.
-fn solve_round(moves: &[u64], movebytes: &[u8], cycle: &[u8], n: usize, marks: &mut [u8]) -> bool
+// Takes out the nodes without a walk to an accepting one; whether there were accepting ones among them. If not, from each that is left a
+// walk leads to an accepting one that is left.
+pub fn solve_round(
+    moves: &[u64],
+    movebytes: &[u8],
+    cycle: &[u8],
+    n: usize,
+    marks: &mut [u8],
+) -> bool
     requires { ⌜ Fits n (now cycle) (inBoth (now moves) (now movebytes) .numbers) (now marks) × ((x : ℕ) → getD (now marks) x 0 ≤ 2) ⌝ }
     ensures { λ r. ⌜ SolveRound (NodeEdge n (now (cycle .entry)) (inBoth (now (moves .entry)) (now (movebytes .entry)) .numbers))
         (now (marks .entry)) (now (marks .exit)) r ⌝ }
@@ -96,14 +100,4 @@ fn solve_round(moves: &[u64], movebytes: &[u8], cycle: &[u8], n: usize, marks: &
     mark_until_stable(moves, movebytes, cycle, n, marks);
     let end = marks.len();
     settle(marks, 0, end)
-}
-
-// Takes out nodes until from each that is left a walk leads to an accepting one that is left.
-pub fn solve(moves: &[u64], movebytes: &[u8], cycle: &[u8], n: usize, marks: &mut [u8])
-    requires { ⌜ Fits n (now cycle) (inBoth (now moves) (now movebytes) .numbers) (now marks) × ((x : ℕ) → getD (now marks) x 0 ≤ 2) ⌝ }
-    ensures { λ _. ⌜
-        Solved (NodeEdge n (now (cycle .entry)) (inBoth (now (moves .entry)) (now (movebytes .entry)) .numbers)) (now (marks .entry))
-        (now (marks .exit)) ⌝ }
-{
-    while solve_round(moves, movebytes, cycle, n, marks) {}
 }

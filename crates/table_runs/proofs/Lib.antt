@@ -3,4 +3,5 @@ pub mod Solution
 pub mod LeadIns
 pub mod Entering
 pub mod Flagging
+pub mod Thinning
 pub mod Parts

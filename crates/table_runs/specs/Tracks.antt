@@ -1,7 +1,7 @@
 -- Runs of a table from any number on, with no start condition, and the marks of the numbers where an accepting one begins.
 use mathlib.Core.Path.{_≡_}
 use mathlib.Core.Bool.{true, cond, _&&_}
-use mathlib.Core.Logic.{_↔_}
+use mathlib.Core.Logic.{_↔_, _⊎_}
 use mathlib.Core.List.{List, [], _∷_, List·Memᴰ}
 use Prim.Native.Nat.{ℕ, suc, _+_, _*_, _%_, _<_, _≤_}
 use lib.Dec.{eqb, ltb}
@@ -45,6 +45,18 @@ pub record Flagged (codes old new : List ℕ) : Type 0 where
   pub long : length new ≡ length old
   pub outside : (x : ℕ) → getD old x 0 ≡ 0 → getD new x 0 ≡ 0
   pub inside : (x : ℕ) → (getD old x 0 ≡ 0 → ⊥) → getD new x 0 ≡ flagOf (getD codes (x % length codes) 0)
+
+-- the nodes that are in have the marks of their codes
+abbrev pub Flags : List ℕ → List ℕ → Type 0
+Flags codes marks = (x : ℕ) → (getD marks x 0 ≡ 0) ⊎ (getD marks x 0 ≡ flagOf (getD codes (x % length codes) 0))
+
+-- the mark 2 for every node that is in
+unfoldable pub raised : ℕ → ℕ
+raised v = cond (eqb v 0) 0 2
+
+pub record Raised (old new : List ℕ) : Type 0 where
+  pub long : length new ≡ length old
+  pub each : (x : ℕ) → getD new x 0 ≡ raised (getD old x 0)
 
 -- node x gets the mark 1 if the transition t is one over the letter and leads from it to a marked node
 unfoldable pub enteredBy : ℕ → ℕ → ℕ → ℕ → List ℕ → List ℕ

@@ -6,7 +6,7 @@ use codes::source_of;
 use codes::target_of;
 use judge_place::fill_with;
 use table_fixpoints::fixpoints::prune;
-use table_fixpoints::fixpoints::solve;
+use table_fixpoints::fixpoints::solve_round;
 use table_lent::count;
 use table_lent::element;
 ghost use mathlib.Core.Path.{_≡_};
@@ -16,8 +16,9 @@ ghost use Prim.Native.Nat.{ℕ, _+_, _*_, _<_, _≤_};
 ghost use lib.ListN.{length, getD};
 ghost use Rattle.theory.specs.Run.{sourceOf, targetOf};
 ghost use Rattle.table_lent.specs.Lent.{inBoth};
-ghost use Rattle.table_fixpoints_spec.specs.Product.{Fits};
-ghost use Rattle.table_runs.specs.Tracks.{TrackFrom, Tracked, WordReady, flagOf, flaggedAt, Flagged, enteredBy, enteredAll, Entered};
+ghost use Rattle.graph_walks.specs.Walks.{Pruned, Solved};
+ghost use Rattle.table_fixpoints_spec.specs.Product.{NodeEdge, Fits};
+ghost use Rattle.table_runs.specs.Tracks.{TrackFrom, Tracked, WordReady, flagOf, flaggedAt, Flagged, Flags, raised, Raised, enteredBy, enteredAll, Entered};
 
 // ---- the cycle
 
@@ -56,6 +57,92 @@ fn flag(codes: &[u64], codebytes: &[u8], marks: &mut [u8])
     }
 }
 
+// The mark 2 of a node that is in.
+fn raised_mark(v: u8) -> u8
+    ensures { λ r. ⌜ r ≡ raised v ⌝ }
+{
+    if v == 0 {
+        return 0;
+    }
+    2
+}
+
+// Gives every node that is in the mark 2.
+fn raise(marks: &mut [u8])
+    ensures { λ _. ⌜ Raised (now (marks .entry)) (now (marks .exit)) ⌝ }
+{
+    let mut x = 0;
+    while x < marks.len() {
+        marks[x] = raised_mark(marks[x]);
+        x += 1;
+    }
+}
+
+// Takes out nodes without an endless walk; the others keep their marks.
+fn thin(
+    codes: &[u64],
+    codebytes: &[u8],
+    moves: &[u64],
+    movebytes: &[u8],
+    cycle: &[u8],
+    marks: &mut [u8],
+)
+    requires { ⌜ Fits (length (inBoth (now codes) (now codebytes) .numbers)) (now cycle) (inBoth (now moves) (now movebytes) .numbers)
+        (now marks) × Flags (inBoth (now codes) (now codebytes) .numbers) (now marks) ⌝ }
+    ensures { λ _. ⌜ Pruned (NodeEdge (length (inBoth (now (codes .entry)) (now (codebytes .entry)) .numbers)) (now (cycle .entry))
+        (inBoth (now (moves .entry)) (now (movebytes .entry)) .numbers)) (now (marks .entry)) (now (marks .exit)) ⌝ }
+{
+    let n = count(codes, codebytes);
+    raise(marks);
+    prune(moves, movebytes, cycle, n, marks);
+    flag(codes, codebytes, marks);
+}
+
+// Takes out nodes until from each that is left a walk leads to an accepting one that is left. Between two rounds those without an endless
+// walk go out: a chain of accepting nodes falls at once, which would fall node by node.
+fn solve_thinned(
+    codes: &[u64],
+    codebytes: &[u8],
+    moves: &[u64],
+    movebytes: &[u8],
+    cycle: &[u8],
+    marks: &mut [u8],
+)
+    requires { ⌜ Fits (length (inBoth (now codes) (now codebytes) .numbers)) (now cycle) (inBoth (now moves) (now movebytes) .numbers)
+        (now marks) × Flags (inBoth (now codes) (now codebytes) .numbers) (now marks) ⌝ }
+    ensures { λ _. ⌜ Solved (NodeEdge (length (inBoth (now (codes .entry)) (now (codebytes .entry)) .numbers)) (now (cycle .entry))
+        (inBoth (now (moves .entry)) (now (movebytes .entry)) .numbers)) (now (marks .entry)) (now (marks .exit)) ⌝ }
+{
+    let n = count(codes, codebytes);
+    while solve_round(moves, movebytes, cycle, n, marks) {
+        thin(codes, codebytes, moves, movebytes, cycle, marks);
+    }
+}
+
+// The same. Thinning takes as long as a round, and tables that are built need few rounds: so two rounds come first.
+fn solve(
+    codes: &[u64],
+    codebytes: &[u8],
+    moves: &[u64],
+    movebytes: &[u8],
+    cycle: &[u8],
+    marks: &mut [u8],
+)
+    requires { ⌜ Fits (length (inBoth (now codes) (now codebytes) .numbers)) (now cycle) (inBoth (now moves) (now movebytes) .numbers)
+        (now marks) × Flags (inBoth (now codes) (now codebytes) .numbers) (now marks) ⌝ }
+    ensures { λ _. ⌜ Solved (NodeEdge (length (inBoth (now (codes .entry)) (now (codebytes .entry)) .numbers)) (now (cycle .entry))
+        (inBoth (now (moves .entry)) (now (movebytes .entry)) .numbers)) (now (marks .entry)) (now (marks .exit)) ⌝ }
+{
+    let n = count(codes, codebytes);
+    if !solve_round(moves, movebytes, cycle, n, marks) {
+        return;
+    }
+    if !solve_round(moves, movebytes, cycle, n, marks) {
+        return;
+    }
+    solve_thinned(codes, codebytes, moves, movebytes, cycle, marks);
+}
+
 // Marks the nodes of a cycle: those at its first place from which an accepting run goes on are in, and no others there.
 fn fill_cycle(
     codes: &[u64],
@@ -76,7 +163,7 @@ fn fill_cycle(
     fill_with(marks, 2);
     prune(moves, movebytes, cycle, n, marks);
     flag(codes, codebytes, marks);
-    solve(moves, movebytes, cycle, n, marks);
+    solve(codes, codebytes, moves, movebytes, cycle, marks);
 }
 
 // ---- the lead-in

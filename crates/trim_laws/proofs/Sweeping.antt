@@ -105,7 +105,7 @@ settling-all ms = record {
   none = λ e x a l. any-none ms goesOut (getD ms x 0) e (mem-at ms x l);
 }
 
--- ---- rounds until none goes out
+-- ---- rounds until no accepting one goes out
 
 in-more : (d : ℕ) (ts ms : List ℕ) → anyOf (sweptOut (suc (4 * length ms)) ts ms) goesOut ≡ true → solvedIn (suc d) ts ms ≡ solvedIn d ts (settledAll (sweptOut (suc (4 * length ms)) ts ms))
 unfolding solvedIn

@@ -77,18 +77,14 @@ fn settled_code(c: u64) -> u64
     c - 0x0002_0000_0000_0000
 }
 
-// Whether settling takes a code out.
+// Whether settling takes out an accepting number, c being its code.
 fn goes_out(c: u64) -> bool
     ensures { λ r. ⌜ r ≡ goesOut (c / 2 ^ 48) ⌝ }
 {
-    let v = c >> 48;
-    if 3 <= v {
-        return false;
-    }
-    0 < v
+    c >> 48 == 2
 }
 
-// Takes out the numbers that are not marked, and the marks off the others; whether one went out.
+// Takes out the numbers that are not marked, and the marks off the others; whether an accepting one went out.
 fn settle(codes: &mut [u64]) -> bool
     ensures { λ r. ⌜
         Settling 0 (length (highs (now (codes .entry)))) (highs (now (codes .entry))) (highs (now (codes .exit))) r
@@ -107,7 +103,7 @@ fn settle(codes: &mut [u64]) -> bool
     changed
 }
 
-// Takes out the numbers without a walk to an accepting one; whether there were such.
+// Takes out the numbers without a walk to an accepting one; whether there were accepting ones among them.
 fn solve_round(codes: &mut [u64], transitions: &[u64]) -> bool
     requires { ⌜ Inside (length (now codes)) (now transitions) × ((x : ℕ) → getD (highs (now codes)) x 0 ≤ 2) ⌝ }
     ensures { λ r. ⌜ SolveRound (Step (now (transitions .entry))) (highs (now (codes .entry))) (highs (now (codes .exit))) r

@@ -42,7 +42,7 @@ unfoldable pub settledAll : List ℕ → List ℕ
 settledAll [] = []
 settledAll (v ∷ vs) = settled v ∷ settledAll vs
 
--- at most d rounds, until none goes out
+-- at most d rounds, until no accepting one goes out
 unfoldable pub solvedIn : ℕ → List ℕ → List ℕ → List ℕ
 solvedIn zero ts ms = ms
 solvedIn (suc d) ts ms =

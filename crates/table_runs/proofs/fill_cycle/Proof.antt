@@ -3,7 +3,7 @@ use mathlib.Core.Path.{_∙_}
 use lib.ListN.{length, getD-replicate}
 use Rattle.table_lent.specs.Lent.{inBoth}
 use Rattle.table_fixpoints_spec.proofs.Places.{fits-long}
-use Rattle.table_runs.proofs.Flagging.{flagged-most}
+use Rattle.table_runs.proofs.Thinning.{flagged-flags}
 use Rattle.table_runs.proofs.Solution.{all-two, solution}
 use borrow.Author.Needs.{needs}
 use Rattle.table_runs.proofs.fill_cycle.Statement.{statement}
@@ -29,12 +29,11 @@ flag-requires c κs =
 
 solve-requires : tie.Need-solve-requires
 solve-requires c κs =
-    let a = c .before .before .before .before .before .before .before .before .before .before .before .before .before .before .before .before .before .before .before .before .args in
     let f = c .before .before .before .flag in
     let p = c .before .before .before .before .before .before .before .prune in
     let w = c .before .before .before .before .before .before .before .before .before .before .before .fill-with in (
-      rw (c .before .before .before .before .before .before .before .before .before .before .before .before .before .count .ensures) (fits-long (length (inBoth (a .codes .now) (a .codebytes .now) .numbers)) (a .cycle .now) (inBoth (a .moves .now) (a .movebytes .now) .numbers) (a .marks .now) (f .last .1 .1 .0) (f .kept .1 .1 .0 ∙ p .kept .1 .1 .1 .1 .0 ∙ w .kept .0) (c .before .before .before .before .before .before .before .before .before .before .before .before .before .before .before .before .before .before .before .before .pre)),
-      flagged-most (inBoth (a .codes .now) (a .codebytes .now) .numbers) (p .last .1 .1 .1 .1 .0) (f .last .1 .1 .0) (f .ensures),
+      fits-long _ _ _ _ _ (f .kept .1 .1 .0 ∙ p .kept .1 .1 .1 .1 .0 ∙ w .kept .0) (c .before .before .before .before .before .before .before .before .before .before .before .before .before .before .before .before .before .before .before .before .pre),
+      flagged-flags _ _ _ (f .ensures),
     )
 
 same-length : tie.Need-same-length
@@ -50,9 +49,9 @@ returns c =
     let w = c .before .before .before .before .before .before .before .before .before .before .before .before .before .before .fill-with in
     let n = c .before .before .before .before .before .before .before .before .before .before .before .before .before .before .before .before .count .ensures in
     solution (inBoth (a .codes .now) (a .codebytes .now) .numbers) (inBoth (a .moves .now) (a .movebytes .now) .numbers) (a .cycle .now) (q .repeats) (q .sources) (q .targets)
-    (w .last .0) (p .last .1 .1 .1 .1 .0) (f .last .1 .1 .0) (s .last .1 .1 .1 .1 .0)
+    (w .last .0) (p .last .1 .1 .1 .1 .0) (f .last .1 .1 .0) (s .last .1 .1 .1 .1 .1 .0)
     (λ x l. rw (w .ensures) (getD-replicate (length (a .marks .now)) x 2 0 (rw (q .marked) l)))
-    (rw n at (p .ensures)) (f .ensures) (rw n at (s .ensures))
+    (rw n at (p .ensures)) (f .ensures) (s .ensures)
 
 pub fill-cycle-spec : {M : Type 1} → statement M
 fill-cycle-spec =
