@@ -4,7 +4,9 @@ use codes::is_accepting;
 use codes::source_of;
 use codes::target_of;
 ghost use mathlib.Core.Path.{_≡_};
+ghost use mathlib.Core.Bool.{_&&_};
 ghost use Prim.Native.Nat.{ℕ, _+_, _*_, _/_, _%_, _^_, _≤_, _<_};
+ghost use lib.Dec.{ltb};
 ghost use lib.ListN.{length, getD};
 ghost use Rattle.graph_walks.specs.Walks.{Solved};
 ghost use Rattle.graph_walks.specs.Marks.{marked, isNew, settled, goesOut};
@@ -15,6 +17,16 @@ ghost use Rattle.trim_spec.specs.Tagged.{highs, lows};
 
 // ---- sweeps
 
+// Whether a number with the mark v is in and not marked.
+fn is_free(v: u64) -> bool
+    ensures { λ r. ⌜ r ≡ (ltb 0 v && ltb v 3) ⌝ }
+{
+    if v == 1 {
+        return true;
+    }
+    v == 2
+}
+
 // Marks x if it is in and y is accepting or marked; whether others may be marked for that.
 fn mark(codes: &mut [u64], x: usize, y: usize) -> bool
     requires { ⌜ (x < length (now codes)) × (y < length (now codes)) ⌝ }
@@ -24,10 +36,7 @@ fn mark(codes: &mut [u64], x: usize, y: usize) -> bool
 {
     let c = codes[x];
     let v = c >> 48;
-    if v == 0 {
-        return false;
-    }
-    if 2 < v {
+    if !is_free(v) {
         return false;
     }
     if codes[y] >> 48 < 2 {
@@ -37,23 +46,24 @@ fn mark(codes: &mut [u64], x: usize, y: usize) -> bool
     v == 1
 }
 
-// One sweep over the transitions, as they are sorted; whether another may mark more.
-fn sweep(codes: &mut [u64], transitions: &[u64]) -> bool
+// One sweep over the transitions, as they are sorted; how many it marked for which others may be marked. With a flag in place of the
+// count, and two tests in place of `is_free`, the compiler makes one loop of this one and that of `sweep_out`, and both take twice as long.
+fn sweep(codes: &mut [u64], transitions: &[u64]) -> usize
     requires { ⌜ Inside (length (now codes)) (now transitions) ⌝ }
     ensures { λ r. ⌜ (highs (now (codes .exit)) ≡ swept (now (transitions .entry)) (highs (now (codes .entry))))
         × (lows (now (codes .exit)) ≡ lows (now (codes .entry)))
-        × (r ≡ isNewIn (now (transitions .entry)) (highs (now (codes .entry)))) ⌝ }
+        × (ltb 0 r ≡ isNewIn (now (transitions .entry)) (highs (now (codes .entry)))) ⌝ }
 {
-    let mut changed = false;
+    let mut news = 0;
     let mut i = 0;
     while i < transitions.len() {
         let t = transitions[i];
         i += 1;
         if mark(codes, source_of(t), target_of(t)) {
-            changed = true;
+            news += 1;
         }
     }
-    changed
+    news
 }
 
 // Sweeps until nothing is new: the numbers with a walk to an accepting one are marked.
@@ -62,7 +72,7 @@ fn sweep_out(codes: &mut [u64], transitions: &[u64])
     ensures { λ _. ⌜ Stable (Step (now (transitions .entry))) (highs (now (codes .entry))) (highs (now (codes .exit)))
         × (lows (now (codes .exit)) ≡ lows (now (codes .entry))) ⌝ }
 {
-    while sweep(codes, transitions) {}
+    while 0 < sweep(codes, transitions) {}
 }
 
 // ---- rounds

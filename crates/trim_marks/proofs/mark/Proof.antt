@@ -1,15 +1,24 @@
 -- `mark` meets its contract.
 use mathlib.Core.Path.{_≡_, refl, sym, ap, _∙_}
-use Prim.Native.Nat.{ℕ, _<_}
+use mathlib.Core.Bool.{true, _&&_}
+use Prim.Native.Nat.{ℕ, _/_, _^_, _<_}
 use native.Mathlib.Omega.{arith}
 use borrow.Author.Needs.{needs}
-use lib.Dec.{eqb}
+use borrow.Author.Tests.{ltb-true, lt-ltb, not-true, not-false}
+use lib.Dec.{eqb, ltb}
 use lib.ListN.{getD}
+use Rattle.sets.proofs.Bools.{clash, and-l, and-r, and-i}
 use Rattle.graph_walks.proofs.Marking.{mark-yes, mark-no}
 use Rattle.trim_spec.specs.Tagged.{highs}
 use Rattle.trim_laws.proofs.Tagged.{highs-at, raised}
 use Rattle.trim_marks.proofs.mark.Statement.{statement}
 use Rattle.trim_marks.proofs.mark.Tie as tie
+
+free-facts : (v : ℕ) → (ltb 0 v && ltb v 3) ≡ true → (0 < v) × (v < 3)
+free-facts v e = (ltb-true 0 v (and-l (ltb 0 v) _ e), ltb-true v 3 (and-r (ltb 0 v) _ e))
+
+free-yes : (v : ℕ) → 0 < v → v < 3 → (ltb 0 v && ltb v 3) ≡ true
+free-yes v a b = and-i (lt-ltb 0 v a) (lt-ltb v 3 b)
 
 mul-c : tie.Need-mul-c
 mul-c c = search needs
@@ -17,35 +26,35 @@ mul-c c = search needs
 slice-read-c : tie.Need-slice-read-c
 slice-read-c c = search needs
 
+is-free-requires : tie.Need-is-free-requires
+is-free-requires c κs = search needs
+
 returns : tie.Need-returns
 returns c =
-    let a = c .before .before .args in
+    let a = c .before .before .before .before .args in
     let ms = highs (a .codes .now) in
-    let k = mark-no (a .x) (a .y) ms (λ d. omega (arith, d .member, highs-at (a .codes .now) (a .x))) in
+    let none = sym (c .before .is-free .ensures) ∙ not-true _ (c .if1 .taken) in
+    let k = mark-no (a .x) (a .y) ms (λ d. clash (free-yes (getD (a .codes .now) (a .x) 0 / 2 ^ 48) (omega (arith, d .member, highs-at (a .codes .now) (a .x))) (omega (arith, d .free, highs-at (a .codes .now) (a .x)))) none) in
     (k .0, refl, k .1)
+
+mul-if2 : tie.Need-mul-if2
+mul-if2 c = search needs
+
+slice-read-if2 : tie.Need-slice-read-if2
+slice-read-if2 c = search needs
 
 returns-2 : tie.Need-returns-2
 returns-2 c =
-    let a = c .before .before .before .args in
-    let ms = highs (a .codes .now) in
-    let k = mark-no (a .x) (a .y) ms (λ d. omega (arith, d .free, highs-at (a .codes .now) (a .x))) in
-    (k .0, refl, k .1)
-
-mul-if3 : tie.Need-mul-if3
-mul-if3 c = search needs
-
-slice-read-if3 : tie.Need-slice-read-if3
-slice-read-if3 c = search needs
-
-returns-3 : tie.Need-returns-3
-returns-3 c =
-    let a = c .before .before .before .before .before .args in
+    let a = c .before .before .before .before .before .before .args in
     let ms = highs (a .codes .now) in
     let k = mark-no (a .x) (a .y) ms (λ d. omega (arith, d .known, highs-at (a .codes .now) (a .y))) in
     (k .0, refl, k .1)
 
 add-codes : tie.Need-add-codes
-add-codes c = omega arith
+add-codes c =
+    let v = getD (c .before .before .before .before .before .before .args .codes .now) (c .before .before .before .before .before .before .args .x) 0 / 2 ^ 48 in
+    let g = free-facts v (sym (c .before .before .before .is-free .ensures) ∙ not-false _ (c .before .before .if1 .left)) in
+    omega (arith, g .1)
 
 mul-codes : tie.Need-mul-codes
 mul-codes c = search needs
@@ -56,16 +65,17 @@ slice-write-codes c = search needs
 same-length : tie.Need-same-length
 same-length c = search needs
 
-returns-4 : tie.Need-returns-4
-returns-4 c =
-    let a = c .before .before .before .before .before .args in
+returns-3 : tie.Need-returns-3
+returns-3 c =
+    let a = c .before .before .before .before .before .before .args in
     let xs = a .codes .now in
     let ms = highs xs in
     let e = highs-at xs (a .x) in
     let f = highs-at xs (a .y) in
     let known : 1 < getD ms (a .y) 0 = omega arith in
-    let member : 0 < getD ms (a .x) 0 = omega arith in
-    let free : getD ms (a .x) 0 < 3 = omega arith in
+    let g = free-facts (getD xs (a .x) 0 / 2 ^ 48) (sym (c .before .before .before .is-free .ensures) ∙ not-false _ (c .before .before .if1 .left)) in
+    let member : 0 < getD ms (a .x) 0 = omega (arith, g .0) in
+    let free : getD ms (a .x) 0 < 3 = omega (arith, g .1) in
     let k = mark-yes (a .x) (a .y) ms (record { known = known; member = member; free = free }) in
     let r = raised xs (a .x) in
     (r .0 ∙ k .0, r .1, ap (λ (v : ℕ). eqb v 1) (sym e) ∙ k .1)
@@ -76,13 +86,13 @@ mark-spec =
     (tie.spec
     mul-c
     slice-read-c
+    is-free-requires
     returns
+    mul-if2
+    slice-read-if2
     returns-2
-    mul-if3
-    slice-read-if3
-    returns-3
     add-codes
     mul-codes
     slice-write-codes
     same-length
-    returns-4)
+    returns-3)

@@ -1,7 +1,8 @@
 -- `sweep` meets its contract.
 use mathlib.Core.Path.{_≡_, refl, ap₂, _∙_}
-use mathlib.Core.Bool.{true}
-use Prim.Native.Nat.{ℕ, _-_, _≤_, _<_}
+use Prim.Native.Nat.{ℕ, _+_, _-_, _≤_, _<_}
+use lib.Dec.{ltb}
+use borrow.Author.Tests.{lt-ltb}
 use native.Mathlib.Omega.{arith}
 use borrow.Author.Needs.{needs}
 use lib.ListN.{length, getD}
@@ -14,13 +15,13 @@ use Rattle.trim_marks.proofs.sweep.Statement.{statement}
 use Rattle.trim_marks.proofs.sweep.Tie as tie
 
 abbrev Inv-loop : tie.InvT-loop
-Inv-loop codes₀ transitions changed₀ i₀ codes changed i = (i ≤ length transitions) × SweptTo transitions codes₀ codes changed i
+Inv-loop codes₀ transitions news₀ i₀ codes news i = (i ≤ length transitions) × SweptTo transitions codes₀ codes (ltb 0 news) i × (news ≤ i)
 
 abbrev μ-loop : tie.MeasureT-loop
-μ-loop codes₀ transitions changed₀ i₀ codes changed i = length transitions - i
+μ-loop codes₀ transitions news₀ i₀ codes news i = length transitions - i
 
 loop-holds : tie.Need-loop-holds Inv-loop μ-loop
-loop-holds c = (omega arith, none-swept _ _)
+loop-holds c = (omega arith, none-swept _ _, omega arith)
 
 mul-t : tie.Need-mul-t Inv-loop μ-loop
 mul-t c = search needs
@@ -49,6 +50,9 @@ mark-requires c κs =
     let target : c .target-of .result ≡ targetOf t = c .target-of .ensures in
     (omega (arith, c .before .before .before .before .before .before .before .before .pre .sources t m), omega (arith, c .before .before .before .before .before .before .before .before .pre .targets t m))
 
+add-news : tie.Need-add-news Inv-loop μ-loop
+add-news c = search needs
+
 loop-less : tie.Need-loop-less Inv-loop μ-loop
 loop-less c = omega arith
 
@@ -61,9 +65,10 @@ loop-again c =
     let target : c .before .before .before .before .target-of .result ≡ targetOf t = c .before .before .before .before .target-of .ensures in
     let o = c .before .before .before .mark .ensures in (
       omega arith,
-      sweep-next (a .transitions .now) (a .codes .now) (l .codes) _ (l .changed) _ true (l .i) t (omega arith) (l .inv .1) refl (c .before .before .before .mark .kept .0)
+      sweep-next (a .transitions .now) (a .codes .now) (l .codes) _ (ltb 0 (l .news)) _ (ltb 0 (l .news + 1)) (l .i) t (omega arith) (l .inv .1) refl (c .before .before .before .mark .kept .0)
           (o .0 ∙ ap₂ (λ (x y : ℕ). marked x y (highs (l .codes))) source target) (o .1) (o .2 ∙ ap₂ (λ (x y : ℕ). isNew x y (highs (l .codes))) source target)
-          (or-now (l .changed) _ (c .if1 .taken)),
+          (lt-ltb 0 (l .news + 1) (omega arith) ∙ or-now (ltb 0 (l .news)) _ (c .if1 .taken)),
+      omega arith,
     )
 
 loop-less-2 : tie.Need-loop-less-2 Inv-loop μ-loop
@@ -78,9 +83,10 @@ loop-again-2 c =
     let target : c .before .before .before .before .target-of .result ≡ targetOf t = c .before .before .before .before .target-of .ensures in
     let o = c .before .before .before .mark .ensures in (
       omega arith,
-      sweep-next (a .transitions .now) (a .codes .now) (l .codes) _ (l .changed) _ (l .changed) (l .i) t (omega arith) (l .inv .1) refl (c .before .before .before .mark .kept .0)
+      sweep-next (a .transitions .now) (a .codes .now) (l .codes) _ (ltb 0 (l .news)) _ (ltb 0 (l .news)) (l .i) t (omega arith) (l .inv .1) refl (c .before .before .before .mark .kept .0)
           (o .0 ∙ ap₂ (λ (x y : ℕ). marked x y (highs (l .codes))) source target) (o .1) (o .2 ∙ ap₂ (λ (x y : ℕ). isNew x y (highs (l .codes))) source target)
-          (or-before (l .changed) _ (c .if1 .left)),
+          (or-before (ltb 0 (l .news)) _ (c .if1 .left)),
+      omega arith,
     )
 
 same-length : tie.Need-same-length Inv-loop μ-loop
@@ -90,7 +96,7 @@ returns : tie.Need-returns Inv-loop μ-loop
 returns c =
     let a = c .before .before .before .before .args in
     let l = c .before .loop in
-    all-swept (a .transitions .now) (a .codes .now) (l .codes) (l .changed) (l .i) (omega arith) (l .inv .1)
+    all-swept (a .transitions .now) (a .codes .now) (l .codes) (ltb 0 (l .news)) (l .i) (omega arith) (l .inv .1)
 
 pub sweep-spec : {M : Type 1} → statement M
 sweep-spec =
@@ -105,6 +111,7 @@ sweep-spec =
     source-of-requires
     target-of-requires
     mark-requires
+    add-news
     loop-less
     loop-again
     loop-less-2

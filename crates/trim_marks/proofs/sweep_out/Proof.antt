@@ -3,6 +3,7 @@ use mathlib.Core.Path.{_≡_, refl, _∙_}
 use mathlib.Core.Bool.{true, false}
 use Prim.Native.Nat.{_*_, _-_}
 use native.Mathlib.Omega.{arith}
+use borrow.Author.Tests.{lt-ltb, le-ltb}
 use lib.ListN.{length}
 use Rattle.sets.specs.Lists.{sum}
 use Rattle.graph_walks.specs.Rounds.{Marking}
@@ -29,7 +30,7 @@ sweep-requires c κs = rw (c .before .loop .inv .0) (c .before .before .before .
 loop-less : tie.Need-loop-less Inv-loop μ-loop
 loop-less c =
     let e = c .before .before .before .sweep .ensures in
-    let r = sweep-round _ _ _ (e .0) true _ (c .if1 .taken) (e .2) in
+    let r = sweep-round _ _ _ (e .0) true _ (lt-ltb 0 (c .before .before .before .sweep .result) (c .if1 .taken)) (e .2) in
     let m = sweep-marking _ _ _ (e .0) _ (c .before .before .before .before .before .loop .inv .1) in
     omega (arith, r .grown refl, marking-sum _ _ _ (c .before .before .before .before .before .before .before .before .pre .1) m)
 
@@ -46,7 +47,7 @@ returns : tie.Need-returns Inv-loop μ-loop
 returns c =
     let e = c .before .before .before .sweep .ensures in
     let v = c .before .before .before .before .before .loop .inv in
-    (stable _ _ _ _ (v .1) (sweep-marking _ _ _ (e .0) _ (v .1)) (sweep-round _ _ _ (e .0) false _ (c .if1 .left) (e .2)), e .1 ∙ v .2)
+    (stable _ _ _ _ (v .1) (sweep-marking _ _ _ (e .0) _ (v .1)) (sweep-round _ _ _ (e .0) false _ (le-ltb 0 (c .before .before .before .sweep .result) (omega arith)) (e .2)), e .1 ∙ v .2)
 
 pub sweep-out-spec : {M : Type 1} → statement M
 sweep-out-spec =
