@@ -263,21 +263,5 @@ module _ (E : ℕ → ℕ → Type 0) where
         r .keeps z w g (λ i. let (j, l, c) = a i in (j, l, ⊎-elim (λ e. absurd (omega (arith, g j))) (λ e. omega arith) (t .each (z j))));
   }
 
-  pub kept-pruned : (old mid new : List ℕ) → Kept E old mid → Pruned E mid new → Kept E old new
-  kept-pruned old mid new t p = record {
-    long = p .long ∙ t .long;
-    each = λ x. ⊎-elim (λ e. inl e) (λ e. ⊎-elim (λ k. inl (e ∙ k)) (λ k. inr (e ∙ k)) (t .each x)) (p .each x);
-    keeps = λ z w h a. p .keeps z w (t .keeps z w h a);
-  }
-
   pub solved : (old mid new : List ℕ) → Kept E old mid → SolveRound E mid new false → Solved E old new
   solved old mid new t r = let q = kept-then old mid new false t r in record { long = q .long; each = q .each; sound = r .sound refl; keeps = q .keeps }
-
-  pub solved-then : (old mid new : List ℕ) → Kept E old mid → Solved E mid new → Solved E old new
-  solved-then old mid new t s = record {
-    long = s .long ∙ t .long;
-    each = λ x. ⊎-elim (λ e. inl e) (λ e. ⊎-elim (λ k. inl (e ∙ k)) (λ k. inr (e ∙ k)) (t .each x)) (s .each x);
-    sound = s .sound;
-    keeps = λ z w h a. let g = t .keeps z w h a in
-        s .keeps z w g (λ i. let (j, l, c) = a i in (j, l, ⊎-elim (λ e. absurd (omega (arith, g j))) (λ e. omega arith) (t .each (z j))));
-  }

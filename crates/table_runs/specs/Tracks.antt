@@ -9,6 +9,7 @@ use lib.ListN.{length, getD, set, drop}
 use Rattle.theory.specs.Macrostate.{isAccepting}
 use Rattle.theory.specs.Run.{sourceOf, letterOf, targetOf, Leads}
 use Rattle.theory.specs.Word.{places, letters}
+use Rattle.graph_walks.specs.Walks.{Walk, Toward}
 
 module _ (codes transitions : List ℕ) where
   -- an accepting run over the letters w, but for where it begins
@@ -57,6 +58,23 @@ raised v = cond (eqb v 0) 0 2
 pub record Raised (old new : List ℕ) : Type 0 where
   pub long : length new ≡ length old
   pub each : (x : ℕ) → getD new x 0 ≡ raised (getD old x 0)
+
+-- what a round begins with: at first the mark 2 for every node that is in, later the marks of the codes
+abbrev pub Begun : ℕ → List ℕ → List ℕ → Type 0
+Begun round codes marks = ((round ≡ 0) × ((x : ℕ) → (getD marks x 0 ≡ 0) ⊎ (getD marks x 0 ≡ 2))) ⊎ Flags codes marks
+
+module _ (E : ℕ → ℕ → Type 0) (codes : List ℕ) where
+  -- nodes are taken out, but none on an endless walk that meets accepting codes again and again; the others have the marks of their codes
+  pub record Thinned (old new : List ℕ) : Type 0 where
+    pub long : length new ≡ length old
+    pub each : (x : ℕ) → (getD new x 0 ≡ 0) ⊎ ((0 < getD old x 0) × (getD new x 0 ≡ flagOf (getD codes (x % length codes) 0)))
+    pub keeps : (z : ℕ → ℕ) → Walk E z → ((i : ℕ) → 0 < getD old (z i) 0)
+        → ((i : ℕ) → (j : ℕ) × (i < j) × (isAccepting (getD codes (z j % length codes) 0) ≡ true)) → (i : ℕ) → 0 < getD new (z i) 0
+
+  -- and from each that is left a walk along such nodes leads to an accepting one
+  pub record Found (old new : List ℕ) : Type 0 where
+    pub thinned : Thinned old new
+    pub sound : (x : ℕ) → 0 < getD new x 0 → Toward E new x
 
 -- node x gets the mark 1 if the transition t is one over the letter and leads from it to a marked node
 unfoldable pub enteredBy : ℕ → ℕ → ℕ → ℕ → List ℕ → List ℕ

@@ -10,15 +10,14 @@ use table_fixpoints::fixpoints::solve_round;
 use table_lent::count;
 use table_lent::element;
 ghost use mathlib.Core.Path.{_≡_};
-ghost use mathlib.Core.Logic.{_↔_};
+ghost use mathlib.Core.Logic.{_↔_, _⊎_};
 ghost use mathlib.Core.List.{[], List·Memᴰ};
 ghost use Prim.Native.Nat.{ℕ, _+_, _*_, _<_, _≤_};
 ghost use lib.ListN.{length, getD};
 ghost use Rattle.theory.specs.Run.{sourceOf, targetOf};
 ghost use Rattle.table_lent.specs.Lent.{inBoth};
-ghost use Rattle.graph_walks.specs.Walks.{Pruned, Solved};
 ghost use Rattle.table_fixpoints_spec.specs.Product.{NodeEdge, Fits};
-ghost use Rattle.table_runs.specs.Tracks.{TrackFrom, Tracked, WordReady, flagOf, flaggedAt, Flagged, Flags, raised, Raised, enteredBy, enteredAll, Entered};
+ghost use Rattle.table_runs.specs.Tracks.{TrackFrom, Tracked, WordReady, flagOf, flaggedAt, Flagged, raised, Raised, Begun, Thinned, Found, enteredBy, enteredAll, Entered};
 
 // ---- the cycle
 
@@ -78,8 +77,10 @@ fn raise(marks: &mut [u8])
     }
 }
 
-// Takes out nodes without an endless walk; the others keep their marks.
+// Takes out nodes without an endless walk before the first round, and before each from the fourth on: a chain of accepting nodes falls at
+// once, which would fall node by node. It takes as long as a round, and tables that are built need few rounds.
 fn thin(
+    round: usize,
     codes: &[u64],
     codebytes: &[u8],
     moves: &[u64],
@@ -88,38 +89,35 @@ fn thin(
     marks: &mut [u8],
 )
     requires { ⌜ Fits (length (inBoth (now codes) (now codebytes) .numbers)) (now cycle) (inBoth (now moves) (now movebytes) .numbers)
-        (now marks) × Flags (inBoth (now codes) (now codebytes) .numbers) (now marks) ⌝ }
-    ensures { λ _. ⌜ Pruned (NodeEdge (length (inBoth (now (codes .entry)) (now (codebytes .entry)) .numbers)) (now (cycle .entry))
-        (inBoth (now (moves .entry)) (now (movebytes .entry)) .numbers)) (now (marks .entry)) (now (marks .exit)) ⌝ }
+        (now marks) × Begun round (inBoth (now codes) (now codebytes) .numbers) (now marks) ⌝ }
+    ensures { λ _. ⌜ Thinned (NodeEdge (length (inBoth (now (codes .entry)) (now (codebytes .entry)) .numbers)) (now (cycle .entry))
+        (inBoth (now (moves .entry)) (now (movebytes .entry)) .numbers)) (inBoth (now (codes .entry)) (now (codebytes .entry)) .numbers) (now (marks .entry))
+        (now (marks .exit)) ⌝ }
 {
+    if round == 1 {
+        return;
+    }
+    if round == 2 {
+        return;
+    }
     let n = count(codes, codebytes);
     raise(marks);
     prune(moves, movebytes, cycle, n, marks);
     flag(codes, codebytes, marks);
 }
 
-// Takes out nodes until from each that is left a walk leads to an accepting one that is left. Between two rounds those without an endless
-// walk go out: a chain of accepting nodes falls at once, which would fall node by node.
-fn solve_thinned(
-    codes: &[u64],
-    codebytes: &[u8],
-    moves: &[u64],
-    movebytes: &[u8],
-    cycle: &[u8],
-    marks: &mut [u8],
-)
-    requires { ⌜ Fits (length (inBoth (now codes) (now codebytes) .numbers)) (now cycle) (inBoth (now moves) (now movebytes) .numbers)
-        (now marks) × Flags (inBoth (now codes) (now codebytes) .numbers) (now marks) ⌝ }
-    ensures { λ _. ⌜ Solved (NodeEdge (length (inBoth (now (codes .entry)) (now (codebytes .entry)) .numbers)) (now (cycle .entry))
-        (inBoth (now (moves .entry)) (now (movebytes .entry)) .numbers)) (now (marks .entry)) (now (marks .exit)) ⌝ }
+// The number of the round that follows; 3 stands for every later one.
+fn next_round(round: usize) -> usize
+    ensures { λ r. ⌜ 0 < r ⌝ }
 {
-    let n = count(codes, codebytes);
-    while solve_round(moves, movebytes, cycle, n, marks) {
-        thin(codes, codebytes, moves, movebytes, cycle, marks);
+    if round < 3 {
+        return round + 1;
     }
+    3
 }
 
-// The same. Thinning takes as long as a round, and tables that are built need few rounds: so two rounds come first.
+// Takes out nodes until from each that is left a walk leads to an accepting one that is left. Thinning and the round are called at one
+// place each: so the compiler sees how the table is lent, and does not ask for each transition.
 fn solve(
     codes: &[u64],
     codebytes: &[u8],
@@ -129,18 +127,20 @@ fn solve(
     marks: &mut [u8],
 )
     requires { ⌜ Fits (length (inBoth (now codes) (now codebytes) .numbers)) (now cycle) (inBoth (now moves) (now movebytes) .numbers)
-        (now marks) × Flags (inBoth (now codes) (now codebytes) .numbers) (now marks) ⌝ }
-    ensures { λ _. ⌜ Solved (NodeEdge (length (inBoth (now (codes .entry)) (now (codebytes .entry)) .numbers)) (now (cycle .entry))
-        (inBoth (now (moves .entry)) (now (movebytes .entry)) .numbers)) (now (marks .entry)) (now (marks .exit)) ⌝ }
+        (now marks) × ((x : ℕ) → (getD (now marks) x 0 ≡ 0) ⊎ (getD (now marks) x 0 ≡ 2)) ⌝ }
+    ensures { λ _. ⌜ Found (NodeEdge (length (inBoth (now (codes .entry)) (now (codebytes .entry)) .numbers)) (now (cycle .entry))
+        (inBoth (now (moves .entry)) (now (movebytes .entry)) .numbers)) (inBoth (now (codes .entry)) (now (codebytes .entry)) .numbers) (now (marks .entry))
+        (now (marks .exit)) ⌝ }
 {
     let n = count(codes, codebytes);
-    if !solve_round(moves, movebytes, cycle, n, marks) {
-        return;
+    let mut round = 0;
+    loop {
+        thin(round, codes, codebytes, moves, movebytes, cycle, marks);
+        if !solve_round(moves, movebytes, cycle, n, marks) {
+            return;
+        }
+        round = next_round(round);
     }
-    if !solve_round(moves, movebytes, cycle, n, marks) {
-        return;
-    }
-    solve_thinned(codes, codebytes, moves, movebytes, cycle, marks);
 }
 
 // Marks the nodes of a cycle: those at its first place from which an accepting run goes on are in, and no others there.
@@ -159,10 +159,7 @@ fn fill_cycle(
         → (0 < getD (now (marks .exit)) m 0) ↔ TrackFrom (inBoth (now (codes .entry)) (now (codebytes .entry)) .numbers)
         (inBoth (now (moves .entry)) (now (movebytes .entry)) .numbers) [] (now (cycle .entry)) m) ⌝ }
 {
-    let n = count(codes, codebytes);
     fill_with(marks, 2);
-    prune(moves, movebytes, cycle, n, marks);
-    flag(codes, codebytes, marks);
     solve(codes, codebytes, moves, movebytes, cycle, marks);
 }
 

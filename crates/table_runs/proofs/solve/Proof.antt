@@ -1,74 +1,91 @@
--- `table_runs::solve` meets its contract.
+-- `table_runs::solve` meets its contract: each round but the last takes an accepting node out, and after the last all that is left is sound.
+use mathlib.Core.Path.{refl, _∙_}
+use native.Mathlib.Omega.{arith}
 use borrow.Author.Needs.{needs}
-use borrow.Author.Tests.{not-true}
+use borrow.Author.Tests.{not-true, not-false}
+use lib.ListN.{length}
+use Rattle.sets.specs.Lists.{sum}
 use Rattle.table_lent.specs.Lent.{inBoth}
+use Rattle.table_fixpoints_spec.specs.Product.{NodeEdge}
 use Rattle.table_fixpoints_spec.proofs.Places.{fits-long}
-use Rattle.graph_walks.proofs.Rounds.{kept-start, kept-low, kept-then, solved, solved-then}
-use Rattle.table_runs.proofs.Thinning.{flags-most, flags-kept}
+use Rattle.table_runs.proofs.Thinning.{thinned-low, thinned-sum, thinned-round, Going, going-start, going-on, going-long, going-begun, going-thinned}
 use Rattle.table_runs.proofs.solve.Statement.{statement}
 use Rattle.table_runs.proofs.solve.Tie as tie
 
-count-requires : tie.Need-count-requires
+abbrev Inv-loop : tie.InvT-loop
+Inv-loop codes codebytes moves movebytes cycle marks₀ n round₀ marks round =
+    Going (NodeEdge (length (inBoth codes codebytes .numbers)) cycle (inBoth moves movebytes .numbers)) (inBoth codes codebytes .numbers) marks₀ round marks
+
+abbrev μ-loop : tie.MeasureT-loop
+μ-loop codes codebytes moves movebytes cycle marks₀ n round₀ marks round = sum marks
+
+count-requires : tie.Need-count-requires Inv-loop μ-loop
 count-requires c κs = search needs
 
-solve-round-requires : tie.Need-solve-round-requires
+loop-holds : tie.Need-loop-holds Inv-loop μ-loop
+loop-holds c = going-start _ _ _
+
+thin-requires : tie.Need-thin-requires Inv-loop μ-loop
+thin-requires c κs =
+    let pre = c .before .before .before .before .before .before .before .before .before .pre in
+    let g = c .before .loop .inv in
+    (fits-long _ _ _ _ _ (going-long _ _ _ _ _ g) (pre .0), going-begun _ _ _ _ _ (pre .1) g)
+
+solve-round-requires : tie.Need-solve-round-requires Inv-loop μ-loop
 solve-round-requires c κs =
-    let a = c .before .before .before .before .before .before .before .before .args in
-    let pre = c .before .before .before .before .before .before .before .before .pre in
-    rw (c .before .count .ensures) (pre .0, flags-most (inBoth (a .codes .now) (a .codebytes .now) .numbers) (a .marks .now) (pre .1))
+    let n = c .before .before .before .before .before .before .count .ensures in
+    let g = c .before .before .before .before .before .loop .inv in
+    let t = going-thinned _ _ _ _ _ _ g (c .before .before .before .thin .ensures) in
+    rw n (fits-long _ _ _ _ _ (t .long) (c .before .before .before .before .before .before .before .before .before .before .before .before .before .pre .0), thinned-low _ _ _ _ t)
 
-same-length : tie.Need-same-length
-same-length c = search needs
+same-length : tie.Need-same-length Inv-loop μ-loop
+same-length c =
+    let g = c .before .before .before .before .before .before .before .before .before .loop .inv in
+    let t = going-thinned _ _ _ _ _ _ g (c .before .before .before .before .before .before .before .thin .ensures) in
+    c .before .before .before .solve-round .ensures .long ∙ t .long
 
-returns : tie.Need-returns
+returns : tie.Need-returns Inv-loop μ-loop
 returns c =
-    let none = not-true (c .before .before .before .solve-round .result) (c .if1 .taken) in
-    solved _ _ _ _ (kept-start _ _) (rw (none, c .before .before .before .before .before .count .ensures) at (c .before .before .before .solve-round .ensures))
+    let n = c .before .before .before .before .before .before .before .before .before .before .count .ensures in
+    let g = c .before .before .before .before .before .before .before .before .before .loop .inv in
+    let t = going-thinned _ _ _ _ _ _ g (c .before .before .before .before .before .before .before .thin .ensures) in
+    let s = c .before .before .before .solve-round in
+    let none = not-true (s .result) (c .if1 .taken) in
+    let r = rw (none, n) at (s .ensures) in
+    record { thinned = thinned-round _ _ _ _ _ _ t r; sound = r .sound refl }
 
-solve-round-requires-2 : tie.Need-solve-round-requires-2
-solve-round-requires-2 c κs =
-    let a = c .before .before .before .before .before .before .before .before .before .before .before .before .before .args in
-    let pre = c .before .before .before .before .before .before .before .before .before .before .before .before .before .pre in
-    let k = kept-then _ _ _ _ _ (kept-start _ _) (rw (c .before .before .before .before .before .before .count .ensures) at (c .before .before .before .before .solve-round .ensures)) in
-    rw (c .before .before .before .before .before .before .count .ensures) (fits-long _ _ _ _ _ (k .long) (pre .0), kept-low _ _ _ (flags-most (inBoth (a .codes .now) (a .codebytes .now) .numbers) (a .marks .now) (pre .1)) k)
+next-round-requires : tie.Need-next-round-requires Inv-loop μ-loop
+next-round-requires c κs = search needs
 
-same-length-2 : tie.Need-same-length-2
-same-length-2 c = search needs
+loop-less : tie.Need-loop-less Inv-loop μ-loop
+loop-less c =
+    let two = c .before .before .before .before .before .before .before .before .before .before .before .before .before .before .before .before .before .before .pre .1 in
+    let l = c .before .before .before .before .before .before .before .before .before .before .loop in
+    let s = c .before .before .before .before .solve-round in
+    let some = not-false (s .result) (c .before .if1 .left) in
+    let sum = thinned-sum _ _ (l .round) _ _ (going-begun _ _ _ _ _ two (l .inv)) (c .before .before .before .before .before .before .before .before .thin .ensures) in
+    omega (arith, s .ensures .less some, sum)
 
-returns-2 : tie.Need-returns-2
-returns-2 c =
-    let k = kept-then _ _ _ _ _ (kept-start _ _) (rw (c .before .before .before .before .before .before .before .before .before .before .count .ensures) at (c .before .before .before .before .before .before .before .before .solve-round .ensures)) in
-    let none = not-true (c .before .before .before .solve-round2 .result) (c .if2 .taken) in
-    solved _ _ _ _ k (rw (none, c .before .before .before .before .before .before .before .before .before .before .count .ensures) at (c .before .before .before .solve-round2 .ensures))
-
-solve-thinned-requires : tie.Need-solve-thinned-requires
-solve-thinned-requires c κs =
-    let a = c .before .before .before .before .before .before .before .before .before .before .before .before .before .before .before .before .before .before .args in
-    let pre = c .before .before .before .before .before .before .before .before .before .before .before .before .before .before .before .before .before .before .pre in
-    let k = kept-then _ _ _ _ _ (kept-start _ _) (rw (c .before .before .before .before .before .before .before .before .before .before .before .count .ensures) at (c .before .before .before .before .before .before .before .before .before .solve-round .ensures)) in
-    let l = kept-then _ _ _ _ _ k (rw (c .before .before .before .before .before .before .before .before .before .before .before .count .ensures) at (c .before .before .before .before .solve-round2 .ensures)) in
-    (fits-long _ _ _ _ _ (l .long) (pre .0), flags-kept _ (inBoth (a .codes .now) (a .codebytes .now) .numbers) _ _ (pre .1) l)
-
-same-length-3 : tie.Need-same-length-3
-same-length-3 c = search needs
-
-returns-3 : tie.Need-returns-3
-returns-3 c =
-    let k = kept-then _ _ _ _ _ (kept-start _ _) (rw (c .before .before .before .before .before .before .before .before .before .before .before .before .before .before .count .ensures) at (c .before .before .before .before .before .before .before .before .before .before .before .before .solve-round .ensures)) in
-    let l = kept-then _ _ _ _ _ k (rw (c .before .before .before .before .before .before .before .before .before .before .before .before .before .before .count .ensures) at (c .before .before .before .before .before .before .before .solve-round2 .ensures)) in
-    solved-then _ _ _ _ l (c .before .before .solve-thinned .ensures)
+loop-again : tie.Need-loop-again Inv-loop μ-loop
+loop-again c =
+    let n = c .before .before .before .before .before .before .before .before .before .before .before .count .ensures in
+    let g = c .before .before .before .before .before .before .before .before .before .before .loop .inv in
+    let t = going-thinned _ _ _ _ _ _ g (c .before .before .before .before .before .before .before .before .thin .ensures) in
+    let r = c .before .before .before .before .solve-round .ensures in
+    going-on _ _ _ _ _ (thinned-round _ _ _ _ _ _ t (rw n at r))
 
 pub solve-spec : {M : Type 1} → statement M
 solve-spec =
     tie.close
     (tie.spec
+    Inv-loop
+    μ-loop
     count-requires
+    loop-holds
+    thin-requires
     solve-round-requires
     same-length
     returns
-    solve-round-requires-2
-    same-length-2
-    returns-2
-    solve-thinned-requires
-    same-length-3
-    returns-3)
+    next-round-requires
+    loop-less
+    loop-again)

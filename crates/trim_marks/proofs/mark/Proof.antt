@@ -33,8 +33,10 @@ returns : tie.Need-returns
 returns c =
     let a = c .before .before .before .before .args in
     let ms = highs (a .codes .now) in
+    let v = getD (a .codes .now) (a .x) 0 / 2 ^ 48 in
+    let e = highs-at (a .codes .now) (a .x) in
     let none = sym (c .before .is-free .ensures) ∙ not-true _ (c .if1 .taken) in
-    let k = mark-no (a .x) (a .y) ms (λ d. clash (free-yes (getD (a .codes .now) (a .x) 0 / 2 ^ 48) (omega (arith, d .member, highs-at (a .codes .now) (a .x))) (omega (arith, d .free, highs-at (a .codes .now) (a .x)))) none) in
+    let k = mark-no (a .x) (a .y) ms (λ d. clash (free-yes v (omega (arith, d .member, e)) (omega (arith, d .free, e))) none) in
     (k .0, refl, k .1)
 
 mul-if2 : tie.Need-mul-if2
