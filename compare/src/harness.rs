@@ -221,14 +221,6 @@ impl Harness {
         }
     }
 
-    /// The last call must have taken less CPU time than this.
-    pub fn within(&self, seconds: f64) {
-        if self.last > seconds {
-            let last = self.last;
-            self.fail(&format!("the call took {last:.1} s, over {seconds} s"));
-        }
-    }
-
     /// Makes the call and compares its answer and every lent slice.
     pub fn call(&mut self, expected: Expected, call: impl FnOnce() -> Answer) {
         let answer = self.timed(call);

@@ -190,10 +190,9 @@ fn spelling_times(part: usize) {
     );
 }
 
-/// The judge on a table of chains of this length, and a cycle of one letter.
-fn chain_times(length: u64, accepting: Order, rejecting: Order) {
-    let [codes, transitions] = chains::table(length, accepting, rejecting, false);
-    let mut scratch = vec![0u8; codes.len()];
+/// The judge on a table that is made to be slow.
+fn slow_time(name: &str, [codes, transitions]: [Vec<u64>; 2], cycle: &[u8]) {
+    let mut scratch = vec![0u8; codes.len() * cycle.len()];
     let milliseconds = cpu(1, || {
         let answer = unsafe {
             mulgreddi_judge_table(
@@ -201,8 +200,8 @@ fn chain_times(length: u64, accepting: Order, rejecting: Order) {
                 sample::F.len(),
                 [].as_ptr(),
                 0,
-                [0].as_ptr(),
-                1,
+                cycle.as_ptr(),
+                cycle.len(),
                 codes.as_ptr().cast(),
                 8 * codes.len(),
                 transitions.as_ptr().cast(),
@@ -214,12 +213,54 @@ fn chain_times(length: u64, accepting: Order, rejecting: Order) {
         black_box((answer.refusal, answer.first, answer.second));
     });
     println!(
-        "chains, accepting {:10} rejecting {:10} {milliseconds:9.1}  {} {}",
-        format!("{accepting:?}"),
-        format!("{rejecting:?}"),
+        "{name:56} {milliseconds:9.1}  {} {} {}",
+        cycle.len(),
         codes.len(),
         transitions.len()
     );
+}
+
+/// Chains in both orders and to and fro, over one letter and over a cycle that makes them slow; ladders; dead ends.
+fn slow_times() {
+    use Order::{Ascending, Descending, Zigzag};
+    println!("CPU milliseconds on a table made to be slow; letters of the cycle, macrostates, transitions");
+    for accepting in [Ascending, Descending] {
+        for rejecting in [Ascending, Descending] {
+            let name = format!("chains, accepting {accepting:?}, rejecting {rejecting:?}");
+            slow_time(
+                &name,
+                chains::table(4_096, accepting, rejecting, false),
+                &[0],
+            );
+        }
+    }
+    for length in [512, 1_024, 2_048] {
+        slow_time(
+            "chains, rejecting to and fro",
+            chains::table(length, Ascending, Zigzag, false),
+            &[0],
+        );
+        slow_time(
+            "ladder, rejecting to and fro",
+            chains::ladder(length / 2, Zigzag, false),
+            &[0],
+        );
+        slow_time("dead ends", chains::dead_end(2 * length, Ascending), &[0]);
+    }
+    for length in [128, 256, 512] {
+        let chain = chains::table(length, Ascending, Ascending, false);
+        slow_time(
+            "chains, a step a turn",
+            chains::slowed(chain),
+            &chains::SLOW,
+        );
+        let ladder = chains::ladder(length / 2, Ascending, false);
+        slow_time(
+            "ladder, a step a turn",
+            chains::slowed(ladder),
+            &chains::SLOW,
+        );
+    }
 }
 
 /// A sheet of 64 words on one cycle beside as many calls of the judge.
@@ -760,15 +801,7 @@ fn main() {
         let file = std::fs::read(&path).unwrap_or_else(|error| panic!("{path}: {error}"));
         table_times(&path, &file);
     }
-    println!("CPU milliseconds on a table of chains; macrostates transitions");
-    for accepting in [Order::Ascending, Order::Descending] {
-        for rejecting in [Order::Ascending, Order::Descending] {
-            chain_times(4_096, accepting, rejecting);
-        }
-    }
-    for length in [512, 1_024, 2_048] {
-        chain_times(length, Order::Ascending, Order::Zigzag);
-    }
+    slow_times();
     println!("CPU milliseconds: build, build of what matters, the difference; macrostates transitions before and after");
     let mut sum = 0.0;
     for path in std::env::args().skip(1) {

@@ -146,24 +146,37 @@ fn examples(harness: &mut Harness) {
     }
     long_tables(harness);
     large_tables(harness);
-    long_chains(harness);
+    slow_tables(harness);
 }
 
-/// The length of a chain, and the CPU seconds that a call on chains may take.
-const CHAIN: u64 = 4_096;
-const SECONDS: f64 = 2.0;
-
-/// Both chains in both orders of their numbers.
-fn long_chains(harness: &mut Harness) {
-    for accepting in [Order::Ascending, Order::Descending] {
-        for rejecting in [Order::Ascending, Order::Descending] {
-            for (looped, said) in [(false, Ok((0, 0))), (true, Ok((1, 0)))] {
-                let [codes, transitions] = chains::table(CHAIN, accepting, rejecting, looped);
-                let expected = compare_table(harness, &F, [&[], &[0]], &codes, &transitions);
-                harness.by_01(&expected.0, &said);
-                harness.within(SECONDS);
+/// Tables on which the judge takes long; how long is told by `make bench`.
+fn slow_tables(harness: &mut Harness) {
+    use Order::{Ascending, Descending, Zigzag};
+    for (looped, said) in [(false, Ok((0, 0))), (true, Ok((1, 0)))] {
+        let mut judge = |[codes, transitions]: [Vec<u64>; 2], cycle: &[u8]| {
+            let expected = compare_table(harness, &F, [&[], cycle], &codes, &transitions);
+            harness.by_01(&expected.0, &said);
+        };
+        for accepting in [Ascending, Descending] {
+            for rejecting in [Ascending, Descending] {
+                judge(chains::table(4_096, accepting, rejecting, looped), &[0]);
             }
         }
+        for order in [Ascending, Descending, Zigzag] {
+            judge(chains::table(256, order, Zigzag, looped), &[0]);
+            judge(chains::ladder(128, order, looped), &[0]);
+            let (chain, ladder) = (
+                chains::table(64, order, order, looped),
+                chains::ladder(16, order, looped),
+            );
+            judge(chains::slowed(chain), &chains::SLOW);
+            judge(chains::slowed(ladder), &chains::SLOW);
+        }
+    }
+    for order in [Ascending, Descending, Zigzag] {
+        let [codes, transitions] = chains::dead_end(512, order);
+        let expected = compare_table(harness, &F, [&[], &[0]], &codes, &transitions);
+        harness.by_01(&expected.0, &Ok((0, 0)));
     }
 }
 
