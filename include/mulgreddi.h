@@ -284,10 +284,11 @@ mulgreddi_comparison mulgreddi_stricter(const uint8_t *a, size_t a_len, const ui
  * The rule's refusals, 12 to 16; 15: over 65,536 codes, codes or transitions not strictly ascending, a code with a bit above 47, a
  * transition whose source, letter or target is out of range, or a length that 8 does not divide.
  * Time: with one byte a node, a node being a macrostate at a place of the cycle, it takes at most about (accepting nodes + 1) *
- * (rejecting nodes + cycle_len + 1) passes over the transitions, and as many again as there are nodes. Built tables take few: 0.02 to 0.5 s
- * of CPU at the caps. A table made to be slow is not refused: the slowest kind known, a chain of accepting macrostates behind a chain of
- * rejecting ones whose numbers go to and fro, took 0.9 s with 1,025 codes and 5.0 s with 2,049, and grows with the third power. Judge
- * tables of strangers with a time limit of your own. */
+ * (rejecting nodes + 2 * cycle_len + 1) passes over the transitions, and as many again as there are nodes. Built tables take few: 0.02 to
+ * 0.5 s of CPU at the caps. A table made to be slow is not refused. The slowest kind known: a chain of rejecting macrostates leads to a
+ * chain of accepting ones and rejecting ones with a loop by turns, each of which stays over letter 0 and steps over 1, and the cycle is 31
+ * times 0 and then 1. It took 0.7 s of CPU with 512 codes, half of them in the first chain, and 5.6 s with 1,024, and grows with the third
+ * power; transitions over further letters make every pass longer. Judge tables of strangers with a time limit of your own. */
 mulgreddi_answer mulgreddi_judge_table(const uint8_t *file, size_t file_len,
                                        const uint8_t *lead, size_t lead_len, const uint8_t *cycle, size_t cycle_len,
                                        const uint8_t *codes, size_t codes_bytes, const uint8_t *transitions, size_t transitions_bytes,
@@ -366,8 +367,8 @@ static inline unsigned mulgreddi_initial_state(const uint8_t *file, size_t file_
 static inline unsigned mulgreddi_accepting_mask(const uint8_t *file, size_t file_len) { return file[file_len - 5]; }
 static inline unsigned mulgreddi_clauses(const uint8_t *file, size_t file_len) { return file[file_len - 4] + 256u * file[file_len - 3]; }
 
-/* The name of a letter: 8 bytes of the file, without a zero after them; NULL where the rule has no names. checked is the answer of
- * mulgreddi_check. */
+/* The name of a letter, which must be below s (mulgreddi_letters): 8 bytes of the file, without a zero after them; NULL where the rule has
+ * no names. checked is the answer of mulgreddi_check. */
 static inline const char *mulgreddi_letter_name(const uint8_t *file, mulgreddi_answer checked, unsigned letter)
 {
     if (checked.second == 0)
