@@ -1,6 +1,6 @@
 -- What an answer of the reader says of the file.
-use Prim.Native.Nat.{ℕ, zero, suc, _+_, _-_, _≤_}
-use mathlib.Core.Path.{_≡_, refl, sym}
+use Prim.Native.Nat.{ℕ, zero, suc, _+_, _-_, _<_, _≤_}
+use mathlib.Core.Path.{_≡_, refl, ap, sym, _∙_}
 use mathlib.Core.Bool.{false}
 use mathlib.Core.List.{List, []}
 use native.Mathlib.Omega.{arith}
@@ -10,13 +10,13 @@ use Rattle.rule_entries.specs.Entries.{ruleOf}
 use Rattle.file_read.specs.declared.Layout.{Layout}
 use Rattle.file_read.specs.declared.Read.the-variants.{Accepted, Refused}
 use Rattle.file_spec.specs.File.{trailer, clausesOf, countsOf, clausesAt, partBefore, namesOf, ruleIn}
-use Rattle.file_spec.specs.Names.{namesBefore}
 use Rattle.file_spec.specs.Rows.{prefaceRow, fileRow}
 use Rattle.file_read.specs.Read.{layoutOf, answer, readOf, unrefused, prefaceOf}
 use Rattle.file_spec.proofs.Parts.{clauses-part, counts-part}
 use Rattle.file_spec.proofs.Names.{cutOff, fit-21}
 use Rattle.file_read.proofs.FileRows.{accepted-placed, accepted-passing, accepted-rows}
 use Rattle.file_read.proofs.Accepted.{preface-accepted}
+use Rattle.file_read.proofs.NamesPlaced.{names-room-at, names-at}
 
 pub refused : (f : List ℕ) (k : ℕ) → (k ≡ 0 → ⊥) → k ≡ fileRow f → Refused k ≡ readOf f
 unfolding readOf answer
@@ -47,16 +47,18 @@ pub record Served (f : List ℕ) (l : Layout) : Type 0 where
   pub counts : take (length f - 8 - (l .at + l .clauses)) (drop (l .at + l .clauses) f) ≡ countsOf f
   pub rule : ruleOf (l .head) (countsOf f) (clausesOf f) ≡ ruleIn f
   pub passing : Passing (ruleIn f)
-  pub names-fit : cutOff (l .head .s) (take (l .at) f) ≡ false
+  pub names-inside : 0 < l .names → l .names + 2 ≤ l .at
+  pub names : take (l .names) (drop (l .at - 2 - l .names) f) ≡ namesOf f
 
 -- names that row 21 passes
-names-kept : (f : List ℕ) → prefaceRow f ≡ 0 → cutOff (trailer f 1) (partBefore f) ≡ false
+pub names-kept : (f : List ℕ) → prefaceRow f ≡ 0 → cutOff (trailer f 1) (partBefore f) ≡ false
 unfolding prefaceRow
 names-kept f e = fit-21 (trailer f 1) (partBefore f) e
 
 served-layout : (f : List ℕ) → fileRow f ≡ 0 → Served f (layoutOf f)
 served-layout f e =
     let p = accepted-placed f e in
+    let fit = names-kept f (accepted-rows f e .1) in
     record {
       row = e;
       layout = refl;
@@ -66,7 +68,8 @@ served-layout f e =
       counts = counts-part f (p .fits);
       rule = refl;
       passing = accepted-passing f e;
-      names-fit = names-kept f (accepted-rows f e .1);
+      names-inside = names-room-at (trailer f 1) f (clausesAt f) (omega arith) fit;
+      names = names-at (trailer f 1) f (clausesAt f) (omega arith) fit;
     }
 
 -- what a caller knows of a file that was accepted
@@ -74,12 +77,23 @@ pub served : (f : List ℕ) (l : Layout) → readOf f ≡ Accepted l → Served 
 unfolding readOf
 served f l e = let p = from-accepted (fileRow f) (layoutOf f) l e in rw (p .1) (served-layout f (p .0))
 
--- the names of an accepted file
 pub served-letters : (f : List ℕ) (l : Layout) → readOf f ≡ Accepted l → l .head .s ≤ 16
 served-letters f l e = let s = served f l e in rw (s .layout) (s .passing .formed .few-letters)
 
-pub names-served : (f : List ℕ) (l : Layout) → readOf f ≡ Accepted l → namesBefore (l .head .s) (take (l .at) f) ≡ namesOf f
-names-served f l e = rw (served f l e .layout)
+-- how many bytes the names have
+pub names-counted : (f : List ℕ) (l : Layout) → readOf f ≡ Accepted l → l .names ≡ length (namesOf f)
+names-counted f l e = ap (λ (x : Layout). x .names) (served f l e .layout)
+
+-- no byte, or bytes that end two bytes before the first clause
+module _ (f : List ℕ) (l : Layout) (e : readOf f ≡ Accepted l) where
+  pub names-none : l .names ≡ 0 → [] ≡ namesOf f
+  names-none z = let n = served f l e .names in rw z at n
+
+  pub names-there : 0 < l .names → take (l .at - 2 - (l .at - 2 - l .names)) (drop (l .at - 2 - l .names) f) ≡ namesOf f
+  names-there some =
+      let s = served f l e in
+      let n : l .at - 2 - (l .at - 2 - l .names) ≡ l .names = omega (arith, s .names-inside some) in
+      ap (λ (k : ℕ). take k (drop (l .at - 2 - l .names) f)) n ∙ s .names
 
 -- the rule of an accepted file, from the parts of it that were lent
 module _ (f : List ℕ) (l : Layout) (e : readOf f ≡ Accepted l) (counts clauses : List ℕ) (c : counts ≡ countsOf f) (d : clauses ≡ clausesOf f) where

@@ -1,5 +1,6 @@
 pub mod FileRows
 pub mod Accepted
+pub mod NamesPlaced
 pub mod Answer
 pub mod Prefaces
 pub mod Layouts

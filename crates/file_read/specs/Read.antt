@@ -1,16 +1,21 @@
 -- What the reader answers.
 use Prim.Native.Nat.{ℕ, zero, suc}
 use mathlib.Core.List.{List, []}
-use lib.ListN.{take}
+use lib.ListN.{length, take}
+use Rattle.file_read.specs.declared.Parts.{Parts}
 use Rattle.file_read.specs.declared.Layout.{Layout}
 use Rattle.file_read.specs.declared.Read.{Read}
 use Rattle.file_read.specs.declared.Read.the-variants.{Accepted, Refused}
-use Rattle.file_spec.specs.File.{headOf, clauseCount, clausesAt}
+use Rattle.file_spec.specs.File.{headOf, clauseCount, clausesAt, namesOf}
 use Rattle.file_spec.specs.Rows.{fileRow}
 
 -- the numbers of a file, where its first clause stands, and how many clauses it has
+abbrev pub partsOf : List ℕ → Parts
+partsOf f = record { head = headOf f; at = clausesAt f; clauses = clauseCount f }
+
+-- 02: "new readers carry the names in the rule": with them, how many bytes its names have
 abbrev pub layoutOf : List ℕ → Layout
-layoutOf f = record { head = headOf f; at = clausesAt f; clauses = clauseCount f }
+layoutOf f = record { head = headOf f; at = clausesAt f; clauses = clauseCount f; names = length (namesOf f) }
 
 -- by the first row that refuses: the layout where none does, else "The answer is the number alone"
 unfoldable pub answer : ℕ → Layout → Read

@@ -14,13 +14,21 @@ ghost use Rattle.file_spec.specs.File.{clauseCount, entryCount, countsOf, claus
 ghost use Rattle.file_spec.specs.Rows.{layoutRows, bodyRow, fileRow};
 ghost use Rattle.file_spec.specs.RuleRows.{componentRows, formedRows};
 ghost use Rattle.file_read.specs.declared.Read.the-variants.{Accepted};
-ghost use Rattle.file_read.specs.Read.{layoutOf, readOf, prefaceOf};
+ghost use Rattle.file_read.specs.Read.{partsOf, readOf, prefaceOf};
 
-// Where a file's rule stands: its numbers, the place of its first clause, and how many clauses it has.
+// Where a file's parts stand: its numbers, the place of its first clause, and how many clauses it has.
+pub struct Parts {
+    pub head: Head,
+    pub at: usize,
+    pub clauses: usize,
+}
+
+// Where the rule of an accepted file stands: its parts, and how many bytes of names end two bytes before its first clause.
 pub struct Layout {
     pub head: Head,
     pub at: usize,
     pub clauses: usize,
+    pub names: usize,
 }
 
 // The answer of the reader: the layout of an accepted file, or the number of the first row that refuses it.
@@ -30,16 +38,16 @@ pub enum Read {
 }
 
 // Where the parts of a file stand that has room for them.
-pub fn lay_out(f: &[u8]) -> Layout
+pub fn lay_out(f: &[u8]) -> Parts
     requires { ⌜ (8 ≤ length (now f)) × (clauseCount (now f) + entryCount (now f) ≤ length (now f) - 8) ⌝ }
-    ensures { λ r. ⌜ r ≡ layoutOf (now (f .entry)) ⌝ }
+    ensures { λ r. ⌜ r ≡ partsOf (now (f .entry)) ⌝ }
 {
     let head = read_head(f);
     let clauses = read_count(f);
     let n = head.n;
     let s = head.s;
     let at = f.len() - 8 - (clauses + n * s);
-    Layout {
+    Parts {
         head: head,
         at: at,
         clauses: clauses,
@@ -125,7 +133,18 @@ pub fn read_rule(f: &[u8]) -> Read
     if first != 0 {
         return Read::Refused(first);
     }
-    Read::Accepted(lay_out(f))
+    let l = lay_out(f);
+    let h = l.head;
+    let s = h.s;
+    let at = l.at;
+    let c = l.clauses;
+    let names = file_names::names_in(&f[..at], s);
+    Read::Accepted(Layout {
+        head: h,
+        at: at,
+        clauses: c,
+        names: names.len(),
+    })
 }
 
 // The count bytes of an accepted file.
@@ -153,10 +172,13 @@ pub fn names_of(f: &[u8], l: Layout) -> &[u8]
     requires { ⌜ readOf (now f) ≡ Accepted l ⌝ }
     ensures { λ r. ⌜ now r ≡ namesOf (now (f .entry)) ⌝ }
 {
-    let h = l.head;
-    let s = h.s;
-    let at = l.at;
-    file_names::names_in(&f[..at], s)
+    let count = l.names;
+    if count == 0 {
+        return &f[..0];
+    }
+    let end = l.at - 2;
+    let start = end - count;
+    &f[start..end]
 }
 
 // The preface of a file: the part before its first clause, or the empty part of a refused file.

@@ -18,12 +18,10 @@ ghost use mathlib.Core.Path.{_≡_};
 ghost use mathlib.Core.Logic.{_↔_};
 ghost use mathlib.Core.List.{[]};
 ghost use lib.ListN.{length};
-ghost use Rattle.file_spec.specs.File.{namesOf};
 ghost use Rattle.build.specs.Entry.{TableBuilt};
 ghost use Rattle.build.specs.declared.Built.{Built};
 ghost use Rattle.judge_spec.specs.Judge.{Judged};
 ghost use Rattle.judge_spec.specs.declared.Verdict.{Verdict};
-ghost use Rattle.file_read.specs.Read.{readOf};
 ghost use Rattle.table_lent.specs.Lent.{inBytes};
 ghost use Rattle.table_judge.specs.Tables.{JudgedTable};
 ghost use Rattle.table_call.specs.declared.Start.{Start};
@@ -34,18 +32,15 @@ ghost use Rattle.word_same.specs.Same.{sameRow, sameWordsOf};
 ghost use Rattle.word_same.specs.declared.SameWords.the-variants.{Same};
 ghost use Rattle.mulgreddi_answers.specs.Answers.{writtenAnswer, sameRulesAnswer, sameWordsAnswer, verdictAnswer};
 ghost use Rattle.mulgreddi_answers.specs.Answers.{builtAnswer, startAnswer};
-ghost use Rattle.mulgreddi.specs.Check.{readAnswer};
+ghost use Rattle.mulgreddi.specs.Check.{Checked};
 
 // Reads a rule file; the length of its preface, and how many bytes of names stand right before the preface's last two bytes.
 #[no_mangle]
 pub extern "C" fn mulgreddi_check(file: &[u8]) -> Answer
-    ensures { λ r. ⌜ r ≡ readAnswer (readOf (now (file .entry))) (namesOf (now (file .entry))) ⌝ }
+    ensures { λ r. ⌜ Checked (now (file .entry)) r ⌝ }
 {
     match file_read::read_rule(file) {
-        Read::Accepted(layout) => {
-            let names = file_read::names_of(file, layout);
-            mulgreddi_answers_rules::checked(layout.at, names.len())
-        }
+        Read::Accepted(layout) => mulgreddi_answers_rules::checked(layout.at, layout.names),
         Read::Refused(row) => mulgreddi_answers::refused(row),
     }
 }

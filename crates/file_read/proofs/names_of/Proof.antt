@@ -1,27 +1,55 @@
--- `file_read::names_of` meets its contract.
-use mathlib.Core.Path.{_∙_}
+-- `file_read::names_of` meets its contract: the names are where the reader told.
+use Prim.Native.Nat.{_+_, _<_, _≤_}
 use native.Mathlib.Omega.{arith}
-use lib.ListN.{length-take}
-use Rattle.file_read.proofs.Answer.{served, served-letters, names-served}
+use borrow.Author.Needs.{needs}
+use Rattle.file_read.proofs.Answer.{Served, served, names-none, names-there}
 use Rattle.file_read.proofs.names_of.Statement.{statement}
 use Rattle.file_read.proofs.names_of.Tie as tie
 
-slice-aggregate-names-in : tie.Need-slice-aggregate-names-in
-slice-aggregate-names-in c =
-    let a = c .before .before .before .args in
-    let s = served (a .f .now) (a .l) (c .before .before .before .pre) in
-    simp length-take (omega (arith, s .bounds))
-
-names-in-requires : tie.Need-names-in-requires
-names-in-requires c κs =
-    let a = c .before .before .before .args in
-    let p = c .before .before .before .pre in
-    (served-letters (a .f .now) (a .l) p, served (a .f .now) (a .l) p .names-fit)
+slice-aggregate-result : tie.Need-slice-aggregate-result
+slice-aggregate-result c = search needs
 
 returns : tie.Need-returns
-returns c =
-    let a = c .before .before .before .before .args in
-    c .names-in .ensures ∙ names-served (a .f .now) (a .l) (c .before .before .before .before .pre)
+returns c = let a = c .before .before .args in names-none (a .f .now) (a .l) (c .before .before .pre) (c .before .if1 .taken)
+
+-- there are names
+some-names : (c : tie.Else1) → 0 < c .before .args .l .names
+some-names c = omega (arith, c .if1 .left)
+
+known : (c : tie.Else1) → Served (c .before .args .f .now) (c .before .args .l)
+known c = let a = c .before .args in served (a .f .now) (a .l) (c .before .pre)
+
+-- so they stand before the first clause, and two bytes more
+room : (c : tie.Else1) → c .before .args .l .names + 2 ≤ c .before .args .l .at
+room c = known c .names-inside (some-names c)
+
+sub-end : tie.Need-sub-end
+sub-end c = omega (arith, room (c .before))
+
+sub-start : tie.Need-sub-start
+sub-start c = omega (arith, room (c .before))
+
+sub-result : tie.Need-sub-result
+sub-result c = search needs
+
+part-result-start : tie.Need-part-result-start
+part-result-start c = search needs
+
+part-result-end : tie.Need-part-result-end
+part-result-end c = omega (arith, room (c .before), known (c .before) .bounds)
+
+returns-2 : tie.Need-returns-2
+returns-2 c = let a = c .before .before .before .args in names-there (a .f .now) (a .l) (c .before .before .before .pre) (some-names (c .before .before))
 
 pub names-of-spec : {M : Type 1} → statement M
-names-of-spec = tie.close (tie.spec slice-aggregate-names-in names-in-requires returns)
+names-of-spec =
+    tie.close
+    (tie.spec
+    slice-aggregate-result
+    returns
+    sub-end
+    sub-start
+    sub-result
+    part-result-start
+    part-result-end
+    returns-2)
