@@ -1,10 +1,10 @@
 -- A preface brings 21, 22, 23 or names and nothing else: bytes put before a file change neither what rows 1 to 11 and 20 say of it nor its rule,
 -- nor what is answered by rows and rule where no name is refused.
-use Prim.Native.Nat.{ℕ, zero, suc, _+_, _-_, _<_, _≤_}
+use Prim.Native.Nat.{ℕ, suc, _+_, _-_, _<_, _≤_}
 use mathlib.Core.Path.{_≡_, refl, ap, ap₂, sym, _∙_}
 use mathlib.Core.Bool.{Bool, true, false, cond}
 use mathlib.Core.List.{List, _++_}
-use mathlib.Core.Logic.{_⊎_, inl, inr, ⊎-elim, by-cases}
+use mathlib.Core.Logic.{_↔_, _⊎_, inl, inr, ⊎-elim, by-cases}
 use native.Mathlib.Omega.{arith}
 use native.Mathlib.Decide.{decLt, ℕ-discrete}
 use borrow.Author.Tests.{le-ltb}
@@ -14,21 +14,18 @@ use lib.Dec.{ltb}
 use Rattle.sets.proofs.Bools.{bif}
 use Rattle.sets.specs.Lists.{anyOf}
 use Rattle.refusals.specs.Rows.{Check, firstRow}
-use Rattle.refusals.proofs.Rows.{first-left, first-right}
+use Rattle.refusals.proofs.Rows.{first-left}
 use Rattle.theory.specs.Rule.{Rule}
 use Rattle.file_spec.specs.File.{trailer, tagged, headOf, clauseCount, entryCount, clausesAt, clausesOf, countsOf, partBefore, namesOf, ruleIn}
 use Rattle.file_spec.specs.Names.{repeatsName}
 use Rattle.file_spec.proofs.Names.{cutOff}
 use Rattle.file_spec.specs.Rows.{trailerRows, layoutRows, bodyRows, bodyRow, nameRows, prefaceRows, prefaceRow, fileRows, fileRow, oldRows, oldRow}
-use Rattle.file_spec.specs.RuleRows.{outside, numberRows}
+use Rattle.file_spec.specs.RuleRows.{outside, numberRows, componentRows, formedRows}
 use Rattle.file_read.specs.Read.{prefaceOf}
-use Rattle.file_spec.proofs.TrailerRows.{row-1, row-2, row-numbers, row-7, rows-trailer}
-use Rattle.file_read.proofs.FileRows.{file-numbered, old-numbered, old-accepts, accepted-placed, accepted-rows, rows-layout, rows-body, rows-preface}
+use Rattle.file_spec.proofs.TrailerRows.{row-1, row-2, row-numbers, row-7, rows-trailer, placed}
+use Rattle.file_read.proofs.FileRows.{layout-numbered, file-numbered, old-numbered, old-accepts, laid, accepted-placed, accepted-rows, rows-layout, rows-body, rows-preface}
 use Rattle.file_read.proofs.Accepted.{preface-accepted}
-
--- a row of the trailer that refuses is the first of rows 1 to 11 and 20
-refused : (f : List ℕ) (k : ℕ) → (k ≡ 0 → ⊥) → k ≡ firstRow (trailerRows f) → k ≡ bodyRow f
-refused f k n e = rows-layout f k n (rows-trailer f k n e)
+use Rattle.file_read.proofs.RowAndRule.{row-alike, holds-alike, answer-alike}
 
 module _ (p f : List ℕ) (long : 8 ≤ length f) where
   pub trailer-after : (i : ℕ) → trailer (p ++ f) i ≡ trailer f i
@@ -71,38 +68,54 @@ module _ (p f : List ℕ) (long : 8 ≤ length f) where
     pub part-after : partBefore (p ++ f) ≡ p ++ partBefore f
     part-after = ap (λ (i : ℕ). take i (p ++ f)) clauses-at-after ∙ take-append-add p f (clausesAt f)
 
-    rows-after : bodyRows (p ++ f) ≡ bodyRows f
-    unfolding bodyRows layoutRows trailerRows
+    rows-after : layoutRows (p ++ f) ≡ layoutRows f
+    unfolding layoutRows trailerRows
     rows-after =
         let long₂ : ltb (length (p ++ f)) 8 ≡ false = le-ltb (length (p ++ f)) 8 (omega (arith, length-append p f)) in
         let fits₂ : ltb (length (p ++ f) - 8) (clauseCount (p ++ f) + entryCount (p ++ f)) ≡ false =
         le-ltb (length (p ++ f) - 8) (clauseCount (p ++ f) + entryCount (p ++ f)) (omega (arith, length-append p f, clause-count-after, entry-count-after)) in
         rw (long₂, fits₂, le-ltb (length f) 8 long, le-ltb (length f - 8) (clauseCount f + entryCount f) fits, tagged-after, counts-after, clauses-after, trailer-after 0, trailer-after 1, trailer-after 2, trailer-after 3)
 
-    row-after : bodyRow (p ++ f) ≡ bodyRow f
-    unfolding bodyRow
-    row-after = ap firstRow rows-after
-
   -- where the parts do not fit, rows 2 to 6 are those of the trailer
-  short-after : length f - 8 < clauseCount f + entryCount f → (bodyRow f ≡ 7 → ⊥) → bodyRow (p ++ f) ≡ bodyRow f
+  short-after : length f - 8 < clauseCount f + entryCount f → (firstRow (layoutRows f) ≡ 7 → ⊥) → firstRow (layoutRows (p ++ f)) ≡ firstRow (layoutRows f)
   short-after l n =
       let long₂ : 8 ≤ length (p ++ f) = omega (arith, length-append p f) in
       bif (tagged f)
       (λ t. by-cases (decLt 0 (firstRow (numberRows (headOf f))))
       (λ m. let k = firstRow (numberRows (headOf f)) in
-      sym (refused (p ++ f) k (λ z. omega arith) (row-numbers (p ++ f) long₂ (tagged-after ∙ t) k (λ z. omega arith) (ap (λ h. firstRow (numberRows h)) (sym head-after))))
-      ∙ refused f k (λ z. omega arith) (row-numbers f long t k (λ z. omega arith) refl))
-      (λ m. absurd (n (sym (refused f 7 (λ z. omega arith) (row-7 f long t (omega arith) l))))))
-      (λ t. sym (refused (p ++ f) 2 (λ z. omega arith) (row-2 (p ++ f) long₂ (tagged-after ∙ t))) ∙ refused f 2 (λ z. omega arith) (row-2 f long t))
+      sym (rows-trailer (p ++ f) k (λ z. omega arith) (row-numbers (p ++ f) long₂ (tagged-after ∙ t) k (λ z. omega arith) (ap (λ h. firstRow (numberRows h)) (sym head-after))))
+      ∙ rows-trailer f k (λ z. omega arith) (row-numbers f long t k (λ z. omega arith) refl))
+      (λ m. absurd (n (sym (rows-trailer f 7 (λ z. omega arith) (row-7 f long t (omega arith) l))))))
+      (λ t. sym (rows-trailer (p ++ f) 2 (λ z. omega arith) (row-2 (p ++ f) long₂ (tagged-after ∙ t))) ∙ rows-trailer f 2 (λ z. omega arith) (row-2 f long t))
 
--- Bytes before a file leave rows 1 to 11 and 20 as they are, unless the file by itself is too short (rows 1 and 7).
-pub body-after : (p f : List ℕ) → (bodyRow f ≡ 1 → ⊥) → (bodyRow f ≡ 7 → ⊥) → bodyRow (p ++ f) ≡ bodyRow f
-body-after p f n₁ n₇ =
+-- Bytes before a file leave rows 1 to 10 as they are, unless the file by itself is too short (rows 1 and 7).
+pub layout-after : (p f : List ℕ) → (firstRow (layoutRows f) ≡ 1 → ⊥) → (firstRow (layoutRows f) ≡ 7 → ⊥) → firstRow (layoutRows (p ++ f)) ≡ firstRow (layoutRows f)
+layout-after p f n₁ n₇ =
     by-cases (decLt (length f) 8)
-    (λ l. absurd (n₁ (sym (refused f 1 (λ z. omega arith) (row-1 f l)))))
+    (λ l. absurd (n₁ (sym (rows-trailer f 1 (λ z. omega arith) (row-1 f l)))))
     (λ l. by-cases (decLt (length f - 8) (clauseCount f + entryCount f))
     (λ m. short-after p f (omega arith) m n₇)
-    (λ m. row-after p f (omega arith) (omega arith)))
+    (λ m. ap firstRow (rows-after p f (omega arith) (omega arith))))
+
+-- and where none of them refuses, the rule
+pub laid-after : (p f : List ℕ) → firstRow (layoutRows f) ≡ 0 → ruleIn (p ++ f) ≡ ruleIn f
+laid-after p f e = let k = placed f (laid f e .0) in rule-after p f (k .long) (k .fits)
+
+-- So they leave rows 1 to 11 and 20 as they are,
+pub body-after : (p f : List ℕ) → (bodyRow f ≡ 1 → ⊥) → (bodyRow f ≡ 7 → ⊥) → bodyRow (p ++ f) ≡ bodyRow f
+unfolding bodyRow bodyRows
+body-after p f n₁ n₇ =
+    row-alike formedRows (layoutRows (p ++ f)) (layoutRows f) (layout-numbered (p ++ f)) (layout-numbered f) (ruleIn (p ++ f)) (ruleIn f)
+    (layout-after p f (λ z. n₁ (sym (rows-layout f 1 (λ z. omega arith) (sym z)))) (λ z. n₇ (sym (rows-layout f 7 (λ z. omega arith) (sym z)))))
+    (laid-after p f)
+
+-- and rows 1 to 11, those of the reader of 01.
+pub old-after : (p f : List ℕ) → (oldRow f ≡ 1 → ⊥) → (oldRow f ≡ 7 → ⊥) → oldRow (p ++ f) ≡ oldRow f
+unfolding oldRow oldRows
+old-after p f n₁ n₇ =
+    row-alike componentRows (layoutRows (p ++ f)) (layoutRows f) (layout-numbered (p ++ f)) (layout-numbered f) (ruleIn (p ++ f)) (ruleIn f)
+    (layout-after p f (λ z. n₁ (sym (first-left (layoutRows f) _ 1 (λ z. omega arith) (sym z)))) (λ z. n₇ (sym (first-left (layoutRows f) _ 7 (λ z. omega arith) (sym z)))))
+    (laid-after p f)
 
 -- ---- what a preface brings
 
@@ -147,37 +160,38 @@ preface-no-effect p f n₁ n₇ u v =
 pub accepted-after : (p f : List ℕ) → fileRow f ≡ 0 → prefaceRow (p ++ f) ≡ 0 → (fileRow (p ++ f) ≡ 0) × (ruleIn (p ++ f) ≡ ruleIn f) × (prefaceOf (p ++ f) ≡ p ++ prefaceOf f)
 accepted-after p f e v =
     let k = accepted-placed f e in
-    let r : fileRow (p ++ f) ≡ 0 = unnamed-row (p ++ f) v ∙ row-after p f (k .long) (k .fits) ∙ accepted-rows f e .0 in (
+    let b = accepted-rows f e .0 in
+    let r : fileRow (p ++ f) ≡ 0 = unnamed-row (p ++ f) v ∙ body-after p f (λ z. omega (arith, b, z)) (λ z. omega (arith, b, z)) ∙ b in (
       r,
       rule-after p f (k .long) (k .fits),
       preface-accepted (p ++ f) r ∙ part-after p f (k .long) (k .fits) ∙ ap (λ (l : List ℕ). p ++ l) (sym (preface-accepted f e)),
     )
 
--- An answer is by the first row of the file and then of its rule, and by the rule where none refuses.
+-- ---- what is answered by the first row of the file and then of its rule, and by the rule where none refuses
+
 module _ (rest : Rule → List Check) where
-  -- the first row that refuses
-  abbrev rowOf : List ℕ → ℕ
-  rowOf f = firstRow (fileRows f ++ rest (ruleIn f))
+  module _ (p f : List ℕ) (n₁ : fileRow f ≡ 1 → ⊥) (n₇ : fileRow f ≡ 7 → ⊥) (u : prefaceRow f ≡ 0) (v : prefaceRow (p ++ f) ≡ 0) where
+    pub first-after : firstRow (fileRows (p ++ f) ++ rest (ruleIn (p ++ f))) ≡ firstRow (fileRows f ++ rest (ruleIn f))
+    unfolding fileRow
+    first-after =
+        row-alike rest (fileRows (p ++ f)) (fileRows f) (file-numbered (p ++ f)) (file-numbered f) (ruleIn (p ++ f)) (ruleIn f)
+        (preface-no-effect p f n₁ n₇ u v) (λ e. accepted-after p f e v .1)
 
-  refused-row : (f : List ℕ) → (fileRow f ≡ 0 → ⊥) → fileRow f ≡ rowOf f
-  unfolding fileRow
-  refused-row f n = first-left (fileRows f) (rest (ruleIn f)) (fileRow f) n refl
-
-  accepted-row : (f : List ℕ) → fileRow f ≡ 0 → rowOf f ≡ firstRow (rest (ruleIn f))
-  unfolding fileRow
-  accepted-row f e = first-right (fileRows f) (rest (ruleIn f)) (file-numbered f) e
+    -- 01: "The preface has no effect on any answer", where its names are not refused: what holds of the answers
+    pub holds-after : (P : ℕ → Rule → Type 0) → ((k : ℕ) (r t : Rule) → P (suc k) r → P (suc k) t)
+        → P (firstRow (fileRows (p ++ f) ++ rest (ruleIn (p ++ f)))) (ruleIn (p ++ f)) ↔ P (firstRow (fileRows f ++ rest (ruleIn f))) (ruleIn f)
+    unfolding fileRow
+    holds-after P alone =
+        let e = preface-no-effect p f n₁ n₇ u v in (
+          holds-alike rest (fileRows (p ++ f)) (fileRows f) (file-numbered (p ++ f)) (file-numbered f) (ruleIn (p ++ f)) (ruleIn f) e (λ z. accepted-after p f z v .1) P alone,
+          holds-alike rest (fileRows f) (fileRows (p ++ f)) (file-numbered f) (file-numbered (p ++ f)) (ruleIn f) (ruleIn (p ++ f)) (sym e) (λ z. sym (accepted-after p f (sym e ∙ z) v .1)) P alone,
+        )
 
   -- on a file that the new reader accepts, the reader of 01 leads to the same first row
   pub old-first : (f : List ℕ) → fileRow f ≡ 0 → firstRow (oldRows f ++ rest (ruleIn f)) ≡ firstRow (fileRows f ++ rest (ruleIn f))
-  unfolding oldRow
-  old-first f e = first-right (oldRows f) (rest (ruleIn f)) (old-numbered f) (old-accepts f e) ∙ sym (accepted-row f e)
-
-  pub first-after : (p f : List ℕ) → (fileRow f ≡ 1 → ⊥) → (fileRow f ≡ 7 → ⊥) → prefaceRow f ≡ 0 → prefaceRow (p ++ f) ≡ 0
-      → firstRow (fileRows (p ++ f) ++ rest (ruleIn (p ++ f))) ≡ firstRow (fileRows f ++ rest (ruleIn f))
-  first-after p f n₁ n₇ u v =
-      by-cases (ℕ-discrete (fileRow f) 0)
-      (λ e. let a = accepted-after p f e v in accepted-row (p ++ f) (a .0) ∙ ap (λ (r : Rule). firstRow (rest r)) (a .1) ∙ sym (accepted-row f e))
-      (λ n. let e = preface-no-effect p f n₁ n₇ u v in sym (refused-row (p ++ f) (λ z. n (sym e ∙ z))) ∙ e ∙ refused-row f n)
+  unfolding fileRow oldRow
+  old-first f e =
+      row-alike rest (oldRows f) (fileRows f) (old-numbered f) (file-numbered f) (ruleIn f) (ruleIn f) (old-accepts f e ∙ sym e) (λ z. refl)
 
   module _ {X : Type 0} (answer : ℕ → Rule → X) where
     -- 02: "On a file that the new readers accept, both must reach equal verdicts."
@@ -185,16 +199,11 @@ module _ (rest : Rule → List Check) where
         → answer (firstRow (oldRows f ++ rest (ruleIn f))) (ruleIn f) ≡ answer (firstRow (fileRows f ++ rest (ruleIn f))) (ruleIn f)
     old-answer f e = ap (λ (k : ℕ). answer k (ruleIn f)) (old-first f e)
 
-    module _ (alone : (k : ℕ) (r t : Rule) → answer (suc k) r ≡ answer (suc k) t) where
-      refused-answer : (k : ℕ) (r t : Rule) → (k ≡ 0 → ⊥) → answer k r ≡ answer k t
-      refused-answer zero r t n = absurd (n refl)
-      refused-answer (suc k) r t n = alone k r t
-
-      -- 01: "The preface has no effect on any answer", where its names are not refused
-      pub answer-after : (p f : List ℕ) → (fileRow f ≡ 1 → ⊥) → (fileRow f ≡ 7 → ⊥) → prefaceRow f ≡ 0 → prefaceRow (p ++ f) ≡ 0
-          → answer (firstRow (fileRows (p ++ f) ++ rest (ruleIn (p ++ f)))) (ruleIn (p ++ f)) ≡ answer (firstRow (fileRows f ++ rest (ruleIn f))) (ruleIn f)
-      answer-after p f n₁ n₇ u v =
-          ap (λ (k : ℕ). answer k (ruleIn (p ++ f))) (first-after p f n₁ n₇ u v)
-          ∙ by-cases (ℕ-discrete (fileRow f) 0)
-          (λ e. ap (answer (rowOf f)) (accepted-after p f e v .1))
-          (λ n. refused-answer (rowOf f) (ruleIn (p ++ f)) (ruleIn f) (λ z. n (refused-row f n ∙ z)))
+    -- 01: "The preface has no effect on any answer", where its names are not refused
+    pub answer-after : ((k : ℕ) (r t : Rule) → answer (suc k) r ≡ answer (suc k) t)
+        → (p f : List ℕ) → (fileRow f ≡ 1 → ⊥) → (fileRow f ≡ 7 → ⊥) → prefaceRow f ≡ 0 → prefaceRow (p ++ f) ≡ 0
+        → answer (firstRow (fileRows (p ++ f) ++ rest (ruleIn (p ++ f)))) (ruleIn (p ++ f)) ≡ answer (firstRow (fileRows f ++ rest (ruleIn f))) (ruleIn f)
+    unfolding fileRow
+    answer-after alone p f n₁ n₇ u v =
+        answer-alike rest (fileRows (p ++ f)) (fileRows f) (file-numbered (p ++ f)) (file-numbered f) (ruleIn (p ++ f)) (ruleIn f)
+        (preface-no-effect p f n₁ n₇ u v) (λ e. accepted-after p f e v .1) answer alone
