@@ -16,7 +16,7 @@ ghost use Rattle.rule_tidy_spec.specs.Tidy.{tidyRule};
 ghost use Rattle.file_spec.specs.File.{clauseCount, entryCount, countsOf, clausesOf, partBefore, namesOf, bodyOf};
 ghost use Rattle.file_spec.specs.Names.{prefaceFrom};
 ghost use Rattle.file_write_spec.specs.Written.{sliceRows, after};
-ghost use Rattle.file_tidy_spec.specs.Tidied.{tidyRows, answer, tidiedOf, sliceTidied};
+ghost use Rattle.file_tidy_spec.specs.Tidied.{tidyRows, answer, TidyCalled};
 
 // The clause bytes of a file that has room for its parts.
 fn clauses_in(f: &[u8]) -> &[u8]
@@ -108,8 +108,7 @@ fn write_tidied(h: Head, counts: &[u8], clauses: &[u8], names: &[u8], out: &mut 
 // Writes the file of a file's tidied rule, with its names, to the start of out and answers its length,
 // or refuses by the rule's group but 20, and by 16, and leaves out as it was.
 pub fn tidy(file: &[u8], out: &mut [u8]) -> Tidied
-    ensures { λ r. ⌜ r ≡ tidiedOf (now (file .entry)) (length (now (out .entry))) ⌝ }
-    ensures { λ _. ⌜ now (out .exit) ≡ sliceTidied (now (file .entry)) (now (out .entry)) ⌝ }
+    ensures { λ r. ⌜ TidyCalled (now (file .entry)) (now (out .entry)) (now (out .exit)) r ⌝ }
 {
     let row = rule_row(file);
     if row != 0 {

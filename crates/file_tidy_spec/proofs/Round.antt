@@ -1,6 +1,6 @@
 -- The tool's file is accepted and read as the tidied rule with the same names; tidying it again gives the same file, and an accepted file's rule is unchanged.
 use Prim.Native.Nat.{ℕ, zero, suc, _+_, _≤_}
-use mathlib.Core.Path.{_≡_, refl, ap, ap₂, _∙_}
+use mathlib.Core.Path.{_≡_, refl, ap, ap₂, sym, _∙_}
 use mathlib.Core.Logic.{_↔_}
 use mathlib.Core.List.{List, _++_}
 use native.Mathlib.Omega.{arith}
@@ -24,8 +24,9 @@ use Rattle.file_read.proofs.FileRows.{laid, accepted-passing, accepted-apart}
 use Rattle.file_read.proofs.Layouts.{layout-accepted}
 use Rattle.file_write_spec.specs.Written.{after}
 use Rattle.file_write_spec.proofs.Round.{ReadsAs}
+use Rattle.file_tidy_spec.specs.declared.Tidied.{Tidied}
 use Rattle.file_tidy_spec.specs.declared.Tidied.the-variants.{Length}
-use Rattle.file_tidy_spec.specs.Tidied.{tidyRows, tidyFile, tidyRow, answer, tidiedOf, sliceTidied}
+use Rattle.file_tidy_spec.specs.Tidied.{tidyRows, tidyFile, tidyRow, answer, tidiedOf, sliceTidied, TidyMeant, TidyCalled}
 use Rattle.file_tidy_spec.proofs.Laws.{tidy-laid, tidy-served, tidy-preface, rows-passed, names-whole, names-pass, names-shorter, length-tidied, tidied-entries, tidied-clauses}
 
 from-length : (k : ℕ) (file : List ℕ) (m : ℕ) → answer k file ≡ Length m → (k ≡ 0) × (m ≡ length file)
@@ -80,12 +81,18 @@ module _ (f : List ℕ) (e : firstRow (tidyRows f) ≡ 0) where
   pub tidied-accepts : (lead cycle : List ℕ) (q p : ℕ) → AcceptsFrom (ruleIn (tidyFile f)) lead cycle q p ↔ AcceptsFrom (ruleIn f) lead cycle q p
   tidied-accepts lead cycle q p = rw (tidied-reads .rule) (tidy-accepts-from (ruleIn f) (tidy-served f e .formed .clause-states) lead cycle q p)
 
--- The start of the slice, as long as the answer says, reads as the tidied rule with the file's names.
-pub tidied-slice : (f old : List ℕ) (m : ℕ) → tidiedOf f (length old) ≡ Length m → ReadsAs (take m (sliceTidied f old)) (tidyRule (ruleIn f)) (namesOf f)
+  tidied-meant : TidyMeant f (tidyFile f)
+  tidied-meant = record { accepted = tidied-reads .accepted; rule = tidied-reads .rule; names = tidied-reads .letters; masks = tidied-masks; pairs = tidied-accepts }
+
+-- The start of the slice, as long as the answer says, is the tool's file.
+pub tidied-slice : (f old : List ℕ) (m : ℕ) → tidiedOf f (length old) ≡ Length m → TidyMeant f (take m (sliceTidied f old))
 unfolding tidiedOf sliceTidied after
 tidied-slice f old m e =
     let p = from-length (tidyRow f (length old)) (tidyFile f) m e in
-    rw (p .0, p .1, take-append-seam (tidyFile f) (drop (length (tidyFile f)) old)) (tidied-reads f (rows-passed f (length old) (p .0)))
+    rw (p .0, p .1, take-append-seam (tidyFile f) (drop (length (tidyFile f)) old)) (tidied-meant f (rows-passed f (length old) (p .0)))
+
+pub tidy-called : (f old new : List ℕ) (a : Tidied) → a ≡ tidiedOf f (length old) → new ≡ sliceTidied f old → TidyCalled f old new a
+tidy-called f old new a e w = record { answer = e; written = w; meant = λ m l. rw w (tidied-slice f old m (sym e ∙ l)) }
 
 -- An accepted file's rule is unchanged.
 pub accepted-unchanged : (f : List ℕ) → fileRow f ≡ 0 → tidyRule (ruleIn f) ≡ ruleIn f

@@ -1,12 +1,17 @@
 -- What the tidy tool answers, and what its slice then holds.
 use Prim.Native.Nat.{ℕ, zero, suc}
+use mathlib.Core.Path.{_≡_}
+use mathlib.Core.Logic.{_↔_}
 use mathlib.Core.List.{List, _++_}
-use lib.ListN.{length}
+use lib.ListN.{length, take}
 use Rattle.refusals.specs.Rows.{Check, firstRow}
+use Rattle.theory.specs.Word.{WordOver}
+use Rattle.theory.specs.Plan.{AcceptsFrom}
+use Rattle.theory.specs.Truth.{truthMasks}
 use Rattle.rule_tidy_spec.specs.Tidy.{tidyRule}
 use Rattle.file_spec.specs.File.{trailer, partBefore, namesOf, ruleIn, bodyOf}
 use Rattle.file_spec.specs.Names.{prefaceFrom}
-use Rattle.file_spec.specs.Rows.{layoutRows, prefaceRows}
+use Rattle.file_spec.specs.Rows.{layoutRows, prefaceRows, fileRow}
 use Rattle.file_spec.specs.RuleRows.{componentRows}
 use Rattle.file_write_spec.specs.Written.{sliceRows, after}
 use Rattle.file_tidy_spec.specs.declared.Tidied.{Tidied}
@@ -35,3 +40,24 @@ tidiedOf f room = answer (tidyRow f room) (tidyFile f)
 -- the slice that held old: the file at its start and the rest as lent, or all as lent where a row refuses
 unfoldable pub sliceTidied : List ℕ → List ℕ → List ℕ
 sliceTidied f old = after (tidyRow f (length old)) (tidyFile f) old
+
+-- ---- what it means
+
+-- the bytes tidied, for a file f
+pub record TidyMeant (f tidied : List ℕ) : Type 0 where
+  -- they are accepted, row 20 included,
+  pub accepted : fileRow tidied ≡ 0
+  -- and read as "The tidied rule", with the same names
+  pub rule : ruleIn tidied ≡ tidyRule (ruleIn f)
+  pub names : namesOf tidied ≡ namesOf f
+  -- 02: "The tidied rule must give equal truth masks on all words"
+  pub masks : (lead cycle : List ℕ) → WordOver (ruleIn f .s) lead cycle → truthMasks (ruleIn tidied) lead cycle ≡ truthMasks (ruleIn f) lead cycle
+  -- by plans: it accepts from the same pairs
+  pub pairs : (lead cycle : List ℕ) (q p : ℕ) → AcceptsFrom (ruleIn tidied) lead cycle q p ↔ AcceptsFrom (ruleIn f) lead cycle q p
+
+-- the answer a, and the slice before and after
+pub record TidyCalled (f old new : List ℕ) (a : Tidied) : Type 0 where
+  pub answer : a ≡ tidiedOf f (length old)
+  pub written : new ≡ sliceTidied f old
+  -- the file that a served call leaves, as long as its answer says
+  pub meant : (m : ℕ) → a ≡ Length m → TidyMeant f (take m new)

@@ -6,6 +6,7 @@ use Rattle.file_spec.specs.File.{trailer, partBefore}
 use Rattle.file_spec.proofs.TrailerRows.{Placed}
 use Rattle.file_tidy_spec.specs.Tidied.{tidyRows}
 use Rattle.file_tidy_spec.proofs.Laws.{tidy-laid, tidy-served, tidy-preface, names-few, refused-by, served-by}
+use Rattle.file_tidy_spec.proofs.Round.{tidy-called}
 use Rattle.file_tidy.proofs.Parts.{laid-out}
 use Rattle.file_tidy.proofs.tidy.Statement.{statement}
 use Rattle.file_tidy.proofs.tidy.Tie as tie
@@ -16,7 +17,8 @@ rule-row-requires c κs = search needs
 returns : tie.Need-returns
 returns c =
     let a = c .before .before .before .before .args in
-    refused-by (a .file .now) (a .out .now) (c .before .rule-row .result) (c .if1 .taken) (c .before .rule-row .ensures)
+    let s = refused-by (a .file .now) (a .out .now) (c .before .rule-row .result) (c .if1 .taken) (c .before .rule-row .ensures) in
+    tidy-called (a .file .now) (a .out .now) _ _ (s .0) (s .1)
 
 -- no row of the rule's group but 20 refuses
 pass : (c : tie.Else1) → firstRow (tidyRows (c .before .before .before .before .args .file .now)) ≡ 0
@@ -53,7 +55,7 @@ returns-2 c =
     let a = c .before .before .before .before .before .before .before .before .before .before .before .before .args in
     let w = rw (c .before .before .before .before .before .before .before .read-head .ensures, c .before .before .before .before .before .before .counts-in .ensures, c .before .before .before .before .before .clauses-in .ensures, c .before .before .before .before .names-of .ensures) at (c .before .before .write-tidied .ensures) in
     let s = served-by (a .file .now) (a .out .now) (pass (c .before .before .before .before .before .before .before .before)) in
-    (w .0 ∙ s .0, w .1 ∙ s .1)
+    tidy-called (a .file .now) (a .out .now) _ _ (w .0 ∙ s .0) (w .1 ∙ s .1)
 
 pub tidy-spec : {M : Type 1} → statement M
 tidy-spec =
