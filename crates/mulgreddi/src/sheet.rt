@@ -1,6 +1,7 @@
 // The judge of a sheet of words, for C.
 use mulgreddi_answers::Answer;
 ghost use mathlib.Core.Path.{_≡_};
+ghost use Rattle.sheet_spec.specs.Computed.{SheetComputed};
 ghost use Rattle.sheet_spec.specs.Judged.{SheetJudged};
 ghost use Rattle.sheet_spec.specs.declared.SheetAnswer.{SheetAnswer};
 ghost use Rattle.mulgreddi_answers.specs.Answers.{sheetAnswer};
@@ -15,6 +16,8 @@ pub extern "C" fn mulgreddi_judge_sheet(
 ) -> Answer
     ensures { λ r. ⌜ ((v : SheetAnswer) × (r ≡ sheetAnswer v)
         × SheetJudged (now (file .entry)) (now (sheet .entry)) (now (answers .entry)) (now (masks .entry))
+        (now (answers .exit)) (now (masks .exit)) v
+        × SheetComputed (now (file .entry)) (now (sheet .entry)) (now (answers .entry)) (now (masks .entry))
         (now (answers .exit)) (now (masks .exit)) v) ⌝ }
 {
     mulgreddi_answers_words::sheet(sheet_judge::judge_sheet(file, sheet, answers, masks))

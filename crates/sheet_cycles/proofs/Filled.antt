@@ -10,7 +10,7 @@ use lib.ListN.{length, getD, take, drop, set, length-append, length-take, length
 use lib.Seq.{getD-set-same, getD-set-other, take-append-le, drop-append-le, take-at, drop-at}
 use Rattle.theory.specs.Rule.{Rule}
 use Rattle.theory.specs.Truth.{truthMasks}
-use Rattle.sheet_spec.specs.Sheet.{isKnown, learn}
+use Rattle.sheet_spec.specs.Computed.{isKnown, learn}
 use Rattle.sheet_laws.proofs.Distinct.{learn-known, learn-new}
 use Rattle.sheet_cycles.specs.Known.{partAt, knownOf, Parts, Found}
 use Rattle.sheet_cycles.specs.Filled.{Filled, Learnt}

@@ -12,7 +12,7 @@ use lib.Seq.{getD-set-same, getD-set-other}
 use Rattle.sets.proofs.Bools.{bif}
 use Rattle.word_spelling_spec.specs.SpellingComputed.{sameLetters}
 use Rattle.word_spelling_spec.proofs.Same.{letters-equal, letters-iff}
-use Rattle.sheet_spec.specs.Sheet.{isKnown}
+use Rattle.sheet_spec.specs.Computed.{isKnown}
 use Rattle.sheet_laws.proofs.Distinct.{known-iff}
 use Rattle.sheet_cycles.specs.Known.{partAt, knownOf, Found}
 

@@ -5,7 +5,7 @@ use Prim.Native.Nat.{ℕ, _+_, _*_, _≤_, _<_}
 use lib.ListN.{length, getD, take, drop}
 use Rattle.theory.specs.Rule.{Rule}
 use Rattle.theory.specs.Truth.{truthMasks}
-use Rattle.sheet_spec.specs.Sheet.{learn}
+use Rattle.sheet_spec.specs.Computed.{learn}
 use Rattle.sheet_cycles.specs.Known.{partAt, knownOf, Parts}
 use Rattle.sheet_cycles.specs.declared.Learned.{Learned}
 

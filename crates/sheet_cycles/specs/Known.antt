@@ -4,7 +4,7 @@ use mathlib.Core.Bool.{true, false}
 use mathlib.Core.List.{List, [], _∷_, _++_}
 use Prim.Native.Nat.{ℕ, zero, suc, _+_, _≤_, _<_}
 use lib.ListN.{length, getD, take, drop}
-use Rattle.sheet_spec.specs.Sheet.{isKnown}
+use Rattle.sheet_spec.specs.Computed.{isKnown}
 
 module _ (sheet from size : List ℕ) where
   -- part k: size k bytes from byte from k on

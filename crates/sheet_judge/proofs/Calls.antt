@@ -12,15 +12,16 @@ use Rattle.refusals.proofs.Rows.{first-left, first-right, first-parts}
 use Rattle.theory.specs.Rule.{Rule}
 use Rattle.file_spec.specs.File.{ruleIn}
 use Rattle.file_spec.specs.Rows.{fileRows, fileRow}
-use Rattle.file_read.proofs.FileRows.{file-numbered}
+use Rattle.file_read.proofs.FileRows.{file-numbered, accepted-passing}
 use Rattle.judge_spec.specs.Judge.{after}
 use Rattle.sheet_spec.specs.Words.{wordsOf}
-use Rattle.sheet_spec.specs.Sheet.{answerOf, allMasks, cycleCount, sheetRows, sheetRow, sheetOf, totals}
+use Rattle.sheet_spec.specs.Sheet.{sheetRows, sheetRow}
+use Rattle.sheet_spec.specs.Computed.{answerOf, allMasks, cycleCount, sheetOf, totals, SheetComputed}
 use Rattle.sheet_spec.specs.Judged.{SheetJudged}
 use Rattle.sheet_spec.specs.declared.SheetAnswer.{SheetAnswer}
 use Rattle.sheet_spec.specs.declared.SheetAnswer.the-variants.{Judged, Refused}
 use Rattle.sheet_laws.proofs.Alone.{alone}
-use Rattle.sheet_laws.proofs.Distinct.{counted}
+use Rattle.sheet_laws.proofs.Meaning.{sheet-meant}
 use Rattle.sheet_judge.specs.Called.{calledRow, WordsJudged, SheetCalled}
 
 -- ---- rows
@@ -79,28 +80,49 @@ module _ (r : Rule) (sheet answers masks : List ℕ) where
 -- ---- a file
 
 module _ (f sheet answers masks : List ℕ) where
-  -- what holds of every answer
-  judged : (answers′ masks′ : List ℕ) (v : SheetAnswer) → v ≡ sheetOf f sheet (length answers) (length masks)
+  -- what holds of every answer as it is computed
+  computed : (answers′ masks′ : List ℕ) (v : SheetAnswer) → v ≡ sheetOf f sheet (length answers) (length masks)
       → answers′ ≡ after (sheetRow f sheet (length answers) (length masks)) (map (answerOf (ruleIn f)) (wordsOf sheet)) answers
-      → masks′ ≡ after (sheetRow f sheet (length answers) (length masks)) (allMasks (ruleIn f) (wordsOf sheet)) masks → SheetJudged f sheet answers masks answers′ masks′ v
-  judged answers′ masks′ v a b c = record {
+      → masks′ ≡ after (sheetRow f sheet (length answers) (length masks)) (allMasks (ruleIn f) (wordsOf sheet)) masks → SheetComputed f sheet answers masks answers′ masks′ v
+  computed answers′ masks′ v a b c = record {
     answered = a;
     answers-written = b;
     masks-written = c;
     alone = λ e a b t l. alone f (file-served sheet (length answers) (length masks) f e) a b t l;
-    counted = counted (ruleIn f .s) [] (wordsOf sheet) (λ i j h l e. omega (arith, l));
   }
 
-  pub judged-refused : (k : ℕ) → (k ≡ 0 → ⊥) → k ≡ fileRow f → SheetJudged f sheet answers masks answers masks (Refused k)
+  refused-kept : (k j : ℕ) (new old : List ℕ) → k ≡ suc j → after k new old ≡ old
+  unfolding after
+  refused-kept k j new old e = rw e
+
+  -- it is what plans and tidy spellings say
+  judged : (answers′ masks′ : List ℕ) (v : SheetAnswer) → SheetComputed f sheet answers masks answers′ masks′ v → SheetJudged f sheet answers masks answers′ masks′ v
+  unfolding sheetOf
+  judged answers′ masks′ v C =
+      let row = sheetRow f sheet (length answers) (length masks) in
+      record {
+        served = λ e. sheet-meant (ruleIn f) (accepted-passing f (file-served sheet (length answers) (length masks) f e)) sheet answers masks answers′ masks′ v
+            (rw e at (C .answered)) (rw e at (C .answers-written)) (rw e at (C .masks-written));
+        refused = λ k e. (
+          rw e at (C .answered),
+          C .answers-written ∙ refused-kept row k (map (answerOf (ruleIn f)) (wordsOf sheet)) answers e,
+          C .masks-written ∙ refused-kept row k (allMasks (ruleIn f) (wordsOf sheet)) masks e,
+        );
+      }
+
+  pub judged-refused : (k : ℕ) → (k ≡ 0 → ⊥) → k ≡ fileRow f → SheetJudged f sheet answers masks answers masks (Refused k) × SheetComputed f sheet answers masks answers masks (Refused k)
   unfolding sheetOf after
   judged-refused zero z e = absurd (z refl)
   judged-refused (suc k) z e =
       let j : sheetRow f sheet (length answers) (length masks) ≡ suc k = sym (file-refuses sheet (length answers) (length masks) f (suc k) z e) in
       let kept : (old new : List ℕ) → old ≡ after (suc k) new old = λ old new. refl in
-      judged answers masks (Refused (suc k)) (rw j) (rw j (kept answers (map (answerOf (ruleIn f)) (wordsOf sheet)))) (rw j (kept masks (allMasks (ruleIn f) (wordsOf sheet))))
+      let C = computed answers masks (Refused (suc k)) (rw j) (rw j (kept answers (map (answerOf (ruleIn f)) (wordsOf sheet)))) (rw j (kept masks (allMasks (ruleIn f) (wordsOf sheet)))) in
+      (judged answers masks (Refused (suc k)) C, C)
 
-  pub judged-called : (answers′ masks′ : List ℕ) (v : SheetAnswer) → fileRow f ≡ 0 → SheetCalled (ruleIn f) sheet answers masks answers′ masks′ v → SheetJudged f sheet answers masks answers′ masks′ v
+  pub judged-called : (answers′ masks′ : List ℕ) (v : SheetAnswer) → fileRow f ≡ 0 → SheetCalled (ruleIn f) sheet answers masks answers′ masks′ v
+      → SheetJudged f sheet answers masks answers′ masks′ v × SheetComputed f sheet answers masks answers′ masks′ v
   unfolding sheetOf
-  judged-called answers′ masks′ v e C =
+  judged-called answers′ masks′ v e D =
       let p = file-passes sheet (length answers) (length masks) f e in
-      judged answers′ masks′ v (rw p (C .answered)) (rw p (C .answers-written)) (rw p (C .masks-written))
+      let C = computed answers′ masks′ v (rw p (D .answered)) (rw p (D .answers-written)) (rw p (D .masks-written)) in
+      (judged answers′ masks′ v C, C)

@@ -11,7 +11,7 @@ use Rattle.theory.specs.Truth.{truthMasks}
 use Rattle.theory.specs.Word.{places}
 use Rattle.theory_laws.proofs.Truth.{truth-length}
 use Rattle.sheet_spec.specs.Words.{SheetWord, wordsOf, leadOf, cycleOf, faultOf}
-use Rattle.sheet_spec.specs.Sheet.{answerOf, masksBy, masksOf, allMasks, learnBy, cyclesAfter, cycleCount}
+use Rattle.sheet_spec.specs.Computed.{answerOf, masksBy, masksOf, allMasks, learnBy, cyclesAfter, cycleCount}
 use Rattle.sheet_laws.proofs.Walk.{words-end, words-last, words-next}
 use Rattle.sheet_words.specs.Places.{wordFrom, Next}
 use Rattle.sheet_words.proofs.Places.{CountedTo, counted-next, sound-at}

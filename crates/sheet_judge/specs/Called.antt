@@ -7,7 +7,8 @@ use Rattle.refusals.specs.Rows.{firstRow}
 use Rattle.theory.specs.Rule.{Rule}
 use Rattle.judge_spec.specs.Judge.{after}
 use Rattle.sheet_spec.specs.Words.{wordsOf}
-use Rattle.sheet_spec.specs.Sheet.{answerOf, allMasks, cycleCount, sheetRows, totals}
+use Rattle.sheet_spec.specs.Sheet.{sheetRows}
+use Rattle.sheet_spec.specs.Computed.{answerOf, allMasks, cycleCount, totals}
 use Rattle.sheet_spec.specs.declared.SheetAnswer.{SheetAnswer}
 
 -- the first of 24 and 16 that refuses, or 0

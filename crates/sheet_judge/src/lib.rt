@@ -16,6 +16,7 @@ ghost use lib.ListN.{length};
 ghost use Rattle.theory.specs.Passing.{Passing};
 ghost use Rattle.rule_entries.specs.Entries.{ruleOf};
 ghost use Rattle.sheet_spec.specs.Words.{wordsOf};
+ghost use Rattle.sheet_spec.specs.Computed.{SheetComputed};
 ghost use Rattle.sheet_spec.specs.Judged.{SheetJudged};
 ghost use Rattle.sheet_judge.specs.Called.{WordsJudged, SheetCalled};
 
@@ -100,6 +101,8 @@ pub fn judge_sheet_read(
 // Refused by the rows of the rule, 24 and 16, in this order, and both slices are then unchanged.
 pub fn judge_sheet(file: &[u8], sheet: &[u8], answers: &mut [u8], masks: &mut [u8]) -> SheetAnswer
     ensures { λ r. ⌜ SheetJudged (now (file .entry)) (now (sheet .entry)) (now (answers .entry)) (now (masks .entry))
+        (now (answers .exit)) (now (masks .exit)) r
+        × SheetComputed (now (file .entry)) (now (sheet .entry)) (now (answers .entry)) (now (masks .entry))
         (now (answers .exit)) (now (masks .exit)) r ⌝ }
 {
     match read_rule(file) {

@@ -23,8 +23,8 @@ use Rattle.word_rows.proofs.Checks.{word-over}
 use Rattle.judge_spec.specs.Judge.{judgeRow, judgeOf, callRow, holdsStart, verdict, after}
 use Rattle.judge_spec.proofs.Rows.{word-refuses, call-served, file-passes}
 use Rattle.sheet_spec.specs.Words.{SheetWord, lone, spelled, leadOf, cycleOf, lengthFaults, faultOf}
-use Rattle.sheet_spec.specs.Sheet.{answerBy, answerOf, masksBy, masksOf}
-use Rattle.sheet_spec.specs.Judged.{byteOf, Alone}
+use Rattle.sheet_spec.specs.Sheet.{byteOf}
+use Rattle.sheet_spec.specs.Computed.{answerBy, answerOf, masksBy, masksOf, Alone}
 use Rattle.sheet_laws.proofs.Distinct.{zero-or-suc}
 
 module _ (a b : ℕ) (t : List ℕ) (whole : length t ≡ a + b) where
@@ -89,7 +89,7 @@ drop-zeros zero n = let e : n - 0 ≡ n = omega arith in ap zeros (sym e)
 drop-zeros (suc k) zero = let e : 0 - suc k ≡ 0 = omega arith in sym (ap zeros e)
 drop-zeros (suc k) (suc n) = let e : suc n - suc k ≡ n - k = omega arith in drop-zeros k n ∙ sym (ap zeros e)
 
-verdict-byte : (b : Bool) → one b ≡ byteOf (verdict 0 b)
+pub verdict-byte : (b : Bool) → one b ≡ byteOf (verdict 0 b)
 verdict-byte true = refl
 verdict-byte false = refl
 

@@ -12,8 +12,8 @@ use Rattle.sets.proofs.Bools.{bif}
 use Rattle.word_spelling_spec.specs.SpellingComputed.{sameLetters}
 use Rattle.word_spelling_spec.proofs.Same.{letters-equal, letters-iff}
 use Rattle.sheet_spec.specs.Words.{SheetWord, faultOf}
-use Rattle.sheet_spec.specs.Sheet.{isKnown, learn, learnBy, cyclesAfter}
-use Rattle.sheet_spec.specs.Judged.{Once, tidyOf, Counted}
+use Rattle.sheet_spec.specs.Computed.{isKnown, learn, learnBy, cyclesAfter, tidyOf, Counted}
+use Rattle.sheet_spec.specs.Judged.{Once}
 
 pub known-yes : (c k : List ℕ) (ks : List (List ℕ)) → sameLetters k c ≡ true → isKnown c (k ∷ ks) ≡ true
 unfolding isKnown

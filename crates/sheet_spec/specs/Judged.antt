@@ -1,54 +1,55 @@
--- What the judge of a sheet leaves, and what that means.
+-- What the judge of a sheet of words answers and leaves, by plans and tidy spellings.
 use mathlib.Core.Path.{_≡_}
-use mathlib.Core.Logic.{_⊎_}
-use mathlib.Core.List.{List, [], map, List·Memᴰ}
-use Prim.Native.Nat.{ℕ, _+_, _<_}
+use mathlib.Core.List.{List, [], List·Memᴰ}
+use Prim.Native.Nat.{ℕ, suc, _*_, _≤_, _<_}
 use lib.ListN.{length, getD, take, drop, replicate}
 use Rattle.theory.specs.Rule.{Rule}
-use Rattle.theory.specs.Truth.{truthMasks}
+use Rattle.theory.specs.Word.{places, letters}
 use Rattle.file_spec.specs.File.{ruleIn}
 use Rattle.judge_spec.specs.declared.Verdict.{Verdict}
-use Rattle.judge_spec.specs.declared.Verdict.the-variants as judge
-use Rattle.judge_spec.specs.Judge.{judgeRow, judgeOf, after}
-use Rattle.word_spelling_spec.specs.SpellingComputed.{tidyCycle}
-use Rattle.sheet_spec.specs.Words.{SheetWord, spelled, wordsOf, leadOf, cycleOf, faultOf}
-use Rattle.sheet_spec.specs.Sheet.{answerOf, masksOf, allMasks, cyclesAfter, sheetRow, sheetOf}
+use Rattle.judge_spec.specs.Judge.{Meant}
+use Rattle.word_spelling_spec.specs.Spelling.{Tidy}
+use Rattle.sheet_spec.specs.Words.{SheetWord, lone, wordsOf, leadOf, cycleOf, faultOf}
+use Rattle.sheet_spec.specs.Sheet.{byteOf, sheetRow}
 use Rattle.sheet_spec.specs.declared.SheetAnswer.{SheetAnswer}
+use Rattle.sheet_spec.specs.declared.SheetAnswer.the-variants.{Judged, Refused}
 
--- the byte of the judge's answer
-abbrev pub byteOf : Verdict → ℕ
-byteOf judge.Yes = 1
-byteOf judge.No = 0
-byteOf (judge.Refused k) = k
-
--- 02: "Answer the sheet as if each word were judged alone": the answer byte of a word that is all there is the judge's,
--- and its mask bytes are what the judge makes of 64 zeros
-pub record Alone (f : List ℕ) (a b : ℕ) (t : List ℕ) : Type 0 where
-  pub answer : answerOf (ruleIn f) (spelled a b t) ≡ byteOf (judgeOf f (take a t) (drop a t) 64)
-  pub masks : masksOf (ruleIn f) (spelled a b t)
-      ≡ after (judgeRow f (take a t) (drop a t) 64) (truthMasks (ruleIn f) (take a t) (drop a t)) (replicate 64 0)
+-- a word's answer byte, and its mask bytes. 02: "Each word has 64 mask bytes"
+pub record WordMeant (r : Rule) (w : SheetWord) (answer : ℕ) (masks : List ℕ) : Type 0 where
+  pub long : length masks ≡ 64
+  -- 02: "Answer the sheet as if each word were judged alone": yes or no, and the mask of each place, are what they mean for the judge of one word
+  pub alone : faultOf (r .s) w ≡ 0 → (v : Verdict) × (answer ≡ byteOf v) × Meant r (leadOf w) (cycleOf w) masks v
+  -- "those past its places zero"
+  pub past : faultOf (r .s) w ≡ 0 → (p : ℕ) → places (leadOf w) (cycleOf w) ≤ p → getD masks p 0 ≡ 0
+  -- "or a faulty word's own number", "a faulty word's all zero"
+  pub faulty : (k : ℕ) → faultOf (r .s) w ≡ suc k → (answer ≡ suc k) × (masks ≡ replicate 64 0)
 
 -- no cycle stands twice
 abbrev pub Once : List (List ℕ) → Type 0
 Once ks = (i j : ℕ) → i < j → j < length ks → getD ks i [] ≡ getD ks j [] → ⊥
 
--- the tidy cycle of a word
-abbrev pub tidyOf : SheetWord → List ℕ
-tidyOf w = tidyCycle (leadOf w) (cycleOf w)
-
--- the cycles ks are those known before and the tidy cycles of the words that are not faulty, each once
-pub record Counted (s : ℕ) (known : List (List ℕ)) (ws : List SheetWord) (ks : List (List ℕ)) : Type 0 where
+-- 02: "the number of distinct tidy cycles on the sheet", "A faulty word adds no cycle to the count": the cycles ks are those of the tidy spellings of
+-- the words that are not faulty, over s letters, each once
+pub record TidyCycles (s : ℕ) (ws : List SheetWord) (ks : List (List ℕ)) : Type 0 where
   pub once : Once ks
-  pub old : (c : List ℕ) → List·Memᴰ c known → List·Memᴰ c ks
-  pub all : (w : SheetWord) → List·Memᴰ w ws → faultOf s w ≡ 0 → List·Memᴰ (tidyOf w) ks
-  pub only : (c : List ℕ) → List·Memᴰ c ks
-      → (List·Memᴰ c known ⊎ ((w : SheetWord) × List·Memᴰ w ws × (faultOf s w ≡ 0) × (c ≡ tidyOf w)))
+  pub all : (w : SheetWord) → List·Memᴰ w ws → faultOf s w ≡ 0 → (lead cycle : List ℕ) → Tidy (letters (leadOf w) (cycleOf w)) lead cycle → List·Memᴰ cycle ks
+  pub only : (cycle : List ℕ) → List·Memᴰ cycle ks
+      → (w : SheetWord) × (lead : List ℕ) × List·Memᴰ w ws × (faultOf s w ≡ 0) × Tidy (letters (leadOf w) (cycleOf w)) lead cycle
+
+-- a served call on the words ws: the answer v, and both slices before and after
+pub record SheetServed (r : Rule) (ws : List SheetWord) (answers masks answers′ masks′ : List ℕ) (v : SheetAnswer) : Type 0 where
+  -- 02: "the number of cycles filled, which must equal the number of distinct tidy cycles on the sheet"
+  pub cycles : List (List ℕ)
+  pub distinct : TidyCycles (r .s) ws cycles
+  pub answered : v ≡ Judged (record { words = length ws; cycles = length cycles })
+  -- 02: "Each word has an answer byte, in sheet order"
+  pub words : (i : ℕ) → i < length ws → WordMeant r (getD ws i (lone 0)) (getD answers′ i 0) (take 64 (drop (64 * i) masks′))
+  -- 02: "fills lent slices from their start and leaves the rest as lent"
+  pub answers-rest : drop (length ws) answers′ ≡ drop (length ws) answers
+  pub masks-rest : drop (64 * length ws) masks′ ≡ drop (64 * length ws) masks
 
 -- the answer v, and both slices before and after
 pub record SheetJudged (f sheet answers masks answers′ masks′ : List ℕ) (v : SheetAnswer) : Type 0 where
-  pub answered : v ≡ sheetOf f sheet (length answers) (length masks)
-  pub answers-written : answers′ ≡ after (sheetRow f sheet (length answers) (length masks)) (map (answerOf (ruleIn f)) (wordsOf sheet)) answers
-  pub masks-written : masks′ ≡ after (sheetRow f sheet (length answers) (length masks)) (allMasks (ruleIn f) (wordsOf sheet)) masks
-  pub alone : sheetRow f sheet (length answers) (length masks) ≡ 0 → (a b : ℕ) (t : List ℕ) → length t ≡ a + b → Alone f a b t
-  -- 02: "the number of distinct tidy cycles on the sheet", "A faulty word adds no cycle to the count"
-  pub counted : Counted (ruleIn f .s) [] (wordsOf sheet) (cyclesAfter (ruleIn f .s) [] (wordsOf sheet))
+  pub served : sheetRow f sheet (length answers) (length masks) ≡ 0 → SheetServed (ruleIn f) (wordsOf sheet) answers masks answers′ masks′ v
+  -- a refusal: "The answer is the number alone", and no lent slice changes
+  pub refused : (k : ℕ) → sheetRow f sheet (length answers) (length masks) ≡ suc k → (v ≡ Refused (suc k)) × (answers′ ≡ answers) × (masks′ ≡ masks)

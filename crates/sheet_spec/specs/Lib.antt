@@ -1,3 +1,4 @@
 pub mod Words
 pub mod Sheet
 pub mod Judged
+pub mod Computed

@@ -14,7 +14,7 @@ use Rattle.theory_laws.proofs.Truth.{truth-length}
 use Rattle.judge_spec.specs.Judge.{holdsStart}
 use Rattle.word_spelling_spec.specs.SpellingComputed.{tidyCycle}
 use Rattle.sheet_spec.specs.Words.{SheetWord, leadOf, cycleOf, faultOf}
-use Rattle.sheet_spec.specs.Sheet.{answerBy, answerOf, masksBy, masksOf, learn, learnBy}
+use Rattle.sheet_spec.specs.Computed.{answerBy, answerOf, masksBy, masksOf, learn, learnBy}
 use Rattle.sheet_words.specs.Places.{wordFrom}
 use Rattle.sheet_cycles.specs.Known.{knownOf}
 use Rattle.sheet_cycles.specs.Filled.{Filled}

@@ -11,7 +11,7 @@ use Rattle.rule_entries.specs.Starts.{EntryStarts}
 use Rattle.rule_reach.specs.Tables.{closuresOf}
 use Rattle.word_spelling_spec.specs.SpellingComputed.{tidyCycle}
 use Rattle.sheet_spec.specs.Words.{faultOf}
-use Rattle.sheet_spec.specs.Sheet.{answerOf, masksOf, learn, learnBy}
+use Rattle.sheet_spec.specs.Computed.{answerOf, masksOf, learn, learnBy}
 use Rattle.sheet_words.specs.Places.{wordFrom}
 use Rattle.sheet_cycles.specs.Known.{knownOf}
 use Rattle.sheet_cycles.specs.Filled.{Filled}

@@ -9,7 +9,7 @@ use Rattle.theory.specs.Truth.{truthMasks}
 use Rattle.theory.specs.Word.{letters}
 use Rattle.rule_entries.specs.Entries.{ruleOf}
 use Rattle.word_spelling_spec.specs.SpellingComputed.{cycleLength, shortened, leadLength}
-use Rattle.sheet_spec.specs.Sheet.{learn}
+use Rattle.sheet_spec.specs.Computed.{learn}
 use Rattle.sheet_cycles.specs.Known.{knownOf}
 use Rattle.sheet_word.proofs.Serve.{lead-at-most, cycle-at-most, cycle-least, part, part-over, part-long, front-letters, served-masks}
 use Rattle.sheet_word.proofs.serve_word.Statement.{statement}
