@@ -25,7 +25,7 @@ use Rattle.build_lists.specs.Room.{roomOf}
 use Rattle.build.specs.Built.{roomRows, buildRow, builtBy, builtOf}
 use Rattle.slice_text.specs.Decimal.{digitsIn, decimal, word}
 use Rattle.listing_lines_spec.specs.Lines.{builtLine, mLine, tLine, nLine, refusedLine, lines, tableText}
-use Rattle.listing_spec.specs.Listing.{answerText, listingOf}
+use Rattle.listing_spec.specs.Computed.{answerText, listingOf}
 
 -- what an evaluation unfolds
 unfoldable computed : ℕ

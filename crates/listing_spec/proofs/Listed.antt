@@ -18,7 +18,7 @@ use Rattle.build.specs.declared.Built.the-variants.{Table, Refused}
 use Rattle.build_lists.specs.Room.{roomOf}
 use Rattle.build.specs.Built.{roomRows, builtBy, sliceAfter, buildRow, builtOf, codesAfter, transitionsAfter}
 use Rattle.listing_lines_spec.specs.Lines.{initialAt, refusedLine, longLine, tableText}
-use Rattle.listing_spec.specs.Listing.{answerText, listingOf}
+use Rattle.listing_spec.specs.Computed.{answerText, listingOf}
 
 -- a table: no row refuses, and the counts are those of the lists
 from-table : (k : ℕ) (codes moves : List ℕ) (n : Counts) → builtBy k codes moves ≡ Table n → (k ≡ 0) × (n .macrostates ≡ length codes) × (n .transitions ≡ length moves)
@@ -51,20 +51,20 @@ module _ (f : List ℕ) where
       (r .0, ltb-false 512 (length (macrostates (ruleIn f))) (c .0), ltb-false 4096 (length (transitions (ruleIn f))) (t .0))
 
   module _ (short : length f ≤ 4096) where
-    by-answer : listingOf f ≡ answerText (builtOf f 512 4096) (namedIn f)
+    pub short-text : listingOf f ≡ answerText (builtOf f 512 4096) (namedIn f)
     unfolding listingOf
-    by-answer = rw (le-ltb 4096 (length f) short)
+    short-text = rw (le-ltb 4096 (length f) short)
 
     -- a refusal
     pub refused-text : (k : ℕ) → builtOf f 512 4096 ≡ Refused k → listingOf f ≡ refusedLine k
     unfolding answerText
-    refused-text k e = by-answer ∙ rw e
+    refused-text k e = short-text ∙ rw e
 
     -- a table
     module _ (n : Counts) (e : builtOf f 512 4096 ≡ Table n) where
       pub built-text : listingOf f ≡ tableText (isInitial (ruleIn f)) (namesOf f) (macrostates (ruleIn f)) (transitions (ruleIn f))
       unfolding answerText
-      built-text = by-answer ∙ rw e
+      built-text = short-text ∙ rw e
 
       counted : (buildRow f 512 4096 ≡ 0) × (n .macrostates ≡ length (macrostates (ruleIn f))) × (n .transitions ≡ length (transitions (ruleIn f)))
       unfolding builtOf

@@ -33,7 +33,7 @@ use Rattle.build_lists.specs.Room.{codesRoom, transitionsRoom}
 use Rattle.build.specs.Built.{roomRows, builtBy, buildRow, builtOf}
 use Rattle.slice_text.specs.Decimal.{word}
 use Rattle.listing_lines_spec.specs.Lines.{mLine, tLine, nLine, lettersOf, nameLine, nameLines, macrostateLine, macrostateLines, transitionLine, transitionLines, tableText}
-use Rattle.listing_spec.specs.Listing.{answerText, listingOf}
+use Rattle.listing_spec.specs.Computed.{answerText, listingOf}
 use Rattle.slice_text.proofs.Decimal.{decimal-length, word-length}
 use Rattle.listing_lines_spec.proofs.Lengths.{built-length, m-length, t-length, n-length, refused-length, table-length}
 use Rattle.listing_lines_spec.proofs.Lines.{lines-length}

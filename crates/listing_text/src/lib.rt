@@ -4,11 +4,12 @@ use file_read::Read;
 ghost use mathlib.Core.Path.{_≡_};
 ghost use mathlib.Core.List.{_++_};
 ghost use Prim.Native.Nat.{_≤_, _<_};
-ghost use lib.ListN.{length, drop};
+ghost use lib.ListN.{length, take, drop};
 ghost use Rattle.file_spec.specs.File.{namesOf, ruleIn};
 ghost use Rattle.file_spec.specs.Rows.{fileRow};
 ghost use Rattle.slice_text.specs.Put.{Put};
-ghost use Rattle.listing_spec.specs.Listing.{listingOf};
+ghost use Rattle.listing_spec.specs.Computed.{listingOf};
+ghost use Rattle.listing_spec.specs.Listing.{Printed};
 
 // No listing is longer: line one of 15 bytes, 16 n lines of 14, 512 m lines of 26 and 4,096 t lines of 13.
 pub const LONGEST: usize = 66799;
@@ -67,6 +68,7 @@ pub fn listing(file: &[u8], out: &mut [u8; LONGEST]) -> usize
     ensures { λ r. ⌜ r ≡ length (listingOf (now (file .entry))) ⌝ }
     ensures { λ _. ⌜ now (out .exit) ≡ listingOf (now (file .entry)) ++ drop (length (listingOf (now (file .entry)))) (now (out .entry)) ⌝ }
     ensures { λ r. ⌜ r ≤ length (now (out .exit)) ⌝ }
+    ensures { λ r. ⌜ Printed (now (file .entry)) (take r (now (out .exit))) × (drop r (now (out .exit)) ≡ drop r (now (out .entry))) ⌝ }
 {
     put_listing(out, file)
 }

@@ -21,10 +21,10 @@ listing-requires : tie.Need-listing-requires
 listing-requires c κs = search needs
 
 array-share-prefix-listing : tie.Need-array-share-prefix-listing
-array-share-prefix-listing c = c .listing2 .ensures .1 .1
+array-share-prefix-listing c = c .listing2 .ensures .1 .1 .0
 
 slice-aggregate-write-all : tie.Need-slice-aggregate-write-all
-slice-aggregate-write-all c = sym (length-take-le _ _ (c .before .listing2 .ensures .1 .1))
+slice-aggregate-write-all c = sym (length-take-le _ _ (c .before .listing2 .ensures .1 .1 .0))
 
 write-all-requires : tie.Need-write-all-requires
 write-all-requires c κs = search needs

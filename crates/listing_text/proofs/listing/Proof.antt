@@ -1,7 +1,9 @@
 -- `listing_text::listing` meets its contract: the slice has room for every listing.
 use native.Mathlib.Omega.{arith}
 use Rattle.slice_text.proofs.Puts.{put-first, put-length}
+use Rattle.listing_spec.specs.Computed.{listingOf}
 use Rattle.listing_spec.proofs.Room.{listing-most}
+use Rattle.listing_spec.proofs.ByLists.{printed, left-by}
 use Rattle.listing_text.proofs.listing.Statement.{statement}
 use Rattle.listing_text.proofs.listing.Tie as tie
 
@@ -13,7 +15,11 @@ returns : tie.Need-returns
 returns c =
     let P = c .put-listing .ensures in
     let p = put-first P in
-    (p .0, (p .1, omega (arith, P .fits, put-length P)))
+    let f = c .before .before .before .args .file .now in
+    let text = listingOf f in
+    let old = c .before .before .before .args .out .now in
+    let parts = left-by text old _ _ (p .0) (p .1) in
+    (p .0, (p .1, (omega (arith, P .fits, put-length P), (rw (parts .0) (printed f), parts .1))))
 
 pub listing-spec : {M : Type 1} → statement M
 listing-spec = tie.close (tie.spec put-listing-requires returns)

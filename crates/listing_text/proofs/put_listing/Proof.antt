@@ -8,7 +8,7 @@ use lib.Seq.{length-take-le}
 use Rattle.build.specs.declared.Built.the-variants.{Table}
 use Rattle.build.specs.Built.{builtOf}
 use Rattle.listing_lines_spec.specs.Lines.{initialAt, refusedLine, tableText}
-use Rattle.listing_spec.specs.Listing.{listingOf}
+use Rattle.listing_spec.specs.Computed.{listingOf}
 use Rattle.listing_spec.proofs.Listed.{long-text, refused-text, codes-fit, moves-fit, table-text}
 use Rattle.slice_text.proofs.Puts.{put-as}
 use Rattle.listing_text.proofs.put_listing.Statement.{statement}
