@@ -1,0 +1,1 @@
+// A built table through the text for other tools and back.
