@@ -43,6 +43,13 @@ fn run_same_words(lead1: &[u8], cycle1: &[u8], lead2: &[u8], cycle2: &[u8]) {
     }
 }
 
+fn say_written(answer: Written) {
+    match answer {
+        Written::Length(length) => say_answer(0, length, 0),
+        Written::Refused(row) => say_answer(row, 0, 0),
+    }
+}
+
 fn write_into(call: &[u8], out: &mut [u8]) {
     let answer = file_write::writer::write_rule(
         byte(call, 2) as u32,
@@ -54,16 +61,34 @@ fn write_into(call: &[u8], out: &mut [u8]) {
         out,
     );
     say_bytes(out);
-    match answer {
-        Written::Length(length) => say_answer(0, length, 0),
-        Written::Refused(row) => say_answer(row, 0, 0),
-    }
+    say_written(answer);
 }
 
 fn run_write(call: &[u8]) {
     let mut out = lent_bytes();
     let room = byte(call, 1);
     write_into(call, &mut out[0..room]);
+}
+
+fn write_named_into(call: &[u8], out: &mut [u8]) {
+    let answer = file_write::writer::write_named(
+        byte(call, 2) as u32,
+        byte(call, 3) as u32,
+        byte(call, 4) as u32,
+        byte(call, 5) as u32,
+        part(call, 1),
+        part(call, 2),
+        part(call, 3),
+        out,
+    );
+    say_bytes(out);
+    say_written(answer);
+}
+
+fn run_write_named(call: &[u8]) {
+    let mut out = lent_bytes();
+    let room = byte(call, 1);
+    write_named_into(call, &mut out[0..room]);
 }
 
 fn judge_into(file: &[u8], lead: &[u8], cycle: &[u8], masks: &mut [u8]) {
@@ -181,7 +206,8 @@ fn run(call: &[u8]) {
         4 => run_judge(call),
         5 => run_build(call),
         6 => run_judge_table(call),
-        _ => run_judge_built(call),
+        7 => run_judge_built(call),
+        _ => run_write_named(call),
     }
 }
 

@@ -5,7 +5,7 @@ use std::{env, fs, io, path::Path};
 
 use second::build::build;
 use second::judge::judge;
-use second::rule::{read, same_rules, write};
+use second::rule::{read, same_rules, write, write_named};
 use second::sample::{self, Random, NESTED, REFUSED};
 use second::table::judge_table;
 use second::word::same_words;
@@ -87,13 +87,18 @@ impl Calls {
 
     fn write(&mut self, name: &str, numbers: [u8; 4], counts: &[u8], clauses: &[u8], room: u8) {
         let written = write(numbers.map(u32::from), counts, clauses, room.into());
-        let (holds, answer) = match written {
-            Ok(file) => (file.clone(), Ok((file.len(), 0))),
-            Err(row) => (vec![], Err(row)),
-        };
+        let (holds, answer) = file_slice(written, room);
         let numbers = [&[room], &numbers[..]].concat();
-        let holds = kept(&holds, room);
         self.add(name, (1, &numbers), &[counts, clauses], &holds, answer);
+    }
+
+    /// The writer on counts, clauses and names.
+    fn write_named(&mut self, name: &str, numbers: [u8; 4], parts: [&[u8]; 3], room: u8) {
+        let [counts, clauses, names] = parts;
+        let written = write_named(numbers.map(u32::from), counts, clauses, names, room.into());
+        let (holds, answer) = file_slice(written, room);
+        let numbers = [&[room], &numbers[..]].concat();
+        self.add(name, (8, &numbers), &parts, &holds, answer);
     }
 
     fn same_rules(&mut self, name: &str, first: &[u8], second: &[u8]) {
@@ -142,6 +147,14 @@ impl Calls {
         let (holds, answer) = start(file, word, [&table[0], &table[1]], room);
         let parts = [&[file], &word[..]].concat();
         self.add(name, (7, &rooms), &parts, &holds, answer);
+    }
+}
+
+/// What a slice of `room` bytes holds after the writer, and its answer.
+fn file_slice(written: Result<Vec<u8>, u8>, room: u8) -> (Vec<u8>, Answer) {
+    match written {
+        Ok(file) => (kept(&file, room), Ok((file.len(), 0))),
+        Err(row) => (kept(&[], room), Err(row)),
     }
 }
 
@@ -336,6 +349,7 @@ fn nested(calls: &mut Calls) {
     for (name, file) in ["row 20", "row 20, twice"].into_iter().zip(NESTED) {
         calls.read(&format!("{name}, read"), file);
         calls.judge(&format!("{name}, judge"), file, &[], &[], 0);
+        calls.judge_table(&format!("{name}, table"), file, [&[]; 2], [&[]; 2], 1);
         calls.build(&format!("{name}, build"), file, [1, 1]);
         calls.same_rules(&format!("{name}, first rule"), file, &[]);
         calls.same_rules(&format!("{name}, second rule"), F, file);
@@ -370,12 +384,23 @@ fn names(calls: &mut Calls) {
         let file = named(preface);
         calls.read(&format!("row {row}, read"), &file);
         calls.judge(&format!("row {row}, judge"), &file, &[], &[], 0);
+        calls.judge_table(&format!("row {row}, table"), &file, [&[]; 2], [&[]; 2], 1);
         calls.build(&format!("row {row}, build"), &file, [1, 1]);
         calls.same_rules(&format!("row {row}, first rule"), &file, &[]);
         calls.same_rules(&format!("row {row}, second rule"), F, &file);
     }
     let file = [&b"NM"[..], REFUSED[10].1].concat();
     calls.read("row 11 before 21", &file);
+    let f = |names| [&[1, 1][..], &[1, 0], names];
+    let two = b"FETCH   STORE   ";
+    calls.write_named("F and names", [1, 2, 0, 0], f(two), 31);
+    calls.write_named("row 16, names", [1, 2, 0, 0], f(two), 29);
+    calls.write_named("no names", [1, 2, 0, 0], f(b""), 13);
+    calls.write_named("row 21, write", [1, 2, 0, 0], f(&two[1..]), 1);
+    calls.write_named("row 22, write", [1, 2, 0, 0], f(b"FETCH   FETCH  \x7f"), 1);
+    calls.write_named("row 23, write", [1, 2, 0, 0], f(b"FETCH   FETCH   "), 1);
+    let mixed: [&[u8]; 3] = [&[1, 1], &[2, 1], b"x"];
+    calls.write_named("row 11 before 21, write", [2, 1, 0, 1], mixed, 1);
 }
 
 /// Words that "agree at every step", and some that do so for long.
