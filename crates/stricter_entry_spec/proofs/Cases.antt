@@ -26,7 +26,8 @@ use Rattle.file_spec.specs.Names.{hasNames, namesBefore, repeatsName}
 use Rattle.build_lists.specs.Room.{roomOf}
 use Rattle.build.specs.Built.{roomRows}
 use Rattle.rejecting_spec.specs.RejectingComputed.{rejectingMacrostates, rejectingTransitions}
-use Rattle.stricter_rules_spec.proofs.Cases.{against-F}
+use Rattle.stricter_rules_spec.proofs.Cases.{against-F, not-stricter-F}
+use Rattle.stricter_entry_spec.specs.declared.Sizes.{Sizes}
 use Rattle.stricter_entry_spec.specs.declared.Comparison.the-variants.{Yes, No}
 use Rattle.stricter_entry_spec.specs.Rows.{Slices, tablesOf, pairs, letterRows, tableRows, pairRows, rulesRows, stricterRow, roomAfter, scratchAfter}
 use Rattle.stricter_entry_spec.specs.Compared.{sizesOf, WordFound, Told}
@@ -110,3 +111,7 @@ yes-E = (refl, refl, λ lead cycle W accepted. accepted)
 pub no-EF : Told E F (tablesOf E F) 0 (No (sizesOf (tablesOf E F)) 0 1) (7 ∷ 8 ∷ 9 ∷ []) (0 ∷ 8 ∷ 9 ∷ [])
 unfolding computed
 no-EF = (refl, record { lead = []; cycle = 0 ∷ []; lead-long = refl; cycle-long = refl; letters = refl; short = omega arith; against = against-F })
+
+-- so yes may not be said of them
+pub not-yes-EF : (sizes : Sizes) (old new : List ℕ) → Told E F (tablesOf E F) 0 (Yes sizes) old new → ⊥
+not-yes-EF sizes old new t = not-stricter-F (t .2)
