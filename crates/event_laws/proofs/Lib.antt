@@ -2,4 +2,3 @@ pub mod Ranges
 pub mod Lines
 pub mod Rows
 pub mod Words
-pub mod Prefaces
