@@ -1,59 +1,50 @@
--- Two lists of the reachable macrostates and transitions are those that are computed, so any such lists decide the answer and the slices.
-use mathlib.Core.Path.{_≡_, sym, _∙_, ap, subst}
+-- Two lists of the macrostates that are reached and of their transitions are those that are computed, so any such lists decide the answer and the
+-- slices.
+use mathlib.Core.Path.{_≡_, refl, sym, _∙_, ap, ap₂, subst}
 use mathlib.Core.Logic.{by-cases}
 use mathlib.Core.List.{List}
-use Prim.Native.Nat.{ℕ, _≤_, _<_}
+use Prim.Native.Nat.{ℕ, zero, suc, _≤_}
 use native.Mathlib.Omega.{arith}
 use native.Mathlib.Decide.{decLt}
 use lib.ListN.{length}
-use Rattle.sets.proofs.Ascending.{asc-ext}
-use Rattle.theory.specs.Automaton.{automaton}
-use Rattle.theory.specs.Macrostate.{holdsInitial}
+use Rattle.sets.specs.Tests.{Set}
 use Rattle.theory.specs.Passing.{Passing}
 use Rattle.theory.specs.Rule.{Rule}
-use Rattle.theory.specs.Table.{Transition, ListsReachable}
-use Rattle.theory.specs.TableComputed.{macrostates, transitions, macrostatesFrom, transitionsFrom}
-use Rattle.theory_laws.proofs.Tables.{reachable-iff, macrostates-ascending, transitions-ascending, transition-iff}
-use Rattle.build_lists.specs.Room.{codesRoom}
+use Rattle.theory.specs.Table.{ListsFrom}
+use Rattle.theory.specs.TableComputed.{macrostatesFrom, transitionsFrom}
+use Rattle.theory_laws.proofs.Lists.{codes-once, moves-once, lists-exist}
+use Rattle.theory_laws.proofs.Tables.{lists-from}
 use Rattle.build_lists.proofs.Room.{room-cap}
 use Rattle.build.specs.declared.Built.{Built}
 use Rattle.build.specs.Built.{roomRow, builtBy, sliceAfter}
-use Rattle.build.specs.Filling.{Made}
-use Rattle.build.proofs.RoomRows.{row-codes}
+use Rattle.build.specs.Filling.{Filled, Made}
+use Rattle.build.proofs.RoomRows.{row-codes, room-few}
 
-module _ (r : Rule) (P : Passing r) (codes moves : List ℕ) (L : ListsReachable r codes moves) where
-  pub codes-same : codes ≡ macrostates r
-  unfolding macrostates
-  codes-same =
-      asc-ext codes (macrostatesFrom r (holdsInitial r)) (L .codes-ascend) (macrostates-ascending r P (holdsInitial r))
-      (λ c m. reachable-iff r P (holdsInitial r) c .1 (L .codes-are c .0 m))
-      (λ c m. L .codes-are c .1 (reachable-iff r P (holdsInitial r) c .0 m))
+module _ (r : Rule) (P : Passing r) {start : Set} (codes moves : List ℕ) (L : ListsFrom r start codes moves) where
+  pub codes-same : codes ≡ macrostatesFrom r start
+  codes-same = codes-once L (lists-exist r P start .1)
 
-  pub moves-same : length (macrostates r) ≤ 65536 → moves ≡ transitions r
-  unfolding macrostates transitions
-  moves-same few =
-      asc-ext moves (transitionsFrom r (holdsInitial r)) (L .transitions-ascend) (transitions-ascending r P (holdsInitial r))
-      (λ t m. transition-iff r P (holdsInitial r) few t .1 (subst (λ (c : List ℕ). Transition (automaton r) (r .s) c t) codes-same (L .transitions-are t .0 m)))
-      (λ t m. L .transitions-are t .1 (subst (λ (c : List ℕ). Transition (automaton r) (r .s) c t) (sym codes-same) (transition-iff r P (holdsInitial r) few t .0 m)))
+  pub moves-same : length (macrostatesFrom r start) ≤ 65536 → moves ≡ transitionsFrom r start
+  moves-same few = moves-once L (lists-from r P start few)
 
-  module _ (xs zs : List ℕ) (b : Built) (ys ws : List ℕ) (M : Made (macrostates r) (transitions r) xs zs b ys ws) where
-    -- more macrostates than any room: 17, by the codes alone
-    crowded : 65536 < length (macrostates r) → Made codes moves xs zs b ys ws
-    unfolding builtBy sliceAfter
-    crowded big =
-        let cap = room-cap 65536 (length xs) in
-        let computed : roomRow (macrostates r) (transitions r) (length xs) (length zs) ≡ 17 = row-codes (macrostates r) (transitions r) (length xs) (length zs) (omega arith) in
-        let given : roomRow codes moves (length xs) (length zs) ≡ 17 = row-codes codes moves (length xs) (length zs) (omega (arith, ap length codes-same)) in
-        record {
-          answer = M .answer ∙ ap (λ (k : ℕ). builtBy k (macrostates r) (transitions r)) computed ∙ sym (ap (λ (k : ℕ). builtBy k codes moves) given);
-          codes-after = M .codes-after ∙ ap (λ (k : ℕ). sliceAfter k (macrostates r) xs) computed ∙ sym (ap (λ (k : ℕ). sliceAfter k codes xs) given);
-          moves-after = M .moves-after ∙ ap (λ (k : ℕ). sliceAfter k (transitions r) zs) computed ∙ sym (ap (λ (k : ℕ). sliceAfter k moves zs) given);
-        }
+  -- rows 17 and 18: more macrostates than any room are refused by the codes alone
+  pub row-same : (cl ml : ℕ) → roomRow codes moves cl ml ≡ roomRow (macrostatesFrom r start) (transitionsFrom r start) cl ml
+  row-same cl ml =
+      by-cases (decLt 65536 (length (macrostatesFrom r start)))
+      (λ big. let cap = room-cap 65536 cl in
+      row-codes codes moves cl ml (omega (arith, ap length codes-same)) ∙ sym (row-codes (macrostatesFrom r start) (transitionsFrom r start) cl ml (omega arith)))
+      (λ few. ap₂ (λ (x y : List ℕ). roomRow x y cl ml) codes-same (moves-same (omega arith)))
 
-    roomy : length (macrostates r) ≤ 65536 → Made codes moves xs zs b ys ws
-    roomy few =
-        subst (λ (m : List ℕ). Made codes m xs zs b ys ws) (sym (moves-same few))
-        (subst (λ (c : List ℕ). Made c (transitions r) xs zs b ys ws) (sym codes-same) M)
+-- the lists matter only where no row refuses
+pub filled-same : (row : ℕ) (codes moves cs ts xs zs : List ℕ) (b : Built) (ys ws : List ℕ) → (row ≡ 0 → (codes ≡ cs) × (moves ≡ ts))
+    → Filled row cs ts xs zs b ys ws → Filled row codes moves xs zs b ys ws
+unfolding builtBy sliceAfter
+filled-same zero codes moves cs ts xs zs b ys ws same F = let e = same refl in rw (e .0, e .1) F
+filled-same (suc k) codes moves cs ts xs zs b ys ws same F = record { answer = F .answer; codes-after = F .codes-after; moves-after = F .moves-after }
 
-    pub made-by-lists : Made codes moves xs zs b ys ws
-    made-by-lists = by-cases (decLt 65536 (length (macrostates r))) (λ big. crowded big) (λ few. roomy (omega arith))
+pub made-by-lists : (r : Rule) (P : Passing r) (start : Set) (codes moves : List ℕ) → ListsFrom r start codes moves → (xs zs : List ℕ) (b : Built) (ys ws : List ℕ)
+    → Made (macrostatesFrom r start) (transitionsFrom r start) xs zs b ys ws → Made codes moves xs zs b ys ws
+made-by-lists r P start codes moves L xs zs b ys ws M =
+    subst (λ (k : ℕ). Filled k codes moves xs zs b ys ws) (sym (row-same r P codes moves L (length xs) (length zs)))
+    (filled-same _ codes moves (macrostatesFrom r start) (transitionsFrom r start) xs zs b ys ws
+    (λ e. (codes-same r P codes moves L, moves-same r P codes moves L (room-few (macrostatesFrom r start) (transitionsFrom r start) (length xs) (length zs) e))) M)

@@ -6,6 +6,7 @@ use mathlib.Core.Bool.{false}
 use mathlib.Core.List.{List, _++_}
 use lib.ListN.{length, replicate}
 use Rattle.theory.specs.Rule.{Rule}
+use Rattle.theory.specs.Macrostate.{holdsInitial}
 use Rattle.theory.specs.Passing.{Passing}
 use Rattle.theory.specs.TableComputed.{macrostates, transitions}
 use Rattle.refusals.specs.Rows.{firstRow}
@@ -15,7 +16,7 @@ use Rattle.file_spec.specs.RuleRows.{someNested}
 use Rattle.file_read.proofs.Layouts.{layout-accepted}
 use Rattle.build.specs.declared.Built.the-variants.{Table}
 use Rattle.build_lists.specs.Room.{codesRoom, transitionsRoom}
-use Rattle.build.specs.Built.{builtBy, sliceAfter, buildRow, builtOf, codesAfter, transitionsAfter}
+use Rattle.build.specs.Built.{builtBy, sliceAfter, builtFrom, codesAfterFrom, transitionsAfterFrom, buildRow, builtOf, codesAfter, transitionsAfter}
 use Rattle.build.proofs.RoomRows.{row-fits}
 use Rattle.build.proofs.Answer.{build-row}
 
@@ -38,13 +39,13 @@ module _ (r : Rule) (P : Passing r) (apart : someNested r ≡ false) (p : List �
   unrefused : buildRow (p ++ bodyOf r) (length xs) (length zs) ≡ 0
   unrefused =
       let a = layout-accepted r P apart p named in
-      build-row (p ++ bodyOf r) xs zs (a .0) ∙ rw (a .1) (row-fits (macrostates r) (transitions r) (length xs) (length zs) codes-fit moves-fit)
+      build-row holdsInitial (p ++ bodyOf r) xs zs (a .0) ∙ rw (a .1) (row-fits (macrostates r) (transitions r) (length xs) (length zs) codes-fit moves-fit)
 
   -- the file of the rule, after any preface p whose names are not refused, is built: the counts and both lists, and zeros after them
   pub built-with-room : (builtOf (p ++ bodyOf r) (length xs) (length zs) ≡ Table (record { macrostates = length (macrostates r); transitions = length (transitions r) }))
       × (codesAfter (p ++ bodyOf r) xs (length zs) ≡ macrostates r ++ replicate (length xs - length (macrostates r)) 0)
       × (transitionsAfter (p ++ bodyOf r) (length xs) zs ≡ transitions r ++ replicate (length zs - length (transitions r)) 0)
-  unfolding builtOf codesAfter transitionsAfter
+  unfolding builtFrom codesAfterFrom transitionsAfterFrom
   built-with-room =
       let e = layout-accepted r P apart p named .1 in
       let k = buildRow (p ++ bodyOf r) (length xs) (length zs) in

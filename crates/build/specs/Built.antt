@@ -5,7 +5,10 @@ use Prim.Native.Nat.{ℕ, zero, suc, _-_}
 use lib.Dec.{ltb, eqb}
 use lib.ListN.{length, replicate}
 use Rattle.refusals.specs.Rows.{Check, firstRow, check}
-use Rattle.theory.specs.TableComputed.{macrostates, transitions}
+use Rattle.sets.specs.Tests.{Set}
+use Rattle.theory.specs.Macrostate.{holdsInitial}
+use Rattle.theory.specs.Rule.{Rule}
+use Rattle.theory.specs.TableComputed.{macrostatesFrom, transitionsFrom}
 use Rattle.file_spec.specs.File.{ruleIn}
 use Rattle.file_spec.specs.Rows.{fileRows}
 use Rattle.build_lists.specs.Room.{codesRoom, transitionsRoom}
@@ -41,20 +44,41 @@ unfoldable pub sliceAfter : ℕ → List ℕ → List ℕ → List ℕ
 sliceAfter zero list lent = list ++ replicate (length lent - length list) 0
 sliceAfter (suc k) list lent = cond (refusesRoom (suc k)) (replicate (length lent) 0) lent
 
--- ---- of a file
+-- ---- of a file: the table of its rule, begun by a start condition
 
--- 01: "Rule .., word, table, slices, room.": the rows of the rule, then 17, then 18
-unfoldable pub buildRow : List ℕ → ℕ → ℕ → ℕ
-buildRow file codesLen movesLen = firstRow (fileRows file ++ roomRows (macrostates (ruleIn file)) (transitions (ruleIn file)) codesLen movesLen)
+module _ (start : Rule → Set) (file : List ℕ) where
+  abbrev pub fileCodes : List ℕ
+  fileCodes = macrostatesFrom (ruleIn file) (start (ruleIn file))
 
--- the answer
-unfoldable pub builtOf : List ℕ → ℕ → ℕ → Built
-builtOf file codesLen movesLen = builtBy (buildRow file codesLen movesLen) (macrostates (ruleIn file)) (transitions (ruleIn file))
+  abbrev pub fileMoves : List ℕ
+  fileMoves = transitionsFrom (ruleIn file) (start (ruleIn file))
 
--- the slice of codes afterwards. 01: "The build writes reachable codes ascending into a lent slice of 64-bit numbers, numbered from 0"
-unfoldable pub codesAfter : List ℕ → List ℕ → ℕ → List ℕ
-codesAfter file codes movesLen = sliceAfter (buildRow file (length codes) movesLen) (macrostates (ruleIn file)) codes
+  -- 01: "Rule .., word, table, slices, room.": the rows of the rule, then 17, then 18
+  unfoldable pub rowFrom : ℕ → ℕ → ℕ
+  rowFrom codesLen movesLen = firstRow (fileRows file ++ roomRows fileCodes fileMoves codesLen movesLen)
 
--- the slice of transitions afterwards: "and transitions ascending into another"
-unfoldable pub transitionsAfter : List ℕ → ℕ → List ℕ → List ℕ
-transitionsAfter file codesLen moves = sliceAfter (buildRow file codesLen (length moves)) (transitions (ruleIn file)) moves
+  -- the answer
+  unfoldable pub builtFrom : ℕ → ℕ → Built
+  builtFrom codesLen movesLen = builtBy (rowFrom codesLen movesLen) fileCodes fileMoves
+
+  -- the slice of codes afterwards. 01: "The build writes reachable codes ascending into a lent slice of 64-bit numbers, numbered from 0"
+  unfoldable pub codesAfterFrom : List ℕ → ℕ → List ℕ
+  codesAfterFrom codes movesLen = sliceAfter (rowFrom (length codes) movesLen) fileCodes codes
+
+  -- the slice of transitions afterwards: "and transitions ascending into another"
+  unfoldable pub transitionsAfterFrom : ℕ → List ℕ → List ℕ
+  transitionsAfterFrom codesLen moves = sliceAfter (rowFrom codesLen (length moves)) fileMoves moves
+
+-- ---- 01's build: the start condition is that the set holds the initial state
+
+abbrev pub buildRow : List ℕ → ℕ → ℕ → ℕ
+buildRow = rowFrom holdsInitial
+
+abbrev pub builtOf : List ℕ → ℕ → ℕ → Built
+builtOf = builtFrom holdsInitial
+
+abbrev pub codesAfter : List ℕ → List ℕ → ℕ → List ℕ
+codesAfter = codesAfterFrom holdsInitial
+
+abbrev pub transitionsAfter : List ℕ → ℕ → List ℕ → List ℕ
+transitionsAfter = transitionsAfterFrom holdsInitial

@@ -1,30 +1,40 @@
--- What the build promises of a file.
+-- What a build promises of a file.
 use mathlib.Core.Path.{_≡_}
 use mathlib.Core.List.{List}
 use Prim.Native.Nat.{ℕ}
 use lib.ListN.{length, take}
-use Rattle.theory.specs.Demand.{Demand3}
-use Rattle.theory.specs.Table.{ListsReachable}
-use Rattle.endless_spec.specs.Endless.{NeverTwo}
+use Rattle.sets.specs.Tests.{Set}
+use Rattle.theory.specs.Demand.{DemandFrom}
+use Rattle.theory.specs.Macrostate.{holdsInitial}
+use Rattle.theory.specs.Plan.{AcceptsWord}
+use Rattle.theory.specs.Rule.{Rule}
+use Rattle.theory.specs.Table.{ListsFrom}
+use Rattle.endless_spec.specs.Endless.{NeverTwoFrom}
 use Rattle.file_spec.specs.File.{ruleIn}
 use Rattle.file_spec.specs.Rows.{fileRow}
 use Rattle.build.specs.declared.Counts.{Counts}
 use Rattle.build.specs.declared.Built.{Built}
 use Rattle.build.specs.declared.Built.the-variants.{Table}
-use Rattle.build.specs.Built.{builtOf, codesAfter, transitionsAfter}
+use Rattle.build.specs.Built.{builtFrom, codesAfterFrom, transitionsAfterFrom}
 use Rattle.build.specs.Filling.{Made}
 
--- the answer b, and the slices of codes and transitions afterwards, ys and ws; they were lent as xs and zs
-pub record TableBuilt (file xs zs : List ℕ) (b : Built) (ys ws : List ℕ) : Type 0 where
-  pub answer : b ≡ builtOf file (length xs) (length zs)
-  pub codes-after : ys ≡ codesAfter file xs (length zs)
-  pub moves-after : ws ≡ transitionsAfter file (length xs) zs
-  -- any two lists of the reachable macrostates and transitions decide the answer and both slices, served and refused alike:
+-- of the start condition where its runs begin, and of the words that its automaton is to accept: the answer b, and the slices of codes and
+-- transitions afterwards, ys and ws; they were lent as xs and zs
+pub record FileBuilt (start : Rule → Set) (words : Rule → List ℕ → List ℕ → Type 0) (file xs zs : List ℕ) (b : Built) (ys ws : List ℕ) : Type 0 where
+  pub answer : b ≡ builtFrom start file (length xs) (length zs)
+  pub codes-after : ys ≡ codesAfterFrom start file xs (length zs)
+  pub moves-after : ws ≡ transitionsAfterFrom start file (length xs) zs
+  -- any two lists of the macrostates that are reached and of their transitions decide the answer and both slices, served and refused alike:
   -- "17 and 18 hold only when the defined counts exceed the room"
-  pub by-lists : fileRow file ≡ 0 → (codes moves : List ℕ) → ListsReachable (ruleIn file) codes moves → Made codes moves xs zs b ys ws
+  pub by-lists : fileRow file ≡ 0 → (codes moves : List ℕ) → ListsFrom (ruleIn file) (start (ruleIn file)) codes moves → Made codes moves xs zs b ys ws
   -- what the slices hold, each up to its count: demand 2, "all of them and no others"
-  pub lists : (n : Counts) → b ≡ Table n → ListsReachable (ruleIn file) (take (n .macrostates) ys) (take (n .transitions) ws)
-  pub demand3 : (n : Counts) → b ≡ Table n → Demand3 (ruleIn file) (take (n .macrostates) ys) (take (n .transitions) ws)
+  pub lists : (n : Counts) → b ≡ Table n → ListsFrom (ruleIn file) (start (ruleIn file)) (take (n .macrostates) ys) (take (n .transitions) ws)
+  -- demand 3: an accepting run exactly over these words, and never two
+  pub demand : (n : Counts) → b ≡ Table n → DemandFrom (ruleIn file) (start (ruleIn file)) (words (ruleIn file)) (take (n .macrostates) ys) (take (n .transitions) ws)
   -- 02, M-112: "For every endless sequence of letters whatever, given as a letter for each step, the built automaton must not have two accepting runs
   -- that differ at any step."
-  pub never-two : (n : Counts) → b ≡ Table n → NeverTwo (ruleIn file) (take (n .macrostates) ys) (take (n .transitions) ws)
+  pub never-two : (n : Counts) → b ≡ Table n → NeverTwoFrom (start (ruleIn file)) (take (n .macrostates) ys) (take (n .transitions) ws)
+
+-- 01's build: its runs begin in the initial macrostates, and its automaton accepts the words that the rule accepts
+abbrev pub TableBuilt : List ℕ → List ℕ → List ℕ → Built → List ℕ → List ℕ → Type 0
+TableBuilt = FileBuilt holdsInitial AcceptsWord

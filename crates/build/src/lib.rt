@@ -14,7 +14,7 @@ ghost use Rattle.rule_entries.specs.Entries.{ruleOf};
 ghost use Rattle.build_closure_spec.specs.Keys.{startOf};
 ghost use Rattle.build_closure_spec.specs.Tables.{RuleTables};
 ghost use Rattle.build.specs.Entry.{TableBuilt};
-ghost use Rattle.build.specs.Filling.{Made};
+ghost use Rattle.build.specs.Filling.{Made, FileFilled};
 
 // How many macrostates and transitions a built table has.
 pub struct Counts {
@@ -97,11 +97,10 @@ pub fn build_rule(
 
 // ---- files
 
-// Writes the codes of the reachable macrostates and the transitions of a file's rule, both ascending, at the start of the slices, and
-// zeros after them; answers both counts. If a row refuses, it answers the number of the first: a rule's row leaves the slices as they are,
-// 17 and 18 set both to zero throughout.
-pub fn build(file: &[u8], codes: &mut [u64], transitions: &mut [u64]) -> Built
-    ensures { λ r. ⌜ TableBuilt (now (file .entry)) (now (codes .entry)) (now (transitions .entry)) r
+// Builds the table of a file's rule, as `build_rule` does. If a row refuses, it answers the number of the first: a rule's row leaves the
+// slices as they are.
+pub fn build_file(file: &[u8], holds: bool, codes: &mut [u64], transitions: &mut [u64]) -> Built
+    ensures { λ b. ⌜ FileFilled (λ r. startOf r holds) (now (file .entry)) (now (codes .entry)) (now (transitions .entry)) b
         (now (codes .exit)) (now (transitions .exit)) ⌝ }
 {
     match file_read::read_rule(file) {
@@ -112,10 +111,20 @@ pub fn build(file: &[u8], codes: &mut [u64], transitions: &mut [u64]) -> Built
                 h,
                 file_read::counts_of(file, l),
                 file_read::clauses_of(file, l),
-                true,
+                holds,
                 codes,
                 transitions,
             )
         }
     }
+}
+
+// Writes the codes of the reachable macrostates and the transitions of a file's rule, both ascending, at the start of the slices, and
+// zeros after them; answers both counts. If a row refuses, it answers the number of the first: a rule's row leaves the slices as they are,
+// 17 and 18 set both to zero throughout.
+pub fn build(file: &[u8], codes: &mut [u64], transitions: &mut [u64]) -> Built
+    ensures { λ r. ⌜ TableBuilt (now (file .entry)) (now (codes .entry)) (now (transitions .entry)) r
+        (now (codes .exit)) (now (transitions .exit)) ⌝ }
+{
+    build_file(file, true, codes, transitions)
 }

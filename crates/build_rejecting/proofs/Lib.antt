@@ -1,2 +1,1 @@
 pub mod ByLists
-pub mod Answer

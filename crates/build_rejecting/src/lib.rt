@@ -1,7 +1,6 @@
 // The build of the words that a rule rejects: the macrostates reached from where the set lacks the initial state, and the transitions
 // between them, in two lent slices.
 use build::Built;
-use file_read::Read;
 ghost use mathlib.Core.Path.{_≡_};
 ghost use Rattle.build_rejecting_spec.specs.Entry.{RejectingBuilt};
 
@@ -12,18 +11,5 @@ pub fn build_rejecting(file: &[u8], codes: &mut [u64], transitions: &mut [u64]) 
     ensures { λ r. ⌜ RejectingBuilt (now (file .entry)) (now (codes .entry)) (now (transitions .entry)) r
         (now (codes .exit)) (now (transitions .exit)) ⌝ }
 {
-    match file_read::read_rule(file) {
-        Read::Refused(row) => Built::Refused(row),
-        Read::Accepted(l) => {
-            let h = l.head;
-            build::build_rule(
-                h,
-                file_read::counts_of(file, l),
-                file_read::clauses_of(file, l),
-                false,
-                codes,
-                transitions,
-            )
-        }
-    }
+    build::build_file(file, false, codes, transitions)
 }

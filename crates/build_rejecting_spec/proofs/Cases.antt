@@ -21,17 +21,16 @@ use Rattle.file_spec.specs.Rows.{trailerRows, layoutRows, bodyRows, nameRows, p
 use Rattle.file_spec.specs.RuleRows.{numberRows, listRows, nested, someNested, clauseRows, componentRows, formedRows}
 use Rattle.file_spec.specs.Names.{hasNames, namesBefore, repeatsName}
 use Rattle.build_lists.specs.Room.{roomOf}
-use Rattle.build.specs.Built.{roomRows, builtBy, sliceAfter}
+use Rattle.build.specs.Built.{roomRows, builtBy, sliceAfter, rowFrom, builtFrom, codesAfterFrom, transitionsAfterFrom}
 use Rattle.build.specs.declared.Built.the-variants.{Table, Refused}
-use Rattle.rejecting_spec.specs.RejectingComputed.{rejectingMacrostates, rejectingTransitions}
-use Rattle.build_rejecting_spec.specs.Answers.{rejectingRow, rejectingOf, rejectingCodesAfter, rejectingTransitionsAfter}
+use Rattle.build_rejecting_spec.specs.Answers.{rejectingOf, rejectingCodesAfter, rejectingTransitionsAfter}
 
 abbrev fileE : List ℕ
 fileE = 0x01 ∷ 0x01 ∷ 0x00 ∷ 0x01 ∷ 0x02 ∷ 0x00 ∷ 0x01 ∷ 0x01 ∷ 0x00 ∷ 0x41 ∷ 0x57 ∷ []
 
 -- what an evaluation unfolds
 unfoldable computed : ℕ
-unfolding rejectingRow rejectingOf rejectingCodesAfter rejectingTransitionsAfter rejectingMacrostates rejectingTransitions sliceAfter builtBy roomRows roomOf fileRows bodyRows formedRows clauseRows someNested nested prefaceRows nameRows hasNames namesBefore repeatsName layoutRows trailerRows numberRows listRows componentRows firstRow tagged clausesOf countsOf mixed isAccepting macrostatesFrom transitionsFrom transitionsOf codesFrom cores candidates digitals tabulate flat keep among anyOf insertAscending sorted reachedIn reached wellCoded pack fields mask num goes before onward begun automaton setIn rankIn componentIn classesIn every satisfies inside bit rankOf levelOf test settled rejectingSettled acceptingSettled mix isOpen taken some count first largest openOf nextComponent isCore component components isSmallest smallest together reaches within leads named entry sum
+unfolding rowFrom builtFrom codesAfterFrom transitionsAfterFrom sliceAfter builtBy roomRows roomOf fileRows bodyRows formedRows clauseRows someNested nested prefaceRows nameRows hasNames namesBefore repeatsName layoutRows trailerRows numberRows listRows componentRows firstRow tagged clausesOf countsOf mixed isAccepting macrostatesFrom transitionsFrom transitionsOf codesFrom cores candidates digitals tabulate flat keep among anyOf insertAscending sorted reachedIn reached wellCoded pack fields mask num goes before onward begun automaton setIn rankIn componentIn classesIn every satisfies inside bit rankOf levelOf test settled rejectingSettled acceptingSettled mix isOpen taken some count first largest openOf nextComponent isCore component components isSmallest smallest together reaches within leads named entry sum
 computed = 0
 
 -- E rejects the words with some letter 1

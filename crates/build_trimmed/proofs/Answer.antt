@@ -23,7 +23,8 @@ use Rattle.file_read.proofs.FileRows.{file-numbered, accepted-passing}
 use Rattle.build.specs.declared.Counts.{Counts}
 use Rattle.build.specs.declared.Built.{Built}
 use Rattle.build.specs.declared.Built.the-variants.{Table, Refused}
-use Rattle.build.specs.Built.{roomRow, builtBy, sliceAfter, buildRow, builtOf, codesAfter, transitionsAfter}
+use Rattle.build.specs.Built.{roomRow, builtBy, sliceAfter, rowFrom, builtFrom, codesAfterFrom, transitionsAfterFrom, buildRow, builtOf, codesAfter, transitionsAfter}
+use Rattle.build.proofs.Answer.{table-by}
 use Rattle.build.proofs.RoomRows.{room-few}
 use Rattle.trim_spec.specs.Matters.{ListsMattering}
 use Rattle.trim_spec.specs.Trimmed.{liveMarks, picked, isLeft, renumbered, trimmedCodes, trimmedTransitions}
@@ -46,11 +47,6 @@ slice-same : (row : ℕ) (a b list other lent : List ℕ) (k : ℕ) → Refused 
 unfolding builtBy sliceAfter
 slice-same zero a b list other lent k e = let z : _≡_ {A = ℕ} 0 1 = cc in absurd (omega arith)
 slice-same (suc n) a b list other lent k e = refl
-
-table-by : (row : ℕ) (codes moves : List ℕ) (n : Counts) → Table n ≡ builtBy row codes moves → (row ≡ 0) × (n .macrostates ≡ length codes) × (n .transitions ≡ length moves)
-unfolding builtBy
-table-by zero codes moves n e = (refl, cc, cc)
-table-by (suc k) codes moves n e = let z : _≡_ {A = ℕ} 0 1 = cc in absurd (omega arith)
 
 by-none : (row : ℕ) (codes moves : List ℕ) (n : Counts) → row ≡ 0 → n .macrostates ≡ length codes → n .transitions ≡ length moves → Table n ≡ builtBy row codes moves
 unfolding builtBy
@@ -89,25 +85,25 @@ module _ (f xs zs ys ws : List ℕ) (codes-built : ys ≡ codesAfter f xs (lengt
   -- the build refuses
   module _ (k : ℕ) (e : Refused k ≡ builtOf f (length xs) (length zs)) where
     pub refused-answer : Refused k ≡ trimmedOf f (length xs) (length zs)
-    unfolding trimmedOf builtOf
+    unfolding trimmedOf builtFrom
     refused-answer = refused-same row (macrostates r) (transitions r) (trimmedCodes r) (trimmedTransitions r) k e
 
     pub refused-codes : ys ≡ trimmedCodesAfter f xs (length zs)
-    unfolding trimmedCodesAfter codesAfter builtOf
+    unfolding trimmedCodesAfter codesAfterFrom builtFrom
     refused-codes = codes-built ∙ slice-same row (macrostates r) (transitions r) (macrostates r) (trimmedCodes r) xs k e
 
     pub refused-moves : ws ≡ trimmedTransitionsAfter f (length xs) zs
-    unfolding trimmedTransitionsAfter transitionsAfter builtOf
+    unfolding trimmedTransitionsAfter transitionsAfterFrom builtFrom
     refused-moves = moves-built ∙ slice-same row (macrostates r) (transitions r) (transitions r) (trimmedTransitions r) zs k e
 
   -- the build leaves a table
   module _ (n : Counts) (e : Table n ≡ builtOf f (length xs) (length zs)) where
     counted : (row ≡ 0) × (n .macrostates ≡ length (macrostates r)) × (n .transitions ≡ length (transitions r))
-    unfolding builtOf
+    unfolding builtFrom
     counted = table-by row (macrostates r) (transitions r) n e
 
     both-rows : (fileRow f ≡ 0) × (roomRow (macrostates r) (transitions r) (length xs) (length zs) ≡ 0)
-    unfolding buildRow roomRow fileRow
+    unfolding rowFrom roomRow fileRow
     both-rows = first-parts (fileRows f) _ (file-numbered f) (counted .0)
 
     passing : Passing r
@@ -120,11 +116,11 @@ module _ (f xs zs ys ws : List ℕ) (codes-built : ys ≡ codesAfter f xs (lengt
     lists = lists-reachable r passing few
 
     codes-held : ys ≡ padded (macrostates r) (length xs)
-    unfolding codesAfter
+    unfolding codesAfterFrom
     codes-held = codes-built ∙ slice-none row (macrostates r) xs (counted .0)
 
     moves-held : ws ≡ padded (transitions r) (length zs)
-    unfolding transitionsAfter
+    unfolding transitionsAfterFrom
     moves-held = moves-built ∙ slice-none row (transitions r) zs (counted .0)
 
     pub codes-front : take (n .macrostates) ys ≡ macrostates r
@@ -203,7 +199,7 @@ module _ (f xs zs : List ℕ) (n : Counts) (e : Table n ≡ trimmedOf f (length 
   counts = table-by (buildRow f (length xs) (length zs)) (trimmedCodes (ruleIn f)) (trimmedTransitions (ruleIn f)) n e
 
   pub rows : (fileRow f ≡ 0) × (roomRow (macrostates (ruleIn f)) (transitions (ruleIn f)) (length xs) (length zs) ≡ 0)
-  unfolding buildRow roomRow fileRow
+  unfolding rowFrom roomRow fileRow
   rows = first-parts (fileRows f) _ (file-numbered f) (counts .0)
 
   pub small : length (macrostates (ruleIn f)) ≤ 65536

@@ -21,7 +21,7 @@ use Rattle.file_spec.specs.Rows.{trailerRows, layoutRows, bodyRows, nameRows, p
 use Rattle.file_spec.specs.RuleRows.{numberRows, listRows, nested, someNested, clauseRows, componentRows, formedRows}
 use Rattle.file_spec.specs.Names.{hasNames, namesBefore, repeatsName}
 use Rattle.build_lists.specs.Room.{roomOf}
-use Rattle.build.specs.Built.{roomRows, buildRow, builtBy}
+use Rattle.build.specs.Built.{roomRows, rowFrom, builtBy}
 use Rattle.graph_walks.specs.Marks.{isDue, marked, isNew, goesOut}
 use Rattle.graph_walks.specs.Marks as marks
 use Rattle.build.specs.declared.Built.the-variants.{Table, Refused}
@@ -33,7 +33,7 @@ fileD = 0x02 ∷ 0x00 ∷ 0x01 ∷ 0x01 ∷ 0x00 ∷ 0x01 ∷ 0x01 ∷ 0x02 ∷ 
 
 -- what an evaluation unfolds
 unfoldable computed : ℕ
-unfolding trimmedOf trimmedCodes trimmedTransitions flagOf flags swept isNewIn sweptOut settledAll solvedIn liveMarks picked isDue marked isNew goesOut marks.settled builtBy buildRow roomRows roomOf fileRows bodyRows formedRows clauseRows someNested nested prefaceRows nameRows hasNames namesBefore repeatsName layoutRows trailerRows numberRows listRows componentRows firstRow tagged clausesOf countsOf mixed isAccepting macrostates macrostatesFrom transitions transitionsFrom transitionsOf codesFrom cores candidates digitals tabulate flat keep among anyOf insertAscending sorted reachedIn reached wellCoded pack fields mask num goes before onward begun automaton setIn rankIn componentIn classesIn every satisfies inside bit rankOf levelOf test settled rejectingSettled acceptingSettled mix isOpen taken some count first largest openOf nextComponent isCore component components isSmallest smallest together reaches within leads named entry sum
+unfolding trimmedOf trimmedCodes trimmedTransitions flagOf flags swept isNewIn sweptOut settledAll solvedIn liveMarks picked isDue marked isNew goesOut marks.settled builtBy rowFrom roomRows roomOf fileRows bodyRows formedRows clauseRows someNested nested prefaceRows nameRows hasNames namesBefore repeatsName layoutRows trailerRows numberRows listRows componentRows firstRow tagged clausesOf countsOf mixed isAccepting macrostatesFrom transitionsFrom transitionsOf codesFrom cores candidates digitals tabulate flat keep among anyOf insertAscending sorted reachedIn reached wellCoded pack fields mask num goes before onward begun automaton setIn rankIn componentIn classesIn every satisfies inside bit rankOf levelOf test settled rejectingSettled acceptingSettled mix isOpen taken some count first largest openOf nextComponent isCore component components isSmallest smallest together reaches within leads named entry sum
 computed = 0
 
 -- "Rule D shrinks from 13 and 26 to 6 and 12."

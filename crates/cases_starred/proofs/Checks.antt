@@ -109,7 +109,6 @@ module _ (r : Rule) (P : Passing r) where
     moves-there : (t : ℕ) → List·Memᴰ t moves ↔ Transition (automaton r) (r .s) codes t
 
   listed-built : length (macrostates r) ≤ 65536 → Listed (macrostates r) (transitions r)
-  unfolding macrostates transitions
   listed-built room = record {
     codes-ascend = macrostates-ascending r P (holdsInitial r);
     codes-reachable = reachable-iff r P (holdsInitial r);

@@ -20,7 +20,7 @@ use Rattle.theory.specs.CoreComputed.{levelOf, taken, rankOf, isCore}
 use Rattle.theory.specs.Macrostate.{begun, isAccepting}
 use Rattle.theory.specs.MacrostateComputed.{before, onward, goes}
 use Rattle.theory.specs.Rule.{entry, satisfies}
-use Rattle.theory.specs.TableComputed.{reachedIn, reached, digitals, candidates, cores, codesFrom, transitionsOf, macrostatesFrom, transitionsFrom, macrostates, transitions}
+use Rattle.theory.specs.TableComputed.{reachedIn, reached, digitals, candidates, cores, codesFrom, transitionsOf, macrostatesFrom, transitionsFrom}
 use Rattle.theory.specs.Truth.{heightOf, layer, roundsAt, solvedBelow, truthMasks}
 use Rattle.theory.specs.Word.{nextPlace, letterAt, place}
 use Rattle.file_spec.specs.File.{tagged, clausesOf, countsOf}
@@ -42,7 +42,7 @@ unfolding fileRow fileRows bodyRows prefaceRows nameRows hasNames namesBefore re
 rows = 0
 
 unfoldable computed : ℕ
-unfolding truthMasks solvedBelow roundsAt layer heightOf nextPlace letterAt place isAccepting macrostates macrostatesFrom transitions transitionsFrom transitionsOf codesFrom cores candidates digitals tabulate flat keep among anyOf insertAscending sorted reachedIn reached wellCoded pack fields mask num goes before onward begun automaton setIn rankIn componentIn classesIn every satisfies inside bit rankOf levelOf test settled rejectingSettled acceptingSettled mix isOpen taken some count first largest openOf nextComponent isCore component components isSmallest smallest together reaches within leads named entry sum
+unfolding truthMasks solvedBelow roundsAt layer heightOf nextPlace letterAt place isAccepting macrostatesFrom transitionsFrom transitionsOf codesFrom cores candidates digitals tabulate flat keep among anyOf insertAscending sorted reachedIn reached wellCoded pack fields mask num goes before onward begun automaton setIn rankIn componentIn classesIn every satisfies inside bit rankOf levelOf test settled rejectingSettled acceptingSettled mix isOpen taken some count first largest openOf nextComponent isCore component components isSmallest smallest together reaches within leads named entry sum
 computed = 0
 
 unfoldable checks : ℕ

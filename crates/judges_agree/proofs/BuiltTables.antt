@@ -28,14 +28,13 @@ module _ (r : Rule) (P : Passing r) (room : length (macrostates r) ≤ 65536) wh
     target : targetOf t < length (macrostates r)
 
   in-range : (t : ℕ) → List·Memᴰ t (transitions r) → InRange t
-  unfolding macrostates transitions transitionsFrom
+  unfolding transitionsFrom
   in-range t m =
       let T = transition-iff r P (holdsInitial r) room t .0 m in
       let L = transition-leads (automaton r) (r .s) (macrostatesFrom r (holdsInitial r)) (layered r P) (letters-fit r P) room t T in
       record { source = omega (arith, L .source, T .source-listed); letter = omega (arith, L .letter, T .letter-known); target = omega (arith, L .target, T .target-listed) }
 
   pub built-passes : Passed (r .s) (macrostates r) (transitions r)
-  unfolding macrostates transitions
   built-passes = record {
     few = room;
     codes-ascend = macrostates-ascending r P (holdsInitial r);

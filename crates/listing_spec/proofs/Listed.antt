@@ -16,7 +16,7 @@ use Rattle.file_read.proofs.FileRows.{file-numbered}
 use Rattle.build.specs.declared.Counts.{Counts}
 use Rattle.build.specs.declared.Built.the-variants.{Table, Refused}
 use Rattle.build_lists.specs.Room.{roomOf}
-use Rattle.build.specs.Built.{roomRows, builtBy, sliceAfter, buildRow, builtOf, codesAfter, transitionsAfter}
+use Rattle.build.specs.Built.{roomRows, builtBy, sliceAfter, rowFrom, builtFrom, codesAfterFrom, transitionsAfterFrom, buildRow, builtOf, codesAfter, transitionsAfter}
 use Rattle.listing_lines_spec.specs.Lines.{initialAt, refusedLine, longLine, tableText}
 use Rattle.listing_spec.specs.Computed.{answerText, listingOf}
 
@@ -43,7 +43,7 @@ module _ (f : List ℕ) where
 
   -- no row refuses
   pub both-rows : buildRow f 512 4096 ≡ 0 → (fileRow f ≡ 0) × (length (macrostates (ruleIn f)) ≤ 512) × (length (transitions (ruleIn f)) ≤ 4096)
-  unfolding buildRow fileRow roomRows roomOf
+  unfolding rowFrom fileRow roomRows roomOf
   both-rows e =
       let r = first-parts (fileRows f) _ (file-numbered f) e in
       let c = first-pass (ltb 512 (length (macrostates (ruleIn f)))) 16 _ (r .1) in
@@ -67,7 +67,7 @@ module _ (f : List ℕ) where
       built-text = short-text ∙ rw e
 
       counted : (buildRow f 512 4096 ≡ 0) × (n .macrostates ≡ length (macrostates (ruleIn f))) × (n .transitions ≡ length (transitions (ruleIn f)))
-      unfolding builtOf
+      unfolding builtFrom
       counted = from-table (buildRow f 512 4096) (macrostates (ruleIn f)) (transitions (ruleIn f)) n e
 
       pub accepted : fileRow f ≡ 0
@@ -76,7 +76,7 @@ module _ (f : List ℕ) where
       -- the room of codes, xs, is now ys
       module _ (xs ys : List ℕ) (l : length xs ≡ 512) (w : ys ≡ codesAfter f xs 4096) where
         held-codes : (n .macrostates ≤ length ys) × (take (n .macrostates) ys ≡ macrostates (ruleIn f))
-        unfolding codesAfter
+        unfolding codesAfterFrom
         held-codes = front (buildRow f (length xs) 4096) (macrostates (ruleIn f)) xs ys (n .macrostates) (rw l (counted .0)) (counted .1) w
 
         pub codes-fit : n .macrostates ≤ length ys
@@ -85,7 +85,7 @@ module _ (f : List ℕ) where
       -- the room of transitions, zs, is now ws
       module _ (zs ws : List ℕ) (l : length zs ≡ 4096) (w : ws ≡ transitionsAfter f 512 zs) where
         held-moves : (n .transitions ≤ length ws) × (take (n .transitions) ws ≡ transitions (ruleIn f))
-        unfolding transitionsAfter
+        unfolding transitionsAfterFrom
         held-moves = front (buildRow f 512 (length zs)) (transitions (ruleIn f)) zs ws (n .transitions) (rw l (counted .0)) (counted .2) w
 
         pub moves-fit : n .transitions ≤ length ws

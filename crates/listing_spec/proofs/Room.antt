@@ -30,7 +30,7 @@ use Rattle.refusals.proofs.Rows.{row-yes, row-no, first-left, first-right}
 use Rattle.file_read.proofs.FileRows.{file-numbered, accepted-rows, accepted-passing}
 use Rattle.build_transitions_spec.proofs.Listing.{code-low}
 use Rattle.build_lists.specs.Room.{codesRoom, transitionsRoom}
-use Rattle.build.specs.Built.{roomRows, builtBy, buildRow, builtOf}
+use Rattle.build.specs.Built.{roomRows, builtBy, rowFrom, builtFrom, buildRow}
 use Rattle.slice_text.specs.Decimal.{word}
 use Rattle.listing_lines_spec.specs.Lines.{mLine, tLine, nLine, lettersOf, nameLine, nameLines, macrostateLine, macrostateLines, transitionLine, transitionLines, tableText}
 use Rattle.listing_spec.specs.Computed.{answerText, listingOf}
@@ -65,7 +65,6 @@ n-lines-most names h =
 
 module _ (r : Rule) (P : Passing r) (few : length (macrostates r) ≤ 512) where
   code-most : (c : ℕ) → List·Memᴰ c (macrostates r) → c < 2 ^ 48
-  unfolding macrostates
   code-most c m =
       code-low (reachable-macrostate (automaton r) (layered r P) (few-states r P) (components-there r P) (r .s) (holdsInitial r) (reachable-iff r P (holdsInitial r) c .0 m))
 
@@ -75,7 +74,7 @@ module _ (r : Rule) (P : Passing r) (few : length (macrostates r) ≤ 512) where
     target : targetOf t < 512
 
   move-low : (t : ℕ) → List·Memᴰ t (transitions r) → Low t
-  unfolding macrostates transitions transitionsFrom
+  unfolding transitionsFrom
   move-low t m =
       let room : length (macrostatesFrom r (holdsInitial r)) ≤ 65536 = omega arith in
       let T = transition-iff r P (holdsInitial r) room t .0 m in
@@ -142,7 +141,7 @@ unfolding fileRow
 file-row-low f = first-low (fileRows f) (file-rows-low f)
 
 row-low : (f : List ℕ) (m t : ℕ) → buildRow f m t < 100
-unfolding buildRow fileRow
+unfolding rowFrom fileRow
 row-low f m t =
     by-cases (ℕ-discrete (fileRow f) 0)
     (λ z. rw (first-right (fileRows f) (roomRows (macrostates (ruleIn f)) (transitions (ruleIn f)) m t) (file-numbered f) z) (room-rows-low _ _ m t))
@@ -169,7 +168,7 @@ by-row zero r l h = h refl
 by-row (suc k) r l h = omega (arith, refused-length (suc k), word-most 1 (suc k) l)
 
 pub listing-most : (f : List ℕ) → length (listingOf f) ≤ 66799
-unfolding listingOf builtOf
+unfolding listingOf builtFrom
 listing-most f =
     by-cases (decLt 4096 (length f))
     (λ h. rw (long-text f h) (omega arith))

@@ -8,7 +8,6 @@ use native.Mathlib.Omega.{arith}
 use native.Mathlib.Decide.{decLt}
 use lib.ListN.{length, getD}
 use Rattle.sets.specs.Tests.{count}
-use Rattle.sets.proofs.Ascending.{asc-ext}
 use Rattle.sets.proofs.Lists.{mem-at}
 use Rattle.sets.proofs.Tests.{count-hit, count-lt}
 use Rattle.theory.specs.Automaton.{automaton}
@@ -23,6 +22,7 @@ use Rattle.theory.specs.TableComputed.{macrostates, transitions}
 use Rattle.theory.specs.Word.{WordOver, letters}
 use Rattle.theory_laws.proofs.Demand.{demand3}
 use Rattle.theory_laws.proofs.Layers.{layered}
+use Rattle.theory_laws.proofs.Lists.{codes-once, moves-once}
 use Rattle.theory_laws.proofs.Places.{letter-first, letter-behind}
 use Rattle.theory_laws.proofs.Tables.{few-states, components-there, reachable-macrostate, lists-reachable, letters-fit, transition-leads}
 use Rattle.trim_spec.specs.Matters.{Matters, ListsMattering}
@@ -46,16 +46,10 @@ module _ (r : Rule) (P : Passing r) (room : length (macrostates r) ≤ 65536) wh
   module _ (codes ts : List ℕ) (L : ListsMattering r codes ts) where
     -- the lists are those of the trimmed build
     codes-same : codes ≡ trimmedCodes r
-    codes-same =
-        let T = trimmed-lists r P room in
-        asc-ext codes (trimmedCodes r) (L .codes-ascend) (T .codes-ascend) (λ z m. T .codes-are z .1 (L .codes-are z .0 m)) (λ z m. L .codes-are z .1 (T .codes-are z .0 m))
+    codes-same = codes-once L (trimmed-lists r P room)
 
     transitions-same : ts ≡ trimmedTransitions r
-    transitions-same =
-        let T = trimmed-lists r P room in
-        asc-ext ts (trimmedTransitions r) (L .transitions-ascend) (T .transitions-ascend)
-        (λ z m. T .transitions-are z .1 (rw codes-same at (L .transitions-are z .0 m)))
-        (λ z m. L .transitions-are z .1 (rw codes-same (T .transitions-are z .0 m)))
+    transitions-same = moves-once L (trimmed-lists r P room)
 
     lists-demand3 : Demand3 r codes ts
     lists-demand3 = rw (codes-same, transitions-same) (trimmed-demand3 r P room)

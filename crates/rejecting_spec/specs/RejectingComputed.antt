@@ -6,8 +6,8 @@ use Rattle.theory.specs.TableComputed.{macrostatesFrom, transitionsFrom}
 use Rattle.rejecting_spec.specs.Rejecting.{lacksInitial}
 
 -- the reachable codes ascending, and the transitions between them
-unfoldable pub rejectingMacrostates : Rule → List ℕ
+abbrev pub rejectingMacrostates : Rule → List ℕ
 rejectingMacrostates r = macrostatesFrom r (lacksInitial r)
 
-unfoldable pub rejectingTransitions : Rule → List ℕ
+abbrev pub rejectingTransitions : Rule → List ℕ
 rejectingTransitions r = transitionsFrom r (lacksInitial r)

@@ -4,7 +4,7 @@ use mathlib.Core.Bool.{Bool, true, false}
 use mathlib.Core.List.{List}
 use Prim.Native.Nat.{ℕ}
 use Rattle.theory.specs.Rule.{Rule}
-use Rattle.theory.specs.TableComputed.{macrostatesFrom, transitionsFrom, macrostates, transitions}
+use Rattle.theory.specs.TableComputed.{macrostatesFrom, transitionsFrom}
 use Rattle.rule_entries.specs.Entries.{ruleOf}
 use Rattle.file_read.specs.declared.Layout.{Layout}
 use Rattle.file_read.specs.declared.Read.the-variants.{Accepted}
@@ -14,16 +14,15 @@ use Rattle.file_spec.specs.File.{countsOf, clausesOf, ruleIn}
 use Rattle.build_closure_spec.specs.Keys.{startOf}
 use Rattle.build.specs.declared.Built.{Built}
 use Rattle.build.specs.Filling.{Made}
-use Rattle.rejecting_spec.specs.RejectingComputed.{rejectingMacrostates, rejectingTransitions}
 use Rattle.stricter.specs.Steps.{codesOf, movesOf}
 
 codes-are : (r : Rule) (holds : Bool) → macrostatesFrom r (startOf r holds) ≡ codesOf r holds
-unfolding codesOf macrostates rejectingMacrostates startOf
+unfolding codesOf startOf
 codes-are r true = refl
 codes-are r false = refl
 
 moves-are : (r : Rule) (holds : Bool) → transitionsFrom r (startOf r holds) ≡ movesOf r holds
-unfolding movesOf transitions rejectingTransitions startOf
+unfolding movesOf startOf
 moves-are r true = refl
 moves-are r false = refl
 

@@ -57,11 +57,9 @@ module _ (a b : Rule) (same : a .s ≡ b .s) (n m : Counts) (p q : ℕ) (cs ts d
 
   -- the tables are those of the rules
   pub own-lists : ListsOf a (holdsInitial a) codesA movesA
-  unfolding macrostates transitions
   own-lists = record { few = rw cA (O .held .few); codes-are = cA; moves-are = mA }
 
   pub other-lists : ListsOf b (lacksInitial b) codesB movesB
-  unfolding rejectingMacrostates rejectingTransitions
   other-lists = record { few = rw cB (X .held .few); codes-are = cB; moves-are = mB }
 
   -- P

@@ -25,7 +25,6 @@ use Rattle.file_spec.specs.RuleRows.{numberRows, listRows, nested, someNested, 
 use Rattle.file_spec.specs.Names.{hasNames, namesBefore, repeatsName}
 use Rattle.build_lists.specs.Room.{roomOf}
 use Rattle.build.specs.Built.{roomRows}
-use Rattle.rejecting_spec.specs.RejectingComputed.{rejectingMacrostates, rejectingTransitions}
 use Rattle.stricter_rules_spec.proofs.Cases.{against-F, not-stricter-F}
 use Rattle.stricter_entry_spec.specs.declared.Sizes.{Sizes}
 use Rattle.stricter_entry_spec.specs.declared.Comparison.the-variants.{Yes, No}
@@ -47,7 +46,7 @@ lengths ca ta cb tb word scratch = record { codes-a = replicate ca 9; transition
 
 -- what an evaluation unfolds
 unfoldable computed : ℕ
-unfolding stricterRow rulesRows letterRows tableRows pairRows pairs roomAfter scratchAfter sizesOf rejectingMacrostates rejectingTransitions roomRows roomOf fileRows bodyRows formedRows clauseRows someNested nested prefaceRows nameRows hasNames namesBefore repeatsName layoutRows trailerRows numberRows listRows componentRows firstRow tagged clausesOf countsOf mixed isAccepting macrostates macrostatesFrom transitions transitionsFrom transitionsOf codesFrom cores candidates digitals tabulate flat keep among anyOf insertAscending sorted reachedIn reached wellCoded pack fields mask num goes before onward begun automaton setIn rankIn componentIn classesIn every satisfies inside bit rankOf levelOf test settled rejectingSettled acceptingSettled mix isOpen taken some count first largest openOf nextComponent isCore component components isSmallest smallest together reaches within leads named entry sum
+unfolding stricterRow rulesRows letterRows tableRows pairRows pairs roomAfter scratchAfter sizesOf roomRows roomOf fileRows bodyRows formedRows clauseRows someNested nested prefaceRows nameRows hasNames namesBefore repeatsName layoutRows trailerRows numberRows listRows componentRows firstRow tagged clausesOf countsOf mixed isAccepting macrostatesFrom transitionsFrom transitionsOf codesFrom cores candidates digitals tabulate flat keep among anyOf insertAscending sorted reachedIn reached wellCoded pack fields mask num goes before onward begun automaton setIn rankIn componentIn classesIn every satisfies inside bit rankOf levelOf test settled rejectingSettled acceptingSettled mix isOpen taken some count first largest openOf nextComponent isCore component components isSmallest smallest together reaches within leads named entry sum
 computed = 0
 
 -- ---- the rows: F's own table has 3 macrostates and 7 transitions, that of the words that E rejects has 3 and 7, so P is 9

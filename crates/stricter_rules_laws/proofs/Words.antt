@@ -32,11 +32,9 @@ accepts-or-not r P lead cycle h =
 
 -- the table of a rule, and that of the words that another rejects, are tables that the search takes
 pub searchable-own : (r : Rule) → Passing r → length (macrostates r) ≤ 65536 → Searchable (macrostates r) (transitions r)
-unfolding macrostates transitions
 searchable-own r P room = searchable r P (holdsInitial r) room
 
 pub searchable-rejecting : (r : Rule) → Passing r → length (rejectingMacrostates r) ≤ 65536 → Searchable (rejectingMacrostates r) (rejectingTransitions r)
-unfolding rejectingMacrostates rejectingTransitions
 searchable-rejecting r P room = searchable r P (lacksInitial r) room
 
 -- a word over the letters of A is one over those of B
@@ -54,7 +52,6 @@ module _ (a b : Rule) (P : Passing a) (Q : Passing b) (same : a .s ≡ b .s) (ro
       (accepts-or-not b Q lead cycle (W .repeats))
 
   letters-low-a : (lead cycle : List ℕ) → Shared (macrostates a) (transitions a) (holdsInitial a) (rejectingMacrostates b) (rejectingTransitions b) (lacksInitial b) lead cycle → WordOver (a .s) lead cycle
-  unfolding macrostates transitions
   letters-low-a lead cycle S = lasso-word _ _ (holdsInitial a) (a .s) (letter-low a P (holdsInitial a) room-a) lead cycle (S .repeats) (S .of-A)
 
   -- a word that both share: A accepts it and B rejects it

@@ -55,9 +55,9 @@ unfoldable pub transitionsFrom : Rule → Set → List ℕ
 transitionsFrom r start = transitionsOf (automaton r) (r .s) (macrostatesFrom r start)
 
 -- 01: "reachable codes ascending", from the initial macrostates
-unfoldable pub macrostates : Rule → List ℕ
+abbrev pub macrostates : Rule → List ℕ
 macrostates r = macrostatesFrom r (holdsInitial r)
 
 -- 01: "transitions ascending"
-unfoldable pub transitions : Rule → List ℕ
+abbrev pub transitions : Rule → List ℕ
 transitions r = transitionsFrom r (holdsInitial r)

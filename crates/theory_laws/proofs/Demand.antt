@@ -14,7 +14,7 @@ use Rattle.sets.proofs.Lists.{mem-at}
 use Rattle.theory.specs.Automaton.{automaton}
 use Rattle.theory.specs.Code.{setIn}
 use Rattle.theory.specs.Components.{components}
-use Rattle.theory.specs.Demand.{Demand3}
+use Rattle.theory.specs.Demand.{DemandFrom, Demand3}
 use Rattle.theory.specs.CodeRuns.{WordRun}
 use Rattle.theory.specs.Macrostate.{holdsInitial}
 use Rattle.theory.specs.Passing.{Passing}
@@ -103,21 +103,26 @@ module _ (r : Rule) (P : Passing r) where
 
   -- ---- demand 3
 
-  holds-is : (c : ℕ) → setIn (automaton r) c (r .initial) ≡ holdsInitial r c
+  -- the set of a code holds the initial state exactly if its bit is set
+  pub holds-is : (c : ℕ) → setIn (automaton r) c (r .initial) ≡ holdsInitial r c
   unfolding automaton setIn
   holds-is c = ap (λ (b : Bool). b && bit c (r .initial)) (lt-ltb (r .initial) (r .n) (P .formed .initial-state))
 
-  exact : length (macrostates r) ≤ 65536 → (lead cycle : List ℕ) → WordOver (r .s) lead cycle
-      → AcceptsWord r lead cycle ↔ ((x : ℕ → ℕ) × AcceptingRun (macrostates r) (transitions r) (holdsInitial r) (letters lead cycle) x)
-  unfolding macrostates transitions place
-  exact room lead cycle W =
-      let c = word-run lead cycle (W .repeats) in
-      let t = c .1 .truth 0 (r .initial) (P .formed .initial-state) in
-      let k = table-run-iff (holdsInitial r) room (letters lead cycle) (c .0) (c .1 .run) (letters-low (r .s) lead cycle W) in (
-        λ a. k .1 (sym (holds-is (c .0 0)) ∙ t .1 a),
-        λ x. t .0 (holds-is (c .0 0) ∙ k .0 x),
-      )
+  -- over each word with a cycle exactly one accepting run of codes begins with K and k 0, and its first set is the truth at place 0: the table has the
+  -- words that its start condition tells by whether that set holds the initial state
+  pub demand-from : (start : Set) (words : List ℕ → List ℕ → Type 0)
+      → ((lead cycle : List ℕ) (c : ℕ) → (holdsInitial r c ≡ true) ↔ AcceptsWord r lead cycle → words lead cycle ↔ (start c ≡ true))
+      → length (macrostatesFrom r start) ≤ 65536 → DemandFrom r start words (macrostatesFrom r start) (transitionsFrom r start)
+  unfolding place
+  demand-from start words tells room = record {
+    exact = λ lead cycle W.
+        let c = word-run lead cycle (W .repeats) in
+        let t = c .1 .truth 0 (r .initial) (P .formed .initial-state) in
+        let h = tells lead cycle (c .0 0) (λ e. t .0 (holds-is (c .0 0) ∙ e), λ a. sym (holds-is (c .0 0)) ∙ t .1 a) in
+        let k = table-run-iff start room (letters lead cycle) (c .0) (c .1 .run) (letters-low (r .s) lead cycle W) in
+        (λ a. k .1 (h .0 a), λ x. h .1 (k .0 x));
+    unambiguous = table-one-run start room;
+  }
 
   pub demand3 : length (macrostates r) ≤ 65536 → Demand3 r (macrostates r) (transitions r)
-  unfolding macrostates transitions
-  demand3 room = record { exact = exact room; unambiguous = table-one-run (holdsInitial r) room }
+  demand3 = demand-from (holdsInitial r) (AcceptsWord r) (λ lead cycle c h. (h .1, h .0))

@@ -21,6 +21,7 @@ pub mod Packing
 pub mod Reached
 pub mod Candidates
 pub mod Tables
+pub mod Lists
 pub mod Layers
 pub mod Places
 pub mod Demand

@@ -28,7 +28,7 @@ use Rattle.theory.specs.Passing.{Passing}
 use Rattle.theory.specs.Rule.{Rule}
 use Rattle.theory.specs.Run.{sourceOf, letterOf, targetOf, Leads, AcceptingRun}
 use Rattle.theory.specs.CodeRuns.{CodeRun}
-use Rattle.theory.specs.Table.{Transition, ListsReachable}
+use Rattle.theory.specs.Table.{Transition, ListsFrom, ListsReachable}
 use Rattle.theory.specs.TableComputed.{candidates, cores, codesFrom, transitionsOf, macrostatesFrom, transitionsFrom, macrostates, transitions}
 use Rattle.theory_laws.proofs.Candidates.{candidate}
 use Rattle.theory_laws.proofs.Classes.{open-component, open-state}
@@ -152,7 +152,7 @@ module _ (A : Automaton) (H : Layered A) (small : A .n ≤ 8) (filled : 0 < A .c
 
 -- ---- the list of transitions, between any codes
 
-below : (k z : ℕ) → List·Memᴰ z (tabulate k (λ x. x) 0) → z < k
+pub below : (k z : ℕ) → List·Memᴰ z (tabulate k (λ x. x) 0) → z < k
 below k z m = let r = tabulate-out k (λ x. x) z m in omega (arith, r .1, r .2)
 
 module _ (A : Automaton) (s : ℕ) (codes : List ℕ) where
@@ -333,12 +333,10 @@ module _ (r : Rule) (P : Passing r) where
     unfolding transitionsFrom
     transition-iff room = steps-iff (automaton r) (r .s) (macrostatesFrom r start) (layered r P) letters-fit room
 
-  -- the two lists hold 01's reachable codes and transitions
+    -- the two lists hold the codes of the reachable macrostates, and their transitions
+    pub lists-from : length (macrostatesFrom r start) ≤ 65536 → ListsFrom r start (macrostatesFrom r start) (transitionsFrom r start)
+    lists-from room = record { codes-ascend = macrostates-ascending; codes-are = reachable-iff; transitions-ascend = transitions-ascending; transitions-are = transition-iff room }
+
+  -- from 01's start condition
   pub lists-reachable : length (macrostates r) ≤ 65536 → ListsReachable r (macrostates r) (transitions r)
-  unfolding macrostates transitions
-  lists-reachable room = record {
-    codes-ascend = macrostates-ascending (holdsInitial r);
-    codes-are = reachable-iff (holdsInitial r);
-    transitions-ascend = transitions-ascending (holdsInitial r);
-    transitions-are = transition-iff (holdsInitial r) room;
-  }
+  lists-reachable = lists-from (holdsInitial r)

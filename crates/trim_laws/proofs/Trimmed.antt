@@ -15,7 +15,7 @@ use Rattle.theory.specs.TableComputed.{macrostates, transitions}
 use Rattle.theory.specs.Word.{WordOver}
 use Rattle.theory_laws.proofs.Demand.{demand3}
 use Rattle.theory_laws.proofs.Tables.{lists-reachable}
-use Rattle.trim_spec.specs.Matters.{ListsMattering}
+use Rattle.trim_spec.specs.Matters.{ListsMattering, RunsSurvive}
 use Rattle.trim_spec.specs.Trimmed.{liveMarks, trimmedCodes, trimmedTransitions}
 use Rattle.trim_laws.proofs.Sweeping.{live-solved}
 use Rattle.trim_laws.proofs.Runs.{kept-room, kept-are, survives, comes-from, kept-demand3}
@@ -37,8 +37,7 @@ module _ (r : Rule) (P : Passing r) (room : length (macrostates r) ≤ 65536) wh
   trimmed-demand3 = kept-demand3 r P (macrostates r) (transitions r) (lists-reachable r P room) room (liveMarks (macrostates r) (transitions r)) (live-solved (macrostates r) (transitions r)) (demand3 r P room)
 
   -- 02: "The one accepting run of each word must survive in the smaller table.": the same macrostates, by their new numbers
-  pub run-survives : (w x : ℕ → ℕ) → AcceptingRun (macrostates r) (transitions r) (holdsInitial r) w x
-      → (y : ℕ → ℕ) × AcceptingRun (trimmedCodes r) (trimmedTransitions r) (holdsInitial r) w y × ((i : ℕ) → getD (trimmedCodes r) (y i) 0 ≡ getD (macrostates r) (x i) 0)
+  pub run-survives : RunsSurvive r (macrostates r) (transitions r) (trimmedCodes r) (trimmedTransitions r)
   unfolding trimmedCodes trimmedTransitions
   run-survives = survives r P (macrostates r) (transitions r) (lists-reachable r P room) room (liveMarks (macrostates r) (transitions r)) (live-solved (macrostates r) (transitions r))
 
