@@ -1,5 +1,5 @@
 -- The answer of the trimmed build on a file, and what the slices then hold, from what the build says of the whole table.
-use mathlib.Core.Path.{_≡_, refl, sym, ap, ap₂, _∙_}
+use mathlib.Core.Path.{_≡_, refl, sym, ap, ap₂, _∙_, subst}
 use mathlib.Core.List.{List, [], _∷_, _++_, append-assoc}
 use Prim.Native.Nat.{ℕ, zero, suc, _+_, _-_, _≤_}
 use native.Mathlib.Omega.{arith}
@@ -10,12 +10,13 @@ use Rattle.sets.proofs.Bools.{bif}
 use Rattle.refusals.proofs.Rows.{first-parts}
 use Rattle.theory.specs.Automaton.{automaton}
 use Rattle.theory.specs.Demand.{Demand3}
+use Rattle.theory.specs.Macrostate.{holdsInitial}
 use Rattle.theory.specs.Passing.{Passing}
 use Rattle.theory.specs.Rule.{Rule}
 use Rattle.theory.specs.Table.{ListsReachable}
 use Rattle.theory.specs.TableComputed.{macrostates, transitions}
+use Rattle.theory_laws.proofs.Lists.{codes-once, moves-once, lists-exist}
 use Rattle.theory_laws.proofs.Tables.{lists-reachable}
-use Rattle.endless_spec.specs.Endless.{NeverTwo}
 use Rattle.endless_spec.proofs.Endless.{never-two}
 use Rattle.file_spec.specs.File.{ruleIn}
 use Rattle.file_spec.specs.Rows.{fileRow, fileRows}
@@ -24,17 +25,20 @@ use Rattle.build.specs.declared.Counts.{Counts}
 use Rattle.build.specs.declared.Built.{Built}
 use Rattle.build.specs.declared.Built.the-variants.{Table, Refused}
 use Rattle.build.specs.Built.{roomRow, builtBy, sliceAfter, rowFrom, builtFrom, codesAfterFrom, transitionsAfterFrom, buildRow, builtOf, codesAfter, transitionsAfter}
-use Rattle.build.proofs.Answer.{table-by}
+use Rattle.build.specs.Filling.{Filled}
+use Rattle.build.proofs.Answer.{table-by, build-row}
+use Rattle.build.proofs.ByLists.{codes-same, moves-same, row-same, filled-same}
 use Rattle.build.proofs.RoomRows.{room-few}
-use Rattle.trim_spec.specs.Matters.{ListsMattering}
+use Rattle.trim_spec.specs.Matters.{ListsMattering, RunsSurvive}
 use Rattle.trim_spec.specs.Trimmed.{liveMarks, picked, isLeft, renumbered, trimmedCodes, trimmedTransitions}
 use Rattle.trim_laws.proofs.Mattering.{table-inside, narrow-at}
 use Rattle.trim_laws.proofs.Numbers.{picked-length, number-max}
 use Rattle.trim_laws.proofs.Renumbering.{renumbered-yes, renumbered-no, renumbered-are}
 use Rattle.trim_laws.proofs.Sweeping.{flags-length, live-solved}
-use Rattle.trim_laws.proofs.Trimmed.{trimmed-lists, trimmed-demand3}
+use Rattle.trim_laws.proofs.Trimmed.{trimmed-lists, trimmed-demand3, run-survives}
 use Rattle.build_trimmed.specs.Trimming.{Trimmable, padded, Trimming}
 use Rattle.build_trimmed_spec.specs.Answers.{trimmedOf, trimmedCodesAfter, trimmedTransitionsAfter}
+use Rattle.build_trimmed_spec.specs.Entry.{TrimmedBuilt}
 
 -- ---- by the first row that refuses
 
@@ -219,17 +223,55 @@ module _ (f xs zs : List ℕ) (n : Counts) (e : Table n ≡ trimmedOf f (length 
   pub answered-demand3 : Demand3 (ruleIn f) (take (n .macrostates) (trimmedCodesAfter f xs (length zs))) (take (n .transitions) (trimmedTransitionsAfter f (length xs) zs))
   answered-demand3 = rw (codes-are, transitions-are) (trimmed-demand3 (ruleIn f) (accepted-passing f (rows .0)) small)
 
--- all clauses of the contract, of an answer and both slices
-pub contract : (f xs zs : List ℕ) (a : Built) (ys ws : List ℕ) → a ≡ trimmedOf f (length xs) (length zs) → ys ≡ trimmedCodesAfter f xs (length zs) → ws ≡ trimmedTransitionsAfter f (length xs) zs
-    → (a ≡ trimmedOf f (length xs) (length zs)) × (ys ≡ trimmedCodesAfter f xs (length zs)) × (ws ≡ trimmedTransitionsAfter f (length xs) zs)
-    × ((n : Counts) → a ≡ Table n → ListsMattering (ruleIn f) (take (n .macrostates) ys) (take (n .transitions) ws))
-    × ((n : Counts) → a ≡ Table n → Demand3 (ruleIn f) (take (n .macrostates) ys) (take (n .transitions) ws))
-    × ((n : Counts) → a ≡ Table n → NeverTwo (ruleIn f) (take (n .macrostates) ys) (take (n .transitions) ws))
-contract f xs zs a ys ws e c m = (
-  e,
-  c,
-  m,
-  λ n t. rw (c, m) (answered-lists f xs zs n (sym t ∙ e)),
-  λ n t. rw (c, m) (answered-demand3 f xs zs n (sym t ∙ e)),
-  λ n t. rw (c, m) (never-two (ruleIn f) _ _ (answered-demand3 f xs zs n (sym t ∙ e))),
-)
+-- ---- the whole contract, of an answer and both slices
+
+module _ (f xs zs : List ℕ) (a : Built) (ys ws : List ℕ) (e : a ≡ trimmedOf f (length xs) (length zs))
+    (c : ys ≡ trimmedCodesAfter f xs (length zs)) (m : ws ≡ trimmedTransitionsAfter f (length xs) zs) where
+  filled : Filled (buildRow f (length xs) (length zs)) (trimmedCodes (ruleIn f)) (trimmedTransitions (ruleIn f)) xs zs a ys ws
+  unfolding trimmedOf trimmedCodesAfter trimmedTransitionsAfter
+  filled = record { answer = e; codes-after = c; moves-after = m }
+
+  module _ (z : fileRow f ≡ 0) (codes moves left kept : List ℕ) (L : ListsReachable (ruleIn f) codes moves)
+      (M : roomRow codes moves (length xs) (length zs) ≡ 0 → ListsMattering (ruleIn f) left kept) where
+    row-is : roomRow codes moves (length xs) (length zs) ≡ buildRow f (length xs) (length zs)
+    row-is = row-same (ruleIn f) (accepted-passing f z) codes moves L (length xs) (length zs) ∙ sym (build-row holdsInitial f xs zs z)
+
+    -- where no row refuses, the lists are the computed ones
+    lists-same : buildRow f (length xs) (length zs) ≡ 0 → (left ≡ trimmedCodes (ruleIn f)) × (kept ≡ trimmedTransitions (ruleIn f))
+    lists-same k =
+        let few = room-few (macrostates (ruleIn f)) (transitions (ruleIn f)) (length xs) (length zs) (sym (build-row holdsInitial f xs zs z) ∙ k) in
+        let T = trimmed-lists (ruleIn f) (accepted-passing f z) few in
+        (codes-once (M (row-is ∙ k)) T, moves-once (M (row-is ∙ k)) T)
+
+    by-lists : Filled (roomRow codes moves (length xs) (length zs)) left kept xs zs a ys ws
+    by-lists =
+        subst (λ (k : ℕ). Filled k left kept xs zs a ys ws) (sym row-is)
+        (filled-same (buildRow f (length xs) (length zs)) left kept (trimmedCodes (ruleIn f)) (trimmedTransitions (ruleIn f)) xs zs a ys ws lists-same filled)
+
+  survival : (n : Counts) → a ≡ Table n → (codes moves : List ℕ) → ListsReachable (ruleIn f) codes moves
+      → RunsSurvive (ruleIn f) codes moves (take (n .macrostates) ys) (take (n .transitions) ws)
+  survival n t codes moves L =
+      let g = sym t ∙ e in
+      let P = accepted-passing f (rows f xs zs n g .0) in
+      let few = small f xs zs n g in
+      rw (codes-same (ruleIn f) P codes moves L, moves-same (ruleIn f) P codes moves L few, c, m, codes-are f xs zs n g, transitions-are f xs zs n g) (run-survives (ruleIn f) P few)
+
+  pub contract : TrimmedBuilt f xs zs a ys ws
+  contract = record {
+    answer = e;
+    codes-after = c;
+    moves-after = m;
+    by-lists = by-lists;
+    lists = λ n t. rw (c, m) (answered-lists f xs zs n (sym t ∙ e));
+    demand = λ n t. rw (c, m) (answered-demand3 f xs zs n (sym t ∙ e));
+    never-two = λ n t. rw (c, m) (never-two (ruleIn f) _ _ (answered-demand3 f xs zs n (sym t ∙ e)));
+    survival = survival;
+  }
+
+-- every file that no row of the rule refuses has lists as `by-lists` takes them
+pub lists-there : (f xs zs : List ℕ) → fileRow f ≡ 0 → (moves : List ℕ) × ListsReachable (ruleIn f) (macrostates (ruleIn f)) moves
+    × (roomRow (macrostates (ruleIn f)) moves (length xs) (length zs) ≡ 0 → ListsMattering (ruleIn f) (trimmedCodes (ruleIn f)) (trimmedTransitions (ruleIn f)))
+lists-there f xs zs z =
+    let P = accepted-passing f z in
+    let m = lists-exist (ruleIn f) P (holdsInitial (ruleIn f)) in
+    (m .0, m .1, λ e. trimmed-lists (ruleIn f) P (room-few (macrostates (ruleIn f)) (m .0) (length xs) (length zs) e))

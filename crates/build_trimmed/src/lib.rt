@@ -8,15 +8,8 @@ use trim_number::count_left;
 use trim_number::number;
 use trim_number::rewrite_all;
 ghost use mathlib.Core.Path.{_≡_};
-ghost use lib.ListN.{length, take};
-ghost use Rattle.theory.specs.Demand.{Demand3};
-ghost use Rattle.endless_spec.specs.Endless.{NeverTwo};
-ghost use Rattle.file_spec.specs.File.{ruleIn};
-ghost use Rattle.build.specs.declared.Counts.{Counts};
-ghost use Rattle.build.specs.declared.Built.the-variants.{Table};
-ghost use Rattle.trim_spec.specs.Matters.{ListsMattering};
 ghost use Rattle.build_trimmed.specs.Trimming.{Trimmable, Trimming};
-ghost use Rattle.build_trimmed_spec.specs.Answers.{trimmedOf, trimmedCodesAfter, trimmedTransitionsAfter};
+ghost use Rattle.build_trimmed_spec.specs.Entry.{TrimmedBuilt};
 
 // Trims a table in place: what matters stays at the front of both slices, by new numbers, and zeros come behind.
 pub fn trim(codes: &mut [u64], transitions: &mut [u64]) -> Counts
@@ -44,22 +37,8 @@ pub fn trim(codes: &mut [u64], transitions: &mut [u64]) -> Counts
 // Writes the codes of the reachable macrostates that matter and the transitions between them, both ascending, at the start of the
 // slices, and zeros after them; answers both counts. Rows and refusals are those of the build: 17 and 18 count the reachable table.
 pub fn build_trimmed(file: &[u8], codes: &mut [u64], transitions: &mut [u64]) -> Built
-    ensures { λ r. ⌜ (r ≡ trimmedOf (now (file .entry)) (length (now (codes .entry))) (length (now (transitions .entry))))
-        × (now (codes .exit) ≡ trimmedCodesAfter (now (file .entry)) (now (codes .entry)) (length (now (transitions .entry))))
-        × (now (transitions .exit)
-        ≡ trimmedTransitionsAfter (now (file .entry)) (length (now (codes .entry))) (now (transitions .entry)))
-        × ((n : Counts)
-        → r ≡ Table n
-        → ListsMattering (ruleIn (now (file .entry))) (take (n .macrostates) (now (codes .exit)))
-        (take (n .transitions) (now (transitions .exit))))
-        × ((n : Counts)
-        → r ≡ Table n
-        → Demand3 (ruleIn (now (file .entry))) (take (n .macrostates) (now (codes .exit)))
-        (take (n .transitions) (now (transitions .exit))))
-        × ((n : Counts)
-        → r ≡ Table n
-        → NeverTwo (ruleIn (now (file .entry))) (take (n .macrostates) (now (codes .exit)))
-        (take (n .transitions) (now (transitions .exit)))) ⌝ }
+    ensures { λ r. ⌜ TrimmedBuilt (now (file .entry)) (now (codes .entry)) (now (transitions .entry)) r
+        (now (codes .exit)) (now (transitions .exit)) ⌝ }
 {
     match build::build(file, codes, transitions) {
         Built::Refused(row) => Built::Refused(row),
