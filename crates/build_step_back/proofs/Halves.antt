@@ -18,6 +18,7 @@ use Rattle.sets.proofs.Bits.{bit-and, bit-none, bit-ext}
 use Rattle.sets.proofs.Digits.{num-ext, digit-num, pow16}
 use Rattle.theory.specs.Automaton.{Automaton}
 use Rattle.theory.specs.Layered.{Layered}
+use Rattle.theory.specs.Core.{Core}
 use Rattle.theory.specs.CoreComputed.{rankOf}
 use Rattle.theory_laws.proofs.Classes.{rank-max}
 use Rattle.build_cores.specs.Vectors.{rankAt, Within}
@@ -26,7 +27,9 @@ use Rattle.build_cores.specs.Parts.{Parts, setOf}
 use Rattle.build_cores.proofs.Sums.{sum-ext, sum-ranks}
 use Rattle.build_cores.proofs.Cores.{part-state, part-none}
 use Rattle.build_opens.specs.Opens.{Opens}
+use Rattle.paper_spec.specs.Definition7.{MeetsR1, MeetsR2}
 use Rattle.paper_spec.specs.Halves.{EarlierRejecting, EarlierAccepting}
+use Rattle.paper_laws.proofs.Definition7.{rejecting-meets, accepting-meets}
 use Rattle.paper_laws.proofs.Halves.{rejecting-half, accepting-half, rejecting-same, accepting-same}
 use Rattle.build_step_back.specs.Step.{rejectingPart, acceptingPart, ranksIn, BackOf}
 use Rattle.build_step_back.specs.Earlier.{earlierSet, earlierLevel, earlierRank}
@@ -129,3 +132,15 @@ module _ (A : Automaton) (H : Layered A) (s : ℕ) (opens parts : List ℕ) (P :
         accepting-same A H a S (earlierRank A a v) (setOf A v) (rankAt v) l (rankAt ranks) l
         (λ q m x. (rank-at (acceptingPart parts accepting) (A .accepting) accepting-at before ranks levels B q m x, refl))
         (accepting-half A H a S (earlierRank A a v) (setOf A v) (rankAt v) l (earlier-is A H s opens parts P O a v letter w low lowest))
+
+    -- each half meets its rule of source 000's Definition 7 without the other, where v is a core
+    module _ (C : Core A (setOf A v) (rankAt v)) where
+      pub rejecting-back-r1 : (before : List ℕ) (ranks : ℕ) (levels : List ℕ)
+          → BackOf (rejectingPart parts accepting) opens a (getD low 15 0) parts (A .components) low before ranks levels
+          → MeetsR1 A a (setOf A v) (rankAt v) (earlierSet A a v) (rankAt ranks)
+      rejecting-back-r1 before ranks levels B = rejecting-meets A H a S (rankAt ranks) (setOf A v) (rankAt v) C l (rejecting-back before ranks levels B)
+
+      pub accepting-back-r2 : (before : List ℕ) (ranks : ℕ) (levels : List ℕ)
+          → BackOf (acceptingPart parts accepting) opens a (getD low 15 0) parts (A .components) low before ranks levels
+          → MeetsR2 A a (setOf A v) (rankAt v) (earlierSet A a v) (rankAt ranks)
+      accepting-back-r2 before ranks levels B = accepting-meets A H a S (rankAt ranks) (setOf A v) (rankAt v) C l (accepting-back before ranks levels B)

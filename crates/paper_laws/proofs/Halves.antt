@@ -15,7 +15,7 @@ use Rattle.theory_laws.proofs.Settled.{settled-ext}
 use Rattle.paper_spec.specs.Halves.{EarlierRejecting, EarlierAccepting, together}
 
 -- tests that agree have the same least number
-least-ext : (f g : Set) → ((j : ℕ) → f j ≡ g j) → (j : ℕ) → Least f j → Least g j
+pub least-ext : (f g : Set) → ((j : ℕ) → f j ≡ g j) → (j : ℕ) → Least f j → Least g j
 least-ext f g e j x = record { holds = sym (e j) ∙ x .holds; least = λ i h. x .least i (e i ∙ h) }
 
 module _ (A : Automaton) (H : Layered A) where

@@ -48,13 +48,20 @@ module _ (A : Automaton) (a : ℕ) (Q₁ : Set) (t : ℕ → ℕ) where
   -- ---- both
 
   -- Definition 7, for one step: (S, ranks) and (Q₁, t) "satisfy the following rules"
-  pub record Consistent (S : Set) (ranks : ℕ → ℕ) : Type 0 where
+  module _ (S : Set) (ranks : ℕ → ℕ) where
     -- R1': "∀ q, q' ∈ C ∩ Q₁ ⊆ R, we have that q ≺ q' iff" the right-hand side
-    pub R1′ : (q q′ : ℕ) → q < A .n → q′ < A .n → A .component q ≡ A .component q′ → A .accepting q ≡ false → S q ≡ true → S q′ ≡ true
+    abbrev pub MeetsR1 : Type 0
+    MeetsR1 = (q q′ : ℕ) → q < A .n → q′ < A .n → A .component q ≡ A .component q′ → A .accepting q ≡ false → S q ≡ true → S q′ ≡ true
         → (ranks q < ranks q′) ↔ (witnessR1 q q′ ≡ true)
+
     -- R2': "∀ q, q' ∈ C \ Q₁ ⊆ A, we have q ≺ q' iff" the right-hand side
-    pub R2′ : (q q′ : ℕ) → q < A .n → q′ < A .n → A .component q ≡ A .component q′ → A .accepting q ≡ true → S q ≡ false → S q′ ≡ false
+    abbrev pub MeetsR2 : Type 0
+    MeetsR2 = (q q′ : ℕ) → q < A .n → q′ < A .n → A .component q ≡ A .component q′ → A .accepting q ≡ true → S q ≡ false → S q′ ≡ false
         → (ranks q < ranks q′) ↔ (witnessR2 q q′ ≡ true)
+
+    pub record Consistent : Type 0 where
+      pub R1′ : MeetsR1
+      pub R2′ : MeetsR2
 
 module _ (A : Automaton) (a : ℕ) (Q₁ : Set) where
   -- L2 and L3 of 000, section 3.2, the "local consistency" of Definition 11
