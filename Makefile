@@ -165,13 +165,16 @@ STEP_BACK := target/bin/bench_step_back
 $(STEP_BACK): $(SOURCES)
 	rt check bench_step_back
 
+# the pairs of rules that are compared, new and old; compare/src/bin/speed.rs has the same
+COMPARED := strict_1 strict_1 strict_1 strict_1_less strict_8 strict_8 strict_8 strict_8_less \
+  strict_8 slow_1_0 slow_1_0 strict_8 trans_1_1 strict_8 strict_8 trans_1_1 cap_62_s16 strict_8 slow_1_0 slow_1_0
 bench: $(LIB) $(STEP_BACK) $(BUILD)/reference $(BUILD)/chains $(BUILD)/reference02 $(BUILD)/reference_events $(BUILD)/reference_hoa
 	STEP_BACK=$(CURDIR)/$(STEP_BACK) $(CARGO) run --release --offline --quiet --manifest-path compare/Cargo.toml --bin speed -- $(wildcard $(CURDIR)/bench/*.rule)
 	$(BUILD)/reference $(wildcard bench/*.rule)
 	for r in $(wildcard bench/*.rule); do echo "$$r $$($(BUILD)/chains B $$r)"; done
 	$(BUILD)/reference02 trim $(wildcard bench/*.rule)
 	$(BUILD)/reference02 live $(wildcard bench/*.rule)
-	$(BUILD)/reference02 stricter $(foreach n,1 8,$(foreach b,$(n) $(n)_less,bench/strict_$(n).rule bench/strict_$(b).rule))
+	$(BUILD)/reference02 stricter $(foreach r,$(COMPARED),bench/$(r).rule)
 	$(BUILD)/reference_events
 	$(BUILD)/reference_hoa $(wildcard bench/*.rule)
 

@@ -24,18 +24,27 @@ use second::rule::Rule;
 use second::sample::{self, Random, Shape};
 use second::spelling::tidy_word;
 
-/// Pairs of rules to compare: each with itself, and with one that has a clause
-/// less.
-const STRICT: [(&str, &[u8], &[u8]); 4] = {
+/// Pairs of rules to compare: each with itself, with one that has a clause
+/// less, and rules of all kinds with up to 1,590 million pairs of macrostates.
+const STRICT: [(&str, &[u8], &[u8]); 10] = {
     let one: &[u8] = include_bytes!("../../../bench/strict_1.rule");
     let less: &[u8] = include_bytes!("../../../bench/strict_1_less.rule");
     let eight: &[u8] = include_bytes!("../../../bench/strict_8.rule");
     let fewer: &[u8] = include_bytes!("../../../bench/strict_8_less.rule");
+    let slow: &[u8] = include_bytes!("../../../bench/slow_1_0.rule");
+    let trans: &[u8] = include_bytes!("../../../bench/trans_1_1.rule");
+    let cap: &[u8] = include_bytes!("../../../bench/cap_62_s16.rule");
     [
         ("strict_1 strict_1", one, one),
         ("strict_1 strict_1_less", one, less),
         ("strict_8 strict_8", eight, eight),
         ("strict_8 strict_8_less", eight, fewer),
+        ("strict_8 slow_1_0", eight, slow),
+        ("slow_1_0 strict_8", slow, eight),
+        ("trans_1_1 strict_8", trans, eight),
+        ("strict_8 trans_1_1", eight, trans),
+        ("cap_62_s16 strict_8", cap, eight),
+        ("slow_1_0 slow_1_0", slow, slow),
     ]
 };
 

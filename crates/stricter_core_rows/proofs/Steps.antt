@@ -41,15 +41,15 @@ module _ (left : List ℕ) (asc : Ascending (untagged left)) (i : ℕ) (cuts : L
 
 -- ---- the steps of a pair
 
-module _ (nb : ℕ) (left right marks : List ℕ) (second : Bool) (k : ℕ) (cuts : List ℕ) where
+module _ (nb : ℕ) (left right marks : List ℕ) (second : Bool) (k other : ℕ) (cuts : List ℕ) where
   -- no transition of the row that is cut has, beside u of B, the mark it needs
   abbrev pub Missed : ℕ → Type 0
   Missed u = (c : ℕ) → getD cuts (letterOf u) 0 ≤ c → c < getD cuts (letterOf u + 1) 0
-      → getD marks (ontoOf (getD left c 0) * nb + ontoOf u) 0 < needed (sparing (cond second u (getD left c 0)) k)
+      → getD marks (ontoOf (getD left c 0) * nb + ontoOf u) 0 < needed other (sparing (cond second u (getD left c 0)) k)
 
   -- u does so
   abbrev pub MetBy : ℕ → Bool → Type 0
-  MetBy u r = Met (λ t. needed (sparing (cond second u t) k)) nb left (getD cuts (letterOf u) 0) (getD cuts (letterOf u + 1) 0) (ontoOf u) marks r
+  MetBy u r = Met (λ t. needed other (sparing (cond second u t) k)) nb left (getD cuts (letterOf u) 0) (getD cuts (letterOf u + 1) 0) (ontoOf u) marks r
 
   pub missed-next : (j p u : ℕ) → u ≡ getD right p 0 → Missed u
       → ((o : ℕ) → below (j * 16777216) (untagged right) ≤ o → o < p → Missed (getD right o 0))
@@ -75,15 +75,15 @@ module _ (nb : ℕ) (left right marks : List ℕ) (second : Bool) (k : ℕ) (cut
 
       by-need : (u c : ℕ) (s : Bool) → CoreStep nb left right (i * nb + j) (ontoOf (getD left c 0) * nb + ontoOf u)
           → (s ≡ true → SparedStep nb left right second k (i * nb + j) (ontoOf (getD left c 0) * nb + ontoOf u))
-          → needed s ≤ getD marks (ontoOf (getD left c 0) * nb + ontoOf u) 0
+          → needed other s ≤ getD marks (ontoOf (getD left c 0) * nb + ontoOf u) 0
           → ((y : ℕ) × SparedStep nb left right second k (i * nb + j) y × (1 ≤ getD marks y 0))
-          ⊎ ((y : ℕ) × CoreStep nb left right (i * nb + j) y × (2 ≤ getD marks y 0))
+          ⊎ ((y : ℕ) × CoreStep nb left right (i * nb + j) y × (other ≤ getD marks y 0))
       by-need u c true e f l = inl (ontoOf (getD left c 0) * nb + ontoOf u, f refl, l)
       by-need u c false e f l = inr (ontoOf (getD left c 0) * nb + ontoOf u, e, l)
 
       -- one that is met is found
       pub met-leading : (u : ℕ) → List·Memᴰ u right → rowOf u ≡ j → (r : Bool) → r ≡ true → MetBy u r
-          → Leading (CoreStep nb left right) (SparedStep nb left right second k) marks (i * nb + j) true
+          → Leading (CoreStep nb left right) (SparedStep nb left right second k) other marks (i * nb + j) true
       unfolding step-by
       met-leading u m s b t w =
           let (c, f, l, n) = w .yes t in
@@ -97,7 +97,7 @@ module _ (nb : ℕ) (left right marks : List ℕ) (second : Bool) (k : ℕ) (cut
           (end : p < length right → rowOf (getD right p 0) ≡ j → ⊥)
           (missed : (o : ℕ) → below (j * 16777216) (untagged right) ≤ o → o < p → Missed (getD right o 0)) where
         -- a step has not the mark it needs
-        low-step : (y : ℕ) (e : CoreStep nb left right (i * nb + j) y) → getD marks y 0 < needed (sparing (cond second (e .of-B) (e .of-A)) k)
+        low-step : (y : ℕ) (e : CoreStep nb left right (i * nb + j) y) → getD marks y 0 < needed other (sparing (cond second (e .of-B) (e .of-A)) k)
         low-step y e =
             let t = e .of-A in
             let u = e .of-B in
@@ -114,23 +114,23 @@ module _ (nb : ℕ) (left right marks : List ℕ) (second : Bool) (k : ℕ) (cut
             let w = cut-all left (fit .ascend-A) i cuts cut (a .0) (letterOf u) (a .1) (ap rowOf ta ∙ sym (d .0)) (ap letterOf ta ∙ e .letters) (fit .letters-B u (e .listed-B)) in
             let m : Missed u = subst Missed ub (missed (b .0) (s .0) (s .1)) in
             let g = m (a .0) (w .0) (w .1) in
-            rw (e .target) (subst (λ (v : ℕ). getD marks (ontoOf v * nb + ontoOf u) 0 < needed (sparing (cond second u v) k)) ta g)
+            rw (e .target) (subst (λ (v : ℕ). getD marks (ontoOf v * nb + ontoOf u) 0 < needed other (sparing (cond second u v) k)) ta g)
 
-        under-two : (v : ℕ) (s : Bool) → v < needed s → v < 2
-        under-two v true l = omega arith
-        under-two v false l = l
+        under-other : 1 ≤ other → (v : ℕ) (s : Bool) → v < needed other s → v < other
+        under-other o v true l = omega arith
+        under-other o v false l = l
 
-        under-one : (v : ℕ) (s : Bool) → s ≡ true → v < needed s → v < 1
+        under-one : (v : ℕ) (s : Bool) → s ≡ true → v < needed other s → v < 1
         under-one v true e l = l
         under-one v false e l = absurd (false≢true e)
 
         -- none is met, and the row of j ends: nothing is found
-        pub missed-leading : Leading (CoreStep nb left right) (SparedStep nb left right second k) marks (i * nb + j) false
-        missed-leading =
+        pub missed-leading : 1 ≤ other → Leading (CoreStep nb left right) (SparedStep nb left right second k) other marks (i * nb + j) false
+        missed-leading o =
             record {
               yes = λ r. absurd (false≢true r);
               no = λ r. record {
                 spared = λ y e. under-one (getD marks y 0) (sparing (cond second (e .step .of-B) (e .step .of-A)) k) (e .spares) (low-step y (e .step));
-                passes = λ y e. under-two (getD marks y 0) (sparing (cond second (e .of-B) (e .of-A)) k) (low-step y e);
+                passes = λ y e. under-other o (getD marks y 0) (sparing (cond second (e .of-B) (e .of-A)) k) (low-step y e);
               };
             }

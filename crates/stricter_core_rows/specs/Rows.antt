@@ -6,9 +6,9 @@ use Prim.Native.Nat.{ℕ, _+_, _*_, _≤_, _<_}
 use lib.ListN.{getD}
 use Rattle.stricter_cores_spec.specs.Tags.{ontoOf}
 
--- the mark that a step must find: 1 where it spares, else 2
-abbrev pub needed : Bool → ℕ
-needed spares = cond spares 1 2
+-- the mark that a step must find: 1 where it spares
+abbrev pub needed : ℕ → Bool → ℕ
+needed other spares = cond spares 1 other
 
 -- whether a transition of A from place `from` up to `to` leads, beside core q of B, to a pair that has the mark it needs
 pub record Met (need : ℕ → ℕ) (nb : ℕ) (left : List ℕ) (from to q : ℕ) (marks : List ℕ) (r : Bool) : Type 0 where

@@ -30,12 +30,34 @@ fn onto_of(t: u64) -> usize
     ((t >> 40) & 0xffff) as usize
 }
 
-// The mark that a step by it must find: 1 if it spares component k, else 2.
-fn least_of(t: u64, k: u32) -> u8
-    requires { ⌜ k < 8 ⌝ }
-    ensures { λ r. ⌜ r ≡ needed (sparing t k) ⌝ }
+// What is asked of a step: it counts where it leads to a mark of 1 and spares component k, of B if `second`, else of A, or where it leads
+// to a mark of at least `other`.
+pub struct Asked {
+    pub second: bool,
+    pub k: u32,
+    pub other: u8,
+}
+
+// One of two transitions.
+fn pick(second: bool, u: u64, t: u64) -> u64
+    ensures { λ r. ⌜ r ≡ cond second u t ⌝ }
 {
-    2 - ((t >> (56 + k)) & 1) as u8
+    if second {
+        return u;
+    }
+    t
+}
+
+// The mark that a step must find by a transition that tells what it spares.
+fn least_of(t: u64, ask: Asked) -> u8
+    requires { ⌜ ask .k < 8 ⌝ }
+    ensures { λ r. ⌜ r ≡ needed (ask .other) (sparing t (ask .k)) ⌝ }
+{
+    let k = ask.k;
+    if (t >> (56 + k)) & 1 == 1 {
+        return 1;
+    }
+    ask.other
 }
 
 // ---- rows
@@ -75,48 +97,27 @@ pub fn cut_row(moves: &[u64], i: usize) -> [usize; 17]
 
 // ---- steps
 
-// Whether a transition of A from place `from` up to `to` leads, beside core q of B, to a pair whose mark is at least `least`.
+// Whether a transition of A from place `from` up to `to` leads, beside the transition u of B, to a pair that has the mark it needs.
 fn has_marked(
     left: &[u64],
     from: usize,
     to: usize,
+    u: u64,
     nb: usize,
-    q: usize,
-    marks: &[u8],
-    least: u8,
-) -> bool
-    requires { ⌜ (to ≤ length (now left)) × ((t : ℕ) → List·Memᴰ t (now left) → ontoOf t * nb + q < length (now marks)) ⌝ }
-    ensures { λ r. ⌜ Met (λ t. least) nb (now (left .entry)) from to q (now (marks .entry)) r ⌝ }
-{
-    let mut c = from;
-    while c < to {
-        let y = onto_of(left[c]) * nb + q;
-        if least <= marks[y] {
-            return true;
-        }
-        c += 1;
-    }
-    false
-}
-
-// Whether one leads to a pair that has the mark it needs: 1 if it spares component k, else 2.
-fn has_spared(
-    left: &[u64],
-    from: usize,
-    to: usize,
-    nb: usize,
-    q: usize,
-    k: u32,
+    ask: Asked,
     marks: &[u8],
 ) -> bool
-    requires { ⌜ (k < 8) × (to ≤ length (now left)) × ((t : ℕ) → List·Memᴰ t (now left) → ontoOf t * nb + q < length (now marks)) ⌝ }
-    ensures { λ r. ⌜ Met (λ t. needed (sparing t k)) nb (now (left .entry)) from to q (now (marks .entry)) r ⌝ }
+    requires { ⌜ (ask .k < 8) × (to ≤ length (now left))
+        × ((t : ℕ) → List·Memᴰ t (now left) → ontoOf t * nb + ontoOf u < length (now marks)) ⌝ }
+    ensures { λ r. ⌜ Met (λ t. needed (ask .other) (sparing (cond (ask .second) u t) (ask .k))) nb (now (left .entry)) from to (ontoOf u)
+        (now (marks .entry)) r ⌝ }
 {
+    let q = onto_of(u);
     let mut c = from;
     while c < to {
         let t = left[c];
         let y = onto_of(t) * nb + q;
-        if least_of(t, k) <= marks[y] {
+        if least_of(pick(ask.second, u, t), ask) <= marks[y] {
             return true;
         }
         c += 1;
@@ -124,49 +125,23 @@ fn has_spared(
     false
 }
 
-// Whether the transition u of B leads, beside one of the row of A that is cut, to a pair that has the mark needed.
-fn leads_by(
-    left: &[u64],
-    cuts: &[usize; 17],
-    u: u64,
-    nb: usize,
-    second: bool,
-    k: u32,
-    marks: &[u8],
-) -> bool
-    requires { ⌜ (letterOf u < 16) × (k < 8) × ((t : ℕ) → List·Memᴰ t (now left) → ontoOf t * nb + ontoOf u < length (now marks)) ⌝ }
-    requires { ⌜ ((a : ℕ) → a < 17 → getD (now cuts) a 0 ≤ length (now left)) ⌝ }
-    ensures { λ r. ⌜ Met (λ t. needed (sparing (cond second u t) k)) nb (now (left .entry)) (getD (now (cuts .entry)) (letterOf u) 0)
-        (getD (now (cuts .entry)) (letterOf u + 1) 0) (ontoOf u) (now (marks .entry)) r ⌝ }
-{
-    let a = letter_of(u);
-    let from = cuts[a];
-    let to = cuts[a + 1];
-    let q = onto_of(u);
-    if second {
-        return has_marked(left, from, to, nb, q, marks, least_of(u, k));
-    }
-    has_spared(left, from, to, nb, q, k, marks)
-}
-
-// Whether the pair of a core of A, whose row is cut, and core j of B leads to a pair that has a mark:
-// 1 where the step spares component k, of B if `second`, else of A; 2 where it does not.
+// Whether the pair of a core of A, whose row is cut, and core j of B leads to a pair that has the mark needed.
 pub fn leads(
     left: &[u64],
     cuts: &[usize; 17],
     right: &[u64],
     nb: usize,
     j: usize,
-    second: bool,
-    k: u32,
+    ask: Asked,
     marks: &[u8],
 ) -> bool
-    requires { ⌜ ((na : ℕ) × CoresFit na nb (now left) (now right) (now marks)) × (j < nb) × (k < 8) ⌝ }
+    requires { ⌜ ((na : ℕ) × CoresFit na nb (now left) (now right) (now marks)) × (j < nb) × (ask .k < 8)
+        × (1 ≤ ask .other) ⌝ }
     requires { ⌜ ((a : ℕ) → a < 17 → getD (now cuts) a 0 ≤ length (now left)) ⌝ }
     requires { ⌜ ((u : ℕ) → List·Memᴰ u (now right) → rowOf u < nb) ⌝ }
     ensures { λ r. ⌜ ((i : ℕ) → i < 65536 → RowCut (untagged (now (left .entry))) i (now (cuts .entry))
-        → Leading (CoreStep nb (now (left .entry)) (now (right .entry))) (SparedStep nb (now (left .entry)) (now (right .entry)) second k)
-        (now (marks .entry)) (i * nb + j) r) ⌝ }
+        → Leading (CoreStep nb (now (left .entry)) (now (right .entry)))
+        (SparedStep nb (now (left .entry)) (now (right .entry)) (ask .second) (ask .k)) (ask .other) (now (marks .entry)) (i * nb + j) r) ⌝ }
 {
     let key = j * 0x0100_0000;
     let mut p = place_low(right, key as u64);
@@ -175,7 +150,8 @@ pub fn leads(
         if row_of(u) != j {
             return false;
         }
-        if leads_by(left, cuts, u, nb, second, k, marks) {
+        let a = letter_of(u);
+        if has_marked(left, cuts[a], cuts[a + 1], u, nb, ask, marks) {
             return true;
         }
         p += 1;

@@ -1,6 +1,7 @@
 // Rounds over the pairs of cores of two tagged tables: once pairs go out that lead to none that is in, then for each component of either
 // table those that cannot reach a step that spares it, until none goes out.
 use slice_zeros::next_set;
+use stricter_core_rows::Asked;
 use stricter_core_rows::cut_row;
 use stricter_core_rows::leads;
 ghost use mathlib.Core.Path.{_≡_};
@@ -12,7 +13,7 @@ ghost use Rattle.stricter_laws.specs.Pairs.{RowCut};
 ghost use Rattle.stricter_cores_spec.specs.Tags.{rowOf, untagged};
 ghost use Rattle.stricter_cores_spec.specs.Steps.{CoreStep, SparedStep, CoresFit, standsIn, OnlyCores};
 ghost use Rattle.stricter_cores_spec.specs.Rounds.{Tried, Swept, Round, Narrowed, AllSound, Pass};
-ghost use Rattle.stricter_cores_laws.specs.Parts.{Ready, Begun, Waiting, Settled, Side, Raised, Thinned};
+ghost use Rattle.stricter_cores_laws.specs.Parts.{Ready, Begun, Waiting, Settled, Side, Thinned};
 
 // ---- sweeps
 
@@ -39,7 +40,7 @@ fn first_waiting(marks: &[u8], from: usize, to: usize) -> usize
     x
 }
 
-// Marks the pair of core i, whose row is cut, and core j if it is in, not marked, and a step that spares component k on a side leads to
+// Marks the pair of core i, whose row is cut, and core j if it is in, not marked, and a step that spares the component asked for leads to
 // one that is in, or any step to one that is marked; whether it did.
 fn mark_pair(
     left: &[u64],
@@ -48,21 +49,20 @@ fn mark_pair(
     nb: usize,
     i: usize,
     j: usize,
-    second: bool,
-    k: u32,
+    ask: Asked,
     marks: &mut [u8],
 ) -> bool
     requires { ⌜ ((na : ℕ) × Ready na nb (now left) (now right) (now marks)) × RowCut (untagged (now left)) i (now cuts)
-        × (i < 65536) × (j < nb) × (k < 8) × (i * nb + j < length (now marks)) ⌝ }
+        × (i < 65536) × (j < nb) × (ask .k < 8) × (ask .other ≡ 2) × (i * nb + j < length (now marks)) ⌝ }
     ensures { λ r. ⌜ Tried (CoreStep nb (now (left .entry)) (now (right .entry)))
-        (SparedStep nb (now (left .entry)) (now (right .entry)) second k)
+        (SparedStep nb (now (left .entry)) (now (right .entry)) (ask .second) (ask .k))
         (i * nb + j) (i * nb + j + 1) (now (marks .entry)) (now (marks .exit)) r ⌝ }
 {
     let x = i * nb + j;
     if marks[x] != 1 {
         return false;
     }
-    if !leads(left, cuts, right, nb, j, second, k, marks) {
+    if !leads(left, cuts, right, nb, j, ask, marks) {
         return false;
     }
     marks[x] = 2;
@@ -77,14 +77,13 @@ fn sweep_row(
     nb: usize,
     i: usize,
     from: usize,
-    second: bool,
-    k: u32,
+    ask: Asked,
     marks: &mut [u8],
 ) -> bool
     requires { ⌜ ((na : ℕ) × Ready na nb (now left) (now right) (now marks)) × RowCut (untagged (now left)) i (now cuts)
-        × (i < 65536) × (i * nb ≤ from) × (from ≤ i * nb + nb) × (k < 8) × (i * nb + nb ≤ length (now marks)) ⌝ }
+        × (i < 65536) × (i * nb ≤ from) × (from ≤ i * nb + nb) × (ask .k < 8) × (ask .other ≡ 2) × (i * nb + nb ≤ length (now marks)) ⌝ }
     ensures { λ r. ⌜ Tried (CoreStep nb (now (left .entry)) (now (right .entry)))
-        (SparedStep nb (now (left .entry)) (now (right .entry)) second k)
+        (SparedStep nb (now (left .entry)) (now (right .entry)) (ask .second) (ask .k))
         from (i * nb + nb) (now (marks .entry)) (now (marks .exit)) r ⌝ }
 {
     let row = i * nb;
@@ -97,7 +96,7 @@ fn sweep_row(
             return changed;
         }
         x = y + 1;
-        if mark_pair(left, cuts, right, nb, i, y - row, second, k, marks) {
+        if mark_pair(left, cuts, right, nb, i, y - row, ask, marks) {
             changed = true;
         }
     }
@@ -111,14 +110,13 @@ fn visit_row(
     right: &[u64],
     nb: usize,
     i: usize,
-    second: bool,
-    k: u32,
+    ask: Asked,
     marks: &mut [u8],
 ) -> bool
     requires { ⌜ Ready (length (now acodes)) nb (now left) (now right) (now marks) × OnlyCores (now acodes) nb (now marks)
-        × (i < length (now acodes)) × (k < 8) ⌝ }
+        × (i < length (now acodes)) × (ask .k < 8) × (ask .other ≡ 2) ⌝ }
     ensures { λ r. ⌜ Tried (CoreStep nb (now (left .entry)) (now (right .entry)))
-        (SparedStep nb (now (left .entry)) (now (right .entry)) second k)
+        (SparedStep nb (now (left .entry)) (now (right .entry)) (ask .second) (ask .k))
         (i * nb) (i * nb + nb) (now (marks .entry)) (now (marks .exit)) r ⌝ }
 {
     if !stands(acodes, i) {
@@ -131,7 +129,7 @@ fn visit_row(
         return false;
     }
     let cuts = cut_row(left, i);
-    sweep_row(left, &cuts, right, nb, i, first, second, k, marks)
+    sweep_row(left, &cuts, right, nb, i, first, ask, marks)
 }
 
 // The same for all pairs.
@@ -140,14 +138,13 @@ fn sweep(
     left: &[u64],
     right: &[u64],
     nb: usize,
-    second: bool,
-    k: u32,
+    ask: Asked,
     marks: &mut [u8],
 ) -> bool
-    requires { ⌜ Ready (length (now acodes)) nb (now left) (now right) (now marks) × (k < 8)
-        × Begun (CoreStep nb (now left) (now right)) (SparedStep nb (now left) (now right) second k) (now acodes) nb (now marks) ⌝ }
+    requires { ⌜ Ready (length (now acodes)) nb (now left) (now right) (now marks) × (ask .k < 8) × (ask .other ≡ 2)
+        × Begun (CoreStep nb (now left) (now right)) (SparedStep nb (now left) (now right) (ask .second) (ask .k)) (now acodes) nb (now marks) ⌝ }
     ensures { λ r. ⌜ Tried (CoreStep nb (now (left .entry)) (now (right .entry)))
-        (SparedStep nb (now (left .entry)) (now (right .entry)) second k)
+        (SparedStep nb (now (left .entry)) (now (right .entry)) (ask .second) (ask .k))
         0 (length (now (acodes .entry)) * nb) (now (marks .entry)) (now (marks .exit)) r ⌝ }
 {
     let mut changed = false;
@@ -155,7 +152,7 @@ fn sweep(
     while i < acodes.len() {
         let p = i;
         i += 1;
-        if visit_row(acodes, left, right, nb, p, second, k, marks) {
+        if visit_row(acodes, left, right, nb, p, ask, marks) {
             changed = true;
         }
     }
@@ -163,21 +160,13 @@ fn sweep(
 }
 
 // Sweeps until nothing is new.
-fn sweep_out(
-    acodes: &[u64],
-    left: &[u64],
-    right: &[u64],
-    nb: usize,
-    second: bool,
-    k: u32,
-    marks: &mut [u8],
-)
+fn sweep_out(acodes: &[u64], left: &[u64], right: &[u64], nb: usize, ask: Asked, marks: &mut [u8])
     requires { ⌜ Ready (length (now acodes)) nb (now left) (now right) (now marks) × OnlyCores (now acodes) nb (now marks)
-        × ((x : ℕ) → getD (now marks) x 0 ≤ 1) × (k < 8) ⌝ }
+        × ((x : ℕ) → getD (now marks) x 0 ≤ 1) × (ask .k < 8) × (ask .other ≡ 2) ⌝ }
     ensures { λ _. ⌜ Swept (CoreStep nb (now (left .entry)) (now (right .entry)))
-        (SparedStep nb (now (left .entry)) (now (right .entry)) second k) (now (marks .entry)) (now (marks .exit)) ⌝ }
+        (SparedStep nb (now (left .entry)) (now (right .entry)) (ask .second) (ask .k)) (now (marks .entry)) (now (marks .exit)) ⌝ }
 {
-    while sweep(acodes, left, right, nb, second, k, marks) {}
+    while sweep(acodes, left, right, nb, ask, marks) {}
 }
 
 // ---- rounds
@@ -225,22 +214,21 @@ fn settle(acodes: &[u64], nb: usize, marks: &mut [u8]) -> bool
     changed
 }
 
-// Takes out the pairs from which no walk takes a step that spares component k on a side; whether there were such.
+// Takes out the pairs from which no walk takes a step that spares the component asked for; whether there were such.
 fn round(
     acodes: &[u64],
     left: &[u64],
     right: &[u64],
     nb: usize,
-    second: bool,
-    k: u32,
+    ask: Asked,
     marks: &mut [u8],
 ) -> bool
     requires { ⌜ Ready (length (now acodes)) nb (now left) (now right) (now marks) × OnlyCores (now acodes) nb (now marks)
-        × ((x : ℕ) → getD (now marks) x 0 ≤ 1) × (k < 8) ⌝ }
+        × ((x : ℕ) → getD (now marks) x 0 ≤ 1) × (ask .k < 8) × (ask .other ≡ 2) ⌝ }
     ensures { λ r. ⌜ Round (CoreStep nb (now (left .entry)) (now (right .entry)))
-        (SparedStep nb (now (left .entry)) (now (right .entry)) second k) (now (marks .entry)) (now (marks .exit)) r ⌝ }
+        (SparedStep nb (now (left .entry)) (now (right .entry)) (ask .second) (ask .k)) (now (marks .entry)) (now (marks .exit)) r ⌝ }
 {
-    sweep_out(acodes, left, right, nb, second, k, marks);
+    sweep_out(acodes, left, right, nb, ask, marks);
     settle(acodes, nb, marks)
 }
 
@@ -265,7 +253,12 @@ fn rounds(
     while k < count {
         let c = k as u32;
         k += 1;
-        if round(acodes, left, right, nb, second, c, marks) {
+        let ask = Asked {
+            second,
+            k: c,
+            other: 2,
+        };
+        if round(acodes, left, right, nb, ask, marks) {
             changed = true;
         }
     }
@@ -318,20 +311,7 @@ fn passes(
 
 // ---- dead ends
 
-// Marks all pairs that are in.
-fn mark_all(marks: &mut [u8])
-    requires { ⌜ ((x : ℕ) → getD (now marks) x 0 ≤ 1) ⌝ }
-    ensures { λ _. ⌜ Raised (length (now (marks .entry))) (now (marks .entry)) (now (marks .exit)) ⌝ }
-{
-    let end = marks.len();
-    let mut x = next_set(marks, 0, end);
-    while x < end {
-        marks[x] = 2;
-        x = next_set(marks, x + 1, end);
-    }
-}
-
-// Takes out the pair of core i, whose row is cut, and core j if no step leads to a marked one.
+// Takes out the pair of core i, whose row is cut, and core j if no step leads to one that is in.
 fn drop_pair(
     left: &[u64],
     cuts: &[usize; 17],
@@ -345,7 +325,12 @@ fn drop_pair(
         × (i < 65536) × (j < nb) × (i * nb + j < length (now marks)) ⌝ }
     ensures { λ _. ⌜ Thinned (CoreStep nb (now (left .entry)) (now (right .entry))) (now (marks .entry)) (now (marks .exit)) ⌝ }
 {
-    if leads(left, cuts, right, nb, j, false, 0, marks) {
+    let ask = Asked {
+        second: false,
+        k: 0,
+        other: 1,
+    };
+    if leads(left, cuts, right, nb, j, ask, marks) {
         return;
     }
     marks[i * nb + j] = 0;
@@ -392,7 +377,7 @@ fn thin_row(acodes: &[u64], left: &[u64], right: &[u64], nb: usize, i: usize, ma
     drop_row(left, &cuts, right, nb, i, first, marks);
 }
 
-// The same for all pairs.
+// The same for all pairs: most of them go at once.
 fn thin(acodes: &[u64], left: &[u64], right: &[u64], nb: usize, marks: &mut [u8])
     requires { ⌜ Ready (length (now acodes)) nb (now left) (now right) (now marks) ⌝ }
     ensures { λ _. ⌜ Thinned (CoreStep nb (now (left .entry)) (now (right .entry))) (now (marks .entry)) (now (marks .exit)) ⌝ }
@@ -402,18 +387,6 @@ fn thin(acodes: &[u64], left: &[u64], right: &[u64], nb: usize, marks: &mut [u8]
         thin_row(acodes, left, right, nb, i, marks);
         i += 1;
     }
-}
-
-// Takes out pairs that lead to none that is in: most of them go at once.
-fn drop_ends(acodes: &[u64], left: &[u64], right: &[u64], nb: usize, marks: &mut [u8])
-    requires { ⌜ Ready (length (now acodes)) nb (now left) (now right) (now marks) × OnlyCores (now acodes) nb (now marks)
-        × ((x : ℕ) → getD (now marks) x 0 ≤ 1) ⌝ }
-    ensures { λ _. ⌜ ((components : Bool → ℕ) → Narrowed (CoreStep nb (now (left .entry)) (now (right .entry)))
-        (SparedStep nb (now (left .entry)) (now (right .entry))) components (now (marks .entry)) (now (marks .exit))) ⌝ }
-{
-    mark_all(marks);
-    thin(acodes, left, right, nb, marks);
-    settle(acodes, nb, marks);
 }
 
 // Takes pairs of cores out until from each that is left, for each component of either table, a walk along such pairs spares it.
@@ -435,6 +408,6 @@ pub fn narrow(
     ensures { λ _. ⌜ AllSound (CoreStep nb (now (left .entry)) (now (right .entry)))
         (SparedStep nb (now (left .entry)) (now (right .entry))) (λ s. cond s bcount acount) (now (marks .exit)) ⌝ }
 {
-    drop_ends(acodes, left, right, nb, marks);
+    thin(acodes, left, right, nb, marks);
     passes(acodes, left, acount, nb, right, bcount, marks);
 }

@@ -68,7 +68,7 @@ module _ (E F : ℕ → ℕ → Type 0) where
     marking-sum = let h = sum-most ms marking-low in omega (arith, m .long)
 
     -- one more node is marked
-    pub marking-one : (x : ℕ) → getD ms x 0 ≡ 1 → Leading E F ms x true → Marking E F base (set ms x 2)
+    pub marking-one : (x : ℕ) → getD ms x 0 ≡ 1 → Leading E F 2 ms x true → Marking E F base (set ms x 2)
     marking-one x e g = record {
       long = length-set ms x 2 ∙ m .long;
       each = split-set (λ y v. (v ≡ getD base y 0) ⊎ ((getD base y 0 ≡ 1) × (v ≡ 2) × Toward E F base y)) ms x 2 (has-place ms x (omega arith))
@@ -97,18 +97,18 @@ module _ (E F : ℕ → ℕ → Type 0) where
   }
 
   -- node x is not 1, or stuck
-  pub tried-stays : (x : ℕ) (ms : List ℕ) → (getD ms x 0 ≡ 1 → Stuck E F ms x) → Tried E F x (x + 1) ms ms false
+  pub tried-stays : (x : ℕ) (ms : List ℕ) → (getD ms x 0 ≡ 1 → Stuck E F 2 ms x) → Tried E F x (x + 1) ms ms false
   tried-stays x ms s = record {
     long = refl;
     same = λ e. refl;
     stuck = λ e y a b h. let q : x ≡ y = omega arith in
-        subst (λ (n : ℕ). Stuck E F ms n) q (s (subst (λ (n : ℕ). getD ms n 0 ≡ 1) (sym q) h));
+        subst (λ (n : ℕ). Stuck E F 2 ms n) q (s (subst (λ (n : ℕ). getD ms n 0 ≡ 1) (sym q) h));
     grown = λ e. absurd (false≢true e);
     marking = λ base low m. m;
   }
 
   -- node x is marked
-  pub tried-marks : (x : ℕ) (ms : List ℕ) → getD ms x 0 ≡ 1 → Leading E F ms x true → Tried E F x (x + 1) ms (set ms x 2) true
+  pub tried-marks : (x : ℕ) (ms : List ℕ) → getD ms x 0 ≡ 1 → Leading E F 2 ms x true → Tried E F x (x + 1) ms (set ms x 2) true
   tried-marks x ms h g = record {
     long = length-set ms x 2;
     same = λ e. absurd (true≢false e);
@@ -125,7 +125,7 @@ module _ (E F : ℕ → ℕ → Type 0) where
     stuck = λ f x l h k. by-cases (decLt x mid)
         (λ t. r .stuck (left f) x l t k)
         (λ t. let s = r .same (left f) in
-        subst (λ (n : List ℕ). Stuck E F n x) s (q .stuck (right f) x (omega arith) h (subst (λ (n : List ℕ). getD n x 0 ≡ 1) (sym s) k)));
+        subst (λ (n : List ℕ). Stuck E F 2 n x) s (q .stuck (right f) x (omega arith) h (subst (λ (n : List ℕ). getD n x 0 ≡ 1) (sym s) k)));
     grown = λ t. bif a
         (λ f. bif b (λ g. omega (arith, r .grown f, q .grown g)) (λ g. subst (λ (n : List ℕ). sum old < sum n) (sym (q .same g)) (r .grown f)))
         (λ f. subst (λ (n : List ℕ). sum n < sum new) (r .same f) (q .grown (⊎-elim (λ g. absurd (true≢false (sym g ∙ f))) (λ g. g) (or-cases a b (sym e ∙ t)))));
@@ -176,6 +176,6 @@ module _ (E F : ℕ → ℕ → Type 0) where
       let s : ms ≡ new = sym (t .same refl) in
       record {
         marking = k;
-        stuck = λ x h. subst (λ (n : List ℕ). Stuck E F n x) s
+        stuck = λ x h. subst (λ (n : List ℕ). Stuck E F 2 n x) s
             (t .stuck refl x (omega arith) (let l = has-place new x (omega arith) in omega (arith, k .long)) (subst (λ (n : List ℕ). getD n x 0 ≡ 1) (sym s) h));
       }

@@ -45,14 +45,8 @@ pub record Side (E : ℕ → ℕ → Type 0) (F : Bool → ℕ → ℕ → ℕ �
   pub sound : changed ≡ false → (K : ℕ) → K < count → (x : ℕ) → 0 < getD new x 0 → Toward E (F second K) new x
   pub less : changed ≡ true → sum new < sum old
 
--- nodes up to `to` that are in are marked
-pub record Raised (to : ℕ) (old new : List ℕ) : Type 0 where
-  pub long : length new ≡ length old
-  pub inside : (x : ℕ) → x < to → getD new x 0 ≡ 2 * getD old x 0
-  pub outside : (x : ℕ) → to ≤ x → getD new x 0 ≡ getD old x 0
-
--- nodes are taken out, but none on an endless walk along marked nodes
+-- nodes are taken out, but none on an endless walk along nodes that are in
 pub record Thinned (E : ℕ → ℕ → Type 0) (old new : List ℕ) : Type 0 where
   pub long : length new ≡ length old
   pub each : (x : ℕ) → (getD new x 0 ≡ 0) ⊎ (getD new x 0 ≡ getD old x 0)
-  pub keeps : (z : ℕ → ℕ) → Walk E z → ((i : ℕ) → 2 ≤ getD old (z i) 0) → (i : ℕ) → 2 ≤ getD new (z i) 0
+  pub keeps : (z : ℕ → ℕ) → Walk E z → ((i : ℕ) → 0 < getD old (z i) 0) → (i : ℕ) → 0 < getD new (z i) 0

@@ -16,15 +16,15 @@ module _ (E F : ℕ → ℕ → Type 0) where
     spared : {x : ℕ} (y : ℕ) → F x y → 0 < getD ms y 0 → Toward ms x
     passes : {x : ℕ} (y : ℕ) → E x y → 0 < getD ms y 0 → Toward ms y → Toward ms x
 
-  -- no edge makes x a marked node
-  pub record Stuck (ms : List ℕ) (x : ℕ) : Type 0 where
+  -- no edge that spares leads from x to a node that is in, and none at all to one whose mark is at least so much
+  pub record Stuck (least : ℕ) (ms : List ℕ) (x : ℕ) : Type 0 where
     pub spared : (y : ℕ) → F x y → getD ms y 0 < 1
-    pub passes : (y : ℕ) → E x y → getD ms y 0 < 2
+    pub passes : (y : ℕ) → E x y → getD ms y 0 < least
 
   -- whether one does
-  pub record Leading (ms : List ℕ) (x : ℕ) (r : Bool) : Type 0 where
-    pub yes : r ≡ true → ((y : ℕ) × F x y × (1 ≤ getD ms y 0)) ⊎ ((y : ℕ) × E x y × (2 ≤ getD ms y 0))
-    pub no : r ≡ false → Stuck ms x
+  pub record Leading (least : ℕ) (ms : List ℕ) (x : ℕ) (r : Bool) : Type 0 where
+    pub yes : r ≡ true → ((y : ℕ) × F x y × (1 ≤ getD ms y 0)) ⊎ ((y : ℕ) × E x y × (least ≤ getD ms y 0))
+    pub no : r ≡ false → Stuck least ms x
 
   -- nodes of old that are in are marked, each with a walk
   pub record Marking (old new : List ℕ) : Type 0 where
@@ -35,14 +35,14 @@ module _ (E F : ℕ → ℕ → Type 0) where
   pub record Tried (from to : ℕ) (old new : List ℕ) (changed : Bool) : Type 0 where
     pub long : length new ≡ length old
     pub same : changed ≡ false → new ≡ old
-    pub stuck : changed ≡ false → (x : ℕ) → from ≤ x → x < to → getD old x 0 ≡ 1 → Stuck old x
+    pub stuck : changed ≡ false → (x : ℕ) → from ≤ x → x < to → getD old x 0 ≡ 1 → Stuck 2 old x
     pub grown : changed ≡ true → sum old < sum new
     pub marking : (base : List ℕ) → ((x : ℕ) → getD base x 0 ≤ 1) → Marking base old → Marking base new
 
   -- all nodes are marked that have a walk
   pub record Swept (old new : List ℕ) : Type 0 where
     pub marking : Marking old new
-    pub stuck : (x : ℕ) → getD new x 0 ≡ 1 → Stuck new x
+    pub stuck : (x : ℕ) → getD new x 0 ≡ 1 → Stuck 2 new x
 
   -- a round; whether a node went out
   pub record Round (old new : List ℕ) (changed : Bool) : Type 0 where

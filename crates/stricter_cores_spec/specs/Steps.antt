@@ -3,7 +3,7 @@ use mathlib.Core.Path.{_≡_}
 use mathlib.Core.Bool.{Bool, true, _&&_, cond}
 use mathlib.Core.List.{List, List·Memᴰ}
 use Prim.Native.Nat.{ℕ, _+_, _*_, _≤_, _<_}
-use lib.Dec.{eqb}
+use lib.Dec.{eqb, ltb}
 use lib.ListN.{length, getD}
 use Rattle.sets.specs.Lists.{Ascending}
 use Rattle.sets.specs.Tests.{one}
@@ -50,8 +50,13 @@ pub record CoresIn (acodes bcodes marks : List ℕ) : Type 0 where
   pub long : length marks ≡ length acodes * length bcodes
   pub each : (i j : ℕ) → i < length acodes → j < length bcodes → getD marks (i * length bcodes + j) 0 ≡ one (standsIn acodes i && standsIn bcodes j)
 
--- each pair of numbers has the mark of the pair of their cores
+-- the core of number i is that of a number of the list
+unfoldable pub hasCore : List ℕ → ℕ → Bool
+hasCore codes i = ltb (coreNumber (getD codes i 0)) (length codes)
+
+-- each pair of numbers has the mark of the pair of their cores, or none
 pub record Spread (acodes bcodes old new : List ℕ) : Type 0 where
   pub long : length new ≡ length old
   pub each : (i j : ℕ) → i < length acodes → j < length bcodes
-      → getD new (i * length bcodes + j) 0 ≡ getD old (coreNumber (getD acodes i 0) * length bcodes + coreNumber (getD bcodes j 0)) 0
+      → getD new (i * length bcodes + j) 0
+      ≡ cond (hasCore acodes i && hasCore bcodes j) (getD old (coreNumber (getD acodes i 0) * length bcodes + coreNumber (getD bcodes j 0)) 0) 0

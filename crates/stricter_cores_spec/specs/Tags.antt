@@ -1,14 +1,15 @@
 -- While pairs of cores are sorted out, the free bits of codes and transitions hold what a step says of cores: tags.
 use mathlib.Core.Path.{_≡_}
-use mathlib.Core.Bool.{Bool, _&&_}
+use mathlib.Core.Bool.{Bool, _&&_, _||_, cond}
 use mathlib.Core.List.{List, [], _∷_}
 use Prim.Native.Nat.{ℕ, _+_, _*_, _/_, _%_, _<_}
-use lib.Dec.{eqb, ltb}
+use lib.Dec.{eqb, ltb, leb}
 use lib.ListN.{length, getD}
 use Rattle.sets.specs.Tests.{first}
 use Rattle.sets.specs.Masks.{bit, mask}
 use Rattle.theory.specs.Automaton.{Automaton}
 use Rattle.theory.specs.Run.{sourceOf, letterOf, targetOf}
+use Rattle.trim_spec.specs.Trimmed.{isLive}
 use Rattle.spare_spec.specs.SpareComputed.{spares}
 
 -- 01: "bits 0 to 7 S, four bits from 8 + 4 × q for the rank of q": the core of a code
@@ -38,6 +39,15 @@ pub record TaggedMoves (A : Automaton) (codes moves tagged : List ℕ) : Type 0 
   pub long : length tagged ≡ length moves
   pub each : (k : ℕ) → k < length moves → getD tagged k 0 ≡ getD moves k 0 + 1099511627776 * tagOf A codes (getD moves k 0)
 
+-- Numbers from which no accepting run goes on take no part; marks has 0 for them. Their core then has the number of none: the length of the list.
+-- A list of 65,536 has no such number of 16 bits, and there all take part.
+unfoldable pub toldOf : List ℕ → List ℕ → ℕ → ℕ
+toldOf codes marks i = cond (isLive marks i || leb 65536 (length codes)) (firstOf codes i) (length codes)
+
+pub record ToldCodes (codes marks tagged : List ℕ) : Type 0 where
+  pub long : length tagged ≡ length codes
+  pub each : (i : ℕ) → i < length codes → getD tagged i 0 ≡ getD codes i 0 + 281474976710656 * toldOf codes marks i
+
 -- ---- what is read from them
 
 -- the number of a code's core
@@ -55,12 +65,15 @@ ontoOf t = t / 1099511627776 % 65536
 unfoldable pub sparing : ℕ → ℕ → Bool
 sparing t K = bit t (56 + K)
 
+-- numbers without what stands above m
+unfoldable pub lowParts : ℕ → List ℕ → List ℕ
+lowParts m [] = []
+lowParts m (x ∷ xs) = x % m ∷ lowParts m xs
+
 -- the transitions without tags
-unfoldable pub untagged : List ℕ → List ℕ
-untagged [] = []
-untagged (t ∷ ts) = t % 1099511627776 ∷ untagged ts
+abbrev pub untagged : List ℕ → List ℕ
+untagged = lowParts 1099511627776
 
 -- the codes without tags
-unfoldable pub plain : List ℕ → List ℕ
-plain [] = []
-plain (c ∷ cs) = c % 281474976710656 ∷ plain cs
+abbrev pub plain : List ℕ → List ℕ
+plain = lowParts 281474976710656

@@ -1,8 +1,12 @@
 -- The tables of an accepted file's rule.
-use mathlib.Core.Path.{_≡_, subst}
+use mathlib.Core.Path.{_≡_, ap, _∙_, subst}
 use mathlib.Core.Bool.{Bool}
 use mathlib.Core.List.{List}
-use Prim.Native.Nat.{ℕ, _<_}
+use Prim.Native.Nat.{ℕ, zero, suc, _*_, _≤_, _<_}
+use native.Mathlib.Omega.{arith}
+use native.Mathlib.Nat.{mul-zero, mul-suc, zero-mul, suc-mul}
+use lib.Arith.{digits-lt}
+use lib.ListN.{length}
 use Rattle.sets.specs.Tests.{Set}
 use Rattle.theory.specs.Automaton.{automaton}
 use Rattle.theory.specs.Passing.{WellFormed}
@@ -19,7 +23,7 @@ use Rattle.file_spec.specs.File.{countsOf, clausesOf, ruleIn}
 use Rattle.build_opens.specs.Opens.{Opens}
 use Rattle.build_lists.proofs.Ready.{tables-of}
 use Rattle.build_closure_spec.specs.Tables.{RuleTables}
-use Rattle.stricter_fixpoints.specs.Sorted.{TableOf}
+use Rattle.stricter_fixpoints.specs.Sorted.{Sorted, TableOf}
 use Rattle.stricter_files.specs.Lists.{ListsOf}
 
 module _ (f : List ℕ) (l : Layout) (p : readOf f ≡ Accepted l) (counts clauses : List ℕ) (c : counts ≡ countsOf f) (d : clauses ≡ clausesOf f) where
@@ -36,6 +40,37 @@ module _ (f : List ℕ) (l : Layout) (p : readOf f ≡ Accepted l) (counts claus
   file-tables opens O k e holds =
       subst (λ (r : Rule). RuleTables r opens (k .masks) (record { s = l .head .s; components = k .count; accepting = l .head .accepting; initial = l .head .initial; holds = holds }))
       (lent-rule f l p counts clauses c d) (tables-of (ruleOf (l .head) counts clauses) (lent-passing f l p counts clauses c d) opens O k e holds)
+
+-- the initial state is one of eight
+pub initial-low : (f : List ℕ) (l : Layout) → readOf f ≡ Accepted l → l .head .initial < 8
+initial-low f l p =
+    let e = ap (λ (x : Layout). x .head .initial) (served f l p .layout) in
+    let h = served f l p .passing .formed .initial-state in
+    let k = served f l p .passing .formed .few-states in
+    omega arith
+
+-- without pairs no run of each table goes over one sequence of letters
+pub no-pairs : (ca ma : List ℕ) (s : Set) (cb mb : List ℕ) (t : Set) (marks : List ℕ) → length marks ≡ length ca * length cb → length marks ≡ 0
+    → Sorted ca ma s cb mb t marks 0
+no-pairs ca ma s cb mb t marks e z = record {
+  long = e;
+  within = omega arith;
+  sound = λ l. absurd (omega arith);
+  inside = λ l. absurd (omega arith);
+  begins = λ l. absurd (omega arith);
+  none = λ l w x y A B.
+      let h = digits-lt {q = x 0} {m = length ca} {c = length cb} (A .run .within 0) (B .run .within 0) in
+      omega arith;
+}
+
+-- a pair for each number of either table, where there are pairs
+pub room-A : (n m p : ℕ) → p ≡ n * m → (p ≡ 0 → ⊥) → n ≤ p
+room-A n zero p e h = absurd (h (e ∙ mul-zero n))
+room-A n (suc m) p e h = let o = mul-suc n m in omega (arith, e)
+
+pub room-B : (n m p : ℕ) → p ≡ n * m → (p ≡ 0 → ⊥) → m ≤ p
+room-B zero m p e h = absurd (h (e ∙ zero-mul m))
+room-B (suc n) m p e h = let o = suc-mul n m in omega (arith, e)
 
 -- the table as the steps by cores take it
 pub file-table : (f : List ℕ) (l : Layout) → readOf f ≡ Accepted l → (count : ℕ) → count ≡ automaton (ruleIn f) .components

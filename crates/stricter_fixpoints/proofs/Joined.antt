@@ -1,43 +1,111 @@
--- What is known of the tagged tables and of the marks that the cores leave.
-use mathlib.Core.Path.{_≡_, refl, _∙_}
+-- What is known of a tagged table and of the marks that the cores leave.
+use mathlib.Core.Path.{_≡_, refl, sym, ap, ap₂, _∙_}
 use mathlib.Core.Logic.{by-cases}
-use mathlib.Core.Bool.{Bool, true, false, _&&_}
+use mathlib.Core.Bool.{Bool, true, false, _&&_, _||_, cond, or-true, or-false}
 use mathlib.Core.List.{List}
-use Prim.Native.Nat.{ℕ, _+_, _*_, _/_, _%_, _≤_, _<_}
+use Prim.Native.Nat.{ℕ, suc, _+_, _*_, _/_, _%_, _≤_, _<_}
 use native.Mathlib.Omega.{arith}
 use native.Mathlib.Decide.{decLt}
 use native.Mathlib.Nat.{mul-le-mul-right}
-use borrow.Author.Tests.{eq-eqb}
+use borrow.Author.Tests.{eq-eqb, eqb-true, lt-ltb, ltb-true}
+use lib.Dec.{leb, ltb}
 use lib.ListN.{length, getD, List·getD-eq-default}
-use Rattle.sets.specs.Tests.{one}
-use Rattle.sets.proofs.Bools.{and-l}
+use Rattle.sets.specs.Tests.{Set, one}
+use Rattle.sets.proofs.Bools.{bif, and-l, and-r, clash}
 use Rattle.stricter_forest.proofs.Pairs.{one-low, parts}
-use Rattle.stricter_cores_spec.specs.Tags.{firstOf, coreNumber}
+use Rattle.theory.specs.Run.{AcceptingRun}
+use Rattle.trim_spec.specs.Trimmed.{isLive, liveMarks}
+use Rattle.trim_laws.proofs.Sweeping.{live-solved}
+use Rattle.stricter_cores_spec.specs.Tags.{firstOf, toldOf, coreNumber}
 use Rattle.stricter_cores_spec.specs.Tables.{CoreTable}
-use Rattle.stricter_cores_spec.specs.Steps.{standsIn, OnlyCores, CoresIn, Spread}
+use Rattle.stricter_cores_spec.specs.Steps.{standsIn, hasCore, OnlyCores, CoresIn, Spread}
+use Rattle.stricter_lifts.proofs.Alive.{walk-live, same-live}
 use Rattle.stricter_spread.specs.Rows.{Standing}
 
 -- ---- a tagged table
 
 module _ (codes moves : List ℕ) (components : ℕ) (spare : ℕ → ℕ → Bool) (C : CoreTable codes moves components (firstOf codes) spare)
     (tagged : List ℕ) (long : length tagged ≡ length codes)
-    (number : (i : ℕ) → i < length codes → coreNumber (getD tagged i 0) ≡ firstOf codes i) where
-  pub stands-first : (i : ℕ) → i < length codes → standsIn tagged (firstOf codes i) ≡ true
+    (number : (i : ℕ) → i < length codes → coreNumber (getD tagged i 0) ≡ toldOf codes (liveMarks codes moves) i) where
+  -- number i takes part
+  abbrev pub counts : ℕ → Bool
+  counts i = isLive (liveMarks codes moves) i || leb 65536 (length codes)
+
+  number-in : (i : ℕ) → i < length codes → counts i ≡ true → coreNumber (getD tagged i 0) ≡ firstOf codes i
+  unfolding toldOf
+  number-in i l e = number i l ∙ ap (λ (b : Bool). cond b (firstOf codes i) (length codes)) e
+
+  number-out : (i : ℕ) → i < length codes → counts i ≡ false → coreNumber (getD tagged i 0) ≡ length codes
+  unfolding toldOf
+  number-out i l e = number i l ∙ ap (λ (b : Bool). cond b (firstOf codes i) (length codes)) e
+
+  -- a number whose tag is that of a number takes part
+  counts-low : (i : ℕ) → i < length codes → coreNumber (getD tagged i 0) < length codes → counts i ≡ true
+  counts-low i l h = bif (counts i) (λ t. t) (λ f. absurd (omega (arith, number-out i l f)))
+
+  -- the numbers of a core take part together
+  live-same : (i j : ℕ) → j < length codes → firstOf codes j ≡ firstOf codes i → isLive (liveMarks codes moves) i ≡ true → isLive (liveMarks codes moves) j ≡ true
+  unfolding isLive
+  live-same i j l e t =
+      lt-ltb 0 (getD (liveMarks codes moves) j 0)
+      (same-live codes moves components (firstOf codes) spare C (liveMarks codes moves) (live-solved codes moves) i j l e (ltb-true 0 (getD (liveMarks codes moves) i 0) t))
+
+  counts-same : (i j : ℕ) → j < length codes → firstOf codes j ≡ firstOf codes i → counts i ≡ true → counts j ≡ true
+  counts-same i j l e t =
+      bif (leb 65536 (length codes))
+      (λ b. ap (λ (x : Bool). isLive (liveMarks codes moves) j || x) b ∙ or-true (isLive (liveMarks codes moves) j))
+      (λ b. ap (λ (x : Bool). x || leb 65536 (length codes))
+      (live-same i j l e (sym (ap (λ (x : Bool). isLive (liveMarks codes moves) i || x) b ∙ or-false (isLive (liveMarks codes moves) i)) ∙ t)))
+
+  pub stands-first : (i : ℕ) → i < length codes → counts i ≡ true → standsIn tagged (firstOf codes i) ≡ true
   unfolding standsIn
-  stands-first i l = eq-eqb _ _ (number (firstOf codes i) (C .within i l) ∙ C .stands i l)
+  stands-first i l t =
+      let w = C .within i l in
+      eq-eqb _ _ (number-in (firstOf codes i) w (counts-same i (firstOf codes i) w (C .stands i l) t) ∙ C .stands i l)
+
+  -- and it takes part if its core stands
+  pub counts-first : (i : ℕ) → i < length codes → standsIn tagged (firstOf codes i) ≡ true → counts i ≡ true
+  unfolding standsIn
+  counts-first i l t =
+      let w = C .within i l in
+      let e = eqb-true (coreNumber (getD tagged (firstOf codes i) 0)) (firstOf codes i) t in
+      counts-same (firstOf codes i) i l (sym (C .stands i l)) (counts-low (firstOf codes i) w (omega (arith, e, w)))
+
+  pub core-first : (i : ℕ) → i < length codes → counts i ≡ true → (hasCore tagged i ≡ true) × (coreNumber (getD tagged i 0) ≡ firstOf codes i)
+  unfolding hasCore
+  core-first i l t =
+      let e = number-in i l t in
+      (lt-ltb (coreNumber (getD tagged i 0)) (length tagged) (omega (arith, e, long, C .within i l)), e)
+
+  pub counts-core : (i : ℕ) → i < length codes → hasCore tagged i ≡ true → counts i ≡ true
+  unfolding hasCore
+  counts-core i l t = counts-low i l (omega (arith, long, ltb-true (coreNumber (getD tagged i 0)) (length tagged) t))
 
   pub standing : Standing tagged
-  standing i l =
-      let m : i < length codes = omega arith in
-      (rw (number i m, long) (C .within i m), rw (number i m) (stands-first i m))
+  standing i l t =
+      let m : i < length codes = omega (arith, long) in
+      let k = counts-core i m t in
+      rw (core-first i m k .1) (stands-first i m k)
+
+  -- the numbers of an accepting run take part
+  pub run-counts : (start : Set) (w x : ℕ → ℕ) → AcceptingRun codes moves start w x → (k : ℕ) → counts (x k) ≡ true
+  unfolding isLive
+  run-counts start w x A k =
+      let live = walk-live codes moves components (firstOf codes) spare C (liveMarks codes moves) (live-solved codes moves) x (A .run .within)
+      (λ i. let (t, m, e) = A .run .moves i in record { transition = t; listed = m; source = e .source; target = e .target }) (A .again) k in
+      ap (λ (b : Bool). b || leb 65536 (length codes)) (lt-ltb 0 (getD (liveMarks codes moves) (x k) 0) live)
 
 -- ---- marks
 
-module _ (acodes bcodes marks : List ℕ) (I : CoresIn acodes bcodes marks) where
-  one-true : (b : Bool) → 0 < one b → b ≡ true
-  one-true true h = refl
-  one-true false h = absurd (omega arith)
+one-true : (b : Bool) → 0 < one b → b ≡ true
+one-true true h = refl
+one-true false h = absurd (omega arith)
 
+cond-true : (b : Bool) (v : ℕ) → 0 < cond b v 0 → b ≡ true
+cond-true true v h = refl
+cond-true false v h = absurd (omega arith)
+
+module _ (acodes bcodes marks : List ℕ) (I : CoresIn acodes bcodes marks) where
   pub cores-low : (x : ℕ) → getD marks x 0 ≤ 1
   cores-low x =
       by-cases (decLt x (length marks))
@@ -48,35 +116,38 @@ module _ (acodes bcodes marks : List ℕ) (I : CoresIn acodes bcodes marks) wher
       rw (← p .whole, e) h)
       (λ l. let e = List·getD-eq-default marks 0 {n = x} (omega arith) in omega arith)
 
+  -- both numbers of a pair that is in stand for their cores
+  pub both-stand : (i j : ℕ) → i < length acodes → j < length bcodes → 0 < getD marks (i * length bcodes + j) 0 → (standsIn acodes i ≡ true) × (standsIn bcodes j ≡ true)
+  both-stand i j k l h =
+      let t = one-true _ (rw (I .each i j k l) at h) in
+      (and-l (standsIn acodes i) (standsIn bcodes j) t, and-r (standsIn acodes i) (standsIn bcodes j) t)
+
   pub only-cores : OnlyCores acodes (length bcodes) marks
   only-cores i j l h =
       by-cases (decLt i (length acodes))
-      (λ k. and-l (standsIn acodes i) (standsIn bcodes j) (one-true _ (rw (I .each i j k l) at h)))
+      (λ k. both-stand i j k l h .0)
       (λ k.
       let n : length acodes ≤ i = omega arith in
       let m = mul-le-mul-right (length bcodes) n in
       let e = List·getD-eq-default marks 0 {n = i * length bcodes + j} (omega (arith, I .long, m)) in
       absurd (omega arith))
 
--- ---- marks of the tables
+  pub stand-in : (i j : ℕ) → i < length acodes → j < length bcodes → standsIn acodes i ≡ true → standsIn bcodes j ≡ true → 0 < getD marks (i * length bcodes + j) 0
+  stand-in i j k l s t =
+      let o : one (standsIn acodes i && standsIn bcodes j) ≡ 1 = rw (s, t) in
+      rw (I .each i j k l) (omega arith)
 
-module _ (ca cb ta tb : List ℕ) (long-A : length ta ≡ length ca) (long-B : length tb ≡ length cb)
-    (number-A : (i : ℕ) → i < length ca → coreNumber (getD ta i 0) ≡ firstOf ca i)
-    (number-B : (j : ℕ) → j < length cb → coreNumber (getD tb j 0) ≡ firstOf cb j) where
-  -- the pairs of the first numbers are in
-  pub first-in : (marks : List ℕ) → CoresIn ta tb marks
-      → ((i : ℕ) → i < length ca → (firstOf ca i < length ca) × (standsIn ta (firstOf ca i) ≡ true))
-      → ((j : ℕ) → j < length cb → (firstOf cb j < length cb) × (standsIn tb (firstOf cb j) ≡ true))
-      → (i j : ℕ) → i < length ca → j < length cb → 0 < getD marks (firstOf ca i * length cb + firstOf cb j) 0
-  first-in marks I f g i j l k =
-      let (x, s) = f i l in
-      let (y, t) = g j k in
-      let e = I .each (firstOf ca i) (firstOf cb j) (omega arith) (omega arith) in
-      let o : one (standsIn ta (firstOf ca i) && standsIn tb (firstOf cb j)) ≡ 1 = rw (s, t) in
-      rw (← long-B, e) (omega arith)
+-- marks that are spread
+module _ (acodes bcodes old new : List ℕ) (S : Spread acodes bcodes old new) where
+  pub spread-in : (i j p q : ℕ) → i < length acodes → j < length bcodes → hasCore acodes i ≡ true → hasCore bcodes j ≡ true
+      → coreNumber (getD acodes i 0) ≡ p → coreNumber (getD bcodes j 0) ≡ q → 0 < getD old (p * length bcodes + q) 0 → 0 < getD new (i * length bcodes + j) 0
+  spread-in i j p q k l a b e f h =
+      let g : (hasCore acodes i && hasCore bcodes j) ≡ true = rw (a, b) in
+      rw (S .each i j k l, g, e, f) h
 
-  -- each pair has the mark of the pair of its first numbers
-  pub spread-first : (old new : List ℕ) → Spread ta tb old new
-      → (i j : ℕ) → i < length ca → j < length cb → getD new (i * length cb + j) 0 ≡ getD old (firstOf ca i * length cb + firstOf cb j) 0
-  spread-first old new S i j l k =
-      rw (long-B, number-A i l, number-B j k) at (S .each i j (omega arith) (omega arith))
+  pub spread-out : (i j : ℕ) → i < length acodes → j < length bcodes → 0 < getD new (i * length bcodes + j) 0
+      → (hasCore acodes i ≡ true) × (hasCore bcodes j ≡ true) × (0 < getD old (coreNumber (getD acodes i 0) * length bcodes + coreNumber (getD bcodes j 0)) 0)
+  spread-out i j k l h =
+      let d = rw (S .each i j k l) at h in
+      let g = cond-true (hasCore acodes i && hasCore bcodes j) _ d in
+      (and-l (hasCore acodes i) (hasCore bcodes j) g, and-r (hasCore acodes i) (hasCore bcodes j) g, rw g at d)

@@ -1,2 +1,3 @@
 pub mod Joined
+pub mod Starts
 pub mod Tables

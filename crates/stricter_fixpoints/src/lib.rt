@@ -2,31 +2,43 @@
 use stricter_cores::narrow;
 use stricter_spread::place_cores;
 use stricter_spread::spread;
+use stricter_starts::first_start;
+ghost use mathlib.Core.Bool.{not};
 ghost use mathlib.Core.List.{List·Memᴰ};
 ghost use Prim.Native.Nat.{ℕ, _≤_, _<_};
 ghost use lib.ListN.{length};
+ghost use Rattle.sets.specs.Masks.{bit};
+ghost use Rattle.stricter_laws.specs.Tests.{startsIn};
 ghost use Rattle.stricter_cores_spec.specs.Tags.{rowOf};
 ghost use Rattle.stricter_cores_spec.specs.Steps.{CoresFit};
 ghost use Rattle.stricter_spread.specs.Rows.{Standing};
 ghost use Rattle.stricter_fixpoints.specs.Sorted.{CoresSorted};
 
-// Sorts out the pairs of cores of two tagged tables, and gives each pair of numbers the mark of the pair of its cores.
+// Sorts out the pairs of cores of two tagged tables. Where a start pair is left, it gives each pair of numbers the mark of the pair of its
+// cores, and answers the first start pair; else the number of pairs.
 pub fn sort_cores(
     acodes: &[u64],
     left: &[u64],
     acount: usize,
+    ainitial: u32,
     bcodes: &[u64],
     right: &[u64],
     bcount: usize,
+    binitial: u32,
     marks: &mut [u8],
-)
+) -> usize
     requires { ⌜ CoresFit (length (now acodes)) (length (now bcodes)) (now left) (now right) (now marks)
-        × Standing (now acodes) × Standing (now bcodes) × (acount ≤ 8) × (bcount ≤ 8) ⌝ }
+        × Standing (now acodes) × Standing (now bcodes) × (acount ≤ 8) × (bcount ≤ 8) × (ainitial < 8) × (binitial < 8) ⌝ }
     requires { ⌜ ((u : ℕ) → List·Memᴰ u (now right) → rowOf u < length (now bcodes)) ⌝ }
-    ensures { λ _. ⌜ CoresSorted (now (acodes .entry)) (now (left .entry)) acount (now (bcodes .entry)) (now (right .entry)) bcount
-        (now (marks .exit)) ⌝ }
+    ensures { λ r. ⌜ CoresSorted (now (acodes .entry)) (now (left .entry)) acount (now (bcodes .entry)) (now (right .entry)) bcount
+        (startsIn (now (acodes .entry)) (now (bcodes .entry)) (λ c. bit c ainitial) (λ c. not (bit c binitial))) (now (marks .exit)) r ⌝ }
 {
     place_cores(acodes, bcodes, marks);
     narrow(acodes, left, acount, bcodes.len(), right, bcount, marks);
+    let start = first_start(acodes, bcodes, ainitial, binitial, marks);
+    if marks.len() <= start {
+        return start;
+    }
     spread(acodes, bcodes, marks);
+    start
 }

@@ -1,10 +1,11 @@
 -- The search for the two pairs of a cycle: each turn meets fewer pairs than the one before.
-use mathlib.Core.Path.{_≡_, sym, ap, _∙_}
+use mathlib.Core.Path.{_≡_, refl, sym, ap, _∙_}
 use mathlib.Core.Bool.{true}
-use mathlib.Core.List.{List}
+use mathlib.Core.List.{List, [], _++_}
 use Prim.Native.Nat.{ℕ, _+_, _*_, _≤_, _<_}
 use native.Mathlib.Omega.{arith}
-use lib.ListN.{length, getD, length-append, length-take, length-drop}
+use native.Mathlib.Nat.{add-zero}
+use lib.ListN.{length, getD, take, drop, length-append, length-take, length-drop, take-append-drop}
 use Rattle.sets.specs.Tests.{Set}
 use Rattle.graph_walks.proofs.Sums.{has-place}
 use Rattle.stricter_spec.specs.Search.{Searchable}
@@ -12,8 +13,9 @@ use Rattle.stricter_laws.specs.Pairs.{Fits}
 use Rattle.stricter_laws.specs.Sound.{BothSound}
 use Rattle.stricter_laws.proofs.Sound.{onto-more}
 use Rattle.stricter_forest.specs.Forest.{met, SameIn, Reaches, Closed, Explored}
-use Rattle.stricter_forest.specs.Routes.{RouteAt, Turning}
+use Rattle.stricter_forest.specs.Routes.{Route, RouteAt, Turning}
 use Rattle.stricter_forest.proofs.Expand.{searchable-paired}
+use Rattle.stricter_lasso.specs.Tables.{Round}
 use Rattle.stricter_forest.proofs.Reach.{Edge, same-start, same-then, reaches-same, reaches-in, reaches-then, reaches-closed, explored-reaches, onto-explored, explored-fewer}
 
 pub searchable-fits : (ca ma cb mb ms : List ℕ) → Searchable ca ma → Searchable cb mb → length ms ≡ length ca * length cb → Fits (length ca) (length cb) ma mb ms
@@ -114,3 +116,24 @@ module _ (S : ℕ → ℕ → ℕ → Type 0) (p q : Set) (start u v : ℕ) (old
 
   pub ask-back : (v < length ms) × Reaches S ms v u
   ask-back = (has-place ms v (same .kept v (reaches-in S old (t .onto))), reaches-same S old ms same (t .back))
+
+-- ---- one way
+
+-- a way of no steps is written
+pub stays-at : (S : ℕ → ℕ → ℕ → Type 0) (x at : ℕ) (old : List ℕ) → RouteAt S x x at 0 old old
+stays-at S x at old = record {
+  letters = [];
+  route = Route.stay;
+  long = refl;
+  stands = sym (ap (λ (n : ℕ). take at old ++ drop n old) (add-zero at) ∙ take-append-drop at old);
+}
+
+pub no-round : (S : ℕ → ℕ → ℕ → Type 0) (p q : Set) (start : ℕ) (marks found old : List ℕ) → SameIn marks found → Round S p q start 0 marks found old old
+no-round S p q start marks found old h = record {
+  same = h;
+  short = omega arith;
+  none = λ e. refl;
+  written = λ l. absurd (omega arith);
+  first = λ l. absurd (omega arith);
+  second = λ l. absurd (omega arith);
+}

@@ -4,6 +4,7 @@ use mathlib.Core.Bool.{Bool, true}
 use mathlib.Core.List.{List, List·Memᴰ}
 use Prim.Native.Nat.{ℕ, _≤_, _<_}
 use lib.ListN.{length, getD}
+use Rattle.sets.specs.Tests.{Set}
 use Rattle.theory.specs.Macrostate.{isAccepting}
 use Rattle.theory.specs.Run.{sourceOf, letterOf, targetOf}
 use Rattle.stricter_forest.specs.Forest.{SameIn}
@@ -28,3 +29,12 @@ pub record Way (S : ℕ → ℕ → ℕ → Type 0) (x y at n : ℕ) (marks foun
   pub written : RouteAt S x y at n old new
   pub some : 0 < n
   pub short : n ≤ length marks
+
+-- a way of r steps from the start back to it was found and written, and it passes both tests; or r is 0
+pub record Round (S : ℕ → ℕ → ℕ → Type 0) (p q : Set) (start r : ℕ) (marks found old new : List ℕ) : Type 0 where
+  pub same : SameIn marks found
+  pub short : r ≤ length marks
+  pub none : r ≡ 0 → new ≡ old
+  pub written : 0 < r → RouteAt S start start 0 r old new
+  pub first : 0 < r → p start ≡ true
+  pub second : 0 < r → q start ≡ true

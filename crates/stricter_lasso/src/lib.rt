@@ -20,7 +20,7 @@ ghost use Rattle.stricter_laws.specs.Sound.{BothSound};
 ghost use Rattle.stricter_laws.specs.Tests.{acceptsIn, startsIn};
 ghost use Rattle.stricter_forest.specs.Forest.{kindIn, SameIn, Reaches, Back, ParentIs};
 ghost use Rattle.stricter_forest.specs.Routes.{RouteAt, Turning};
-ghost use Rattle.stricter_lasso.specs.Tables.{Suits, SourceIs, Way};
+ghost use Rattle.stricter_lasso.specs.Tables.{Suits, SourceIs, Way, Round};
 
 // ---- the way back
 
@@ -236,8 +236,8 @@ fn find_turn(
 
 // ---- the word
 
-// A word that both tables accept, beginning at the start pair: its letters are written at the start of the word slice.
-pub fn find_word(
+// A word that both tables accept, beginning at the start pair, by three ways: its letters are written at the start of the word slice.
+fn find_lasso(
     lcodes: &[u64],
     left: &[u64],
     rcodes: &[u64],
@@ -262,4 +262,61 @@ pub fn find_word(
     let onto = write_between(lcodes, left, rcodes, right, u, v, marks, lead, word);
     let back = write_between(lcodes, left, rcodes, right, v, u, marks, lead + onto, word);
     Found::Word(lead, onto + back)
+}
+
+// Writes the letters of a way from the start pair back to it to the start of the word slice, if the pair is accepting on both sides: how
+// many they are, 0 where there is none.
+fn write_round(
+    lcodes: &[u64],
+    left: &[u64],
+    rcodes: &[u64],
+    right: &[u64],
+    start: usize,
+    marks: &mut [u8],
+    word: &mut [u8],
+) -> usize
+    requires { ⌜ Searchable (now lcodes) (now left) × Searchable (now rcodes) (now right)
+        × (length (now marks) ≡ length (now lcodes) * length (now rcodes)) × (start < length (now marks))
+        × (length (now marks) ≤ length (now word)) ⌝ }
+    ensures { λ r. ⌜ Round (PairStep (length (now (rcodes .entry))) (now (left .entry)) (now (right .entry)))
+        (acceptsIn (now (lcodes .entry)) (now (rcodes .entry)) false) (acceptsIn (now (lcodes .entry)) (now (rcodes .entry)) true) start r
+        (now (marks .entry)) (now (marks .exit)) (now (word .entry)) (now (word .exit)) ⌝ }
+{
+    explore(lcodes, left, rcodes, right, start, marks);
+    if !serves(lcodes, rcodes, false, marks, start) {
+        return 0;
+    }
+    if !serves(lcodes, rcodes, true, marks, start) {
+        return 0;
+    }
+    let n = way_length(lcodes, left, rcodes, right, start, marks, start);
+    write_way(lcodes, left, rcodes, right, start, marks, start, 0, n, word);
+    n
+}
+
+// A word that both tables accept, beginning at the start pair: its letters are written at the start of the word slice. Where the start
+// pair leads back to itself, it is that way for ever.
+pub fn find_word(
+    lcodes: &[u64],
+    left: &[u64],
+    rcodes: &[u64],
+    right: &[u64],
+    start: usize,
+    word: &mut [u8],
+    marks: &mut [u8],
+) -> Found
+    requires { ⌜ Searchable (now lcodes) (now left) × Searchable (now rcodes) (now right)
+        × (length (now marks) ≡ length (now lcodes) * length (now rcodes))
+        × (3 * (length (now lcodes) * length (now rcodes)) ≤ length (now word)) × (0 < getD (now marks) start 0)
+        × BothSound (PairEdge (length (now rcodes)) (now left) (now right)) (acceptsIn (now lcodes) (now rcodes) false)
+        (acceptsIn (now lcodes) (now rcodes) true) (now marks) ⌝ }
+    ensures { λ r. ⌜ ((startA startB : Set) → startsIn (now (lcodes .entry)) (now (rcodes .entry)) startA startB start ≡ true
+        → Searched (now (lcodes .entry)) (now (left .entry)) startA (now (rcodes .entry)) (now (right .entry)) startB
+        (now (word .entry)) (now (word .exit)) r) ⌝ }
+{
+    let n = write_round(lcodes, left, rcodes, right, start, marks, word);
+    if 0 < n {
+        return Found::Word(0, n);
+    }
+    find_lasso(lcodes, left, rcodes, right, start, word, marks)
 }

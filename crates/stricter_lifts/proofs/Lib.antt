@@ -1,3 +1,4 @@
 pub mod Table
 pub mod Reach
 pub mod Lifts
+pub mod Alive

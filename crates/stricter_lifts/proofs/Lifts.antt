@@ -7,7 +7,7 @@ use lib.ListN.{length, getD}
 use Rattle.sets.specs.Tests.{Set}
 use Rattle.sets.proofs.Bools.{and-i}
 use Rattle.graph_walks.proofs.Sums.{has-place}
-use Rattle.theory.specs.Macrostate.{isAccepting}
+use Rattle.theory.specs.Macrostate.{begun, isAccepting}
 use Rattle.theory.specs.Run.{letterOf, targetOf, AcceptingRun}
 use Rattle.stricter_spec.specs.Search.{NoShared}
 use Rattle.stricter_laws.specs.Pairs.{PairEdge}
@@ -145,16 +145,17 @@ module _ (ca ma : List ℕ) (nA : ℕ) (coreA : ℕ → ℕ) (spareA : ℕ → �
       nears = λ a b. closer cb mb nB coreB spareB CB right SB (x .of-B) (s .of-B) (l .second) (second-here a) (second-there b) K m p;
     }
 
-  -- pairs have the marks of their cores
-  abbrev Marked : List ℕ → List ℕ → Type 0
-  Marked final pairs = (i j : ℕ) → i < length ca → j < length cb → getD pairs (i * length cb + j) 0 ≡ getD final (coreA i * length cb + coreB j) 0
+  -- a pair is in exactly if the pair of its cores is
+  pub record Marked (final pairs : List ℕ) : Type 0 where
+    pub marks : (i j : ℕ) → i < length ca → j < length cb → 0 < getD final (coreA i * length cb + coreB j) 0 → 0 < getD pairs (i * length cb + j) 0
+    pub tells : (i j : ℕ) → i < length ca → j < length cb → 0 < getD pairs (i * length cb + j) 0 → 0 < getD final (coreA i * length cb + coreB j) 0
 
   module _ (final pairs : List ℕ) (sound : AllSound E F n final) (same : Marked final pairs) where
     marked : (x : Pair) → 0 < getD final (core x) 0 → 0 < getD pairs (at x) 0
-    marked x h = subst (λ (a : ℕ). 0 < a) (sym (same (x .of-A) (x .of-B) (x .low-A) (x .low-B))) h
+    marked x h = same .marks (x .of-A) (x .of-B) (x .low-A) (x .low-B) h
 
     inside : (x : Pair) → 0 < getD pairs (at x) 0 → 0 < getD final (core x) 0
-    inside x h = subst (λ (a : ℕ). 0 < a) (same (x .of-A) (x .of-B) (x .low-A) (x .low-B)) h
+    inside x h = same .tells (x .of-A) (x .of-B) (x .low-A) (x .low-B) h
 
     first-onto : (x : Pair) → 0 < getD pairs (at x) 0 → Onto P (acceptsIn ca cb false) pairs (at x)
     first-onto x h = reach P (acceptsIn ca cb false) Pair at core (λ z. CA .component (z .of-A)) (λ z. CA .left (z .of-A))
@@ -187,8 +188,7 @@ module _ (ca ma : List ℕ) (nA : ℕ) (coreA : ℕ → ℕ) (spareA : ℕ → �
       second-from = subst (Onto P (acceptsIn ca cb true) pairs) (split .whole) (second-onto pair in-pair)
 
   -- from each pair whose cores are left, such pairs lead to acceptance on either side
-  pub both-sound : (final pairs : List ℕ) → AllSound E F n final
-      → ((i j : ℕ) → i < length ca → j < length cb → getD pairs (i * length cb + j) 0 ≡ getD final (coreA i * length cb + coreB j) 0)
+  pub both-sound : (final pairs : List ℕ) → AllSound E F n final → Marked final pairs
       → length pairs ≡ length ca * length cb
       → BothSound (PairEdge (length cb) ma mb) (acceptsIn ca cb false) (acceptsIn ca cb true) pairs
   both-sound final pairs sound same long = record { onto-p = first-from final pairs sound same long; onto-q = second-from final pairs sound same long }
@@ -243,12 +243,15 @@ module _ (ca ma : List ℕ) (nA : ℕ) (coreA : ℕ → ℕ) (spareA : ℕ → �
     starts : startsIn ca cb startA startB (x 0 * length cb + y 0) ≡ true
     starts = starts-both ca cb (x 0) (y 0) (B .run .within 0) startA startB ∙ and-i (A .run .begins) (B .run .begins)
 
-  -- where no start pair is left, no sequence of letters has an accepting run of each table
-  pub nothing : (old final pairs : List ℕ) → Narrowed E F n old final
-      → ((i j : ℕ) → i < length ca → j < length cb → 0 < getD old (coreA i * length cb + coreB j) 0)
-      → ((i j : ℕ) → i < length ca → j < length cb → getD pairs (i * length cb + j) 0 ≡ getD final (coreA i * length cb + coreB j) 0)
-      → (startA startB : Set) → ((x : ℕ) → 0 < getD pairs x 0 → startsIn ca cb startA startB x ≡ true → ⊥) → NoShared ca ma startA cb mb startB
-  nothing old final pairs narrow all same startA startB none w x y A B =
-      let k = narrow .keeps (z startA startB w x y A B) (step startA startB w x y A B) (λ i. all (x i) (y i) (A .run .within i) (B .run .within i))
-      (again startA startB w x y A B) 0 in
-      none (x 0 * length cb + y 0) (subst (λ (a : ℕ). 0 < a) (sym (same (x 0) (y 0) (A .run .within 0) (B .run .within 0))) k) (starts startA startB w x y A B)
+  -- where no start pair is left, no sequence of letters has an accepting run of each table: such runs begin at numbers that stand for their
+  -- cores, and the pairs of the cores of their numbers are in at first
+  pub nothing : (old final : List ℕ) → Narrowed E F n old final → (startA startB : Set)
+      → ((w x y : ℕ → ℕ) → AcceptingRun ca ma startA w x → AcceptingRun cb mb startB w y → (i : ℕ) → 0 < getD old (coreA (x i) * length cb + coreB (y i)) 0)
+      → ((i : ℕ) → i < length ca → begun startA (getD ca i 0) ≡ true → coreA i ≡ i)
+      → ((j : ℕ) → j < length cb → begun startB (getD cb j 0) ≡ true → coreB j ≡ j)
+      → ((x : ℕ) → 0 < getD final x 0 → startsIn ca cb startA startB x ≡ true → ⊥) → NoShared ca ma startA cb mb startB
+  nothing old final narrow startA startB all first-A first-B none w x y A B =
+      let k = narrow .keeps (z startA startB w x y A B) (step startA startB w x y A B) (all w x y A B) (again startA startB w x y A B) 0 in
+      let e = first-A (x 0) (A .run .within 0) (A .run .begins) in
+      let f = first-B (y 0) (B .run .within 0) (B .run .begins) in
+      none (x 0 * length cb + y 0) (rw (e, f) at k) (starts startA startB w x y A B)

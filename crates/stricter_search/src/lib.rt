@@ -1,106 +1,44 @@
 // The search for a word that two tables accept: the pairs from which both can, a start pair among them, and the word.
-use codes::classes_of;
-use codes::component_of;
-use codes::is_initial;
 use file_read::Layout;
 use judge_place::fill_with;
-use slice_zeros::next_set;
 use stricter_files::sort_files;
 use stricter_lasso::find_word;
 use stricter_spec::Found;
 ghost use mathlib.Core.Path.{_≡_};
-ghost use mathlib.Core.Bool.{false, not};
-ghost use Prim.Native.Nat.{_*_, _≤_, _<_};
+ghost use mathlib.Core.Bool.{not};
+ghost use Prim.Native.Nat.{_*_, _≤_};
 ghost use lib.ListN.{length, replicate};
 ghost use Rattle.sets.specs.Masks.{bit};
-ghost use Rattle.theory.specs.Macrostate.{begun, holdsInitial};
+ghost use Rattle.sets.specs.Tests.{Set};
+ghost use Rattle.theory.specs.Macrostate.{holdsInitial};
 ghost use Rattle.rejecting_spec.specs.Rejecting.{lacksInitial};
 ghost use Rattle.file_spec.specs.File.{ruleIn};
 ghost use Rattle.file_read.specs.Read.{readOf};
 ghost use Rattle.file_read.specs.declared.Read.the-variants.{Accepted};
 ghost use Rattle.stricter_spec.specs.Search.{Searchable, Searched};
-ghost use Rattle.stricter_laws.specs.Tests.{startsIn};
 ghost use Rattle.stricter_fixpoints.specs.Sorted.{Sorted};
 ghost use Rattle.stricter_files.specs.Lists.{ListsOf};
-ghost use Rattle.stricter_search.specs.Starts.{StartsAt, FirstStart};
-
-// ---- a start pair
-
-// Whether a run may begin at a code if its set lacks the initial state: K is 0 and k is 0.
-fn begins_lacking(code: u64, initial: u32) -> bool
-    requires { ⌜ initial < 8 ⌝ }
-    ensures { λ r. ⌜ r ≡ begun (λ c. not (bit c initial)) code ⌝ }
-{
-    if (code >> initial) & 1 == 1 {
-        return false;
-    }
-    if component_of(code) != 0 {
-        return false;
-    }
-    classes_of(code) == 0
-}
-
-// Whether the pair x is in and runs of both tables may begin at it.
-fn starts(
-    acodes: &[u64],
-    bcodes: &[u64],
-    ainitial: u32,
-    binitial: u32,
-    marks: &[u8],
-    x: usize,
-) -> bool
-    requires { ⌜ (length (now marks) ≡ length (now acodes) * length (now bcodes)) × (x < length (now marks))
-        × (ainitial < 8) × (binitial < 8) ⌝ }
-    ensures { λ r. ⌜ StartsAt (startsIn (now (acodes .entry)) (now (bcodes .entry)) (λ c. bit c ainitial) (λ c. not (bit c binitial)))
-        (now (marks .entry)) x r ⌝ }
-{
-    if marks[x] == 0 {
-        return false;
-    }
-    let nb = bcodes.len();
-    if !is_initial(acodes[x / nb], ainitial) {
-        return false;
-    }
-    begins_lacking(bcodes[x % nb], binitial)
-}
-
-// The first such pair; the number of pairs where there is none.
-fn first_start(acodes: &[u64], bcodes: &[u64], ainitial: u32, binitial: u32, marks: &[u8]) -> usize
-    requires { ⌜ (length (now marks) ≡ length (now acodes) * length (now bcodes)) × (ainitial < 8) × (binitial < 8) ⌝ }
-    ensures { λ r. ⌜ FirstStart (startsIn (now (acodes .entry)) (now (bcodes .entry)) (λ c. bit c ainitial) (λ c. not (bit c binitial)))
-        (now (marks .entry)) r ⌝ }
-{
-    let mut x = next_set(marks, 0, marks.len());
-    while x < marks.len() {
-        if starts(acodes, bcodes, ainitial, binitial, marks, x) {
-            return x;
-        }
-        x = next_set(marks, x + 1, marks.len());
-    }
-    x
-}
 
 // ---- the search
 
-// The search with a mark for each pair, where the pairs are sorted out.
+// The search with a mark for each pair, where the pairs are sorted out and a start pair is known if there is one.
 fn search_pairs(
     acodes: &[u64],
     amoves: &[u64],
     bcodes: &[u64],
     bmoves: &[u64],
-    ainitial: u32,
-    binitial: u32,
+    start: usize,
     word: &mut [u8],
     marks: &mut [u8],
 ) -> Found
-    requires { ⌜ Searchable (now acodes) (now amoves) × Searchable (now bcodes) (now bmoves) × (ainitial < 8) × (binitial < 8)
-        × Sorted (now acodes) (now amoves) (now bcodes) (now bmoves) (now marks)
+    requires { ⌜ Searchable (now acodes) (now amoves) × Searchable (now bcodes) (now bmoves)
+        × ((s : Set) × (t : Set) × Sorted (now acodes) (now amoves) s (now bcodes) (now bmoves) t (now marks) start)
         × (3 * (length (now acodes) * length (now bcodes)) ≤ length (now word)) ⌝ }
-    ensures { λ r. ⌜ Searched (now (acodes .entry)) (now (amoves .entry)) (λ c. bit c ainitial)
-        (now (bcodes .entry)) (now (bmoves .entry)) (λ c. not (bit c binitial)) (now (word .entry)) (now (word .exit)) r ⌝ }
+    ensures { λ r. ⌜ ((s t : Set) → Sorted (now (acodes .entry)) (now (amoves .entry)) s (now (bcodes .entry)) (now (bmoves .entry)) t
+        (now (marks .entry)) start → Searched (now (acodes .entry)) (now (amoves .entry)) s
+        (now (bcodes .entry)) (now (bmoves .entry)) t (now (word .entry)) (now (word .exit)) r) ⌝ }
 {
-    let start = first_start(acodes, bcodes, ainitial, binitial, marks);
-    if start == marks.len() {
+    if marks.len() <= start {
         return Found::Nothing;
     }
     find_word(acodes, amoves, bcodes, bmoves, start, word, marks)
@@ -128,19 +66,8 @@ fn search_files(
     ensures { λ _. ⌜ (now (acodes .exit) ≡ now (acodes .entry)) × (now (amoves .exit) ≡ now (amoves .entry)) ⌝ }
     ensures { λ _. ⌜ (now (bcodes .exit) ≡ now (bcodes .entry)) × (now (bmoves .exit) ≡ now (bmoves .entry)) ⌝ }
 {
-    let ainitial = l.head.initial as u32;
-    let binitial = m.head.initial as u32;
-    sort_files(a, l, acodes, amoves, b, m, bcodes, bmoves, marks);
-    search_pairs(
-        acodes,
-        amoves,
-        bcodes,
-        bmoves,
-        ainitial,
-        binitial,
-        word,
-        marks,
-    )
+    let start = sort_files(a, l, acodes, amoves, b, m, bcodes, bmoves, marks);
+    search_pairs(acodes, amoves, bcodes, bmoves, start, word, marks)
 }
 
 // A word that A's table and that of the words that B rejects both accept, or that there is none; its letters are written at the start of

@@ -1,6 +1,6 @@
 -- Laws of rows that are filled one after the other.
 use mathlib.Core.Path.{_≡_, refl, sym, ap, ap₂, _∙_}
-use mathlib.Core.Bool.{true, false, _&&_}
+use mathlib.Core.Bool.{Bool, true, false, _&&_, cond, and-false}
 use mathlib.Core.List.{List}
 use mathlib.Core.Logic.{inl, inr, by-cases}
 use Prim.Native.Nat.{ℕ, _+_, _-_, _*_, _≤_, _<_}
@@ -9,14 +9,15 @@ use native.Mathlib.Decide.{decLt}
 use lib.Arith.{digits-div, digits-mod, digits-lt}
 use lib.Dec.{eqb}
 use lib.ListN.{length, getD, set}
-use borrow.Author.Tests.{eqb-true}
+use borrow.Author.Tests.{eqb-true, ne-eqb, ltb-true, ltb-false}
 use Rattle.sets.specs.Tests.{one}
 use Rattle.sets.proofs.Bools.{bif}
 use Rattle.stricter_cores_spec.specs.Tags.{coreNumber}
-use Rattle.stricter_cores_spec.specs.Steps.{standsIn, CoresIn, Spread}
+use Rattle.stricter_cores_spec.specs.Steps.{standsIn, hasCore, OnlyCores, CoresIn, Spread}
+use Rattle.stricter_cores_laws.proofs.Fitting.{row-out}
 use Rattle.stricter_tags_laws.specs.Fill.{Filled}
 use Rattle.stricter_tags_laws.proofs.Fill.{filled-next, filled-then}
-use Rattle.stricter_spread.specs.Rows.{placedAt, coreAt, Standing}
+use Rattle.stricter_spread.specs.Rows.{placedAt, coreAt, takenAt, Standing}
 
 -- the value at a place of a row
 pub stand-value : (codes : List ℕ) (base j : ℕ) → one (eqb (coreNumber (getD codes j 0)) j) ≡ one (standsIn codes (base + j - base))
@@ -33,14 +34,14 @@ stands-yes codes i v e z = bif (eqb (coreNumber (getD codes i 0)) i) (λ t. t) (
 
 -- ---- marks of other places
 
-module _ (c : ℕ → ℕ) (from to : ℕ) (old ms : List ℕ) (h : Filled (λ x. getD old (c x) 0) from to old ms) where
-  -- a place that gives its own mark keeps it
-  kept : (p : ℕ) → c p ≡ p → getD ms p 0 ≡ getD old p 0
+-- f gives places marks of old: the mark of a place that gives its own is as it was
+module _ (f : ℕ → ℕ) (from to : ℕ) (old ms : List ℕ) (h : Filled f from to old ms) where
+  kept : (p : ℕ) → f p ≡ getD old p 0 → getD ms p 0 ≡ getD old p 0
   kept p e =
       by-cases (decLt p from)
       (λ l. h .outside p (inl l))
       (λ l. by-cases (decLt p to)
-      (λ m. h .inside p (omega arith) m ∙ ap (λ (x : ℕ). getD old x 0) e)
+      (λ m. h .inside p (omega arith) m ∙ e)
       (λ m. h .outside p (inr (omega arith))))
 
 -- ---- the two numbers of a pair
@@ -92,49 +93,105 @@ module _ (acodes bcodes : List ℕ) where
 
   -- ---- pairs that get the marks of their cores'
 
-  -- a number's core is its own core
-  own : (codes : List ℕ) → Standing codes → (i : ℕ) → i < length codes → coreNumber (getD codes (coreNumber (getD codes i 0)) 0) ≡ coreNumber (getD codes i 0)
+  taken-at : (marks : List ℕ) (i j : ℕ) → j < length bcodes → takenAt acodes bcodes marks (i * length bcodes + j)
+      ≡ cond (hasCore acodes i && hasCore bcodes j) (getD marks (coreNumber (getD acodes i 0) * length bcodes + coreNumber (getD bcodes j 0)) 0) 0
+  unfolding takenAt
+  taken-at marks i j l =
+      ap₂ (λ (a b : ℕ). cond (hasCore acodes a && hasCore bcodes b) (getD marks (coreAt acodes bcodes (i * length bcodes + j)) 0) 0) (digits-div i l) (digits-mod i l)
+      ∙ ap (λ (x : ℕ). cond (hasCore acodes i && hasCore bcodes j) (getD marks x 0) 0) (core-at i j l)
+
+  -- a number that has a core
+  pub core-below : (codes : List ℕ) (i : ℕ) → hasCore codes i ≡ true → coreNumber (getD codes i 0) < length codes
+  unfolding hasCore
+  core-below codes i e = ltb-true (coreNumber (getD codes i 0)) (length codes) e
+
+  -- its core is its own core
+  own : (codes : List ℕ) → Standing codes → (i : ℕ) → i < length codes → hasCore codes i ≡ true
+      → coreNumber (getD codes (coreNumber (getD codes i 0)) 0) ≡ coreNumber (getD codes i 0)
   unfolding standsIn
-  own codes S i l = eqb-true (coreNumber (getD codes (coreNumber (getD codes i 0)) 0)) (coreNumber (getD codes i 0)) (S i l .1)
+  own codes S i l e = eqb-true (coreNumber (getD codes (coreNumber (getD codes i 0)) 0)) (coreNumber (getD codes i 0)) (S i l e)
 
-  module _ (SA : Standing acodes) (SB : Standing bcodes) (i j : ℕ) (k : i < length acodes) (l : j < length bcodes) where
+  own-has : (codes : List ℕ) → Standing codes → (i : ℕ) → i < length codes → hasCore codes i ≡ true → hasCore codes (coreNumber (getD codes i 0)) ≡ true
+  unfolding hasCore
+  own-has codes S i l e = rw (own codes S i l e) e
+
+  module _ (SA : Standing acodes) (SB : Standing bcodes) (i j : ℕ) (k : i < length acodes) (l : j < length bcodes)
+      (ha : hasCore acodes i ≡ true) (hb : hasCore bcodes j ≡ true) where
+    abbrev pair : ℕ
+    pair = coreNumber (getD acodes i 0) * length bcodes + coreNumber (getD bcodes j 0)
+
     pub core-low : coreNumber (getD acodes i 0) * length bcodes + coreNumber (getD bcodes j 0) < length acodes * length bcodes
-    core-low = digits-lt {q = coreNumber (getD acodes i 0)} {m = length acodes} {c = length bcodes} (SA i k .0) (SB j l .0)
+    core-low = digits-lt {q = coreNumber (getD acodes i 0)} {m = length acodes} {c = length bcodes} (core-below acodes i ha) (core-below bcodes j hb)
 
-    core-own : coreAt acodes bcodes (coreAt acodes bcodes (i * length bcodes + j)) ≡ coreAt acodes bcodes (i * length bcodes + j)
-    core-own =
-        ap (coreAt acodes bcodes) (core-at i j l)
-        ∙ core-at (coreNumber (getD acodes i 0)) (coreNumber (getD bcodes j 0)) (SB j l .0)
-        ∙ ap₂ (λ (a b : ℕ). a * length bcodes + b) (own acodes SA i k) (own bcodes SB j l)
-        ∙ sym (core-at i j l)
+    -- the pair of the cores takes its own mark
+    core-own : (marks : List ℕ) → takenAt acodes bcodes marks pair ≡ getD marks pair 0
+    core-own marks =
+        taken-at marks (coreNumber (getD acodes i 0)) (coreNumber (getD bcodes j 0)) (core-below bcodes j hb)
+        ∙ ap₂ (λ (a b : Bool). cond (a && b) (getD marks next 0) 0) (own-has acodes SA i k ha) (own-has bcodes SB j l hb)
+        ∙ ap (λ (x : ℕ). getD marks x 0) (ap₂ (λ (a b : ℕ). a * length bcodes + b) (own acodes SA i k ha) (own bcodes SB j l hb))
+      where
+        next : ℕ
+        next = coreNumber (getD acodes (coreNumber (getD acodes i 0)) 0) * length bcodes + coreNumber (getD bcodes (coreNumber (getD bcodes j 0)) 0)
 
   -- the marks from `from` up to `to` are those of old at the pairs of the cores
   abbrev pub Moved : ℕ → ℕ → List ℕ → List ℕ → Type 0
-  Moved from to old new = Filled (λ x. getD old (coreAt acodes bcodes x) 0) from to old new
+  Moved from to old new = Filled (takenAt acodes bcodes old) from to old new
 
   module _ (SA : Standing acodes) (SB : Standing bcodes) where
-    -- the pair of i and j gets its mark
-    pub moved-next : (i j : ℕ) → i < length acodes → j < length bcodes → (from : ℕ) (old ms : List ℕ) (v : ℕ) → from ≤ i * length bcodes + j
-        → i * length bcodes + j < length ms → Moved from (i * length bcodes + j) old ms
-        → v ≡ getD ms (coreNumber (getD acodes i 0) * length bcodes + coreNumber (getD bcodes j 0)) 0
+    -- what a pair takes is there still
+    pub taken-kept : (from to : ℕ) (old ms : List ℕ) → Moved from to old ms → (i j : ℕ) → i < length acodes → j < length bcodes
+        → takenAt acodes bcodes ms (i * length bcodes + j) ≡ takenAt acodes bcodes old (i * length bcodes + j)
+    taken-kept from to old ms h i j k l =
+        taken-at ms i j l
+        ∙ bif (hasCore acodes i)
+        (λ ha. bif (hasCore bcodes j)
+        (λ hb. ap (λ (v : ℕ). cond (hasCore acodes i && hasCore bcodes j) v 0)
+        (kept (takenAt acodes bcodes old) from to old ms h (coreNumber (getD acodes i 0) * length bcodes + coreNumber (getD bcodes j 0)) (core-own SA SB i j k l ha hb old)))
+        (λ hb. rw hb (rw and-false)))
+        (λ ha. rw ha)
+        ∙ sym (taken-at old i j l)
+
+    -- the pair of i, which has a core, and j takes its mark
+    pub moved-next : (i j : ℕ) → i < length acodes → j < length bcodes → hasCore acodes i ≡ true → (from : ℕ) (old ms : List ℕ) (v : ℕ)
+        → from ≤ i * length bcodes + j → i * length bcodes + j < length ms → Moved from (i * length bcodes + j) old ms
+        → v ≡ cond (hasCore bcodes j) (getD ms (coreNumber (getD acodes i 0) * length bcodes + coreNumber (getD bcodes j 0)) 0) 0
         → Moved from (i * length bcodes + j + 1) old (set ms (i * length bcodes + j) v)
-    moved-next i j k l from old ms v a b h e =
-        filled-next (λ x. getD old (coreAt acodes bcodes x) 0) from (i * length bcodes + j) old ms v a b h
-        (e ∙ ap (λ (x : ℕ). getD ms x 0) (sym (core-at i j l))
-        ∙ kept (coreAt acodes bcodes) from (i * length bcodes + j) old ms h (coreAt acodes bcodes (i * length bcodes + j)) (core-own SA SB i j k l))
+    moved-next i j k l ha from old ms v a b h e =
+        filled-next (takenAt acodes bcodes old) from (i * length bcodes + j) old ms v a b h
+        (e ∙ ap (λ (w : Bool). cond (w && hasCore bcodes j) (getD ms (coreNumber (getD acodes i 0) * length bcodes + coreNumber (getD bcodes j 0)) 0) 0) (sym ha)
+        ∙ sym (taken-at ms i j l) ∙ taken-kept from (i * length bcodes + j) old ms h i j k l)
 
     -- row i after those before it
     pub moved-row : (i : ℕ) → i < length acodes → (old ms new : List ℕ) → Moved 0 (i * length bcodes) old ms
         → Moved (i * length bcodes) (i * length bcodes + length bcodes) ms new → Moved 0 (i * length bcodes + length bcodes) old new
     moved-row i k old ms new f g =
-        filled-then (λ x. getD old (coreAt acodes bcodes x) 0) (λ x. getD ms (coreAt acodes bcodes x) 0) 0 (i * length bcodes) (i * length bcodes + length bcodes)
+        filled-then (takenAt acodes bcodes old) (takenAt acodes bcodes ms) 0 (i * length bcodes) (i * length bcodes + length bcodes)
         old ms new (omega arith) (omega arith) f g
-        (λ x a b. kept (coreAt acodes bcodes) 0 (i * length bcodes) old ms f (coreAt acodes bcodes x)
-        (rw (row-place i x a b) (core-own SA SB i (x - i * length bcodes) k (omega arith))))
+        (λ x a b. rw (row-place i x a b) (taken-kept 0 (i * length bcodes) old ms f i (x - i * length bcodes) k (omega arith)))
+
+  -- a row of zeros of a number that has no core
+  abbrev pub Out : List ℕ → ℕ → Type 0
+  Out marks i = hasCore acodes i ≡ false → (x : ℕ) → i * length bcodes ≤ x → x < i * length bcodes + length bcodes → getD marks x 0 ≡ 0
+
+  pub moved-out : (i : ℕ) (ms : List ℕ) → Out ms i → hasCore acodes i ≡ false → Moved (i * length bcodes) (i * length bcodes + length bcodes) ms ms
+  moved-out i ms o e = record {
+    long = refl;
+    inside = λ x a b. o e x a b ∙ sym (ap (takenAt acodes bcodes ms) (row-place i x a b) ∙ taken-at ms i (x - i * length bcodes) (omega arith) ∙ rw e);
+    outside = λ x h. refl;
+  }
+
+  -- rows that come later are as they were
+  pub out-later : (i : ℕ) (old ms : List ℕ) → Moved 0 (i * length bcodes) old ms → Out old i → Out ms i
+  out-later i old ms f o e x a b = f .outside x (inr a) ∙ o e x a b
+
+  pub out-row : (marks : List ℕ) → OnlyCores acodes (length bcodes) marks → (i : ℕ) → i < length acodes → Out marks i
+  unfolding hasCore standsIn
+  out-row marks o i l e x a b =
+      row-out acodes (length bcodes) marks o i
+      (ne-eqb (coreNumber (getD acodes i 0)) i (λ q. let h = ltb-false (coreNumber (getD acodes i 0)) (length acodes) e in omega arith)) x a b
 
   pub moved-end : (old new : List ℕ) → Moved 0 (length acodes * length bcodes) old new → Spread acodes bcodes old new
   moved-end old new f = record {
     long = f .long;
-    each = λ i j k l. f .inside (i * length bcodes + j) (omega arith) (digits-lt {q = i} {m = length acodes} {c = length bcodes} k l)
-        ∙ ap (λ (x : ℕ). getD old x 0) (core-at i j l);
+    each = λ i j k l. f .inside (i * length bcodes + j) (omega arith) (digits-lt {q = i} {m = length acodes} {c = length bcodes} k l) ∙ taken-at old i j l;
   }

@@ -1,13 +1,14 @@
 // Marks for the pairs of cores of two tagged tables, and from them marks for all pairs of numbers.
 ghost use mathlib.Core.Path.{_≡_};
-ghost use Prim.Native.Nat.{_+_, _-_, _*_, _≤_, _<_};
-ghost use lib.Dec.{eqb};
+ghost use mathlib.Core.Bool.{false, cond};
+ghost use Prim.Native.Nat.{ℕ, _+_, _-_, _*_, _≤_, _<_};
+ghost use lib.Dec.{eqb, ltb};
 ghost use lib.ListN.{length, getD};
 ghost use Rattle.sets.specs.Tests.{one};
 ghost use Rattle.stricter_cores_spec.specs.Tags.{coreNumber};
-ghost use Rattle.stricter_cores_spec.specs.Steps.{standsIn, CoresIn, Spread};
+ghost use Rattle.stricter_cores_spec.specs.Steps.{standsIn, hasCore, OnlyCores, CoresIn, Spread};
 ghost use Rattle.stricter_tags_laws.specs.Fill.{Filled};
-ghost use Rattle.stricter_spread.specs.Rows.{placedAt, coreAt, Standing};
+ghost use Rattle.stricter_spread.specs.Rows.{placedAt, takenAt, Standing};
 
 // The number of a tagged code's core.
 fn core_of(code: u64) -> usize
@@ -79,27 +80,45 @@ pub fn place_cores(acodes: &[u64], bcodes: &[u64], marks: &mut [u8])
     }
 }
 
-// The pairs of number i get the marks of the pairs of their cores, which keep theirs.
+// What the pair of a core, whose row begins at `row`, and core k of nb numbers has for a mark; 0 where k is no number.
+fn mark_of(marks: &[u8], row: usize, k: usize, nb: usize) -> u8
+    requires { ⌜ row + nb ≤ length (now marks) ⌝ }
+    ensures { λ r. ⌜ r ≡ cond (ltb k nb) (getD (now (marks .entry)) (row + k) 0) 0 ⌝ }
+{
+    if nb <= k {
+        return 0;
+    }
+    marks[row + k]
+}
+
+// The pairs of number i take the marks of the pairs of their cores, which keep theirs. A number that has no core has no pair that is in.
 fn spread_row(acodes: &[u64], bcodes: &[u64], i: usize, marks: &mut [u8])
     requires { ⌜ (i < length (now acodes)) × (length (now marks) ≡ length (now acodes) * length (now bcodes)) ⌝ }
-    requires { ⌜ Standing (now acodes) × Standing (now bcodes) ⌝ }
-    ensures { λ _. ⌜ Filled (λ x. getD (now (marks .entry)) (coreAt (now (acodes .entry)) (now (bcodes .entry)) x) 0)
+    requires { ⌜ Standing (now acodes) × Standing (now bcodes) × (hasCore (now acodes) i ≡ false
+        → (x : ℕ) → i * length (now bcodes) ≤ x → x < i * length (now bcodes) + length (now bcodes) → getD (now marks) x 0 ≡ 0) ⌝ }
+    ensures { λ _. ⌜ Filled (takenAt (now (acodes .entry)) (now (bcodes .entry)) (now (marks .entry)))
         (i * length (now (bcodes .entry))) (i * length (now (bcodes .entry)) + length (now (bcodes .entry)))
         (now (marks .entry)) (now (marks .exit)) ⌝ }
 {
-    let row = core_of(acodes[i]) * bcodes.len();
+    let core = core_of(acodes[i]);
+    if acodes.len() <= core {
+        return;
+    }
+    let row = core * bcodes.len();
     let base = i * bcodes.len();
     let mut j = 0;
     while j < bcodes.len() {
-        marks[base + j] = marks[row + core_of(bcodes[j])];
+        let v = mark_of(marks, row, core_of(bcodes[j]), bcodes.len());
+        marks[base + j] = v;
         j += 1;
     }
 }
 
-// All pairs get the marks of the pairs of their cores.
+// All pairs take the marks of the pairs of their cores.
 pub fn spread(acodes: &[u64], bcodes: &[u64], marks: &mut [u8])
     requires { ⌜ (length (now marks) ≡ length (now acodes) * length (now bcodes))
-        × (length (now acodes) ≤ 65536) × (length (now bcodes) ≤ 65536) × Standing (now acodes) × Standing (now bcodes) ⌝ }
+        × (length (now acodes) ≤ 65536) × (length (now bcodes) ≤ 65536) × Standing (now acodes) × Standing (now bcodes)
+        × OnlyCores (now acodes) (length (now bcodes)) (now marks) ⌝ }
     ensures { λ _. ⌜ Spread (now (acodes .entry)) (now (bcodes .entry)) (now (marks .entry)) (now (marks .exit)) ⌝ }
 {
     let mut i = 0;

@@ -4,6 +4,7 @@ use mathlib.Core.Bool.{Bool, _&&_}
 use mathlib.Core.List.{List, [], _∷_, List·Memᴰ}
 use Prim.Native.Nat.{ℕ, zero, suc, _+_, _*_, _/_, _%_, _^_, _≤_, _<_}
 use native.Mathlib.Omega.{arith}
+use native.Mathlib.Nat.{mod-eq-of-lt}
 use lib.Dec.{eqb, ltb}
 use lib.ListN.{length, getD}
 use lib.Pow.{shr-shr}
@@ -15,40 +16,40 @@ use Rattle.sets.proofs.Masks.{bit-mask}
 use Rattle.theory.specs.Automaton.{Automaton}
 use Rattle.theory.specs.Run.{sourceOf, letterOf, targetOf}
 use Rattle.trim_spec.specs.Graph.{Inside}
-use Rattle.stricter_cores_spec.specs.Tags.{firstOf, sparesAt, TaggedCodes, tagOf, TaggedMoves, coreNumber, rowOf, ontoOf, sparing, untagged, plain}
+use Rattle.stricter_cores_spec.specs.Tags.{firstOf, sparesAt, TaggedCodes, toldOf, ToldCodes, tagOf, TaggedMoves, coreNumber, rowOf, ontoOf, sparing, lowParts, untagged, plain}
 use Rattle.stricter_cores_spec.specs.Tables.{Shown}
 use Rattle.stricter_tags_laws.proofs.First.{first-low}
 
 -- ---- without tags, by place
 
+pub low-long : (m : ℕ) (xs : List ℕ) → length (lowParts m xs) ≡ length xs
+unfolding lowParts
+low-long m [] = refl
+low-long m (x ∷ xs) = ap suc (low-long m xs)
+
+module _ (m : ℕ) (some : 0 < m) where
+  pub low-at : (xs : List ℕ) (i : ℕ) → getD (lowParts m xs) i 0 ≡ getD xs i 0 % m
+  unfolding lowParts
+  low-at [] i = sym (mod-eq-of-lt some)
+  low-at (x ∷ xs) zero = refl
+  low-at (x ∷ xs) (suc i) = low-at xs i
+
 pub untagged-long : (ts : List ℕ) → length (untagged ts) ≡ length ts
-unfolding untagged
-untagged-long [] = refl
-untagged-long (t ∷ ts) = ap suc (untagged-long ts)
+untagged-long ts = low-long 1099511627776 ts
 
 pub untagged-at : (ts : List ℕ) (i : ℕ) → getD (untagged ts) i 0 ≡ getD ts i 0 % 1099511627776
-unfolding untagged
-untagged-at [] i = omega arith
-untagged-at (t ∷ ts) zero = refl
-untagged-at (t ∷ ts) (suc i) = untagged-at ts i
-
-pub plain-long : (cs : List ℕ) → length (plain cs) ≡ length cs
-unfolding plain
-plain-long [] = refl
-plain-long (c ∷ cs) = ap suc (plain-long cs)
-
-pub plain-at : (cs : List ℕ) (i : ℕ) → getD (plain cs) i 0 ≡ getD cs i 0 % 281474976710656
-unfolding plain
-plain-at [] i = omega arith
-plain-at (c ∷ cs) zero = refl
-plain-at (c ∷ cs) (suc i) = plain-at cs i
+untagged-at ts i = low-at 1099511627776 (omega arith) ts i
 
 -- ---- the lists come back
 
-pub codes-back : (codes tagged : List ℕ) → TaggedCodes codes tagged → ((i : ℕ) → i < length codes → getD codes i 0 < 281474976710656) → plain tagged ≡ codes
-codes-back codes tagged T low =
-    ext-getD 0 (plain tagged) codes (plain-long tagged ∙ T .long)
-    (λ i l. let m : i < length codes = omega (arith, plain-long tagged, T .long) in omega (arith, plain-at tagged i, T .each i m, low i m))
+pub codes-back : (codes marks tagged : List ℕ) → ToldCodes codes marks tagged → ((i : ℕ) → i < length codes → getD codes i 0 < 281474976710656) → plain tagged ≡ codes
+codes-back codes marks tagged T low =
+    ext-getD 0 (plain tagged) codes (low-long 281474976710656 tagged ∙ T .long)
+    (λ i l. let m : i < length codes = omega (arith, low-long 281474976710656 tagged, T .long) in omega (arith, low-at 281474976710656 (omega arith) tagged i, T .each i m, low i m))
+
+pub told-number : (codes marks tagged : List ℕ) → ToldCodes codes marks tagged → ((i : ℕ) → i < length codes → getD codes i 0 < 281474976710656)
+    → (i : ℕ) → i < length codes → coreNumber (getD tagged i 0) ≡ toldOf codes marks i
+told-number codes marks tagged T low i l = omega (arith, T .each i l, low i l)
 
 pub core-number : (codes tagged : List ℕ) → TaggedCodes codes tagged → ((i : ℕ) → i < length codes → getD codes i 0 < 281474976710656)
     → (i : ℕ) → i < length codes → coreNumber (getD tagged i 0) ≡ firstOf codes i

@@ -1,112 +1,90 @@
 -- `has_marked` meets its contract.
-use mathlib.Core.Path.{_≡_, subst}
+use mathlib.Core.Path.{_≡_, subst, ap, ap₂, _∙_}
+use mathlib.Core.Bool.{cond, true≢false, false≢true}
 use Prim.Native.Nat.{ℕ, _+_, _-_, _*_, _≤_, _<_}
 use native.Mathlib.Omega.{arith}
 use borrow.Author.Needs.{needs}
-use mathlib.Core.Bool.{true≢false, false≢true}
 use lib.ListN.{length, getD}
 use Rattle.sets.proofs.Lists.{mem-at}
-use Rattle.stricter_cores_spec.specs.Tags.{ontoOf}
+use Rattle.stricter_cores_spec.specs.Tags.{ontoOf, sparing}
+use Rattle.stricter_core_rows.specs.Rows.{needed}
 use Rattle.stricter_core_rows.proofs.Parts.{one-more}
 use Rattle.stricter_core_rows.proofs.has_marked.Statement.{statement}
 use Rattle.stricter_core_rows.proofs.has_marked.Tie as tie
 
 abbrev Inv-loop : tie.InvT-loop
-Inv-loop left from to nb q marks least c₀ c =
-    (from ≤ c) × ((p : ℕ) → from ≤ p → p < c → getD marks (ontoOf (getD left p 0) * nb + q) 0 < least)
+Inv-loop left from to u nb ask marks q c₀ c =
+    (from ≤ c) × ((p : ℕ) → from ≤ p → p < c
+    → getD marks (ontoOf (getD left p 0) * nb + ontoOf u) 0 < needed (ask .other) (sparing (cond (ask .second) u (getD left p 0)) (ask .k)))
 
 abbrev μ-loop : tie.MeasureT-loop
-μ-loop left from to nb q marks least c₀ c = to - c
+μ-loop left from to u nb ask marks q c₀ c = to - c
 
-loop-holds : tie.Need-loop-holds Inv-loop μ-loop
-loop-holds c = (omega arith, λ p f l. absurd (omega arith))
-
--- the node is below the number of marks
-node-low : (c : tie.At-loop Inv-loop μ-loop) → c .loop .c < length (c .before .before .before .args .left .now)
-    → ontoOf (getD (c .before .before .before .args .left .now) (c .loop .c) 0) * c .before .before .before .args .nb + c .before .before .before .args .q < length (c .before .before .before .args .marks .now)
-node-low c l = c .before .before .before .pre .1 _ (mem-at _ (c .loop .c) l)
-
-mul-onto-of : tie.Need-mul-onto-of Inv-loop μ-loop
-mul-onto-of c = search needs
-
-shared-slice-read-onto-of : tie.Need-shared-slice-read-onto-of Inv-loop μ-loop
-shared-slice-read-onto-of c = search needs
-
-onto-of-requires : tie.Need-onto-of-requires Inv-loop μ-loop
-onto-of-requires c κs = search needs
+-- the node of the place is below the number of marks; x and y are what the code reads for its parts
+node-low : (c : tie.At-loop Inv-loop μ-loop) (x y : ℕ) → x ≡ ontoOf (getD (c .before .before .before .before .args .left .now) (c .loop .c) 0)
+    → y ≡ ontoOf (c .before .before .before .before .args .u) → c .loop .c < length (c .before .before .before .before .args .left .now)
+    → x * c .before .before .before .before .args .nb + y < length (c .before .before .before .before .args .marks .now)
+node-low c x y e f l = rw (e, f) (c .before .before .before .before .pre .2 _ (mem-at _ (c .loop .c) l))
 
 mul-y : tie.Need-mul-y Inv-loop μ-loop
 mul-y c =
-    let a = c .before .before .before .before .before .before .args in
-    let e : c .onto-of .result ≡ ontoOf (getD (a .left .now) (c .before .before .before .loop .c) 0) = c .onto-of .ensures in
-    let h : c .onto-of .result * a .nb + a .q < length (a .marks .now) = rw e (node-low (c .before .before .before) (omega arith)) in
-    omega arith
+    let at-loop = c .before .before .before in
+    omega (arith, node-low at-loop (c .onto-of2 .result) (at-loop .before .onto-of .result) (c .onto-of2 .ensures) (at-loop .before .onto-of .ensures) (omega arith))
 
 add-y : tie.Need-add-y Inv-loop μ-loop
 add-y c =
-    let a = c .before .before .before .before .before .before .args in
-    let e : c .onto-of .result ≡ ontoOf (getD (a .left .now) (c .before .before .before .loop .c) 0) = c .onto-of .ensures in
-    let h : c .onto-of .result * a .nb + a .q < length (a .marks .now) = rw e (node-low (c .before .before .before) (omega arith)) in
-    omega arith
+    let at-loop = c .before .before .before in
+    omega (arith, node-low at-loop (c .onto-of2 .result) (at-loop .before .onto-of .result) (c .onto-of2 .ensures) (at-loop .before .onto-of .ensures) (omega arith))
 
 shared-slice-read-if1 : tie.Need-shared-slice-read-if1 Inv-loop μ-loop
 shared-slice-read-if1 c =
-    let a = c .before .before .before .before .before .before .before .args in
-    let e : c .before .onto-of .result ≡ ontoOf (getD (a .left .now) (c .before .before .before .before .loop .c) 0) = c .before .onto-of .ensures in
-    let h : c .before .onto-of .result * a .nb + a .q < length (a .marks .now) = rw e (node-low (c .before .before .before .before) (omega arith)) in
-    omega arith
+    let after-onto = c .before .before .before in
+    let at-loop = after-onto .before .before .before in
+    node-low at-loop (after-onto .onto-of2 .result) (at-loop .before .onto-of .result) (after-onto .onto-of2 .ensures) (at-loop .before .onto-of .ensures) (omega arith)
+
+-- the mark that the code reads, and the one it asks for, in the contract's words
+module _ (c : tie.After-least-of Inv-loop μ-loop) where
+  abbrev at-loop : tie.At-loop Inv-loop μ-loop
+  at-loop = c .before .before .before .before .before
+
+  abbrev start : tie.Start Inv-loop μ-loop
+  start = at-loop .before .before .before .before
+
+  abbrev t : ℕ
+  t = getD (start .args .left .now) (at-loop .loop .c) 0
+
+  node : c .before .before .onto-of2 .result * start .args .nb + at-loop .before .onto-of .result ≡ ontoOf t * start .args .nb + ontoOf (start .args .u)
+  node = ap₂ (λ (x y : ℕ). x * start .args .nb + y) (c .before .before .onto-of2 .ensures) (at-loop .before .onto-of .ensures)
+
+  least : c .least-of .result ≡ needed (start .args .ask .other) (sparing (cond (start .args .ask .second) (start .args .u) t) (start .args .ask .k))
+  least = c .least-of .ensures ∙ ap (λ (v : ℕ). needed (start .args .ask .other) (sparing v (start .args .ask .k))) (c .before .pick .ensures)
 
 returns : tie.Need-returns Inv-loop μ-loop
 returns c =
-    let a = c .before .before .before .before .before .before .before .before .args in
-    let l = c .before .before .before .before .before .loop in
-    let e : c .before .before .onto-of .result ≡ ontoOf (getD (a .left .now) (l .c) 0) = c .before .before .onto-of .ensures in
-    let here : a .least ≤ getD (a .marks .now) (c .before .before .onto-of .result * a .nb + a .q) 0 = omega arith in
+    let after-least = c .before .before in
+    let l = at-loop after-least .loop in
+    let a = start after-least .args in
     record {
-      yes = λ r. (l .c, l .inv .0, omega arith, subst (λ (v : ℕ). a .least ≤ getD (a .marks .now) (v * a .nb + a .q) 0) e here);
+      yes = λ r. (l .c, l .inv .0, omega arith, rw (← node after-least, ← least after-least) (omega arith));
       no = λ r. absurd (true≢false r);
     }
 
-add-c : tie.Need-add-c Inv-loop μ-loop
-add-c c = search needs
-
-loop-less : tie.Need-loop-less Inv-loop μ-loop
-loop-less c = search needs
-
 loop-again : tie.Need-loop-again Inv-loop μ-loop
 loop-again c =
-    let a = c .before .before .before .before .before .before .before .before .args in
-    let l = c .before .before .before .before .before .loop in
-    let e : c .before .before .onto-of .result ≡ ontoOf (getD (a .left .now) (l .c) 0) = c .before .before .onto-of .ensures in
-    let here : getD (a .marks .now) (c .before .before .onto-of .result * a .nb + a .q) 0 < a .least = omega arith in (
+    let after-least = c .before .before in
+    let l = at-loop after-least .loop in
+    let a = start after-least .args in (
       omega arith,
-      one-more (λ p. getD (a .marks .now) (ontoOf (getD (a .left .now) p 0) * a .nb + a .q) 0 < a .least) (a .from) (l .c) (l .inv .1)
-          (subst (λ (v : ℕ). getD (a .marks .now) (v * a .nb + a .q) 0 < a .least) e here),
+      one-more (λ p. getD (a .marks .now) (ontoOf (getD (a .left .now) p 0) * a .nb + ontoOf (a .u)) 0 < needed (a .ask .other) (sparing (cond (a .ask .second) (a .u) (getD (a .left .now) p 0)) (a .ask .k)))
+          (a .from) (l .c) (l .inv .1) (rw (← node after-least, ← least after-least) (omega arith)),
     )
 
 returns-2 : tie.Need-returns-2 Inv-loop μ-loop
-returns-2 c =
-    let l = c .before .loop in
-    record {
-      yes = λ r. absurd (false≢true r);
-      no = λ r p f u. l .inv .1 p f (omega arith);
-    }
+returns-2 c = record { yes = λ r. absurd (false≢true r); no = λ r p f u. c .before .loop .inv .1 p f (omega arith) }
 
 pub has-marked-spec : {M : Type 1} → statement M
 has-marked-spec =
     tie.close
-    (tie.spec
-    Inv-loop
-    μ-loop
-    loop-holds
-    mul-onto-of
-    shared-slice-read-onto-of
-    onto-of-requires
-    mul-y
-    add-y
-    shared-slice-read-if1
-    returns
-    add-c
-    loop-less
-    loop-again
-    returns-2)
+    (tie.spec Inv-loop μ-loop (λ c κs. search needs) (λ c. (omega arith, λ p f l. absurd (omega arith))) (λ c. search needs) (λ c. search needs)
+    (λ c κs. search needs) mul-y add-y (λ c κs. search needs) (λ c κs. search needs) shared-slice-read-if1 returns (λ c. search needs) (λ c. search needs)
+    loop-again returns-2)

@@ -1,6 +1,7 @@
 -- `leads` meets its contract.
 use mathlib.Core.Path.{_≡_, refl}
-use Prim.Native.Nat.{ℕ, _-_, _*_, _≤_, _<_}
+use mathlib.Core.Bool.{Bool, true, cond}
+use Prim.Native.Nat.{ℕ, _+_, _-_, _*_, _≤_, _<_}
 use native.Mathlib.Omega.{arith}
 use borrow.Author.Needs.{needs}
 use lib.Arith.{digits-lt}
@@ -8,25 +9,25 @@ use lib.ListN.{length, getD}
 use Rattle.sets.proofs.Lists.{mem-at}
 use Rattle.slice_search.specs.Places.{below}
 use Rattle.slice_search.proofs.Search.{below-le}
-use Rattle.stricter_cores_spec.specs.Tags.{rowOf, untagged}
+use Rattle.theory.specs.Run.{letterOf}
+use Rattle.stricter_laws.specs.Pairs.{RowCut}
+use Rattle.stricter_cores_spec.specs.Tags.{rowOf, ontoOf, sparing, untagged}
+use Rattle.stricter_cores_spec.specs.Steps.{CoreStep, SparedStep}
+use Rattle.stricter_cores_spec.specs.Rounds.{Leading}
 use Rattle.stricter_tags_laws.proofs.Tags.{untagged-long}
-use Rattle.stricter_core_rows.proofs.Steps.{Missed, missed-next, met-leading, missed-leading}
+use Rattle.stricter_core_rows.specs.Rows.{needed, Met}
+use Rattle.stricter_core_rows.proofs.Parts.{met-at}
+use Rattle.stricter_core_rows.proofs.Steps.{Missed, MetBy, missed-next, met-leading, missed-leading}
 use Rattle.stricter_core_rows.proofs.leads.Statement.{statement}
 use Rattle.stricter_core_rows.proofs.leads.Tie as tie
 
 abbrev Inv-loop : tie.InvT-loop
-Inv-loop left cuts right nb j second k marks key p₀ p =
+Inv-loop left cuts right nb j ask marks key p₀ p =
     (below (j * 16777216) (untagged right) ≤ p) × (p ≤ length right)
-    × ((o : ℕ) → below (j * 16777216) (untagged right) ≤ o → o < p → Missed nb left right marks second k cuts (getD right o 0))
+    × ((o : ℕ) → below (j * 16777216) (untagged right) ≤ o → o < p → Missed nb left right marks (ask .second) (ask .k) (ask .other) cuts (getD right o 0))
 
 abbrev μ-loop : tie.MeasureT-loop
-μ-loop left cuts right nb j second k marks key p₀ p = length right - p
-
-mul-key : tie.Need-mul-key Inv-loop μ-loop
-mul-key c = search needs
-
-place-low-requires : tie.Need-place-low-requires Inv-loop μ-loop
-place-low-requires c κs = c .before .before .before .pre .0 .0 .1 .ascend-B
+μ-loop left cuts right nb j ask marks key p₀ p = length right - p
 
 loop-holds : tie.Need-loop-holds Inv-loop μ-loop
 loop-holds c =
@@ -34,78 +35,89 @@ loop-holds c =
     let e : c .place-low .result ≡ below (a .j * 16777216) (untagged (a .right .now)) = c .place-low .ensures in
     (omega arith, omega (arith, below-le (a .j * 16777216) (untagged (a .right .now)), untagged-long (a .right .now)), λ o f l. absurd (omega arith))
 
-mul-u : tie.Need-mul-u Inv-loop μ-loop
-mul-u c = search needs
+-- what the loop has found, in the contract's words
+module _ (at-loop : tie.At-loop Inv-loop μ-loop) where
+  abbrev start : tie.Start Inv-loop μ-loop
+  start = at-loop .before .before .before .before .before
 
-shared-slice-read-u : tie.Need-shared-slice-read-u Inv-loop μ-loop
-shared-slice-read-u c = search needs
+  -- the transition of B at the place
+  abbrev u : ℕ
+  u = getD (start .args .right .now) (at-loop .loop .p) 0
 
-row-of-requires : tie.Need-row-of-requires Inv-loop μ-loop
-row-of-requires c κs = search needs
+  abbrev Found : Bool → Type 0
+  Found r = (i : ℕ) → i < 65536 → RowCut (untagged (start .args .left .now)) i (start .args .cuts .now)
+      → Leading (CoreStep (start .args .nb) (start .args .left .now) (start .args .right .now))
+      (SparedStep (start .args .nb) (start .args .left .now) (start .args .right .now) (start .args .ask .second) (start .args .ask .k))
+      (start .args .ask .other) (start .args .marks .now) (i * start .args .nb + start .args .j) r
+
+  letter-low : at-loop .loop .p < length (start .args .right .now) → letterOf u < 16
+  letter-low l = start .pre .0 .0 .1 .letters-B u (mem-at (start .args .right .now) (at-loop .loop .p) l)
+
+  -- the row of j has ended
+  ended : (at-loop .loop .p < length (start .args .right .now) → rowOf u ≡ start .args .j → ⊥) → Found Bool.false
+  ended end i h cut =
+      let a = start .args in
+      let p = start .pre in
+      missed-leading (a .nb) (a .left .now) (a .right .now) (a .marks .now) (a .ask .second) (a .ask .k) (a .ask .other) (a .cuts .now)
+      (p .0 .0 .0) (p .0 .0 .1) (a .j) (p .0 .1) i cut (p .1 .1) (at-loop .loop .p) (at-loop .loop .inv .0) end (at-loop .loop .inv .2) (p .0 .3)
+
+  -- u does so, its letter being a
+  by-letter : (x : ℕ) (r : Bool) → x ≡ letterOf u
+      → Met (λ t. needed (start .args .ask .other) (sparing (cond (start .args .ask .second) u t) (start .args .ask .k))) (start .args .nb) (start .args .left .now)
+      (getD (start .args .cuts .now) x 0) (getD (start .args .cuts .now) (x + 1) 0) (ontoOf u) (start .args .marks .now) r
+      → MetBy (start .args .nb) (start .args .left .now) (start .args .right .now) (start .args .marks .now) (start .args .ask .second) (start .args .ask .k)
+      (start .args .ask .other) (start .args .cuts .now) u r
+  by-letter x r e m =
+      let a = start .args in
+      met-at (λ t. needed (a .ask .other) (sparing (cond (a .ask .second) u t) (a .ask .k))) (a .nb) (a .left .now) (a .cuts .now) x (letterOf u) (ontoOf u) (a .marks .now) r e m
+
+element-copy-out-has-marked : tie.Need-element-copy-out-has-marked Inv-loop μ-loop
+element-copy-out-has-marked c = omega (arith, letter-low (c .before .before .before .before .before) (omega arith), c .letter-of .ensures)
+
+element-copy-out-has-marked-2 : tie.Need-element-copy-out-has-marked-2 Inv-loop μ-loop
+element-copy-out-has-marked-2 c = omega (arith, letter-low (c .before .before .before .before .before .before) (omega arith), c .before .letter-of .ensures)
 
 returns : tie.Need-returns Inv-loop μ-loop
-returns c =
-    let a = c .before .before .before .before .before .before .before .before .before .args in
-    let p = c .before .before .before .before .before .before .before .before .before .pre in
-    let l = c .before .before .before .before .loop in
-    let other : rowOf (getD (a .right .now) (l .p) 0) ≡ a .j → ⊥ = λ e. omega (arith, c .before .row-of .ensures) in
-    λ i h cut. missed-leading (a .nb) (a .left .now) (a .right .now) (a .marks .now) (a .second) (a .k) (a .cuts .now) (p .0 .0 .0) (p .0 .0 .1) (a .j) (p .0 .1) i cut (p .1 .1) (l .p) (l .inv .0) (λ h. other) (l .inv .2)
+returns c = ended (c .before .before .before .before) (λ h e. omega (arith, c .before .row-of .ensures))
 
-leads-by-requires : tie.Need-leads-by-requires Inv-loop μ-loop
-leads-by-requires c κs =
-    let a = c .before .before .before .before .before .before .before .before .before .args in
-    let p = c .before .before .before .before .before .before .before .before .before .pre in
-    let l = c .before .before .before .before .loop in
-    let u = getD (a .right .now) (l .p) 0 in
-    let m = mem-at (a .right .now) (l .p) (omega arith) in
+has-marked-requires : tie.Need-has-marked-requires Inv-loop μ-loop
+has-marked-requires c κs =
+    let at-loop = c .before .before .before .before .before .before .before in
+    let p = start at-loop .pre in
+    let m = mem-at (start at-loop .args .right .now) (at-loop .loop .p) (omega arith) in
     let fit = p .0 .0 .1 in
-    ((fit .letters-B u m, p .0 .2, λ t n. rw (fit .marked) (digits-lt (fit .onto-A t n) (fit .onto-B u m))), p .1 .0)
+    let low = letter-low at-loop (omega arith) in
+    let l : c .before .before .letter-of .result ≡ letterOf (u at-loop) = c .before .before .letter-of .ensures in
+    (p .0 .2, p .1 .0 (c .before .before .letter-of .result + 1) (omega arith), λ t n. rw (fit .marked) (digits-lt (fit .onto-A t n) (fit .onto-B (u at-loop) m)))
 
 returns-2 : tie.Need-returns-2 Inv-loop μ-loop
 returns-2 c =
-    let a = c .before .before .before .before .before .before .before .before .before .before .before .args in
-    let p = c .before .before .before .before .before .before .before .before .before .before .before .pre in
-    let l = c .before .before .before .before .before .before .loop in
-    let u = getD (a .right .now) (l .p) 0 in
-    let s : rowOf u ≡ a .j = omega (arith, c .before .before .before .row-of .ensures) in
-    λ i h cut. met-leading (a .nb) (a .left .now) (a .right .now) (a .marks .now) (a .second) (a .k) (a .cuts .now) (p .0 .0 .0) (p .0 .0 .1) (a .j) (p .0 .1) i cut u (mem-at (a .right .now) (l .p) (omega arith)) s (c .before .leads-by .result) (c .if2 .taken) (c .before .leads-by .ensures)
-
-add-p : tie.Need-add-p Inv-loop μ-loop
-add-p c = search needs
-
-loop-less : tie.Need-loop-less Inv-loop μ-loop
-loop-less c = search needs
+    let after-letter = c .before .before .before .before in
+    let at-loop = after-letter .before .before .before .before .before in
+    let a = start at-loop .args in
+    let p = start at-loop .pre in
+    let s : rowOf (u at-loop) ≡ a .j = omega (arith, after-letter .before .before .row-of .ensures) in
+    λ i h cut. met-leading (a .nb) (a .left .now) (a .right .now) (a .marks .now) (a .ask .second) (a .ask .k) (a .ask .other) (a .cuts .now)
+    (p .0 .0 .0) (p .0 .0 .1) (a .j) (p .0 .1) i cut (u at-loop) (mem-at (a .right .now) (at-loop .loop .p) (omega arith)) s
+    (c .before .has-marked .result) (c .if2 .taken) (by-letter at-loop _ _ (after-letter .letter-of .ensures) (c .before .has-marked .ensures))
 
 loop-again : tie.Need-loop-again Inv-loop μ-loop
 loop-again c =
-    let a = c .before .before .before .before .before .before .before .before .before .before .before .args in
-    let l = c .before .before .before .before .before .before .loop in
-    let u = getD (a .right .now) (l .p) 0 in
-    (omega arith, omega arith, missed-next (a .nb) (a .left .now) (a .right .now) (a .marks .now) (a .second) (a .k) (a .cuts .now) (a .j) (l .p) u refl (c .before .leads-by .ensures .no (c .if2 .left)) (l .inv .2))
+    let after-letter = c .before .before .before .before in
+    let at-loop = after-letter .before .before .before .before .before in
+    let a = start at-loop .args in (
+      omega arith,
+      omega arith,
+      missed-next (a .nb) (a .left .now) (a .right .now) (a .marks .now) (a .ask .second) (a .ask .k) (a .ask .other) (a .cuts .now) (a .j) (at-loop .loop .p) (u at-loop) refl
+          (by-letter at-loop _ _ (after-letter .letter-of .ensures) (c .before .has-marked .ensures) .no (c .if2 .left)) (at-loop .loop .inv .2),
+    )
 
 returns-3 : tie.Need-returns-3 Inv-loop μ-loop
-returns-3 c =
-    let a = c .before .before .before .before .before .before .args in
-    let p = c .before .before .before .before .before .before .pre in
-    let l = c .before .loop in
-    λ i h cut. missed-leading (a .nb) (a .left .now) (a .right .now) (a .marks .now) (a .second) (a .k) (a .cuts .now) (p .0 .0 .0) (p .0 .0 .1) (a .j) (p .0 .1) i cut (p .1 .1) (l .p) (l .inv .0) (λ h. absurd (omega arith)) (l .inv .2)
+returns-3 c = ended (c .before) (λ h. absurd (omega arith))
 
 pub leads-spec : {M : Type 1} → statement M
 leads-spec =
     tie.close
-    (tie.spec
-    Inv-loop
-    μ-loop
-    mul-key
-    place-low-requires
-    loop-holds
-    mul-u
-    shared-slice-read-u
-    row-of-requires
-    returns
-    leads-by-requires
-    returns-2
-    add-p
-    loop-less
-    loop-again
-    returns-3)
+    (tie.spec Inv-loop μ-loop (λ c. search needs) (λ c κs. c .before .before .before .pre .0 .0 .1 .ascend-B) loop-holds (λ c. search needs) (λ c. search needs)
+    (λ c κs. search needs) returns (λ c κs. search needs) (λ c. search needs) element-copy-out-has-marked (λ c. search needs) (λ c. search needs)
+    element-copy-out-has-marked-2 has-marked-requires returns-2 (λ c. search needs) (λ c. search needs) loop-again returns-3)

@@ -16,7 +16,7 @@ leads-requires c κs =
     let a = c .before .before .before .before .args in
     let p = c .before .before .before .before .pre in
     let r = p .0 .1 in (
-      ((p .0 .0, r .fits), p .3, omega arith),
+      ((p .0 .0, r .fits), p .3, omega arith, omega arith),
       (λ b l. omega (arith, cut-le (untagged (a .left .now)) (r .fits .ascend-A) (a .i) (a .cuts .now) (p .1) b l, untagged-long (a .left .now)), r .rows),
     )
 

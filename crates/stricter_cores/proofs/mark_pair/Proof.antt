@@ -1,7 +1,7 @@
 -- `mark_pair` meets its contract.
-use mathlib.Core.Path.{_≡_}
-use mathlib.Core.Bool.{true}
-use Prim.Native.Nat.{_+_, _*_}
+use mathlib.Core.Path.{_≡_, subst}
+use mathlib.Core.Bool.{true, true≢false}
+use Prim.Native.Nat.{ℕ, _+_, _*_}
 use native.Mathlib.Omega.{arith}
 use borrow.Author.Needs.{needs}
 use lib.ListN.{getD}
@@ -27,7 +27,7 @@ slice-read-if1 c = search needs
 returns : tie.Need-returns
 returns c =
     let a = c .before .before .before .before .before .args in
-    tried-stays (CoreStep (a .nb) (a .left .now) (a .right .now)) (SparedStep (a .nb) (a .left .now) (a .right .now) (a .second) (a .k)) (a .i * a .nb + a .j) (a .marks .now)
+    tried-stays (CoreStep (a .nb) (a .left .now) (a .right .now)) (SparedStep (a .nb) (a .left .now) (a .right .now) (a .ask .second) (a .ask .k)) (a .i * a .nb + a .j) (a .marks .now)
     (λ h. absurd (omega arith))
 
 leads-requires : tie.Need-leads-requires
@@ -35,7 +35,7 @@ leads-requires c κs =
     let a = c .before .before .before .before .before .before .args in
     let p = c .before .before .before .before .before .before .pre in
     let r = p .0 .1 in (
-      ((p .0 .0, r .fits), p .3, p .4),
+      ((p .0 .0, r .fits), p .3, p .4, omega (arith, p .5)),
       (λ b l. omega (arith, cut-le (untagged (a .left .now)) (r .fits .ascend-A) (a .i) (a .cuts .now) (p .1) b l, untagged-long (a .left .now)), r .rows),
     )
 
@@ -43,13 +43,23 @@ same-length : tie.Need-same-length
 same-length c = search needs
 
 -- what the call of `leads` told of the pair
-told : (c : tie.After-leads) → Leading (CoreStep (c .before .before .before .before .before .before .before .args .nb) (c .before .before .before .before .before .before .before .args .left .now) (c .before .before .before .before .before .before .before .args .right .now)) (SparedStep (c .before .before .before .before .before .before .before .args .nb) (c .before .before .before .before .before .before .before .args .left .now) (c .before .before .before .before .before .before .before .args .right .now) (c .before .before .before .before .before .before .before .args .second) (c .before .before .before .before .before .before .before .args .k)) (c .before .before .before .before .before .before .before .args .marks .now) (c .before .before .before .before .before .before .before .args .i * c .before .before .before .before .before .before .before .args .nb + c .before .before .before .before .before .before .before .args .j) (c .leads .result)
-told c = c .leads .ensures (c .before .before .before .before .before .before .before .args .i) (c .before .before .before .before .before .before .before .pre .2) (c .before .before .before .before .before .before .before .pre .1)
+module _ (c : tie.After-leads) where
+  abbrev start : tie.Start
+  start = c .before .before .before .before .before .before .before
+
+  told : let a = start .args in
+      Leading (CoreStep (a .nb) (a .left .now) (a .right .now)) (SparedStep (a .nb) (a .left .now) (a .right .now) (a .ask .second) (a .ask .k)) 2 (a .marks .now)
+      (a .i * a .nb + a .j) (c .leads .result)
+  told =
+      let a = start .args in
+      subst (λ (least : ℕ). Leading (CoreStep (a .nb) (a .left .now) (a .right .now)) (SparedStep (a .nb) (a .left .now) (a .right .now) (a .ask .second) (a .ask .k)) least
+      (a .marks .now) (a .i * a .nb + a .j) (c .leads .result))
+      (start .pre .5) (c .leads .ensures (a .i) (start .pre .2) (start .pre .1))
 
 returns-2 : tie.Need-returns-2
 returns-2 c =
     let a = c .before .before .before .before .before .before .before .before .args in
-    tried-stays (CoreStep (a .nb) (a .left .now) (a .right .now)) (SparedStep (a .nb) (a .left .now) (a .right .now) (a .second) (a .k)) (a .i * a .nb + a .j) (a .marks .now)
+    tried-stays (CoreStep (a .nb) (a .left .now) (a .right .now)) (SparedStep (a .nb) (a .left .now) (a .right .now) (a .ask .second) (a .ask .k)) (a .i * a .nb + a .j) (a .marks .now)
     (λ h. told (c .before) .no (not-t _ (c .if2 .taken)))
 
 slice-write-marks : tie.Need-slice-write-marks
@@ -63,8 +73,8 @@ returns-3 c =
     let a = c .before .before .before .before .before .before .before .before .args in
     let yes : c .before .leads .result ≡ true = not-f _ (c .if2 .left) in
     let one : getD (a .marks .now) (a .i * a .nb + a .j) 0 ≡ 1 = omega arith in
-    tried-marks (CoreStep (a .nb) (a .left .now) (a .right .now)) (SparedStep (a .nb) (a .left .now) (a .right .now) (a .second) (a .k)) (a .i * a .nb + a .j) (a .marks .now)
-    one (rw yes at (told (c .before)))
+    tried-marks (CoreStep (a .nb) (a .left .now) (a .right .now)) (SparedStep (a .nb) (a .left .now) (a .right .now) (a .ask .second) (a .ask .k)) (a .i * a .nb + a .j) (a .marks .now)
+    one (record { yes = λ r. told (c .before) .yes yes; no = λ r. absurd (true≢false r) })
 
 pub mark-pair-spec : {M : Type 1} → statement M
 mark-pair-spec =

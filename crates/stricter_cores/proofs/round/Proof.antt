@@ -20,7 +20,7 @@ settle-requires c κs =
     let p = c .before .before .before .before .before .before .before .before .before .pre in
     let m = c .before .before .before .sweep-out .ensures .marking in (
       m .long ∙ p .0 .fits .marked,
-      only-sub (a .acodes .now) (a .nb) (a .marks .now) (c .before .before .before .sweep-out .last .1 .1 .1 .1 .1 .1 .0) (marking-sub (CoreStep (a .nb) (a .left .now) (a .right .now)) (SparedStep (a .nb) (a .left .now) (a .right .now) (a .second) (a .k)) (a .marks .now) _ (p .2) m) (p .1),
+      only-sub (a .acodes .now) (a .nb) (a .marks .now) (c .before .before .before .sweep-out .last .1 .1 .1 .1 .1 .0) (marking-sub (CoreStep (a .nb) (a .left .now) (a .right .now)) (SparedStep (a .nb) (a .left .now) (a .right .now) (a .ask .second) (a .ask .k)) (a .marks .now) _ (p .2) m) (p .1),
     )
 
 same-length : tie.Need-same-length
@@ -31,9 +31,9 @@ returns c =
     let a = c .before .before .before .before .before .before .before .before .before .before .before .before .args in
     let p = c .before .before .before .before .before .before .before .before .before .before .before .before .pre in
     let w = c .before .before .before .before .before .before .sweep-out .ensures in
-    let e : length (a .acodes .now) * a .nb ≡ length (c .before .before .before .before .before .before .sweep-out .last .1 .1 .1 .1 .1 .1 .0) = sym (w .marking .long ∙ p .0 .fits .marked) in
-    round-of (CoreStep (a .nb) (a .left .now) (a .right .now)) (SparedStep (a .nb) (a .left .now) (a .right .now) (a .second) (a .k)) (a .marks .now) (c .before .before .before .before .before .before .sweep-out .last .1 .1 .1 .1 .1 .1 .0) _ _ (p .2) w
-    (subst (λ (n : ℕ). Settled 0 n (c .before .before .before .before .before .before .sweep-out .last .1 .1 .1 .1 .1 .1 .0) (c .before .before .settle .last .1 .1 .0) (c .before .before .settle .result)) e (c .before .before .settle .ensures))
+    let e : length (a .acodes .now) * a .nb ≡ length (c .before .before .before .before .before .before .sweep-out .last .1 .1 .1 .1 .1 .0) = sym (w .marking .long ∙ p .0 .fits .marked) in
+    round-of (CoreStep (a .nb) (a .left .now) (a .right .now)) (SparedStep (a .nb) (a .left .now) (a .right .now) (a .ask .second) (a .ask .k)) (a .marks .now) (c .before .before .before .before .before .before .sweep-out .last .1 .1 .1 .1 .1 .0) _ _ (p .2) w
+    (subst (λ (n : ℕ). Settled 0 n (c .before .before .before .before .before .before .sweep-out .last .1 .1 .1 .1 .1 .0) (c .before .before .settle .last .1 .1 .0) (c .before .before .settle .result)) e (c .before .before .settle .ensures))
 
 pub round-spec : {M : Type 1} → statement M
 round-spec = tie.close (tie.spec sweep-out-requires settle-requires same-length returns)

@@ -1,5 +1,5 @@
 -- `rounds` meets its contract.
-use mathlib.Core.Path.{_≡_}
+use mathlib.Core.Path.{_≡_, refl}
 use mathlib.Core.Bool.{Bool, true}
 use Prim.Native.Nat.{ℕ, _-_, _≤_}
 use native.Mathlib.Omega.{arith}
@@ -42,6 +42,7 @@ round-requires c κs =
       only-sub (a .acodes .now) (a .nb) (a .marks .now) (l .marks) (n .sub) (p .1),
       n .low,
       omega (arith, p .3),
+      refl,
     )
 
 loop-less : tie.Need-loop-less Inv-loop μ-loop

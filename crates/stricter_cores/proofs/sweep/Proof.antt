@@ -16,16 +16,16 @@ use Rattle.stricter_cores.proofs.sweep.Statement.{statement}
 use Rattle.stricter_cores.proofs.sweep.Tie as tie
 
 abbrev Inv-loop : tie.InvT-loop
-Inv-loop acodes left right nb second k marks₀ changed₀ i₀ marks changed i =
-    (i ≤ length acodes) × Tried (CoreStep nb left right) (SparedStep nb left right second k) 0 (i * nb) marks₀ marks changed
+Inv-loop acodes left right nb ask marks₀ changed₀ i₀ marks changed i =
+    (i ≤ length acodes) × Tried (CoreStep nb left right) (SparedStep nb left right (ask .second) (ask .k)) 0 (i * nb) marks₀ marks changed
 
 abbrev μ-loop : tie.MeasureT-loop
-μ-loop acodes left right nb second k marks₀ changed₀ i₀ marks changed i = length acodes - i
+μ-loop acodes left right nb ask marks₀ changed₀ i₀ marks changed i = length acodes - i
 
 loop-holds : tie.Need-loop-holds Inv-loop μ-loop
 loop-holds c =
     let a = c .before .before .before .before .args in
-    (omega arith, tried-none (CoreStep (a .nb) (a .left .now) (a .right .now)) (SparedStep (a .nb) (a .left .now) (a .right .now) (a .second) (a .k)) 0 (0 * a .nb) (a .marks .now) (λ x f t h. omega (arith, zero-mul (a .nb))))
+    (omega arith, tried-none (CoreStep (a .nb) (a .left .now) (a .right .now)) (SparedStep (a .nb) (a .left .now) (a .right .now) (a .ask .second) (a .ask .k)) 0 (0 * a .nb) (a .marks .now) (λ x f t h. omega (arith, zero-mul (a .nb))))
 
 add-i : tie.Need-add-i Inv-loop μ-loop
 add-i c = search needs
@@ -36,10 +36,11 @@ visit-row-requires c κs =
     let p = c .before .before .before .before .before .before .before .pre in
     let l = c .before .before .loop in (
       ready-same (length (a .acodes .now)) (a .nb) _ _ (a .marks .now) (l .marks) (l .inv .1 .long) (p .0),
-      begun-only (CoreStep (a .nb) (a .left .now) (a .right .now)) (SparedStep (a .nb) (a .left .now) (a .right .now) (a .second) (a .k)) (a .acodes .now) (a .nb) (l .marks)
-          (begun-next (CoreStep (a .nb) (a .left .now) (a .right .now)) (SparedStep (a .nb) (a .left .now) (a .right .now) (a .second) (a .k)) (a .acodes .now) (a .nb) 0 (l .i * a .nb) (a .marks .now) (l .marks) (l .changed) (l .inv .1) (p .2)),
+      begun-only (CoreStep (a .nb) (a .left .now) (a .right .now)) (SparedStep (a .nb) (a .left .now) (a .right .now) (a .ask .second) (a .ask .k)) (a .acodes .now) (a .nb) (l .marks)
+          (begun-next (CoreStep (a .nb) (a .left .now) (a .right .now)) (SparedStep (a .nb) (a .left .now) (a .right .now) (a .ask .second) (a .ask .k)) (a .acodes .now) (a .nb) 0 (l .i * a .nb) (a .marks .now) (l .marks) (l .changed) (l .inv .1) (p .3)),
       omega arith,
       p .1,
+      p .2,
     )
 
 loop-less : tie.Need-loop-less Inv-loop μ-loop
@@ -49,7 +50,7 @@ loop-again : tie.Need-loop-again Inv-loop μ-loop
 loop-again c =
     let a = c .before .before .before .before .before .before .before .before .before .before .before .args in
     let l = c .before .before .before .before .before .before .loop in
-    let step = tried-then (CoreStep (a .nb) (a .left .now) (a .right .now)) (SparedStep (a .nb) (a .left .now) (a .right .now) (a .second) (a .k)) 0 (l .i * a .nb) (l .i * a .nb + a .nb) (a .marks .now) (l .marks) _ (l .changed) _ true (l .inv .1) (c .before .before .before .visit-row .ensures) (or-now (l .changed) _ (c .if1 .taken)) in
+    let step = tried-then (CoreStep (a .nb) (a .left .now) (a .right .now)) (SparedStep (a .nb) (a .left .now) (a .right .now) (a .ask .second) (a .ask .k)) 0 (l .i * a .nb) (l .i * a .nb + a .nb) (a .marks .now) (l .marks) _ (l .changed) _ true (l .inv .1) (c .before .before .before .visit-row .ensures) (or-now (l .changed) _ (c .if1 .taken)) in
     (omega arith, rw (add-one (l .i), suc-mul (l .i) (a .nb)) step)
 
 loop-less-2 : tie.Need-loop-less-2 Inv-loop μ-loop
@@ -59,7 +60,7 @@ loop-again-2 : tie.Need-loop-again-2 Inv-loop μ-loop
 loop-again-2 c =
     let a = c .before .before .before .before .before .before .before .before .before .before .before .args in
     let l = c .before .before .before .before .before .before .loop in
-    let step = tried-then (CoreStep (a .nb) (a .left .now) (a .right .now)) (SparedStep (a .nb) (a .left .now) (a .right .now) (a .second) (a .k)) 0 (l .i * a .nb) (l .i * a .nb + a .nb) (a .marks .now) (l .marks) _ (l .changed) _ (l .changed) (l .inv .1) (c .before .before .before .visit-row .ensures) (or-before (l .changed) _ (c .if1 .left)) in
+    let step = tried-then (CoreStep (a .nb) (a .left .now) (a .right .now)) (SparedStep (a .nb) (a .left .now) (a .right .now) (a .ask .second) (a .ask .k)) 0 (l .i * a .nb) (l .i * a .nb + a .nb) (a .marks .now) (l .marks) _ (l .changed) _ (l .changed) (l .inv .1) (c .before .before .before .visit-row .ensures) (or-before (l .changed) _ (c .if1 .left)) in
     (omega arith, rw (add-one (l .i), suc-mul (l .i) (a .nb)) step)
 
 same-length : tie.Need-same-length Inv-loop μ-loop

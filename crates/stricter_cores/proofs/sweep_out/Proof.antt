@@ -12,15 +12,15 @@ use Rattle.stricter_cores.proofs.sweep_out.Statement.{statement}
 use Rattle.stricter_cores.proofs.sweep_out.Tie as tie
 
 abbrev Inv-loop : tie.InvT-loop
-Inv-loop acodes left right nb second k marks₀ marks = Marking (CoreStep nb left right) (SparedStep nb left right second k) marks₀ marks
+Inv-loop acodes left right nb ask marks₀ marks = Marking (CoreStep nb left right) (SparedStep nb left right (ask .second) (ask .k)) marks₀ marks
 
 abbrev μ-loop : tie.MeasureT-loop
-μ-loop acodes left right nb second k marks₀ marks = 2 * length marks₀ - sum marks
+μ-loop acodes left right nb ask marks₀ marks = 2 * length marks₀ - sum marks
 
 loop-holds : tie.Need-loop-holds Inv-loop μ-loop
 loop-holds c =
     let a = c .before .before .before .before .args in
-    marking-start (CoreStep (a .nb) (a .left .now) (a .right .now)) (SparedStep (a .nb) (a .left .now) (a .right .now) (a .second) (a .k)) (a .marks .now)
+    marking-start (CoreStep (a .nb) (a .left .now) (a .right .now)) (SparedStep (a .nb) (a .left .now) (a .right .now) (a .ask .second) (a .ask .k)) (a .marks .now)
 
 sweep-requires : tie.Need-sweep-requires Inv-loop μ-loop
 sweep-requires c κs =
@@ -29,6 +29,7 @@ sweep-requires c κs =
     let l = c .before .loop in (
       ready-same (length (a .acodes .now)) (a .nb) _ _ (a .marks .now) (l .marks) (l .inv .long) (p .0),
       p .3,
+      p .4,
       record { base = a .marks .now; low = p .2; cores = p .1; marking = l .inv },
     )
 
@@ -36,7 +37,7 @@ loop-less : tie.Need-loop-less Inv-loop μ-loop
 loop-less c =
     let a = c .before .before .before .before .before .before .before .before .before .before .args in
     let m = c .before .before .before .sweep .ensures .marking (a .marks .now) (c .before .before .before .before .before .before .before .before .before .before .pre .2) (c .before .before .before .before .before .loop .inv) in
-    omega (arith, c .before .before .before .sweep .ensures .grown (c .if1 .taken), marking-sum (CoreStep (a .nb) (a .left .now) (a .right .now)) (SparedStep (a .nb) (a .left .now) (a .right .now) (a .second) (a .k)) (a .marks .now) _ (c .before .before .before .before .before .before .before .before .before .before .pre .2) m)
+    omega (arith, c .before .before .before .sweep .ensures .grown (c .if1 .taken), marking-sum (CoreStep (a .nb) (a .left .now) (a .right .now)) (SparedStep (a .nb) (a .left .now) (a .right .now) (a .ask .second) (a .ask .k)) (a .marks .now) _ (c .before .before .before .before .before .before .before .before .before .before .pre .2) m)
 
 loop-again : tie.Need-loop-again Inv-loop μ-loop
 loop-again c = c .before .before .before .sweep .ensures .marking _ (c .before .before .before .before .before .before .before .before .before .before .pre .2) (c .before .before .before .before .before .loop .inv)
@@ -47,7 +48,7 @@ same-length c = c .before .before .before .sweep .ensures .long ∙ c .before .b
 returns : tie.Need-returns Inv-loop μ-loop
 returns c =
     let a = c .before .before .before .before .before .before .before .before .before .before .args in
-    swept-end (CoreStep (a .nb) (a .left .now) (a .right .now)) (SparedStep (a .nb) (a .left .now) (a .right .now) (a .second) (a .k)) (length (a .acodes .now) * a .nb) (a .marks .now) (c .before .before .before .before .before .loop .marks) _ (c .before .before .before .before .before .before .before .before .before .before .pre .0 .fits .marked) (c .before .before .before .before .before .before .before .before .before .before .pre .2) (c .before .before .before .before .before .loop .inv)
+    swept-end (CoreStep (a .nb) (a .left .now) (a .right .now)) (SparedStep (a .nb) (a .left .now) (a .right .now) (a .ask .second) (a .ask .k)) (length (a .acodes .now) * a .nb) (a .marks .now) (c .before .before .before .before .before .loop .marks) _ (c .before .before .before .before .before .before .before .before .before .before .pre .0 .fits .marked) (c .before .before .before .before .before .before .before .before .before .before .pre .2) (c .before .before .before .before .before .loop .inv)
     (rw (c .if1 .left) at (c .before .before .before .sweep .ensures))
 
 pub sweep-out-spec : {M : Type 1} → statement M

@@ -14,12 +14,12 @@ use Rattle.stricter_cores.proofs.sweep_row.Statement.{statement}
 use Rattle.stricter_cores.proofs.sweep_row.Tie as tie
 
 abbrev Inv-loop : tie.InvT-loop
-Inv-loop left cuts right nb i from second k marks₀ row end changed₀ x₀ marks changed x =
+Inv-loop left cuts right nb i from ask marks₀ row end changed₀ x₀ marks changed x =
     (row ≡ i * nb) × (end ≡ i * nb + nb) × (row ≤ x) × (x ≤ end)
-    × Tried (CoreStep nb left right) (SparedStep nb left right second k) from x marks₀ marks changed
+    × Tried (CoreStep nb left right) (SparedStep nb left right (ask .second) (ask .k)) from x marks₀ marks changed
 
 abbrev μ-loop : tie.MeasureT-loop
-μ-loop left cuts right nb i from second k marks₀ row end changed₀ x₀ marks changed x = end - x
+μ-loop left cuts right nb i from ask marks₀ row end changed₀ x₀ marks changed x = end - x
 
 mul-row : tie.Need-mul-row Inv-loop μ-loop
 mul-row c = search needs
@@ -31,10 +31,10 @@ loop-holds : tie.Need-loop-holds Inv-loop μ-loop
 loop-holds c =
     let a = c .before .before .before .args in
     let p = c .before .before .before .pre in
-    (refl, refl, p .3, p .4, tried-none (CoreStep (a .nb) (a .left .now) (a .right .now)) (SparedStep (a .nb) (a .left .now) (a .right .now) (a .second) (a .k)) (a .from) (a .from) (a .marks .now) (λ x f t h. omega arith))
+    (refl, refl, p .3, p .4, tried-none (CoreStep (a .nb) (a .left .now) (a .right .now)) (SparedStep (a .nb) (a .left .now) (a .right .now) (a .ask .second) (a .ask .k)) (a .from) (a .from) (a .marks .now) (λ x f t h. omega arith))
 
 next-set-requires : tie.Need-next-set-requires Inv-loop μ-loop
-next-set-requires c κs = let l = c .before .before .loop in (omega arith, omega (arith, l .inv .1, l .inv .4 .long, c .before .before .before .before .before .before .pre .6))
+next-set-requires c κs = let l = c .before .before .loop in (omega arith, omega (arith, l .inv .1, l .inv .4 .long, c .before .before .before .before .before .before .pre .7))
 
 same-length : tie.Need-same-length Inv-loop μ-loop
 same-length c = c .before .before .before .before .loop .inv .4 .long
@@ -44,7 +44,7 @@ returns c =
     let a = c .before .before .before .before .before .before .before .before .args in
     let l = c .before .before .before .before .loop in
     let e : c .before .next-set .result ≡ a .i * a .nb + a .nb = omega (arith, l .inv .1) in
-    rw e at (tried-zeros (CoreStep (a .nb) (a .left .now) (a .right .now)) (SparedStep (a .nb) (a .left .now) (a .right .now) (a .second) (a .k)) (a .from) (l .x) (c .before .next-set .result) (a .marks .now) (l .marks) (l .changed) (l .inv .4) (c .before .next-set .ensures .before .zeros))
+    rw e at (tried-zeros (CoreStep (a .nb) (a .left .now) (a .right .now)) (SparedStep (a .nb) (a .left .now) (a .right .now) (a .ask .second) (a .ask .k)) (a .from) (l .x) (c .before .next-set .result) (a .marks .now) (l .marks) (l .changed) (l .inv .4) (c .before .next-set .ensures .before .zeros))
 
 add-x : tie.Need-add-x Inv-loop μ-loop
 add-x c = search needs
@@ -64,7 +64,8 @@ mark-pair-requires c κs =
       p .2,
       omega (arith, l .inv .0, l .inv .1, l .inv .2, s .before .ordered, s .within),
       p .5,
-      omega (arith, l .inv .0, l .inv .1, l .inv .2, s .before .ordered, s .within, p .6, long),
+      p .6,
+      omega (arith, l .inv .0, l .inv .1, l .inv .2, s .before .ordered, s .within, p .7, long),
     )
 
 loop-less : tie.Need-loop-less Inv-loop μ-loop
@@ -81,7 +82,7 @@ loop-again c =
       l .inv .1,
       omega (arith, l .inv .2, s .before .ordered),
       omega (arith, s .within),
-      tried-turn (CoreStep (a .nb) (a .left .now) (a .right .now)) (SparedStep (a .nb) (a .left .now) (a .right .now) (a .second) (a .k)) (a .from) (l .x) y (a .i * a .nb) (y - a .i * a .nb) (a .marks .now) (l .marks) _ (l .changed) _ true (l .inv .4) (s .before .zeros) e (rw (l .inv .0) at (c .before .before .before .mark-pair .ensures)) (or-now (l .changed) _ (c .if2 .taken)),
+      tried-turn (CoreStep (a .nb) (a .left .now) (a .right .now)) (SparedStep (a .nb) (a .left .now) (a .right .now) (a .ask .second) (a .ask .k)) (a .from) (l .x) y (a .i * a .nb) (y - a .i * a .nb) (a .marks .now) (l .marks) _ (l .changed) _ true (l .inv .4) (s .before .zeros) e (rw (l .inv .0) at (c .before .before .before .mark-pair .ensures)) (or-now (l .changed) _ (c .if2 .taken)),
     )
 
 loop-less-2 : tie.Need-loop-less-2 Inv-loop μ-loop
@@ -98,7 +99,7 @@ loop-again-2 c =
       l .inv .1,
       omega (arith, l .inv .2, s .before .ordered),
       omega (arith, s .within),
-      tried-turn (CoreStep (a .nb) (a .left .now) (a .right .now)) (SparedStep (a .nb) (a .left .now) (a .right .now) (a .second) (a .k)) (a .from) (l .x) y (a .i * a .nb) (y - a .i * a .nb) (a .marks .now) (l .marks) _ (l .changed) _ (l .changed) (l .inv .4) (s .before .zeros) e (rw (l .inv .0) at (c .before .before .before .mark-pair .ensures)) (or-before (l .changed) _ (c .if2 .left)),
+      tried-turn (CoreStep (a .nb) (a .left .now) (a .right .now)) (SparedStep (a .nb) (a .left .now) (a .right .now) (a .ask .second) (a .ask .k)) (a .from) (l .x) y (a .i * a .nb) (y - a .i * a .nb) (a .marks .now) (l .marks) _ (l .changed) _ (l .changed) (l .inv .4) (s .before .zeros) e (rw (l .inv .0) at (c .before .before .before .mark-pair .ensures)) (or-before (l .changed) _ (c .if2 .left)),
     )
 
 same-length-2 : tie.Need-same-length-2 Inv-loop μ-loop

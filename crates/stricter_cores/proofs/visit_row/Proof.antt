@@ -19,7 +19,7 @@ stands-requires c κs = search needs
 returns : tie.Need-returns
 returns c =
     let a = c .before .before .before .before .before .before .args in
-    tried-none (CoreStep (a .nb) (a .left .now) (a .right .now)) (SparedStep (a .nb) (a .left .now) (a .right .now) (a .second) (a .k)) (a .i * a .nb) (a .i * a .nb + a .nb) (a .marks .now)
+    tried-none (CoreStep (a .nb) (a .left .now) (a .right .now)) (SparedStep (a .nb) (a .left .now) (a .right .now) (a .ask .second) (a .ask .k)) (a .i * a .nb) (a .i * a .nb + a .nb) (a .marks .now)
     (λ x f t h. let z = row-out (a .acodes .now) (a .nb) (a .marks .now) (c .before .before .before .before .before .before .pre .1) (a .i) (sym (c .before .stands .ensures) ∙ not-t _ (c .if1 .taken)) x f t in omega arith)
 
 -- the pairs of the row have marks
@@ -43,7 +43,7 @@ same-length c = search needs
 returns-2 : tie.Need-returns-2
 returns-2 c =
     let a = c .before .before .before .before .before .before .before .before .before .args in
-    tried-none (CoreStep (a .nb) (a .left .now) (a .right .now)) (SparedStep (a .nb) (a .left .now) (a .right .now) (a .second) (a .k)) (a .i * a .nb) (a .i * a .nb + a .nb) (a .marks .now)
+    tried-none (CoreStep (a .nb) (a .left .now) (a .right .now)) (SparedStep (a .nb) (a .left .now) (a .right .now) (a .ask .second) (a .ask .k)) (a .i * a .nb) (a .i * a .nb + a .nb) (a .marks .now)
     (λ x f t h. c .before .first-waiting .ensures .none x f (omega arith) h)
 
 cut-row-requires : tie.Need-cut-row-requires
@@ -60,6 +60,7 @@ sweep-row-requires c κs =
       w .ordered,
       w .within,
       p .3,
+      p .4,
       room (c .before .before .before .before .before .before),
     )
 
@@ -70,8 +71,8 @@ returns-3 : tie.Need-returns-3
 returns-3 c =
     let a = c .before .before .before .before .before .before .before .before .before .before .before .before .before .before .before .args in
     let w = c .before .before .before .before .before .before .before .first-waiting in
-    tried-then (CoreStep (a .nb) (a .left .now) (a .right .now)) (SparedStep (a .nb) (a .left .now) (a .right .now) (a .second) (a .k)) (a .i * a .nb) (w .result) (a .i * a .nb + a .nb) (a .marks .now) (a .marks .now) _ false _ _
-    (tried-none (CoreStep (a .nb) (a .left .now) (a .right .now)) (SparedStep (a .nb) (a .left .now) (a .right .now) (a .second) (a .k)) (a .i * a .nb) (w .result) (a .marks .now) (w .ensures .none))
+    tried-then (CoreStep (a .nb) (a .left .now) (a .right .now)) (SparedStep (a .nb) (a .left .now) (a .right .now) (a .ask .second) (a .ask .k)) (a .i * a .nb) (w .result) (a .i * a .nb + a .nb) (a .marks .now) (a .marks .now) _ false _ _
+    (tried-none (CoreStep (a .nb) (a .left .now) (a .right .now)) (SparedStep (a .nb) (a .left .now) (a .right .now) (a .ask .second) (a .ask .k)) (a .i * a .nb) (w .result) (a .marks .now) (w .ensures .none))
     (c .before .before .sweep-row .ensures) refl
 
 pub visit-row-spec : {M : Type 1} → statement M

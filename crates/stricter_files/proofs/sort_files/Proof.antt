@@ -1,27 +1,47 @@
 -- `sort_files` meets its contract: both tables are tagged while the pairs of cores are sorted out, and the tags go again.
-use mathlib.Core.Path.{_≡_, _∙_}
+use mathlib.Core.Path.{_≡_, refl, _∙_}
+use native.Mathlib.Omega.{arith}
+use lib.ListN.{length}
 use borrow.Author.Needs.{needs}
 use Rattle.theory.specs.Macrostate.{holdsInitial}
 use Rattle.rejecting_spec.specs.Rejecting.{lacksInitial}
 use Rattle.file_spec.specs.File.{ruleIn}
 use Rattle.stricter_cores_spec.specs.Tags.{plain}
 use Rattle.stricter_fixpoints.proofs.Tables.{few-components, rows-low, stands, fits, sorted, codes-again, moves-again}
-use Rattle.stricter_files.proofs.Files.{file-table}
+use Rattle.stricter_files.proofs.Files.{initial-low, no-pairs, room-A, room-B, file-table}
 use Rattle.stricter_files.proofs.sort_files.Statement.{statement}
 use Rattle.stricter_files.proofs.sort_files.Tie as tie
 
+returns : tie.Need-returns
+returns c =
+    let a = c .before .before .before .before .before .before .before .before .args in
+    (no-pairs (a .acodes .now) (a .amoves .now) _ (a .bcodes .now) (a .bmoves .now) _ (a .marks .now) (c .before .before .before .before .before .before .before .before .pre .4) (c .if1 .taken), ((refl, refl), (refl, refl)))
+
 tag-file-requires : tie.Need-tag-file-requires
-tag-file-requires c κs = search needs
+tag-file-requires c κs =
+    let a = c .before .before .before .before .before .before .before .before .before .before .before .args in
+    let p = c .before .before .before .before .before .before .before .before .before .before .before .pre in
+    (p .0, (holdsInitial (ruleIn (a .a .now)), p .1), room-A (length (a .acodes .now)) (length (a .bcodes .now)) _ (p .4) (c .before .before .before .if1 .left))
 
 tag-file-requires-2 : tie.Need-tag-file-requires-2
-tag-file-requires-2 c κs = search needs
+tag-file-requires-2 c κs =
+    let a = c .before .before .before .before .before .before .before .before .before .before .before .before .before .before .before .before .before .before .before .before .before .args in
+    let p = c .before .before .before .before .before .before .before .before .before .before .before .before .before .before .before .before .before .before .before .before .before .pre in
+    let h = room-B (length (a .acodes .now)) (length (a .bcodes .now)) (length (a .marks .now)) (p .4) (c .before .before .before .before .before .before .before .before .before .before .before .before .before .if1 .left) in
+    (p .2, (lacksInitial (ruleIn (a .b .now)), p .3), omega (arith, h, c .before .before .before .before .before .before .before .before .before .tag-file .kept .1 .1 .1 .1 .0))
 
-sort-cores-requires : tie.Need-sort-cores-requires
-sort-cores-requires c κs =
-    let a = c .before .before .before .before .before .before .before .before .before .before .before .before .before .before .before .before .before .before .before .before .before .before .before .before .before .before .args in
-    let p = c .before .before .before .before .before .before .before .before .before .before .before .before .before .before .before .before .before .before .before .before .before .before .before .before .before .before .pre in
-    let x = c .before .before .before .before .before .before .before .before .before .before .before .before .before .before .before .before .tag-file .ensures in
-    let y = c .before .before .before .before .before .before .before .before .before .tag-file2 .ensures in
+cast-ainitial : tie.Need-cast-ainitial
+cast-ainitial c = let a = c .before .before .before .before .before .before .before .before .before .before .before .before .before .before .before .before .before .before .before .before .before .before .before .before .before .before .before .before .before .args in omega (arith, initial-low (a .a .now) (a .l) (c .before .before .before .before .before .before .before .before .before .before .before .before .before .before .before .before .before .before .before .before .before .before .before .before .before .before .before .before .before .pre .0))
+
+cast-binitial : tie.Need-cast-binitial
+cast-binitial c = let a = c .before .before .before .before .before .before .before .before .before .before .before .before .before .before .before .before .before .before .before .before .before .before .before .before .before .before .before .before .before .before .args in omega (arith, initial-low (a .b .now) (a .m) (c .before .before .before .before .before .before .before .before .before .before .before .before .before .before .before .before .before .before .before .before .before .before .before .before .before .before .before .before .before .before .pre .2))
+
+sort-tagged-requires : tie.Need-sort-tagged-requires
+sort-tagged-requires c κs =
+    let a = c .before .before .before .before .before .before .before .before .before .before .before .before .before .before .before .before .before .before .before .before .before .before .before .before .before .before .before .before .before .before .before .before .before .before .before .args in
+    let p = c .before .before .before .before .before .before .before .before .before .before .before .before .before .before .before .before .before .before .before .before .before .before .before .before .before .before .before .before .before .before .before .before .before .before .before .pre in
+    let x = c .before .before .before .before .before .before .before .before .before .before .before .before .before .before .before .before .before .before .before .before .before .before .before .tag-file .ensures in
+    let y = c .before .before .before .before .before .before .before .before .before .before .before .before .before .tag-file2 .ensures in
     let r = ruleIn (a .a .now) in
     let q = ruleIn (a .b .now) in
     let s = holdsInitial r in
@@ -31,26 +51,22 @@ sort-cores-requires c κs =
     let u = x .1 s (p .1) in
     let v = y .1 t (p .3) in (
       (
-        fits r q s t _ _ _ _ _ _ A B _ _ _ _ (u .0) (u .1) (v .0) (v .1) _ (p .4),
+        fits r q s t _ _ _ _ _ _ A B _ _ _ _ (u .0) (u .1) (v .0) (v .1) _ (c .before .before .before .before .before .before .before .before .before .before .before .before .before .tag-file2 .kept .1 .1 .1 .1 .0 ∙ c .before .before .before .before .before .before .before .before .before .before .before .before .before .before .before .before .before .before .before .before .before .before .before .tag-file .kept .1 .1 .1 .1 .0 ∙ p .4),
         stands r s _ _ _ A _ _ (u .0) (u .1),
         stands q t _ _ _ B _ _ (v .0) (v .1),
         few-components r s _ _ _ A,
         few-components q t _ _ _ B,
+        initial-low (a .a .now) (a .l) (p .0),
+        initial-low (a .b .now) (a .m) (p .2),
       ),
       rows-low q t _ _ _ B _ _ (v .0) (v .1),
     )
 
-untag-requires : tie.Need-untag-requires
-untag-requires c κs = search needs
-
-untag-requires-2 : tie.Need-untag-requires-2
-untag-requires-2 c κs = search needs
-
 same-length : tie.Need-same-length
-same-length c = search needs
+same-length c = c .before .before .before .before .before .before .before .before .before .before .sort-tagged .kept .0 ∙ c .before .before .before .before .before .before .before .before .before .before .before .before .before .before .before .before .before .before .before .before .before .before .before .before .before .before .before .before .before .before .before .before .before .before .tag-file .kept .1 .1 .0
 
 same-length-2 : tie.Need-same-length-2
-same-length-2 c = search needs
+same-length-2 c = c .before .before .before .before .before .before .before .before .before .before .sort-tagged .kept .1 .0 ∙ c .before .before .before .before .before .before .before .before .before .before .before .before .before .before .before .before .before .before .before .before .before .before .before .before .before .before .before .before .before .before .before .before .before .before .tag-file .kept .1 .1 .1 .0
 
 same-length-3 : tie.Need-same-length-3
 same-length-3 c = search needs
@@ -59,14 +75,14 @@ same-length-4 : tie.Need-same-length-4
 same-length-4 c = search needs
 
 same-length-5 : tie.Need-same-length-5
-same-length-5 c = search needs
+same-length-5 c = c .before .before .before .before .before .before .before .before .before .before .sort-tagged .kept .1 .1 .1 .1 .1 .1 .1 .1 .0 ∙ c .before .before .before .before .before .before .before .before .before .before .before .before .before .before .before .before .before .before .before .before .before .before .before .before .tag-file2 .kept .1 .1 .1 .1 .0 ∙ c .before .before .before .before .before .before .before .before .before .before .before .before .before .before .before .before .before .before .before .before .before .before .before .before .before .before .before .before .before .before .before .before .before .before .tag-file .kept .1 .1 .1 .1 .0
 
-returns : tie.Need-returns
-returns c =
-    let a = c .before .before .before .before .before .before .before .before .before .before .before .before .before .before .before .before .before .before .before .before .before .before .before .before .before .before .before .before .before .before .before .before .before .before .before .before .before .before .before .before .before .before .before .args in
-    let p = c .before .before .before .before .before .before .before .before .before .before .before .before .before .before .before .before .before .before .before .before .before .before .before .before .before .before .before .before .before .before .before .before .before .before .before .before .before .before .before .before .before .before .before .pre in
-    let x = c .before .before .before .before .before .before .before .before .before .before .before .before .before .before .before .before .before .before .before .before .before .before .before .before .before .before .before .before .before .before .before .before .before .tag-file .ensures in
-    let y = c .before .before .before .before .before .before .before .before .before .before .before .before .before .before .before .before .before .before .before .before .before .before .before .before .before .before .tag-file2 .ensures in
+returns-2 : tie.Need-returns-2
+returns-2 c =
+    let a = c .before .before .before .before .before .before .before .before .before .before .before .before .before .before .before .before .before .before .before .before .before .before .before .before .before .before .before .before .before .before .before .before .before .before .before .before .before .before .before .before .before .before .before .before .before .before .args in
+    let p = c .before .before .before .before .before .before .before .before .before .before .before .before .before .before .before .before .before .before .before .before .before .before .before .before .before .before .before .before .before .before .before .before .before .before .before .before .before .before .before .before .before .before .before .before .before .before .pre in
+    let x = c .before .before .before .before .before .before .before .before .before .before .before .before .before .before .before .before .before .before .before .before .before .before .before .before .before .before .before .before .before .before .before .before .before .before .tag-file .ensures in
+    let y = c .before .before .before .before .before .before .before .before .before .before .before .before .before .before .before .before .before .before .before .before .before .before .before .before .tag-file2 .ensures in
     let r = ruleIn (a .a .now) in
     let q = ruleIn (a .b .now) in
     let s = holdsInitial r in
@@ -75,28 +91,17 @@ returns c =
     let B = file-table (a .b .now) (a .m) (p .2) _ (y .0) t (a .bcodes .now) (a .bmoves .now) (p .3) in
     let u = x .1 s (p .1) in
     let v = y .1 t (p .3) in
-    let d = c .before .before .before .before .before .before .before .before .before .before .before .untag .ensures in
-    let f = c .before .before .before .before .untag2 .ensures in
-    let e : c .before .before .before .before .before .before .before .before .before .before .before .untag .last .0 ≡ plain (c .before .before .before .before .before .before .before .before .before .before .before .before .before .before .before .before .before .before .before .before .before .before .before .before .before .before .before .before .before .before .before .before .before .tag-file .last .1 .1 .0) = d .0 in (
-      sorted r q s t _ _ _ _ _ _ A B _ _ _ _ (u .0) (u .1) (v .0) (v .1) _ (same-length-5 c ∙ p .4) (c .before .before .before .before .before .before .before .before .before .before .before .before .before .before .before .before .sort-cores .ensures),
+    let d = c .before .before .before .before .before .before .before .before .before .before .sort-tagged .ensures in (
+      sorted r q s t _ _ _ _ _ _ A B _ _ _ _ (u .0) (u .1) (v .0) (v .1) (a .l .head .initial) (a .m .head .initial)
+          (initial-low (a .a .now) (a .l) (p .0)) (initial-low (a .b .now) (a .m) (p .2)) _ _ (same-length-5 c ∙ p .4) (d .0),
       (
-        (e ∙ codes-again r s _ _ _ A _ _ (u .0) (u .1), d .1 ∙ moves-again r s _ _ _ A _ _ (u .0) (u .1)),
-        (f .0 ∙ codes-again q t _ _ _ B _ _ (v .0) (v .1), f .1 ∙ moves-again q t _ _ _ B _ _ (v .0) (v .1)),
+        (d .1 .0 .0 ∙ codes-again r s _ _ _ A _ _ (u .0) (u .1), d .1 .0 .1 ∙ moves-again r s _ _ _ A _ _ (u .0) (u .1)),
+        (d .1 .1 .0 ∙ codes-again q t _ _ _ B _ _ (v .0) (v .1), d .1 .1 .1 ∙ moves-again q t _ _ _ B _ _ (v .0) (v .1)),
       ),
     )
 
 pub sort-files-spec : {M : Type 1} → statement M
 sort-files-spec =
     tie.close
-    (tie.spec
-    tag-file-requires
-    tag-file-requires-2
-    sort-cores-requires
-    untag-requires
-    untag-requires-2
-    same-length
-    same-length-2
-    same-length-3
-    same-length-4
-    same-length-5
-    returns)
+    (tie.spec returns tag-file-requires tag-file-requires-2 cast-ainitial cast-binitial sort-tagged-requires
+    same-length same-length-2 same-length-3 same-length-4 same-length-5 returns-2)

@@ -1,12 +1,12 @@
 -- `sort_cores` meets its contract.
-use mathlib.Core.Path.{sym, _∙_}
+use mathlib.Core.Path.{refl, sym, _∙_}
 use mathlib.Core.Bool.{cond}
 use native.Mathlib.Omega.{arith}
 use lib.ListN.{length}
 use borrow.Author.Needs.{needs}
 use Rattle.stricter_cores_spec.specs.Steps.{CoreStep, SparedStep}
 use Rattle.stricter_cores_spec.specs.Rounds.{Narrowed}
-use Rattle.stricter_cores_laws.proofs.Fitting.{fits-same}
+use Rattle.stricter_cores_laws.proofs.Fitting.{fits-same, only-sub}
 use Rattle.stricter_fixpoints.proofs.Joined.{cores-low, only-cores}
 use Rattle.stricter_fixpoints.proofs.sort_cores.Statement.{statement}
 use Rattle.stricter_fixpoints.proofs.sort_cores.Tie as tie
@@ -23,21 +23,21 @@ narrow-requires c κs =
       p .1,
     )
 
-spread-requires : tie.Need-spread-requires
-spread-requires c κs =
+first-start-requires : tie.Need-first-start-requires
+first-start-requires c κs =
+    let a = c .before .before .before .before .before .before .before .before .before .before .before .before .before .before .args in
     let p = c .before .before .before .before .before .before .before .before .before .before .before .before .before .before .pre in
-    let N = c .before .before .before .narrow .ensures .0 in
-    let I = c .before .before .before .before .before .before .before .place-cores .ensures in
-    (N .long ∙ I .long, p .0 .0 .few-A, p .0 .0 .few-B, p .0 .1, p .0 .2)
-
-same-length : tie.Need-same-length
-same-length c = search needs
+    let n = c .before .before .before .narrow in
+    let i = c .before .before .before .before .before .before .before .place-cores in
+    let N = n .ensures .0 in
+    let I = i .ensures in
+    (N .long ∙ I .long, only-sub (a .acodes .now) (length (a .bcodes .now)) (i .last .1 .1 .0) (n .last .1 .1 .1 .1 .1 .1 .0) (N .sub) (only-cores (a .acodes .now) (a .bcodes .now) (i .last .1 .1 .0) I), p .0 .5, p .0 .6)
 
 returns : tie.Need-returns
 returns c =
-    let a = c .before .before .before .before .before .before .before .before .before .before .before .before .before .before .before .before .before .args in
-    let N = c .before .before .before .before .before .before .narrow in
-    let I = c .before .before .before .before .before .before .before .before .before .before .place-cores in
+    let a = c .before .before .before .before .before .before .before .before .before .before .before .before .before .before .before .before .args in
+    let N = c .before .before .before .before .before .narrow in
+    let I = c .before .before .before .before .before .before .before .before .before .place-cores in
     let n : Narrowed (CoreStep (length (a .bcodes .now)) (a .left .now) (a .right .now)) (SparedStep (length (a .bcodes .now)) (a .left .now) (a .right .now)) (λ s. cond s (a .bcount) (a .acount)) (I .last .1 .1 .0) (N .last .1 .1 .1 .1 .1 .1 .0) = N .ensures .0 in
     record {
       all = _;
@@ -45,10 +45,45 @@ returns c =
       cores = _;
       narrowed = n;
       sound = N .ensures .1;
-      spread = c .before .before .spread .ensures;
+      first = c .before .first-start .ensures;
+      long = refl;
+      spread = λ l. absurd (omega (arith, c .if1 .taken));
+    }
+
+spread-requires : tie.Need-spread-requires
+spread-requires c κs =
+    let a = c .before .before .before .before .before .before .before .before .before .before .before .before .before .before .before .before .before .args in
+    let p = c .before .before .before .before .before .before .before .before .before .before .before .before .before .before .before .before .before .pre in
+    let n = c .before .before .before .before .before .before .narrow in
+    let i = c .before .before .before .before .before .before .before .before .before .before .place-cores in
+    let N = n .ensures .0 in
+    let I = i .ensures in
+    (N .long ∙ I .long, p .0 .0 .few-A, p .0 .0 .few-B, p .0 .1, p .0 .2, only-sub (a .acodes .now) (length (a .bcodes .now)) (i .last .1 .1 .0) (n .last .1 .1 .1 .1 .1 .1 .0) (N .sub) (only-cores (a .acodes .now) (a .bcodes .now) (i .last .1 .1 .0) I))
+
+same-length : tie.Need-same-length
+same-length c = search needs
+
+same-length-2 : tie.Need-same-length-2
+same-length-2 c = search needs
+
+returns-2 : tie.Need-returns-2
+returns-2 c =
+    let a = c .before .before .before .before .before .before .before .before .before .before .before .before .before .before .before .before .before .before .before .before .args in
+    let N = c .before .before .before .before .before .before .before .before .before .narrow in
+    let I = c .before .before .before .before .before .before .before .before .before .before .before .before .before .place-cores in
+    let n : Narrowed (CoreStep (length (a .bcodes .now)) (a .left .now) (a .right .now)) (SparedStep (length (a .bcodes .now)) (a .left .now) (a .right .now)) (λ s. cond s (a .bcount) (a .acount)) (I .last .1 .1 .0) (N .last .1 .1 .1 .1 .1 .1 .0) = N .ensures .0 in
+    record {
+      all = _;
+      in-all = I .ensures;
+      cores = _;
+      narrowed = n;
+      sound = N .ensures .1;
+      first = c .before .before .before .before .before .first-start .ensures;
+      long = c .before .before .spread .ensures .long;
+      spread = λ l. c .before .before .spread .ensures;
     }
 
 pub sort-cores-spec : {M : Type 1} → statement M
 sort-cores-spec =
     tie.close
-    (tie.spec place-cores-requires narrow-requires spread-requires same-length returns)
+    (tie.spec place-cores-requires narrow-requires first-start-requires same-length returns spread-requires same-length-2 returns-2)

@@ -1,71 +1,26 @@
 -- `find_word` meets its contract.
-use mathlib.Core.Path.{_∙_}
+use mathlib.Core.Path.{_≡_, sym, _∙_}
 use mathlib.Core.Bool.{true, false}
+use Prim.Native.Nat.{ℕ, _+_, _*_}
 use native.Mathlib.Omega.{arith}
-use native.Mathlib.Nat.{mul-le-mul-right}
+use native.Mathlib.Nat.{add-zero}
 use borrow.Author.Needs.{needs}
 use lib.ListN.{length}
 use Rattle.graph_walks.proofs.Sums.{has-place}
+use Rattle.stricter_spec.specs.Search.{Written}
 use Rattle.stricter_laws.specs.Pairs.{PairStep}
 use Rattle.stricter_laws.specs.Tests.{acceptsIn}
-use Rattle.stricter_forest.proofs.Reach.{same-then}
+use Rattle.stricter_forest.specs.Forest.{kindIn}
 use Rattle.stricter_forest.proofs.Words.{written}
-use Rattle.stricter_lasso.proofs.Turns.{route-length, ask-there, ask-onto, ask-back}
+use Rattle.stricter_lasso.proofs.Turns.{sound-same, stays-at}
 use Rattle.stricter_lasso.proofs.find_word.Statement.{statement}
 use Rattle.stricter_lasso.proofs.find_word.Tie as tie
 
-find-turn-requires : tie.Need-find-turn-requires
-find-turn-requires c κs = search needs
-
-write-between-requires : tie.Need-write-between-requires
-write-between-requires c κs =
-    let a = c .before .before .before .before .before .before .before .before .before .before .before .before .args in
-    let p = c .before .before .before .before .before .before .before .before .before .before .before .before .pre in
-    let t = c .before .before .before .before .find-turn .ensures in
-    let ask = ask-there (PairStep (length (a .rcodes .now)) (a .left .now) (a .right .now)) (acceptsIn (a .lcodes .now) (a .rcodes .now) false) (acceptsIn (a .lcodes .now) (a .rcodes .now) true)
-    (a .start) (c .before .before .before .before .find-turn .result .u) (c .before .before .before .before .find-turn .result .v) (a .marks .now) _ (t .1) (t .0) (p .4) in
-    ((p .0, p .1, t .0 .long ∙ p .2, ask .0, omega (arith, t .0 .long, p .2, p .3)), ask .1)
-
-write-between-requires-2 : tie.Need-write-between-requires-2
-write-between-requires-2 c κs =
-    let a = c .before .before .before .before .before .before .before .before .before .before .before .before .before .before .before .before .before .before .before .args in
-    let p = c .before .before .before .before .before .before .before .before .before .before .before .before .before .before .before .before .before .before .before .pre in
-    let t = c .before .before .before .before .before .before .before .before .before .before .before .find-turn .ensures in
-    let w = c .before .before .before .before .before .before .write-between .ensures in
-    let same = same-then (a .marks .now) _ _ (t .0) (w .same) in
-    let long = route-length _ _ _ 0 (c .before .before .before .before .before .before .write-between .result) (a .word .now) _ (omega (arith, t .0 .long, p .2, p .3, w .short)) (w .written) in
-    let ask = ask-onto (PairStep (length (a .rcodes .now)) (a .left .now) (a .right .now)) (acceptsIn (a .lcodes .now) (a .rcodes .now) false) (acceptsIn (a .lcodes .now) (a .rcodes .now) true)
-    (a .start) (c .before .before .before .before .before .before .before .before .before .before .before .find-turn .result .u) (c .before .before .before .before .before .before .before .before .before .before .before .find-turn .result .v) (a .marks .now) _ (t .1) same in
-    ((p .0, p .1, same .long ∙ p .2, ask .0, omega (arith, t .0 .long, p .2, p .3, w .short, same .long, long)), ask .1)
-
-add-write-between : tie.Need-add-write-between
-add-write-between c =
-    let p = c .before .before .before .before .before .before .before .before .before .before .before .before .before .before .before .before .before .before .before .before .before .before .before .before .before .pre in
-    let w = c .before .before .before .before .before .before .before .before .before .before .before .before .write-between .ensures in
-    let few = mul-le-mul-right (length (c .before .before .before .before .before .before .before .before .before .before .before .before .before .before .before .before .before .before .before .before .before .before .before .before .before .args .rcodes .now)) (p .0 .few) in
-    omega (arith, c .before .before .before .before .before .before .before .before .before .before .before .before .before .before .before .before .before .find-turn .ensures .0 .long, p .2, p .1 .few, w .short, w .same .long, c .before .before .before .before .before .write-between2 .ensures .short)
-
-write-between-requires-3 : tie.Need-write-between-requires-3
-write-between-requires-3 c κs =
-    let a = c .before .before .before .before .before .before .before .before .before .before .before .before .before .before .before .before .before .before .before .before .before .before .before .before .before .before .args in
-    let p = c .before .before .before .before .before .before .before .before .before .before .before .before .before .before .before .before .before .before .before .before .before .before .before .before .before .before .pre in
-    let t = c .before .before .before .before .before .before .before .before .before .before .before .before .before .before .before .before .before .before .find-turn .ensures in
-    let w = c .before .before .before .before .before .before .before .before .before .before .before .before .before .write-between .ensures in
-    let o = c .before .before .before .before .before .before .write-between2 .ensures in
-    let same = same-then (a .marks .now) _ _ (same-then (a .marks .now) _ _ (t .0) (w .same)) (o .same) in
-    let long = route-length _ _ _ 0 (c .before .before .before .before .before .before .before .before .before .before .before .before .before .write-between .result) (a .word .now) _ (omega (arith, t .0 .long, p .2, p .3, w .short)) (w .written) in
-    let more = route-length _ _ _ (c .before .before .before .before .before .before .before .before .before .before .before .before .before .write-between .result) (c .before .before .before .before .before .before .write-between2 .result) _ _ (omega (arith, t .0 .long, p .2, p .3, w .short, w .same .long, o .short, long)) (o .written) in
-    let ask = ask-back (PairStep (length (a .rcodes .now)) (a .left .now) (a .right .now)) (acceptsIn (a .lcodes .now) (a .rcodes .now) false) (acceptsIn (a .lcodes .now) (a .rcodes .now) true)
-    (a .start) (c .before .before .before .before .before .before .before .before .before .before .before .before .before .before .before .before .before .before .find-turn .result .u) (c .before .before .before .before .before .before .before .before .before .before .before .before .before .before .before .before .before .before .find-turn .result .v) (a .marks .now) _ (t .1) same in
-    ((p .0, p .1, same .long ∙ p .2, ask .0, omega (arith, t .0 .long, p .2, p .3, w .short, w .same .long, o .short, same .long, long, more)), ask .1)
-
-add-t26 : tie.Need-add-t26
-add-t26 c =
-    let p = c .before .before .before .before .before .before .before .before .before .before .before .before .before .before .before .before .before .before .before .before .before .before .before .before .before .before .before .before .before .before .before .pre in
-    let w = c .before .before .before .before .before .before .before .before .before .before .before .before .before .before .before .before .before .before .write-between .ensures in
-    let o = c .before .before .before .before .before .before .before .before .before .before .before .write-between2 .ensures in
-    let few = mul-le-mul-right (length (c .before .before .before .before .before .before .before .before .before .before .before .before .before .before .before .before .before .before .before .before .before .before .before .before .before .before .before .before .before .before .before .args .rcodes .now)) (p .0 .few) in
-    omega (arith, c .before .before .before .before .before .before .before .before .before .before .before .before .before .before .before .before .before .before .before .before .before .before .before .find-turn .ensures .0 .long, p .2, p .1 .few, w .short, w .same .long, o .short, o .same .long, c .before .before .before .before .write-between3 .ensures .short)
+write-round-requires : tie.Need-write-round-requires
+write-round-requires c κs =
+    let a = c .before .before .before .before .before .before .before .before .args in
+    let p = c .before .before .before .before .before .before .before .before .pre in
+    (p .0, p .1, p .2, has-place (a .marks .now) (a .start) (p .4), omega (arith, p .2, p .3))
 
 same-length : tie.Need-same-length
 same-length c = search needs
@@ -75,28 +30,49 @@ same-length-2 c = search needs
 
 returns : tie.Need-returns
 returns c =
-    let a = c .before .before .before .before .before .before .before .before .before .before .before .before .before .before .before .before .before .before .before .before .before .before .before .before .before .before .before .before .before .before .before .args in
-    let p = c .before .before .before .before .before .before .before .before .before .before .before .before .before .before .before .before .before .before .before .before .before .before .before .before .before .before .before .before .before .before .before .pre in
-    let t = c .before .before .before .before .before .before .before .before .before .before .before .before .before .before .before .before .before .before .before .before .before .before .before .find-turn .ensures in
-    let w = c .before .before .before .before .before .before .before .before .before .before .before .before .before .before .before .before .before .before .write-between .ensures in
-    let o = c .before .before .before .before .before .before .before .before .before .before .before .write-between2 .ensures in
-    let b = c .before .before .before .before .write-between3 .ensures in
+    let a = c .before .before .before .before .before .before .before .before .before .before .before .before .before .before .args in
+    let p = c .before .before .before .before .before .before .before .before .before .before .before .before .before .before .pre in
+    let r = c .before .before .before .before .before .write-round in
+    let R = r .ensures in
+    let l = c .if1 .taken in
+    let s = PairStep (length (a .rcodes .now)) (a .left .now) (a .right .now) in
     let place = has-place (a .marks .now) (a .start) (p .4) in
     λ startA startB begins.
-    written (a .lcodes .now) (a .left .now) (a .rcodes .now) (a .right .now) (p .0) (p .1) startA startB (a .start) (c .before .before .before .before .before .before .before .before .before .before .before .before .before .before .before .before .before .before .before .before .before .before .before .find-turn .result .u) (c .before .before .before .before .before .before .before .before .before .before .before .before .before .before .before .before .before .before .before .before .before .before .before .find-turn .result .v)
-    (omega (arith, p .2)) begins (t .1 .accepts-u) (t .1 .accepts-v) _ _ _ (a .word .now) _ _ _ (w .written) (o .written) (b .written) (o .some)
-    (omega (arith, t .0 .long, p .2, w .short)) (omega (arith, t .0 .long, p .2, w .same .long, o .short)) (omega (arith, t .0 .long, p .2, w .same .long, o .same .long, b .short))
+    let w : Written (a .lcodes .now) (a .left .now) startA (a .rcodes .now) (a .right .now) startB 0 (r .result + 0) (a .word .now) _
+    = written (a .lcodes .now) (a .left .now) (a .rcodes .now) (a .right .now) (p .0) (p .1) startA startB (a .start) (a .start) (a .start)
+    (omega (arith, p .2)) begins (R .first l) (R .second l) 0 (r .result) 0 (a .word .now) (a .word .now) _ _
+    (stays-at s (a .start) 0 (a .word .now)) (R .written l) (stays-at s (a .start) (0 + r .result) _) l
+    (omega arith) (omega (arith, R .short, p .2)) (omega arith) in
+    rw (add-zero (r .result)) at w
+
+find-lasso-requires : tie.Need-find-lasso-requires
+find-lasso-requires c κs =
+    let a = c .before .before .before .before .before .before .before .before .before .before .before .before .before .before .before .before .args in
+    let p = c .before .before .before .before .before .before .before .before .before .before .before .before .before .before .before .before .pre in
+    let R = c .before .before .before .before .before .before .before .write-round .ensures in
+    let z : c .before .before .before .before .before .before .before .write-round .result ≡ 0 = omega (arith, c .before .before .if1 .left) in (
+      p .0,
+      p .1,
+      R .same .long ∙ p .2,
+      rw (R .none z) (p .3),
+      R .same .kept (a .start) (p .4),
+      sound-same (PairStep (length (a .rcodes .now)) (a .left .now) (a .right .now)) (kindIn (a .lcodes .now) (a .rcodes .now))
+          (acceptsIn (a .lcodes .now) (a .rcodes .now) false) (acceptsIn (a .lcodes .now) (a .rcodes .now) true) (a .start) (a .marks .now) _ (R .same) (p .5),
+    )
+
+same-length-3 : tie.Need-same-length-3
+same-length-3 c = search needs
+
+same-length-4 : tie.Need-same-length-4
+same-length-4 c = search needs
+
+returns-2 : tie.Need-returns-2
+returns-2 c =
+    let R = c .before .before .before .before .before .before .before .before .before .before .before .before .write-round .ensures in
+    let z : c .before .before .before .before .before .before .before .before .before .before .before .before .write-round .result ≡ 0 = omega (arith, c .before .before .before .before .before .before .before .if1 .left) in
+    λ startA startB begins. rw (R .none z) at (c .before .before .before .before .find-lasso .ensures startA startB begins)
 
 pub find-word-spec : {M : Type 1} → statement M
 find-word-spec =
     tie.close
-    (tie.spec
-    find-turn-requires
-    write-between-requires
-    write-between-requires-2
-    add-write-between
-    write-between-requires-3
-    add-t26
-    same-length
-    same-length-2
-    returns)
+    (tie.spec write-round-requires same-length same-length-2 returns find-lasso-requires same-length-3 same-length-4 returns-2)

@@ -5,9 +5,9 @@ use native.Mathlib.Omega.{arith}
 use lib.Dec.{eqb}
 use borrow.Author.Needs.{needs}
 use Rattle.theory.specs.Code.{componentIn}
-use Rattle.stricter_search.proofs.Begins.{holds-state, other-component, by-classes}
-use Rattle.stricter_search.proofs.begins_lacking.Statement.{statement}
-use Rattle.stricter_search.proofs.begins_lacking.Tie as tie
+use Rattle.stricter_starts.proofs.Begins.{holds-state, other-component, by-classes}
+use Rattle.stricter_starts.proofs.begins_lacking.Statement.{statement}
+use Rattle.stricter_starts.proofs.begins_lacking.Tie as tie
 
 shr-if1 : tie.Need-shr-if1
 shr-if1 c = search needs

@@ -1,0 +1,69 @@
+-- Start pairs of one number.
+use mathlib.Core.Path.{_≡_, sym, ap, _∙_}
+use mathlib.Core.Bool.{true, false, _&&_}
+use mathlib.Core.List.{List}
+use mathlib.Core.Logic.{by-cases}
+use Prim.Native.Nat.{ℕ, _+_, _-_, _*_, _≤_, _<_}
+use native.Mathlib.Omega.{arith}
+use native.Mathlib.Decide.{ℕ-discrete, decLt}
+use lib.ListN.{length, getD}
+use Rattle.sets.specs.Tests.{Set}
+use Rattle.sets.proofs.Bools.{and-l, and-r, and-i, clash}
+use Rattle.theory.specs.Macrostate.{begun}
+use Rattle.stricter_laws.specs.Tests.{startsIn}
+use Rattle.stricter_laws.proofs.Sides.{starts-both}
+use Rattle.stricter_cores_spec.specs.Steps.{standsIn, OnlyCores}
+use Rattle.stricter_starts.specs.Starts.{RowStart}
+
+module _ (ca cb : List ℕ) (s t : Set) (marks : List ℕ) (i : ℕ) where
+  abbrev row : ℕ
+  row = i * length cb
+
+  abbrev end : ℕ
+  end = i * length cb + length cb
+
+  row-node : (x : ℕ) → row ≤ x → x < end → x ≡ i * length cb + (x - row)
+  row-node x a b = omega arith
+
+  -- the two numbers of a pair in the row
+  pub starts-row : (x : ℕ) → row ≤ x → x < end → startsIn ca cb s t x ≡ (begun s (getD ca i 0) && begun t (getD cb (x - row) 0))
+  starts-row x a b = ap (startsIn ca cb s t) (row-node x a b) ∙ starts-both ca cb i (x - row) (omega arith) s t
+
+  -- none of the nodes from the row's first up to x
+  abbrev pub NoneUp : ℕ → Type 0
+  NoneUp x = (y : ℕ) → row ≤ y → y < x → 0 < getD marks y 0 → startsIn ca cb s t y ≡ true → ⊥
+
+  pub none-zeros : (x : ℕ) → ((y : ℕ) → row ≤ y → y < x → getD marks y 0 ≡ 0) → NoneUp x
+  none-zeros x z y a b h e = omega (arith, z y a b)
+
+  pub none-next : (x r : ℕ) → row ≤ x → x < end → NoneUp x → begun t (getD cb (x - row) 0) ≡ false → ((y : ℕ) → x + 1 ≤ y → y < r → getD marks y 0 ≡ 0) → NoneUp r
+  none-next x r a b n f z y c d h e =
+      by-cases (decLt y x) (λ l. n y c l h e)
+      (λ l. by-cases (ℕ-discrete y x)
+      (λ q. clash (and-r (begun s (getD ca i 0)) _ (sym (starts-row x a b) ∙ ap (startsIn ca cb s t) (sym q) ∙ e)) f)
+      (λ q. omega (arith, z y (omega arith) d)))
+
+  -- no run of A may begin at i, or i does not stand for its core
+  pub no-start : OnlyCores ca (length cb) marks → (standsIn ca i && begun s (getD ca i 0)) ≡ false → RowStart (startsIn ca cb s t) marks row end end
+  no-start o f = record {
+    within = omega arith;
+    inside = λ l. absurd (omega arith);
+    begins = λ l. absurd (omega arith);
+    none = λ l x a b h e. clash (and-i (o i (x - row) (omega arith) (rw (row-node x a b) at h)) (and-l _ (begun t (getD cb (x - row) 0)) (sym (starts-row x a b) ∙ e))) f;
+  }
+
+  pub found : (x : ℕ) → row ≤ x → x < end → 0 < getD marks x 0 → begun s (getD ca i 0) ≡ true → begun t (getD cb (x - row) 0) ≡ true → RowStart (startsIn ca cb s t) marks row end x
+  found x a b h p q = record {
+    within = omega arith;
+    inside = λ l. h;
+    begins = λ l. starts-row x a b ∙ and-i p q;
+    none = λ l. absurd (omega arith);
+  }
+
+  pub ended : (x : ℕ) → x ≡ end → NoneUp x → RowStart (startsIn ca cb s t) marks row end x
+  ended x e n = record {
+    within = omega arith;
+    inside = λ l. absurd (omega arith);
+    begins = λ l. absurd (omega arith);
+    none = λ l y a b. n y a (omega arith);
+  }

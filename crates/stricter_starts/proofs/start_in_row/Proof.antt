@@ -1,0 +1,138 @@
+-- `start_in_row` meets its contract.
+use mathlib.Core.Path.{_≡_, refl, sym, _∙_}
+use mathlib.Core.Bool.{true, false, not, _&&_}
+use mathlib.Core.List.{List}
+use Prim.Native.Nat.{ℕ, _+_, _-_, _*_, _≤_, _<_}
+use native.Mathlib.Omega.{arith}
+use borrow.Author.Needs.{needs, scaled-fits}
+use lib.ListN.{length, getD}
+use Rattle.sets.specs.Masks.{bit}
+use Rattle.sets.proofs.Bools.{and-r, not-t, not-f}
+use Rattle.theory.specs.Macrostate.{begun}
+use Rattle.table_fixpoints_spec.proofs.Places.{place-room}
+use Rattle.stricter_cores_spec.specs.Steps.{standsIn}
+use Rattle.stricter_starts.proofs.Rows.{NoneUp, none-zeros, none-next, no-start, found, ended}
+use Rattle.stricter_starts.proofs.start_in_row.Statement.{statement}
+use Rattle.stricter_starts.proofs.start_in_row.Tie as tie
+
+abbrev Inv-loop : tie.InvT-loop
+Inv-loop acodes bcodes ainitial binitial i marks row end x₀ x =
+    (row ≡ i * length bcodes) × (end ≡ i * length bcodes + length bcodes) × (end ≤ length marks) × (row ≤ x) × (x ≤ end)
+    × (x < end → 0 < getD marks x 0)
+    × (begun (λ c. bit c ainitial) (getD acodes i 0) ≡ true) × NoneUp acodes bcodes (λ c. bit c ainitial) (λ c. not (bit c binitial)) marks i x
+
+abbrev μ-loop : tie.MeasureT-loop
+μ-loop acodes bcodes ainitial binitial i marks row end x₀ x = end - x
+
+-- the row is one of the marks
+room : (c : tie.Start Inv-loop μ-loop) → c .args .i * length (c .args .bcodes .now) + length (c .args .bcodes .now) ≤ length (c .args .marks .now)
+room c = rw (c .pre .0) (place-room (length (c .args .bcodes .now)) (c .args .i) (length (c .args .acodes .now)) (c .pre .2))
+
+mul-row : tie.Need-mul-row Inv-loop μ-loop
+mul-row c = omega (arith, room (c .before .before .before))
+
+add-end : tie.Need-add-end Inv-loop μ-loop
+add-end c = omega (arith, room (c .before .before .before))
+
+begins-here-requires : tie.Need-begins-here-requires Inv-loop μ-loop
+begins-here-requires c κs = search needs
+
+returns : tie.Need-returns Inv-loop μ-loop
+returns c =
+    let a = c .before .before .before .before .before .args in
+    no-start (a .acodes .now) (a .bcodes .now) (λ x. bit x (a .ainitial)) (λ x. not (bit x (a .binitial))) (a .marks .now) (a .i)
+    (c .before .before .before .before .before .pre .1) (sym (c .before .begins-here .ensures) ∙ not-t _ (c .if1 .taken))
+
+next-set-requires : tie.Need-next-set-requires Inv-loop μ-loop
+next-set-requires c κs = (omega arith, room (c .before .before .before .before .before))
+
+loop-holds : tie.Need-loop-holds Inv-loop μ-loop
+loop-holds c =
+    let s = c .before .before .before .before .before .before in
+    let a = s .args in
+    let n = c .next-set .ensures in (
+      refl,
+      refl,
+      room s,
+      n .before .ordered,
+      n .within,
+      n .set,
+      and-r (standsIn (a .acodes .now) (a .i)) _ (sym (c .before .before .begins-here .ensures) ∙ not-f _ (c .before .if1 .left)),
+      none-zeros (a .acodes .now) (a .bcodes .now) (λ x. bit x (a .ainitial)) (λ x. not (bit x (a .binitial))) (a .marks .now) (a .i) _ (n .before .zeros),
+    )
+
+sub-begins-lacking : tie.Need-sub-begins-lacking Inv-loop μ-loop
+sub-begins-lacking c = omega (arith, c .before .loop .inv .3)
+
+mul-begins-lacking : tie.Need-mul-begins-lacking Inv-loop μ-loop
+mul-begins-lacking c = search needs
+
+shared-slice-read-begins-lacking : tie.Need-shared-slice-read-begins-lacking Inv-loop μ-loop
+shared-slice-read-begins-lacking c = let l = c .before .before .loop in omega (arith, l .inv .0, l .inv .1)
+
+begins-lacking-requires : tie.Need-begins-lacking-requires Inv-loop μ-loop
+begins-lacking-requires c κs = search needs
+
+returns-2 : tie.Need-returns-2 Inv-loop μ-loop
+returns-2 c =
+    let l = c .before .before .before .before .loop in
+    let a = c .before .before .before .before .before .before .before .before .before .before .before .args in
+    found (a .acodes .now) (a .bcodes .now) (λ x. bit x (a .ainitial)) (λ x. not (bit x (a .binitial))) (a .marks .now) (a .i) (l .x)
+    (omega (arith, l .inv .0)) (omega (arith, l .inv .1)) (l .inv .5 (c .before .before .before .loop-test .taken)) (l .inv .6)
+    (sym (c .before .begins-lacking .ensures) ∙ c .if2 .taken)
+
+add-next-set : tie.Need-add-next-set Inv-loop μ-loop
+add-next-set c = search needs
+
+next-set-requires-2 : tie.Need-next-set-requires-2 Inv-loop μ-loop
+next-set-requires-2 c κs = search needs
+
+loop-less : tie.Need-loop-less Inv-loop μ-loop
+loop-less c = omega (arith, c .next-set2 .ensures .before .ordered, c .before .before .before .before .loop-test .taken)
+
+loop-again : tie.Need-loop-again Inv-loop μ-loop
+loop-again c =
+    let l = c .before .before .before .before .before .loop in
+    let a = c .before .before .before .before .before .before .before .before .before .before .before .before .args in
+    let n = c .next-set2 .ensures in (
+      l .inv .0,
+      l .inv .1,
+      l .inv .2,
+      omega (arith, n .before .ordered, l .inv .3),
+      n .within,
+      n .set,
+      l .inv .6,
+      none-next (a .acodes .now) (a .bcodes .now) (λ x. bit x (a .ainitial)) (λ x. not (bit x (a .binitial))) (a .marks .now) (a .i) (l .x) _
+          (omega (arith, l .inv .0)) (omega (arith, l .inv .1)) (l .inv .7)
+          (sym (c .before .before .begins-lacking .ensures) ∙ c .before .if2 .left) (n .before .zeros),
+    )
+
+returns-3 : tie.Need-returns-3 Inv-loop μ-loop
+returns-3 c =
+    let l = c .before .loop in
+    let a = c .before .before .before .before .before .before .before .before .args in
+    ended (a .acodes .now) (a .bcodes .now) (λ x. bit x (a .ainitial)) (λ x. not (bit x (a .binitial))) (a .marks .now) (a .i) (l .x)
+    (omega (arith, l .inv .1, l .inv .4)) (l .inv .7)
+
+pub start-in-row-spec : {M : Type 1} → statement M
+start-in-row-spec =
+    tie.close
+    (tie.spec
+    Inv-loop
+    μ-loop
+    mul-row
+    add-end
+    begins-here-requires
+    returns
+    next-set-requires
+    loop-holds
+    sub-begins-lacking
+    mul-begins-lacking
+    shared-slice-read-begins-lacking
+    begins-lacking-requires
+    returns-2
+    add-next-set
+    next-set-requires-2
+    loop-less
+    loop-again
+    returns-3)

@@ -1,0 +1,51 @@
+-- `tag_live` meets its contract.
+use mathlib.Core.Path.{_≡_, _∙_}
+use native.Mathlib.Omega.{arith}
+use borrow.Author.Needs.{needs}
+use Rattle.theory.specs.Automaton.{automaton}
+use Rattle.trim_spec.specs.Trimmed.{liveMarks}
+use Rattle.stricter_rules_laws.proofs.Parents.{table-inside}
+use Rattle.spare_tables.proofs.Tables.{codes-low}
+use Rattle.stricter_cores_spec.specs.Tags.{TaggedCodes, TaggedMoves}
+use Rattle.stricter_tags.proofs.Live.{low-all, told-codes}
+use Rattle.stricter_tags.proofs.tag_live.Statement.{statement}
+use Rattle.stricter_tags.proofs.tag_live.Tie as tie
+
+note-live-requires : tie.Need-note-live-requires
+note-live-requires c κs =
+    let a = c .before .before .before .before .before .before .args in
+    let ((r, start, T, few, e, f), long) = c .before .before .before .before .before .before .pre in (
+      rw (e, f) (table-inside r (T .shaped .passing) start (rw e at few)),
+      low-all (a .codes .now) (rw e (codes-low r (T .shaped .passing) start (rw e at few))),
+      long,
+    )
+
+tag-table-requires : tie.Need-tag-table-requires
+tag-table-requires c κs =
+    let ((r, start, T, few, e, f), long) = c .before .before .before .before .before .before .before .before .before .before .before .before .before .pre in
+    let n = c .before .before .before .before .before .before .note-live in
+    (r, start, T, omega (arith, n .kept .0), n .ensures .0 ∙ e, f)
+
+same-length-3 : tie.Need-same-length-3
+same-length-3 c = search needs
+
+returns : tie.Need-returns
+returns c =
+    let a = c .before .before .before .before .before .before .before .before .before .before .before .before .before .before .before .before .before .before .before .before .before .before .before .args in
+    let n = c .before .before .before .before .before .before .before .before .before .before .before .before .before .before .before .before .note-live in
+    let t = c .before .before .before .before .before .before .before .before .before .tag-table in
+    let b = c .before .before .bury in
+    λ r start T few e f.
+    let (X, Y) = t .ensures r start T (omega (arith, n .kept .0)) (n .ensures .0 ∙ e) f in
+    let U : TaggedCodes (a .codes .now) _ = rw (n .ensures .0) at X in
+    let W : TaggedMoves (automaton r) (a .codes .now) (a .moves .now) _ = rw (n .ensures .0) at Y in (
+      told-codes (a .codes .now) (liveMarks (a .codes .now) (a .moves .now)) _ _ _ U
+          (low-all (a .codes .now) (rw e (codes-low r (T .shaped .passing) start (rw e at few))))
+          (λ i l. n .ensures .1 .inside i (omega arith) l) (b .ensures),
+      W,
+    )
+
+pub tag-live-spec : {M : Type 1} → statement M
+tag-live-spec =
+    tie.close
+    (tie.spec note-live-requires tag-table-requires (λ c κs. search needs) (λ c. search needs) (λ c. search needs) same-length-3 returns)
