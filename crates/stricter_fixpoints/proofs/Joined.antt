@@ -3,13 +3,13 @@ use mathlib.Core.Path.{_≡_, refl, sym, ap, ap₂, _∙_}
 use mathlib.Core.Logic.{by-cases}
 use mathlib.Core.Bool.{Bool, true, false, _&&_, _||_, cond, or-true, or-false}
 use mathlib.Core.List.{List}
-use Prim.Native.Nat.{ℕ, suc, _+_, _*_, _/_, _%_, _≤_, _<_}
+use Prim.Native.Nat.{ℕ, zero, suc, _+_, _*_, _/_, _%_, _≤_, _<_}
 use native.Mathlib.Omega.{arith}
 use native.Mathlib.Decide.{decLt}
 use native.Mathlib.Nat.{mul-le-mul-right}
 use borrow.Author.Tests.{eq-eqb, eqb-true, lt-ltb, ltb-true}
 use lib.Dec.{leb, ltb}
-use lib.ListN.{length, getD, List·getD-eq-default}
+use lib.ListN.{length, getD, replicate, length-replicate, List·getD-eq-default}
 use Rattle.sets.specs.Tests.{Set, one}
 use Rattle.sets.proofs.Bools.{bif, and-l, and-r, clash}
 use Rattle.stricter_forest.proofs.Pairs.{one-low, parts}
@@ -21,6 +21,7 @@ use Rattle.stricter_cores_spec.specs.Tables.{CoreTable}
 use Rattle.stricter_cores_spec.specs.Steps.{standsIn, hasCore, OnlyCores, CoresIn, Spread}
 use Rattle.stricter_lifts.proofs.Alive.{walk-live, same-live}
 use Rattle.stricter_spread.specs.Rows.{Standing}
+use Rattle.stricter_fixpoints.specs.Sorted.{CoresSorted}
 
 -- ---- a tagged table
 
@@ -97,6 +98,11 @@ module _ (codes moves : List ℕ) (components : ℕ) (spare : ℕ → ℕ → Bo
 
 -- ---- marks
 
+zero-at : (n x : ℕ) → _≡_ {A = ℕ} (getD (replicate n 0) x 0) 0
+zero-at zero x = refl
+zero-at (suc n) zero = refl
+zero-at (suc n) (suc x) = zero-at n x
+
 one-true : (b : Bool) → 0 < one b → b ≡ true
 one-true true h = refl
 one-true false h = absurd (omega arith)
@@ -151,3 +157,35 @@ module _ (acodes bcodes old new : List ℕ) (S : Spread acodes bcodes old new) w
       let d = rw (S .each i j k l) at h in
       let g = cond-true (hasCore acodes i && hasCore bcodes j) _ d in
       (and-l (hasCore acodes i) (hasCore bcodes j) g, and-r (hasCore acodes i) (hasCore bcodes j) g, rw g at d)
+
+-- ---- no pair of cores
+
+-- where no numbers stand for a pair of cores, nothing is in
+module _ (acodes left : List ℕ) (acount : ℕ) (bcodes right : List ℕ) (bcount : ℕ) (starts : Set) (marks : List ℕ)
+    (long : length marks ≡ length acodes * length bcodes)
+    (none : (i j : ℕ) → i < length acodes → j < length bcodes → (standsIn acodes i && standsIn bcodes j) ≡ false) where
+  abbrev zeros : List ℕ
+  zeros = replicate (length acodes * length bcodes) 0
+
+  all-out : (x : ℕ) → getD zeros x 0 ≡ 0
+  all-out x = zero-at (length acodes * length bcodes) x
+
+  pub nothing-sorted : CoresSorted acodes left acount bcodes right bcount starts marks (length marks)
+  nothing-sorted = record {
+    all = zeros;
+    in-all = record { long = length-replicate _ _; each = λ i j k l. all-out (i * length bcodes + j) ∙ sym (ap one (none i j k l)) };
+    cores = zeros;
+    narrowed = record { long = refl; low = λ x. omega (arith, all-out x); sub = λ x h. h; keeps = λ z w h a i. h i };
+    sound = λ s K l x h. absurd (omega (arith, all-out x));
+    first = record {
+      within = omega (arith, whole);
+      inside = λ l. absurd (omega (arith, whole));
+      begins = λ l. absurd (omega (arith, whole));
+      none = λ l x h. absurd (omega (arith, all-out x));
+    };
+    long = whole;
+    spread = λ l. absurd (omega (arith, whole));
+  }
+    where
+      whole : length marks ≡ length zeros
+      whole = long ∙ sym (length-replicate (length acodes * length bcodes) 0)

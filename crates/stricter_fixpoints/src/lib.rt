@@ -3,16 +3,31 @@ use stricter_cores::narrow;
 use stricter_spread::place_cores;
 use stricter_spread::spread;
 use stricter_starts::first_start;
-ghost use mathlib.Core.Bool.{not};
+ghost use mathlib.Core.Path.{_≡_};
+ghost use mathlib.Core.Bool.{true, false, not};
 ghost use mathlib.Core.List.{List·Memᴰ};
 ghost use Prim.Native.Nat.{ℕ, _≤_, _<_};
 ghost use lib.ListN.{length};
 ghost use Rattle.sets.specs.Masks.{bit};
 ghost use Rattle.stricter_laws.specs.Tests.{startsIn};
 ghost use Rattle.stricter_cores_spec.specs.Tags.{rowOf};
-ghost use Rattle.stricter_cores_spec.specs.Steps.{CoresFit};
+ghost use Rattle.stricter_cores_spec.specs.Steps.{CoresFit, standsIn};
 ghost use Rattle.stricter_spread.specs.Rows.{Standing};
 ghost use Rattle.stricter_fixpoints.specs.Sorted.{CoresSorted};
+
+// Whether no number of a tagged table stands for a core.
+fn none_stands(codes: &[u64]) -> bool
+    ensures { λ r. ⌜ (r ≡ true → (i : ℕ) → i < length (now (codes .entry)) → standsIn (now (codes .entry)) i ≡ false) ⌝ }
+{
+    let mut i = 0;
+    while i < codes.len() {
+        if (codes[i] >> 48) as usize == i {
+            return false;
+        }
+        i += 1;
+    }
+    true
+}
 
 // Sorts out the pairs of cores of two tagged tables. Where a start pair is left, it gives each pair of numbers the mark of the pair of its
 // cores, and answers the first start pair; else the number of pairs.
@@ -33,6 +48,12 @@ pub fn sort_cores(
     ensures { λ r. ⌜ CoresSorted (now (acodes .entry)) (now (left .entry)) acount (now (bcodes .entry)) (now (right .entry)) bcount
         (startsIn (now (acodes .entry)) (now (bcodes .entry)) (λ c. bit c ainitial) (λ c. not (bit c binitial))) (now (marks .exit)) r ⌝ }
 {
+    if none_stands(acodes) {
+        return marks.len();
+    }
+    if none_stands(bcodes) {
+        return marks.len();
+    }
     place_cores(acodes, bcodes, marks);
     narrow(acodes, left, acount, bcodes.len(), right, bcount, marks);
     let start = first_start(acodes, bcodes, ainitial, binitial, marks);

@@ -1,23 +1,43 @@
 -- `sort_cores` meets its contract.
-use mathlib.Core.Path.{refl, sym, _∙_}
-use mathlib.Core.Bool.{cond}
+use mathlib.Core.Path.{_≡_, refl, sym, _∙_}
+use mathlib.Core.Bool.{Bool, false, _&&_, cond, and-false}
 use native.Mathlib.Omega.{arith}
 use lib.ListN.{length}
 use borrow.Author.Needs.{needs}
-use Rattle.stricter_cores_spec.specs.Steps.{CoreStep, SparedStep}
+use Rattle.stricter_cores_spec.specs.Steps.{CoreStep, SparedStep, standsIn}
 use Rattle.stricter_cores_spec.specs.Rounds.{Narrowed}
 use Rattle.stricter_cores_laws.proofs.Fitting.{fits-same, only-sub}
-use Rattle.stricter_fixpoints.proofs.Joined.{cores-low, only-cores}
+use Rattle.stricter_fixpoints.proofs.Joined.{cores-low, only-cores, nothing-sorted}
 use Rattle.stricter_fixpoints.proofs.sort_cores.Statement.{statement}
 use Rattle.stricter_fixpoints.proofs.sort_cores.Tie as tie
+
+and-fl : (a b : Bool) → a ≡ false → (a && b) ≡ false
+and-fl a b e = rw e
+
+and-fr : (a b : Bool) → b ≡ false → (a && b) ≡ false
+and-fr a b e = rw e (and-false a)
+
+returns : tie.Need-returns
+returns c =
+    let a = c .before .before .before .before .before .before .before .args in
+    let h = c .before .none-stands .ensures (c .if1 .taken) in
+    nothing-sorted (a .acodes .now) (a .left .now) (a .acount) (a .bcodes .now) (a .right .now) (a .bcount) _ (a .marks .now) (c .before .before .before .before .before .before .before .pre .0 .0 .marked)
+    (λ i j k l. and-fl (standsIn (a .acodes .now) i) (standsIn (a .bcodes .now) j) (h i k))
+
+returns-2 : tie.Need-returns-2
+returns-2 c =
+    let a = c .before .before .before .before .before .before .before .before .before .args in
+    let h = c .before .none-stands2 .ensures (c .if2 .taken) in
+    nothing-sorted (a .acodes .now) (a .left .now) (a .acount) (a .bcodes .now) (a .right .now) (a .bcount) _ (a .marks .now) (c .before .before .before .before .before .before .before .before .before .pre .0 .0 .marked)
+    (λ i j k l. and-fr (standsIn (a .acodes .now) i) (standsIn (a .bcodes .now) j) (h j l))
 
 place-cores-requires : tie.Need-place-cores-requires
 place-cores-requires c κs = search needs
 
 narrow-requires : tie.Need-narrow-requires
 narrow-requires c κs =
-    let a = c .before .before .before .before .before .before .before .before .before .before .args in
-    let p = c .before .before .before .before .before .before .before .before .before .before .pre in
+    let a = c .before .before .before .before .before .before .before .before .before .before .before .before .before .before .args in
+    let p = c .before .before .before .before .before .before .before .before .before .before .before .before .before .before .pre in
     let I = c .before .before .before .place-cores .ensures in (
       (fits-same _ _ (a .left .now) (a .right .now) (a .marks .now) _ (I .long ∙ sym (p .0 .0 .marked)) (p .0 .0), only-cores (a .acodes .now) (a .bcodes .now) _ I, cores-low (a .acodes .now) (a .bcodes .now) _ I, omega arith, omega arith),
       p .1,
@@ -25,17 +45,17 @@ narrow-requires c κs =
 
 first-start-requires : tie.Need-first-start-requires
 first-start-requires c κs =
-    let a = c .before .before .before .before .before .before .before .before .before .before .before .before .before .before .args in
-    let p = c .before .before .before .before .before .before .before .before .before .before .before .before .before .before .pre in
+    let a = c .before .before .before .before .before .before .before .before .before .before .before .before .before .before .before .before .before .before .args in
+    let p = c .before .before .before .before .before .before .before .before .before .before .before .before .before .before .before .before .before .before .pre in
     let n = c .before .before .before .narrow in
     let i = c .before .before .before .before .before .before .before .place-cores in
     let N = n .ensures .0 in
     let I = i .ensures in
     (N .long ∙ I .long, only-sub (a .acodes .now) (length (a .bcodes .now)) (i .last .1 .1 .0) (n .last .1 .1 .1 .1 .1 .1 .0) (N .sub) (only-cores (a .acodes .now) (a .bcodes .now) (i .last .1 .1 .0) I), p .0 .5, p .0 .6)
 
-returns : tie.Need-returns
-returns c =
-    let a = c .before .before .before .before .before .before .before .before .before .before .before .before .before .before .before .before .args in
+returns-3 : tie.Need-returns-3
+returns-3 c =
+    let a = c .before .before .before .before .before .before .before .before .before .before .before .before .before .before .before .before .before .before .before .before .args in
     let N = c .before .before .before .before .before .narrow in
     let I = c .before .before .before .before .before .before .before .before .before .place-cores in
     let n : Narrowed (CoreStep (length (a .bcodes .now)) (a .left .now) (a .right .now)) (SparedStep (length (a .bcodes .now)) (a .left .now) (a .right .now)) (λ s. cond s (a .bcount) (a .acount)) (I .last .1 .1 .0) (N .last .1 .1 .1 .1 .1 .1 .0) = N .ensures .0 in
@@ -47,13 +67,13 @@ returns c =
       sound = N .ensures .1;
       first = c .before .first-start .ensures;
       long = refl;
-      spread = λ l. absurd (omega (arith, c .if1 .taken));
+      spread = λ l. absurd (omega (arith, c .if3 .taken));
     }
 
 spread-requires : tie.Need-spread-requires
 spread-requires c κs =
-    let a = c .before .before .before .before .before .before .before .before .before .before .before .before .before .before .before .before .before .args in
-    let p = c .before .before .before .before .before .before .before .before .before .before .before .before .before .before .before .before .before .pre in
+    let a = c .before .before .before .before .before .before .before .before .before .before .before .before .before .before .before .before .before .before .before .before .before .args in
+    let p = c .before .before .before .before .before .before .before .before .before .before .before .before .before .before .before .before .before .before .before .before .before .pre in
     let n = c .before .before .before .before .before .before .narrow in
     let i = c .before .before .before .before .before .before .before .before .before .before .place-cores in
     let N = n .ensures .0 in
@@ -66,9 +86,9 @@ same-length c = search needs
 same-length-2 : tie.Need-same-length-2
 same-length-2 c = search needs
 
-returns-2 : tie.Need-returns-2
-returns-2 c =
-    let a = c .before .before .before .before .before .before .before .before .before .before .before .before .before .before .before .before .before .before .before .before .args in
+returns-4 : tie.Need-returns-4
+returns-4 c =
+    let a = c .before .before .before .before .before .before .before .before .before .before .before .before .before .before .before .before .before .before .before .before .before .before .before .before .args in
     let N = c .before .before .before .before .before .before .before .before .before .narrow in
     let I = c .before .before .before .before .before .before .before .before .before .before .before .before .before .place-cores in
     let n : Narrowed (CoreStep (length (a .bcodes .now)) (a .left .now) (a .right .now)) (SparedStep (length (a .bcodes .now)) (a .left .now) (a .right .now)) (λ s. cond s (a .bcount) (a .acount)) (I .last .1 .1 .0) (N .last .1 .1 .1 .1 .1 .1 .0) = N .ensures .0 in
@@ -86,4 +106,5 @@ returns-2 c =
 pub sort-cores-spec : {M : Type 1} → statement M
 sort-cores-spec =
     tie.close
-    (tie.spec place-cores-requires narrow-requires first-start-requires same-length returns spread-requires same-length-2 returns-2)
+    (tie.spec (λ c κs. search needs) returns (λ c κs. search needs) returns-2 place-cores-requires narrow-requires first-start-requires
+    same-length returns-3 spread-requires same-length-2 returns-4)
