@@ -15,9 +15,9 @@ use Rattle.table_lent.specs.Lent.{Lent}
 use Rattle.trim_spec.specs.Trimmed.{trimmedCodes, trimmedTransitions}
 use Rattle.rejecting_spec.specs.RejectingComputed.{rejectingMacrostates, rejectingTransitions}
 use Rattle.build.specs.declared.Built.{Built}
-use Rattle.build.specs.Built.{roomRows, builtBy, sliceAfter, buildRow}
+use Rattle.build.specs.Built.{roomRows, builtBy, sliceAfter, rowFrom, builtFrom, codesAfterFrom, transitionsAfterFrom}
 use Rattle.build_trimmed_spec.specs.Answers.{trimmedOf, trimmedCodesAfter, trimmedTransitionsAfter}
-use Rattle.build_rejecting_spec.specs.Answers.{rejectingRow, rejectingOf, rejectingCodesAfter, rejectingTransitionsAfter}
+use Rattle.build_rejecting_spec.specs.Answers.{rejectingOf, rejectingCodesAfter, rejectingTransitionsAfter}
 use Rattle.hoa_write.specs.Written as hoa
 use Rattle.file_prefaces.proofs.Verdicts.{SameVerdicts, same-verdicts}
 
@@ -42,7 +42,7 @@ module _ (xs zs : List ℕ) (b : Built) (ys ws : List ℕ) where
   TrimmedBy k r = BuiltBy k (trimmedCodes r) (trimmedTransitions r)
 
   trimmed-by : (f : List ℕ) → Trimmed f ↔ TrimmedBy (firstRow (fileRows f ++ trimmedRest (ruleIn f))) (ruleIn f)
-  unfolding trimmedOf trimmedCodesAfter trimmedTransitionsAfter buildRow
+  unfolding trimmedOf trimmedCodesAfter trimmedTransitionsAfter rowFrom
   trimmed-by f = (λ h. h, λ h. h)
 
   pub trimmed-same : SameVerdicts Trimmed trimmedRest TrimmedBy
@@ -60,7 +60,7 @@ module _ (xs zs : List ℕ) (b : Built) (ys ws : List ℕ) where
   RejectingBy k r = BuiltBy k (rejectingMacrostates r) (rejectingTransitions r)
 
   rejecting-by : (f : List ℕ) → Rejecting f ↔ RejectingBy (firstRow (fileRows f ++ rejectingRest (ruleIn f))) (ruleIn f)
-  unfolding rejectingOf rejectingCodesAfter rejectingTransitionsAfter rejectingRow
+  unfolding builtFrom codesAfterFrom transitionsAfterFrom rowFrom
   rejecting-by f = (λ h. h, λ h. h)
 
   pub rejecting-same : SameVerdicts Rejecting rejectingRest RejectingBy

@@ -31,7 +31,7 @@ use Rattle.build_lists.specs.Room.{codesRoom}
 use Rattle.build_lists.proofs.Room.{room-cap}
 use Rattle.build.specs.declared.Counts.{Counts}
 use Rattle.build.specs.declared.Built.the-variants as build
-use Rattle.build.specs.Built.{roomRows, builtBy, buildRow, builtOf}
+use Rattle.build.specs.Built.{roomRows, builtBy, rowFrom, builtFrom, buildRow, builtOf}
 use Rattle.build.specs.Entry.{TableBuilt}
 use Rattle.build.proofs.ByLists.{codes-same, moves-same}
 use Rattle.judges_agree.proofs.BuiltTables.{built-passes, codes-in-bytes, transitions-in-bytes, built-served-bytes}
@@ -118,11 +118,11 @@ from-table (suc k) codes moves n e = let z : _≡_ {A = ℕ} 0 1 = cc in absurd 
 
 module _ (f xs zs ys ws : List ℕ) (n : Counts) (B : TableBuilt f xs zs (build.Table n) ys ws) where
   counted : (buildRow f (length xs) (length zs) ≡ 0) × (n .macrostates ≡ length (macrostates (ruleIn f)))
-  unfolding builtOf
+  unfolding builtFrom
   counted = from-table (buildRow f (length xs) (length zs)) (macrostates (ruleIn f)) (transitions (ruleIn f)) n (B .answer)
 
   passed : (fileRow f ≡ 0) × (length (macrostates (ruleIn f)) ≤ codesRoom (length xs))
-  unfolding buildRow fileRow roomRows
+  unfolding rowFrom fileRow roomRows
   passed =
       let r = first-parts (fileRows f) _ (file-numbered f) (counted .0) in
       (r .0, ltb-false (codesRoom (length xs)) (length (macrostates (ruleIn f))) (first-pass (ltb (codesRoom (length xs)) (length (macrostates (ruleIn f)))) 16 _ (r .1) .0))

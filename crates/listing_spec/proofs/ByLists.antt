@@ -14,7 +14,7 @@ use Rattle.file_spec.specs.Rows.{fileRow, fileRows}
 use Rattle.refusals.proofs.Rows.{first-left, first-right}
 use Rattle.file_read.proofs.FileRows.{file-numbered, accepted-passing}
 use Rattle.build_lists.specs.Room.{roomOf}
-use Rattle.build.specs.Built.{roomRows, roomRow, builtBy, buildRow, builtOf}
+use Rattle.build.specs.Built.{roomRows, roomRow, builtBy, rowFrom, builtFrom, buildRow, builtOf}
 use Rattle.build.proofs.ByLists.{codes-same, moves-same}
 use Rattle.build.proofs.RoomRows.{row-codes}
 use Rattle.listing_lines_spec.specs.Lines.{refusedLine}
@@ -34,18 +34,18 @@ refused-by k r codes moves = refl
 
 module _ (f : List ℕ) (short : length f ≤ 4096) where
   row-text : listingOf f ≡ textBy (buildRow f 512 4096) (namedIn f) (macrostates (ruleIn f)) (transitions (ruleIn f))
-  unfolding builtOf
+  unfolding builtFrom
   row-text = short-text f short ∙ answer-text (buildRow f 512 4096) (namedIn f)
 
   refused-listing : (k : ℕ) → fileRow f ≡ suc k → listingOf f ≡ refusedLine (suc k)
-  unfolding buildRow fileRow
+  unfolding rowFrom fileRow
   refused-listing k e =
       let row : suc k ≡ buildRow f 512 4096 = first-left (fileRows f) _ (suc k) (λ z. omega arith) (sym e) in
       row-text ∙ ap (λ (j : ℕ). textBy j (namedIn f) (macrostates (ruleIn f)) (transitions (ruleIn f))) (sym row) ∙ refused-by k (namedIn f) (macrostates (ruleIn f)) (transitions (ruleIn f))
 
   module _ (e : fileRow f ≡ 0) (codes moves : List ℕ) (L : ListsReachable (ruleIn f) codes moves) where
     accepted-text : listingOf f ≡ textBy (roomRow (macrostates (ruleIn f)) (transitions (ruleIn f)) 512 4096) (namedIn f) (macrostates (ruleIn f)) (transitions (ruleIn f))
-    unfolding buildRow roomRow fileRow
+    unfolding rowFrom roomRow fileRow
     accepted-text =
         row-text
         ∙ ap (λ (j : ℕ). textBy j (namedIn f) (macrostates (ruleIn f)) (transitions (ruleIn f)))
