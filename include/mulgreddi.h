@@ -17,8 +17,8 @@
 /* The version, by which the Makefile and the pkg-config file go. With a new major number some input is answered otherwise than before;
  * docs/CHANGELOG.md tells which. */
 #define MULGREDDI_VERSION_MAJOR 2
-#define MULGREDDI_VERSION_MINOR 1
-#define MULGREDDI_VERSION_PATCH 1
+#define MULGREDDI_VERSION_MINOR 2
+#define MULGREDDI_VERSION_PATCH 0
 #define MULGREDDI_TEXT_OF_(a, b, c) #a "." #b "." #c
 #define MULGREDDI_TEXT_OF(a, b, c) MULGREDDI_TEXT_OF_(a, b, c)
 #define MULGREDDI_VERSION MULGREDDI_TEXT_OF(MULGREDDI_VERSION_MAJOR, MULGREDDI_VERSION_MINOR, MULGREDDI_VERSION_PATCH)
@@ -38,7 +38,7 @@
 #define MULGREDDI_LIVE_STATE 74290         /* bytes of the state of a live log */
 #define MULGREDDI_LIVE_LETTERS 512         /* letters that a live log holds */
 #define MULGREDDI_LIVE_MARKS 16            /* marks of a live log, 0 to 15 */
-#define MULGREDDI_STACK 65536              /* bytes of stack that a call needs at most; measured (tests/stack.c): under 52,000 */
+#define MULGREDDI_STACK 65536              /* bytes of stack that a call needs at most; measured (tests/stack.c): under 53,000 */
 
 #ifdef __cplusplus
 extern "C" {
@@ -266,6 +266,8 @@ typedef struct {
  * scratch P bytes; both builds' counts tell P beforehand. With no, the start of word becomes the letters of a word that a accepts and b
  * rejects, lead-in then cycle, at most 3 * P together and perhaps over 32 each; which of several it is, is not laid down. The rest of word,
  * and with yes all of it, is not touched. scratch is zero throughout afterwards.
+ * Its time grows with the pairs of cores from which both tables can go on, and with P for zeroing scratch: P of 250 million took 2.2 seconds
+ * besides the builds, 1,590 million with few such pairs 0.1 seconds.
  * Refusals: the rule's of a, then of b, 28, 17 and 18 by the table of a, 17 and 18 by that of b, 29. 17, 18 and 29 set all four rooms to
  * zero throughout; no refusal changes word or scratch. */
 mulgreddi_comparison mulgreddi_stricter(const uint8_t *a, size_t a_len, const uint8_t *b, size_t b_len,
