@@ -19,11 +19,13 @@ use Rattle.build_lists.proofs.Room.{room-cap, room-len}
 
 module _ (codes moves xs zs : List ℕ) where
   -- by the row
-  by-row : (k : ℕ) → roomRow codes moves (length xs) (length zs) ≡ k → (b : Built) (ys ws : List ℕ) → b ≡ builtBy k codes moves → ys ≡ sliceAfter k codes xs → ws ≡ sliceAfter k moves zs → Made codes moves xs zs b ys ws
+  by-row : (k : ℕ) → roomRow codes moves (length xs) (length zs) ≡ k → (b : Built) (ys ws : List ℕ) → b ≡ builtBy k codes moves → ys ≡ sliceAfter k codes xs → ws ≡ sliceAfter k moves zs →
+      Made codes moves xs zs b ys ws
   by-row k e b ys ws p q s = record { answer = rw e p; codes-after = rw e q; moves-after = rw e s }
 
   -- 17
-  pub made-17 : (mid ys ws : List ℕ) (m : ℕ) (full : Bool) → full ≡ true → Padded 65536 codes xs mid m full → ys ≡ replicate (length mid) 0 → ws ≡ replicate (length zs) 0 → Made codes moves xs zs (Refused 17) ys ws
+  pub made-17 : (mid ys ws : List ℕ) (m : ℕ) (full : Bool) → full ≡ true → Padded 65536 codes xs mid m full → ys ≡ replicate (length mid) 0 → ws ≡ replicate (length zs) 0 →
+      Made codes moves xs zs (Refused 17) ys ws
   unfolding builtBy sliceAfter
   made-17 mid ys ws m full t P y w =
       let row : roomRow codes moves (length xs) (length zs) ≡ 17 = row-codes codes moves (length xs) (length zs) (P .crowded t) in

@@ -34,7 +34,8 @@ module _ (row : ℕ) (t r : Rule) (none : row ≡ 0) (same : t ≡ r) where
   unfolding sliceAfter
   moves-there zs = rw (none, same)
 
-module _ (r : Rule) (P : Passing r) (apart : someNested r ≡ false) (p : List ℕ) (named : firstRow (prefaceRows (r .s) p) ≡ 0) (xs zs : List ℕ) (codes-fit : length (macrostates r) ≤ codesRoom (length xs)) (moves-fit : length (transitions r) ≤ transitionsRoom (length zs)) where
+module _ (r : Rule) (P : Passing r) (apart : someNested r ≡ false) (p : List ℕ) (named : firstRow (prefaceRows (r .s) p) ≡ 0) (xs zs : List ℕ)
+    (codes-fit : length (macrostates r) ≤ codesRoom (length xs)) (moves-fit : length (transitions r) ≤ transitionsRoom (length zs)) where
   -- no row refuses the file of the rule
   unrefused : buildRow (p ++ bodyOf r) (length xs) (length zs) ≡ 0
   unrefused =

@@ -49,7 +49,8 @@ code-put y =
     ∙ ap (λ (x : ℕ). x * 2 ^ 40 + y % 2 ^ 48 / 2 ^ 8) same
 
 -- one turn of to_codes
-pub coded-next : (i : ℕ) (xs ys : List ℕ) → i < length xs → ys ≡ coded i xs → set ys i (bitOr (bitAnd (getD ys i 0) 255 * 2 ^ 40 % 2 ^ 64) (bitAnd (getD ys i 0) 281474976710655 / 2 ^ 8)) ≡ coded (i + 1) xs
+pub coded-next : (i : ℕ) (xs ys : List ℕ) → i < length xs → ys ≡ coded i xs →
+    set ys i (bitOr (bitAnd (getD ys i 0) 255 * 2 ^ 40 % 2 ^ 64) (bitAnd (getD ys i 0) 281474976710655 / 2 ^ 8)) ≡ coded (i + 1) xs
 coded-next i xs ys h e =
     ap (set ys i) (code-put (getD ys i 0))
     ∙ ap (λ (l : List ℕ). set l i (codeOf (getD l i 0 % 2 ^ 48))) e

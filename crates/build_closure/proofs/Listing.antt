@@ -26,7 +26,8 @@ use Rattle.build_closure.proofs.Gathering.{keys-long}
 use Rattle.build_step_back.proofs.Codes.{pair-low}
 
 -- the numbers of R as those of another predicate
-pub gathered-as : (R Q : ℕ → Type 0) (ws xs ys : List ℕ) (m : ℕ) (full : Bool) → length xs ≡ length ws → ((y : ℕ) → R y → Q y) → ((y : ℕ) → Q y → R y) → Gathered R xs ys m full → Gathered Q ws ys m full
+pub gathered-as : (R Q : ℕ → Type 0) (ws xs ys : List ℕ) (m : ℕ) (full : Bool) → length xs ≡ length ws → ((y : ℕ) → R y → Q y) → ((y : ℕ) → Q y → R y) → Gathered R xs ys m full →
+    Gathered Q ws ys m full
 gathered-as R Q ws xs ys m full l f g a = record {
   long = a .long ∙ l;
   fits = a .fits;
@@ -81,5 +82,6 @@ module _ (r : Rule) (P : Passing r) (start : Set) (xs ys : List ℕ) (m : ℕ) w
   pub listed-full : (full : Bool) → full ≡ true → Gathered (KeyOf R) xs ys m full → Listed (macrostatesFrom r start) xs ys m full
   listed-full full e g = record { long = g .long; fits = g .fits; listed = λ t. absurd (true≢false (sym e ∙ t)); crowded = λ t. too-many (rw e at g) }
 
-  pub listed-all : (full : Bool) → full ≡ false → Gathered (KeyOf R) xs ys m full → (zs ws : List ℕ) → zs ≡ coded m ys → ArrangedFirst zs m ws → length ws ≡ length ys → Listed (macrostatesFrom r start) xs ws m false
+  pub listed-all : (full : Bool) → full ≡ false → Gathered (KeyOf R) xs ys m full → (zs ws : List ℕ) → zs ≡ coded m ys → ArrangedFirst zs m ws → length ws ≡ length ys →
+      Listed (macrostatesFrom r start) xs ws m false
   listed-all full e g zs ws q a l = record { long = l ∙ g .long; fits = omega (arith, g .fits); listed = λ t. all-listed (rw e at g) zs ws q a; crowded = λ t. absurd (false≢true t) }

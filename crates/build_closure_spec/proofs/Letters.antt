@@ -46,7 +46,8 @@ module _ (A : Automaton) (small : A .n ≤ 8) (a v : ℕ) where
   ranks-low = num-lt 16 (omega arith) 8 (λ q. cond (ltb q (A .n)) (earlierRank A a v q) 0) (λ q k. rank-low q)
 
 -- the same keys go on to the same keys
-pub moved-same : (from n : ℕ) (xs : List ℕ) (e e′ c c′ : ℕ) (f g : ℕ → ℕ) → e ≡ e′ → c ≡ c′ → ((p : ℕ) → p < n → f (keyAt xs p % 256) ≡ g (keyAt xs p % 256)) → (y : ℕ) → After from n xs (Moved e c f) y → After from n xs (Moved e′ c′ g) y
+pub moved-same : (from n : ℕ) (xs : List ℕ) (e e′ c c′ : ℕ) (f g : ℕ → ℕ) → e ≡ e′ → c ≡ c′ → ((p : ℕ) → p < n → f (keyAt xs p % 256) ≡ g (keyAt xs p % 256)) → (y : ℕ) →
+    After from n xs (Moved e c f) y → After from n xs (Moved e′ c′ g) y
 moved-same from n xs e e′ c c′ f g p q h y m = (
   m .0,
   m .1,
@@ -66,7 +67,8 @@ module _ (A : Automaton) (parts : List ℕ) (C s from n : ℕ) (xs : List ℕ) w
   pub edges-out : (y : ℕ) → After from n xs (KeyEdge A parts C s) y → (v : ℕ) × LeadsAt A parts C s from n xs v y
   edges-out y h = (h .3 .0, (h .3 .1, (h .0, h .1, h .2, h .3 .2)))
 
-module _ (r : Rule) (opens parts : List ℕ) (shape : Shape) (T : RuleTables r opens parts shape) (a v : ℕ) (known : a < shape .s) (w : Cored parts (shape .components) v) (low : List ℕ) (L : Lowest v low) where
+module _ (r : Rule) (opens parts : List ℕ) (shape : Shape) (T : RuleTables r opens parts shape) (a v : ℕ) (known : a < shape .s) (w : Cored parts (shape .components) v) (low : List ℕ)
+    (L : Lowest v low) where
   within : Within 8 v (capsOf parts ((automaton r) .components))
   within = within-all r parts shape (T .shaped) v (w .within)
 
@@ -91,7 +93,8 @@ module _ (r : Rule) (opens parts : List ℕ) (shape : Shape) (T : RuleTables r o
     unfolding backOf
     earlier-is =
         ap₂ (λ (x y : ℕ). x * 2 ^ 8 + y) ranks-are
-        (set-is (automaton r) (layered r (T .shaped .passing)) (r .s) opens parts (T .shaped .masks) (T .table) a v letter within low L (shape .accepting) (accepting-fits r parts shape (T .shaped)) (λ q l. accepting-same r parts shape (T .shaped) q))
+        (set-is (automaton r) (layered r (T .shaped .passing)) (r .s) opens parts (T .shaped .masks) (T .table) a v letter within low L (shape .accepting) (accepting-fits r parts shape (T .shaped))
+        (λ q l. accepting-same r parts shape (T .shaped) q))
 
     pub earlier-fits : ranks * 2 ^ 8 + bitXor (getD opens (a * 256 + getD low 15 0) 0) (shape .accepting) < 2 ^ 40
     earlier-fits = rw earlier-is (back-low (automaton r) (T .shaped .masks .few-states) a v)
@@ -99,9 +102,11 @@ module _ (r : Rule) (opens parts : List ℕ) (shape : Shape) (T : RuleTables r o
     pub onto-is : (pair : ℕ) → pair < 256 → pair % 16 < shape .components → onwardIn v parts (shape .components) levels pair ≡ ontoOf (automaton r) a v pair
     onto-is pair h l =
         ap (λ (c : ℕ). onwardIn v parts c levels pair) (T .shaped .components-are)
-        ∙ onward-is (automaton r) (layered r (T .shaped .passing)) (r .s) opens parts (T .shaped .masks) (T .table) a v letter within low L ranks levels back (rw (T .shaped .components-are) at (w .passes)) pair h (omega (arith, T .shaped .components-are))
+        ∙ onward-is (automaton r) (layered r (T .shaped .passing)) (r .s) opens parts (T .shaped .masks) (T .table) a v letter within low L ranks levels back
+        (rw (T .shaped .components-are) at (w .passes)) pair h (omega (arith, T .shaped .components-are))
 
-    module _ (core earlier : ℕ) (ec : core ≡ v * 2 ^ 8 + bitXor (getD low 15 0) (shape .accepting)) (ee : earlier ≡ ranks * 2 ^ 8 + bitXor (getD opens (a * 256 + getD low 15 0) 0) (shape .accepting)) (from n : ℕ) (xs : List ℕ) (p : Paired (shape .components) xs n) where
+    module _ (core earlier : ℕ) (ec : core ≡ v * 2 ^ 8 + bitXor (getD low 15 0) (shape .accepting)) (ee : earlier ≡ ranks * 2 ^ 8 + bitXor (getD opens (a * 256 + getD low 15 0) 0) (shape .accepting))
+        (from n : ℕ) (xs : List ℕ) (p : Paired (shape .components) xs n) where
       core-same : core ≡ coreOf (automaton r) v
       core-same = ec ∙ core-is r parts shape (T .shaped) v (w .within) low L
 
@@ -110,21 +115,25 @@ module _ (r : Rule) (opens parts : List ℕ) (shape : Shape) (T : RuleTables r o
 
       -- what move_keys adds is what leads over the letter
       pub leads-in : (y : ℕ) → After from n xs (Moved earlier core (onwardIn v parts (shape .components) levels)) y → After from n xs (LeadsOver (automaton r) v a) y
-      leads-in = moved-same from n xs earlier (backOf (automaton r) a v) core (coreOf (automaton r) v) (onwardIn v parts (shape .components) levels) (ontoOf (automaton r) a v) (ee ∙ earlier-is) core-same onto-same
+      leads-in = moved-same from n xs earlier (backOf (automaton r) a v) core (coreOf (automaton r) v) (onwardIn v parts (shape .components) levels) (ontoOf (automaton r) a v)
+          (ee ∙ earlier-is) core-same onto-same
 
       pub leads-out : (y : ℕ) → After from n xs (LeadsOver (automaton r) v a) y → After from n xs (Moved earlier core (onwardIn v parts (shape .components) levels)) y
-      leads-out = moved-same from n xs (backOf (automaton r) a v) earlier (coreOf (automaton r) v) core (ontoOf (automaton r) a v) (onwardIn v parts (shape .components) levels) (sym (ee ∙ earlier-is)) (sym core-same) (λ q l. sym (onto-same q l))
+      leads-out = moved-same from n xs (backOf (automaton r) a v) earlier (coreOf (automaton r) v) core (ontoOf (automaton r) a v) (onwardIn v parts (shape .components) levels)
+          (sym (ee ∙ earlier-is)) (sym core-same) (λ q l. sym (onto-same q l))
 
   -- ---- the clock
 
   earlier-set : backOf (automaton r) a v % 256 ≡ bitXor (getD opens (a * 256 + getD low 15 0) 0) (shape .accepting)
   unfolding backOf
   earlier-set =
-      let e = set-is (automaton r) (layered r (T .shaped .passing)) (r .s) opens parts (T .shaped .masks) (T .table) a v letter within low L (shape .accepting) (accepting-fits r parts shape (T .shaped)) (λ q l. accepting-same r parts shape (T .shaped) q) in
+      let e = set-is (automaton r) (layered r (T .shaped .passing)) (r .s) opens parts (T .shaped .masks) (T .table) a v letter within low L (shape .accepting)
+      (accepting-fits r parts shape (T .shaped)) (λ q l. accepting-same r parts shape (T .shaped) q) in
       omega (arith, mask-lt 8 (earlierSet (automaton r) a v))
 
   -- where no key of the earlier set stands from place `from` on, nothing leads over the letter
-  pub nothing-new : (xs heads last : List ℕ) (n from : ℕ) → Chained xs heads last n → getD last (bitXor (getD opens (a * 256 + getD low 15 0) 0) (shape .accepting)) 0 ≤ from → (y : ℕ) → After from n xs (LeadsOver (automaton r) v a) y → ⊥
+  pub nothing-new : (xs heads last : List ℕ) (n from : ℕ) → Chained xs heads last n → getD last (bitXor (getD opens (a * 256 + getD low 15 0) 0) (shape .accepting)) 0 ≤ from → (y : ℕ) →
+      After from n xs (LeadsOver (automaton r) v a) y → ⊥
   nothing-new xs heads last n from C h y m =
       let e : keyAt xs (m .0) / 256 % 256 ≡ bitXor (getD opens (a * 256 + getD low 15 0) 0) (shape .accepting) = ap (λ (x : ℕ). x % 256) (m .3 .from) ∙ earlier-set in
       let c : m .0 < getD last (bitXor (getD opens (a * 256 + getD low 15 0) 0) (shape .accepting)) 0 = rw e at (C .clock (m .0) (m .2)) in

@@ -57,7 +57,8 @@ module _ (A : Automaton) (H : Layered A) (parts : List ℕ) (P : Parts A parts) 
     unfolding vectorOf
     vector-same =
         ranks-eq (num 16 8 (λ q. cond (ltb q (A .n)) (rankAt v q) 0)) v (num-lt 16 (omega arith) 8 _ (λ q k. low-digit q)) (within-lt 8 v _ (w .within))
-        (λ q k. rank-num (λ q. cond (ltb q (A .n)) (rankAt v q) 0) (λ q k. low-digit q) q k ∙ by-cases (decLt q (A .n)) (λ l. rw (lt-ltb q (A .n) l)) (λ l. rw (le-ltb q (A .n) (omega arith)) (sym (trim-rank q (omega arith)))))
+        (λ q k. rank-num (λ q. cond (ltb q (A .n)) (rankAt v q) 0) (λ q k. low-digit q) q k
+        ∙ by-cases (decLt q (A .n)) (λ l. rw (lt-ltb q (A .n) l)) (λ l. rw (le-ltb q (A .n) (omega arith)) (sym (trim-rank q (omega arith)))))
 
     pub core-fits : coreOf A v < 2 ^ 40
     core-fits = core-low A v (within-lt 8 v _ (w .within))
@@ -144,13 +145,15 @@ module _ (A : Automaton) (H : Layered A) (parts : List ℕ) (P : Parts A parts) 
             let same = vector-in (z % 16) (z / 16) hK (omega arith) in
             let pair : z % 16 + 16 * (z / 16) ≡ z = omega arith in
             let top : ((z % 16 + 16 * (z / 16)) * 2 ^ 40 + coreOf A v) / 2 ^ 40 ≡ z = omega (arith, core-fits) in
-            let key : keyOf ((z % 16 + 16 * (z / 16)) * 2 ^ 40 + coreOf A v) ≡ coreOf A v * 256 + z = key-of (z % 16 + 16 * (z / 16)) (coreOf A v) core-fits ∙ ap (λ (x : ℕ). coreOf A v * 256 + x) pair in (
+            let key : keyOf ((z % 16 + 16 * (z / 16)) * 2 ^ 40 + coreOf A v) ≡ coreOf A v * 256 + z =
+            key-of (z % 16 + 16 * (z / 16)) (coreOf A v) core-fits ∙ ap (λ (x : ℕ). coreOf A v * 256 + x) pair in (
               (z % 16 + 16 * (z / 16)) * 2 ^ 40 + coreOf A v,
               D,
-              goes-iff A H c a ((z % 16 + 16 * (z / 16)) * 2 ^ 40 + coreOf A v) .0 (goes-is A parts P c a ((z % 16 + 16 * (z / 16)) * 2 ^ 40 + coreOf A v) (M .coded) (M .component) (D .coded) (D .core) .1 (
-                sym (key-core c low) ∙ L .from ∙ ap (backOf A a) (sym same),
-                top ∙ e ∙ ap (λ (u : ℕ). ontoOf A a u (c / 2 ^ 40)) (sym same),
-              )),
+              goes-iff A H c a ((z % 16 + 16 * (z / 16)) * 2 ^ 40 + coreOf A v) .0
+                  (goes-is A parts P c a ((z % 16 + 16 * (z / 16)) * 2 ^ 40 + coreOf A v) (M .coded) (M .component) (D .coded) (D .core) .1 (
+                    sym (key-core c low) ∙ L .from ∙ ap (backOf A a) (sym same),
+                    top ∙ e ∙ ap (λ (u : ℕ). ontoOf A a u (c / 2 ^ 40)) (sym same),
+                  )),
               L .to ∙ ap (λ (x : ℕ). coreOf A v * 256 + ontoOf A a v x) (key-pair c low) ∙ ap (λ (x : ℕ). coreOf A v * 256 + x) (sym e) ∙ sym key,
             )
 
@@ -188,7 +191,8 @@ module _ (A : Automaton) (H : Layered A) (parts : List ℕ) (P : Parts A parts) 
     first-key v w t y q =
         let e : (0 + 16 * 0) * 2 ^ 40 + coreOf A v ≡ coreOf A v = omega arith in (
           (0 + 16 * 0) * 2 ^ 40 + coreOf A v,
-          macrostate.begins (code-macrostate v w 0 0 filled (omega arith)) (is-begun start ((0 + 16 * 0) * 2 ^ 40 + coreOf A v) (ap start e ∙ t) (component-is v w 0 0 filled (omega arith)) (classes-is v w 0 0 filled (omega arith))),
+          macrostate.begins (code-macrostate v w 0 0 filled (omega arith))
+              (is-begun start ((0 + 16 * 0) * 2 ^ 40 + coreOf A v) (ap start e ∙ t) (component-is v w 0 0 filled (omega arith)) (classes-is v w 0 0 filled (omega arith))),
           q ∙ (let f : coreOf A v * 256 ≡ coreOf A v * 256 + (0 + 16 * 0) = omega arith in f) ∙ sym (key-of (0 + 16 * 0) (coreOf A v) (core-fits v w)),
         )
 
@@ -216,7 +220,8 @@ module _ (A : Automaton) (H : Layered A) (parts : List ℕ) (P : Parts A parts) 
       key-reached f (macrostate.goesTo {c} {d} a R l M G) = leads (key-reached f R) (step-out s c a d (reachable-macrostate A H (P .few-states) filled s start R) M l G)
 
 -- every key that is reached has the number of a component
-pub reached-paired : (A : Automaton) (H : Layered A) (parts : List ℕ) (P : Parts A parts) (s : ℕ) (F : ℕ → Type 0) → ((y : ℕ) → F y → y % 16 < A .components) → {y : ℕ} → Reached F (KeyEdge A parts (A .components) s) y → y % 16 < A .components
+pub reached-paired : (A : Automaton) (H : Layered A) (parts : List ℕ) (P : Parts A parts) (s : ℕ) (F : ℕ → Type 0) → ((y : ℕ) → F y → y % 16 < A .components) → {y : ℕ} →
+    Reached F (KeyEdge A parts (A .components) s) y → y % 16 < A .components
 reached-paired A H parts P s F f (begins {x} h) = f x h
 reached-paired A H parts P s F f (leads {x} {y} R (v, w, l)) =
     let h = reached-paired A H parts P s F f R in
@@ -236,13 +241,15 @@ module _ (r : Rule) (parts : List ℕ) (shape : Shape) (S : Shaped r parts shape
   first-paired y f = let h = components-there r (S .passing) in omega (arith, f .1 .1 .key)
 
   pub key-paired : {y : ℕ} → ReachedKey r parts shape y → y % 16 < shape .components
-  key-paired R = rw (S .components-are) (reached-paired (automaton r) (layered r (S .passing)) parts (S .masks) (r .s) (First r parts (shape .components) (shape .holds)) first-paired (rw edge-is at R))
+  key-paired R = rw (S .components-are) (reached-paired (automaton r) (layered r (S .passing)) parts (S .masks) (r .s) (First r parts (shape .components) (shape .holds)) first-paired
+      (rw edge-is at R))
 
   abbrev pub reachable : ℕ → Type 0
   reachable = Reachable (automaton r) (r .s) (startOf r (shape .holds))
 
   first-reachable : (y : ℕ) → First r parts (shape .components) (shape .holds) y → KeyOf reachable y
-  first-reachable y f = first-key (automaton r) (layered r (S .passing)) parts (S .masks) (r .s) (startOf r (shape .holds)) (components-there r (S .passing)) (f .0) (rw (S .components-are) at (f .1 .0)) (f .1 .1 .start) y (f .1 .1 .key)
+  first-reachable y f = first-key (automaton r) (layered r (S .passing)) parts (S .masks) (r .s) (startOf r (shape .holds)) (components-there r (S .passing)) (f .0)
+      (rw (S .components-are) at (f .1 .0)) (f .1 .1 .start) y (f .1 .1 .key)
 
   reachable-first : (c : ℕ) → Macrostate (automaton r) c → begun (startOf r (shape .holds)) c ≡ true → First r parts (shape .components) (shape .holds) (keyOf c)
   reachable-first c M b =
@@ -251,7 +258,9 @@ module _ (r : Rule) (parts : List ℕ) (shape : Shape) (S : Shaped r parts shape
 
   -- what is reached from the first keys are the keys of the reachable macrostates
   pub reached-in : (y : ℕ) → ReachedKey r parts shape y → KeyOf reachable y
-  reached-in y R = reached-key (automaton r) (layered r (S .passing)) parts (S .masks) (r .s) (startOf r (shape .holds)) (components-there r (S .passing)) (First r parts (shape .components) (shape .holds)) first-reachable (rw edge-is at R)
+  reached-in y R = reached-key (automaton r) (layered r (S .passing)) parts (S .masks) (r .s) (startOf r (shape .holds)) (components-there r (S .passing))
+      (First r parts (shape .components) (shape .holds)) first-reachable (rw edge-is at R)
 
   pub reached-out : (y : ℕ) → KeyOf reachable y → ReachedKey r parts shape y
-  reached-out y k = rw (edge-is, k .2) (key-reached (automaton r) (layered r (S .passing)) parts (S .masks) (r .s) (startOf r (shape .holds)) (components-there r (S .passing)) (First r parts (shape .components) (shape .holds)) reachable-first (k .1))
+  reached-out y k = rw (edge-is, k .2) (key-reached (automaton r) (layered r (S .passing)) parts (S .masks) (r .s) (startOf r (shape .holds)) (components-there r (S .passing))
+      (First r parts (shape .components) (shape .holds)) reachable-first (k .1))

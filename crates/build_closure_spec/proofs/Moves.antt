@@ -74,7 +74,8 @@ module _ (earlier core : ℕ) (onto : ℕ → ℕ) (from : ℕ) (xs : List ℕ) 
 
     module _ (zs heads last : List ℕ) (u : ℕ) (full : Bool) (g : Grown (Moved earlier core onto (keyAt xs i)) (Moved earlier core onto (keyAt xs i)) ys m zs heads last u full) where
       added : Grown (Moved earlier core onto (keyAt xs i)) May ys m zs heads last u full
-      added = grown-as (Moved earlier core onto (keyAt xs i)) (Moved earlier core onto (keyAt xs i)) ys m zs heads last u full g (Moved earlier core onto (keyAt xs i)) May (λ e y h. h) (λ y h. (i, omega arith, turn-inside, h))
+      added = grown-as (Moved earlier core onto (keyAt xs i)) (Moved earlier core onto (keyAt xs i)) ys m zs heads last u full g (Moved earlier core onto (keyAt xs i)) May (λ e y h. h)
+          (λ y h. (i, omega arith, turn-inside, h))
 
       -- no room
       pub turn-full : full ≡ true → Grown Must May xs n zs heads last u full

@@ -65,7 +65,8 @@ module _ (A : Automaton) (parts : List ℕ) (P : Parts A parts) (x : ℕ) (state
   digit q = cond (ltb q (A .n) && bit x q) (shared q) 0
 
   inside-is : (c q : ℕ) → ((ltb q (A .n) && eqb (A .component q) c) && bit x q) ≡ ((ltb q (A .n) && bit x q) && eqb (A .component q) c)
-  inside-is c q = bif (ltb q (A .n)) (λ t. rw t (bif (bit x q) (λ u. rw u (bif (eqb (A .component q) c) (λ e. rw e) (λ e. rw e))) (λ u. rw u (bif (eqb (A .component q) c) (λ e. rw e) (λ e. rw e))))) (λ t. rw t)
+  inside-is c q = bif (ltb q (A .n)) (λ t. rw t (bif (bit x q) (λ u. rw u (bif (eqb (A .component q) c) (λ e. rw e) (λ e. rw e))) (λ u. rw u (bif (eqb (A .component q) c) (λ e. rw e) (λ e. rw e)))))
+      (λ t. rw t)
 
   open-sizes : (c : ℕ) → c < A .components → sizesOf (openPart c) ≡ num 16 8 (λ q. cond ((ltb q (A .n) && bit x q) && eqb (A .component q) c) (shared q) 0)
   unfolding sizesOf
@@ -80,9 +81,11 @@ module _ (A : Automaton) (parts : List ℕ) (P : Parts A parts) (x : ℕ) (state
   caps-open : (those : List ℕ) → ((c : ℕ) → c < 8 → getD those c 0 ≡ openPart c) → capsOf those (A .components) ≡ num 16 8 digit
   unfolding capsOf
   caps-open those h =
-      sum-ext (A .components) (λ c. sizesOf (getD those c 0)) (λ c. num 16 8 (λ q. cond ((ltb q (A .n) && bit x q) && eqb (A .component q) c) (shared q) 0)) (λ c l. ap sizesOf (h c (omega (arith, P .few-components))) ∙ open-sizes c l)
+      sum-ext (A .components) (λ c. sizesOf (getD those c 0)) (λ c. num 16 8 (λ q. cond ((ltb q (A .n) && bit x q) && eqb (A .component q) c) (shared q) 0))
+      (λ c l. ap sizesOf (h c (omega (arith, P .few-components))) ∙ open-sizes c l)
       ∙ sum-ranks (A .components) (A .component) (λ q. ltb q (A .n) && bit x q) shared
-      ∙ num-ext 16 (omega arith) 8 _ _ (λ q k. bif (ltb q (A .n) && bit x q) (λ t. rw (t, lt-ltb (A .component q) (A .components) (P .known q (ltb-true q (A .n) (and-l (ltb q (A .n)) (bit x q) t))))) (λ t. rw t))
+      ∙ num-ext 16 (omega arith) 8 _ _ (λ q k. bif (ltb q (A .n) && bit x q) (λ t. rw (t, lt-ltb (A .component q) (A .components) (P .known q (ltb-true q (A .n) (and-l (ltb q (A .n)) (bit x q) t)))))
+      (λ t. rw t))
 
   -- ---- an open state has from one to as many ranks
 
@@ -95,12 +98,14 @@ module _ (A : Automaton) (parts : List ℕ) (P : Parts A parts) (x : ℕ) (state
   digit-one : (q : ℕ) → one (bit x q) ≤ digit q
   digit-one q =
       bif (bit x q)
-      (λ t. let n = count-lt q 8 (bit (openPart (A .component q))) (let s = states q t in omega (arith, P .few-states)) (own-bit q t) in let e : one (bit x q) ≡ 1 = rw t in omega (arith, digit-open q t))
+      (λ t. let n = count-lt q 8 (bit (openPart (A .component q))) (let s = states q t in omega (arith, P .few-states)) (own-bit q t) in let e : one (bit x q) ≡ 1 = rw t in
+      omega (arith, digit-open q t))
       (λ t. let e : one (bit x q) ≡ 0 = rw t in omega arith)
 
   cap-at : (q : ℕ) → q < 8 → rankAt (capsOf parts (A .components)) q ≡ cond (ltb q (A .n)) (sizeAt A q) 0
   unfolding sizeAt
-  cap-at q l = ap (λ (v : ℕ). rankAt v q) (caps-are A parts P) ∙ rank-num (λ q. cond (ltb q (A .n)) (sizeAt A q) 0) (λ q k. bif (ltb q (A .n)) (λ t. rw t (let h = count-max (A .n) (λ p. eqb (A .component p) (A .component q)) in omega (arith, P .few-states))) (λ t. rw t (omega arith))) q l
+  cap-at q l = ap (λ (v : ℕ). rankAt v q) (caps-are A parts P) ∙ rank-num (λ q. cond (ltb q (A .n)) (sizeAt A q) 0)
+      (λ q k. bif (ltb q (A .n)) (λ t. rw t (let h = count-max (A .n) (λ p. eqb (A .component p) (A .component q)) in omega (arith, P .few-states))) (λ t. rw t (omega arith))) q l
 
   digit-cap : (q : ℕ) → q < 8 → digit q ≤ rankAt (capsOf parts (A .components)) q
   unfolding sizeAt
@@ -108,7 +113,8 @@ module _ (A : Automaton) (parts : List ℕ) (P : Parts A parts) (x : ℕ) (state
       bif (ltb q (A .n) && bit x q)
       (λ t. let h = ltb-true q (A .n) (and-l (ltb q (A .n)) (bit x q) t) in
       let k = P .known q h in
-      let a = count-sub 8 (bit (openPart (A .component q))) (λ p. ltb p (A .n) && eqb (A .component p) (A .component q)) (λ p m b. and-l (ltb p (A .n) && eqb (A .component p) (A .component q)) (bit x p) (sym (open-bit (A .component q) p k) ∙ b)) in
+      let a = count-sub 8 (bit (openPart (A .component q))) (λ p. ltb p (A .n) && eqb (A .component p) (A .component q))
+      (λ p m b. and-l (ltb p (A .n) && eqb (A .component p) (A .component q)) (bit x p) (sym (open-bit (A .component q) p k) ∙ b)) in
       let b = count-trim 8 (A .n) (λ p. ltb p (A .n) && eqb (A .component p) (A .component q)) (P .few-states) (λ p m n. rw (le-ltb p (A .n) m)) in
       let c = count-ext (A .n) (λ p. ltb p (A .n) && eqb (A .component p) (A .component q)) (λ p. eqb (A .component p) (A .component q)) (λ p m. rw (lt-ltb p (A .n) m)) in
       let d : cond (ltb q (A .n)) (count (A .n) (λ p. eqb (A .component p) (A .component q))) 0 ≡ count (A .n) (λ p. eqb (A .component p) (A .component q)) = rw (lt-ltb q (A .n) h) in
@@ -132,7 +138,8 @@ module _ (A : Automaton) (parts : List ℕ) (P : Parts A parts) (x : ℕ) (state
         let b : bit x p ≡ true = ranked p m ∙ lt-ltb 0 (rankAt v p) (omega (arith, g .4)) in
         let c : bit (openPart (A .component q)) p ≡ true = ap (λ (k : ℕ). bit (openPart k) p) (sym (g .2)) ∙ own-bit p b in
         let z = count-more 8 (λ p. bit (openPart (A .component q)) p && leb (rankAt v p) j) (λ p. bit (openPart (A .component q)) p && leb (rankAt v p) (suc j))
-        (λ k n e. and-i (and-l (bit (openPart (A .component q)) k) (leb (rankAt v k) j) e) (le-leb (rankAt v k) (suc j) (let u : rankAt v k ≤ j = leb-true (rankAt v k) j (and-r (bit (openPart (A .component q)) k) (leb (rankAt v k) j) e) in omega arith))) p m
+        (λ k n e. and-i (and-l (bit (openPart (A .component q)) k) (leb (rankAt v k) j) e)
+        (le-leb (rankAt v k) (suc j) (let u : rankAt v k ≤ j = leb-true (rankAt v k) j (and-r (bit (openPart (A .component q)) k) (leb (rankAt v k) j) e) in omega arith))) p m
         (rw (c, lt-leb (rankAt v p) j (omega (arith, g .4)))) (rw (c, le-leb (rankAt v p) (suc j) (omega (arith, g .4)))) in
         omega arith
 
@@ -141,7 +148,8 @@ module _ (A : Automaton) (parts : List ℕ) (P : Parts A parts) (x : ℕ) (state
         by-cases (decLt 0 (rankAt v q))
         (λ h. let t = ranked q l ∙ lt-ltb 0 (rankAt v q) h in
         let a = filled q (states q t) t (rankAt v q) (omega arith) in
-        let b = count-sub 8 (λ p. bit (openPart (A .component q)) p && leb (rankAt v p) (rankAt v q)) (bit (openPart (A .component q))) (λ p m e. and-l (bit (openPart (A .component q)) p) (leb (rankAt v p) (rankAt v q)) e) in
+        let b = count-sub 8 (λ p. bit (openPart (A .component q)) p && leb (rankAt v p) (rankAt v q)) (bit (openPart (A .component q)))
+        (λ p m e. and-l (bit (openPart (A .component q)) p) (leb (rankAt v p) (rankAt v q)) e) in
         omega (arith, digit-open q t))
         (λ h. omega arith)
 
@@ -174,11 +182,13 @@ module _ (A : Automaton) (parts : List ℕ) (P : Parts A parts) (x : ℕ) (state
         (λ q l. omega (arith, rank-num (λ q. one (bit x q) + rankAt d q) (λ p k. omega (arith, sum p k, digit-low p k)) q l, sum q l, digit-cap q l)));
     covers = λ v w o.
         let step : ℕ → ℕ = λ q. rankAt v q - one (bit x q) in
-        let under : (q : ℕ) → q < 8 → one (bit x q) ≤ rankAt v q = λ q l. bif (bit x q) (λ t. let e : one (bit x q) ≡ 1 = rw t in omega (arith, ltb-true 0 (rankAt v q) (sym (ranked v w o q l) ∙ t))) (λ t. let e : one (bit x q) ≡ 0 = rw t in omega arith) in
+        let under : (q : ℕ) → q < 8 → one (bit x q) ≤ rankAt v q = λ q l. bif (bit x q) (λ t. let e : one (bit x q) ≡ 1 = rw t in omega (arith, ltb-true 0 (rankAt v q) (sym (ranked v w o q l) ∙ t)))
+        (λ t. let e : one (bit x q) ≡ 0 = rw t in omega arith) in
         let few : (q : ℕ) → q < 8 → step q ≤ spare q = λ q l. omega (arith, rank-digit-le v w o q l) in
         let small : (q : ℕ) → q < 8 → step q < 16 = λ q l. omega (arith, few q l, spare-low q l) in (
           num 16 8 step,
-          within-of 8 (num 16 8 step) (num 16 8 spare) (num-lt 16 (omega arith) 8 step small) (num-lt 16 (omega arith) 8 spare spare-low) (λ q l. omega (arith, rank-num step small q l, rank-num spare spare-low q l, few q l)),
+          within-of 8 (num 16 8 step) (num 16 8 spare) (num-lt 16 (omega arith) 8 step small) (num-lt 16 (omega arith) 8 spare spare-low)
+              (λ q l. omega (arith, rank-num step small q l, rank-num spare spare-low q l, few q l)),
           sym (ranks-num v (within-lt 8 v (capsOf parts (A .components)) (w .within))) ∙ sym (ranks-add (λ q. one (bit x q)) step ∙ num-ext 16 (omega arith) 8 _ _ (λ q l. omega (arith, under q l))),
         );
   }
@@ -191,7 +201,8 @@ module _ (r : Rule) (parts : List ℕ) (shape : Shape) (S : Shaped r parts shape
 
   -- the states with a rank of at most 15 are those with a rank
   pub open-lowest : (v : ℕ) (low : List ℕ) → Lowest v low → getD low 15 0 ≡ openIn v
-  open-lowest v low L = L 15 (omega arith) ∙ mask-ext 8 (λ p. ltb 0 (rankAt v p) && leb (rankAt v p) 15) (λ p. ltb 0 (rankAt v p)) (λ q k. ap (λ (b : Bool). ltb 0 (rankAt v q) && b) (le-leb (rankAt v q) 15 (let h = rank-low v q in omega arith)) ∙ and-true (ltb 0 (rankAt v q)))
+  open-lowest v low L = L 15 (omega arith) ∙ mask-ext 8 (λ p. ltb 0 (rankAt v p) && leb (rankAt v p) 15) (λ p. ltb 0 (rankAt v p))
+      (λ q k. ap (λ (b : Bool). ltb 0 (rankAt v q) && b) (le-leb (rankAt v q) 15 (let h = rank-low v q in omega arith)) ∙ and-true (ltb 0 (rankAt v q)))
 
   -- open states have a largest rank
   open-bits : (v : ℕ) → Within 8 v largest → (q : ℕ) → q < 8 → bit (openIn v) q ≡ true → bit (openIn largest) q ≡ true
@@ -206,7 +217,8 @@ module _ (r : Rule) (parts : List ℕ) (shape : Shape) (S : Shaped r parts shape
   open-and v w = subset-and 8 (openIn v) (openIn largest) (mask-lt 8 (λ q. ltb 0 (rankAt v q))) .0 (open-bits v w)
 
   largest-within : Within 8 largest (capsOf parts ((automaton r) .components))
-  largest-within = rw (S .components-are) (within-of 8 (capsOf parts ((automaton r) .components)) (capsOf parts ((automaton r) .components)) (caps-fit (automaton r) parts (S .masks)) (caps-fit (automaton r) parts (S .masks)) (λ q l. omega arith))
+  largest-within = rw (S .components-are) (within-of 8 (capsOf parts ((automaton r) .components)) (capsOf parts ((automaton r) .components)) (caps-fit (automaton r) parts (S .masks))
+      (caps-fit (automaton r) parts (S .masks)) (λ q l. omega arith))
 
   module _ (x : ℕ) (sub : bitAnd x (openIn largest) ≡ x) where
     states-of : (q : ℕ) → bit x q ≡ true → q < (automaton r) .n

@@ -100,7 +100,8 @@ module _ (r : Rule) (parts : List ℕ) (shape : Shape) (S : Shaped r parts shape
       set-is = mask-unique 8 (bitXor (getD low 15 0) (shape .accepting)) (setOf (automaton r) v) (xor-lt 8 (getD low 15 0) (shape .accepting) opened-low accepting-low)
           (λ q k. bit-xor (getD low 15 0) (shape .accepting) q ∙ ap (λ (b : Bool). exclusive b (bit (shape .accepting) q)) (opened q k) ∙ by-cases (decLt q ((automaton r) .n))
           (λ l. xor-comm (ltb 0 (rankAt v q)) (bit (shape .accepting) q) ∙ ap (λ (b : Bool). exclusive b (ltb 0 (rankAt v q))) (accepting-same q) ∙ sym (set-rank (automaton r) v q l))
-          (λ l. ap₂ exclusive (ap (ltb 0) (rank-beyond (automaton r) parts (S .masks) v within-all q (omega arith) k)) (bit-high ((automaton r) .n) (shape .accepting) q accepting-fits (omega arith)) ∙ sym (set-beyond (automaton r) v q (omega arith))))
+          (λ l. ap₂ exclusive (ap (ltb 0) (rank-beyond (automaton r) parts (S .masks) v within-all q (omega arith) k)) (bit-high ((automaton r) .n) (shape .accepting) q accepting-fits (omega arith))
+          ∙ sym (set-beyond (automaton r) v q (omega arith))))
 
       pub core-is : v * 2 ^ 8 + bitXor (getD low 15 0) (shape .accepting) ≡ coreOf (automaton r) v
       unfolding coreOf
@@ -119,14 +120,16 @@ module _ (r : Rule) (parts : List ℕ) (shape : Shape) (S : Shaped r parts shape
         ∙ ap (λ (x : ℕ). eqb x 1) (sym (above v (mask 8 (setOf (automaton r) v)) 8 (shape .initial) initial-low))
         ∙ ap (λ (q : ℕ). eqb ((v * 2 ^ 8 + mask 8 (setOf (automaton r) v)) / 2 ^ q % 2) 1) (S .initial-is)
 
-    pub start-is : cond (shape .holds) (exclusive (bit (shape .accepting) (shape .initial)) (ltb 0 (rankAt v (shape .initial)))) (not (exclusive (bit (shape .accepting) (shape .initial)) (ltb 0 (rankAt v (shape .initial)))))
+    pub start-is : cond (shape .holds) (exclusive (bit (shape .accepting) (shape .initial)) (ltb 0 (rankAt v (shape .initial))))
+        (not (exclusive (bit (shape .accepting) (shape .initial)) (ltb 0 (rankAt v (shape .initial)))))
         ≡ startOf r (shape .holds) (coreOf (automaton r) v)
     unfolding startOf
     start-is = ap (λ (b : Bool). cond (shape .holds) b (not b)) holds-is
 
     -- what visit_first adds
     module _ (low : List ℕ) (L : Lowest v low) (core : ℕ) (e : core ≡ v * 2 ^ 8 + bitXor (getD low 15 0) (shape .accepting)) where
-      pub first-in : every (shape .components) (λ c. gapless v (getD parts c 0)) ≡ true → startOf r (shape .holds) (coreOf (automaton r) v) ≡ true → (y : ℕ) → y ≡ core * 256 → StartsAt r parts (shape .components) (shape .holds) v y
+      pub first-in : every (shape .components) (λ c. gapless v (getD parts c 0)) ≡ true → startOf r (shape .holds) (coreOf (automaton r) v) ≡ true → (y : ℕ) → y ≡ core * 256 →
+          StartsAt r parts (shape .components) (shape .holds) v y
       first-in passes start y q = (record { within = w; passes = passes }, record { start = start; key = q ∙ ap (λ (x : ℕ). x * 256) (e ∙ core-is low L) })
 
       pub first-out : (y : ℕ) → StartsAt r parts (shape .components) (shape .holds) v y → y ≡ core * 256

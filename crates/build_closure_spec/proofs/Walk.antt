@@ -13,7 +13,8 @@ use Rattle.build_chains_spec.specs.Growth.{Grown}
 use Rattle.build_chains_spec.proofs.Growth.{Upto, grown-as, upto-next}
 
 module _ (caps : ℕ) (G : ℕ → ℕ → Type 0) (inside : (v y : ℕ) → G v y → Within 8 v caps) (F : ℕ → Type 0) (xs : List ℕ) (n : ℕ)
-    (t : ℕ) (within : Within 8 t caps) (ys hs ls : List ℕ) (m : ℕ) (g : Grown (Upto G t) F xs n ys hs ls m false) (zs heads last : List ℕ) (u : ℕ) (full : Bool) (h : Grown (G t) F ys m zs heads last u full) where
+    (t : ℕ) (within : Within 8 t caps) (ys hs ls : List ℕ) (m : ℕ) (g : Grown (Upto G t) F xs n ys hs ls m false) (zs heads last : List ℕ) (u : ℕ) (full : Bool)
+    (h : Grown (G t) F ys m zs heads last u full) where
   -- on to the next vector
   pub walk-next : full ≡ false → Grown (Upto G (nextOf 8 t caps)) F xs n zs heads last u false
   walk-next e =

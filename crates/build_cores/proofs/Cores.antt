@@ -47,7 +47,8 @@ unfolding gapless
 down v part g j zero l t = let e : j + 0 ≡ j = omega arith in ap (used v part) (sym e) ∙ t
 down v part g j (suc i) l t =
     let e : j + suc i ≡ suc (j + i) = omega arith in
-    down v part g j i (omega arith) (or-tf (used v part (suc (j + i))) (used v part (j + i)) (every-at 15 (λ x. not (used v part (suc x)) || used v part x) g (j + i) (omega arith)) (ap (used v part) (sym e) ∙ t))
+    down v part g j i (omega arith) (or-tf (used v part (suc (j + i))) (used v part (j + i)) (every-at 15 (λ x. not (used v part (suc x)) || used v part x) g (j + i) (omega arith))
+    (ap (used v part) (sym e) ∙ t))
 
 module _ (A : Automaton) (parts : List ℕ) (P : Parts A parts) where
   abbrev part : ℕ → ℕ
@@ -122,7 +123,8 @@ module _ (A : Automaton) (parts : List ℕ) (P : Parts A parts) where
     rank-eight q k =
         let h = within-rank 8 v (capsOf parts (A .components)) w q k in
         let c = cap-at q k in
-        bif (ltb q (A .n)) (λ t. let s = size-low q in let e : cond (ltb q (A .n)) (sizeAt A q) 0 ≡ sizeAt A q = rw t in omega arith) (λ t. let e : cond (ltb q (A .n)) (sizeAt A q) 0 ≡ 0 = rw t in omega arith)
+        bif (ltb q (A .n)) (λ t. let s = size-low q in let e : cond (ltb q (A .n)) (sizeAt A q) 0 ≡ sizeAt A q = rw t in omega arith)
+        (λ t. let e : cond (ltb q (A .n)) (sizeAt A q) 0 ≡ 0 = rw t in omega arith)
 
   -- ---- a vector that passes the test is a core
 
@@ -179,7 +181,8 @@ module _ (A : Automaton) (parts : List ℕ) (P : Parts A parts) where
     -- and its set
     pub vector-set : (q : ℕ) → q < A .n → setOf A v q ≡ S q
     unfolding isOpen
-    vector-set q l = set-rank A v q l ∙ ap (λ (x : ℕ). exclusive (A .accepting q) (ltb 0 x)) (vector-rank q l) ∙ ap (exclusive (A .accepting q)) (sym (open-of-rank A S r C q l)) ∙ xor-twice (A .accepting q) (S q)
+    vector-set q l = set-rank A v q l ∙ ap (λ (x : ℕ). exclusive (A .accepting q) (ltb 0 x)) (vector-rank q l) ∙ ap (exclusive (A .accepting q)) (sym (open-of-rank A S r C q l))
+        ∙ xor-twice (A .accepting q) (S q)
 
     comp-size : (q : ℕ) → q < A .n → r q ≤ sizeAt A q
     unfolding sizeAt
@@ -261,5 +264,6 @@ module _ (A : Automaton) (parts : List ℕ) (P : Parts A parts) where
     classes-largest c l =
         let e : one (core.taken A S r c 0) ≡ 0 = rw (none-taken c) in
         let f = count-shift 15 (core.taken A S r c) in
-        let g : count 15 (λ j. core.taken A S r c (suc j)) ≡ count 15 (λ j. taken w (part c) (suc j)) = count-ext 15 (λ j. core.taken A S r c (suc j)) (λ j. taken w (part c) (suc j)) (λ j k. taken-same c j l) in
+        let g : count 15 (λ j. core.taken A S r c (suc j)) ≡ count 15 (λ j. taken w (part c) (suc j)) =
+        count-ext 15 (λ j. core.taken A S r c (suc j)) (λ j. taken w (part c) (suc j)) (λ j k. taken-same c j l) in
         let h = classes-are A S r C c 15 (omega (arith, P .few-states)) in omega arith

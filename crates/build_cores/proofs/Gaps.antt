@@ -60,9 +60,11 @@ walk-on ranks part found left v p low e h w =
     let q = trailingZeros 8 left in record {
       small = or-lt 16 found v (w .small) (rw e (pow-lt {i = rankAt ranks q} {j = 16} low));
       rest = h;
-      same = λ j. ap (λ (b : Bool). b || anyOf (members (bitAnd left (left - 1))) (λ q. eqb (rankAt ranks q) j)) (bit-or found v j ∙ ap (λ (x : ℕ). bit found j || bit x j) e ∙ ap (λ (b : Bool). bit found j || b) (bit-shl-one (rankAt ranks q) j))
+      same = λ j. ap (λ (b : Bool). b || anyOf (members (bitAnd left (left - 1))) (λ q. eqb (rankAt ranks q) j))
+          (bit-or found v j ∙ ap (λ (x : ℕ). bit found j || bit x j) e ∙ ap (λ (b : Bool). bit found j || b) (bit-shl-one (rankAt ranks q) j))
           ∙ or-assoc (bit found j) (eqb (rankAt ranks q) j) (anyOf (members (bitAnd left (left - 1))) (λ q. eqb (rankAt ranks q) j))
-          ∙ ap (λ (b : Bool). bit found j || b) (sym (any-cons (λ q. eqb (rankAt ranks q) j) q (members (bitAnd left (left - 1)))) ∙ ap (λ (l : List ℕ). anyOf l (λ q. eqb (rankAt ranks q) j)) (sym (members-cons left p (w .rest))))
+          ∙ ap (λ (b : Bool). bit found j || b) (sym (any-cons (λ q. eqb (rankAt ranks q) j) q (members (bitAnd left (left - 1))))
+          ∙ ap (λ (l : List ℕ). anyOf l (λ q. eqb (rankAt ranks q) j)) (sym (members-cons left p (w .rest))))
           ∙ w .same j;
     }
 

@@ -85,7 +85,8 @@ pub gather-start : (at : List ℕ) → Gathered at (replicate 16 0) 1
 gather-start at = record {
   end = omega arith;
   long = refl;
-  is = λ n f j k. zero-at 16 j ∙ sym (mask-none 8 (λ p. ltb 0 (n p) && leb (n p) j) (λ p l. let e : j ≡ 0 = omega arith in rw e (by-cases (ℕ-discrete (n p) 0) (λ z. rw (z, le-ltb 0 0 (omega arith))) (λ z. rw (lt-ltb 0 (n p) (omega arith), lt-leb (n p) 0 (omega arith))))));
+  is = λ n f j k. zero-at 16 j ∙ sym (mask-none 8 (λ p. ltb 0 (n p) && leb (n p) j)
+      (λ p l. let e : j ≡ 0 = omega arith in rw e (by-cases (ℕ-discrete (n p) 0) (λ z. rw (z, le-ltb 0 0 (omega arith))) (λ z. rw (lt-ltb 0 (n p) (omega arith), lt-leb (n p) 0 (omega arith))))));
 }
 
 module _ (at low : List ℕ) (i : ℕ) (hi : 0 < i) (h : i < 16) (w : Gathered at low i) where

@@ -29,7 +29,8 @@ unfolding sumOf
 sum-ranks zero component inside rank = sym (num-ext 16 (omega arith) 8 _ (λ q. 0) (λ q h. bif (inside q) (λ t. rw (t, le-ltb (component q) 0 (omega arith))) (λ t. rw t)) ∙ num-nothing)
 sum-ranks (suc C) component inside rank =
     ap (λ (x : ℕ). x + num 16 8 (λ q. cond (inside q && eqb (component q) C) (rank q) 0)) (sum-ranks C component inside rank)
-    ∙ (let z : num 16 8 (λ q. cond (inside q && ltb (component q) C) (rank q) 0) + num 16 8 (λ q. cond (inside q && eqb (component q) C) (rank q) 0) ≡ num 16 8 (λ q. cond (inside q && ltb (component q) C) (rank q) 0) + num 16 8 (λ q. cond (inside q && eqb (component q) C) (rank q) 0) * 1 = omega arith in z)
+    ∙ (let z : num 16 8 (λ q. cond (inside q && ltb (component q) C) (rank q) 0) + num 16 8 (λ q. cond (inside q && eqb (component q) C) (rank q) 0)
+    ≡ num 16 8 (λ q. cond (inside q && ltb (component q) C) (rank q) 0) + num 16 8 (λ q. cond (inside q && eqb (component q) C) (rank q) 0) * 1 = omega arith in z)
     ∙ num-add 16 8 (λ q. cond (inside q && ltb (component q) C) (rank q) 0) (λ q. cond (inside q && eqb (component q) C) (rank q) 0) 1
     ∙ num-ext 16 (omega arith) 8 _ _ (λ q h. bif (inside q)
     (λ t. rw t (by-cases (decLt (component q) C)

@@ -52,7 +52,8 @@ module _ (r : Rule) (W : WellFormed r) (a opened : ℕ) where
 
   set-same : (q : ℕ) → satisfies (r .n) (bit (bitXor opened (r .accepting))) (entry r q a) ≡ satisfies (r .n) (setFrom (automaton r) opened) (entry r q a)
   unfolding setFrom automaton
-  set-same q = satisfies-ext (r .n) (bit (bitXor opened (r .accepting))) (λ p. exclusive (bit (r .accepting) p) (bit opened p)) (λ p l. bit-xor opened (r .accepting) p ∙ xor-comm (bit opened p) (bit (r .accepting) p)) (entry r q a)
+  set-same q = satisfies-ext (r .n) (bit (bitXor opened (r .accepting))) (λ p. exclusive (bit (r .accepting) p) (bit opened p))
+      (λ p l. bit-xor opened (r .accepting) p ∙ xor-comm (bit opened p) (bit (r .accepting) p)) (entry r q a)
 
   pub place-is : bitXor (mask (r .n) met) (r .accepting) ≡ openBefore (automaton r) a opened
   unfolding openBefore automaton isOpen

@@ -101,7 +101,8 @@ module _ (P : Set) (l : ℕ → ℕ) (low : (q : ℕ) → q < 8 → P q ≡ true
       let p = V-get j e in
       le-antisymm
       (largest-le 8 _ l j (λ q h t. let u = below-lt (suc j) q (and-l (below (suc j) q) (leb (class P l q) k) t) in omega arith))
-      (let u : below (suc j) (p .0) && leb (class P l (p .0)) k ≡ true = and-i (below-is (suc j) (p .0) (p .2) (omega (arith, p .3))) (le-leb (class P l (p .0)) k (omega (arith, class-new j (p .0) (p .3)))) in
+      (let u : below (suc j) (p .0) && leb (class P l (p .0)) k ≡ true =
+      and-i (below-is (suc j) (p .0) (p .2) (omega (arith, p .3))) (le-leb (class P l (p .0)) k (omega (arith, class-new j (p .0) (p .3)))) in
       let z = largest-ge 8 (λ q. below (suc j) q && leb (class P l q) k) l (p .0) (p .1) u in omega (arith, p .3))
 
   -- all members so far are in the k lowest classes

@@ -22,7 +22,8 @@ use Rattle.theory.specs.Code.{fields, pack, setIn, rankIn, componentIn, classes
 use Rattle.theory.specs.MacrostateComputed.{before, onward, goes}
 use Rattle.theory_laws.proofs.Classes.{rank-max}
 use Rattle.theory_laws.proofs.Cores.{next-low}
-use Rattle.theory_laws.proofs.Goes.{rank-small, set-trim, rank-trim, before-set, before-rank, is-before, turn-component, turn-classes, stay-component, stay-classes, is-turned, is-stayed, goes-before, goes-onward, is-goes, component-small, classes-small}
+use Rattle.theory_laws.proofs.Goes.{rank-small, set-trim, rank-trim, before-set, before-rank, is-before, turn-component, turn-classes, stay-component, stay-classes, is-turned, is-stayed}
+use Rattle.theory_laws.proofs.Goes.{goes-before, goes-onward, is-goes, component-small, classes-small}
 use Rattle.theory_laws.proofs.Packing as packing
 use Rattle.build_cores.specs.Vectors.{rankAt}
 use Rattle.build_cores.specs.Parts.{Parts, setOf, vectorOf}
@@ -32,7 +33,8 @@ use Rattle.build_step_back.specs.Earlier.{earlierSet, earlierLevel, earl
 module _ (A : Automaton) where
   vector-same : (r : ℕ → ℕ) → ((q : ℕ) → A .n ≤ q → r q ≡ 0) → num 16 8 r ≡ vectorOf A r
   unfolding vectorOf
-  vector-same r h = num-ext 16 (omega arith) 8 r (λ q. cond (ltb q (A .n)) (r q) 0) (λ q k. by-cases (decLt q (A .n)) (λ l. rw (lt-ltb q (A .n) l)) (λ l. rw (le-ltb q (A .n) (omega arith)) (h q (omega arith))))
+  vector-same r h = num-ext 16 (omega arith) 8 r (λ q. cond (ltb q (A .n)) (r q) 0)
+      (λ q k. by-cases (decLt q (A .n)) (λ l. rw (lt-ltb q (A .n) l)) (λ l. rw (le-ltb q (A .n) (omega arith)) (h q (omega arith))))
 
   fields-rank : (r : ℕ → ℕ) (K k q : ℕ) → q < 8 → fields r K k q ≡ r q
   unfolding fields
@@ -90,7 +92,8 @@ module _ (A : Automaton) where
     pub pair-low : c / 2 ^ 40 < 256
     pair-low = let e = pair-in in let h = component-small c in let k = classes-small c in omega arith
 
-module _ (A : Automaton) (parts : List ℕ) (P : Parts A parts) (c a d : ℕ) (wc : wellCoded A c ≡ true) (known : componentIn c < A .components) (wd : wellCoded A d ≡ true) (C : Core A (setIn A d) (rankIn A d)) where
+module _ (A : Automaton) (parts : List ℕ) (P : Parts A parts) (c a d : ℕ) (wc : wellCoded A c ≡ true) (known : componentIn c < A .components) (wd : wellCoded A d ≡ true)
+    (C : Core A (setIn A d) (rankIn A d)) where
   -- the vector of d's ranks
   abbrev v : ℕ
   v = vectorOf A (rankIn A d)
@@ -145,10 +148,12 @@ module _ (A : Automaton) (parts : List ℕ) (P : Parts A parts) (c a d : ℕ) (w
     repacked = let p = pair-in A c wc in let k = pack-key A (earlierSet A a v) (earlierRank A a v) (componentIn c) (classesIn c) (earlier-rank-beyond A a v) in omega (arith, e)
 
     set-of-back : setIn A c ≡ earlierSet A a v
-    set-of-back = ap (setIn A) repacked ∙ packing.set-is A (P .few-states) (earlierSet A a v) (earlierRank A a v) (componentIn c) (classesIn c) (earlier-set-beyond A a v) (earlier-rank-beyond A a v) rank-sixteen (component-small c) (classes-small c)
+    set-of-back = ap (setIn A) repacked ∙ packing.set-is A (P .few-states) (earlierSet A a v) (earlierRank A a v) (componentIn c) (classesIn c) (earlier-set-beyond A a v)
+        (earlier-rank-beyond A a v) rank-sixteen (component-small c) (classes-small c)
 
     rank-of-back : rankIn A c ≡ earlierRank A a v
-    rank-of-back = ap (rankIn A) repacked ∙ packing.rank-is A (P .few-states) (earlierSet A a v) (earlierRank A a v) (componentIn c) (classesIn c) (earlier-set-beyond A a v) (earlier-rank-beyond A a v) rank-sixteen (component-small c) (classes-small c)
+    rank-of-back = ap (rankIn A) repacked ∙ packing.rank-is A (P .few-states) (earlierSet A a v) (earlierRank A a v) (componentIn c) (classesIn c) (earlier-set-beyond A a v)
+        (earlier-rank-beyond A a v) rank-sixteen (component-small c) (classes-small c)
 
     before-out : before A c a d ≡ true
     before-out = is-before A c a d

@@ -69,7 +69,8 @@ module _ (A : Automaton) (H : Layered A) (s : ℕ) (opens parts : List ℕ) (P :
     part-ranks : (c : ℕ) → c < A .components → cond (K c) (ranksIn opens a (getD low 15 0) parts low c) 0 ≡ num 16 8 (rankIn c)
     unfolding earlierLevel
     part-ranks c h =
-        ap (λ (x : ℕ). cond (K c) x 0) (ranks-are A opens a (getD low 15 0) (getD parts c 0) low c (setOf A v) (rankAt v) (masks-at A H s opens parts P O a v letter w low lowest c h) S (earlier-exact A H s opens parts P O a v letter w low lowest))
+        ap (λ (x : ℕ). cond (K c) x 0) (ranks-are A opens a (getD low 15 0) (getD parts c 0) low c (setOf A v) (rankAt v) (masks-at A H s opens parts P O a v letter w low lowest c h) S
+        (earlier-exact A H s opens parts P O a v letter w low lowest))
         ∙ all-or-none (K c) (λ q. cond (ltb q (A .n) && eqb (A .component q) c) (rankOf A S l q) 0)
         ∙ num-ext 16 (omega arith) 8 _ _ (λ q m. kind-rank c h q)
 

@@ -121,7 +121,8 @@ module _ (A : Automaton) (H : Layered A) (s : ℕ) (opens parts : List ℕ) (P :
   open-is q l =
       ap (λ (x : ℕ). bit x q) entry-before
       ∙ bit-mask (A .n) (isOpen A (λ q. satisfies (A .n) (setFrom A opened) (A .entry q a))) q l
-      ∙ open-ext A (λ q. satisfies (A .n) (setFrom A opened) (A .entry q a)) (earlierSet A a v) q (satisfies-ext (A .n) (setFrom A opened) (setOf A v) from-opened (A .entry q a) ∙ sym (earlier-exact q l))
+      ∙ open-ext A (λ q. satisfies (A .n) (setFrom A opened) (A .entry q a)) (earlierSet A a v) q
+      (satisfies-ext (A .n) (setFrom A opened) (setOf A v) from-opened (A .entry q a) ∙ sym (earlier-exact q l))
 
   entry-small : getD opens (a * 256 + opened) 0 < 2 ^ A .n
   unfolding openBefore
@@ -138,7 +139,8 @@ module _ (A : Automaton) (H : Layered A) (s : ℕ) (opens parts : List ℕ) (P :
     set-is = mask-unique 8 (bitXor (getD opens (a * 256 + opened) 0) accepting) (earlierSet A a v) (xor-lt 8 (getD opens (a * 256 + opened) 0) accepting (below-256 _ entry-small) (below-256 _ fits))
         (λ q k. bit-xor (getD opens (a * 256 + opened) 0) accepting q ∙ by-cases (decLt q (A .n))
         (λ l. ap₂ exclusive (open-is q l) (same q l) ∙ xor-off (A .accepting q) (earlierSet A a v q))
-        (λ l. ap₂ exclusive (bit-high (A .n) (getD opens (a * 256 + opened) 0) q entry-small (omega arith)) (bit-high (A .n) accepting q fits (omega arith)) ∙ sym (earlier-set-beyond A a v q (omega arith))))
+        (λ l. ap₂ exclusive (bit-high (A .n) (getD opens (a * 256 + opened) 0) q entry-small (omega arith)) (bit-high (A .n) accepting q fits (omega arith))
+        ∙ sym (earlier-set-beyond A a v q (omega arith))))
 
   -- ---- what step_back leaves
 
@@ -154,10 +156,13 @@ module _ (A : Automaton) (H : Layered A) (s : ℕ) (opens parts : List ℕ) (P :
         (λ t. let l = ltb-true q (A .n) t in rw (t, lt-ltb (A .component q) (A .components) (P .known q l)) (sym (earlier-rank q l)))
         (λ t. rw t))
 
-    nibble-low : (c k : ℕ) → c < A .components → largest 8 (λ q. bit (goal opens a opened (getD parts c 0) low) q && leb (class (bit (goal opens a opened (getD parts c 0) low)) (level opens a opened (getD parts c 0) low) q) k) (level opens a opened (getD parts c 0) low) < 16
+    nibble-low : (c k : ℕ) → c < A .components → largest 8 (λ q. bit (goal opens a opened (getD parts c 0) low) q && leb
+        (class (bit (goal opens a opened (getD parts c 0) low)) (level opens a opened (getD parts c 0) low) q) k) (level opens a opened (getD parts c 0) low) < 16
     nibble-low c k l =
-        let h = largest-le 8 (λ q. bit (goal opens a opened (getD parts c 0) low) q && leb (class (bit (goal opens a opened (getD parts c 0) low)) (level opens a opened (getD parts c 0) low) q) k) (level opens a opened (getD parts c 0) low) 8
-        (λ q m t. level-low opens a opened (getD parts c 0) low (rises-at c l) q m (and-l (bit (goal opens a opened (getD parts c 0) low) q) (leb (class (bit (goal opens a opened (getD parts c 0) low)) (level opens a opened (getD parts c 0) low) q) k) t)) in omega arith
+        let h = largest-le 8 (λ q. bit (goal opens a opened (getD parts c 0) low) q && leb (class (bit (goal opens a opened (getD parts c 0) low)) (level opens a opened (getD parts c 0) low) q) k)
+        (level opens a opened (getD parts c 0) low) 8
+        (λ q m t. level-low opens a opened (getD parts c 0) low (rises-at c l) q m
+        (and-l (bit (goal opens a opened (getD parts c 0) low) q) (leb (class (bit (goal opens a opened (getD parts c 0) low)) (level opens a opened (getD parts c 0) low) q) k) t)) in omega arith
 
     pub level-is : (c k : ℕ) → c < A .components → k < 16 → getD levels c 0 / 2 ^ (4 * k) % 16 ≡ levelLeft A a v c k
     unfolding levelDigits levelLeft earlierLevel
@@ -189,7 +194,9 @@ module _ (A : Automaton) (H : Layered A) (s : ℕ) (opens parts : List ℕ) (P :
           by-cases (ℕ-discrete (pair / 16) 0)
           (λ z. onward-turn v parts (A .components) levels pair z
           ∙ ap₂ (λ (x y : ℕ). x + 16 * y) (next-is (pair % 16)) (classes-is (nextIn (A .components) (pair % 16)) (next-lt (A .components) (pair % 16) l) ∙ ap (allClasses A a v) (next-is (pair % 16)))
-          ∙ sym (ap (λ (b : Bool). cond b (nextComponent A (pair % 16) + 16 * allClasses A a v (nextComponent A (pair % 16))) (pair % 16 + 16 * levelLeft A a v (pair % 16) (pair / 16))) (eq-eqb (pair / 16) 0 z)))
+          ∙ sym (ap (λ (b : Bool). cond b (nextComponent A (pair % 16) + 16 * allClasses A a v (nextComponent A (pair % 16))) (pair % 16 + 16 * levelLeft A a v (pair % 16) (pair / 16)))
+          (eq-eqb (pair / 16) 0 z)))
           (λ z. onward-stay v parts (A .components) levels pair z
           ∙ ap (λ (x : ℕ). pair % 16 + 16 * x) (level-is (pair % 16) (pair / 16) l (omega arith))
-          ∙ sym (ap (λ (b : Bool). cond b (nextComponent A (pair % 16) + 16 * allClasses A a v (nextComponent A (pair % 16))) (pair % 16 + 16 * levelLeft A a v (pair % 16) (pair / 16))) (ne-eqb (pair / 16) 0 z)))
+          ∙ sym (ap (λ (b : Bool). cond b (nextComponent A (pair % 16) + 16 * allClasses A a v (nextComponent A (pair % 16))) (pair % 16 + 16 * levelLeft A a v (pair % 16) (pair / 16)))
+          (ne-eqb (pair / 16) 0 z)))

@@ -139,7 +139,8 @@ module _ (W : Automaton) (opens : List ℕ) (a opened part : ℕ) (low : List �
   unfolding test
   mono-in i j q m e l b t =
       test-is j q b m e
-      ∙ settled-mono W T (D i) (D j) q (W .entry q a) (λ p k c u. and-i (and-l (isOpen W T p) (leb (r p) i) u) (le-leb (r p) j (let z = leb-true (r p) i (and-r (isOpen W T p) (leb (r p) i) u) in omega arith)))
+      ∙ settled-mono W T (D i) (D j) q (W .entry q a) (λ p k c u. and-i (and-l (isOpen W T p) (leb (r p) i) u)
+      (le-leb (r p) j (let z = leb-true (r p) i (and-r (isOpen W T p) (leb (r p) i) u) in omega arith)))
       (sym (test-is i q (omega arith) m e) ∙ t)
 
   mono-all : (i j q : ℕ) → q < 8 → i ≤ j → j < 16 → bit (upto opens a opened part low i) q ≡ true → bit (upto opens a opened part low j) q ≡ true
@@ -228,4 +229,5 @@ module _ (W : Automaton) (opens : List ℕ) (a opened part : ℕ) (low : List �
         ∙ largest-ext (W .n) (λ q. G q && leb (class G L q) k) (λ q. (eqb (W .component q) K && isOpen W S q) && leb (rankOf W S lev q) k) L (λ q m. bif (eqb (W .component q) K)
         (λ u. let e = eqb-true (W .component q) K u in rw (u, goal-is q m e) (bif (isOpen W S q) (λ o. rw (o, class-is q m e o)) (λ o. rw o)))
         (λ u. rw (u, apart-goal q (h .part-bits q m ∙ u))))
-        ∙ largest-values (W .n) (λ q. (eqb (W .component q) K && isOpen W S q) && leb (rankOf W S lev q) k) L lev (λ q m t. level-is q m (eqb-true (W .component q) K (and-l (eqb (W .component q) K) (isOpen W S q) (and-l (eqb (W .component q) K && isOpen W S q) (leb (rankOf W S lev q) k) t))))
+        ∙ largest-values (W .n) (λ q. (eqb (W .component q) K && isOpen W S q) && leb (rankOf W S lev q) k) L lev
+        (λ q m t. level-is q m (eqb-true (W .component q) K (and-l (eqb (W .component q) K) (isOpen W S q) (and-l (eqb (W .component q) K && isOpen W S q) (leb (rankOf W S lev q) k) t))))

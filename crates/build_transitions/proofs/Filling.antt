@@ -59,7 +59,8 @@ module _ (r : Rule) (opens parts : List ℕ) (shape : Shape) (T : RuleTables r o
         over = overfull r opens parts shape T;
       })
 
-  module _ (codes : List ℕ) (R : Ready codes) (few : length codes ≤ 65536) (keys : List ℕ) (is : KeysOf codes keys) (xs ys : List ℕ) (m : ℕ) (full : Bool) (g : Emitted (Done (automaton r) (shape .s) keys (length codes) (length codes)) xs 0 ys m full) where
+  module _ (codes : List ℕ) (R : Ready codes) (few : length codes ≤ 65536) (keys : List ℕ) (is : KeysOf codes keys) (xs ys : List ℕ) (m : ℕ) (full : Bool)
+      (g : Emitted (Done (automaton r) (shape .s) keys (length codes) (length codes)) xs 0 ys m full) where
     pub filled-full : full ≡ true → Listed (transitionsFrom r start) xs ys m full
     filled-full e = record { long = g .long; fits = g .fits; listed = λ t. absurd (true≢false (sym e ∙ t)); crowded = λ t. R .over few keys is xs ys m (rw e at g) }
 

@@ -39,10 +39,12 @@ pub chaining-start : (xs heads last : List ℕ) → Chained xs heads last 0 → 
 chaining-start xs heads last C = record { long = refl; chained = C; done = λ q l. absurd (omega arith); rest = λ q l. refl }
 
 -- the key of the code that is read at place p
-pub key-read : (xs ys heads last : List ℕ) (p : ℕ) → Chaining xs ys heads last p → getD xs p 0 < 2 ^ 48 → bitOr (bitAnd (getD ys p 0) 1099511627775 * 2 ^ 8 % 2 ^ 64) (getD ys p 0 / 2 ^ 40) ≡ keyOf (getD xs p 0)
+pub key-read : (xs ys heads last : List ℕ) (p : ℕ) → Chaining xs ys heads last p → getD xs p 0 < 2 ^ 48 →
+    bitOr (bitAnd (getD ys p 0) 1099511627775 * 2 ^ 8 % 2 ^ 64) (getD ys p 0 / 2 ^ 40) ≡ keyOf (getD xs p 0)
 key-read xs ys heads last p h low = ap (λ (c : ℕ). bitOr (bitAnd c 1099511627775 * 2 ^ 8 % 2 ^ 64) (c / 2 ^ 40)) (h .rest p (omega arith)) ∙ key-put (getD xs p 0) low
 
-module _ (xs : List ℕ) (up : Ascending xs) (low : (p : ℕ) → p < length xs → getD xs p 0 < 2 ^ 48) (ys heads last : List ℕ) (p : ℕ) (h : Chaining xs ys heads last p) (l : p < length xs) (y : ℕ) (e : y ≡ keyOf (getD xs p 0)) where
+module _ (xs : List ℕ) (up : Ascending xs) (low : (p : ℕ) → p < length xs → getD xs p 0 < 2 ^ 48) (ys heads last : List ℕ) (p : ℕ) (h : Chaining xs ys heads last p) (l : p < length xs) (y : ℕ)
+    (e : y ≡ keyOf (getD xs p 0)) where
   back : (q : ℕ) → q < length xs → codeOf (keyOf (getD xs q 0)) ≡ getD xs q 0
   back q k = code-key (getD xs q 0) (let z = low q k in omega arith)
 

@@ -42,7 +42,8 @@ module _ (A : Automaton) (keys : List ℕ) (n v : ℕ) (few : n ≤ 65536) (xs :
     -- transitions over different letters are different
     letters-apart : (y : ℕ) → Into A a keys n v y → Over A keys n v a y → ⊥
     letters-apart y f k =
-        let e : f .0 ≡ a = sym (letter-is (f .2 .0) (f .0) (f .2 .2 .0) (omega (arith, f .1)) (omega (arith, f .2 .2 .1))) ∙ ap letterOf (sym (f .2 .2 .3) ∙ k .2 .3) ∙ letter-is (k .0) a (k .2 .0) low (omega (arith, k .2 .1)) in
+        let e : f .0 ≡ a = sym (letter-is (f .2 .0) (f .0) (f .2 .2 .0) (omega (arith, f .1)) (omega (arith, f .2 .2 .1))) ∙ ap letterOf (sym (f .2 .2 .3) ∙ k .2 .3)
+        ∙ letter-is (k .0) a (k .2 .0) low (omega (arith, k .2 .1)) in
         omega (arith, f .1)
 
     letters-both : Emitted (λ y. Into A a keys n v y ⊎ Over A keys n v a y) xs m zs u full
@@ -89,7 +90,8 @@ module _ (r : Rule) (opens parts : List ℕ) (shape : Shape) (T : RuleTables r o
     into-core v w y t f e =
         let l = f .1 in let k = T .table .few-letters in let q = T .shaped .letters-are in
         let h : t ≡ f .2 .2 .0 = e ∙ ap targetOf (f .2 .2 .3) ∙ target-is (f .2 .0) (f .0) (f .2 .2 .0) (omega arith) (omega (arith, f .2 .2 .1, few)) in
-        let o = onto-low A (layered r (T .shaped .passing)) parts (T .shaped .masks) v (rw (T .shaped .components-are) at w) (f .0) (keyAt keys (f .2 .0) % 256) (let p = key-paired r parts shape (T .shaped) (R (f .2 .0) (f .2 .1)) in omega (arith, T .shaped .components-are)) in
+        let o = onto-low A (layered r (T .shaped .passing)) parts (T .shaped .masks) v (rw (T .shaped .components-are) at w) (f .0) (keyAt keys (f .2 .0) % 256)
+        (let p = key-paired r parts shape (T .shaped) (R (f .2 .0) (f .2 .1)) in omega (arith, T .shaped .components-are)) in
         rw h (omega (arith, f .2 .2 .2 .to))
 
     -- the core of place j comes for the first time: no transition into it is done
@@ -97,7 +99,8 @@ module _ (r : Rule) (opens parts : List ℕ) (shape : Shape) (T : RuleTables r o
     fresh j l o y d f =
         let K = key-cored (keyAt keys j) (R j l) in
         let Q = key-cored (keyAt keys (d .0)) (R (d .0) (omega (arith, d .1))) in
-        let e : coreOf A (vectorAt keys (d .0)) ≡ coreOf A (vectorAt keys j) = sym (into-core (vectorAt keys (d .0)) (Q .0) y (targetOf y) (d .2) refl) ∙ into-core (vectorAt keys j) (K .0) y (targetOf y) f refl in
+        let e : coreOf A (vectorAt keys (d .0)) ≡ coreOf A (vectorAt keys j) =
+        sym (into-core (vectorAt keys (d .0)) (Q .0) y (targetOf y) (d .2) refl) ∙ into-core (vectorAt keys j) (K .0) y (targetOf y) f refl in
         o (d .0, d .1, Q .1 ∙ e ∙ sym (K .1))
 
     module _ (xs : List ℕ) where

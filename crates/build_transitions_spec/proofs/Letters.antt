@@ -19,12 +19,16 @@ use Rattle.build_closure_spec.proofs.Starting.{core-is}
 use Rattle.build_transitions_spec.specs.Emission.{Crossings, Over}
 use Rattle.build_transitions_spec.proofs.Sources.{crossings-same}
 
-module _ (r : Rule) (opens parts : List ℕ) (shape : Shape) (T : RuleTables r opens parts shape) (a v : ℕ) (known : a < shape .s) (w : Cored parts (shape .components) v) (low : List ℕ) (L : Lowest v low) (keys : List ℕ) (n : ℕ) where
+module _ (r : Rule) (opens parts : List ℕ) (shape : Shape) (T : RuleTables r opens parts shape) (a v : ℕ) (known : a < shape .s) (w : Cored parts (shape .components) v) (low : List ℕ)
+    (L : Lowest v low) (keys : List ℕ) (n : ℕ) where
   -- no key of the earlier set is listed
-  pub nothing-over : (heads last : List ℕ) → Chained keys heads last n → getD last (bitXor (getD opens (a * 256 + getD low 15 0) 0) (shape .accepting)) 0 ≤ 0 → (y : ℕ) → Over (automaton r) keys n v a y → ⊥
+  pub nothing-over : (heads last : List ℕ) → Chained keys heads last n → getD last (bitXor (getD opens (a * 256 + getD low 15 0) 0) (shape .accepting)) 0 ≤ 0 → (y : ℕ) →
+      Over (automaton r) keys n v a y → ⊥
   nothing-over heads last C h y f = nothing-new r opens parts shape T a v known w low L keys heads last n 0 C h (keyAt keys (f .2 .0)) (f .0, omega arith, f .1, f .2 .2)
 
-  module _ (ranks : ℕ) (levels : List ℕ) (B : Back opens a (getD low 15 0) parts (shape .components) low ranks levels) (core earlier : ℕ) (ec : core ≡ v * 2 ^ 8 + bitXor (getD low 15 0) (shape .accepting)) (ee : earlier ≡ ranks * 2 ^ 8 + bitXor (getD opens (a * 256 + getD low 15 0) 0) (shape .accepting)) (p : Paired (shape .components) keys n) where
+  module _ (ranks : ℕ) (levels : List ℕ) (B : Back opens a (getD low 15 0) parts (shape .components) low ranks levels) (core earlier : ℕ)
+      (ec : core ≡ v * 2 ^ 8 + bitXor (getD low 15 0) (shape .accepting)) (ee : earlier ≡ ranks * 2 ^ 8 + bitXor (getD opens (a * 256 + getD low 15 0) 0) (shape .accepting))
+      (p : Paired (shape .components) keys n) where
     abbrev onto : ℕ → ℕ
     onto = onwardIn v parts (shape .components) levels
 

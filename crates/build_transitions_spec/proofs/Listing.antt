@@ -87,7 +87,8 @@ module _ (r : Rule) (opens parts : List ℕ) (shape : Shape) (T : RuleTables r o
     vector-is j l =
         let M = macrostate j l in
         let v = vector A (layered r (T .shaped .passing)) parts (T .shaped .masks) (code j) M in
-        sym (ap (λ (x : ℕ). x / 256 / 256) (is j l) ∙ ap (λ (x : ℕ). x / 256) (key-core (code j) (pair-low A (code j) (M .coded)) ∙ vector-core A (layered r (T .shaped .passing)) parts (T .shaped .masks) (code j) M) ∙ core-vector A v)
+        sym (ap (λ (x : ℕ). x / 256 / 256) (is j l) ∙ ap (λ (x : ℕ). x / 256)
+        (key-core (code j) (pair-low A (code j) (M .coded)) ∙ vector-core A (layered r (T .shaped .passing)) parts (T .shaped .masks) (code j) M) ∙ core-vector A v)
 
     done-in : (y : ℕ) → List·Memᴰ y (transitionsFrom r start) → Done A (shape .s) keys n n y
     done-in y k =

@@ -114,7 +114,8 @@ module _ (earlier core : ℕ) (onto : ℕ → ℕ) (a : ℕ) (keys : List ℕ) (
           }
 
 -- the same crossings, named otherwise
-pub crossings-same : (e e′ c c′ : ℕ) (f g : ℕ → ℕ) (a : ℕ) (keys : List ℕ) (n : ℕ) → e ≡ e′ → c ≡ c′ → ((p : ℕ) → p < n → f (keyAt keys p % 256) ≡ g (keyAt keys p % 256)) → (y : ℕ) → Crossings e c f a keys n y → Crossings e′ c′ g a keys n y
+pub crossings-same : (e e′ c c′ : ℕ) (f g : ℕ → ℕ) (a : ℕ) (keys : List ℕ) (n : ℕ) → e ≡ e′ → c ≡ c′ → ((p : ℕ) → p < n → f (keyAt keys p % 256) ≡ g (keyAt keys p % 256)) → (y : ℕ) →
+    Crossings e c f a keys n y → Crossings e′ c′ g a keys n y
 crossings-same e e′ c c′ f g a keys n p q h y m = (
   m .0,
   m .1,

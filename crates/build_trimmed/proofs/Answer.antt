@@ -211,11 +211,13 @@ module _ (f xs zs : List ℕ) (n : Counts) (e : Table n ≡ trimmedOf f (length 
 
   pub codes-are : take (n .macrostates) (trimmedCodesAfter f xs (length zs)) ≡ trimmedCodes (ruleIn f)
   unfolding trimmedCodesAfter
-  codes-are = ap₂ (λ (k : ℕ) (l : List ℕ). take k l) (counts .1) (slice-none (buildRow f (length xs) (length zs)) (trimmedCodes (ruleIn f)) xs (counts .0)) ∙ take-append-seam (trimmedCodes (ruleIn f)) _
+  codes-are = ap₂ (λ (k : ℕ) (l : List ℕ). take k l) (counts .1) (slice-none (buildRow f (length xs) (length zs)) (trimmedCodes (ruleIn f)) xs (counts .0))
+      ∙ take-append-seam (trimmedCodes (ruleIn f)) _
 
   pub transitions-are : take (n .transitions) (trimmedTransitionsAfter f (length xs) zs) ≡ trimmedTransitions (ruleIn f)
   unfolding trimmedTransitionsAfter
-  transitions-are = ap₂ (λ (k : ℕ) (l : List ℕ). take k l) (counts .2) (slice-none (buildRow f (length xs) (length zs)) (trimmedTransitions (ruleIn f)) zs (counts .0)) ∙ take-append-seam (trimmedTransitions (ruleIn f)) _
+  transitions-are = ap₂ (λ (k : ℕ) (l : List ℕ). take k l) (counts .2) (slice-none (buildRow f (length xs) (length zs)) (trimmedTransitions (ruleIn f)) zs (counts .0))
+      ∙ take-append-seam (trimmedTransitions (ruleIn f)) _
 
   pub answered-lists : ListsMattering (ruleIn f) (take (n .macrostates) (trimmedCodesAfter f xs (length zs))) (take (n .transitions) (trimmedTransitionsAfter f (length xs) zs))
   answered-lists = rw (codes-are, transitions-are) (trimmed-lists (ruleIn f) (accepted-passing f (rows .0)) small)

@@ -128,8 +128,10 @@ module _ (r : Rule) (P : Passing r) where
         moves-counted = eqb-true _ _ (test 3);
         codes-ascend = L .codes-ascend;
         codes-reachable = L .codes-reachable;
-        initial-marked = λ l m. beq-true (l .initial) (isInitial r (l .code)) (and-l (Bool·beq (l .initial) (isInitial r (l .code))) (Bool·beq (l .accepting) (isAccepting (l .code))) (marked r lines (test 4) l m));
-        accepting-marked = λ l m. beq-true (l .accepting) (isAccepting (l .code)) (and-r (Bool·beq (l .initial) (isInitial r (l .code))) (Bool·beq (l .accepting) (isAccepting (l .code))) (marked r lines (test 4) l m));
+        initial-marked = λ l m. beq-true (l .initial) (isInitial r (l .code))
+            (and-l (Bool·beq (l .initial) (isInitial r (l .code))) (Bool·beq (l .accepting) (isAccepting (l .code))) (marked r lines (test 4) l m));
+        accepting-marked = λ l m. beq-true (l .accepting) (isAccepting (l .code))
+            (and-r (Bool·beq (l .initial) (isInitial r (l .code))) (Bool·beq (l .accepting) (isAccepting (l .code))) (marked r lines (test 4) l m));
         moves-ascend = L .moves-ascend;
         moves-there = L .moves-there;
       }

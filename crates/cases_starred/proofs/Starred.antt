@@ -38,11 +38,15 @@ use Rattle.cases_starred.proofs.Checks.{allMarks, startPasses, passes, 
 
 -- what the evaluation unfolds: the rows of a file and of a word, the masks, the lists of the build, the checks, the table
 unfoldable rows : ℕ
-unfolding fileRow fileRows bodyRows prefaceRows nameRows hasNames namesBefore repeatsName layoutRows trailerRows numberRows listRows formedRows clauseRows someNested nested componentRows firstRow tagged clausesOf countsOf mixed wordRow wordRows lengthRows letterRows
+unfolding fileRow fileRows bodyRows prefaceRows nameRows hasNames namesBefore repeatsName layoutRows trailerRows numberRows listRows formedRows clauseRows someNested nested componentRows firstRow
+    tagged clausesOf countsOf mixed wordRow wordRows lengthRows letterRows
 rows = 0
 
 unfoldable computed : ℕ
-unfolding truthMasks solvedBelow roundsAt layer heightOf nextPlace letterAt place isAccepting macrostatesFrom transitionsFrom transitionsOf codesFrom cores candidates digitals tabulate flat keep among anyOf insertAscending sorted reachedIn reached wellCoded pack fields mask num goes before onward begun automaton setIn rankIn componentIn classesIn every satisfies inside bit rankOf levelOf test settled rejectingSettled acceptingSettled mix isOpen taken some count first largest openOf nextComponent isCore component components isSmallest smallest together reaches within leads named entry sum
+unfolding truthMasks solvedBelow roundsAt layer heightOf nextPlace letterAt place isAccepting macrostatesFrom transitionsFrom transitionsOf codesFrom cores candidates digitals tabulate flat keep
+    among anyOf insertAscending sorted reachedIn reached wellCoded pack fields mask num goes before onward begun automaton setIn rankIn componentIn classesIn every satisfies inside bit rankOf levelOf
+    test settled rejectingSettled acceptingSettled mix isOpen taken some count first largest openOf nextComponent isCore component components isSmallest smallest together reaches within leads named
+    entry sum
 computed = 0
 
 unfoldable checks : ℕ

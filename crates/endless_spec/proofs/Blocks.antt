@@ -37,7 +37,8 @@ blockRun i = numberFrom i 1 1 1
 first-letters : (blocks 0 ≡ 0) × (blocks 1 ≡ 1) × (blocks 2 ≡ 0) × (blocks 3 ≡ 0) × (blocks 4 ≡ 1) × (blocks 5 ≡ 0) × (blocks 6 ≡ 0) × (blocks 7 ≡ 0) × (blocks 8 ≡ 1)
 first-letters = (refl, refl, refl, refl, refl, refl, refl, refl, refl)
 
-first-numbers : (blockRun 0 ≡ 1) × (blockRun 1 ≡ 2) × (blockRun 2 ≡ 1) × (blockRun 3 ≡ 2) × (blockRun 4 ≡ 2) × (blockRun 5 ≡ 1) × (blockRun 6 ≡ 2) × (blockRun 7 ≡ 2) × (blockRun 8 ≡ 2) × (blockRun 9 ≡ 1)
+first-numbers : (blockRun 0 ≡ 1) × (blockRun 1 ≡ 2) × (blockRun 2 ≡ 1) × (blockRun 3 ≡ 2) × (blockRun 4 ≡ 2) × (blockRun 5 ≡ 1) × (blockRun 6 ≡ 2) × (blockRun 7 ≡ 2) × (blockRun 8 ≡ 2)
+    × (blockRun 9 ≡ 1)
 first-numbers = (refl, refl, refl, refl, refl, refl, refl, refl, refl, refl)
 
 -- number 1 stands at the start of a block, where a letter 0 comes
@@ -46,7 +47,11 @@ data Stands : ℕ → ℕ → Type 0 where
   goes : (c : ℕ) → Stands 2 c
 
 moves-from : (i x n c : ℕ) → Stands x c → (t : ℕ) × List·Memᴰ t transitionsF × Leads t (numberFrom i x n c) (letterFrom i n c) (numberFrom (suc i) x n c)
-moves-from zero x n zero (goes c) = (33619969, List·Memᴰ·tail (List·Memᴰ·tail (List·Memᴰ·tail (List·Memᴰ·tail (List·Memᴰ·tail (List·Memᴰ·tail (List·Memᴰ·head refl)))))), record { source = refl; letter = refl; target = refl })
+moves-from zero x n zero (goes c) = (
+  33619969,
+  List·Memᴰ·tail (List·Memᴰ·tail (List·Memᴰ·tail (List·Memᴰ·tail (List·Memᴰ·tail (List·Memᴰ·tail (List·Memᴰ·head refl)))))),
+  record { source = refl; letter = refl; target = refl },
+)
 moves-from zero x n (suc c) (starts d) = (16777218, List·Memᴰ·tail (List·Memᴰ·head refl), record { source = refl; letter = refl; target = refl })
 moves-from zero x n (suc c) (goes d) = (33554434, List·Memᴰ·tail (List·Memᴰ·tail (List·Memᴰ·tail (List·Memᴰ·tail (List·Memᴰ·head refl)))), record { source = refl; letter = refl; target = refl })
 moves-from (suc i) x n zero s = moves-from i 1 (suc n) (suc n) (starts n)

@@ -33,7 +33,9 @@ two = 0 ∷ 3 ∷ 0 ∷ 3 ∷ 1 ∷ 2 ∷ 5 ∷ 1 ∷ 5 ∷ 0 ∷ []
 
 -- "The first line that holds an event's two bytes gives its letter"; "an odd last byte is no event yet"; the byte after the letters stays
 served : Case two (2 ∷ 2 ∷ 2 ∷ 4 ∷ 0 ∷ 0 ∷ 9 ∷ []) (Letters 3) (7 ∷ 7 ∷ 7 ∷ 7 ∷ []) (1 ∷ 0 ∷ 1 ∷ 7 ∷ [])
-unfolding F two translatedOf lettersAfter translateRow filled firstRow fileRows bodyRows layoutRows trailerRows numberRows listRows formedRows clauseRows componentRows prefaceRows nameRows hasNames namesBefore repeatsName someNested nested tagged clausesOf countsOf anyOf sum mixed together reaches within leads named entry callRows faultyTable hasCovered hasUnknown faulty covered known lettersOf letterOf firstLine holds spans tabulate first bit inside every some count
+unfolding F two translatedOf lettersAfter translateRow filled firstRow fileRows bodyRows layoutRows trailerRows numberRows listRows formedRows clauseRows componentRows prefaceRows nameRows hasNames
+    namesBefore repeatsName someNested nested tagged clausesOf countsOf anyOf sum mixed together reaches within leads named entry callRows faultyTable hasCovered hasUnknown faulty covered known
+    lettersOf letterOf firstLine holds spans tabulate first bit inside every some count
 served = record { answers = refl; writes = refl }
 
 -- ---- the row that refuses first, under two letters

@@ -27,7 +27,8 @@ use Rattle.theory.specs.Components.{named, leads, within, reaches, together, mi
 
 -- 07 08 before F is the preface
 pub preface-F : prefaceOf (0x07 ∷ 0x08 ∷ 0x01 ∷ 0x00 ∷ 0x01 ∷ 0x01 ∷ 0x01 ∷ 0x02 ∷ 0x00 ∷ 0x00 ∷ 0x02 ∷ 0x00 ∷ 0x41 ∷ 0x57 ∷ []) ≡ 0x07 ∷ 0x08 ∷ []
-unfolding prefaceOf unrefused fileRow fileRows bodyRows layoutRows trailerRows numberRows listRows formedRows clauseRows componentRows prefaceRows nameRows hasNames namesBefore repeatsName firstRow tagged clausesOf countsOf anyOf sum someNested nested inside every mixed together reaches within leads named entry some bit mask
+unfolding prefaceOf unrefused fileRow fileRows bodyRows layoutRows trailerRows numberRows listRows formedRows clauseRows componentRows prefaceRows nameRows hasNames namesBefore repeatsName firstRow
+    tagged clausesOf countsOf anyOf sum someNested nested inside every mixed together reaches within leads named entry some bit mask
 preface-F = refl
 
 -- nothing of a refused file: 07 before the example of row 9

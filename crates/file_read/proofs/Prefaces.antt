@@ -74,7 +74,19 @@ module _ (p f : List ℕ) (long : 8 ≤ length f) where
         let long₂ : ltb (length (p ++ f)) 8 ≡ false = le-ltb (length (p ++ f)) 8 (omega (arith, length-append p f)) in
         let fits₂ : ltb (length (p ++ f) - 8) (clauseCount (p ++ f) + entryCount (p ++ f)) ≡ false =
         le-ltb (length (p ++ f) - 8) (clauseCount (p ++ f) + entryCount (p ++ f)) (omega (arith, length-append p f, clause-count-after, entry-count-after)) in
-        rw (long₂, fits₂, le-ltb (length f) 8 long, le-ltb (length f - 8) (clauseCount f + entryCount f) fits, tagged-after, counts-after, clauses-after, trailer-after 0, trailer-after 1, trailer-after 2, trailer-after 3)
+        rw (
+          long₂,
+          fits₂,
+          le-ltb (length f) 8 long,
+          le-ltb (length f - 8) (clauseCount f + entryCount f) fits,
+          tagged-after,
+          counts-after,
+          clauses-after,
+          trailer-after 0,
+          trailer-after 1,
+          trailer-after 2,
+          trailer-after 3,
+        )
 
   -- where the parts do not fit, rows 2 to 6 are those of the trailer
   short-after : length f - 8 < clauseCount f + entryCount f → (firstRow (layoutRows f) ≡ 7 → ⊥) → firstRow (layoutRows (p ++ f)) ≡ firstRow (layoutRows f)

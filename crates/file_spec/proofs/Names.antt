@@ -126,7 +126,8 @@ module _ (s : ℕ) (p : List ℕ) where
       ∙ take-append-drop k p)
 
   pub names-length : hasNames p ≡ true → cutOff ≡ false → length (namesBefore s p) ≡ 8 * s
-  names-length h e = let room = names-room h e in let l = names-long h in ap length (names-there h) ∙ length-take (8 * s) (drop (length p - 2 - 8 * s) p) ∙ omega (arith, length-drop (length p - 2 - 8 * s) p)
+  names-length h e = let room = names-room h e in let l = names-long h in
+      ap length (names-there h) ∙ length-take (8 * s) (drop (length p - 2 - 8 * s) p) ∙ omega (arith, length-drop (length p - 2 - 8 * s) p)
 
 -- the other way: names and 4E 4D after any bytes q
 module _ (s : ℕ) (q names : List ℕ) (l : length names ≡ 8 * s) where

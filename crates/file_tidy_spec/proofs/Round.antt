@@ -42,7 +42,8 @@ module _ (f : List ℕ) (e : firstRow (tidyRows f) ≡ 0) where
   tidied-reads =
       let P = tidy-served f e in
       let n = tidy-preface f e in
-      let a = layout-accepted (tidyRule (ruleIn f)) (tidy-passing (ruleIn f) P) (rule-unnested (ruleIn f) (P .formed .clause-states)) (prefaceFrom (namesOf f)) (names-pass (trailer f 1) (partBefore f) n) in
+      let a = layout-accepted (tidyRule (ruleIn f)) (tidy-passing (ruleIn f) P) (rule-unnested (ruleIn f) (P .formed .clause-states)) (prefaceFrom (namesOf f))
+      (names-pass (trailer f 1) (partBefore f) n) in
       record {
         accepted = a .0;
         rule = a .1;

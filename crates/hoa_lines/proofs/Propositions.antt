@@ -33,4 +33,5 @@ module _ (s : ℕ) where
   pub four-needed : 8 < s → s ≤ 16 → 4 ≡ propositions s
   unfolding propositions
   four-needed l h =
-      sym (first-no 4 apart 0 (lt-leb s 1 (omega arith)) ∙ first-no 3 apart 1 (lt-leb s 2 (omega arith)) ∙ first-no 2 apart 2 (lt-leb s 4 (omega arith)) ∙ first-no 1 apart 3 (lt-leb s 8 l) ∙ first-yes 0 apart 4 (le-leb s 16 h))
+      sym (first-no 4 apart 0 (lt-leb s 1 (omega arith)) ∙ first-no 3 apart 1 (lt-leb s 2 (omega arith)) ∙ first-no 2 apart 2 (lt-leb s 4 (omega arith)) ∙ first-no 1 apart 3 (lt-leb s 8 l)
+      ∙ first-yes 0 apart 4 (le-leb s 16 h))

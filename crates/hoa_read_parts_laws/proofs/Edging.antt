@@ -47,7 +47,8 @@ module _ {text : List ℕ} {p b n i m : ℕ} {old : List ℕ} {count r : ℕ} {n
 
 module _ (text : List ℕ) (p b n i : ℕ) (edges : List ℕ) (low r : ℕ) (E : Edging text p b n i edges low r) where
   -- an edge line comes next in any edge lines that stand there
-  module _ (h : r < length text) (bracket : getD text r 0 ≡ 91) (us rest : List ℕ) (L : (t : ℕ) → List·Memᴰ t us → Leaves b n i t) (N : NoEdge rest) (e : drop p text ≡ lines (edgeOf b) 0 us ++ rest) where
+  module _ (h : r < length text) (bracket : getD text r 0 ≡ 91) (us rest : List ℕ) (L : (t : ℕ) → List·Memᴰ t us → Leaves b n i t) (N : NoEdge rest)
+      (e : drop p text ≡ lines (edgeOf b) 0 us ++ rest) where
     next-edge : (v : ℕ) × (vs : List ℕ) × (us ≡ edges ++ (v ∷ vs)) × (drop r text ≡ edgeOf b 0 v ++ (lines (edgeOf b) 0 vs ++ rest))
     unfolding lines
     next-edge = cased (edges-left b i edges us (drop r text) rest (from-leaves b n i edges (E .leaves)) (from-leaves b n i us L) N (sym (E .is) ∙ e))
@@ -106,7 +107,8 @@ module _ (text : List ℕ) (p b n i : ℕ) (edges : List ℕ) (low r : ℕ) (E :
           later text r (edgeOf b 0 x) q (omega (arith, length-append (edgeOf b 0 x) [])) (f .1) (f .2)
 
 -- the transition is stored after those before it
-pub move-stored : (old : List ℕ) (m : ℕ) (edges : List ℕ) (count x : ℕ) {now new : List ℕ} → count ≡ m + length edges → now ≡ sets old m edges → new ≡ set now count x → new ≡ sets old m (edges ++ (x ∷ []))
+pub move-stored : (old : List ℕ) (m : ℕ) (edges : List ℕ) (count x : ℕ) {now new : List ℕ} → count ≡ m + length edges → now ≡ sets old m edges → new ≡ set now count x →
+    new ≡ sets old m (edges ++ (x ∷ []))
 move-stored old m edges count x h e w =
     w
     ∙ ap (λ (xs : List ℕ). set xs count x) e

@@ -79,7 +79,8 @@ module _ (text : List ℕ) (p n i : ℕ) (starts : List ℕ) (last r : ℕ) (S :
           reached = λ l. let g = S .high in snoc-before starts 0 (last - 1) (omega arith) ∙ S .reached l;
           high = let g = S .high in omega arith;
           within = S .within;
-          is = S .is ∙ ap (λ (s : List ℕ). s ++ drop r text) (sym (lines-more 0 (omega arith) ∙ ap (λ (s : List ℕ). lines startOf 0 starts ++ s) (start-no i 0 bit-0) ∙ append-nil (lines startOf 0 starts)));
+          is = S .is ∙ ap (λ (s : List ℕ). s ++ drop r text) (sym (lines-more 0 (omega arith) ∙ ap (λ (s : List ℕ). lines startOf 0 starts ++ s) (start-no i 0 bit-0)
+              ∙ append-nil (lines startOf 0 starts)));
           only = λ fs rest l m e.
               let o = S .only fs rest l m e in
               let k = start-missing (drop r text) fs rest m i (omega arith) (o .0) (T .absent z) in

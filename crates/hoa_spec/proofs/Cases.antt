@@ -14,7 +14,8 @@ use Rattle.hoa_spec.specs.Text.{flagOf, flagsOf, startOf, leaving, block
 
 -- what an evaluation unfolds
 unfoldable computed : ℕ
-unfolding first bit keep componentIn classesIn begun isAccepting digitsIn decimal word lines statesLine startLine propositions names apLine stateLine literal label edgeLine flagOf flagsOf startOf leaving blockOf automatonText textOf
+unfolding first bit keep componentIn classesIn begun isAccepting digitsIn decimal word lines statesLine startLine propositions names apLine stateLine literal label edgeLine flagOf flagsOf startOf
+    leaving blockOf automatonText textOf
 computed = 0
 
 -- one letter needs no proposition, two need one, three and four need two, five to eight three, nine to sixteen four
@@ -45,7 +46,8 @@ pub text-F : textOf 2 0 (0 ∷ 257 ∷ 17592186044673 ∷ []) (0 ∷ 16777218 �
     ∷ 65 ∷ 80 ∷ 58 ∷ 32 ∷ 49 ∷ 32 ∷ 34 ∷ 101 ∷ 48 ∷ 34 ∷ 10
     ∷ 97 ∷ 99 ∷ 99 ∷ 45 ∷ 110 ∷ 97 ∷ 109 ∷ 101 ∷ 58 ∷ 32 ∷ 66 ∷ 117 ∷ 99 ∷ 104 ∷ 105 ∷ 10
     ∷ 65 ∷ 99 ∷ 99 ∷ 101 ∷ 112 ∷ 116 ∷ 97 ∷ 110 ∷ 99 ∷ 101 ∷ 58 ∷ 32 ∷ 49 ∷ 32 ∷ 73 ∷ 110 ∷ 102 ∷ 40 ∷ 48 ∷ 41 ∷ 10
-    ∷ 112 ∷ 114 ∷ 111 ∷ 112 ∷ 101 ∷ 114 ∷ 116 ∷ 105 ∷ 101 ∷ 115 ∷ 58 ∷ 32 ∷ 116 ∷ 114 ∷ 97 ∷ 110 ∷ 115 ∷ 45 ∷ 108 ∷ 97 ∷ 98 ∷ 101 ∷ 108 ∷ 115 ∷ 32 ∷ 101 ∷ 120 ∷ 112 ∷ 108 ∷ 105 ∷ 99 ∷ 105 ∷ 116 ∷ 45 ∷ 108 ∷ 97 ∷ 98 ∷ 101 ∷ 108 ∷ 115 ∷ 32 ∷ 115 ∷ 116 ∷ 97 ∷ 116 ∷ 101 ∷ 45 ∷ 97 ∷ 99 ∷ 99 ∷ 10
+    ∷ 112 ∷ 114 ∷ 111 ∷ 112 ∷ 101 ∷ 114 ∷ 116 ∷ 105 ∷ 101 ∷ 115 ∷ 58 ∷ 32 ∷ 116 ∷ 114 ∷ 97 ∷ 110 ∷ 115 ∷ 45 ∷ 108 ∷ 97 ∷ 98 ∷ 101 ∷ 108 ∷ 115 ∷ 32 ∷ 101 ∷ 120 ∷ 112 ∷ 108 ∷ 105 ∷ 99 ∷ 105 ∷ 116 ∷ 45
+    ∷ 108 ∷ 97 ∷ 98 ∷ 101 ∷ 108 ∷ 115 ∷ 32 ∷ 115 ∷ 116 ∷ 97 ∷ 116 ∷ 101 ∷ 45 ∷ 97 ∷ 99 ∷ 99 ∷ 10
     ∷ 45 ∷ 45 ∷ 66 ∷ 79 ∷ 68 ∷ 89 ∷ 45 ∷ 45 ∷ 10
     ∷ 83 ∷ 116 ∷ 97 ∷ 116 ∷ 101 ∷ 58 ∷ 32 ∷ 48 ∷ 32 ∷ 123 ∷ 48 ∷ 125 ∷ 10
     ∷ 91 ∷ 33 ∷ 48 ∷ 93 ∷ 32 ∷ 48 ∷ 10
@@ -68,7 +70,8 @@ pub text-empty : textOf 1 0 [] [] ≡
     ∷ 65 ∷ 80 ∷ 58 ∷ 32 ∷ 48 ∷ 10
     ∷ 97 ∷ 99 ∷ 99 ∷ 45 ∷ 110 ∷ 97 ∷ 109 ∷ 101 ∷ 58 ∷ 32 ∷ 66 ∷ 117 ∷ 99 ∷ 104 ∷ 105 ∷ 10
     ∷ 65 ∷ 99 ∷ 99 ∷ 101 ∷ 112 ∷ 116 ∷ 97 ∷ 110 ∷ 99 ∷ 101 ∷ 58 ∷ 32 ∷ 49 ∷ 32 ∷ 73 ∷ 110 ∷ 102 ∷ 40 ∷ 48 ∷ 41 ∷ 10
-    ∷ 112 ∷ 114 ∷ 111 ∷ 112 ∷ 101 ∷ 114 ∷ 116 ∷ 105 ∷ 101 ∷ 115 ∷ 58 ∷ 32 ∷ 116 ∷ 114 ∷ 97 ∷ 110 ∷ 115 ∷ 45 ∷ 108 ∷ 97 ∷ 98 ∷ 101 ∷ 108 ∷ 115 ∷ 32 ∷ 101 ∷ 120 ∷ 112 ∷ 108 ∷ 105 ∷ 99 ∷ 105 ∷ 116 ∷ 45 ∷ 108 ∷ 97 ∷ 98 ∷ 101 ∷ 108 ∷ 115 ∷ 32 ∷ 115 ∷ 116 ∷ 97 ∷ 116 ∷ 101 ∷ 45 ∷ 97 ∷ 99 ∷ 99 ∷ 10
+    ∷ 112 ∷ 114 ∷ 111 ∷ 112 ∷ 101 ∷ 114 ∷ 116 ∷ 105 ∷ 101 ∷ 115 ∷ 58 ∷ 32 ∷ 116 ∷ 114 ∷ 97 ∷ 110 ∷ 115 ∷ 45 ∷ 108 ∷ 97 ∷ 98 ∷ 101 ∷ 108 ∷ 115 ∷ 32 ∷ 101 ∷ 120 ∷ 112 ∷ 108 ∷ 105 ∷ 99 ∷ 105 ∷ 116 ∷ 45
+    ∷ 108 ∷ 97 ∷ 98 ∷ 101 ∷ 108 ∷ 115 ∷ 32 ∷ 115 ∷ 116 ∷ 97 ∷ 116 ∷ 101 ∷ 45 ∷ 97 ∷ 99 ∷ 99 ∷ 10
     ∷ 45 ∷ 45 ∷ 66 ∷ 79 ∷ 68 ∷ 89 ∷ 45 ∷ 45 ∷ 10
     ∷ 45 ∷ 45 ∷ 69 ∷ 78 ∷ 68 ∷ 45 ∷ 45 ∷ 10 ∷ []
 unfolding computed

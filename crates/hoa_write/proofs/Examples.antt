@@ -19,7 +19,8 @@ use Rattle.hoa_write.specs.Written.{callRows, callRow}
 
 -- what an evaluation unfolds
 unfoldable computed : ℕ
-unfolding callRow callRows tableRows firstRow inWords isFaulty ascends ascendsFrom anyOf first bit keep componentIn classesIn begun isAccepting digitsIn decimal word lines statesLine startLine propositions names apLine stateLine literal label edgeLine flagOf flagsOf startOf leaving blockOf automatonText textOf
+unfolding callRow callRows tableRows firstRow inWords isFaulty ascends ascendsFrom anyOf first bit keep componentIn classesIn begun isAccepting digitsIn decimal word lines statesLine startLine
+    propositions names apLine stateLine literal label edgeLine flagOf flagsOf startOf leaving blockOf automatonText textOf
 computed = 0
 
 -- the row of a table under a rule of two letters with initial state 0

@@ -94,7 +94,8 @@ module _ (r : Rule) (P : Passing r) (lead cycle : List ℕ) (W : WordOver (r .s)
         let f = length-tabulate (L * r .n) (λ i. choiceAt r lead cycle T (i / r .n) (i % r .n)) 0 in let g = length-drop (L * r .n) old in omega arith
 
     past : (front : List ℕ) (i : ℕ) → length front ≡ L * r .n → L * r .n ≤ i → getD (front ++ drop (L * r .n) old) i 0 ≡ getD (drop (L * r .n) old) (i - L * r .n) 0
-    past front i e k = let x : i ≡ length front + (i - L * r .n) = omega arith in ap (λ (j : ℕ). getD (front ++ drop (L * r .n) old) j 0) x ∙ getD-append-add front (drop (L * r .n) old) (i - L * r .n) 0
+    past front i e k = let x : i ≡ length front + (i - L * r .n) = omega arith in
+        ap (λ (j : ℕ). getD (front ++ drop (L * r .n) old) j 0) x ∙ getD-append-add front (drop (L * r .n) old) (i - L * r .n) 0
 
     pub all-filled : zs ≡ choicesOf r lead cycle ++ drop (L * r .n) old
     unfolding choicesBy

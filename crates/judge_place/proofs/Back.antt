@@ -41,7 +41,8 @@ back-next r lead ms rest p l k e v f =
     let first : getD ms (p + 1) 0 ≡ getD (backOver r (drop (p + 1) lead) rest) 0 0
     = ap (λ (x : ℕ). getD ms x 0) (sym (add-zero (p + 1))) ∙ sym (getD-drop (p + 1) ms 0 0) ∙ ap (λ (x : List ℕ). getD x 0 0) e in
     let front : drop p (set ms p v) ≡ v ∷ drop (p + 1) ms
-    = drop-cons (set ms p v) p 0 (let x = length-set ms p v in omega arith) ∙ ap₂ _∷_ (getD-set-same ms p v 0 (omega arith)) (drop-set-lt (suc p) ms p v (omega arith) ∙ ap (λ (x : ℕ). drop x ms) (sym (add-one p))) in
+    = drop-cons (set ms p v) p 0 (let x = length-set ms p v in omega arith)
+    ∙ ap₂ _∷_ (getD-set-same ms p v 0 (omega arith)) (drop-set-lt (suc p) ms p v (omega arith) ∙ ap (λ (x : ℕ). drop x ms) (sym (add-one p))) in
     let split : drop p lead ≡ getD lead p 0 ∷ drop (p + 1) lead = drop-cons lead p 0 l ∙ ap (λ (x : ℕ). getD lead p 0 ∷ drop x lead) (sym (add-one p)) in
     front ∙ ap₂ _∷_ (f ∙ ap (λ (x : ℕ). mask (r .n) (λ q. satisfies (r .n) (bit x) (entry r q (getD lead p 0)))) first) e ∙ sym (ap (λ (x : List ℕ). backOver r x rest) split)
 

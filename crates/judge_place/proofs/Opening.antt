@@ -51,9 +51,11 @@ module _ (r : Rule) (cycle : List ℕ) (layer : ℕ) (ms : List ℕ) (p : ℕ) w
       let s : Set = λ q. satisfies (r .n) (bit (getD ms (nextPlace [] cycle p) 0)) (entry r q (letterAt [] cycle p)) in
       let c : ℕ = closed in
       mask-unique 8 (bitXor old (bitAnd c (bitXor met (r .accepting)))) (λ q. cond (bit layer q && opens r cycle ms p q) (not (bit (r .accepting) q)) (bit old q))
-      (xor-lt 8 old (bitAnd c (bitXor met (r .accepting))) h (let x = and-le-l c (bitXor met (r .accepting)) in let y = mask-lt 8 (λ x. bit layer x && not (bit (bitXor old (r .accepting)) x)) in omega arith))
+      (xor-lt 8 old (bitAnd c (bitXor met (r .accepting))) h (let x = and-le-l c (bitXor met (r .accepting)) in let y = mask-lt 8 (λ x. bit layer x && not (bit (bitXor old (r .accepting)) x)) in
+      omega arith))
       (λ q l.
-      let bc : bit c q ≡ (bit layer q && not (exclusive (bit old q) (bit (r .accepting) q))) = bit-mask 8 (λ x. bit layer x && not (bit (bitXor old (r .accepting)) x)) q l ∙ ap (λ (b : Bool). bit layer q && not b) (bit-xor old (r .accepting) q) in
+      let bc : bit c q ≡ (bit layer q && not (exclusive (bit old q) (bit (r .accepting) q))) =
+      bit-mask 8 (λ x. bit layer x && not (bit (bitXor old (r .accepting)) x)) q l ∙ ap (λ (b : Bool). bit layer q && not b) (bit-xor old (r .accepting) q) in
       let bm : bit met q ≡ (bit c q && s q) = ap (λ (x : ℕ). bit x q) e ∙ bit-mask 8 (λ x. bit c x && s x) q l in
       rw (bit-xor old (bitAnd c (bitXor met (r .accepting))) q, bit-and c (bitXor met (r .accepting)) q, bit-xor met (r .accepting) q, bm, bc)
       (turn (bit layer q) (bit old q) (bit (r .accepting) q) (s q)))

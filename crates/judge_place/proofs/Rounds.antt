@@ -242,7 +242,8 @@ module _ (r : Rule) (cycle : List ℕ) (layer : ℕ) (old : List ℕ) where
     grown = λ e. absurd (false≢true e);
   }
 
-  module _ (P : Passing r) (repeats : 0 < length cycle) (ms : List ℕ) (changed : Bool) (p : ℕ) (w : Walk r cycle layer old ms changed (p + 1)) (fits : length old ≡ length cycle) (l : p < length cycle) (small : getD ms p 0 < 256) where
+  module _ (P : Passing r) (repeats : 0 < length cycle) (ms : List ℕ) (changed : Bool) (p : ℕ) (w : Walk r cycle layer old ms changed (p + 1)) (fits : length old ≡ length cycle)
+      (l : p < length cycle) (small : getD ms p 0 < 256) where
     room : p < length ms
     room = omega (arith, w .long)
 

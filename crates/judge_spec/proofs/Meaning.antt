@@ -55,7 +55,8 @@ module _ (r : Rule) (P : Passing r) (lead cycle : List ℕ) (W : WordOver (r .s)
       record {
         pairs = λ q p l k.
             let t = truth-bit r lead cycle P W q p l k in
-            let e : getD (truthMasks r lead cycle ++ rest) p 0 ≡ getD (truthMasks r lead cycle) p 0 = List·getD-append (truthMasks r lead cycle) rest 0 p (let x = truth-length r lead cycle in omega arith) in
+            let e : getD (truthMasks r lead cycle ++ rest) p 0 ≡ getD (truthMasks r lead cycle) p 0 =
+            List·getD-append (truthMasks r lead cycle) rest 0 p (let x = truth-length r lead cycle in omega arith) in
             rw e t;
         yes = (λ e. s .0 (y .0 e), λ a. y .1 (s .1 a));
         no = (λ e a. true≢false (sym (s .1 a) ∙ n .0 e), λ f. n .1 (bif b (λ t. absurd (f (s .0 t))) (λ t. t)));

@@ -67,7 +67,8 @@ pub both-judges : (f lead cycle : List ℕ) (codes transitions : Lent) (masks fi
     → Demand3 (ruleIn f) (codes .numbers) (transitions .numbers)
     → Agree f lead cycle (codes .numbers) (transitions .numbers) v a
 both-judges f lead cycle codes transitions masks filled scratch cleared v a J e T t D =
-    let W : WordOver (ruleIn f .s) lead cycle = word-over (ruleIn f .s) lead cycle (call-passes (ruleIn f .s) lead cycle codes transitions (length scratch) (file-passed f lead cycle codes transitions (length scratch) t .1) .word) in
+    let W : WordOver (ruleIn f .s) lead cycle = word-over (ruleIn f .s) lead cycle
+    (call-passes (ruleIn f .s) lead cycle codes transitions (length scratch) (file-passed f lead cycle codes transitions (length scratch) t .1) .word) in
     let A : Answered 0 (Begins (holdsInitial (ruleIn f)) (codes .numbers) (transitions .numbers) lead cycle) a = rw t at (T .answer) in
     let y = J .meant e .yes in
     record {

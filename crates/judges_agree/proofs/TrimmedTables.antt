@@ -37,7 +37,8 @@ module _ (r : Rule) (P : Passing r) (room : length (macrostates r) ≤ 65536) wh
     few = trimmed-room r P room;
     codes-ascend = trimmed-lists r P room .codes-ascend;
     transitions-ascend = trimmed-lists r P room .transitions-ascend;
-    narrow = λ c m. narrow (automaton r) c (reachable-macrostate (automaton r) (layered r P) (few-states r P) (components-there r P) (r .s) (holdsInitial r) (trimmed-lists r P room .codes-are c .0 m .0));
+    narrow = λ c m. narrow (automaton r) c (reachable-macrostate (automaton r) (layered r P) (few-states r P) (components-there r P) (r .s) (holdsInitial r)
+        (trimmed-lists r P room .codes-are c .0 m .0));
     source = λ t m. in-range t m .source;
     letter = λ t m. in-range t m .letter;
     target = λ t m. in-range t m .target;

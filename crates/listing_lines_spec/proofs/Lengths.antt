@@ -32,7 +32,8 @@ unfolding nLine
 n-length letter name = omega (arith, length-append (word letter) ((32 ∷ []) ++ (name ++ newline)), length-append name newline)
 
 pub table-length : (initial : Set) (names codes moves : List ℕ)
-    → length (tableText initial names codes moves) ≡ length (builtLine (length codes) (length moves)) + length (nameLines names) + length (macrostateLines initial codes) + length (transitionLines moves)
+    → length (tableText initial names codes moves) ≡ length (builtLine (length codes) (length moves)) + length (nameLines names) + length (macrostateLines initial codes) + length
+    (transitionLines moves)
 unfolding tableText
 table-length initial names codes moves =
     omega (

@@ -29,7 +29,11 @@ use Rattle.listing_spec.specs.Computed.{answerText, listingOf}
 
 -- what an evaluation unfolds
 unfoldable computed : ℕ
-unfolding listingOf answerText tableText builtLine mLine tLine nLine refusedLine lines word decimal digitsIn builtFrom builtBy rowFrom roomRows roomOf fileRows bodyRows prefaceRows nameRows hasNames namesBefore repeatsName layoutRows trailerRows numberRows listRows formedRows clauseRows someNested nested componentRows firstRow tagged clausesOf countsOf mixed isAccepting macrostatesFrom transitionsFrom transitionsOf codesFrom cores candidates digitals tabulate flat keep among anyOf insertAscending sorted reachedIn reached wellCoded pack fields mask num goes before onward begun automaton setIn rankIn componentIn classesIn every satisfies inside bit rankOf levelOf test settled rejectingSettled acceptingSettled mix isOpen taken some count first largest openOf nextComponent isCore component components isSmallest smallest together reaches within leads named entry sum
+unfolding listingOf answerText tableText builtLine mLine tLine nLine refusedLine lines word decimal digitsIn builtFrom builtBy rowFrom roomRows roomOf fileRows bodyRows prefaceRows nameRows hasNames
+    namesBefore repeatsName layoutRows trailerRows numberRows listRows formedRows clauseRows someNested nested componentRows firstRow tagged clausesOf countsOf mixed isAccepting macrostatesFrom
+    transitionsFrom transitionsOf codesFrom cores candidates digitals tabulate flat keep among anyOf insertAscending sorted reachedIn reached wellCoded pack fields mask num goes before onward begun
+    automaton setIn rankIn componentIn classesIn every satisfies inside bit rankOf levelOf test settled rejectingSettled acceptingSettled mix isOpen taken some count first largest openOf
+    nextComponent isCore component components isSmallest smallest together reaches within leads named entry sum
 computed = 0
 
 -- F: 01 shows these eleven lines
@@ -96,7 +100,8 @@ unfolding computed
 listing-4097 = refl
 
 -- Z for two letters with the names GO and STOP: a line for each letter right after line one
-pub listing-names : listingOf (0x47 ∷ 0x4f ∷ 0x20 ∷ 0x20 ∷ 0x20 ∷ 0x20 ∷ 0x20 ∷ 0x20 ∷ 0x53 ∷ 0x54 ∷ 0x4f ∷ 0x50 ∷ 0x20 ∷ 0x20 ∷ 0x20 ∷ 0x20 ∷ 0x4e ∷ 0x4d ∷ 0x00 ∷ 0x00 ∷ 0x01 ∷ 0x02 ∷ 0x00 ∷ 0x01 ∷ 0x00 ∷ 0x00 ∷ 0x41 ∷ 0x57 ∷ []) ≡
+pub listing-names : listingOf (0x47 ∷ 0x4f ∷ 0x20 ∷ 0x20 ∷ 0x20 ∷ 0x20 ∷ 0x20 ∷ 0x20 ∷ 0x53 ∷ 0x54 ∷ 0x4f ∷ 0x50 ∷ 0x20 ∷ 0x20 ∷ 0x20 ∷ 0x20 ∷ 0x4e ∷ 0x4d ∷ 0x00 ∷ 0x00 ∷ 0x01 ∷ 0x02 ∷ 0x00 ∷ 0x01
+    ∷ 0x00 ∷ 0x00 ∷ 0x41 ∷ 0x57 ∷ []) ≡
     98 ∷ 117 ∷ 105 ∷ 108 ∷ 116 ∷ 32 ∷ 49 ∷ 32 ∷ 48 ∷ 10
     ∷ 110 ∷ 32 ∷ 48 ∷ 32 ∷ 71 ∷ 79 ∷ 32 ∷ 32 ∷ 32 ∷ 32 ∷ 32 ∷ 32 ∷ 10
     ∷ 110 ∷ 32 ∷ 49 ∷ 32 ∷ 83 ∷ 84 ∷ 79 ∷ 80 ∷ 32 ∷ 32 ∷ 32 ∷ 32 ∷ 10

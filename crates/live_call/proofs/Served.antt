@@ -178,7 +178,8 @@ module _ (c : LiveCall) (f codes transitions state set : List ℕ) where
   file-refused k n e =
       let i = file-refuses c f (inBytes codes) (inBytes transitions) state (length set) k n e in
       called-whole state set (Refused k)
-      (subst (λ (j : ℕ). CalledBy j c (ruleIn f .initial) (wordsIn codes) (wordsIn transitions) state set state set (Refused k)) i (refused-by k c (ruleIn f .initial) (wordsIn codes) (wordsIn transitions) state set n))
+      (subst (λ (j : ℕ). CalledBy j c (ruleIn f .initial) (wordsIn codes) (wordsIn transitions) state set state set (Refused k)) i
+      (refused-by k c (ruleIn f .initial) (wordsIn codes) (wordsIn transitions) state set n))
 
   -- what the answer for the head that was read is for the file
   pub file-served : (l : Layout) (state′ set′ : List ℕ) (v : LiveAnswer) → read.Served f l
@@ -186,7 +187,8 @@ module _ (c : LiveCall) (f codes transitions state set : List ℕ) where
       → LiveCalled c f (inBytes codes) (inBytes transitions) state set state′ set′ v
   file-served l state′ set′ v S C =
       let D : CalledBy (callRow c (ruleIn f .s) (inBytes codes) (inBytes transitions) state (length set)) c (ruleIn f .initial) (wordsIn codes) (wordsIn transitions) state set state′ set′ v =
-      subst (λ (r : Rule). CalledBy (callRow c (r .s) (inBytes codes) (inBytes transitions) state (length set)) c (r .initial) (wordsIn codes) (wordsIn transitions) state set state′ set′ v) (S .rule) C in
+      subst (λ (r : Rule). CalledBy (callRow c (r .s) (inBytes codes) (inBytes transitions) state (length set)) c (r .initial) (wordsIn codes) (wordsIn transitions) state set state′ set′ v)
+      (S .rule) C in
       called-whole state′ set′ v
       (subst (λ (j : ℕ). CalledBy j c (ruleIn f .initial) (wordsIn codes) (wordsIn transitions) state set state′ set′ v)
       (sym (file-passes c f (inBytes codes) (inBytes transitions) state (length set) (S .row))) D)

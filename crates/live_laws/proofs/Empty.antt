@@ -96,7 +96,8 @@ module _ (r : Rule) (P : Passing r) (room : length (macrostates r) ≤ 65536) wh
     reached-accepted l y low R =
         let K = matters-at y low in
         let (J, e, f) = walk-matters (R .walk) K in
-        let a : AcceptsWord r (J .lead) (J .cycle) = accepted r P (macrostates r) (transitions r) (lists-reachable r P room) room (demand3 r P room) (code (R .start)) (R .initial) (macrostate-at (R .start) (R .listed)) J in
+        let a : AcceptsWord r (J .lead) (J .cycle) = accepted r P (macrostates r) (transitions r) (lists-reachable r P room) room (demand3 r P room) (code (R .start)) (R .initial)
+        (macrostate-at (R .start) (R .listed)) J in
         record { lead = K .lead; cycle = K .cycle; word = rw (e, f) at (J .word); accepts = rw (e, f) at a }
 
     -- and the other way round: the accepting run of the continuation passes one

@@ -6,7 +6,8 @@ use Prim.Native.Nat.{ℕ, zero, suc, _+_, _*_, _-_, _/_, _%_, _≤_, _<_, min}
 use native.Mathlib.Omega.{arith}
 use native.Mathlib.Nat.{add-zero, zero-add, add-assoc, zero-mul, suc-mul, mul-zero, mul-suc}
 use lib.ListN.{length, getD, take, drop, replicate, length-append, length-drop, length-replicate, replicate-append-replicate, drop-of-length-le}
-use lib.Seq.{length-take-le, take-all, take-length, drop-length, take-append-le, drop-append-le, take-append-add, drop-append-add, take-append-seam, take-suc, drop-append-seam, getD-take, getD-drop, getD-append-add}
+use lib.Seq.{length-take-le, take-all, take-length, drop-length, take-append-le, drop-append-le, take-append-add, drop-append-add, take-append-seam, take-suc, drop-append-seam, getD-take}
+use lib.Seq.{getD-drop, getD-append-add}
 use Rattle.sets.specs.Lists.{tabulate, flat}
 use Rattle.live_spec.specs.State.{twoBytes, padded, numberAt}
 use Rattle.live_spec.specs.Effects.{put}
@@ -166,7 +167,8 @@ pub number-read : (s : List ℕ) (at : ℕ) → numberAt s at ≡ numberAt (take
 unfolding numberAt
 number-read s at =
     let e : getD (take 2 (drop at s)) 0 0 ≡ getD s at 0 = getD-take 2 (drop at s) 0 0 (omega arith) ∙ getD-drop at s 0 0 ∙ ap (λ (k : ℕ). getD s k 0) (add-zero at) in
-    let f : getD (take 2 (drop at s)) 1 0 ≡ getD s (suc at) 0 = getD-take 2 (drop at s) 1 0 (omega arith) ∙ getD-drop at s 1 0 ∙ ap (λ (k : ℕ). getD s k 0) (let i : at + 1 ≡ suc at = omega arith in i) in
+    let f : getD (take 2 (drop at s)) 1 0 ≡ getD s (suc at) 0 = getD-take 2 (drop at s) 1 0 (omega arith) ∙ getD-drop at s 1 0
+    ∙ ap (λ (k : ℕ). getD s k 0) (let i : at + 1 ≡ suc at = omega arith in i) in
     ap₂ (λ (x y : ℕ). min 512 (x + 256 * y)) (sym e) (sym f)
 
 pub number-two : (n : ℕ) → n ≤ 512 → numberAt (twoBytes n) 0 ≡ n

@@ -89,7 +89,8 @@ enters-same set other a y t e = ap (λ (v : ℕ). eqb (letterOf t) a && (ltb 0 v
 pub stepped-same : (n : ℕ) (ts : List ℕ) (a : ℕ) (set other : List ℕ) → ((t : ℕ) → List·Memᴰ t ts → getD set (sourceOf t) 0 ≡ getD other (sourceOf t) 0)
     → stepped n ts a set ≡ stepped n ts a other
 unfolding stepped
-stepped-same n ts a set other h = tabulate-same n (λ y. one (anyOf ts (enters set a y))) (λ y. one (anyOf ts (enters other a y))) 0 (λ y. ap one (any-same ts (enters set a y) (enters other a y) (λ t m. enters-same set other a y t (h t m))))
+stepped-same n ts a set other h = tabulate-same n (λ y. one (anyOf ts (enters set a y))) (λ y. one (anyOf ts (enters other a y))) 0
+    (λ y. ap one (any-same ts (enters set a y) (enters other a y) (λ t m. enters-same set other a y t (h t m))))
 
 -- ---- over letters
 

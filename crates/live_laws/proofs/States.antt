@@ -18,7 +18,8 @@ use Rattle.live_spec.specs.History.{Moment, unset, at, isSet, lettersAt, Log}
 use Rattle.live_spec.specs.State.{markNumberAt, lettersAtByte, markLettersAt, setAt, stateLength, twoBytes, padded, forMarks, logBytes, numberAt, numberIn, lettersIn, isMarked, setIn}
 use Rattle.live_spec.specs.Effects.{put, numbered, withSet, refreshed, started, arrived, withdrawn, marked, returned, shown}
 use Rattle.live_laws.proofs.Reached.{stepped-length, initial-length, afresh-length, afresh-next, afresh-none, stepped-same}
-use Rattle.live_laws.proofs.Parts.{parts-length, parts-read, parts-put, padded-length, padded-read, padded-put, padded-none, padded-zeros, padded-next, padded-last, put-all, zeros, zeros-length, zeros-put, zeros-parts, zeros-split, number-read, number-two}
+use Rattle.live_laws.proofs.Parts.{parts-length, parts-read, parts-put, padded-length, padded-read, padded-put, padded-none, padded-zeros, padded-next, padded-last, put-all, zeros}
+use Rattle.live_laws.proofs.Parts.{zeros-length, zeros-put, zeros-parts, zeros-split, number-read, number-two}
 use Rattle.live_laws.proofs.Laid.{laid, Long, put-number, put-flag, put-numbers, put-letters, put-marks, put-set, read-number, read-numbers, read-letters, read-marks, read-set, read-flag}
 
 -- ---- the parts of a log
@@ -314,7 +315,8 @@ module _ (q : ℕ) (codes ts : List ℕ) (room : length codes ≤ 65536) (inside
         ∙ ap (λ (k : ℕ). loose k (letters ++ (a ∷ [])) marks set rest) (sym longer)
         ∙ tight (letters ++ (a ∷ [])) marks set rest in
         ap₂ (put setAt) next log
-        ∙ put-other (letters ++ (a ∷ [])) marks set rest (omega (arith, longer, h)) low narrow (afresh q codes ts (letters ++ (a ∷ []))) (afresh-length q codes ts (letters ++ (a ∷ [])) ∙ sym set-length)
+        ∙ put-other (letters ++ (a ∷ [])) marks set rest (omega (arith, longer, h)) low narrow (afresh q codes ts (letters ++ (a ∷ [])))
+        (afresh-length q codes ts (letters ++ (a ∷ [])) ∙ sym set-length)
 
     -- a withdrawal
     pub withdraw-leaves : 0 < length letters
@@ -360,8 +362,25 @@ module _ (q : ℕ) (codes ts : List ℕ) (room : length codes ≤ 65536) (inside
         let s = padded 65536 set in
         let marks′ = remark m letters marks in
         let L = long letters marks set few low narrow in
-        let L₁ : Long t (flagBytes marks′) k l b s = record { number-long = L .number-long; flags-long = flags-long marks′; numbers-long = L .numbers-long; letters-long = L .letters-long; marks-long = L .marks-long; set-long = L .set-long } in
-        let L₂ : Long t (flagBytes marks′) (numberBytes marks′) l b s = record { number-long = L .number-long; flags-long = flags-long marks′; numbers-long = numbers-long marks′; letters-long = L .letters-long; marks-long = L .marks-long; set-long = L .set-long } in
+        let L₁ : Long t (flagBytes marks′) k l b s = record {
+          number-long = L .number-long;
+          flags-long = flags-long marks′;
+          numbers-long = L .numbers-long;
+          letters-long =
+              L .letters-long;
+          marks-long = L .marks-long;
+          set-long = L .set-long;
+        } in
+        let L₂ : Long t (flagBytes marks′) (numberBytes marks′) l b s =
+        record {
+          number-long = L .number-long;
+          flags-long = flags-long marks′;
+          numbers-long = numbers-long marks′;
+          letters-long = L .letters-long;
+          marks-long = L .marks-long;
+          set-long =
+              L .set-long;
+        } in
         let flagged : put (2 + m) (1 ∷ []) state ≡ laid t (flagBytes marks′) k l b s rest =
         put-flag t f k l b s rest L m (1 ∷ []) (omega (arith, h)) ∙ ap (λ (x : List ℕ). laid t x k l b s rest) (flag-put m letters marks h) in
         let counted : put (markNumberAt m) (twoBytes (numberIn state)) (put (2 + m) (1 ∷ []) state) ≡ laid t (flagBytes marks′) (numberBytes marks′) l b s rest =

@@ -44,7 +44,9 @@ pub codes-F : trimmedCodes F ≡ codesF
 codes-F = trimmed.codes-F
 
 moves-F : transitionsOf (automaton F) 2 codesF ≡ movesF
-unfolding isAccepting transitionsOf tabulate flat keep among anyOf insertAscending sorted wellCoded pack fields mask num goes before onward automaton code.setIn code.rankIn componentIn classesIn every satisfies inside bit rankOf levelOf test settled rejectingSettled acceptingSettled mix isOpen taken some count first largest openOf nextComponent isCore component components isSmallest smallest together reaches within leads named entry sum
+unfolding isAccepting transitionsOf tabulate flat keep among anyOf insertAscending sorted wellCoded pack fields mask num goes before onward automaton code.setIn code.rankIn componentIn classesIn
+    every satisfies inside bit rankOf levelOf test settled rejectingSettled acceptingSettled mix isOpen taken some count first largest openOf nextComponent isCore component components isSmallest
+    smallest together reaches within leads named entry sum
 moves-F = refl
 
 pub transitions-F : trimmedTransitions F ≡ movesF
@@ -206,7 +208,8 @@ unfolding tried
 nothing-held = (refl, refl, refl)
 
 -- 32 from 16 on, before 33, which is not tried for a set mark
-pub marks-rows : (rowF (Mark 15) [] 3 ≡ 16) × (rowF (Mark 16) [] 3 ≡ 32) × (rowF (Return 16) [] 3 ≡ 32) × (rowF (Return 15) [] 3 ≡ 33) × (rowF (Return 1) (0 ∷ 0 ∷ 0 ∷ 1 ∷ []) 3 ≡ 16) × (rowF (Return 0) (0 ∷ 0 ∷ 0 ∷ 1 ∷ []) 3 ≡ 33)
+pub marks-rows : (rowF (Mark 15) [] 3 ≡ 16) × (rowF (Mark 16) [] 3 ≡ 32) × (rowF (Return 16) [] 3 ≡ 32) × (rowF (Return 15) [] 3 ≡ 33) × (rowF (Return 1) (0 ∷ 0 ∷ 0 ∷ 1 ∷ []) 3 ≡ 16)
+    × (rowF (Return 0) (0 ∷ 0 ∷ 0 ∷ 1 ∷ []) 3 ≡ 33)
 unfolding tried
 marks-rows = (refl, refl, refl, refl, refl, refl)
 

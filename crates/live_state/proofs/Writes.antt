@@ -51,5 +51,6 @@ module _ (bytes : List ℕ) (long : stateLength ≤ length bytes) where
       ap (λ (s : List ℕ). put (markLettersAt m) (take 512 s) now) e
 
   -- and those that a return brings back
-  pub returned-letters : (m n : ℕ) → put lettersAtByte (take 512 (drop (markLettersAt m) (numbered n bytes))) (numbered n bytes) ≡ put lettersAtByte (take 512 (drop (markLettersAt m) bytes)) (numbered n bytes)
+  pub returned-letters : (m n : ℕ) → put lettersAtByte (take 512 (drop (markLettersAt m) (numbered n bytes))) (numbered n bytes)
+      ≡ put lettersAtByte (take 512 (drop (markLettersAt m) bytes)) (numbered n bytes)
   returned-letters m n = ap (λ (s : List ℕ). put lettersAtByte (take 512 s) (numbered n bytes)) (behind-number n (markLettersAt m) (omega arith))

@@ -14,7 +14,8 @@ use Rattle.loop_report.specs.Report.{sliceRows, formedRows, reportRow, a
 
 -- what an evaluation unfolds
 unfoldable computed : ℕ
-unfolding reportOf sliceAfter answer after reportRow formedRows sliceRows firstRow layoutRows trailerRows numberRows listRows clauseRows someNested nested inside every tagged clausesOf countsOf searched
+unfolding reportOf sliceAfter answer after reportRow formedRows sliceRows firstRow layoutRows trailerRows numberRows listRows clauseRows someNested nested inside every tagged clausesOf countsOf
+    searched
 computed = 0
 
 -- 01's example of row 11: both states lead to each other, the first is accepting

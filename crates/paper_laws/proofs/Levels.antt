@@ -124,8 +124,10 @@ module _ (A : Automaton) (H : Layered A) (a : ℕ) (S : Set) (r : ℕ → ℕ) (
             opened = o;
             lower = t (g .0) - 1;
             rank = e;
-            yes-at = sym (r1-test q (g .0) (t (g .0) - 1) m refl e) ∙ and-l (satisfies (A .n) (lowerR1 A a T t q (g .0)) (A .entry q a)) (not (satisfies (A .n) (lowerR1 A a T t q (g .0)) (A .entry q′ a))) f;
-            not-at = sym (r1-test q′ (g .0) (t (g .0) - 1) n (sym c) e) ∙ not-t _ (and-r (satisfies (A .n) (lowerR1 A a T t q (g .0)) (A .entry q a)) (not (satisfies (A .n) (lowerR1 A a T t q (g .0)) (A .entry q′ a))) f);
+            yes-at = sym (r1-test q (g .0) (t (g .0) - 1) m refl e) ∙ and-l (satisfies (A .n) (lowerR1 A a T t q (g .0)) (A .entry q a))
+                (not (satisfies (A .n) (lowerR1 A a T t q (g .0)) (A .entry q′ a))) f;
+            not-at = sym (r1-test q′ (g .0) (t (g .0) - 1) n (sym c) e)
+                ∙ not-t _ (and-r (satisfies (A .n) (lowerR1 A a T t q (g .0)) (A .entry q a)) (not (satisfies (A .n) (lowerR1 A a T t q (g .0)) (A .entry q′ a))) f);
           }
 
       between-r1 : Between q q′ → witnessR1 A a T t q q′ ≡ true
@@ -182,8 +184,10 @@ module _ (A : Automaton) (H : Layered A) (a : ℕ) (S : Set) (r : ℕ → ℕ) (
             opened = o;
             lower = t (g .0) - 1;
             rank = e;
-            yes-at = sym (r2-test q (g .0) (t (g .0) - 1) m refl e) ∙ and-l (satisfiesDual (A .n) (lowerR2 A a T t q (g .0)) (A .entry q a)) (not (satisfiesDual (A .n) (lowerR2 A a T t q (g .0)) (A .entry q′ a))) f;
-            not-at = sym (r2-test q′ (g .0) (t (g .0) - 1) n (sym c) e) ∙ not-t _ (and-r (satisfiesDual (A .n) (lowerR2 A a T t q (g .0)) (A .entry q a)) (not (satisfiesDual (A .n) (lowerR2 A a T t q (g .0)) (A .entry q′ a))) f);
+            yes-at = sym (r2-test q (g .0) (t (g .0) - 1) m refl e) ∙ and-l (satisfiesDual (A .n) (lowerR2 A a T t q (g .0)) (A .entry q a))
+                (not (satisfiesDual (A .n) (lowerR2 A a T t q (g .0)) (A .entry q′ a))) f;
+            not-at = sym (r2-test q′ (g .0) (t (g .0) - 1) n (sym c) e)
+                ∙ not-t _ (and-r (satisfiesDual (A .n) (lowerR2 A a T t q (g .0)) (A .entry q a)) (not (satisfiesDual (A .n) (lowerR2 A a T t q (g .0)) (A .entry q′ a))) f);
           }
 
       between-r2 : Between q q′ → witnessR2 A a T t q q′ ≡ true

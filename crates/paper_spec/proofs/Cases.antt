@@ -20,7 +20,8 @@ use Rattle.paper_spec.specs.Examples.{DualD}
 
 -- what an evaluation unfolds
 unfoldable computed : ℕ
-unfolding mask every satisfies inside bit some count first component components isSmallest smallest parts.together reaches within leads named entry sum automaton satisfiesDual inC lowerR1 witnessR1 lowerR2 witnessR2 together rejectingSettled acceptingSettled mix
+unfolding mask every satisfies inside bit some count first component components isSmallest smallest parts.together reaches within leads named entry sum automaton satisfiesDual inC lowerR1 witnessR1
+    lowerR2 witnessR2 together rejectingSettled acceptingSettled mix
 computed = 0
 
 -- ---- the dual entry

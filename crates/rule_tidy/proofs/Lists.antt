@@ -92,7 +92,8 @@ module _ (counts clauses oldcounts oldclauses counts2 clauses2 : List ℕ) (from
       counted = ap (λ (x : List ℕ). x ++ tidyCounts 8 (drop (i + 1) counts) (drop (from + getD counts i 0) clauses)) one-more
           ∙ append-assoc (take i counts2) (length Stays ∷ []) _ ∙ ap (λ (x : List ℕ). take i counts2 ++ x) (sym counts-step) ∙ P .counted;
       uncounted = rest-same ∙ drop-later counts2 oldcounts i (i + 1) (omega arith) (P .uncounted);
-      kept = ap (λ (x : List ℕ). x ++ tidyClauses 8 (drop (i + 1) counts) (drop (from + getD counts i 0) clauses)) (ap (take (to + length Stays)) new-is ∙ take-at (take to clauses2 ++ Stays) _ (to + length Stays) front-length)
+      kept = ap (λ (x : List ℕ). x ++ tidyClauses 8 (drop (i + 1) counts) (drop (from + getD counts i 0) clauses))
+          (ap (take (to + length Stays)) new-is ∙ take-at (take to clauses2 ++ Stays) _ (to + length Stays) front-length)
           ∙ append-assoc (take to clauses2) Stays _ ∙ ap (λ (x : List ℕ). take to clauses2 ++ x) (sym clauses-step) ∙ P .kept;
       unkept = ap (drop (to + length Stays)) new-is ∙ drop-at (take to clauses2 ++ Stays) _ (to + length Stays) front-length
           ∙ drop-later clauses2 oldclauses to (to + length Stays) (omega arith) (P .unkept);

@@ -70,7 +70,8 @@ module _ (n : ℕ) (all : List ℕ) (un : nested n all ≡ false) where
       clash (rw (r .2 ∙ sym here) (contains-refl n (getD all i 0))) (unnested-at n all un (r .0) i (omega (arith, r .1)) l (λ z. omega (arith, r .1)))) in
       let least : minimal n all c ≡ true = rw (sym here) (minimal-at i l) in
       first-keep n all seen c cs (and-i least (ap not low))
-      ∙ ap (λ (xs : List ℕ). c ∷ xs) (stay-from cs (c ∷ seen) (suc i) rest (λ x m. ⊎-elim (λ p. (i, omega arith, here ∙ sym p)) (λ k. let r = h x k in (r .0, omega (arith, r .1), r .2)) (List·Memᴰ·cases-cons m))))
+      ∙ ap (λ (xs : List ℕ). c ∷ xs) (stay-from cs (c ∷ seen) (suc i) rest
+      (λ x m. ⊎-elim (λ p. (i, omega arith, here ∙ sym p)) (λ k. let r = h x k in (r .0, omega (arith, r .1), r .2)) (List·Memᴰ·cases-cons m))))
       (λ l. let z : [] ≡ c ∷ cs = sym (drop-of-length-le all {i = i} (omega arith)) ∙ e in let y : _≡_ {A = ℕ} 0 1 = cc in absurd (omega arith))
 
   -- it stays as it is

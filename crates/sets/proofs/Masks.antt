@@ -27,7 +27,8 @@ one-eqb false = refl
 pub mask-lt : (n : ℕ) (f : Set) → mask n f < 2 ^ n
 unfolding mask
 mask-lt zero f = omega arith
-mask-lt (suc n) f = let ih = mask-lt n f in let h = pow-suc 2 n in bif (f n) (λ t. let x : one (f n) ≡ 1 = rw t in rw (x, h) (omega arith)) (λ t. let x : one (f n) ≡ 0 = rw t in rw (x, h) (omega arith))
+mask-lt (suc n) f = let ih = mask-lt n f in let h = pow-suc 2 n in bif (f n) (λ t. let x : one (f n) ≡ 1 = rw t in rw (x, h) (omega arith))
+    (λ t. let x : one (f n) ≡ 0 = rw t in rw (x, h) (omega arith))
 
 -- a digit above does not show below
 pub above : (a m n q : ℕ) → q < n → (a * 2 ^ n + m) / 2 ^ q % 2 ≡ m / 2 ^ q % 2

@@ -24,12 +24,15 @@ use Rattle.sheet_spec.specs.declared.SheetAnswer.the-variants.{Judged, R
 
 -- what an evaluation unfolds
 unfoldable computed : ℕ
-unfolding sheetRows cycleCount cyclesAfter learn isKnown sameLetters wordsOf wordsIn leadOf cycleOf faultOf lengthFaults firstRow letterRows anyOf tidyCycle leadLength cycleLength comesAgain shortened every first letterAt nextPlace place
+unfolding sheetRows cycleCount cyclesAfter learn isKnown sameLetters wordsOf wordsIn leadOf cycleOf faultOf lengthFaults firstRow letterRows anyOf tidyCycle leadLength cycleLength comesAgain
+    shortened every first letterAt nextPlace place
 computed = 0
 
 -- and what it unfolds of a rule and a word
 unfoldable judged : ℕ
-unfolding answerOf masksOf allMasks sheetOf sheetRow fileRows bodyRows prefaceRows nameRows hasNames namesBefore repeatsName layoutRows trailerRows numberRows listRows formedRows clauseRows someNested nested componentRows tagged clausesOf countsOf sum mixed together truthMasks solvedBelow roundsAt layer heightOf reaches within leads named entry satisfies tabulate bit mask inside some count
+unfolding answerOf masksOf allMasks sheetOf sheetRow fileRows bodyRows prefaceRows nameRows hasNames namesBefore repeatsName layoutRows trailerRows numberRows listRows formedRows clauseRows
+    someNested nested componentRows tagged clausesOf countsOf sum mixed together truthMasks solvedBelow roundsAt layer heightOf reaches within leads named entry satisfies tabulate bit mask inside
+    some count
 judged = 0
 
 -- a word, then one that the sheet's end cuts off

@@ -34,6 +34,7 @@ made-same r t e holds xs zs b ys ws M =
 
 pub made-from : (f : List ℕ) (l : Layout) → readOf f ≡ Accepted l → (counts clauses : List ℕ) → counts ≡ countsOf f → clauses ≡ clausesOf f
     → (holds : Bool) (xs zs : List ℕ) (b : Built) (ys ws : List ℕ)
-    → Made (macrostatesFrom (ruleOf (l .head) counts clauses) (startOf (ruleOf (l .head) counts clauses) holds)) (transitionsFrom (ruleOf (l .head) counts clauses) (startOf (ruleOf (l .head) counts clauses) holds)) xs zs b ys ws
+    → Made (macrostatesFrom (ruleOf (l .head) counts clauses) (startOf (ruleOf (l .head) counts clauses) holds))
+    (transitionsFrom (ruleOf (l .head) counts clauses) (startOf (ruleOf (l .head) counts clauses) holds)) xs zs b ys ws
     → Made (codesOf (ruleIn f) holds) (movesOf (ruleIn f) holds) xs zs b ys ws
 made-from f l p counts clauses e d holds xs zs b ys ws M = made-same (ruleOf (l .head) counts clauses) (ruleIn f) (lent-rule f l p counts clauses e d) holds xs zs b ys ws M

@@ -71,7 +71,8 @@ module _ (f g : List ℕ) (lent : Slices) where
   lists-of-a e = let h = passed e in lists-reachable a (accepted-passing f (h .first)) (room-few (macrostates a) (transitions a) (length (lent .codes-a)) (length (lent .transitions-a)) (h .own))
 
   lists-of-b : stricterRow f g lent ≡ 0 → ListsRejecting b (rejectingMacrostates b) (rejectingTransitions b)
-  lists-of-b e = let h = passed e in lists-rejecting b (accepted-passing g (h .second)) (room-few (rejectingMacrostates b) (rejectingTransitions b) (length (lent .codes-b)) (length (lent .transitions-b)) (h .other))
+  lists-of-b e = let h = passed e in lists-rejecting b (accepted-passing g (h .second))
+      (room-few (rejectingMacrostates b) (rejectingTransitions b) (length (lent .codes-b)) (length (lent .transitions-b)) (h .other))
 
   -- a row of a rule refuses: nothing is said of lists
   turned-away : (k : ℕ) → ((fileRow f ≡ 0) × (fileRow g ≡ 0) → ⊥) → ByRow a b (stricterRow f g lent) lent (Refused k) lent → Compared f g lent (Refused k) lent

@@ -104,7 +104,8 @@ module _ (a b : Rule) (P : Passing a) (Q : Passing b) (tables : Tables) (L : Lis
   unfolding rulesRow rulesRows
   rows-same =
       append-same (letterRows a b) (letterRows a b) _ _ (letters-numbered a b) (letters-numbered a b) refl
-      (append-same (tableRows tables lent) (tableRows (tablesOf a b) lent) (pairRows tables lent) (pairRows (tablesOf a b) lent) (tables-numbered tables lent) (tables-numbered (tablesOf a b) lent) rows-tables rows-pairs)
+      (append-same (tableRows tables lent) (tableRows (tablesOf a b) lent) (pairRows tables lent) (pairRows (tablesOf a b) lent) (tables-numbered tables lent)
+      (tables-numbered (tablesOf a b) lent) rows-tables rows-pairs)
 
   -- where no row refuses, the tables have at most 65,536 macrostates
   both-rows : rulesRow a b (tablesOf a b) lent ≡ 0
@@ -120,7 +121,8 @@ module _ (a b : Rule) (P : Passing a) (Q : Passing b) (tables : Tables) (L : Lis
   tables-same e =
       let r = both-rows e in
       let ma = moves-same a P (tables .codes-a) (tables .transitions-a) L (room-few (macrostates a) (transitions a) (length (lent .codes-a)) (length (lent .transitions-a)) (r .0)) in
-      let mb = rejecting.moves-same b Q (tables .codes-b) (tables .transitions-b) M (room-few (rejectingMacrostates b) (rejectingTransitions b) (length (lent .codes-b)) (length (lent .transitions-b)) (r .1)) in
+      let mb = rejecting.moves-same b Q (tables .codes-b) (tables .transitions-b) M
+      (room-few (rejectingMacrostates b) (rejectingTransitions b) (length (lent .codes-b)) (length (lent .transitions-b)) (r .1)) in
       sym (ap₂ (λ (x y : List ℕ). record { codes-a = x; transitions-a = y; codes-b = tables .codes-b; transitions-b = tables .transitions-b }) codes-a ma
       ∙ ap₂ (λ (x y : List ℕ). record { codes-a = macrostates a; transitions-a = transitions a; codes-b = x; transitions-b = y }) codes-b mb)
 

@@ -246,7 +246,8 @@ module _ (a b : Rule) (lent : Slices) where
 
   pub other-served : rowB ≡ 0 → pairRow a b lent ≡ otherRow a b lent
   unfolding otherRow pairRow roomRow
-  other-served e = sym (first-right (roomRows (rejectingMacrostates b) (rejectingTransitions b) (length (lent .codes-b)) (length (lent .transitions-b))) (pairRows (tablesOf a b) lent) (numbered-room _ _ _ _) e)
+  other-served e = sym (first-right (roomRows (rejectingMacrostates b) (rejectingTransitions b) (length (lent .codes-b)) (length (lent .transitions-b))) (pairRows (tablesOf a b) lent)
+      (numbered-room _ _ _ _) e)
 
   pub other-settles : Settles (otherRow a b lent)
   unfolding otherRow allZeroing roomRows pairRows

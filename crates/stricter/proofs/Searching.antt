@@ -87,10 +87,12 @@ module _ (a b : Rule) (same : a .s ≡ b .s) (n m : Counts) (p q : ℕ) (cs ts d
       let N : NoShared (macrostates a) (transitions a) (holdsInitial a) (rejectingMacrostates b) (rejectingTransitions b) (lacksInitial b) = rw (cA, mA, cB, mB, O .initial, X .initial) at (S .1) in
       (sizes-are, S .0, none-shared a b (O .passing) (X .passing) same (O .held .few) (X .held .few) N)
 
-  pub told-no : (l k : ℕ) (old new : List ℕ) → Searched codesA movesA (λ c. bit c p) codesB movesB (λ c. not (bit c q)) old new (Word l k) → Told a b (tablesOf a b) 0 (No (record { a = n; b = m }) l k) old new
+  pub told-no : (l k : ℕ) (old new : List ℕ) → Searched codesA movesA (λ c. bit c p) codesB movesB (λ c. not (bit c q)) old new (Word l k) →
+      Told a b (tablesOf a b) 0 (No (record { a = n; b = m }) l k) old new
   unfolding pairs
   told-no l k old new S =
-      let H : Shared (macrostates a) (transitions a) (holdsInitial a) (rejectingMacrostates b) (rejectingTransitions b) (lacksInitial b) (S .lead) (S .cycle) = rw (cA, mA, cB, mB, O .initial, X .initial) at (S .shared) in (
+      let H : Shared (macrostates a) (transitions a) (holdsInitial a) (rejectingMacrostates b) (rejectingTransitions b) (lacksInitial b) (S .lead) (S .cycle) =
+      rw (cA, mA, cB, mB, O .initial, X .initial) at (S .shared) in (
         sizes-are,
         record {
           lead = S .lead;

@@ -42,11 +42,23 @@ fileZ = 0x00 ∷ 0x01 ∷ 0x01 ∷ 0x00 ∷ 0x01 ∷ 0x00 ∷ 0x00 ∷ 0x41 ∷ 
 
 -- slices of these lengths
 abbrev lengths : ℕ → ℕ → ℕ → ℕ → ℕ → ℕ → Slices
-lengths ca ta cb tb word scratch = record { codes-a = replicate ca 9; transitions-a = replicate ta 9; codes-b = replicate cb 9; transitions-b = replicate tb 9; word = replicate word 9; scratch = replicate scratch 9 }
+lengths ca ta cb tb word scratch = record {
+  codes-a = replicate ca 9;
+  transitions-a = replicate ta 9;
+  codes-b = replicate cb 9;
+  transitions-b = replicate tb 9;
+  word = replicate word 9;
+  scratch =
+      replicate scratch 9;
+}
 
 -- what an evaluation unfolds
 unfoldable computed : ℕ
-unfolding stricterRow rulesRows letterRows tableRows pairRows pairs roomAfter scratchAfter sizesOf roomRows roomOf fileRows bodyRows formedRows clauseRows someNested nested prefaceRows nameRows hasNames namesBefore repeatsName layoutRows trailerRows numberRows listRows componentRows firstRow tagged clausesOf countsOf mixed isAccepting macrostatesFrom transitionsFrom transitionsOf codesFrom cores candidates digitals tabulate flat keep among anyOf insertAscending sorted reachedIn reached wellCoded pack fields mask num goes before onward begun automaton setIn rankIn componentIn classesIn every satisfies inside bit rankOf levelOf test settled rejectingSettled acceptingSettled mix isOpen taken some count first largest openOf nextComponent isCore component components isSmallest smallest together reaches within leads named entry sum
+unfolding stricterRow rulesRows letterRows tableRows pairRows pairs roomAfter scratchAfter sizesOf roomRows roomOf fileRows bodyRows formedRows clauseRows someNested nested prefaceRows nameRows
+    hasNames namesBefore repeatsName layoutRows trailerRows numberRows listRows componentRows firstRow tagged clausesOf countsOf mixed isAccepting macrostatesFrom transitionsFrom transitionsOf
+    codesFrom cores candidates digitals tabulate flat keep among anyOf insertAscending sorted reachedIn reached wellCoded pack fields mask num goes before onward begun automaton setIn rankIn
+    componentIn classesIn every satisfies inside bit rankOf levelOf test settled rejectingSettled acceptingSettled mix isOpen taken some count first largest openOf nextComponent isCore component
+    components isSmallest smallest together reaches within leads named entry sum
 computed = 0
 
 -- ---- the rows: F's own table has 3 macrostates and 7 transitions, that of the words that E rejects has 3 and 7, so P is 9

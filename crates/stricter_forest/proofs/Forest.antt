@@ -206,7 +206,11 @@ module _ (S : ℕ → ℕ → ℕ → Type 0) (kind : ℕ → ℕ) (o : ℕ) whe
       let within : (y : ℕ) → 0 < getD (set ns x (v + 128)) y 0 → 0 < getD ns y 0 =
       λ y. split-set (λ (z u : ℕ). 0 < u → 0 < getD ns z 0) ns x (v + 128) place (λ l. omega arith) (λ j n l. l) y in
       record {
-        back = λ y l. let (d, h, b) = f .back y (less y l) in (d, (let k = met-le ns (set ns x (v + 128)) (sym (length-set ns x (v + 128))) grows in omega arith), back-keep ns (set ns x (v + 128)) kept b);
+        back = λ y l. let (d, h, b) = f .back y (less y l) in (
+          d,
+          (let k = met-le ns (set ns x (v + 128)) (sym (length-set ns x (v + 128))) grows in omega arith),
+          back-keep ns (set ns x (v + 128)) kept b,
+        );
         done = λ y l a z s k. grows z (by-cases (ℕ-discrete y x)
             (λ g. all a z (subst (λ (u : ℕ). S u a z) g s) (within z k))
             (λ g. f .done y (let o = getD-set-other ns x y (v + 128) 0 g in omega arith) a z s (within z k)));

@@ -128,8 +128,11 @@ module _ (S : ℕ → ℕ → ℕ → Type 0) (kind : ℕ → ℕ) (lettered : (
     more = λ x. let h = p .more x in let k = q .more x in omega arith;
     within = λ x l. p .within x (q .within x l);
     forest = λ o f. q .forest o (p .forest o f);
-    still = λ r. let h = p .still (or-fl a b (sym e ∙ r)) in let k = q .still (or-fr a b (sym e ∙ r)) in
-        (k .0 ∙ h .0, λ x f t l. by-cases (decLt x mid) (λ g. h .1 x f g l) (λ g. subst (λ (ms : List ℕ). 128 ≤ getD ms x 0) (h .0) (k .1 x (omega arith) t (subst (λ (ms : List ℕ). 1 < getD ms x 0) (sym (h .0)) l))));
+    still = λ r. let h = p .still (or-fl a b (sym e ∙ r)) in let k = q .still (or-fr a b (sym e ∙ r)) in (
+      k .0 ∙ h .0,
+      λ x f t l. by-cases (decLt x mid) (λ g. h .1 x f g l)
+          (λ g. subst (λ (ms : List ℕ). 128 ≤ getD ms x 0) (h .0) (k .1 x (omega arith) t (subst (λ (ms : List ℕ). 1 < getD ms x 0) (sym (h .0)) l))),
+    );
     grown = λ r. ⊎-elim
         (λ h. let k = p .grown h in let g = sum-le ms new (sym (q .long)) (q .more) in omega arith)
         (λ h. let k = q .grown h in let g = sum-le old ms (sym (p .long)) (p .more) in omega arith)
@@ -145,7 +148,8 @@ module _ (S : ℕ → ℕ → ℕ → Type 0) (kind : ℕ → ℕ) (lettered : (
 
   pub explored : (o : ℕ) (old ms ns new : List ℕ) (D : ℕ → Type 0) → ((a y : ℕ) → S o a y → D y) → Cleared old ms → Tried (S o) D 3 ms ns → Exhausted S kind ns new → Explored S kind o old new
   explored o old ms ns new D all c t h =
-      let f = h .forest o (forest-tried S kind o o 3 (lettered o) (low o) D ms ns (forest-start S kind o ms (λ x. ⊎-elim (λ e. omega (arith, e .1)) (λ e. omega (arith, e .1)) (c .each x))) (inl (refl, refl)) t) in
+      let f = h .forest o (forest-tried S kind o o 3 (lettered o) (low o) D ms ns (forest-start S kind o ms (λ x. ⊎-elim (λ e. omega (arith, e .1)) (λ e. omega (arith, e .1)) (c .each x)))
+      (inl (refl, refl)) t) in
       let within : (x : ℕ) → 0 < getD new x 0 → 0 < getD ms x 0 = λ x l. tried-within (S o) D 3 (omega arith) ms ns t x (h .within x l) in
       record {
         same = record {

@@ -182,7 +182,8 @@ way-letters m s low (go t l d W) a k =
     ⊎-elim (λ e. let n = low t l in omega (arith, e, d .letter)) (λ n. way-letters m s low W a n) (List·Memᴰ·cases-cons k)
 
 -- its word is one over the letters of the table's transitions
-pub lasso-word : (codes m : List ℕ) (start : Set) (s : ℕ) → ((t : ℕ) → List·Memᴰ t m → letterOf t < s) → (lead cycle : List ℕ) → 0 < length cycle → Lasso codes m start lead cycle → WordOver s lead cycle
+pub lasso-word : (codes m : List ℕ) (start : Set) (s : ℕ) → ((t : ℕ) → List·Memᴰ t m → letterOf t < s) → (lead cycle : List ℕ) → 0 < length cycle → Lasso codes m start lead cycle →
+    WordOver s lead cycle
 lasso-word codes m start s low lead cycle h L = record {
   repeats = h;
   lead-letters = way-letters m s low (L .there);

@@ -27,7 +27,8 @@ use Rattle.theory_laws.proofs.Classes.{open-component, open-state}
 use Rattle.theory_laws.proofs.Cores.{earlier-set, earlier-level, earlier-rank, next-below, next-last}
 use Rattle.theory_laws.proofs.Goes.{set-trim, rank-trim}
 use Rattle.theory_laws.proofs.Layers.{layered}
-use Rattle.theory_laws.proofs.Tables.{few-states, components-there, letters-fit, reachable-macrostate, reachable-classes, reachable-iff, macrostates-ascending, transitions-ascending, transition-iff, transition-leads}
+use Rattle.theory_laws.proofs.Tables.{few-states, components-there, letters-fit, reachable-macrostate, reachable-classes, reachable-iff, macrostates-ascending, transitions-ascending}
+use Rattle.theory_laws.proofs.Tables.{transition-iff, transition-leads}
 use Rattle.trim_spec.specs.Graph.{Inside}
 use Rattle.stricter_spec.specs.Search.{OneParent, Searchable}
 
@@ -107,7 +108,8 @@ module _ (A : Automaton) (a d c b : ℕ) (G : Goes A c a d) (G′ : Goes A b a d
         let o = and-l (openOf A (setIn A c) (componentIn c) p) (leb (rankIn A c p) (classesIn c)) t in
         let k = leb-true (rankIn A c p) (classesIn c) (and-r (openOf A (setIn A c) (componentIn c) p) (leb (rankIn A c p) (classesIn c)) t) in
         let f : rankIn A c p ≡ rankIn A b p = ap (λ (r : ℕ → ℕ). r p) same-rank in
-        let g = earlier-level A a (setIn A d) (rankIn A d) (setIn A c) (setIn A b) (rankIn A c) (rankIn A b) (G .level) (G′ .level) (G .earlier) (G′ .earlier) p l (open-state A (setIn A c) (componentIn c) p o) in
+        let g = earlier-level A a (setIn A d) (rankIn A d) (setIn A c) (setIn A b) (rankIn A c) (rankIn A b) (G .level) (G′ .level) (G .earlier) (G′ .earlier) p l
+        (open-state A (setIn A c) (componentIn c) p o) in
         let h = above p q l m (same-open p o) u (omega arith) in
         omega arith
 

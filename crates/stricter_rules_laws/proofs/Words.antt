@@ -51,11 +51,13 @@ module _ (a b : Rule) (P : Passing a) (Q : Passing b) (same : a .s ≡ b .s) (ro
       absurd (N (letters lead cycle) (x .0) (y .0) (x .1) (y .1)))
       (accepts-or-not b Q lead cycle (W .repeats))
 
-  letters-low-a : (lead cycle : List ℕ) → Shared (macrostates a) (transitions a) (holdsInitial a) (rejectingMacrostates b) (rejectingTransitions b) (lacksInitial b) lead cycle → WordOver (a .s) lead cycle
+  letters-low-a : (lead cycle : List ℕ) → Shared (macrostates a) (transitions a) (holdsInitial a) (rejectingMacrostates b) (rejectingTransitions b) (lacksInitial b) lead cycle →
+      WordOver (a .s) lead cycle
   letters-low-a lead cycle S = lasso-word _ _ (holdsInitial a) (a .s) (letter-low a P (holdsInitial a) room-a) lead cycle (S .repeats) (S .of-A)
 
   -- a word that both share: A accepts it and B rejects it
-  pub shared-against : (lead cycle : List ℕ) → Shared (macrostates a) (transitions a) (holdsInitial a) (rejectingMacrostates b) (rejectingTransitions b) (lacksInitial b) lead cycle → Against a b lead cycle
+  pub shared-against : (lead cycle : List ℕ) → Shared (macrostates a) (transitions a) (holdsInitial a) (rejectingMacrostates b) (rejectingTransitions b) (lacksInitial b) lead cycle →
+      Against a b lead cycle
   shared-against lead cycle S =
       let W = letters-low-a lead cycle S in
       let I = searchable-own a P room-a .inside in

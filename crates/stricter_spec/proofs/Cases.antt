@@ -28,7 +28,10 @@ joining = 0 ∷ 16777216 ∷ []
 
 one-parent : OneParent codes joining
 unfolding isAccepting classesIn
-one-parent = record { one = λ t u m n a b e. ⊎-elim (λ p. ⊎-elim (λ q. same t u 0 0 p q refl) (λ q. absurd (apart t u p q e)) (which u n)) (λ p. ⊎-elim (λ q. absurd (apart u t q p (sym e))) (λ q. same t u 1 1 p q refl) (which u n)) (which t m) }
+one-parent = record {
+  one = λ t u m n a b e. ⊎-elim (λ p. ⊎-elim (λ q. same t u 0 0 p q refl) (λ q. absurd (apart t u p q e)) (which u n))
+      (λ p. ⊎-elim (λ q. absurd (apart u t q p (sym e))) (λ q. same t u 1 1 p q refl) (which u n)) (which t m);
+}
   where
     which : (t : ℕ) → List·Memᴰ t joining → (sourceOf t ≡ 0) ⊎ (sourceOf t ≡ 1)
     which t m = ⊎-elim (λ e. inl (omega arith)) (λ k. ⊎-elim (λ e. inr (omega arith)) (λ k. absurd (List·Memᴰ·not-nil k)) (List·Memᴰ·cases-cons k)) (List·Memᴰ·cases-cons m)

@@ -51,7 +51,8 @@ module _ (letter here there : ℕ) where
       (List·Memᴰ·cases-cons (o .listed))
 
   module _ (t : ℕ) (ms : List ℕ) where
-    pub over-yes : letterOf t ≡ letter → (marked (here + sourceOf t) (there + targetOf t) ms ≡ markedOver letter here there t ms) × (isNew (here + sourceOf t) (there + targetOf t) ms ≡ isNewOver letter here there t ms)
+    pub over-yes : letterOf t ≡ letter → (marked (here + sourceOf t) (there + targetOf t) ms ≡ markedOver letter here there t ms)
+        × (isNew (here + sourceOf t) (there + targetOf t) ms ≡ isNewOver letter here there t ms)
     unfolding markedOver isNewOver
     over-yes e = let q = eq-eqb (letterOf t) letter e in (rw q, rw q)
 

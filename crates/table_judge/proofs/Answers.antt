@@ -27,7 +27,8 @@ module _ (f lead cycle : List ℕ) (codes transitions : Lent) (old : List ℕ) w
   judged-refused (suc k) n e = let h = file-refuses f lead cycle codes transitions (length old) (suc k) n e in record { answer = rw (sym h) refl; scratch = rw (sym h) refl }
 
   -- what the answer for the head that was read is for the file
-  pub judged-called : (l : Layout) (new : List ℕ) (a : Start) → Served f l → TableCalled (l .head .s) (λ c. bit c (l .head .initial)) lead cycle codes transitions old new a → JudgedTable f lead cycle codes transitions old new a
+  pub judged-called : (l : Layout) (new : List ℕ) (a : Start) → Served f l → TableCalled (l .head .s) (λ c. bit c (l .head .initial)) lead cycle codes transitions old new a →
+      JudgedTable f lead cycle codes transitions old new a
   judged-called l new a S C =
       let e = file-passes f lead cycle codes transitions (length old) (S .row) in
       let D : TableCalled (ruleIn f .s) (holdsInitial (ruleIn f)) lead cycle codes transitions old new a =

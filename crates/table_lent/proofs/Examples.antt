@@ -76,7 +76,8 @@ pub codes-in-bytes : (tableRow 2 (inBytes (bytes 5)) (inBytes []) ≡ 15) × (ta
 unfolding tableRow tableRows firstRow inBytes isFaulty ascends ascendsFrom anyOf wordsIn wordsOf tabulate wordAt num
 codes-in-bytes = (refl, refl, refl)
 
-pub transitions-in-bytes : (tableRow 2 (inBytes (bytes 6)) (inBytes (replicate 7 0)) ≡ 15) × (tableRow 2 (inBytes (bytes 6)) (inBytes (replicate 8 0)) ≡ 0) × (tableRow 2 (inBytes (bytes 6)) (inBytes (replicate 9 0)) ≡ 15)
+pub transitions-in-bytes : (tableRow 2 (inBytes (bytes 6)) (inBytes (replicate 7 0)) ≡ 15) × (tableRow 2 (inBytes (bytes 6)) (inBytes (replicate 8 0)) ≡ 0)
+    × (tableRow 2 (inBytes (bytes 6)) (inBytes (replicate 9 0)) ≡ 15)
 unfolding tableRow tableRows firstRow inBytes isFaulty ascends ascendsFrom anyOf wordsIn wordsOf tabulate wordAt num
 transitions-in-bytes = (refl, refl, refl)
 

@@ -75,7 +75,12 @@ module _ (letter here there : ℕ) where
   by-more t ms x l k =
       bif (eqb (letterOf t) letter && ltb 0 (getD ms (there + targetOf t) 0))
       (λ e. by-cases (ℕ-discrete (here + sourceOf t) x)
-      (λ f. by-in t ms x l (record { over = eqb-true (letterOf t) letter (and-l (eqb (letterOf t) letter) (ltb 0 (getD ms (there + targetOf t) 0)) e); from = f; marked = ltb-true 0 (getD ms (there + targetOf t) 0) (and-r (eqb (letterOf t) letter) (ltb 0 (getD ms (there + targetOf t) 0)) e) }))
+      (λ f. by-in t ms x l (record {
+        over = eqb-true (letterOf t) letter (and-l (eqb (letterOf t) letter) (ltb 0 (getD ms (there + targetOf t) 0)) e);
+        from = f;
+        marked =
+            ltb-true 0 (getD ms (there + targetOf t) 0) (and-r (eqb (letterOf t) letter) (ltb 0 (getD ms (there + targetOf t) 0)) e);
+      }))
       (λ f. rw (by-stays t ms x f) k))
       (λ e. rw (by-none t ms e) k)
 
@@ -83,7 +88,12 @@ module _ (letter here there : ℕ) where
   by-out t ms x k =
       bif (eqb (letterOf t) letter && ltb 0 (getD ms (there + targetOf t) 0))
       (λ e. by-cases (ℕ-discrete (here + sourceOf t) x)
-      (λ f. inr (record { over = eqb-true (letterOf t) letter (and-l (eqb (letterOf t) letter) (ltb 0 (getD ms (there + targetOf t) 0)) e); from = f; marked = ltb-true 0 (getD ms (there + targetOf t) 0) (and-r (eqb (letterOf t) letter) (ltb 0 (getD ms (there + targetOf t) 0)) e) }))
+      (λ f. inr (record {
+        over = eqb-true (letterOf t) letter (and-l (eqb (letterOf t) letter) (ltb 0 (getD ms (there + targetOf t) 0)) e);
+        from = f;
+        marked =
+            ltb-true 0 (getD ms (there + targetOf t) 0) (and-r (eqb (letterOf t) letter) (ltb 0 (getD ms (there + targetOf t) 0)) e);
+      }))
       (λ f. inl (rw (sym (by-stays t ms x f)) k)))
       (λ e. inl (rw (sym (by-none t ms e)) k))
 

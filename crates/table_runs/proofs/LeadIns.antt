@@ -43,7 +43,8 @@ module _ (a : ℕ) (lead cycle : List ℕ) (repeats : 0 < length cycle) (codes t
   before m x zero = m
   before m x (suc i) = x i
 
-  pub in-front : (m : ℕ) → m < length codes → (t : ℕ) → List·Memᴰ t transitions → sourceOf t ≡ m → letterOf t ≡ a → TrackFrom codes transitions lead cycle (targetOf t) → TrackFrom codes transitions (a ∷ lead) cycle m
+  pub in-front : (m : ℕ) → m < length codes → (t : ℕ) → List·Memᴰ t transitions → sourceOf t ≡ m → letterOf t ≡ a → TrackFrom codes transitions lead cycle (targetOf t) →
+      TrackFrom codes transitions (a ∷ lead) cycle m
   in-front m low t listed s l (x, e, T) = (before m x, refl, record { within = within; moves = moves; again = again })
     where
       within : (i : ℕ) → before m x i < length codes

@@ -27,7 +27,9 @@ use Rattle.theory.specs.Word.{nextPlace, letterAt}
 
 -- what an evaluation unfolds
 unfoldable computed : ℕ
-unfolding isAccepting macrostatesFrom transitionsFrom transitionsOf codesFrom cores candidates digitals tabulate flat keep among anyOf insertAscending sorted reachedIn reached wellCoded pack fields mask num goes before onward begun automaton setIn rankIn componentIn classesIn every satisfies inside bit rankOf levelOf test settled rejectingSettled acceptingSettled mix isOpen taken some count first largest openOf nextComponent isCore component components isSmallest smallest together reaches within leads named entry sum
+unfolding isAccepting macrostatesFrom transitionsFrom transitionsOf codesFrom cores candidates digitals tabulate flat keep among anyOf insertAscending sorted reachedIn reached wellCoded pack fields
+    mask num goes before onward begun automaton setIn rankIn componentIn classesIn every satisfies inside bit rankOf levelOf test settled rejectingSettled acceptingSettled mix isOpen taken some count
+    first largest openOf nextComponent isCore component components isSmallest smallest together reaches within leads named entry sum
 computed = 0
 
 -- ---- single steps
@@ -66,7 +68,8 @@ pub macrostates-D : macrostates D ≡ (0 ∷ 257 ∷ 4098 ∷ 4355 ∷ 4611 ∷ 
 unfolding computed
 macrostates-D = refl
 
-pub transitions-D : transitions D ≡ (65536 ∷ 65543 ∷ 33554432 ∷ 33554438 ∷ 33619974 ∷ 33619976 ∷ 33619979 ∷ 33619980 ∷ 67108871 ∷ 67108872 ∷ 67108875 ∷ 67108876 ∷ 117440512 ∷ 117440513 ∷ 117506054 ∷ 117506056 ∷ 117506058 ∷ 117506059 ∷ 150994946 ∷ 150994947 ∷ 150994948 ∷ 150994949 ∷ 184549383 ∷ 184549384 ∷ 184549385 ∷ 184549388 ∷ [])
+pub transitions-D : transitions D ≡ (65536 ∷ 65543 ∷ 33554432 ∷ 33554438 ∷ 33619974 ∷ 33619976 ∷ 33619979 ∷ 33619980 ∷ 67108871 ∷ 67108872 ∷ 67108875 ∷ 67108876 ∷ 117440512 ∷ 117440513 ∷ 117506054
+    ∷ 117506056 ∷ 117506058 ∷ 117506059 ∷ 150994946 ∷ 150994947 ∷ 150994948 ∷ 150994949 ∷ 184549383 ∷ 184549384 ∷ 184549385 ∷ 184549388 ∷ [])
 unfolding computed
 transitions-D = refl
 
@@ -95,7 +98,8 @@ unfolding computed
 transitions-I = refl
 
 -- the transitions of X between eleven of its 45 macrostates
-pub transitions-X : transitionsOf (automaton X) 1 (4623 ∷ 1184259 ∷ 1099511632143 ∷ 1099511632399 ∷ 1099511636239 ∷ 17592186048783 ∷ 35184372093455 ∷ 35184372097295 ∷ 36283884900867 ∷ 36283885883907 ∷ 36283885887747 ∷ [])
+pub transitions-X : transitionsOf (automaton X) 1 (4623 ∷ 1184259 ∷ 1099511632143 ∷ 1099511632399 ∷ 1099511636239 ∷ 17592186048783 ∷ 35184372093455 ∷ 35184372097295 ∷ 36283884900867 ∷ 36283885883907
+    ∷ 36283885887747 ∷ [])
     ≡ (2 ∷ 3 ∷ 4 ∷ 16777225 ∷ 16777226 ∷ 50331653 ∷ 50331654 ∷ 50331655 ∷ 100663301 ∷ 100663302 ∷ 100663303 ∷ 134217737 ∷ 134217738 ∷ 150994952 ∷ [])
 unfolding computed
 transitions-X = refl

@@ -31,7 +31,8 @@ digitals b (suc m) = flat (digitals b m) (λ y. tabulate b (λ d. d * 16 ^ m + y
 module _ (A : Automaton) where
   -- every code with ranks and k of at most n and a component number
   unfoldable pub candidates : List ℕ
-  candidates = flat (digitals (suc (A .n)) (A .n)) (λ y. flat (tabulate (2 ^ A .n) (λ x. x) 0) (λ S. flat (tabulate (A .components) (λ x. x) 0) (λ K. tabulate (suc (A .n)) (λ k. (k * 16 ^ 9 + (K * 16 ^ 8 + y)) * 2 ^ 8 + S) 0)))
+  candidates = flat (digitals (suc (A .n)) (A .n)) (λ y. flat (tabulate (2 ^ A .n) (λ x. x) 0)
+      (λ S. flat (tabulate (A .components) (λ x. x) 0) (λ K. tabulate (suc (A .n)) (λ k. (k * 16 ^ 9 + (K * 16 ^ 8 + y)) * 2 ^ 8 + S) 0)))
 
   -- those that are codes of cores
   unfoldable pub cores : List ℕ

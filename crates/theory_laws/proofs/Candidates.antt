@@ -33,7 +33,8 @@ module _ (A : Automaton) (small : A .n ≤ 8) (c : ℕ) (coded : wellCoded A c �
   made =
       sym (eqb-true _ _ coded)
       ∙ ap₂ (λ (x y : ℕ). (classesIn c * 16 ^ 9 + (componentIn c * 16 ^ 8 + x)) * 2 ^ 8 + y)
-      (num-ext 16 (omega arith) 8 (fields (rankIn A c) (componentIn c) (classesIn c)) (rankIn A c) (λ j l. ap (λ (b : Bool). cond b (rankIn A c j) (cond (eqb j 8) (componentIn c) (classesIn c))) (lt-ltb j 8 l))
+      (num-ext 16 (omega arith) 8 (fields (rankIn A c) (componentIn c) (classesIn c)) (rankIn A c)
+      (λ j l. ap (λ (b : Bool). cond b (rankIn A c j) (cond (eqb j 8) (componentIn c) (classesIn c))) (lt-ltb j 8 l))
       ∙ num-trim 16 8 (A .n) (rankIn A c) small (λ j l m. rank-trim A c j l))
       (mask-trim 8 (A .n) (setIn A c) small (λ j l m. set-trim A c j l))
 

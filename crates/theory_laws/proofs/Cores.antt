@@ -51,7 +51,8 @@ module _ (A : Automaton) where
 
   module _ (S : Set) (l : ℕ → ℕ) where
     -- p's value is x, and x is the (j + 1)th
-    rank-at : (q j x p : ℕ) → count x (taken A S l (A .component q)) ≡ j → taken A S l (A .component q) x ≡ true → A .component p ≡ A .component q → isOpen A S p ≡ true → l p ≡ x → rankOf A S l p ≡ suc j
+    rank-at : (q j x p : ℕ) → count x (taken A S l (A .component q)) ≡ j → taken A S l (A .component q) x ≡ true → A .component p ≡ A .component q → isOpen A S p ≡ true → l p ≡ x →
+        rankOf A S l p ≡ suc j
     unfolding count
     rank-at q j x p e t c o v =
         let y : one (taken A S l (A .component q) x) ≡ 1 = rw t in
@@ -123,7 +124,8 @@ module _ (A : Automaton) where
     pub core-rank : (q : ℕ) → q < A .n → rankOf A S r q ≡ r q
     core-rank q m =
         bif (isOpen A S q)
-        (λ o. rank-open-is A S r q o ∙ count-from-one (r q) (r q) (taken A S r (A .component q)) (omega arith) (none-taken (A .component q)) (λ j a b. rank-taken q j m o a b) (λ j a b. absurd (omega arith)))
+        (λ o. rank-open-is A S r q o ∙ count-from-one (r q) (r q) (taken A S r (A .component q)) (omega arith) (none-taken (A .component q)) (λ j a b. rank-taken q j m o a b)
+        (λ j a b. absurd (omega arith)))
         (λ o. rank-shut-is S r q o ∙ sym (C .closed q m o))
 
     -- so they are at most the size of the component

@@ -64,7 +64,8 @@ module _ (r : Rule) (P : Passing r) where
         code (automaton r) (layered r P) (few-states r P) few-components (components-there r P) (letters lead cycle) (t .S) (t .r) (t .K) (t .k) (t .run),
         record {
           run = code-run (automaton r) (layered r P) (few-states r P) few-components (components-there r P) (letters lead cycle) (t .S) (t .r) (t .K) (t .k) (t .run);
-          truth = λ i q l. rw (code-set (automaton r) (layered r P) (few-states r P) few-components (components-there r P) (letters lead cycle) (t .S) (t .r) (t .K) (t .k) (t .run) i) (t .truth i q l);
+          truth = λ i q l. rw (code-set (automaton r) (layered r P) (few-states r P) few-components (components-there r P) (letters lead cycle) (t .S) (t .r) (t .K) (t .k) (t .run) i)
+              (t .truth i q l);
         },
       )
 
@@ -84,14 +85,16 @@ module _ (r : Rule) (P : Passing r) where
     -- an accepting run has the codes of the one run of codes
     pub table-codes : (w x c : ℕ → ℕ) → AcceptingRun (macrostatesFrom r start) (transitionsFrom r start) start w x → CodeRun (automaton r) w c → (i : ℕ) → getD (macrostatesFrom r start) (x i) 0 ≡ c i
     unfolding macrostatesFrom transitionsFrom
-    table-codes w x c R C = one-run w (λ i. getD (macrostatesFrom r start) (x i) 0) c (codes-of (automaton r) (layered r P) (few-states r P) (components-there r P) (r .s) (letters-fit r P) start room w x R) C
+    table-codes w x c R C = one-run w (λ i. getD (macrostatesFrom r start) (x i) 0) c
+        (codes-of (automaton r) (layered r P) (few-states r P) (components-there r P) (r .s) (letters-fit r P) start room w x R) C
 
     table-start : (w x : ℕ → ℕ) → AcceptingRun (macrostatesFrom r start) (transitionsFrom r start) start w x → start (getD (macrostatesFrom r start) (x 0) 0) ≡ true
     unfolding macrostatesFrom transitionsFrom
     table-start w x R = codes-start (automaton r) (layered r P) (few-states r P) (components-there r P) (r .s) (letters-fit r P) start room w x R
 
     -- there is one exactly if the start condition holds of the first code of that run
-    pub table-run-iff : (w c : ℕ → ℕ) → CodeRun (automaton r) w c → ((i : ℕ) → w i < r .s) → ((x : ℕ → ℕ) × AcceptingRun (macrostatesFrom r start) (transitionsFrom r start) start w x) ↔ (start (c 0) ≡ true)
+    pub table-run-iff : (w c : ℕ → ℕ) → CodeRun (automaton r) w c → ((i : ℕ) → w i < r .s) → ((x : ℕ → ℕ) × AcceptingRun (macrostatesFrom r start) (transitionsFrom r start) start w x) ↔
+        (start (c 0) ≡ true)
     unfolding macrostatesFrom transitionsFrom
     table-run-iff w c C known = (
       λ x. ap start (sym (table-codes w (x .0) c (x .1) C 0)) ∙ table-start w (x .0) (x .1),

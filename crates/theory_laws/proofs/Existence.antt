@@ -58,7 +58,8 @@ module _ (A : Automaton) (H : Layered A) (B : ℕ) (room : A .n ≤ B) (w : ℕ 
 
   upto-suc : (i K d : ℕ) → upto i K (suc d) ≤ suc (upto i K d)
   unfolding count
-  upto-suc i K d = bif (taken A (S i) (δ i) K (suc d)) (λ t. let x : one (taken A (S i) (δ i) K (suc d)) ≡ 1 = rw t in omega arith) (λ t. let x : one (taken A (S i) (δ i) K (suc d)) ≡ 0 = rw t in omega arith)
+  upto-suc i K d = bif (taken A (S i) (δ i) K (suc d)) (λ t. let x : one (taken A (S i) (δ i) K (suc d)) ≡ 1 = rw t in omega arith)
+      (λ t. let x : one (taken A (S i) (δ i) K (suc d)) ≡ 0 = rw t in omega arith)
 
   -- levels against distances
   discharged-shut : (i d q : ℕ) → isOpen A (S i) q ≡ false → discharged A suc w S i d q ≡ false
@@ -72,7 +73,8 @@ module _ (A : Automaton) (H : Layered A) (B : ℕ) (room : A .n ≤ B) (w : ℕ 
       ∙ sym (ap (λ (b : Bool). b && settled A (S (suc i)) (discharged A suc w S (suc i) d) q (A .entry q (w i))) o)
       ∙ sym (δ-leb i q l o (suc d))
     where
-      inside : (p : ℕ) → p < A .n → A .component p ≡ A .component q → isOpen A (S (suc i)) p ≡ true → isOpen A (S (suc i)) p && leb (rk (suc i) p) (upto (suc i) (A .component q) d) ≡ discharged A suc w S (suc i) d p
+      inside : (p : ℕ) → p < A .n → A .component p ≡ A .component q → isOpen A (S (suc i)) p ≡ true →
+          isOpen A (S (suc i)) p && leb (rk (suc i) p) (upto (suc i) (A .component q) d) ≡ discharged A suc w S (suc i) d p
       inside p m s t =
           ap (λ (b : Bool). b && leb (rk (suc i) p) (upto (suc i) (A .component q) d)) t
           ∙ ap (λ (K : ℕ). leb (rk (suc i) p) (upto (suc i) K d)) (sym s)
@@ -128,7 +130,11 @@ module _ (A : Automaton) (H : Layered A) (B : ℕ) (room : A .n ≤ B) (w : ℕ 
   unfolding after
   after-turn i x e = rw (eq-eqb (x .left) 0 e)
 
-  after-stay : (i : ℕ) (x : Work) → (x .left ≡ 0 → ⊥) → after i x ≡ record { component = x .component; left = largest (A .n) (λ q. openOf A (S i) (x .component) q && leb (rk i q) (x .left)) (levAt A B w S rk i) }
+  after-stay : (i : ℕ) (x : Work) → (x .left ≡ 0 → ⊥) → after i x ≡ record {
+    component = x .component;
+    left =
+        largest (A .n) (λ q. openOf A (S i) (x .component) q && leb (rk i q) (x .left)) (levAt A B w S rk i);
+  }
   unfolding after
   after-stay i x e = rw (ne-eqb (x .left) 0 e)
 

@@ -90,7 +90,8 @@ module _ (A : Automaton) (H : Layered A) (small : A .n ≤ 8) (few : A .componen
       (λ z. let h = run .turn-k i z in
       let g = largest-le (A .n) (openOf A (S (suc i)) (K (suc i))) (r (suc i)) 15 (λ q l t. run .backed .bound (suc i) q l) in omega arith)
       (λ z. let h = run .stay-k i z in
-      let g = largest-le (A .n) (λ q. openOf A (S i) (K i) q && leb (r i q) (k i)) (λ p. levelOf A 15 (S (suc i)) (r (suc i)) p (A .entry p (w i))) 15 (λ q l t. level-small (S (suc i)) (r (suc i)) q (w i)) in omega arith)
+      let g = largest-le (A .n) (λ q. openOf A (S i) (K i) q && leb (r i q) (k i)) (λ p. levelOf A 15 (S (suc i)) (r (suc i)) p (A .entry p (w i))) 15
+      (λ q l t. level-small (S (suc i)) (r (suc i)) q (w i)) in omega arith)
 
   pub code : ℕ → ℕ
   code i = pack (S i) (r i) (K i) (k i)

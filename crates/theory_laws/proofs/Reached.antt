@@ -19,13 +19,15 @@ pub data Along (all : List ℕ) (start : Set) (edge : ℕ → ℕ → Bool) : �
   follows : {x c : ℕ} → Along all start edge x → List·Memᴰ c all → edge x c ≡ true → Along all start edge c
 
 module _ (all : List ℕ) (start : Set) (edge : ℕ → ℕ → Bool) where
-  next-in : (d c : ℕ) → List·Memᴰ c all → List·Memᴰ c (reachedIn all start edge d) ⊎ ((x : ℕ) × List·Memᴰ x (reachedIn all start edge d) × (edge x c ≡ true)) → List·Memᴰ c (reachedIn all start edge (suc d))
+  next-in : (d c : ℕ) → List·Memᴰ c all → List·Memᴰ c (reachedIn all start edge d) ⊎ ((x : ℕ) × List·Memᴰ x (reachedIn all start edge d) × (edge x c ≡ true)) →
+      List·Memᴰ c (reachedIn all start edge (suc d))
   unfolding reachedIn
   next-in d c m h = keep-in _ all c m (⊎-elim
       (λ k. rw (among-in (reachedIn all start edge d) c k))
       (λ k. rw (any-in (reachedIn all start edge d) (λ x. edge x c) (k .0) (k .1) (k .2), or-true (among (reachedIn all start edge d) c))) h)
 
-  next-out : (d c : ℕ) → List·Memᴰ c (reachedIn all start edge (suc d)) → List·Memᴰ c all × (List·Memᴰ c (reachedIn all start edge d) ⊎ ((x : ℕ) × List·Memᴰ x (reachedIn all start edge d) × (edge x c ≡ true)))
+  next-out : (d c : ℕ) → List·Memᴰ c (reachedIn all start edge (suc d)) →
+      List·Memᴰ c all × (List·Memᴰ c (reachedIn all start edge d) ⊎ ((x : ℕ) × List·Memᴰ x (reachedIn all start edge d) × (edge x c ≡ true)))
   unfolding reachedIn
   next-out d c m =
       let r = keep-out _ all c m in (

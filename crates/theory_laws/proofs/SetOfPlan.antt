@@ -115,7 +115,8 @@ module _ (A : Automaton) (H : Layered A) (L : ℕ) (nx w : ℕ → ℕ) (stays :
       omega arith
 
   -- a rejecting state outside comes lower, or back
-  rej-hunt : (h : ℕ) → ((q p : ℕ) → H .height q < h → Out q p → ⊥) → (f : ℕ) (Vis : Set) (q p : ℕ) → L * A .n ≤ f + count (L * A .n) Vis → H .height q < suc h → Out q p → A .accepting q ≡ false → Seen Vis q p → ⊥
+  rej-hunt : (h : ℕ) → ((q p : ℕ) → H .height q < h → Out q p → ⊥) → (f : ℕ) (Vis : Set) (q p : ℕ) → L * A .n ≤ f + count (L * A .n) Vis → H .height q < suc h → Out q p → A .accepting q ≡ false →
+      Seen Vis q p → ⊥
   rej-hunt h ih zero Vis q p m k o c v =
       bif (Vis (p * A .n + q)) (again Vis q p o v)
       (λ t. let g = grow Vis q p o t in let b = count-max (L * A .n) (λ j. Vis j || eqb (p * A .n + q) j) in omega arith)

@@ -201,10 +201,12 @@ module _ (A : Automaton) (s : ℕ) (codes : List ℕ) where
     unfolding transitionsOf steps-there
     transition-in t T =
         rw (T .packed) (sorted-in _ _ (keep-in steps-there _ _
-        (flat-in (tabulate (length codes) (λ z. z) 0) (λ i. flat (tabulate s (λ z. z) 0) (λ b. tabulate (length codes) (λ j. i * 16777216 + b * 65536 + j) 0)) (T .source) _ (tabulate-0 _ (λ z. z) (T .source) (T .source-listed))
+        (flat-in (tabulate (length codes) (λ z. z) 0) (λ i. flat (tabulate s (λ z. z) 0) (λ b. tabulate (length codes) (λ j. i * 16777216 + b * 65536 + j) 0)) (T .source) _
+        (tabulate-0 _ (λ z. z) (T .source) (T .source-listed))
         (flat-in (tabulate s (λ z. z) 0) (λ b. tabulate (length codes) (λ j. T .source * 16777216 + b * 65536 + j) 0) (T .letter) _ (tabulate-0 s (λ z. z) (T .letter) (T .letter-known))
         (tabulate-0 (length codes) (λ j. T .source * 16777216 + T .letter * 65536 + j) (T .target) (T .target-listed))))
-        (steps-there-is (T .source) (T .letter) (T .target) (omega (arith, T .letter-known)) (omega (arith, T .target-listed)) ∙ goes-iff A H (code (T .source)) (T .letter) (code (T .target)) .1 (T .steps))))
+        (steps-there-is (T .source) (T .letter) (T .target) (omega (arith, T .letter-known)) (omega (arith, T .target-listed))
+        ∙ goes-iff A H (code (T .source)) (T .letter) (code (T .target)) .1 (T .steps))))
 
     -- a number is listed exactly if it is a transition
     pub steps-iff : (t : ℕ) → List·Memᴰ t (transitionsOf A s codes) ↔ Transition A s codes t
@@ -246,7 +248,8 @@ module _ (A : Automaton) (H : Layered A) (small : A .n ≤ 8) (filled : 0 < A .c
     pub codes-start : start (listed (x 0)) ≡ true
     codes-start = begun-start start (listed (x 0)) (run .run .begins)
 
-  pub table-unique : (x y : ℕ → ℕ) → AcceptingRun (codesFrom A s start) (transitionsOf A s (codesFrom A s start)) start w x → AcceptingRun (codesFrom A s start) (transitionsOf A s (codesFrom A s start)) start w y
+  pub table-unique : (x y : ℕ → ℕ) → AcceptingRun (codesFrom A s start) (transitionsOf A s (codesFrom A s start)) start w x →
+      AcceptingRun (codesFrom A s start) (transitionsOf A s (codesFrom A s start)) start w y
       → (i : ℕ) → x i ≡ y i
   table-unique x y t u i =
       asc-inj (codesFrom A s start) (codes-ascending A H small filled s start) (x i) (y i) (t .run .within i) (u .run .within i)

@@ -167,8 +167,10 @@ module _ (r : Rule) (P : Passing r) (lead cycle : List ℕ) (repeats : 0 < lengt
   pub truth-accepts : (p q : ℕ) → p < L → q < r .n → (truth p q ≡ true) ↔ AcceptsFrom r lead cycle q p
   unfolding automaton
   truth-accepts p q l k = (
-    λ t. accepted A (heights r P) L next letter (next-place-low lead cycle repeats) certain (exact A (heights r P) L next letter (next-place-low lead cycle repeats)) (L * A .n) (near-open A (heights r P) L next letter (next-place-low lead cycle repeats)) q p k l (sym (truth-certain p q l k) ∙ t),
-    λ a. truth-certain p q l k ∙ true-in A (heights r P) L next letter (next-place-low lead cycle repeats) certain (exact A (heights r P) L next letter (next-place-low lead cycle repeats)) (L * A .n) (near-open A (heights r P) L next letter (next-place-low lead cycle repeats)) q p a k l,
+    λ t. accepted A (heights r P) L next letter (next-place-low lead cycle repeats) certain (exact A (heights r P) L next letter (next-place-low lead cycle repeats)) (L * A .n)
+        (near-open A (heights r P) L next letter (next-place-low lead cycle repeats)) q p k l (sym (truth-certain p q l k) ∙ t),
+    λ a. truth-certain p q l k ∙ true-in A (heights r P) L next letter (next-place-low lead cycle repeats) certain (exact A (heights r P) L next letter (next-place-low lead cycle repeats)) (L * A .n)
+        (near-open A (heights r P) L next letter (next-place-low lead cycle repeats)) q p a k l,
   )
 
 -- the masks are as many as the places, and hold no state but the rule's

@@ -193,7 +193,11 @@ module _ (r : Rule) (P : Passing r) (a : ℕ) (lead cycle : List ℕ) (repeats :
   settles-whole = record {
     exact = λ p q l k. exact R (heights r P) (places (a ∷ lead) cycle) _ _ (next-place-low (a ∷ lead) cycle repeats) (suc p) q (omega arith) k
         ∙ ap (λ (i : ℕ). satisfies (R .n) (whole i) (R .entry q (letterAt lead cycle p))) (next-place-behind a lead cycle p);
-    near = λ p q l k o. (places (a ∷ lead) cycle * R .n, shifted (places (a ∷ lead) cycle * R .n) p q l ∙ near-open R (heights r P) (places (a ∷ lead) cycle) _ _ (next-place-low (a ∷ lead) cycle repeats) (suc p) q k o);
+    near = λ p q l k o. (
+      places (a ∷ lead) cycle * R .n,
+      shifted (places (a ∷ lead) cycle * R .n) p q l
+          ∙ near-open R (heights r P) (places (a ∷ lead) cycle) _ _ (next-place-low (a ∷ lead) cycle repeats) (suc p) q k o,
+    );
   }
 
   settles-after : Settles R L′ nx (letterAt lead cycle) after
@@ -223,7 +227,8 @@ module _ (r : Rule) (P : Passing r) (a : ℕ) (lead cycle : List ℕ) (repeats :
       let k = truth-length r lead cycle in
       ext-getD 0 _ _ (omega arith) at
     where
-      at : (i : ℕ) → i < length (truthMasks r (a ∷ lead) cycle) → getD (truthMasks r (a ∷ lead) cycle) i 0 ≡ getD (mask (r .n) (λ q. satisfies (r .n) (bit (getD (truthMasks r lead cycle) 0 0)) (entry r q a)) ∷ truthMasks r lead cycle) i 0
+      at : (i : ℕ) → i < length (truthMasks r (a ∷ lead) cycle) → getD (truthMasks r (a ∷ lead) cycle) i 0
+          ≡ getD (mask (r .n) (λ q. satisfies (r .n) (bit (getD (truthMasks r lead cycle) 0 0)) (entry r q a)) ∷ truthMasks r lead cycle) i 0
       at zero l = mask-unique (r .n) _ _ (truth-lt r (a ∷ lead) cycle 0) front
       at (suc i) l =
           bit-ext (r .n) _ _ (truth-lt r (a ∷ lead) cycle (suc i)) (truth-lt r lead cycle i)

@@ -170,7 +170,17 @@ module _ (r : Rule) (P : Passing r) (codes ts : List ℕ) (L : ListsReachable r 
       let u = x * 16777216 + T .letter * 65536 + y in
       let p : getD kept (T .source) 0 ≡ getD codes x 0 = ap (λ (k : ℕ). getD kept k 0) (sym e) ∙ picked-at live codes x hx a in
       let q : getD kept (T .target) 0 ≡ getD codes y 0 = ap (λ (k : ℕ). getD kept k 0) (sym f) ∙ picked-at live codes y hy b in
-      let U : Transition A (r .s) codes u = record { source = x; letter = T .letter; target = y; source-listed = hx; letter-known = T .letter-known; target-listed = hy; packed = refl; steps = rw (p, q) at (T .steps) } in
+      let U : Transition A (r .s) codes u = record {
+        source = x;
+        letter = T .letter;
+        target = y;
+        source-listed = hx;
+        letter-known = T .letter-known;
+        target-listed = hy;
+        packed = refl;
+        steps =
+            rw (p, q) at (T .steps);
+      } in
       let k = taken-apart r P codes ts L room u U in
       let m = renumbered-in live ts u (L .transitions-are u .1 U) (ends-left live u (rw (k .source) a) (rw (k .target) b)) in
       let g : renumber live u ≡ v = renumber-leads u x (T .letter) y k ∙ rw (e, f) (sym (T .packed)) in

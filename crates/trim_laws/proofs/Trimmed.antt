@@ -34,7 +34,8 @@ module _ (r : Rule) (P : Passing r) (room : length (macrostates r) ≤ 65536) wh
   -- demand 3 whole, of the trimmed table
   pub trimmed-demand3 : Demand3 r (trimmedCodes r) (trimmedTransitions r)
   unfolding trimmedCodes trimmedTransitions
-  trimmed-demand3 = kept-demand3 r P (macrostates r) (transitions r) (lists-reachable r P room) room (liveMarks (macrostates r) (transitions r)) (live-solved (macrostates r) (transitions r)) (demand3 r P room)
+  trimmed-demand3 = kept-demand3 r P (macrostates r) (transitions r) (lists-reachable r P room) room (liveMarks (macrostates r) (transitions r)) (live-solved (macrostates r) (transitions r))
+      (demand3 r P room)
 
   -- 02: "The one accepting run of each word must survive in the smaller table.": the same macrostates, by their new numbers
   pub run-survives : RunsSurvive r (macrostates r) (transitions r) (trimmedCodes r) (trimmedTransitions r)

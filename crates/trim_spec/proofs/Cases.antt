@@ -20,11 +20,14 @@ use Rattle.theory.specs.TableComputed.{reachedIn, reached, digitals, candidates
 use Rattle.theory.proofs.AboutExamples as examples
 use Rattle.graph_walks.specs.Marks.{isDue, marked, isNew, goesOut}
 use Rattle.graph_walks.specs.Marks as marks
-use Rattle.trim_spec.specs.Trimmed.{flagOf, flags, swept, isNewIn, sweptOut, settledAll, solvedIn, liveMarks, picked, isLive, newNumber, trimmedCodes, trimmedTransitions, isLeft, renumber, renumbered}
+use Rattle.trim_spec.specs.Trimmed.{flagOf, flags, swept, isNewIn, sweptOut, settledAll, solvedIn, liveMarks, picked, isLive, newNumber, trimmedCodes, trimmedTransitions, isLeft}
+use Rattle.trim_spec.specs.Trimmed.{renumber, renumbered}
 
 -- what an evaluation of the lists of a rule unfolds
 unfoldable computed : ℕ
-unfolding isAccepting macrostatesFrom transitionsFrom transitionsOf codesFrom cores candidates digitals tabulate flat keep among anyOf insertAscending sorted reachedIn reached wellCoded pack fields mask num goes before onward begun automaton setIn rankIn componentIn classesIn every satisfies inside bit rankOf levelOf test settled rejectingSettled acceptingSettled mix isOpen taken some count first largest openOf nextComponent isCore component components isSmallest smallest together reaches within leads named entry sum
+unfolding isAccepting macrostatesFrom transitionsFrom transitionsOf codesFrom cores candidates digitals tabulate flat keep among anyOf insertAscending sorted reachedIn reached wellCoded pack fields
+    mask num goes before onward begun automaton setIn rankIn componentIn classesIn every satisfies inside bit rankOf levelOf test settled rejectingSettled acceptingSettled mix isOpen taken some count
+    first largest openOf nextComponent isCore component components isSmallest smallest together reaches within leads named entry sum
 computed = 0
 
 -- and of the marks of a table
@@ -51,7 +54,8 @@ abbrev codesD : List ℕ
 codesD = 0 ∷ 257 ∷ 4098 ∷ 4355 ∷ 4611 ∷ 8451 ∷ 17592186044673 ∷ 17592186048514 ∷ 17592186048771 ∷ 17592186049027 ∷ 17592186052867 ∷ 35184372093443 ∷ 35184372097283 ∷ []
 
 abbrev movesD : List ℕ
-movesD = 65536 ∷ 65543 ∷ 33554432 ∷ 33554438 ∷ 33619974 ∷ 33619976 ∷ 33619979 ∷ 33619980 ∷ 67108871 ∷ 67108872 ∷ 67108875 ∷ 67108876 ∷ 117440512 ∷ 117440513 ∷ 117506054 ∷ 117506056 ∷ 117506058 ∷ 117506059 ∷ 150994946 ∷ 150994947 ∷ 150994948 ∷ 150994949 ∷ 184549383 ∷ 184549384 ∷ 184549385 ∷ 184549388 ∷ []
+movesD = 65536 ∷ 65543 ∷ 33554432 ∷ 33554438 ∷ 33619974 ∷ 33619976 ∷ 33619979 ∷ 33619980 ∷ 67108871 ∷ 67108872 ∷ 67108875 ∷ 67108876 ∷ 117440512 ∷ 117440513 ∷ 117506054 ∷ 117506056 ∷ 117506058
+    ∷ 117506059 ∷ 150994946 ∷ 150994947 ∷ 150994948 ∷ 150994949 ∷ 184549383 ∷ 184549384 ∷ 184549385 ∷ 184549388 ∷ []
 
 kept-D : keptOf codesD movesD ≡ (0 ∷ 4098 ∷ 4611 ∷ 17592186048514 ∷ 17592186049027 ∷ 35184372093443 ∷ [])
 unfolding solving

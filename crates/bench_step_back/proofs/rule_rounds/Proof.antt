@@ -8,12 +8,6 @@ use borrow.Author.Needs.{needs}
 use Rattle.bench_step_back.proofs.rule_rounds.Statement.{statement}
 use Rattle.bench_step_back.proofs.rule_rounds.Tie as tie
 
-split-requires : tie.Need-split-requires
-split-requires c κs = search needs
-
-open-table-requires : tie.Need-open-table-requires
-open-table-requires c κs = search needs
-
 cast-t10 : tie.Need-cast-t10
 cast-t10 c =
     let a = c .before .before .before .before .before .before .args in
@@ -21,15 +15,12 @@ cast-t10 c =
 
 rounds-requires : tie.Need-rounds-requires
 rounds-requires c κs =
-    let a = c .before .before .before .before .before .before .before .before .args in
+    let start = c .before .before .before .before .before .before .before .before in
+    let a = start .args in
     let r = ruleOf (a .h) (a .counts .now) (a .clauses .now) in
     let o = c .before .before .before .open-table in
     let k = c .before .before .before .before .before .split in
-    (r, tables-of r (c .before .before .before .before .before .before .before .before .pre) (o .result) (o .ensures) (k .result) (k .ensures) true)
-
-returns : tie.Need-returns
-returns c = search needs
+    (r, tables-of r (start .pre) (o .result) (o .ensures) (k .result) (k .ensures) true)
 
 pub rule-rounds-spec : {M : Type 1} → statement M
-rule-rounds-spec =
-    tie.close (tie.spec split-requires open-table-requires cast-t10 rounds-requires returns)
+rule-rounds-spec = tie.close (tie.spec (λ c κs. search needs) (λ c κs. search needs) cast-t10 rounds-requires (λ c. search needs))

@@ -21,9 +21,6 @@ loop-holds c = let a = c .args in let p = c .pre in within-zero (a .caps) (rw (p
 visit-requires : tie.Need-visit-requires Inv-loop μ-loop
 visit-requires c κs = let p = c .before .pre in (p .0, rw (p .1) at (c .loop .inv))
 
-returns : tie.Need-returns Inv-loop μ-loop
-returns c = search needs
-
 next-ranks-requires : tie.Need-next-ranks-requires Inv-loop μ-loop
 next-ranks-requires c κs =
     let a = c .before .before .before .args in let p = c .before .before .before .pre in let l = c .before .before .loop in
@@ -42,14 +39,4 @@ loop-again c =
     rw (c .next-ranks .ensures) (within-next 8 (l .t) (a .caps) (l .inv) (c .before .if1 .left))
 
 pub sweep-spec : {M : Type 1} → statement M
-sweep-spec =
-    tie.close
-    (tie.spec
-    Inv-loop
-    μ-loop
-    loop-holds
-    visit-requires
-    returns
-    next-ranks-requires
-    loop-less
-    loop-again)
+sweep-spec = tie.close (tie.spec Inv-loop μ-loop loop-holds visit-requires (λ c. search needs) next-ranks-requires loop-less loop-again)

@@ -9,20 +9,10 @@ use Rattle.bench_step_back.proofs.visit.Tie as tie
 is-core-requires : tie.Need-is-core-requires
 is-core-requires c κs = let p = c .pre in few (p .0 .0) (c .args .parts .now) (c .args .shape) (p .0 .1 .shaped)
 
-returns : tie.Need-returns
-returns c = search needs
-
-lowest-requires : tie.Need-lowest-requires
-lowest-requires c κs = search needs
-
 step-letters-requires : tie.Need-step-letters-requires
 step-letters-requires c κs =
     let p = c .before .before .before .before .pre in
     (p .0, record { within = p .1; passes = sym (c .before .before .before .is-core .ensures) ∙ not-false _ (c .before .before .if1 .left) }, c .before .lowest .ensures)
 
-returns-2 : tie.Need-returns-2
-returns-2 c = search needs
-
 pub visit-spec : {M : Type 1} → statement M
-visit-spec =
-    tie.close (tie.spec is-core-requires returns lowest-requires step-letters-requires returns-2)
+visit-spec = tie.close (tie.spec is-core-requires (λ c. search needs) (λ c κs. search needs) step-letters-requires (λ c. search needs))

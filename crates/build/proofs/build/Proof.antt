@@ -8,21 +8,13 @@ use Rattle.build.proofs.Answer.{file-built}
 use Rattle.build.proofs.build.Statement.{statement}
 use Rattle.build.proofs.build.Tie as tie
 
-build-file-requires : tie.Need-build-file-requires
-build-file-requires c κs = search needs
-
-same-length : tie.Need-same-length
-same-length c = search needs
-
-same-length-2 : tie.Need-same-length-2
-same-length-2 c = search needs
-
 returns : tie.Need-returns
 unfolding startOf
 returns c =
-    let a = c .before .before .before .before .before .before .before .before .before .before .args in
+    let start = c .before .before .before .before .before .before .before .before .before .before in
+    let a = start .args in
     let b = c .before .before .before .before .build-file in
     file-built holdsInitial AcceptsWord demand3 (a .file .now) (a .codes .now) (a .transitions .now) (b .result) _ _ (b .ensures)
 
 pub build-spec : {M : Type 1} → statement M
-build-spec = tie.close (tie.spec build-file-requires same-length same-length-2 returns)
+build-spec = tie.close (tie.spec (λ c κs. search needs) (λ c. search needs) (λ c. search needs) returns)

@@ -7,40 +7,31 @@ use borrow.Author.Needs.{needs}
 use Rattle.build.proofs.build_rule.Statement.{statement}
 use Rattle.build.proofs.build_rule.Tie as tie
 
-split-requires : tie.Need-split-requires
-split-requires c κs = search needs
-
-open-table-requires : tie.Need-open-table-requires
-open-table-requires c κs = search needs
-
 cast-t13 : tie.Need-cast-t13
 cast-t13 c =
-    omega (arith, accepting-small (ruleOf (c .before .before .before .before .before .before .before .before .args .h) (c .before .before .before .before .before .before .before .before .args .counts .now) (c .before .before .before .before .before .before .before .before .args .clauses .now)) (c .before .before .before .before .before .before .before .before .pre .formed))
+    let start = c .before .before .before .before .before .before .before .before in
+    omega (arith, accepting-small (ruleOf (start .args .h) (start .args .counts .now) (start .args .clauses .now)) (start .pre .formed))
 
 build-table-requires : tie.Need-build-table-requires
 build-table-requires c κs =
-    let r = ruleOf (c .before .before .before .before .before .before .before .before .before .before .before .before .args .h) (c .before .before .before .before .before .before .before .before .before .before .before .before .args .counts .now) (c .before .before .before .before .before .before .before .before .before .before .before .before .args .clauses .now) in
-    (r, tables-of r (c .before .before .before .before .before .before .before .before .before .before .before .before .pre) (c .before .before .before .before .before .open-table .result) (c .before .before .before .before .before .open-table .ensures) (c .before .before .before .before .before .before .before .split .result) (c .before .before .before .before .before .before .before .split .ensures) (c .before .before .before .before .before .before .before .before .before .before .before .before .args .holds))
-
-same-length : tie.Need-same-length
-same-length c = search needs
-
-same-length-2 : tie.Need-same-length-2
-same-length-2 c = search needs
+    let at-split = c .before .before .before .before .before .before .before in
+    let start = at-split .before .before .before .before .before in
+    let r = ruleOf (start .args .h) (start .args .counts .now) (start .args .clauses .now) in (
+      r,
+      tables-of r (start .pre) (c .before .before .before .before .before .open-table .result) (c .before .before .before .before .before .open-table .ensures) (at-split .split .result)
+          (at-split .split .ensures) (start .args .holds),
+    )
 
 returns : tie.Need-returns
 returns c =
-    let r = ruleOf (c .before .before .before .before .before .before .before .before .before .before .before .before .before .before .before .before .before .args .h) (c .before .before .before .before .before .before .before .before .before .before .before .before .before .before .before .before .before .args .counts .now) (c .before .before .before .before .before .before .before .before .before .before .before .before .before .before .before .before .before .args .clauses .now) in
-    c .before .before .before .before .build-table .ensures r (tables-of r (c .before .before .before .before .before .before .before .before .before .before .before .before .before .before .before .before .before .pre) (c .before .before .before .before .before .before .before .before .before .before .open-table .result) (c .before .before .before .before .before .before .before .before .before .before .open-table .ensures) (c .before .before .before .before .before .before .before .before .before .before .before .before .split .result) (c .before .before .before .before .before .before .before .before .before .before .before .before .split .ensures) (c .before .before .before .before .before .before .before .before .before .before .before .before .before .before .before .before .before .args .holds))
+    let at-open-table = c .before .before .before .before .before .before .before .before .before .before in
+    let at-split = at-open-table .before .before in
+    let start = at-split .before .before .before .before .before in
+    let r = ruleOf (start .args .h) (start .args .counts .now) (start .args .clauses .now) in
+    c .before .before .before .before .build-table .ensures r (tables-of r (start .pre) (at-open-table .open-table .result) (at-open-table .open-table .ensures) (at-split .split .result)
+    (at-split .split .ensures) (start .args .holds))
 
 pub build-rule-spec : {M : Type 1} → statement M
 build-rule-spec =
-    tie.close
-    (tie.spec
-    split-requires
-    open-table-requires
-    cast-t13
-    build-table-requires
-    same-length
-    same-length-2
-    returns)
+    tie.close (tie.spec
+    (λ c κs. search needs) (λ c κs. search needs) cast-t13 build-table-requires (λ c. search needs) (λ c. search needs) returns)

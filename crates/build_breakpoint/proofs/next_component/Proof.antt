@@ -5,17 +5,11 @@ use borrow.Author.Needs.{needs}
 use Rattle.build_breakpoint.proofs.next_component.Statement.{statement}
 use Rattle.build_breakpoint.proofs.next_component.Tie as tie
 
-add-if1 : tie.Need-add-if1
-add-if1 c = search needs
-
 returns : tie.Need-returns
 returns c = sym (next-last _ _ (c .if1 .taken))
-
-add-result : tie.Need-add-result
-add-result c = search needs
 
 returns-2 : tie.Need-returns-2
 returns-2 c = sym (next-more _ _ (c .if1 .left))
 
 pub next-component-spec : {M : Type 1} → statement M
-next-component-spec = tie.close (tie.spec add-if1 returns add-result returns-2)
+next-component-spec = tie.close (tie.spec (λ c. search needs) returns (λ c. search needs) returns-2)

@@ -11,9 +11,6 @@ use borrow.Author.Needs.{needs}
 use Rattle.build_breakpoint.proofs.onward.Statement.{statement}
 use Rattle.build_breakpoint.proofs.onward.Tie as tie
 
-cast-k : tie.Need-cast-k
-cast-k c = search needs
-
 next-component-requires : tie.Need-next-component-requires
 next-component-requires c κs = omega (arith, c .before .pre, and-mask (c .before .args .pair) 4)
 
@@ -30,17 +27,12 @@ next-low c = let a = c .before .before .args in let p = c .before .before .pre i
 element-copy-out-class-count : tie.Need-element-copy-out-class-count
 element-copy-out-class-count c = omega (arith, next-low c, c .before .before .pre, and-mask (c .before .before .args .pair) 4)
 
-class-count-requires : tie.Need-class-count-requires
-class-count-requires c κs = search needs
-
-cast-result : tie.Need-cast-result
-cast-result c = search needs
-
 returns : tie.Need-returns
 returns c =
     let a = c .before .before .before .before .args in let d = c .before .before .next-component .result in let e = next (c .before .before) in
     let fact : c .class-count .result ≡ classCount (a .ranks) (getD (a .parts .now) d 0) = c .class-count .ensures in
-    let put : bitOr d (c .class-count .result * 2 ^ 4 % 2 ^ 64) ≡ d + 16 * c .class-count .result = pair-put d (c .class-count .result) (omega (arith, next-low (c .before .before))) (omega (arith, fact, class-count-low (a .ranks) (getD (a .parts .now) d 0))) in
+    let put : bitOr d (c .class-count .result * 2 ^ 4 % 2 ^ 64) ≡ d + 16 * c .class-count .result =
+    pair-put d (c .class-count .result) (omega (arith, next-low (c .before .before))) (omega (arith, fact, class-count-low (a .ranks) (getD (a .parts .now) d 0))) in
     put
     ∙ sym (onward-turn (a .ranks) (a .parts .now) (a .components) (a .levels .now) (a .pair) (c .before .before .before .if1 .taken)
     ∙ ap₂ (λ (x y : ℕ). x + 16 * y) (sym e) (ap (λ (x : ℕ). classCount (a .ranks) (getD (a .parts .now) x 0)) (sym e) ∙ sym fact))
@@ -51,20 +43,12 @@ mul-result c = omega (arith, and-mask (c .before .args .pair) 4)
 element-copy-out-result : tie.Need-element-copy-out-result
 element-copy-out-result c = omega (arith, c .before .pre, and-mask (c .before .args .pair) 4)
 
-mul-result-2 : tie.Need-mul-result-2
-mul-result-2 c = search needs
-
-cast-result-2 : tie.Need-cast-result-2
-cast-result-2 c = search needs
-
-shr-result : tie.Need-shr-result
-shr-result c = search needs
-
 returns-2 : tie.Need-returns-2
 returns-2 c =
     let a = c .before .before .args in let low = and-mask (a .pair) 4 in
     let level = getD (a .levels .now) (bitAnd (a .pair) 15) 0 / 2 ^ (4 * (a .pair / 16)) in
-    let put : bitOr (bitAnd (a .pair) 15) (bitAnd level 15 * 2 ^ 4 % 2 ^ 64) ≡ bitAnd (a .pair) 15 + 16 * bitAnd level 15 = pair-put (bitAnd (a .pair) 15) (bitAnd level 15) (omega (arith, low)) (omega (arith, and-mask level 4)) in
+    let put : bitOr (bitAnd (a .pair) 15) (bitAnd level 15 * 2 ^ 4 % 2 ^ 64) ≡ bitAnd (a .pair) 15 + 16 * bitAnd level 15 =
+    pair-put (bitAnd (a .pair) 15) (bitAnd level 15) (omega (arith, low)) (omega (arith, and-mask level 4)) in
     put
     ∙ ap (λ (x : ℕ). bitAnd (a .pair) 15 + 16 * x) (and-mask level 4)
     ∙ ap (λ (x : ℕ). x + 16 * (getD (a .levels .now) x 0 / 2 ^ (4 * (a .pair / 16)) % 16)) low
@@ -72,17 +56,6 @@ returns-2 c =
 
 pub onward-spec : {M : Type 1} → statement M
 onward-spec =
-    tie.close
-    (tie.spec
-    cast-k
-    next-component-requires
-    element-copy-out-class-count
-    class-count-requires
-    cast-result
-    returns
-    mul-result
-    element-copy-out-result
-    mul-result-2
-    cast-result-2
-    shr-result
-    returns-2)
+    tie.close (tie.spec
+    (λ c. search needs) next-component-requires element-copy-out-class-count (λ c κs. search needs) (λ c. search needs) returns mul-result
+    element-copy-out-result (λ c. search needs) (λ c. search needs) (λ c. search needs) returns-2)

@@ -6,49 +6,39 @@ use Rattle.build_chains_spec.proofs.Growth.{grown-none, grown-full, grown-put}
 use Rattle.build_chains.proofs.admit.Statement.{statement}
 use Rattle.build_chains.proofs.admit.Tie as tie
 
-find-requires : tie.Need-find-requires
-find-requires c κs = search needs
-
-same-length : tie.Need-same-length
-same-length c = search needs
-
 returns : tie.Need-returns
 returns c =
     let a = c .before .before .before .before .before .before .args in let p = c .before .before .before .before .before .before .pre in
-    grown-none (λ z. z ≡ a .key) (λ z. z ≡ a .key) (a .keys .now) (a .heads .now) (a .last .now) (a .n) (p .0) (λ y e. rw e (c .before .find .result, c .if1 .taken, c .before .find .ensures .hit (c .if1 .taken)))
-
-same-length-2 : tie.Need-same-length-2
-same-length-2 c = search needs
+    grown-none (λ z. z ≡ a .key) (λ z. z ≡ a .key) (a .keys .now) (a .heads .now) (a .last .now) (a .n) (p .0)
+    (λ y e. rw e (c .before .find .result, c .if1 .taken, c .before .find .ensures .hit (c .if1 .taken)))
 
 returns-2 : tie.Need-returns-2
 returns-2 c =
-    let a = c .before .before .before .before .before .before .before .args in let p = c .before .before .before .before .before .before .before .pre in
-    grown-full (a .keys .now) (a .heads .now) (a .last .now) (a .n) (a .key) (p .0) (c .before .before .find .ensures .none (c .before .if1 .left)) (omega (arith, c .if2 .taken, p .0 .fits, p .0 .few))
+    let start = c .before .before .before .before .before .before .before in
+    let a = start .args in let p = start .pre in
+    grown-full (a .keys .now) (a .heads .now) (a .last .now) (a .n) (a .key) (p .0) (c .before .before .find .ensures .none (c .before .if1 .left))
+    (omega (arith, c .if2 .taken, p .0 .fits, p .0 .few))
 
 put-requires : tie.Need-put-requires
-put-requires c κs = let p = c .before .before .before .before .before .before .before .before .before .before .pre in (p .0, omega (arith, p .0 .fits, c .before .before .before .if2 .left), p .1)
+put-requires c κs =
+    let start = c .before .before .before .before .before .before .before .before .before .before in
+    let p = start .pre in (p .0, omega (arith, p .0 .fits, c .before .before .before .if2 .left), p .1)
 
 add-t6 : tie.Need-add-t6
-add-t6 c = let p = c .before .before .before .before .before .before .before .before .before .before .before .before .before .pre in omega (arith, p .0 .fits, p .0 .few)
-
-same-length-3 : tie.Need-same-length-3
-same-length-3 c = search needs
+add-t6 c =
+    let start = c .before .before .before .before .before .before .before .before .before .before .before .before .before in
+    let p = start .pre in omega (arith, p .0 .fits, p .0 .few)
 
 returns-3 : tie.Need-returns-3
 returns-3 c =
-    let a = c .before .before .before .before .before .before .before .before .before .before .before .before .before .args in let p = c .before .before .before .before .before .before .before .before .before .before .before .before .before .pre in let e = c .before .before .put .ensures in
-    rw (e .0, e .1, e .2) (grown-put (a .keys .now) (a .heads .now) (a .last .now) (a .n) (a .key) (p .0) (omega (arith, p .0 .fits, c .before .before .before .before .before .before .if2 .left)) (p .1) (c .before .before .before .before .before .before .before .before .find .ensures .none (c .before .before .before .before .before .before .before .if1 .left)))
+    let at-if1 = c .before .before .before .before .before .before .before in
+    let at-find = at-if1 .before in
+    let start = at-find .before .before .before .before .before in
+    let a = start .args in let p = start .pre in let e = c .before .before .put .ensures in
+    rw (e .0, e .1, e .2) (grown-put (a .keys .now) (a .heads .now) (a .last .now) (a .n) (a .key) (p .0) (omega (arith, p .0 .fits, c .before .before .before .before .before .before .if2 .left))
+    (p .1) (at-find .find .ensures .none (at-if1 .if1 .left)))
 
 pub admit-spec : {M : Type 1} → statement M
 admit-spec =
-    tie.close
-    (tie.spec
-    find-requires
-    same-length
-    returns
-    same-length-2
-    returns-2
-    put-requires
-    add-t6
-    same-length-3
-    returns-3)
+    tie.close (tie.spec
+    (λ c κs. search needs) (λ c. search needs) returns (λ c. search needs) returns-2 put-requires add-t6 (λ c. search needs) returns-3)

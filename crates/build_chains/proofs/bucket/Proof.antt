@@ -5,12 +5,9 @@ use Rattle.build_chains_spec.specs.Chains.{bucketOf}
 use Rattle.build_chains.proofs.bucket.Statement.{statement}
 use Rattle.build_chains.proofs.bucket.Tie as tie
 
-mul-result : tie.Need-mul-result
-mul-result c = search needs
-
 returns : tie.Need-returns
 unfolding bucketOf
 returns c = refl
 
 pub bucket-spec : {M : Type 1} → statement M
-bucket-spec = tie.close (tie.spec mul-result returns)
+bucket-spec = tie.close (tie.spec (λ c. search needs) returns)

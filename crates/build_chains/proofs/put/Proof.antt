@@ -11,9 +11,6 @@ use Rattle.build_chains_spec.proofs.Chains.{bucket-low, head-low}
 use Rattle.build_chains.proofs.put.Statement.{statement}
 use Rattle.build_chains.proofs.put.Tie as tie
 
-bucket-requires : tie.Need-bucket-requires
-bucket-requires c κs = search needs
-
 known : (c : tie.After-bucket) → c .bucket .result < 16384
 known c = rw (c .bucket .ensures) (bucket-low (c .before .before .args .key / 256))
 
@@ -24,16 +21,11 @@ element-copy-out-keys : tie.Need-element-copy-out-keys
 element-copy-out-keys c = known c
 
 head : (c : tie.After-keys) → getD (c .before .before .before .args .heads .now) (c .before .bucket .result) 0 < 65536
-head c = let a = c .before .before .before .args in let p = c .before .before .before .pre in head-low (a .keys .now) (a .heads .now) (a .last .now) (a .n) (p .0) (c .before .bucket .result) (known (c .before))
+head c = let a = c .before .before .before .args in let p = c .before .before .before .pre in
+    head-low (a .keys .now) (a .heads .now) (a .last .now) (a .n) (p .0) (c .before .bucket .result) (known (c .before))
 
 cast-keys : tie.Need-cast-keys
 cast-keys c = omega (arith, head c)
-
-mul-keys-2 : tie.Need-mul-keys-2
-mul-keys-2 c = search needs
-
-slice-write-keys : tie.Need-slice-write-keys
-slice-write-keys c = search needs
 
 cast-heads : tie.Need-cast-heads
 cast-heads c = let p = c .before .before .before .pre in omega (arith, p .0 .few)
@@ -56,9 +48,6 @@ mul-last c = omega (arith, and-mask (c .before .before .before .args .key / 256)
 element-write-last : tie.Need-element-write-last
 element-write-last c = omega (arith, and-mask (c .before .before .before .args .key / 256) 8)
 
-same-length : tie.Need-same-length
-same-length c = search needs
-
 returns : tie.Need-returns
 returns c =
     let a = c .before .before .before .args in let p = c .before .before .before .pre in let e = c .before .bucket .ensures in
@@ -70,20 +59,6 @@ returns c =
 
 pub put-spec : {M : Type 1} → statement M
 put-spec =
-    tie.close
-    (tie.spec
-    bucket-requires
-    mul-keys
-    element-copy-out-keys
-    cast-keys
-    mul-keys-2
-    slice-write-keys
-    cast-heads
-    mul-heads
-    element-write-heads
-    cast-last
-    add-last
-    mul-last
-    element-write-last
-    same-length
-    returns)
+    tie.close (tie.spec
+    (λ c κs. search needs) mul-keys element-copy-out-keys cast-keys (λ c. search needs) (λ c. search needs) cast-heads mul-heads element-write-heads cast-last
+    add-last mul-last element-write-last (λ c. search needs) returns)

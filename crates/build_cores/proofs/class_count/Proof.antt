@@ -9,9 +9,6 @@ use borrow.Author.Needs.{needs}
 use Rattle.build_cores.proofs.class_count.Statement.{statement}
 use Rattle.build_cores.proofs.class_count.Tie as tie
 
-used-ranks-requires : tie.Need-used-ranks-requires
-used-ranks-requires c κs = search needs
-
 -- one more than the classes
 ones-of : (c : tie.After-used-ranks) → ones (c .used-ranks .result) ≡ classCount (c .before .args .ranks) (c .before .args .part) + 1
 ones-of c = ap ones (c .used-ranks .ensures) ∙ ones-classes (c .before .args .ranks) (c .before .args .part)
@@ -23,4 +20,4 @@ returns : tie.Need-returns
 returns c = let e = ones-of c in omega arith
 
 pub class-count-spec : {M : Type 1} → statement M
-class-count-spec = tie.close (tie.spec used-ranks-requires sub-result returns)
+class-count-spec = tie.close (tie.spec (λ c κs. search needs) sub-result returns)

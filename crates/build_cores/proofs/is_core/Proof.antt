@@ -23,14 +23,9 @@ loop-holds : tie.Need-loop-holds Inv-loop μ-loop
 unfolding every
 loop-holds c = (omega arith, refl)
 
-element-copy-out-used-ranks : tie.Need-element-copy-out-used-ranks Inv-loop μ-loop
-element-copy-out-used-ranks c = search needs
-
-used-ranks-requires : tie.Need-used-ranks-requires Inv-loop μ-loop
-used-ranks-requires c κs = search needs
-
 add-if1 : tie.Need-add-if1 Inv-loop μ-loop
-add-if1 c = let h = mask-lt 16 (used (c .before .before .before .before .args .ranks) (getD (c .before .before .before .before .args .parts .now) (c .before .before .before .loop .c) 0)) in omega (arith, c .used-ranks .ensures)
+add-if1 c = let h = mask-lt 16 (used (c .before .before .before .before .args .ranks) (getD (c .before .before .before .before .args .parts .now) (c .before .before .before .loop .c) 0)) in
+    omega (arith, c .used-ranks .ensures)
 
 returns : tie.Need-returns Inv-loop μ-loop
 returns c =
@@ -38,12 +33,6 @@ returns c =
     let l = c .before .before .before .before .loop in let parts = c .before .before .before .before .before .args .parts .now in
     let n : gapless x (getD parts (l .c) 0) ≡ false = gap-there x (getD parts (l .c) 0) (rw (sym (c .before .used-ranks .ensures)) (c .if1 .taken)) in
     sym (every-stop (c .before .before .before .before .before .args .components) (λ d. gapless x (getD parts d 0)) (l .c) (omega arith) n)
-
-add-c : tie.Need-add-c Inv-loop μ-loop
-add-c c = search needs
-
-loop-less : tie.Need-loop-less Inv-loop μ-loop
-loop-less c = search needs
 
 loop-again : tie.Need-loop-again Inv-loop μ-loop
 loop-again c =
@@ -53,20 +42,10 @@ loop-again c =
     (omega arith, (every-next (l .c) (λ d. gapless x (getD parts d 0)) (l .inv .1) y))
 
 returns-2 : tie.Need-returns-2 Inv-loop μ-loop
-returns-2 c = let l = c .before .loop in let e : l .c ≡ c .before .before .args .components = omega (arith, l .inv .0) in sym (ap (λ (n : ℕ). every n (λ d. gapless (c .before .before .args .ranks) (getD (c .before .before .args .parts .now) d 0))) (sym e) ∙ l .inv .1)
+returns-2 c = let l = c .before .loop in let e : l .c ≡ c .before .before .args .components = omega (arith, l .inv .0) in
+    sym (ap (λ (n : ℕ). every n (λ d. gapless (c .before .before .args .ranks) (getD (c .before .before .args .parts .now) d 0))) (sym e) ∙ l .inv .1)
 
 pub is-core-spec : {M : Type 1} → statement M
 is-core-spec =
-    tie.close
-    (tie.spec
-    Inv-loop
-    μ-loop
-    loop-holds
-    element-copy-out-used-ranks
-    used-ranks-requires
-    add-if1
-    returns
-    add-c
-    loop-less
-    loop-again
-    returns-2)
+    tie.close (tie.spec
+    Inv-loop μ-loop loop-holds (λ c. search needs) (λ c κs. search needs) add-if1 returns (λ c. search needs) (λ c. search needs) loop-again returns-2)

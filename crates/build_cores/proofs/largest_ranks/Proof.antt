@@ -18,24 +18,6 @@ loop-holds : tie.Need-loop-holds Inv-loop μ-loop
 unfolding capsOf sumOf
 loop-holds c = (omega arith, refl, omega arith)
 
-element-copy-out-sizes : tie.Need-element-copy-out-sizes Inv-loop μ-loop
-element-copy-out-sizes c = search needs
-
-sizes-requires : tie.Need-sizes-requires Inv-loop μ-loop
-sizes-requires c κs = search needs
-
-cast-caps : tie.Need-cast-caps Inv-loop μ-loop
-cast-caps c = search needs
-
-add-caps : tie.Need-add-caps Inv-loop μ-loop
-add-caps c = search needs
-
-add-c : tie.Need-add-c Inv-loop μ-loop
-add-c c = search needs
-
-loop-less : tie.Need-loop-less Inv-loop μ-loop
-loop-less c = search needs
-
 loop-again : tie.Need-loop-again Inv-loop μ-loop
 unfolding capsOf sumOf
 loop-again c =
@@ -48,16 +30,6 @@ returns c = let l = c .before .loop in let e : l .c ≡ c .before .before .args 
 
 pub largest-ranks-spec : {M : Type 1} → statement M
 largest-ranks-spec =
-    tie.close
-    (tie.spec
-    Inv-loop
-    μ-loop
-    loop-holds
-    element-copy-out-sizes
-    sizes-requires
-    cast-caps
-    add-caps
-    add-c
-    loop-less
-    loop-again
-    returns)
+    tie.close (tie.spec
+    Inv-loop μ-loop loop-holds (λ c. search needs) (λ c κs. search needs) (λ c. search needs) (λ c. search needs) (λ c. search needs) (λ c. search needs)
+    loop-again returns)

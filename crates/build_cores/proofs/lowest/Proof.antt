@@ -4,14 +4,8 @@ use borrow.Author.Needs.{needs}
 use Rattle.build_cores.proofs.lowest.Statement.{statement}
 use Rattle.build_cores.proofs.lowest.Tie as tie
 
-ranked-requires : tie.Need-ranked-requires
-ranked-requires c κs = search needs
-
-gathered-requires : tie.Need-gathered-requires
-gathered-requires c κs = search needs
-
 returns : tie.Need-returns
 returns c = λ j h. c .gathered .ensures (rankAt (c .before .before .before .args .ranks)) (c .before .before .ranked .ensures) j h
 
 pub lowest-spec : {M : Type 1} → statement M
-lowest-spec = tie.close (tie.spec ranked-requires gathered-requires returns)
+lowest-spec = tie.close (tie.spec (λ c κs. search needs) (λ c κs. search needs) returns)

@@ -33,9 +33,6 @@ loop-again c =
 add-result : tie.Need-add-result Inv-loop μ-loop
 add-result c = let l = c .before .loop in omega (arith, l .inv .0)
 
-cast-result : tie.Need-cast-result Inv-loop μ-loop
-cast-result c = search needs
-
 shl-result : tie.Need-shl-result Inv-loop μ-loop
 shl-result c = omega (arith, c .before .loop .inv .1 .1 .left)
 
@@ -46,16 +43,4 @@ returns c =
     ∙ sym (end _ _ _ _ _ _ (l .inv .1 .1) (λ e. c .loop-test .left (and-mask (l .w) 4 ∙ e ∙ sym (and-mask (l .c) 4))))
 
 pub next-ranks-spec : {M : Type 1} → statement M
-next-ranks-spec =
-    tie.close
-    (tie.spec
-    Inv-loop
-    μ-loop
-    loop-holds
-    add-shift
-    loop-less
-    loop-again
-    add-result
-    cast-result
-    shl-result
-    returns)
+next-ranks-spec = tie.close (tie.spec Inv-loop μ-loop loop-holds add-shift loop-less loop-again add-result (λ c. search needs) shl-result returns)

@@ -20,32 +20,11 @@ abbrev μ-loop : tie.MeasureT-loop
 loop-holds : tie.Need-loop-holds Inv-loop μ-loop
 loop-holds c = put-start (λ p. c .args .ranks / 2 ^ (4 * p) % 16)
 
-mul-r : tie.Need-mul-r Inv-loop μ-loop
-mul-r c = search needs
-
-cast-r : tie.Need-cast-r Inv-loop μ-loop
-cast-r c = search needs
-
-shr-r : tie.Need-shr-r Inv-loop μ-loop
-shr-r c = search needs
-
-cast-at : tie.Need-cast-at Inv-loop μ-loop
-cast-at c = search needs
-
-shl-at : tie.Need-shl-at Inv-loop μ-loop
-shl-at c = search needs
-
 array-read-at : tie.Need-array-read-at Inv-loop μ-loop
 array-read-at c = rw (and-mask (c .before .before .args .ranks / 2 ^ (4 * c .before .loop .q)) 4) (omega arith)
 
 array-write-at : tie.Need-array-write-at Inv-loop μ-loop
 array-write-at c = rw (and-mask (c .before .before .args .ranks / 2 ^ (4 * c .before .loop .q)) 4) (omega arith)
-
-add-q : tie.Need-add-q Inv-loop μ-loop
-add-q c = search needs
-
-loop-less : tie.Need-loop-less Inv-loop μ-loop
-loop-less c = search needs
 
 loop-again : tie.Need-loop-again Inv-loop μ-loop
 loop-again c =
@@ -60,19 +39,6 @@ returns c =
 
 pub ranked-spec : {M : Type 1} → statement M
 ranked-spec =
-    tie.close
-    (tie.spec
-    Inv-loop
-    μ-loop
-    loop-holds
-    mul-r
-    cast-r
-    shr-r
-    cast-at
-    shl-at
-    array-read-at
-    array-write-at
-    add-q
-    loop-less
-    loop-again
-    returns)
+    tie.close (tie.spec
+    Inv-loop μ-loop loop-holds (λ c. search needs) (λ c. search needs) (λ c. search needs) (λ c. search needs) (λ c. search needs) array-read-at array-write-at
+    (λ c. search needs) (λ c. search needs) loop-again returns)

@@ -9,9 +9,6 @@ use borrow.Author.Needs.{needs}
 use Rattle.build_cores.proofs.sizes.Statement.{statement}
 use Rattle.build_cores.proofs.sizes.Tie as tie
 
-spread-requires : tie.Need-spread-requires
-spread-requires c κs = search needs
-
 -- the product
 product : (c : tie.After-spread) → c .spread .result * ones (c .before .args .part) ≡ sizesOf (c .before .args .part)
 product c = ap (λ (x : ℕ). x * ones (c .before .args .part)) (c .spread .ensures) ∙ sizes-are (c .before .args .part) (omega arith)
@@ -23,4 +20,4 @@ returns : tie.Need-returns
 returns c = product c
 
 pub sizes-spec : {M : Type 1} → statement M
-sizes-spec = tie.close (tie.spec spread-requires mul-result returns)
+sizes-spec = tie.close (tie.spec (λ c κs. search needs) mul-result returns)

@@ -38,9 +38,6 @@ cast-found-2 c = rw (and-mask (c .before .before .args .ranks / 2 ^ (4 * trailin
 shl-found : tie.Need-shl-found Inv-loop μ-loop
 shl-found c = rw (and-mask (c .before .before .args .ranks / 2 ^ (4 * trailingZeros 8 (c .before .loop .left))) 4) (omega arith)
 
-sub-left : tie.Need-sub-left Inv-loop μ-loop
-sub-left c = omega arith
-
 loop-less : tie.Need-loop-less Inv-loop μ-loop
 loop-less c = omega (arith, and-le-r (c .before .loop .left) (c .before .loop .left - 1))
 
@@ -50,7 +47,8 @@ loop-again c =
     let l = c .before .loop in let x = c .before .before .args .ranks in let q = trailingZeros 8 (l .left) in
     let low : rankAt x q < 16 = rank-low x q in (
       omega (arith, and-le-r (l .left) (l .left - 1)),
-      rw (and-mask (x / 2 ^ (4 * q)) 4) (walk-on x (c .before .before .args .part) (l .found) (l .left) (1 * 2 ^ rankAt x q % 4294967296) (omega arith) low (shl-one 32 (rankAt x q) (omega arith)) (omega (arith, and-le-r (l .left) (l .left - 1))) (l .inv .1)),
+      rw (and-mask (x / 2 ^ (4 * q)) 4) (walk-on x (c .before .before .args .part) (l .found) (l .left) (1 * 2 ^ rankAt x q % 4294967296) (omega arith) low (shl-one 32 (rankAt x q) (omega arith))
+          (omega (arith, and-le-r (l .left) (l .left - 1))) (l .inv .1)),
     )
 
 returns : tie.Need-returns Inv-loop μ-loop
@@ -58,17 +56,5 @@ returns c = let l = c .before .loop in walk-end (c .before .before .args .ranks)
 
 pub used-ranks-spec : {M : Type 1} → statement M
 used-ranks-spec =
-    tie.close
-    (tie.spec
-    Inv-loop
-    μ-loop
-    loop-holds
-    mul-found
-    cast-found
-    shr-found
-    cast-found-2
-    shl-found
-    sub-left
-    loop-less
-    loop-again
-    returns)
+    tie.close (tie.spec
+    Inv-loop μ-loop loop-holds mul-found cast-found shr-found cast-found-2 shl-found (λ c. omega arith) loop-less loop-again returns)

@@ -13,9 +13,6 @@ use borrow.Author.Needs.{needs}
 use Rattle.build_lists.proofs.list_codes.Statement.{statement}
 use Rattle.build_lists.proofs.list_codes.Tie as tie
 
-room-of-requires : tie.Need-room-of-requires
-room-of-requires c κs = search needs
-
 slice-relend-prefix-reachable : tie.Need-slice-relend-prefix-reachable
 slice-relend-prefix-reachable c = room-fits _ _ _ (c .room-of .ensures)
 
@@ -30,50 +27,43 @@ reachable-requires c κs =
     let room = c .before .room-of in
     (c .before .before .before .pre, omega (arith, length-take-le (room .result) xs (room-fits _ _ _ (room .ensures)), room-most _ _ _ (room .ensures)))
 
-same-length : tie.Need-same-length
-same-length c = search needs
-
 returns : tie.Need-returns
 returns c =
-    let a = c .before .before .before .before .before .before .before .args in
+    let start = c .before .before .before .before .before .before .before in
+    let a = start .args in
     let g = c .before .before .before .reachable in
     λ r T.
-    padded-full _ (c .before .before .before .before .before .room-of .result) (a .codes .now) (g .last .0) (c .before .before .before .before .before .room-of .ensures) (g .ensures r T .long) (macrostatesFrom r (startOf r (a .shape .holds))) (g .result .m) (g .result .full) (c .if1 .taken) (g .ensures r T .crowded (c .if1 .taken))
+    padded-full _ (c .before .before .before .before .before .room-of .result) (a .codes .now) (g .last .0) (c .before .before .before .before .before .room-of .ensures) (g .ensures r T .long)
+    (macrostatesFrom r (startOf r (a .shape .holds))) (g .result .m) (g .result .full) (c .if1 .taken) (g .ensures r T .crowded (c .if1 .taken))
 
 zero-from-requires : tie.Need-zero-from-requires
 zero-from-requires c κs =
-    let xs = c .before .before .before .before .before .before .before .before .args .codes .now in
+    let start = c .before .before .before .before .before .before .before .before in
+    let xs = start .args .codes .now in
     let g = c .before .before .before .before .reachable in
     let room = c .before .before .before .before .before .before .room-of in
-    let L = g .ensures (c .before .before .before .before .before .before .before .before .pre .0) (c .before .before .before .before .before .before .before .before .pre .1) in
+    let L = g .ensures (start .pre .0) (start .pre .1) in
     let long = whole _ (room .result) xs (g .last .0) (room .ensures) (L .long) in
     let few = room-fits _ _ _ (room .ensures) in
     let fits = fits-whole _ (room .result) xs (g .last .0) (room .ensures) (L .long) (g .result .m) (L .fits) in
     omega arith
 
-same-length-2 : tie.Need-same-length-2
-same-length-2 c = search needs
-
 returns-2 : tie.Need-returns-2
 returns-2 c =
-    let a = c .before .before .before .before .before .before .before .before .before .before .before .args in
-    let g = c .before .before .before .before .before .before .before .reachable in
-    let room = c .before .before .before .before .before .before .before .before .before .room-of in
+    let at-reachable = c .before .before .before .before .before .before .before in
+    let at-room-of = at-reachable .before .before in
+    let start = at-room-of .before .before in
+    let a = start .args in
+    let g = at-reachable .reachable in
+    let room = at-room-of .room-of in
     let zeros : c .before .before .zero-from .last .0 ≡ zeroedFrom (g .result .m) (g .last .0 ++ drop (room .result) (a .codes .now)) = c .before .before .zero-from .ensures in
     λ r T.
     let L = g .ensures r T in
-    padded _ (room .result) (a .codes .now) (g .last .0) (room .ensures) (L .long) (macrostatesFrom r (startOf r (a .shape .holds))) (g .result .m) (L .fits) (L .listed (c .before .before .before .before .if1 .left)) (c .before .before .zero-from .last .0) zeros
+    padded _ (room .result) (a .codes .now) (g .last .0) (room .ensures) (L .long) (macrostatesFrom r (startOf r (a .shape .holds))) (g .result .m) (L .fits)
+    (L .listed (c .before .before .before .before .if1 .left)) (c .before .before .zero-from .last .0) zeros
 
 pub list-codes-spec : {M : Type 1} → statement M
 list-codes-spec =
-    tie.close
-    (tie.spec
-    room-of-requires
-    slice-relend-prefix-reachable
-    slice-aggregate-reachable
-    reachable-requires
-    same-length
-    returns
-    zero-from-requires
-    same-length-2
-    returns-2)
+    tie.close (tie.spec
+    (λ c κs. search needs) slice-relend-prefix-reachable slice-aggregate-reachable reachable-requires (λ c. search needs) returns zero-from-requires
+    (λ c. search needs) returns-2)

@@ -14,31 +14,20 @@ use borrow.Author.Needs.{needs}
 use Rattle.build_lists.proofs.list_transitions.Statement.{statement}
 use Rattle.build_lists.proofs.list_transitions.Tie as tie
 
-room-of-requires : tie.Need-room-of-requires
-room-of-requires c κs = search needs
-
 slice-relend-prefix-transitions : tie.Need-slice-relend-prefix-transitions
 slice-relend-prefix-transitions c = room-fits _ _ _ (c .room-of .ensures)
 
 slice-aggregate-transitions : tie.Need-slice-aggregate-transitions
 slice-aggregate-transitions c = sym (length-take-le (c .before .room-of .result) (c .before .before .before .before .args .out .now) (room-fits _ _ _ (c .before .room-of .ensures)))
 
-slice-relend-prefix-transitions-2 : tie.Need-slice-relend-prefix-transitions-2
-slice-relend-prefix-transitions-2 c = search needs
-
 slice-aggregate-transitions-2 : tie.Need-slice-aggregate-transitions-2
-slice-aggregate-transitions-2 c = sym (length-take-le (c .before .before .before .before .before .args .n) (c .before .before .before .before .before .args .codes .now) (c .before .before .before .before .before .pre .2 .fits))
+slice-aggregate-transitions-2 c = sym (length-take-le (c .before .before .before .before .before .args .n) (c .before .before .before .before .before .args .codes .now)
+    (c .before .before .before .before .before .pre .2 .fits))
 
 transitions-requires : tie.Need-transitions-requires
 transitions-requires c κs =
     let a = c .before .before .before .before .before .args in let p = c .before .before .before .before .before .pre in
     ((p .0, p .1, p .2 .listed), omega (arith, length-take-le (a .n) (a .codes .now) (p .2 .fits), p .2 .few))
-
-same-length : tie.Need-same-length
-same-length c = search needs
-
-same-length-2 : tie.Need-same-length-2
-same-length-2 c = search needs
 
 -- the codes as they were
 kept : (n : ℕ) (xs ys : List ℕ) → ys ≡ take n xs → ys ++ drop n xs ≡ xs
@@ -46,50 +35,41 @@ kept n xs ys e = ap (λ (l : List ℕ). l ++ drop n xs) e ∙ take-append-drop n
 
 returns : tie.Need-returns
 returns c =
-    let a = c .before .before .before .before .before .before .before .before .before .before .before .args in let g = c .before .before .before .before .before .transitions in let room = c .before .before .before .before .before .before .before .before .room-of in (
+    let at-room-of = c .before .before .before .before .before .before .before .before in
+    let start = at-room-of .before .before .before in
+    let a = start .args in let g = c .before .before .before .before .before .transitions in let room = at-room-of .room-of in (
       kept (a .n) (a .codes .now) (g .last .1 .0) (g .ensures .0),
       λ r T C.
-          padded-full _ (room .result) (a .out .now) (g .last .0) (room .ensures) (g .kept .0) (transitionsFrom r (startOf r (a .shape .holds))) (g .result .m) (g .result .full) (c .if1 .taken) (g .ensures .1 r T (C .listed) .crowded (c .if1 .taken)),
+          padded-full _ (room .result) (a .out .now) (g .last .0) (room .ensures) (g .kept .0) (transitionsFrom r (startOf r (a .shape .holds))) (g .result .m) (g .result .full) (c .if1 .taken)
+          (g .ensures .1 r T (C .listed) .crowded (c .if1 .taken)),
     )
 
 zero-from-requires : tie.Need-zero-from-requires
 zero-from-requires c κs =
-    let a = c .before .before .before .before .before .before .before .before .before .before .before .before .args in let p = c .before .before .before .before .before .before .before .before .before .before .before .before .pre in let g = c .before .before .before .before .before .before .transitions in let room = c .before .before .before .before .before .before .before .before .before .room-of in
+    let at-room-of = c .before .before .before .before .before .before .before .before .before in
+    let start = at-room-of .before .before .before in
+    let a = start .args in let p = start .pre in let g = c .before .before .before .before .before .before .transitions in let room = at-room-of .room-of in
     let long = whole _ (room .result) (a .out .now) (g .last .0) (room .ensures) (g .kept .0) in
     let few = room-fits _ _ _ (room .ensures) in
     let fits = fits-whole _ (room .result) (a .out .now) (g .last .0) (room .ensures) (g .kept .0) (g .result .m) (g .ensures .1 (p .0) (p .1) (p .2 .listed) .fits) in
     omega arith
 
-same-length-3 : tie.Need-same-length-3
-same-length-3 c = search needs
-
-same-length-4 : tie.Need-same-length-4
-same-length-4 c = search needs
-
 returns-2 : tie.Need-returns-2
 returns-2 c =
-    let a = c .before .before .before .before .before .before .before .before .before .before .before .before .before .before .before .args in let g = c .before .before .before .before .before .before .before .before .before .transitions in let room = c .before .before .before .before .before .before .before .before .before .before .before .before .room-of in
+    let at-transitions = c .before .before .before .before .before .before .before .before .before in
+    let at-room-of = at-transitions .before .before .before in
+    let start = at-room-of .before .before .before in
+    let a = start .args in let g = at-transitions .transitions in let room = at-room-of .room-of in
     let zeros : c .before .before .zero-from .last .0 ≡ zeroedFrom (g .result .m) (g .last .0 ++ drop (room .result) (a .out .now)) = c .before .before .zero-from .ensures in (
       kept (a .n) (a .codes .now) (g .last .1 .0) (g .ensures .0),
       λ r T C.
           let L = g .ensures .1 r T (C .listed) in
-          padded _ (room .result) (a .out .now) (g .last .0) (room .ensures) (g .kept .0) (transitionsFrom r (startOf r (a .shape .holds))) (g .result .m) (L .fits) (L .listed (c .before .before .before .before .if1 .left)) (c .before .before .zero-from .last .0) zeros,
+          padded _ (room .result) (a .out .now) (g .last .0) (room .ensures) (g .kept .0) (transitionsFrom r (startOf r (a .shape .holds))) (g .result .m) (L .fits)
+          (L .listed (c .before .before .before .before .if1 .left)) (c .before .before .zero-from .last .0) zeros,
     )
 
 pub list-transitions-spec : {M : Type 1} → statement M
 list-transitions-spec =
-    tie.close
-    (tie.spec
-    room-of-requires
-    slice-relend-prefix-transitions
-    slice-aggregate-transitions
-    slice-relend-prefix-transitions-2
-    slice-aggregate-transitions-2
-    transitions-requires
-    same-length
-    same-length-2
-    returns
-    zero-from-requires
-    same-length-3
-    same-length-4
-    returns-2)
+    tie.close (tie.spec
+    (λ c κs. search needs) slice-relend-prefix-transitions slice-aggregate-transitions (λ c. search needs) slice-aggregate-transitions-2 transitions-requires
+    (λ c. search needs) (λ c. search needs) returns zero-from-requires (λ c. search needs) (λ c. search needs) returns-2)

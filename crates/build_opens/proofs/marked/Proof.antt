@@ -9,12 +9,6 @@ use borrow.Author.Needs.{needs}
 use Rattle.build_opens.proofs.marked.Statement.{statement}
 use Rattle.build_opens.proofs.marked.Tie as tie
 
-cast-result : tie.Need-cast-result
-cast-result c = search needs
-
-shl-result : tie.Need-shl-result
-shl-result c = search needs
-
 returns : tie.Need-returns
 returns c = shifted (c .before .args .q) (omega arith) ∙ ap (λ (b : Bool). one b * 2 ^ c .before .args .q) (sym (c .if1 .taken))
 
@@ -22,4 +16,4 @@ returns-2 : tie.Need-returns-2
 returns-2 c = rw (c .if1 .left) (omega arith)
 
 pub marked-spec : {M : Type 1} → statement M
-marked-spec = tie.close (tie.spec cast-result shl-result returns returns-2)
+marked-spec = tie.close (tie.spec (λ c. search needs) (λ c. search needs) returns returns-2)

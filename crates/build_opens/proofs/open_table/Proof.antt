@@ -26,25 +26,32 @@ mul-end c = omega (arith, c .before .before .before .before .pre .few-letters)
 loop-holds : tie.Need-loop-holds Inv-loop μ-loop
 loop-holds c = let a = c .before .before .before .before .args in (omega arith, filled-start (automaton (ruleOf (a .h) (a .counts .now) (a .clauses .now))) _ refl)
 
-cast-open-before : tie.Need-cast-open-before Inv-loop μ-loop
-cast-open-before c = omega arith
-
 open-before-requires : tie.Need-open-before-requires Inv-loop μ-loop
-open-before-requires c κs = (c .before .before .before .before .before .before .before .pre, c .before .before .before .before .starts-of .ensures, omega (arith, c .before .loop-test .taken))
+open-before-requires c κs =
+    let start = c .before .before .before .before .before .before .before in
+    (start .pre, c .before .before .before .before .starts-of .ensures, omega (arith, c .before .loop-test .taken))
 
 array-write-opens : tie.Need-array-write-opens Inv-loop μ-loop
-array-write-opens c = omega (arith, c .before .before .loop-test .taken, c .before .before .before .before .before .before .before .before .pre .few-letters)
+array-write-opens c =
+    let start = c .before .before .before .before .before .before .before .before in
+    omega (arith, c .before .before .loop-test .taken, start .pre .few-letters)
 
 add-i : tie.Need-add-i Inv-loop μ-loop
-add-i c = omega (arith, c .before .before .loop-test .taken, c .before .before .before .before .before .before .before .before .pre .few-letters)
+add-i c =
+    let start = c .before .before .before .before .before .before .before .before in
+    omega (arith, c .before .before .loop-test .taken, start .pre .few-letters)
 
 loop-less : tie.Need-loop-less Inv-loop μ-loop
 loop-less c = omega (arith, c .before .before .loop-test .taken)
 
 loop-again : tie.Need-loop-again Inv-loop μ-loop
 loop-again c =
-    let a = c .before .before .before .before .before .before .before .before .args in let l = c .before .before .before .loop in
-    (omega (arith, c .before .before .loop-test .taken), fill (automaton (ruleOf (a .h) (a .counts .now) (a .clauses .now))) (l .opens) (l .i) (c .open-before .result) (omega (arith, c .before .before .loop-test .taken, c .before .before .before .before .before .before .before .before .pre .few-letters)) (c .open-before .ensures) (l .inv .1))
+    let start = c .before .before .before .before .before .before .before .before in
+    let a = start .args in let l = c .before .before .before .loop in (
+      omega (arith, c .before .before .loop-test .taken),
+      fill (automaton (ruleOf (a .h) (a .counts .now) (a .clauses .now))) (l .opens) (l .i) (c .open-before .result)
+          (omega (arith, c .before .before .loop-test .taken, start .pre .few-letters)) (c .open-before .ensures) (l .inv .1),
+    )
 
 returns : tie.Need-returns Inv-loop μ-loop
 returns c =
@@ -54,17 +61,5 @@ returns c =
 
 pub open-table-spec : {M : Type 1} → statement M
 open-table-spec =
-    tie.close
-    (tie.spec
-    Inv-loop
-    μ-loop
-    starts-of-requires
-    mul-end
-    loop-holds
-    cast-open-before
-    open-before-requires
-    array-write-opens
-    add-i
-    loop-less
-    loop-again
-    returns)
+    tie.close (tie.spec
+    Inv-loop μ-loop starts-of-requires mul-end loop-holds (λ c. omega arith) open-before-requires array-write-opens add-i loop-less loop-again returns)

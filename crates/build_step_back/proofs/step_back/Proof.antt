@@ -5,20 +5,15 @@ use Rattle.build_step_back.proofs.Sum.{both}
 use Rattle.build_step_back.proofs.step_back.Statement.{statement}
 use Rattle.build_step_back.proofs.step_back.Tie as tie
 
-step-rejecting-requires : tie.Need-step-rejecting-requires
-step-rejecting-requires c κs = search needs
-
 step-accepting-requires : tie.Need-step-accepting-requires
 step-accepting-requires c κs = let p = c .before .before .before .pre in (p .0, p .1, c .before .step-rejecting .ensures .long)
-
-add-t13 : tie.Need-add-t13
-add-t13 c = search needs
 
 returns : tie.Need-returns
 unfolding acceptingPart
 returns c =
     let a = c .before .before .before .before .args in let x = c .before .before .step-rejecting in let y = c .step-accepting in
-    both (rejectingPart (a .parts .now) (a .accepting)) (a .opens .now) (a .letter) (a .opened) (a .parts .now) (a .components) (a .low .now) _ (x .result) (x .last .1 .1 .1 .1 .1 .1 .1 .0) (y .result) (y .last .1 .1 .1 .1 .1 .1 .1 .0) (x .ensures) (y .ensures)
+    both (rejectingPart (a .parts .now) (a .accepting)) (a .opens .now) (a .letter) (a .opened) (a .parts .now) (a .components) (a .low .now) _ (x .result) (x .last .1 .1 .1 .1 .1 .1 .1 .0)
+    (y .result) (y .last .1 .1 .1 .1 .1 .1 .1 .0) (x .ensures) (y .ensures)
 
 pub step-back-spec : {M : Type 1} → statement M
-step-back-spec = tie.close (tie.spec step-rejecting-requires step-accepting-requires add-t13 returns)
+step-back-spec = tie.close (tie.spec (λ c κs. search needs) step-accepting-requires (λ c. search needs) returns)

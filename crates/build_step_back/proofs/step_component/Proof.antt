@@ -18,19 +18,10 @@ Inv-loop opens letter opened part low row outside goal prev₀ ones₀ ranks₀ 
 abbrev μ-loop : tie.MeasureT-loop
 μ-loop opens letter opened part low row outside goal prev₀ ones₀ ranks₀ levels₀ j₀ prev ones ranks levels j = 9 - j
 
-mul-row : tie.Need-mul-row Inv-loop μ-loop
-mul-row c = search needs
-
 cast-outside : tie.Need-cast-outside Inv-loop μ-loop
 cast-outside c =
     let a = c .args in
     omega (arith, xor-lt 8 (a .opened) (bitAnd (a .opened) (a .part)) (omega arith) (omega (arith, and-le-r (a .opened) (a .part))))
-
-add-goal : tie.Need-add-goal Inv-loop μ-loop
-add-goal c = search needs
-
-element-copy-out-goal : tie.Need-element-copy-out-goal Inv-loop μ-loop
-element-copy-out-goal c = search needs
 
 returns : tie.Need-returns Inv-loop μ-loop
 unfolding goal
@@ -43,7 +34,8 @@ loop-holds c =
     (c .before .before .pre, omega arith, begin (a .opens .now) (a .letter) (a .opened) (a .part) (a .low .now) (c .before .before .pre) (omega arith) (c .if1 .left))
 
 -- the loop's test: not all have come in
-more : (c : tie.In-loop Inv-loop μ-loop) → c .before .loop .prev ≡ goal (c .before .before .before .before .args .opens .now) (c .before .before .before .before .args .letter) (c .before .before .before .before .args .opened) (c .before .before .before .before .args .part) (c .before .before .before .before .args .low .now) → ⊥
+more : (c : tie.In-loop Inv-loop μ-loop) → c .before .loop .prev ≡ goal (c .before .before .before .before .args .opens .now) (c .before .before .before .before .args .letter)
+    (c .before .before .before .before .args .opened) (c .before .before .before .before .args .part) (c .before .before .before .before .args .low .now) → ⊥
 unfolding goal
 more c = c .loop-test .taken
 
@@ -55,8 +47,11 @@ deep c =
 element-copy-out-x : tie.Need-element-copy-out-x Inv-loop μ-loop
 element-copy-out-x c = omega (arith, deep c)
 
-small : (c : tie.After-x Inv-loop μ-loop) → _<_ (bitOr (bitXor (c .before .before .before .before .before .args .opened) (bitAnd (c .before .before .before .before .before .args .opened) (c .before .before .before .before .before .args .part))) (bitAnd (getD (c .before .before .before .before .before .args .low .now) (c .before .before .loop .j) 0) (c .before .before .before .before .before .args .part))) 256
-small c = arg-small (c .before .before .before .before .before .args .opened) (c .before .before .before .before .before .args .part) (getD (c .before .before .before .before .before .args .low .now) (c .before .before .loop .j) 0) (omega arith) (omega arith)
+small : (c : tie.After-x Inv-loop μ-loop) → _<_ (bitOr (bitXor (c .before .before .before .before .before .args .opened)
+    (bitAnd (c .before .before .before .before .before .args .opened) (c .before .before .before .before .before .args .part)))
+    (bitAnd (getD (c .before .before .before .before .before .args .low .now) (c .before .before .loop .j) 0) (c .before .before .before .before .before .args .part))) 256
+small c = arg-small (c .before .before .before .before .before .args .opened) (c .before .before .before .before .before .args .part)
+    (getD (c .before .before .before .before .before .args .low .now) (c .before .before .loop .j) 0) (omega arith) (omega arith)
 
 cast-x : tie.Need-cast-x Inv-loop μ-loop
 cast-x c =
@@ -72,10 +67,11 @@ element-copy-out-x-2 c = omega (arith, small c, c .before .before .loop .inv .0 
 add-levels : tie.Need-add-levels Inv-loop μ-loop
 add-levels c =
     let a = c .before .before .before .before .before .before .args in let l = c .before .before .before .loop in
-    omega (arith, levels-fit (a .opens .now) (a .letter) (a .opened) (a .part) (a .low .now) (l .inv .0) (omega arith) (l .prev) (l .ones) (l .ranks) (l .levels) (l .j) (l .inv .2) (more (c .before .before)))
-
-add-j : tie.Need-add-j Inv-loop μ-loop
-add-j c = omega arith
+    omega (
+      arith,
+      levels-fit (a .opens .now) (a .letter) (a .opened) (a .part) (a .low .now) (l .inv .0) (omega arith) (l .prev) (l .ones) (l .ranks) (l .levels) (l .j) (l .inv .2)
+          (more (c .before .before)),
+    )
 
 loop-less : tie.Need-loop-less Inv-loop μ-loop
 loop-less c = omega (arith, deep (c .before .before .before))
@@ -83,21 +79,25 @@ loop-less c = omega (arith, deep (c .before .before .before))
 loop-again : tie.Need-loop-again Inv-loop μ-loop
 unfolding upto
 loop-again c =
-    let a = c .before .before .before .before .before .before .before .args in let l = c .before .before .before .before .loop in (
+    let start = c .before .before .before .before .before .before .before in
+    let a = start .args in let l = c .before .before .before .before .loop in (
       l .inv .0,
       omega (arith, deep (c .before .before .before)),
-      on-same (a .opens .now) (a .letter) (a .opened) (a .part) (a .low .now) (l .inv .0) (omega arith) (l .prev) (l .ones) (l .ranks) (l .levels) (l .j) (l .inv .2) (more (c .before .before .before)) (c .if2 .taken),
+      on-same (a .opens .now) (a .letter) (a .opened) (a .part) (a .low .now) (l .inv .0) (omega arith) (l .prev) (l .ones) (l .ranks) (l .levels) (l .j) (l .inv .2)
+          (more (c .before .before .before)) (c .if2 .taken),
     )
-
-spread-requires : tie.Need-spread-requires Inv-loop μ-loop
-spread-requires c κs = search needs
 
 add-ranks : tie.Need-add-ranks Inv-loop μ-loop
 unfolding upto goal
 add-ranks c =
-    let a = c .before .before .before .before .before .before .before .before .args in let l = c .before .before .before .before .before .loop in
+    let start = c .before .before .before .before .before .before .before .before in
+    let a = start .args in let l = c .before .before .before .before .before .loop in
     rw (c .spread .ensures)
-    (omega (arith, ranks-fit (a .opens .now) (a .letter) (a .opened) (a .part) (a .low .now) (l .inv .0) (omega arith) (l .prev) (l .ones) (l .ranks) (l .levels) (l .j) (l .inv .2) (more (c .before .before .before .before)) (c .before .if2 .left)))
+    (omega (
+      arith,
+      ranks-fit (a .opens .now) (a .letter) (a .opened) (a .part) (a .low .now) (l .inv .0) (omega arith) (l .prev) (l .ones) (l .ranks) (l .levels) (l .j) (l .inv .2)
+          (more (c .before .before .before .before)) (c .before .if2 .left),
+    ))
 
 loop-less-2 : tie.Need-loop-less-2 Inv-loop μ-loop
 loop-less-2 c = omega (arith, deep (c .before .before .before .before))
@@ -105,11 +105,13 @@ loop-less-2 c = omega (arith, deep (c .before .before .before .before))
 loop-again-2 : tie.Need-loop-again-2 Inv-loop μ-loop
 unfolding upto goal
 loop-again-2 c =
-    let a = c .before .before .before .before .before .before .before .before .args in let l = c .before .before .before .before .before .loop in (
+    let start = c .before .before .before .before .before .before .before .before in
+    let a = start .args in let l = c .before .before .before .before .before .loop in (
       l .inv .0,
       omega (arith, deep (c .before .before .before .before)),
       rw (c .spread .ensures)
-          (on-new (a .opens .now) (a .letter) (a .opened) (a .part) (a .low .now) (l .inv .0) (omega arith) (l .prev) (l .ones) (l .ranks) (l .levels) (l .j) (l .inv .2) (more (c .before .before .before .before)) (c .before .if2 .left)),
+          (on-new (a .opens .now) (a .letter) (a .opened) (a .part) (a .low .now) (l .inv .0) (omega arith) (l .prev) (l .ones) (l .ranks) (l .levels) (l .j) (l .inv .2)
+          (more (c .before .before .before .before)) (c .before .if2 .left)),
     )
 
 sub-levels : tie.Need-sub-levels Inv-loop μ-loop
@@ -126,27 +128,6 @@ returns-2 c =
 
 pub step-component-spec : {M : Type 1} → statement M
 step-component-spec =
-    tie.close
-    (tie.spec
-    Inv-loop
-    μ-loop
-    mul-row
-    cast-outside
-    add-goal
-    element-copy-out-goal
-    returns
-    loop-holds
-    element-copy-out-x
-    cast-x
-    add-x
-    element-copy-out-x-2
-    add-levels
-    add-j
-    loop-less
-    loop-again
-    spread-requires
-    add-ranks
-    loop-less-2
-    loop-again-2
-    sub-levels
-    returns-2)
+    tie.close (tie.spec
+    Inv-loop μ-loop (λ c. search needs) cast-outside (λ c. search needs) (λ c. search needs) returns loop-holds element-copy-out-x cast-x add-x
+    element-copy-out-x-2 add-levels (λ c. omega arith) loop-less loop-again (λ c κs. search needs) add-ranks loop-less-2 loop-again-2 sub-levels returns-2)

@@ -14,8 +14,4 @@ unfolding classesIn
 returns c = and-mask (c .args .code / 2 ^ 44) 4
 
 pub classes-of-spec : {M : Type 1} → statement M
-classes-of-spec =
-    tie.close
-    (tie.spec
-    cast-result
-    returns)
+classes-of-spec = tie.close (tie.spec cast-result returns)

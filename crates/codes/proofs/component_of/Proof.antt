@@ -14,8 +14,4 @@ unfolding componentIn
 returns c = and-mask (c .args .code / 2 ^ 40) 4
 
 pub component-of-spec : {M : Type 1} → statement M
-component-of-spec =
-    tie.close
-    (tie.spec
-    cast-result
-    returns)
+component-of-spec = tie.close (tie.spec cast-result returns)

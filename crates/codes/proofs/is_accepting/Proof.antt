@@ -7,16 +7,9 @@ use Rattle.theory.specs.Macrostate.{isAccepting}
 use Rattle.codes.proofs.is_accepting.Statement.{statement}
 use Rattle.codes.proofs.is_accepting.Tie as tie
 
-classes-of-requires : tie.Need-classes-of-requires
-classes-of-requires c κs = search needs
-
 returns : tie.Need-returns
 unfolding isAccepting
 returns c = ap (λ (x : ℕ). eqb x 0) (c .classes-of .ensures)
 
 pub is-accepting-spec : {M : Type 1} → statement M
-is-accepting-spec =
-    tie.close
-    (tie.spec
-    classes-of-requires
-    returns)
+is-accepting-spec = tie.close (tie.spec (λ c κs. search needs) returns)

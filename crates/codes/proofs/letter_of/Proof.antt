@@ -8,7 +8,4 @@ returns : tie.Need-returns
 returns c = and-mask (c .args .transition / 2 ^ 16) 8
 
 pub letter-of-spec : {M : Type 1} → statement M
-letter-of-spec =
-    tie.close
-    (tie.spec
-    returns)
+letter-of-spec = tie.close (tie.spec returns)

@@ -7,7 +7,4 @@ returns : tie.Need-returns
 returns c = three-fields (c .args .source) (c .args .letter) (c .args .target) (c .pre .0) (c .pre .1) (c .pre .2)
 
 pub pack-transition-spec : {M : Type 1} → statement M
-pack-transition-spec =
-    tie.close
-    (tie.spec
-    returns)
+pack-transition-spec = tie.close (tie.spec returns)

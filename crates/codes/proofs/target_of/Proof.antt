@@ -7,7 +7,4 @@ returns : tie.Need-returns
 returns c = and-mask (c .args .transition) 16
 
 pub target-of-spec : {M : Type 1} → statement M
-target-of-spec =
-    tie.close
-    (tie.spec
-    returns)
+target-of-spec = tie.close (tie.spec returns)

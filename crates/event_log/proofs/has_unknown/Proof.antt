@@ -38,12 +38,11 @@ add-lines-of c = omega (arith, c .before .loop-test .taken)
 shared-slice-read-lines-of-2 : tie.Need-shared-slice-read-lines-of-2 Inv-loop μ-loop
 shared-slice-read-lines-of-2 c = omega (arith, c .before .before .loop-test .taken)
 
-lines-of-requires : tie.Need-lines-of-requires Inv-loop μ-loop
-lines-of-requires c κs = search needs
-
 returns : tie.Need-returns Inv-loop μ-loop
-returns c = λ t m.
-    let a = c .before .before .before .before .before .before .before .args in
+returns c =
+    let start = c .before .before .before .before .before .before .before in
+    λ t m.
+    let a = start .args in
     let l = c .before .before .before .before .before .loop in
     let byte = c .before .before .shared-slice-known3 .given in
     sym (unknown-here t (a .log .now) (l .k) (c .before .before .before .before .loop-test .taken)
@@ -57,7 +56,8 @@ loop-less c = omega (arith, c .before .before .before .before .loop-test .taken)
 
 loop-again : tie.Need-loop-again Inv-loop μ-loop
 loop-again c =
-    let a = c .before .before .before .before .before .before .before .args in
+    let start = c .before .before .before .before .before .before .before in
+    let a = start .args in
     let l = c .before .before .before .before .before .loop in
     let byte = c .before .before .shared-slice-known3 .given in (
       omega (arith, c .before .before .before .before .loop-test .taken),
@@ -73,19 +73,6 @@ returns-2 c = λ t m.
 
 pub has-unknown-spec : {M : Type 1} → statement M
 has-unknown-spec =
-    tie.close
-    (tie.spec
-    Inv-loop
-    μ-loop
-    loop-holds
-    mul-lines-of
-    shared-slice-read-lines-of
-    mul-lines-of-2
-    add-lines-of
-    shared-slice-read-lines-of-2
-    lines-of-requires
-    returns
-    add-k
-    loop-less
-    loop-again
-    returns-2)
+    tie.close (tie.spec
+    Inv-loop μ-loop loop-holds mul-lines-of shared-slice-read-lines-of mul-lines-of-2 add-lines-of shared-slice-read-lines-of-2 (λ c κs. search needs) returns
+    add-k loop-less loop-again returns-2)

@@ -37,20 +37,19 @@ add-lines-of c = omega (arith, c .before .loop-test .taken)
 shared-slice-read-lines-of-2 : tie.Need-shared-slice-read-lines-of-2 Inv-loop μ-loop
 shared-slice-read-lines-of-2 c = omega (arith, c .before .before .loop-test .taken)
 
-lines-of-requires : tie.Need-lines-of-requires Inv-loop μ-loop
-lines-of-requires c κs = search needs
-
 -- some line holds the event
 held : (c : tie.After-lines-of Inv-loop μ-loop) → let a = c .before .before .before .before .before .before .before .before .args in
     known (a .events .now) (a .log .now) (c .before .before .before .before .loop .k) ≡ true
 held c =
-    let s = c .before .before .before .before .before .before .before .before in
+    let earlier = c .before .before .before .before .before .before .before .before in
+    let s = earlier in
     known-at (s .args .events .now) (s .args .log .now) (c .before .before .before .before .loop .k) (s .pre .1) (c .before .before .before .loop-test .taken)
 
 -- and the least of them is a line
 line : (c : tie.After-lines-of Inv-loop μ-loop) → trailingZeros 64 (c .lines-of .result) < lineCount (c .before .before .before .before .before .before .before .before .args .events .now)
 line c =
-    let s = c .before .before .before .before .before .before .before .before in
+    let earlier = c .before .before .before .before .before .before .before .before in
+    let s = earlier in
     let a = s .args in
     let k = c .before .before .before .before .loop .k in
     let byte = c .before .shared-slice-known4 .given in
@@ -73,11 +72,13 @@ long : (c : tie.At-loop Inv-loop μ-loop) → let s = c .before .before .before 
 long c =
     let s = c .before .before .before .before in
     let l = c .loop in
-    ap length (l .inv .1) ∙ put-length (lettersOf (s .args .events .now) (s .args .log .now)) (s .args .letters .now) (l .k) (omega (arith, letters-length (s .args .events .now) (s .args .log .now), l .inv .0)) (omega (arith, s .pre .2, l .inv .0))
+    ap length (l .inv .1) ∙ put-length (lettersOf (s .args .events .now) (s .args .log .now)) (s .args .letters .now) (l .k)
+    (omega (arith, letters-length (s .args .events .now) (s .args .log .now), l .inv .0)) (omega (arith, s .pre .2, l .inv .0))
 
 slice-write-letters : tie.Need-slice-write-letters Inv-loop μ-loop
 slice-write-letters c =
-    let s = c .before .before .before .before .before .before .before .before .before in
+    let earlier = c .before .before .before .before .before .before .before .before .before in
+    let s = earlier in
     omega (arith, long (c .before .before .before .before .before), s .pre .2, c .before .before .before .before .loop-test .taken)
 
 add-k : tie.Need-add-k Inv-loop μ-loop
@@ -88,7 +89,8 @@ loop-less c = omega (arith, c .before .before .before .before .loop-test .taken)
 
 loop-again : tie.Need-loop-again Inv-loop μ-loop
 loop-again c =
-    let s = c .before .before .before .before .before .before .before .before .before in
+    let earlier = c .before .before .before .before .before .before .before .before .before in
+    let s = earlier in
     let a = s .args in
     let l = c .before .before .before .before .before .loop in
     let taken = c .before .before .before .before .loop-test .taken in
@@ -116,24 +118,6 @@ returns c =
 
 pub write-letters-spec : {M : Type 1} → statement M
 write-letters-spec =
-    tie.close
-    (tie.spec
-    Inv-loop
-    μ-loop
-    loop-holds
-    mul-lines-of
-    shared-slice-read-lines-of
-    mul-lines-of-2
-    add-lines-of
-    shared-slice-read-lines-of-2
-    lines-of-requires
-    cast-line
-    mul-letters
-    add-letters
-    shared-slice-read-letters
-    slice-write-letters
-    add-k
-    loop-less
-    loop-again
-    same-length
-    returns)
+    tie.close (tie.spec
+    Inv-loop μ-loop loop-holds mul-lines-of shared-slice-read-lines-of mul-lines-of-2 add-lines-of shared-slice-read-lines-of-2 (λ c κs. search needs) cast-line
+    mul-letters add-letters shared-slice-read-letters slice-write-letters add-k loop-less loop-again same-length returns)

@@ -26,21 +26,6 @@ loop-holds c = (
   union-start (λ z j. some 256 (λ y. eqb (trailingZeros 64 (bitAnd (getD (c .args .kinds .now) z 0) (getD (c .args .drives .now) y 0))) j)),
 )
 
-mul-firsts-beside : tie.Need-mul-firsts-beside Inv-loop μ-loop
-mul-firsts-beside c = search needs
-
-element-copy-out-firsts-beside : tie.Need-element-copy-out-firsts-beside Inv-loop μ-loop
-element-copy-out-firsts-beside c = search needs
-
-firsts-beside-requires : tie.Need-firsts-beside-requires Inv-loop μ-loop
-firsts-beside-requires c κs = search needs
-
-add-x : tie.Need-add-x Inv-loop μ-loop
-add-x c = search needs
-
-loop-less : tie.Need-loop-less Inv-loop μ-loop
-loop-less c = search needs
-
 loop-again : tie.Need-loop-again Inv-loop μ-loop
 loop-again c =
     let a = c .before .before .before .before .args in
@@ -59,15 +44,5 @@ returns c =
 
 pub firsts-spec : {M : Type 1} → statement M
 firsts-spec =
-    tie.close
-    (tie.spec
-    Inv-loop
-    μ-loop
-    loop-holds
-    mul-firsts-beside
-    element-copy-out-firsts-beside
-    firsts-beside-requires
-    add-x
-    loop-less
-    loop-again
-    returns)
+    tie.close (tie.spec
+    Inv-loop μ-loop loop-holds (λ c. search needs) (λ c. search needs) (λ c κs. search needs) (λ c. search needs) (λ c. search needs) loop-again returns)

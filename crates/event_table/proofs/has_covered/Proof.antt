@@ -10,9 +10,6 @@ use borrow.Author.Needs.{needs}
 use Rattle.event_table.proofs.has_covered.Statement.{statement}
 use Rattle.event_table.proofs.has_covered.Tie as tie
 
-firsts-requires : tie.Need-firsts-requires
-firsts-requires c κs = search needs
-
 cast-result : tie.Need-cast-result
 cast-result c = omega (arith, ones-le 64 (c .firsts .result) (omega arith))
 
@@ -23,4 +20,4 @@ returns c =
     ∙ covered-is (a .events .now) (a .kinds .now) (a .drives .now) (λ i. c .before .shared-slice-known .given i .fits) (c .before .before .pre)
 
 pub has-covered-spec : {M : Type 1} → statement M
-has-covered-spec = tie.close (tie.spec firsts-requires cast-result returns)
+has-covered-spec = tie.close (tie.spec (λ c κs. search needs) cast-result returns)

@@ -27,12 +27,10 @@ loop-holds : tie.Need-loop-holds Inv-loop μ-loop
 unfolding some
 loop-holds c = (omega arith, refl)
 
-is-faulty-requires : tie.Need-is-faulty-requires Inv-loop μ-loop
-is-faulty-requires c κs = c .loop-test .taken
-
 returns-3 : tie.Need-returns-3 Inv-loop μ-loop
 returns-3 c =
-    let a = c .before .before .before .before .before .before .before .args in
+    let start = c .before .before .before .before .before .before .before in
+    let a = start .args in
     let l = c .before .before .before .loop in
     sym (table-line (a .s) (a .events .now) (l .j) (c .before .before .loop-test .taken) (sym (c .before .is-faulty .ensures) ∙ c .if3 .taken))
 
@@ -44,7 +42,8 @@ loop-less c = omega (arith, c .before .before .loop-test .taken)
 
 loop-again : tie.Need-loop-again Inv-loop μ-loop
 loop-again c =
-    let a = c .before .before .before .before .before .before .before .args in
+    let start = c .before .before .before .before .before .before .before in
+    let a = start .args in
     let l = c .before .before .before .loop in
     (omega (arith, c .before .before .loop-test .taken), some-next (l .j) (faulty (a .s) (a .events .now)) (l .inv .1) (sym (c .before .is-faulty .ensures) ∙ c .if3 .left))
 
@@ -57,16 +56,5 @@ returns-4 c =
 
 pub is-faulty-table-spec : {M : Type 1} → statement M
 is-faulty-table-spec =
-    tie.close
-    (tie.spec
-    Inv-loop
-    μ-loop
-    returns
-    returns-2
-    loop-holds
-    is-faulty-requires
-    returns-3
-    add-j
-    loop-less
-    loop-again
-    returns-4)
+    tie.close (tie.spec
+    Inv-loop μ-loop returns returns-2 loop-holds (λ c κs. c .loop-test .taken) returns-3 add-j loop-less loop-again returns-4)

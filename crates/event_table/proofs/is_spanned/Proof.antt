@@ -5,35 +5,11 @@ use borrow.Author.Needs.{needs}
 use Rattle.event_table.proofs.is_spanned.Statement.{statement}
 use Rattle.event_table.proofs.is_spanned.Tie as tie
 
-mul-at : tie.Need-mul-at
-mul-at c = search needs
-
-add-at : tie.Need-add-at
-add-at c = search needs
-
-shared-slice-read-if1 : tie.Need-shared-slice-read-if1
-shared-slice-read-if1 c = search needs
-
 returns : tie.Need-returns
 returns c = let a = c .before .before .args in sym (span-below (a .events .now) (a .i) (a .x) (a .j) (c .if1 .taken))
-
-add-result : tie.Need-add-result
-add-result c = search needs
-
-shared-slice-read-result : tie.Need-shared-slice-read-result
-shared-slice-read-result c = search needs
 
 returns-2 : tie.Need-returns-2
 returns-2 c = let a = c .before .before .before .args in span-above (a .events .now) (a .i) (a .x) (a .j) (c .before .if1 .left)
 
 pub is-spanned-spec : {M : Type 1} → statement M
-is-spanned-spec =
-    tie.close
-    (tie.spec
-    mul-at
-    add-at
-    shared-slice-read-if1
-    returns
-    add-result
-    shared-slice-read-result
-    returns-2)
+is-spanned-spec = tie.close (tie.spec (λ c. search needs) (λ c. search needs) (λ c. search needs) returns (λ c. search needs) (λ c. search needs) returns-2)

@@ -10,9 +10,6 @@ use borrow.Author.Needs.{needs}
 use Rattle.event_table.proofs.marked.Statement.{statement}
 use Rattle.event_table.proofs.marked.Tie as tie
 
-shl-result : tie.Need-shl-result
-shl-result c = search needs
-
 returns : tie.Need-returns
 returns c =
     let a = c .before .args in
@@ -22,4 +19,4 @@ returns-2 : tie.Need-returns-2
 returns-2 c = rw (c .if1 .left) (omega arith)
 
 pub marked-spec : {M : Type 1} → statement M
-marked-spec = tie.close (tie.spec shl-result returns returns-2)
+marked-spec = tie.close (tie.spec (λ c. search needs) returns returns-2)

@@ -23,9 +23,6 @@ loop-holds c = (omega arith, refl, λ z l. absurd (omega arith))
 cast-spanning : tie.Need-cast-spanning Inv-loop μ-loop
 cast-spanning c = omega (arith, c .loop-test .taken)
 
-spanning-requires : tie.Need-spanning-requires Inv-loop μ-loop
-spanning-requires c κs = c .before .before .before .pre
-
 mul-masks : tie.Need-mul-masks Inv-loop μ-loop
 mul-masks c = omega (arith, c .before .loop-test .taken)
 
@@ -44,7 +41,8 @@ loop-again c =
     let l = c .before .before .loop in (
       omega (arith, c .before .loop-test .taken),
       length-set (l .masks) (l .x) (c .spanning .result) ∙ l .inv .1,
-      put-next (λ z. mask (lineCount (a .events .now)) (spans (a .events .now) (a .i) z)) (l .masks) (l .x) (c .spanning .result) (omega (arith, l .inv .1, c .before .loop-test .taken)) (c .spanning .ensures) (l .inv .2),
+      put-next (λ z. mask (lineCount (a .events .now)) (spans (a .events .now) (a .i) z)) (l .masks) (l .x) (c .spanning .result) (omega (arith, l .inv .1, c .before .loop-test .taken))
+          (c .spanning .ensures) (l .inv .2),
     )
 
 returns : tie.Need-returns Inv-loop μ-loop
@@ -55,16 +53,5 @@ returns c =
 
 pub masks-of-spec : {M : Type 1} → statement M
 masks-of-spec =
-    tie.close
-    (tie.spec
-    Inv-loop
-    μ-loop
-    loop-holds
-    cast-spanning
-    spanning-requires
-    mul-masks
-    array-write-masks
-    add-x
-    loop-less
-    loop-again
-    returns)
+    tie.close (tie.spec
+    Inv-loop μ-loop loop-holds cast-spanning (λ c κs. c .before .before .before .pre) mul-masks array-write-masks add-x loop-less loop-again returns)

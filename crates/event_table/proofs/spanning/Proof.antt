@@ -56,16 +56,4 @@ returns c =
     l .inv .1 ∙ ap (λ (k : ℕ). mask k (spans (a .events .now) (a .i) (a .x))) e
 
 pub spanning-spec : {M : Type 1} → statement M
-spanning-spec =
-    tie.close
-    (tie.spec
-    Inv-loop
-    μ-loop
-    loop-holds
-    is-spanned-requires
-    marked-requires
-    add-lines
-    add-j
-    loop-less
-    loop-again
-    returns)
+spanning-spec = tie.close (tie.spec Inv-loop μ-loop loop-holds is-spanned-requires marked-requires add-lines add-j loop-less loop-again returns)

@@ -12,26 +12,13 @@ use borrow.Author.Needs.{needs}
 use Rattle.event_translate.proofs.translate.Statement.{statement}
 use Rattle.event_translate.proofs.translate.Tie as tie
 
-read-rule-requires : tie.Need-read-rule-requires
-read-rule-requires c κs = search needs
-
-enum-known-l : tie.Need-enum-known-l
-enum-known-l c = search needs
-
-translate-read-requires : tie.Need-translate-read-requires
-translate-read-requires c κs = search needs
-
-enum-known-k : tie.Need-enum-known-k
-enum-known-k c = search needs
-
-same-length : tie.Need-same-length
-same-length c = search needs
-
 returns : tie.Need-returns
 returns c =
-    let a = c .before .before .before .before .before .before .before .before .before .before .before .before .before .args in
+    let at-read-rule = c .before .before .before .before .before .before .before .before in
+    let start = at-read-rule .before .before .before .before .before in
+    let a = start .args in
     let l = c .before .before .before .before .before .before .l .given .0 .0 in
-    let read : readOf (a .file .now) ≡ Accepted l = sym (c .before .before .before .before .before .before .before .before .read-rule .ensures) ∙ c .before .before .before .before .before .before .l .given .1 in
+    let read : readOf (a .file .now) ≡ Accepted l = sym (at-read-rule .read-rule .ensures) ∙ c .before .before .before .before .before .before .l .given .1 in
     let v = served (a .file .now) l read in
     let t = c .before .before .translate-read in
     accepted (a .file .now) (a .events .now) (a .log .now) (a .letters .now) (t .last .1 .1 .1 .0) (t .result) (v .row)
@@ -39,19 +26,13 @@ returns c =
 
 returns-2 : tie.Need-returns-2
 returns-2 c =
-    let a = c .before .before .before .before .before .before .before .before .args in
+    let start = c .before .before .before .before .before .before .before .before in
+    let a = start .args in
     let k = c .before .k .given .0 .0 in
     let t = turned-away (a .file .now) k (sym (c .before .before .before .read-rule .ensures) ∙ c .before .k .given .1) in
     refused (a .file .now) (a .events .now) (a .log .now) k (a .letters .now) (λ e. t .1 (t .0 ∙ e)) (sym (t .0))
 
 pub translate-spec : {M : Type 1} → statement M
 translate-spec =
-    tie.close
-    (tie.spec
-    read-rule-requires
-    enum-known-l
-    translate-read-requires
-    enum-known-k
-    same-length
-    returns
-    returns-2)
+    tie.close (tie.spec
+    (λ c κs. search needs) (λ c. search needs) (λ c κs. search needs) (λ c. search needs) (λ c. search needs) returns returns-2)

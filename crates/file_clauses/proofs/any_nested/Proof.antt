@@ -27,20 +27,16 @@ nested-state-requires c κs = (c .before .before .before .before .before .pre, c
 returns : tie.Need-returns Inv-loop μ-loop
 unfolding someNested
 returns c =
-    let a = c .before .before .before .before .before .before .before .args in
+    let start = c .before .before .before .before .before .before .before in
+    let a = start .args in
     let l = c .before .before .before .before .loop in
     some-stop (a .h .n) (λ p. some (a .h .s) (λ b. nested (a .h .n) (entry (ruleOf (a .h) (a .counts .now) (a .clauses .now)) p b))) (l .q) (c .before .before .if1 .taken)
     (sym (c .before .nested-state .ensures) ∙ c .if2 .taken)
 
-add-q : tie.Need-add-q Inv-loop μ-loop
-add-q c = omega arith
-
-loop-less : tie.Need-loop-less Inv-loop μ-loop
-loop-less c = omega arith
-
 loop-again : tie.Need-loop-again Inv-loop μ-loop
 loop-again c =
-    let a = c .before .before .before .before .before .before .before .args in
+    let start = c .before .before .before .before .before .before .before in
+    let a = start .args in
     let l = c .before .before .before .before .loop in (
       omega arith,
       some-next (l .q) (λ p. some (a .h .s) (λ b. nested (a .h .n) (entry (ruleOf (a .h) (a .counts .now) (a .clauses .now)) p b))) (l .inv .1)
@@ -55,15 +51,4 @@ returns-2 c =
     some-end (l .q) (a .h .n) (λ p. some (a .h .s) (λ b. nested (a .h .n) (entry (ruleOf (a .h) (a .counts .now) (a .clauses .now)) p b))) (omega arith) (l .inv .1)
 
 pub any-nested-spec : {M : Type 1} → statement M
-any-nested-spec =
-    tie.close
-    (tie.spec
-    Inv-loop
-    μ-loop
-    loop-holds
-    nested-state-requires
-    returns
-    add-q
-    loop-less
-    loop-again
-    returns-2)
+any-nested-spec = tie.close (tie.spec Inv-loop μ-loop loop-holds nested-state-requires returns (λ c. omega arith) (λ c. omega arith) loop-again returns-2)

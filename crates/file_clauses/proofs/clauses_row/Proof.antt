@@ -6,9 +6,6 @@ use Rattle.file_spec.proofs.Formed.{row-20, pass-20}
 use Rattle.file_clauses.proofs.clauses_row.Statement.{statement}
 use Rattle.file_clauses.proofs.clauses_row.Tie as tie
 
-any-nested-requires : tie.Need-any-nested-requires
-any-nested-requires c κs = search needs
-
 returns : tie.Need-returns
 returns c =
     let a = c .before .before .before .before .args in
@@ -20,4 +17,4 @@ returns-2 c =
     pass-20 (ruleOf (a .h) (a .counts .now) (a .clauses .now)) (sym (c .before .any-nested .ensures) ∙ c .if1 .left)
 
 pub clauses-row-spec : {M : Type 1} → statement M
-clauses-row-spec = tie.close (tie.spec any-nested-requires returns returns-2)
+clauses-row-spec = tie.close (tie.spec (λ c κs. search needs) returns returns-2)

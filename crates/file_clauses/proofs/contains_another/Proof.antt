@@ -29,12 +29,6 @@ returns c =
     let l = c .before .before .before .loop in
     some-stop (length (a .clauses .now)) (λ k. containsAt 8 (a .clauses .now) (a .i) k) (l .j) (omega arith) (sym (c .before .contains-at .ensures) ∙ c .if1 .taken)
 
-add-j : tie.Need-add-j Inv-loop μ-loop
-add-j c = omega arith
-
-loop-less : tie.Need-loop-less Inv-loop μ-loop
-loop-less c = omega arith
-
 loop-again : tie.Need-loop-again Inv-loop μ-loop
 loop-again c =
     let a = c .before .before .before .before .before .args in
@@ -48,15 +42,4 @@ returns-2 c =
     some-end (l .j) (length (a .clauses .now)) (λ k. containsAt 8 (a .clauses .now) (a .i) k) (omega arith) (l .inv .1)
 
 pub contains-another-spec : {M : Type 1} → statement M
-contains-another-spec =
-    tie.close
-    (tie.spec
-    Inv-loop
-    μ-loop
-    loop-holds
-    contains-at-requires
-    returns
-    add-j
-    loop-less
-    loop-again
-    returns-2)
+contains-another-spec = tie.close (tie.spec Inv-loop μ-loop loop-holds contains-at-requires returns (λ c. omega arith) (λ c. omega arith) loop-again returns-2)

@@ -12,15 +12,6 @@ returns c =
     let same : a .i ≡ a .j = omega (arith, c .if1 .taken) in
     same-place (a .clauses .now) (a .i) (a .j) same
 
-shared-slice-read-result : tie.Need-shared-slice-read-result
-shared-slice-read-result c = search needs
-
-shared-slice-read-result-2 : tie.Need-shared-slice-read-result-2
-shared-slice-read-result-2 c = search needs
-
-shared-slice-read-result-3 : tie.Need-shared-slice-read-result-3
-shared-slice-read-result-3 c = search needs
-
 returns-2 : tie.Need-returns-2
 returns-2 c =
     let a = c .before .before .before .before .args in
@@ -28,11 +19,4 @@ returns-2 c =
     two-places (a .clauses .now) (a .i) (a .j) two (omega (arith, c .shared-slice-known3 .given (a .j)))
 
 pub contains-at-spec : {M : Type 1} → statement M
-contains-at-spec =
-    tie.close
-    (tie.spec
-    returns
-    shared-slice-read-result
-    shared-slice-read-result-2
-    shared-slice-read-result-3
-    returns-2)
+contains-at-spec = tie.close (tie.spec returns (λ c. search needs) (λ c. search needs) (λ c. search needs) returns-2)

@@ -20,21 +20,13 @@ loop-holds : tie.Need-loop-holds Inv-loop μ-loop
 unfolding some
 loop-holds c = (omega arith, refl)
 
-contains-another-requires : tie.Need-contains-another-requires Inv-loop μ-loop
-contains-another-requires c κs = omega arith
-
 returns : tie.Need-returns Inv-loop μ-loop
 unfolding nested
 returns c =
     let a = c .before .before .before .before .before .args in
     let l = c .before .before .before .loop in
-    some-stop (length (a .clauses .now)) (λ k. some (length (a .clauses .now)) (λ j. containsAt 8 (a .clauses .now) k j)) (l .i) (omega arith) (sym (c .before .contains-another .ensures) ∙ c .if1 .taken)
-
-add-i : tie.Need-add-i Inv-loop μ-loop
-add-i c = omega arith
-
-loop-less : tie.Need-loop-less Inv-loop μ-loop
-loop-less c = omega arith
+    some-stop (length (a .clauses .now)) (λ k. some (length (a .clauses .now)) (λ j. containsAt 8 (a .clauses .now) k j)) (l .i) (omega arith)
+    (sym (c .before .contains-another .ensures) ∙ c .if1 .taken)
 
 loop-again : tie.Need-loop-again Inv-loop μ-loop
 loop-again c =
@@ -50,15 +42,4 @@ returns-2 c =
     some-end (l .i) (length (a .clauses .now)) (λ k. some (length (a .clauses .now)) (λ j. containsAt 8 (a .clauses .now) k j)) (omega arith) (l .inv .1)
 
 pub is-nested-spec : {M : Type 1} → statement M
-is-nested-spec =
-    tie.close
-    (tie.spec
-    Inv-loop
-    μ-loop
-    loop-holds
-    contains-another-requires
-    returns
-    add-i
-    loop-less
-    loop-again
-    returns-2)
+is-nested-spec = tie.close (tie.spec Inv-loop μ-loop loop-holds (λ c κs. omega arith) returns (λ c. omega arith) (λ c. omega arith) loop-again returns-2)

@@ -26,36 +26,31 @@ loop-holds c = (omega arith, refl)
 entry-of-requires : tie.Need-entry-of-requires Inv-loop μ-loop
 entry-of-requires c κs = let p = c .before .before .before .before .before .pre in (p .0, p .1, c .if1 .taken)
 
-is-nested-requires : tie.Need-is-nested-requires Inv-loop μ-loop
-is-nested-requires c κs = search needs
+abbrev start-of-after-is-nested : tie.After-is-nested Inv-loop μ-loop → tie.Start Inv-loop μ-loop
+start-of-after-is-nested c = c .before .before .before .before .before .before .before
 
 -- what the call says of the entry at the letter
-told : (c : tie.After-is-nested Inv-loop μ-loop) →
-    let a = c .before .before .before .before .before .before .before .args in
+told : (c : tie.After-is-nested Inv-loop μ-loop) → let a = start-of-after-is-nested c .args in
     c .is-nested .result ≡ nested (a .h .n) (entry (ruleOf (a .h) (a .counts .now) (a .clauses .now)) (a .q) (c .before .before .before .before .loop .a))
 told c =
-    let a = c .before .before .before .before .before .before .before .args in
-    let p = c .before .before .before .before .before .before .before .pre in
+    let a = start-of-after-is-nested c .args in
+    let p = start-of-after-is-nested c .pre in
     let r = ruleOf (a .h) (a .counts .now) (a .clauses .now) in
     let k = c .before .before .before .before .loop .a in
     c .is-nested .ensures ∙ ap (nested 8) (c .before .entry-of .ensures) ∙ nested-entry r (p .0) (a .q) k (p .1) (c .before .before .if1 .taken)
 
 returns : tie.Need-returns Inv-loop μ-loop
 returns c =
-    let a = c .before .before .before .before .before .before .before .before .args in
+    let start = c .before .before .before .before .before .before .before .before in
+    let a = start .args in
     let l = c .before .before .before .before .before .loop in
     some-stop (a .h .s) (λ b. nested (a .h .n) (entry (ruleOf (a .h) (a .counts .now) (a .clauses .now)) (a .q) b)) (l .a) (c .before .before .before .if1 .taken)
     (sym (told (c .before)) ∙ c .if2 .taken)
 
-add-a : tie.Need-add-a Inv-loop μ-loop
-add-a c = omega arith
-
-loop-less : tie.Need-loop-less Inv-loop μ-loop
-loop-less c = omega arith
-
 loop-again : tie.Need-loop-again Inv-loop μ-loop
 loop-again c =
-    let a = c .before .before .before .before .before .before .before .before .args in
+    let start = c .before .before .before .before .before .before .before .before in
+    let a = start .args in
     let l = c .before .before .before .before .before .loop in
     (omega arith, some-next (l .a) (λ b. nested (a .h .n) (entry (ruleOf (a .h) (a .counts .now) (a .clauses .now)) (a .q) b)) (l .inv .1) (sym (told (c .before)) ∙ c .if2 .left))
 
@@ -67,15 +62,5 @@ returns-2 c =
 
 pub nested-state-spec : {M : Type 1} → statement M
 nested-state-spec =
-    tie.close
-    (tie.spec
-    Inv-loop
-    μ-loop
-    loop-holds
-    entry-of-requires
-    is-nested-requires
-    returns
-    add-a
-    loop-less
-    loop-again
-    returns-2)
+    tie.close (tie.spec
+    Inv-loop μ-loop loop-holds entry-of-requires (λ c κs. search needs) returns (λ c. omega arith) (λ c. omega arith) loop-again returns-2)

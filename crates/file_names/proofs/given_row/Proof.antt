@@ -6,16 +6,10 @@ use Rattle.file_spec.proofs.Names.{given-21, past-given}
 use Rattle.file_names.proofs.given_row.Statement.{statement}
 use Rattle.file_names.proofs.given_row.Tie as tie
 
-is-whole-requires : tie.Need-is-whole-requires
-is-whole-requires c κs = search needs
-
 returns : tie.Need-returns
 returns c =
     let a = c .before .before .before .args in
     given-21 (a .s) (a .names .now) (sym (c .before .is-whole .ensures) ∙ not-true _ (c .if1 .taken))
-
-names-row-requires : tie.Need-names-row-requires
-names-row-requires c κs = search needs
 
 returns-2 : tie.Need-returns-2
 returns-2 c =
@@ -23,4 +17,4 @@ returns-2 c =
     c .names-row .ensures ∙ sym (past-given (a .s) (a .names .now) (sym (c .before .before .is-whole .ensures) ∙ not-false _ (c .before .if1 .left)))
 
 pub given-row-spec : {M : Type 1} → statement M
-given-row-spec = tie.close (tie.spec is-whole-requires returns names-row-requires returns-2)
+given-row-spec = tie.close (tie.spec (λ c κs. search needs) returns (λ c κs. search needs) returns-2)

@@ -11,27 +11,12 @@ use Rattle.file_names.proofs.has_names.Tie as tie
 returns : tie.Need-returns
 returns c = few-bytes (c .before .args .p .now) (omega arith)
 
-shared-slice-read-if2 : tie.Need-shared-slice-read-if2
-shared-slice-read-if2 c = search needs
-
-array-read-if2 : tie.Need-array-read-if2
-array-read-if2 c = search needs
-
 returns-2 : tie.Need-returns-2
 returns-2 c =
     let p = c .before .before .before .args .p .now in
     let long : 2 ≤ length p = omega (arith, c .before .before .if1 .left) in
     let differs : (getD p (length p - 2) 0 ≡ 0x4E → ⊥) = λ e. omega (arith, c .if2 .taken) in
     first-differs p long differs
-
-sub-result : tie.Need-sub-result
-sub-result c = search needs
-
-shared-slice-read-result : tie.Need-shared-slice-read-result
-shared-slice-read-result c = search needs
-
-array-read-result : tie.Need-array-read-result
-array-read-result c = search needs
 
 returns-3 : tie.Need-returns-3
 returns-3 c =
@@ -42,13 +27,5 @@ returns-3 c =
 
 pub has-names-spec : {M : Type 1} → statement M
 has-names-spec =
-    tie.close
-    (tie.spec
-    returns
-    shared-slice-read-if2
-    array-read-if2
-    returns-2
-    sub-result
-    shared-slice-read-result
-    array-read-result
-    returns-3)
+    tie.close (tie.spec
+    returns (λ c. search needs) (λ c. search needs) returns-2 (λ c. search needs) (λ c. search needs) (λ c. search needs) returns-3)

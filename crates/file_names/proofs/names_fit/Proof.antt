@@ -12,9 +12,6 @@ use Rattle.file_names.proofs.Tests.{fit-decides}
 use Rattle.file_names.proofs.names_fit.Statement.{statement}
 use Rattle.file_names.proofs.names_fit.Tie as tie
 
-has-names-requires : tie.Need-has-names-requires
-has-names-requires c κs = search needs
-
 returns : tie.Need-returns
 returns c =
     let none : hasNames (c .before .before .before .args .p .now) ≡ false = sym (c .before .has-names .ensures) ∙ not-true _ (c .if1 .taken) in
@@ -24,9 +21,6 @@ returns c =
 there : (c : tie.Else1) → hasNames (c .before .before .before .args .p .now) ≡ true
 there c = sym (c .before .has-names .ensures) ∙ not-false _ (c .if1 .left)
 
-mul-result : tie.Need-mul-result
-mul-result c = search needs
-
 sub-result : tie.Need-sub-result
 sub-result c = let a = c .before .before .before .args in names-long (a .s) (a .p .now) (there c)
 
@@ -34,4 +28,4 @@ returns-2 : tie.Need-returns-2
 returns-2 c = let a = c .before .before .before .args in fit-decides (a .p .now) (a .s) (there c)
 
 pub names-fit-spec : {M : Type 1} → statement M
-names-fit-spec = tie.close (tie.spec has-names-requires returns mul-result sub-result returns-2)
+names-fit-spec = tie.close (tie.spec (λ c κs. search needs) returns (λ c. search needs) sub-result returns-2)

@@ -11,12 +11,6 @@ use Rattle.file_spec.proofs.Names.{names-long, names-room, names-there, no-name
 use Rattle.file_names.proofs.names_in.Statement.{statement}
 use Rattle.file_names.proofs.names_in.Tie as tie
 
-has-names-requires : tie.Need-has-names-requires
-has-names-requires c κs = search needs
-
-slice-aggregate-result : tie.Need-slice-aggregate-result
-slice-aggregate-result c = search needs
-
 returns : tie.Need-returns
 returns c =
     let a = c .before .before .before .before .args in
@@ -33,20 +27,8 @@ room c = let a = c .before .before .before .args in names-room (a .s) (a .p .now
 sub-end : tie.Need-sub-end
 sub-end c = let a = c .before .before .before .args in names-long (a .s) (a .p .now) (there c)
 
-mul-result : tie.Need-mul-result
-mul-result c = search needs
-
 sub-result : tie.Need-sub-result
 sub-result c = room c
-
-sub-result-2 : tie.Need-sub-result-2
-sub-result-2 c = search needs
-
-part-result-start : tie.Need-part-result-start
-part-result-start c = search needs
-
-part-result-end : tie.Need-part-result-end
-part-result-end c = search needs
 
 returns-2 : tie.Need-returns-2
 returns-2 c =
@@ -58,15 +40,6 @@ returns-2 c =
 
 pub names-in-spec : {M : Type 1} → statement M
 names-in-spec =
-    tie.close
-    (tie.spec
-    has-names-requires
-    slice-aggregate-result
-    returns
-    sub-end
-    mul-result
-    sub-result
-    sub-result-2
-    part-result-start
-    part-result-end
+    tie.close (tie.spec
+    (λ c κs. search needs) (λ c. search needs) returns sub-end (λ c. search needs) sub-result (λ c. search needs) (λ c. search needs) (λ c. search needs)
     returns-2)

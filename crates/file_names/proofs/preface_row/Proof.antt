@@ -12,9 +12,6 @@ use Rattle.file_spec.proofs.Names.{cutOff, row-21, past-21}
 use Rattle.file_names.proofs.preface_row.Statement.{statement}
 use Rattle.file_names.proofs.preface_row.Tie as tie
 
-names-fit-requires : tie.Need-names-fit-requires
-names-fit-requires c κs = search needs
-
 returns : tie.Need-returns
 returns c =
     let a = c .before .before .before .args in
@@ -29,13 +26,10 @@ kept c =
 names-in-requires : tie.Need-names-in-requires
 names-in-requires c κs = (c .before .before .before .pre, kept c)
 
-names-row-requires : tie.Need-names-row-requires
-names-row-requires c κs = search needs
-
 returns-2 : tie.Need-returns-2
 returns-2 c =
     let a = c .before .before .before .before .before .args in
     c .names-row .ensures ∙ ap (λ (names : List ℕ). firstRow (nameRows names)) (c .before .names-in .ensures) ∙ sym (past-21 (a .s) (a .p .now) (kept (c .before .before)))
 
 pub preface-row-spec : {M : Type 1} → statement M
-preface-row-spec = tie.close (tie.spec names-fit-requires returns names-in-requires names-row-requires returns-2)
+preface-row-spec = tie.close (tie.spec (λ c κs. search needs) returns names-in-requires (λ c κs. search needs) returns-2)

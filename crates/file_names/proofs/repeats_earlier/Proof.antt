@@ -28,12 +28,6 @@ returns c =
     let l = c .before .before .before .loop in
     some-stop (a .b) (λ k. sameName (a .names .now) k (a .b)) (l .a) (omega arith) (sym (c .before .same-name .ensures) ∙ c .if1 .taken)
 
-add-a : tie.Need-add-a Inv-loop μ-loop
-add-a c = omega arith
-
-loop-less : tie.Need-loop-less Inv-loop μ-loop
-loop-less c = omega arith
-
 loop-again : tie.Need-loop-again Inv-loop μ-loop
 loop-again c =
     let a = c .before .before .before .before .before .args in
@@ -47,15 +41,4 @@ returns-2 c =
     some-end (l .a) (a .b) (λ k. sameName (a .names .now) k (a .b)) (omega arith) (l .inv .1)
 
 pub repeats-earlier-spec : {M : Type 1} → statement M
-repeats-earlier-spec =
-    tie.close
-    (tie.spec
-    Inv-loop
-    μ-loop
-    loop-holds
-    same-name-requires
-    returns
-    add-a
-    loop-less
-    loop-again
-    returns-2)
+repeats-earlier-spec = tie.close (tie.spec Inv-loop μ-loop loop-holds same-name-requires returns (λ c. omega arith) (λ c. omega arith) loop-again returns-2)

@@ -20,21 +20,12 @@ loop-holds : tie.Need-loop-holds Inv-loop μ-loop
 unfolding some
 loop-holds c = (omega arith, refl)
 
-repeats-earlier-requires : tie.Need-repeats-earlier-requires Inv-loop μ-loop
-repeats-earlier-requires c κs = omega arith
-
 returns : tie.Need-returns Inv-loop μ-loop
 unfolding repeatsName
 returns c =
     let a = c .before .before .before .before .before .args in
     let l = c .before .before .before .loop in
     some-stop (length (a .names .now) / 8) (λ k. some k (λ b. sameName (a .names .now) b k)) (l .b) (omega arith) (sym (c .before .repeats-earlier .ensures) ∙ c .if1 .taken)
-
-add-b : tie.Need-add-b Inv-loop μ-loop
-add-b c = omega arith
-
-loop-less : tie.Need-loop-less Inv-loop μ-loop
-loop-less c = omega arith
 
 loop-again : tie.Need-loop-again Inv-loop μ-loop
 loop-again c =
@@ -50,15 +41,4 @@ returns-2 c =
     some-end (l .b) (length (a .names .now) / 8) (λ k. some k (λ b. sameName (a .names .now) b k)) (omega arith) (l .inv .1)
 
 pub repeats-name-spec : {M : Type 1} → statement M
-repeats-name-spec =
-    tie.close
-    (tie.spec
-    Inv-loop
-    μ-loop
-    loop-holds
-    repeats-earlier-requires
-    returns
-    add-b
-    loop-less
-    loop-again
-    returns-2)
+repeats-name-spec = tie.close (tie.spec Inv-loop μ-loop loop-holds (λ c κs. omega arith) returns (λ c. omega arith) (λ c. omega arith) loop-again returns-2)

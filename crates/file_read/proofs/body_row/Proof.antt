@@ -14,9 +14,6 @@ use Rattle.file_read.proofs.FileRows.{laid, laid-formed, rows-layout, r
 use Rattle.file_read.proofs.body_row.Statement.{statement}
 use Rattle.file_read.proofs.body_row.Tie as tie
 
-layout-row-requires : tie.Need-layout-row-requires
-layout-row-requires c κs = search needs
-
 returns : tie.Need-returns
 returns c = rows-layout (c .before .before .before .args .f .now) (c .before .layout-row .result) (c .if1 .taken) (c .before .layout-row .ensures)
 
@@ -47,30 +44,23 @@ sub-formed-row c = omega (arith, bounds (c .before))
 part-formed-row-start : tie.Need-part-formed-row-start
 part-formed-row-start c = omega (arith, bounds (c .before))
 
-part-formed-row-end : tie.Need-part-formed-row-end
-part-formed-row-end c = search needs
-
 add-formed-row-2 : tie.Need-add-formed-row-2
 add-formed-row-2 c = omega (arith, bounds (c .before .before))
-
-sub-formed-row-2 : tie.Need-sub-formed-row-2
-sub-formed-row-2 c = search needs
-
-part-formed-row-start-2 : tie.Need-part-formed-row-start-2
-part-formed-row-start-2 c = search needs
 
 part-formed-row-end-2 : tie.Need-part-formed-row-end-2
 part-formed-row-end-2 c = omega (arith, bounds (c .before .before))
 
 formed-row-requires : tie.Need-formed-row-requires
 formed-row-requires c κs =
-    let f = c .before .before .before .before .before .before .before .args .f .now in
+    let start = c .before .before .before .before .before .before .before in
+    let f = start .args .f .now in
     let p = known (c .before .before .before .before) in
     rw (c .before .before .before .lay-out .ensures, counts-part f (p .fits), clauses-part f (p .fits)) (laid-formed f (pass (c .before .before .before .before)))
 
 returns-2 : tie.Need-returns-2
 returns-2 c =
-    let f = c .before .before .before .before .before .before .before .before .args .f .now in
+    let start = c .before .before .before .before .before .before .before .before in
+    let f = start .args .f .now in
     let p = known (c .before .before .before .before .before) in
     let e : c .formed-row .result ≡ firstRow (formedRows (ruleIn f)) =
     rw (c .before .before .before .before .lay-out .ensures, counts-part f (p .fits), clauses-part f (p .fits)) at (c .formed-row .ensures) in
@@ -78,19 +68,6 @@ returns-2 c =
 
 pub body-row-spec : {M : Type 1} → statement M
 body-row-spec =
-    tie.close
-    (tie.spec
-    layout-row-requires
-    returns
-    lay-out-requires
-    sub-end
-    add-formed-row
-    sub-formed-row
-    part-formed-row-start
-    part-formed-row-end
-    add-formed-row-2
-    sub-formed-row-2
-    part-formed-row-start-2
-    part-formed-row-end-2
-    formed-row-requires
-    returns-2)
+    tie.close (tie.spec
+    (λ c κs. search needs) returns lay-out-requires sub-end add-formed-row sub-formed-row part-formed-row-start (λ c. search needs) add-formed-row-2
+    (λ c. search needs) (λ c. search needs) part-formed-row-end-2 formed-row-requires returns-2)

@@ -8,12 +8,6 @@ use Rattle.file_read.proofs.clauses_of.Tie as tie
 add-end : tie.Need-add-end
 add-end c = let a = c .before .args in let s = served (a .f .now) (a .l) (c .before .pre) in omega (arith, s .bounds)
 
-sub-result : tie.Need-sub-result
-sub-result c = search needs
-
-part-result-start : tie.Need-part-result-start
-part-result-start c = search needs
-
 part-result-end : tie.Need-part-result-end
 part-result-end c = let a = c .before .args in let s = served (a .f .now) (a .l) (c .before .pre) in omega (arith, s .bounds)
 
@@ -21,4 +15,4 @@ returns : tie.Need-returns
 returns c = let a = c .before .before .args in served (a .f .now) (a .l) (c .before .before .pre) .clauses
 
 pub clauses-of-spec : {M : Type 1} → statement M
-clauses-of-spec = tie.close (tie.spec add-end sub-result part-result-start part-result-end returns)
+clauses-of-spec = tie.close (tie.spec add-end (λ c. search needs) (λ c. search needs) part-result-end returns)

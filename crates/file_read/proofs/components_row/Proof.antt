@@ -6,9 +6,6 @@ use Rattle.file_spec.proofs.Formed.{row-11, pass-11}
 use Rattle.file_read.proofs.components_row.Statement.{statement}
 use Rattle.file_read.proofs.components_row.Tie as tie
 
-is-mixed-requires : tie.Need-is-mixed-requires
-is-mixed-requires c κs = search needs
-
 returns : tie.Need-returns
 returns c =
     let a = c .before .before .before .before .args in
@@ -20,4 +17,4 @@ returns-2 c =
     pass-11 (ruleOf (a .h) (a .counts .now) (a .clauses .now)) (sym (c .before .is-mixed .ensures) ∙ c .if1 .left)
 
 pub components-row-spec : {M : Type 1} → statement M
-components-row-spec = tie.close (tie.spec is-mixed-requires returns returns-2)
+components-row-spec = tie.close (tie.spec (λ c κs. search needs) returns returns-2)

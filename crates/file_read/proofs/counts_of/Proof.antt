@@ -17,12 +17,8 @@ sub-result c = let a = c .before .args in let s = served (a .f .now) (a .l) (c .
 part-result-start : tie.Need-part-result-start
 part-result-start c = let a = c .before .args in let s = served (a .f .now) (a .l) (c .before .pre) in omega (arith, s .bounds)
 
-part-result-end : tie.Need-part-result-end
-part-result-end c = search needs
-
 returns : tie.Need-returns
 returns c = let a = c .before .before .args in served (a .f .now) (a .l) (c .before .before .pre) .counts
 
 pub counts-of-spec : {M : Type 1} → statement M
-counts-of-spec =
-    tie.close (tie.spec add-start sub-end sub-result part-result-start part-result-end returns)
+counts-of-spec = tie.close (tie.spec add-start sub-end sub-result part-result-start (λ c. search needs) returns)

@@ -10,9 +10,6 @@ use Rattle.file_read.proofs.FileRows.{rows-body, rows-preface, body-pla
 use Rattle.file_read.proofs.file_row.Statement.{statement}
 use Rattle.file_read.proofs.file_row.Tie as tie
 
-body-row-requires : tie.Need-body-row-requires
-body-row-requires c κs = search needs
-
 returns : tie.Need-returns
 returns c = rows-body (c .before .before .before .args .f .now) (c .before .body-row .result) (c .if1 .taken) (c .before .body-row .ensures)
 
@@ -40,17 +37,10 @@ preface-row-requires c κs = rw (c .before .before .lay-out .ensures) (known (c 
 returns-2 : tie.Need-returns-2
 unfolding prefaceRow
 returns-2 c =
-    let f = c .before .before .before .before .before .before .before .args .f .now in
+    let start = c .before .before .before .before .before .before .before in
+    let f = start .args .f .now in
     let e : c .preface-row .result ≡ prefaceRow f = rw (c .before .before .before .lay-out .ensures) at (c .preface-row .ensures) in
     e ∙ sym (rows-preface f (pass (c .before .before .before .before)))
 
 pub file-row-spec : {M : Type 1} → statement M
-file-row-spec =
-    tie.close
-    (tie.spec
-    body-row-requires
-    returns
-    lay-out-requires
-    slice-aggregate-preface-row
-    preface-row-requires
-    returns-2)
+file-row-spec = tie.close (tie.spec (λ c κs. search needs) returns lay-out-requires slice-aggregate-preface-row preface-row-requires returns-2)

@@ -6,16 +6,10 @@ use Rattle.file_spec.proofs.Formed.{by-clauses, past-clauses}
 use Rattle.file_read.proofs.formed_row.Statement.{statement}
 use Rattle.file_read.proofs.formed_row.Tie as tie
 
-clauses-row-requires : tie.Need-clauses-row-requires
-clauses-row-requires c κs = search needs
-
 returns : tie.Need-returns
 returns c =
     let a = c .before .before .before .before .args in
     by-clauses (ruleOf (a .h) (a .counts .now) (a .clauses .now)) (c .before .clauses-row .result) (c .if1 .taken) (c .before .clauses-row .ensures)
-
-components-row-requires : tie.Need-components-row-requires
-components-row-requires c κs = search needs
 
 returns-2 : tie.Need-returns-2
 returns-2 c =
@@ -24,4 +18,4 @@ returns-2 c =
     ∙ sym (past-clauses (ruleOf (a .h) (a .counts .now) (a .clauses .now)) (sym (c .before .before .clauses-row .ensures) ∙ c .before .if1 .left))
 
 pub formed-row-spec : {M : Type 1} → statement M
-formed-row-spec = tie.close (tie.spec clauses-row-requires returns components-row-requires returns-2)
+formed-row-spec = tie.close (tie.spec (λ c κs. search needs) returns (λ c κs. search needs) returns-2)

@@ -4,15 +4,6 @@ use borrow.Author.Needs.{needs}
 use Rattle.file_read.proofs.lay_out.Statement.{statement}
 use Rattle.file_read.proofs.lay_out.Tie as tie
 
-read-head-requires : tie.Need-read-head-requires
-read-head-requires c κs = search needs
-
-read-count-requires : tie.Need-read-count-requires
-read-count-requires c κs = search needs
-
-sub-at : tie.Need-sub-at
-sub-at c = omega arith
-
 mul-at : tie.Need-mul-at
 mul-at c = rw (c .before .read-head .ensures) (omega arith)
 
@@ -26,6 +17,4 @@ returns : tie.Need-returns
 returns c = rw (c .before .read-head .ensures, c .read-count .ensures .0)
 
 pub lay-out-spec : {M : Type 1} → statement M
-lay-out-spec =
-    tie.close
-    (tie.spec read-head-requires read-count-requires sub-at mul-at add-at sub-at-2 returns)
+lay-out-spec = tie.close (tie.spec (λ c κs. search needs) (λ c κs. search needs) (λ c. omega arith) mul-at add-at sub-at-2 returns)

@@ -13,9 +13,6 @@ use Rattle.file_spec.proofs.TrailerRows.{Placed, placed, rows-trailer, rows-lis
 use Rattle.file_read.proofs.layout_row.Statement.{statement}
 use Rattle.file_read.proofs.layout_row.Tie as tie
 
-trailer-row-requires : tie.Need-trailer-row-requires
-trailer-row-requires c κs = search needs
-
 returns : tie.Need-returns
 returns c = rows-trailer (c .before .before .before .args .f .now) (c .before .trailer-row .result) (c .if1 .taken) (c .before .trailer-row .ensures)
 
@@ -46,50 +43,30 @@ sub-lists-row c = omega (arith, bounds (c .before))
 part-lists-row-start : tie.Need-part-lists-row-start
 part-lists-row-start c = omega (arith, bounds (c .before))
 
-part-lists-row-end : tie.Need-part-lists-row-end
-part-lists-row-end c = search needs
-
 add-lists-row-2 : tie.Need-add-lists-row-2
 add-lists-row-2 c = omega (arith, bounds (c .before .before))
-
-sub-lists-row-2 : tie.Need-sub-lists-row-2
-sub-lists-row-2 c = search needs
-
-part-lists-row-start-2 : tie.Need-part-lists-row-start-2
-part-lists-row-start-2 c = search needs
 
 part-lists-row-end-2 : tie.Need-part-lists-row-end-2
 part-lists-row-end-2 c = omega (arith, bounds (c .before .before))
 
 lists-row-requires : tie.Need-lists-row-requires
 lists-row-requires c κs =
+    let start = c .before .before .before .before .before .before .before in
     let p = known (c .before .before .before .before) in
-    let f = c .before .before .before .before .before .before .before .args .f .now in
+    let f = start .args .f .now in
     rw (c .before .before .before .lay-out .ensures) (p .ranges .few-states, rw (counts-part f (p .fits)) (omega (arith, counts-length f (p .fits), p .ranges)))
 
 returns-2 : tie.Need-returns-2
 returns-2 c =
+    let start = c .before .before .before .before .before .before .before .before in
     let p = known (c .before .before .before .before .before) in
-    let f = c .before .before .before .before .before .before .before .before .args .f .now in
+    let f = start .args .f .now in
     let e : c .lists-row .result ≡ firstRow (listRows (trailer f 0) (countsOf f) (clausesOf f)) =
     rw (c .before .before .before .before .lay-out .ensures, counts-part f (p .fits), clauses-part f (p .fits)) at (c .lists-row .ensures) in
     e ∙ sym (rows-lists f (pass (c .before .before .before .before .before)))
 
 pub layout-row-spec : {M : Type 1} → statement M
 layout-row-spec =
-    tie.close
-    (tie.spec
-    trailer-row-requires
-    returns
-    lay-out-requires
-    sub-end
-    add-lists-row
-    sub-lists-row
-    part-lists-row-start
-    part-lists-row-end
-    add-lists-row-2
-    sub-lists-row-2
-    part-lists-row-start-2
-    part-lists-row-end-2
-    lists-row-requires
-    returns-2)
+    tie.close (tie.spec
+    (λ c κs. search needs) returns lay-out-requires sub-end add-lists-row sub-lists-row part-lists-row-start (λ c. search needs) add-lists-row-2
+    (λ c. search needs) (λ c. search needs) part-lists-row-end-2 lists-row-requires returns-2)

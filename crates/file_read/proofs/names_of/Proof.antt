@@ -6,9 +6,6 @@ use Rattle.file_read.proofs.Answer.{Served, served, names-none, names-t
 use Rattle.file_read.proofs.names_of.Statement.{statement}
 use Rattle.file_read.proofs.names_of.Tie as tie
 
-slice-aggregate-result : tie.Need-slice-aggregate-result
-slice-aggregate-result c = search needs
-
 returns : tie.Need-returns
 returns c = let a = c .before .before .args in names-none (a .f .now) (a .l) (c .before .before .pre) (c .before .if1 .taken)
 
@@ -29,12 +26,6 @@ sub-end c = omega (arith, room (c .before))
 sub-start : tie.Need-sub-start
 sub-start c = omega (arith, room (c .before))
 
-sub-result : tie.Need-sub-result
-sub-result c = search needs
-
-part-result-start : tie.Need-part-result-start
-part-result-start c = search needs
-
 part-result-end : tie.Need-part-result-end
 part-result-end c = omega (arith, room (c .before), known (c .before) .bounds)
 
@@ -42,14 +33,4 @@ returns-2 : tie.Need-returns-2
 returns-2 c = let a = c .before .before .before .args in names-there (a .f .now) (a .l) (c .before .before .before .pre) (some-names (c .before .before))
 
 pub names-of-spec : {M : Type 1} → statement M
-names-of-spec =
-    tie.close
-    (tie.spec
-    slice-aggregate-result
-    returns
-    sub-end
-    sub-start
-    sub-result
-    part-result-start
-    part-result-end
-    returns-2)
+names-of-spec = tie.close (tie.spec (λ c. search needs) returns sub-end sub-start (λ c. search needs) (λ c. search needs) part-result-end returns-2)

@@ -7,24 +7,12 @@ use Rattle.file_read.proofs.Answer.{served, preface-served, preface-ref
 use Rattle.file_read.proofs.preface.Statement.{statement}
 use Rattle.file_read.proofs.preface.Tie as tie
 
-read-rule-requires : tie.Need-read-rule-requires
-read-rule-requires c κs = search needs
-
-enum-known-l : tie.Need-enum-known-l
-enum-known-l c = search needs
-
 slice-aggregate-result : tie.Need-slice-aggregate-result
 slice-aggregate-result c =
     let f = c .before .before .before .before .before .before .args .f .now in
     let l = c .before .before .l .given .0 .0 in
     let s = served f l (sym (c .before .before .before .before .read-rule .ensures) ∙ c .before .before .l .given .1) in
     simp length-take (omega (arith, s .bounds))
-
-enum-told : tie.Need-enum-told
-enum-told c = search needs
-
-slice-aggregate-result-2 : tie.Need-slice-aggregate-result-2
-slice-aggregate-result-2 c = omega arith
 
 returns : tie.Need-returns
 returns c =
@@ -37,13 +25,4 @@ returns-2 c =
     (sym (c .before .before .before .read-rule .ensures) ∙ c .before .enum-told .given .1)
 
 pub preface-spec : {M : Type 1} → statement M
-preface-spec =
-    tie.close
-    (tie.spec
-    read-rule-requires
-    enum-known-l
-    slice-aggregate-result
-    enum-told
-    slice-aggregate-result-2
-    returns
-    returns-2)
+preface-spec = tie.close (tie.spec (λ c κs. search needs) (λ c. search needs) slice-aggregate-result (λ c. search needs) (λ c. omega arith) returns returns-2)

@@ -12,9 +12,6 @@ use Rattle.file_read.proofs.Answer.{refused, accepted, names-kept}
 use Rattle.file_read.proofs.read_rule.Statement.{statement}
 use Rattle.file_read.proofs.read_rule.Tie as tie
 
-file-row-requires : tie.Need-file-row-requires
-file-row-requires c κs = search needs
-
 returns : tie.Need-returns
 returns c = refused (c .before .before .before .args .f .now) (c .before .file-row .result) (c .if1 .taken) (c .before .file-row .ensures)
 
@@ -43,16 +40,9 @@ names-in-requires c κs =
 
 returns-2 : tie.Need-returns-2
 returns-2 c =
-    let f = c .before .before .before .before .before .before .before .args .f .now in
+    let start = c .before .before .before .before .before .before .before in
+    let f = start .args .f .now in
     rw (c .names-in .ensures, c .before .before .before .lay-out .ensures) (accepted f (pass (c .before .before .before .before)))
 
 pub read-rule-spec : {M : Type 1} → statement M
-read-rule-spec =
-    tie.close
-    (tie.spec
-    file-row-requires
-    returns
-    lay-out-requires
-    slice-aggregate-names-in
-    names-in-requires
-    returns-2)
+read-rule-spec = tie.close (tie.spec (λ c κs. search needs) returns lay-out-requires slice-aggregate-names-in names-in-requires returns-2)

@@ -5,15 +5,6 @@ use Rattle.file_spec.proofs.Parts.{clauses-part}
 use Rattle.file_tidy.proofs.clauses_in.Statement.{statement}
 use Rattle.file_tidy.proofs.clauses_in.Tie as tie
 
-read-head-requires : tie.Need-read-head-requires
-read-head-requires c κs = search needs
-
-read-count-requires : tie.Need-read-count-requires
-read-count-requires c κs = search needs
-
-sub-at : tie.Need-sub-at
-sub-at c = omega arith
-
 mul-at : tie.Need-mul-at
 mul-at c = rw (c .before .read-head .ensures) (omega arith)
 
@@ -22,15 +13,6 @@ add-at c = rw (c .before .read-head .ensures) (omega arith)
 
 sub-at-2 : tie.Need-sub-at-2
 sub-at-2 c = rw (c .before .read-head .ensures) (omega arith)
-
-add-end : tie.Need-add-end
-add-end c = search needs
-
-sub-result : tie.Need-sub-result
-sub-result c = search needs
-
-part-result-start : tie.Need-part-result-start
-part-result-start c = search needs
 
 part-result-end : tie.Need-part-result-end
 part-result-end c = rw (c .before .read-head .ensures) (omega arith)
@@ -42,16 +24,6 @@ returns c =
 
 pub clauses-in-spec : {M : Type 1} → statement M
 clauses-in-spec =
-    tie.close
-    (tie.spec
-    read-head-requires
-    read-count-requires
-    sub-at
-    mul-at
-    add-at
-    sub-at-2
-    add-end
-    sub-result
-    part-result-start
-    part-result-end
-    returns)
+    tie.close (tie.spec
+    (λ c κs. search needs) (λ c κs. search needs) (λ c. omega arith) mul-at add-at sub-at-2 (λ c. search needs) (λ c. search needs) (λ c. search needs)
+    part-result-end returns)

@@ -6,9 +6,6 @@ use lib.ListN.{length, length-take}
 use Rattle.file_tidy.proofs.part_before.Statement.{statement}
 use Rattle.file_tidy.proofs.part_before.Tie as tie
 
-lay-out-requires : tie.Need-lay-out-requires
-lay-out-requires c κs = search needs
-
 slice-aggregate-result : tie.Need-slice-aggregate-result
 slice-aggregate-result c =
     let l : c .before .lay-out .result .at ≤ length (c .before .before .before .args .f .now) = rw (c .before .lay-out .ensures) (omega arith) in
@@ -18,4 +15,4 @@ returns : tie.Need-returns
 returns c = rw (c .before .lay-out .ensures)
 
 pub part-before-spec : {M : Type 1} → statement M
-part-before-spec = tie.close (tie.spec lay-out-requires slice-aggregate-result returns)
+part-before-spec = tie.close (tie.spec (λ c κs. search needs) slice-aggregate-result returns)

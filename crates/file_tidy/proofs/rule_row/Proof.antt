@@ -12,9 +12,6 @@ use Rattle.file_tidy.proofs.Parts.{laid-out}
 use Rattle.file_tidy.proofs.rule_row.Statement.{statement}
 use Rattle.file_tidy.proofs.rule_row.Tie as tie
 
-layout-row-requires : tie.Need-layout-row-requires
-layout-row-requires c κs = search needs
-
 returns : tie.Need-returns
 returns c = by-layout (c .before .before .before .args .f .now) (c .before .layout-row .result) (c .if1 .taken) (c .before .layout-row .ensures)
 
@@ -39,13 +36,17 @@ components-row-requires c κs =
     rw (c .before .before .read-head .ensures, c .before .counts-in .ensures, c .clauses-in .ensures)
     (laid-formed (c .before .before .before .before .before .before .args .f .now) (pass (c .before .before .before)))
 
+abbrev start-of-after-components-row : tie.After-components-row → tie.Start
+start-of-after-components-row c = c .before .before .before .before .before .before .before
+
 -- the row of the components
-middle : (c : tie.After-components-row) → c .components-row .result ≡ firstRow (componentRows (ruleIn (c .before .before .before .before .before .before .before .args .f .now)))
+middle : (c : tie.After-components-row) → c .components-row .result ≡ firstRow (componentRows (ruleIn (start-of-after-components-row c .args .f .now)))
 middle c = rw (c .before .before .before .read-head .ensures, c .before .before .counts-in .ensures, c .before .clauses-in .ensures) at (c .components-row .ensures)
 
 returns-2 : tie.Need-returns-2
 returns-2 c =
-    by-components (c .before .before .before .before .before .before .before .before .args .f .now) (pass (c .before .before .before .before .before)) (c .before .components-row .result) (c .if2 .taken) (middle (c .before))
+    let start = c .before .before .before .before .before .before .before .before in
+    by-components (start .args .f .now) (pass (c .before .before .before .before .before)) (c .before .components-row .result) (c .if2 .taken) (middle (c .before))
 
 part-before-requires : tie.Need-part-before-requires
 part-before-requires c κs = let p = known (c .before .before .before .before .before) in (p .long, p .fits)
@@ -55,22 +56,15 @@ preface-row-requires c κs = rw (c .before .before .before .before .before .read
 
 returns-3 : tie.Need-returns-3
 returns-3 c =
-    let f = c .before .before .before .before .before .before .before .before .before .before .args .f .now in
+    let earlier = c .before .before .before .before .before .before .before in
+    let start = earlier .before .before .before in
+    let f = start .args .f .now in
     let e : c .preface-row .result ≡ firstRow (prefaceRows (trailer f 1) (partBefore f)) =
     rw (c .before .before .before .before .before .before .read-head .ensures, c .before .part-before .ensures) at (c .preface-row .ensures) in
-    e ∙ sym (past-components f (pass (c .before .before .before .before .before .before .before)) (sym (middle (c .before .before .before)) ∙ c .before .before .if2 .left))
+    e ∙ sym (past-components f (pass (earlier)) (sym (middle (c .before .before .before)) ∙ c .before .before .if2 .left))
 
 pub rule-row-spec : {M : Type 1} → statement M
 rule-row-spec =
-    tie.close
-    (tie.spec
-    layout-row-requires
-    returns
-    read-head-requires
-    counts-in-requires
-    clauses-in-requires
-    components-row-requires
-    returns-2
-    part-before-requires
-    preface-row-requires
-    returns-3)
+    tie.close (tie.spec
+    (λ c κs. search needs) returns read-head-requires counts-in-requires clauses-in-requires components-row-requires returns-2 part-before-requires
+    preface-row-requires returns-3)

@@ -11,9 +11,6 @@ use Rattle.file_tidy.proofs.Parts.{laid-out}
 use Rattle.file_tidy.proofs.tidy.Statement.{statement}
 use Rattle.file_tidy.proofs.tidy.Tie as tie
 
-rule-row-requires : tie.Need-rule-row-requires
-rule-row-requires c κs = search needs
-
 returns : tie.Need-returns
 returns c =
     let a = c .before .before .before .before .args in
@@ -41,32 +38,30 @@ names-of-requires c κs = pass (c .before .before .before)
 
 write-tidied-requires : tie.Need-write-tidied-requires
 write-tidied-requires c κs =
-    let f = c .before .before .before .before .before .before .before .before .before .args .file .now in
+    let start = c .before .before .before .before .before .before .before .before .before in
+    let f = start .args .file .now in
     let e = pass (c .before .before .before .before .before) in
     let w = tidy-served f e .formed in
     rw (c .before .before .before .before .read-head .ensures, c .before .before .before .counts-in .ensures, c .before .before .clauses-in .ensures, c .before .names-of .ensures)
     (w, names-few (trailer f 1) (partBefore f) (tidy-preface f e) (w .few-letters))
 
-same-length : tie.Need-same-length
-same-length c = search needs
-
 returns-2 : tie.Need-returns-2
 returns-2 c =
-    let a = c .before .before .before .before .before .before .before .before .before .before .before .before .args in
-    let w = rw (c .before .before .before .before .before .before .before .read-head .ensures, c .before .before .before .before .before .before .counts-in .ensures, c .before .before .before .before .before .clauses-in .ensures, c .before .before .before .before .names-of .ensures) at (c .before .before .write-tidied .ensures) in
-    let s = served-by (a .file .now) (a .out .now) (pass (c .before .before .before .before .before .before .before .before)) in
+    let at-read-head = c .before .before .before .before .before .before .before in
+    let earlier = at-read-head .before in
+    let start = earlier .before .before .before .before in
+    let a = start .args in
+    let w = rw (
+      at-read-head .read-head .ensures,
+      c .before .before .before .before .before .before .counts-in .ensures,
+      c .before .before .before .before .before .clauses-in .ensures,
+      c .before .before .before .before .names-of .ensures,
+    ) at (c .before .before .write-tidied .ensures) in
+    let s = served-by (a .file .now) (a .out .now) (pass (earlier)) in
     tidy-called (a .file .now) (a .out .now) _ _ (w .0 ∙ s .0) (w .1 ∙ s .1)
 
 pub tidy-spec : {M : Type 1} → statement M
 tidy-spec =
-    tie.close
-    (tie.spec
-    rule-row-requires
-    returns
-    read-head-requires
-    counts-in-requires
-    clauses-in-requires
-    names-of-requires
-    write-tidied-requires
-    same-length
+    tie.close (tie.spec
+    (λ c κs. search needs) returns read-head-requires counts-in-requires clauses-in-requires names-of-requires write-tidied-requires (λ c. search needs)
     returns-2)

@@ -6,12 +6,6 @@ use Rattle.hoa_laws.proofs.Lengths.{word-short, label-length, edge-length}
 use Rattle.hoa_length.proofs.edge_length.Statement.{statement}
 use Rattle.hoa_length.proofs.edge_length.Tie as tie
 
-label-length-requires : tie.Need-label-length-requires
-label-length-requires c κs = search needs
-
-word-length-requires : tie.Need-word-length-requires
-word-length-requires c κs = search needs
-
 -- neither is long
 short : (c : tie.After-word-length) → c .before .label-length .result + c .word-length .result ≤ 17
 short c =
@@ -31,5 +25,4 @@ returns c =
     omega (arith, c .before .label-length .ensures, c .word-length .ensures, edge-length (a .b) (a .letter) (a .target))
 
 pub edge-length-spec : {M : Type 1} → statement M
-edge-length-spec =
-    tie.close (tie.spec label-length-requires word-length-requires add-result add-result-2 returns)
+edge-length-spec = tie.close (tie.spec (λ c κs. search needs) (λ c κs. search needs) add-result add-result-2 returns)

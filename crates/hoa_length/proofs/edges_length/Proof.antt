@@ -28,31 +28,23 @@ loop-holds c = let a = c .before .args in (omega arith, sum-none (edgeOf (a .b))
 number-at-requires : tie.Need-number-at-requires Inv-loop μ-loop
 number-at-requires c κs = omega (arith, words-in-length (c .before .before .before .args .moves .now))
 
-letter-of-requires : tie.Need-letter-of-requires Inv-loop μ-loop
-letter-of-requires c κs = search needs
-
-target-of-requires : tie.Need-target-of-requires Inv-loop μ-loop
-target-of-requires c κs = search needs
-
 -- its line is short
 short : (c : tie.After-target-of Inv-loop μ-loop) → length (edgeLine (c .before .before .before .before .before .before .args .b) (c .before .letter-of .result) (c .target-of .result)) ≤ 20
-short c = edge-short (c .before .before .before .before .before .before .args .b) (c .before .letter-of .result) (c .target-of .result) (c .before .before .before .before .before .before .pre .0) (omega (arith, c .target-of .ensures))
+short c = edge-short (c .before .before .before .before .before .before .args .b) (c .before .letter-of .result) (c .target-of .result) (c .before .before .before .before .before .before .pre .0)
+    (omega (arith, c .target-of .ensures))
 
 edge-length-requires : tie.Need-edge-length-requires Inv-loop μ-loop
 edge-length-requires c κs = (c .before .before .before .before .before .before .pre .0, omega (arith, c .target-of .ensures))
 
 add-total : tie.Need-add-total Inv-loop μ-loop
-add-total c = omega (arith, c .edge-length .ensures, short (c .before), c .before .before .before .before .before .before .before .pre .1, words-in-length (c .before .before .before .before .before .before .before .args .moves .now))
-
-add-i : tie.Need-add-i Inv-loop μ-loop
-add-i c = omega arith
-
-loop-less : tie.Need-loop-less Inv-loop μ-loop
-loop-less c = omega arith
+add-total c =
+    let start = c .before .before .before .before .before .before .before in
+    omega (arith, c .edge-length .ensures, short (c .before), start .pre .1, words-in-length (start .args .moves .now))
 
 loop-again : tie.Need-loop-again Inv-loop μ-loop
 loop-again c =
-    let a = c .before .before .before .before .before .before .before .args in
+    let start = c .before .before .before .before .before .before .before in
+    let a = start .args in
     let l = c .before .before .before .before .before .loop in
     let among : l .i < length (wordsIn (a .moves .now)) = omega (arith, words-in-length (a .moves .now)) in
     let t = c .before .before .before .number-at .ensures in
@@ -69,17 +61,6 @@ returns c =
 
 pub edges-length-spec : {M : Type 1} → statement M
 edges-length-spec =
-    tie.close
-    (tie.spec
-    Inv-loop
-    μ-loop
-    loop-holds
-    number-at-requires
-    letter-of-requires
-    target-of-requires
-    edge-length-requires
-    add-total
-    add-i
-    loop-less
-    loop-again
-    returns)
+    tie.close (tie.spec
+    Inv-loop μ-loop loop-holds number-at-requires (λ c κs. search needs) (λ c κs. search needs) edge-length-requires add-total (λ c. omega arith)
+    (λ c. omega arith) loop-again returns)

@@ -39,12 +39,6 @@ add-total c =
     let l = c .before .loop in
     omega (arith, l .inv .2, label-length (l .i) (a .letter) (omega (arith, c .loop-test .taken, c .before .before .before .pre)))
 
-add-i : tie.Need-add-i Inv-loop μ-loop
-add-i c = omega arith
-
-loop-less : tie.Need-loop-less Inv-loop μ-loop
-loop-less c = omega arith
-
 loop-again : tie.Need-loop-again Inv-loop μ-loop
 loop-again c =
     let l = c .before .loop in
@@ -59,17 +53,5 @@ returns-2 c =
 
 pub label-length-spec : {M : Type 1} → statement M
 label-length-spec =
-    tie.close
-    (tie.spec
-    Inv-loop
-    μ-loop
-    returns
-    sub-total
-    loop-holds
-    shr-total
-    sub-total-2
-    add-total
-    add-i
-    loop-less
-    loop-again
-    returns-2)
+    tie.close (tie.spec
+    Inv-loop μ-loop returns sub-total loop-holds shr-total sub-total-2 add-total (λ c. omega arith) (λ c. omega arith) loop-again returns-2)

@@ -41,9 +41,6 @@ number-at-requires c κs = omega (arith, words-in-length (c .before .before .bef
 is-initial-requires : tie.Need-is-initial-requires Inv-loop μ-loop
 is-initial-requires c κs = c .before .before .before .before .pre .0
 
-is-accepting-requires : tie.Need-is-accepting-requires Inv-loop μ-loop
-is-accepting-requires c κs = search needs
-
 -- a number is small
 small : (c : tie.In-loop Inv-loop μ-loop) → c .before .loop .i ≤ 65536
 small c = omega (arith, c .loop-test .taken, c .before .before .before .pre .1, words-in-length (c .before .before .before .args .codes .now))
@@ -52,37 +49,47 @@ start-length-requires : tie.Need-start-length-requires Inv-loop μ-loop
 start-length-requires c κs = small (c .before .before .before)
 
 add-starts : tie.Need-add-starts Inv-loop μ-loop
-add-starts c = omega (arith, c .start-length .ensures, start-room (c .before .before .is-initial .result) (c .before .before .before .before .before .loop .i) (small (c .before .before .before .before)), small (c .before .before .before .before))
+add-starts c = omega (
+  arith,
+  c .start-length .ensures,
+  start-room (c .before .before .is-initial .result) (c .before .before .before .before .before .loop .i)
+      (small (c .before .before .before .before)),
+  small (c .before .before .before .before),
+)
 
 state-length-requires : tie.Need-state-length-requires Inv-loop μ-loop
 state-length-requires c κs = small (c .before .before .before .before)
 
 add-states : tie.Need-add-states Inv-loop μ-loop
-add-states c = omega (arith, c .state-length .ensures, state-short (c .before .before .before .before .before .before .loop .i) (c .before .before .is-accepting .result) (small (c .before .before .before .before .before)), small (c .before .before .before .before .before))
-
-add-i : tie.Need-add-i Inv-loop μ-loop
-add-i c = omega arith
-
-loop-less : tie.Need-loop-less Inv-loop μ-loop
-loop-less c = omega arith
+add-states c = omega (
+  arith,
+  c .state-length .ensures,
+  state-short (c .before .before .before .before .before .before .loop .i) (c .before .before .is-accepting .result)
+      (small (c .before .before .before .before .before)),
+  small (c .before .before .before .before .before),
+)
 
 loop-again : tie.Need-loop-again Inv-loop μ-loop
 loop-again c =
-    let a = c .before .before .before .before .before .before .before .before .args in
-    let l = c .before .before .before .before .before .before .loop in
+    let at-is-initial = c .before .before .before in
+    let at-loop-test = at-is-initial .before .before in
+    let start-2 = at-loop-test .before .before .before in
+    let a = start-2 .args in
+    let l = at-loop-test .before .loop in
     let initial = initialAt (a .initial) in
     let flags = flagsOf initial (wordsIn (a .codes .now)) in
-    let low = c .before .before .before .before .before .loop-test .taken in
+    let low = at-loop-test .loop-test .taken in
     let among : l .i < length flags = omega (arith, flags-count initial (a .codes .now)) in
-    let start = start-is initial (a .codes .now) (l .i) low (c .before .before .before .is-initial .result) (c .before .before .before .is-initial .ensures ∙ ap initial (c .before .before .before .before .number-at .ensures)) in
-    let state = state-is initial (a .codes .now) (l .i) low (c .before .before .is-accepting .result) (c .before .before .is-accepting .ensures ∙ ap isAccepting (c .before .before .before .before .number-at .ensures)) in
-    let starts = sum-next startOf flags (l .i) (l .starts) (cond (c .before .before .before .is-initial .result) (startLine (l .i)) []) among (l .inv .1) start in
+    let start = start-is initial (a .codes .now) (l .i) low (at-is-initial .is-initial .result) (at-is-initial .is-initial .ensures ∙ ap initial (at-is-initial .before .number-at .ensures)) in
+    let state = state-is initial (a .codes .now) (l .i) low (c .before .before .is-accepting .result)
+    (c .before .before .is-accepting .ensures ∙ ap isAccepting (at-is-initial .before .number-at .ensures)) in
+    let starts = sum-next startOf flags (l .i) (l .starts) (cond (at-is-initial .is-initial .result) (startLine (l .i)) []) among (l .inv .1) start in
     let states = sum-next stateOf flags (l .i) (l .states) (stateLine (l .i) (c .before .before .is-accepting .result)) among (l .inv .2) state in (
       omega arith,
       omega (arith, starts, c .before .start-length .ensures),
       omega (arith, states, c .state-length .ensures),
-      omega (arith, l .inv .3, c .before .start-length .ensures, start-room (c .before .before .before .is-initial .result) (l .i) (small (c .before .before .before .before .before))),
-      omega (arith, l .inv .4, c .state-length .ensures, state-short (l .i) (c .before .before .is-accepting .result) (small (c .before .before .before .before .before))),
+      omega (arith, l .inv .3, c .before .start-length .ensures, start-room (at-is-initial .is-initial .result) (l .i) (small (at-loop-test))),
+      omega (arith, l .inv .4, c .state-length .ensures, state-short (l .i) (c .before .before .is-accepting .result) (small (at-loop-test))),
     )
 
 add-result : tie.Need-add-result Inv-loop μ-loop
@@ -99,20 +106,6 @@ returns c =
 
 pub macrostates-length-spec : {M : Type 1} → statement M
 macrostates-length-spec =
-    tie.close
-    (tie.spec
-    Inv-loop
-    μ-loop
-    loop-holds
-    number-at-requires
-    is-initial-requires
-    is-accepting-requires
-    start-length-requires
-    add-starts
-    state-length-requires
-    add-states
-    add-i
-    loop-less
-    loop-again
-    add-result
-    returns)
+    tie.close (tie.spec
+    Inv-loop μ-loop loop-holds number-at-requires is-initial-requires (λ c κs. search needs) start-length-requires add-starts state-length-requires add-states
+    (λ c. omega arith) (λ c. omega arith) loop-again add-result returns)

@@ -7,9 +7,6 @@ use Rattle.hoa_text.proofs.Parts.{start-room}
 use Rattle.hoa_length.proofs.start_length.Statement.{statement}
 use Rattle.hoa_length.proofs.start_length.Tie as tie
 
-slice-aggregate-put-start : tie.Need-slice-aggregate-put-start
-slice-aggregate-put-start c = search needs
-
 put-start-requires : tie.Need-put-start-requires
 put-start-requires c κs = let a = c .before .args in omega (arith, start-room (a .initial) (a .number) (c .before .pre))
 
@@ -17,4 +14,4 @@ returns : tie.Need-returns
 returns c = c .before .put-start .ensures .ends ∙ zero-add _
 
 pub start-length-spec : {M : Type 1} → statement M
-start-length-spec = tie.close (tie.spec slice-aggregate-put-start put-start-requires returns)
+start-length-spec = tie.close (tie.spec (λ c. search needs) put-start-requires returns)

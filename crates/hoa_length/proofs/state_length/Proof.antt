@@ -7,9 +7,6 @@ use Rattle.hoa_laws.proofs.Lengths.{state-short}
 use Rattle.hoa_length.proofs.state_length.Statement.{statement}
 use Rattle.hoa_length.proofs.state_length.Tie as tie
 
-slice-aggregate-put-state : tie.Need-slice-aggregate-put-state
-slice-aggregate-put-state c = search needs
-
 put-state-requires : tie.Need-put-state-requires
 put-state-requires c κs = let a = c .before .args in omega (arith, state-short (a .number) (a .accepting) (c .before .pre))
 
@@ -17,4 +14,4 @@ returns : tie.Need-returns
 returns c = c .before .put-state .ensures .ends ∙ zero-add _
 
 pub state-length-spec : {M : Type 1} → statement M
-state-length-spec = tie.close (tie.spec slice-aggregate-put-state put-state-requires returns)
+state-length-spec = tie.close (tie.spec (λ c. search needs) put-state-requires returns)

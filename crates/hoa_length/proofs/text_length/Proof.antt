@@ -17,9 +17,6 @@ use Rattle.hoa_text.proofs.Parts.{states-is}
 use Rattle.hoa_length.proofs.text_length.Statement.{statement}
 use Rattle.hoa_length.proofs.text_length.Tie as tie
 
-slice-aggregate-put-states : tie.Need-slice-aggregate-put-states
-slice-aggregate-put-states c = search needs
-
 -- there are few macrostates
 few : (codes : List ℕ) → length (wordsIn codes) ≤ 65536 → length codes / 8 ≤ 65536
 few codes h = omega (arith, words-in-length codes)
@@ -29,27 +26,37 @@ put-states-requires c κs =
     let n = length (c .before .before .before .args .codes .now) / 8 in
     omega (arith, states-length n, word-short n (few (c .before .before .before .args .codes .now) (c .before .before .before .pre .2)))
 
-slice-aggregate-put-ap : tie.Need-slice-aggregate-put-ap
-slice-aggregate-put-ap c = search needs
-
 put-ap-requires : tie.Need-put-ap-requires
-put-ap-requires c κs = (c .before .before .before .before .before .before .pre .0, omega (arith, ap-length (c .before .before .before .before .before .before .args .b) (c .before .before .before .before .before .before .pre .0)))
+put-ap-requires c κs = (
+  c .before .before .before .before .before .before .pre .0,
+  omega (arith, ap-length (c .before .before .before .before .before .before .args .b) (c .before .before .before .before .before .before .pre .0)),
+)
 
 macrostates-length-requires : tie.Need-macrostates-length-requires
-macrostates-length-requires c κs = (c .before .before .before .before .before .before .before .before .pre .1, c .before .before .before .before .before .before .before .before .pre .2)
+macrostates-length-requires c κs =
+    let start = c .before .before .before .before .before .before .before .before in
+    (start .pre .1, start .pre .2)
 
 edges-length-requires : tie.Need-edges-length-requires
-edges-length-requires c κs = (c .before .before .before .before .before .before .before .before .before .pre .0, c .before .before .before .before .before .before .before .before .before .pre .3)
+edges-length-requires c κs =
+    let start = c .before .before .before .before .before .before .before .before .before in
+    (start .pre .0, start .pre .3)
+
+abbrev start-of-after-edges-length : tie.After-edges-length → tie.Start
+start-of-after-edges-length c = c .before .before .before .before .before .before .before .before .before .before
 
 -- every transition comes from a macrostate
-from : (c : tie.After-edges-length) → let a = c .before .before .before .before .before .before .before .before .before .before .args in (t : ℕ) → List·Memᴰ t (wordsIn (a .moves .now)) → sourceOf t < length (flagsOf (initialAt (a .initial)) (wordsIn (a .codes .now)))
-from c t m = let a = c .before .before .before .before .before .before .before .before .before .before .args in omega (arith, c .before .before .before .before .before .before .before .before .before .before .pre .4 t m, flags-length (initialAt (a .initial)) (wordsIn (a .codes .now)))
+from : (c : tie.After-edges-length) → let a = start-of-after-edges-length c .args in (t : ℕ) → List·Memᴰ t (wordsIn (a .moves .now)) →
+    sourceOf t < length (flagsOf (initialAt (a .initial)) (wordsIn (a .codes .now)))
+from c t m = let a = start-of-after-edges-length c .args in omega (arith, start-of-after-edges-length c .pre .4 t m, flags-length (initialAt (a .initial)) (wordsIn (a .codes .now)))
 
 -- no part is long
-bounds : (c : tie.After-edges-length) → (c .before .before .before .before .before .before .put-states .result ≤ 14) × (c .before .before .before .put-ap .result ≤ 26) × (c .before .macrostates-length .result ≤ 30 * 65536) × (c .edges-length .result ≤ 20 * 1099511627776)
+bounds : (c : tie.After-edges-length) → (c .before .before .before .before .before .before .put-states .result ≤ 14) × (c .before .before .before .put-ap .result ≤ 26)
+    × (c .before .macrostates-length .result ≤ 30 * 65536) × (c .edges-length .result ≤ 20 * 1099511627776)
 bounds c =
-    let a = c .before .before .before .before .before .before .before .before .before .before .args in
-    let p = c .before .before .before .before .before .before .before .before .before .before .pre in
+    let start = c .before .before .before .before .before .before .before .before .before .before in
+    let a = start .args in
+    let p = start .pre in
     let n = length (a .codes .now) / 8 in
     let flags = flagsOf (initialAt (a .initial)) (wordsIn (a .codes .now)) in
     let ts = wordsIn (a .moves .now) in
@@ -74,7 +81,8 @@ add-result-4 c = omega (arith, bounds c .0, bounds c .1, bounds c .2, bounds c .
 
 returns : tie.Need-returns
 returns c =
-    let a = c .before .before .before .before .before .before .before .before .before .before .args in
+    let start = c .before .before .before .before .before .before .before .before .before .before in
+    let a = start .args in
     let initial = initialAt (a .initial) in
     let flags = flagsOf initial (wordsIn (a .codes .now)) in
     omega (
@@ -89,16 +97,6 @@ returns c =
 
 pub text-length-spec : {M : Type 1} → statement M
 text-length-spec =
-    tie.close
-    (tie.spec
-    slice-aggregate-put-states
-    put-states-requires
-    slice-aggregate-put-ap
-    put-ap-requires
-    macrostates-length-requires
-    edges-length-requires
-    add-result
-    add-result-2
-    add-result-3
-    add-result-4
-    returns)
+    tie.close (tie.spec
+    (λ c. search needs) put-states-requires (λ c. search needs) put-ap-requires macrostates-length-requires edges-length-requires add-result add-result-2
+    add-result-3 add-result-4 returns)

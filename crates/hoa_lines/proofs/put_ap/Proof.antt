@@ -9,92 +9,50 @@ use Rattle.hoa_laws.proofs.Lengths.{ap-length}
 use Rattle.hoa_lines.proofs.put_ap.Statement.{statement}
 use Rattle.hoa_lines.proofs.put_ap.Tie as tie
 
-slice-aggregate-put : tie.Need-slice-aggregate-put
-slice-aggregate-put c = search needs
-
 put-requires : tie.Need-put-requires
 put-requires c κs = omega (arith, ap-length (c .before .before .before .before .args .b) (c .before .before .before .before .pre .0))
-
-same-length : tie.Need-same-length
-same-length c = search needs
 
 returns : tie.Need-returns
 unfolding apLine names word decimal digitsIn
 returns c = put-as (ap apLine (c .before .before .before .before .before .if1 .taken)) (c .before .before .put .ensures)
 
-slice-aggregate-put-2 : tie.Need-slice-aggregate-put-2
-slice-aggregate-put-2 c = search needs
-
 put-requires-2 : tie.Need-put-requires-2
 put-requires-2 c κs = omega (arith, ap-length (c .before .before .before .before .before .args .b) (c .before .before .before .before .before .pre .0))
-
-same-length-2 : tie.Need-same-length-2
-same-length-2 c = search needs
 
 returns-2 : tie.Need-returns-2
 unfolding apLine names word decimal digitsIn
 returns-2 c = put-as (ap apLine (c .before .before .before .before .before .if2 .taken)) (c .before .before .put2 .ensures)
 
-slice-aggregate-put-3 : tie.Need-slice-aggregate-put-3
-slice-aggregate-put-3 c = search needs
-
 put-requires-3 : tie.Need-put-requires-3
 put-requires-3 c κs = omega (arith, ap-length (c .before .before .before .before .before .before .args .b) (c .before .before .before .before .before .before .pre .0))
-
-same-length-3 : tie.Need-same-length-3
-same-length-3 c = search needs
 
 returns-3 : tie.Need-returns-3
 unfolding apLine names word decimal digitsIn
 returns-3 c = put-as (ap apLine (c .before .before .before .before .before .if3 .taken)) (c .before .before .put3 .ensures)
 
-slice-aggregate-put-4 : tie.Need-slice-aggregate-put-4
-slice-aggregate-put-4 c = search needs
-
 put-requires-4 : tie.Need-put-requires-4
-put-requires-4 c κs = omega (arith, ap-length (c .before .before .before .before .before .before .before .args .b) (c .before .before .before .before .before .before .before .pre .0))
-
-same-length-4 : tie.Need-same-length-4
-same-length-4 c = search needs
+put-requires-4 c κs =
+    let start = c .before .before .before .before .before .before .before in
+    omega (arith, ap-length (start .args .b) (start .pre .0))
 
 returns-4 : tie.Need-returns-4
 unfolding apLine names word decimal digitsIn
 returns-4 c = put-as (ap apLine (c .before .before .before .before .before .if4 .taken)) (c .before .before .put4 .ensures)
 
-slice-aggregate-put-5 : tie.Need-slice-aggregate-put-5
-slice-aggregate-put-5 c = search needs
-
 put-requires-5 : tie.Need-put-requires-5
-put-requires-5 c κs = omega (arith, ap-length (c .before .before .before .before .before .before .before .args .b) (c .before .before .before .before .before .before .before .pre .0))
-
-same-length-5 : tie.Need-same-length-5
-same-length-5 c = search needs
+put-requires-5 c κs =
+    let start = c .before .before .before .before .before .before .before in
+    omega (arith, ap-length (start .args .b) (start .pre .0))
 
 returns-5 : tie.Need-returns-5
 unfolding apLine names word decimal digitsIn
-returns-5 c = let e : c .before .before .before .before .before .before .before .before .before .before .args .b ≡ 4 = omega arith in put-as (ap apLine e) (c .before .before .put5 .ensures)
+returns-5 c =
+    let start = c .before .before .before .before .before .before .before .before .before .before in
+    let e : start .args .b ≡ 4 = omega arith in put-as (ap apLine e) (c .before .before .put5 .ensures)
 
 pub put-ap-spec : {M : Type 1} → statement M
 put-ap-spec =
-    tie.close
-    (tie.spec
-    slice-aggregate-put
-    put-requires
-    same-length
-    returns
-    slice-aggregate-put-2
-    put-requires-2
-    same-length-2
-    returns-2
-    slice-aggregate-put-3
-    put-requires-3
-    same-length-3
-    returns-3
-    slice-aggregate-put-4
-    put-requires-4
-    same-length-4
-    returns-4
-    slice-aggregate-put-5
-    put-requires-5
-    same-length-5
-    returns-5)
+    tie.close (tie.spec
+    (λ c. search needs) put-requires (λ c. search needs) returns (λ c. search needs) put-requires-2 (λ c. search needs) returns-2 (λ c. search needs)
+    put-requires-3 (λ c. search needs) returns-3 (λ c. search needs) put-requires-4 (λ c. search needs) returns-4 (λ c. search needs) put-requires-5
+    (λ c. search needs) returns-5)

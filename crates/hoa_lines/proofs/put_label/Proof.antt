@@ -23,11 +23,9 @@ abbrev μ-loop : tie.MeasureT-loop
 put-byte-requires : tie.Need-put-byte-requires Inv-loop μ-loop
 put-byte-requires c κs = let a = c .before .before .before .args in omega (arith, ap length (label-none (a .letter) (a .b) (c .before .if1 .taken)))
 
-same-length : tie.Need-same-length Inv-loop μ-loop
-same-length c = search needs
-
 returns : tie.Need-returns Inv-loop μ-loop
-returns c = let a = c .before .before .before .before .before .before .args in put-as (label-none (a .letter) (a .b) (c .before .before .before .before .if1 .taken)) (c .before .before .put-byte .ensures)
+returns c = let a = c .before .before .before .before .before .before .args in
+    put-as (label-none (a .letter) (a .b) (c .before .before .before .before .if1 .taken)) (c .before .before .put-byte .ensures)
 
 put-literal-requires : tie.Need-put-literal-requires Inv-loop μ-loop
 put-literal-requires c κs =
@@ -37,60 +35,53 @@ put-literal-requires c κs =
 loop-holds : tie.Need-loop-holds Inv-loop μ-loop
 loop-holds c = (omega arith, omega arith, λ d a P. P)
 
+abbrev start-of-at-loop : tie.At-loop Inv-loop μ-loop → tie.Start Inv-loop μ-loop
+start-of-at-loop c = c .before .before .before .before .before .before .before
+
 -- what is written
-so-far : (c : tie.At-loop Inv-loop μ-loop) → let a = c .before .before .before .before .before .before .before .args in Put (a .out .now) (a .at) (label (c .loop .i) (a .letter)) (c .loop .out) (c .loop .end)
-so-far c = let a = c .before .before .before .before .before .before .before .args in c .loop .inv .2 (a .out .now) (a .at) (put-as (label-one (a .letter)) (c .before .before .before .put-literal .ensures))
+so-far : (c : tie.At-loop Inv-loop μ-loop) → let a = start-of-at-loop c .args in Put (a .out .now) (a .at) (label (c .loop .i) (a .letter)) (c .loop .out) (c .loop .end)
+so-far c = let a = start-of-at-loop c .args in c .loop .inv .2 (a .out .now) (a .at) (put-as (label-one (a .letter)) (c .before .before .before .put-literal .ensures))
 
 put-byte-requires-2 : tie.Need-put-byte-requires-2 Inv-loop μ-loop
 put-byte-requires-2 c κs =
-    let a = c .before .before .before .before .before .before .before .before .before .args in
+    let start = c .before .before .before .before .before .before .before .before .before in
+    let a = start .args in
     let l = c .before .before .loop in
     let P = so-far (c .before .before) in
     omega (arith, P .ends, put-length P, next-length (a .letter) (l .i) (a .b) (l .inv .0) (omega arith))
 
 put-literal-requires-2 : tie.Need-put-literal-requires-2 Inv-loop μ-loop
 put-literal-requires-2 c κs =
-    let a = c .before .before .before .before .before .before .before .before .before .before .before .before .before .args in
+    let start = c .before .before .before .before .before .before .before .before .before .before .before .before .before in
+    let a = start .args in
     let l = c .before .before .before .before .before .before .loop in
     let P = so-far (c .before .before .before .before .before .before) in
     let Q = c .before .before .before .put-byte2 .ensures in
     (omega arith, omega (arith, P .ends, put-length P, Q .ends, put-length Q, next-length (a .letter) (l .i) (a .b) (l .inv .0) (omega arith)))
 
-add-i : tie.Need-add-i Inv-loop μ-loop
-add-i c = omega arith
-
-loop-less : tie.Need-loop-less Inv-loop μ-loop
-loop-less c = omega arith
-
 loop-again : tie.Need-loop-again Inv-loop μ-loop
 loop-again c =
-    let l = c .before .before .before .before .before .before .before .before .before .loop in
-    (omega arith, omega arith, λ d a P. put-next (c .before .before .before .before .before .before .before .before .before .before .before .before .before .before .before .before .args .letter) (l .i) (l .inv .0) (l .inv .2 d a P) (c .before .before .before .before .before .before .put-byte2 .ensures) (c .before .before .put-literal2 .ensures))
+    let at-loop = c .before .before .before .before .before .before .before .before .before in
+    let start = at-loop .before .before .before .before .before .before .before in
+    let l = at-loop .loop in (
+      omega arith,
+      omega arith,
+      λ d a P. put-next (start .args .letter) (l .i) (l .inv .0) (l .inv .2 d a P) (c .before .before .before .before .before .before .put-byte2 .ensures)
+          (c .before .before .put-literal2 .ensures),
+    )
 
 same-length-2 : tie.Need-same-length-2 Inv-loop μ-loop
 same-length-2 c = put-length (so-far (c .before))
 
 returns-2 : tie.Need-returns-2 Inv-loop μ-loop
 returns-2 c =
-    let a = c .before .before .before .before .before .before .before .before .args in
+    let start = c .before .before .before .before .before .before .before .before in
+    let a = start .args in
     let e : a .b ≡ c .before .loop .i = omega (arith, c .loop-test .left) in
     put-as (ap (λ (k : ℕ). label k (a .letter)) e) (so-far (c .before))
 
 pub put-label-spec : {M : Type 1} → statement M
 put-label-spec =
-    tie.close
-    (tie.spec
-    Inv-loop
-    μ-loop
-    put-byte-requires
-    same-length
-    returns
-    put-literal-requires
-    loop-holds
-    put-byte-requires-2
-    put-literal-requires-2
-    add-i
-    loop-less
-    loop-again
-    same-length-2
-    returns-2)
+    tie.close (tie.spec
+    Inv-loop μ-loop put-byte-requires (λ c. search needs) returns put-literal-requires loop-holds put-byte-requires-2 put-literal-requires-2 (λ c. omega arith)
+    (λ c. omega arith) loop-again same-length-2 returns-2)

@@ -22,9 +22,6 @@ returns c =
     let a = c .before .before .args in
     put-as (line-is (a .initial) false (a .number) (not-true (a .initial) (c .if1 .taken))) (put-none (a .out .now) (a .at) (omega arith))
 
-slice-aggregate-put : tie.Need-slice-aggregate-put
-slice-aggregate-put c = search needs
-
 put-requires : tie.Need-put-requires
 put-requires c κs =
     let a = c .before .before .before .before .args in
@@ -32,32 +29,26 @@ put-requires c κs =
 
 put-number-requires : tie.Need-put-number-requires
 put-number-requires c κs =
-    let a = c .before .before .before .before .before .before .before .before .args in
+    let start = c .before .before .before .before .before .before .before .before in
+    let a = start .args in
     omega (arith, start-length (a .number), ap length (line-is (a .initial) true (a .number) (not-false (a .initial) (c .before .before .before .before .before .before .if1 .left))))
 
 put-byte-requires : tie.Need-put-byte-requires
 put-byte-requires c κs =
-    let a = c .before .before .before .before .before .before .before .before .before .before .before .before .args in
-    omega (arith, start-length (a .number), ap length (line-is (a .initial) true (a .number) (not-false (a .initial) (c .before .before .before .before .before .before .before .before .before .before .if1 .left))))
-
-same-length : tie.Need-same-length
-same-length c = search needs
+    let at-if1 = c .before .before .before .before .before .before .before .before .before .before in
+    let start = at-if1 .before .before in
+    let a = start .args in
+    omega (arith, start-length (a .number), ap length (line-is (a .initial) true (a .number) (not-false (a .initial) (at-if1 .if1 .left))))
 
 returns-2 : tie.Need-returns-2
 unfolding startLine
 returns-2 c =
-    let a = c .before .before .before .before .before .before .before .before .before .before .before .before .before .before .before .args in
-    put-as (line-is (a .initial) true (a .number) (not-false (a .initial) (c .before .before .before .before .before .before .before .before .before .before .before .before .before .if1 .left)))
-    (put-then (c .before .before .before .before .before .before .before .before .before .before .put .ensures) (put-then (c .before .before .before .before .before .before .put-number .ensures) (c .before .before .put-byte .ensures)))
+    let at-put = c .before .before .before .before .before .before .before .before .before .before in
+    let at-if1 = at-put .before .before .before in
+    let start = at-if1 .before .before in
+    let a = start .args in
+    put-as (line-is (a .initial) true (a .number) (not-false (a .initial) (at-if1 .if1 .left)))
+    (put-then (at-put .put .ensures) (put-then (c .before .before .before .before .before .before .put-number .ensures) (c .before .before .put-byte .ensures)))
 
 pub put-start-spec : {M : Type 1} → statement M
-put-start-spec =
-    tie.close
-    (tie.spec
-    returns
-    slice-aggregate-put
-    put-requires
-    put-number-requires
-    put-byte-requires
-    same-length
-    returns-2)
+put-start-spec = tie.close (tie.spec returns (λ c. search needs) put-requires put-number-requires put-byte-requires (λ c. search needs) returns-2)

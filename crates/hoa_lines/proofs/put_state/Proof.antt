@@ -15,57 +15,48 @@ use Rattle.hoa_lines.proofs.put_state.Tie as tie
 line-is : (accepting value : Bool) (number : ℕ) → accepting ≡ value → stateLine number accepting ≡ stateLine number value
 line-is accepting value number e = ap (stateLine number) e
 
-slice-aggregate-put : tie.Need-slice-aggregate-put
-slice-aggregate-put c = search needs
-
 put-requires : tie.Need-put-requires
 put-requires c κs = let a = c .before .before .before .args in omega (arith, state-length (a .number) (a .accepting))
 
 put-number-requires : tie.Need-put-number-requires
-put-number-requires c κs = let a = c .before .before .before .before .before .before .before .args in omega (arith, state-length (a .number) (a .accepting))
-
-slice-aggregate-put-2 : tie.Need-slice-aggregate-put-2
-slice-aggregate-put-2 c = search needs
+put-number-requires c κs =
+    let start = c .before .before .before .before .before .before .before in
+    let a = start .args in omega (arith, state-length (a .number) (a .accepting))
 
 put-requires-2 : tie.Need-put-requires-2
 put-requires-2 c κs =
-    let a = c .before .before .before .before .before .before .before .before .before .before .before .before .before .args in
+    let start = c .before .before .before .before .before .before .before .before .before .before .before .before .before in
+    let a = start .args in
     omega (arith, state-length (a .number) true, ap length (line-is (a .accepting) true (a .number) (c .before .before .if1 .taken)))
-
-same-length : tie.Need-same-length
-same-length c = search needs
 
 returns : tie.Need-returns
 unfolding stateLine
 returns c =
-    let a = c .before .before .before .before .before .before .before .before .before .before .before .before .before .before .before .before .args in
-    put-as (line-is (a .accepting) true (a .number) (c .before .before .before .before .before .if1 .taken)) (put-then (c .before .before .before .before .before .before .before .before .before .before .before .before .put .ensures) (put-then (c .before .before .before .before .before .before .before .before .put-number .ensures) (c .before .before .put2 .ensures)))
+    let at-put-number = c .before .before .before .before .before .before .before .before in
+    let at-put = at-put-number .before .before .before .before in
+    let start = at-put .before .before .before .before in
+    let a = start .args in
+    put-as (line-is (a .accepting) true (a .number) (c .before .before .before .before .before .if1 .taken))
+    (put-then (at-put .put .ensures) (put-then (at-put-number .put-number .ensures) (c .before .before .put2 .ensures)))
 
 put-byte-requires : tie.Need-put-byte-requires
 put-byte-requires c κs =
-    let a = c .before .before .before .before .before .before .before .before .before .before .before .before .args in
+    let start = c .before .before .before .before .before .before .before .before .before .before .before .before in
+    let a = start .args in
     omega (arith, state-length (a .number) false, ap length (line-is (a .accepting) false (a .number) (c .before .if1 .left)))
-
-same-length-2 : tie.Need-same-length-2
-same-length-2 c = search needs
 
 returns-2 : tie.Need-returns-2
 unfolding stateLine
 returns-2 c =
-    let a = c .before .before .before .before .before .before .before .before .before .before .before .before .before .before .before .args in
-    put-as (line-is (a .accepting) false (a .number) (c .before .before .before .before .if1 .left)) (put-then (c .before .before .before .before .before .before .before .before .before .before .before .put .ensures) (put-then (c .before .before .before .before .before .before .before .put-number .ensures) (c .before .before .put-byte .ensures)))
+    let at-put-number = c .before .before .before .before .before .before .before in
+    let at-put = at-put-number .before .before .before .before in
+    let start = at-put .before .before .before .before in
+    let a = start .args in
+    put-as (line-is (a .accepting) false (a .number) (c .before .before .before .before .if1 .left))
+    (put-then (at-put .put .ensures) (put-then (at-put-number .put-number .ensures) (c .before .before .put-byte .ensures)))
 
 pub put-state-spec : {M : Type 1} → statement M
 put-state-spec =
-    tie.close
-    (tie.spec
-    slice-aggregate-put
-    put-requires
-    put-number-requires
-    slice-aggregate-put-2
-    put-requires-2
-    same-length
-    returns
-    put-byte-requires
-    same-length-2
+    tie.close (tie.spec
+    (λ c. search needs) put-requires put-number-requires (λ c. search needs) put-requires-2 (λ c. search needs) returns put-byte-requires (λ c. search needs)
     returns-2)

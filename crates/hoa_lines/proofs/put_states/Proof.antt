@@ -7,32 +7,24 @@ use Rattle.slice_text.proofs.Puts.{put-then}
 use Rattle.hoa_lines.proofs.put_states.Statement.{statement}
 use Rattle.hoa_lines.proofs.put_states.Tie as tie
 
-slice-aggregate-put : tie.Need-slice-aggregate-put
-slice-aggregate-put c = search needs
-
 put-requires : tie.Need-put-requires
 put-requires c κs = omega (arith, states-length (c .before .before .before .args .states))
 
 put-number-requires : tie.Need-put-number-requires
-put-number-requires c κs = omega (arith, states-length (c .before .before .before .before .before .before .before .args .states))
+put-number-requires c κs =
+    let start = c .before .before .before .before .before .before .before in
+    omega (arith, states-length (start .args .states))
 
 put-byte-requires : tie.Need-put-byte-requires
-put-byte-requires c κs = omega (arith, states-length (c .before .before .before .before .before .before .before .before .before .before .before .args .states))
-
-same-length : tie.Need-same-length
-same-length c = search needs
+put-byte-requires c κs =
+    let start = c .before .before .before .before .before .before .before .before .before .before .before in
+    omega (arith, states-length (start .args .states))
 
 returns : tie.Need-returns
 unfolding statesLine
-returns c = put-then (c .before .before .before .before .before .before .before .before .before .before .put .ensures) (put-then (c .before .before .before .before .before .before .put-number .ensures) (c .before .before .put-byte .ensures))
+returns c =
+    let at-put = c .before .before .before .before .before .before .before .before .before .before in
+    put-then (at-put .put .ensures) (put-then (c .before .before .before .before .before .before .put-number .ensures) (c .before .before .put-byte .ensures))
 
 pub put-states-spec : {M : Type 1} → statement M
-put-states-spec =
-    tie.close
-    (tie.spec
-    slice-aggregate-put
-    put-requires
-    put-number-requires
-    put-byte-requires
-    same-length
-    returns)
+put-states-spec = tie.close (tie.spec (λ c. search needs) put-requires put-number-requires put-byte-requires (λ c. search needs) returns)

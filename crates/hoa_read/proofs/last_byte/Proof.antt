@@ -10,14 +10,5 @@ use Rattle.hoa_read.proofs.last_byte.Tie as tie
 returns : tie.Need-returns
 returns c = let t = c .before .args .text .now in sym (List·getD-eq-default t 0 {n = length t - 1} (omega arith))
 
-sub-result : tie.Need-sub-result
-sub-result c = search needs
-
-shared-slice-read-result : tie.Need-shared-slice-read-result
-shared-slice-read-result c = search needs
-
-returns-2 : tie.Need-returns-2
-returns-2 c = search needs
-
 pub last-byte-spec : {M : Type 1} → statement M
-last-byte-spec = tie.close (tie.spec returns sub-result shared-slice-read-result returns-2)
+last-byte-spec = tie.close (tie.spec returns (λ c. search needs) (λ c. search needs) (λ c. search needs))

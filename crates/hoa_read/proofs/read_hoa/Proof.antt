@@ -8,9 +8,6 @@ use borrow.Author.Needs.{needs}
 use Rattle.hoa_read.proofs.read_hoa.Statement.{statement}
 use Rattle.hoa_read.proofs.read_hoa.Tie as tie
 
-take-text-requires : tie.Need-take-text-requires
-take-text-requires c κs = search needs
-
 returns : tie.Need-returns
 returns c = no-table (no-shape (c .before .before .take-text .ensures .absent (c .if1 .taken)))
 
@@ -21,16 +18,17 @@ returns-3 : tie.Need-returns-3
 returns-3 c = let W = c .before .before .before .before .take-text .ensures .found (omega arith) in let n = W .transitions in short (whole-carries W) (inr (omega arith))
 
 take-starts-requires : tie.Need-take-starts-requires
-take-starts-requires c κs = let W = c .before .before .before .before .before .take-text .ensures .found (omega arith) in let n = W .macrostates in let f = W .shaped .few in (text-ended (c .before .before .before .before .before .before .before .before .before .args .text .now) _ (W .flags) (W .moves) (W .text-is), W .within, omega arith)
+take-starts-requires c κs =
+    let start = c .before .before .before .before .before .before .before .before .before in
+    let W = c .before .before .before .before .before .take-text .ensures .found (omega arith) in let n = W .macrostates in let f = W .shaped .few in
+    (text-ended (start .args .text .now) _ (W .flags) (W .moves) (W .text-is), W .within, omega arith)
 
 take-blocks-requires : tie.Need-take-blocks-requires
-take-blocks-requires c κs = let W = c .before .before .before .before .before .before .before .before .before .take-text .ensures .found (omega arith) in let n = W .macrostates in let f = W .shaped .few in (text-ended (c .before .before .before .before .before .before .before .before .before .before .before .before .before .args .text .now) _ (W .flags) (W .moves) (W .text-is), W .some, W .goes-on, W .shaped .propositions, omega arith)
-
-same-length : tie.Need-same-length
-same-length c = search needs
-
-same-length-2 : tie.Need-same-length-2
-same-length-2 c = search needs
+take-blocks-requires c κs =
+    let at-take-text = c .before .before .before .before .before .before .before .before .before in
+    let start = at-take-text .before .before .before .before in
+    let W = at-take-text .take-text .ensures .found (omega arith) in let n = W .macrostates in let f = W .shaped .few in
+    (text-ended (start .args .text .now) _ (W .flags) (W .moves) (W .text-is), W .some, W .goes-on, W .shaped .propositions, omega arith)
 
 returns-4 : tie.Need-returns-4
 returns-4 c =
@@ -40,19 +38,12 @@ returns-4 c =
     let S = c .before .before .before .before .before .before .take-starts in
     let B = c .before .before .take-blocks in
     all-read (a .text .now) (r .macrostates) (r .propositions) (r .accepting) (r .transitions) (r .starts) (r .blocks) W (a .flags .now) (a .transitions .now) (omega arith) (omega arith)
-    (flags-stored (a .text .now) (r .macrostates) (r .propositions) (r .accepting) (r .transitions) (r .starts) (r .blocks) W (a .flags .now) (S .result .last) (S .result .end) _ (S .ensures) (omega arith))
-    (moves-stored (a .text .now) (r .macrostates) (r .propositions) (r .accepting) (r .transitions) (r .starts) (r .blocks) W (a .transitions .now) (B .result .accepting) (B .result .count) (B .result .end) _ (B .ensures) (omega arith))
+    (flags-stored (a .text .now) (r .macrostates) (r .propositions) (r .accepting) (r .transitions) (r .starts) (r .blocks) W (a .flags .now) (S .result .last) (S .result .end) _ (S .ensures)
+    (omega arith))
+    (moves-stored (a .text .now) (r .macrostates) (r .propositions) (r .accepting) (r .transitions) (r .starts) (r .blocks) W (a .transitions .now) (B .result .accepting) (B .result .count)
+    (B .result .end) _ (B .ensures) (omega arith))
 
 pub read-hoa-spec : {M : Type 1} → statement M
 read-hoa-spec =
-    tie.close
-    (tie.spec
-    take-text-requires
-    returns
-    returns-2
-    returns-3
-    take-starts-requires
-    take-blocks-requires
-    same-length
-    same-length-2
-    returns-4)
+    tie.close (tie.spec
+    (λ c κs. search needs) returns returns-2 returns-3 take-starts-requires take-blocks-requires (λ c. search needs) (λ c. search needs) returns-4)

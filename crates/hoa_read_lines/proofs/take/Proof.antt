@@ -14,32 +14,14 @@ Inv-loop text p s i₀ i = (i ≤ length s) × (drop p text ≡ take i s ++ drop
 abbrev μ-loop : tie.MeasureT-loop
 μ-loop text p s i₀ i = length s - i
 
-sub-if1 : tie.Need-sub-if1 Inv-loop μ-loop
-sub-if1 c = omega arith
-
 returns : tie.Need-returns Inv-loop μ-loop
 returns c = let a = c .before .args in take-short (a .text .now) (a .p) (a .s .now) (c .if1 .taken)
 
 loop-holds : tie.Need-loop-holds Inv-loop μ-loop
 loop-holds c = let a = c .before .args in (omega arith, take-none (a .text .now) (a .p) (a .s .now))
 
-add-if2 : tie.Need-add-if2 Inv-loop μ-loop
-add-if2 c = omega arith
-
-shared-slice-read-if2 : tie.Need-shared-slice-read-if2 Inv-loop μ-loop
-shared-slice-read-if2 c = omega arith
-
-shared-slice-read-if2-2 : tie.Need-shared-slice-read-if2-2 Inv-loop μ-loop
-shared-slice-read-if2-2 c = omega arith
-
 returns-2 : tie.Need-returns-2 Inv-loop μ-loop
 returns-2 c = let a = c .before .before .before .before .before .before .args in take-other (a .text .now) (a .p) (a .s .now) (c .before .before .before .before .loop .i) (omega arith) (c .if2 .taken)
-
-add-i : tie.Need-add-i Inv-loop μ-loop
-add-i c = omega arith
-
-loop-less : tie.Need-loop-less Inv-loop μ-loop
-loop-less c = omega arith
 
 loop-again : tie.Need-loop-again Inv-loop μ-loop
 loop-again c =
@@ -47,27 +29,11 @@ loop-again c =
     let l = c .before .before .before .before .loop in
     (omega arith, take-next (a .text .now) (a .p) (a .s .now) (l .i) (omega arith) (omega arith) (c .if2 .left) (l .inv .1))
 
-add-result : tie.Need-add-result Inv-loop μ-loop
-add-result c = omega arith
-
 returns-3 : tie.Need-returns-3 Inv-loop μ-loop
 returns-3 c = let a = c .before .before .before .args in take-done (a .text .now) (a .p) (a .s .now) (c .before .loop .i) (omega arith) (omega arith) (omega arith) (c .before .loop .inv .1)
 
 pub take-spec : {M : Type 1} → statement M
 take-spec =
-    tie.close
-    (tie.spec
-    Inv-loop
-    μ-loop
-    sub-if1
-    returns
-    loop-holds
-    add-if2
-    shared-slice-read-if2
-    shared-slice-read-if2-2
-    returns-2
-    add-i
-    loop-less
-    loop-again
-    add-result
-    returns-3)
+    tie.close (tie.spec
+    Inv-loop μ-loop (λ c. omega arith) returns loop-holds (λ c. omega arith) (λ c. omega arith) (λ c. omega arith) returns-2 (λ c. omega arith)
+    (λ c. omega arith) loop-again (λ c. omega arith) returns-3)

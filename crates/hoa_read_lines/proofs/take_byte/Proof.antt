@@ -4,14 +4,8 @@ use Rattle.hoa_read_laws.proofs.Taking.{byte-other, byte-inside, byte-taken}
 use Rattle.hoa_read_lines.proofs.take_byte.Statement.{statement}
 use Rattle.hoa_read_lines.proofs.take_byte.Tie as tie
 
-shared-slice-read-if1 : tie.Need-shared-slice-read-if1
-shared-slice-read-if1 c = omega arith
-
 returns : tie.Need-returns
 returns c = let a = c .before .before .args in (byte-other (a .text .now) (a .p) (a .byte) (omega arith) (c .if1 .taken), λ n l. absurd (omega arith))
-
-add-result : tie.Need-add-result
-add-result c = omega arith
 
 returns-2 : tie.Need-returns-2
 returns-2 c =
@@ -21,4 +15,4 @@ returns-2 c =
     )
 
 pub take-byte-spec : {M : Type 1} → statement M
-take-byte-spec = tie.close (tie.spec shared-slice-read-if1 returns add-result returns-2)
+take-byte-spec = tie.close (tie.spec (λ c. omega arith) returns (λ c. omega arith) returns-2)

@@ -19,73 +19,39 @@ abbrev μ-loop : tie.MeasureT-loop
 loop-holds : tie.Need-loop-holds Inv-loop μ-loop
 loop-holds c = (omega arith, omega arith, omega arith, refl)
 
-shared-slice-read-c : tie.Need-shared-slice-read-c Inv-loop μ-loop
-shared-slice-read-c c = omega arith
-
 returns : tie.Need-returns Inv-loop μ-loop
-returns c = let a = c .before .before .before .before .args in let l = c .before .before .loop in digits-stop (a .text .now) (a .p) (a .v) (l .x) (l .q) (l .inv .3) (omega arith) (omega arith) (omega arith) (c .if1 .taken)
-
-nothing-requires : tie.Need-nothing-requires Inv-loop μ-loop
-nothing-requires c κs = search needs
+returns c = let a = c .before .before .before .before .args in let l = c .before .before .loop in
+    digits-stop (a .text .now) (a .p) (a .v) (l .x) (l .q) (l .inv .3) (omega arith) (omega arith) (omega arith) (c .if1 .taken)
 
 returns-2 : tie.Need-returns-2 Inv-loop μ-loop
-returns-2 c = let a = c .before .before .before .before .before .before .args in let l = c .before .before .before .before .loop in digits-high (a .text .now) (a .p) (a .v) (l .x) (l .q) (l .inv .3) (omega arith) (c .before .if2 .taken) (c .nothing .ensures .1)
-
-nothing-requires-2 : tie.Need-nothing-requires-2 Inv-loop μ-loop
-nothing-requires-2 c κs = search needs
+returns-2 c = let a = c .before .before .before .before .before .before .args in let l = c .before .before .before .before .loop in
+    digits-high (a .text .now) (a .p) (a .v) (l .x) (l .q) (l .inv .3) (omega arith) (c .before .if2 .taken) (c .nothing .ensures .1)
 
 returns-3 : tie.Need-returns-3 Inv-loop μ-loop
-returns-3 c = let a = c .before .before .before .before .before .before .before .args in let l = c .before .before .before .before .before .loop in digits-zero (a .text .now) (a .p) (a .v) (l .x) (l .q) (l .inv .3) (omega arith) (c .before .before .before .if1 .left) (c .before .if3 .taken) (c .nothing2 .ensures .1)
-
-mul-x : tie.Need-mul-x Inv-loop μ-loop
-mul-x c = omega arith
-
-cast-x : tie.Need-cast-x Inv-loop μ-loop
-cast-x c = omega arith
-
-add-x : tie.Need-add-x Inv-loop μ-loop
-add-x c = omega arith
-
-nothing-requires-3 : tie.Need-nothing-requires-3 Inv-loop μ-loop
-nothing-requires-3 c κs = search needs
+returns-3 c =
+    let start = c .before .before .before .before .before .before .before in
+    let a = start .args in let l = c .before .before .before .before .before .loop in
+    digits-zero (a .text .now) (a .p) (a .v) (l .x) (l .q) (l .inv .3) (omega arith) (c .before .before .before .if1 .left) (c .before .if3 .taken) (c .nothing2 .ensures .1)
 
 returns-4 : tie.Need-returns-4 Inv-loop μ-loop
-returns-4 c = let a = c .before .before .before .before .before .before .before .before .args in let l = c .before .before .before .before .before .before .loop in digits-large (a .text .now) (a .p) (a .v) (l .x) (l .q) (l .inv .3) (omega arith) (c .before .before .before .before .if1 .left) (omega arith) (c .nothing3 .ensures .1)
-
-add-q : tie.Need-add-q Inv-loop μ-loop
-add-q c = omega arith
-
-loop-less : tie.Need-loop-less Inv-loop μ-loop
-loop-less c = omega arith
+returns-4 c =
+    let start = c .before .before .before .before .before .before .before .before in
+    let a = start .args in let l = c .before .before .before .before .before .before .loop in
+    digits-large (a .text .now) (a .p) (a .v) (l .x) (l .q) (l .inv .3) (omega arith) (c .before .before .before .before .if1 .left) (omega arith) (c .nothing3 .ensures .1)
 
 loop-again : tie.Need-loop-again Inv-loop μ-loop
 loop-again c =
+    let start = c .before .before .before .before .before .before .before in
     let l = c .before .before .before .before .before .loop in
-    let a = c .before .before .before .before .before .before .before .args in (
+    let a = start .args in (
       omega arith,
-      not-last (a .text .now) (l .q) (c .before .before .before .before .before .before .before .pre .0) (omega arith) (omega arith),
+      not-last (a .text .now) (l .q) (start .pre .0) (omega arith) (omega arith),
       omega arith,
       digits-more (a .text .now) (a .p) (a .v) (l .x) (l .q) (l .inv .3) (omega arith) (c .before .before .before .if1 .left) (omega arith) (c .before .if3 .left),
     )
 
 pub take-digits-spec : {M : Type 1} → statement M
 take-digits-spec =
-    tie.close
-    (tie.spec
-    Inv-loop
-    μ-loop
-    loop-holds
-    shared-slice-read-c
-    returns
-    nothing-requires
-    returns-2
-    nothing-requires-2
-    returns-3
-    mul-x
-    cast-x
-    add-x
-    nothing-requires-3
-    returns-4
-    add-q
-    loop-less
-    loop-again)
+    tie.close (tie.spec
+    Inv-loop μ-loop loop-holds (λ c. omega arith) returns (λ c κs. search needs) returns-2 (λ c κs. search needs) returns-3 (λ c. omega arith)
+    (λ c. omega arith) (λ c. omega arith) (λ c κs. search needs) returns-4 (λ c. omega arith) (λ c. omega arith) loop-again)

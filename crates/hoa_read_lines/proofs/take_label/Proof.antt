@@ -24,9 +24,6 @@ returns c =
 take-literal-requires : tie.Need-take-literal-requires Inv-loop μ-loop
 take-literal-requires c κs = (c .before .before .pre .0, omega arith, omega arith)
 
-nothing-requires : tie.Need-nothing-requires Inv-loop μ-loop
-nothing-requires c κs = search needs
-
 returns-2 : tie.Need-returns-2 Inv-loop μ-loop
 returns-2 c =
     let a = c .before .before .before .before .before .args in
@@ -46,12 +43,10 @@ loop-holds c =
 take-byte-requires-2 : tie.Need-take-byte-requires-2 Inv-loop μ-loop
 take-byte-requires-2 c κs = (c .before .before .before .before .before .before .pre .0, c .before .loop .inv .1 .within)
 
-nothing-requires-2 : tie.Need-nothing-requires-2 Inv-loop μ-loop
-nothing-requires-2 c κs = search needs
-
 returns-3 : tie.Need-returns-3 Inv-loop μ-loop
 returns-3 c =
-    let a = c .before .before .before .before .before .before .before .before .before .args in
+    let start = c .before .before .before .before .before .before .before .before .before in
+    let a = start .args in
     let l = c .before .before .before .before .loop in
     let A = c .before .before .take-byte2 in (
       label-no-sign (a .text .now) (a .p) (a .b) (omega arith) (l .i) (l .letter) (l .end) (l .inv .1) (omega arith) (A .result) (A .ensures .0) (c .before .if3 .taken) (c .nothing2 .ensures .1),
@@ -59,14 +54,14 @@ returns-3 c =
     )
 
 take-literal-requires-2 : tie.Need-take-literal-requires-2 Inv-loop μ-loop
-take-literal-requires-2 c κs = (c .before .before .before .before .before .before .before .before .pre .0, c .before .take-byte2 .ensures .1 (omega arith) (omega arith), omega arith)
-
-nothing-requires-3 : tie.Need-nothing-requires-3 Inv-loop μ-loop
-nothing-requires-3 c κs = search needs
+take-literal-requires-2 c κs =
+    let start = c .before .before .before .before .before .before .before .before in
+    (start .pre .0, c .before .take-byte2 .ensures .1 (omega arith) (omega arith), omega arith)
 
 returns-4 : tie.Need-returns-4 Inv-loop μ-loop
 returns-4 c =
-    let a = c .before .before .before .before .before .before .before .before .before .before .before .args in
+    let start = c .before .before .before .before .before .before .before .before .before .before .before in
+    let a = start .args in
     let l = c .before .before .before .before .before .before .loop in
     let A = c .before .before .before .before .take-byte2 in
     let L = c .before .before .take-literal2 in (
@@ -75,10 +70,14 @@ returns-4 c =
       λ l. absurd (omega (arith, c .nothing3 .ensures .1)),
     )
 
+abbrev start-of-after-struct-known : tie.After-struct-known Inv-loop μ-loop → tie.Start Inv-loop μ-loop
+start-of-after-struct-known c = c .before .before .before .before .before .before .before .before .before .before .before
+
 -- one literal more
-next : (c : tie.After-struct-known Inv-loop μ-loop) → let l = c .before .before .before .before .before .before .loop in let L = c .before .before .take-literal2 .result in Labelled (c .before .before .before .before .before .before .before .before .before .before .before .args .text .now) (c .before .before .before .before .before .before .before .before .before .before .before .args .p) (l .i + 1) (l .letter + L .value) (L .end)
+next : (c : tie.After-struct-known Inv-loop μ-loop) → let l = c .before .before .before .before .before .before .loop in let L = c .before .before .take-literal2 .result in
+    Labelled (start-of-after-struct-known c .args .text .now) (start-of-after-struct-known c .args .p) (l .i + 1) (l .letter + L .value) (L .end)
 next c =
-    let a = c .before .before .before .before .before .before .before .before .before .before .before .args in
+    let a = start-of-after-struct-known c .args in
     let l = c .before .before .before .before .before .before .loop in
     let A = c .before .before .before .before .take-byte2 in
     let L = c .before .before .take-literal2 in
@@ -86,13 +85,11 @@ next c =
     (L .result .value) (L .result .end) (L .ensures .0) (omega arith) (L .ensures .1 (omega arith))
 
 add-letter : tie.Need-add-letter Inv-loop μ-loop
-add-letter c = let I = next c in omega (arith, letter-small (c .before .before .before .before .before .before .loop .i + 1) (c .before .before .before .before .before .before .loop .letter + c .before .before .take-literal2 .result .value) (omega arith) (I .small))
-
-add-i : tie.Need-add-i Inv-loop μ-loop
-add-i c = omega arith
-
-loop-less : tie.Need-loop-less Inv-loop μ-loop
-loop-less c = omega arith
+add-letter c = let I = next c in omega (
+  arith,
+  letter-small (c .before .before .before .before .before .before .loop .i + 1)
+      (c .before .before .before .before .before .before .loop .letter + c .before .before .take-literal2 .result .value) (omega arith) (I .small),
+)
 
 loop-again : tie.Need-loop-again Inv-loop μ-loop
 loop-again c = (omega arith, next c)
@@ -105,24 +102,6 @@ returns-5 c =
 
 pub take-label-spec : {M : Type 1} → statement M
 take-label-spec =
-    tie.close
-    (tie.spec
-    Inv-loop
-    μ-loop
-    take-byte-requires
-    returns
-    take-literal-requires
-    nothing-requires
-    returns-2
-    loop-holds
-    take-byte-requires-2
-    nothing-requires-2
-    returns-3
-    take-literal-requires-2
-    nothing-requires-3
-    returns-4
-    add-letter
-    add-i
-    loop-less
-    loop-again
-    returns-5)
+    tie.close (tie.spec
+    Inv-loop μ-loop take-byte-requires returns take-literal-requires (λ c κs. search needs) returns-2 loop-holds take-byte-requires-2 (λ c κs. search needs)
+    returns-3 take-literal-requires-2 (λ c κs. search needs) returns-4 add-letter (λ c. omega arith) (λ c. omega arith) loop-again returns-5)

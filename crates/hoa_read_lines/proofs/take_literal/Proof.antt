@@ -14,17 +14,8 @@ shifted (suc (suc zero)) h = refl
 shifted (suc (suc (suc zero))) h = refl
 shifted (suc (suc (suc (suc i)))) h = absurd (omega arith)
 
-cast-name : tie.Need-cast-name
-cast-name c = omega arith
-
-add-name : tie.Need-add-name
-add-name c = omega arith
-
 take-byte-requires : tie.Need-take-byte-requires
 take-byte-requires c κs = (c .before .pre .0, omega arith)
-
-shl-t10 : tie.Need-shl-t10
-shl-t10 c = omega arith
 
 returns : tie.Need-returns
 returns c =
@@ -34,9 +25,6 @@ returns c =
 
 take-byte-requires-2 : tie.Need-take-byte-requires-2
 take-byte-requires-2 c κs = (c .before .before .before .pre .0, omega arith)
-
-nothing-requires : tie.Need-nothing-requires
-nothing-requires c κs = search needs
 
 returns-2 : tie.Need-returns-2
 returns-2 c =
@@ -62,15 +50,6 @@ returns-3 c =
 
 pub take-literal-spec : {M : Type 1} → statement M
 take-literal-spec =
-    tie.close
-    (tie.spec
-    cast-name
-    add-name
-    take-byte-requires
-    shl-t10
-    returns
-    take-byte-requires-2
-    nothing-requires
-    returns-2
-    take-byte-requires-3
-    returns-3)
+    tie.close (tie.spec
+    (λ c. omega arith) (λ c. omega arith) take-byte-requires (λ c. omega arith) returns take-byte-requires-2 (λ c κs. search needs) returns-2
+    take-byte-requires-3 returns-3)

@@ -10,17 +10,12 @@ use Rattle.hoa_read_lines.proofs.take_target.Tie as tie
 take-byte-requires : tie.Need-take-byte-requires
 take-byte-requires c κs = (c .before .pre .0, omega arith)
 
-nothing-requires : tie.Need-nothing-requires
-nothing-requires c κs = search needs
-
 returns : tie.Need-returns
-returns c = let a = c .before .before .before .before .args in let T = c .before .before .take-byte in numbered-no-head (a .text .now) (a .p) (93 ∷ []) (T .result) (T .ensures .0) (c .before .if1 .taken) (c .nothing .ensures .1)
+returns c = let a = c .before .before .before .before .args in let T = c .before .before .take-byte in
+    numbered-no-head (a .text .now) (a .p) (93 ∷ []) (T .result) (T .ensures .0) (c .before .if1 .taken) (c .nothing .ensures .1)
 
 take-word-requires : tie.Need-take-word-requires
 take-word-requires c κs = (c .before .before .before .pre .0, c .before .take-byte .ensures .1 (omega arith) (omega arith))
-
-nothing-requires-2 : tie.Need-nothing-requires-2
-nothing-requires-2 c κs = search needs
 
 returns-2 : tie.Need-returns-2
 returns-2 c =
@@ -39,17 +34,10 @@ returns-3 c =
     let a = c .before .before .before .before .before .before .args in
     let T = c .before .before .before .before .take-byte in
     let W = c .before .before .take-word in
-    numbered (a .text .now) (a .p) (93 ∷ []) (T .result) (T .ensures .0) (omega arith) (W .result .value) (W .result .end) (W .ensures) (omega arith) (c .take-byte2 .result) (c .take-byte2 .ensures .0)
+    numbered (a .text .now) (a .p) (93 ∷ []) (T .result) (T .ensures .0) (omega arith) (W .result .value) (W .result .end) (W .ensures) (omega arith) (c .take-byte2 .result)
+    (c .take-byte2 .ensures .0)
 
 pub take-target-spec : {M : Type 1} → statement M
 take-target-spec =
-    tie.close
-    (tie.spec
-    take-byte-requires
-    nothing-requires
-    returns
-    take-word-requires
-    nothing-requires-2
-    returns-2
-    take-byte-requires-2
-    returns-3)
+    tie.close (tie.spec
+    take-byte-requires (λ c κs. search needs) returns take-word-requires (λ c κs. search needs) returns-2 take-byte-requires-2 returns-3)

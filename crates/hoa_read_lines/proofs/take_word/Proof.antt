@@ -15,17 +15,12 @@ inside c = c .before .take-byte .ensures .1 (omega arith) (omega arith)
 take-byte-requires : tie.Need-take-byte-requires
 take-byte-requires c κs = (c .before .pre .0, omega arith)
 
-nothing-requires : tie.Need-nothing-requires
-nothing-requires c κs = search needs
-
 returns : tie.Need-returns
-returns c = let a = c .before .before .before .before .args in let T = c .before .before .take-byte in word-no-blank (a .text .now) (a .p) (T .result) (T .ensures .0) (c .before .if1 .taken) (c .nothing .ensures .1)
+returns c = let a = c .before .before .before .before .args in let T = c .before .before .take-byte in
+    word-no-blank (a .text .now) (a .p) (T .result) (T .ensures .0) (c .before .if1 .taken) (c .nothing .ensures .1)
 
 shared-slice-read-c : tie.Need-shared-slice-read-c
 shared-slice-read-c c = inside (c .before)
-
-nothing-requires-2 : tie.Need-nothing-requires-2
-nothing-requires-2 c κs = search needs
 
 returns-2 : tie.Need-returns-2
 returns-2 c =
@@ -33,45 +28,35 @@ returns-2 c =
     let T = c .before .before .before .before .take-byte in
     word-no-digit (a .text .now) (a .p) (T .result) (T .ensures .0) (omega arith) (inside (c .before .before .before)) (inl (c .before .if2 .taken)) (c .nothing2 .ensures .1)
 
-nothing-requires-3 : tie.Need-nothing-requires-3
-nothing-requires-3 c κs = search needs
-
 returns-3 : tie.Need-returns-3
 returns-3 c =
-    let a = c .before .before .before .before .before .before .before .args in
+    let start = c .before .before .before .before .before .before .before in
+    let a = start .args in
     let T = c .before .before .before .before .before .take-byte in
     word-no-digit (a .text .now) (a .p) (T .result) (T .ensures .0) (omega arith) (inside (c .before .before .before .before)) (inr (c .before .if3 .taken)) (c .nothing3 .ensures .1)
 
 add-take-digits : tie.Need-add-take-digits
 add-take-digits c = omega (arith, inside (c .before .before .before))
 
-cast-take-digits : tie.Need-cast-take-digits
-cast-take-digits c = omega arith
-
 take-digits-requires : tie.Need-take-digits-requires
 take-digits-requires c κs =
-    let a = c .before .before .before .before .before .before .args in
-    (c .before .before .before .before .before .before .pre .0, omega arith, not-last (a .text .now) (c .before .before .before .before .take-byte .result) (c .before .before .before .before .before .before .pre .0) (inside (c .before .before .before)) (omega arith), omega arith)
+    let a = c .before .before .before .before .before .before .args in (
+      c .before .before .before .before .before .before .pre .0,
+      omega arith,
+      not-last (a .text .now) (c .before .before .before .before .take-byte .result) (c .before .before .before .before .before .before .pre .0) (inside (c .before .before .before)) (omega arith),
+      omega arith,
+    )
 
 returns-4 : tie.Need-returns-4
 returns-4 c =
-    let a = c .before .before .before .before .before .before .before .args in
+    let start = c .before .before .before .before .before .before .before in
+    let a = start .args in
     let T = c .before .before .before .before .before .take-byte in
-    word-digits (a .text .now) (a .p) (T .result) (T .ensures .0) (omega arith) (inside (c .before .before .before .before)) (c .before .before .if2 .left) (c .before .if3 .left) (c .take-digits .ensures)
+    word-digits (a .text .now) (a .p) (T .result) (T .ensures .0) (omega arith) (inside (c .before .before .before .before)) (c .before .before .if2 .left) (c .before .if3 .left)
+    (c .take-digits .ensures)
 
 pub take-word-spec : {M : Type 1} → statement M
 take-word-spec =
-    tie.close
-    (tie.spec
-    take-byte-requires
-    nothing-requires
-    returns
-    shared-slice-read-c
-    nothing-requires-2
-    returns-2
-    nothing-requires-3
-    returns-3
-    add-take-digits
-    cast-take-digits
-    take-digits-requires
-    returns-4)
+    tie.close (tie.spec
+    take-byte-requires (λ c κs. search needs) returns shared-slice-read-c (λ c κs. search needs) returns-2 (λ c κs. search needs) returns-3 add-take-digits
+    (λ c. omega arith) take-digits-requires returns-4)

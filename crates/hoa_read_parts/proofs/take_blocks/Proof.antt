@@ -39,17 +39,20 @@ returns c =
 
 take-edges-requires : tie.Need-take-edges-requires Inv-loop μ-loop
 take-edges-requires c κs =
-    let a = c .before .before .before .before .before .before .before .args in
+    let start = c .before .before .before .before .before .before .before in
+    let a = start .args in
     let l = c .before .before .before .before .loop in
     let T = c .before .before .take-marked in
     let f = T .ensures .found (omega arith) in
     let s = state-later (a .text .now) (a .p) (a .b) (a .n) (l .i) (l .accepting) (l .inv .3) (l .end) (l .inv .4) (omega arith) (T .result .value) (T .result .end) (T .ensures) (omega arith) in
-    (c .before .before .before .before .before .before .before .pre .0, omega arith, f .1, omega arith, omega arith, omega arith, omega arith)
+    (start .pre .0, omega arith, f .1, omega arith, omega arith, omega arith, omega arith)
 
 same-length-2 : tie.Need-same-length-2 Inv-loop μ-loop
 same-length-2 c =
-    let a = c .before .before .before .before .before .before .before .before .before .before .before .args in
-    let l = c .before .before .before .before .before .before .before .before .loop in
+    let at-loop = c .before .before .before .before .before .before .before .before in
+    let start = at-loop .before .before .before in
+    let a = start .args in
+    let l = at-loop .loop in
     let T = c .before .before .before .before .before .before .take-marked in
     let E = c .before .before .before .take-edges in
     E .kept .1 .1 .1 .1 .1 .0 ∙ ap length (l .inv .6) ∙ length-sets (a .transitions .now) 0 (l .inv .3)
@@ -60,13 +63,8 @@ returns-2 c =
     let l = c .before .before .before .before .before .before .before .before .loop in
     let T = c .before .before .before .before .before .before .take-marked in
     let E = c .before .before .before .take-edges in
-    blocks-no-edges (a .text .now) (a .p) (a .b) (a .n) (l .i) (l .accepting) (l .inv .3) (l .end) (l .inv .4) (omega arith) (T .result .value) (T .result .end) (T .ensures) (omega arith) (l .count) (l .transitions) (E .result .count) (E .result .end) (E .last .1 .1 .1 .1 .1 .0) (E .ensures) (c .if2 .taken) refl
-
-add-i : tie.Need-add-i Inv-loop μ-loop
-add-i c = omega arith
-
-loop-less : tie.Need-loop-less Inv-loop μ-loop
-loop-less c = omega arith
+    blocks-no-edges (a .text .now) (a .p) (a .b) (a .n) (l .i) (l .accepting) (l .inv .3) (l .end) (l .inv .4) (omega arith) (T .result .value) (T .result .end) (T .ensures) (omega arith) (l .count)
+    (l .transitions) (E .result .count) (E .result .end) (E .last .1 .1 .1 .1 .1 .0) (E .ensures) (c .if2 .taken) refl
 
 loop-again : tie.Need-loop-again Inv-loop μ-loop
 loop-again c =
@@ -80,7 +78,8 @@ loop-again c =
       j,
       F .few,
       l .inv .3 ++ F .edges,
-      blocking-next (a .text .now) (a .p) (a .b) (a .n) (l .i) (l .accepting) (l .inv .3) (l .end) (l .inv .4) (omega arith) (T .result .value) (T .result .end) (T .ensures) (omega arith) (l .count) (l .transitions) (E .result .count) (E .result .end) (E .last .1 .1 .1 .1 .1 .0) (E .ensures) j,
+      blocking-next (a .text .now) (a .p) (a .b) (a .n) (l .i) (l .accepting) (l .inv .3) (l .end) (l .inv .4) (omega arith) (T .result .value) (T .result .end) (T .ensures) (omega arith) (l .count)
+          (l .transitions) (E .result .count) (E .result .end) (E .last .1 .1 .1 .1 .1 .0) (E .ensures) j,
       omega (arith, F .counted, length-append (l .inv .3) (F .edges)),
       moves-stored (a .transitions .now) (l .inv .3) (F .edges) (l .count) (l .inv .5) (l .inv .6) (F .stored),
     )
@@ -100,19 +99,6 @@ returns-3 c =
 
 pub take-blocks-spec : {M : Type 1} → statement M
 take-blocks-spec =
-    tie.close
-    (tie.spec
-    Inv-loop
-    μ-loop
-    loop-holds
-    take-marked-requires
-    same-length
-    returns
-    take-edges-requires
-    same-length-2
-    returns-2
-    add-i
-    loop-less
-    loop-again
-    same-length-3
-    returns-3)
+    tie.close (tie.spec
+    Inv-loop μ-loop loop-holds take-marked-requires same-length returns take-edges-requires same-length-2 returns-2 (λ c. omega arith) (λ c. omega arith)
+    loop-again same-length-3 returns-3)

@@ -22,9 +22,6 @@ abbrev μ-loop : tie.MeasureT-loop
 loop-holds : tie.Need-loop-holds Inv-loop μ-loop
 loop-holds c = let a = c .before .before .args in (omega arith, omega arith, [], edging-none (a .text .now) (a .p) (a .b) (a .n) (a .i) (omega arith), omega arith, refl)
 
-shared-slice-read-if1 : tie.Need-shared-slice-read-if1 Inv-loop μ-loop
-shared-slice-read-if1 c = omega arith
-
 same-length : tie.Need-same-length Inv-loop μ-loop
 same-length c =
     let a = c .before .before .before .before .before .before .args in
@@ -50,63 +47,82 @@ take-edge-requires c κs = (c .before .before .before .before .before .before .p
 
 same-length-2 : tie.Need-same-length-2 Inv-loop μ-loop
 same-length-2 c =
-    let a = c .before .before .before .before .before .before .before .before .args in
+    let start = c .before .before .before .before .before .before .before .before in
+    let a = start .args in
     let l = c .before .before .before .before .before .loop in
     ap length (l .inv .5) ∙ length-sets (a .transitions .now) (a .m) (l .inv .2)
 
 returns-2 : tie.Need-returns-2 Inv-loop μ-loop
 returns-2 c =
-    let a = c .before .before .before .before .before .before .before .before .args in
+    let start = c .before .before .before .before .before .before .before .before in
+    let a = start .args in
     let l = c .before .before .before .before .before .loop in
     let T = c .before .take-edge in
-    edges-no-line (a .text .now) (a .p) (a .b) (a .n) (a .i) (l .inv .2) (l .low) (l .end) (l .inv .3) (omega arith) (c .before .before .if1 .left) (T .result .value) (T .result .end) (T .ensures) (c .if2 .taken) refl
+    edges-no-line (a .text .now) (a .p) (a .b) (a .n) (a .i) (l .inv .2) (l .low) (l .end) (l .inv .3) (omega arith) (c .before .before .if1 .left) (T .result .value) (T .result .end) (T .ensures)
+    (c .if2 .taken) refl
 
 same-length-3 : tie.Need-same-length-3 Inv-loop μ-loop
 same-length-3 c =
-    let a = c .before .before .before .before .before .before .before .before .before .args in
+    let start = c .before .before .before .before .before .before .before .before .before in
+    let a = start .args in
     let l = c .before .before .before .before .before .before .loop in
     ap length (l .inv .5) ∙ length-sets (a .transitions .now) (a .m) (l .inv .2)
 
 returns-3 : tie.Need-returns-3 Inv-loop μ-loop
 returns-3 c =
-    let a = c .before .before .before .before .before .before .before .before .before .args in
+    let start = c .before .before .before .before .before .before .before .before .before in
+    let a = start .args in
     let l = c .before .before .before .before .before .before .loop in
     let T = c .before .before .take-edge in
-    edges-no-order (a .text .now) (a .p) (a .b) (a .n) (a .i) (l .inv .2) (l .low) (l .end) (l .inv .3) (omega arith) (c .before .before .before .if1 .left) (T .result .value) (T .result .end) (T .ensures) (omega arith) (c .if3 .taken) refl
-
-store-move-requires : tie.Need-store-move-requires Inv-loop μ-loop
-store-move-requires c κs = search needs
-
-add-count : tie.Need-add-count Inv-loop μ-loop
-add-count c = omega arith
+    edges-no-order (a .text .now) (a .p) (a .b) (a .n) (a .i) (l .inv .2) (l .low) (l .end) (l .inv .3) (omega arith) (c .before .before .before .if1 .left) (T .result .value) (T .result .end)
+    (T .ensures) (omega arith) (c .if3 .taken) refl
 
 add-low : tie.Need-add-low Inv-loop μ-loop
 add-low c =
-    let a = c .before .before .before .before .before .before .before .before .before .before .before .before .before .args in
-    let l = c .before .before .before .before .before .before .before .before .before .before .loop in
+    let at-if1 = c .before .before .before .before .before .before .before in
+    let at-loop = at-if1 .before .before .before in
+    let start = at-loop .before .before .before in
+    let a = start .args in
+    let l = at-loop .loop in
     let T = c .before .before .before .before .before .before .take-edge in
-    omega (arith, move-small (a .text .now) (a .p) (a .b) (a .n) (a .i) (l .inv .2) (l .low) (l .end) (l .inv .3) (omega arith) (c .before .before .before .before .before .before .before .if1 .left) (T .result .value) (T .result .end) (T .ensures) (omega arith) (omega arith))
+    omega (
+      arith,
+      move-small (a .text .now) (a .p) (a .b) (a .n) (a .i) (l .inv .2) (l .low) (l .end) (l .inv .3) (omega arith) (at-if1 .if1 .left) (T .result .value) (T .result .end) (T .ensures)
+          (omega arith) (omega arith),
+    )
+
+abbrev start-of-after-slice-known2 : tie.After-slice-known2 Inv-loop μ-loop → tie.Start Inv-loop μ-loop
+start-of-after-slice-known2 c = c .before .before .before .before .before .before .before .before .before .before .before .before .before
 
 -- the line ends later than it began
-later-now : (c : tie.After-slice-known2 Inv-loop μ-loop) → (c .before .before .before .before .before .before .before .before .before .before .loop .end < c .before .before .before .before .before .before .take-edge .result .end) × (c .before .before .before .before .before .before .take-edge .result .end ≤ length (c .before .before .before .before .before .before .before .before .before .before .before .before .before .args .text .now))
+later-now : (c : tie.After-slice-known2 Inv-loop μ-loop) → (c .before .before .before .before .before .before .before .before .before .before .loop .end < c .before .before .before .before .before
+    .before .take-edge .result .end) × (c .before .before .before .before .before .before .take-edge .result .end ≤ length (start-of-after-slice-known2 c .args .text .now))
 later-now c =
-    let a = c .before .before .before .before .before .before .before .before .before .before .before .before .before .args in
-    let l = c .before .before .before .before .before .before .before .before .before .before .loop in
-    let T = c .before .before .before .before .before .before .take-edge in
-    (edge-later (a .text .now) (a .p) (a .b) (a .n) (a .i) (l .inv .2) (l .low) (l .end) (l .inv .3) (omega arith) (c .before .before .before .before .before .before .before .if1 .left) (T .result .value) (T .result .end) (T .ensures) (omega arith), T .ensures .found (omega arith) .1)
+    let at-if1 = c .before .before .before .before .before .before .before in
+    let at-loop = at-if1 .before .before .before in
+    let a = start-of-after-slice-known2 c .args in
+    let l = at-loop .loop in
+    let T = c .before .before .before .before .before .before .take-edge in (
+      edge-later (a .text .now) (a .p) (a .b) (a .n) (a .i) (l .inv .2) (l .low) (l .end) (l .inv .3) (omega arith) (at-if1 .if1 .left) (T .result .value) (T .result .end) (T .ensures) (omega arith),
+      T .ensures .found (omega arith) .1,
+    )
 
 loop-less : tie.Need-loop-less Inv-loop μ-loop
 loop-less c = omega (arith, later-now c)
 
 loop-again : tie.Need-loop-again Inv-loop μ-loop
 loop-again c =
-    let a = c .before .before .before .before .before .before .before .before .before .before .before .before .before .args in
-    let l = c .before .before .before .before .before .before .before .before .before .before .loop in
+    let at-if1 = c .before .before .before .before .before .before .before in
+    let at-loop = at-if1 .before .before .before in
+    let start = at-loop .before .before .before in
+    let a = start .args in
+    let l = at-loop .loop in
     let T = c .before .before .before .before .before .before .take-edge in (
       omega (arith, later-now c),
       omega (arith, later-now c),
       l .inv .2 ++ (T .result .value ∷ []),
-      edging-next (a .text .now) (a .p) (a .b) (a .n) (a .i) (l .inv .2) (l .low) (l .end) (l .inv .3) (omega arith) (c .before .before .before .before .before .before .before .if1 .left) (T .result .value) (T .result .end) (T .ensures) (omega arith) (c .before .before .before .before .if3 .left),
+      edging-next (a .text .now) (a .p) (a .b) (a .n) (a .i) (l .inv .2) (l .low) (l .end) (l .inv .3) (omega arith) (at-if1 .if1 .left) (T .result .value) (T .result .end) (T .ensures) (omega arith)
+          (c .before .before .before .before .if3 .left),
       omega (arith, length-append (l .inv .2) (T .result .value ∷ [])),
       move-stored (a .transitions .now) (a .m) (l .inv .2) (l .count) (T .result .value) (l .inv .4) (l .inv .5) (c .before .before .store-move .ensures),
     )
@@ -133,23 +149,6 @@ returns-4 c =
 
 pub take-edges-spec : {M : Type 1} → statement M
 take-edges-spec =
-    tie.close
-    (tie.spec
-    Inv-loop
-    μ-loop
-    loop-holds
-    shared-slice-read-if1
-    same-length
-    returns
-    take-edge-requires
-    same-length-2
-    returns-2
-    same-length-3
-    returns-3
-    store-move-requires
-    add-count
-    add-low
-    loop-less
-    loop-again
-    same-length-4
-    returns-4)
+    tie.close (tie.spec
+    Inv-loop μ-loop loop-holds (λ c. omega arith) same-length returns take-edge-requires same-length-2 returns-2 same-length-3 returns-3 (λ c κs. search needs)
+    (λ c. omega arith) add-low loop-less loop-again same-length-4 returns-4)

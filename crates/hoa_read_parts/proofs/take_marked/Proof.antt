@@ -8,36 +8,26 @@ use Rattle.hoa_read_parts.proofs.take_marked.Tie as tie
 take-state-requires : tie.Need-take-state-requires
 take-state-requires c κs = (c .before .pre .0, omega arith, omega arith)
 
-nothing-requires : tie.Need-nothing-requires
-nothing-requires c κs = search needs
-
 returns : tie.Need-returns
-returns c = let a = c .before .before .before .before .args in let S = c .before .before .take-state in marked-none (a .text .now) (a .p) (a .i) (a .accepting) (omega arith) (S .result .value) (S .result .end) (S .ensures) (c .before .if1 .taken) (c .nothing .ensures .1)
+returns c = let a = c .before .before .before .before .args in let S = c .before .before .take-state in
+    marked-none (a .text .now) (a .p) (a .i) (a .accepting) (omega arith) (S .result .value) (S .result .end) (S .ensures) (c .before .if1 .taken) (c .nothing .ensures .1)
 
 returns-2 : tie.Need-returns-2
-returns-2 c = let a = c .before .before .before .before .before .args in let S = c .before .before .before .take-state in marked-rejecting (a .text .now) (a .p) (a .i) (a .accepting) (omega arith) (S .result .value) (S .result .end) (S .ensures) (omega arith) (c .if2 .taken)
-
-nothing-requires-2 : tie.Need-nothing-requires-2
-nothing-requires-2 c κs = search needs
+returns-2 c = let a = c .before .before .before .before .before .args in let S = c .before .before .before .take-state in
+    marked-rejecting (a .text .now) (a .p) (a .i) (a .accepting) (omega arith) (S .result .value) (S .result .end) (S .ensures) (omega arith) (c .if2 .taken)
 
 returns-3 : tie.Need-returns-3
-returns-3 c = let a = c .before .before .before .before .before .before .before .args in let S = c .before .before .before .before .before .take-state in marked-late (a .text .now) (a .p) (a .i) (a .accepting) (omega arith) (S .result .value) (S .result .end) (S .ensures) (omega arith) (c .before .before .if2 .left) (omega arith) (c .nothing2 .ensures .1)
-
-add-t8 : tie.Need-add-t8
-add-t8 c = omega arith
+returns-3 c =
+    let start = c .before .before .before .before .before .before .before in
+    let a = start .args in let S = c .before .before .before .before .before .take-state in
+    marked-late (a .text .now) (a .p) (a .i) (a .accepting) (omega arith) (S .result .value) (S .result .end) (S .ensures) (omega arith) (c .before .before .if2 .left) (omega arith)
+    (c .nothing2 .ensures .1)
 
 returns-4 : tie.Need-returns-4
-returns-4 c = let a = c .before .before .before .before .before .before .args in let S = c .before .before .before .before .take-state in marked-accepting (a .text .now) (a .p) (a .i) (a .accepting) (omega arith) (S .result .value) (S .result .end) (S .ensures) (omega arith) (c .before .if2 .left) (omega arith)
+returns-4 c = let a = c .before .before .before .before .before .before .args in let S = c .before .before .before .before .take-state in
+    marked-accepting (a .text .now) (a .p) (a .i) (a .accepting) (omega arith) (S .result .value) (S .result .end) (S .ensures) (omega arith) (c .before .if2 .left) (omega arith)
 
 pub take-marked-spec : {M : Type 1} → statement M
 take-marked-spec =
-    tie.close
-    (tie.spec
-    take-state-requires
-    nothing-requires
-    returns
-    returns-2
-    nothing-requires-2
-    returns-3
-    add-t8
-    returns-4)
+    tie.close (tie.spec
+    take-state-requires (λ c κs. search needs) returns returns-2 (λ c κs. search needs) returns-3 (λ c. omega arith) returns-4)

@@ -24,22 +24,12 @@ loop-holds c = let a = c .before .before .args in (omega arith, [], starting-non
 take-start-requires : tie.Need-take-start-requires Inv-loop μ-loop
 take-start-requires c κs = let I = c .before .loop .inv in (c .before .before .before .before .pre .0, I .2 .within, omega arith)
 
-flag-of-requires : tie.Need-flag-of-requires Inv-loop μ-loop
-flag-of-requires c κs = omega arith
-
-store-flag-requires : tie.Need-store-flag-requires Inv-loop μ-loop
-store-flag-requires c κs = search needs
-
-add-i : tie.Need-add-i Inv-loop μ-loop
-add-i c = omega arith
-
-loop-less : tie.Need-loop-less Inv-loop μ-loop
-loop-less c = omega arith
-
 loop-again : tie.Need-loop-again Inv-loop μ-loop
 loop-again c =
-    let a = c .before .before .before .before .before .before .before .before .before .before .before .args in
-    let l = c .before .before .before .before .before .before .before .before .loop in
+    let at-loop = c .before .before .before .before .before .before .before .before in
+    let start = at-loop .before .before .before in
+    let a = start .args in
+    let l = at-loop .loop in
     let T = c .before .before .before .before .before .before .take-start in
     let F = c .before .before .before .before .flag-of in (
       omega arith,
@@ -48,22 +38,12 @@ loop-again c =
       flag-stored (a .flags .now) (a .accepting) (l .inv .1) (l .i) 0 (F .result) (l .inv .2 .long) (l .inv .3) (F .ensures) (c .before .before .store-flag .ensures),
     )
 
-flag-of-requires-2 : tie.Need-flag-of-requires-2 Inv-loop μ-loop
-flag-of-requires-2 c κs = omega arith
-
-store-flag-requires-2 : tie.Need-store-flag-requires-2 Inv-loop μ-loop
-store-flag-requires-2 c κs = search needs
-
-add-i-2 : tie.Need-add-i-2 Inv-loop μ-loop
-add-i-2 c = omega arith
-
-loop-less-2 : tie.Need-loop-less-2 Inv-loop μ-loop
-loop-less-2 c = omega arith
-
 loop-again-2 : tie.Need-loop-again-2 Inv-loop μ-loop
 loop-again-2 c =
-    let a = c .before .before .before .before .before .before .before .before .before .before .before .args in
-    let l = c .before .before .before .before .before .before .before .before .loop in
+    let at-loop = c .before .before .before .before .before .before .before .before in
+    let start = at-loop .before .before .before in
+    let a = start .args in
+    let l = at-loop .loop in
     let T = c .before .before .before .before .before .before .take-start in
     let F = c .before .before .before .before .flag-of2 in (
       omega arith,
@@ -83,21 +63,6 @@ returns c =
 
 pub take-starts-spec : {M : Type 1} → statement M
 take-starts-spec =
-    tie.close
-    (tie.spec
-    Inv-loop
-    μ-loop
-    loop-holds
-    take-start-requires
-    flag-of-requires
-    store-flag-requires
-    add-i
-    loop-less
-    loop-again
-    flag-of-requires-2
-    store-flag-requires-2
-    add-i-2
-    loop-less-2
-    loop-again-2
-    same-length
-    returns)
+    tie.close (tie.spec
+    Inv-loop μ-loop loop-holds take-start-requires (λ c κs. omega arith) (λ c κs. search needs) (λ c. omega arith) (λ c. omega arith) loop-again
+    (λ c κs. omega arith) (λ c κs. search needs) (λ c. omega arith) (λ c. omega arith) loop-again-2 same-length returns)

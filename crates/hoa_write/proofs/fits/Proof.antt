@@ -36,7 +36,13 @@ returns c =
     let a = c .before .before .before .args in
     let p = c .before .before .before .pre in
     let room : length (automatonText (a .b) (flagsOf (initialAt (a .initial)) (wordsIn (a .codes .now))) (wordsIn (a .moves .now))) ≤ a .room =
-    omega (arith, c .if1 .taken, text-within (a .s) (wordsIn (a .codes .now)) (wordsIn (a .moves .now)) (p .2) (initialAt (a .initial)) (a .b) (p .0), words-in-length (a .codes .now), words-in-length (a .moves .now)) in
+    omega (
+      arith,
+      c .if1 .taken,
+      text-within (a .s) (wordsIn (a .codes .now)) (wordsIn (a .moves .now)) (p .2) (initialAt (a .initial)) (a .b) (p .0),
+      words-in-length (a .codes .now),
+      words-in-length (a .moves .now),
+    ) in
     sym (le-leb _ (a .room) room)
 
 text-length-requires : tie.Need-text-length-requires

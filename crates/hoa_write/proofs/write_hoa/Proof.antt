@@ -14,37 +14,32 @@ use borrow.Author.Needs.{needs}
 use Rattle.hoa_write.proofs.write_hoa.Statement.{statement}
 use Rattle.hoa_write.proofs.write_hoa.Tie as tie
 
-read-rule-requires : tie.Need-read-rule-requires
-read-rule-requires c κs = search needs
-
-enum-known-l : tie.Need-enum-known-l
-enum-known-l c = search needs
+abbrev start-of-after-l : tie.After-l → tie.Start
+start-of-after-l c = c .before .before .before .before .before .before .before
 
 -- the file was read
-read : (c : tie.After-l) → readOf (c .before .before .before .before .before .before .before .args .file .now) ≡ Accepted (c .l .given .0 .0)
+read : (c : tie.After-l) → readOf (start-of-after-l c .args .file .now) ≡ Accepted (c .l .given .0 .0)
 read c = sym (c .before .before .read-rule .ensures) ∙ c .l .given .1
 
 cast-write-read : tie.Need-cast-write-read
 cast-write-read c =
-    let f = c .before .before .before .before .before .before .before .before .before .args .file .now in
+    let start = c .before .before .before .before .before .before .before .before .before in
+    let f = start .args .file .now in
     let l = c .before .before .l .given .0 .0 in
     omega (arith, initial-low f l (served f l (read (c .before .before))))
 
 write-read-requires : tie.Need-write-read-requires
 write-read-requires c κs =
-    let f = c .before .before .before .before .before .before .before .before .before .before .args .file .now in
-    let l = c .before .before .before .l .given .0 .0 in
-    (served-letters f l (read (c .before .before .before)), initial-low f l (served f l (read (c .before .before .before))))
-
-enum-known-k : tie.Need-enum-known-k
-enum-known-k c = search needs
-
-same-length : tie.Need-same-length
-same-length c = search needs
+    let at-l = c .before .before .before in
+    let start = at-l .before .before .before .before .before .before .before in
+    let f = start .args .file .now in
+    let l = at-l .l .given .0 .0 in
+    (served-letters f l (read (at-l)), initial-low f l (served f l (read (at-l))))
 
 returns : tie.Need-returns
 returns c =
-    let a = c .before .before .before .before .before .before .before .before .before .before .before .before .before .args in
+    let start = c .before .before .before .before .before .before .before .before .before .before .before .before .before in
+    let a = start .args in
     let l = c .before .before .before .before .before .before .l .given .0 .0 in
     let v = served (a .file .now) l (read (c .before .before .before .before .before .before)) in
     let w = c .before .before .write-read in
@@ -53,20 +48,13 @@ returns c =
 
 returns-2 : tie.Need-returns-2
 returns-2 c =
-    let a = c .before .before .before .before .before .before .before .before .args in
+    let start = c .before .before .before .before .before .before .before .before in
+    let a = start .args in
     let k = c .before .k .given .0 .0 in
     let t = turned-away (a .file .now) k (sym (c .before .before .before .read-rule .ensures) ∙ c .before .k .given .1) in
     refused (a .file .now) (inBytes (a .codes .now)) (inBytes (a .transitions .now)) k (a .text .now) (λ e. t .1 (t .0 ∙ e)) (sym (t .0))
 
 pub write-hoa-spec : {M : Type 1} → statement M
 write-hoa-spec =
-    tie.close
-    (tie.spec
-    read-rule-requires
-    enum-known-l
-    cast-write-read
-    write-read-requires
-    enum-known-k
-    same-length
-    returns
-    returns-2)
+    tie.close (tie.spec
+    (λ c κs. search needs) (λ c. search needs) cast-write-read write-read-requires (λ c. search needs) (λ c. search needs) returns returns-2)

@@ -17,92 +17,85 @@ use borrow.Author.Needs.{needs}
 use Rattle.hoa_write.proofs.write_read.Statement.{statement}
 use Rattle.hoa_write.proofs.write_read.Tie as tie
 
-array-share-prefix-codewords : tie.Need-array-share-prefix-codewords
-array-share-prefix-codewords c = search needs
-
-slice-aggregate-table-row : tie.Need-slice-aggregate-table-row
-slice-aggregate-table-row c = search needs
-
-array-share-prefix-movewords : tie.Need-array-share-prefix-movewords
-array-share-prefix-movewords c = search needs
-
-slice-aggregate-table-row-2 : tie.Need-slice-aggregate-table-row-2
-slice-aggregate-table-row-2 c = search needs
-
-table-row-requires : tie.Need-table-row-requires
-table-row-requires c κs = search needs
-
 -- row 15 or 0
 row-is : (c : tie.After-table-row) → let a = c .before .before .before .before .before .before .args in c .table-row .result ≡ tableRow (a .s) (inBytes (a .codes .now)) (inBytes (a .moves .now))
 row-is c = let a = c .before .before .before .before .before .before .args in rw (both-bytes (a .codes .now), both-bytes (a .moves .now)) at (c .table-row .ensures)
 
 returns : tie.Need-returns
 returns c =
-    let a = c .before .before .before .before .before .before .before .args in
+    let start = c .before .before .before .before .before .before .before in
+    let a = start .args in
     called-refused (a .s) (a .initial) (inBytes (a .codes .now)) (inBytes (a .moves .now)) (a .text .now) (c .before .table-row .result) (c .if1 .taken)
     (table-refuses (a .s) (a .initial) (inBytes (a .codes .now)) (inBytes (a .moves .now)) (length (a .text .now)) (c .before .table-row .result) (c .if1 .taken) (row-is (c .before)))
 
+abbrev start-of-else1 : tie.Else1 → tie.Start
+start-of-else1 c = c .before .before .before .before .before .before .before
+
 -- row 15 lets the table through
-passes : (c : tie.Else1) → let a = c .before .before .before .before .before .before .before .args in tableRow (a .s) (inBytes (a .codes .now)) (inBytes (a .moves .now)) ≡ 0
+passes : (c : tie.Else1) → let a = start-of-else1 c .args in tableRow (a .s) (inBytes (a .codes .now)) (inBytes (a .moves .now)) ≡ 0
 passes c = sym (row-is (c .before)) ∙ c .if1 .left
 
 propositions-of-requires : tie.Need-propositions-of-requires
-propositions-of-requires c κs = c .before .before .before .before .before .before .before .pre .0
+propositions-of-requires c κs =
+    let start = c .before .before .before .before .before .before .before in
+    start .pre .0
 
 fits-requires : tie.Need-fits-requires
 fits-requires c κs =
-    let a = c .before .before .before .before .before .before .before .before .args in
-    (c .propositions-of .ensures .1, c .before .before .before .before .before .before .before .before .pre .1, bytes-passed (a .s) (a .codes .now) (a .moves .now) (passes (c .before)))
+    let start = c .before .before .before .before .before .before .before .before in
+    let a = start .args in
+    (c .propositions-of .ensures .1, start .pre .1, bytes-passed (a .s) (a .codes .now) (a .moves .now) (passes (c .before)))
+
+abbrev start-of-after-propositions-of : tie.After-propositions-of → tie.Start
+start-of-after-propositions-of c = c .before .before .before .before .before .before .before .before
 
 -- the text that is written is the table's
-text : (c : tie.After-propositions-of) → let a = c .before .before .before .before .before .before .before .before .args in
-    lentText (a .s) (a .initial) (inBytes (a .codes .now)) (inBytes (a .moves .now)) ≡ automatonText (c .propositions-of .result) (flagsOf (initialAt (a .initial)) (wordsIn (a .codes .now))) (wordsIn (a .moves .now))
-text c = let a = c .before .before .before .before .before .before .before .before .args in text-is (a .s) (a .codes .now) (a .moves .now) (a .initial) (c .propositions-of .result) (c .propositions-of .ensures .0)
+text : (c : tie.After-propositions-of) → let a = start-of-after-propositions-of c .args in
+    lentText (a .s) (a .initial) (inBytes (a .codes .now)) (inBytes (a .moves .now))
+    ≡ automatonText (c .propositions-of .result) (flagsOf (initialAt (a .initial)) (wordsIn (a .codes .now))) (wordsIn (a .moves .now))
+text c = let a = start-of-after-propositions-of c .args in text-is (a .s) (a .codes .now) (a .moves .now) (a .initial) (c .propositions-of .result) (c .propositions-of .ensures .0)
 
 returns-2 : tie.Need-returns-2
 returns-2 c =
-    let a = c .before .before .before .before .before .before .before .before .before .before .args in
+    let start = c .before .before .before .before .before .before .before .before .before .before in
+    let a = start .args in
     let room : length (a .text .now) < length (lentText (a .s) (a .initial) (inBytes (a .codes .now)) (inBytes (a .moves .now))) =
     rw (text (c .before .before)) (leb-false _ _ (sym (c .before .fits2 .ensures) ∙ not-true _ (c .if2 .taken))) in
     called-refused (a .s) (a .initial) (inBytes (a .codes .now)) (inBytes (a .moves .now)) (a .text .now) 16 (λ z. omega arith)
     (slice-refuses (a .s) (a .initial) (inBytes (a .codes .now)) (inBytes (a .moves .now)) (length (a .text .now)) (passes (c .before .before .before)) room)
 
+abbrev start-of-else2 : tie.Else2 → tie.Start
+start-of-else2 c = c .before .before .before .before .before .before .before .before .before .before
+
 -- there is room for it
-fitting : (c : tie.Else2) → let a = c .before .before .before .before .before .before .before .before .before .before .args in
-    length (automatonText (c .before .before .propositions-of .result) (flagsOf (initialAt (a .initial)) (wordsIn (a .codes .now))) (wordsIn (a .moves .now))) ≤ length (a .text .now)
+fitting : (c : tie.Else2) → let a = start-of-else2 c .args in length (automatonText (c .before .before .propositions-of .result) (flagsOf (initialAt (a .initial)) (wordsIn (a .codes .now)))
+    (wordsIn (a .moves .now))) ≤ length (a .text .now)
 fitting c = leb-true _ _ (sym (c .before .fits2 .ensures) ∙ not-false _ (c .if2 .left))
 
 put-text-requires : tie.Need-put-text-requires
 put-text-requires c κs =
-    let a = c .before .before .before .before .before .before .before .before .before .before .before .args in
-    (c .before .before .before .propositions-of .ensures .1, c .before .before .before .before .before .before .before .before .before .before .before .pre .1, bytes-passed (a .s) (a .codes .now) (a .moves .now) (passes (c .before .before .before .before)) .transitions-ascend, fitting (c .before))
-
-same-length : tie.Need-same-length
-same-length c = search needs
+    let start = c .before .before .before .before .before .before .before .before .before .before .before in
+    let a = start .args in (
+      c .before .before .before .propositions-of .ensures .1,
+      start .pre .1,
+      bytes-passed (a .s) (a .codes .now) (a .moves .now) (passes (c .before .before .before .before)) .transitions-ascend,
+      fitting (c .before),
+    )
 
 returns-3 : tie.Need-returns-3
 returns-3 c =
-    let a = c .before .before .before .before .before .before .before .before .before .before .before .before .before .before .args in
+    let earlier = c .before .before .before .before .before .before .before in
+    let start = earlier .before .before .before .before .before .before .before in
+    let a = start .args in
     let P = put-first (c .before .before .put-text .ensures) in
     let e = text (c .before .before .before .before .before .before) in
     let room : length (lentText (a .s) (a .initial) (inBytes (a .codes .now)) (inBytes (a .moves .now))) ≤ length (a .text .now) = rw e (fitting (c .before .before .before .before)) in
     called-served (a .s) (a .initial) (inBytes (a .codes .now)) (inBytes (a .moves .now)) (a .text .now)
-    (call-served (a .s) (a .initial) (inBytes (a .codes .now)) (inBytes (a .moves .now)) (length (a .text .now)) (passes (c .before .before .before .before .before .before .before)) room)
+    (call-served (a .s) (a .initial) (inBytes (a .codes .now)) (inBytes (a .moves .now)) (length (a .text .now)) (passes (earlier)) room)
     _ _ (P .0 ∙ ap length (sym e)) (P .1 ∙ ap (λ (s : List ℕ). s ++ drop (length s) (a .text .now)) (sym e))
 
 pub write-read-spec : {M : Type 1} → statement M
 write-read-spec =
-    tie.close
-    (tie.spec
-    array-share-prefix-codewords
-    slice-aggregate-table-row
-    array-share-prefix-movewords
-    slice-aggregate-table-row-2
-    table-row-requires
-    returns
-    propositions-of-requires
-    fits-requires
-    returns-2
-    put-text-requires
-    same-length
-    returns-3)
+    tie.close (tie.spec
+    (λ c. search needs) (λ c. search needs) (λ c. search needs) (λ c. search needs) (λ c κs. search needs) returns propositions-of-requires fits-requires
+    returns-2 put-text-requires (λ c. search needs) returns-3)

@@ -8,14 +8,11 @@ use borrow.Author.Needs.{needs}
 use Rattle.judge.proofs.judge.Statement.{statement}
 use Rattle.judge.proofs.judge.Tie as tie
 
-read-rule-requires : tie.Need-read-rule-requires
-read-rule-requires c κs = search needs
-
-enum-known-l : tie.Need-enum-known-l
-enum-known-l c = search needs
+abbrev start-of-after-h : tie.After-h → tie.Start
+start-of-after-h c = c .before .before .before .before .before .before .before .before .before
 
 -- the reader's answer is the definition's
-read : (c : tie.After-h) → readOf (c .before .before .before .before .before .before .before .before .before .args .file .now) ≡ Accepted (c .before .before .l .given .0 .0)
+read : (c : tie.After-h) → readOf (start-of-after-h c .args .file .now) ≡ Accepted (c .before .before .l .given .0 .0)
 read c = sym (c .before .before .before .before .read-rule .ensures) ∙ c .before .before .l .given .1
 
 counts-of-requires : tie.Need-counts-of-requires
@@ -27,13 +24,8 @@ clauses-of-requires c κs = read (c .before)
 judge-read-requires : tie.Need-judge-read-requires
 judge-read-requires c κs =
     let h = c .before .before .before in
-    lent-passing (h .before .before .before .before .before .before .before .before .before .args .file .now) (h .before .before .l .given .0 .0) (read h) _ _ (c .before .before .counts-of .ensures) (c .before .clauses-of .ensures)
-
-enum-known-k : tie.Need-enum-known-k
-enum-known-k c = search needs
-
-same-length : tie.Need-same-length
-same-length c = search needs
+    lent-passing (h .before .before .before .before .before .before .before .before .before .args .file .now) (h .before .before .l .given .0 .0) (read h) _ _ (c .before .before .counts-of .ensures)
+    (c .before .clauses-of .ensures)
 
 returns : tie.Need-returns
 returns c =
@@ -46,21 +38,14 @@ returns c =
 
 returns-2 : tie.Need-returns-2
 returns-2 c =
-    let a = c .before .before .before .before .before .before .before .before .args in
+    let start = c .before .before .before .before .before .before .before .before in
+    let a = start .args in
     let k = c .before .k .given .0 .0 in
     let t = turned-away (a .file .now) k (sym (c .before .before .before .read-rule .ensures) ∙ c .before .k .given .1) in
     judged-refused (a .file .now) (a .lead .now) (a .cycle .now) (a .masks .now) (a .masks .now) k (λ e. t .1 (t .0 ∙ e)) (sym (t .0))
 
 pub judge-spec : {M : Type 1} → statement M
 judge-spec =
-    tie.close
-    (tie.spec
-    read-rule-requires
-    enum-known-l
-    counts-of-requires
-    clauses-of-requires
-    judge-read-requires
-    enum-known-k
-    same-length
-    returns
+    tie.close (tie.spec
+    (λ c κs. search needs) (λ c. search needs) counts-of-requires clauses-of-requires judge-read-requires (λ c. search needs) (λ c. search needs) returns
     returns-2)

@@ -14,79 +14,68 @@ use borrow.Author.Needs.{needs}
 use Rattle.judge.proofs.judge_read.Statement.{statement}
 use Rattle.judge.proofs.judge_read.Tie as tie
 
-word-row-requires : tie.Need-word-row-requires
-word-row-requires c κs = search needs
-
 returns : tie.Need-returns
 returns c =
-    let a = c .before .before .before .before .before .before .before .args in
+    let start = c .before .before .before .before .before .before .before in
+    let a = start .args in
     called-refused (ruleOf (a .h) (a .counts .now) (a .clauses .now)) (a .lead .now) (a .cycle .now) (a .masks .now) (c .before .word-row .result) (c .if1 .taken)
-    (word-refuses (ruleOf (a .h) (a .counts .now) (a .clauses .now)) (a .lead .now) (a .cycle .now) (length (a .masks .now)) (c .before .word-row .result) (c .if1 .taken) (c .before .word-row .ensures))
-
-add-if2 : tie.Need-add-if2
-add-if2 c = search needs
+    (word-refuses (ruleOf (a .h) (a .counts .now) (a .clauses .now)) (a .lead .now) (a .cycle .now) (length (a .masks .now)) (c .before .word-row .result) (c .if1 .taken)
+    (c .before .word-row .ensures))
 
 returns-2 : tie.Need-returns-2
 returns-2 c =
-    let a = c .before .before .before .before .before .before .before .before .args in
+    let start = c .before .before .before .before .before .before .before .before in
+    let a = start .args in
     called-refused (ruleOf (a .h) (a .counts .now) (a .clauses .now)) (a .lead .now) (a .cycle .now) (a .masks .now) 16 (λ e. omega arith)
-    (slice-refuses (ruleOf (a .h) (a .counts .now) (a .clauses .now)) (a .lead .now) (a .cycle .now) (length (a .masks .now)) (sym (c .before .before .word-row .ensures) ∙ c .before .if1 .left) (c .if2 .taken))
+    (slice-refuses (ruleOf (a .h) (a .counts .now) (a .clauses .now)) (a .lead .now) (a .cycle .now) (length (a .masks .now)) (sym (c .before .before .word-row .ensures) ∙ c .before .if1 .left)
+    (c .if2 .taken))
 
 fill-requires : tie.Need-fill-requires
 fill-requires c κs =
-    let a = c .before .before .before .before .before .before .before .before .before .args in
-    (c .before .before .before .before .before .before .before .before .before .pre, word-over (a .h .s) (a .lead .now) (a .cycle .now) (sym (c .before .before .before .word-row .ensures) ∙ c .before .before .if1 .left), c .before .if2 .left)
+    let start = c .before .before .before .before .before .before .before .before .before in
+    let a = start .args in
+    (start .pre, word-over (a .h .s) (a .lead .now) (a .cycle .now) (sym (c .before .before .before .word-row .ensures) ∙ c .before .before .if1 .left), c .before .if2 .left)
 
 slice-read-contains : tie.Need-slice-read-contains
 slice-read-contains c =
-    let a = c .before .before .before .before .before .before .before .before .before .before .before .before .before .args in
-    let w = word-over (a .h .s) (a .lead .now) (a .cycle .now) (sym (c .before .before .before .before .before .before .before .word-row .ensures) ∙ c .before .before .before .before .before .before .if1 .left) in
-    omega (arith, simp length-append at (ap length (c .before .before .before .fill .ensures)), truth-length (ruleOf (a .h) (a .counts .now) (a .clauses .now)) (a .lead .now) (a .cycle .now), w .repeats)
+    let at-word-row = c .before .before .before .before .before .before .before in
+    let start = at-word-row .before .before .before .before .before .before in
+    let a = start .args in
+    let w = word-over (a .h .s) (a .lead .now) (a .cycle .now) (sym (at-word-row .word-row .ensures) ∙ c .before .before .before .before .before .before .if1 .left) in
+    omega (
+      arith,
+      simp length-append at (ap length (c .before .before .before .fill .ensures)),
+      truth-length (ruleOf (a .h) (a .counts .now) (a .clauses .now)) (a .lead .now) (a .cycle .now),
+      w .repeats,
+    )
 
-cast-contains : tie.Need-cast-contains
-cast-contains c = search needs
-
-contains-requires : tie.Need-contains-requires
-contains-requires c κs = search needs
-
-same-length : tie.Need-same-length
-same-length c = search needs
+abbrev start-of-after-contains : tie.After-contains → tie.Start
+start-of-after-contains c = c .before .before .before .before .before .before .before .before .before .before .before .before .before .before .before
 
 -- the masks are written, and the test of the first is b
-served : (c : tie.After-contains) (t : Bool) → let a = c .before .before .before .before .before .before .before .before .before .before .before .before .before .before .before .args in let f = c .before .before .before .before .before .fill in
-    bit (getD (f .last .1 .1 .1 .1 .1 .0) 0 0) (a .h .initial) ≡ t
-    → JudgeCalled (ruleOf (a .h) (a .counts .now) (a .clauses .now)) (a .lead .now) (a .cycle .now) (a .masks .now) (f .last .1 .1 .1 .1 .1 .0) (verdict 0 t)
+served : (c : tie.After-contains) (t : Bool) → let a = start-of-after-contains c .args in let f = c .before .before .before .before .before .fill in
+    bit (getD (f .last .1 .1 .1 .1 .1 .0) 0 0) (a .h .initial) ≡ t → JudgeCalled (ruleOf (a .h) (a .counts .now) (a .clauses .now)) (a .lead .now) (a .cycle .now) (a .masks .now)
+    (f .last .1 .1 .1 .1 .1 .0) (verdict 0 t)
 served c t e =
-    let a = c .before .before .before .before .before .before .before .before .before .before .before .before .before .before .before .args in
+    let at-if2 = c .before .before .before .before .before .before .before in
+    let at-if1 = at-if2 .before in
+    let at-word-row = at-if1 .before in
+    let a = start-of-after-contains c .args in
     let r = ruleOf (a .h) (a .counts .now) (a .clauses .now) in
     let f = c .before .before .before .before .before .fill in
-    let row = sym (c .before .before .before .before .before .before .before .before .before .word-row .ensures) ∙ c .before .before .before .before .before .before .before .before .if1 .left in
+    let row = sym (at-word-row .word-row .ensures) ∙ at-if1 .if1 .left in
     let w = word-over (a .h .s) (a .lead .now) (a .cycle .now) row in
-    called-served r (a .lead .now) (a .cycle .now) (a .masks .now) (call-served r (a .lead .now) (a .cycle .now) (length (a .masks .now)) row (c .before .before .before .before .before .before .before .if2 .left))
+    called-served r (a .lead .now) (a .cycle .now) (a .masks .now) (call-served r (a .lead .now) (a .cycle .now) (length (a .masks .now)) row (at-if2 .if2 .left))
     (f .last .1 .1 .1 .1 .1 .0) (f .ensures) (w .repeats) t e
 
 returns-3 : tie.Need-returns-3
 returns-3 c = served (c .before) true (sym (c .before .contains .ensures) ∙ c .if3 .taken)
-
-same-length-2 : tie.Need-same-length-2
-same-length-2 c = search needs
 
 returns-4 : tie.Need-returns-4
 returns-4 c = served (c .before) false (sym (c .before .contains .ensures) ∙ c .if3 .left)
 
 pub judge-read-spec : {M : Type 1} → statement M
 judge-read-spec =
-    tie.close
-    (tie.spec
-    word-row-requires
-    returns
-    add-if2
-    returns-2
-    fill-requires
-    slice-read-contains
-    cast-contains
-    contains-requires
-    same-length
-    returns-3
-    same-length-2
-    returns-4)
+    tie.close (tie.spec
+    (λ c κs. search needs) returns (λ c. search needs) returns-2 fill-requires slice-read-contains (λ c. search needs) (λ c κs. search needs)
+    (λ c. search needs) returns-3 (λ c. search needs) returns-4)

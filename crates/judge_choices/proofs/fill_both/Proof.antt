@@ -15,68 +15,48 @@ use Rattle.judge_choices.proofs.fill_both.Statement.{statement}
 use Rattle.judge_choices.proofs.fill_both.Tie as tie
 
 starts-of-requires : tie.Need-starts-of-requires
-starts-of-requires c κs = let a = c .before .before .before .before .before .before .args in entries-few (ruleOf (a .h) (a .counts .now) (a .clauses .now)) (c .before .before .before .before .before .before .pre .0 .formed)
+starts-of-requires c κs = let a = c .before .before .before .before .before .before .args in
+    entries-few (ruleOf (a .h) (a .counts .now) (a .clauses .now)) (c .before .before .before .before .before .before .pre .0 .formed)
 
-closures-requires : tie.Need-closures-requires
-closures-requires c κs = search needs
-
-classes-of-requires : tie.Need-classes-of-requires
-classes-of-requires c κs = search needs
-
-add-end : tie.Need-add-end
-add-end c = search needs
-
-fill-word-requires : tie.Need-fill-word-requires
-fill-word-requires c κs = search needs
-
-slice-reshare-prefix-fill-choices : tie.Need-slice-reshare-prefix-fill-choices
-slice-reshare-prefix-fill-choices c = search needs
+abbrev start-of-after-fill-word : tie.After-fill-word → tie.Start
+start-of-after-fill-word c = c .before .before .before .before .before .before .before .before .before .before .before .before .before .before
 
 -- the front of the slice is the truth masks
-front : (c : tie.After-fill-word) →
-    let a = c .before .before .before .before .before .before .before .before .before .before .before .before .before .before .args in
-    let r = ruleOf (a .h) (a .counts .now) (a .clauses .now) in
+front : (c : tie.After-fill-word) → let a = start-of-after-fill-word c .args in let r = ruleOf (a .h) (a .counts .now) (a .clauses .now) in
     take (places (a .lead .now) (a .cycle .now)) (c .fill-word .last .1 .1 .1 .1 .1 .1 .1 .0) ≡ truthMasks r (a .lead .now) (a .cycle .now)
 front c =
-    let a = c .before .before .before .before .before .before .before .before .before .before .before .before .before .before .args in
+    let a = start-of-after-fill-word c .args in
     let r = ruleOf (a .h) (a .counts .now) (a .clauses .now) in
     ap (take (places (a .lead .now) (a .cycle .now))) (c .fill-word .ensures)
     ∙ front-of (places (a .lead .now) (a .cycle .now)) (truthMasks r (a .lead .now) (a .cycle .now)) _ (truth-length r (a .lead .now) (a .cycle .now))
 
 slice-aggregate-fill-choices : tie.Need-slice-aggregate-fill-choices
 slice-aggregate-fill-choices c =
-    let a = c .before .before .before .before .before .before .before .before .before .before .before .before .before .before .before .before .before .before .before .args in
+    let start = c .before .before .before .before .before .before .before .before .before .before .before .before .before .before .before .before .before .before .before in
+    let a = start .args in
     let r = ruleOf (a .h) (a .counts .now) (a .clauses .now) in
     sym (ap length (front (c .before .before .before .before .before)) ∙ truth-length r (a .lead .now) (a .cycle .now))
 
 fill-choices-requires : tie.Need-fill-choices-requires
 fill-choices-requires c κs =
-    let p = c .before .before .before .before .before .before .before .before .before .before .before .before .before .before .before .before .before .before .before .before .pre in (
-      record { passing = p .0; beginnings = c .before .before .before .before .before .before .before .before .before .before .before .before .before .starts-of .ensures; components = c .before .before .before .before .before .before .before .before .before .before .classes-of .ensures; word = p .1; few-places = p .2; truths = front (c .before .before .before .before .before .before) },
+    let at-classes-of = c .before .before .before .before .before .before .before .before .before .before in
+    let at-starts-of = at-classes-of .before .before .before in
+    let start = at-starts-of .before .before .before .before .before .before .before in
+    let p = start .pre in (
+      record {
+        passing = p .0;
+        beginnings = at-starts-of .starts-of .ensures;
+        components = at-classes-of .classes-of .ensures;
+        word = p .1;
+        few-places = p .2;
+        truths =
+            front (c .before .before .before .before .before .before);
+      },
       p .4,
     )
 
-same-length : tie.Need-same-length
-same-length c = search needs
-
-same-length-2 : tie.Need-same-length-2
-same-length-2 c = search needs
-
-returns : tie.Need-returns
-returns c = search needs
-
 pub fill-both-spec : {M : Type 1} → statement M
 fill-both-spec =
-    tie.close
-    (tie.spec
-    starts-of-requires
-    closures-requires
-    classes-of-requires
-    add-end
-    fill-word-requires
-    slice-reshare-prefix-fill-choices
-    slice-aggregate-fill-choices
-    fill-choices-requires
-    same-length
-    same-length-2
-    returns)
+    tie.close (tie.spec
+    starts-of-requires (λ c κs. search needs) (λ c κs. search needs) (λ c. search needs) (λ c κs. search needs) (λ c. search needs) slice-aggregate-fill-choices
+    fill-choices-requires (λ c. search needs) (λ c. search needs) (λ c. search needs))

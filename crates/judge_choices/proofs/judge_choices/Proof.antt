@@ -8,14 +8,11 @@ use borrow.Author.Needs.{needs}
 use Rattle.judge_choices.proofs.judge_choices.Statement.{statement}
 use Rattle.judge_choices.proofs.judge_choices.Tie as tie
 
-read-rule-requires : tie.Need-read-rule-requires
-read-rule-requires c κs = search needs
-
-enum-known-l : tie.Need-enum-known-l
-enum-known-l c = search needs
+abbrev start-of-after-h : tie.After-h → tie.Start
+start-of-after-h c = c .before .before .before .before .before .before .before .before .before .before
 
 -- the reader's answer is the definition's
-read : (c : tie.After-h) → readOf (c .before .before .before .before .before .before .before .before .before .before .args .file .now) ≡ Accepted (c .before .before .l .given .0 .0)
+read : (c : tie.After-h) → readOf (start-of-after-h c .args .file .now) ≡ Accepted (c .before .before .l .given .0 .0)
 read c = sym (c .before .before .before .before .read-rule .ensures) ∙ c .before .before .l .given .1
 
 counts-of-requires : tie.Need-counts-of-requires
@@ -25,43 +22,35 @@ clauses-of-requires : tie.Need-clauses-of-requires
 clauses-of-requires c κs = read (c .before)
 
 judge-choices-read-requires : tie.Need-judge-choices-read-requires
-judge-choices-read-requires c κs = lent-passing (c .before .before .before .before .before .before .before .before .before .before .before .before .before .before .args .file .now) (c .before .before .before .before .before .before .l .given .0 .0) (read (c .before .before .before .before)) _ _ (c .before .before .before .counts-of .ensures) (c .before .before .clauses-of .ensures)
-
-enum-known-k : tie.Need-enum-known-k
-enum-known-k c = search needs
-
-same-length : tie.Need-same-length
-same-length c = search needs
-
-same-length-2 : tie.Need-same-length-2
-same-length-2 c = search needs
+judge-choices-read-requires c κs =
+    let start = c .before .before .before .before .before .before .before .before .before .before .before .before .before .before in
+    lent-passing (start .args .file .now) (c .before .before .before .before .before .before .l .given .0 .0) (read (c .before .before .before .before)) _ _
+    (c .before .before .before .counts-of .ensures) (c .before .before .clauses-of .ensures)
 
 returns : tie.Need-returns
 returns c =
-    let a = c .before .before .before .before .before .before .before .before .before .before .before .before .before .before .before .before .before .before .before .args in
-    let l = c .before .before .before .before .before .before .before .before .before .before .before .l .given .0 .0 in
+    let at-clauses-of = c .before .before .before .before .before .before .before in
+    let at-counts-of = at-clauses-of .before in
+    let earlier = at-counts-of .before in
+    let at-l = earlier .before .before in
+    let start = at-l .before .before .before .before .before .before .before .before in
+    let a = start .args in
+    let l = at-l .l .given .0 .0 in
     let j = c .before .before .before .before .judge-choices-read in
-    judged-called (a .file .now) (a .lead .now) (a .cycle .now) (a .masks .now) (j .last .1 .1 .1 .1 .1 .0) (a .choices .now) (j .last .1 .1 .1 .1 .1 .1 .0) (j .result) (served (a .file .now) l (read (c .before .before .before .before .before .before .before .before .before)) .row)
-    (rw (lent-rule (a .file .now) l (read (c .before .before .before .before .before .before .before .before .before)) _ _ (c .before .before .before .before .before .before .before .before .counts-of .ensures) (c .before .before .before .before .before .before .before .clauses-of .ensures)) at (j .ensures))
+    judged-called (a .file .now) (a .lead .now) (a .cycle .now) (a .masks .now) (j .last .1 .1 .1 .1 .1 .0) (a .choices .now) (j .last .1 .1 .1 .1 .1 .1 .0) (j .result)
+    (served (a .file .now) l (read (earlier)) .row)
+    (rw (lent-rule (a .file .now) l (read (earlier)) _ _ (at-counts-of .counts-of .ensures) (at-clauses-of .clauses-of .ensures)) at (j .ensures))
 
 returns-2 : tie.Need-returns-2
 returns-2 c =
-    let a = c .before .before .before .before .before .before .before .before .before .args in
+    let start = c .before .before .before .before .before .before .before .before .before in
+    let a = start .args in
     let k = c .before .k .given .0 .0 in
     let t = turned-away (a .file .now) k (sym (c .before .before .before .read-rule .ensures) ∙ c .before .k .given .1) in
     judged-refused (a .file .now) (a .lead .now) (a .cycle .now) (a .masks .now) (a .masks .now) (a .choices .now) (a .choices .now) k (λ e. t .1 (t .0 ∙ e)) (sym (t .0))
 
 pub judge-choices-spec : {M : Type 1} → statement M
 judge-choices-spec =
-    tie.close
-    (tie.spec
-    read-rule-requires
-    enum-known-l
-    counts-of-requires
-    clauses-of-requires
-    judge-choices-read-requires
-    enum-known-k
-    same-length
-    same-length-2
-    returns
-    returns-2)
+    tie.close (tie.spec
+    (λ c κs. search needs) (λ c. search needs) counts-of-requires clauses-of-requires judge-choices-read-requires (λ c. search needs) (λ c. search needs)
+    (λ c. search needs) returns returns-2)

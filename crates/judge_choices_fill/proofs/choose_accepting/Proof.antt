@@ -26,47 +26,64 @@ abbrev μ-loop : tie.MeasureT-loop
 μ-loop h counts starts clauses classes lead cycle masks choices₀ accepting at end p₀ choices p = places lead cycle - p
 
 cast-accepting : tie.Need-cast-accepting Inv-loop μ-loop
-cast-accepting c = let a = c .before .before .before .before .before .before .before .args in omega (arith, accepting-small (ruleOf (a .h) (a .counts .now) (a .clauses .now)) (c .before .before .before .before .before .before .before .pre .0 .passing .formed))
+cast-accepting c =
+    let start = c .before .before .before .before .before .before .before in
+    let a = start .args in omega (arith, accepting-small (ruleOf (a .h) (a .counts .now) (a .clauses .now)) (start .pre .0 .passing .formed))
 
 add-end : tie.Need-add-end Inv-loop μ-loop
-add-end c = omega (arith, c .before .before .before .before .before .before .before .pre .0 .few-places)
+add-end c =
+    let start = c .before .before .before .before .before .before .before in
+    omega (arith, start .pre .0 .few-places)
 
 loop-holds : tie.Need-loop-holds Inv-loop μ-loop
 loop-holds c =
-    let a = c .before .before .before .before .before .before .before .args in
-    let p = c .before .before .before .before .before .before .before .pre in
+    let start = c .before .before .before .before .before .before .before in
+    let a = start .args in
+    let p = start .pre in
     (omega arith, started-none (ruleOf (a .h) (a .counts .now) (a .clauses .now)) (p .0 .passing) (a .lead .now) (a .cycle .now) (p .0 .word) (a .choices .now))
 
 next-place-requires : tie.Need-next-place-requires Inv-loop μ-loop
-next-place-requires c κs = (c .loop-test .taken, omega (arith, c .before .before .before .before .before .before .before .before .before .pre .0 .few-places))
+next-place-requires c κs =
+    let start = c .before .before .before .before .before .before .before .before .before in
+    (c .loop-test .taken, omega (arith, start .pre .0 .few-places))
 
 -- the place that follows is one
-next-is : (c : tie.After-next-place Inv-loop μ-loop) → c .next-place .result ≡ nextPlace (c .before .before .before .before .before .before .before .before .before .before .args .lead .now) (c .before .before .before .before .before .before .before .before .before .before .args .cycle .now) (c .before .before .loop .p)
-next-is c = c .next-place .ensures (c .before .before .before .before .before .before .before .before .before .before .args .lead .now) (c .before .before .before .before .before .before .before .before .before .before .args .cycle .now) refl refl
+next-is : (c : tie.After-next-place Inv-loop μ-loop) → c .next-place .result
+    ≡ nextPlace (c .before .before .before .before .before .before .before .before .before .before .args .lead .now)
+    (c .before .before .before .before .before .before .before .before .before .before .args .cycle .now) (c .before .before .loop .p)
+next-is c =
+    let start = c .before .before .before .before .before .before .before .before .before .before in
+    c .next-place .ensures (start .args .lead .now) (start .args .cycle .now) refl refl
 
-follows : (c : tie.After-next-place Inv-loop μ-loop) → c .next-place .result < places (c .before .before .before .before .before .before .before .before .before .before .args .lead .now) (c .before .before .before .before .before .before .before .before .before .before .args .cycle .now)
-follows c = rw (next-is c) (next-low _ _ _ _ _ _ (c .before .before .before .before .before .before .before .before .before .before .pre .0) (c .before .before .loop .p) (c .before .loop-test .taken))
+follows : (c : tie.After-next-place Inv-loop μ-loop) → c .next-place .result < places (c .before .before .before .before .before .before .before .before .before .before .args .lead .now)
+    (c .before .before .before .before .before .before .before .before .before .before .args .cycle .now)
+follows c =
+    let start = c .before .before .before .before .before .before .before .before .before .before in
+    rw (next-is c) (next-low _ _ _ _ _ _ (start .pre .0) (c .before .before .loop .p) (c .before .loop-test .taken))
 
 shared-slice-read-all : tie.Need-shared-slice-read-all Inv-loop μ-loop
-shared-slice-read-all c = omega (arith, follows (c .before), masks-long _ _ _ _ _ _ (c .before .before .before .before .before .before .before .before .before .before .before .pre .0))
-
-letter-at-requires : tie.Need-letter-at-requires Inv-loop μ-loop
-letter-at-requires c κs = c .before .before .loop-test .taken
-
-cast-choose-each : tie.Need-cast-choose-each Inv-loop μ-loop
-cast-choose-each c = search needs
+shared-slice-read-all c =
+    let start = c .before .before .before .before .before .before .before .before .before .before .before in
+    omega (arith, follows (c .before), masks-long _ _ _ _ _ _ (start .pre .0))
 
 shared-slice-read-choose-each : tie.Need-shared-slice-read-choose-each Inv-loop μ-loop
-shared-slice-read-choose-each c = omega (arith, masks-long _ _ _ _ _ _ (c .before .before .before .before .before .before .before .before .before .before .before .before .before .pre .0), c .before .before .before .before .loop-test .taken)
+shared-slice-read-choose-each c =
+    let start = c .before .before .before .before .before .before .before .before .before .before .before .before .before in
+    omega (arith, masks-long _ _ _ _ _ _ (start .pre .0), c .before .before .before .before .loop-test .taken)
 
 mul-choose-each : tie.Need-mul-choose-each Inv-loop μ-loop
-mul-choose-each c = omega (arith, row-few _ _ _ _ _ _ (c .before .before .before .before .before .before .before .before .before .before .before .before .before .before .before .pre .0) (c .before .before .before .before .before .before .before .loop .p) (c .before .before .before .before .before .before .loop-test .taken))
+mul-choose-each c =
+    let at-loop = c .before .before .before .before .before .before .before in
+    let start = at-loop .before .before .before .before .before .before .before .before in
+    omega (arith, row-few _ _ _ _ _ _ (start .pre .0) (at-loop .loop .p) (c .before .before .before .before .before .before .loop-test .taken))
 
 choose-each-requires : tie.Need-choose-each-requires Inv-loop μ-loop
 choose-each-requires c κs =
-    let a = c .before .before .before .before .before .before .before .before .before .before .before .before .before .before .before .args in
-    let p = c .before .before .before .before .before .before .before .before .before .before .before .before .before .before .before .pre in
-    let l = c .before .before .before .before .before .before .before .loop in
+    let at-loop = c .before .before .before .before .before .before .before in
+    let start = at-loop .before .before .before .before .before .before .before .before in
+    let a = start .args in
+    let p = start .pre in
+    let l = at-loop .loop in
     let t = c .before .before .before .before .before .before .loop-test .taken in
     let w = p .0 .passing .formed in (
       w,
@@ -80,55 +97,48 @@ choose-each-requires c κs =
     )
 
 add-p : tie.Need-add-p Inv-loop μ-loop
-add-p c = omega (arith, c .before .before .before .before .before .before .before .before .before .loop-test .taken, c .before .before .before .before .before .before .before .before .before .before .before .before .before .before .before .before .before .before .pre .0 .few-places)
+add-p c =
+    let at-loop-test = c .before .before .before .before .before .before .before .before .before in
+    let start = at-loop-test .before .before .before .before .before .before .before .before .before in
+    omega (arith, at-loop-test .loop-test .taken, start .pre .0 .few-places)
 
 loop-less : tie.Need-loop-less Inv-loop μ-loop
-loop-less c = omega (arith, c .before .before .before .before .before .before .before .before .before .loop-test .taken)
+loop-less c =
+    let at-loop-test = c .before .before .before .before .before .before .before .before .before in
+    omega (arith, at-loop-test .loop-test .taken)
 
 loop-again : tie.Need-loop-again Inv-loop μ-loop
 loop-again c =
-    let l = c .before .before .before .before .before .before .before .before .before .before .loop in
-    let a = c .before .before .before .before .before .before .before .before .before .before .before .before .before .before .before .before .before .before .args in
-    let p = c .before .before .before .before .before .before .before .before .before .before .before .before .before .before .before .before .before .before .pre in
+    let earlier = c .before .before .before .before .before .before .before .before in
+    let at-loop-test = earlier .before in
+    let at-loop = at-loop-test .before in
+    let start = at-loop .before .before .before .before .before .before .before .before in
+    let l = at-loop .loop in
+    let a = start .args in
+    let p = start .pre in
     let r = ruleOf (a .h) (a .counts .now) (a .clauses .now) in
     let f = c .before .before .choose-each in
     let T = truthMasks r (a .lead .now) (a .cycle .now) in
     let F : Tried r (letterAt (a .lead .now) (a .cycle .now) (l .p)) (getD T (nextPlace (a .lead .now) (a .cycle .now) (l .p)) 0) (getD T (nextPlace (a .lead .now) (a .cycle .now) (l .p)) 0)
     (bitAnd (getD T (l .p) 0) (a .h .accepting)) (l .p * a .h .n) (l .choices) (f .last .1 .1 .1 .1 .1 .1 .1 .1 .1 .0) (f .result)
-    = rw (c .before .before .before .before .before .before .letter-at .ensures, next-is (c .before .before .before .before .before .before .before .before), p .0 .truths) at (f .ensures) in (
-      omega (arith, c .before .before .before .before .before .before .before .before .before .loop-test .taken),
-      started-step r (p .0 .passing) (a .lead .now) (a .cycle .now) (p .0 .word) (l .p) (bitAnd (getD T (l .p) 0) (a .h .accepting)) (a .choices .now) (l .choices) (f .last .1 .1 .1 .1 .1 .1 .1 .1 .1 .0) (f .result)
-          (c .before .before .before .before .before .before .before .before .before .loop-test .taken) (λ q k. bit-and (getD T (l .p) 0) (a .h .accepting) q) (l .inv .1) F,
+    = rw (c .before .before .before .before .before .before .letter-at .ensures, next-is (earlier), p .0 .truths) at (f .ensures) in (
+      omega (arith, at-loop-test .loop-test .taken),
+      started-step r (p .0 .passing) (a .lead .now) (a .cycle .now) (p .0 .word) (l .p) (bitAnd (getD T (l .p) 0) (a .h .accepting)) (a .choices .now) (l .choices)
+          (f .last .1 .1 .1 .1 .1 .1 .1 .1 .1 .0) (f .result)
+          (at-loop-test .loop-test .taken) (λ q k. bit-and (getD T (l .p) 0) (a .h .accepting) q) (l .inv .1) F,
     )
-
-same-length : tie.Need-same-length Inv-loop μ-loop
-same-length c = c .before .loop .inv .1 .long
 
 returns : tie.Need-returns Inv-loop μ-loop
 returns c =
+    let start = c .before .before .before .before .before .before .before .before .before in
     let l = c .before .loop in
-    let a = c .before .before .before .before .before .before .before .before .before .args in
+    let a = start .args in
     let e : l .p ≡ places (a .lead .now) (a .cycle .now) = omega (arith, l .inv .0, c .loop-test .left) in
-    rw (c .before .before .before .before .before .before .before .before .before .pre .0 .truths) (rw e at (l .inv .1))
+    rw (start .pre .0 .truths) (rw e at (l .inv .1))
 
 pub choose-accepting-spec : {M : Type 1} → statement M
 choose-accepting-spec =
-    tie.close
-    (tie.spec
-    Inv-loop
-    μ-loop
-    cast-accepting
-    add-end
-    loop-holds
-    next-place-requires
-    shared-slice-read-all
-    letter-at-requires
-    cast-choose-each
-    shared-slice-read-choose-each
-    mul-choose-each
-    choose-each-requires
-    add-p
-    loop-less
-    loop-again
-    same-length
+    tie.close (tie.spec
+    Inv-loop μ-loop cast-accepting add-end loop-holds next-place-requires shared-slice-read-all (λ c κs. c .before .before .loop-test .taken)
+    (λ c. search needs) shared-slice-read-choose-each mul-choose-each choose-each-requires add-p loop-less loop-again (λ c. c .before .loop .inv .1 .long)
     returns)

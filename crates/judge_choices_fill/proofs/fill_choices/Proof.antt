@@ -17,51 +17,26 @@ use Rattle.judge_choices_fill.proofs.fill_choices.Tie as tie
 front : (n : ℕ) (xs : List ℕ) → n ≤ length xs → length (take n xs) ≡ n
 front n xs l = let k = length-take n xs in omega arith
 
-add-end : tie.Need-add-end
-add-end c = search needs
-
-mul-end : tie.Need-mul-end
-mul-end c = search needs
-
-slice-relend-prefix-fill-with : tie.Need-slice-relend-prefix-fill-with
-slice-relend-prefix-fill-with c = search needs
-
 slice-aggregate-fill-with : tie.Need-slice-aggregate-fill-with
-slice-aggregate-fill-with c = omega (arith, front _ (c .before .before .before .before .before .before .before .before .args .choices .now) (c .before .before .before .before .before .before .before .before .pre .1))
-
-fill-with-requires : tie.Need-fill-with-requires
-fill-with-requires c κs = search needs
-
-choose-accepting-requires : tie.Need-choose-accepting-requires
-choose-accepting-requires c κs = search needs
-
-choose-rejecting-requires : tie.Need-choose-rejecting-requires
-choose-rejecting-requires c κs = search needs
-
-same-length : tie.Need-same-length
-same-length c = search needs
+slice-aggregate-fill-with c =
+    let start = c .before .before .before .before .before .before .before .before in
+    omega (arith, front _ (start .args .choices .now) (start .pre .1))
 
 returns : tie.Need-returns
 returns c =
-    let a = c .before .before .before .before .before .before .before .before .before .before .before .before .before .before .before .before .before .before .before .args in
-    let p = c .before .before .before .before .before .before .before .before .before .before .before .before .before .before .before .before .before .before .before .pre in
+    let at-fill-with = c .before .before .before .before .before .before .before .before .before .before in
+    let start = at-fill-with .before .before .before .before .before .before .before .before .before in
+    let a = start .args in
+    let p = start .pre in
     let r = ruleOf (a .h) (a .counts .now) (a .clauses .now) in
     let end = places (a .lead .now) (a .cycle .now) * a .h .n in
-    let f = c .before .before .before .before .before .before .before .before .before .before .fill-with in
+    let f = at-fill-with .fill-with in
     all-filled r (p .0 .passing) (a .lead .now) (a .cycle .now) (p .0 .word) (a .choices .now) _ _ _ (p .1)
     (ap (λ (ys : List ℕ). ys ++ drop end (a .choices .now)) (f .ensures ∙ ap (λ (k : ℕ). replicate {A = ℕ} k 255) (front end (a .choices .now) (p .1))))
     (rw (p .0 .truths) at (c .before .before .before .before .before .before .choose-accepting .ensures)) (rw (p .0 .truths) at (c .before .before .choose-rejecting .ensures))
 
 pub fill-choices-spec : {M : Type 1} → statement M
 fill-choices-spec =
-    tie.close
-    (tie.spec
-    add-end
-    mul-end
-    slice-relend-prefix-fill-with
-    slice-aggregate-fill-with
-    fill-with-requires
-    choose-accepting-requires
-    choose-rejecting-requires
-    same-length
-    returns)
+    tie.close (tie.spec
+    (λ c. search needs) (λ c. search needs) (λ c. search needs) slice-aggregate-fill-with (λ c κs. search needs) (λ c κs. search needs) (λ c κs. search needs)
+    (λ c. search needs) returns)

@@ -12,28 +12,14 @@ use borrow.Author.Needs.{needs}
 use Rattle.judge_choices_place.proofs.choose.Statement.{statement}
 use Rattle.judge_choices_place.proofs.choose.Tie as tie
 
-met-at-requires : tie.Need-met-at-requires
-met-at-requires c κs = search needs
-
-enum-known-j : tie.Need-enum-known-j
-enum-known-j c = search needs
-
 cast-choices : tie.Need-cast-choices
 cast-choices c =
-    let a = c .before .before .before .before .before .before .before .args in
-    let p = c .before .before .before .before .before .before .before .pre in
+    let start = c .before .before .before .before .before .before .before in
+    let a = start .args in
+    let p = start .pre in
     let r = ruleOf (a .h) (a .counts .now) (a .clauses .now) in
     let l = clause-listed (a .set) (entry r (a .q) (a .a)) (c .before .j .given .0 .0) (sym (c .before .before .before .met-at .ensures) ∙ c .before .j .given .1) in
     omega (arith, l, entry-few r (p .0) (a .q) (a .a) (p .2) (p .3))
-
-slice-write-choices : tie.Need-slice-write-choices
-slice-write-choices c = search needs
-
-enum-told : tie.Need-enum-told
-enum-told c = search needs
-
-same-length : tie.Need-same-length
-same-length c = search needs
 
 returns : tie.Need-returns
 unfolding isMet putMet
@@ -49,13 +35,5 @@ returns-2 c =
 
 pub choose-spec : {M : Type 1} → statement M
 choose-spec =
-    tie.close
-    (tie.spec
-    met-at-requires
-    enum-known-j
-    cast-choices
-    slice-write-choices
-    enum-told
-    same-length
-    returns
-    returns-2)
+    tie.close (tie.spec
+    (λ c κs. search needs) (λ c. search needs) cast-choices (λ c. search needs) (λ c. search needs) (λ c. search needs) returns returns-2)

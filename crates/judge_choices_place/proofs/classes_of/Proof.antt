@@ -54,15 +54,4 @@ returns : tie.Need-returns Inv-loop μ-loop
 returns c = record { at = λ q l. c .before .before .loop .inv .2 q (omega arith) }
 
 pub classes-of-spec : {M : Type 1} → statement M
-classes-of-spec =
-    tie.close
-    (tie.spec
-    Inv-loop
-    μ-loop
-    loop-holds
-    class-of-requires
-    array-write-classes
-    add-q
-    loop-less
-    loop-again
-    returns)
+classes-of-spec = tie.close (tie.spec Inv-loop μ-loop loop-holds class-of-requires array-write-classes add-q loop-less loop-again returns)

@@ -16,97 +16,89 @@ use borrow.Author.Needs.{needs}
 use Rattle.judge_choices_rounds.proofs.choose_at.Statement.{statement}
 use Rattle.judge_choices_rounds.proofs.choose_at.Tie as tie
 
-next-place-requires : tie.Need-next-place-requires
-next-place-requires c κs = search needs
-
 shared-slice-read-difference : tie.Need-shared-slice-read-difference
-shared-slice-read-difference c = let p = c .before .before .before .before .before .before .before .before .pre in omega (arith, masks-long _ _ _ _ _ _ (p .0), p .3)
+shared-slice-read-difference c =
+    let start = c .before .before .before .before .before .before .before .before in
+    let p = start .pre in omega (arith, masks-long _ _ _ _ _ _ (p .0), p .3)
 
 cast-difference : tie.Need-cast-difference
-cast-difference c = let a = c .before .before .before .before .before .before .before .before .before .args in omega (arith, accepting-small (ruleOf (a .h) (a .counts .now) (a .clauses .now)) (c .before .before .before .before .before .before .before .before .before .pre .0 .passing .formed))
-
-difference-requires : tie.Need-difference-requires
-difference-requires c κs = search needs
-
-letter-at-requires : tie.Need-letter-at-requires
-letter-at-requires c κs = search needs
-
-cast-choose-each : tie.Need-cast-choose-each
-cast-choose-each c = search needs
+cast-difference c =
+    let start = c .before .before .before .before .before .before .before .before .before in
+    let a = start .args in omega (arith, accepting-small (ruleOf (a .h) (a .counts .now) (a .clauses .now)) (start .pre .0 .passing .formed))
 
 -- the place that follows is one
-next-is : (c : tie.After-next-place) → c .next-place .result ≡ nextPlace (c .before .before .before .before .before .before .before .args .lead .now) (c .before .before .before .before .before .before .before .args .cycle .now) (c .before .before .before .before .before .before .before .args .p)
-next-is c = c .next-place .ensures (c .before .before .before .before .before .before .before .args .lead .now) (c .before .before .before .before .before .before .before .args .cycle .now) refl refl
+next-is : (c : tie.After-next-place) → c .next-place .result ≡ nextPlace (c .before .before .before .before .before .before .before .args .lead .now)
+    (c .before .before .before .before .before .before .before .args .cycle .now) (c .before .before .before .before .before .before .before .args .p)
+next-is c =
+    let start = c .before .before .before .before .before .before .before in
+    c .next-place .ensures (start .args .lead .now) (start .args .cycle .now) refl refl
 
-follows : (c : tie.After-next-place) → c .next-place .result < places (c .before .before .before .before .before .before .before .args .lead .now) (c .before .before .before .before .before .before .before .args .cycle .now)
-follows c = rw (next-is c) (next-low _ _ _ _ _ _ (c .before .before .before .before .before .before .before .pre .0) (c .before .before .before .before .before .before .before .args .p) (c .before .before .before .before .before .before .before .pre .3))
+follows : (c : tie.After-next-place) → c .next-place .result < places (c .before .before .before .before .before .before .before .args .lead .now)
+    (c .before .before .before .before .before .before .before .args .cycle .now)
+follows c =
+    let start = c .before .before .before .before .before .before .before in
+    rw (next-is c) (next-low _ _ _ _ _ _ (start .pre .0) (start .args .p) (start .pre .3))
 
 shared-slice-read-choose-each : tie.Need-shared-slice-read-choose-each
-shared-slice-read-choose-each c = omega (arith, follows (c .before .before .before .before .before), masks-long _ _ _ _ _ _ (c .before .before .before .before .before .before .before .before .before .before .before .before .pre .0))
+shared-slice-read-choose-each c =
+    let start = c .before .before .before .before .before .before .before .before .before .before .before .before in
+    omega (arith, follows (c .before .before .before .before .before), masks-long _ _ _ _ _ _ (start .pre .0))
 
 element-copy-out-choose-each : tie.Need-element-copy-out-choose-each
-element-copy-out-choose-each c = omega (arith, follows (c .before .before .before .before .before), c .before .before .before .before .before .before .before .before .before .before .before .before .pre .0 .few-places)
-
-element-copy-out-difference : tie.Need-element-copy-out-difference
-element-copy-out-difference c = search needs
-
-difference-requires-2 : tie.Need-difference-requires-2
-difference-requires-2 c κs = search needs
+element-copy-out-choose-each c =
+    let start = c .before .before .before .before .before .before .before .before .before .before .before .before in
+    omega (arith, follows (c .before .before .before .before .before), start .pre .0 .few-places)
 
 mul-choose-each : tie.Need-mul-choose-each
-mul-choose-each c = omega (arith, row-few _ _ _ _ _ _ (c .before .before .before .before .before .before .before .before .before .before .before .before .before .before .before .before .before .pre .0) (c .before .before .before .before .before .before .before .before .before .before .before .before .before .before .before .before .before .args .p) (c .before .before .before .before .before .before .before .before .before .before .before .before .before .before .before .before .before .pre .3))
+mul-choose-each c =
+    let start = c .before .before .before .before .before .before .before .before .before .before .before .before .before .before .before .before .before in
+    omega (arith, row-few _ _ _ _ _ _ (start .pre .0) (start .args .p) (start .pre .3))
 
 choose-each-requires : tie.Need-choose-each-requires
 choose-each-requires c κs =
-    let a = c .before .before .before .before .before .before .before .before .before .before .before .before .before .before .before .before .before .args in
-    let p = c .before .before .before .before .before .before .before .before .before .before .before .before .before .before .before .before .before .pre in
+    let at-difference = c .before .before .before .before .before .before .before in
+    let at-next-place = at-difference .before .before .before in
+    let start = at-next-place .before .before .before .before .before .before .before in
+    let a = start .args in
+    let p = start .pre in
     let w = p .0 .passing .formed in
     let n = a .h .n in
-    let low : c .before .before .before .before .before .before .before .difference .result < 2 ^ a .h .n = rw (c .before .before .before .before .before .before .before .difference .ensures) (difference-low n (getD (a .masks .now) (a .p) 0) (a .h .accepting) (w .few-states) (masks-low _ _ _ _ _ _ (p .0) (a .p))) in (
+    let low : at-difference .difference .result < 2 ^ a .h .n = rw (at-difference .difference .ensures)
+    (difference-low n (getD (a .masks .now) (a .p) 0) (a .h .accepting) (w .few-states) (masks-low _ _ _ _ _ _ (p .0) (a .p))) in (
       w,
       p .0 .beginnings,
       p .0 .components,
       rw (c .before .before .before .before .before .before .letter-at .ensures) (letters-fit _ _ _ _ _ _ (p .0) (a .p) (p .3)),
-      masks-low _ _ _ _ _ _ (p .0) (c .before .before .before .before .before .before .before .before .before .before .next-place .result),
-      p .1 (c .before .before .before .before .before .before .before .before .before .before .next-place .result) (follows (c .before .before .before .before .before .before .before .before .before .before)),
-      rw (c .before .before .difference2 .ensures) (difference-low n (c .before .before .before .before .before .before .before .difference .result) (getD (a .near .now) (a .p) 0) (w .few-states) low),
+      masks-low _ _ _ _ _ _ (p .0) (at-next-place .next-place .result),
+      p .1 (at-next-place .next-place .result) (follows (at-next-place)),
+      rw (c .before .before .difference2 .ensures) (difference-low n (at-difference .difference .result) (getD (a .near .now) (a .p) 0) (w .few-states) low),
       omega (arith, row-fits _ _ _ _ _ _ (p .0) (a .p) (p .3), p .2),
     )
 
-same-length : tie.Need-same-length
-same-length c = search needs
-
 returns : tie.Need-returns
 returns c =
-    let a = c .before .before .before .before .before .before .before .before .before .before .before .before .before .before .before .before .before .before .before .before .args in
-    let p = c .before .before .before .before .before .before .before .before .before .before .before .before .before .before .before .before .before .before .before .before .pre in
+    let at-difference2 = c .before .before .before .before .before in
+    let at-letter-at = at-difference2 .before .before .before .before in
+    let at-difference = at-letter-at .before in
+    let earlier = at-difference .before .before .before in
+    let start = earlier .before .before .before .before .before .before .before in
+    let a = start .args in
+    let p = start .pre in
     let r = ruleOf (a .h) (a .counts .now) (a .clauses .now) in
     let w = p .0 .passing .formed in
     let all = getD (a .masks .now) (a .p) 0 in
     let near = getD (a .near .now) (a .p) 0 in
-    let states : (q : ℕ) → q < a .h .n → bit (c .before .before .before .before .before .difference2 .result) q ≡ ((bit all q && not (bit (a .h .accepting) q)) && not (bit near q))
+    let states : (q : ℕ) → q < a .h .n → bit (at-difference2 .difference2 .result) q ≡ ((bit all q && not (bit (a .h .accepting) q)) && not (bit near q))
     = λ q l. let k : q < 8 = omega (arith, w .few-states) in
-    ap (λ (m : ℕ). bit m q) (c .before .before .before .before .before .difference2 .ensures) ∙ bit-mask 8 _ q k
-    ∙ ap (λ (b : Bool). b && not (bit near q)) (ap (λ (m : ℕ). bit m q) (c .before .before .before .before .before .before .before .before .before .before .difference .ensures) ∙ bit-mask 8 _ q k) in
+    ap (λ (m : ℕ). bit m q) (at-difference2 .difference2 .ensures) ∙ bit-mask 8 _ q k
+    ∙ ap (λ (b : Bool). b && not (bit near q)) (ap (λ (m : ℕ). bit m q) (at-difference .difference .ensures) ∙ bit-mask 8 _ q k) in
     let t = c .before .before .choose-each .ensures in
-    place-of-tried r (a .lead .now) (a .cycle .now) (a .masks .now) (a .near .now) (a .p) (c .before .before .before .before .before .difference2 .result) _ _ _ states
-    (rw (c .before .before .before .before .before .before .before .before .before .letter-at .ensures, next-is (c .before .before .before .before .before .before .before .before .before .before .before .before .before)) at t)
+    place-of-tried r (a .lead .now) (a .cycle .now) (a .masks .now) (a .near .now) (a .p) (at-difference2 .difference2 .result) _ _ _ states
+    (rw (at-letter-at .letter-at .ensures, next-is (earlier)) at t)
 
 pub choose-at-spec : {M : Type 1} → statement M
 choose-at-spec =
-    tie.close
-    (tie.spec
-    next-place-requires
-    shared-slice-read-difference
-    cast-difference
-    difference-requires
-    letter-at-requires
-    cast-choose-each
-    shared-slice-read-choose-each
-    element-copy-out-choose-each
-    element-copy-out-difference
-    difference-requires-2
-    mul-choose-each
-    choose-each-requires
-    same-length
-    returns)
+    tie.close (tie.spec
+    (λ c κs. search needs) shared-slice-read-difference cast-difference (λ c κs. search needs) (λ c κs. search needs) (λ c. search needs)
+    shared-slice-read-choose-each element-copy-out-choose-each (λ c. search needs) (λ c κs. search needs) mul-choose-each choose-each-requires
+    (λ c. search needs) returns)

@@ -46,16 +46,19 @@ loop-holds c =
     )
 
 mul-if1 : tie.Need-mul-if1 Inv-loop μ-loop
-mul-if1 c = omega (arith, bytes-few _ _ _ _ _ _ (c .before .before .before .before .before .before .before .before .pre .0))
+mul-if1 c =
+    let start = c .before .before .before .before .before .before .before .before in
+    omega (arith, bytes-few _ _ _ _ _ _ (start .pre .0))
 
 same-length : tie.Need-same-length Inv-loop μ-loop
 same-length c = c .before .before .before .loop .inv .2 .long
 
 returns : tie.Need-returns Inv-loop μ-loop
 returns c =
+    let start = c .before .before .before .before .before .before .before .before .before .before in
     let l = c .before .before .before .loop in
-    let a = c .before .before .before .before .before .before .before .before .before .before .args in
-    let p = c .before .before .before .before .before .before .before .before .before .before .pre in
+    let a = start .args in
+    let p = start .pre in
     let r = ruleOf (a .h) (a .counts .now) (a .clauses .now) in
     let R : Rounds r (a .lead .now) (a .cycle .now) (truthMasks r (a .lead .now) (a .cycle .now)) (l .d) (l .near) 0 (a .choices .now) (l .choices) = rw (c .if2 .taken) at (l .inv .2) in
     rw (p .0 .truths)
@@ -64,9 +67,10 @@ returns c =
 
 round-requires : tie.Need-round-requires Inv-loop μ-loop
 round-requires c κs =
+    let start = c .before .before .before .before .before .before .before .before .before .before .before .before .before in
     let l = c .before .before .before .before .before .before .loop in
-    let a = c .before .before .before .before .before .before .before .before .before .before .before .before .before .args in
-    let p = c .before .before .before .before .before .before .before .before .before .before .before .before .before .pre in
+    let a = start .args in
+    let p = start .pre in
     let r = ruleOf (a .h) (a .counts .now) (a .clauses .now) in (
       p .0,
       λ k m. rw (l .inv .2 .within k m) (near-low r (p .0 .passing) (a .lead .now) (a .cycle .now) (p .0 .word) (l .d) k),
@@ -78,38 +82,47 @@ round-requires c κs =
 
 places-before-requires : tie.Need-places-before-requires Inv-loop μ-loop
 places-before-requires c κs =
-    let p = c .before .before .before .before .before .before .before .before .before .before .before .before .before .before .before .before .pre in
+    let start = c .before .before .before .before .before .before .before .before .before .before .before .before .before .before .before .before in
+    let p = start .pre in
     (omega (arith, p .0 .word .repeats), p .0 .few-places, c .before .before .round .ensures .0 .few)
 
 add-d : tie.Need-add-d Inv-loop μ-loop
-add-d c = omega (arith, bytes-few _ _ _ _ _ _ (c .before .before .before .before .before .before .before .before .before .before .before .before .before .before .before .before .before .pre .0), c .before .before .before .before .before .before .before .before .if1 .taken)
+add-d c =
+    let at-if1 = c .before .before .before .before .before .before .before .before in
+    let start = at-if1 .before .before .before .before .before .before .before .before .before in
+    omega (arith, bytes-few _ _ _ _ _ _ (start .pre .0), at-if1 .if1 .taken)
 
 loop-less : tie.Need-loop-less Inv-loop μ-loop
-loop-less c = omega (arith, c .before .before .before .before .before .before .before .before .if1 .taken)
+loop-less c =
+    let at-if1 = c .before .before .before .before .before .before .before .before in
+    omega (arith, at-if1 .if1 .taken)
 
 loop-again : tie.Need-loop-again Inv-loop μ-loop
 loop-again c =
-    let l = c .before .before .before .before .before .before .before .before .before .before .loop in
-    let a = c .before .before .before .before .before .before .before .before .before .before .before .before .before .before .before .before .before .args in
-    let p = c .before .before .before .before .before .before .before .before .before .before .before .before .before .before .before .before .before .pre in
+    let at-if1 = c .before .before .before .before .before .before .before .before in
+    let at-loop = at-if1 .before .before in
+    let start = at-loop .before .before .before .before .before .before .before in
+    let l = at-loop .loop in
+    let a = start .args in
+    let p = start .pre in
     let r = ruleOf (a .h) (a .counts .now) (a .clauses .now) in
     let f = c .before .before .before .round in
-    let S : Round r (a .lead .now) (a .cycle .now) (truthMasks r (a .lead .now) (a .cycle .now)) (l .near) (bit (l .work)) (l .choices) (f .last .1 .1 .1 .1 .1 .1 .1 .1 .1 .1 .0) (f .last .1 .1 .1 .1 .1 .1 .1 .1 .1 .0) (f .result)
+    let S : Round r (a .lead .now) (a .cycle .now) (truthMasks r (a .lead .now) (a .cycle .now)) (l .near) (bit (l .work)) (l .choices) (f .last .1 .1 .1 .1 .1 .1 .1 .1 .1 .1 .0)
+    (f .last .1 .1 .1 .1 .1 .1 .1 .1 .1 .0) (f .result)
     = rw (p .0 .truths) at (f .ensures .0) in (
       f .ensures .1,
-      omega (arith, c .before .before .before .before .before .before .before .before .if1 .taken),
-      rw (add-one (l .d)) (rounds-step r (p .0 .passing) (a .lead .now) (a .cycle .now) (p .0 .word) (l .d) (l .near) (f .last .1 .1 .1 .1 .1 .1 .1 .1 .1 .0) (a .choices .now) (l .choices) (f .last .1 .1 .1 .1 .1 .1 .1 .1 .1 .1 .0)
+      omega (arith, at-if1 .if1 .taken),
+      rw (add-one (l .d)) (rounds-step r (p .0 .passing) (a .lead .now) (a .cycle .now) (p .0 .word) (l .d) (l .near) (f .last .1 .1 .1 .1 .1 .1 .1 .1 .1 .0) (a .choices .now) (l .choices)
+          (f .last .1 .1 .1 .1 .1 .1 .1 .1 .1 .1 .0)
           (l .work) (c .places-before .result) (f .result) (l .inv .2) S (c .places-before .ensures .0) (c .places-before .ensures .1 (a .lead .now) (a .cycle .now) refl refl)),
     )
 
-same-length-2 : tie.Need-same-length-2 Inv-loop μ-loop
-same-length-2 c = c .before .before .loop .inv .2 .long
-
 returns-2 : tie.Need-returns-2 Inv-loop μ-loop
 returns-2 c =
+    let start = c .before .before .before .before .before .before .before .before .before in
     let l = c .before .before .loop in
-    let a = c .before .before .before .before .before .before .before .before .before .args in
-    let p = c .before .before .before .before .before .before .before .before .before .pre in
+    let a = start .args in
+    let p = start .pre in
     let r = ruleOf (a .h) (a .counts .now) (a .clauses .now) in
     let e : l .d ≡ places (a .lead .now) (a .cycle .now) * a .h .n = omega (arith, l .inv .1, c .if1 .left) in
     rw (p .0 .truths)
@@ -118,21 +131,6 @@ returns-2 c =
 
 pub choose-rejecting-spec : {M : Type 1} → statement M
 choose-rejecting-spec =
-    tie.close
-    (tie.spec
-    Inv-loop
-    μ-loop
-    add-end
-    sub-work
-    shr-work
-    loop-holds
-    mul-if1
-    same-length
-    returns
-    round-requires
-    places-before-requires
-    add-d
-    loop-less
-    loop-again
-    same-length-2
-    returns-2)
+    tie.close (tie.spec
+    Inv-loop μ-loop add-end sub-work shr-work loop-holds mul-if1 same-length returns round-requires places-before-requires add-d loop-less loop-again
+    (λ c. c .before .before .loop .inv .2 .long) returns-2)

@@ -7,11 +7,8 @@ use Rattle.judge_choices_rounds.proofs.mark.Tie as tie
 returns : tie.Need-returns
 returns c = let a = c .before .args in λ x. mark-no (a .changed) (a .found) (a .p) x (c .if1 .taken)
 
-shl-result : tie.Need-shl-result
-shl-result c = search needs
-
 returns-2 : tie.Need-returns-2
 returns-2 c = let a = c .before .args in λ x. mark-yes (a .changed) (a .found) (a .p) x (c .if1 .left) (c .before .pre)
 
 pub mark-spec : {M : Type 1} → statement M
-mark-spec = tie.close (tie.spec returns shl-result returns-2)
+mark-spec = tie.close (tie.spec returns (λ c. search needs) returns-2)

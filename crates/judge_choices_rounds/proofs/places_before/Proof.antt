@@ -5,20 +5,11 @@ use borrow.Author.Needs.{needs}
 use Rattle.judge_choices_rounds.proofs.places_before.Statement.{statement}
 use Rattle.judge_choices_rounds.proofs.places_before.Tie as tie
 
-shr-if1 : tie.Need-shr-if1
-shr-if1 c = search needs
-
 returns : tie.Need-returns
 returns c =
     let a = c .before .args in
     let p = c .before .pre in
     (before-lt (a .changed) (a .end) (p .2), λ u v x y k l b. before-none u v (a .changed) (a .at) (a .end) k x y (clear (a .changed) (a .at) (c .if1 .taken)) b)
-
-sub-result : tie.Need-sub-result
-sub-result c = search needs
-
-shl-result : tie.Need-shl-result
-shl-result c = search needs
 
 returns-2 : tie.Need-returns-2
 returns-2 c =
@@ -27,4 +18,4 @@ returns-2 c =
     (before-low (a .changed) (a .end) (omega arith) (p .1) (p .2), λ u v x y k l b. before-some u v (a .changed) (a .at) (a .end) k x y (omega arith) (p .1) b)
 
 pub places-before-spec : {M : Type 1} → statement M
-places-before-spec = tie.close (tie.spec shr-if1 returns sub-result shl-result returns-2)
+places-before-spec = tie.close (tie.spec (λ c. search needs) returns (λ c. search needs) (λ c. search needs) returns-2)

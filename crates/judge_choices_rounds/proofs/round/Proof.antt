@@ -36,7 +36,8 @@ loop-holds c =
       p .5,
       omega arith,
       λ x t. t,
-      rw (p .3) (round-start (ruleOf (a .h) (a .counts .now) (a .clauses .now)) (a .lead .now) (a .cycle .now) (a .masks .now) (a .near .now) (λ x. bit (a .work) x && not (bit (a .work) x)) (a .choices .now)
+      rw (p .3) (round-start (ruleOf (a .h) (a .counts .now) (a .clauses .now)) (a .lead .now) (a .cycle .now) (a .masks .now) (a .near .now) (λ x. bit (a .work) x && not (bit (a .work) x))
+          (a .choices .now)
           (λ x l. contrary (bit (a .work) x)) (p .1)),
     )
   where
@@ -44,25 +45,34 @@ loop-holds c =
     contrary true = refl
     contrary false = refl
 
+abbrev start-of-in-loop : tie.In-loop Inv-loop μ-loop → tie.Start Inv-loop μ-loop
+start-of-in-loop c = c .before .before .before .before .before .before .before .before
+
 -- what is left is places of the word, and the least of them is one
-small : (c : tie.In-loop Inv-loop μ-loop) → c .before .loop .left < 2 ^ places (c .before .before .before .before .before .before .before .before .args .lead .now) (c .before .before .before .before .before .before .before .before .args .cycle .now)
-small c = lt-of-le-of-lt (c .before .loop .inv .1) (c .before .before .before .before .before .before .before .before .pre .4)
+small : (c : tie.In-loop Inv-loop μ-loop) → c .before .loop .left < 2 ^ places (start-of-in-loop c .args .lead .now) (start-of-in-loop c .args .cycle .now)
+small c = lt-of-le-of-lt (c .before .loop .inv .1) (start-of-in-loop c .pre .4)
 
 few : (c : tie.In-loop Inv-loop μ-loop) → c .before .loop .left < 2 ^ 64
-few c = lt-of-lt-of-le (small c) (pow-mono (c .before .before .before .before .before .before .before .before .pre .0 .few-places))
+few c =
+    let start = c .before .before .before .before .before .before .before .before in
+    lt-of-lt-of-le (small c) (pow-mono (start .pre .0 .few-places))
 
-below : (c : tie.In-loop Inv-loop μ-loop) → trailingZeros 64 (c .before .loop .left) < places (c .before .before .before .before .before .before .before .before .args .lead .now) (c .before .before .before .before .before .before .before .before .args .cycle .now)
-below c = bit-below (places (c .before .before .before .before .before .before .before .before .args .lead .now) (c .before .before .before .before .before .before .before .before .args .cycle .now)) (c .before .loop .left) _ (small c) (least-in 64 (c .before .loop .left) (omega arith) (few c))
+below : (c : tie.In-loop Inv-loop μ-loop) → trailingZeros 64 (c .before .loop .left) < places (start-of-in-loop c .args .lead .now) (start-of-in-loop c .args .cycle .now)
+below c = bit-below (places (start-of-in-loop c .args .lead .now) (start-of-in-loop c .args .cycle .now)) (c .before .loop .left) _ (small c)
+    (least-in 64 (c .before .loop .left) (omega arith) (few c))
 
 low : (c : tie.In-loop Inv-loop μ-loop) → trailingZeros 64 (c .before .loop .left) < 64
-low c = omega (arith, below c, c .before .before .before .before .before .before .before .before .pre .0 .few-places)
+low c =
+    let start = c .before .before .before .before .before .before .before .before in
+    omega (arith, below c, start .pre .0 .few-places)
 
 cast-p : tie.Need-cast-p Inv-loop μ-loop
 cast-p c = omega (arith, low c)
 
 choose-at-requires : tie.Need-choose-at-requires Inv-loop μ-loop
 choose-at-requires c κs =
-    let p = c .before .before .before .before .before .before .before .before .before .pre in
+    let start = c .before .before .before .before .before .before .before .before .before in
+    let p = start .pre in
     (p .0, p .1, omega (arith, p .2, c .before .before .loop .inv .3 .long), below (c .before))
 
 element-copy-out-after : tie.Need-element-copy-out-after Inv-loop μ-loop
@@ -74,40 +84,41 @@ element-write-after c = low (c .before .before .before .before .before)
 mark-requires : tie.Need-mark-requires Inv-loop μ-loop
 mark-requires c κs = low (c .before .before .before .before .before)
 
-sub-left : tie.Need-sub-left Inv-loop μ-loop
-sub-left c = omega arith
-
 loop-less : tie.Need-loop-less Inv-loop μ-loop
-loop-less c = omega (arith, and-le-r (c .before .before .before .before .before .before .before .loop .left) (c .before .before .before .before .before .before .before .loop .left - 1))
+loop-less c =
+    let at-loop = c .before .before .before .before .before .before .before in
+    omega (arith, and-le-r (at-loop .loop .left) (at-loop .loop .left - 1))
 
 loop-again : tie.Need-loop-again Inv-loop μ-loop
 loop-again c =
-    let l = c .before .before .before .before .before .before .before .loop in
-    let a = c .before .before .before .before .before .before .before .before .before .before .before .before .before .before .args in
-    let p = c .before .before .before .before .before .before .before .before .before .before .before .before .before .before .pre in
+    let at-choose-at = c .before .before .before .before in
+    let at-loop = at-choose-at .before .before .before in
+    let start = at-loop .before .before .before .before .before .before .before in
+    let l = at-loop .loop in
+    let a = start .args in
+    let p = start .pre in
     let r = ruleOf (a .h) (a .counts .now) (a .clauses .now) in
     let x = trailingZeros 64 (l .left) in
     let pos : 0 < l .left = omega arith in
-    let s = few (c .before .before .before .before .before .before) in
-    let k = below (c .before .before .before .before .before .before) in
+    let s = few (at-choose-at .before .before) in
+    let k = below (at-choose-at .before .before) in
     let m = c .mark .ensures in (
       length-set (l .after) x _ ∙ l .inv .0,
       omega (arith, and-le-r (l .left) (l .left - 1)),
       λ y t. l .inv .2 y (still-left 64 (l .left) pos s y t),
       round-step r (a .lead .now) (a .cycle .now) (a .masks .now) (a .near .now) (λ y. bit (a .work) y && not (bit (l .left) y)) (λ y. bit (a .work) y && not (bit (bitAnd (l .left) (l .left - 1)) y))
-          (a .choices .now) (l .choices) (c .before .before .before .before .choose-at .last .1 .1 .1 .1 .1 .1 .1 .1 .1 .0) (l .after) (l .changed) (c .mark .result) x (c .before .before .before .before .choose-at .result) k (l .inv .0) (p .0 .few-places)
+          (a .choices .now) (l .choices) (at-choose-at .choose-at .last .1 .1 .1 .1 .1 .1 .1 .1 .1 .0) (l .after) (l .changed) (c .mark .result) x (at-choose-at .choose-at .result) k (l .inv .0)
+          (p .0 .few-places)
           (was-left 64 (l .left) pos s (a .work)) (λ y j. now-done 64 (l .left) pos s (a .work) (l .inv .2) y) (p .1 x k) m
-          (mark-lt (places (a .lead .now) (a .cycle .now)) (l .changed) (c .mark .result) x (c .before .before .before .before .choose-at .result) k (l .inv .3 .few) m)
-          (l .inv .3) (c .before .before .before .before .choose-at .ensures),
+          (mark-lt (places (a .lead .now) (a .cycle .now)) (l .changed) (c .mark .result) x (at-choose-at .choose-at .result) k (l .inv .3 .few) m)
+          (l .inv .3) (at-choose-at .choose-at .ensures),
     )
-
-same-length : tie.Need-same-length Inv-loop μ-loop
-same-length c = c .before .loop .inv .3 .long
 
 returns : tie.Need-returns Inv-loop μ-loop
 returns c =
+    let start = c .before .before .before .before .before .before .before .before in
     let l = c .before .loop in
-    let a = c .before .before .before .before .before .before .before .before .args in
+    let a = start .args in
     let e : l .left ≡ 0 = omega arith in (
       round-ext (ruleOf (a .h) (a .counts .now) (a .clauses .now)) (a .lead .now) (a .cycle .now) (a .masks .now) (a .near .now) (λ y. bit (a .work) y && not (bit (l .left) y)) (bit (a .work))
           (a .choices .now) (l .choices) (l .after) (l .changed) (λ y k. rw (e, bit-none y) (sym (and-true (bit (a .work) y)))) (l .inv .3),
@@ -116,18 +127,6 @@ returns c =
 
 pub round-spec : {M : Type 1} → statement M
 round-spec =
-    tie.close
-    (tie.spec
-    Inv-loop
-    μ-loop
-    loop-holds
-    cast-p
-    choose-at-requires
-    element-copy-out-after
-    element-write-after
-    mark-requires
-    sub-left
-    loop-less
-    loop-again
-    same-length
-    returns)
+    tie.close (tie.spec
+    Inv-loop μ-loop loop-holds cast-p choose-at-requires element-copy-out-after element-write-after mark-requires (λ c. omega arith) loop-less loop-again
+    (λ c. c .before .loop .inv .3 .long) returns)

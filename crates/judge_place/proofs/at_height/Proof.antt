@@ -23,21 +23,6 @@ loop-holds : tie.Need-loop-holds Inv-loop μ-loop
 unfolding mask
 loop-holds c = (omega arith, refl)
 
-element-copy-out-if1 : tie.Need-element-copy-out-if1 Inv-loop μ-loop
-element-copy-out-if1 c = omega arith
-
-cast-layer : tie.Need-cast-layer Inv-loop μ-loop
-cast-layer c = omega arith
-
-shl-layer : tie.Need-shl-layer Inv-loop μ-loop
-shl-layer c = omega arith
-
-add-q : tie.Need-add-q Inv-loop μ-loop
-add-q c = omega arith
-
-loop-less : tie.Need-loop-less Inv-loop μ-loop
-loop-less c = omega arith
-
 loop-again : tie.Need-loop-again Inv-loop μ-loop
 loop-again c =
     let l = c .before .before .before .loop in
@@ -58,15 +43,5 @@ returns c =
 
 pub at-height-spec : {M : Type 1} → statement M
 at-height-spec =
-    tie.close
-    (tie.spec
-    Inv-loop
-    μ-loop
-    loop-holds
-    element-copy-out-if1
-    cast-layer
-    shl-layer
-    add-q
-    loop-less
-    loop-again
-    returns)
+    tie.close (tie.spec
+    Inv-loop μ-loop loop-holds (λ c. omega arith) (λ c. omega arith) (λ c. omega arith) (λ c. omega arith) (λ c. omega arith) loop-again returns)

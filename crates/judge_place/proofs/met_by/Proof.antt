@@ -42,17 +42,19 @@ cast-q c = omega (arith, below c)
 
 satisfied-requires : tie.Need-satisfied-requires Inv-loop μ-loop
 satisfied-requires c κs =
-    let p = c .before .before .before .before .pre in
-    (p .0, p .1, bit-below (c .before .before .before .before .args .h .n) (c .before .loop .left) _ (lt-of-le-of-lt (c .before .loop .inv .0) (p .3)) (least-member (c .before .loop .left) (omega arith) (few c)), p .2)
+    let p = c .before .before .before .before .pre in (
+      p .0,
+      p .1,
+      bit-below (c .before .before .before .before .args .h .n) (c .before .loop .left) _ (lt-of-le-of-lt (c .before .loop .inv .0) (p .3))
+          (least-member (c .before .loop .left) (omega arith) (few c)),
+      p .2,
+    )
 
 cast-met : tie.Need-cast-met Inv-loop μ-loop
 cast-met c = omega (arith, below (c .before .before))
 
 shl-met : tie.Need-shl-met Inv-loop μ-loop
 shl-met c = below (c .before .before)
-
-sub-left : tie.Need-sub-left Inv-loop μ-loop
-sub-left c = omega arith
 
 loop-less : tie.Need-loop-less Inv-loop μ-loop
 loop-less c = omega (arith, and-le-r (c .before .before .before .loop .left) (c .before .before .before .loop .left - 1))
@@ -88,17 +90,4 @@ returns c =
     mask-unique 8 (l .met) (λ q. bit (a .states) q && f q) (l .inv .1) (λ q k. sym (walk-end f (l .met) q) ∙ (rw e at (l .inv .2 q)))
 
 pub met-by-spec : {M : Type 1} → statement M
-met-by-spec =
-    tie.close
-    (tie.spec
-    Inv-loop
-    μ-loop
-    loop-holds
-    cast-q
-    satisfied-requires
-    cast-met
-    shl-met
-    sub-left
-    loop-less
-    loop-again
-    returns)
+met-by-spec = tie.close (tie.spec Inv-loop μ-loop loop-holds cast-q satisfied-requires cast-met shl-met (λ c. omega arith) loop-less loop-again returns)

@@ -24,15 +24,6 @@ use Rattle.judge_place.proofs.open_at.Tie as tie
 cast-accepting : tie.Need-cast-accepting
 cast-accepting c = let w = c .before .before .before .before .before .pre .0 .passing .formed in omega (arith, accepting-small _ w)
 
-add-k : tie.Need-add-k
-add-k c = search needs
-
-slice-read-old : tie.Need-slice-read-old
-slice-read-old c = search needs
-
-difference-requires : tie.Need-difference-requires
-difference-requires c κs = search needs
-
 -- the place that follows
 next : (c : tie.Joined1) → let a = c .before .before .before .before .before .before .args in c .if1 .k ≡ nextPlace [] (a .cycle .now) (a .p)
 next c =
@@ -42,36 +33,36 @@ next c =
     (λ w. w .1 ∙ add-one (a .p) ∙ sym (next-place-other [] (a .cycle .now) (a .p) (λ e. omega (arith, w .0 .left))))
     (c .if1 .came)
 
-shared-slice-read-met-by : tie.Need-shared-slice-read-met-by
-shared-slice-read-met-by c = search needs
-
 cast-met-by : tie.Need-cast-met-by
-cast-met-by c = omega (arith, c .shared-slice-known4 .given (c .before .before .before .before .before .before .before .before .before .args .p))
+cast-met-by c =
+    let start = c .before .before .before .before .before .before .before .before .before in
+    omega (arith, c .shared-slice-known4 .given (start .args .p))
 
 slice-read-met-by : tie.Need-slice-read-met-by
 slice-read-met-by c =
-    let a = c .before .before .before .before .before .before .before .before .before .before .args in
-    let z = c .before .before .before .before .before .before .before .before .before .before .pre in
+    let start = c .before .before .before .before .before .before .before .before .before .before in
+    let a = start .args in
+    let z = start .pre in
     omega (arith, next (c .before .before .before .before), next-place-low [] (a .cycle .now) (z .0 .word .repeats) (a .p) (omega (arith, z .3)), z .2)
 
 met-by-requires : tie.Need-met-by-requires
 met-by-requires c κs =
-    let a = c .before .before .before .before .before .before .before .before .before .before .args in
-    let z = c .before .before .before .before .before .before .before .before .before .before .pre in
-    let r = ruleOf (a .h) (a .counts .now) (a .clauses .now) in
-    (z .0 .passing .formed, z .0 .beginnings, z .0 .word .cycle-letters _ (mem-at (a .cycle .now) (a .p) (z .3)), rw (c .before .before .difference .ensures) (closed-le r (a .cycle .now) (a .layer) (a .masks .now) (a .p) (z .1)))
-
-slice-write-masks : tie.Need-slice-write-masks
-slice-write-masks c = search needs
-
-same-length : tie.Need-same-length
-same-length c = search needs
+    let start = c .before .before .before .before .before .before .before .before .before .before in
+    let a = start .args in
+    let z = start .pre in
+    let r = ruleOf (a .h) (a .counts .now) (a .clauses .now) in (
+      z .0 .passing .formed,
+      z .0 .beginnings,
+      z .0 .word .cycle-letters _ (mem-at (a .cycle .now) (a .p) (z .3)),
+      rw (c .before .before .difference .ensures) (closed-le r (a .cycle .now) (a .layer) (a .masks .now) (a .p) (z .1)),
+    )
 
 returns : tie.Need-returns
 unfolding letterAt
 returns c =
-    let a = c .before .before .before .before .before .before .before .before .before .before .before .args in
-    let z = c .before .before .before .before .before .before .before .before .before .before .before .pre in
+    let start = c .before .before .before .before .before .before .before .before .before .before .before in
+    let a = start .args in
+    let z = start .pre in
     let r = ruleOf (a .h) (a .counts .now) (a .clauses .now) in
     let cy = a .cycle .now in
     let ms = a .masks .now in
@@ -88,16 +79,6 @@ returns c =
 
 pub open-at-spec : {M : Type 1} → statement M
 open-at-spec =
-    tie.close
-    (tie.spec
-    cast-accepting
-    add-k
-    slice-read-old
-    difference-requires
-    shared-slice-read-met-by
-    cast-met-by
-    slice-read-met-by
-    met-by-requires
-    slice-write-masks
-    same-length
-    returns)
+    tie.close (tie.spec
+    cast-accepting (λ c. search needs) (λ c. search needs) (λ c κs. search needs) (λ c. search needs) cast-met-by slice-read-met-by met-by-requires
+    (λ c. search needs) (λ c. search needs) returns)

@@ -7,9 +7,6 @@ use Rattle.slice_text.proofs.Puts.{put-then}
 use Rattle.listing_lines.proofs.put_built.Statement.{statement}
 use Rattle.listing_lines.proofs.put_built.Tie as tie
 
-slice-aggregate-put : tie.Need-slice-aggregate-put
-slice-aggregate-put c = search needs
-
 put-requires : tie.Need-put-requires
 put-requires c κs =
     let a = c .before .before .before .args in
@@ -17,38 +14,31 @@ put-requires c κs =
 
 put-word-requires : tie.Need-put-word-requires
 put-word-requires c κs =
-    let a = c .before .before .before .before .before .before .before .args in
+    let start = c .before .before .before .before .before .before .before in
+    let a = start .args in
     omega (arith, built-length (a .macrostates) (a .transitions))
 
 put-word-requires-2 : tie.Need-put-word-requires-2
 put-word-requires-2 c κs =
-    let a = c .before .before .before .before .before .before .before .before .before .before .before .args in
+    let start = c .before .before .before .before .before .before .before .before .before .before .before in
+    let a = start .args in
     omega (arith, built-length (a .macrostates) (a .transitions))
 
 put-byte-requires : tie.Need-put-byte-requires
 put-byte-requires c κs =
-    let a = c .before .before .before .before .before .before .before .before .before .before .before .before .before .before .before .args in
+    let start = c .before .before .before .before .before .before .before .before .before .before .before .before .before .before .before in
+    let a = start .args in
     omega (arith, built-length (a .macrostates) (a .transitions))
-
-same-length : tie.Need-same-length
-same-length c = search needs
 
 returns : tie.Need-returns
 unfolding builtLine
 returns c =
-    put-then (c .before .before .before .before .before .before .before .before .before .before .before .before .before .before .put .ensures)
-    (put-then (c .before .before .before .before .before .before .before .before .before .before .put-word .ensures)
+    let at-put-word = c .before .before .before .before .before .before .before .before .before .before in
+    let at-put = at-put-word .before .before .before .before in
+    put-then (at-put .put .ensures)
+    (put-then (at-put-word .put-word .ensures)
     (put-then (c .before .before .before .before .before .before .put-word2 .ensures)
     (c .before .before .put-byte .ensures)))
 
 pub put-built-spec : {M : Type 1} → statement M
-put-built-spec =
-    tie.close
-    (tie.spec
-    slice-aggregate-put
-    put-requires
-    put-word-requires
-    put-word-requires-2
-    put-byte-requires
-    same-length
-    returns)
+put-built-spec = tie.close (tie.spec (λ c. search needs) put-requires put-word-requires put-word-requires-2 put-byte-requires (λ c. search needs) returns)

@@ -22,25 +22,15 @@ put-word-requires c κs =
 
 put-word-requires-2 : tie.Need-put-word-requires-2
 put-word-requires-2 c κs =
-    let a = c .before .before .before .before .before .before .before .before .before .before .args in
+    let start = c .before .before .before .before .before .before .before .before .before .before in
+    let a = start .args in
     omega (arith, m-length (a .number) (a .code) (a .initial) (a .accepting))
-
-sign-of-requires : tie.Need-sign-of-requires
-sign-of-requires c κs = search needs
-
-sign-of-requires-2 : tie.Need-sign-of-requires-2
-sign-of-requires-2 c κs = search needs
-
-slice-aggregate-put : tie.Need-slice-aggregate-put
-slice-aggregate-put c = search needs
 
 put-requires : tie.Need-put-requires
 put-requires c κs =
-    let a = c .before .before .before .before .before .before .before .before .before .before .before .before .before .before .before .before .before .args in
+    let start = c .before .before .before .before .before .before .before .before .before .before .before .before .before .before .before .before .before in
+    let a = start .args in
     omega (arith, m-length (a .number) (a .code) (a .initial) (a .accepting))
-
-same-length : tie.Need-same-length
-same-length c = search needs
 
 -- both marks and the newline
 marks : (x y i a : ℕ) → x ≡ i → y ≡ a → _≡_ {A = List ℕ} (32 ∷ i ∷ 32 ∷ a ∷ 10 ∷ []) (32 ∷ x ∷ 32 ∷ y ∷ 10 ∷ [])
@@ -49,21 +39,16 @@ marks x y i a e f = cc
 returns : tie.Need-returns
 unfolding mLine
 returns c =
-    put-then (c .before .before .before .before .before .before .before .before .before .before .before .before .before .before .before .before .before .put-byte .ensures)
-    (put-then (c .before .before .before .before .before .before .before .before .before .before .before .before .before .put-word .ensures)
-    (put-then (c .before .before .before .before .before .before .before .before .before .put-word2 .ensures)
+    let at-put-word2 = c .before .before .before .before .before .before .before .before .before in
+    let at-put-word = at-put-word2 .before .before .before .before in
+    let at-put-byte = at-put-word .before .before .before .before in
+    put-then (at-put-byte .put-byte .ensures)
+    (put-then (at-put-word .put-word .ensures)
+    (put-then (at-put-word2 .put-word2 .ensures)
     (put-as (marks _ _ _ _ (c .before .before .before .before .before .before .sign-of .ensures) (c .before .before .before .before .before .sign-of2 .ensures)) (c .before .before .put .ensures))))
 
 pub put-macrostate-spec : {M : Type 1} → statement M
 put-macrostate-spec =
-    tie.close
-    (tie.spec
-    put-byte-requires
-    put-word-requires
-    put-word-requires-2
-    sign-of-requires
-    sign-of-requires-2
-    slice-aggregate-put
-    put-requires
-    same-length
+    tie.close (tie.spec
+    put-byte-requires put-word-requires put-word-requires-2 (λ c κs. search needs) (λ c κs. search needs) (λ c. search needs) put-requires (λ c. search needs)
     returns)

@@ -28,39 +28,36 @@ mul-code c =
     let s = c .before .before .before .before in
     scaled-fits _ (length (s .args .list .now)) 8 (omega arith) (s .good .1 .1 .0 .1)
 
-shared-slice-read-code : tie.Need-shared-slice-read-code Inv-loop μ-loop
-shared-slice-read-code c = omega arith
-
 is-initial-requires : tie.Need-is-initial-requires Inv-loop μ-loop
 is-initial-requires c κs = c .before .before .before .before .before .pre .0
 
-is-accepting-requires : tie.Need-is-accepting-requires Inv-loop μ-loop
-is-accepting-requires c κs = search needs
+abbrev start-of-after-is-accepting : tie.After-is-accepting Inv-loop μ-loop → tie.Start Inv-loop μ-loop
+start-of-after-is-accepting c = c .before .before .before .before .before .before .before
 
 -- the line that is written
-text-is : (c : tie.After-is-accepting Inv-loop μ-loop) → let a = c .before .before .before .before .before .before .before .args in let i = c .before .before .before .before .loop .i in
+text-is : (c : tie.After-is-accepting Inv-loop μ-loop) → let a = start-of-after-is-accepting c .args in let i = c .before .before .before .before .loop .i in
     mLine i (getD (a .list .now) i 0) (c .before .is-initial .result) (c .is-accepting .result) ≡ macrostateLine (initialAt (a .initial)) i (getD (a .list .now) i 0)
 text-is c =
-    let a = c .before .before .before .before .before .before .before .args in let i = c .before .before .before .before .loop .i in
+    let a = start-of-after-is-accepting c .args in let i = c .before .before .before .before .loop .i in
     ap₂ (λ (p q : Bool). mLine i (getD (a .list .now) i 0) p q) (c .before .is-initial .ensures) (c .is-accepting .ensures)
 
 put-macrostate-requires : tie.Need-put-macrostate-requires Inv-loop μ-loop
 put-macrostate-requires c κs =
-    let a = c .before .before .before .before .before .before .before .before .args in
+    let start = c .before .before .before .before .before .before .before .before in
+    let a = start .args in
     let l = c .before .before .before .before .before .loop in
-    room-line (macrostateLine (initialAt (a .initial))) (a .list .now) (l .i) (omega arith) (l .inv .1) _ (text-is (c .before)) (c .before .before .before .before .before .before .before .before .pre .1)
-
-add-i : tie.Need-add-i Inv-loop μ-loop
-add-i c = omega arith
-
-loop-less : tie.Need-loop-less Inv-loop μ-loop
-loop-less c = omega arith
+    room-line (macrostateLine (initialAt (a .initial))) (a .list .now) (l .i) (omega arith) (l .inv .1) _ (text-is (c .before)) (start .pre .1)
 
 loop-again : tie.Need-loop-again Inv-loop μ-loop
 loop-again c =
-    let a = c .before .before .before .before .before .before .before .before .before .before .before .args in
-    let l = c .before .before .before .before .before .before .before .before .loop in
-    (omega arith, put-line (macrostateLine (initialAt (a .initial))) (a .list .now) (l .i) (omega arith) (l .inv .1) _ (text-is (c .before .before .before .before)) (c .before .before .put-macrostate .ensures))
+    let at-loop = c .before .before .before .before .before .before .before .before in
+    let start = at-loop .before .before .before in
+    let a = start .args in
+    let l = at-loop .loop in (
+      omega arith,
+      put-line (macrostateLine (initialAt (a .initial))) (a .list .now) (l .i) (omega arith) (l .inv .1) _ (text-is (c .before .before .before .before))
+          (c .before .before .put-macrostate .ensures),
+    )
 
 same-length : tie.Need-same-length Inv-loop μ-loop
 same-length c = put-length (c .before .loop .inv .1)
@@ -73,18 +70,6 @@ returns c =
 
 pub put-macrostates-spec : {M : Type 1} → statement M
 put-macrostates-spec =
-    tie.close
-    (tie.spec
-    Inv-loop
-    μ-loop
-    loop-holds
-    mul-code
-    shared-slice-read-code
-    is-initial-requires
-    is-accepting-requires
-    put-macrostate-requires
-    add-i
-    loop-less
-    loop-again
-    same-length
-    returns)
+    tie.close (tie.spec
+    Inv-loop μ-loop loop-holds mul-code (λ c. omega arith) is-initial-requires (λ c κs. search needs) put-macrostate-requires (λ c. omega arith)
+    (λ c. omega arith) loop-again same-length returns)

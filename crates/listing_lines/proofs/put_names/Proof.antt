@@ -23,21 +23,6 @@ loop-holds c =
     let a = c .before .before .args in
     (omega arith, put-no-lines (nameLine (a .names .now)) (lettersOf (a .names .now)) (a .out .now) (a .at) (c .before .before .pre))
 
-mul-start : tie.Need-mul-start Inv-loop μ-loop
-mul-start c = omega arith
-
-add-put-name : tie.Need-add-put-name Inv-loop μ-loop
-add-put-name c = omega arith
-
-sub-put-name : tie.Need-sub-put-name Inv-loop μ-loop
-sub-put-name c = omega arith
-
-part-put-name-start : tie.Need-part-put-name-start Inv-loop μ-loop
-part-put-name-start c = omega arith
-
-part-put-name-end : tie.Need-part-put-name-end Inv-loop μ-loop
-part-put-name-end c = omega arith
-
 -- a letter with a name
 listed : (names : List ℕ) (i : ℕ) → i < length names / 8 → i < length (lettersOf names)
 listed names i h = omega (arith, length-tabulate (length names / 8) (λ a. a) 0)
@@ -53,17 +38,15 @@ put-name-requires c κs =
     let l = c .before .before .before .loop in
     room-line (nameLine names) (lettersOf names) (l .i) (listed names (l .i) (c .before .before .loop-test .taken)) (l .inv .1) _ (text-is names (l .i)) (s .pre)
 
-add-i : tie.Need-add-i Inv-loop μ-loop
-add-i c = omega arith
-
-loop-less : tie.Need-loop-less Inv-loop μ-loop
-loop-less c = omega arith
-
 loop-again : tie.Need-loop-again Inv-loop μ-loop
 loop-again c =
-    let names = c .before .before .before .before .before .before .before .before .before .args .names .now in
-    let l = c .before .before .before .before .before .before .loop in
-    (omega arith, put-line (nameLine names) (lettersOf names) (l .i) (listed names (l .i) (c .before .before .before .before .before .loop-test .taken)) (l .inv .1) _ (text-is names (l .i)) (c .before .before .put-name .ensures))
+    let start = c .before .before .before .before .before .before .before .before .before in
+    let names = start .args .names .now in
+    let l = c .before .before .before .before .before .before .loop in (
+      omega arith,
+      put-line (nameLine names) (lettersOf names) (l .i) (listed names (l .i) (c .before .before .before .before .before .loop-test .taken)) (l .inv .1) _ (text-is names (l .i))
+          (c .before .before .put-name .ensures),
+    )
 
 same-length : tie.Need-same-length Inv-loop μ-loop
 same-length c = put-length (c .before .loop .inv .1)
@@ -76,19 +59,6 @@ returns c =
 
 pub put-names-spec : {M : Type 1} → statement M
 put-names-spec =
-    tie.close
-    (tie.spec
-    Inv-loop
-    μ-loop
-    loop-holds
-    mul-start
-    add-put-name
-    sub-put-name
-    part-put-name-start
-    part-put-name-end
-    put-name-requires
-    add-i
-    loop-less
-    loop-again
-    same-length
-    returns)
+    tie.close (tie.spec
+    Inv-loop μ-loop loop-holds (λ c. omega arith) (λ c. omega arith) (λ c. omega arith) (λ c. omega arith) (λ c. omega arith) put-name-requires
+    (λ c. omega arith) (λ c. omega arith) loop-again same-length returns)

@@ -7,39 +7,28 @@ use Rattle.slice_text.proofs.Puts.{put-then}
 use Rattle.listing_lines.proofs.put_refused.Statement.{statement}
 use Rattle.listing_lines.proofs.put_refused.Tie as tie
 
-slice-aggregate-put : tie.Need-slice-aggregate-put
-slice-aggregate-put c = search needs
-
 put-requires : tie.Need-put-requires
 put-requires c κs = let a = c .before .before .before .args in omega (arith, refused-length (a .row))
 
 put-word-requires : tie.Need-put-word-requires
 put-word-requires c κs =
-    let a = c .before .before .before .before .before .before .before .args in
+    let start = c .before .before .before .before .before .before .before in
+    let a = start .args in
     omega (arith, refused-length (a .row))
 
 put-byte-requires : tie.Need-put-byte-requires
 put-byte-requires c κs =
-    let a = c .before .before .before .before .before .before .before .before .before .before .before .args in
+    let start = c .before .before .before .before .before .before .before .before .before .before .before in
+    let a = start .args in
     omega (arith, refused-length (a .row))
-
-same-length : tie.Need-same-length
-same-length c = search needs
 
 returns : tie.Need-returns
 unfolding refusedLine
 returns c =
-    put-then (c .before .before .before .before .before .before .before .before .before .before .put .ensures)
+    let at-put = c .before .before .before .before .before .before .before .before .before .before in
+    put-then (at-put .put .ensures)
     (put-then (c .before .before .before .before .before .before .put-word .ensures)
     (c .before .before .put-byte .ensures))
 
 pub put-refused-spec : {M : Type 1} → statement M
-put-refused-spec =
-    tie.close
-    (tie.spec
-    slice-aggregate-put
-    put-requires
-    put-word-requires
-    put-byte-requires
-    same-length
-    returns)
+put-refused-spec = tie.close (tie.spec (λ c. search needs) put-requires put-word-requires put-byte-requires (λ c. search needs) returns)

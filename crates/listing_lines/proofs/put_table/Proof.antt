@@ -14,37 +14,31 @@ put-built-requires c κs =
 
 put-names-requires : tie.Need-put-names-requires
 put-names-requires c κs =
-    let a = c .before .before .before .before .before .before .before .before .before .args in
+    let start = c .before .before .before .before .before .before .before .before .before in
+    let a = start .args in
     omega (arith, table-length (initialAt (a .initial)) (a .names .now) (a .list .now) (a .transitions .now))
 
 put-macrostates-requires : tie.Need-put-macrostates-requires
 put-macrostates-requires c κs =
-    let a = c .before .before .before .before .before .before .before .before .before .before .before .before .before .args in
-    (c .before .before .before .before .before .before .before .before .before .before .before .before .before .pre .0, omega (arith, table-length (initialAt (a .initial)) (a .names .now) (a .list .now) (a .transitions .now)))
+    let start = c .before .before .before .before .before .before .before .before .before .before .before .before .before in
+    let a = start .args in
+    (start .pre .0, omega (arith, table-length (initialAt (a .initial)) (a .names .now) (a .list .now) (a .transitions .now)))
 
 put-transitions-requires : tie.Need-put-transitions-requires
 put-transitions-requires c κs =
-    let a = c .before .before .before .before .before .before .before .before .before .before .before .before .before .before .before .before .before .args in
+    let start = c .before .before .before .before .before .before .before .before .before .before .before .before .before .before .before .before .before in
+    let a = start .args in
     omega (arith, table-length (initialAt (a .initial)) (a .names .now) (a .list .now) (a .transitions .now))
-
-same-length : tie.Need-same-length
-same-length c = search needs
 
 returns : tie.Need-returns
 unfolding tableText
 returns c =
-    put-then (c .before .before .before .before .before .before .before .before .before .before .before .before .before .before .put-built .ensures)
-    (put-then (c .before .before .before .before .before .before .before .before .before .before .put-names .ensures)
+    let at-put-names = c .before .before .before .before .before .before .before .before .before .before in
+    let at-put-built = at-put-names .before .before .before .before in
+    put-then (at-put-built .put-built .ensures)
+    (put-then (at-put-names .put-names .ensures)
     (put-then (c .before .before .before .before .before .before .put-macrostates .ensures)
     (c .before .before .put-transitions .ensures)))
 
 pub put-table-spec : {M : Type 1} → statement M
-put-table-spec =
-    tie.close
-    (tie.spec
-    put-built-requires
-    put-names-requires
-    put-macrostates-requires
-    put-transitions-requires
-    same-length
-    returns)
+put-table-spec = tie.close (tie.spec put-built-requires put-names-requires put-macrostates-requires put-transitions-requires (λ c. search needs) returns)

@@ -28,42 +28,30 @@ mul-t c =
     let s = c .before .before .before .before in
     scaled-fits _ (length (s .args .list .now)) 8 (omega arith) (s .good .1 .1 .0 .1)
 
-shared-slice-read-t : tie.Need-shared-slice-read-t Inv-loop μ-loop
-shared-slice-read-t c = omega arith
-
-source-of-requires : tie.Need-source-of-requires Inv-loop μ-loop
-source-of-requires c κs = search needs
-
-letter-of-requires : tie.Need-letter-of-requires Inv-loop μ-loop
-letter-of-requires c κs = search needs
-
-target-of-requires : tie.Need-target-of-requires Inv-loop μ-loop
-target-of-requires c κs = search needs
+abbrev start-of-after-target-of : tie.After-target-of Inv-loop μ-loop → tie.Start Inv-loop μ-loop
+start-of-after-target-of c = c .before .before .before .before .before .before .before .before
 
 -- the line that is written
-text-is : (c : tie.After-target-of Inv-loop μ-loop) → let a = c .before .before .before .before .before .before .before .before .args in let i = c .before .before .before .before .before .loop .i in
+text-is : (c : tie.After-target-of Inv-loop μ-loop) → let a = start-of-after-target-of c .args in let i = c .before .before .before .before .before .loop .i in
     tLine (c .before .before .source-of .result) (c .before .letter-of .result) (c .target-of .result) ≡ transitionLine i (getD (a .list .now) i 0)
 text-is c =
-    let a = c .before .before .before .before .before .before .before .before .args in let i = c .before .before .before .before .before .loop .i in
+    let a = start-of-after-target-of c .args in let i = c .before .before .before .before .before .loop .i in
     ap₂ (λ (p q : ℕ). tLine p q (c .target-of .result)) (c .before .before .source-of .ensures) (c .before .letter-of .ensures)
     ∙ ap (λ (p : ℕ). tLine (sourceOf (getD (a .list .now) i 0)) (letterOf (getD (a .list .now) i 0)) p) (c .target-of .ensures)
 
 put-transition-requires : tie.Need-put-transition-requires Inv-loop μ-loop
 put-transition-requires c κs =
-    let a = c .before .before .before .before .before .before .before .before .before .args in
+    let start = c .before .before .before .before .before .before .before .before .before in
+    let a = start .args in
     let l = c .before .before .before .before .before .before .loop in
-    room-line transitionLine (a .list .now) (l .i) (omega arith) (l .inv .1) _ (text-is (c .before)) (c .before .before .before .before .before .before .before .before .before .pre)
-
-add-i : tie.Need-add-i Inv-loop μ-loop
-add-i c = omega arith
-
-loop-less : tie.Need-loop-less Inv-loop μ-loop
-loop-less c = omega arith
+    room-line transitionLine (a .list .now) (l .i) (omega arith) (l .inv .1) _ (text-is (c .before)) (start .pre)
 
 loop-again : tie.Need-loop-again Inv-loop μ-loop
 loop-again c =
-    let a = c .before .before .before .before .before .before .before .before .before .before .before .before .args in
-    let l = c .before .before .before .before .before .before .before .before .before .loop in
+    let at-loop = c .before .before .before .before .before .before .before .before .before in
+    let start = at-loop .before .before .before in
+    let a = start .args in
+    let l = at-loop .loop in
     (omega arith, put-line transitionLine (a .list .now) (l .i) (omega arith) (l .inv .1) _ (text-is (c .before .before .before .before)) (c .before .before .put-transition .ensures))
 
 same-length : tie.Need-same-length Inv-loop μ-loop
@@ -77,19 +65,6 @@ returns c =
 
 pub put-transitions-spec : {M : Type 1} → statement M
 put-transitions-spec =
-    tie.close
-    (tie.spec
-    Inv-loop
-    μ-loop
-    loop-holds
-    mul-t
-    shared-slice-read-t
-    source-of-requires
-    letter-of-requires
-    target-of-requires
-    put-transition-requires
-    add-i
-    loop-less
-    loop-again
-    same-length
-    returns)
+    tie.close (tie.spec
+    Inv-loop μ-loop loop-holds mul-t (λ c. omega arith) (λ c κs. search needs) (λ c κs. search needs) (λ c κs. search needs) put-transition-requires
+    (λ c. omega arith) (λ c. omega arith) loop-again same-length returns)

@@ -9,15 +9,6 @@ use Rattle.file_read.proofs.Answer.{Served, served, turned-away}
 use Rattle.listing_text.proofs.initial_of.Statement.{statement}
 use Rattle.listing_text.proofs.initial_of.Tie as tie
 
-read-rule-requires : tie.Need-read-rule-requires
-read-rule-requires c κs = search needs
-
-enum-told : tie.Need-enum-told
-enum-told c = search needs
-
-enum-known-l : tie.Need-enum-known-l
-enum-known-l c = search needs
-
 -- the file is accepted
 accepted : (c : tie.After-l) → Served (c .before .before .before .before .args .file .now) (c .l .given .0 .0)
 accepted c =
@@ -42,5 +33,4 @@ returns-2 : tie.Need-returns-2
 returns-2 c = (small (c .before .before .before), λ e. initial-is (c .before .before .before))
 
 pub initial-of-spec : {M : Type 1} → statement M
-initial-of-spec =
-    tie.close (tie.spec read-rule-requires enum-told enum-known-l cast-result returns returns-2)
+initial-of-spec = tie.close (tie.spec (λ c κs. search needs) (λ c. search needs) (λ c. search needs) cast-result returns returns-2)

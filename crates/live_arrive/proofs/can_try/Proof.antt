@@ -12,9 +12,6 @@ use Rattle.live_arrive.proofs.can_try.Tie as tie
 returns : tie.Need-returns
 returns c = λ e. absurd (true-false (sym e))
 
-number-at-requires : tie.Need-number-at-requires
-number-at-requires c κs = search needs
-
 returns-2 : tie.Need-returns-2
 returns-2 c = λ e. absurd (true-false (sym e))
 
@@ -33,18 +30,13 @@ returns-6 c = λ e. absurd (true-false (sym e))
 returns-7 : tie.Need-returns-7
 returns-7 c = λ e. absurd (true-false (sym e))
 
-codes-pass-requires : tie.Need-codes-pass-requires
-codes-pass-requires c κs = search needs
-
 returns-8 : tie.Need-returns-8
 returns-8 c = λ e. absurd (true-false (sym e))
 
-has-flags-requires : tie.Need-has-flags-requires
-has-flags-requires c κs = search needs
-
 returns-9 : tie.Need-returns-9
 returns-9 c =
-    let a = c .before .before .before .before .before .before .before .before .before .before .before .before .before .before .args in
+    let start = c .before .before .before .before .before .before .before .before .before .before .before .before .before .before in
+    let a = start .args in
     let w = words-in-length (a .codes .now) in
     λ e.
     record {
@@ -61,17 +53,5 @@ returns-9 c =
 
 pub can-try-spec : {M : Type 1} → statement M
 can-try-spec =
-    tie.close
-    (tie.spec
-    returns
-    number-at-requires
-    returns-2
-    returns-3
-    returns-4
-    returns-5
-    returns-6
-    returns-7
-    codes-pass-requires
-    returns-8
-    has-flags-requires
-    returns-9)
+    tie.close (tie.spec
+    returns (λ c κs. search needs) returns-2 returns-3 returns-4 returns-5 returns-6 returns-7 (λ c κs. search needs) returns-8 (λ c κs. search needs) returns-9)

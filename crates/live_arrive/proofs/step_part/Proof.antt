@@ -11,18 +11,6 @@ use borrow.Author.Needs.{needs}
 use Rattle.live_arrive.proofs.step_part.Statement.{statement}
 use Rattle.live_arrive.proofs.step_part.Tie as tie
 
-add-end : tie.Need-add-end
-add-end c = search needs
-
-sub-step-tried : tie.Need-sub-step-tried
-sub-step-tried c = search needs
-
-part-step-tried-start : tie.Need-part-step-tried-start
-part-step-tried-start c = search needs
-
-part-step-tried-end : tie.Need-part-step-tried-end
-part-step-tried-end c = search needs
-
 step-tried-requires : tie.Need-step-tried-requires
 step-tried-requires c κs =
     let a = c .before .before .before .args in
@@ -32,22 +20,13 @@ step-tried-requires c κs =
     length-take-le (setAt + a .n - setAt) (drop setAt (a .state .now)) (omega (arith, length-drop setAt (a .state .now))) ∙ same in
     (pre .0, omega (arith, long), rw same (part-flags setAt (a .n) (a .state .now) (pre .2) (pre .3)))
 
-same-length : tie.Need-same-length
-same-length c = search needs
-
 returns : tie.Need-returns
 returns c =
     let a = c .before .before .before .before .before .before .args in
-    part-stepped setAt (setAt + a .n - setAt) (a .n) (a .s) (a .letter) (wordsIn (a .transitions .now)) (a .state .now) _ _ (omega arith) refl (c .before .before .before .before .before .before .pre .2) (c .before .before .step-tried .ensures)
+    part-stepped setAt (setAt + a .n - setAt) (a .n) (a .s) (a .letter) (wordsIn (a .transitions .now)) (a .state .now) _ _ (omega arith) refl
+    (c .before .before .before .before .before .before .pre .2) (c .before .before .step-tried .ensures)
 
 pub step-part-spec : {M : Type 1} → statement M
 step-part-spec =
-    tie.close
-    (tie.spec
-    add-end
-    sub-step-tried
-    part-step-tried-start
-    part-step-tried-end
-    step-tried-requires
-    same-length
-    returns)
+    tie.close (tie.spec
+    (λ c. search needs) (λ c. search needs) (λ c. search needs) (λ c. search needs) step-tried-requires (λ c. search needs) returns)

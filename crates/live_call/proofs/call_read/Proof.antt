@@ -14,83 +14,56 @@ use borrow.Author.Needs.{needs}
 use Rattle.live_call.proofs.call_read.Statement.{statement}
 use Rattle.live_call.proofs.call_read.Tie as tie
 
-try-quickly-requires : tie.Need-try-quickly-requires
-try-quickly-requires c κs = search needs
-
-enum-told : tie.Need-enum-told
-enum-told c = search needs
-
 count-requires : tie.Need-count-requires
 count-requires c κs =
-    let a = c .before .before .before .before .before .before .before .before .before .before .before .before .args in
+    let start = c .before .before .before .before .before .before .before .before .before .before .before .before in
+    let a = start .args in
     let e = c .before .before .before .before .before .before .try-quickly .ensures .served (c .before .before .enum-told .given .1) in
-    let R = ready (a .call) (a .h .s) (a .codes .now) (a .transitions .now) (a .state .now) (length (a .set .now)) e in
-    (omega (arith, R .few, R .long, c .before .before .before .before .before .before .try-quickly .kept .1 .1 .1 .1 .0), fits (a .call) (a .h .s) (a .codes .now) (a .transitions .now) (a .state .now) (length (a .set .now)) e)
-
-enum-told-2 : tie.Need-enum-told-2
-enum-told-2 c = search needs
-
-enum-told-3 : tie.Need-enum-told-3
-enum-told-3 c = search needs
-
-call-by-rows-requires : tie.Need-call-by-rows-requires
-call-by-rows-requires c κs = search needs
-
-same-length : tie.Need-same-length
-same-length c = search needs
-
-same-length-2 : tie.Need-same-length-2
-same-length-2 c = search needs
+    let R = ready (a .call) (a .h .s) (a .codes .now) (a .transitions .now) (a .state .now) (length (a .set .now)) e in (
+      omega (arith, R .few, R .long, c .before .before .before .before .before .before .try-quickly .kept .1 .1 .1 .1 .0),
+      fits (a .call) (a .h .s) (a .codes .now) (a .transitions .now) (a .state .now) (length (a .set .now)) e,
+    )
 
 returns : tie.Need-returns
 returns c =
-    let a = c .before .before .before .before .before .before .before .before .before .before .before .before .before .before .before .args in
-    let t = c .before .before .before .before .before .before .before .before .before .try-quickly in
+    let at-try-quickly = c .before .before .before .before .before .before .before .before .before in
+    let start = at-try-quickly .before .before .before .before .before .before in
+    let a = start .args in
+    let t = at-try-quickly .try-quickly in
     let told = c .before .before .before .before .before .enum-told .given .1 in
-    served-by _ (a .call) (a .h .initial) (wordsIn (a .codes .now)) (wordsIn (a .transitions .now)) (a .state .now) (a .set .now) (t .last .1 .1 .1 .1 .0) (c .before .before .count .last .1 .1 .0) (c .before .before .count .result) (t .ensures .served told)
-    (subst (λ (left : List ℕ). Counted (length (wordsIn (a .codes .now))) left (a .set .now) (t .last .1 .1 .1 .1 .0) (c .before .before .count .last .1 .1 .0) (c .before .before .count .result)) (t .ensures .made told (a .h .initial)) (c .before .before .count .ensures))
-
-same-length-3 : tie.Need-same-length-3
-same-length-3 c = search needs
+    served-by _ (a .call) (a .h .initial) (wordsIn (a .codes .now)) (wordsIn (a .transitions .now)) (a .state .now) (a .set .now) (t .last .1 .1 .1 .1 .0) (c .before .before .count .last .1 .1 .0)
+    (c .before .before .count .result) (t .ensures .served told)
+    (subst (λ (left : List ℕ). Counted (length (wordsIn (a .codes .now))) left (a .set .now) (t .last .1 .1 .1 .1 .0) (c .before .before .count .last .1 .1 .0) (c .before .before .count .result))
+    (t .ensures .made told (a .h .initial)) (c .before .before .count .ensures))
 
 returns-2 : tie.Need-returns-2
 returns-2 c =
-    let a = c .before .before .before .before .before .before .before .before .before .before .args in
+    let start = c .before .before .before .before .before .before .before .before .before .before in
+    let a = start .args in
     let t = c .before .before .before .before .try-quickly in
     let told = c .enum-told2 .given .1 in
-    subst (λ (k : ℕ). CalledBy k (a .call) (a .h .initial) (wordsIn (a .codes .now)) (wordsIn (a .transitions .now)) (a .state .now) (a .set .now) (t .last .1 .1 .1 .1 .0) (a .set .now) (Refused 15)) (sym (t .ensures .refused told))
-    (subst (λ (left : List ℕ). CalledBy 15 (a .call) (a .h .initial) (wordsIn (a .codes .now)) (wordsIn (a .transitions .now)) (a .state .now) (a .set .now) left (a .set .now) (Refused 15)) (sym (t .ensures .taken-back told))
+    subst (λ (k : ℕ). CalledBy k (a .call) (a .h .initial) (wordsIn (a .codes .now)) (wordsIn (a .transitions .now)) (a .state .now) (a .set .now) (t .last .1 .1 .1 .1 .0) (a .set .now) (Refused 15))
+    (sym (t .ensures .refused told))
+    (subst (λ (left : List ℕ). CalledBy 15 (a .call) (a .h .initial) (wordsIn (a .codes .now)) (wordsIn (a .transitions .now)) (a .state .now) (a .set .now) left (a .set .now) (Refused 15))
+    (sym (t .ensures .taken-back told))
     (refused-by 15 (a .call) (a .h .initial) (wordsIn (a .codes .now)) (wordsIn (a .transitions .now)) (a .state .now) (a .set .now) (λ z. omega arith)))
-
-same-length-4 : tie.Need-same-length-4
-same-length-4 c = search needs
-
-same-length-5 : tie.Need-same-length-5
-same-length-5 c = search needs
 
 returns-3 : tie.Need-returns-3
 returns-3 c =
-    let a = c .before .before .before .before .before .before .before .before .before .before .before .before .before .before .before .before .before .args in
-    let t = c .before .before .before .before .before .before .before .before .before .before .before .try-quickly in
-    let told = c .before .before .before .before .before .before .before .enum-told3 .given .1 in
-    subst (λ (state : List ℕ). CalledBy (callRow (a .call) (a .h .s) (inBytes (a .codes .now)) (inBytes (a .transitions .now)) state (length (a .set .now))) (a .call) (a .h .initial) (wordsIn (a .codes .now)) (wordsIn (a .transitions .now)) state (a .set .now)
-    (c .before .before .before .before .call-by-rows .last .1 .1 .1 .1 .0) (c .before .before .before .before .call-by-rows .last .1 .1 .1 .1 .1 .0) (c .before .before .before .before .call-by-rows .result)) (t .ensures .untried told) (c .before .before .before .before .call-by-rows .ensures)
+    let at-call-by-rows = c .before .before .before .before in
+    let at-enum-told3 = at-call-by-rows .before .before .before in
+    let at-try-quickly = at-enum-told3 .before .before .before .before in
+    let start = at-try-quickly .before .before .before .before .before .before in
+    let a = start .args in
+    let t = at-try-quickly .try-quickly in
+    let told = at-enum-told3 .enum-told3 .given .1 in
+    subst (λ (state : List ℕ). CalledBy (callRow (a .call) (a .h .s) (inBytes (a .codes .now)) (inBytes (a .transitions .now)) state (length (a .set .now))) (a .call) (a .h .initial)
+    (wordsIn (a .codes .now)) (wordsIn (a .transitions .now)) state (a .set .now)
+    (at-call-by-rows .call-by-rows .last .1 .1 .1 .1 .0) (at-call-by-rows .call-by-rows .last .1 .1 .1 .1 .1 .0) (at-call-by-rows .call-by-rows .result)) (t .ensures .untried told)
+    (at-call-by-rows .call-by-rows .ensures)
 
 pub call-read-spec : {M : Type 1} → statement M
 call-read-spec =
-    tie.close
-    (tie.spec
-    try-quickly-requires
-    enum-told
-    count-requires
-    enum-told-2
-    enum-told-3
-    call-by-rows-requires
-    same-length
-    same-length-2
-    returns
-    same-length-3
-    returns-2
-    same-length-4
-    same-length-5
-    returns-3)
+    tie.close (tie.spec
+    (λ c κs. search needs) (λ c. search needs) count-requires (λ c. search needs) (λ c. search needs) (λ c κs. search needs) (λ c. search needs)
+    (λ c. search needs) returns (λ c. search needs) returns-2 (λ c. search needs) (λ c. search needs) returns-3)

@@ -6,15 +6,6 @@ use borrow.Author.Needs.{needs}
 use Rattle.live_call.proofs.change.Statement.{statement}
 use Rattle.live_call.proofs.change.Tie as tie
 
-enum-told : tie.Need-enum-told
-enum-told c = search needs
-
-start-requires : tie.Need-start-requires
-start-requires c κs = search needs
-
-enum-known-call : tie.Need-enum-known-call
-enum-known-call c = search needs
-
 cast-arrive : tie.Need-cast-arrive
 cast-arrive c =
     let a = c .before .before .before .before .before .before .args in
@@ -23,103 +14,68 @@ cast-arrive c =
 
 arrive-requires : tie.Need-arrive-requires
 arrive-requires c κs =
-    let a = c .before .before .before .before .before .before .before .args in
-    (c .before .before .before .before .before .before .before .pre .1, arrive-callable (a .call) (a .state .now) _ (c .before .before .call .given .1) (c .before .before .before .before .before .before .before .pre .2) .1)
-
-enum-told-2 : tie.Need-enum-told-2
-enum-told-2 c = search needs
+    let start = c .before .before .before .before .before .before .before in
+    let a = start .args in
+    (start .pre .1, arrive-callable (a .call) (a .state .now) _ (c .before .before .call .given .1) (start .pre .2) .1)
 
 withdraw-requires : tie.Need-withdraw-requires
 withdraw-requires c κs =
-    let a = c .before .before .before .before .before .before .args in
-    (c .before .before .before .before .before .before .pre .0, c .before .before .before .before .before .before .pre .1, withdraw-callable (a .call) (a .state .now) (c .before .enum-told2 .given .1) (c .before .before .before .before .before .before .pre .2))
-
-enum-known-call-2 : tie.Need-enum-known-call-2
-enum-known-call-2 c = search needs
-
-cast-mark : tie.Need-cast-mark
-cast-mark c = search needs
+    let a = c .before .before .before .before .before .before .args in (
+      c .before .before .before .before .before .before .pre .0,
+      c .before .before .before .before .before .before .pre .1,
+      withdraw-callable (a .call) (a .state .now) (c .before .enum-told2 .given .1) (c .before .before .before .before .before .before .pre .2),
+    )
 
 mark-requires : tie.Need-mark-requires
 mark-requires c κs =
-    let a = c .before .before .before .before .before .before .before .args in
-    (mark-callable (a .call) (a .state .now) _ (c .before .before .call2 .given .1) (c .before .before .before .before .before .before .before .pre .2), c .before .before .before .before .before .before .before .pre .1 .long)
-
-enum-known-call-3 : tie.Need-enum-known-call-3
-enum-known-call-3 c = search needs
-
-cast-return-to : tie.Need-cast-return-to
-cast-return-to c = search needs
+    let start = c .before .before .before .before .before .before .before in
+    let a = start .args in
+    (mark-callable (a .call) (a .state .now) _ (c .before .before .call2 .given .1) (start .pre .2), start .pre .1 .long)
 
 return-to-requires : tie.Need-return-to-requires
 return-to-requires c κs =
-    let a = c .before .before .before .before .before .before .before .args in
-    (return-callable (a .call) (a .state .now) _ (c .before .before .call3 .given .1) (c .before .before .before .before .before .before .before .pre .2), c .before .before .before .before .before .before .before .pre .0, c .before .before .before .before .before .before .before .pre .1)
-
-same-length : tie.Need-same-length
-same-length c = search needs
+    let start = c .before .before .before .before .before .before .before in
+    let a = start .args in
+    (return-callable (a .call) (a .state .now) _ (c .before .before .call3 .given .1) (start .pre .2), start .pre .0, start .pre .1)
 
 returns : tie.Need-returns
 returns c =
-    let a = c .before .before .before .before .before .before .before .before .before .args in
-    start-effect (a .call) (a .state .now) (a .initial) (wordsIn (a .codes .now)) (wordsIn (a .transitions .now)) _ (c .before .before .before .before .enum-told .given .1) (c .before .before .start .ensures (wordsIn (a .transitions .now)))
-
-same-length-2 : tie.Need-same-length-2
-same-length-2 c = search needs
+    let start = c .before .before .before .before .before .before .before .before .before in
+    let a = start .args in
+    start-effect (a .call) (a .state .now) (a .initial) (wordsIn (a .codes .now)) (wordsIn (a .transitions .now)) _ (c .before .before .before .before .enum-told .given .1)
+    (c .before .before .start .ensures (wordsIn (a .transitions .now)))
 
 returns-2 : tie.Need-returns-2
 returns-2 c =
-    let a = c .before .before .before .before .before .before .before .before .before .before .args in
-    arrive-effect (a .call) (a .state .now) (a .initial) (wordsIn (a .codes .now)) (wordsIn (a .transitions .now)) _ _ (c .before .before .before .before .before .call .given .1) (c .before .before .arrive .ensures (a .initial))
-
-same-length-3 : tie.Need-same-length-3
-same-length-3 c = search needs
+    let start = c .before .before .before .before .before .before .before .before .before .before in
+    let a = start .args in
+    arrive-effect (a .call) (a .state .now) (a .initial) (wordsIn (a .codes .now)) (wordsIn (a .transitions .now)) _ _ (c .before .before .before .before .before .call .given .1)
+    (c .before .before .arrive .ensures (a .initial))
 
 returns-3 : tie.Need-returns-3
 returns-3 c =
-    let a = c .before .before .before .before .before .before .before .before .before .args in
-    withdraw-effect (a .call) (a .state .now) (a .initial) (wordsIn (a .codes .now)) (wordsIn (a .transitions .now)) _ (c .before .before .before .before .enum-told2 .given .1) (c .before .before .withdraw .ensures)
-
-same-length-4 : tie.Need-same-length-4
-same-length-4 c = search needs
+    let start = c .before .before .before .before .before .before .before .before .before in
+    let a = start .args in
+    withdraw-effect (a .call) (a .state .now) (a .initial) (wordsIn (a .codes .now)) (wordsIn (a .transitions .now)) _ (c .before .before .before .before .enum-told2 .given .1)
+    (c .before .before .withdraw .ensures)
 
 returns-4 : tie.Need-returns-4
 returns-4 c =
-    let a = c .before .before .before .before .before .before .before .before .before .before .args in
-    mark-effect (a .call) (a .state .now) (a .initial) (wordsIn (a .codes .now)) (wordsIn (a .transitions .now)) _ _ (c .before .before .before .before .before .call2 .given .1) (c .before .before .mark .ensures)
-
-same-length-5 : tie.Need-same-length-5
-same-length-5 c = search needs
+    let start = c .before .before .before .before .before .before .before .before .before .before in
+    let a = start .args in
+    mark-effect (a .call) (a .state .now) (a .initial) (wordsIn (a .codes .now)) (wordsIn (a .transitions .now)) _ _ (c .before .before .before .before .before .call2 .given .1)
+    (c .before .before .mark .ensures)
 
 returns-5 : tie.Need-returns-5
 returns-5 c =
-    let a = c .before .before .before .before .before .before .before .before .before .before .args in
-    return-effect (a .call) (a .state .now) (a .initial) (wordsIn (a .codes .now)) (wordsIn (a .transitions .now)) _ _ (c .before .before .before .before .before .call3 .given .1) (c .before .before .return-to .ensures)
+    let start = c .before .before .before .before .before .before .before .before .before .before in
+    let a = start .args in
+    return-effect (a .call) (a .state .now) (a .initial) (wordsIn (a .codes .now)) (wordsIn (a .transitions .now)) _ _ (c .before .before .before .before .before .call3 .given .1)
+    (c .before .before .return-to .ensures)
 
 pub change-spec : {M : Type 1} → statement M
 change-spec =
-    tie.close
-    (tie.spec
-    enum-told
-    start-requires
-    enum-known-call
-    cast-arrive
-    arrive-requires
-    enum-told-2
-    withdraw-requires
-    enum-known-call-2
-    cast-mark
-    mark-requires
-    enum-known-call-3
-    cast-return-to
-    return-to-requires
-    same-length
-    returns
-    same-length-2
-    returns-2
-    same-length-3
-    returns-3
-    same-length-4
-    returns-4
-    same-length-5
-    returns-5)
+    tie.close (tie.spec
+    (λ c. search needs) (λ c κs. search needs) (λ c. search needs) cast-arrive arrive-requires (λ c. search needs) withdraw-requires (λ c. search needs)
+    (λ c. search needs) mark-requires (λ c. search needs) (λ c. search needs) return-to-requires (λ c. search needs) returns (λ c. search needs) returns-2
+    (λ c. search needs) returns-3 (λ c. search needs) returns-4 (λ c. search needs) returns-5)

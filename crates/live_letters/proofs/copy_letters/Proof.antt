@@ -14,23 +14,11 @@ abbrev μ-loop : tie.MeasureT-loop
 loop-holds : tie.Need-loop-holds Inv-loop μ-loop
 loop-holds c = (omega arith, let p = c .pre in copied-start 512 (c .args .from) (c .args .to) (c .args .state .now) (p .0) (p .1) (p .2))
 
-add-state : tie.Need-add-state Inv-loop μ-loop
-add-state c = omega arith
-
 slice-read-state : tie.Need-slice-read-state Inv-loop μ-loop
 slice-read-state c = omega (arith, c .before .before .loop .inv .1 .long)
 
-add-state-2 : tie.Need-add-state-2 Inv-loop μ-loop
-add-state-2 c = omega arith
-
 slice-write-state : tie.Need-slice-write-state Inv-loop μ-loop
 slice-write-state c = omega (arith, c .before .before .loop .inv .1 .long)
-
-add-i : tie.Need-add-i Inv-loop μ-loop
-add-i c = omega arith
-
-loop-less : tie.Need-loop-less Inv-loop μ-loop
-loop-less c = omega arith
 
 loop-again : tie.Need-loop-again Inv-loop μ-loop
 loop-again c =
@@ -38,9 +26,6 @@ loop-again c =
     let p = c .before .before .before .pre in
     let l = c .before .before .loop in
     (omega arith, copied-next 512 (a .from) (a .to) (a .state .now) (p .0) (p .1) (p .2) (l .state) (l .i) (omega arith) (l .inv .1))
-
-same-length : tie.Need-same-length Inv-loop μ-loop
-same-length c = c .before .loop .inv .1 .long
 
 returns : tie.Need-returns Inv-loop μ-loop
 returns c =
@@ -51,17 +36,6 @@ returns c =
 
 pub copy-letters-spec : {M : Type 1} → statement M
 copy-letters-spec =
-    tie.close
-    (tie.spec
-    Inv-loop
-    μ-loop
-    loop-holds
-    add-state
-    slice-read-state
-    add-state-2
-    slice-write-state
-    add-i
-    loop-less
-    loop-again
-    same-length
-    returns)
+    tie.close (tie.spec
+    Inv-loop μ-loop loop-holds (λ c. omega arith) slice-read-state (λ c. omega arith) slice-write-state (λ c. omega arith) (λ c. omega arith) loop-again
+    (λ c. c .before .loop .inv .1 .long) returns)

@@ -10,12 +10,6 @@ use Rattle.live_letters.proofs.Puts.{not-zero}
 use Rattle.live_letters.proofs.is_marked.Statement.{statement}
 use Rattle.live_letters.proofs.is_marked.Tie as tie
 
-add-byte-at : tie.Need-add-byte-at
-add-byte-at c = search needs
-
-byte-at-requires : tie.Need-byte-at-requires
-byte-at-requires c κs = search needs
-
 returns : tie.Need-returns
 unfolding isMarked
 returns c =
@@ -23,4 +17,4 @@ returns c =
     ap (λ (v : ℕ). not (eqb v 0)) (c .byte-at .ensures) ∙ not-zero (getD (a .state .now) (2 + a .m) 0)
 
 pub is-marked-spec : {M : Type 1} → statement M
-is-marked-spec = tie.close (tie.spec add-byte-at byte-at-requires returns)
+is-marked-spec = tie.close (tie.spec (λ c. search needs) (λ c κs. search needs) returns)

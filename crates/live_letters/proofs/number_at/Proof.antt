@@ -9,27 +9,6 @@ use borrow.Author.Needs.{needs}
 use Rattle.live_letters.proofs.number_at.Statement.{statement}
 use Rattle.live_letters.proofs.number_at.Tie as tie
 
-byte-at-requires : tie.Need-byte-at-requires
-byte-at-requires c κs = search needs
-
-cast-n : tie.Need-cast-n
-cast-n c = search needs
-
-add-byte-at : tie.Need-add-byte-at
-add-byte-at c = search needs
-
-byte-at-requires-2 : tie.Need-byte-at-requires-2
-byte-at-requires-2 c κs = search needs
-
-cast-n-2 : tie.Need-cast-n-2
-cast-n-2 c = search needs
-
-mul-n : tie.Need-mul-n
-mul-n c = search needs
-
-add-n : tie.Need-add-n
-add-n c = search needs
-
 -- the second byte
 high : (c : tie.After-byte-at2) → c .byte-at2 .result ≡ getD (c .before .before .before .args .state .now) (suc (c .before .before .before .args .at)) 0
 high c =
@@ -46,14 +25,6 @@ returns-2 c = omega (arith, high (c .before))
 
 pub number-at-spec : {M : Type 1} → statement M
 number-at-spec =
-    tie.close
-    (tie.spec
-    byte-at-requires
-    cast-n
-    add-byte-at
-    byte-at-requires-2
-    cast-n-2
-    mul-n
-    add-n
-    returns
+    tie.close (tie.spec
+    (λ c κs. search needs) (λ c. search needs) (λ c. search needs) (λ c κs. search needs) (λ c. search needs) (λ c. search needs) (λ c. search needs) returns
     returns-2)

@@ -8,23 +8,8 @@ use borrow.Author.Needs.{needs}
 use Rattle.live_letters.proofs.put_number.Statement.{statement}
 use Rattle.live_letters.proofs.put_number.Tie as tie
 
-cast-state : tie.Need-cast-state
-cast-state c = search needs
-
-slice-write-state : tie.Need-slice-write-state
-slice-write-state c = search needs
-
-cast-state-2 : tie.Need-cast-state-2
-cast-state-2 c = search needs
-
-add-state : tie.Need-add-state
-add-state c = search needs
-
 slice-write-state-2 : tie.Need-slice-write-state-2
 slice-write-state-2 c = simp length-set (omega arith)
-
-same-length : tie.Need-same-length
-same-length c = search needs
 
 returns : tie.Need-returns
 unfolding twoBytes
@@ -32,12 +17,5 @@ returns c = let a = c .args in put-two (a .at) (a .n % 256) (a .n / 256) (a .sta
 
 pub put-number-spec : {M : Type 1} → statement M
 put-number-spec =
-    tie.close
-    (tie.spec
-    cast-state
-    slice-write-state
-    cast-state-2
-    add-state
-    slice-write-state-2
-    same-length
-    returns)
+    tie.close (tie.spec
+    (λ c. search needs) (λ c. search needs) (λ c. search needs) (λ c. search needs) slice-write-state-2 (λ c. search needs) returns)

@@ -10,62 +10,42 @@ use borrow.Author.Needs.{needs}
 use Rattle.live_rows.proofs.call_row.Statement.{statement}
 use Rattle.live_rows.proofs.call_row.Tie as tie
 
-letter-row-requires : tie.Need-letter-row-requires
-letter-row-requires c κs = search needs
-
 returns : tie.Need-returns
 returns c =
     let a = c .before .before .before .before .before .args in
     letter-refuses (a .call) (a .s) (inBytes (a .codes .now)) (inBytes (a .transitions .now)) (a .state .now) (a .room) _ (c .if1 .taken) (c .before .letter-row .ensures)
 
-array-share-prefix-words : tie.Need-array-share-prefix-words
-array-share-prefix-words c = search needs
-
-slice-aggregate-none : tie.Need-slice-aggregate-none
-slice-aggregate-none c = search needs
-
-table-row-requires : tie.Need-table-row-requires
-table-row-requires c κs = search needs
-
 returns-2 : tie.Need-returns-2
 returns-2 c =
-    let a = c .before .before .before .before .before .before .before .before .args in
-    table-refuses (a .call) (a .s) (inBytes (a .codes .now)) (inBytes (a .transitions .now)) (a .state .now) (a .room) (sym (c .before .before .before .before .letter-row .ensures) ∙ c .before .before .before .if1 .left) _ (c .if2 .taken)
+    let start = c .before .before .before .before .before .before .before .before in
+    let a = start .args in
+    table-refuses (a .call) (a .s) (inBytes (a .codes .now)) (inBytes (a .transitions .now)) (a .state .now) (a .room)
+    (sym (c .before .before .before .before .letter-row .ensures) ∙ c .before .before .before .if1 .left) _ (c .if2 .taken)
     (rw (both-bytes (a .codes .now), both-bytes (a .transitions .now)) at (c .before .table-row .ensures))
-
-log-row-requires : tie.Need-log-row-requires
-log-row-requires c κs = search needs
 
 returns-3 : tie.Need-returns-3
 returns-3 c =
-    let a = c .before .before .before .before .before .before .before .before .before .before .args in
-    log-refuses (a .call) (a .s) (inBytes (a .codes .now)) (inBytes (a .transitions .now)) (a .state .now) (a .room) (sym (c .before .before .before .before .before .before .letter-row .ensures) ∙ c .before .before .before .before .before .if1 .left)
+    let start = c .before .before .before .before .before .before .before .before .before .before in
+    let a = start .args in
+    log-refuses (a .call) (a .s) (inBytes (a .codes .now)) (inBytes (a .transitions .now)) (a .state .now) (a .room)
+    (sym (c .before .before .before .before .before .before .letter-row .ensures) ∙ c .before .before .before .before .before .if1 .left)
     (sym (rw (both-bytes (a .codes .now), both-bytes (a .transitions .now)) at (c .before .before .before .table-row .ensures)) ∙ c .before .before .if2 .left)
     _ (c .if3 .taken) (c .before .log-row .ensures)
-
-slice-row-requires : tie.Need-slice-row-requires
-slice-row-requires c κs = search needs
 
 returns-4 : tie.Need-returns-4
 unfolding inBytes
 returns-4 c =
-    let a = c .before .before .before .before .before .before .before .before .before .before .before .args in
-    slice-answers (a .call) (a .s) (inBytes (a .codes .now)) (inBytes (a .transitions .now)) (a .state .now) (a .room) (sym (c .before .before .before .before .before .before .before .letter-row .ensures) ∙ c .before .before .before .before .before .before .if1 .left)
+    let at-letter-row = c .before .before .before .before .before .before .before in
+    let start = at-letter-row .before .before .before .before in
+    let a = start .args in
+    slice-answers (a .call) (a .s) (inBytes (a .codes .now)) (inBytes (a .transitions .now)) (a .state .now) (a .room)
+    (sym (at-letter-row .letter-row .ensures) ∙ c .before .before .before .before .before .before .if1 .left)
     (sym (rw (both-bytes (a .codes .now), both-bytes (a .transitions .now)) at (c .before .before .before .before .table-row .ensures)) ∙ c .before .before .before .if2 .left)
     (sym (c .before .before .log-row .ensures) ∙ c .before .if3 .left) _
     (c .slice-row .ensures ∙ ap (λ (n : ℕ). firstRow (sliceRows n (a .state .now) (a .room))) (sym (words-in-length (a .codes .now))))
 
 pub call-row-spec : {M : Type 1} → statement M
 call-row-spec =
-    tie.close
-    (tie.spec
-    letter-row-requires
-    returns
-    array-share-prefix-words
-    slice-aggregate-none
-    table-row-requires
-    returns-2
-    log-row-requires
-    returns-3
-    slice-row-requires
-    returns-4)
+    tie.close (tie.spec
+    (λ c κs. search needs) returns (λ c. search needs) (λ c. search needs) (λ c κs. search needs) returns-2 (λ c κs. search needs) returns-3
+    (λ c κs. search needs) returns-4)

@@ -5,26 +5,8 @@ use borrow.Author.Needs.{needs}
 use Rattle.live_rows.proofs.letter_row.Statement.{statement}
 use Rattle.live_rows.proofs.letter_row.Tie as tie
 
-enum-told : tie.Need-enum-told
-enum-told c = search needs
-
-enum-known-call : tie.Need-enum-known-call
-enum-known-call c = search needs
-
-cast-if1 : tie.Need-cast-if1
-cast-if1 c = search needs
-
 returns : tie.Need-returns
 returns c = let a = c .before .before .before .before .args in letter-unknown (a .s) (a .call) _ (c .before .before .call .given .1) (omega (arith, c .if1 .taken))
-
-enum-told-2 : tie.Need-enum-told-2
-enum-told-2 c = search needs
-
-enum-told-3 : tie.Need-enum-told-3
-enum-told-3 c = search needs
-
-enum-told-4 : tie.Need-enum-told-4
-enum-told-4 c = search needs
 
 returns-2 : tie.Need-returns-2
 returns-2 c = let a = c .before .before .args in letter-start (a .s) (a .call) (c .enum-told .given .1)
@@ -43,17 +25,6 @@ returns-6 c = let a = c .before .before .args in letter-return (a .s) (a .call) 
 
 pub letter-row-spec : {M : Type 1} → statement M
 letter-row-spec =
-    tie.close
-    (tie.spec
-    enum-told
-    enum-known-call
-    cast-if1
-    returns
-    enum-told-2
-    enum-told-3
-    enum-told-4
-    returns-2
-    returns-3
-    returns-4
-    returns-5
-    returns-6)
+    tie.close (tie.spec
+    (λ c. search needs) (λ c. search needs) (λ c. search needs) returns (λ c. search needs) (λ c. search needs) (λ c. search needs) returns-2 returns-3
+    returns-4 returns-5 returns-6)

@@ -6,47 +6,27 @@ use borrow.Author.Needs.{needs}
 use Rattle.live_rows.proofs.log_row.Statement.{statement}
 use Rattle.live_rows.proofs.log_row.Tie as tie
 
-enum-told : tie.Need-enum-told
-enum-told c = search needs
-
-enum-told-2 : tie.Need-enum-told-2
-enum-told-2 c = search needs
-
-number-at-requires : tie.Need-number-at-requires
-number-at-requires c κs = search needs
-
 returns : tie.Need-returns
-returns c = let a = c .before .before .before .before .before .args in log-full (a .call) (a .state .now) _ (c .before .before .enum-told2 .given .1) (omega (arith, c .before .number-at .ensures, c .if1 .taken))
-
-enum-told-3 : tie.Need-enum-told-3
-enum-told-3 c = search needs
-
-number-at-requires-2 : tie.Need-number-at-requires-2
-number-at-requires-2 c κs = search needs
+returns c = let a = c .before .before .before .before .before .args in log-full (a .call) (a .state .now) _ (c .before .before .enum-told2 .given .1)
+    (omega (arith, c .before .number-at .ensures, c .if1 .taken))
 
 returns-2 : tie.Need-returns-2
-returns-2 c = let a = c .before .before .before .before .before .args in log-none (a .call) (a .state .now) (c .before .before .enum-told3 .given .1) (sym (c .before .number-at2 .ensures) ∙ c .if2 .taken)
-
-enum-known-call : tie.Need-enum-known-call
-enum-known-call c = search needs
+returns-2 c = let a = c .before .before .before .before .before .args in
+    log-none (a .call) (a .state .now) (c .before .before .enum-told3 .given .1) (sym (c .before .number-at2 .ensures) ∙ c .if2 .taken)
 
 returns-3 : tie.Need-returns-3
 returns-3 c = let a = c .before .before .before .before .before .args in log-no-mark (a .call) (a .state .now) _ (c .before .before .call .given .1) (omega (arith, c .if3 .taken))
-
-enum-known-call-2 : tie.Need-enum-known-call-2
-enum-known-call-2 c = search needs
-
-return-row-requires : tie.Need-return-row-requires
-return-row-requires c κs = search needs
 
 returns-4 : tie.Need-returns-4
 returns-4 c = let a = c .before .before .before .args in log-start (a .call) (a .state .now) (c .enum-told .given .1)
 
 returns-5 : tie.Need-returns-5
-returns-5 c = let a = c .before .before .before .before .before .args in log-free (a .call) (a .state .now) _ (c .before .before .enum-told2 .given .1) (omega (arith, c .before .number-at .ensures, c .if1 .left))
+returns-5 c = let a = c .before .before .before .before .before .args in
+    log-free (a .call) (a .state .now) _ (c .before .before .enum-told2 .given .1) (omega (arith, c .before .number-at .ensures, c .if1 .left))
 
 returns-6 : tie.Need-returns-6
-returns-6 c = let a = c .before .before .before .before .before .args in log-some (a .call) (a .state .now) (c .before .before .enum-told3 .given .1) (λ e. c .if2 .left (c .before .number-at2 .ensures ∙ e))
+returns-6 c = let a = c .before .before .before .before .before .args in
+    log-some (a .call) (a .state .now) (c .before .before .enum-told3 .given .1) (λ e. c .if2 .left (c .before .number-at2 .ensures ∙ e))
 
 returns-7 : tie.Need-returns-7
 returns-7 c = let a = c .before .before .before .before .before .args in log-mark (a .call) (a .state .now) _ (c .before .before .call .given .1) (omega (arith, c .if3 .left))
@@ -56,21 +36,6 @@ returns-8 c = let a = c .before .before .before .before .before .args in log-ret
 
 pub log-row-spec : {M : Type 1} → statement M
 log-row-spec =
-    tie.close
-    (tie.spec
-    enum-told
-    enum-told-2
-    number-at-requires
-    returns
-    enum-told-3
-    number-at-requires-2
-    returns-2
-    enum-known-call
-    returns-3
-    enum-known-call-2
-    return-row-requires
-    returns-4
-    returns-5
-    returns-6
-    returns-7
-    returns-8)
+    tie.close (tie.spec
+    (λ c. search needs) (λ c. search needs) (λ c κs. search needs) returns (λ c. search needs) (λ c κs. search needs) returns-2 (λ c. search needs) returns-3
+    (λ c. search needs) (λ c κs. search needs) returns-4 returns-5 returns-6 returns-7 returns-8)

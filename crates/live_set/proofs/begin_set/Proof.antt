@@ -32,15 +32,6 @@ word-at-requires c κs = omega (arith, words-in-length (c .before .before .befor
 first-byte-requires : tie.Need-first-byte-requires Inv-loop μ-loop
 first-byte-requires c κs = c .before .before .before .before .before .pre .0
 
-slice-write-set : tie.Need-slice-write-set Inv-loop μ-loop
-slice-write-set c = omega arith
-
-add-i : tie.Need-add-i Inv-loop μ-loop
-add-i c = omega arith
-
-loop-less : tie.Need-loop-less Inv-loop μ-loop
-loop-less c = omega arith
-
 loop-again : tie.Need-loop-again Inv-loop μ-loop
 loop-again c =
     let a = c .before .before .before .before .before .before .args in
@@ -53,28 +44,15 @@ loop-again c =
           (c .first-byte .ensures ∙ ap (λ (x : ℕ). one (begun (λ y. bit y (a .initial)) x)) code) (l .inv .2),
     )
 
-same-length : tie.Need-same-length Inv-loop μ-loop
-same-length c = c .before .loop .inv .0
-
 returns : tie.Need-returns Inv-loop μ-loop
 returns c =
     let a = c .before .before .before .before .args in
     let l = c .before .loop in
-    initial-end (a .initial) (wordsIn (a .codes .now)) (l .set) (l .inv .0 ∙ c .before .before .before .before .pre .1) (λ j k. l .inv .2 j (omega (arith, l .inv .0, c .before .before .before .before .pre .1)))
+    initial-end (a .initial) (wordsIn (a .codes .now)) (l .set) (l .inv .0 ∙ c .before .before .before .before .pre .1)
+    (λ j k. l .inv .2 j (omega (arith, l .inv .0, c .before .before .before .before .pre .1)))
 
 pub begin-set-spec : {M : Type 1} → statement M
 begin-set-spec =
-    tie.close
-    (tie.spec
-    Inv-loop
-    μ-loop
-    loop-holds
-    mul-word-at
-    word-at-requires
-    first-byte-requires
-    slice-write-set
-    add-i
-    loop-less
-    loop-again
-    same-length
-    returns)
+    tie.close (tie.spec
+    Inv-loop μ-loop loop-holds mul-word-at word-at-requires first-byte-requires (λ c. omega arith) (λ c. omega arith) (λ c. omega arith) loop-again
+    (λ c. c .before .loop .inv .0) returns)

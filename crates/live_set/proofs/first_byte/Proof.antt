@@ -5,9 +5,6 @@ use Rattle.sets.specs.Tests.{one}
 use Rattle.live_set.proofs.first_byte.Statement.{statement}
 use Rattle.live_set.proofs.first_byte.Tie as tie
 
-is-initial-requires : tie.Need-is-initial-requires
-is-initial-requires c κs = search needs
-
 returns : tie.Need-returns
 returns c = ap one (sym (c .if1 .taken) ∙ c .before .is-initial .ensures)
 
@@ -15,4 +12,4 @@ returns-2 : tie.Need-returns-2
 returns-2 c = ap one (sym (c .if1 .left) ∙ c .before .is-initial .ensures)
 
 pub first-byte-spec : {M : Type 1} → statement M
-first-byte-spec = tie.close (tie.spec is-initial-requires returns returns-2)
+first-byte-spec = tie.close (tie.spec (λ c κs. search needs) returns returns-2)

@@ -9,20 +9,11 @@ use Rattle.live_set.proofs.Sets.{moved-other, moved-none, moved-yes}
 use Rattle.live_set.proofs.move_over.Statement.{statement}
 use Rattle.live_set.proofs.move_over.Tie as tie
 
-letter-of-requires : tie.Need-letter-of-requires
-letter-of-requires c κs = search needs
-
 returns : tie.Need-returns
 returns c =
     let a = c .before .before .before .args in
     let other : letterOf (a .t) ≡ a .letter → ⊥ = λ e. omega arith in
     moved-other (a .letter) (a .t) (a .set .now) other
-
-source-of-requires : tie.Need-source-of-requires
-source-of-requires c κs = search needs
-
-slice-read-if2 : tie.Need-slice-read-if2
-slice-read-if2 c = search needs
 
 returns-2 : tie.Need-returns-2
 returns-2 c =
@@ -31,40 +22,16 @@ returns-2 c =
     let none : getD (a .set .now) (sourceOf (a .t)) 0 % 2 ≡ 0 = rw (sym (c .before .before .source-of .ensures)) (c .if2 .taken) in
     moved-none (a .letter) (a .t) (a .set .now) same none
 
-target-of-requires : tie.Need-target-of-requires
-target-of-requires c κs = search needs
-
-slice-read-set : tie.Need-slice-read-set
-slice-read-set c = search needs
-
-add-set : tie.Need-add-set
-add-set c = search needs
-
-slice-write-set : tie.Need-slice-write-set
-slice-write-set c = search needs
-
-same-length : tie.Need-same-length
-same-length c = search needs
-
 returns-3 : tie.Need-returns-3
 returns-3 c =
-    let a = c .before .before .before .before .before .before .before .before .args in
+    let start = c .before .before .before .before .before .before .before .before in
+    let a = start .args in
     let same : letterOf (a .t) ≡ a .letter = omega arith in
     let some : getD (a .set .now) (sourceOf (a .t)) 0 % 2 ≡ 0 → ⊥ = λ z. c .before .before .if2 .left (rw (c .before .before .before .before .source-of .ensures) z) in
     rw (c .before .target-of .ensures) (moved-yes (a .letter) (a .t) (a .set .now) same some)
 
 pub move-over-spec : {M : Type 1} → statement M
 move-over-spec =
-    tie.close
-    (tie.spec
-    letter-of-requires
-    returns
-    source-of-requires
-    slice-read-if2
-    returns-2
-    target-of-requires
-    slice-read-set
-    add-set
-    slice-write-set
-    same-length
-    returns-3)
+    tie.close (tie.spec
+    (λ c κs. search needs) returns (λ c κs. search needs) (λ c. search needs) returns-2 (λ c κs. search needs) (λ c. search needs) (λ c. search needs)
+    (λ c. search needs) (λ c. search needs) returns-3)

@@ -21,39 +21,12 @@ loop-holds c =
     let a = c .before .before .args in
     (omega arith, showing-start (isIn (setIn (a .state .now))) (a .set .now))
 
-add-flag : tie.Need-add-flag Inv-loop μ-loop
-add-flag c = omega arith
-
-shared-slice-read-flag : tie.Need-shared-slice-read-flag Inv-loop μ-loop
-shared-slice-read-flag c = omega arith
-
-flag-requires : tie.Need-flag-requires Inv-loop μ-loop
-flag-requires c κs = search needs
-
-slice-write-set : tie.Need-slice-write-set Inv-loop μ-loop
-slice-write-set c = omega arith
-
-cast-members : tie.Need-cast-members Inv-loop μ-loop
-cast-members c = omega arith
-
-add-members : tie.Need-add-members Inv-loop μ-loop
-add-members c = omega arith
-
-add-i : tie.Need-add-i Inv-loop μ-loop
-add-i c = omega arith
-
-loop-less : tie.Need-loop-less Inv-loop μ-loop
-loop-less c = omega arith
-
 loop-again : tie.Need-loop-again Inv-loop μ-loop
 loop-again c =
     let a = c .before .before .before .before .before .before .args in
     let l = c .before .before .before .loop in
     let e = c .flag .ensures ∙ shown-at (a .state .now) (l .i) in
     (omega arith, showing-next (isIn (setIn (a .state .now))) (a .set .now) (l .set) (l .members) (l .i) (c .flag .result) (omega arith) e (l .inv .1))
-
-same-length : tie.Need-same-length Inv-loop μ-loop
-same-length c = c .before .loop .inv .1 .long
 
 returns : tie.Need-returns Inv-loop μ-loop
 unfolding shown membersOf
@@ -66,19 +39,6 @@ returns c =
 
 pub show-set-spec : {M : Type 1} → statement M
 show-set-spec =
-    tie.close
-    (tie.spec
-    Inv-loop
-    μ-loop
-    loop-holds
-    add-flag
-    shared-slice-read-flag
-    flag-requires
-    slice-write-set
-    cast-members
-    add-members
-    add-i
-    loop-less
-    loop-again
-    same-length
-    returns)
+    tie.close (tie.spec
+    Inv-loop μ-loop loop-holds (λ c. omega arith) (λ c. omega arith) (λ c κs. search needs) (λ c. omega arith) (λ c. omega arith) (λ c. omega arith)
+    (λ c. omega arith) (λ c. omega arith) loop-again (λ c. c .before .loop .inv .1 .long) returns)

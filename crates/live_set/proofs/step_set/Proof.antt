@@ -11,30 +11,23 @@ use Rattle.live_set.proofs.Sets.{flags-low, arrived}
 use Rattle.live_set.proofs.step_set.Statement.{statement}
 use Rattle.live_set.proofs.step_set.Tie as tie
 
-flag-all-requires : tie.Need-flag-all-requires
-flag-all-requires c κs = search needs
-
 sweep-requires : tie.Need-sweep-requires
 sweep-requires c κs =
-    let a = c .before .before .before .before .before .before .before .args in
+    let start = c .before .before .before .before .before .before .before in
+    let a = start .args in
     let ts = wordsIn (a .transitions .now) in
     let long : length (map flagOf (a .set .now)) ≡ length (a .set .now) = length-map (a .set .now) flagOf in
     rw (c .before .before .before .flag-all .ensures)
-    (rw long (c .before .before .before .before .before .before .before .pre), flags-low (a .letter) ts (a .set .now))
-
-halve-all-requires : tie.Need-halve-all-requires
-halve-all-requires c κs = search needs
-
-same-length : tie.Need-same-length
-same-length c = search needs
+    (rw long (start .pre), flags-low (a .letter) ts (a .set .now))
 
 returns : tie.Need-returns
 returns c =
-    let a = c .before .before .before .before .before .before .before .before .before .before .before .before .before .before .args in
+    let at-flag-all = c .before .before .before .before .before .before .before .before .before .before in
+    let start = at-flag-all .before .before .before .before in
+    let a = start .args in
     let ts = wordsIn (a .transitions .now) in
-    let swept = rw (c .before .before .before .before .before .before .before .before .before .before .flag-all .ensures) at (c .before .before .before .before .before .before .sweep .ensures) in
+    let swept = rw (at-flag-all .flag-all .ensures) at (c .before .before .before .before .before .before .sweep .ensures) in
     c .before .before .halve-all .ensures ∙ arrived (a .letter) ts (a .set .now) _ swept
 
 pub step-set-spec : {M : Type 1} → statement M
-step-set-spec =
-    tie.close (tie.spec flag-all-requires sweep-requires halve-all-requires same-length returns)
+step-set-spec = tie.close (tie.spec (λ c κs. search needs) sweep-requires (λ c κs. search needs) (λ c. search needs) returns)

@@ -21,12 +21,6 @@ abbrev μ-loop : tie.MeasureT-loop
 loop-holds : tie.Need-loop-holds Inv-loop μ-loop
 loop-holds c = (omega arith, swept-start (c .before .before .args .letter) (wordsIn (c .before .before .args .transitions .now)) (c .before .before .args .set .now) (c .before .before .pre .1))
 
-mul-word-at : tie.Need-mul-word-at Inv-loop μ-loop
-mul-word-at c = omega arith
-
-word-at-requires : tie.Need-word-at-requires Inv-loop μ-loop
-word-at-requires c κs = omega arith
-
 -- the transition at place i, and that its ends are in range
 at : (c : tie.After-word-at Inv-loop μ-loop) → c .word-at .result ≡ getD (wordsIn (c .before .before .before .before .before .args .transitions .now)) (c .before .before .loop .i) 0
 at c =
@@ -44,16 +38,11 @@ move-over-requires c κs =
     let e = at (c .before) in
     (rw e (omega (arith, inside .sources (getD ts (l .i) 0) m)), rw e (omega (arith, inside .targets (getD ts (l .i) 0) m)))
 
-add-i : tie.Need-add-i Inv-loop μ-loop
-add-i c = omega arith
-
-loop-less : tie.Need-loop-less Inv-loop μ-loop
-loop-less c = omega arith
-
 loop-again : tie.Need-loop-again Inv-loop μ-loop
 loop-again c =
-    let a = c .before .before .before .before .before .before .before .before .before .args in
-    let pre = c .before .before .before .before .before .before .before .before .before .pre in
+    let start = c .before .before .before .before .before .before .before .before .before in
+    let a = start .args in
+    let pre = start .pre in
     let l = c .before .before .before .before .before .before .loop in
     let ts = wordsIn (a .transitions .now) in
     let inside : l .i < length ts = omega (arith, words-in-length (a .transitions .now)) in
@@ -61,9 +50,6 @@ loop-again c =
     let next = swept-next (a .letter) ts (a .set .now) (pre .1) (l .set) (l .i) inside (pre .0 .sources _ m) (pre .0 .targets _ m) (l .inv .1) in
     let e : c .before .before .move-over .last .1 .1 .0 ≡ moved (a .letter) (getD ts (l .i) 0) (l .set) = c .before .before .move-over .ensures ∙ rw (at (c .before .before .before .before)) in
     (omega arith, rw e next)
-
-same-length : tie.Need-same-length Inv-loop μ-loop
-same-length c = c .before .loop .inv .1 .long
 
 returns : tie.Need-returns Inv-loop μ-loop
 returns c =
@@ -74,16 +60,6 @@ returns c =
 
 pub sweep-spec : {M : Type 1} → statement M
 sweep-spec =
-    tie.close
-    (tie.spec
-    Inv-loop
-    μ-loop
-    loop-holds
-    mul-word-at
-    word-at-requires
-    move-over-requires
-    add-i
-    loop-less
-    loop-again
-    same-length
-    returns)
+    tie.close (tie.spec
+    Inv-loop μ-loop loop-holds (λ c. omega arith) (λ c κs. omega arith) move-over-requires (λ c. omega arith) (λ c. omega arith) loop-again
+    (λ c. c .before .loop .inv .1 .long) returns)

@@ -16,14 +16,8 @@ returns c =
     let a = c .before .before .args in
     sourced-none (a .n) (wordsIn (a .transitions .now)) (omega (arith, words-in-length (a .transitions .now)))
 
-sub-element : tie.Need-sub-element
-sub-element c = search needs
-
 element-requires : tie.Need-element-requires
 element-requires c κs = omega (arith, words-in-length (c .before .before .args .transitions .now))
-
-source-of-requires : tie.Need-source-of-requires
-source-of-requires c κs = search needs
 
 returns-2 : tie.Need-returns-2
 returns-2 c =
@@ -34,5 +28,4 @@ returns-2 c =
     sourced-last (a .n) ts (c .before .before .before .before .pre) (omega arith) (c .source-of .result) (c .source-of .ensures ∙ ap sourceOf last)
 
 pub ends-below-spec : {M : Type 1} → statement M
-ends-below-spec =
-    tie.close (tie.spec returns sub-element element-requires source-of-requires returns-2)
+ends-below-spec = tie.close (tie.spec returns (λ c. search needs) element-requires (λ c κs. search needs) returns-2)

@@ -34,91 +34,65 @@ loop-holds c =
     let bytes = c .before .before .before .args .bytes .now in
     (omega arith, rw (c .element .ensures) (rises-start (wordsIn bytes) (omega (arith, words-in-length bytes))))
 
-add-loop : tie.Need-add-loop Inv-loop μ-loop Inv-loop2 μ-loop2
-add-loop c = omega arith
-
 rise-four-requires : tie.Need-rise-four-requires Inv-loop μ-loop Inv-loop2 μ-loop2
 rise-four-requires c κs = omega (arith, words-in-length (c .before .before .before .before .before .args .bytes .now))
 
 returns-2 : tie.Need-returns-2 Inv-loop μ-loop Inv-loop2 μ-loop2
 returns-2 c =
-    let bytes = c .before .before .before .before .before .before .before .args .bytes .now in
+    let start = c .before .before .before .before .before .before .before in
+    let bytes = start .args .bytes .now in
     let l = c .before .before .before .loop in
     let r = c .before .rise-four .result in
     falls-four (wordsIn bytes) (l .last) (l .i) (omega (arith, words-in-length bytes)) (sym (c .before .rise-four .ensures) ∙ not-true r (c .if2 .taken)) (l .inv .1)
 
-add-element : tie.Need-add-element Inv-loop μ-loop Inv-loop2 μ-loop2
-add-element c = omega arith
-
 element-requires-2 : tie.Need-element-requires-2 Inv-loop μ-loop Inv-loop2 μ-loop2
-element-requires-2 c κs = omega (arith, words-in-length (c .before .before .before .before .before .before .before .args .bytes .now))
-
-add-i : tie.Need-add-i Inv-loop μ-loop Inv-loop2 μ-loop2
-add-i c = omega arith
-
-loop-less : tie.Need-loop-less Inv-loop μ-loop Inv-loop2 μ-loop2
-loop-less c = omega arith
+element-requires-2 c κs =
+    let start = c .before .before .before .before .before .before .before in
+    omega (arith, words-in-length (start .args .bytes .now))
 
 loop-again : tie.Need-loop-again Inv-loop μ-loop Inv-loop2 μ-loop2
 loop-again c =
-    let bytes = c .before .before .before .before .before .before .before .before .args .bytes .now in
+    let start = c .before .before .before .before .before .before .before .before in
+    let bytes = start .args .bytes .now in
     let l = c .before .before .before .before .loop in
-    let r = c .before .before .rise-four .result in
-    (omega arith, rw (c .element2 .ensures) (rises-four (wordsIn bytes) (l .last) (l .i) (omega (arith, words-in-length bytes)) (sym (c .before .before .rise-four .ensures) ∙ not-false r (c .before .if2 .left)) (l .inv .1)))
-
-loop2-holds : tie.Need-loop2-holds Inv-loop μ-loop Inv-loop2 μ-loop2
-loop2-holds c = c .before .loop .inv
+    let r = c .before .before .rise-four .result in (
+      omega arith,
+      rw (c .element2 .ensures) (rises-four (wordsIn bytes) (l .last) (l .i) (omega (arith, words-in-length bytes))
+          (sym (c .before .before .rise-four .ensures) ∙ not-false r (c .before .if2 .left)) (l .inv .1)),
+    )
 
 element-requires-3 : tie.Need-element-requires-3 Inv-loop μ-loop Inv-loop2 μ-loop2
-element-requires-3 c κs = omega (arith, words-in-length (c .before .before .before .before .before .before .before .args .bytes .now))
+element-requires-3 c κs =
+    let start = c .before .before .before .before .before .before .before in
+    omega (arith, words-in-length (start .args .bytes .now))
 
 returns-3 : tie.Need-returns-3 Inv-loop μ-loop Inv-loop2 μ-loop2
 returns-3 c =
-    let bytes = c .before .before .before .before .before .before .before .before .before .args .bytes .now in
+    let start = c .before .before .before .before .before .before .before .before .before in
+    let bytes = start .args .bytes .now in
     let l = c .before .before .before .loop2 in
     falls-one (wordsIn bytes) (l .last) (l .i) (omega (arith, words-in-length bytes)) (omega (arith, c .if3 .taken, c .before .element3 .ensures)) (l .inv .1)
 
-add-i-2 : tie.Need-add-i-2 Inv-loop μ-loop Inv-loop2 μ-loop2
-add-i-2 c = omega arith
-
-loop2-less : tie.Need-loop2-less Inv-loop μ-loop Inv-loop2 μ-loop2
-loop2-less c = omega arith
-
 loop2-again : tie.Need-loop2-again Inv-loop μ-loop Inv-loop2 μ-loop2
 loop2-again c =
-    let bytes = c .before .before .before .before .before .before .before .before .before .args .bytes .now in
-    let l = c .before .before .before .loop2 in
-    (omega arith, rw (c .before .element3 .ensures) (rises-one (wordsIn bytes) (l .last) (l .i) (omega (arith, words-in-length bytes)) (omega (arith, c .if3 .left, c .before .element3 .ensures)) (l .inv .1)))
+    let start = c .before .before .before .before .before .before .before .before .before in
+    let bytes = start .args .bytes .now in
+    let l = c .before .before .before .loop2 in (
+      omega arith,
+      rw (c .before .element3 .ensures) (rises-one (wordsIn bytes) (l .last) (l .i) (omega (arith, words-in-length bytes)) (omega (arith, c .if3 .left, c .before .element3 .ensures))
+          (l .inv .1)),
+    )
 
 returns-4 : tie.Need-returns-4 Inv-loop μ-loop Inv-loop2 μ-loop2
 returns-4 c =
-    let bytes = c .before .before .before .before .before .before .before .args .bytes .now in
+    let start = c .before .before .before .before .before .before .before in
+    let bytes = start .args .bytes .now in
     let l = c .before .loop2 in
     rises-end (wordsIn bytes) (l .last) (l .i) (omega (arith, words-in-length bytes)) (l .inv .1)
 
 pub is-ascending-spec : {M : Type 1} → statement M
 is-ascending-spec =
-    tie.close
-    (tie.spec
-    Inv-loop
-    μ-loop
-    Inv-loop2
-    μ-loop2
-    returns
-    element-requires
-    loop-holds
-    add-loop
-    rise-four-requires
-    returns-2
-    add-element
-    element-requires-2
-    add-i
-    loop-less
-    loop-again
-    loop2-holds
-    element-requires-3
-    returns-3
-    add-i-2
-    loop2-less
-    loop2-again
+    tie.close (tie.spec
+    Inv-loop μ-loop Inv-loop2 μ-loop2 returns element-requires loop-holds (λ c. omega arith) rise-four-requires returns-2 (λ c. omega arith) element-requires-2
+    (λ c. omega arith) (λ c. omega arith) loop-again (λ c. c .before .loop .inv) element-requires-3 returns-3 (λ c. omega arith) (λ c. omega arith) loop2-again
     returns-4)

@@ -12,11 +12,8 @@ returns c = let a = c .before .args in sym (limit-same (a .s) (a .n) (a .letter)
 returns-2 : tie.Need-returns-2
 returns-2 c = let a = c .before .before .args in sym (limit-high (a .s) (a .n) (a .letter) (a .l) (omega arith))
 
-cast-result : tie.Need-cast-result
-cast-result c = search needs
-
 returns-3 : tie.Need-returns-3
 returns-3 c = let a = c .before .before .args in sym (limit-other (a .s) (a .n) (a .letter) (a .l) (c .before .if1 .left) (omega arith))
 
 pub limit-of-spec : {M : Type 1} → statement M
-limit-of-spec = tie.close (tie.spec returns returns-2 cast-result returns-3)
+limit-of-spec = tie.close (tie.spec returns returns-2 (λ c. search needs) returns-3)

@@ -18,9 +18,6 @@ abbrev μ-loop : tie.MeasureT-loop
 loop-holds : tie.Need-loop-holds Inv-loop μ-loop
 loop-holds c = (omega arith, refl, λ z k. absurd (omega arith))
 
-limit-of-requires : tie.Need-limit-of-requires Inv-loop μ-loop
-limit-of-requires c κs = c .before .before .pre
-
 mul-limits : tie.Need-mul-limits Inv-loop μ-loop
 mul-limits c = omega (arith, c .before .loop-test .taken)
 
@@ -47,15 +44,5 @@ returns c = let l = c .before .loop in λ z k. l .inv .2 z (omega (arith, l .inv
 
 pub limits-of-spec : {M : Type 1} → statement M
 limits-of-spec =
-    tie.close
-    (tie.spec
-    Inv-loop
-    μ-loop
-    loop-holds
-    limit-of-requires
-    mul-limits
-    array-write-limits
-    add-l
-    loop-less
-    loop-again
-    returns)
+    tie.close (tie.spec
+    Inv-loop μ-loop loop-holds (λ c κs. c .before .before .pre) mul-limits array-write-limits add-l loop-less loop-again returns)

@@ -11,9 +11,6 @@ use borrow.Author.Needs.{needs}
 use Rattle.live_sweep.proofs.rise_four.Statement.{statement}
 use Rattle.live_sweep.proofs.rise_four.Tie as tie
 
-element-requires : tie.Need-element-requires
-element-requires c κs = search needs
-
 returns : tie.Need-returns
 returns c =
     let a = c .before .before .before .args in
@@ -22,36 +19,32 @@ returns c =
 add-element : tie.Need-add-element
 add-element c = omega (arith, words-in-length (c .before .before .before .args .bytes .now))
 
-element-requires-2 : tie.Need-element-requires-2
-element-requires-2 c κs = search needs
-
 returns-2 : tie.Need-returns-2
 returns-2 c =
     let a = c .before .before .before .before .before .args in
-    four-second (a .last) (wordsIn (a .bytes .now)) (a .i) (omega (arith, c .before .before .before .element .ensures)) (omega (arith, c .before .before .before .element .ensures, c .before .element2 .ensures))
+    four-second (a .last) (wordsIn (a .bytes .now)) (a .i) (omega (arith, c .before .before .before .element .ensures))
+    (omega (arith, c .before .before .before .element .ensures, c .before .element2 .ensures))
 
 add-element-2 : tie.Need-add-element-2
 add-element-2 c = omega (arith, words-in-length (c .before .before .before .before .before .args .bytes .now))
 
-element-requires-3 : tie.Need-element-requires-3
-element-requires-3 c κs = search needs
-
 returns-3 : tie.Need-returns-3
 returns-3 c =
-    let a = c .before .before .before .before .before .before .before .args in
+    let start = c .before .before .before .before .before .before .before in
+    let a = start .args in
     let first = c .before .before .before .before .before .element .ensures in
     let second = c .before .before .before .element2 .ensures in
     four-third (a .last) (wordsIn (a .bytes .now)) (a .i) (omega (arith, first)) (omega (arith, first, second)) (omega (arith, second, c .before .element3 .ensures))
 
 add-element-3 : tie.Need-add-element-3
-add-element-3 c = omega (arith, words-in-length (c .before .before .before .before .before .before .before .args .bytes .now))
-
-element-requires-4 : tie.Need-element-requires-4
-element-requires-4 c κs = search needs
+add-element-3 c =
+    let start = c .before .before .before .before .before .before .before in
+    omega (arith, words-in-length (start .args .bytes .now))
 
 returns-4 : tie.Need-returns-4
 returns-4 c =
-    let a = c .before .before .before .before .before .before .before .before .args in
+    let start = c .before .before .before .before .before .before .before .before in
+    let a = start .args in
     let first = c .before .before .before .before .before .before .element .ensures in
     let second = c .before .before .before .before .element2 .ensures in
     let third = c .before .before .element3 .ensures in
@@ -60,16 +53,6 @@ returns-4 c =
 
 pub rise-four-spec : {M : Type 1} → statement M
 rise-four-spec =
-    tie.close
-    (tie.spec
-    element-requires
-    returns
-    add-element
-    element-requires-2
-    returns-2
-    add-element-2
-    element-requires-3
-    returns-3
-    add-element-3
-    element-requires-4
-    returns-4)
+    tie.close (tie.spec
+    (λ c κs. search needs) returns add-element (λ c κs. search needs) returns-2 add-element-2 (λ c κs. search needs) returns-3 add-element-3
+    (λ c κs. search needs) returns-4)

@@ -14,9 +14,6 @@ use Rattle.live_sweep.proofs.step_tried.Tie as tie
 rises : (c : tie.Else1) → ascends (wordsIn (c .before .before .before .before .args .transitions .now)) ≡ true
 rises c = sym (c .before .is-ascending .ensures) ∙ not-false (c .before .is-ascending .result) (c .if1 .left)
 
-is-ascending-requires : tie.Need-is-ascending-requires
-is-ascending-requires c κs = search needs
-
 returns : tie.Need-returns
 returns c =
     let a = c .before .before .before .before .args in
@@ -36,55 +33,41 @@ returns-2 c =
 
 sweep-tried-requires : tie.Need-sweep-tried-requires
 sweep-tried-requires c κs =
-    let pre = c .before .before .before .before .before .before .before .pre in
+    let start = c .before .before .before .before .before .before .before in
+    let pre = start .pre in
     (pre .0, pre .1, pre .2, c .before .before .ends-below .ensures .yes (not-false (c .before .before .ends-below .result) (c .before .if2 .left)))
-
-halve-all-requires : tie.Need-halve-all-requires
-halve-all-requires c κs = search needs
-
-same-length : tie.Need-same-length
-same-length c = search needs
 
 returns-3 : tie.Need-returns-3
 returns-3 c =
-    let a = c .before .before .before .before .before .before .before .before .before .before .before .before .before .before .before .args in
+    let at-sweep-tried = c .before .before .before .before .before .before .before in
+    let earlier = at-sweep-tried .before .before .before .before in
+    let start = earlier .before .before .before .before in
+    let a = start .args in
     let ts = wordsIn (a .transitions .now) in
-    let e = c .before .before .before .before .before .before .before .sweep-tried .ensures in
+    let e = at-sweep-tried .sweep-tried .ensures in
     record {
-      verdict = passes-by (length (a .set .now)) (a .s) ts true (rises (c .before .before .before .before .before .before .before .before .before .before .before)) (sym (c .before .before .before .before .if3 .taken) ∙ e .verdict);
-      yes = λ r. c .before .before .halve-all .ensures ∙ step-end (a .letter) ts (a .set .now) (c .before .before .before .before .before .before .before .before .before .before .before .before .before .before .before .pre .2) (c .before .before .before .before .before .before .before .sweep-tried .last .1 .1 .1 .0) (e .swept (c .before .before .before .before .if3 .taken));
+      verdict = passes-by (length (a .set .now)) (a .s) ts true (rises (earlier)) (sym (c .before .before .before .before .if3 .taken) ∙ e .verdict);
+      yes = λ r. c .before .before .halve-all .ensures ∙ step-end (a .letter) ts (a .set .now) (start .pre .2) (at-sweep-tried .sweep-tried .last .1 .1 .1 .0)
+          (e .swept (c .before .before .before .before .if3 .taken));
       no = λ r. absurd (true-false r);
     }
 
-keep-low-requires : tie.Need-keep-low-requires
-keep-low-requires c κs = search needs
-
-same-length-2 : tie.Need-same-length-2
-same-length-2 c = search needs
-
 returns-4 : tie.Need-returns-4
 returns-4 c =
-    let a = c .before .before .before .before .before .before .before .before .before .before .before .before .before .before .before .args in
+    let at-sweep-tried = c .before .before .before .before .before .before .before in
+    let earlier = at-sweep-tried .before .before .before .before in
+    let start = earlier .before .before .before .before in
+    let a = start .args in
     let ts = wordsIn (a .transitions .now) in
-    let e = c .before .before .before .before .before .before .before .sweep-tried .ensures in
+    let e = at-sweep-tried .sweep-tried .ensures in
     record {
-      verdict = passes-by (length (a .set .now)) (a .s) ts false (rises (c .before .before .before .before .before .before .before .before .before .before .before)) (sym (c .before .before .before .before .if3 .left) ∙ e .verdict);
+      verdict = passes-by (length (a .set .now)) (a .s) ts false (rises (earlier)) (sym (c .before .before .before .before .if3 .left) ∙ e .verdict);
       yes = λ r. absurd (true-false (sym r));
-      no = λ r. c .before .before .keep-low .ensures ∙ step-back (a .letter) ts (a .set .now) (c .before .before .before .before .before .before .before .before .before .before .before .before .before .before .before .pre .2) (c .before .before .before .before .before .before .before .sweep-tried .last .1 .1 .1 .0) (e .long) (e .low);
+      no = λ r. c .before .before .keep-low .ensures ∙ step-back (a .letter) ts (a .set .now) (start .pre .2) (at-sweep-tried .sweep-tried .last .1 .1 .1 .0) (e .long) (e .low);
     }
 
 pub step-tried-spec : {M : Type 1} → statement M
 step-tried-spec =
-    tie.close
-    (tie.spec
-    is-ascending-requires
-    returns
-    ends-below-requires
-    returns-2
-    sweep-tried-requires
-    halve-all-requires
-    same-length
-    returns-3
-    keep-low-requires
-    same-length-2
-    returns-4)
+    tie.close (tie.spec
+    (λ c κs. search needs) returns ends-below-requires returns-2 sweep-tried-requires (λ c κs. search needs) (λ c. search needs) returns-3
+    (λ c κs. search needs) (λ c. search needs) returns-4)

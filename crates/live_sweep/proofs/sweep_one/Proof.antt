@@ -10,28 +10,19 @@ use borrow.Author.Needs.{needs}
 use Rattle.live_sweep.proofs.sweep_one.Statement.{statement}
 use Rattle.live_sweep.proofs.sweep_one.Tie as tie
 
-target-of-requires : tie.Need-target-of-requires
-target-of-requires c κs = search needs
-
 returns : tie.Need-returns
 returns c =
     let a = c .before .before .before .args in
     let quick : targetOf (a .t) < a .limit = omega arith in
     λ s b e. told-quickly s (a .letter) (a .t) (a .set .now) (a .limit) e (c .before .before .before .pre) quick
 
-look-closer-requires : tie.Need-look-closer-requires
-look-closer-requires c κs = search needs
-
-same-length : tie.Need-same-length
-same-length c = search needs
-
 returns-2 : tie.Need-returns-2
 returns-2 c =
-    let a = c .before .before .before .before .before .before .before .args in
+    let start = c .before .before .before .before .before .before .before in
+    let a = start .args in
     λ s b e.
     let closer : limitOf s (length (a .set .now)) (a .letter) (letterOf (a .t)) ≤ targetOf (a .t) = omega arith in
     c .before .before .look-closer .ensures s b closer
 
 pub sweep-one-spec : {M : Type 1} → statement M
-sweep-one-spec =
-    tie.close (tie.spec target-of-requires returns look-closer-requires same-length returns-2)
+sweep-one-spec = tie.close (tie.spec (λ c κs. search needs) returns (λ c κs. search needs) (λ c. search needs) returns-2)

@@ -31,17 +31,16 @@ source c =
 
 -- what is told of it
 told : (c : tie.After-sweep-one Inv-loop μ-loop)
-    → Told (c .before .before .before .before .before .before .before .before .before .args .s) (c .before .before .before .before .before .before .before .before .before .args .letter) (c .before .before .before .element .result) (c .before .before .before .before .before .loop .set) (c .sweep-one .last .1 .1 .1 .0) (c .sweep-one .result)
+    → Told (c .before .before .before .before .before .before .before .before .before .args .s) (c .before .before .before .before .before .before .before .before .before .args .letter)
+    (c .before .before .before .element .result) (c .before .before .before .before .before .loop .set) (c .sweep-one .last .1 .1 .1 .0) (c .sweep-one .result)
 told c =
-    let a = c .before .before .before .before .before .before .before .before .before .args in
+    let start = c .before .before .before .before .before .before .before .before .before in
+    let a = start .args in
     let l = c .before .before .before .before .before .loop in
     let x = c .before .before .letter-of .result in
     let e : x ≡ letterOf (c .before .before .before .element .result) = c .before .before .letter-of .ensures in
     let limit = c .before .before .before .before .before .before .limits-of .ensures x (omega arith) ∙ ap₂ (λ (k y : ℕ). limitOf (a .s) k (a .letter) y) (sym (l .inv .1 .swept .long)) e in
-    c .sweep-one .ensures (a .s) (c .before .before .before .before .before .before .before .before .before .pre .0) limit
-
-limits-of-requires : tie.Need-limits-of-requires Inv-loop μ-loop
-limits-of-requires c κs = c .before .before .pre .1
+    c .sweep-one .ensures (a .s) (start .pre .0) limit
 
 loop-holds : tie.Need-loop-holds Inv-loop μ-loop
 loop-holds c =
@@ -50,9 +49,6 @@ loop-holds c =
 
 element-requires : tie.Need-element-requires Inv-loop μ-loop
 element-requires c κs = omega (arith, words-in-length (c .before .before .before .before .before .args .transitions .now))
-
-letter-of-requires : tie.Need-letter-of-requires Inv-loop μ-loop
-letter-of-requires c κs = search needs
 
 mul-sweep-one : tie.Need-mul-sweep-one Inv-loop μ-loop
 mul-sweep-one c = omega (arith, c .letter-of .ensures)
@@ -64,38 +60,37 @@ sweep-one-requires : tie.Need-sweep-one-requires Inv-loop μ-loop
 sweep-one-requires c κs = source (c .before .before)
 
 same-length : tie.Need-same-length Inv-loop μ-loop
-same-length c = c .before .before .before .sweep-one .kept .1 .1 .1 .0 ∙ c .before .before .before .before .before .before .before .before .loop .inv .1 .swept .long
+same-length c =
+    let at-loop = c .before .before .before .before .before .before .before .before in
+    c .before .before .before .sweep-one .kept .1 .1 .1 .0 ∙ at-loop .loop .inv .1 .swept .long
 
 returns : tie.Need-returns Inv-loop μ-loop
 returns c =
-    let a = c .before .before .before .before .before .before .before .before .before .before .before .before .args in
-    let l = c .before .before .before .before .before .before .before .before .loop in
+    let at-loop = c .before .before .before .before .before .before .before .before in
+    let start = at-loop .before .before .before .before in
+    let a = start .args in
+    let l = at-loop .loop in
     let ts = wordsIn (a .transitions .now) in
     let inside : l .i < length ts = omega (arith, words-in-length (a .transitions .now)) in
     let none = not-true (c .before .before .before .sweep-one .result) (c .if1 .taken) in
-    turn-refused (a .s) (a .letter) ts (a .set .now) (c .before .before .before .before .before .before .before .before .before .before .before .before .pre .2) (l .set) _ (l .i) (c .before .before .before .before .before .before .element .result) inside (c .before .before .before .before .before .before .element .ensures) (l .inv .1)
+    turn-refused (a .s) (a .letter) ts (a .set .now) (start .pre .2) (l .set) _ (l .i) (c .before .before .before .before .before .before .element .result) inside
+    (c .before .before .before .before .before .before .element .ensures) (l .inv .1)
     (rw none at (told (c .before .before .before)))
-
-add-i : tie.Need-add-i Inv-loop μ-loop
-add-i c = omega arith
-
-loop-less : tie.Need-loop-less Inv-loop μ-loop
-loop-less c = omega arith
 
 loop-again : tie.Need-loop-again Inv-loop μ-loop
 loop-again c =
-    let a = c .before .before .before .before .before .before .before .before .before .before .before .before .args in
-    let l = c .before .before .before .before .before .before .before .before .loop in
+    let at-element = c .before .before .before .before .before .before in
+    let at-loop = at-element .before .before in
+    let start = at-loop .before .before .before .before in
+    let a = start .args in
+    let l = at-loop .loop in
     let ts = wordsIn (a .transitions .now) in
     let inside : l .i < length ts = omega (arith, words-in-length (a .transitions .now)) in
     let some = not-false (c .before .before .before .sweep-one .result) (c .if1 .left) in (
       omega arith,
-      turn-told (a .s) (a .letter) ts (a .set .now) (c .before .before .before .before .before .before .before .before .before .before .before .before .pre .2) (l .set) _ (l .i) (c .before .before .before .before .before .before .element .result) inside (c .before .before .before .before .before .before .element .ensures) (l .inv .1)
-          (source (c .before .before .before .before .before .before)) (rw some at (told (c .before .before .before))),
+      turn-told (a .s) (a .letter) ts (a .set .now) (start .pre .2) (l .set) _ (l .i) (at-element .element .result) inside (at-element .element .ensures) (l .inv .1)
+          (source (at-element)) (rw some at (told (c .before .before .before))),
     )
-
-same-length-2 : tie.Need-same-length-2 Inv-loop μ-loop
-same-length-2 c = c .before .loop .inv .1 .swept .long
 
 returns-2 : tie.Need-returns-2 Inv-loop μ-loop
 returns-2 c =
@@ -106,21 +101,6 @@ returns-2 c =
 
 pub sweep-tried-spec : {M : Type 1} → statement M
 sweep-tried-spec =
-    tie.close
-    (tie.spec
-    Inv-loop
-    μ-loop
-    limits-of-requires
-    loop-holds
-    element-requires
-    letter-of-requires
-    mul-sweep-one
-    array-read-sweep-one
-    sweep-one-requires
-    same-length
-    returns
-    add-i
-    loop-less
-    loop-again
-    same-length-2
-    returns-2)
+    tie.close (tie.spec
+    Inv-loop μ-loop (λ c κs. c .before .before .pre .1) loop-holds element-requires (λ c κs. search needs) mul-sweep-one array-read-sweep-one sweep-one-requires
+    same-length returns (λ c. omega arith) (λ c. omega arith) loop-again (λ c. c .before .loop .inv .1 .swept .long) returns-2)

@@ -16,9 +16,6 @@ use borrow.Author.Needs.{needs}
 use Rattle.loop_report.proofs.mixed_loop.Statement.{statement}
 use Rattle.loop_report.proofs.mixed_loop.Tie as tie
 
-layout-row-requires : tie.Need-layout-row-requires
-layout-row-requires c κs = search needs
-
 returns : tie.Need-returns
 returns c =
     let a = c .before .before .before .before .args in
@@ -52,57 +49,35 @@ sub-report c = omega (arith, bounds (c .before))
 part-report-start : tie.Need-part-report-start
 part-report-start c = omega (arith, bounds (c .before))
 
-part-report-end : tie.Need-part-report-end
-part-report-end c = search needs
-
 add-report-2 : tie.Need-add-report-2
 add-report-2 c = omega (arith, bounds (c .before .before))
-
-sub-report-2 : tie.Need-sub-report-2
-sub-report-2 c = search needs
-
-part-report-start-2 : tie.Need-part-report-start-2
-part-report-start-2 c = search needs
 
 part-report-end-2 : tie.Need-part-report-end-2
 part-report-end-2 c = omega (arith, bounds (c .before .before))
 
 report-requires : tie.Need-report-requires
 report-requires c κs =
-    let f = c .before .before .before .before .before .before .before .before .before .args .file .now in
+    let start = c .before .before .before .before .before .before .before .before .before in
+    let f = start .args .file .now in
     let p = known (c .before .before .before .before .before) in
     rw (c .before .before .before .before .lay-out .ensures, counts-part f (p .fits), clauses-part f (p .fits)) (laid-formed f (pass (c .before .before .before .before .before)))
 
-same-length : tie.Need-same-length
-same-length c = search needs
-
 returns-2 : tie.Need-returns-2
 returns-2 c =
-    let a = c .before .before .before .before .before .before .before .before .before .before .before .before .args in
+    let at-lay-out = c .before .before .before .before .before .before .before in
+    let earlier = at-lay-out .before in
+    let start = earlier .before .before .before .before in
+    let a = start .args in
     let f = a .file .now in
     let old = a .out .now in
-    let q = c .before .before .before .before .before .before .before .before in
+    let q = earlier in
     let p = known q in
-    let w = rw (c .before .before .before .before .before .before .before .lay-out .ensures, counts-part f (p .fits), clauses-part f (p .fits)) at (c .before .before .report .ensures) in
+    let w = rw (at-lay-out .lay-out .ensures, counts-part f (p .fits), clauses-part f (p .fits)) at (c .before .before .report .ensures) in
     let e = passed f old _ (c .before .before .report .result) (pass q) (w .0) (w .1) in
     (e .0, (e .1, meant f old _ (c .before .before .report .result) (e .0) (e .1)))
 
 pub mixed-loop-spec : {M : Type 1} → statement M
 mixed-loop-spec =
-    tie.close
-    (tie.spec
-    layout-row-requires
-    returns
-    lay-out-requires
-    sub-end
-    add-report
-    sub-report
-    part-report-start
-    part-report-end
-    add-report-2
-    sub-report-2
-    part-report-start-2
-    part-report-end-2
-    report-requires
-    same-length
-    returns-2)
+    tie.close (tie.spec
+    (λ c κs. search needs) returns lay-out-requires sub-end add-report sub-report part-report-start (λ c. search needs) add-report-2 (λ c. search needs)
+    (λ c. search needs) part-report-end-2 report-requires (λ c. search needs) returns-2)

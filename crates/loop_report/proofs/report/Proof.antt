@@ -10,9 +10,6 @@ use borrow.Author.Needs.{needs}
 use Rattle.loop_report.proofs.report.Statement.{statement}
 use Rattle.loop_report.proofs.report.Tie as tie
 
-clauses-row-requires : tie.Need-clauses-row-requires
-clauses-row-requires c κs = search needs
-
 returns : tie.Need-returns
 returns c =
     let a = c .before .before .before .before .before .args in
@@ -22,19 +19,13 @@ returns c =
     rw (sym (row-clauses r (length old) k (c .if1 .taken) (c .before .clauses-row .ensures)))
     (answer-refused k (loopOf r) (c .if1 .taken), after-refused k (loopOf r) old (c .if1 .taken))
 
-search-requires : tie.Need-search-requires
-search-requires c κs = search needs
-
-same-length : tie.Need-same-length
-same-length c = search needs
-
 returns-2 : tie.Need-returns-2
 returns-2 c =
-    let a = c .before .before .before .before .before .before .before .before .before .args in
+    let start = c .before .before .before .before .before .before .before .before .before in
+    let a = start .args in
     let r = ruleOf (a .h) (a .counts .now) (a .clauses .now) in
     let z : firstRow (clauseRows r) ≡ 0 = sym (c .before .before .before .before .before .clauses-row .ensures) ∙ c .before .before .before .before .if1 .left in
     rw (row-slice r (length (a .out .now)) z) (c .before .before .search .ensures)
 
 pub report-spec : {M : Type 1} → statement M
-report-spec =
-    tie.close (tie.spec clauses-row-requires returns search-requires same-length returns-2)
+report-spec = tie.close (tie.spec (λ c κs. search needs) returns (λ c κs. search needs) (λ c. search needs) returns-2)

@@ -17,15 +17,14 @@ use borrow.Author.Needs.{needs}
 use Rattle.loop_report.proofs.search.Statement.{statement}
 use Rattle.loop_report.proofs.search.Tie as tie
 
-successor-table-requires : tie.Need-successor-table-requires
-successor-table-requires c κs = search needs
-
 -- the rule that is searched
 abbrev rule : (c : tie.After-start-of) → Rule
 rule c = let a = c .before .before .before .before .before .before .before .args in ruleOf (a .h) (a .counts .now) (a .clauses .now)
 
 formed : (c : tie.After-start-of) → WellFormed (rule c)
-formed c = c .before .before .before .before .before .before .before .pre
+formed c =
+    let start = c .before .before .before .before .before .before .before in
+    start .pre
 
 -- where its loop begins
 begun : (c : tie.After-start-of) → Begins (rule c .n) (successorsOf (rule c)) (rule c .accepting) (c .start-of .result)
@@ -38,9 +37,6 @@ cast-accepting : tie.Need-cast-accepting
 cast-accepting c =
     let a = c .before .before .before .before .before .args in
     omega (arith, accepting-small (ruleOf (a .h) (a .counts .now) (a .clauses .now)) (c .before .before .before .before .before .pre))
-
-start-of-requires : tie.Need-start-of-requires
-start-of-requires c κs = search needs
 
 returns : tie.Need-returns
 returns c =
@@ -67,17 +63,13 @@ write-loop-requires c κs =
       rw (p .before .before .before .successor-table .ensures, c .before .others-of .ensures) (found-begins (rule p) (p .start-of .result) (begun p) l),
     )
 
-add-t14 : tie.Need-add-t14
-add-t14 c = search needs
-
-same-length : tie.Need-same-length
-same-length c = search needs
-
 returns-3 : tie.Need-returns-3
 returns-3 c =
-    let p = c .before .before .before .before .before .before .before .before in
+    let at-if1 = c .before .before .before .before .before .before .before in
+    let earlier = at-if1 .before in
+    let p = earlier in
     let s = p .start-of .result in
-    let l : s .further < rule p .n = omega (arith, c .before .before .before .before .before .before .before .if1 .left) in
+    let l : s .further < rule p .n = omega (arith, at-if1 .if1 .left) in
     let w = rw (p .before .before .before .successor-table .ensures, c .before .before .before .before .others-of .ensures) at (c .before .before .write-loop .ensures) in
     let k = found-length (rule p) s (begun p) l in
     let f = report-states (loopOf (rule p)) (slice p) (s .further) k (omega (arith, c .before .before .before .before .before .before .if2 .left)) in
@@ -85,15 +77,6 @@ returns-3 c =
 
 pub search-spec : {M : Type 1} → statement M
 search-spec =
-    tie.close
-    (tie.spec
-    successor-table-requires
-    cast-accepting
-    start-of-requires
-    returns
-    returns-2
-    others-of-requires
-    write-loop-requires
-    add-t14
-    same-length
-    returns-3)
+    tie.close (tie.spec
+    (λ c κs. search needs) cast-accepting (λ c κs. search needs) returns returns-2 others-of-requires write-loop-requires (λ c. search needs)
+    (λ c. search needs) returns-3)

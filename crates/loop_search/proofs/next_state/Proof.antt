@@ -12,14 +12,12 @@ use borrow.Author.Needs.{needs}
 use Rattle.loop_search.proofs.next_state.Statement.{statement}
 use Rattle.loop_search.proofs.next_state.Tie as tie
 
-ways-to-requires : tie.Need-ways-to-requires
-ways-to-requires c κs = search needs
-
-element-copy-out-result : tie.Need-element-copy-out-result
-element-copy-out-result c = search needs
-
 cast-result : tie.Need-cast-result
-cast-result c = omega (arith, trailing-le 8 (bitAnd (getD (c .before .before .before .before .args .es .now) (c .before .before .before .before .args .q) 0) (c .before .before .before .ways-to .result .any)))
+cast-result c = omega (
+  arith,
+  trailing-le 8 (bitAnd (getD (c .before .before .before .before .args .es .now) (c .before .before .before .before .args .q) 0)
+      (c .before .before .before .ways-to .result .any)),
+)
 
 returns : tie.Need-returns
 returns c =
@@ -31,11 +29,12 @@ returns c =
     let e : v .result .any ≡ m = ap (λ (y : Ways). y .any) (v .ensures) in
     rw (e, c .before .before .if1 .taken) (least-common (a .n) x m (w .0 .0) (rw (c .before .before .if1 .taken) at (w .1)))
 
-element-copy-out-result-2 : tie.Need-element-copy-out-result-2
-element-copy-out-result-2 c = search needs
-
 cast-result-2 : tie.Need-cast-result-2
-cast-result-2 c = omega (arith, trailing-le 8 (bitAnd (getD (c .before .before .before .before .args .es .now) (c .before .before .before .before .args .q) 0) (c .before .before .before .ways-to .result .mixed)))
+cast-result-2 c = omega (
+  arith,
+  trailing-le 8 (bitAnd (getD (c .before .before .before .before .args .es .now) (c .before .before .before .before .args .q) 0)
+      (c .before .before .before .ways-to .result .mixed)),
+)
 
 returns-2 : tie.Need-returns-2
 returns-2 c =
@@ -48,13 +47,4 @@ returns-2 c =
     rw (e, c .before .before .if1 .left) (least-common (a .n) x m (w .0 .0) (rw (c .before .before .if1 .left) at (w .1)))
 
 pub next-state-spec : {M : Type 1} → statement M
-next-state-spec =
-    tie.close
-    (tie.spec
-    ways-to-requires
-    element-copy-out-result
-    cast-result
-    returns
-    element-copy-out-result-2
-    cast-result-2
-    returns-2)
+next-state-spec = tie.close (tie.spec (λ c κs. search needs) (λ c. search needs) cast-result returns (λ c. search needs) cast-result-2 returns-2)

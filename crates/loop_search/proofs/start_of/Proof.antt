@@ -22,12 +22,6 @@ others-of-requires c κs = (c .before .before .pre .0, c .loop-test .taken, c .b
 further-from-requires : tie.Need-further-from-requires Inv-loop μ-loop
 further-from-requires c κs = (c .before .before .before .pre .0, c .before .loop-test .taken)
 
-add-t : tie.Need-add-t Inv-loop μ-loop
-add-t c = omega arith
-
-loop-less : tie.Need-loop-less Inv-loop μ-loop
-loop-less c = omega arith
-
 loop-again : tie.Need-loop-again Inv-loop μ-loop
 loop-again c =
     let a = c .before .before .before .before .before .args in
@@ -52,14 +46,5 @@ returns c =
 
 pub start-of-spec : {M : Type 1} → statement M
 start-of-spec =
-    tie.close
-    (tie.spec
-    Inv-loop
-    μ-loop
-    loop-holds
-    others-of-requires
-    further-from-requires
-    add-t
-    loop-less
-    loop-again
-    returns)
+    tie.close (tie.spec
+    Inv-loop μ-loop loop-holds others-of-requires further-from-requires (λ c. omega arith) (λ c. omega arith) loop-again returns)

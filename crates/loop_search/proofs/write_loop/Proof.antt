@@ -31,9 +31,6 @@ slice-write-out c =
 passes-requires : tie.Need-passes-requires Inv-loop μ-loop
 passes-requires c κs = omega (arith, c .before .loop .inv .2 .state, c .before .before .before .pre .0 .0)
 
-sub-next-state : tie.Need-sub-next-state Inv-loop μ-loop
-sub-next-state c = omega arith
-
 next-state-requires : tie.Need-next-state-requires Inv-loop μ-loop
 next-state-requires c κs =
     let a = c .before .before .before .before .args in
@@ -41,12 +38,6 @@ next-state-requires c κs =
     let l = c .before .before .loop in
     let f = may-follow (a .n) (a .es .now) (a .others) (a .t) (l .inv .0) (a .k) (a .out .now) (l .inv .1) (l .i) (l .out) (l .q) (l .passed) (c .before .loop-test .taken) (l .inv .2) in
     ((w .0 .0, w .0 .1, omega (arith, l .inv .2 .state, w .0 .0)), rw (c .passes .ensures) f)
-
-add-i : tie.Need-add-i Inv-loop μ-loop
-add-i c = omega arith
-
-loop-less : tie.Need-loop-less Inv-loop μ-loop
-loop-less c = omega arith
 
 loop-again : tie.Need-loop-again Inv-loop μ-loop
 loop-again c =
@@ -80,20 +71,6 @@ returns c =
 
 pub write-loop-spec : {M : Type 1} → statement M
 write-loop-spec =
-    tie.close
-    (tie.spec
-    Inv-loop
-    μ-loop
-    loop-holds
-    cast-out
-    slice-write-out
-    passes-requires
-    sub-next-state
-    next-state-requires
-    add-i
-    loop-less
-    loop-again
-    cast-out-2
-    slice-write-out-2
-    same-length
-    returns)
+    tie.close (tie.spec
+    Inv-loop μ-loop loop-holds cast-out slice-write-out passes-requires (λ c. omega arith) next-state-requires (λ c. omega arith) (λ c. omega arith) loop-again
+    cast-out-2 slice-write-out-2 same-length returns)

@@ -20,12 +20,6 @@ Inv-loop es n others t w₀ k₀ w k = (k ≤ n) × (w ≡ ways n es (bit others
 abbrev μ-loop : tie.MeasureT-loop
 μ-loop es n others t w₀ k₀ w k = n - k
 
-cast-t7 : tie.Need-cast-t7 Inv-loop μ-loop
-cast-t7 c = omega arith
-
-shl-t8 : tie.Need-shl-t8 Inv-loop μ-loop
-shl-t8 c = omega arith
-
 loop-holds : tie.Need-loop-holds Inv-loop μ-loop
 loop-holds c =
     let a = c .args in
@@ -40,12 +34,6 @@ step-back-requires c κs =
     let b = ways-lt (a .n) (a .es .now) (a .others) (a .t) (l .k) (w .1) in
     (w .0, rw (l .inv .1) (b .0), rw (l .inv .1) (b .1))
 
-cast-contains : tie.Need-cast-contains Inv-loop μ-loop
-cast-contains c = omega arith
-
-contains-requires : tie.Need-contains-requires Inv-loop μ-loop
-contains-requires c κs = omega arith
-
 returns : tie.Need-returns Inv-loop μ-loop
 returns c =
     let a = c .before .before .before .before .before .args in
@@ -54,12 +42,6 @@ returns c =
     let w = ways-next (a .n) (a .es .now) (a .others) (a .t) (l .k) (v .result) (l .w) (l .inv .1) (v .ensures) in
     let e = mixed-at (a .n) (a .es .now) (a .others) (a .t) (l .k) (v .result) (c .before .contains .result) w (c .before .contains .ensures) ∙ c .if1 .taken in
     sym (l .inv .2 ∙ first-here (a .n) (mixed (a .n) (a .es .now) (a .others) (a .t)) (l .k) (omega arith) e)
-
-add-k : tie.Need-add-k Inv-loop μ-loop
-add-k c = omega arith
-
-loop-less : tie.Need-loop-less Inv-loop μ-loop
-loop-less c = omega arith
 
 loop-again : tie.Need-loop-again Inv-loop μ-loop
 loop-again c =
@@ -79,18 +61,6 @@ returns-2 c =
 
 pub further-from-spec : {M : Type 1} → statement M
 further-from-spec =
-    tie.close
-    (tie.spec
-    Inv-loop
-    μ-loop
-    cast-t7
-    shl-t8
-    loop-holds
-    step-back-requires
-    cast-contains
-    contains-requires
-    returns
-    add-k
-    loop-less
-    loop-again
-    returns-2)
+    tie.close (tie.spec
+    Inv-loop μ-loop (λ c. omega arith) (λ c. omega arith) loop-holds step-back-requires (λ c. omega arith) (λ c κs. omega arith) returns (λ c. omega arith)
+    (λ c. omega arith) loop-again returns-2)

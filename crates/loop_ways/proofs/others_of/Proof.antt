@@ -5,21 +5,6 @@ use borrow.Author.Needs.{needs}
 use Rattle.loop_ways.proofs.others_of.Statement.{statement}
 use Rattle.loop_ways.proofs.others_of.Tie as tie
 
-cast-contains : tie.Need-cast-contains
-cast-contains c = search needs
-
-contains-requires : tie.Need-contains-requires
-contains-requires c κs = search needs
-
-cast-full : tie.Need-cast-full
-cast-full c = search needs
-
-full-requires : tie.Need-full-requires
-full-requires c κs = search needs
-
-difference-requires : tie.Need-difference-requires
-difference-requires c κs = search needs
-
 returns : tie.Need-returns
 returns c =
     let a = c .before .before .before .before .args in
@@ -35,12 +20,5 @@ returns-2 c =
 
 pub others-of-spec : {M : Type 1} → statement M
 others-of-spec =
-    tie.close
-    (tie.spec
-    cast-contains
-    contains-requires
-    cast-full
-    full-requires
-    difference-requires
-    returns
-    returns-2)
+    tie.close (tie.spec
+    (λ c. search needs) (λ c κs. search needs) (λ c. search needs) (λ c κs. search needs) (λ c κs. search needs) returns returns-2)

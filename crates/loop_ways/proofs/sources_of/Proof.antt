@@ -23,24 +23,6 @@ loop-holds : tie.Need-loop-holds Inv-loop μ-loop
 unfolding mask
 loop-holds c = (omega arith, refl)
 
-element-copy-out-meets : tie.Need-element-copy-out-meets Inv-loop μ-loop
-element-copy-out-meets c = omega arith
-
-meets-requires : tie.Need-meets-requires Inv-loop μ-loop
-meets-requires c κs = search needs
-
-cast-found : tie.Need-cast-found Inv-loop μ-loop
-cast-found c = omega arith
-
-shl-found : tie.Need-shl-found Inv-loop μ-loop
-shl-found c = omega arith
-
-add-q : tie.Need-add-q Inv-loop μ-loop
-add-q c = omega arith
-
-loop-less : tie.Need-loop-less Inv-loop μ-loop
-loop-less c = omega arith
-
 loop-again : tie.Need-loop-again Inv-loop μ-loop
 loop-again c =
     let l = c .before .before .before .loop in
@@ -60,16 +42,6 @@ returns c =
 
 pub sources-of-spec : {M : Type 1} → statement M
 sources-of-spec =
-    tie.close
-    (tie.spec
-    Inv-loop
-    μ-loop
-    loop-holds
-    element-copy-out-meets
-    meets-requires
-    cast-found
-    shl-found
-    add-q
-    loop-less
-    loop-again
+    tie.close (tie.spec
+    Inv-loop μ-loop loop-holds (λ c. omega arith) (λ c κs. search needs) (λ c. omega arith) (λ c. omega arith) (λ c. omega arith) (λ c. omega arith) loop-again
     returns)

@@ -14,12 +14,6 @@ Inv-loop es n others t k w₀ i₀ w i = (i ≤ k) × (w ≡ ways n es (bit othe
 abbrev μ-loop : tie.MeasureT-loop
 μ-loop es n others t k w₀ i₀ w i = k - i
 
-cast-t8 : tie.Need-cast-t8 Inv-loop μ-loop
-cast-t8 c = omega arith
-
-shl-t9 : tie.Need-shl-t9 Inv-loop μ-loop
-shl-t9 c = omega arith
-
 loop-holds : tie.Need-loop-holds Inv-loop μ-loop
 loop-holds c = let a = c .args in (omega arith, ways-none (a .n) (a .es .now) (a .others) (a .t) (c .pre .0) (c .pre .1))
 
@@ -30,12 +24,6 @@ step-back-requires c κs =
     let l = c .before .loop in
     let b = ways-lt (a .n) (a .es .now) (a .others) (a .t) (l .i) (w .1) in
     (w .0, rw (l .inv .1) (b .0), rw (l .inv .1) (b .1))
-
-add-i : tie.Need-add-i Inv-loop μ-loop
-add-i c = omega arith
-
-loop-less : tie.Need-loop-less Inv-loop μ-loop
-loop-less c = omega arith
 
 loop-again : tie.Need-loop-again Inv-loop μ-loop
 loop-again c =
@@ -52,15 +40,5 @@ returns c =
 
 pub ways-to-spec : {M : Type 1} → statement M
 ways-to-spec =
-    tie.close
-    (tie.spec
-    Inv-loop
-    μ-loop
-    cast-t8
-    shl-t9
-    loop-holds
-    step-back-requires
-    add-i
-    loop-less
-    loop-again
-    returns)
+    tie.close (tie.spec
+    Inv-loop μ-loop (λ c. omega arith) (λ c. omega arith) loop-holds step-back-requires (λ c. omega arith) (λ c. omega arith) loop-again returns)

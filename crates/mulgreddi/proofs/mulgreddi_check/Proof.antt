@@ -5,21 +5,6 @@ use Rattle.mulgreddi.proofs.Checks.{checked-served, checked-refused}
 use Rattle.mulgreddi.proofs.mulgreddi_check.Statement.{statement}
 use Rattle.mulgreddi.proofs.mulgreddi_check.Tie as tie
 
-read-rule-requires : tie.Need-read-rule-requires
-read-rule-requires c κs = search needs
-
-enum-known-layout : tie.Need-enum-known-layout
-enum-known-layout c = search needs
-
-checked-requires : tie.Need-checked-requires
-checked-requires c κs = search needs
-
-enum-known-row : tie.Need-enum-known-row
-enum-known-row c = search needs
-
-refused-requires : tie.Need-refused-requires
-refused-requires c κs = search needs
-
 returns : tie.Need-returns
 returns c =
     checked-served (c .before .before .before .before .before .before .args .file .now) (c .before .before .layout .given .0 .0) _
@@ -32,12 +17,5 @@ returns-2 c =
 
 pub mulgreddi-check-spec : {M : Type 1} → statement M
 mulgreddi-check-spec =
-    tie.close
-    (tie.spec
-    read-rule-requires
-    enum-known-layout
-    checked-requires
-    enum-known-row
-    refused-requires
-    returns
-    returns-2)
+    tie.close (tie.spec
+    (λ c κs. search needs) (λ c. search needs) (λ c κs. search needs) (λ c. search needs) (λ c κs. search needs) returns returns-2)

@@ -5,15 +5,9 @@ use Rattle.mulgreddi_answers.specs.Answers.{sameRulesAnswer}
 use Rattle.mulgreddi.proofs.mulgreddi_same_rules.Statement.{statement}
 use Rattle.mulgreddi.proofs.mulgreddi_same_rules.Tie as tie
 
-same-rules-requires : tie.Need-same-rules-requires
-same-rules-requires c κs = search needs
-
-same-rules-requires-2 : tie.Need-same-rules-requires-2
-same-rules-requires-2 c κs = search needs
-
 returns : tie.Need-returns
 returns c =
     c .same-rules2 .ensures ∙ ap sameRulesAnswer (c .before .same-rules .ensures)
 
 pub mulgreddi-same-rules-spec : {M : Type 1} → statement M
-mulgreddi-same-rules-spec = tie.close (tie.spec same-rules-requires same-rules-requires-2 returns)
+mulgreddi-same-rules-spec = tie.close (tie.spec (λ c κs. search needs) (λ c κs. search needs) returns)

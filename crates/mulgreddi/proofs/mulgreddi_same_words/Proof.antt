@@ -5,16 +5,10 @@ use Rattle.mulgreddi_answers.specs.Answers.{sameWordsAnswer}
 use Rattle.mulgreddi.proofs.mulgreddi_same_words.Statement.{statement}
 use Rattle.mulgreddi.proofs.mulgreddi_same_words.Tie as tie
 
-same-words-requires : tie.Need-same-words-requires
-same-words-requires c κs = search needs
-
-same-words-requires-2 : tie.Need-same-words-requires-2
-same-words-requires-2 c κs = search needs
-
 returns : tie.Need-returns
 returns c =
     let s = c .before .same-words .ensures in
     (c .same-words2 .ensures ∙ ap sameWordsAnswer (s .answered), λ e. rw (s .answered) at (s .meant e))
 
 pub mulgreddi-same-words-spec : {M : Type 1} → statement M
-mulgreddi-same-words-spec = tie.close (tie.spec same-words-requires same-words-requires-2 returns)
+mulgreddi-same-words-spec = tie.close (tie.spec (λ c κs. search needs) (λ c κs. search needs) returns)

@@ -5,20 +5,10 @@ use Rattle.mulgreddi_answers.specs.Answers.{writtenAnswer}
 use Rattle.mulgreddi.proofs.mulgreddi_write.Statement.{statement}
 use Rattle.mulgreddi.proofs.mulgreddi_write.Tie as tie
 
-write-rule-requires : tie.Need-write-rule-requires
-write-rule-requires c κs = search needs
-
-written-requires : tie.Need-written-requires
-written-requires c κs = search needs
-
-same-length : tie.Need-same-length
-same-length c = search needs
-
 returns : tie.Need-returns
 returns c =
     let w = c .before .before .before .write-rule .ensures in
     (c .written .ensures ∙ ap writtenAnswer (w .0), w .1)
 
 pub mulgreddi-write-spec : {M : Type 1} → statement M
-mulgreddi-write-spec =
-    tie.close (tie.spec write-rule-requires written-requires same-length returns)
+mulgreddi-write-spec = tie.close (tie.spec (λ c κs. search needs) (λ c κs. search needs) (λ c. search needs) returns)

@@ -20,36 +20,6 @@ loop-holds : tie.Need-loop-holds Inv-loop μ-loop
 unfolding mask
 loop-holds c = (omega arith, refl)
 
-element-copy-out-class : tie.Need-element-copy-out-class Inv-loop μ-loop
-element-copy-out-class c = omega arith
-
-cast-class : tie.Need-cast-class Inv-loop μ-loop
-cast-class c = omega arith
-
-shr-class : tie.Need-shr-class Inv-loop μ-loop
-shr-class c = omega arith
-
-element-copy-out-class-2 : tie.Need-element-copy-out-class-2 Inv-loop μ-loop
-element-copy-out-class-2 c = omega arith
-
-cast-class-2 : tie.Need-cast-class-2 Inv-loop μ-loop
-cast-class-2 c = omega arith
-
-shr-class-2 : tie.Need-shr-class-2 Inv-loop μ-loop
-shr-class-2 c = omega arith
-
-cast-class-3 : tie.Need-cast-class-3 Inv-loop μ-loop
-cast-class-3 c = omega arith
-
-shl-class : tie.Need-shl-class Inv-loop μ-loop
-shl-class c = omega arith
-
-add-p : tie.Need-add-p Inv-loop μ-loop
-add-p c = omega arith
-
-loop-less : tie.Need-loop-less Inv-loop μ-loop
-loop-less c = omega arith
-
 loop-again : tie.Need-loop-again Inv-loop μ-loop
 loop-again c =
     let l = c .before .before .before .loop in
@@ -68,20 +38,6 @@ returns c =
 
 pub class-of-spec : {M : Type 1} → statement M
 class-of-spec =
-    tie.close
-    (tie.spec
-    Inv-loop
-    μ-loop
-    loop-holds
-    element-copy-out-class
-    cast-class
-    shr-class
-    element-copy-out-class-2
-    cast-class-2
-    shr-class-2
-    cast-class-3
-    shl-class
-    add-p
-    loop-less
-    loop-again
-    returns)
+    tie.close (tie.spec
+    Inv-loop μ-loop loop-holds (λ c. omega arith) (λ c. omega arith) (λ c. omega arith) (λ c. omega arith) (λ c. omega arith) (λ c. omega arith)
+    (λ c. omega arith) (λ c. omega arith) (λ c. omega arith) (λ c. omega arith) loop-again returns)

@@ -19,9 +19,6 @@ Inv-loop counts clauses reach n accepting q₀ q = (q ≤ n) × (some q (bothBy 
 abbrev μ-loop : tie.MeasureT-loop
 μ-loop counts clauses reach n accepting q₀ q = n - q
 
-closures-requires : tie.Need-closures-requires Inv-loop μ-loop
-closures-requires c κs = c .before .before .pre
-
 cast-accepting : tie.Need-cast-accepting Inv-loop μ-loop
 cast-accepting c =
     let a = c .before .before .before .before .args in
@@ -32,33 +29,31 @@ unfolding some
 loop-holds c = (omega arith, refl)
 
 class-of-requires : tie.Need-class-of-requires Inv-loop μ-loop
-class-of-requires c κs = let w = c .before .before .before .before .before .before .before .pre .few-states in (omega arith, omega arith)
-
-both-kinds-requires : tie.Need-both-kinds-requires Inv-loop μ-loop
-both-kinds-requires c κs = search needs
+class-of-requires c κs =
+    let start = c .before .before .before .before .before .before .before in
+    let w = start .pre .few-states in (omega arith, omega arith)
 
 returns : tie.Need-returns Inv-loop μ-loop
 returns c =
-    let a = c .before .before .before .before .before .before .before .before .before .before .args in
+    let at-closures = c .before .before .before .before .before .before .before in
+    let start = at-closures .before .before .before in
+    let a = start .args in
     let r = ruleOf (a .h) (a .counts .now) (a .clauses .now) in
-    let w = c .before .before .before .before .before .before .before .before .before .before .pre in
+    let w = start .pre in
     let l = c .before .before .before .before .before .loop in
     let k = c .before .before .class-of in
-    let e : k .result ≡ classBy (closuresOf r) (a .h .n) (l .q) = k .ensures ∙ ap (λ (t : List ℕ). classBy t (a .h .n) (l .q)) (c .before .before .before .before .before .before .before .closures .ensures) in
-    sym (both-here r (w .few-states) (a .h .accepting) refl (l .q) (k .result) (c .before .both-kinds .result) (c .before .before .before .before .loop-test .taken) e (c .before .both-kinds .ensures) (c .if1 .taken))
-
-add-q : tie.Need-add-q Inv-loop μ-loop
-add-q c = omega arith
-
-loop-less : tie.Need-loop-less Inv-loop μ-loop
-loop-less c = omega arith
+    let e : k .result ≡ classBy (closuresOf r) (a .h .n) (l .q) = k .ensures ∙ ap (λ (t : List ℕ). classBy t (a .h .n) (l .q)) (at-closures .closures .ensures) in
+    sym (both-here r (w .few-states) (a .h .accepting) refl (l .q) (k .result) (c .before .both-kinds .result) (c .before .before .before .before .loop-test .taken) e (c .before .both-kinds .ensures)
+    (c .if1 .taken))
 
 loop-again : tie.Need-loop-again Inv-loop μ-loop
 loop-again c =
-    let a = c .before .before .before .before .before .before .before .before .before .before .args in
+    let at-closures = c .before .before .before .before .before .before .before in
+    let start = at-closures .before .before .before in
+    let a = start .args in
     let l = c .before .before .before .before .before .loop in
     let k = c .before .before .class-of in
-    let t = c .before .before .before .before .before .before .before .closures .result in (
+    let t = at-closures .closures .result in (
       omega arith,
       both-next t (a .h .n) (a .h .accepting) (l .q) (k .result) (c .before .both-kinds .result) (l .inv .1) (k .ensures) (c .before .both-kinds .ensures) (c .if1 .left),
     )
@@ -77,17 +72,6 @@ returns-2 c =
 
 pub is-mixed-spec : {M : Type 1} → statement M
 is-mixed-spec =
-    tie.close
-    (tie.spec
-    Inv-loop
-    μ-loop
-    closures-requires
-    cast-accepting
-    loop-holds
-    class-of-requires
-    both-kinds-requires
-    returns
-    add-q
-    loop-less
-    loop-again
-    returns-2)
+    tie.close (tie.spec
+    Inv-loop μ-loop (λ c κs. c .before .before .pre) cast-accepting loop-holds class-of-requires (λ c κs. search needs) returns (λ c. omega arith)
+    (λ c. omega arith) loop-again returns-2)

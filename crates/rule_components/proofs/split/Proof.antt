@@ -18,55 +18,55 @@ use Rattle.rule_components.proofs.split.Statement.{statement}
 use Rattle.rule_components.proofs.split.Tie as tie
 
 abbrev Inv-loop : tie.InvT-loop
-Inv-loop h counts clauses reach masks₀ count₀ q₀ masks count q = (q ≤ h .n) × (count ≡ countOf q (isSmallest (ruleOf h counts clauses))) × (masks ≡ tableOf count (λ k. mask (h .n) (λ p. eqb (component (ruleOf h counts clauses) p) k)))
+Inv-loop h counts clauses reach masks₀ count₀ q₀ masks count q = (q ≤ h .n) × (count ≡ countOf q (isSmallest (ruleOf h counts clauses)))
+    × (masks ≡ tableOf count (λ k. mask (h .n) (λ p. eqb (component (ruleOf h counts clauses) p) k)))
 
 abbrev μ-loop : tie.MeasureT-loop
 μ-loop h counts clauses reach masks₀ count₀ q₀ masks count q = h .n - q
-
-closures-requires : tie.Need-closures-requires Inv-loop μ-loop
-closures-requires c κs = c .before .before .pre
 
 loop-holds : tie.Need-loop-holds Inv-loop μ-loop
 unfolding countOf
 loop-holds c = (omega arith, refl, table-none _)
 
 class-of-requires : tie.Need-class-of-requires Inv-loop μ-loop
-class-of-requires c κs = let w = c .before .before .before .before .before .before .before .pre .few-states in (omega arith, omega arith)
+class-of-requires c κs =
+    let start = c .before .before .before .before .before .before .before in
+    let w = start .pre .few-states in (omega arith, omega arith)
 
 cast-if2 : tie.Need-cast-if2 Inv-loop μ-loop
 cast-if2 c = omega (arith, trailing-le 8 (c .class-of .result))
 
 array-write-masks : tie.Need-array-write-masks Inv-loop μ-loop
 array-write-masks c =
+    let start = c .before .before .before .before .before .before .before .before .before in
     let l = c .before .before .before .before .before .loop in
-    let a = c .before .before .before .before .before .before .before .before .before .args in
-    let w = c .before .before .before .before .before .before .before .before .before .pre in
+    let a = start .args in
+    let w = start .pre in
     omega (arith, count-few (ruleOf (a .h) (a .counts .now) (a .clauses .now)) (w .few-states) (l .q), w .few-states)
 
 add-count : tie.Need-add-count Inv-loop μ-loop
 add-count c =
+    let start = c .before .before .before .before .before .before .before .before .before in
     let l = c .before .before .before .before .before .loop in
-    let a = c .before .before .before .before .before .before .before .before .before .args in
-    let w = c .before .before .before .before .before .before .before .before .before .pre in
+    let a = start .args in
+    let w = start .pre in
     omega (arith, count-few (ruleOf (a .h) (a .counts .now) (a .clauses .now)) (w .few-states) (l .q), w .few-states)
-
-add-q : tie.Need-add-q Inv-loop μ-loop
-add-q c = omega arith
-
-loop-less : tie.Need-loop-less Inv-loop μ-loop
-loop-less c = omega arith
 
 loop-again : tie.Need-loop-again Inv-loop μ-loop
 loop-again c =
+    let start = c .before .before .before .before .before .before .before .before .before in
     let l = c .before .before .before .before .before .loop in
-    let a = c .before .before .before .before .before .before .before .before .before .args in
-    let w = c .before .before .before .before .before .before .before .before .before .pre in
+    let a = start .args in
+    let w = start .pre in
     let r = ruleOf (a .h) (a .counts .now) (a .clauses .now) in
-    let e : c .before .class-of .result ≡ classBy (closuresOf r) (a .h .n) (l .q) = c .before .class-of .ensures ∙ ap (λ (t : List ℕ). classBy t (a .h .n) (l .q)) (c .before .before .before .before .before .before .closures .ensures) in
+    let e : c .before .class-of .result ≡ classBy (closuresOf r) (a .h .n) (l .q) =
+    c .before .class-of .ensures ∙ ap (λ (t : List ℕ). classBy t (a .h .n) (l .q)) (c .before .before .before .before .before .before .closures .ensures) in
     let f : Found r (w .few-states) (l .q) (l .count) (l .masks) = record { number = l .inv .1; laid = l .inv .2 } in
     let g : Found r (w .few-states) (l .q + 1) (c .if2 .count) (c .if2 .masks) = ⊎-elim
-    (λ s. turn-taken r (w .few-states) (l .q) (c .before .class-of .result) (l .count) (c .if2 .count) (l .masks) (c .if2 .masks) (c .before .before .before .if1 .taken) e f _ (s .0 .taken) (s .1) (omega arith) (s .2))
-    (λ s. turn-passed r (w .few-states) (l .q) (c .before .class-of .result) (l .count) (c .if2 .count) (l .masks) (c .if2 .masks) (c .before .before .before .if1 .taken) e f (s .0 .left) (s .1) (s .2))
+    (λ s. turn-taken r (w .few-states) (l .q) (c .before .class-of .result) (l .count) (c .if2 .count) (l .masks) (c .if2 .masks) (c .before .before .before .if1 .taken) e f _ (s .0 .taken) (s .1)
+    (omega arith) (s .2))
+    (λ s. turn-passed r (w .few-states) (l .q) (c .before .class-of .result) (l .count) (c .if2 .count) (l .masks) (c .if2 .masks) (c .before .before .before .if1 .taken) e f (s .0 .left) (s .1)
+    (s .2))
     (c .if2 .came) in
     (omega arith, g .number, g .laid)
 
@@ -81,17 +81,6 @@ returns c =
 
 pub split-spec : {M : Type 1} → statement M
 split-spec =
-    tie.close
-    (tie.spec
-    Inv-loop
-    μ-loop
-    closures-requires
-    loop-holds
-    class-of-requires
-    cast-if2
-    array-write-masks
-    add-count
-    add-q
-    loop-less
-    loop-again
-    returns)
+    tie.close (tie.spec
+    Inv-loop μ-loop (λ c κs. c .before .before .pre) loop-holds class-of-requires cast-if2 array-write-masks add-count (λ c. omega arith) (λ c. omega arith)
+    loop-again returns)

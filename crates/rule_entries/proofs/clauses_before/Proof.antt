@@ -18,20 +18,11 @@ loop-holds : tie.Need-loop-holds Inv-loop μ-loop
 unfolding sum
 loop-holds c = (omega arith, omega arith, refl)
 
-shared-slice-read-total : tie.Need-shared-slice-read-total Inv-loop μ-loop
-shared-slice-read-total c = omega arith
-
 cast-total : tie.Need-cast-total Inv-loop μ-loop
 cast-total c = omega (arith, c .shared-slice-known .given (c .before .before .loop .k))
 
 add-total : tie.Need-add-total Inv-loop μ-loop
 add-total c = omega (arith, c .shared-slice-known .given (c .before .before .loop .k))
-
-add-k : tie.Need-add-k Inv-loop μ-loop
-add-k c = omega arith
-
-loop-less : tie.Need-loop-less Inv-loop μ-loop
-loop-less c = omega arith
 
 loop-again : tie.Need-loop-again Inv-loop μ-loop
 loop-again c =
@@ -49,15 +40,5 @@ returns c =
 
 pub clauses-before-spec : {M : Type 1} → statement M
 clauses-before-spec =
-    tie.close
-    (tie.spec
-    Inv-loop
-    μ-loop
-    loop-holds
-    shared-slice-read-total
-    cast-total
-    add-total
-    add-k
-    loop-less
-    loop-again
-    returns)
+    tie.close (tie.spec
+    Inv-loop μ-loop loop-holds (λ c. omega arith) cast-total add-total (λ c. omega arith) (λ c. omega arith) loop-again returns)

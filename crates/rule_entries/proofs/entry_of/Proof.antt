@@ -11,7 +11,8 @@ use Rattle.rule_entries.proofs.entry_of.Statement.{statement}
 use Rattle.rule_entries.proofs.entry_of.Tie as tie
 
 -- the entry's number is below that of the counts
-number : (c : tie.After-struct-known) → c .before .before .before .args .q * c .before .before .before .args .h .s + c .before .before .before .args .a < length (c .before .before .before .args .counts .now)
+number : (c : tie.After-struct-known) → c .before .before .before .args .q * c .before .before .before .args .h .s + c .before .before .before .args .a < length
+    (c .before .before .before .args .counts .now)
 number c =
     let a = c .before .before .before .args in
     let p = c .before .before .before .pre in
@@ -30,7 +31,9 @@ clauses-before-requires : tie.Need-clauses-before-requires
 clauses-before-requires c κs = (omega (arith, number c), omega (arith, number c, few c))
 
 -- its clauses are among the rule's
-fits : (c : tie.After-shared-slice-known3) → c .before .clauses-before .result + getD (c .before .before .before .before .before .args .counts .now) (c .before .before .before .before .before .args .q * c .before .before .before .before .before .args .h .s + c .before .before .before .before .before .args .a) 0 ≤ length (c .before .before .before .before .before .args .clauses .now)
+fits : (c : tie.After-shared-slice-known3) → c .before .clauses-before .result + getD (c .before .before .before .before .before .args .counts .now)
+    (c .before .before .before .before .before .args .q * c .before .before .before .before .before .args .h .s + c .before .before .before .before .before .args .a) 0 ≤ length
+    (c .before .before .before .before .before .args .clauses .now)
 fits c =
     let a = c .before .before .before .before .before .args in
     let p = c .before .before .before .before .before .pre in
@@ -40,16 +43,14 @@ shared-slice-read-end : tie.Need-shared-slice-read-end
 shared-slice-read-end c = number (c .before .before)
 
 cast-end : tie.Need-cast-end
-cast-end c = omega (arith, c .shared-slice-known3 .given (c .before .before .before .before .before .args .q * c .before .before .before .before .before .args .h .s + c .before .before .before .before .before .args .a))
+cast-end c = omega (
+  arith,
+  c .shared-slice-known3 .given (c .before .before .before .before .before .args .q * c .before .before .before .before .before .args .h .s + c .before .before .before
+      .before .before .args .a),
+)
 
 add-end : tie.Need-add-end
 add-end c = let h = fits c in let k = c .before .before .before .before .before .good in omega arith
-
-sub-result : tie.Need-sub-result
-sub-result c = search needs
-
-part-result-start : tie.Need-part-result-start
-part-result-start c = search needs
 
 part-result-end : tie.Need-part-result-end
 part-result-end c = let h = fits c in search needs
@@ -59,20 +60,11 @@ returns c =
     let a = c .before .before .before .before .before .before .args in
     let r = ruleOf (a .h) (a .counts .now) (a .clauses .now) in
     let p = c .before .before .before .before .before .before .pre in
-    let n : c .before .before .clauses-before .result + getD (a .counts .now) (a .q * a .h .s + a .a) 0 - c .before .before .clauses-before .result ≡ getD (a .counts .now) (a .q * a .h .s + a .a) 0 = omega arith in
+    let n : c .before .before .clauses-before .result + getD (a .counts .now) (a .q * a .h .s + a .a) 0 - c .before .before .clauses-before .result ≡ getD (a .counts .now) (a .q * a .h .s + a .a) 0 =
+    omega arith in
     rw (n, c .before .before .clauses-before .ensures) (sym (entry-part r (p .0) (a .q) (a .a) (p .1) (p .2)))
 
 pub entry-of-spec : {M : Type 1} → statement M
 entry-of-spec =
-    tie.close
-    (tie.spec
-    mul-i
-    add-i
-    clauses-before-requires
-    shared-slice-read-end
-    cast-end
-    add-end
-    sub-result
-    part-result-start
-    part-result-end
-    returns)
+    tie.close (tie.spec
+    mul-i add-i clauses-before-requires shared-slice-read-end cast-end add-end (λ c. search needs) (λ c. search needs) part-result-end returns)

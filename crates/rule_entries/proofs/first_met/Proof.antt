@@ -28,9 +28,6 @@ abbrev μ-clauses : tie.MeasureT-clauses
 clauses-holds : tie.Need-clauses-holds Inv-loop μ-loop Inv-clauses μ-clauses
 clauses-holds c = (omega arith, refl)
 
-shared-slice-read-left : tie.Need-shared-slice-read-left Inv-loop μ-loop Inv-clauses μ-clauses
-shared-slice-read-left c = omega arith
-
 loop-holds : tie.Need-loop-holds Inv-loop μ-loop Inv-clauses μ-clauses
 loop-holds c = (refl, omega (arith, c .shared-slice-known .given (c .before .before .clauses .j)), refl)
 
@@ -44,12 +41,6 @@ cast-if2 c = omega (arith, below c)
 shr-if2 : tie.Need-shr-if2 Inv-loop μ-loop Inv-clauses μ-clauses
 shr-if2 c = below c
 
-add-j : tie.Need-add-j Inv-loop μ-loop Inv-clauses μ-clauses
-add-j c = omega arith
-
-clauses-less : tie.Need-clauses-less Inv-loop μ-loop Inv-clauses μ-clauses
-clauses-less c = omega arith
-
 clauses-again : tie.Need-clauses-again Inv-loop μ-loop Inv-clauses μ-clauses
 clauses-again c =
     let s = c .before .before .before .before .before .before .args .set in
@@ -60,9 +51,6 @@ clauses-again c =
       omega arith,
       rw (c .before .before .loop .inv .0) (c .before .before .before .before .before .clauses .inv .1 ∙ met-next s cl j (omega arith) gone),
     )
-
-sub-left : tie.Need-sub-left Inv-loop μ-loop Inv-clauses μ-clauses
-sub-left c = omega arith
 
 loop-less : tie.Need-loop-less Inv-loop μ-loop Inv-clauses μ-clauses
 loop-less c = omega (arith, and-le-r (c .before .before .loop .left) (c .before .before .loop .left - 1))
@@ -92,22 +80,6 @@ returns-2 c =
 
 pub first-met-spec : {M : Type 1} → statement M
 first-met-spec =
-    tie.close
-    (tie.spec
-    Inv-loop
-    μ-loop
-    Inv-clauses
-    μ-clauses
-    clauses-holds
-    shared-slice-read-left
-    loop-holds
-    cast-if2
-    shr-if2
-    add-j
-    clauses-less
-    clauses-again
-    sub-left
-    loop-less
-    loop-again
-    returns
-    returns-2)
+    tie.close (tie.spec
+    Inv-loop μ-loop Inv-clauses μ-clauses clauses-holds (λ c. omega arith) loop-holds cast-if2 shr-if2 (λ c. omega arith) (λ c. omega arith) clauses-again
+    (λ c. omega arith) loop-less loop-again returns returns-2)

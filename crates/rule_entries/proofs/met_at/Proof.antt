@@ -66,23 +66,15 @@ cast-end c = let a = c .before .before .before .before .before .args in omega (a
 add-end : tie.Need-add-end
 add-end c = omega (arith, fits (c .before .before), c .before .before .before .before .before .good)
 
-sub-first-met : tie.Need-sub-first-met
-sub-first-met c = search needs
-
-part-first-met-start : tie.Need-part-first-met-start
-part-first-met-start c = search needs
-
 part-first-met-end : tie.Need-part-first-met-end
 part-first-met-end c = let h = fits (c .before .before) in search needs
 
-first-met-requires : tie.Need-first-met-requires
-first-met-requires c κs = search needs
-
 returns : tie.Need-returns
 returns c =
-    let a = c .before .before .before .before .before .before .before .args in
+    let start = c .before .before .before .before .before .before .before in
+    let a = start .args in
     let r = ruleOf (a .h) (a .counts .now) (a .clauses .now) in
-    let p = c .before .before .before .before .before .before .before .pre in
+    let p = start .pre in
     let i = a .q * a .h .s + a .a in
     let at = c .before .before .before .before in
     let n : getD (a .starts .now) i 0 + getD (a .counts .now) i 0 - getD (a .starts .now) i 0 ≡ getD (a .counts .now) i 0 = omega arith in
@@ -92,18 +84,6 @@ returns c =
 
 pub met-at-spec : {M : Type 1} → statement M
 met-at-spec =
-    tie.close
-    (tie.spec
-    mul-i
-    add-i
-    mul-start
-    element-copy-out-start
-    cast-start
-    shared-slice-read-end
-    cast-end
-    add-end
-    sub-first-met
-    part-first-met-start
-    part-first-met-end
-    first-met-requires
-    returns)
+    tie.close (tie.spec
+    mul-i add-i mul-start element-copy-out-start cast-start shared-slice-read-end cast-end add-end (λ c. search needs) (λ c. search needs) part-first-met-end
+    (λ c κs. search needs) returns)

@@ -21,15 +21,6 @@ abbrev μ-loop : tie.MeasureT-loop
 loop-holds : tie.Need-loop-holds Inv-loop μ-loop
 loop-holds c = (omega arith, omega arith, λ p. rw (bit-none p))
 
-shared-slice-read-found : tie.Need-shared-slice-read-found Inv-loop μ-loop
-shared-slice-read-found c = omega arith
-
-add-j : tie.Need-add-j Inv-loop μ-loop
-add-j c = omega arith
-
-loop-less : tie.Need-loop-less Inv-loop μ-loop
-loop-less c = omega arith
-
 loop-again : tie.Need-loop-again Inv-loop μ-loop
 loop-again c =
     let l = c .before .before .loop in
@@ -46,14 +37,4 @@ returns c =
     mask-of 8 8 (l .found) (named cl) (omega arith) (l .inv .1) (λ q k. sym (named-all cl (l .j) (l .found) q (omega arith)) ∙ l .inv .2 q) (λ q k m. absurd (omega arith))
 
 pub named-in-spec : {M : Type 1} → statement M
-named-in-spec =
-    tie.close
-    (tie.spec
-    Inv-loop
-    μ-loop
-    loop-holds
-    shared-slice-read-found
-    add-j
-    loop-less
-    loop-again
-    returns)
+named-in-spec = tie.close (tie.spec Inv-loop μ-loop loop-holds (λ c. omega arith) (λ c. omega arith) (λ c. omega arith) loop-again returns)

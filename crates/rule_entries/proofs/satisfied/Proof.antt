@@ -10,15 +10,6 @@ use borrow.Author.Needs.{needs}
 use Rattle.rule_entries.proofs.satisfied.Statement.{statement}
 use Rattle.rule_entries.proofs.satisfied.Tie as tie
 
-met-at-requires : tie.Need-met-at-requires
-met-at-requires c κs = search needs
-
-enum-told : tie.Need-enum-told
-enum-told c = search needs
-
-enum-told-2 : tie.Need-enum-told-2
-enum-told-2 c = search needs
-
 -- whether a clause of the entry was met
 answer : (c : tie.After-met-at) →
     let a = c .before .before .before .args in
@@ -39,6 +30,4 @@ unfolding isMet
 returns-2 c = sym (ap isMet (c .enum-told2 .given .1)) ∙ answer (c .before .before)
 
 pub satisfied-spec : {M : Type 1} → statement M
-satisfied-spec =
-    tie.close
-    (tie.spec met-at-requires enum-told enum-told-2 returns returns-2)
+satisfied-spec = tie.close (tie.spec (λ c κs. search needs) (λ c. search needs) (λ c. search needs) returns returns-2)

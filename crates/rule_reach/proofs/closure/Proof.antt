@@ -19,12 +19,6 @@ Inv-loop es q found₀ found = (found < 256) × (bit found q ≡ true) × ((X : 
 abbrev μ-loop : tie.MeasureT-loop
 μ-loop es q found₀ found = 256 - found
 
-cast-found : tie.Need-cast-found Inv-loop μ-loop
-cast-found c = omega arith
-
-shl-found : tie.Need-shl-found Inv-loop μ-loop
-shl-found c = omega arith
-
 loop-holds : tie.Need-loop-holds Inv-loop μ-loop
 loop-holds c =
     let q = c .args .q in
@@ -33,9 +27,6 @@ loop-holds c =
       rw e (alone-bit q),
       λ X x k t l y. rw (sym (alone-only q t (rw e at y))) x,
     )
-
-union-over-requires : tie.Need-union-over-requires Inv-loop μ-loop
-union-over-requires c κs = search needs
 
 returns : tie.Need-returns Inv-loop μ-loop
 returns c =
@@ -62,15 +53,4 @@ loop-again c =
     )
 
 pub closure-spec : {M : Type 1} → statement M
-closure-spec =
-    tie.close
-    (tie.spec
-    Inv-loop
-    μ-loop
-    cast-found
-    shl-found
-    loop-holds
-    union-over-requires
-    returns
-    loop-less
-    loop-again)
+closure-spec = tie.close (tie.spec Inv-loop μ-loop (λ c. omega arith) (λ c. omega arith) loop-holds (λ c κs. search needs) returns loop-less loop-again)

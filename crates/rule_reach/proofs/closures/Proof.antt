@@ -17,30 +17,26 @@ Inv-loop h counts clauses es table₀ q₀ table q = (q ≤ h .n) × (es ≡ suc
 abbrev μ-loop : tie.MeasureT-loop
 μ-loop h counts clauses es table₀ q₀ table q = h .n - q
 
-successor-table-requires : tie.Need-successor-table-requires Inv-loop μ-loop
-successor-table-requires c κs = c .before .before .pre
-
 loop-holds : tie.Need-loop-holds Inv-loop μ-loop
 loop-holds c = (omega arith, c .successor-table .ensures, table-none _)
 
 closure-requires : tie.Need-closure-requires Inv-loop μ-loop
-closure-requires c κs = omega (arith, c .before .before .before .before .before .before .before .pre .few-states)
+closure-requires c κs =
+    let start = c .before .before .before .before .before .before .before in
+    omega (arith, start .pre .few-states)
 
 array-write-table : tie.Need-array-write-table Inv-loop μ-loop
-array-write-table c = omega (arith, c .before .before .before .before .before .before .before .before .pre .few-states)
-
-add-q : tie.Need-add-q Inv-loop μ-loop
-add-q c = omega arith
-
-loop-less : tie.Need-loop-less Inv-loop μ-loop
-loop-less c = omega arith
+array-write-table c =
+    let start = c .before .before .before .before .before .before .before .before in
+    omega (arith, start .pre .few-states)
 
 loop-again : tie.Need-loop-again Inv-loop μ-loop
 loop-again c =
+    let start = c .before .before .before .before .before .before .before .before in
     let l = c .before .before .before .before .loop in
-    let a = c .before .before .before .before .before .before .before .before .args in
+    let a = start .args in
     let r = ruleOf (a .h) (a .counts .now) (a .clauses .now) in
-    let w = c .before .before .before .before .before .before .before .before .pre in
+    let w = start .pre in
     let least : LeastClosed (successorsOf r) (l .q) (c .closure .result) = rw (sym (l .inv .1)) (c .closure .ensures) in
     let e : c .closure .result ≡ mask (a .h .n) (reaches r (l .q)) = least-reaches r (w .few-states) (l .q) (c .before .before .if1 .taken) (c .closure .result) (c .closure .ok) least in (
       omega arith,
@@ -57,15 +53,5 @@ returns c =
 
 pub closures-spec : {M : Type 1} → statement M
 closures-spec =
-    tie.close
-    (tie.spec
-    Inv-loop
-    μ-loop
-    successor-table-requires
-    loop-holds
-    closure-requires
-    array-write-table
-    add-q
-    loop-less
-    loop-again
-    returns)
+    tie.close (tie.spec
+    Inv-loop μ-loop (λ c κs. c .before .before .pre) loop-holds closure-requires array-write-table (λ c. omega arith) (λ c. omega arith) loop-again returns)

@@ -25,19 +25,14 @@ successors-requires c κs = (c .before .before .before .before .before .pre, c .
 array-write-table : tie.Need-array-write-table Inv-loop μ-loop
 array-write-table c = omega (arith, c .before .before .before .before .before .before .pre .few-states)
 
-add-q : tie.Need-add-q Inv-loop μ-loop
-add-q c = omega arith
-
-loop-less : tie.Need-loop-less Inv-loop μ-loop
-loop-less c = omega arith
-
 loop-again : tie.Need-loop-again Inv-loop μ-loop
 loop-again c =
     let l = c .before .before .before .loop in
     let a = c .before .before .before .before .before .before .args in
     let w = c .before .before .before .before .before .before .pre in (
       omega arith,
-      rw (l .inv .1) (table-set (l .q) (λ p. mask (a .h .n) (leads (ruleOf (a .h) (a .counts .now) (a .clauses .now)) p)) (c .successors .result) (omega (arith, w .few-states)) (c .successors .ensures)),
+      rw (l .inv .1) (table-set (l .q) (λ p. mask (a .h .n) (leads (ruleOf (a .h) (a .counts .now) (a .clauses .now)) p)) (c .successors .result) (omega (arith, w .few-states))
+          (c .successors .ensures)),
     )
 
 returns : tie.Need-returns Inv-loop μ-loop
@@ -49,14 +44,5 @@ returns c =
 
 pub successor-table-spec : {M : Type 1} → statement M
 successor-table-spec =
-    tie.close
-    (tie.spec
-    Inv-loop
-    μ-loop
-    loop-holds
-    successors-requires
-    array-write-table
-    add-q
-    loop-less
-    loop-again
-    returns)
+    tie.close (tie.spec
+    Inv-loop μ-loop loop-holds successors-requires array-write-table (λ c. omega arith) (λ c. omega arith) loop-again returns)

@@ -28,19 +28,11 @@ loop-holds c = (omega arith, omega arith, λ p l. bit-none p)
 entry-of-requires : tie.Need-entry-of-requires Inv-loop μ-loop
 entry-of-requires c κs = (c .before .before .before .before .before .pre .0, c .before .before .before .before .before .pre .1, c .if1 .taken)
 
-named-in-requires : tie.Need-named-in-requires Inv-loop μ-loop
-named-in-requires c κs = search needs
-
-add-a : tie.Need-add-a Inv-loop μ-loop
-add-a c = omega arith
-
-loop-less : tie.Need-loop-less Inv-loop μ-loop
-loop-less c = omega arith
-
 loop-again : tie.Need-loop-again Inv-loop μ-loop
 loop-again c =
+    let start = c .before .before .before .before .before .before .before in
     let l = c .before .before .before .before .loop in
-    let a = c .before .before .before .before .before .before .before .args in
+    let a = start .args in
     let r = ruleOf (a .h) (a .counts .now) (a .clauses .now) in
     let e : c .named-in .result ≡ mask 8 (named (entry r (a .q) (l .a))) = c .named-in .ensures ∙ ap (λ (x : List ℕ). mask 8 (named x)) (c .before .entry-of .ensures) in (
       omega arith,
@@ -62,14 +54,5 @@ returns c =
 
 pub successors-spec : {M : Type 1} → statement M
 successors-spec =
-    tie.close
-    (tie.spec
-    Inv-loop
-    μ-loop
-    loop-holds
-    entry-of-requires
-    named-in-requires
-    add-a
-    loop-less
-    loop-again
-    returns)
+    tie.close (tie.spec
+    Inv-loop μ-loop loop-holds entry-of-requires (λ c κs. search needs) (λ c. omega arith) (λ c. omega arith) loop-again returns)

@@ -20,24 +20,12 @@ abbrev μ-loop : tie.MeasureT-loop
 loop-holds : tie.Need-loop-holds Inv-loop μ-loop
 loop-holds c = (omega arith, refl)
 
-shared-slice-read-contains-clause : tie.Need-shared-slice-read-contains-clause Inv-loop μ-loop
-shared-slice-read-contains-clause c = omega arith
-
-contains-clause-requires : tie.Need-contains-clause-requires Inv-loop μ-loop
-contains-clause-requires c κs = search needs
-
 returns : tie.Need-returns Inv-loop μ-loop
 returns c =
     let a = c .before .before .before .before .before .before .args in
     let l = c .before .before .before .before .loop in
     let e : contains 8 (a .c) (getD (a .clauses .now) (l .j) 0) ≡ true = sym (c .before .contains-clause .ensures) ∙ c .if1 .taken in
     sym (l .inv .1 ∙ any-stop (contains 8 (a .c)) (a .clauses .now) (l .j) (omega arith) e)
-
-add-j : tie.Need-add-j Inv-loop μ-loop
-add-j c = omega arith
-
-loop-less : tie.Need-loop-less Inv-loop μ-loop
-loop-less c = omega arith
 
 loop-again : tie.Need-loop-again Inv-loop μ-loop
 loop-again c =
@@ -54,15 +42,5 @@ returns-2 c =
 
 pub contains-any-spec : {M : Type 1} → statement M
 contains-any-spec =
-    tie.close
-    (tie.spec
-    Inv-loop
-    μ-loop
-    loop-holds
-    shared-slice-read-contains-clause
-    contains-clause-requires
-    returns
-    add-j
-    loop-less
-    loop-again
-    returns-2)
+    tie.close (tie.spec
+    Inv-loop μ-loop loop-holds (λ c. omega arith) (λ c κs. search needs) returns (λ c. omega arith) (λ c. omega arith) loop-again returns-2)

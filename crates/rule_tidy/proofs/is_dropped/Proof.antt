@@ -5,16 +5,10 @@ use Rattle.rule_tidy.proofs.Laws.{drops-kept, drops-rest}
 use Rattle.rule_tidy.proofs.is_dropped.Statement.{statement}
 use Rattle.rule_tidy.proofs.is_dropped.Tie as tie
 
-contains-any-requires : tie.Need-contains-any-requires
-contains-any-requires c κs = search needs
-
 returns : tie.Need-returns
 returns c =
     let a = c .before .before .before .before .args in
     drops-kept (a .clauses .now) (a .kept .now) (a .c) (sym (c .before .contains-any .ensures) ∙ c .if1 .taken)
-
-properly-contains-any-requires : tie.Need-properly-contains-any-requires
-properly-contains-any-requires c κs = search needs
 
 returns-2 : tie.Need-returns-2
 returns-2 c =
@@ -22,4 +16,4 @@ returns-2 c =
     c .properly-contains-any .ensures ∙ drops-rest (a .clauses .now) (a .kept .now) (a .c) (sym (c .before .before .contains-any .ensures) ∙ c .before .if1 .left)
 
 pub is-dropped-spec : {M : Type 1} → statement M
-is-dropped-spec = tie.close (tie.spec contains-any-requires returns properly-contains-any-requires returns-2)
+is-dropped-spec = tie.close (tie.spec (λ c κs. search needs) returns (λ c κs. search needs) returns-2)

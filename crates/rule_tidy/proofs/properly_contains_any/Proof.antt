@@ -20,24 +20,12 @@ abbrev μ-loop : tie.MeasureT-loop
 loop-holds : tie.Need-loop-holds Inv-loop μ-loop
 loop-holds c = (omega arith, refl)
 
-shared-slice-read-properly-contains-clause : tie.Need-shared-slice-read-properly-contains-clause Inv-loop μ-loop
-shared-slice-read-properly-contains-clause c = omega arith
-
-properly-contains-clause-requires : tie.Need-properly-contains-clause-requires Inv-loop μ-loop
-properly-contains-clause-requires c κs = search needs
-
 returns : tie.Need-returns Inv-loop μ-loop
 returns c =
     let a = c .before .before .before .before .before .before .args in
     let l = c .before .before .before .before .loop in
     let e : properlyContains 8 (a .c) (getD (a .clauses .now) (l .j) 0) ≡ true = sym (c .before .properly-contains-clause .ensures) ∙ c .if1 .taken in
     sym (l .inv .1 ∙ any-stop (properlyContains 8 (a .c)) (a .clauses .now) (l .j) (omega arith) e)
-
-add-j : tie.Need-add-j Inv-loop μ-loop
-add-j c = omega arith
-
-loop-less : tie.Need-loop-less Inv-loop μ-loop
-loop-less c = omega arith
 
 loop-again : tie.Need-loop-again Inv-loop μ-loop
 loop-again c =
@@ -54,15 +42,5 @@ returns-2 c =
 
 pub properly-contains-any-spec : {M : Type 1} → statement M
 properly-contains-any-spec =
-    tie.close
-    (tie.spec
-    Inv-loop
-    μ-loop
-    loop-holds
-    shared-slice-read-properly-contains-clause
-    properly-contains-clause-requires
-    returns
-    add-j
-    loop-less
-    loop-again
-    returns-2)
+    tie.close (tie.spec
+    Inv-loop μ-loop loop-holds (λ c. omega arith) (λ c κs. search needs) returns (λ c. omega arith) (λ c. omega arith) loop-again returns-2)

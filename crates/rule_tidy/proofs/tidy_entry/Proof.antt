@@ -20,21 +20,10 @@ loop-holds : tie.Need-loop-holds Inv-loop μ-loop
 unfolding tidyEntry
 loop-holds c = (omega arith, omega arith, refl, refl, refl)
 
-shared-slice-read-keep : tie.Need-shared-slice-read-keep Inv-loop μ-loop
-shared-slice-read-keep c = omega arith
-
-keep-requires : tie.Need-keep-requires Inv-loop μ-loop
-keep-requires c κs = omega arith
-
-add-i : tie.Need-add-i Inv-loop μ-loop
-add-i c = omega arith
-
-loop-less : tie.Need-loop-less Inv-loop μ-loop
-loop-less c = omega arith
-
 loop-again : tie.Need-loop-again Inv-loop μ-loop
 loop-again c =
-    let a = c .before .before .before .before .before .before .before .before .before .args in
+    let start = c .before .before .before .before .before .before .before .before .before in
+    let a = start .args in
     let l = c .before .before .before .before .before .before .loop in
     let K = c .before .before .keep .ensures in (
       omega arith,
@@ -45,9 +34,6 @@ loop-again c =
           ∙ sym (tidy-next (a .clauses .now) (take (l .k) (l .out)) (l .i) (omega arith)) ∙ l .inv .4,
     )
 
-same-length : tie.Need-same-length Inv-loop μ-loop
-same-length c = c .before .loop .inv .2
-
 returns : tie.Need-returns Inv-loop μ-loop
 returns c =
     let a = c .before .before .before .before .args in
@@ -57,15 +43,5 @@ returns c =
 
 pub tidy-entry-spec : {M : Type 1} → statement M
 tidy-entry-spec =
-    tie.close
-    (tie.spec
-    Inv-loop
-    μ-loop
-    loop-holds
-    shared-slice-read-keep
-    keep-requires
-    add-i
-    loop-less
-    loop-again
-    same-length
-    returns)
+    tie.close (tie.spec
+    Inv-loop μ-loop loop-holds (λ c. omega arith) (λ c κs. omega arith) (λ c. omega arith) (λ c. omega arith) loop-again (λ c. c .before .loop .inv .2) returns)

@@ -16,9 +16,6 @@ abbrev μ-loop : tie.MeasureT-loop
 loop-holds : tie.Need-loop-holds Inv-loop μ-loop
 loop-holds c = let a = c .before .before .before .before .args in passed-none (a .counts .now) (a .clauses .now) (a .counts2 .now) (a .clauses2 .now)
 
-shared-slice-read-next : tie.Need-shared-slice-read-next Inv-loop μ-loop
-shared-slice-read-next c = omega arith
-
 -- the clauses of the next entry are among the rule's
 room : (c : tie.At-loop Inv-loop μ-loop) → c .loop .i < length (c .before .before .before .before .before .args .counts .now)
     → c .loop .from + getD (c .before .before .before .before .before .args .counts .now) (c .loop .i) 0 ≤ length (c .before .before .before .before .before .args .clauses .now)
@@ -32,12 +29,6 @@ cast-next c = omega (arith, c .shared-slice-known3 .given (c .before .before .lo
 add-next : tie.Need-add-next Inv-loop μ-loop
 add-next c = omega (arith, room (c .before .before) (c .before .loop-test .taken))
 
-sub-tidy-entry : tie.Need-sub-tidy-entry Inv-loop μ-loop
-sub-tidy-entry c = omega arith
-
-part-tidy-entry-start : tie.Need-part-tidy-entry-start Inv-loop μ-loop
-part-tidy-entry-start c = search needs
-
 part-tidy-entry-end : tie.Need-part-tidy-entry-end Inv-loop μ-loop
 part-tidy-entry-end c = room (c .before .before) (c .before .loop-test .taken)
 
@@ -45,19 +36,28 @@ sub-tidy-entry-2 : tie.Need-sub-tidy-entry-2 Inv-loop μ-loop
 sub-tidy-entry-2 c = omega (arith, room (c .before .before .before) (c .before .before .loop-test .taken), c .before .before .before .loop .inv .fewer, c .before .before .before .loop .inv .broad)
 
 part-tidy-entry-start-2 : tie.Need-part-tidy-entry-start-2 Inv-loop μ-loop
-part-tidy-entry-start-2 c = omega (arith, room (c .before .before .before) (c .before .before .loop-test .taken), c .before .before .before .loop .inv .fewer, c .before .before .before .loop .inv .broad)
-
-part-tidy-entry-end-2 : tie.Need-part-tidy-entry-end-2 Inv-loop μ-loop
-part-tidy-entry-end-2 c = search needs
+part-tidy-entry-start-2 c = omega (
+  arith,
+  room (c .before .before .before) (c .before .before .loop-test .taken),
+  c .before .before .before .loop .inv .fewer,
+  c .before .before .before .loop .inv .broad,
+)
 
 tidy-entry-requires : tie.Need-tidy-entry-requires Inv-loop μ-loop
 tidy-entry-requires c κs =
-    simp (length-take, length-drop) (omega (arith, room (c .before .before .before .before) (c .before .before .before .loop-test .taken), c .before .before .before .before .loop .inv .fewer, c .before .before .before .before .loop .inv .broad))
+    simp (length-take, length-drop) (omega (
+      arith,
+      room (c .before .before .before .before) (c .before .before .before .loop-test .taken),
+      c .before .before .before .before .loop .inv .fewer,
+      c .before .before .before .before .loop .inv .broad,
+    ))
 
 cast-counts2 : tie.Need-cast-counts2 Inv-loop μ-loop
 cast-counts2 c =
-    let a = c .before .before .before .before .before .before .before .before .before .before .before .before .args in
-    let l = c .before .before .before .before .before .before .before .loop in
+    let at-loop = c .before .before .before .before .before .before .before in
+    let start = at-loop .before .before .before .before .before in
+    let a = start .args in
+    let l = at-loop .loop in
     omega (
       arith,
       kept-few (l .from) (getD (a .counts .now) (l .i) 0) (c .before .before .tidy-entry .result) (a .clauses .now) (c .before .before .tidy-entry .ensures .0),
@@ -65,40 +65,35 @@ cast-counts2 c =
     )
 
 slice-write-counts2 : tie.Need-slice-write-counts2 Inv-loop μ-loop
-slice-write-counts2 c = omega (arith, c .before .before .before .before .before .before .before .loop .inv .long)
+slice-write-counts2 c =
+    let at-loop = c .before .before .before .before .before .before .before in
+    omega (arith, at-loop .loop .inv .long)
 
 add-to : tie.Need-add-to Inv-loop μ-loop
 add-to c =
-    let a = c .before .before .before .before .before .before .before .before .before .before .before .before .args in
-    let l = c .before .before .before .before .before .before .before .loop in
+    let at-loop = c .before .before .before .before .before .before .before in
+    let start = at-loop .before .before .before .before .before in
+    let a = start .args in
+    let l = at-loop .loop in
     omega (
       arith,
       kept-few (l .from) (getD (a .counts .now) (l .i) 0) (c .before .before .tidy-entry .result) (a .clauses .now) (c .before .before .tidy-entry .ensures .0),
-      room (c .before .before .before .before .before .before .before) (c .before .before .before .before .before .before .loop-test .taken),
+      room (at-loop) (c .before .before .before .before .before .before .loop-test .taken),
       l .inv .fewer,
     )
 
-add-i : tie.Need-add-i Inv-loop μ-loop
-add-i c = omega arith
-
-loop-less : tie.Need-loop-less Inv-loop μ-loop
-loop-less c = omega arith
-
 loop-again : tie.Need-loop-again Inv-loop μ-loop
 loop-again c =
-    let a = c .before .before .before .before .before .before .before .before .before .before .before .before .args in
-    let p = c .before .before .before .before .before .before .before .before .before .before .before .before .pre in
-    let l = c .before .before .before .before .before .before .before .loop in
+    let at-loop = c .before .before .before .before .before .before .before in
+    let start = at-loop .before .before .before .before .before in
+    let a = start .args in
+    let p = start .pre in
+    let l = at-loop .loop in
     let t = c .before .before .tidy-entry in
-    let r = room (c .before .before .before .before .before .before .before) (c .before .before .before .before .before .before .loop-test .taken) in
+    let r = room (at-loop) (c .before .before .before .before .before .before .loop-test .taken) in
     passed-entry (a .counts .now) (a .clauses .now) (a .counts2 .now) (a .clauses2 .now) (l .counts2) (l .clauses2) (l .from) (l .to) (l .i) (l .inv)
-    (c .before .before .before .before .before .before .loop-test .taken) (omega (arith, r, p .2, l .inv .broad)) (omega (arith, p .1, l .inv .long)) (t .result) (t .last .1 .0) (t .ensures .0) (t .ensures .1)
-
-same-length : tie.Need-same-length Inv-loop μ-loop
-same-length c = c .before .loop .inv .long
-
-same-length-2 : tie.Need-same-length-2 Inv-loop μ-loop
-same-length-2 c = c .before .loop .inv .broad
+    (c .before .before .before .before .before .before .loop-test .taken) (omega (arith, r, p .2, l .inv .broad)) (omega (arith, p .1, l .inv .long)) (t .result) (t .last .1 .0) (t .ensures .0)
+    (t .ensures .1)
 
 returns : tie.Need-returns Inv-loop μ-loop
 returns c =
@@ -111,27 +106,7 @@ returns c =
 
 pub tidy-lists-spec : {M : Type 1} → statement M
 tidy-lists-spec =
-    tie.close
-    (tie.spec
-    Inv-loop
-    μ-loop
-    loop-holds
-    shared-slice-read-next
-    cast-next
-    add-next
-    sub-tidy-entry
-    part-tidy-entry-start
-    part-tidy-entry-end
-    sub-tidy-entry-2
-    part-tidy-entry-start-2
-    part-tidy-entry-end-2
-    tidy-entry-requires
-    cast-counts2
-    slice-write-counts2
-    add-to
-    add-i
-    loop-less
-    loop-again
-    same-length
-    same-length-2
-    returns)
+    tie.close (tie.spec
+    Inv-loop μ-loop loop-holds (λ c. omega arith) cast-next add-next (λ c. omega arith) (λ c. search needs) part-tidy-entry-end sub-tidy-entry-2
+    part-tidy-entry-start-2 (λ c. search needs) tidy-entry-requires cast-counts2 slice-write-counts2 add-to (λ c. omega arith) (λ c. omega arith) loop-again
+    (λ c. c .before .loop .inv .long) (λ c. c .before .loop .inv .broad) returns)

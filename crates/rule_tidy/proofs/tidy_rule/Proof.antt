@@ -10,20 +10,12 @@ use Rattle.rule_tidy.specs.Filled.{filled}
 use Rattle.rule_tidy.proofs.tidy_rule.Statement.{statement}
 use Rattle.rule_tidy.proofs.tidy_rule.Tie as tie
 
-tidy-lists-requires : tie.Need-tidy-lists-requires
-tidy-lists-requires c κs = search needs
-
-same-length : tie.Need-same-length
-same-length c = search needs
-
-same-length-2 : tie.Need-same-length-2
-same-length-2 c = search needs
-
 returns : tie.Need-returns
 unfolding tidyRule
 returns c =
-    let a = c .before .before .before .before .before .before .before .before .before .before .before .args in
-    let w = c .before .before .before .before .before .before .before .before .before .before .before .pre .0 in
+    let start = c .before .before .before .before .before .before .before .before .before .before .before in
+    let a = start .args in
+    let w = start .pre .0 in
     let t = c .before .before .before .before .tidy-lists .ensures in
     let e = counts-eight (a .h .n) (w .few-states) (a .counts .now) (a .clauses .now) (w .clause-states) in
     let f = clauses-eight (a .h .n) (w .few-states) (a .counts .now) (a .clauses .now) (w .clause-states) in (
@@ -32,4 +24,4 @@ returns c =
     )
 
 pub tidy-rule-spec : {M : Type 1} → statement M
-tidy-rule-spec = tie.close (tie.spec tidy-lists-requires same-length same-length-2 returns)
+tidy-rule-spec = tie.close (tie.spec (λ c κs. search needs) (λ c. search needs) (λ c. search needs) returns)

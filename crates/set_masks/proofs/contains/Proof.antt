@@ -4,14 +4,8 @@ use Rattle.set_masks.proofs.Sets.{contains-is}
 use Rattle.set_masks.proofs.contains.Statement.{statement}
 use Rattle.set_masks.proofs.contains.Tie as tie
 
-cast-result : tie.Need-cast-result
-cast-result c = search needs
-
-shr-result : tie.Need-shr-result
-shr-result c = search needs
-
 returns : tie.Need-returns
 returns c = contains-is (c .args .m) (c .args .q)
 
 pub contains-spec : {M : Type 1} → statement M
-contains-spec = tie.close (tie.spec cast-result shr-result returns)
+contains-spec = tie.close (tie.spec (λ c. search needs) (λ c. search needs) returns)

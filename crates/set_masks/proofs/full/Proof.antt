@@ -5,9 +5,6 @@ use Rattle.set_masks.proofs.Sets.{full-is, full-fits, full-pos}
 use Rattle.set_masks.proofs.full.Statement.{statement}
 use Rattle.set_masks.proofs.full.Tie as tie
 
-shl-result : tie.Need-shl-result
-shl-result c = search needs
-
 sub-result : tie.Need-sub-result
 sub-result c = omega (arith, full-pos (c .args .n) (c .pre))
 
@@ -18,4 +15,4 @@ returns : tie.Need-returns
 returns c = full-is (c .args .n) (c .pre)
 
 pub full-spec : {M : Type 1} → statement M
-full-spec = tie.close (tie.spec shl-result sub-result cast-result returns)
+full-spec = tie.close (tie.spec (λ c. search needs) sub-result cast-result returns)

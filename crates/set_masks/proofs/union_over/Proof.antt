@@ -27,9 +27,6 @@ cast-q c = omega (arith, below c)
 element-copy-out-r : tie.Need-element-copy-out-r Inv-loop μ-loop
 element-copy-out-r c = omega (arith, below c)
 
-sub-left : tie.Need-sub-left Inv-loop μ-loop
-sub-left c = omega arith
-
 loop-less : tie.Need-loop-less Inv-loop μ-loop
 loop-less c = omega (arith, and-le-r (c .before .before .loop .left) (c .before .before .loop .left - 1))
 
@@ -47,15 +44,4 @@ returns c =
     done (c .before .before .args .es .now) (c .before .before .args .m) (l .r) (l .left) (c .loop-test .left) (l .inv .1)
 
 pub union-over-spec : {M : Type 1} → statement M
-union-over-spec =
-    tie.close
-    (tie.spec
-    Inv-loop
-    μ-loop
-    loop-holds
-    cast-q
-    element-copy-out-r
-    sub-left
-    loop-less
-    loop-again
-    returns)
+union-over-spec = tie.close (tie.spec Inv-loop μ-loop loop-holds cast-q element-copy-out-r (λ c. omega arith) loop-less loop-again returns)

@@ -24,32 +24,34 @@ mul-start : tie.Need-mul-start Inv-loop μ-loop
 mul-start c = omega (arith, c .before .before .before .before .before .before .pre .few)
 
 shared-slice-read-start : tie.Need-shared-slice-read-start Inv-loop μ-loop
-shared-slice-read-start c = omega (arith, c .before .before .before .before .before .before .before .pre .few, c .before .before .before .before .before .before .before .pre .froms)
+shared-slice-read-start c =
+    let start = c .before .before .before .before .before .before .before in
+    omega (arith, start .pre .few, start .pre .froms)
 
 mul-end : tie.Need-mul-end Inv-loop μ-loop
-mul-end c = omega (arith, c .before .before .before .before .before .before .before .pre .few)
+mul-end c =
+    let start = c .before .before .before .before .before .before .before in
+    omega (arith, start .pre .few)
 
 shared-slice-read-end : tie.Need-shared-slice-read-end Inv-loop μ-loop
-shared-slice-read-end c = omega (arith, c .before .before .before .before .before .before .before .before .pre .few, c .before .before .before .before .before .before .before .before .pre .sizes)
+shared-slice-read-end c =
+    let start = c .before .before .before .before .before .before .before .before in
+    omega (arith, start .pre .few, start .pre .sizes)
 
 add-end : tie.Need-add-end Inv-loop μ-loop
-add-end c = omega (arith, c .before .before .before .before .before .before .before .before .pre .within (c .before .before .before .loop .k) (omega arith))
-
-sub-same-letters : tie.Need-sub-same-letters Inv-loop μ-loop
-sub-same-letters c = omega arith
-
-part-same-letters-start : tie.Need-part-same-letters-start Inv-loop μ-loop
-part-same-letters-start c = omega arith
+add-end c =
+    let start = c .before .before .before .before .before .before .before .before in
+    omega (arith, start .pre .within (c .before .before .before .loop .k) (omega arith))
 
 part-same-letters-end : tie.Need-part-same-letters-end Inv-loop μ-loop
-part-same-letters-end c = omega (arith, c .before .before .before .before .before .before .before .before .pre .within (c .before .before .before .loop .k) (omega arith))
-
-same-letters-requires : tie.Need-same-letters-requires Inv-loop μ-loop
-same-letters-requires c κs = search needs
+part-same-letters-end c =
+    let start = c .before .before .before .before .before .before .before .before in
+    omega (arith, start .pre .within (c .before .before .before .loop .k) (omega arith))
 
 returns : tie.Need-returns Inv-loop μ-loop
 returns c =
-    let a = c .before .before .before .before .before .before .before .before .before .before .before .args in
+    let start = c .before .before .before .before .before .before .before .before .before .before .before in
+    let a = start .args in
     let k = c .before .before .before .before .before .before .loop .k in
     let s = getD (a .from .now) k 0 in
     let q : s + getD (a .size .now) k 0 - s ≡ getD (a .size .now) k 0 = omega arith in
@@ -57,15 +59,10 @@ returns c =
     = ap (λ (x : ℕ). sameLetters (take x (drop s (a .sheet .now))) (a .cycle .now)) (sym q) ∙ sym (c .before .same-letters .ensures) ∙ c .if1 .taken in
     found-here (a .sheet .now) (a .from .now) (a .size .now) (a .cycle .now) (a .n) k (omega arith) e
 
-add-k : tie.Need-add-k Inv-loop μ-loop
-add-k c = omega arith
-
-loop-less : tie.Need-loop-less Inv-loop μ-loop
-loop-less c = omega arith
-
 loop-again : tie.Need-loop-again Inv-loop μ-loop
 loop-again c =
-    let a = c .before .before .before .before .before .before .before .before .before .before .before .args in
+    let start = c .before .before .before .before .before .before .before .before .before .before .before in
+    let a = start .args in
     let k = c .before .before .before .before .before .before .loop .k in
     let s = getD (a .from .now) k 0 in
     let q : s + getD (a .size .now) k 0 - s ≡ getD (a .size .now) k 0 = omega arith in
@@ -81,22 +78,6 @@ returns-2 c =
 
 pub find-cycle-spec : {M : Type 1} → statement M
 find-cycle-spec =
-    tie.close
-    (tie.spec
-    Inv-loop
-    μ-loop
-    loop-holds
-    mul-start
-    shared-slice-read-start
-    mul-end
-    shared-slice-read-end
-    add-end
-    sub-same-letters
-    part-same-letters-start
-    part-same-letters-end
-    same-letters-requires
-    returns
-    add-k
-    loop-less
-    loop-again
-    returns-2)
+    tie.close (tie.spec
+    Inv-loop μ-loop loop-holds mul-start shared-slice-read-start mul-end shared-slice-read-end add-end (λ c. omega arith) (λ c. omega arith)
+    part-same-letters-end (λ c κs. search needs) returns (λ c. omega arith) (λ c. omega arith) loop-again returns-2)

@@ -18,98 +18,94 @@ use Rattle.sheet_cycles.proofs.learn_cycle.Tie as tie
 add-end : tie.Need-add-end
 add-end c = omega (arith, c .before .before .before .before .before .before .pre .5)
 
-sub-find-cycle : tie.Need-sub-find-cycle
-sub-find-cycle c = omega arith
-
-part-find-cycle-start : tie.Need-part-find-cycle-start
-part-find-cycle-start c = omega arith
-
 part-find-cycle-end : tie.Need-part-find-cycle-end
-part-find-cycle-end c = omega (arith, c .before .before .before .before .before .before .before .before .pre .5)
+part-find-cycle-end c =
+    let start = c .before .before .before .before .before .before .before .before in
+    omega (arith, start .pre .5)
 
 find-cycle-requires : tie.Need-find-cycle-requires
-find-cycle-requires c κs = c .before .before .before .before .before .before .before .before .before .pre .2 .parts
+find-cycle-requires c κs =
+    let start = c .before .before .before .before .before .before .before .before .before in
+    start .pre .2 .parts
 
-same-length : tie.Need-same-length
-same-length c = search needs
-
-same-length-2 : tie.Need-same-length-2
-same-length-2 c = search needs
+abbrev start-of-after-find-cycle : tie.After-find-cycle → tie.Start
+start-of-after-find-cycle c = c .before .before .before .before .before .before .before .before .before .before
 
 -- the part of the sheet is the cycle
-found : (c : tie.After-find-cycle) → let a = c .before .before .before .before .before .before .before .before .before .before .args in Found (a .sheet .now) (a .from .now) (a .size .now) (a .n) (take (a .p) (drop (a .begin) (a .sheet .now))) (c .find-cycle .result)
+found : (c : tie.After-find-cycle) → let a = start-of-after-find-cycle c .args in
+    Found (a .sheet .now) (a .from .now) (a .size .now) (a .n) (take (a .p) (drop (a .begin) (a .sheet .now))) (c .find-cycle .result)
 found c =
-    let a = c .before .before .before .before .before .before .before .before .before .before .args in
+    let a = start-of-after-find-cycle c .args in
     let q : a .begin + a .p - a .begin ≡ a .p = omega arith in
     rw q at (c .find-cycle .ensures)
 
 returns : tie.Need-returns
 returns c =
-    let a = c .before .before .before .before .before .before .before .before .before .before .before .args in
-    let z = c .before .before .before .before .before .before .before .before .before .before .before .pre in
+    let start = c .before .before .before .before .before .before .before .before .before .before .before in
+    let a = start .args in
+    let z = start .pre in
     let long : length (take (a .p) (drop (a .begin) (a .sheet .now))) ≡ a .p = simp (length-take, length-drop) (omega (arith, z .5)) in
     learnt-known (ruleOf (a .h) (a .counts .now) (a .clauses .now)) (a .sheet .now) (a .from .now) (a .size .now) (a .filled .now) (a .n) (a .begin) (a .p) (z .2)
     (c .before .find-cycle .result) (c .if1 .taken) long (found (c .before))
 
 mul-first : tie.Need-mul-first
-mul-first c = omega (arith, c .before .before .before .before .before .before .before .before .before .before .before .pre .3)
+mul-first c =
+    let start = c .before .before .before .before .before .before .before .before .before .before .before in
+    omega (arith, start .pre .3)
 
 add-last : tie.Need-add-last
-add-last c = omega (arith, c .before .before .before .before .before .before .before .before .before .before .before .pre .3, c .before .before .before .before .before .before .before .before .before .before .before .pre .4)
-
-sub-fill-cycle : tie.Need-sub-fill-cycle
-sub-fill-cycle c = omega arith
-
-part-fill-cycle-start : tie.Need-part-fill-cycle-start
-part-fill-cycle-start c = omega arith
+add-last c =
+    let start = c .before .before .before .before .before .before .before .before .before .before .before in
+    omega (arith, start .pre .3, start .pre .4)
 
 part-fill-cycle-end : tie.Need-part-fill-cycle-end
-part-fill-cycle-end c = omega (arith, c .before .before .before .before .before .before .before .before .before .before .before .pre .5)
-
-sub-fill-cycle-2 : tie.Need-sub-fill-cycle-2
-sub-fill-cycle-2 c = omega arith
-
-part-fill-cycle-start-2 : tie.Need-part-fill-cycle-start-2
-part-fill-cycle-start-2 c = omega arith
+part-fill-cycle-end c =
+    let start = c .before .before .before .before .before .before .before .before .before .before .before in
+    omega (arith, start .pre .5)
 
 part-fill-cycle-end-2 : tie.Need-part-fill-cycle-end-2
-part-fill-cycle-end-2 c = let z = c .before .before .before .before .before .before .before .before .before .before .before .before .pre in omega (arith, z .2 .room, z .3, z .4)
+part-fill-cycle-end-2 c =
+    let start = c .before .before .before .before .before .before .before .before .before .before .before .before in
+    let z = start .pre in omega (arith, z .2 .room, z .3, z .4)
 
 fill-cycle-requires : tie.Need-fill-cycle-requires
 fill-cycle-requires c κs =
-    let a = c .before .before .before .before .before .before .before .before .before .before .before .before .before .args in
-    let z = c .before .before .before .before .before .before .before .before .before .before .before .before .before .pre in
+    let start = c .before .before .before .before .before .before .before .before .before .before .before .before .before in
+    let a = start .args in
+    let z = start .pre in
     let q : a .begin + a .p - a .begin ≡ a .p = omega arith in
     (rw q (z .0), z .1, simp (length-take, length-drop) (omega (arith, z .2 .room, z .3, z .4, z .5)))
 
 mul-from : tie.Need-mul-from
-mul-from c = omega (arith, c .before .before .before .before .before .before .before .before .before .before .before .before .before .before .before .before .pre .3)
+mul-from c =
+    let start = c .before .before .before .before .before .before .before .before .before .before .before .before .before .before .before .before in
+    omega (arith, start .pre .3)
 
 slice-write-from : tie.Need-slice-write-from
-slice-write-from c = omega (arith, c .before .before .before .before .before .before .before .before .before .before .before .before .before .before .before .before .pre .3, c .before .before .before .before .before .before .before .before .before .before .before .before .before .before .before .before .pre .2 .parts .froms)
+slice-write-from c =
+    let start = c .before .before .before .before .before .before .before .before .before .before .before .before .before .before .before .before in
+    omega (arith, start .pre .3, start .pre .2 .parts .froms)
 
 mul-size : tie.Need-mul-size
-mul-size c = omega (arith, c .before .before .before .before .before .before .before .before .before .before .before .before .before .before .before .before .pre .3)
+mul-size c =
+    let start = c .before .before .before .before .before .before .before .before .before .before .before .before .before .before .before .before in
+    omega (arith, start .pre .3)
 
 slice-write-size : tie.Need-slice-write-size
-slice-write-size c = omega (arith, c .before .before .before .before .before .before .before .before .before .before .before .before .before .before .before .before .pre .3, c .before .before .before .before .before .before .before .before .before .before .before .before .before .before .before .before .pre .2 .parts .sizes)
+slice-write-size c =
+    let start = c .before .before .before .before .before .before .before .before .before .before .before .before .before .before .before .before in
+    omega (arith, start .pre .3, start .pre .2 .parts .sizes)
 
 add-t22 : tie.Need-add-t22
-add-t22 c = omega (arith, c .before .before .before .before .before .before .before .before .before .before .before .before .before .before .before .before .pre .3)
-
-same-length-3 : tie.Need-same-length-3
-same-length-3 c = search needs
-
-same-length-4 : tie.Need-same-length-4
-same-length-4 c = search needs
-
-same-length-5 : tie.Need-same-length-5
-same-length-5 c = search needs
+add-t22 c =
+    let start = c .before .before .before .before .before .before .before .before .before .before .before .before .before .before .before .before in
+    omega (arith, start .pre .3)
 
 returns-2 : tie.Need-returns-2
 returns-2 c =
-    let a = c .before .before .before .before .before .before .before .before .before .before .before .before .before .before .before .before .args in
-    let z = c .before .before .before .before .before .before .before .before .before .before .before .before .before .before .before .before .pre in
+    let start = c .before .before .before .before .before .before .before .before .before .before .before .before .before .before .before .before in
+    let a = start .args in
+    let z = start .pre in
     let r = ruleOf (a .h) (a .counts .now) (a .clauses .now) in
     let cycle = take (a .p) (drop (a .begin) (a .sheet .now)) in
     let f = c .before .before .fill-cycle in
@@ -126,31 +122,7 @@ returns-2 c =
 
 pub learn-cycle-spec : {M : Type 1} → statement M
 learn-cycle-spec =
-    tie.close
-    (tie.spec
-    add-end
-    sub-find-cycle
-    part-find-cycle-start
-    part-find-cycle-end
-    find-cycle-requires
-    same-length
-    same-length-2
-    returns
-    mul-first
-    add-last
-    sub-fill-cycle
-    part-fill-cycle-start
-    part-fill-cycle-end
-    sub-fill-cycle-2
-    part-fill-cycle-start-2
-    part-fill-cycle-end-2
-    fill-cycle-requires
-    mul-from
-    slice-write-from
-    mul-size
-    slice-write-size
-    add-t22
-    same-length-3
-    same-length-4
-    same-length-5
-    returns-2)
+    tie.close (tie.spec
+    add-end (λ c. omega arith) (λ c. omega arith) part-find-cycle-end find-cycle-requires (λ c. search needs) (λ c. search needs) returns mul-first add-last
+    (λ c. omega arith) (λ c. omega arith) part-fill-cycle-end (λ c. omega arith) (λ c. omega arith) part-fill-cycle-end-2 fill-cycle-requires mul-from
+    slice-write-from mul-size slice-write-size add-t22 (λ c. search needs) (λ c. search needs) (λ c. search needs) returns-2)

@@ -32,20 +32,11 @@ loop-holds c =
     let none : a .first - a .first ≡ 0 = omega arith in
     (omega arith, z .1, z .0, sym (ap (place (nextPlace [] (a .cycle .now))) none), (refl, spread-front (a .cycle .now) (a .first) (a .end) (a .block .now) (z .1) (z .2)))
 
-shared-slice-read-block : tie.Need-shared-slice-read-block Inv-loop μ-loop Inv-loop2 μ-loop2
-shared-slice-read-block c = omega arith
-
 slice-write-block : tie.Need-slice-write-block Inv-loop μ-loop Inv-loop2 μ-loop2
 slice-write-block c = omega (arith, c .before .before .loop .inv .4 .0, c .before .before .before .before .before .pre .2)
 
 next-place-requires : tie.Need-next-place-requires Inv-loop μ-loop Inv-loop2 μ-loop2
 next-place-requires c κs = (omega arith, omega arith)
-
-add-i : tie.Need-add-i Inv-loop μ-loop Inv-loop2 μ-loop2
-add-i c = omega arith
-
-loop-less : tie.Need-loop-less Inv-loop μ-loop Inv-loop2 μ-loop2
-loop-less c = omega arith
 
 loop-again : tie.Need-loop-again Inv-loop μ-loop Inv-loop2 μ-loop2
 loop-again c =
@@ -53,7 +44,8 @@ loop-again c =
     let z = c .before .before .before .before .before .before .pre in
     let l = c .before .before .before .loop in
     let v = a .cycle .now in
-    let next : c .next-place .result ≡ place (nextPlace [] v) (l .i + 1 - a .first) = step-next v (a .first) (l .i) (l .p) (c .next-place .result) (l .inv .0) (l .inv .3) (c .next-place .ensures [] v refl refl) in
+    let next : c .next-place .result ≡ place (nextPlace [] v) (l .i + 1 - a .first) =
+    step-next v (a .first) (l .i) (l .p) (c .next-place .result) (l .inv .0) (l .inv .3) (c .next-place .ensures [] v refl refl) in
     let byte : getD v (l .p) 0 ≡ getD v (place (nextPlace [] v) (l .i - a .first)) 0 = ap (λ (x : ℕ). getD v x 0) (l .inv .3) in (
       omega arith,
       omega arith,
@@ -69,12 +61,6 @@ loop2-holds c =
     let z = c .before .before .before .before .pre in
     let l = c .before .loop in
     (omega arith, omega (arith, z .2, l .inv .4 .0), right-again (a .cycle .now) (a .first) (a .end) (a .block .now) (z .1) (z .2) (l .block) (l .i) (l .inv .0) (l .inv .4))
-
-slice-write-block-2 : tie.Need-slice-write-block-2 Inv-loop μ-loop Inv-loop2 μ-loop2
-slice-write-block-2 c = omega arith
-
-add-i-2 : tie.Need-add-i-2 Inv-loop μ-loop Inv-loop2 μ-loop2
-add-i-2 c = omega arith
 
 loop2-less : tie.Need-loop2-less Inv-loop μ-loop Inv-loop2 μ-loop2
 loop2-less c = omega (arith, c .before .loop2 .inv .2 .0)
@@ -107,23 +93,6 @@ returns c =
 
 pub spread-spec : {M : Type 1} → statement M
 spread-spec =
-    tie.close
-    (tie.spec
-    Inv-loop
-    μ-loop
-    Inv-loop2
-    μ-loop2
-    loop-holds
-    shared-slice-read-block
-    slice-write-block
-    next-place-requires
-    add-i
-    loop-less
-    loop-again
-    loop2-holds
-    slice-write-block-2
-    add-i-2
-    loop2-less
-    loop2-again
-    same-length
-    returns)
+    tie.close (tie.spec
+    Inv-loop μ-loop Inv-loop2 μ-loop2 loop-holds (λ c. omega arith) slice-write-block next-place-requires (λ c. omega arith) (λ c. omega arith) loop-again
+    loop2-holds (λ c. omega arith) (λ c. omega arith) loop2-less loop2-again same-length returns)

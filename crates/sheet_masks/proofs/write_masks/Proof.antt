@@ -15,26 +15,24 @@ spread-requires c κs = let z = c .before .before .before .before .before .befor
 
 fill-lead-requires : tie.Need-fill-lead-requires
 fill-lead-requires c κs =
-    let a = c .before .before .before .before .before .before .before .before .before .before .args in
-    let z = c .before .before .before .before .before .before .before .before .before .before .pre in
+    let start = c .before .before .before .before .before .before .before .before .before .before in
+    let a = start .args in
+    let z = start .pre in
     let s = c .before .before .before .spread in
     let order : length (a .lead .now) ≤ a .places = omega (arith, z .4) in
     let long : length (s .last .1 .1 .1 .0) ≡ length (a .block .now) = ap length (s .ensures) ∙ spread-length (a .cycle .now) (length (a .lead .now)) (a .places) (a .block .now) order (z .5) in
     (z .0, z .1, omega (arith, long, z .4, z .5), z .2)
 
-same-length : tie.Need-same-length
-same-length c = search needs
-
 returns : tie.Need-returns
 returns c =
-    let a = c .before .before .before .before .before .before .before .before .before .before .before .before .before .args in
-    let z = c .before .before .before .before .before .before .before .before .before .before .before .before .before .pre in
+    let start = c .before .before .before .before .before .before .before .before .before .before .before .before .before in
+    let a = start .args in
+    let z = start .pre in
     let order : length (a .lead .now) ≤ a .places = omega (arith, z .4) in
     c .before .before .fill-lead .ensures
     ∙ ap (backOver (ruleOf (a .h) (a .counts .now) (a .clauses .now)) (a .lead .now))
-    (ap (drop (length (a .lead .now))) (c .before .before .before .before .before .before .spread .ensures) ∙ spread-drop (a .cycle .now) (length (a .lead .now)) (a .places) (a .block .now) order (z .5))
+    (ap (drop (length (a .lead .now))) (c .before .before .before .before .before .before .spread .ensures)
+    ∙ spread-drop (a .cycle .now) (length (a .lead .now)) (a .places) (a .block .now) order (z .5))
 
 pub write-masks-spec : {M : Type 1} → statement M
-write-masks-spec =
-    tie.close
-    (tie.spec spread-requires fill-lead-requires same-length returns)
+write-masks-spec = tie.close (tie.spec spread-requires fill-lead-requires (λ c. search needs) returns)

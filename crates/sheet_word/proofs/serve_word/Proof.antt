@@ -16,19 +16,19 @@ use Rattle.sheet_word.proofs.serve_word.Statement.{statement}
 use Rattle.sheet_word.proofs.serve_word.Tie as tie
 
 add-middle : tie.Need-add-middle
-add-middle c = omega (arith, c .before .before .before .before .before .before .before .pre .1)
+add-middle c =
+    let start = c .before .before .before .before .before .before .before in
+    omega (arith, start .pre .1)
 
 add-last : tie.Need-add-last
-add-last c = omega (arith, c .before .before .before .before .before .before .before .pre .1)
-
-sub-cycle-length : tie.Need-sub-cycle-length
-sub-cycle-length c = omega arith
-
-part-cycle-length-start : tie.Need-part-cycle-length-start
-part-cycle-length-start c = omega arith
+add-last c =
+    let start = c .before .before .before .before .before .before .before in
+    omega (arith, start .pre .1)
 
 part-cycle-length-end : tie.Need-part-cycle-length-end
-part-cycle-length-end c = omega (arith, c .before .before .before .before .before .before .before .pre .1)
+part-cycle-length-end c =
+    let start = c .before .before .before .before .before .before .before in
+    omega (arith, start .pre .1)
 
 -- the parts of the sheet that are lent
 lead-part : (first lead : ℕ) → first + lead - first ≡ lead
@@ -38,48 +38,51 @@ cycle-part : (first lead cycle : ℕ) → first + lead + cycle - (first + lead) 
 cycle-part first lead cycle = omega arith
 
 cycle-length-requires : tie.Need-cycle-length-requires
-cycle-length-requires c κs = let a = c .before .before .before .before .before .before .before .before .args in rw (cycle-part (a .first) (a .lead) (a .cycle)) (c .before .before .before .before .before .before .before .before .pre .4 .repeats)
+cycle-length-requires c κs =
+    let start = c .before .before .before .before .before .before .before .before in
+    let a = start .args in rw (cycle-part (a .first) (a .lead) (a .cycle)) (start .pre .4 .repeats)
+
+abbrev start-of-after-cycle-length : tie.After-cycle-length → tie.Start
+start-of-after-cycle-length c = c .before .before .before .before .before .before .before .before .before
 
 -- the length of the tidy cycle
-cycle-is : (c : tie.After-cycle-length) → let a = c .before .before .before .before .before .before .before .before .before .args in c .cycle-length .result ≡ cycleLength (take (a .cycle) (drop (a .first + a .lead) (a .sheet .now)))
+cycle-is : (c : tie.After-cycle-length) → let a = start-of-after-cycle-length c .args in c .cycle-length .result ≡ cycleLength (take (a .cycle) (drop (a .first + a .lead) (a .sheet .now)))
 cycle-is c =
-    let a = c .before .before .before .before .before .before .before .before .before .args in
+    let a = start-of-after-cycle-length c .args in
     c .cycle-length .ensures ∙ ap (λ (x : ℕ). cycleLength (take x (drop (a .first + a .lead) (a .sheet .now)))) (cycle-part (a .first) (a .lead) (a .cycle))
 
-sub-lead-length : tie.Need-sub-lead-length
-sub-lead-length c = omega arith
-
-part-lead-length-start : tie.Need-part-lead-length-start
-part-lead-length-start c = omega arith
-
 part-lead-length-end : tie.Need-part-lead-length-end
-part-lead-length-end c = omega (arith, c .before .before .before .before .before .before .before .before .before .pre .1)
-
-sub-lead-length-2 : tie.Need-sub-lead-length-2
-sub-lead-length-2 c = omega arith
-
-part-lead-length-start-2 : tie.Need-part-lead-length-start-2
-part-lead-length-start-2 c = omega arith
+part-lead-length-end c =
+    let start = c .before .before .before .before .before .before .before .before .before in
+    omega (arith, start .pre .1)
 
 part-lead-length-end-2 : tie.Need-part-lead-length-end-2
-part-lead-length-end-2 c = omega (arith, c .before .before .before .before .before .before .before .before .before .before .pre .1)
+part-lead-length-end-2 c =
+    let start = c .before .before .before .before .before .before .before .before .before .before in
+    omega (arith, start .pre .1)
 
 lead-length-requires : tie.Need-lead-length-requires
 lead-length-requires c κs =
-    let a = c .before .before .before .before .before .before .before .before .before .before .before .args in
-    let z = c .before .before .before .before .before .before .before .before .before .before .before .pre in
-    let p = cycle-at-most (c .before .before .before .before .before .before .before .before .before .before .before .args .h .s) (c .before .before .before .before .before .before .before .before .before .before .before .args .sheet .now) (c .before .before .before .before .before .before .before .before .before .before .before .args .first) (c .before .before .before .before .before .before .before .before .before .before .before .args .lead) (c .before .before .before .before .before .before .before .before .before .before .before .args .cycle) (c .before .before .before .before .before .before .before .before .before .before .before .pre .1) (c .before .before .before .before .before .before .before .before .before .before .before .pre .4) (c .before .before .cycle-length .result) (leadLength (take (a .lead) (drop (a .first) (a .sheet .now))) (take (a .cycle) (drop (a .first + a .lead) (a .sheet .now)))) (cycle-is (c .before .before)) refl in (
+    let start = c .before .before .before .before .before .before .before .before .before .before .before in
+    let a = start .args in
+    let z = start .pre in
+    let p = cycle-at-most (start .args .h .s) (start .args .sheet .now) (start .args .first) (start .args .lead) (start .args .cycle) (start .pre .1) (start .pre .4)
+    (c .before .before .cycle-length .result) (leadLength (take (a .lead) (drop (a .first) (a .sheet .now))) (take (a .cycle) (drop (a .first + a .lead) (a .sheet .now))))
+    (cycle-is (c .before .before)) refl in (
       rw (cycle-part (a .first) (a .lead) (a .cycle)) (z .4 .repeats),
       simp (length-take, length-drop) (omega (arith, p, z .1)),
       simp (length-take, length-drop) (omega (arith, z .2, z .3)),
     )
 
+abbrev start-of-after-lead-length : tie.After-lead-length → tie.Start
+start-of-after-lead-length c = c .before .before .before .before .before .before .before .before .before .before .before .before
+
 -- the length of the tidy lead-in
-lead-is : (c : tie.After-lead-length) → let a = c .before .before .before .before .before .before .before .before .before .before .before .before .args in
+lead-is : (c : tie.After-lead-length) → let a = start-of-after-lead-length c .args in
     c .lead-length .result ≡ leadLength (take (a .lead) (drop (a .first) (a .sheet .now))) (take (a .cycle) (drop (a .first + a .lead) (a .sheet .now)))
 unfolding leadLength
 lead-is c =
-    let a = c .before .before .before .before .before .before .before .before .before .before .before .before .args in
+    let a = start-of-after-lead-length c .args in
     let u : ℕ → List ℕ = λ x. take x (drop (a .first) (a .sheet .now)) in
     let v : ℕ → List ℕ = λ x. take x (drop (a .first + a .lead) (a .sheet .now)) in
     let p = c .before .before .before .cycle-length .result in
@@ -89,140 +92,153 @@ lead-is c =
     ∙ ap (λ (x : ℕ). shortened (letters (u (a .lead)) (v (a .cycle))) x (length (u (a .lead)))) (cycle-is (c .before .before .before))
 
 add-begin : tie.Need-add-begin
-add-begin c = omega (arith, c .before .before .before .before .before .before .before .before .before .before .before .before .pre .1, lead-at-most (c .before .before .before .before .before .before .before .before .before .before .before .before .args .h .s) (c .before .before .before .before .before .before .before .before .before .before .before .before .args .sheet .now) (c .before .before .before .before .before .before .before .before .before .before .before .before .args .first) (c .before .before .before .before .before .before .before .before .before .before .before .before .args .lead) (c .before .before .before .before .before .before .before .before .before .before .before .before .args .cycle) (c .before .before .before .before .before .before .before .before .before .before .before .before .pre .1) (c .before .before .before .before .before .before .before .before .before .before .before .before .pre .4) (c .before .before .before .cycle-length .result) (c .lead-length .result) (cycle-is (c .before .before .before)) (lead-is c))
+add-begin c =
+    let start = c .before .before .before .before .before .before .before .before .before .before .before .before in
+    omega (
+      arith,
+      start .pre .1,
+      lead-at-most (start .args .h .s) (start .args .sheet .now) (start .args .first) (start .args .lead) (start .args .cycle) (start .pre .1) (start .pre .4)
+          (c .before .before .before .cycle-length .result) (c .lead-length .result) (cycle-is (c .before .before .before)) (lead-is c),
+    )
 
 learn-cycle-requires : tie.Need-learn-cycle-requires
 learn-cycle-requires c κs =
-    let z = c .before .before .before .before .before .before .before .before .before .before .before .before .before .before .before .pre in
-    let p = c .before .before .before .before .before .before .cycle-length .result in
-    let m = c .before .before .before .lead-length .result in
-    let over = part-over (c .before .before .before .before .before .before .before .before .before .before .before .before .before .before .before .args .h .s) (c .before .before .before .before .before .before .before .before .before .before .before .before .before .before .before .args .sheet .now) (c .before .before .before .before .before .before .before .before .before .before .before .before .before .before .before .args .first) (c .before .before .before .before .before .before .before .before .before .before .before .before .before .before .before .args .lead) (c .before .before .before .before .before .before .before .before .before .before .before .before .before .before .before .args .cycle) (c .before .before .before .before .before .before .before .before .before .before .before .before .before .before .before .pre .1) (c .before .before .before .before .before .before .before .before .before .before .before .before .before .before .before .pre .4) p m (cycle-is (c .before .before .before .before .before .before)) (lead-is (c .before .before .before)) in
-    let short = cycle-at-most (c .before .before .before .before .before .before .before .before .before .before .before .before .before .before .before .args .h .s) (c .before .before .before .before .before .before .before .before .before .before .before .before .before .before .before .args .sheet .now) (c .before .before .before .before .before .before .before .before .before .before .before .before .before .before .before .args .first) (c .before .before .before .before .before .before .before .before .before .before .before .before .before .before .before .args .lead) (c .before .before .before .before .before .before .before .before .before .before .before .before .before .before .before .args .cycle) (c .before .before .before .before .before .before .before .before .before .before .before .before .before .before .before .pre .1) (c .before .before .before .before .before .before .before .before .before .before .before .before .before .before .before .pre .4) p m (cycle-is (c .before .before .before .before .before .before)) (lead-is (c .before .before .before)) in
-    let front = lead-at-most (c .before .before .before .before .before .before .before .before .before .before .before .before .before .before .before .args .h .s) (c .before .before .before .before .before .before .before .before .before .before .before .before .before .before .before .args .sheet .now) (c .before .before .before .before .before .before .before .before .before .before .before .before .before .before .before .args .first) (c .before .before .before .before .before .before .before .before .before .before .before .before .before .before .before .args .lead) (c .before .before .before .before .before .before .before .before .before .before .before .before .before .before .before .args .cycle) (c .before .before .before .before .before .before .before .before .before .before .before .before .before .before .before .pre .1) (c .before .before .before .before .before .before .before .before .before .before .before .before .before .before .before .pre .4) p m (cycle-is (c .before .before .before .before .before .before)) (lead-is (c .before .before .before)) in
+    let at-lead-length = c .before .before .before in
+    let at-cycle-length = at-lead-length .before .before .before in
+    let start = at-cycle-length .before .before .before .before .before .before .before .before .before in
+    let z = start .pre in
+    let p = at-cycle-length .cycle-length .result in
+    let m = at-lead-length .lead-length .result in
+    let over = part-over (start .args .h .s) (start .args .sheet .now) (start .args .first) (start .args .lead) (start .args .cycle) (start .pre .1) (start .pre .4) p m (cycle-is (at-cycle-length))
+    (lead-is (at-lead-length)) in
+    let short = cycle-at-most (start .args .h .s) (start .args .sheet .now) (start .args .first) (start .args .lead) (start .args .cycle) (start .pre .1) (start .pre .4) p m
+    (cycle-is (at-cycle-length)) (lead-is (at-lead-length)) in
+    let front = lead-at-most (start .args .h .s) (start .args .sheet .now) (start .args .first) (start .args .lead) (start .args .cycle) (start .pre .1) (start .pre .4) p m
+    (cycle-is (at-cycle-length)) (lead-is (at-lead-length)) in
     (record { passing = z .0 .passing; beginnings = z .0 .beginnings; word = over }, z .0 .closed, z .0 .cycles, z .0 .room, omega (arith, short, z .3), omega (arith, short, front, z .1))
 
 mul-at : tie.Need-mul-at
-mul-at c = let l = c .before .before .before .before .before .before .before .learn-cycle .ensures in omega (arith, l .number, l .one, c .before .before .before .before .before .before .before .before .before .before .before .before .before .before .before .before .before .before .before .before .before .before .before .pre .0 .room)
+mul-at c =
+    let at-learn-cycle = c .before .before .before .before .before .before .before in
+    let start = at-learn-cycle .before .before .before .before .before .before .before .before .before .before .before .before .before .before .before .before in
+    let l = at-learn-cycle .learn-cycle .ensures in omega (arith, l .number, l .one, start .pre .0 .room)
 
 add-end : tie.Need-add-end
 add-end c =
-    let l = c .before .before .before .before .before .before .before .learn-cycle .ensures in
-    let z = c .before .before .before .before .before .before .before .before .before .before .before .before .before .before .before .before .before .before .before .before .before .before .before .pre in
-    omega (arith, l .number, l .one, z .0 .room, z .3, cycle-at-most (c .before .before .before .before .before .before .before .before .before .before .before .before .before .before .before .before .before .before .before .before .before .before .before .args .h .s) (c .before .before .before .before .before .before .before .before .before .before .before .before .before .before .before .before .before .before .before .before .before .before .before .args .sheet .now) (c .before .before .before .before .before .before .before .before .before .before .before .before .before .before .before .before .before .before .before .before .before .before .before .args .first) (c .before .before .before .before .before .before .before .before .before .before .before .before .before .before .before .before .before .before .before .before .before .before .before .args .lead) (c .before .before .before .before .before .before .before .before .before .before .before .before .before .before .before .before .before .before .before .before .before .before .before .args .cycle) (c .before .before .before .before .before .before .before .before .before .before .before .before .before .before .before .before .before .before .before .before .before .before .before .pre .1) (c .before .before .before .before .before .before .before .before .before .before .before .before .before .before .before .before .before .before .before .before .before .before .before .pre .4) (c .before .before .before .before .before .before .before .before .before .before .before .before .before .before .cycle-length .result) (c .before .before .before .before .before .before .before .before .before .before .before .lead-length .result) (cycle-is (c .before .before .before .before .before .before .before .before .before .before .before .before .before .before)) (lead-is (c .before .before .before .before .before .before .before .before .before .before .before)))
+    let at-learn-cycle = c .before .before .before .before .before .before .before in
+    let at-lead-length = at-learn-cycle .before .before .before .before in
+    let at-cycle-length = at-lead-length .before .before .before in
+    let start = at-cycle-length .before .before .before .before .before .before .before .before .before in
+    let l = at-learn-cycle .learn-cycle .ensures in
+    let z = start .pre in
+    omega (
+      arith,
+      l .number,
+      l .one,
+      z .0 .room,
+      z .3,
+      cycle-at-most (start .args .h .s) (start .args .sheet .now) (start .args .first) (start .args .lead) (start .args .cycle) (start .pre .1)
+          (start .pre .4) (at-cycle-length .cycle-length .result) (at-lead-length .lead-length .result) (cycle-is (at-cycle-length)) (lead-is (at-lead-length)),
+    )
 
 add-places : tie.Need-add-places
-add-places c = omega (arith, c .before .before .before .before .before .before .before .before .before .before .before .before .before .before .before .before .before .before .before .before .before .before .before .pre .2, c .before .before .before .before .before .before .before .before .before .before .before .before .before .before .before .before .before .before .before .before .before .before .before .pre .3)
-
-sub-write-masks : tie.Need-sub-write-masks
-sub-write-masks c = omega arith
-
-part-write-masks-start : tie.Need-part-write-masks-start
-part-write-masks-start c = omega arith
+add-places c =
+    let start = c .before .before .before .before .before .before .before .before .before .before .before .before .before .before .before .before .before .before .before .before .before .before
+    .before in
+    omega (arith, start .pre .2, start .pre .3)
 
 part-write-masks-end : tie.Need-part-write-masks-end
 part-write-masks-end c =
-    let z = c .before .before .before .before .before .before .before .before .before .before .before .before .before .before .before .before .before .before .before .before .before .before .before .pre in
-    omega (arith, z .1, lead-at-most (c .before .before .before .before .before .before .before .before .before .before .before .before .before .before .before .before .before .before .before .before .before .before .before .args .h .s) (c .before .before .before .before .before .before .before .before .before .before .before .before .before .before .before .before .before .before .before .before .before .before .before .args .sheet .now) (c .before .before .before .before .before .before .before .before .before .before .before .before .before .before .before .before .before .before .before .before .before .before .before .args .first) (c .before .before .before .before .before .before .before .before .before .before .before .before .before .before .before .before .before .before .before .before .before .before .before .args .lead) (c .before .before .before .before .before .before .before .before .before .before .before .before .before .before .before .before .before .before .before .before .before .before .before .args .cycle) (c .before .before .before .before .before .before .before .before .before .before .before .before .before .before .before .before .before .before .before .before .before .before .before .pre .1) (c .before .before .before .before .before .before .before .before .before .before .before .before .before .before .before .before .before .before .before .before .before .before .before .pre .4) (c .before .before .before .before .before .before .before .before .before .before .before .before .before .before .cycle-length .result) (c .before .before .before .before .before .before .before .before .before .before .before .lead-length .result) (cycle-is (c .before .before .before .before .before .before .before .before .before .before .before .before .before .before)) (lead-is (c .before .before .before .before .before .before .before .before .before .before .before)))
-
-sub-write-masks-2 : tie.Need-sub-write-masks-2
-sub-write-masks-2 c = omega arith
-
-part-write-masks-start-2 : tie.Need-part-write-masks-start-2
-part-write-masks-start-2 c = omega arith
+    let at-lead-length = c .before .before .before .before .before .before .before .before .before .before .before in
+    let at-cycle-length = at-lead-length .before .before .before in
+    let start = at-cycle-length .before .before .before .before .before .before .before .before .before in
+    let z = start .pre in
+    omega (
+      arith,
+      z .1,
+      lead-at-most (start .args .h .s) (start .args .sheet .now) (start .args .first) (start .args .lead) (start .args .cycle) (start .pre .1) (start .pre .4)
+          (at-cycle-length .cycle-length .result) (at-lead-length .lead-length .result) (cycle-is (at-cycle-length)) (lead-is (at-lead-length)),
+    )
 
 part-write-masks-end-2 : tie.Need-part-write-masks-end-2
 part-write-masks-end-2 c =
-    let l = c .before .before .before .before .before .before .before .before .before .learn-cycle .ensures in
-    let z = c .before .before .before .before .before .before .before .before .before .before .before .before .before .before .before .before .before .before .before .before .before .before .before .before .before .pre in
-    omega (arith, l .number, l .one, l .filled .room, z .0 .room, z .3, cycle-at-most (c .before .before .before .before .before .before .before .before .before .before .before .before .before .before .before .before .before .before .before .before .before .before .before .before .before .args .h .s) (c .before .before .before .before .before .before .before .before .before .before .before .before .before .before .before .before .before .before .before .before .before .before .before .before .before .args .sheet .now) (c .before .before .before .before .before .before .before .before .before .before .before .before .before .before .before .before .before .before .before .before .before .before .before .before .before .args .first) (c .before .before .before .before .before .before .before .before .before .before .before .before .before .before .before .before .before .before .before .before .before .before .before .before .before .args .lead) (c .before .before .before .before .before .before .before .before .before .before .before .before .before .before .before .before .before .before .before .before .before .before .before .before .before .args .cycle) (c .before .before .before .before .before .before .before .before .before .before .before .before .before .before .before .before .before .before .before .before .before .before .before .before .before .pre .1) (c .before .before .before .before .before .before .before .before .before .before .before .before .before .before .before .before .before .before .before .before .before .before .before .before .before .pre .4) (c .before .before .before .before .before .before .before .before .before .before .before .before .before .before .before .before .cycle-length .result) (c .before .before .before .before .before .before .before .before .before .before .before .before .before .lead-length .result) (cycle-is (c .before .before .before .before .before .before .before .before .before .before .before .before .before .before .before .before)) (lead-is (c .before .before .before .before .before .before .before .before .before .before .before .before .before)))
+    let at-learn-cycle = c .before .before .before .before .before .before .before .before .before in
+    let at-lead-length = at-learn-cycle .before .before .before .before in
+    let at-cycle-length = at-lead-length .before .before .before in
+    let start = at-cycle-length .before .before .before .before .before .before .before .before .before in
+    let l = at-learn-cycle .learn-cycle .ensures in
+    let z = start .pre in
+    omega (
+      arith,
+      l .number,
+      l .one,
+      l .filled .room,
+      z .0 .room,
+      z .3,
+      cycle-at-most (start .args .h .s) (start .args .sheet .now) (start .args .first) (start .args .lead) (start .args .cycle) (start .pre .1) (start .pre .4)
+          (at-cycle-length .cycle-length .result) (at-lead-length .lead-length .result) (cycle-is (at-cycle-length)) (lead-is (at-lead-length)),
+    )
 
 write-masks-requires : tie.Need-write-masks-requires
 write-masks-requires c κs =
-    let a = c .before .before .before .before .before .before .before .before .before .before .before .before .before .before .before .before .before .before .before .before .before .before .before .before .before .before .before .args in
-    let z = c .before .before .before .before .before .before .before .before .before .before .before .before .before .before .before .before .before .before .before .before .before .before .before .before .before .before .before .pre in
-    let l = c .before .before .before .before .before .before .before .before .before .before .before .learn-cycle .ensures in
-    let p = c .before .before .before .before .before .before .before .before .before .before .before .before .before .before .before .before .before .before .cycle-length .result in
-    let m = c .before .before .before .before .before .before .before .before .before .before .before .before .before .before .before .lead-length .result in
-    let ep = cycle-is (c .before .before .before .before .before .before .before .before .before .before .before .before .before .before .before .before .before .before) in
-    let em = lead-is (c .before .before .before .before .before .before .before .before .before .before .before .before .before .before .before) in
-    let short = cycle-at-most (c .before .before .before .before .before .before .before .before .before .before .before .before .before .before .before .before .before .before .before .before .before .before .before .before .before .before .before .args .h .s) (c .before .before .before .before .before .before .before .before .before .before .before .before .before .before .before .before .before .before .before .before .before .before .before .before .before .before .before .args .sheet .now) (c .before .before .before .before .before .before .before .before .before .before .before .before .before .before .before .before .before .before .before .before .before .before .before .before .before .before .before .args .first) (c .before .before .before .before .before .before .before .before .before .before .before .before .before .before .before .before .before .before .before .before .before .before .before .before .before .before .before .args .lead) (c .before .before .before .before .before .before .before .before .before .before .before .before .before .before .before .before .before .before .before .before .before .before .before .before .before .before .before .args .cycle) (c .before .before .before .before .before .before .before .before .before .before .before .before .before .before .before .before .before .before .before .before .before .before .before .before .before .before .before .pre .1) (c .before .before .before .before .before .before .before .before .before .before .before .before .before .before .before .before .before .before .before .before .before .before .before .before .before .before .before .pre .4) p m ep em in
-    let some = cycle-least (c .before .before .before .before .before .before .before .before .before .before .before .before .before .before .before .before .before .before .before .before .before .before .before .before .before .before .before .args .h .s) (c .before .before .before .before .before .before .before .before .before .before .before .before .before .before .before .before .before .before .before .before .before .before .before .before .before .before .before .args .sheet .now) (c .before .before .before .before .before .before .before .before .before .before .before .before .before .before .before .before .before .before .before .before .before .before .before .before .before .before .before .args .first) (c .before .before .before .before .before .before .before .before .before .before .before .before .before .before .before .before .before .before .before .before .before .before .before .before .before .before .before .args .lead) (c .before .before .before .before .before .before .before .before .before .before .before .before .before .before .before .before .before .before .before .before .before .before .before .before .before .before .before .args .cycle) (c .before .before .before .before .before .before .before .before .before .before .before .before .before .before .before .before .before .before .before .before .before .before .before .before .before .before .before .pre .1) (c .before .before .before .before .before .before .before .before .before .before .before .before .before .before .before .before .before .before .before .before .before .before .before .before .before .before .before .pre .4) p m ep em in
-    let front = lead-at-most (c .before .before .before .before .before .before .before .before .before .before .before .before .before .before .before .before .before .before .before .before .before .before .before .before .before .before .before .args .h .s) (c .before .before .before .before .before .before .before .before .before .before .before .before .before .before .before .before .before .before .before .before .before .before .before .before .before .before .before .args .sheet .now) (c .before .before .before .before .before .before .before .before .before .before .before .before .before .before .before .before .before .before .before .before .before .before .before .before .before .before .before .args .first) (c .before .before .before .before .before .before .before .before .before .before .before .before .before .before .before .before .before .before .before .before .before .before .before .before .before .before .before .args .lead) (c .before .before .before .before .before .before .before .before .before .before .before .before .before .before .before .before .before .before .before .before .before .before .before .before .before .before .before .args .cycle) (c .before .before .before .before .before .before .before .before .before .before .before .before .before .before .before .before .before .before .before .before .before .before .before .before .before .before .before .pre .1) (c .before .before .before .before .before .before .before .before .before .before .before .before .before .before .before .before .before .before .before .before .before .before .before .before .before .before .before .pre .4) p m ep em in (
+    let at-learn-cycle = c .before .before .before .before .before .before .before .before .before .before .before in
+    let at-lead-length = at-learn-cycle .before .before .before .before in
+    let at-cycle-length = at-lead-length .before .before .before in
+    let start = at-cycle-length .before .before .before .before .before .before .before .before .before in
+    let a = start .args in
+    let z = start .pre in
+    let l = at-learn-cycle .learn-cycle .ensures in
+    let p = at-cycle-length .cycle-length .result in
+    let m = at-lead-length .lead-length .result in
+    let ep = cycle-is (at-cycle-length) in
+    let em = lead-is (at-lead-length) in
+    let short = cycle-at-most (start .args .h .s) (start .args .sheet .now) (start .args .first) (start .args .lead) (start .args .cycle) (start .pre .1) (start .pre .4) p m ep em in
+    let some = cycle-least (start .args .h .s) (start .args .sheet .now) (start .args .first) (start .args .lead) (start .args .cycle) (start .pre .1) (start .pre .4) p m ep em in
+    let front = lead-at-most (start .args .h .s) (start .args .sheet .now) (start .args .first) (start .args .lead) (start .args .cycle) (start .pre .1) (start .pre .4) p m ep em in (
       z .0 .passing .formed,
       z .0 .beginnings,
-      front-letters (c .before .before .before .before .before .before .before .before .before .before .before .before .before .before .before .before .before .before .before .before .before .before .before .before .before .before .before .args .h .s) (c .before .before .before .before .before .before .before .before .before .before .before .before .before .before .before .before .before .before .before .before .before .before .before .before .before .before .before .args .sheet .now) (c .before .before .before .before .before .before .before .before .before .before .before .before .before .before .before .before .before .before .before .before .before .before .before .before .before .before .before .args .first) (c .before .before .before .before .before .before .before .before .before .before .before .before .before .before .before .before .before .before .before .before .before .before .before .before .before .before .before .args .lead) (c .before .before .before .before .before .before .before .before .before .before .before .before .before .before .before .before .before .before .before .before .before .before .before .before .before .before .before .args .cycle) (c .before .before .before .before .before .before .before .before .before .before .before .before .before .before .before .before .before .before .before .before .before .before .before .before .before .before .before .pre .1) (c .before .before .before .before .before .before .before .before .before .before .before .before .before .before .before .before .before .before .before .before .before .before .before .before .before .before .before .pre .4) p m ep em (a .first + m - a .first) (lead-part (a .first) m),
+      front-letters (start .args .h .s) (start .args .sheet .now) (start .args .first) (start .args .lead) (start .args .cycle) (start .pre .1) (start .pre .4) p m ep em (a .first + m - a .first)
+          (lead-part (a .first) m),
       simp (length-take, length-drop) (omega (arith, some, short, l .number, l .one, l .filled .room, z .0 .room, z .3)),
       simp (length-take, length-drop) (omega (arith, some, short, front, z .1)),
       omega (arith, z .2, z .3, z .5),
     )
 
-same-length : tie.Need-same-length
-same-length c = search needs
-
-same-length-2 : tie.Need-same-length-2
-same-length-2 c = search needs
-
-same-length-3 : tie.Need-same-length-3
-same-length-3 c = search needs
-
-same-length-4 : tie.Need-same-length-4
-same-length-4 c = search needs
-
 returns : tie.Need-returns
 returns c =
-    let a = c .before .before .before .before .before .before .before .before .before .before .before .before .before .before .before .before .before .before .before .before .before .before .before .before .before .before .before .before .before .before .args in
-    let z = c .before .before .before .before .before .before .before .before .before .before .before .before .before .before .before .before .before .before .before .before .before .before .before .before .before .before .before .before .before .before .pre in
+    let at-learn-cycle = c .before .before .before .before .before .before .before .before .before .before .before .before .before .before in
+    let at-lead-length = at-learn-cycle .before .before .before .before in
+    let at-cycle-length = at-lead-length .before .before .before in
+    let start = at-cycle-length .before .before .before .before .before .before .before .before .before in
+    let a = start .args in
+    let z = start .pre in
     let r = ruleOf (a .h) (a .counts .now) (a .clauses .now) in
-    let l = c .before .before .before .before .before .before .before .before .before .before .before .before .before .before .learn-cycle .ensures in
-    let k = c .before .before .before .before .before .before .before .before .before .before .before .before .before .before .learn-cycle .result .number in
-    let filled = c .before .before .before .before .before .before .before .before .before .before .before .before .before .before .learn-cycle .last .1 .1 .1 .1 .1 .1 .1 .1 .1 .1 .0 in
-    let p = c .before .before .before .before .before .before .before .before .before .before .before .before .before .before .before .before .before .before .before .before .before .cycle-length .result in
-    let m = c .before .before .before .before .before .before .before .before .before .before .before .before .before .before .before .before .before .before .lead-length .result in
-    let ep = cycle-is (c .before .before .before .before .before .before .before .before .before .before .before .before .before .before .before .before .before .before .before .before .before) in
-    let em = lead-is (c .before .before .before .before .before .before .before .before .before .before .before .before .before .before .before .before .before .before) in
+    let l = at-learn-cycle .learn-cycle .ensures in
+    let k = at-learn-cycle .learn-cycle .result .number in
+    let filled = at-learn-cycle .learn-cycle .last .1 .1 .1 .1 .1 .1 .1 .1 .1 .1 .0 in
+    let p = at-cycle-length .cycle-length .result in
+    let m = at-lead-length .lead-length .result in
+    let ep = cycle-is (at-cycle-length) in
+    let em = lead-is (at-lead-length) in
     let begin = a .first + m in
     let cycle = take p (drop begin (a .sheet .now)) in
     let masks : take (32 * k + p - 32 * k) (drop (32 * k) filled) ≡ truthMasks r [] cycle
-    = ap (λ (x : ℕ). take x (drop (32 * k) filled)) (lead-part (32 * k) p ∙ sym (part-long (c .before .before .before .before .before .before .before .before .before .before .before .before .before .before .before .before .before .before .before .before .before .before .before .before .before .before .before .before .before .before .args .h .s) (c .before .before .before .before .before .before .before .before .before .before .before .before .before .before .before .before .before .before .before .before .before .before .before .before .before .before .before .before .before .before .args .sheet .now) (c .before .before .before .before .before .before .before .before .before .before .before .before .before .before .before .before .before .before .before .before .before .before .before .before .before .before .before .before .before .before .args .first) (c .before .before .before .before .before .before .before .before .before .before .before .before .before .before .before .before .before .before .before .before .before .before .before .before .before .before .before .before .before .before .args .lead) (c .before .before .before .before .before .before .before .before .before .before .before .before .before .before .before .before .before .before .before .before .before .before .before .before .before .before .before .before .before .before .args .cycle) (c .before .before .before .before .before .before .before .before .before .before .before .before .before .before .before .before .before .before .before .before .before .before .before .before .before .before .before .before .before .before .pre .1) (c .before .before .before .before .before .before .before .before .before .before .before .before .before .before .before .before .before .before .before .before .before .before .before .before .before .before .before .before .before .before .pre .4) p m ep em)) ∙ l .masks in
+    = ap (λ (x : ℕ). take x (drop (32 * k) filled)) (lead-part (32 * k) p
+    ∙ sym (part-long (start .args .h .s) (start .args .sheet .now) (start .args .first) (start .args .lead) (start .args .cycle) (start .pre .1) (start .pre .4) p m ep em)) ∙ l .masks in
     record {
-      masks = served-masks (c .before .before .before .before .before .before .before .before .before .before .before .before .before .before .before .before .before .before .before .before .before .before .before .before .before .before .before .before .before .before .args .h .s) (c .before .before .before .before .before .before .before .before .before .before .before .before .before .before .before .before .before .before .before .before .before .before .before .before .before .before .before .before .before .before .args .sheet .now) (c .before .before .before .before .before .before .before .before .before .before .before .before .before .before .before .before .before .before .before .before .before .before .before .before .before .before .before .before .before .before .args .first) (c .before .before .before .before .before .before .before .before .before .before .before .before .before .before .before .before .before .before .before .before .before .before .before .before .before .before .before .before .before .before .args .lead) (c .before .before .before .before .before .before .before .before .before .before .before .before .before .before .before .before .before .before .before .before .before .before .before .before .before .before .before .before .before .before .args .cycle) (c .before .before .before .before .before .before .before .before .before .before .before .before .before .before .before .before .before .before .before .before .before .before .before .before .before .before .before .before .before .before .pre .1) (c .before .before .before .before .before .before .before .before .before .before .before .before .before .before .before .before .before .before .before .before .before .before .before .before .before .before .before .before .before .before .pre .4) p m ep em r (z .0 .passing) _ _ _ _
+      masks = served-masks (start .args .h .s) (start .args .sheet .now) (start .args .first) (start .args .lead) (start .args .cycle) (start .pre .1) (start .pre .4) p m ep em r
+          (z .0 .passing) _ _ _ _
           (ap (λ (x : ℕ). take x (drop (a .first) (a .sheet .now))) (lead-part (a .first) m)) masks (z .5) (c .before .before .write-masks .ensures);
-      known = l .known ∙ ap (learn (knownOf (a .sheet .now) (a .from .now) (a .size .now) (a .n))) (part (c .before .before .before .before .before .before .before .before .before .before .before .before .before .before .before .before .before .before .before .before .before .before .before .before .before .before .before .before .before .before .args .h .s) (c .before .before .before .before .before .before .before .before .before .before .before .before .before .before .before .before .before .before .before .before .before .before .before .before .before .before .before .before .before .before .args .sheet .now) (c .before .before .before .before .before .before .before .before .before .before .before .before .before .before .before .before .before .before .before .before .before .before .before .before .before .before .before .before .before .before .args .first) (c .before .before .before .before .before .before .before .before .before .before .before .before .before .before .before .before .before .before .before .before .before .before .before .before .before .before .before .before .before .before .args .lead) (c .before .before .before .before .before .before .before .before .before .before .before .before .before .before .before .before .before .before .before .before .before .before .before .before .before .before .before .before .before .before .args .cycle) (c .before .before .before .before .before .before .before .before .before .before .before .before .before .before .before .before .before .before .before .before .before .before .before .before .before .before .before .before .before .before .pre .1) (c .before .before .before .before .before .before .before .before .before .before .before .before .before .before .before .before .before .before .before .before .before .before .before .before .before .before .before .before .before .before .pre .4) p m ep em);
+      known = l .known ∙ ap (learn (knownOf (a .sheet .now) (a .from .now) (a .size .now) (a .n)))
+          (part (start .args .h .s) (start .args .sheet .now) (start .args .first) (start .args .lead) (start .args .cycle) (start .pre .1) (start .pre .4) p m ep em);
       filled = l .filled;
       one = l .one;
     }
 
 pub serve-word-spec : {M : Type 1} → statement M
 serve-word-spec =
-    tie.close
-    (tie.spec
-    add-middle
-    add-last
-    sub-cycle-length
-    part-cycle-length-start
-    part-cycle-length-end
-    cycle-length-requires
-    sub-lead-length
-    part-lead-length-start
-    part-lead-length-end
-    sub-lead-length-2
-    part-lead-length-start-2
-    part-lead-length-end-2
-    lead-length-requires
-    add-begin
-    learn-cycle-requires
-    mul-at
-    add-end
-    add-places
-    sub-write-masks
-    part-write-masks-start
-    part-write-masks-end
-    sub-write-masks-2
-    part-write-masks-start-2
-    part-write-masks-end-2
-    write-masks-requires
-    same-length
-    same-length-2
-    same-length-3
-    same-length-4
-    returns)
+    tie.close (tie.spec
+    add-middle add-last (λ c. omega arith) (λ c. omega arith) part-cycle-length-end cycle-length-requires (λ c. omega arith) (λ c. omega arith)
+    part-lead-length-end (λ c. omega arith) (λ c. omega arith) part-lead-length-end-2 lead-length-requires add-begin learn-cycle-requires mul-at add-end
+    add-places (λ c. omega arith) (λ c. omega arith) part-write-masks-end (λ c. omega arith) (λ c. omega arith) part-write-masks-end-2 write-masks-requires
+    (λ c. search needs) (λ c. search needs) (λ c. search needs) (λ c. search needs) returns)

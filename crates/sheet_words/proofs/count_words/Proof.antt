@@ -16,15 +16,6 @@ abbrev μ-loop : tie.MeasureT-loop
 loop-holds : tie.Need-loop-holds Inv-loop μ-loop
 loop-holds c = (omega arith, omega arith, omega arith)
 
-next-word-requires : tie.Need-next-word-requires Inv-loop μ-loop
-next-word-requires c κs = omega arith
-
-add-n : tie.Need-add-n Inv-loop μ-loop
-add-n c = omega arith
-
-loop-less : tie.Need-loop-less Inv-loop μ-loop
-loop-less c = omega arith
-
 loop-again : tie.Need-loop-again Inv-loop μ-loop
 loop-again c =
     let l = c .before .before .loop in
@@ -37,6 +28,4 @@ returns c =
     counted-end (c .before .before .before .args .sheet .now) (l .at) (l .n) (omega arith) (l .inv .2)
 
 pub count-words-spec : {M : Type 1} → statement M
-count-words-spec =
-    tie.close
-    (tie.spec Inv-loop μ-loop loop-holds next-word-requires add-n loop-less loop-again returns)
+count-words-spec = tie.close (tie.spec Inv-loop μ-loop loop-holds (λ c κs. omega arith) (λ c. omega arith) (λ c. omega arith) loop-again returns)

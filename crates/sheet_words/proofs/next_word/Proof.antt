@@ -9,25 +9,13 @@ use Rattle.sheet_words.proofs.Places.{next-lone, next-whole, next-cut}
 use Rattle.sheet_words.proofs.next_word.Statement.{statement}
 use Rattle.sheet_words.proofs.next_word.Tie as tie
 
-sub-if1 : tie.Need-sub-if1
-sub-if1 c = search needs
-
 returns : tie.Need-returns
 returns c =
     let a = c .before .args in
     next-lone (a .sheet .now) (a .at) (omega arith)
 
-shared-slice-read-size : tie.Need-shared-slice-read-size
-shared-slice-read-size c = search needs
-
 cast-size : tie.Need-cast-size
 cast-size c = omega (arith, c .shared-slice-known .given (c .before .before .args .at))
-
-add-size : tie.Need-add-size
-add-size c = search needs
-
-shared-slice-read-size-2 : tie.Need-shared-slice-read-size-2
-shared-slice-read-size-2 c = search needs
 
 cast-size-2 : tie.Need-cast-size-2
 cast-size-2 c = omega (arith, c .shared-slice-known2 .given (c .before .before .before .args .at + 1))
@@ -35,24 +23,12 @@ cast-size-2 c = omega (arith, c .shared-slice-known2 .given (c .before .before .
 add-size-2 : tie.Need-add-size-2
 add-size-2 c = let a = c .before .before .before .args in omega (arith, c .before .shared-slice-known .given (a .at), c .shared-slice-known2 .given (a .at + 1))
 
-sub-if2 : tie.Need-sub-if2
-sub-if2 c = search needs
-
-sub-if2-2 : tie.Need-sub-if2-2
-sub-if2-2 c = search needs
-
 returns-2 : tie.Need-returns-2
 returns-2 c =
     let a = c .before .before .before .before .args in
     let two : a .at + 1 < length (a .sheet .now) = omega arith in
     let h : length (a .sheet .now) < a .at + 2 + (leadAt (a .sheet .now) (a .at) + cycleAt (a .sheet .now) (a .at)) = omega (arith, c .if2) in
     next-cut (a .sheet .now) (a .at) two h
-
-add-result : tie.Need-add-result
-add-result c = search needs
-
-add-result-2 : tie.Need-add-result-2
-add-result-2 c = search needs
 
 returns-3 : tie.Need-returns-3
 returns-3 c =
@@ -63,19 +39,6 @@ returns-3 c =
 
 pub next-word-spec : {M : Type 1} → statement M
 next-word-spec =
-    tie.close
-    (tie.spec
-    sub-if1
-    returns
-    shared-slice-read-size
-    cast-size
-    add-size
-    shared-slice-read-size-2
-    cast-size-2
-    add-size-2
-    sub-if2
-    sub-if2-2
-    returns-2
-    add-result
-    add-result-2
-    returns-3)
+    tie.close (tie.spec
+    (λ c. search needs) returns (λ c. search needs) cast-size (λ c. search needs) (λ c. search needs) cast-size-2 add-size-2 (λ c. search needs)
+    (λ c. search needs) returns-2 (λ c. search needs) (λ c. search needs) returns-3)

@@ -10,34 +10,16 @@ use Rattle.sheet_words.proofs.Places.{lone-fault, cut-fault, cut-no-cyc
 use Rattle.sheet_words.proofs.word_fault.Statement.{statement}
 use Rattle.sheet_words.proofs.word_fault.Tie as tie
 
-sub-if1 : tie.Need-sub-if1
-sub-if1 c = search needs
-
 returns : tie.Need-returns
 returns c =
     let a = c .before .before .args in
     sym (lone-fault (a .sheet .now) (a .at) (a .s) (omega arith))
 
-shared-slice-read-lead : tie.Need-shared-slice-read-lead
-shared-slice-read-lead c = search needs
-
 cast-lead : tie.Need-cast-lead
 cast-lead c = omega (arith, c .shared-slice-known2 .given (c .before .before .before .args .at))
 
-add-cycle : tie.Need-add-cycle
-add-cycle c = search needs
-
-shared-slice-read-cycle : tie.Need-shared-slice-read-cycle
-shared-slice-read-cycle c = search needs
-
 cast-cycle : tie.Need-cast-cycle
 cast-cycle c = omega (arith, c .shared-slice-known3 .given (c .before .before .before .before .args .at + 1))
-
-sub-if2 : tie.Need-sub-if2
-sub-if2 c = search needs
-
-sub-if2-2 : tie.Need-sub-if2-2
-sub-if2-2 c = search needs
 
 add-if2 : tie.Need-add-if2
 add-if2 c = let a = c .before .before .before .before .args in omega (arith, c .before .shared-slice-known2 .given (a .at), c .shared-slice-known3 .given (a .at + 1))
@@ -54,39 +36,10 @@ returns-3 c =
     let p : 0 < cycleAt (a .sheet .now) (a .at) = omega (arith, c .if3) in
     sym (cut-fault (a .sheet .now) (a .at) (omega arith) (a .s) h p)
 
-add-first : tie.Need-add-first
-add-first c = search needs
-
-add-middle : tie.Need-add-middle
-add-middle c = search needs
-
-add-last : tie.Need-add-last
-add-last c = search needs
-
-sub-word-row : tie.Need-sub-word-row
-sub-word-row c = search needs
-
-part-word-row-start : tie.Need-part-word-row-start
-part-word-row-start c = search needs
-
-part-word-row-end : tie.Need-part-word-row-end
-part-word-row-end c = search needs
-
-sub-word-row-2 : tie.Need-sub-word-row-2
-sub-word-row-2 c = search needs
-
-part-word-row-start-2 : tie.Need-part-word-row-start-2
-part-word-row-start-2 c = search needs
-
-part-word-row-end-2 : tie.Need-part-word-row-end-2
-part-word-row-end-2 c = search needs
-
-word-row-requires : tie.Need-word-row-requires
-word-row-requires c κs = search needs
-
 returns-4 : tie.Need-returns-4
 returns-4 c =
-    let a = c .before .before .before .before .before .before .before .before .args in
+    let start = c .before .before .before .before .before .before .before .before in
+    let a = start .args in
     let h : a .at + 2 + (leadAt (a .sheet .now) (a .at) + cycleAt (a .sheet .now) (a .at)) ≤ length (a .sheet .now) = omega (arith, c .before .before .before .if2) in
     let two : a .at + 1 < length (a .sheet .now) = omega arith in
     let lead : a .at + 2 + leadAt (a .sheet .now) (a .at) - (a .at + 2) ≡ leadAt (a .sheet .now) (a .at) = omega arith in
@@ -97,28 +50,7 @@ returns-4 c =
 
 pub word-fault-spec : {M : Type 1} → statement M
 word-fault-spec =
-    tie.close
-    (tie.spec
-    sub-if1
-    returns
-    shared-slice-read-lead
-    cast-lead
-    add-cycle
-    shared-slice-read-cycle
-    cast-cycle
-    sub-if2
-    sub-if2-2
-    add-if2
-    returns-2
-    returns-3
-    add-first
-    add-middle
-    add-last
-    sub-word-row
-    part-word-row-start
-    part-word-row-end
-    sub-word-row-2
-    part-word-row-start-2
-    part-word-row-end-2
-    word-row-requires
-    returns-4)
+    tie.close (tie.spec
+    (λ c. search needs) returns (λ c. search needs) cast-lead (λ c. search needs) (λ c. search needs) cast-cycle (λ c. search needs) (λ c. search needs) add-if2
+    returns-2 returns-3 (λ c. search needs) (λ c. search needs) (λ c. search needs) (λ c. search needs) (λ c. search needs) (λ c. search needs)
+    (λ c. search needs) (λ c. search needs) (λ c. search needs) (λ c κs. search needs) returns-4)

@@ -7,23 +7,13 @@ use borrow.Author.Needs.{needs}
 use Rattle.slice_digits.proofs.put_number.Statement.{statement}
 use Rattle.slice_digits.proofs.put_number.Tie as tie
 
-put-word-requires : tie.Need-put-word-requires
-put-word-requires c κs = search needs
-
-same-length : tie.Need-same-length
-same-length c = search needs
-
-returns : tie.Need-returns
-returns c = search needs
-
 put-byte-requires : tie.Need-put-byte-requires
 put-byte-requires c κs = omega (arith, c .before .before .before .pre, word-length (c .before .before .before .args .x))
 
 put-six-requires : tie.Need-put-six-requires
-put-six-requires c κs = (omega (arith, c .before .before .before .before .before .if1 .left), omega (arith, c .before .before .before .before .before .before .before .pre, word-length (c .before .before .before .before .before .before .before .args .x)))
-
-same-length-2 : tie.Need-same-length-2
-same-length-2 c = search needs
+put-six-requires c κs =
+    let start = c .before .before .before .before .before .before .before in
+    (omega (arith, c .before .before .before .before .before .if1 .left), omega (arith, start .pre, word-length (start .args .x)))
 
 returns-2 : tie.Need-returns-2
 unfolding word
@@ -31,12 +21,5 @@ returns-2 c = put-then (c .before .before .before .before .before .before .put-b
 
 pub put-number-spec : {M : Type 1} → statement M
 put-number-spec =
-    tie.close
-    (tie.spec
-    put-word-requires
-    same-length
-    returns
-    put-byte-requires
-    put-six-requires
-    same-length-2
-    returns-2)
+    tie.close (tie.spec
+    (λ c κs. search needs) (λ c. search needs) (λ c. search needs) put-byte-requires put-six-requires (λ c. search needs) returns-2)

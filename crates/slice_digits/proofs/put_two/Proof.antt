@@ -9,17 +9,8 @@ use borrow.Author.Needs.{needs}
 use Rattle.slice_digits.proofs.put_two.Statement.{statement}
 use Rattle.slice_digits.proofs.put_two.Tie as tie
 
-cast-put-byte : tie.Need-cast-put-byte
-cast-put-byte c = search needs
-
-add-put-byte : tie.Need-add-put-byte
-add-put-byte c = search needs
-
 put-byte-requires : tie.Need-put-byte-requires
 put-byte-requires c κs = omega (arith, ap length (one-digit (c .before .before .before .args .x) (c .before .if1 .taken)))
-
-same-length : tie.Need-same-length
-same-length c = search needs
 
 returns : tie.Need-returns
 returns c = put-as (one-digit (c .before .before .before .before .before .before .args .x) (c .before .before .before .before .if1 .taken)) (c .before .before .put-byte .ensures)
@@ -27,21 +18,11 @@ returns c = put-as (one-digit (c .before .before .before .before .before .before
 put-pair-requires : tie.Need-put-pair-requires
 put-pair-requires c κs = omega (arith, ap length (two-digits (c .before .before .before .args .x) (c .before .if1 .left) (c .before .before .before .pre .0)))
 
-same-length-2 : tie.Need-same-length-2
-same-length-2 c = search needs
-
 returns-2 : tie.Need-returns-2
-returns-2 c = put-as (two-digits (c .before .before .before .before .before .before .args .x) (c .before .before .before .before .if1 .left) (c .before .before .before .before .before .before .pre .0)) (c .before .before .put-pair .ensures)
+returns-2 c = put-as (two-digits (c .before .before .before .before .before .before .args .x) (c .before .before .before .before .if1 .left)
+    (c .before .before .before .before .before .before .pre .0)) (c .before .before .put-pair .ensures)
 
 pub put-two-spec : {M : Type 1} → statement M
 put-two-spec =
-    tie.close
-    (tie.spec
-    cast-put-byte
-    add-put-byte
-    put-byte-requires
-    same-length
-    returns
-    put-pair-requires
-    same-length-2
-    returns-2)
+    tie.close (tie.spec
+    (λ c. search needs) (λ c. search needs) put-byte-requires (λ c. search needs) returns put-pair-requires (λ c. search needs) returns-2)

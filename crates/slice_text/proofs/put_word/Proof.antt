@@ -15,13 +15,10 @@ put-decimal-requires c κs =
     let a = c .before .before .before .before .before .before .args in
     omega (arith, word-length (a .x))
 
-same-length : tie.Need-same-length
-same-length c = search needs
-
 returns : tie.Need-returns
 unfolding word
 returns c =
     put-then (c .before .before .before .before .before .before .put-byte .ensures) (c .before .before .put-decimal .ensures)
 
 pub put-word-spec : {M : Type 1} → statement M
-put-word-spec = tie.close (tie.spec put-byte-requires put-decimal-requires same-length returns)
+put-word-spec = tie.close (tie.spec put-byte-requires put-decimal-requires (λ c. search needs) returns)

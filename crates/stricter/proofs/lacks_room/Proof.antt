@@ -5,9 +5,6 @@ use native.Mathlib.Omega.{arith}
 use Rattle.stricter.proofs.lacks_room.Statement.{statement}
 use Rattle.stricter.proofs.lacks_room.Tie as tie
 
-mul-if1 : tie.Need-mul-if1
-mul-if1 c = search needs
-
 returns : tie.Need-returns
 returns c = rw (lt-ltb _ _ (c .if1 .taken))
 
@@ -15,4 +12,4 @@ returns-2 : tie.Need-returns-2
 returns-2 c = rw (le-ltb _ _ (c .if1 .left))
 
 pub lacks-room-spec : {M : Type 1} → statement M
-lacks-room-spec = tie.close (tie.spec mul-if1 returns returns-2)
+lacks-room-spec = tie.close (tie.spec (λ c. search needs) returns returns-2)

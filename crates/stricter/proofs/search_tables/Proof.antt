@@ -13,107 +13,99 @@ use Rattle.stricter.proofs.search_tables.Tie as tie
 
 mul-pairs : tie.Need-mul-pairs
 mul-pairs c =
-    let a = c .before .before .before .before .before .before .before .before .before .before .args in
-    let p = c .before .before .before .before .before .before .before .before .before .before .pre in
-    let h = pairs-small (ruleIn (a .a .now)) (ruleIn (a .b .now)) (p .2) (a .n) (a .m) (a .al .head .initial) (a .bl .head .initial) (a .acodes .now) (a .atransitions .now) (a .bcodes .now) (a .btransitions .now) (p .3) (p .4) in
+    let start = c .before .before .before .before .before .before .before .before .before .before in
+    let a = start .args in
+    let p = start .pre in
+    let h = pairs-small (ruleIn (a .a .now)) (ruleIn (a .b .now)) (p .2) (a .n) (a .m) (a .al .head .initial) (a .bl .head .initial) (a .acodes .now) (a .atransitions .now) (a .bcodes .now)
+    (a .btransitions .now) (p .3) (p .4) in
     record { fits = omega arith }
 
 lacks-room-requires : tie.Need-lacks-room-requires
 lacks-room-requires c κs =
-    let a = c .before .before .before .before .before .before .before .before .before .before .before .before .args in
-    let p = c .before .before .before .before .before .before .before .before .before .before .before .before .pre in
-    pairs-small (ruleIn (a .a .now)) (ruleIn (a .b .now)) (p .2) (a .n) (a .m) (a .al .head .initial) (a .bl .head .initial) (a .acodes .now) (a .atransitions .now) (a .bcodes .now) (a .btransitions .now) (p .3) (p .4)
-
-zero-rooms-requires : tie.Need-zero-rooms-requires
-zero-rooms-requires c κs = search needs
-
-zero-rooms-requires-2 : tie.Need-zero-rooms-requires-2
-zero-rooms-requires-2 c κs = search needs
-
-same-length : tie.Need-same-length
-same-length c = search needs
-
-same-length-2 : tie.Need-same-length-2
-same-length-2 c = search needs
-
-same-length-3 : tie.Need-same-length-3
-same-length-3 c = search needs
-
-same-length-4 : tie.Need-same-length-4
-same-length-4 c = search needs
-
-same-length-5 : tie.Need-same-length-5
-same-length-5 c = search needs
-
-same-length-6 : tie.Need-same-length-6
-same-length-6 c = search needs
+    let start = c .before .before .before .before .before .before .before .before .before .before .before .before in
+    let a = start .args in
+    let p = start .pre in
+    pairs-small (ruleIn (a .a .now)) (ruleIn (a .b .now)) (p .2) (a .n) (a .m) (a .al .head .initial) (a .bl .head .initial) (a .acodes .now) (a .atransitions .now) (a .bcodes .now)
+    (a .btransitions .now) (p .3) (p .4)
 
 returns : tie.Need-returns
 returns c =
-    let a = c .before .before .before .before .before .before .before .before .before .before .before .before .before .before .before .before .before .before .before .before .before .before .before .before .before .before .before .before .args in
-    let p = c .before .before .before .before .before .before .before .before .before .before .before .before .before .before .before .before .before .before .before .before .before .before .before .before .before .before .before .before .pre in
-    let z = c .before .before .before .before .before .before .before .before .before .before .before .zero-rooms in
+    let at-zero-rooms = c .before .before .before .before .before .before .before .before .before .before .before in
+    let at-if1 = at-zero-rooms .before .before .before in
+    let at-lacks-room = at-if1 .before in
+    let start = at-lacks-room .before .before .before .before .before .before .before .before .before .before .before .before .before in
+    let a = start .args in
+    let p = start .pre in
+    let z = at-zero-rooms .zero-rooms in
     let v = c .before .before .before .before .zero-rooms2 in
-    let lent : Slices = record { codes-a = a .acodes .now; transitions-a = a .atransitions .now; codes-b = a .bcodes .now; transitions-b = a .btransitions .now; word = a .word .now; scratch = a .scratch .now } in
+    let lent : Slices = record {
+      codes-a = a .acodes .now;
+      transitions-a = a .atransitions .now;
+      codes-b = a .bcodes .now;
+      transitions-b = a .btransitions .now;
+      word = a .word .now;
+      scratch =
+          a .scratch .now;
+    } in
     let left : Slices = record { codes-a = z .last .0; transitions-a = z .last .1 .0; codes-b = v .last .0; transitions-b = v .last .1 .0; word = a .word .now; scratch = a .scratch .now } in
-    by-row (ruleIn (a .a .now)) (ruleIn (a .b .now)) 29 (pairRow (ruleIn (a .a .now)) (ruleIn (a .b .now)) lent) lent (Refused 29) left (pair-short (ruleIn (a .a .now)) (ruleIn (a .b .now)) (p .2) (a .n) (a .m) (a .al .head .initial) (a .bl .head .initial) (a .acodes .now) (a .atransitions .now) (a .bcodes .now) (a .btransitions .now) (p .3) (p .4) lent _ (c .before .before .before .before .before .before .before .before .before .before .before .before .before .before .before .lacks-room .ensures) (c .before .before .before .before .before .before .before .before .before .before .before .before .before .before .if1 .taken))
+    by-row (ruleIn (a .a .now)) (ruleIn (a .b .now)) 29 (pairRow (ruleIn (a .a .now)) (ruleIn (a .b .now)) lent) lent (Refused 29) left
+    (pair-short (ruleIn (a .a .now)) (ruleIn (a .b .now)) (p .2) (a .n) (a .m) (a .al .head .initial) (a .bl .head .initial) (a .acodes .now) (a .atransitions .now) (a .bcodes .now)
+    (a .btransitions .now) (p .3) (p .4) lent _ (at-lacks-room .lacks-room .ensures) (at-if1 .if1 .taken))
     (refused-zero (ruleIn (a .a .now)) (ruleIn (a .b .now)) 29 lent left (λ z. omega arith) refl (z .ensures .0) (z .ensures .1) (v .ensures .0) (v .ensures .1) refl refl)
 
 find-word-requires : tie.Need-find-word-requires
 find-word-requires c κs =
-    let a = c .before .before .before .before .before .before .before .before .before .before .before .before .before .before .before .before .before .before .before .before .args in
-    let p = c .before .before .before .before .before .before .before .before .before .before .before .before .before .before .before .before .before .before .before .before .pre in
-    let lent : Slices = record { codes-a = a .acodes .now; transitions-a = a .atransitions .now; codes-b = a .bcodes .now; transitions-b = a .btransitions .now; word = a .word .now; scratch = a .scratch .now } in
-    let h = roomy (ruleIn (a .a .now)) (ruleIn (a .b .now)) (p .2) (a .n) (a .m) (a .al .head .initial) (a .bl .head .initial) (a .acodes .now) (a .atransitions .now) (a .bcodes .now) (a .btransitions .now) (p .3) (p .4) lent _ (c .before .before .before .before .before .before .before .lacks-room .ensures) (c .before .before .before .before .before .before .if1 .left) in
+    let at-lacks-room = c .before .before .before .before .before .before .before in
+    let start = at-lacks-room .before .before .before .before .before .before .before .before .before .before .before .before .before in
+    let a = start .args in
+    let p = start .pre in
+    let lent : Slices = record {
+      codes-a = a .acodes .now;
+      transitions-a = a .atransitions .now;
+      codes-b = a .bcodes .now;
+      transitions-b = a .btransitions .now;
+      word = a .word .now;
+      scratch =
+          a .scratch .now;
+    } in
+    let h = roomy (ruleIn (a .a .now)) (ruleIn (a .b .now)) (p .2) (a .n) (a .m) (a .al .head .initial) (a .bl .head .initial) (a .acodes .now) (a .atransitions .now) (a .bcodes .now)
+    (a .btransitions .now) (p .3) (p .4) lent _ (at-lacks-room .lacks-room .ensures) (c .before .before .before .before .before .before .if1 .left) in
     (p .0, p .1, p .2, p .3, p .4, h .0, h .1)
-
-same-length-7 : tie.Need-same-length-7
-same-length-7 c = search needs
-
-same-length-8 : tie.Need-same-length-8
-same-length-8 c = search needs
-
-same-length-9 : tie.Need-same-length-9
-same-length-9 c = search needs
-
-same-length-10 : tie.Need-same-length-10
-same-length-10 c = search needs
-
-same-length-11 : tie.Need-same-length-11
-same-length-11 c = search needs
-
-same-length-12 : tie.Need-same-length-12
-same-length-12 c = search needs
 
 returns-2 : tie.Need-returns-2
 returns-2 c =
-    let a = c .before .before .before .before .before .before .before .before .before .before .before .before .before .before .before .before .before .before .before .before .before .before .before .before .before .before .before .before .before .before .before .before .before .args in
-    let p = c .before .before .before .before .before .before .before .before .before .before .before .before .before .before .before .before .before .before .before .before .before .before .before .before .before .before .before .before .before .before .before .before .before .pre in
-    let f = c .before .before .before .before .before .before .before .before .before .before .before .before .find-word in
-    let lent : Slices = record { codes-a = a .acodes .now; transitions-a = a .atransitions .now; codes-b = a .bcodes .now; transitions-b = a .btransitions .now; word = a .word .now; scratch = a .scratch .now } in
-    let left : Slices = record { codes-a = f .last .1 .1 .1 .1 .1 .1 .0; transitions-a = f .last .1 .1 .1 .1 .1 .1 .1 .0; codes-b = f .last .1 .1 .1 .1 .1 .1 .1 .1 .0; transitions-b = f .last .1 .1 .1 .1 .1 .1 .1 .1 .1 .0; word = f .last .1 .1 .1 .1 .1 .1 .1 .1 .1 .1 .0; scratch = f .last .1 .1 .1 .1 .1 .1 .1 .1 .1 .1 .1 .0 } in
-    by-row (ruleIn (a .a .now)) (ruleIn (a .b .now)) 0 (pairRow (ruleIn (a .a .now)) (ruleIn (a .b .now)) lent) lent (f .result) left (pair-room (ruleIn (a .a .now)) (ruleIn (a .b .now)) (p .2) (a .n) (a .m) (a .al .head .initial) (a .bl .head .initial) (a .acodes .now) (a .atransitions .now) (a .bcodes .now) (a .btransitions .now) (p .3) (p .4) lent _ (c .before .before .before .before .before .before .before .before .before .before .before .before .before .before .before .before .before .before .before .before .lacks-room .ensures) (c .before .before .before .before .before .before .before .before .before .before .before .before .before .before .before .before .before .before .before .if1 .left)) (f .ensures)
+    let at-find-word = c .before .before .before .before .before .before .before .before .before .before .before .before in
+    let at-if1 = at-find-word .before .before .before .before .before .before .before in
+    let at-lacks-room = at-if1 .before in
+    let start = at-lacks-room .before .before .before .before .before .before .before .before .before .before .before .before .before in
+    let a = start .args in
+    let p = start .pre in
+    let f = at-find-word .find-word in
+    let lent : Slices = record {
+      codes-a = a .acodes .now;
+      transitions-a = a .atransitions .now;
+      codes-b = a .bcodes .now;
+      transitions-b = a .btransitions .now;
+      word = a .word .now;
+      scratch =
+          a .scratch .now;
+    } in
+    let left : Slices = record {
+      codes-a = f .last .1 .1 .1 .1 .1 .1 .0;
+      transitions-a = f .last .1 .1 .1 .1 .1 .1 .1 .0;
+      codes-b = f .last .1 .1 .1 .1 .1 .1 .1 .1 .0;
+      transitions-b =
+          f .last .1 .1 .1 .1 .1 .1 .1 .1 .1 .0;
+      word = f .last .1 .1 .1 .1 .1 .1 .1 .1 .1 .1 .0;
+      scratch = f .last .1 .1 .1 .1 .1 .1 .1 .1 .1 .1 .1 .0;
+    } in
+    by-row (ruleIn (a .a .now)) (ruleIn (a .b .now)) 0 (pairRow (ruleIn (a .a .now)) (ruleIn (a .b .now)) lent) lent (f .result) left
+    (pair-room (ruleIn (a .a .now)) (ruleIn (a .b .now)) (p .2) (a .n) (a .m) (a .al .head .initial) (a .bl .head .initial) (a .acodes .now) (a .atransitions .now) (a .bcodes .now)
+    (a .btransitions .now) (p .3) (p .4) lent _ (at-lacks-room .lacks-room .ensures) (at-if1 .if1 .left)) (f .ensures)
 
 pub search-tables-spec : {M : Type 1} → statement M
 search-tables-spec =
-    tie.close
-    (tie.spec
-    mul-pairs
-    lacks-room-requires
-    zero-rooms-requires
-    zero-rooms-requires-2
-    same-length
-    same-length-2
-    same-length-3
-    same-length-4
-    same-length-5
-    same-length-6
-    returns
-    find-word-requires
-    same-length-7
-    same-length-8
-    same-length-9
-    same-length-10
-    same-length-11
-    same-length-12
-    returns-2)
+    tie.close (tie.spec
+    mul-pairs lacks-room-requires (λ c κs. search needs) (λ c κs. search needs) (λ c. search needs) (λ c. search needs) (λ c. search needs) (λ c. search needs)
+    (λ c. search needs) (λ c. search needs) returns find-word-requires (λ c. search needs) (λ c. search needs) (λ c. search needs) (λ c. search needs)
+    (λ c. search needs) (λ c. search needs) returns-2)

@@ -75,7 +75,8 @@ loop-again c =
     let l = at-loop after-least .loop in
     let a = start after-least .args in (
       omega arith,
-      one-more (λ p. getD (a .marks .now) (ontoOf (getD (a .left .now) p 0) * a .nb + ontoOf (a .u)) 0 < needed (a .ask .other) (sparing (cond (a .ask .second) (a .u) (getD (a .left .now) p 0)) (a .ask .k)))
+      one-more (λ p. getD (a .marks .now) (ontoOf (getD (a .left .now) p 0) * a .nb + ontoOf (a .u)) 0 < needed (a .ask .other)
+          (sparing (cond (a .ask .second) (a .u) (getD (a .left .now) p 0)) (a .ask .k)))
           (a .from) (l .c) (l .inv .1) (rw (← node after-least, ← least after-least) (omega arith)),
     )
 
@@ -84,7 +85,6 @@ returns-2 c = record { yes = λ r. absurd (false≢true r); no = λ r p f u. c .
 
 pub has-marked-spec : {M : Type 1} → statement M
 has-marked-spec =
-    tie.close
-    (tie.spec Inv-loop μ-loop (λ c κs. search needs) (λ c. (omega arith, λ p f l. absurd (omega arith))) (λ c. search needs) (λ c. search needs)
-    (λ c κs. search needs) mul-y add-y (λ c κs. search needs) (λ c κs. search needs) shared-slice-read-if1 returns (λ c. search needs) (λ c. search needs)
-    loop-again returns-2)
+    tie.close (tie.spec
+    Inv-loop μ-loop (λ c κs. search needs) (λ c. (omega arith, λ p f l. absurd (omega arith))) (λ c. search needs) (λ c. search needs) (λ c κs. search needs)
+    mul-y add-y (λ c κs. search needs) (λ c κs. search needs) shared-slice-read-if1 returns (λ c. search needs) (λ c. search needs) loop-again returns-2)

@@ -82,7 +82,8 @@ returns c = ended (c .before .before .before .before) (λ h e. omega (arith, c .
 
 has-marked-requires : tie.Need-has-marked-requires Inv-loop μ-loop
 has-marked-requires c κs =
-    let at-loop = c .before .before .before .before .before .before .before in
+    let earlier = c .before .before .before .before .before .before .before in
+    let at-loop = earlier in
     let p = start at-loop .pre in
     let m = mem-at (start at-loop .args .right .now) (at-loop .loop .p) (omega arith) in
     let fit = p .0 .0 .1 in
@@ -117,7 +118,7 @@ returns-3 c = ended (c .before) (λ h. absurd (omega arith))
 
 pub leads-spec : {M : Type 1} → statement M
 leads-spec =
-    tie.close
-    (tie.spec Inv-loop μ-loop (λ c. search needs) (λ c κs. c .before .before .before .pre .0 .0 .1 .ascend-B) loop-holds (λ c. search needs) (λ c. search needs)
+    tie.close (tie.spec
+    Inv-loop μ-loop (λ c. search needs) (λ c κs. c .before .before .before .pre .0 .0 .1 .ascend-B) loop-holds (λ c. search needs) (λ c. search needs)
     (λ c κs. search needs) returns (λ c κs. search needs) (λ c. search needs) element-copy-out-has-marked (λ c. search needs) (λ c. search needs)
     element-copy-out-has-marked-2 has-marked-requires returns-2 (λ c. search needs) (λ c. search needs) loop-again returns-3)

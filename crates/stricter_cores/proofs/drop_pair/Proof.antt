@@ -20,23 +20,8 @@ leads-requires c κs =
       (λ b l. omega (arith, cut-le (untagged (a .left .now)) (r .fits .ascend-A) (a .i) (a .cuts .now) (p .1) b l, untagged-long (a .left .now)), r .rows),
     )
 
-same-length : tie.Need-same-length
-same-length c = search needs
-
 returns : tie.Need-returns
 returns c = let a = c .before .before .before .before .before .before .args in thinned-start (CoreStep (a .nb) (a .left .now) (a .right .now)) (a .marks .now)
-
-mul-marks : tie.Need-mul-marks
-mul-marks c = search needs
-
-add-marks : tie.Need-add-marks
-add-marks c = search needs
-
-slice-write-marks : tie.Need-slice-write-marks
-slice-write-marks c = search needs
-
-same-length-2 : tie.Need-same-length-2
-same-length-2 c = search needs
 
 returns-2 : tie.Need-returns-2
 returns-2 c =
@@ -47,13 +32,5 @@ returns-2 c =
 
 pub drop-pair-spec : {M : Type 1} → statement M
 drop-pair-spec =
-    tie.close
-    (tie.spec
-    leads-requires
-    same-length
-    returns
-    mul-marks
-    add-marks
-    slice-write-marks
-    same-length-2
-    returns-2)
+    tie.close (tie.spec
+    leads-requires (λ c. search needs) returns (λ c. search needs) (λ c. search needs) (λ c. search needs) (λ c. search needs) returns-2)

@@ -18,20 +18,11 @@ Inv-loop left cuts right nb i from marks₀ row end x₀ marks x =
 abbrev μ-loop : tie.MeasureT-loop
 μ-loop left cuts right nb i from marks₀ row end x₀ marks x = end - x
 
-mul-row : tie.Need-mul-row Inv-loop μ-loop
-mul-row c = search needs
-
-add-end : tie.Need-add-end Inv-loop μ-loop
-add-end c = search needs
-
 loop-holds : tie.Need-loop-holds Inv-loop μ-loop
 loop-holds c =
     let a = c .before .before .before .args in
     let p = c .before .before .before .pre in
     (refl, refl, p .3, p .4, thinned-start (CoreStep (a .nb) (a .left .now) (a .right .now)) (a .marks .now))
-
-sub-drop-pair : tie.Need-sub-drop-pair Inv-loop μ-loop
-sub-drop-pair c = search needs
 
 drop-pair-requires : tie.Need-drop-pair-requires Inv-loop μ-loop
 drop-pair-requires c κs =
@@ -46,21 +37,21 @@ drop-pair-requires c κs =
       omega (arith, l .inv .0, l .inv .1, l .inv .2, p .5, long),
     )
 
-add-next-set : tie.Need-add-next-set Inv-loop μ-loop
-add-next-set c = search needs
-
 next-set-requires : tie.Need-next-set-requires Inv-loop μ-loop
 next-set-requires c κs =
+    let start = c .before .before .before .before .before .before .before .before .before .before in
     let l = c .before .before .before .before .before .before .loop in
-    (omega arith, omega (arith, l .inv .1, c .before .before .before .drop-pair .ensures .long ∙ l .inv .4 .long, c .before .before .before .before .before .before .before .before .before .before .pre .5))
+    (omega arith, omega (arith, l .inv .1, c .before .before .before .drop-pair .ensures .long ∙ l .inv .4 .long, start .pre .5))
 
 loop-less : tie.Need-loop-less Inv-loop μ-loop
 loop-less c = omega (arith, c .next-set .ensures .before .ordered)
 
 loop-again : tie.Need-loop-again Inv-loop μ-loop
 loop-again c =
-    let a = c .before .before .before .before .before .before .before .before .before .before .before .args in
-    let l = c .before .before .before .before .before .before .before .loop in
+    let at-loop = c .before .before .before .before .before .before .before in
+    let start = at-loop .before .before .before .before in
+    let a = start .args in
+    let l = at-loop .loop in
     let s = c .next-set .ensures in (
       l .inv .0,
       l .inv .1,
@@ -69,26 +60,8 @@ loop-again c =
       thinned-then (CoreStep (a .nb) (a .left .now) (a .right .now)) (a .marks .now) (l .marks) _ (l .inv .4) (c .before .before .before .before .drop-pair .ensures),
     )
 
-same-length : tie.Need-same-length Inv-loop μ-loop
-same-length c = c .before .loop .inv .4 .long
-
-returns : tie.Need-returns Inv-loop μ-loop
-returns c = c .before .loop .inv .4
-
 pub drop-row-spec : {M : Type 1} → statement M
 drop-row-spec =
-    tie.close
-    (tie.spec
-    Inv-loop
-    μ-loop
-    mul-row
-    add-end
-    loop-holds
-    sub-drop-pair
-    drop-pair-requires
-    add-next-set
-    next-set-requires
-    loop-less
-    loop-again
-    same-length
-    returns)
+    tie.close (tie.spec
+    Inv-loop μ-loop (λ c. search needs) (λ c. search needs) loop-holds (λ c. search needs) drop-pair-requires (λ c. search needs) next-set-requires loop-less
+    loop-again (λ c. c .before .loop .inv .4 .long) (λ c. c .before .loop .inv .4))

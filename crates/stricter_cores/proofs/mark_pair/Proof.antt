@@ -15,15 +15,6 @@ use Rattle.stricter_cores_laws.proofs.Tries.{tried-stays, tried-marks}
 use Rattle.stricter_cores.proofs.mark_pair.Statement.{statement}
 use Rattle.stricter_cores.proofs.mark_pair.Tie as tie
 
-mul-x : tie.Need-mul-x
-mul-x c = search needs
-
-add-x : tie.Need-add-x
-add-x c = search needs
-
-slice-read-if1 : tie.Need-slice-read-if1
-slice-read-if1 c = search needs
-
 returns : tie.Need-returns
 returns c =
     let a = c .before .before .before .before .before .args in
@@ -38,9 +29,6 @@ leads-requires c κs =
       ((p .0 .0, r .fits), p .3, p .4, omega (arith, p .5)),
       (λ b l. omega (arith, cut-le (untagged (a .left .now)) (r .fits .ascend-A) (a .i) (a .cuts .now) (p .1) b l, untagged-long (a .left .now)), r .rows),
     )
-
-same-length : tie.Need-same-length
-same-length c = search needs
 
 -- what the call of `leads` told of the pair
 module _ (c : tie.After-leads) where
@@ -58,15 +46,10 @@ module _ (c : tie.After-leads) where
 
 returns-2 : tie.Need-returns-2
 returns-2 c =
-    let a = c .before .before .before .before .before .before .before .before .args in
+    let start = c .before .before .before .before .before .before .before .before in
+    let a = start .args in
     tried-stays (CoreStep (a .nb) (a .left .now) (a .right .now)) (SparedStep (a .nb) (a .left .now) (a .right .now) (a .ask .second) (a .ask .k)) (a .i * a .nb + a .j) (a .marks .now)
     (λ h. told (c .before) .no (not-t _ (c .if2 .taken)))
-
-slice-write-marks : tie.Need-slice-write-marks
-slice-write-marks c = search needs
-
-same-length-2 : tie.Need-same-length-2
-same-length-2 c = search needs
 
 returns-3 : tie.Need-returns-3
 returns-3 c =
@@ -78,15 +61,6 @@ returns-3 c =
 
 pub mark-pair-spec : {M : Type 1} → statement M
 mark-pair-spec =
-    tie.close
-    (tie.spec
-    mul-x
-    add-x
-    slice-read-if1
-    returns
-    leads-requires
-    same-length
-    returns-2
-    slice-write-marks
-    same-length-2
+    tie.close (tie.spec
+    (λ c. search needs) (λ c. search needs) (λ c. search needs) returns leads-requires (λ c. search needs) returns-2 (λ c. search needs) (λ c. search needs)
     returns-3)

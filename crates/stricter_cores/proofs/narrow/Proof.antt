@@ -48,4 +48,6 @@ returns c =
     )
 
 pub narrow-spec : {M : Type 1} → statement M
-narrow-spec = tie.close (tie.spec (λ c κs. let p = c .before .before .before .before .before .pre in record { fits = p .0 .0; rows = p .1 }) passes-requires (λ c. search needs) returns)
+narrow-spec =
+    tie.close (tie.spec
+    (λ c κs. let p = c .before .before .before .before .before .pre in record { fits = p .0 .0; rows = p .1 }) passes-requires (λ c. search needs) returns)

@@ -16,8 +16,9 @@ rounds-requires c κs = let p = c .before .before .before .before .before .pre i
 
 rounds-requires-2 : tie.Need-rounds-requires-2
 rounds-requires-2 c κs =
-    let a = c .before .before .before .before .before .before .before .before .before .args in
-    let p = c .before .before .before .before .before .before .before .before .before .pre in
+    let start = c .before .before .before .before .before .before .before .before .before in
+    let a = start .args in
+    let p = start .pre in
     let n = c .before .before .before .rounds .ensures (λ s. cond s (a .bcount) (a .acount)) (omega arith) .narrowed in (
       ready-same (length (a .acodes .now)) (a .nb) _ _ (a .marks .now) _ (n .long) (p .0),
       only-sub (a .acodes .now) (a .nb) (a .marks .now) (c .before .before .before .rounds .last .1 .1 .1 .1 .1 .1 .0) (n .sub) (p .1),
@@ -25,27 +26,27 @@ rounds-requires-2 c κs =
       p .4,
     )
 
-same-length : tie.Need-same-length
-same-length c = search needs
-
 returns : tie.Need-returns
 returns c =
-    let a = c .before .before .before .before .before .before .before .before .before .before .before .before .before .args in
-    pass-of (CoreStep (a .nb) (a .left .now) (a .right .now)) (SparedStep (a .nb) (a .left .now) (a .right .now)) (λ s. cond s (a .bcount) (a .acount)) (a .marks .now) _ _ (c .before .before .before .before .before .before .before .rounds .result) (c .before .before .before .rounds2 .result) true
-    (c .before .before .before .before .before .before .before .rounds .ensures (λ s. cond s (a .bcount) (a .acount)) (omega arith)) (c .before .before .before .rounds2 .ensures (λ s. cond s (a .bcount) (a .acount)) (omega arith))
-    (sym (or-l (c .before .before .before .before .before .before .before .rounds .result) (c .before .before .before .rounds2 .result) (c .if1 .taken)))
-
-same-length-2 : tie.Need-same-length-2
-same-length-2 c = search needs
+    let at-rounds2 = c .before .before .before in
+    let at-rounds = at-rounds2 .before .before .before .before in
+    let start = at-rounds .before .before .before .before .before .before in
+    let a = start .args in
+    pass-of (CoreStep (a .nb) (a .left .now) (a .right .now)) (SparedStep (a .nb) (a .left .now) (a .right .now)) (λ s. cond s (a .bcount) (a .acount)) (a .marks .now) _ _ (at-rounds .rounds .result)
+    (at-rounds2 .rounds2 .result) true
+    (at-rounds .rounds .ensures (λ s. cond s (a .bcount) (a .acount)) (omega arith)) (at-rounds2 .rounds2 .ensures (λ s. cond s (a .bcount) (a .acount)) (omega arith))
+    (sym (or-l (at-rounds .rounds .result) (at-rounds2 .rounds2 .result) (c .if1 .taken)))
 
 returns-2 : tie.Need-returns-2
 returns-2 c =
-    let a = c .before .before .before .before .before .before .before .before .before .before .before .before .before .args in
-    let e : c .before .before .before .rounds2 .result ≡ (c .before .before .before .before .before .before .before .rounds .result || c .before .before .before .rounds2 .result) = rw (c .if1 .left) in
-    pass-of (CoreStep (a .nb) (a .left .now) (a .right .now)) (SparedStep (a .nb) (a .left .now) (a .right .now)) (λ s. cond s (a .bcount) (a .acount)) (a .marks .now) _ _ (c .before .before .before .before .before .before .before .rounds .result) (c .before .before .before .rounds2 .result) (c .before .before .before .rounds2 .result)
-    (c .before .before .before .before .before .before .before .rounds .ensures (λ s. cond s (a .bcount) (a .acount)) (omega arith)) (c .before .before .before .rounds2 .ensures (λ s. cond s (a .bcount) (a .acount)) (omega arith)) e
+    let at-rounds2 = c .before .before .before in
+    let at-rounds = at-rounds2 .before .before .before .before in
+    let start = at-rounds .before .before .before .before .before .before in
+    let a = start .args in
+    let e : at-rounds2 .rounds2 .result ≡ (at-rounds .rounds .result || at-rounds2 .rounds2 .result) = rw (c .if1 .left) in
+    pass-of (CoreStep (a .nb) (a .left .now) (a .right .now)) (SparedStep (a .nb) (a .left .now) (a .right .now)) (λ s. cond s (a .bcount) (a .acount)) (a .marks .now) _ _ (at-rounds .rounds .result)
+    (at-rounds2 .rounds2 .result) (at-rounds2 .rounds2 .result)
+    (at-rounds .rounds .ensures (λ s. cond s (a .bcount) (a .acount)) (omega arith)) (at-rounds2 .rounds2 .ensures (λ s. cond s (a .bcount) (a .acount)) (omega arith)) e
 
 pub pass-spec : {M : Type 1} → statement M
-pass-spec =
-    tie.close
-    (tie.spec rounds-requires rounds-requires-2 same-length returns same-length-2 returns-2)
+pass-spec = tie.close (tie.spec rounds-requires rounds-requires-2 (λ c. search needs) returns (λ c. search needs) returns-2)

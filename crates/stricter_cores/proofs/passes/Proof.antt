@@ -19,7 +19,8 @@ abbrev μ-loop : tie.MeasureT-loop
 loop-holds : tie.Need-loop-holds Inv-loop μ-loop
 loop-holds c =
     let a = c .before .before .before .before .args in
-    narrowed-start (CoreStep (a .nb) (a .left .now) (a .right .now)) (SparedStep (a .nb) (a .left .now) (a .right .now)) (λ s. cond s (a .bcount) (a .acount)) (a .marks .now) (c .before .before .before .before .pre .2)
+    narrowed-start (CoreStep (a .nb) (a .left .now) (a .right .now)) (SparedStep (a .nb) (a .left .now) (a .right .now)) (λ s. cond s (a .bcount) (a .acount)) (a .marks .now)
+    (c .before .before .before .before .pre .2)
 
 pass-requires : tie.Need-pass-requires Inv-loop μ-loop
 pass-requires c κs =
@@ -36,12 +37,17 @@ pass-requires c κs =
 loop-less : tie.Need-loop-less Inv-loop μ-loop
 loop-less c = c .before .before .before .pass .ensures .less (c .if1 .taken)
 
+abbrev start-of-after-pass : tie.After-pass Inv-loop μ-loop → tie.Start Inv-loop μ-loop
+start-of-after-pass c = c .before .before .before .before .before .before .before
+
 -- the passes so far and one more
-more : (c : tie.After-pass Inv-loop μ-loop)
-    → Narrowed (CoreStep (c .before .before .before .before .before .before .before .args .nb) (c .before .before .before .before .before .before .before .args .left .now) (c .before .before .before .before .before .before .before .args .right .now)) (SparedStep (c .before .before .before .before .before .before .before .args .nb) (c .before .before .before .before .before .before .before .args .left .now) (c .before .before .before .before .before .before .before .args .right .now)) (λ s. cond s (c .before .before .before .before .before .before .before .args .bcount) (c .before .before .before .before .before .before .before .args .acount)) (c .before .before .before .before .before .before .before .args .marks .now) (c .pass .last .1 .1 .1 .1 .1 .1 .0)
+more : (c : tie.After-pass Inv-loop μ-loop) → Narrowed (CoreStep (start-of-after-pass c .args .nb) (start-of-after-pass c .args .left .now) (start-of-after-pass c .args .right .now))
+    (SparedStep (start-of-after-pass c .args .nb) (start-of-after-pass c .args .left .now) (start-of-after-pass c .args .right .now))
+    (λ s. cond s (start-of-after-pass c .args .bcount) (start-of-after-pass c .args .acount)) (start-of-after-pass c .args .marks .now) (c .pass .last .1 .1 .1 .1 .1 .1 .0)
 more c =
-    let a = c .before .before .before .before .before .before .before .args in
-    narrowed-then (CoreStep (a .nb) (a .left .now) (a .right .now)) (SparedStep (a .nb) (a .left .now) (a .right .now)) (λ s. cond s (a .bcount) (a .acount)) (a .marks .now) (c .before .before .loop .marks) _
+    let a = start-of-after-pass c .args in
+    narrowed-then (CoreStep (a .nb) (a .left .now) (a .right .now)) (SparedStep (a .nb) (a .left .now) (a .right .now)) (λ s. cond s (a .bcount) (a .acount)) (a .marks .now)
+    (c .before .before .loop .marks) _
     (c .before .before .loop .inv) (c .pass .ensures .narrowed)
 
 loop-again : tie.Need-loop-again Inv-loop μ-loop
@@ -54,6 +60,4 @@ returns : tie.Need-returns Inv-loop μ-loop
 returns c = (more (c .before .before .before), c .before .before .before .pass .ensures .sound (c .if1 .left))
 
 pub passes-spec : {M : Type 1} → statement M
-passes-spec =
-    tie.close
-    (tie.spec Inv-loop μ-loop loop-holds pass-requires loop-less loop-again same-length returns)
+passes-spec = tie.close (tie.spec Inv-loop μ-loop loop-holds pass-requires loop-less loop-again same-length returns)

@@ -11,29 +11,29 @@ use Rattle.stricter_cores_laws.proofs.Settling.{round-of}
 use Rattle.stricter_cores.proofs.round.Statement.{statement}
 use Rattle.stricter_cores.proofs.round.Tie as tie
 
-sweep-out-requires : tie.Need-sweep-out-requires
-sweep-out-requires c κs = search needs
-
 settle-requires : tie.Need-settle-requires
 settle-requires c κs =
-    let a = c .before .before .before .before .before .before .before .before .before .args in
-    let p = c .before .before .before .before .before .before .before .before .before .pre in
+    let start = c .before .before .before .before .before .before .before .before .before in
+    let a = start .args in
+    let p = start .pre in
     let m = c .before .before .before .sweep-out .ensures .marking in (
       m .long ∙ p .0 .fits .marked,
-      only-sub (a .acodes .now) (a .nb) (a .marks .now) (c .before .before .before .sweep-out .last .1 .1 .1 .1 .1 .0) (marking-sub (CoreStep (a .nb) (a .left .now) (a .right .now)) (SparedStep (a .nb) (a .left .now) (a .right .now) (a .ask .second) (a .ask .k)) (a .marks .now) _ (p .2) m) (p .1),
+      only-sub (a .acodes .now) (a .nb) (a .marks .now) (c .before .before .before .sweep-out .last .1 .1 .1 .1 .1 .0)
+          (marking-sub (CoreStep (a .nb) (a .left .now) (a .right .now)) (SparedStep (a .nb) (a .left .now) (a .right .now) (a .ask .second) (a .ask .k)) (a .marks .now) _ (p .2) m) (p .1),
     )
-
-same-length : tie.Need-same-length
-same-length c = search needs
 
 returns : tie.Need-returns
 returns c =
-    let a = c .before .before .before .before .before .before .before .before .before .before .before .before .args in
-    let p = c .before .before .before .before .before .before .before .before .before .before .before .before .pre in
-    let w = c .before .before .before .before .before .before .sweep-out .ensures in
-    let e : length (a .acodes .now) * a .nb ≡ length (c .before .before .before .before .before .before .sweep-out .last .1 .1 .1 .1 .1 .0) = sym (w .marking .long ∙ p .0 .fits .marked) in
-    round-of (CoreStep (a .nb) (a .left .now) (a .right .now)) (SparedStep (a .nb) (a .left .now) (a .right .now) (a .ask .second) (a .ask .k)) (a .marks .now) (c .before .before .before .before .before .before .sweep-out .last .1 .1 .1 .1 .1 .0) _ _ (p .2) w
-    (subst (λ (n : ℕ). Settled 0 n (c .before .before .before .before .before .before .sweep-out .last .1 .1 .1 .1 .1 .0) (c .before .before .settle .last .1 .1 .0) (c .before .before .settle .result)) e (c .before .before .settle .ensures))
+    let at-sweep-out = c .before .before .before .before .before .before in
+    let start = at-sweep-out .before .before .before .before .before .before in
+    let a = start .args in
+    let p = start .pre in
+    let w = at-sweep-out .sweep-out .ensures in
+    let e : length (a .acodes .now) * a .nb ≡ length (at-sweep-out .sweep-out .last .1 .1 .1 .1 .1 .0) = sym (w .marking .long ∙ p .0 .fits .marked) in
+    round-of (CoreStep (a .nb) (a .left .now) (a .right .now)) (SparedStep (a .nb) (a .left .now) (a .right .now) (a .ask .second) (a .ask .k)) (a .marks .now)
+    (at-sweep-out .sweep-out .last .1 .1 .1 .1 .1 .0) _ _ (p .2) w
+    (subst (λ (n : ℕ). Settled 0 n (at-sweep-out .sweep-out .last .1 .1 .1 .1 .1 .0) (c .before .before .settle .last .1 .1 .0) (c .before .before .settle .result)) e
+    (c .before .before .settle .ensures))
 
 pub round-spec : {M : Type 1} → statement M
-round-spec = tie.close (tie.spec sweep-out-requires settle-requires same-length returns)
+round-spec = tie.close (tie.spec (λ c κs. search needs) settle-requires (λ c. search needs) returns)

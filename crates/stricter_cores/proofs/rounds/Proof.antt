@@ -23,21 +23,23 @@ abbrev μ-loop : tie.MeasureT-loop
 
 loop-holds : tie.Need-loop-holds Inv-loop μ-loop
 loop-holds c =
-    let a = c .before .before .before .before .args in
-    (omega arith, λ n l. side-start (CoreStep (a .nb) (a .left .now) (a .right .now)) (SparedStep (a .nb) (a .left .now) (a .right .now)) n (a .second) (a .marks .now) (c .before .before .before .before .pre .2))
+    let a = c .before .before .before .before .args in (
+      omega arith,
+      λ n l. side-start (CoreStep (a .nb) (a .left .now) (a .right .now)) (SparedStep (a .nb) (a .left .now) (a .right .now)) n (a .second) (a .marks .now)
+          (c .before .before .before .before .pre .2),
+    )
 
 cast-c : tie.Need-cast-c Inv-loop μ-loop
 cast-c c = omega (arith, c .before .before .before .before .before .before .pre .3)
 
-add-k : tie.Need-add-k Inv-loop μ-loop
-add-k c = search needs
-
 round-requires : tie.Need-round-requires Inv-loop μ-loop
 round-requires c κs =
-    let a = c .before .before .before .before .before .before .before .args in
-    let p = c .before .before .before .before .before .before .before .pre in
+    let start = c .before .before .before .before .before .before .before in
+    let a = start .args in
+    let p = start .pre in
     let l = c .before .before .loop in
-    let n : Narrowed (CoreStep (a .nb) (a .left .now) (a .right .now)) (SparedStep (a .nb) (a .left .now) (a .right .now)) (λ s. a .count) (a .marks .now) (l .marks) = l .inv .1 (λ s. a .count) (omega arith) .narrowed in (
+    let n : Narrowed (CoreStep (a .nb) (a .left .now) (a .right .now)) (SparedStep (a .nb) (a .left .now) (a .right .now)) (λ s. a .count) (a .marks .now) (l .marks) =
+    l .inv .1 (λ s. a .count) (omega arith) .narrowed in (
       ready-same (length (a .acodes .now)) (a .nb) _ _ (a .marks .now) (l .marks) (n .long) (p .0),
       only-sub (a .acodes .now) (a .nb) (a .marks .now) (l .marks) (n .sub) (p .1),
       n .low,
@@ -45,26 +47,24 @@ round-requires c κs =
       refl,
     )
 
-loop-less : tie.Need-loop-less Inv-loop μ-loop
-loop-less c = search needs
-
 loop-again : tie.Need-loop-again Inv-loop μ-loop
 loop-again c =
-    let a = c .before .before .before .before .before .before .before .before .before .before .before .args in
+    let start = c .before .before .before .before .before .before .before .before .before .before .before in
+    let a = start .args in
     let l = c .before .before .before .before .before .before .loop in (
       omega arith,
-      λ n h. side-next (CoreStep (a .nb) (a .left .now) (a .right .now)) (SparedStep (a .nb) (a .left .now) (a .right .now)) n (a .second) (l .k) (a .marks .now) (l .marks) _ (l .changed) _ true (omega arith) (l .inv .1 n h) (c .before .before .before .round .ensures) (or-now (l .changed) _ (c .if1 .taken)),
+      λ n h. side-next (CoreStep (a .nb) (a .left .now) (a .right .now)) (SparedStep (a .nb) (a .left .now) (a .right .now)) n (a .second) (l .k) (a .marks .now) (l .marks) _ (l .changed) _ true
+          (omega arith) (l .inv .1 n h) (c .before .before .before .round .ensures) (or-now (l .changed) _ (c .if1 .taken)),
     )
-
-loop-less-2 : tie.Need-loop-less-2 Inv-loop μ-loop
-loop-less-2 c = search needs
 
 loop-again-2 : tie.Need-loop-again-2 Inv-loop μ-loop
 loop-again-2 c =
-    let a = c .before .before .before .before .before .before .before .before .before .before .before .args in
+    let start = c .before .before .before .before .before .before .before .before .before .before .before in
+    let a = start .args in
     let l = c .before .before .before .before .before .before .loop in (
       omega arith,
-      λ n h. side-next (CoreStep (a .nb) (a .left .now) (a .right .now)) (SparedStep (a .nb) (a .left .now) (a .right .now)) n (a .second) (l .k) (a .marks .now) (l .marks) _ (l .changed) _ (l .changed) (omega arith) (l .inv .1 n h) (c .before .before .before .round .ensures) (or-before (l .changed) _ (c .if1 .left)),
+      λ n h. side-next (CoreStep (a .nb) (a .left .now) (a .right .now)) (SparedStep (a .nb) (a .left .now) (a .right .now)) n (a .second) (l .k) (a .marks .now) (l .marks) _ (l .changed) _
+          (l .changed) (omega arith) (l .inv .1 n h) (c .before .before .before .round .ensures) (or-before (l .changed) _ (c .if1 .left)),
     )
 
 same-length : tie.Need-same-length Inv-loop μ-loop
@@ -75,17 +75,5 @@ returns c = let e : c .before .loop .k ≡ c .before .before .before .before .be
 
 pub rounds-spec : {M : Type 1} → statement M
 rounds-spec =
-    tie.close
-    (tie.spec
-    Inv-loop
-    μ-loop
-    loop-holds
-    cast-c
-    add-k
-    round-requires
-    loop-less
-    loop-again
-    loop-less-2
-    loop-again-2
-    same-length
-    returns)
+    tie.close (tie.spec
+    Inv-loop μ-loop loop-holds cast-c (λ c. search needs) round-requires (λ c. search needs) loop-again (λ c. search needs) loop-again-2 same-length returns)

@@ -23,9 +23,6 @@ abbrev μ-loop : tie.MeasureT-loop
 loop-holds : tie.Need-loop-holds Inv-loop μ-loop
 loop-holds c = (omega arith, rw (zero-mul (c .before .before .args .nb)) (settled-start 0 (c .before .before .args .marks .now)))
 
-add-i : tie.Need-add-i Inv-loop μ-loop
-add-i c = search needs
-
 settle-row-requires : tie.Need-settle-row-requires Inv-loop μ-loop
 settle-row-requires c κs =
     let a = c .before .before .before .before .before .args in
@@ -33,44 +30,29 @@ settle-row-requires c κs =
     let l = c .before .before .loop in
     (l .inv .1 .long ∙ p .0, only-sub (a .acodes .now) (a .nb) (a .marks .now) (l .marks) (settled-sub 0 (l .i * a .nb) (a .marks .now) (l .marks) (l .changed) (l .inv .1)) (p .1), omega arith)
 
-loop-less : tie.Need-loop-less Inv-loop μ-loop
-loop-less c = search needs
-
 loop-again : tie.Need-loop-again Inv-loop μ-loop
 loop-again c =
-    let a = c .before .before .before .before .before .before .before .before .before .args in
+    let start = c .before .before .before .before .before .before .before .before .before in
+    let a = start .args in
     let l = c .before .before .before .before .before .before .loop in
-    let step = settled-then 0 (l .i * a .nb) (l .i * a .nb + a .nb) (a .marks .now) (l .marks) _ (l .changed) _ true (omega arith) (omega arith) (l .inv .1) (c .before .before .before .settle-row .ensures) (or-now (l .changed) _ (c .if1 .taken)) in
+    let step = settled-then 0 (l .i * a .nb) (l .i * a .nb + a .nb) (a .marks .now) (l .marks) _ (l .changed) _ true (omega arith) (omega arith) (l .inv .1)
+    (c .before .before .before .settle-row .ensures) (or-now (l .changed) _ (c .if1 .taken)) in
     (omega arith, rw (add-one (l .i), suc-mul (l .i) (a .nb)) step)
-
-loop-less-2 : tie.Need-loop-less-2 Inv-loop μ-loop
-loop-less-2 c = search needs
 
 loop-again-2 : tie.Need-loop-again-2 Inv-loop μ-loop
 loop-again-2 c =
-    let a = c .before .before .before .before .before .before .before .before .before .args in
+    let start = c .before .before .before .before .before .before .before .before .before in
+    let a = start .args in
     let l = c .before .before .before .before .before .before .loop in
-    let step = settled-then 0 (l .i * a .nb) (l .i * a .nb + a .nb) (a .marks .now) (l .marks) _ (l .changed) _ (l .changed) (omega arith) (omega arith) (l .inv .1) (c .before .before .before .settle-row .ensures) (or-before (l .changed) _ (c .if1 .left)) in
+    let step = settled-then 0 (l .i * a .nb) (l .i * a .nb + a .nb) (a .marks .now) (l .marks) _ (l .changed) _ (l .changed) (omega arith) (omega arith) (l .inv .1)
+    (c .before .before .before .settle-row .ensures) (or-before (l .changed) _ (c .if1 .left)) in
     (omega arith, rw (add-one (l .i), suc-mul (l .i) (a .nb)) step)
-
-same-length : tie.Need-same-length Inv-loop μ-loop
-same-length c = c .before .loop .inv .1 .long
 
 returns : tie.Need-returns Inv-loop μ-loop
 returns c = let e : c .before .loop .i ≡ length (c .before .before .before .before .args .acodes .now) = omega (arith, c .before .loop .inv .0) in rw e at (c .before .loop .inv .1)
 
 pub settle-spec : {M : Type 1} → statement M
 settle-spec =
-    tie.close
-    (tie.spec
-    Inv-loop
-    μ-loop
-    loop-holds
-    add-i
-    settle-row-requires
-    loop-less
-    loop-again
-    loop-less-2
-    loop-again-2
-    same-length
-    returns)
+    tie.close (tie.spec
+    Inv-loop μ-loop loop-holds (λ c. search needs) settle-row-requires (λ c. search needs) loop-again (λ c. search needs) loop-again-2
+    (λ c. c .before .loop .inv .1 .long) returns)

@@ -21,24 +21,31 @@ Inv-loop acodes nb i marks₀ changed₀ x₀ to marks changed x =
 abbrev μ-loop : tie.MeasureT-loop
 μ-loop acodes nb i marks₀ changed₀ x₀ to marks changed x = to - x
 
-stands-requires : tie.Need-stands-requires Inv-loop μ-loop
-stands-requires c κs = search needs
-
 returns : tie.Need-returns Inv-loop μ-loop
 returns c =
     let a = c .before .before .before .before .args in
-    settled-out (a .i * a .nb) (a .i * a .nb + a .nb) (a .marks .now) (row-out (a .acodes .now) (a .nb) (a .marks .now) (c .before .before .before .before .pre .1) (a .i) (sym (c .before .stands .ensures) ∙ not-t _ (c .if1 .taken)))
+    settled-out (a .i * a .nb) (a .i * a .nb + a .nb) (a .marks .now) (row-out (a .acodes .now) (a .nb) (a .marks .now) (c .before .before .before .before .pre .1) (a .i)
+    (sym (c .before .stands .ensures) ∙ not-t _ (c .if1 .taken)))
 
 mul-x : tie.Need-mul-x Inv-loop μ-loop
-mul-x c = let a = c .before .before .before .before .args in omega (arith, place-room (a .nb) (a .i) (length (a .acodes .now)) (c .before .before .before .before .pre .2), c .before .before .before .before .pre .0)
+mul-x c = let a = c .before .before .before .before .args in omega (
+  arith,
+  place-room (a .nb) (a .i) (length (a .acodes .now)) (c .before .before .before .before .pre .2),
+  c .before .before .before .before .pre .0,
+)
 
 add-to : tie.Need-add-to Inv-loop μ-loop
-add-to c = let a = c .before .before .before .before .args in omega (arith, place-room (a .nb) (a .i) (length (a .acodes .now)) (c .before .before .before .before .pre .2), c .before .before .before .before .pre .0)
+add-to c = let a = c .before .before .before .before .args in omega (
+  arith,
+  place-room (a .nb) (a .i) (length (a .acodes .now)) (c .before .before .before .before .pre .2),
+  c .before .before .before .before .pre .0,
+)
 
 loop-holds : tie.Need-loop-holds Inv-loop μ-loop
 loop-holds c =
     let a = c .before .before .before .before .args in
-    let r : a .i * a .nb + a .nb ≤ length (a .marks .now) = rw (c .before .before .before .before .pre .0) (place-room (a .nb) (a .i) (length (a .acodes .now)) (c .before .before .before .before .pre .2)) in
+    let r : a .i * a .nb + a .nb ≤ length (a .marks .now) = rw (c .before .before .before .before .pre .0)
+    (place-room (a .nb) (a .i) (length (a .acodes .now)) (c .before .before .before .before .pre .2)) in
     (refl, omega arith, omega arith, r, settled-start (a .i * a .nb) (a .marks .now))
 
 next-set-requires : tie.Need-next-set-requires Inv-loop μ-loop
@@ -49,8 +56,9 @@ same-length c = c .before .before .before .before .loop .inv .4 .long
 
 returns-2 : tie.Need-returns-2 Inv-loop μ-loop
 returns-2 c =
+    let start = c .before .before .before .before .before .before .before .before .before in
     let l = c .before .before .before .before .loop in
-    let a = c .before .before .before .before .before .before .before .before .before .args in
+    let a = start .args in
     let s = c .before .next-set .ensures in
     let e : c .before .next-set .result ≡ a .i * a .nb + a .nb = omega (arith, l .inv .0) in
     rw e at (settled-zeros (a .i * a .nb) (l .x) (c .before .next-set .result) (a .marks .now) (l .marks) (l .changed) (l .inv .4) (l .inv .1) (s .before .ordered) (s .before .zeros))
@@ -59,12 +67,15 @@ returns-2 c =
 room : (c : tie.Else2 Inv-loop μ-loop) → c .before .next-set .result < length (c .before .before .before .before .loop .marks)
 room c = omega (arith, c .before .next-set .ensures .within, c .before .before .before .before .loop .inv .3, c .before .before .before .before .loop .inv .4 .long)
 
+abbrev start-of-else2 : tie.Else2 Inv-loop μ-loop → tie.Start Inv-loop μ-loop
+start-of-else2 c = c .before .before .before .before .before .before .before .before .before
+
 -- the places before it are settled
-reached : (c : tie.Else2 Inv-loop μ-loop)
-    → Settled (c .before .before .before .before .before .before .before .before .before .args .i * c .before .before .before .before .before .before .before .before .before .args .nb) (c .before .next-set .result) (c .before .before .before .before .before .before .before .before .before .args .marks .now) (c .before .before .before .before .loop .marks) (c .before .before .before .before .loop .changed)
+reached : (c : tie.Else2 Inv-loop μ-loop) → Settled (start-of-else2 c .args .i * start-of-else2 c .args .nb) (c .before .next-set .result) (start-of-else2 c .args .marks .now)
+    (c .before .before .before .before .loop .marks) (c .before .before .before .before .loop .changed)
 reached c =
     let l = c .before .before .before .before .loop in
-    let a = c .before .before .before .before .before .before .before .before .before .args in
+    let a = start-of-else2 c .args in
     let s = c .before .next-set .ensures in
     settled-zeros (a .i * a .nb) (l .x) (c .before .next-set .result) (a .marks .now) (l .marks) (l .changed) (l .inv .4) (l .inv .1) (s .before .ordered) (s .before .zeros)
 
@@ -82,7 +93,8 @@ loop-less c = omega (arith, c .before .before .before .next-set .ensures .before
 
 loop-again : tie.Need-loop-again Inv-loop μ-loop
 loop-again c =
-    let a = c .before .before .before .before .before .before .before .before .before .before .before .args in
+    let start = c .before .before .before .before .before .before .before .before .before .before .before in
+    let a = start .args in
     let l = c .before .before .before .before .before .before .loop in
     let s = c .before .before .before .next-set .ensures in
     let y = c .before .before .before .next-set .result in (
@@ -90,7 +102,8 @@ loop-again c =
       omega (arith, l .inv .1, s .before .ordered),
       omega (arith, s .within),
       l .inv .3,
-      settled-next (a .i * a .nb) y (a .marks .now) (l .marks) (l .changed) (reached (c .before .before)) (omega (arith, l .inv .1, s .before .ordered)) (room (c .before .before)) _ (omega arith) true (λ e. inr (omega arith)) (λ e. absurd (true≢false e)),
+      settled-next (a .i * a .nb) y (a .marks .now) (l .marks) (l .changed) (reached (c .before .before)) (omega (arith, l .inv .1, s .before .ordered)) (room (c .before .before)) _
+          (omega arith) true (λ e. inr (omega arith)) (λ e. absurd (true≢false e)),
     )
 
 loop-less-2 : tie.Need-loop-less-2 Inv-loop μ-loop
@@ -98,7 +111,8 @@ loop-less-2 c = omega (arith, c .before .before .before .next-set .ensures .befo
 
 loop-again-2 : tie.Need-loop-again-2 Inv-loop μ-loop
 loop-again-2 c =
-    let a = c .before .before .before .before .before .before .before .before .before .before .before .args in
+    let start = c .before .before .before .before .before .before .before .before .before .before .before in
+    let a = start .args in
     let l = c .before .before .before .before .before .before .loop in
     let s = c .before .before .before .next-set .ensures in
     let y = c .before .before .before .next-set .result in (
@@ -106,11 +120,9 @@ loop-again-2 c =
       omega (arith, l .inv .1, s .before .ordered),
       omega (arith, s .within),
       l .inv .3,
-      settled-next (a .i * a .nb) y (a .marks .now) (l .marks) (l .changed) (reached (c .before .before)) (omega (arith, l .inv .1, s .before .ordered)) (room (c .before .before)) _ (omega arith) (l .changed) (λ e. inl e) (λ e. (e, λ h. omega arith)),
+      settled-next (a .i * a .nb) y (a .marks .now) (l .marks) (l .changed) (reached (c .before .before)) (omega (arith, l .inv .1, s .before .ordered)) (room (c .before .before)) _ (omega arith)
+          (l .changed) (λ e. inl e) (λ e. (e, λ h. omega arith)),
     )
-
-same-length-2 : tie.Need-same-length-2 Inv-loop μ-loop
-same-length-2 c = c .before .loop .inv .4 .long
 
 returns-3 : tie.Need-returns-3 Inv-loop μ-loop
 returns-3 c =
@@ -121,24 +133,6 @@ returns-3 c =
 
 pub settle-row-spec : {M : Type 1} → statement M
 settle-row-spec =
-    tie.close
-    (tie.spec
-    Inv-loop
-    μ-loop
-    stands-requires
-    returns
-    mul-x
-    add-to
-    loop-holds
-    next-set-requires
-    same-length
-    returns-2
-    slice-read-v
-    slice-write-marks
-    add-x
-    loop-less
-    loop-again
-    loop-less-2
-    loop-again-2
-    same-length-2
-    returns-3)
+    tie.close (tie.spec
+    Inv-loop μ-loop (λ c κs. search needs) returns mul-x add-to loop-holds next-set-requires same-length returns-2 slice-read-v slice-write-marks add-x
+    loop-less loop-again loop-less-2 loop-again-2 (λ c. c .before .loop .inv .4 .long) returns-3)

@@ -24,63 +24,50 @@ abbrev μ-loop : tie.MeasureT-loop
 
 loop-holds : tie.Need-loop-holds Inv-loop μ-loop
 loop-holds c =
-    let a = c .before .before .before .before .args in
-    (omega arith, tried-none (CoreStep (a .nb) (a .left .now) (a .right .now)) (SparedStep (a .nb) (a .left .now) (a .right .now) (a .ask .second) (a .ask .k)) 0 (0 * a .nb) (a .marks .now) (λ x f t h. omega (arith, zero-mul (a .nb))))
-
-add-i : tie.Need-add-i Inv-loop μ-loop
-add-i c = search needs
+    let a = c .before .before .before .before .args in (
+      omega arith,
+      tried-none (CoreStep (a .nb) (a .left .now) (a .right .now)) (SparedStep (a .nb) (a .left .now) (a .right .now) (a .ask .second) (a .ask .k)) 0 (0 * a .nb) (a .marks .now)
+          (λ x f t h. omega (arith, zero-mul (a .nb))),
+    )
 
 visit-row-requires : tie.Need-visit-row-requires Inv-loop μ-loop
 visit-row-requires c κs =
-    let a = c .before .before .before .before .before .before .before .args in
-    let p = c .before .before .before .before .before .before .before .pre in
+    let start = c .before .before .before .before .before .before .before in
+    let a = start .args in
+    let p = start .pre in
     let l = c .before .before .loop in (
       ready-same (length (a .acodes .now)) (a .nb) _ _ (a .marks .now) (l .marks) (l .inv .1 .long) (p .0),
       begun-only (CoreStep (a .nb) (a .left .now) (a .right .now)) (SparedStep (a .nb) (a .left .now) (a .right .now) (a .ask .second) (a .ask .k)) (a .acodes .now) (a .nb) (l .marks)
-          (begun-next (CoreStep (a .nb) (a .left .now) (a .right .now)) (SparedStep (a .nb) (a .left .now) (a .right .now) (a .ask .second) (a .ask .k)) (a .acodes .now) (a .nb) 0 (l .i * a .nb) (a .marks .now) (l .marks) (l .changed) (l .inv .1) (p .3)),
+          (begun-next (CoreStep (a .nb) (a .left .now) (a .right .now)) (SparedStep (a .nb) (a .left .now) (a .right .now) (a .ask .second) (a .ask .k)) (a .acodes .now) (a .nb) 0 (l .i * a .nb)
+          (a .marks .now) (l .marks) (l .changed) (l .inv .1) (p .3)),
       omega arith,
       p .1,
       p .2,
     )
 
-loop-less : tie.Need-loop-less Inv-loop μ-loop
-loop-less c = search needs
-
 loop-again : tie.Need-loop-again Inv-loop μ-loop
 loop-again c =
-    let a = c .before .before .before .before .before .before .before .before .before .before .before .args in
+    let start = c .before .before .before .before .before .before .before .before .before .before .before in
+    let a = start .args in
     let l = c .before .before .before .before .before .before .loop in
-    let step = tried-then (CoreStep (a .nb) (a .left .now) (a .right .now)) (SparedStep (a .nb) (a .left .now) (a .right .now) (a .ask .second) (a .ask .k)) 0 (l .i * a .nb) (l .i * a .nb + a .nb) (a .marks .now) (l .marks) _ (l .changed) _ true (l .inv .1) (c .before .before .before .visit-row .ensures) (or-now (l .changed) _ (c .if1 .taken)) in
+    let step = tried-then (CoreStep (a .nb) (a .left .now) (a .right .now)) (SparedStep (a .nb) (a .left .now) (a .right .now) (a .ask .second) (a .ask .k)) 0 (l .i * a .nb) (l .i * a .nb + a .nb)
+    (a .marks .now) (l .marks) _ (l .changed) _ true (l .inv .1) (c .before .before .before .visit-row .ensures) (or-now (l .changed) _ (c .if1 .taken)) in
     (omega arith, rw (add-one (l .i), suc-mul (l .i) (a .nb)) step)
-
-loop-less-2 : tie.Need-loop-less-2 Inv-loop μ-loop
-loop-less-2 c = search needs
 
 loop-again-2 : tie.Need-loop-again-2 Inv-loop μ-loop
 loop-again-2 c =
-    let a = c .before .before .before .before .before .before .before .before .before .before .before .args in
+    let start = c .before .before .before .before .before .before .before .before .before .before .before in
+    let a = start .args in
     let l = c .before .before .before .before .before .before .loop in
-    let step = tried-then (CoreStep (a .nb) (a .left .now) (a .right .now)) (SparedStep (a .nb) (a .left .now) (a .right .now) (a .ask .second) (a .ask .k)) 0 (l .i * a .nb) (l .i * a .nb + a .nb) (a .marks .now) (l .marks) _ (l .changed) _ (l .changed) (l .inv .1) (c .before .before .before .visit-row .ensures) (or-before (l .changed) _ (c .if1 .left)) in
+    let step = tried-then (CoreStep (a .nb) (a .left .now) (a .right .now)) (SparedStep (a .nb) (a .left .now) (a .right .now) (a .ask .second) (a .ask .k)) 0 (l .i * a .nb) (l .i * a .nb + a .nb)
+    (a .marks .now) (l .marks) _ (l .changed) _ (l .changed) (l .inv .1) (c .before .before .before .visit-row .ensures) (or-before (l .changed) _ (c .if1 .left)) in
     (omega arith, rw (add-one (l .i), suc-mul (l .i) (a .nb)) step)
-
-same-length : tie.Need-same-length Inv-loop μ-loop
-same-length c = c .before .loop .inv .1 .long
 
 returns : tie.Need-returns Inv-loop μ-loop
 returns c = let e : c .before .loop .i ≡ length (c .before .before .before .before .before .before .args .acodes .now) = omega (arith, c .before .loop .inv .0) in rw e at (c .before .loop .inv .1)
 
 pub sweep-spec : {M : Type 1} → statement M
 sweep-spec =
-    tie.close
-    (tie.spec
-    Inv-loop
-    μ-loop
-    loop-holds
-    add-i
-    visit-row-requires
-    loop-less
-    loop-again
-    loop-less-2
-    loop-again-2
-    same-length
-    returns)
+    tie.close (tie.spec
+    Inv-loop μ-loop loop-holds (λ c. search needs) visit-row-requires (λ c. search needs) loop-again (λ c. search needs) loop-again-2
+    (λ c. c .before .loop .inv .1 .long) returns)

@@ -35,23 +35,30 @@ sweep-requires c κs =
 
 loop-less : tie.Need-loop-less Inv-loop μ-loop
 loop-less c =
-    let a = c .before .before .before .before .before .before .before .before .before .before .args in
-    let m = c .before .before .before .sweep .ensures .marking (a .marks .now) (c .before .before .before .before .before .before .before .before .before .before .pre .2) (c .before .before .before .before .before .loop .inv) in
-    omega (arith, c .before .before .before .sweep .ensures .grown (c .if1 .taken), marking-sum (CoreStep (a .nb) (a .left .now) (a .right .now)) (SparedStep (a .nb) (a .left .now) (a .right .now) (a .ask .second) (a .ask .k)) (a .marks .now) _ (c .before .before .before .before .before .before .before .before .before .before .pre .2) m)
+    let start = c .before .before .before .before .before .before .before .before .before .before in
+    let a = start .args in
+    let m = c .before .before .before .sweep .ensures .marking (a .marks .now) (start .pre .2) (c .before .before .before .before .before .loop .inv) in
+    omega (
+      arith,
+      c .before .before .before .sweep .ensures .grown (c .if1 .taken),
+      marking-sum (CoreStep (a .nb) (a .left .now) (a .right .now)) (SparedStep (a .nb) (a .left .now) (a .right .now) (a .ask .second) (a .ask .k)) (a .marks .now) _ (start .pre .2) m,
+    )
 
 loop-again : tie.Need-loop-again Inv-loop μ-loop
-loop-again c = c .before .before .before .sweep .ensures .marking _ (c .before .before .before .before .before .before .before .before .before .before .pre .2) (c .before .before .before .before .before .loop .inv)
+loop-again c =
+    let start = c .before .before .before .before .before .before .before .before .before .before in
+    c .before .before .before .sweep .ensures .marking _ (start .pre .2) (c .before .before .before .before .before .loop .inv)
 
 same-length : tie.Need-same-length Inv-loop μ-loop
 same-length c = c .before .before .before .sweep .ensures .long ∙ c .before .before .before .before .before .loop .inv .long
 
 returns : tie.Need-returns Inv-loop μ-loop
 returns c =
-    let a = c .before .before .before .before .before .before .before .before .before .before .args in
-    swept-end (CoreStep (a .nb) (a .left .now) (a .right .now)) (SparedStep (a .nb) (a .left .now) (a .right .now) (a .ask .second) (a .ask .k)) (length (a .acodes .now) * a .nb) (a .marks .now) (c .before .before .before .before .before .loop .marks) _ (c .before .before .before .before .before .before .before .before .before .before .pre .0 .fits .marked) (c .before .before .before .before .before .before .before .before .before .before .pre .2) (c .before .before .before .before .before .loop .inv)
+    let start = c .before .before .before .before .before .before .before .before .before .before in
+    let a = start .args in
+    swept-end (CoreStep (a .nb) (a .left .now) (a .right .now)) (SparedStep (a .nb) (a .left .now) (a .right .now) (a .ask .second) (a .ask .k)) (length (a .acodes .now) * a .nb) (a .marks .now)
+    (c .before .before .before .before .before .loop .marks) _ (start .pre .0 .fits .marked) (start .pre .2) (c .before .before .before .before .before .loop .inv)
     (rw (c .if1 .left) at (c .before .before .before .sweep .ensures))
 
 pub sweep-out-spec : {M : Type 1} → statement M
-sweep-out-spec =
-    tie.close
-    (tie.spec Inv-loop μ-loop loop-holds sweep-requires loop-less loop-again same-length returns)
+sweep-out-spec = tie.close (tie.spec Inv-loop μ-loop loop-holds sweep-requires loop-less loop-again same-length returns)

@@ -21,17 +21,17 @@ Inv-loop left cuts right nb i from ask marks₀ row end changed₀ x₀ marks ch
 abbrev μ-loop : tie.MeasureT-loop
 μ-loop left cuts right nb i from ask marks₀ row end changed₀ x₀ marks changed x = end - x
 
-mul-row : tie.Need-mul-row Inv-loop μ-loop
-mul-row c = search needs
-
-add-end : tie.Need-add-end Inv-loop μ-loop
-add-end c = search needs
-
 loop-holds : tie.Need-loop-holds Inv-loop μ-loop
 loop-holds c =
     let a = c .before .before .before .args in
-    let p = c .before .before .before .pre in
-    (refl, refl, p .3, p .4, tried-none (CoreStep (a .nb) (a .left .now) (a .right .now)) (SparedStep (a .nb) (a .left .now) (a .right .now) (a .ask .second) (a .ask .k)) (a .from) (a .from) (a .marks .now) (λ x f t h. omega arith))
+    let p = c .before .before .before .pre in (
+      refl,
+      refl,
+      p .3,
+      p .4,
+      tried-none (CoreStep (a .nb) (a .left .now) (a .right .now)) (SparedStep (a .nb) (a .left .now) (a .right .now) (a .ask .second) (a .ask .k)) (a .from) (a .from)
+          (a .marks .now) (λ x f t h. omega arith),
+    )
 
 next-set-requires : tie.Need-next-set-requires Inv-loop μ-loop
 next-set-requires c κs = let l = c .before .before .loop in (omega arith, omega (arith, l .inv .1, l .inv .4 .long, c .before .before .before .before .before .before .pre .7))
@@ -41,21 +41,18 @@ same-length c = c .before .before .before .before .loop .inv .4 .long
 
 returns : tie.Need-returns Inv-loop μ-loop
 returns c =
-    let a = c .before .before .before .before .before .before .before .before .args in
+    let start = c .before .before .before .before .before .before .before .before in
+    let a = start .args in
     let l = c .before .before .before .before .loop in
     let e : c .before .next-set .result ≡ a .i * a .nb + a .nb = omega (arith, l .inv .1) in
-    rw e at (tried-zeros (CoreStep (a .nb) (a .left .now) (a .right .now)) (SparedStep (a .nb) (a .left .now) (a .right .now) (a .ask .second) (a .ask .k)) (a .from) (l .x) (c .before .next-set .result) (a .marks .now) (l .marks) (l .changed) (l .inv .4) (c .before .next-set .ensures .before .zeros))
-
-add-x : tie.Need-add-x Inv-loop μ-loop
-add-x c = search needs
-
-sub-mark-pair : tie.Need-sub-mark-pair Inv-loop μ-loop
-sub-mark-pair c = search needs
+    rw e at (tried-zeros (CoreStep (a .nb) (a .left .now) (a .right .now)) (SparedStep (a .nb) (a .left .now) (a .right .now) (a .ask .second) (a .ask .k)) (a .from) (l .x)
+    (c .before .next-set .result) (a .marks .now) (l .marks) (l .changed) (l .inv .4) (c .before .next-set .ensures .before .zeros))
 
 mark-pair-requires : tie.Need-mark-pair-requires Inv-loop μ-loop
 mark-pair-requires c κs =
-    let a = c .before .before .before .before .before .before .before .before .before .args in
-    let p = c .before .before .before .before .before .before .before .before .before .pre in
+    let start = c .before .before .before .before .before .before .before .before .before in
+    let a = start .args in
+    let p = start .pre in
     let l = c .before .before .before .before .before .loop in
     let s = c .before .before .next-set .ensures in
     let long : length (l .marks) ≡ length (a .marks .now) = l .inv .4 .long in (
@@ -73,8 +70,10 @@ loop-less c = omega (arith, c .before .before .before .before .before .before .n
 
 loop-again : tie.Need-loop-again Inv-loop μ-loop
 loop-again c =
-    let a = c .before .before .before .before .before .before .before .before .before .before .before .before .before .args in
-    let l = c .before .before .before .before .before .before .before .before .before .loop in
+    let at-loop = c .before .before .before .before .before .before .before .before .before in
+    let start = at-loop .before .before .before .before in
+    let a = start .args in
+    let l = at-loop .loop in
     let s = c .before .before .before .before .before .before .next-set .ensures in
     let y = c .before .before .before .before .before .before .next-set .result in
     let e : a .i * a .nb + (y - a .i * a .nb) ≡ y = omega (arith, l .inv .0, l .inv .2, s .before .ordered) in (
@@ -82,7 +81,9 @@ loop-again c =
       l .inv .1,
       omega (arith, l .inv .2, s .before .ordered),
       omega (arith, s .within),
-      tried-turn (CoreStep (a .nb) (a .left .now) (a .right .now)) (SparedStep (a .nb) (a .left .now) (a .right .now) (a .ask .second) (a .ask .k)) (a .from) (l .x) y (a .i * a .nb) (y - a .i * a .nb) (a .marks .now) (l .marks) _ (l .changed) _ true (l .inv .4) (s .before .zeros) e (rw (l .inv .0) at (c .before .before .before .mark-pair .ensures)) (or-now (l .changed) _ (c .if2 .taken)),
+      tried-turn (CoreStep (a .nb) (a .left .now) (a .right .now)) (SparedStep (a .nb) (a .left .now) (a .right .now) (a .ask .second) (a .ask .k)) (a .from) (l .x) y (a .i * a .nb)
+          (y - a .i * a .nb) (a .marks .now) (l .marks) _ (l .changed) _ true (l .inv .4) (s .before .zeros) e (rw (l .inv .0) at (c .before .before .before .mark-pair .ensures))
+          (or-now (l .changed) _ (c .if2 .taken)),
     )
 
 loop-less-2 : tie.Need-loop-less-2 Inv-loop μ-loop
@@ -90,8 +91,10 @@ loop-less-2 c = omega (arith, c .before .before .before .before .before .before 
 
 loop-again-2 : tie.Need-loop-again-2 Inv-loop μ-loop
 loop-again-2 c =
-    let a = c .before .before .before .before .before .before .before .before .before .before .before .before .before .args in
-    let l = c .before .before .before .before .before .before .before .before .before .loop in
+    let at-loop = c .before .before .before .before .before .before .before .before .before in
+    let start = at-loop .before .before .before .before in
+    let a = start .args in
+    let l = at-loop .loop in
     let s = c .before .before .before .before .before .before .next-set .ensures in
     let y = c .before .before .before .before .before .before .next-set .result in
     let e : a .i * a .nb + (y - a .i * a .nb) ≡ y = omega (arith, l .inv .0, l .inv .2, s .before .ordered) in (
@@ -99,11 +102,10 @@ loop-again-2 c =
       l .inv .1,
       omega (arith, l .inv .2, s .before .ordered),
       omega (arith, s .within),
-      tried-turn (CoreStep (a .nb) (a .left .now) (a .right .now)) (SparedStep (a .nb) (a .left .now) (a .right .now) (a .ask .second) (a .ask .k)) (a .from) (l .x) y (a .i * a .nb) (y - a .i * a .nb) (a .marks .now) (l .marks) _ (l .changed) _ (l .changed) (l .inv .4) (s .before .zeros) e (rw (l .inv .0) at (c .before .before .before .mark-pair .ensures)) (or-before (l .changed) _ (c .if2 .left)),
+      tried-turn (CoreStep (a .nb) (a .left .now) (a .right .now)) (SparedStep (a .nb) (a .left .now) (a .right .now) (a .ask .second) (a .ask .k)) (a .from) (l .x) y (a .i * a .nb)
+          (y - a .i * a .nb) (a .marks .now) (l .marks) _ (l .changed) _ (l .changed) (l .inv .4) (s .before .zeros) e (rw (l .inv .0) at (c .before .before .before .mark-pair .ensures))
+          (or-before (l .changed) _ (c .if2 .left)),
     )
-
-same-length-2 : tie.Need-same-length-2 Inv-loop μ-loop
-same-length-2 c = c .before .loop .inv .4 .long
 
 returns-2 : tie.Need-returns-2 Inv-loop μ-loop
 returns-2 c =
@@ -114,22 +116,6 @@ returns-2 c =
 
 pub sweep-row-spec : {M : Type 1} → statement M
 sweep-row-spec =
-    tie.close
-    (tie.spec
-    Inv-loop
-    μ-loop
-    mul-row
-    add-end
-    loop-holds
-    next-set-requires
-    same-length
-    returns
-    add-x
-    sub-mark-pair
-    mark-pair-requires
-    loop-less
-    loop-again
-    loop-less-2
-    loop-again-2
-    same-length-2
-    returns-2)
+    tie.close (tie.spec
+    Inv-loop μ-loop (λ c. search needs) (λ c. search needs) loop-holds next-set-requires same-length returns (λ c. search needs) (λ c. search needs)
+    mark-pair-requires loop-less loop-again loop-less-2 loop-again-2 (λ c. c .before .loop .inv .4 .long) returns-2)

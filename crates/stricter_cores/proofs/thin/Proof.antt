@@ -21,38 +21,20 @@ loop-holds c = let a = c .before .before .before .before .args in thinned-start 
 
 thin-row-requires : tie.Need-thin-row-requires Inv-loop μ-loop
 thin-row-requires c κs =
-    let a = c .before .before .before .before .before .before .before .args in
+    let start = c .before .before .before .before .before .before .before in
+    let a = start .args in
     let l = c .before .before .loop in
-    (ready-same (length (a .acodes .now)) (a .nb) _ _ (a .marks .now) (l .marks) (l .inv .long) (c .before .before .before .before .before .before .before .pre), omega arith)
-
-add-i : tie.Need-add-i Inv-loop μ-loop
-add-i c = search needs
-
-loop-less : tie.Need-loop-less Inv-loop μ-loop
-loop-less c = search needs
+    (ready-same (length (a .acodes .now)) (a .nb) _ _ (a .marks .now) (l .marks) (l .inv .long) (start .pre), omega arith)
 
 loop-again : tie.Need-loop-again Inv-loop μ-loop
 loop-again c =
-    let a = c .before .before .before .before .before .before .before .before .before .before .args in
+    let start = c .before .before .before .before .before .before .before .before .before .before in
+    let a = start .args in
     let l = c .before .before .before .before .before .loop in
     thinned-then (CoreStep (a .nb) (a .left .now) (a .right .now)) (a .marks .now) (l .marks) _ (l .inv) (c .before .before .thin-row .ensures)
 
-same-length : tie.Need-same-length Inv-loop μ-loop
-same-length c = c .before .loop .inv .long
-
-returns : tie.Need-returns Inv-loop μ-loop
-returns c = c .before .loop .inv
-
 pub thin-spec : {M : Type 1} → statement M
 thin-spec =
-    tie.close
-    (tie.spec
-    Inv-loop
-    μ-loop
-    loop-holds
-    thin-row-requires
-    add-i
-    loop-less
-    loop-again
-    same-length
-    returns)
+    tie.close (tie.spec
+    Inv-loop μ-loop loop-holds thin-row-requires (λ c. search needs) (λ c. search needs) loop-again (λ c. c .before .loop .inv .long)
+    (λ c. c .before .loop .inv))

@@ -9,14 +9,12 @@ use Rattle.stricter_cores_laws.proofs.Ends.{thinned-start}
 use Rattle.stricter_cores.proofs.thin_row.Statement.{statement}
 use Rattle.stricter_cores.proofs.thin_row.Tie as tie
 
-stands-requires : tie.Need-stands-requires
-stands-requires c κs = search needs
-
 returns : tie.Need-returns
 returns c = let a = c .before .before .before .before .before .before .args in thinned-start (CoreStep (a .nb) (a .left .now) (a .right .now)) (a .marks .now)
 
 -- the pairs of the row have marks
-room : (c : tie.Else1) → c .before .before .before .before .before .before .args .i * c .before .before .before .before .before .before .args .nb + c .before .before .before .before .before .before .args .nb ≤ length (c .before .before .before .before .before .before .args .marks .now)
+room : (c : tie.Else1) → c .before .before .before .before .before .before .args .i * c .before .before .before .before .before .before .args .nb + c .before .before .before .before .before
+    .before .args .nb ≤ length (c .before .before .before .before .before .before .args .marks .now)
 room c =
     let a = c .before .before .before .before .before .before .args in
     rw (c .before .before .before .before .before .before .pre .0 .fits .marked) (place-room (a .nb) (a .i) (length (a .acodes .now)) (c .before .before .before .before .before .before .pre .1))
@@ -30,19 +28,21 @@ add-end c = omega (arith, room c)
 next-set-requires : tie.Need-next-set-requires
 next-set-requires c κs = (omega arith, room (c .before))
 
-same-length : tie.Need-same-length
-same-length c = search needs
-
 returns-2 : tie.Need-returns-2
-returns-2 c = let a = c .before .before .before .before .before .before .before .before .before .args in thinned-start (CoreStep (a .nb) (a .left .now) (a .right .now)) (a .marks .now)
+returns-2 c =
+    let start = c .before .before .before .before .before .before .before .before .before in
+    let a = start .args in thinned-start (CoreStep (a .nb) (a .left .now) (a .right .now)) (a .marks .now)
 
 cut-row-requires : tie.Need-cut-row-requires
-cut-row-requires c κs = (c .before .before .before .before .before .before .before .before .before .pre .0 .fits .ascend-A, omega (arith, c .before .before .before .before .before .before .before .before .before .pre .1, c .before .before .before .before .before .before .before .before .before .pre .0 .fits .few-A))
+cut-row-requires c κs =
+    let start = c .before .before .before .before .before .before .before .before .before in
+    (start .pre .0 .fits .ascend-A, omega (arith, start .pre .1, start .pre .0 .fits .few-A))
 
 drop-row-requires : tie.Need-drop-row-requires
 drop-row-requires c κs =
-    let a = c .before .before .before .before .before .before .before .before .before .before .before .before .args in
-    let p = c .before .before .before .before .before .before .before .before .before .before .before .before .pre in
+    let start = c .before .before .before .before .before .before .before .before .before .before .before .before in
+    let a = start .args in
+    let p = start .pre in
     let s = c .before .before .before .before .next-set .ensures in (
       (length (a .acodes .now), p .0),
       c .before .before .cut-row .ensures,
@@ -52,24 +52,8 @@ drop-row-requires c κs =
       room (c .before .before .before .before .before .before),
     )
 
-same-length-2 : tie.Need-same-length-2
-same-length-2 c = search needs
-
-returns-3 : tie.Need-returns-3
-returns-3 c = search needs
-
 pub thin-row-spec : {M : Type 1} → statement M
 thin-row-spec =
-    tie.close
-    (tie.spec
-    stands-requires
-    returns
-    mul-row
-    add-end
-    next-set-requires
-    same-length
-    returns-2
-    cut-row-requires
-    drop-row-requires
-    same-length-2
-    returns-3)
+    tie.close (tie.spec
+    (λ c κs. search needs) returns mul-row add-end next-set-requires (λ c. search needs) returns-2 cut-row-requires drop-row-requires (λ c. search needs)
+    (λ c. search needs))

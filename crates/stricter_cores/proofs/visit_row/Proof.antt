@@ -13,17 +13,16 @@ use Rattle.stricter_cores_laws.proofs.Tries.{tried-none, tried-then}
 use Rattle.stricter_cores.proofs.visit_row.Statement.{statement}
 use Rattle.stricter_cores.proofs.visit_row.Tie as tie
 
-stands-requires : tie.Need-stands-requires
-stands-requires c κs = search needs
-
 returns : tie.Need-returns
 returns c =
     let a = c .before .before .before .before .before .before .args in
     tried-none (CoreStep (a .nb) (a .left .now) (a .right .now)) (SparedStep (a .nb) (a .left .now) (a .right .now) (a .ask .second) (a .ask .k)) (a .i * a .nb) (a .i * a .nb + a .nb) (a .marks .now)
-    (λ x f t h. let z = row-out (a .acodes .now) (a .nb) (a .marks .now) (c .before .before .before .before .before .before .pre .1) (a .i) (sym (c .before .stands .ensures) ∙ not-t _ (c .if1 .taken)) x f t in omega arith)
+    (λ x f t h. let z = row-out (a .acodes .now) (a .nb) (a .marks .now) (c .before .before .before .before .before .before .pre .1) (a .i)
+    (sym (c .before .stands .ensures) ∙ not-t _ (c .if1 .taken)) x f t in omega arith)
 
 -- the pairs of the row have marks
-room : (c : tie.Else1) → c .before .before .before .before .before .before .args .i * c .before .before .before .before .before .before .args .nb + c .before .before .before .before .before .before .args .nb ≤ length (c .before .before .before .before .before .before .args .marks .now)
+room : (c : tie.Else1) → c .before .before .before .before .before .before .args .i * c .before .before .before .before .before .before .args .nb + c .before .before .before .before .before
+    .before .args .nb ≤ length (c .before .before .before .before .before .before .args .marks .now)
 room c =
     let a = c .before .before .before .before .before .before .args in
     rw (c .before .before .before .before .before .before .pre .0 .fits .marked) (place-room (a .nb) (a .i) (length (a .acodes .now)) (c .before .before .before .before .before .before .pre .2))
@@ -37,22 +36,23 @@ add-end c = omega (arith, room c)
 first-waiting-requires : tie.Need-first-waiting-requires
 first-waiting-requires c κs = (omega arith, room (c .before))
 
-same-length : tie.Need-same-length
-same-length c = search needs
-
 returns-2 : tie.Need-returns-2
 returns-2 c =
-    let a = c .before .before .before .before .before .before .before .before .before .args in
+    let start = c .before .before .before .before .before .before .before .before .before in
+    let a = start .args in
     tried-none (CoreStep (a .nb) (a .left .now) (a .right .now)) (SparedStep (a .nb) (a .left .now) (a .right .now) (a .ask .second) (a .ask .k)) (a .i * a .nb) (a .i * a .nb + a .nb) (a .marks .now)
     (λ x f t h. c .before .first-waiting .ensures .none x f (omega arith) h)
 
 cut-row-requires : tie.Need-cut-row-requires
-cut-row-requires c κs = (c .before .before .before .before .before .before .before .before .before .pre .0 .fits .ascend-A, omega (arith, c .before .before .before .before .before .before .before .before .before .pre .2, c .before .before .before .before .before .before .before .before .before .pre .0 .fits .few-A))
+cut-row-requires c κs =
+    let start = c .before .before .before .before .before .before .before .before .before in
+    (start .pre .0 .fits .ascend-A, omega (arith, start .pre .2, start .pre .0 .fits .few-A))
 
 sweep-row-requires : tie.Need-sweep-row-requires
 sweep-row-requires c κs =
-    let a = c .before .before .before .before .before .before .before .before .before .before .before .before .args in
-    let p = c .before .before .before .before .before .before .before .before .before .before .before .before .pre in
+    let start = c .before .before .before .before .before .before .before .before .before .before .before .before in
+    let a = start .args in
+    let p = start .pre in
     let w = c .before .before .before .before .first-waiting .ensures in (
       (length (a .acodes .now), p .0),
       c .before .before .cut-row .ensures,
@@ -64,29 +64,20 @@ sweep-row-requires c κs =
       room (c .before .before .before .before .before .before),
     )
 
-same-length-2 : tie.Need-same-length-2
-same-length-2 c = search needs
-
 returns-3 : tie.Need-returns-3
 returns-3 c =
-    let a = c .before .before .before .before .before .before .before .before .before .before .before .before .before .before .before .args in
-    let w = c .before .before .before .before .before .before .before .first-waiting in
-    tried-then (CoreStep (a .nb) (a .left .now) (a .right .now)) (SparedStep (a .nb) (a .left .now) (a .right .now) (a .ask .second) (a .ask .k)) (a .i * a .nb) (w .result) (a .i * a .nb + a .nb) (a .marks .now) (a .marks .now) _ false _ _
-    (tried-none (CoreStep (a .nb) (a .left .now) (a .right .now)) (SparedStep (a .nb) (a .left .now) (a .right .now) (a .ask .second) (a .ask .k)) (a .i * a .nb) (w .result) (a .marks .now) (w .ensures .none))
+    let at-first-waiting = c .before .before .before .before .before .before .before in
+    let start = at-first-waiting .before .before .before .before .before .before .before .before in
+    let a = start .args in
+    let w = at-first-waiting .first-waiting in
+    tried-then (CoreStep (a .nb) (a .left .now) (a .right .now)) (SparedStep (a .nb) (a .left .now) (a .right .now) (a .ask .second) (a .ask .k)) (a .i * a .nb) (w .result) (a .i * a .nb + a .nb)
+    (a .marks .now) (a .marks .now) _ false _ _
+    (tried-none (CoreStep (a .nb) (a .left .now) (a .right .now)) (SparedStep (a .nb) (a .left .now) (a .right .now) (a .ask .second) (a .ask .k)) (a .i * a .nb) (w .result) (a .marks .now)
+    (w .ensures .none))
     (c .before .before .sweep-row .ensures) refl
 
 pub visit-row-spec : {M : Type 1} → statement M
 visit-row-spec =
-    tie.close
-    (tie.spec
-    stands-requires
-    returns
-    mul-row
-    add-end
-    first-waiting-requires
-    same-length
-    returns-2
-    cut-row-requires
-    sweep-row-requires
-    same-length-2
+    tie.close (tie.spec
+    (λ c κs. search needs) returns mul-row add-end first-waiting-requires (λ c. search needs) returns-2 cut-row-requires sweep-row-requires (λ c. search needs)
     returns-3)

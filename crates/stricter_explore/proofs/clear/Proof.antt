@@ -14,17 +14,8 @@ Inv-loop marks₀ x₀ marks x = (length marks ≡ length marks₀) × (x < leng
 abbrev μ-loop : tie.MeasureT-loop
 μ-loop marks₀ x₀ marks x = length marks₀ - x
 
-next-set-requires : tie.Need-next-set-requires Inv-loop μ-loop
-next-set-requires c κs = search needs
-
 loop-holds : tie.Need-loop-holds Inv-loop μ-loop
 loop-holds c = let n = c .next-set .ensures in (refl, n .set, clearing-over 0 _ _ _ (n .before .ordered) (n .before .zeros) (clearing-start _))
-
-slice-write-marks : tie.Need-slice-write-marks Inv-loop μ-loop
-slice-write-marks c = search needs
-
-add-next-set : tie.Need-add-next-set Inv-loop μ-loop
-add-next-set c = search needs
 
 next-set-requires-2 : tie.Need-next-set-requires-2 Inv-loop μ-loop
 next-set-requires-2 c κs = let l = c .before .before .loop in let h = length-set (l .marks) (l .x) 1 in (omega (arith, h, c .before .loop-test .taken), omega arith)
@@ -39,24 +30,11 @@ loop-again c =
     let m = clearing-over (l .x + 1) _ _ _ (n .before .ordered) (n .before .zeros) (clearing-set (l .x) _ (l .marks) (l .inv .1 (c .before .before .loop-test .taken)) (l .inv .2)) in
     (m .long, n .set, m)
 
-same-length : tie.Need-same-length Inv-loop μ-loop
-same-length c = c .before .loop .inv .0
-
 returns : tie.Need-returns Inv-loop μ-loop
 returns c = clearing-end (c .before .loop .x) _ (c .before .loop .marks) (omega arith) (c .before .loop .inv .2)
 
 pub clear-spec : {M : Type 1} → statement M
 clear-spec =
-    tie.close
-    (tie.spec
-    Inv-loop
-    μ-loop
-    next-set-requires
-    loop-holds
-    slice-write-marks
-    add-next-set
-    next-set-requires-2
-    loop-less
-    loop-again
-    same-length
-    returns)
+    tie.close (tie.spec
+    Inv-loop μ-loop (λ c κs. search needs) loop-holds (λ c. search needs) (λ c. search needs) next-set-requires-2 loop-less loop-again
+    (λ c. c .before .loop .inv .0) returns)

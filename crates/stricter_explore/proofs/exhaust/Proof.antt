@@ -24,8 +24,9 @@ loop-holds c =
 
 visit-all-requires : tie.Need-visit-all-requires Inv-loop μ-loop
 visit-all-requires c κs =
-    let a = c .before .before .before .before .before .before .before .args in
-    fits-same (length (a .lcodes .now)) (length (a .rcodes .now)) _ _ (a .marks .now) (c .before .loop .marks) (c .before .loop .inv .long) (c .before .before .before .before .before .before .before .pre)
+    let start = c .before .before .before .before .before .before .before in
+    let a = start .args in
+    fits-same (length (a .lcodes .now)) (length (a .rcodes .now)) _ _ (a .marks .now) (c .before .loop .marks) (c .before .loop .inv .long) (start .pre)
 
 loop-less : tie.Need-loop-less Inv-loop μ-loop
 loop-less c =
@@ -35,7 +36,8 @@ loop-less c =
 
 loop-again : tie.Need-loop-again Inv-loop μ-loop
 loop-again c =
-    let a = c .before .before .before .before .before .before .before .before .before .before .before .args in
+    let start = c .before .before .before .before .before .before .before .before .before .before .before in
+    let a = start .args in
     passing-next (PairStep (length (a .rcodes .now)) (a .left .now) (a .right .now)) (kindIn (a .lcodes .now) (a .rcodes .now))
     (a .marks .now) (c .before .before .before .before .before .loop .marks) _ 0 _ _ (c .before .before .before .before .before .loop .inv) (c .before .before .before .visit-all .ensures)
 
@@ -44,11 +46,11 @@ same-length c = c .before .before .before .visit-all .ensures .long ∙ c .befor
 
 returns : tie.Need-returns Inv-loop μ-loop
 returns c =
-    let a = c .before .before .before .before .before .before .before .before .before .before .before .args in
+    let at-loop = c .before .before .before .before .before in
+    let start = at-loop .before .before .before .before .before .before in
+    let a = start .args in
     exhausted (PairStep (length (a .rcodes .now)) (a .left .now) (a .right .now)) (kindIn (a .lcodes .now) (a .rcodes .now))
-    (a .marks .now) (c .before .before .before .before .before .loop .marks) _ (c .before .before .before .before .before .loop .inv) (rw (sym (c .before .before .before .before .before .loop .inv .long), sym (c .if1 .left)) (c .before .before .before .visit-all .ensures))
+    (a .marks .now) (at-loop .loop .marks) _ (at-loop .loop .inv) (rw (sym (at-loop .loop .inv .long), sym (c .if1 .left)) (c .before .before .before .visit-all .ensures))
 
 pub exhaust-spec : {M : Type 1} → statement M
-exhaust-spec =
-    tie.close
-    (tie.spec Inv-loop μ-loop loop-holds visit-all-requires loop-less loop-again same-length returns)
+exhaust-spec = tie.close (tie.spec Inv-loop μ-loop loop-holds visit-all-requires loop-less loop-again same-length returns)

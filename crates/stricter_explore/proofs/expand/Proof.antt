@@ -24,9 +24,6 @@ Inv-loop left cuts right nb j base marks₀ key k₀ marks k =
 abbrev μ-loop : tie.MeasureT-loop
 μ-loop left cuts right nb j base marks₀ key k₀ marks k = length right - k
 
-mul-key : tie.Need-mul-key Inv-loop μ-loop
-mul-key c = search needs
-
 place-requires : tie.Need-place-requires Inv-loop μ-loop
 place-requires c κs = (omega arith, rw (take-length (c .before .before .before .args .right .now)) (c .before .before .before .pre .0 .0 .ascend-B))
 
@@ -37,37 +34,29 @@ loop-holds c =
       omega arith,
       omega (arith, below-le (a .j * 16777216) (a .right .now)),
       refl,
-      λ i cut. expand-start (a .nb) (a .left .now) (a .right .now) _ (c .before .before .before .before .pre .0 .0) (a .j) (c .before .before .before .before .pre .0 .1) i (a .cuts .now) cut (a .base) (c .place .result) (a .marks .now) e,
+      λ i cut. expand-start (a .nb) (a .left .now) (a .right .now) _ (c .before .before .before .before .pre .0 .0) (a .j) (c .before .before .before .before .pre .0 .1) i (a .cuts .now) cut
+          (a .base) (c .place .result) (a .marks .now) e,
     )
-
-mul-u : tie.Need-mul-u Inv-loop μ-loop
-mul-u c = search needs
-
-shared-slice-read-u : tie.Need-shared-slice-read-u Inv-loop μ-loop
-shared-slice-read-u c = search needs
-
-source-of-requires : tie.Need-source-of-requires Inv-loop μ-loop
-source-of-requires c κs = search needs
 
 same-length : tie.Need-same-length Inv-loop μ-loop
 same-length c = c .before .before .before .before .loop .inv .2
 
 returns : tie.Need-returns Inv-loop μ-loop
 returns c =
-    let a = c .before .before .before .before .before .before .before .before .before .args in
+    let start = c .before .before .before .before .before .before .before .before .before in
+    let a = start .args in
     let l = c .before .before .before .before .loop in
     let other : sourceOf (getD (a .right .now) (l .k) 0) ≡ a .j → ⊥ = λ e. omega (arith, c .before .source-of .ensures) in
-    λ i cut. expand-end (a .nb) (a .left .now) (a .right .now) _ (c .before .before .before .before .before .before .before .before .before .pre .0 .0) (a .j) (c .before .before .before .before .before .before .before .before .before .pre .0 .1) i (a .cuts .now) cut (a .base) (a .marks .now) (l .marks) (l .k) (l .inv .0) (λ h. other) (l .inv .3 i cut)
-
-letter-of-requires : tie.Need-letter-of-requires Inv-loop μ-loop
-letter-of-requires c κs = search needs
+    λ i cut. expand-end (a .nb) (a .left .now) (a .right .now) _ (start .pre .0 .0) (a .j) (start .pre .0 .1) i (a .cuts .now) cut (a .base) (a .marks .now) (l .marks) (l .k) (l .inv .0) (λ h. other)
+    (l .inv .3 i cut)
 
 -- the letter is below 16
 low : (c : tie.After-letter-of Inv-loop μ-loop) → c .letter-of .result < 16
 low c =
-    let a = c .before .before .before .before .before .before .before .before .before .before .args in
+    let start = c .before .before .before .before .before .before .before .before .before .before in
+    let a = start .args in
     let e : c .letter-of .result ≡ letterOf (getD (a .right .now) (c .before .before .before .before .before .loop .k) 0) = c .letter-of .ensures in
-    let h = c .before .before .before .before .before .before .before .before .before .before .pre .0 .0 .lettered _ (mem-at (a .right .now) (c .before .before .before .before .before .loop .k) (omega arith)) in
+    let h = start .pre .0 .0 .lettered _ (mem-at (a .right .now) (c .before .before .before .before .before .loop .k) (omega arith)) in
     rw e h
 
 mul-meet : tie.Need-mul-meet Inv-loop μ-loop
@@ -85,9 +74,6 @@ mul-meet-2 c = let h = low (c .before) in omega arith
 element-copy-out-meet-2 : tie.Need-element-copy-out-meet-2 Inv-loop μ-loop
 element-copy-out-meet-2 c = let h = low (c .before) in omega arith
 
-target-of-requires : tie.Need-target-of-requires Inv-loop μ-loop
-target-of-requires c κs = search needs
-
 cast-meet : tie.Need-cast-meet Inv-loop μ-loop
 cast-meet c = let h = low (c .before .before .before) in omega arith
 
@@ -95,74 +81,51 @@ mul-meet-3 : tie.Need-mul-meet-3 Inv-loop μ-loop
 mul-meet-3 c = let h = low (c .before .before .before) in omega arith
 
 add-meet-2 : tie.Need-add-meet-2 Inv-loop μ-loop
-add-meet-2 c = let h = low (c .before .before .before) in omega (arith, c .before .before .before .before .before .before .before .before .before .before .before .before .before .pre .0 .4)
+add-meet-2 c =
+    let start = c .before .before .before .before .before .before .before .before .before .before .before .before .before in
+    let h = low (c .before .before .before) in omega (arith, start .pre .0 .4)
 
 meet-requires : tie.Need-meet-requires Inv-loop μ-loop
 meet-requires c κs =
-    let a = c .before .before .before .before .before .before .before .before .before .before .before .before .before .before .args in
-    let u = getD (a .right .now) (c .before .before .before .before .before .before .before .before .before .loop .k) 0 in
-    let m = mem-at (a .right .now) (c .before .before .before .before .before .before .before .before .before .loop .k) (omega arith) in
+    let at-loop = c .before .before .before .before .before .before .before .before .before in
+    let start = at-loop .before .before .before .before .before in
+    let a = start .args in
+    let u = getD (a .right .now) (at-loop .loop .k) 0 in
+    let m = mem-at (a .right .now) (at-loop .loop .k) (omega arith) in
     let q : c .before .target-of .result ≡ targetOf u = c .before .target-of .ensures in
     let h = low (c .before .before .before .before) in (
-      c .before .before .before .before .before .before .before .before .before .before .before .before .before .before .pre .1 (c .before .before .before .before .letter-of .result + 1) (omega arith),
-      omega (arith, c .before .before .before .before .before .before .before .before .before .before .before .before .before .before .pre .0 .3),
-      λ t n. rw (q, c .before .before .before .before .before .before .before .before .before .loop .inv .2) (c .before .before .before .before .before .before .before .before .before .before .before .before .before .before .pre .0 .0 .onto t (targetOf u) n (c .before .before .before .before .before .before .before .before .before .before .before .before .before .before .pre .0 .0 .targets u m)),
+      start .pre .1 (c .before .before .before .before .letter-of .result + 1) (omega arith),
+      omega (arith, start .pre .0 .3),
+      λ t n. rw (q, at-loop .loop .inv .2) (start .pre .0 .0 .onto t (targetOf u) n (start .pre .0 .0 .targets u m)),
     )
-
-add-k : tie.Need-add-k Inv-loop μ-loop
-add-k c = search needs
-
-loop-less : tie.Need-loop-less Inv-loop μ-loop
-loop-less c = search needs
 
 loop-again : tie.Need-loop-again Inv-loop μ-loop
 loop-again c =
-    let a = c .before .before .before .before .before .before .before .before .before .before .before .before .before .before .before .before .before .args in
-    let l = c .before .before .before .before .before .before .before .before .before .before .before .before .loop in
-    let s : sourceOf (getD (a .right .now) (l .k) 0) ≡ a .j = omega (arith, c .before .before .before .before .before .before .before .before .before .source-of .ensures) in (
+    let at-letter-of = c .before .before .before .before .before .before .before in
+    let at-source-of = at-letter-of .before .before in
+    let at-loop = at-source-of .before .before .before in
+    let start = at-loop .before .before .before .before .before in
+    let a = start .args in
+    let l = at-loop .loop in
+    let s : sourceOf (getD (a .right .now) (l .k) 0) ≡ a .j = omega (arith, at-source-of .source-of .ensures) in (
       omega (arith, l .inv .0),
       omega arith,
       c .before .before .meet .ensures .long ∙ l .inv .2,
-      λ i cut. expand-next (a .nb) (a .left .now) (a .right .now) _ (c .before .before .before .before .before .before .before .before .before .before .before .before .before .before .before .before .before .pre .0 .0) (a .j) (c .before .before .before .before .before .before .before .before .before .before .before .before .before .before .before .before .before .pre .0 .1) i (a .cuts .now) cut (a .base) (c .before .before .before .before .before .before .before .before .before .before .before .before .before .before .before .before .before .pre .0 .3) (a .marks .now) (l .marks) _ (l .k)
-          (c .before .before .before .before .before .before .before .letter-of .result) (c .before .before .before .before .target-of .result) (omega arith) s (c .before .before .before .before .before .before .before .letter-of .ensures) (c .before .before .before .before .target-of .ensures) (l .inv .3 i cut) (c .before .before .meet .ensures),
+      λ i cut. expand-next (a .nb) (a .left .now) (a .right .now) _ (start .pre .0 .0) (a .j) (start .pre .0 .1) i (a .cuts .now) cut (a .base) (start .pre .0 .3) (a .marks .now) (l .marks) _ (l .k)
+          (at-letter-of .letter-of .result) (c .before .before .before .before .target-of .result) (omega arith) s (at-letter-of .letter-of .ensures)
+          (c .before .before .before .before .target-of .ensures) (l .inv .3 i cut) (c .before .before .meet .ensures),
     )
-
-same-length-2 : tie.Need-same-length-2 Inv-loop μ-loop
-same-length-2 c = c .before .loop .inv .2
 
 returns-2 : tie.Need-returns-2 Inv-loop μ-loop
 returns-2 c =
     let a = c .before .before .before .before .before .before .args in
     let l = c .before .loop in
-    λ i cut. expand-end (a .nb) (a .left .now) (a .right .now) _ (c .before .before .before .before .before .before .pre .0 .0) (a .j) (c .before .before .before .before .before .before .pre .0 .1) i (a .cuts .now) cut (a .base) (a .marks .now) (l .marks) (l .k) (l .inv .0) (λ h. absurd (omega arith)) (l .inv .3 i cut)
+    λ i cut. expand-end (a .nb) (a .left .now) (a .right .now) _ (c .before .before .before .before .before .before .pre .0 .0) (a .j) (c .before .before .before .before .before .before .pre .0 .1) i
+    (a .cuts .now) cut (a .base) (a .marks .now) (l .marks) (l .k) (l .inv .0) (λ h. absurd (omega arith)) (l .inv .3 i cut)
 
 pub expand-spec : {M : Type 1} → statement M
 expand-spec =
-    tie.close
-    (tie.spec
-    Inv-loop
-    μ-loop
-    mul-key
-    place-requires
-    loop-holds
-    mul-u
-    shared-slice-read-u
-    source-of-requires
-    same-length
-    returns
-    letter-of-requires
-    mul-meet
-    element-copy-out-meet
-    add-meet
-    mul-meet-2
-    element-copy-out-meet-2
-    target-of-requires
-    cast-meet
-    mul-meet-3
-    add-meet-2
-    meet-requires
-    add-k
-    loop-less
-    loop-again
-    same-length-2
-    returns-2)
+    tie.close (tie.spec
+    Inv-loop μ-loop (λ c. search needs) place-requires loop-holds (λ c. search needs) (λ c. search needs) (λ c κs. search needs) same-length returns
+    (λ c κs. search needs) mul-meet element-copy-out-meet add-meet mul-meet-2 element-copy-out-meet-2 (λ c κs. search needs) cast-meet mul-meet-3 add-meet-2
+    meet-requires (λ c. search needs) (λ c. search needs) loop-again (λ c. c .before .loop .inv .2) returns-2)

@@ -4,20 +4,11 @@ use borrow.Author.Needs.{needs}
 use Rattle.stricter_explore.proofs.kind.Statement.{statement}
 use Rattle.stricter_explore.proofs.kind.Tie as tie
 
-is-accepting-requires : tie.Need-is-accepting-requires
-is-accepting-requires c κs = search needs
-
-is-accepting-requires-2 : tie.Need-is-accepting-requires-2
-is-accepting-requires-2 c κs = search needs
-
 returns : tie.Need-returns
 returns c = rw (sym (c .before .before .before .is-accepting .ensures) ∙ c .before .before .if1 .taken, sym (c .before .is-accepting2 .ensures) ∙ c .if2 .taken)
 
 returns-2 : tie.Need-returns-2
 returns-2 c = rw (sym (c .before .before .before .is-accepting .ensures) ∙ c .before .before .if1 .taken, sym (c .before .is-accepting2 .ensures) ∙ c .if2 .left)
-
-is-accepting-requires-3 : tie.Need-is-accepting-requires-3
-is-accepting-requires-3 c κs = search needs
 
 returns-3 : tie.Need-returns-3
 returns-3 c = rw (sym (c .before .before .before .is-accepting .ensures) ∙ c .before .before .if1 .left, sym (c .before .is-accepting3 .ensures) ∙ c .if3 .taken)
@@ -26,13 +17,4 @@ returns-4 : tie.Need-returns-4
 returns-4 c = rw (sym (c .before .before .before .is-accepting .ensures) ∙ c .before .before .if1 .left, sym (c .before .is-accepting3 .ensures) ∙ c .if3 .left)
 
 pub kind-spec : {M : Type 1} → statement M
-kind-spec =
-    tie.close
-    (tie.spec
-    is-accepting-requires
-    is-accepting-requires-2
-    returns
-    returns-2
-    is-accepting-requires-3
-    returns-3
-    returns-4)
+kind-spec = tie.close (tie.spec (λ c κs. search needs) (λ c κs. search needs) returns returns-2 (λ c κs. search needs) returns-3 returns-4)

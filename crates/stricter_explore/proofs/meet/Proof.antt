@@ -24,20 +24,13 @@ loop-holds c = (omega arith, refl, λ p a b. omega arith, marked-start _ _ _ (λ
 
 -- the node is below the number of marks
 node-low : (c : tie.At-loop Inv-loop μ-loop) → c .loop .c < length (c .before .before .before .args .moves .now)
-    → targetOf (getD (c .before .before .before .args .moves .now) (c .loop .c) 0) * c .before .before .before .args .nb + c .before .before .before .args .q < length (c .before .before .before .args .marks .now)
+    → targetOf (getD (c .before .before .before .args .moves .now) (c .loop .c) 0) * c .before .before .before .args .nb + c .before .before .before .args .q < length
+    (c .before .before .before .args .marks .now)
 node-low c l = c .before .before .before .pre .2 _ (mem-at _ (c .loop .c) l)
 
-mul-target-of : tie.Need-mul-target-of Inv-loop μ-loop
-mul-target-of c = search needs
-
-shared-slice-read-target-of : tie.Need-shared-slice-read-target-of Inv-loop μ-loop
-shared-slice-read-target-of c = search needs
-
-target-of-requires : tie.Need-target-of-requires Inv-loop μ-loop
-target-of-requires c κs = search needs
-
 -- the same of what `target_of` answers
-at-low : (c : tie.After-target-of Inv-loop μ-loop) → c .target-of .result * c .before .before .before .before .before .before .args .nb + c .before .before .before .before .before .before .args .q < length (c .before .before .before .before .before .before .args .marks .now)
+at-low : (c : tie.After-target-of Inv-loop μ-loop) → c .target-of .result * c .before .before .before .before .before .before .args .nb + c .before .before .before .before .before
+    .before .args .q < length (c .before .before .before .before .before .before .args .marks .now)
 at-low c =
     let e : c .target-of .result ≡ targetOf (getD (c .before .before .before .before .before .before .args .moves .now) (c .before .before .before .loop .c) 0) = c .target-of .ensures in
     rw e (node-low (c .before .before .before) (omega arith))
@@ -48,41 +41,31 @@ mul-y c = let h = at-low c in omega arith
 add-y : tie.Need-add-y Inv-loop μ-loop
 add-y c = let h = at-low c in omega arith
 
-add-c : tie.Need-add-c Inv-loop μ-loop
-add-c c = search needs
-
 slice-read-if1 : tie.Need-slice-read-if1 Inv-loop μ-loop
 slice-read-if1 c = let h = at-low (c .before) in omega (arith, c .before .before .before .before .loop .inv .1)
 
 slice-write-marks : tie.Need-slice-write-marks Inv-loop μ-loop
 slice-write-marks c = let h = at-low (c .before .before) in omega (arith, c .before .before .before .before .before .loop .inv .1)
 
-loop-less : tie.Need-loop-less Inv-loop μ-loop
-loop-less c = search needs
-
 loop-again : tie.Need-loop-again Inv-loop μ-loop
 loop-again c =
-    let a = c .before .before .before .before .before .before .before .before .args in
+    let start = c .before .before .before .before .before .before .before .before in
+    let a = start .args in
     let l = c .before .before .before .before .before .loop in
     let e : c .before .before .target-of .result ≡ targetOf (getD (a .moves .now) (l .c) 0) = c .before .before .target-of .ensures in
-    let n = meet-set (a .nb) (a .moves .now) (a .from) (l .c) (a .q) (a .byte) (c .before .before .before .before .before .before .before .before .pre .1) (a .marks .now) (l .marks) (l .inv .3)
+    let n = meet-set (a .nb) (a .moves .now) (a .from) (l .c) (a .q) (a .byte) (start .pre .1) (a .marks .now) (l .marks) (l .inv .3)
     (c .before .before .target-of .result * a .nb + a .q) (ap (λ (t : ℕ). t * a .nb + a .q) e) (l .inv .0) (omega arith) in
     (omega (arith, l .inv .0), n .long, λ p h k. omega arith, n)
 
-loop-less-2 : tie.Need-loop-less-2 Inv-loop μ-loop
-loop-less-2 c = search needs
-
 loop-again-2 : tie.Need-loop-again-2 Inv-loop μ-loop
 loop-again-2 c =
-    let a = c .before .before .before .before .before .before .before .before .args in
+    let start = c .before .before .before .before .before .before .before .before in
+    let a = start .args in
     let l = c .before .before .before .before .before .loop in
     let e : c .before .before .target-of .result ≡ targetOf (getD (a .moves .now) (l .c) 0) = c .before .before .target-of .ensures in
-    let n = meet-stay (a .nb) (a .moves .now) (a .from) (l .c) (a .q) (a .byte) (c .before .before .before .before .before .before .before .before .pre .1) (a .marks .now) (l .marks) (l .inv .3)
+    let n = meet-stay (a .nb) (a .moves .now) (a .from) (l .c) (a .q) (a .byte) (start .pre .1) (a .marks .now) (l .marks) (l .inv .3)
     (c .before .before .target-of .result * a .nb + a .q) (ap (λ (t : ℕ). t * a .nb + a .q) e) (λ h. omega arith) in
     (omega (arith, l .inv .0), n .long, λ p h k. omega arith, n)
-
-same-length : tie.Need-same-length Inv-loop μ-loop
-same-length c = c .before .loop .inv .1
 
 returns : tie.Need-returns Inv-loop μ-loop
 returns c =
@@ -94,22 +77,6 @@ returns c =
 
 pub meet-spec : {M : Type 1} → statement M
 meet-spec =
-    tie.close
-    (tie.spec
-    Inv-loop
-    μ-loop
-    loop-holds
-    mul-target-of
-    shared-slice-read-target-of
-    target-of-requires
-    mul-y
-    add-y
-    add-c
-    slice-read-if1
-    slice-write-marks
-    loop-less
-    loop-again
-    loop-less-2
-    loop-again-2
-    same-length
-    returns)
+    tie.close (tie.spec
+    Inv-loop μ-loop loop-holds (λ c. search needs) (λ c. search needs) (λ c κs. search needs) mul-y add-y (λ c. search needs) slice-read-if1 slice-write-marks
+    (λ c. search needs) loop-again (λ c. search needs) loop-again-2 (λ c. c .before .loop .inv .1) returns)

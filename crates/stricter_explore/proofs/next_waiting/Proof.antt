@@ -13,17 +13,8 @@ Inv-loop marks from to x₀ x = (from ≤ x) × (x ≤ to) × NoneWaits marks fr
 abbrev μ-loop : tie.MeasureT-loop
 μ-loop marks from to x₀ x = to - x
 
-next-set-requires : tie.Need-next-set-requires Inv-loop μ-loop
-next-set-requires c κs = search needs
-
 loop-holds : tie.Need-loop-holds Inv-loop μ-loop
 loop-holds c = let n = c .next-set .ensures in (n .before .ordered, n .within, none-zeros (c .before .before .args .marks .now) _ _ (n .before .zeros))
-
-shared-slice-read-waits : tie.Need-shared-slice-read-waits Inv-loop μ-loop
-shared-slice-read-waits c = search needs
-
-waits-requires : tie.Need-waits-requires Inv-loop μ-loop
-waits-requires c κs = search needs
 
 returns : tie.Need-returns Inv-loop μ-loop
 returns c =
@@ -31,20 +22,19 @@ returns c =
     let w = c .before .waits .ensures .0 (c .if1 .taken) in
     record { ordered = l .inv .0; within = l .inv .1; before = l .inv .2; waits = λ h. record { big = w .0; small = w .1 } }
 
-add-next-set : tie.Need-add-next-set Inv-loop μ-loop
-add-next-set c = search needs
-
-next-set-requires-2 : tie.Need-next-set-requires-2 Inv-loop μ-loop
-next-set-requires-2 c κs = search needs
-
 loop-less : tie.Need-loop-less Inv-loop μ-loop
 loop-less c = omega (arith, c .next-set2 .ensures .before .ordered, c .before .before .before .before .loop-test .taken)
 
 loop-again : tie.Need-loop-again Inv-loop μ-loop
 loop-again c =
+    let start = c .before .before .before .before .before .before .before .before in
     let l = c .before .before .before .before .before .loop in
-    let n = c .next-set2 .ensures in
-    (omega (arith, l .inv .0, n .before .ordered), n .within, none-next (c .before .before .before .before .before .before .before .before .args .marks .now) _ (l .x) _ (l .inv .2) (c .before .before .waits .ensures .1 (c .before .if1 .left)) (n .before .zeros))
+    let n = c .next-set2 .ensures in (
+      omega (arith, l .inv .0, n .before .ordered),
+      n .within,
+      none-next (start .args .marks .now) _ (l .x) _ (l .inv .2) (c .before .before .waits .ensures .1 (c .before .if1 .left))
+          (n .before .zeros),
+    )
 
 returns-2 : tie.Need-returns-2 Inv-loop μ-loop
 returns-2 c =
@@ -53,17 +43,6 @@ returns-2 c =
 
 pub next-waiting-spec : {M : Type 1} → statement M
 next-waiting-spec =
-    tie.close
-    (tie.spec
-    Inv-loop
-    μ-loop
-    next-set-requires
-    loop-holds
-    shared-slice-read-waits
-    waits-requires
-    returns
-    add-next-set
-    next-set-requires-2
-    loop-less
-    loop-again
-    returns-2)
+    tie.close (tie.spec
+    Inv-loop μ-loop (λ c κs. search needs) loop-holds (λ c. search needs) (λ c κs. search needs) returns (λ c. search needs) (λ c κs. search needs) loop-less
+    loop-again returns-2)

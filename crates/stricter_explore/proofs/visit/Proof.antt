@@ -25,70 +25,47 @@ add-x c = let h = low (c .before .before .before .before .before) in omega arith
 slice-read-v : tie.Need-slice-read-v
 slice-read-v c = let h = low (c .before .before .before .before .before .before) in omega arith
 
-mul-kind : tie.Need-mul-kind
-mul-kind c = search needs
-
-shared-slice-read-kind : tie.Need-shared-slice-read-kind
-shared-slice-read-kind c = search needs
-
-mul-kind-2 : tie.Need-mul-kind-2
-mul-kind-2 c = search needs
-
-shared-slice-read-kind-2 : tie.Need-shared-slice-read-kind-2
-shared-slice-read-kind-2 c = search needs
-
-kind-requires : tie.Need-kind-requires
-kind-requires c κs = search needs
+abbrev start-of-after-kind : tie.After-kind → tie.Start
+start-of-after-kind c = c .before .before .before .before .before .before .before .before .before
 
 -- what `kind` answers
-kind-is : (c : tie.After-kind) → c .kind .result ≡ kindIn (c .before .before .before .before .before .before .before .before .before .args .lcodes .now) (c .before .before .before .before .before .before .before .before .before .args .rcodes .now) (c .before .before .before .before .before .before .before .before .before .args .i * length (c .before .before .before .before .before .before .before .before .before .args .rcodes .now) + c .before .before .before .before .before .before .before .before .before .args .j)
-kind-is c = c .kind .ensures ∙ sym (kind-at (c .before .before .before .before .before .before .before .before .before .args .lcodes .now) (c .before .before .before .before .before .before .before .before .before .args .rcodes .now) (c .before .before .before .before .before .before .before .before .before .args .i) (c .before .before .before .before .before .before .before .before .before .args .j) (c .before .before .before .before .before .before .before .before .before .pre .3))
+kind-is : (c : tie.After-kind) → c .kind .result ≡ kindIn (start-of-after-kind c .args .lcodes .now) (start-of-after-kind c .args .rcodes .now)
+    (start-of-after-kind c .args .i * length (start-of-after-kind c .args .rcodes .now) + start-of-after-kind c .args .j)
+kind-is c = c .kind .ensures ∙ sym (kind-at (start-of-after-kind c .args .lcodes .now) (start-of-after-kind c .args .rcodes .now) (start-of-after-kind c .args .i) (start-of-after-kind c .args .j)
+    (start-of-after-kind c .pre .3))
 
 add-expand : tie.Need-add-expand
-add-expand c = let e = kind-is c in let h = kind-low (c .before .before .before .before .before .before .before .before .before .args .lcodes .now) (c .before .before .before .before .before .before .before .before .before .args .rcodes .now) (c .before .before .before .before .before .before .before .before .before .args .i * length (c .before .before .before .before .before .before .before .before .before .args .rcodes .now) + c .before .before .before .before .before .before .before .before .before .args .j) in omega arith
+add-expand c =
+    let start = c .before .before .before .before .before .before .before .before .before in
+    let e = kind-is c in let h = kind-low (start .args .lcodes .now) (start .args .rcodes .now) (start .args .i * length (start .args .rcodes .now) + start .args .j) in omega arith
 
 expand-requires : tie.Need-expand-requires
 expand-requires c κs =
-    let a = c .before .before .before .before .before .before .before .before .before .before .args in
-    let f = c .before .before .before .before .before .before .before .before .before .before .pre .0 in
+    let start = c .before .before .before .before .before .before .before .before .before .before in
+    let a = start .args in
+    let f = start .pre .0 in
     let e = kind-is (c .before) in
     let h = kind-low (a .lcodes .now) (a .rcodes .now) (a .i * length (a .rcodes .now) + a .j) in (
-      (rw (f .marked) (f .paired), c .before .before .before .before .before .before .before .before .before .before .pre .3, omega (arith, c .before .before .before .before .before .before .before .before .before .before .pre .3, f .few-B), omega arith, omega arith),
-      cut-le (a .left .now) (f .paired .ascend-A) (a .i) (a .cuts .now) (c .before .before .before .before .before .before .before .before .before .before .pre .1),
+      (rw (f .marked) (f .paired), start .pre .3, omega (arith, start .pre .3, f .few-B), omega arith, omega arith),
+      cut-le (a .left .now) (f .paired .ascend-A) (a .i) (a .cuts .now) (start .pre .1),
     )
 
-add-marks : tie.Need-add-marks
-add-marks c = search needs
-
 slice-write-marks : tie.Need-slice-write-marks
-slice-write-marks c = let h = low (c .before .before .before .before .before .before .before .before .before .before .before .before .before) in omega (arith, c .before .before .expand .ensures (c .before .before .before .before .before .before .before .before .before .before .before .before .before .args .i) (c .before .before .before .before .before .before .before .before .before .before .before .before .before .pre .1) .long)
-
-same-length : tie.Need-same-length
-same-length c = search needs
+slice-write-marks c =
+    let start = c .before .before .before .before .before .before .before .before .before .before .before .before .before in
+    let h = low (start) in omega (arith, c .before .before .expand .ensures (start .args .i) (start .pre .1) .long)
 
 returns : tie.Need-returns
 returns c =
-    let a = c .before .before .before .before .before .before .before .before .before .before .before .before .before .args in
+    let start = c .before .before .before .before .before .before .before .before .before .before .before .before .before in
+    let a = start .args in
     passed-visit (PairStep (length (a .rcodes .now)) (a .left .now) (a .right .now)) (kindIn (a .lcodes .now) (a .rcodes .now))
-    (step-lettered _ _ _ _ (c .before .before .before .before .before .before .before .before .before .before .before .before .before .pre .0 .paired)) (kind-low _ _) (a .i * length (a .rcodes .now) + a .j) _ _
-    (PairEdge (length (a .rcodes .now)) (a .left .now) (a .right .now) (a .i * length (a .rcodes .now) + a .j)) (a .marks .now) _ refl (c .before .before .before .before .before .before .before .before .before .before .before .before .before .pre .4 .big) (c .before .before .before .before .before .before .before .before .before .before .before .before .before .pre .4 .small)
-    (ap (λ (k : ℕ). 64 + k) (kind-is (c .before .before .before .before))) (λ b y s. (b, s)) (c .before .before .expand .ensures (a .i) (c .before .before .before .before .before .before .before .before .before .before .before .before .before .pre .1))
+    (step-lettered _ _ _ _ (start .pre .0 .paired)) (kind-low _ _) (a .i * length (a .rcodes .now) + a .j) _ _
+    (PairEdge (length (a .rcodes .now)) (a .left .now) (a .right .now) (a .i * length (a .rcodes .now) + a .j)) (a .marks .now) _ refl (start .pre .4 .big) (start .pre .4 .small)
+    (ap (λ (k : ℕ). 64 + k) (kind-is (c .before .before .before .before))) (λ b y s. (b, s)) (c .before .before .expand .ensures (a .i) (start .pre .1))
 
 pub visit-spec : {M : Type 1} → statement M
 visit-spec =
-    tie.close
-    (tie.spec
-    mul-x
-    add-x
-    slice-read-v
-    mul-kind
-    shared-slice-read-kind
-    mul-kind-2
-    shared-slice-read-kind-2
-    kind-requires
-    add-expand
-    expand-requires
-    add-marks
-    slice-write-marks
-    same-length
-    returns)
+    tie.close (tie.spec
+    mul-x add-x slice-read-v (λ c. search needs) (λ c. search needs) (λ c. search needs) (λ c. search needs) (λ c κs. search needs) add-expand expand-requires
+    (λ c. search needs) slice-write-marks (λ c. search needs) returns)

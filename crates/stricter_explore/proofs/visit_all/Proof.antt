@@ -19,46 +19,51 @@ Inv-loop lcodes left rcodes right marks₀ nb changed₀ x₀ marks changed x =
 abbrev μ-loop : tie.MeasureT-loop
 μ-loop lcodes left rcodes right marks₀ nb changed₀ x₀ marks changed x = length marks₀ - x
 
-next-waiting-requires : tie.Need-next-waiting-requires Inv-loop μ-loop
-next-waiting-requires c κs = search needs
-
 loop-holds : tie.Need-loop-holds Inv-loop μ-loop
 loop-holds c =
-    let a = c .before .before .before .before .before .before .before .args in
+    let start = c .before .before .before .before .before .before .before in
+    let a = start .args in
     let n = c .next-waiting .ensures in (
       n .within,
       n .waits,
       passed-over (PairStep (length (a .rcodes .now)) (a .left .now) (a .right .now)) (kindIn (a .lcodes .now) (a .rcodes .now))
-          (step-lettered _ _ _ _ (c .before .before .before .before .before .before .before .pre .paired)) (kind-low _ _) 0 _ (a .marks .now) (n .before),
+          (step-lettered _ _ _ _ (start .pre .paired)) (kind-low _ _) 0 _ (a .marks .now) (n .before),
     )
 
+abbrev start-of-in-loop : tie.In-loop Inv-loop μ-loop → tie.Start Inv-loop μ-loop
+start-of-in-loop c = c .before .before .before .before .before .before .before .before .before
+
 -- x is below the number of marks
-below : (c : tie.In-loop Inv-loop μ-loop) → c .before .loop .x < length (c .before .before .before .before .before .before .before .before .before .args .marks .now)
+below : (c : tie.In-loop Inv-loop μ-loop) → c .before .loop .x < length (start-of-in-loop c .args .marks .now)
 below c = omega (arith, c .loop-test .taken, c .before .loop .inv .2 .long)
 
 -- its two numbers
-numbers : (c : tie.In-loop Inv-loop μ-loop) → Parts (length (c .before .before .before .before .before .before .before .before .before .args .lcodes .now)) (length (c .before .before .before .before .before .before .before .before .before .args .rcodes .now)) (c .before .loop .x)
-numbers c = let a = c .before .before .before .before .before .before .before .before .before .args in pair-parts (length (a .lcodes .now)) (length (a .rcodes .now)) (c .before .loop .x) _ _ (a .marks .now) (c .before .before .before .before .before .before .before .before .before .pre) (below c)
+numbers : (c : tie.In-loop Inv-loop μ-loop) → Parts (length (start-of-in-loop c .args .lcodes .now)) (length (start-of-in-loop c .args .rcodes .now)) (c .before .loop .x)
+numbers c = let a = start-of-in-loop c .args in pair-parts (length (a .lcodes .now)) (length (a .rcodes .now)) (c .before .loop .x) _ _ (a .marks .now) (start-of-in-loop c .pre) (below c)
 
 -- the row ends within the marks
-ends : (c : tie.In-loop Inv-loop μ-loop) → c .before .loop .x / length (c .before .before .before .before .before .before .before .before .before .args .rcodes .now) * length (c .before .before .before .before .before .before .before .before .before .args .rcodes .now) + length (c .before .before .before .before .before .before .before .before .before .args .rcodes .now) ≤ length (c .before .before .before .before .before .before .before .before .before .args .marks .now)
-ends c = let a = c .before .before .before .before .before .before .before .before .before .args in row-end (length (a .lcodes .now)) (length (a .rcodes .now)) _ _ _ (a .marks .now) (c .before .before .before .before .before .before .before .before .before .pre) (numbers c .first) (numbers c .some)
+ends : (c : tie.In-loop Inv-loop μ-loop) → c .before .loop .x / length (start-of-in-loop c .args .rcodes .now) * length (start-of-in-loop c .args .rcodes .now) + length
+    (start-of-in-loop c .args .rcodes .now) ≤ length (start-of-in-loop c .args .marks .now)
+ends c = let a = start-of-in-loop c .args in row-end (length (a .lcodes .now)) (length (a .rcodes .now)) _ _ _ (a .marks .now) (start-of-in-loop c .pre) (numbers c .first) (numbers c .some)
 
 div-i : tie.Need-div-i Inv-loop μ-loop
 div-i c = omega (arith, numbers c .some)
 
 cut-row-requires : tie.Need-cut-row-requires Inv-loop μ-loop
-cut-row-requires c κs = (c .before .before .before .before .before .before .before .before .before .pre .paired .ascend-A, omega (arith, numbers c .first, c .before .before .before .before .before .before .before .before .before .pre .few-A))
+cut-row-requires c κs =
+    let start = c .before .before .before .before .before .before .before .before .before in
+    (start .pre .paired .ascend-A, omega (arith, numbers c .first, start .pre .few-A))
 
 rem-visit-row : tie.Need-rem-visit-row Inv-loop μ-loop
 rem-visit-row c = omega (arith, numbers (c .before .before) .some)
 
 visit-row-requires : tie.Need-visit-row-requires Inv-loop μ-loop
 visit-row-requires c κs =
-    let a = c .before .before .before .before .before .before .before .before .before .before .before .before .args in
+    let start = c .before .before .before .before .before .before .before .before .before .before .before .before in
+    let a = start .args in
     let l = c .before .before .before .before .loop in
     let n = numbers (c .before .before .before) in (
-      fits-same (length (a .lcodes .now)) (length (a .rcodes .now)) _ _ (a .marks .now) (l .marks) (l .inv .2 .long) (c .before .before .before .before .before .before .before .before .before .before .before .before .pre),
+      fits-same (length (a .lcodes .now)) (length (a .rcodes .now)) _ _ (a .marks .now) (l .marks) (l .inv .2 .long) (start .pre),
       c .before .before .cut-row .ensures,
       n .first,
       n .second,
@@ -66,55 +71,51 @@ visit-row-requires c κs =
     )
 
 mul-next-waiting : tie.Need-mul-next-waiting Inv-loop μ-loop
-mul-next-waiting c = let h = ends (c .before .before .before .before .before .before .before) in omega arith
+mul-next-waiting c =
+    let earlier = c .before .before .before .before .before .before .before in
+    let h = ends (earlier) in omega arith
 
 add-next-waiting : tie.Need-add-next-waiting Inv-loop μ-loop
-add-next-waiting c = let h = ends (c .before .before .before .before .before .before .before) in omega arith
+add-next-waiting c =
+    let earlier = c .before .before .before .before .before .before .before in
+    let h = ends (earlier) in omega arith
 
 next-waiting-requires-2 : tie.Need-next-waiting-requires-2 Inv-loop μ-loop
-next-waiting-requires-2 c κs = let h = ends (c .before .before .before .before .before .before .before) in (omega (arith, c .before .before .before .visit-row .ensures .long, c .before .before .before .before .before .before .before .before .loop .inv .2 .long), omega arith)
+next-waiting-requires-2 c κs =
+    let earlier = c .before .before .before .before .before .before .before in
+    let at-loop = earlier .before in
+    let h = ends (earlier) in (omega (arith, c .before .before .before .visit-row .ensures .long, at-loop .loop .inv .2 .long), omega arith)
 
 loop-less : tie.Need-loop-less Inv-loop μ-loop
-loop-less c = let n = numbers (c .before .before .before .before .before .before .before .before) in omega (arith, c .next-waiting2 .ensures .ordered, n .whole, n .second, below (c .before .before .before .before .before .before .before .before))
+loop-less c =
+    let earlier = c .before .before .before .before .before .before .before .before in
+    let n = numbers (earlier) in omega (arith, c .next-waiting2 .ensures .ordered, n .whole, n .second, below (earlier))
 
 loop-again : tie.Need-loop-again Inv-loop μ-loop
 loop-again c =
-    let a = c .before .before .before .before .before .before .before .before .before .before .before .before .before .before .before .before .before .args in
-    let l = c .before .before .before .before .before .before .before .before .before .loop in
+    let earlier = c .before .before .before .before .before .before .before .before in
+    let at-loop = earlier .before in
+    let start = at-loop .before .before .before .before .before .before .before .before in
+    let a = start .args in
+    let l = at-loop .loop in
     let n = c .next-waiting2 .ensures in
     let nb = length (a .rcodes .now) in
     let long : _ ≡ length (a .marks .now) = c .before .before .before .before .visit-row .ensures .long ∙ l .inv .2 .long in (
       omega (arith, n .within, long),
       λ h. n .waits (omega (arith, h, long)),
-      passed-turn (PairStep nb (a .left .now) (a .right .now)) (kindIn (a .lcodes .now) (a .rcodes .now)) (step-lettered _ _ _ _ (c .before .before .before .before .before .before .before .before .before .before .before .before .before .before .before .before .before .pre .paired)) (kind-low _ _)
-          0 (l .x) (l .x / nb * nb + nb) _ (a .marks .now) (l .marks) _ (l .changed) (l .inv .2) (rw (numbers (c .before .before .before .before .before .before .before .before) .whole) at (c .before .before .before .before .visit-row .ensures)) (n .before),
+      passed-turn (PairStep nb (a .left .now) (a .right .now)) (kindIn (a .lcodes .now) (a .rcodes .now)) (step-lettered _ _ _ _ (start .pre .paired)) (kind-low _ _)
+          0 (l .x) (l .x / nb * nb + nb) _ (a .marks .now) (l .marks) _ (l .changed) (l .inv .2) (rw (numbers (earlier) .whole) at (c .before .before .before .before .visit-row .ensures)) (n .before),
     )
-
-same-length : tie.Need-same-length Inv-loop μ-loop
-same-length c = c .before .loop .inv .2 .long
 
 returns : tie.Need-returns Inv-loop μ-loop
 returns c =
+    let start = c .before .before .before .before .before .before .before .before .before in
     let l = c .before .loop in
-    let e : l .x ≡ length (c .before .before .before .before .before .before .before .before .before .args .marks .now) = omega (arith, l .inv .0, l .inv .2 .long, c .loop-test .left) in
+    let e : l .x ≡ length (start .args .marks .now) = omega (arith, l .inv .0, l .inv .2 .long, c .loop-test .left) in
     rw e at (l .inv .2)
 
 pub visit-all-spec : {M : Type 1} → statement M
 visit-all-spec =
-    tie.close
-    (tie.spec
-    Inv-loop
-    μ-loop
-    next-waiting-requires
-    loop-holds
-    div-i
-    cut-row-requires
-    rem-visit-row
-    visit-row-requires
-    mul-next-waiting
-    add-next-waiting
-    next-waiting-requires-2
-    loop-less
-    loop-again
-    same-length
-    returns)
+    tie.close (tie.spec
+    Inv-loop μ-loop (λ c κs. search needs) loop-holds div-i cut-row-requires rem-visit-row visit-row-requires mul-next-waiting add-next-waiting
+    next-waiting-requires-2 loop-less loop-again (λ c. c .before .loop .inv .2 .long) returns)

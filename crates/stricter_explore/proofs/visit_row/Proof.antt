@@ -45,33 +45,50 @@ loop-holds c =
 
 visit-requires : tie.Need-visit-requires Inv-loop μ-loop
 visit-requires c κs =
-    let a = c .before .before .before .before .before .before .before .args in
-    let p = c .before .before .before .before .before .before .before .pre in
+    let start = c .before .before .before .before .before .before .before in
+    let a = start .args in
+    let p = start .pre in
     let l = c .before .loop in
     (fits-same (length (a .lcodes .now)) (length (a .rcodes .now)) _ _ (a .marks .now) (l .marks) (l .inv .2 .1 .long) (p .0), p .1, p .2, l .inv .0, l .inv .1)
 
 add-next-waiting : tie.Need-add-next-waiting Inv-loop μ-loop
-add-next-waiting c = let h = ends (c .before .before .before .before .before .before .before .before .before .before .before) in omega (arith, c .before .before .before .before .before .loop .inv .0)
+add-next-waiting c =
+    let earlier = c .before .before .before .before .before .before .before .before .before .before .before in
+    let h = ends (earlier) in omega (arith, c .before .before .before .before .before .loop .inv .0)
 
 add-next-waiting-2 : tie.Need-add-next-waiting-2 Inv-loop μ-loop
-add-next-waiting-2 c = let h = ends (c .before .before .before .before .before .before .before .before .before .before .before) in omega (arith, c .before .before .before .before .before .loop .inv .0)
+add-next-waiting-2 c =
+    let earlier = c .before .before .before .before .before .before .before .before .before .before .before in
+    let h = ends (earlier) in omega (arith, c .before .before .before .before .before .loop .inv .0)
 
 next-waiting-requires : tie.Need-next-waiting-requires Inv-loop μ-loop
-next-waiting-requires c κs = let h = ends (c .before .before .before .before .before .before .before .before .before .before .before) in let l = c .before .before .before .before .before .loop in
+next-waiting-requires c κs =
+    let earlier = c .before .before .before .before .before .before .before .before .before .before .before in
+    let h = ends (earlier) in let l = c .before .before .before .before .before .loop in
     (omega (arith, l .inv .0), omega (arith, c .before .before .before .visit .ensures .long, l .inv .2 .1 .long))
 
 same-length : tie.Need-same-length Inv-loop μ-loop
-same-length c = c .before .before .before .before .before .visit .ensures .long ∙ c .before .before .before .before .before .before .before .loop .inv .2 .1 .long
+same-length c =
+    let at-loop = c .before .before .before .before .before .before .before in
+    c .before .before .before .before .before .visit .ensures .long ∙ at-loop .loop .inv .2 .1 .long
 
 -- one turn
-turn : (c : tie.After-next-waiting Inv-loop μ-loop) → Passed (PairStep (length (c .before .before .before .before .before .before .before .before .before .before .before .before .args .rcodes .now)) (c .before .before .before .before .before .before .before .before .before .before .before .before .args .left .now) (c .before .before .before .before .before .before .before .before .before .before .before .before .args .right .now)) (kindIn (c .before .before .before .before .before .before .before .before .before .before .before .before .args .lcodes .now) (c .before .before .before .before .before .before .before .before .before .before .before .before .args .rcodes .now))
-    (c .before .before .before .before .before .before .before .before .before .before .before .before .args .i * length (c .before .before .before .before .before .before .before .before .before .before .before .before .args .rcodes .now) + c .before .before .before .before .before .before .before .before .before .before .before .before .args .j) (c .next-waiting .result) (c .before .before .before .before .before .before .before .before .before .before .before .before .args .marks .now) (c .before .before .before .before .visit .last .1 .1 .1 .1 .1 .1 .1 .0) true
+turn : (c : tie.After-next-waiting Inv-loop μ-loop) → Passed (PairStep (length (c .before .before .before .before .before .before .before .before .before .before .before .before .args .rcodes .now))
+    (c .before .before .before .before .before .before .before .before .before .before .before .before .args .left .now)
+    (c .before .before .before .before .before .before .before .before .before .before .before .before .args .right .now))
+    (kindIn (c .before .before .before .before .before .before .before .before .before .before .before .before .args .lcodes .now)
+    (c .before .before .before .before .before .before .before .before .before .before .before .before .args .rcodes .now))
+    (c .before .before .before .before .before .before .before .before .before .before .before .before .args .i * length
+    (c .before .before .before .before .before .before .before .before .before .before .before .before .args .rcodes .now) + c .before .before .before .before .before .before .before .before
+    .before .before .before .before .args .j) (c .next-waiting .result) (c .before .before .before .before .before .before .before .before .before .before .before .before .args .marks .now)
+    (c .before .before .before .before .visit .last .1 .1 .1 .1 .1 .1 .1 .0) true
 turn c =
-    let a = c .before .before .before .before .before .before .before .before .before .before .before .before .args in
+    let start = c .before .before .before .before .before .before .before .before .before .before .before .before in
+    let a = start .args in
     let l = c .before .before .before .before .before .before .loop in
     let row = a .i * length (a .rcodes .now) in
     passed-turn (PairStep (length (a .rcodes .now)) (a .left .now) (a .right .now)) (kindIn (a .lcodes .now) (a .rcodes .now))
-    (step-lettered _ _ _ _ (c .before .before .before .before .before .before .before .before .before .before .before .before .pre .0 .paired)) (kind-low _ _) (row + a .j) (row + l .k) (row + l .k + 1) _ (a .marks .now) (l .marks) _ (l .inv .2 .0)
+    (step-lettered _ _ _ _ (start .pre .0 .paired)) (kind-low _ _) (row + a .j) (row + l .k) (row + l .k + 1) _ (a .marks .now) (l .marks) _ (l .inv .2 .0)
     (l .inv .2 .1) (c .before .before .before .before .visit .ensures) (c .next-waiting .ensures .before)
 
 returns : tie.Need-returns Inv-loop μ-loop
@@ -81,11 +98,14 @@ sub-k : tie.Need-sub-k Inv-loop μ-loop
 sub-k c = omega (arith, c .before .next-waiting .ensures .ordered)
 
 loop-less : tie.Need-loop-less Inv-loop μ-loop
-loop-less c = omega (arith, c .before .next-waiting .ensures .ordered, c .before .before .before .before .before .before .before .loop .inv .0)
+loop-less c =
+    let at-loop = c .before .before .before .before .before .before .before in
+    omega (arith, c .before .next-waiting .ensures .ordered, at-loop .loop .inv .0)
 
 loop-again : tie.Need-loop-again Inv-loop μ-loop
 loop-again c =
-    let a = c .before .before .before .before .before .before .before .before .before .before .before .before .before .args in
+    let start = c .before .before .before .before .before .before .before .before .before .before .before .before .before in
+    let a = start .args in
     let n = c .before .next-waiting .ensures in
     let row = a .i * length (a .rcodes .now) in
     let e : row + (c .before .next-waiting .result - row) ≡ c .before .next-waiting .result = omega (arith, n .ordered) in
@@ -93,19 +113,6 @@ loop-again c =
 
 pub visit-row-spec : {M : Type 1} → statement M
 visit-row-spec =
-    tie.close
-    (tie.spec
-    Inv-loop
-    μ-loop
-    mul-row
-    add-end
-    loop-holds
-    visit-requires
-    add-next-waiting
-    add-next-waiting-2
-    next-waiting-requires
-    same-length
-    returns
-    sub-k
-    loop-less
+    tie.close (tie.spec
+    Inv-loop μ-loop mul-row add-end loop-holds visit-requires add-next-waiting add-next-waiting-2 next-waiting-requires same-length returns sub-k loop-less
     loop-again)

@@ -14,34 +14,48 @@ use Rattle.stricter_files.proofs.sort_files.Tie as tie
 
 returns : tie.Need-returns
 returns c =
-    let a = c .before .before .before .before .before .before .before .before .args in
-    (no-pairs (a .acodes .now) (a .amoves .now) _ (a .bcodes .now) (a .bmoves .now) _ (a .marks .now) (c .before .before .before .before .before .before .before .before .pre .4) (c .if1 .taken), ((refl, refl), (refl, refl)))
+    let start = c .before .before .before .before .before .before .before .before in
+    let a = start .args in
+    (no-pairs (a .acodes .now) (a .amoves .now) _ (a .bcodes .now) (a .bmoves .now) _ (a .marks .now) (start .pre .4) (c .if1 .taken), ((refl, refl), (refl, refl)))
 
 tag-file-requires : tie.Need-tag-file-requires
 tag-file-requires c κs =
-    let a = c .before .before .before .before .before .before .before .before .before .before .before .args in
-    let p = c .before .before .before .before .before .before .before .before .before .before .before .pre in
+    let start = c .before .before .before .before .before .before .before .before .before .before .before in
+    let a = start .args in
+    let p = start .pre in
     (p .0, (holdsInitial (ruleIn (a .a .now)), p .1), room-A (length (a .acodes .now)) (length (a .bcodes .now)) _ (p .4) (c .before .before .before .if1 .left))
 
 tag-file-requires-2 : tie.Need-tag-file-requires-2
 tag-file-requires-2 c κs =
-    let a = c .before .before .before .before .before .before .before .before .before .before .before .before .before .before .before .before .before .before .before .before .before .args in
-    let p = c .before .before .before .before .before .before .before .before .before .before .before .before .before .before .before .before .before .before .before .before .before .pre in
-    let h = room-B (length (a .acodes .now)) (length (a .bcodes .now)) (length (a .marks .now)) (p .4) (c .before .before .before .before .before .before .before .before .before .before .before .before .before .if1 .left) in
-    (p .2, (lacksInitial (ruleIn (a .b .now)), p .3), omega (arith, h, c .before .before .before .before .before .before .before .before .before .tag-file .kept .1 .1 .1 .1 .0))
+    let at-tag-file = c .before .before .before .before .before .before .before .before .before in
+    let at-if1 = at-tag-file .before .before .before .before in
+    let start = at-if1 .before .before .before .before .before .before .before .before in
+    let a = start .args in
+    let p = start .pre in
+    let h = room-B (length (a .acodes .now)) (length (a .bcodes .now)) (length (a .marks .now)) (p .4) (at-if1 .if1 .left) in
+    (p .2, (lacksInitial (ruleIn (a .b .now)), p .3), omega (arith, h, at-tag-file .tag-file .kept .1 .1 .1 .1 .0))
 
 cast-ainitial : tie.Need-cast-ainitial
-cast-ainitial c = let a = c .before .before .before .before .before .before .before .before .before .before .before .before .before .before .before .before .before .before .before .before .before .before .before .before .before .before .before .before .before .args in omega (arith, initial-low (a .a .now) (a .l) (c .before .before .before .before .before .before .before .before .before .before .before .before .before .before .before .before .before .before .before .before .before .before .before .before .before .before .before .before .before .pre .0))
+cast-ainitial c =
+    let start = c .before .before .before .before .before .before .before .before .before .before .before .before .before .before .before .before .before .before .before .before .before .before
+    .before .before .before .before .before .before .before in
+    let a = start .args in omega (arith, initial-low (a .a .now) (a .l) (start .pre .0))
 
 cast-binitial : tie.Need-cast-binitial
-cast-binitial c = let a = c .before .before .before .before .before .before .before .before .before .before .before .before .before .before .before .before .before .before .before .before .before .before .before .before .before .before .before .before .before .before .args in omega (arith, initial-low (a .b .now) (a .m) (c .before .before .before .before .before .before .before .before .before .before .before .before .before .before .before .before .before .before .before .before .before .before .before .before .before .before .before .before .before .before .pre .2))
+cast-binitial c =
+    let start = c .before .before .before .before .before .before .before .before .before .before .before .before .before .before .before .before .before .before .before .before .before .before
+    .before .before .before .before .before .before .before .before in
+    let a = start .args in omega (arith, initial-low (a .b .now) (a .m) (start .pre .2))
 
 sort-tagged-requires : tie.Need-sort-tagged-requires
 sort-tagged-requires c κs =
-    let a = c .before .before .before .before .before .before .before .before .before .before .before .before .before .before .before .before .before .before .before .before .before .before .before .before .before .before .before .before .before .before .before .before .before .before .before .args in
-    let p = c .before .before .before .before .before .before .before .before .before .before .before .before .before .before .before .before .before .before .before .before .before .before .before .before .before .before .before .before .before .before .before .before .before .before .before .pre in
-    let x = c .before .before .before .before .before .before .before .before .before .before .before .before .before .before .before .before .before .before .before .before .before .before .before .tag-file .ensures in
-    let y = c .before .before .before .before .before .before .before .before .before .before .before .before .before .tag-file2 .ensures in
+    let at-tag-file2 = c .before .before .before .before .before .before .before .before .before .before .before .before .before in
+    let at-tag-file = at-tag-file2 .before .before .before .before .before .before .before .before .before .before in
+    let start = at-tag-file .before .before .before .before .before .before .before .before .before .before .before .before in
+    let a = start .args in
+    let p = start .pre in
+    let x = at-tag-file .tag-file .ensures in
+    let y = at-tag-file2 .tag-file2 .ensures in
     let r = ruleIn (a .a .now) in
     let q = ruleIn (a .b .now) in
     let s = holdsInitial r in
@@ -51,7 +65,7 @@ sort-tagged-requires c κs =
     let u = x .1 s (p .1) in
     let v = y .1 t (p .3) in (
       (
-        fits r q s t _ _ _ _ _ _ A B _ _ _ _ (u .0) (u .1) (v .0) (v .1) _ (c .before .before .before .before .before .before .before .before .before .before .before .before .before .tag-file2 .kept .1 .1 .1 .1 .0 ∙ c .before .before .before .before .before .before .before .before .before .before .before .before .before .before .before .before .before .before .before .before .before .before .before .tag-file .kept .1 .1 .1 .1 .0 ∙ p .4),
+        fits r q s t _ _ _ _ _ _ A B _ _ _ _ (u .0) (u .1) (v .0) (v .1) _ (at-tag-file2 .tag-file2 .kept .1 .1 .1 .1 .0 ∙ at-tag-file .tag-file .kept .1 .1 .1 .1 .0 ∙ p .4),
         stands r s _ _ _ A _ _ (u .0) (u .1),
         stands q t _ _ _ B _ _ (v .0) (v .1),
         few-components r s _ _ _ A,
@@ -63,26 +77,36 @@ sort-tagged-requires c κs =
     )
 
 same-length : tie.Need-same-length
-same-length c = c .before .before .before .before .before .before .before .before .before .before .sort-tagged .kept .0 ∙ c .before .before .before .before .before .before .before .before .before .before .before .before .before .before .before .before .before .before .before .before .before .before .before .before .before .before .before .before .before .before .before .before .before .before .tag-file .kept .1 .1 .0
+same-length c =
+    let at-sort-tagged = c .before .before .before .before .before .before .before .before .before .before in
+    let at-tag-file = at-sort-tagged .before .before .before .before .before .before .before .before .before .before .before .before .before .before .before .before .before .before .before .before
+    .before .before .before .before in
+    at-sort-tagged .sort-tagged .kept .0 ∙ at-tag-file .tag-file .kept .1 .1 .0
 
 same-length-2 : tie.Need-same-length-2
-same-length-2 c = c .before .before .before .before .before .before .before .before .before .before .sort-tagged .kept .1 .0 ∙ c .before .before .before .before .before .before .before .before .before .before .before .before .before .before .before .before .before .before .before .before .before .before .before .before .before .before .before .before .before .before .before .before .before .before .tag-file .kept .1 .1 .1 .0
-
-same-length-3 : tie.Need-same-length-3
-same-length-3 c = search needs
-
-same-length-4 : tie.Need-same-length-4
-same-length-4 c = search needs
+same-length-2 c =
+    let at-sort-tagged = c .before .before .before .before .before .before .before .before .before .before in
+    let at-tag-file = at-sort-tagged .before .before .before .before .before .before .before .before .before .before .before .before .before .before .before .before .before .before .before .before
+    .before .before .before .before in
+    at-sort-tagged .sort-tagged .kept .1 .0 ∙ at-tag-file .tag-file .kept .1 .1 .1 .0
 
 same-length-5 : tie.Need-same-length-5
-same-length-5 c = c .before .before .before .before .before .before .before .before .before .before .sort-tagged .kept .1 .1 .1 .1 .1 .1 .1 .1 .0 ∙ c .before .before .before .before .before .before .before .before .before .before .before .before .before .before .before .before .before .before .before .before .before .before .before .before .tag-file2 .kept .1 .1 .1 .1 .0 ∙ c .before .before .before .before .before .before .before .before .before .before .before .before .before .before .before .before .before .before .before .before .before .before .before .before .before .before .before .before .before .before .before .before .before .before .tag-file .kept .1 .1 .1 .1 .0
+same-length-5 c =
+    let at-sort-tagged = c .before .before .before .before .before .before .before .before .before .before in
+    let at-tag-file2 = at-sort-tagged .before .before .before .before .before .before .before .before .before .before .before .before .before .before in
+    let at-tag-file = at-tag-file2 .before .before .before .before .before .before .before .before .before .before in
+    at-sort-tagged .sort-tagged .kept .1 .1 .1 .1 .1 .1 .1 .1 .0 ∙ at-tag-file2 .tag-file2 .kept .1 .1 .1 .1 .0 ∙ at-tag-file .tag-file .kept .1 .1 .1 .1 .0
 
 returns-2 : tie.Need-returns-2
 returns-2 c =
-    let a = c .before .before .before .before .before .before .before .before .before .before .before .before .before .before .before .before .before .before .before .before .before .before .before .before .before .before .before .before .before .before .before .before .before .before .before .before .before .before .before .before .before .before .before .before .before .before .args in
-    let p = c .before .before .before .before .before .before .before .before .before .before .before .before .before .before .before .before .before .before .before .before .before .before .before .before .before .before .before .before .before .before .before .before .before .before .before .before .before .before .before .before .before .before .before .before .before .before .pre in
-    let x = c .before .before .before .before .before .before .before .before .before .before .before .before .before .before .before .before .before .before .before .before .before .before .before .before .before .before .before .before .before .before .before .before .before .before .tag-file .ensures in
-    let y = c .before .before .before .before .before .before .before .before .before .before .before .before .before .before .before .before .before .before .before .before .before .before .before .before .tag-file2 .ensures in
+    let at-sort-tagged = c .before .before .before .before .before .before .before .before .before .before in
+    let at-tag-file2 = at-sort-tagged .before .before .before .before .before .before .before .before .before .before .before .before .before .before in
+    let at-tag-file = at-tag-file2 .before .before .before .before .before .before .before .before .before .before in
+    let start = at-tag-file .before .before .before .before .before .before .before .before .before .before .before .before in
+    let a = start .args in
+    let p = start .pre in
+    let x = at-tag-file .tag-file .ensures in
+    let y = at-tag-file2 .tag-file2 .ensures in
     let r = ruleIn (a .a .now) in
     let q = ruleIn (a .b .now) in
     let s = holdsInitial r in
@@ -91,7 +115,7 @@ returns-2 c =
     let B = file-table (a .b .now) (a .m) (p .2) _ (y .0) t (a .bcodes .now) (a .bmoves .now) (p .3) in
     let u = x .1 s (p .1) in
     let v = y .1 t (p .3) in
-    let d = c .before .before .before .before .before .before .before .before .before .before .sort-tagged .ensures in (
+    let d = at-sort-tagged .sort-tagged .ensures in (
       sorted r q s t _ _ _ _ _ _ A B _ _ _ _ (u .0) (u .1) (v .0) (v .1) (a .l .head .initial) (a .m .head .initial)
           (initial-low (a .a .now) (a .l) (p .0)) (initial-low (a .b .now) (a .m) (p .2)) _ _ (same-length-5 c ∙ p .4) (d .0),
       (
@@ -102,6 +126,6 @@ returns-2 c =
 
 pub sort-files-spec : {M : Type 1} → statement M
 sort-files-spec =
-    tie.close
-    (tie.spec returns tag-file-requires tag-file-requires-2 cast-ainitial cast-binitial sort-tagged-requires
-    same-length same-length-2 same-length-3 same-length-4 same-length-5 returns-2)
+    tie.close (tie.spec
+    returns tag-file-requires tag-file-requires-2 cast-ainitial cast-binitial sort-tagged-requires same-length same-length-2 (λ c. search needs)
+    (λ c. search needs) same-length-5 returns-2)

@@ -42,5 +42,5 @@ returns-2 c = let l = c .before .loop in λ e j h. l .inv .1 j (omega (arith, c 
 
 pub none-stands-spec : {M : Type 1} → statement M
 none-stands-spec =
-    tie.close
-    (tie.spec Inv-loop μ-loop loop-holds (λ c. search needs) (λ c. search needs) returns (λ c. search needs) (λ c. search needs) loop-again returns-2)
+    tie.close (tie.spec
+    Inv-loop μ-loop loop-holds (λ c. search needs) (λ c. search needs) returns (λ c. search needs) (λ c. search needs) loop-again returns-2)

@@ -19,46 +19,62 @@ and-fr a b e = rw e (and-false a)
 
 returns : tie.Need-returns
 returns c =
-    let a = c .before .before .before .before .before .before .before .args in
+    let start = c .before .before .before .before .before .before .before in
+    let a = start .args in
     let h = c .before .none-stands .ensures (c .if1 .taken) in
-    nothing-sorted (a .acodes .now) (a .left .now) (a .acount) (a .bcodes .now) (a .right .now) (a .bcount) _ (a .marks .now) (c .before .before .before .before .before .before .before .pre .0 .0 .marked)
+    nothing-sorted (a .acodes .now) (a .left .now) (a .acount) (a .bcodes .now) (a .right .now) (a .bcount) _ (a .marks .now) (start .pre .0 .0 .marked)
     (λ i j k l. and-fl (standsIn (a .acodes .now) i) (standsIn (a .bcodes .now) j) (h i k))
 
 returns-2 : tie.Need-returns-2
 returns-2 c =
-    let a = c .before .before .before .before .before .before .before .before .before .args in
+    let start = c .before .before .before .before .before .before .before .before .before in
+    let a = start .args in
     let h = c .before .none-stands2 .ensures (c .if2 .taken) in
-    nothing-sorted (a .acodes .now) (a .left .now) (a .acount) (a .bcodes .now) (a .right .now) (a .bcount) _ (a .marks .now) (c .before .before .before .before .before .before .before .before .before .pre .0 .0 .marked)
+    nothing-sorted (a .acodes .now) (a .left .now) (a .acount) (a .bcodes .now) (a .right .now) (a .bcount) _ (a .marks .now) (start .pre .0 .0 .marked)
     (λ i j k l. and-fr (standsIn (a .acodes .now) i) (standsIn (a .bcodes .now) j) (h j l))
-
-place-cores-requires : tie.Need-place-cores-requires
-place-cores-requires c κs = search needs
 
 narrow-requires : tie.Need-narrow-requires
 narrow-requires c κs =
-    let a = c .before .before .before .before .before .before .before .before .before .before .before .before .before .before .args in
-    let p = c .before .before .before .before .before .before .before .before .before .before .before .before .before .before .pre in
+    let start = c .before .before .before .before .before .before .before .before .before .before .before .before .before .before in
+    let a = start .args in
+    let p = start .pre in
     let I = c .before .before .before .place-cores .ensures in (
-      (fits-same _ _ (a .left .now) (a .right .now) (a .marks .now) _ (I .long ∙ sym (p .0 .0 .marked)) (p .0 .0), only-cores (a .acodes .now) (a .bcodes .now) _ I, cores-low (a .acodes .now) (a .bcodes .now) _ I, omega arith, omega arith),
+      (
+        fits-same _ _ (a .left .now) (a .right .now) (a .marks .now) _ (I .long ∙ sym (p .0 .0 .marked)) (p .0 .0),
+        only-cores (a .acodes .now) (a .bcodes .now) _ I,
+        cores-low (a .acodes .now) (a .bcodes .now) _ I,
+        omega arith,
+        omega arith,
+      ),
       p .1,
     )
 
 first-start-requires : tie.Need-first-start-requires
 first-start-requires c κs =
-    let a = c .before .before .before .before .before .before .before .before .before .before .before .before .before .before .before .before .before .before .args in
-    let p = c .before .before .before .before .before .before .before .before .before .before .before .before .before .before .before .before .before .before .pre in
+    let at-place-cores = c .before .before .before .before .before .before .before in
+    let start = at-place-cores .before .before .before .before .before .before .before .before .before .before .before in
+    let a = start .args in
+    let p = start .pre in
     let n = c .before .before .before .narrow in
-    let i = c .before .before .before .before .before .before .before .place-cores in
+    let i = at-place-cores .place-cores in
     let N = n .ensures .0 in
-    let I = i .ensures in
-    (N .long ∙ I .long, only-sub (a .acodes .now) (length (a .bcodes .now)) (i .last .1 .1 .0) (n .last .1 .1 .1 .1 .1 .1 .0) (N .sub) (only-cores (a .acodes .now) (a .bcodes .now) (i .last .1 .1 .0) I), p .0 .5, p .0 .6)
+    let I = i .ensures in (
+      N .long ∙ I .long,
+      only-sub (a .acodes .now) (length (a .bcodes .now)) (i .last .1 .1 .0) (n .last .1 .1 .1 .1 .1 .1 .0) (N .sub)
+          (only-cores (a .acodes .now) (a .bcodes .now) (i .last .1 .1 .0) I),
+      p .0 .5,
+      p .0 .6,
+    )
 
 returns-3 : tie.Need-returns-3
 returns-3 c =
-    let a = c .before .before .before .before .before .before .before .before .before .before .before .before .before .before .before .before .before .before .before .before .args in
+    let at-place-cores = c .before .before .before .before .before .before .before .before .before in
+    let start = at-place-cores .before .before .before .before .before .before .before .before .before .before .before in
+    let a = start .args in
     let N = c .before .before .before .before .before .narrow in
-    let I = c .before .before .before .before .before .before .before .before .before .place-cores in
-    let n : Narrowed (CoreStep (length (a .bcodes .now)) (a .left .now) (a .right .now)) (SparedStep (length (a .bcodes .now)) (a .left .now) (a .right .now)) (λ s. cond s (a .bcount) (a .acount)) (I .last .1 .1 .0) (N .last .1 .1 .1 .1 .1 .1 .0) = N .ensures .0 in
+    let I = at-place-cores .place-cores in
+    let n : Narrowed (CoreStep (length (a .bcodes .now)) (a .left .now) (a .right .now)) (SparedStep (length (a .bcodes .now)) (a .left .now) (a .right .now)) (λ s. cond s (a .bcount) (a .acount))
+    (I .last .1 .1 .0) (N .last .1 .1 .1 .1 .1 .1 .0) = N .ensures .0 in
     record {
       all = _;
       in-all = I .ensures;
@@ -72,26 +88,32 @@ returns-3 c =
 
 spread-requires : tie.Need-spread-requires
 spread-requires c κs =
-    let a = c .before .before .before .before .before .before .before .before .before .before .before .before .before .before .before .before .before .before .before .before .before .args in
-    let p = c .before .before .before .before .before .before .before .before .before .before .before .before .before .before .before .before .before .before .before .before .before .pre in
+    let at-place-cores = c .before .before .before .before .before .before .before .before .before .before in
+    let start = at-place-cores .before .before .before .before .before .before .before .before .before .before .before in
+    let a = start .args in
+    let p = start .pre in
     let n = c .before .before .before .before .before .before .narrow in
-    let i = c .before .before .before .before .before .before .before .before .before .before .place-cores in
+    let i = at-place-cores .place-cores in
     let N = n .ensures .0 in
-    let I = i .ensures in
-    (N .long ∙ I .long, p .0 .0 .few-A, p .0 .0 .few-B, p .0 .1, p .0 .2, only-sub (a .acodes .now) (length (a .bcodes .now)) (i .last .1 .1 .0) (n .last .1 .1 .1 .1 .1 .1 .0) (N .sub) (only-cores (a .acodes .now) (a .bcodes .now) (i .last .1 .1 .0) I))
-
-same-length : tie.Need-same-length
-same-length c = search needs
-
-same-length-2 : tie.Need-same-length-2
-same-length-2 c = search needs
+    let I = i .ensures in (
+      N .long ∙ I .long,
+      p .0 .0 .few-A,
+      p .0 .0 .few-B,
+      p .0 .1,
+      p .0 .2,
+      only-sub (a .acodes .now) (length (a .bcodes .now)) (i .last .1 .1 .0) (n .last .1 .1 .1 .1 .1 .1 .0) (N .sub) (only-cores (a .acodes .now) (a .bcodes .now) (i .last .1 .1 .0) I),
+    )
 
 returns-4 : tie.Need-returns-4
 returns-4 c =
-    let a = c .before .before .before .before .before .before .before .before .before .before .before .before .before .before .before .before .before .before .before .before .before .before .before .before .args in
-    let N = c .before .before .before .before .before .before .before .before .before .narrow in
-    let I = c .before .before .before .before .before .before .before .before .before .before .before .before .before .place-cores in
-    let n : Narrowed (CoreStep (length (a .bcodes .now)) (a .left .now) (a .right .now)) (SparedStep (length (a .bcodes .now)) (a .left .now) (a .right .now)) (λ s. cond s (a .bcount) (a .acount)) (I .last .1 .1 .0) (N .last .1 .1 .1 .1 .1 .1 .0) = N .ensures .0 in
+    let at-narrow = c .before .before .before .before .before .before .before .before .before in
+    let at-place-cores = at-narrow .before .before .before .before in
+    let start = at-place-cores .before .before .before .before .before .before .before .before .before .before .before in
+    let a = start .args in
+    let N = at-narrow .narrow in
+    let I = at-place-cores .place-cores in
+    let n : Narrowed (CoreStep (length (a .bcodes .now)) (a .left .now) (a .right .now)) (SparedStep (length (a .bcodes .now)) (a .left .now) (a .right .now)) (λ s. cond s (a .bcount) (a .acount))
+    (I .last .1 .1 .0) (N .last .1 .1 .1 .1 .1 .1 .0) = N .ensures .0 in
     record {
       all = _;
       in-all = I .ensures;
@@ -105,6 +127,6 @@ returns-4 c =
 
 pub sort-cores-spec : {M : Type 1} → statement M
 sort-cores-spec =
-    tie.close
-    (tie.spec (λ c κs. search needs) returns (λ c κs. search needs) returns-2 place-cores-requires narrow-requires first-start-requires
-    same-length returns-3 spread-requires same-length-2 returns-4)
+    tie.close (tie.spec
+    (λ c κs. search needs) returns (λ c κs. search needs) returns-2 (λ c κs. search needs) narrow-requires first-start-requires (λ c. search needs) returns-3
+    spread-requires (λ c. search needs) returns-4)

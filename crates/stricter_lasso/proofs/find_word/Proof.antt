@@ -18,20 +18,16 @@ use Rattle.stricter_lasso.proofs.find_word.Tie as tie
 
 write-round-requires : tie.Need-write-round-requires
 write-round-requires c κs =
-    let a = c .before .before .before .before .before .before .before .before .args in
-    let p = c .before .before .before .before .before .before .before .before .pre in
+    let start = c .before .before .before .before .before .before .before .before in
+    let a = start .args in
+    let p = start .pre in
     (p .0, p .1, p .2, has-place (a .marks .now) (a .start) (p .4), omega (arith, p .2, p .3))
-
-same-length : tie.Need-same-length
-same-length c = search needs
-
-same-length-2 : tie.Need-same-length-2
-same-length-2 c = search needs
 
 returns : tie.Need-returns
 returns c =
-    let a = c .before .before .before .before .before .before .before .before .before .before .before .before .before .before .args in
-    let p = c .before .before .before .before .before .before .before .before .before .before .before .before .before .before .pre in
+    let start = c .before .before .before .before .before .before .before .before .before .before .before .before .before .before in
+    let a = start .args in
+    let p = start .pre in
     let r = c .before .before .before .before .before .write-round in
     let R = r .ensures in
     let l = c .if1 .taken in
@@ -47,10 +43,12 @@ returns c =
 
 find-lasso-requires : tie.Need-find-lasso-requires
 find-lasso-requires c κs =
-    let a = c .before .before .before .before .before .before .before .before .before .before .before .before .before .before .before .before .args in
-    let p = c .before .before .before .before .before .before .before .before .before .before .before .before .before .before .before .before .pre in
-    let R = c .before .before .before .before .before .before .before .write-round .ensures in
-    let z : c .before .before .before .before .before .before .before .write-round .result ≡ 0 = omega (arith, c .before .before .if1 .left) in (
+    let at-write-round = c .before .before .before .before .before .before .before in
+    let start = at-write-round .before .before .before .before .before .before .before .before .before in
+    let a = start .args in
+    let p = start .pre in
+    let R = at-write-round .write-round .ensures in
+    let z : at-write-round .write-round .result ≡ 0 = omega (arith, c .before .before .if1 .left) in (
       p .0,
       p .1,
       R .same .long ∙ p .2,
@@ -60,19 +58,15 @@ find-lasso-requires c κs =
           (acceptsIn (a .lcodes .now) (a .rcodes .now) false) (acceptsIn (a .lcodes .now) (a .rcodes .now) true) (a .start) (a .marks .now) _ (R .same) (p .5),
     )
 
-same-length-3 : tie.Need-same-length-3
-same-length-3 c = search needs
-
-same-length-4 : tie.Need-same-length-4
-same-length-4 c = search needs
-
 returns-2 : tie.Need-returns-2
 returns-2 c =
-    let R = c .before .before .before .before .before .before .before .before .before .before .before .before .write-round .ensures in
-    let z : c .before .before .before .before .before .before .before .before .before .before .before .before .write-round .result ≡ 0 = omega (arith, c .before .before .before .before .before .before .before .if1 .left) in
+    let at-if1 = c .before .before .before .before .before .before .before in
+    let at-write-round = at-if1 .before .before .before .before .before in
+    let R = at-write-round .write-round .ensures in
+    let z : at-write-round .write-round .result ≡ 0 = omega (arith, at-if1 .if1 .left) in
     λ startA startB begins. rw (R .none z) at (c .before .before .before .before .find-lasso .ensures startA startB begins)
 
 pub find-word-spec : {M : Type 1} → statement M
 find-word-spec =
-    tie.close
-    (tie.spec write-round-requires same-length same-length-2 returns find-lasso-requires same-length-3 same-length-4 returns-2)
+    tie.close (tie.spec
+    write-round-requires (λ c. search needs) (λ c. search needs) returns find-lasso-requires (λ c. search needs) (λ c. search needs) returns-2)

@@ -25,37 +25,27 @@ Inv-loop lcodes rcodes second marks x₀ x = (x ≤ length marks) × ((y : ℕ) 
 abbrev μ-loop : tie.MeasureT-loop
 μ-loop lcodes rcodes second marks x₀ x = length marks - x
 
-next-set-requires : tie.Need-next-set-requires Inv-loop μ-loop
-next-set-requires c κs = search needs
-
 loop-holds : tie.Need-loop-holds Inv-loop μ-loop
 loop-holds c =
     let a = c .before .before .before .before .args in
     let n = c .next-set .ensures in
     (n .within, lacking-zeros (a .marks .now) (Serves (a .lcodes .now) (a .rcodes .now) (a .second) (a .marks .now)) (λ y p. omega (arith, p .0)) _ (n .before .zeros))
 
-serves-requires : tie.Need-serves-requires Inv-loop μ-loop
-serves-requires c κs = search needs
-
 returns : tie.Need-returns Inv-loop μ-loop
 returns c =
-    let a = c .before .before .before .before .before .before .before .before .args in
+    let start = c .before .before .before .before .before .before .before .before in
+    let a = start .args in
     let x = c .before .before .before .loop .x in
     let e : ltb 1 (getD (a .marks .now) x 0) && acceptsIn (a .lcodes .now) (a .rcodes .now) (a .second) x ≡ true = sym (c .before .serves .ensures) ∙ c .if1 .taken in
     (ltb-true 1 _ (and-l _ _ e), and-r (ltb 1 (getD (a .marks .now) x 0)) _ e)
-
-add-next-set : tie.Need-add-next-set Inv-loop μ-loop
-add-next-set c = search needs
-
-next-set-requires-2 : tie.Need-next-set-requires-2 Inv-loop μ-loop
-next-set-requires-2 c κs = search needs
 
 loop-less : tie.Need-loop-less Inv-loop μ-loop
 loop-less c = omega (arith, c .next-set2 .ensures .before .ordered, c .before .before .before .loop-test .taken)
 
 loop-again : tie.Need-loop-again Inv-loop μ-loop
 loop-again c =
-    let a = c .before .before .before .before .before .before .before .before .before .args in
+    let start = c .before .before .before .before .before .before .before .before .before in
+    let a = start .args in
     let l = c .before .before .before .before .loop in
     let n = c .next-set2 .ensures in (
       n .within,
@@ -71,16 +61,5 @@ returns-2 c =
 
 pub lowest-spec : {M : Type 1} → statement M
 lowest-spec =
-    tie.close
-    (tie.spec
-    Inv-loop
-    μ-loop
-    next-set-requires
-    loop-holds
-    serves-requires
-    returns
-    add-next-set
-    next-set-requires-2
-    loop-less
-    loop-again
-    returns-2)
+    tie.close (tie.spec
+    Inv-loop μ-loop (λ c κs. search needs) loop-holds (λ c κs. search needs) returns (λ c. search needs) (λ c κs. search needs) loop-less loop-again returns-2)

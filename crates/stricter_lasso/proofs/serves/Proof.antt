@@ -8,9 +8,6 @@ use Rattle.stricter_forest.proofs.Pairs.{Parts, parts}
 use Rattle.stricter_lasso.proofs.serves.Statement.{statement}
 use Rattle.stricter_lasso.proofs.serves.Tie as tie
 
-shared-slice-read-if1 : tie.Need-shared-slice-read-if1
-shared-slice-read-if1 c = search needs
-
 returns : tie.Need-returns
 returns c = rw (le-ltb 1 (getD (c .before .before .before .before .before .args .marks .now) (c .before .before .before .before .before .args .x) 0) (omega arith))
 
@@ -25,14 +22,15 @@ mul-is-accepting : tie.Need-mul-is-accepting
 mul-is-accepting c = let h = own (c .before .before .before .before .before .before) .second in omega arith
 
 shared-slice-read-is-accepting : tie.Need-shared-slice-read-is-accepting
-shared-slice-read-is-accepting c = let h = own (c .before .before .before .before .before .before .before) .second in omega arith
-
-is-accepting-requires : tie.Need-is-accepting-requires
-is-accepting-requires c κs = search needs
+shared-slice-read-is-accepting c =
+    let earlier = c .before .before .before .before .before .before .before in
+    let h = own (earlier) .second in omega arith
 
 returns-2 : tie.Need-returns-2
 unfolding acceptsIn
-returns-2 c = rw (c .before .before .if2 .taken, lt-ltb 1 (getD (c .before .before .before .before .before .before .before .before .args .marks .now) (c .before .before .before .before .before .before .before .before .args .x) 0) (omega arith)) (c .is-accepting .ensures)
+returns-2 c =
+    let start = c .before .before .before .before .before .before .before .before in
+    rw (c .before .before .if2 .taken, lt-ltb 1 (getD (start .args .marks .now) (start .args .x) 0) (omega arith)) (c .is-accepting .ensures)
 
 div-is-accepting : tie.Need-div-is-accepting
 div-is-accepting c = let h = own (c .before .before .before .before .before .before) .some in omega arith
@@ -41,28 +39,18 @@ mul-is-accepting-2 : tie.Need-mul-is-accepting-2
 mul-is-accepting-2 c = let h = own (c .before .before .before .before .before .before) .first in omega arith
 
 shared-slice-read-is-accepting-2 : tie.Need-shared-slice-read-is-accepting-2
-shared-slice-read-is-accepting-2 c = let h = own (c .before .before .before .before .before .before .before) .first in omega arith
-
-is-accepting-requires-2 : tie.Need-is-accepting-requires-2
-is-accepting-requires-2 c κs = search needs
+shared-slice-read-is-accepting-2 c =
+    let earlier = c .before .before .before .before .before .before .before in
+    let h = own (earlier) .first in omega arith
 
 returns-3 : tie.Need-returns-3
 unfolding acceptsIn
-returns-3 c = rw (c .before .before .if2 .left, lt-ltb 1 (getD (c .before .before .before .before .before .before .before .before .args .marks .now) (c .before .before .before .before .before .before .before .before .args .x) 0) (omega arith)) (c .is-accepting2 .ensures)
+returns-3 c =
+    let start = c .before .before .before .before .before .before .before .before in
+    rw (c .before .before .if2 .left, lt-ltb 1 (getD (start .args .marks .now) (start .args .x) 0) (omega arith)) (c .is-accepting2 .ensures)
 
 pub serves-spec : {M : Type 1} → statement M
 serves-spec =
-    tie.close
-    (tie.spec
-    shared-slice-read-if1
-    returns
-    rem-is-accepting
-    mul-is-accepting
-    shared-slice-read-is-accepting
-    is-accepting-requires
-    returns-2
-    div-is-accepting
-    mul-is-accepting-2
-    shared-slice-read-is-accepting-2
-    is-accepting-requires-2
-    returns-3)
+    tie.close (tie.spec
+    (λ c. search needs) returns rem-is-accepting mul-is-accepting shared-slice-read-is-accepting (λ c κs. search needs) returns-2 div-is-accepting
+    mul-is-accepting-2 shared-slice-read-is-accepting-2 (λ c κs. search needs) returns-3)

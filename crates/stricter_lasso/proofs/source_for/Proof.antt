@@ -23,21 +23,14 @@ abbrev μ-loop : tie.MeasureT-loop
 loop-holds : tie.Need-loop-holds Inv-loop μ-loop
 loop-holds c = (omega arith, λ p l e f g. omega arith)
 
-mul-t : tie.Need-mul-t Inv-loop μ-loop
-mul-t c = search needs
-
-shared-slice-read-t : tie.Need-shared-slice-read-t Inv-loop μ-loop
-shared-slice-read-t c = search needs
-
 suits-requires : tie.Need-suits-requires Inv-loop μ-loop
-suits-requires c κs = c .before .before .before .before .before .pre .inside .sources _ (mem-at (c .before .before .before .before .before .args .moves .now) (c .before .before .loop .k) (omega arith))
-
-source-of-requires : tie.Need-source-of-requires Inv-loop μ-loop
-source-of-requires c κs = search needs
+suits-requires c κs = c .before .before .before .before .before .pre .inside .sources _
+    (mem-at (c .before .before .before .before .before .args .moves .now) (c .before .before .loop .k) (omega arith))
 
 returns : tie.Need-returns Inv-loop μ-loop
 returns c =
-    let a = c .before .before .before .before .before .before .before .before .args in
+    let start = c .before .before .before .before .before .before .before .before in
+    let a = start .args in
     let k = c .before .before .before .before .before .loop .k in
     let u = getD (a .moves .now) k 0 in
     let m = mem-at (a .moves .now) k (omega arith) in
@@ -45,19 +38,14 @@ returns c =
     let yes = c .before .if1 .taken in
     let e : c .source-of .result ≡ sourceOf u = c .source-of .ensures in
     record {
-      low = omega (arith, c .before .before .before .before .before .before .before .before .pre .inside .sources u m, c .before .before .before .before .before .before .before .before .pre .few);
-      source = λ t n f g h. e ∙ c .before .before .before .before .before .before .before .before .pre .parents .one u t m n (s .over yes ∙ sym f) (s .to yes ∙ sym g) (s .from yes ∙ sym h);
+      low = omega (arith, start .pre .inside .sources u m, start .pre .few);
+      source = λ t n f g h. e ∙ start .pre .parents .one u t m n (s .over yes ∙ sym f) (s .to yes ∙ sym g) (s .from yes ∙ sym h);
     }
-
-add-k : tie.Need-add-k Inv-loop μ-loop
-add-k c = search needs
-
-loop-less : tie.Need-loop-less Inv-loop μ-loop
-loop-less c = search needs
 
 loop-again : tie.Need-loop-again Inv-loop μ-loop
 loop-again c =
-    let a = c .before .before .before .before .before .before .before .args in
+    let start = c .before .before .before .before .before .before .before in
+    let a = start .args in
     let k = c .before .before .before .before .loop .k in (
       omega arith,
       λ p l e f g. by-cases (decLt p k) (λ h. c .before .before .before .before .loop .inv .1 p h e f g)
@@ -79,17 +67,6 @@ returns-2 c =
 
 pub source-for-spec : {M : Type 1} → statement M
 source-for-spec =
-    tie.close
-    (tie.spec
-    Inv-loop
-    μ-loop
-    loop-holds
-    mul-t
-    shared-slice-read-t
-    suits-requires
-    source-of-requires
-    returns
-    add-k
-    loop-less
-    loop-again
-    returns-2)
+    tie.close (tie.spec
+    Inv-loop μ-loop loop-holds (λ c. search needs) (λ c. search needs) suits-requires (λ c κs. search needs) returns (λ c. search needs) (λ c. search needs)
+    loop-again returns-2)

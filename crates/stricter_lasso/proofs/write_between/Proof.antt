@@ -15,36 +15,35 @@ use Rattle.stricter_lasso.proofs.write_between.Tie as tie
 
 explore-requires : tie.Need-explore-requires
 explore-requires c κs =
-    let a = c .before .before .before .before .before .before .before .args in
-    let p = c .before .before .before .before .before .before .before .pre .0 in
+    let start = c .before .before .before .before .before .before .before in
+    let a = start .args in
+    let p = start .pre .0 in
     (searchable-fits (a .lcodes .now) (a .left .now) (a .rcodes .now) (a .right .now) (a .marks .now) (p .0) (p .1) (p .2), p .3)
 
 way-length-requires : tie.Need-way-length-requires
 way-length-requires c κs =
-    let a = c .before .before .before .before .before .before .before .before .before .before .before .args in
-    let p = c .before .before .before .before .before .before .before .before .before .before .before .pre .0 in
+    let start = c .before .before .before .before .before .before .before .before .before .before .before in
+    let a = start .args in
+    let p = start .pre .0 in
     let e = c .before .before .before .explore .ensures in (
       (p .0, p .1, e .same .long ∙ p .2),
-      e .back (a .to) (explored-meets (PairStep (length (a .rcodes .now)) (a .left .now) (a .right .now)) (kindIn (a .lcodes .now) (a .rcodes .now)) (a .from) (a .marks .now) _ e (c .before .before .before .before .before .before .before .before .before .before .before .pre .1)),
+      e .back (a .to) (explored-meets (PairStep (length (a .rcodes .now)) (a .left .now) (a .right .now)) (kindIn (a .lcodes .now) (a .rcodes .now)) (a .from) (a .marks .now) _ e (start .pre .1)),
     )
 
 write-way-requires : tie.Need-write-way-requires
 write-way-requires c κs =
-    let p = c .before .before .before .before .before .before .before .before .before .before .before .before .before .before .pre .0 in
+    let start = c .before .before .before .before .before .before .before .before .before .before .before .before .before .before in
+    let p = start .pre .0 in
     let e = c .before .before .before .before .before .before .explore .ensures in
     ((p .0, p .1, e .same .long ∙ p .2, omega (arith, p .4, c .before .before .way-length .ensures .0, e .same .long)), c .before .before .way-length .ensures .1)
 
-same-length : tie.Need-same-length
-same-length c = search needs
-
-same-length-2 : tie.Need-same-length-2
-same-length-2 c = search needs
-
 returns : tie.Need-returns
 returns c =
-    let a = c .before .before .before .before .before .before .before .before .before .before .before .before .before .before .before .before .before .args in
-    let p = c .before .before .before .before .before .before .before .before .before .before .before .before .before .before .before .before .before .pre .0 in
-    let e = c .before .before .before .before .before .before .before .before .before .explore .ensures in
+    let at-explore = c .before .before .before .before .before .before .before .before .before in
+    let start = at-explore .before .before .before .before .before .before .before .before in
+    let a = start .args in
+    let p = start .pre .0 in
+    let e = at-explore .explore .ensures in
     record {
       same = e .same;
       written = c .before .before .write-way .ensures;
@@ -54,12 +53,4 @@ returns c =
     }
 
 pub write-between-spec : {M : Type 1} → statement M
-write-between-spec =
-    tie.close
-    (tie.spec
-    explore-requires
-    way-length-requires
-    write-way-requires
-    same-length
-    same-length-2
-    returns)
+write-between-spec = tie.close (tie.spec explore-requires way-length-requires write-way-requires (λ c. search needs) (λ c. search needs) returns)

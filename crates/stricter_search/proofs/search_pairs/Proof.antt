@@ -10,18 +10,15 @@ returns c = λ s t S. (refl, S .none (omega (arith, c .if1 .taken)))
 
 find-word-requires : tie.Need-find-word-requires
 find-word-requires c κs =
-    let p = c .before .before .before .before .before .before .before .before .before .pre in
+    let start = c .before .before .before .before .before .before .before .before .before in
+    let p = start .pre in
     let (s, t, S) = p .2 in
     (p .0, p .1, S .long, p .3, S .inside (omega (arith, c .before .before .if1 .left)), S .sound (omega (arith, c .before .before .if1 .left)))
 
-same-length : tie.Need-same-length
-same-length c = search needs
-
-same-length-2 : tie.Need-same-length-2
-same-length-2 c = search needs
-
 returns-2 : tie.Need-returns-2
-returns-2 c = λ s t S. c .before .before .before .before .find-word .ensures s t (S .begins (omega (arith, c .before .before .before .before .before .before .before .if1 .left)))
+returns-2 c =
+    let at-if1 = c .before .before .before .before .before .before .before in
+    λ s t S. c .before .before .before .before .find-word .ensures s t (S .begins (omega (arith, at-if1 .if1 .left)))
 
 pub search-pairs-spec : {M : Type 1} → statement M
-search-pairs-spec = tie.close (tie.spec returns find-word-requires same-length same-length-2 returns-2)
+search-pairs-spec = tie.close (tie.spec returns find-word-requires (λ c. search needs) (λ c. search needs) returns-2)

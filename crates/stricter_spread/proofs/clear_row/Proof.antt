@@ -25,12 +25,6 @@ add-marks c = omega (arith, c .before .loop .inv .1 .long)
 slice-write-marks : tie.Need-slice-write-marks Inv-loop μ-loop
 slice-write-marks c = omega (arith, c .before .loop .inv .1 .long)
 
-add-j : tie.Need-add-j Inv-loop μ-loop
-add-j c = search needs
-
-loop-less : tie.Need-loop-less Inv-loop μ-loop
-loop-less c = search needs
-
 loop-again : tie.Need-loop-again Inv-loop μ-loop
 loop-again c =
     let l = c .before .loop in
@@ -38,23 +32,10 @@ loop-again c =
     let low : b + l .j < length (l .marks) = omega (arith, l .inv .1 .long) in
     (omega arith, rw (← add-assoc b (l .j) 1) (filled-next (λ _. 0) b (b + l .j) (c .before .before .args .marks .now) (l .marks) 0 (omega arith) low (l .inv .1) refl))
 
-same-length : tie.Need-same-length Inv-loop μ-loop
-same-length c = c .before .loop .inv .1 .long
-
 returns : tie.Need-returns Inv-loop μ-loop
 returns c = let e : c .before .loop .j ≡ c .before .before .args .n = omega (arith, c .before .loop .inv .0) in rw e at (c .before .loop .inv .1)
 
 pub clear-row-spec : {M : Type 1} → statement M
 clear-row-spec =
-    tie.close
-    (tie.spec
-    Inv-loop
-    μ-loop
-    loop-holds
-    add-marks
-    slice-write-marks
-    add-j
-    loop-less
-    loop-again
-    same-length
-    returns)
+    tie.close (tie.spec
+    Inv-loop μ-loop loop-holds add-marks slice-write-marks (λ c. search needs) (λ c. search needs) loop-again (λ c. c .before .loop .inv .1 .long) returns)

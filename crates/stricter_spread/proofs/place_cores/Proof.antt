@@ -27,23 +27,15 @@ loop-holds c =
 place-row-requires : tie.Need-place-row-requires Inv-loop μ-loop
 place-row-requires c κs = (omega arith, c .before .before .loop .inv .1 .long ∙ c .before .before .before .before .before .before .pre .0)
 
-add-i : tie.Need-add-i Inv-loop μ-loop
-add-i c = search needs
-
-loop-less : tie.Need-loop-less Inv-loop μ-loop
-loop-less c = search needs
-
 loop-again : tie.Need-loop-again Inv-loop μ-loop
 loop-again c =
-    let a = c .before .before .before .before .before .before .before .before .before .args in
+    let start = c .before .before .before .before .before .before .before .before .before in
+    let a = start .args in
     let l = c .before .before .before .before .before .loop in (
       omega arith,
       rw (add-one (l .i), suc-mul (l .i) (length (a .bcodes .now)))
           (placed-row (a .acodes .now) (a .bcodes .now) (l .i) (a .marks .now) (l .marks) _ (l .inv .1) (c .before .before .place-row .ensures)),
     )
-
-same-length : tie.Need-same-length Inv-loop μ-loop
-same-length c = c .before .loop .inv .1 .long
 
 returns : tie.Need-returns Inv-loop μ-loop
 returns c =
@@ -53,14 +45,5 @@ returns c =
 
 pub place-cores-spec : {M : Type 1} → statement M
 place-cores-spec =
-    tie.close
-    (tie.spec
-    Inv-loop
-    μ-loop
-    loop-holds
-    place-row-requires
-    add-i
-    loop-less
-    loop-again
-    same-length
-    returns)
+    tie.close (tie.spec
+    Inv-loop μ-loop loop-holds place-row-requires (λ c. search needs) (λ c. search needs) loop-again (λ c. c .before .loop .inv .1 .long) returns)

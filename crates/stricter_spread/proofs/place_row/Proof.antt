@@ -15,55 +15,44 @@ use Rattle.stricter_spread.proofs.place_row.Statement.{statement}
 use Rattle.stricter_spread.proofs.place_row.Tie as tie
 
 mul-base : tie.Need-mul-base
-mul-base c = omega (arith, place-room (length (c .before .before .before .args .bcodes .now)) (c .before .before .before .args .i) (length (c .before .before .before .args .acodes .now)) (c .before .before .before .pre .0), c .before .before .before .pre .1)
-
-mul-standing : tie.Need-mul-standing
-mul-standing c = search needs
-
-shared-slice-read-standing : tie.Need-shared-slice-read-standing
-shared-slice-read-standing c = search needs
-
-standing-requires : tie.Need-standing-requires
-standing-requires c κs = search needs
+mul-base c = omega (
+  arith,
+  place-room (length (c .before .before .before .args .bcodes .now)) (c .before .before .before .args .i) (length (c .before .before .before .args .acodes .now))
+      (c .before .before .before .pre .0),
+  c .before .before .before .pre .1,
+)
 
 clear-row-requires : tie.Need-clear-row-requires
-clear-row-requires c κs = omega (arith, place-room (length (c .before .before .before .before .before .before .before .args .bcodes .now)) (c .before .before .before .before .before .before .before .args .i) (length (c .before .before .before .before .before .before .before .args .acodes .now)) (c .before .before .before .before .before .before .before .pre .0), c .before .before .before .before .before .before .before .pre .1)
-
-same-length : tie.Need-same-length
-same-length c = search needs
+clear-row-requires c κs =
+    let start = c .before .before .before .before .before .before .before in
+    omega (arith, place-room (length (start .args .bcodes .now)) (start .args .i) (length (start .args .acodes .now)) (start .pre .0), start .pre .1)
 
 returns : tie.Need-returns
 returns c =
-    let a = c .before .before .before .before .before .before .before .before .before .before .args in
-    let no : standsIn (a .acodes .now) (a .i) ≡ false = stands-no (a .acodes .now) (a .i) _ (c .before .before .before .before .before .standing .ensures) (c .before .before .before .before .if1 .taken) in
+    let start = c .before .before .before .before .before .before .before .before .before .before in
+    let a = start .args in
+    let no : standsIn (a .acodes .now) (a .i) ≡ false = stands-no (a .acodes .now) (a .i) _ (c .before .before .before .before .before .standing .ensures)
+    (c .before .before .before .before .if1 .taken) in
     filled-same (placedAt (a .acodes .now) (a .bcodes .now)) (λ _. 0) (a .i * length (a .bcodes .now)) (a .i * length (a .bcodes .now) + length (a .bcodes .now))
     (a .marks .now) _ (c .before .before .clear-row .ensures) (clear-same (a .acodes .now) (a .bcodes .now) (a .i) no)
 
 stand-row-requires : tie.Need-stand-row-requires
-stand-row-requires c κs = omega (arith, place-room (length (c .before .before .before .before .before .before .before .args .bcodes .now)) (c .before .before .before .before .before .before .before .args .i) (length (c .before .before .before .before .before .before .before .args .acodes .now)) (c .before .before .before .before .before .before .before .pre .0), c .before .before .before .before .before .before .before .pre .1)
-
-same-length-2 : tie.Need-same-length-2
-same-length-2 c = search needs
+stand-row-requires c κs =
+    let start = c .before .before .before .before .before .before .before in
+    omega (arith, place-room (length (start .args .bcodes .now)) (start .args .i) (length (start .args .acodes .now)) (start .pre .0), start .pre .1)
 
 returns-2 : tie.Need-returns-2
 returns-2 c =
-    let a = c .before .before .before .before .before .before .before .before .before .before .args in
-    let yes : standsIn (a .acodes .now) (a .i) ≡ true = stands-yes (a .acodes .now) (a .i) _ (c .before .before .before .before .before .standing .ensures) (c .before .before .before .before .if1 .left) in
+    let start = c .before .before .before .before .before .before .before .before .before .before in
+    let a = start .args in
+    let yes : standsIn (a .acodes .now) (a .i) ≡ true = stands-yes (a .acodes .now) (a .i) _ (c .before .before .before .before .before .standing .ensures)
+    (c .before .before .before .before .if1 .left) in
     filled-same (placedAt (a .acodes .now) (a .bcodes .now)) (λ x. one (standsIn (a .bcodes .now) (x - a .i * length (a .bcodes .now))))
     (a .i * length (a .bcodes .now)) (a .i * length (a .bcodes .now) + length (a .bcodes .now))
     (a .marks .now) _ (c .before .before .stand-row .ensures) (stand-same (a .acodes .now) (a .bcodes .now) (a .i) yes)
 
 pub place-row-spec : {M : Type 1} → statement M
 place-row-spec =
-    tie.close
-    (tie.spec
-    mul-base
-    mul-standing
-    shared-slice-read-standing
-    standing-requires
-    clear-row-requires
-    same-length
-    returns
-    stand-row-requires
-    same-length-2
-    returns-2)
+    tie.close (tie.spec
+    mul-base (λ c. search needs) (λ c. search needs) (λ c κs. search needs) clear-row-requires (λ c. search needs) returns stand-row-requires
+    (λ c. search needs) returns-2)

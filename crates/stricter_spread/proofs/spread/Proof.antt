@@ -61,5 +61,5 @@ returns c =
 
 pub spread-spec : {M : Type 1} → statement M
 spread-spec =
-    tie.close
-    (tie.spec Inv-loop μ-loop loop-holds spread-row-requires (λ c. search needs) (λ c. search needs) loop-again (λ c. c .before .loop .inv .1 .long) returns)
+    tie.close (tie.spec
+    Inv-loop μ-loop loop-holds spread-row-requires (λ c. search needs) (λ c. search needs) loop-again (λ c. c .before .loop .inv .1 .long) returns)

@@ -24,55 +24,28 @@ loop-holds c =
     let b : ℕ = c .before .before .args .base in
     (omega arith, rw (add-zero b) (filled-start (λ x. one (standsIn (c .before .before .args .bcodes .now) (x - b))) b (c .before .before .args .marks .now)))
 
-mul-standing : tie.Need-mul-standing Inv-loop μ-loop
-mul-standing c = search needs
-
-shared-slice-read-standing : tie.Need-shared-slice-read-standing Inv-loop μ-loop
-shared-slice-read-standing c = search needs
-
-standing-requires : tie.Need-standing-requires Inv-loop μ-loop
-standing-requires c κs = search needs
-
 add-marks : tie.Need-add-marks Inv-loop μ-loop
 add-marks c = omega (arith, c .before .before .before .loop .inv .1 .long)
 
 slice-write-marks : tie.Need-slice-write-marks Inv-loop μ-loop
 slice-write-marks c = omega (arith, c .before .before .before .loop .inv .1 .long)
 
-add-j : tie.Need-add-j Inv-loop μ-loop
-add-j c = search needs
-
-loop-less : tie.Need-loop-less Inv-loop μ-loop
-loop-less c = search needs
-
 loop-again : tie.Need-loop-again Inv-loop μ-loop
 loop-again c =
     let l = c .before .before .before .loop in
     let a = c .before .before .before .before .before .before .args in
     let b : ℕ = a .base in
-    let low : b + l .j < length (l .marks) = omega (arith, l .inv .1 .long) in
-    (omega arith, rw (← add-assoc b (l .j) 1) (filled-next (λ x. one (standsIn (a .bcodes .now) (x - b))) b (b + l .j) (a .marks .now) (l .marks) _ (omega arith) low (l .inv .1) (c .standing .ensures ∙ stand-value (a .bcodes .now) b (l .j))))
-
-same-length : tie.Need-same-length Inv-loop μ-loop
-same-length c = c .before .loop .inv .1 .long
+    let low : b + l .j < length (l .marks) = omega (arith, l .inv .1 .long) in (
+      omega arith,
+      rw (← add-assoc b (l .j) 1) (filled-next (λ x. one (standsIn (a .bcodes .now) (x - b))) b (b + l .j) (a .marks .now) (l .marks) _ (omega arith) low (l .inv .1)
+          (c .standing .ensures ∙ stand-value (a .bcodes .now) b (l .j))),
+    )
 
 returns : tie.Need-returns Inv-loop μ-loop
 returns c = let e : c .before .loop .j ≡ length (c .before .before .before .before .args .bcodes .now) = omega (arith, c .before .loop .inv .0) in rw e at (c .before .loop .inv .1)
 
 pub stand-row-spec : {M : Type 1} → statement M
 stand-row-spec =
-    tie.close
-    (tie.spec
-    Inv-loop
-    μ-loop
-    loop-holds
-    mul-standing
-    shared-slice-read-standing
-    standing-requires
-    add-marks
-    slice-write-marks
-    add-j
-    loop-less
-    loop-again
-    same-length
-    returns)
+    tie.close (tie.spec
+    Inv-loop μ-loop loop-holds (λ c. search needs) (λ c. search needs) (λ c κs. search needs) add-marks slice-write-marks (λ c. search needs)
+    (λ c. search needs) loop-again (λ c. c .before .loop .inv .1 .long) returns)

@@ -9,23 +9,14 @@ use Rattle.stricter_starts.proofs.Begins.{holds-state, other-component,
 use Rattle.stricter_starts.proofs.begins_lacking.Statement.{statement}
 use Rattle.stricter_starts.proofs.begins_lacking.Tie as tie
 
-shr-if1 : tie.Need-shr-if1
-shr-if1 c = search needs
-
 returns : tie.Need-returns
 returns c = sym (holds-state (c .before .args .code) (c .before .args .initial) (c .if1 .taken))
-
-component-of-requires : tie.Need-component-of-requires
-component-of-requires c κs = search needs
 
 returns-2 : tie.Need-returns-2
 returns-2 c =
     let a = c .before .before .before .args in
     let other : componentIn (a .code) ≡ 0 → ⊥ = λ e. omega (arith, c .if2 .taken, c .before .component-of .ensures) in
     sym (other-component (a .code) (a .initial) (c .before .before .if1 .left) other)
-
-classes-of-requires : tie.Need-classes-of-requires
-classes-of-requires c κs = search needs
 
 returns-3 : tie.Need-returns-3
 returns-3 c =
@@ -34,12 +25,4 @@ returns-3 c =
     ap (λ (x : ℕ). eqb x 0) (c .classes-of .ensures) ∙ sym (by-classes (a .code) (a .initial) (c .before .before .before .if1 .left) first)
 
 pub begins-lacking-spec : {M : Type 1} → statement M
-begins-lacking-spec =
-    tie.close
-    (tie.spec
-    shr-if1
-    returns
-    component-of-requires
-    returns-2
-    classes-of-requires
-    returns-3)
+begins-lacking-spec = tie.close (tie.spec (λ c. search needs) returns (λ c κs. search needs) returns-2 (λ c κs. search needs) returns-3)

@@ -45,14 +45,12 @@ start-in-row-requires c κs =
     let p = c .before .before .before .before .before .pre in
     (p .0, p .1, c .loop-test .taken, p .2, p .3)
 
-add-i : tie.Need-add-i Inv-loop μ-loop
-add-i c = search needs
-
 returns : tie.Need-returns Inv-loop μ-loop
 returns c =
+    let earlier = c .before .before .before .before .before .before .before in
     let s = c .before .start-in-row .ensures in
     let l = c .before .before .before .loop in
-    let r = room (c .before .before .before .before .before .before .before) (l .i) (c .before .before .loop-test .taken) in
+    let r = room (earlier) (l .i) (c .before .before .loop-test .taken) in
     record {
       within = omega (arith, r);
       inside = λ h. s .inside (c .if1 .taken);
@@ -60,14 +58,12 @@ returns c =
       none = λ h. absurd (omega (arith, r));
     }
 
-loop-less : tie.Need-loop-less Inv-loop μ-loop
-loop-less c = search needs
-
 loop-again : tie.Need-loop-again Inv-loop μ-loop
 loop-again c =
+    let start = c .before .before .before .before .before .before .before in
     let s = c .before .start-in-row .ensures in
     let l = c .before .before .before .loop in
-    let a = c .before .before .before .before .before .before .before .args in (
+    let a = start .args in (
       omega (arith, c .before .before .loop-test .taken),
       λ y b h e.
           let d : y < l .i * length (a .bcodes .now) + length (a .bcodes .now) = rw (add-one (l .i), suc-mul (l .i) (length (a .bcodes .now))) at b in
@@ -90,16 +86,5 @@ returns-2 c =
 
 pub first-start-spec : {M : Type 1} → statement M
 first-start-spec =
-    tie.close
-    (tie.spec
-    Inv-loop
-    μ-loop
-    loop-holds
-    mul-end
-    add-end
-    start-in-row-requires
-    add-i
-    returns
-    loop-less
-    loop-again
-    returns-2)
+    tie.close (tie.spec
+    Inv-loop μ-loop loop-holds mul-end add-end start-in-row-requires (λ c. search needs) returns (λ c. search needs) loop-again returns-2)

@@ -34,9 +34,6 @@ mul-row c = omega (arith, room (c .before .before .before))
 add-end : tie.Need-add-end Inv-loop μ-loop
 add-end c = omega (arith, room (c .before .before .before))
 
-begins-here-requires : tie.Need-begins-here-requires Inv-loop μ-loop
-begins-here-requires c κs = search needs
-
 returns : tie.Need-returns Inv-loop μ-loop
 returns c =
     let a = c .before .before .before .before .before .args in
@@ -64,36 +61,26 @@ loop-holds c =
 sub-begins-lacking : tie.Need-sub-begins-lacking Inv-loop μ-loop
 sub-begins-lacking c = omega (arith, c .before .loop .inv .3)
 
-mul-begins-lacking : tie.Need-mul-begins-lacking Inv-loop μ-loop
-mul-begins-lacking c = search needs
-
 shared-slice-read-begins-lacking : tie.Need-shared-slice-read-begins-lacking Inv-loop μ-loop
 shared-slice-read-begins-lacking c = let l = c .before .before .loop in omega (arith, l .inv .0, l .inv .1)
 
-begins-lacking-requires : tie.Need-begins-lacking-requires Inv-loop μ-loop
-begins-lacking-requires c κs = search needs
-
 returns-2 : tie.Need-returns-2 Inv-loop μ-loop
 returns-2 c =
+    let start = c .before .before .before .before .before .before .before .before .before .before .before in
     let l = c .before .before .before .before .loop in
-    let a = c .before .before .before .before .before .before .before .before .before .before .before .args in
+    let a = start .args in
     found (a .acodes .now) (a .bcodes .now) (λ x. bit x (a .ainitial)) (λ x. not (bit x (a .binitial))) (a .marks .now) (a .i) (l .x)
     (omega (arith, l .inv .0)) (omega (arith, l .inv .1)) (l .inv .5 (c .before .before .before .loop-test .taken)) (l .inv .6)
     (sym (c .before .begins-lacking .ensures) ∙ c .if2 .taken)
-
-add-next-set : tie.Need-add-next-set Inv-loop μ-loop
-add-next-set c = search needs
-
-next-set-requires-2 : tie.Need-next-set-requires-2 Inv-loop μ-loop
-next-set-requires-2 c κs = search needs
 
 loop-less : tie.Need-loop-less Inv-loop μ-loop
 loop-less c = omega (arith, c .next-set2 .ensures .before .ordered, c .before .before .before .before .loop-test .taken)
 
 loop-again : tie.Need-loop-again Inv-loop μ-loop
 loop-again c =
+    let start = c .before .before .before .before .before .before .before .before .before .before .before .before in
     let l = c .before .before .before .before .before .loop in
-    let a = c .before .before .before .before .before .before .before .before .before .before .before .before .args in
+    let a = start .args in
     let n = c .next-set2 .ensures in (
       l .inv .0,
       l .inv .1,
@@ -109,30 +96,14 @@ loop-again c =
 
 returns-3 : tie.Need-returns-3 Inv-loop μ-loop
 returns-3 c =
+    let start = c .before .before .before .before .before .before .before .before in
     let l = c .before .loop in
-    let a = c .before .before .before .before .before .before .before .before .args in
+    let a = start .args in
     ended (a .acodes .now) (a .bcodes .now) (λ x. bit x (a .ainitial)) (λ x. not (bit x (a .binitial))) (a .marks .now) (a .i) (l .x)
     (omega (arith, l .inv .1, l .inv .4)) (l .inv .7)
 
 pub start-in-row-spec : {M : Type 1} → statement M
 start-in-row-spec =
-    tie.close
-    (tie.spec
-    Inv-loop
-    μ-loop
-    mul-row
-    add-end
-    begins-here-requires
-    returns
-    next-set-requires
-    loop-holds
-    sub-begins-lacking
-    mul-begins-lacking
-    shared-slice-read-begins-lacking
-    begins-lacking-requires
-    returns-2
-    add-next-set
-    next-set-requires-2
-    loop-less
-    loop-again
-    returns-3)
+    tie.close (tie.spec
+    Inv-loop μ-loop mul-row add-end (λ c κs. search needs) returns next-set-requires loop-holds sub-begins-lacking (λ c. search needs)
+    shared-slice-read-begins-lacking (λ c κs. search needs) returns-2 (λ c. search needs) (λ c κs. search needs) loop-less loop-again returns-3)

@@ -25,25 +25,22 @@ returns c = let a = c .before .before .before .args in all-stay (a .codes .now) 
 loop-holds : tie.Need-loop-holds Inv-loop μ-loop
 loop-holds c = let a = c .before .before .before .args in (refl, omega arith, omega arith, filled-start (given (a .codes .now) (a .live .now)) 0 (a .codes .now))
 
-mul-told : tie.Need-mul-told Inv-loop μ-loop
-mul-told c = search needs
-
 slice-read-told : tie.Need-slice-read-told Inv-loop μ-loop
 slice-read-told c = let l = c .before .before .loop in omega (arith, l .inv .3 .long, l .inv .0)
 
 shared-slice-read-told : tie.Need-shared-slice-read-told Inv-loop μ-loop
-shared-slice-read-told c = let l = c .before .before .before .loop in omega (arith, l .inv .0, c .before .before .before .before .before .before .before .pre)
-
-mul-codes : tie.Need-mul-codes Inv-loop μ-loop
-mul-codes c = search needs
+shared-slice-read-told c =
+    let start = c .before .before .before .before .before .before .before in
+    let l = c .before .before .before .loop in omega (arith, l .inv .0, start .pre)
 
 slice-write-codes : tie.Need-slice-write-codes Inv-loop μ-loop
 slice-write-codes c = let l = c .before .before .before .before .loop in omega (arith, l .inv .3 .long, l .inv .0)
 
 loop-again : tie.Need-loop-again Inv-loop μ-loop
 loop-again c =
+    let start = c .before .before .before .before .before .before .before .before in
     let l = c .before .before .before .before .loop in
-    let a = c .before .before .before .before .before .before .before .before .args in
+    let a = start .args in
     let h = l .inv .3 in
     let k : l .i < length (l .codes) = omega (arith, h .long, l .inv .0) in (
       l .inv .0,
@@ -62,6 +59,6 @@ returns-2 c =
 
 pub bury-spec : {M : Type 1} → statement M
 bury-spec =
-    tie.close
-    (tie.spec Inv-loop μ-loop returns loop-holds mul-told slice-read-told shared-slice-read-told (λ c κs. search needs) mul-codes slice-write-codes (λ c. search needs)
-    (λ c. search needs) loop-again (λ c. c .before .loop .inv .3 .long) returns-2)
+    tie.close (tie.spec
+    Inv-loop μ-loop returns loop-holds (λ c. search needs) slice-read-told shared-slice-read-told (λ c κs. search needs) (λ c. search needs) slice-write-codes
+    (λ c. search needs) (λ c. search needs) loop-again (λ c. c .before .loop .inv .3 .long) returns-2)

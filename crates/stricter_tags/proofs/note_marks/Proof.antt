@@ -43,6 +43,6 @@ returns c =
 
 pub note-marks-spec : {M : Type 1} → statement M
 note-marks-spec =
-    tie.close
-    (tie.spec Inv-loop μ-loop loop-holds (λ c. search needs) (λ c. search needs) (λ c κs. search needs) slice-write-live (λ c. search needs) (λ c. search needs)
+    tie.close (tie.spec
+    Inv-loop μ-loop loop-holds (λ c. search needs) (λ c. search needs) (λ c κs. search needs) slice-write-live (λ c. search needs) (λ c. search needs)
     loop-again (λ c. c .before .loop .inv .1 .long) returns)

@@ -56,7 +56,7 @@ returns c =
 
 pub strip-spec : {M : Type 1} → statement M
 strip-spec =
-    tie.close
-    (tie.spec Inv-loop μ-loop (λ c. search needs) sub-mask loop-holds mul-list (λ c. omega arith) (λ c. omega arith)
+    tie.close (tie.spec
+    Inv-loop μ-loop (λ c. search needs) sub-mask loop-holds mul-list (λ c. omega arith) (λ c. omega arith)
     (λ c. omega (arith, c .before .before .loop .inv .2 .long)) (λ c. omega (arith, c .before .before .loop .inv .2 .long)) loop-again
     (λ c. c .before .loop .inv .2 .long) returns)

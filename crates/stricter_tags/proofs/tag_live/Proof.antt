@@ -22,18 +22,19 @@ note-live-requires c κs =
 
 tag-table-requires : tie.Need-tag-table-requires
 tag-table-requires c κs =
-    let ((r, start, T, few, e, f), long) = c .before .before .before .before .before .before .before .before .before .before .before .before .before .pre in
+    let start-2 = c .before .before .before .before .before .before .before .before .before .before .before .before .before in
+    let ((r, start, T, few, e, f), long) = start-2 .pre in
     let n = c .before .before .before .before .before .before .note-live in
     (r, start, T, omega (arith, n .kept .0), n .ensures .0 ∙ e, f)
 
-same-length-3 : tie.Need-same-length-3
-same-length-3 c = search needs
-
 returns : tie.Need-returns
 returns c =
-    let a = c .before .before .before .before .before .before .before .before .before .before .before .before .before .before .before .before .before .before .before .before .before .before .before .args in
-    let n = c .before .before .before .before .before .before .before .before .before .before .before .before .before .before .before .before .note-live in
-    let t = c .before .before .before .before .before .before .before .before .before .tag-table in
+    let at-tag-table = c .before .before .before .before .before .before .before .before .before in
+    let at-note-live = at-tag-table .before .before .before .before .before .before .before in
+    let start-2 = at-note-live .before .before .before .before .before .before .before in
+    let a = start-2 .args in
+    let n = at-note-live .note-live in
+    let t = at-tag-table .tag-table in
     let b = c .before .before .bury in
     λ r start T few e f.
     let (X, Y) = t .ensures r start T (omega (arith, n .kept .0)) (n .ensures .0 ∙ e) f in
@@ -47,5 +48,5 @@ returns c =
 
 pub tag-live-spec : {M : Type 1} → statement M
 tag-live-spec =
-    tie.close
-    (tie.spec note-live-requires tag-table-requires (λ c κs. search needs) (λ c. search needs) (λ c. search needs) same-length-3 returns)
+    tie.close (tie.spec
+    note-live-requires tag-table-requires (λ c κs. search needs) (λ c. search needs) (λ c. search needs) (λ c. search needs) returns)

@@ -21,21 +21,16 @@ tag-codes-requires c κs =
 
 tag-moves-requires : tie.Need-tag-moves-requires
 tag-moves-requires c κs =
-    let (r, start, T, few, e, f) = c .before .before .before .before .before .before .before .before .pre in
+    let start-2 = c .before .before .before .before .before .before .before .before in
+    let (r, start, T, few, e, f) = start-2 .pre in
     let t = c .before .before .before .before .tag-codes in
     (r, start, T, omega (arith, t .kept .0), rw e at (t .ensures), f)
 
-same-length : tie.Need-same-length
-same-length c = search needs
-
-same-length-2 : tie.Need-same-length-2
-same-length-2 c = search needs
-
 returns : tie.Need-returns
 returns c =
-    let t = c .before .before .before .before .before .before .before .tag-codes in
+    let at-tag-codes = c .before .before .before .before .before .before .before in
+    let t = at-tag-codes .tag-codes in
     λ r start T few e f. (t .ensures, rw e (c .before .before .tag-moves .ensures r start T (omega (arith, t .kept .0)) (rw e at (t .ensures)) f))
 
 pub tag-table-spec : {M : Type 1} → statement M
-tag-table-spec =
-    tie.close (tie.spec tag-codes-requires tag-moves-requires same-length same-length-2 returns)
+tag-table-spec = tie.close (tie.spec tag-codes-requires tag-moves-requires (λ c. search needs) (λ c. search needs) returns)

@@ -19,18 +19,6 @@ Inv-loop codes i components core top h₀ h = (h ≤ getD codes i 0 / 1099511627
 abbrev μ-loop : tie.MeasureT-loop
 μ-loop codes i components core top h₀ h = getD codes i 0 / 1099511627776 - h
 
-mul-core : tie.Need-mul-core Inv-loop μ-loop
-mul-core c = search needs
-
-shared-slice-read-core : tie.Need-shared-slice-read-core Inv-loop μ-loop
-shared-slice-read-core c = search needs
-
-mul-top : tie.Need-mul-top Inv-loop μ-loop
-mul-top c = search needs
-
-shared-slice-read-top : tie.Need-shared-slice-read-top Inv-loop μ-loop
-shared-slice-read-top c = search needs
-
 loop-holds : tie.Need-loop-holds Inv-loop μ-loop
 loop-holds c = (omega arith, λ j l e. omega arith)
 
@@ -43,9 +31,6 @@ low x h = ap (λ (y : ℕ). y + h * 1099511627776) (and-mask x 40)
 
 add-h : tie.Need-add-h Inv-loop μ-loop
 add-h c = omega (arith, fits (c .before .before))
-
-loop-less : tie.Need-loop-less Inv-loop μ-loop
-loop-less c = omega arith
 
 loop-again : tie.Need-loop-again Inv-loop μ-loop
 loop-again c =
@@ -68,26 +53,31 @@ place-requires c κs =
     let p = c .before .before .before .before .before .before .pre in
     (omega arith, front-asc (a .codes .now) (a .i) (p .0) (p .1))
 
+abbrev start-of-after-place : tie.After-place Inv-loop μ-loop → tie.Start Inv-loop μ-loop
+start-of-after-place c = c .before .before .before .before .before .before .before
+
 -- the place is at most i
-near : (c : tie.After-place Inv-loop μ-loop) → c .place .result ≤ c .before .before .before .before .before .before .before .args .i
+near : (c : tie.After-place Inv-loop μ-loop) → c .place .result ≤ start-of-after-place c .args .i
 near c =
-    let a = c .before .before .before .before .before .before .before .args in
-    let p = c .before .before .before .before .before .before .before .pre in
+    let a = start-of-after-place c .args in
+    let p = start-of-after-place c .pre in
     let b = below-le (bitAnd (getD (a .codes .now) (a .i) 0) 1099511627775 + c .before .before .before .loop .h * 1099511627776) (take (a .i) (a .codes .now)) in
     omega (arith, c .place .ensures, length-take-le (a .i) (a .codes .now) (omega arith))
 
 mul-if2 : tie.Need-mul-if2 Inv-loop μ-loop
 mul-if2 c =
-    let a = c .before .before .before .before .before .before .before .args in
-    scaled-fits _ (length (a .codes .now)) 8 (omega (arith, near c)) (c .before .before .before .before .before .before .before .good .0 .1)
+    let start = c .before .before .before .before .before .before .before in
+    let a = start .args in
+    scaled-fits _ (length (a .codes .now)) 8 (omega (arith, near c)) (start .good .0 .1)
 
 shared-slice-read-if2 : tie.Need-shared-slice-read-if2 Inv-loop μ-loop
 shared-slice-read-if2 c = omega (arith, near (c .before))
 
 returns : tie.Need-returns Inv-loop μ-loop
 returns c =
-    let a = c .before .before .before .before .before .before .before .before .before .args in
-    let p = c .before .before .before .before .before .before .before .before .before .pre in
+    let start = c .before .before .before .before .before .before .before .before .before in
+    let a = start .args in
+    let p = start .pre in
     let l = c .before .before .before .before .before .loop in
     hit (a .codes .now) (a .i) (p .0) (p .1) (l .h) (l .inv .1) (c .before .before .place .result) (near (c .before .before))
     (c .if2 .taken ∙ low (getD (a .codes .now) (a .i) 0) (l .h))
@@ -95,13 +85,11 @@ returns c =
 add-h-2 : tie.Need-add-h-2 Inv-loop μ-loop
 add-h-2 c = omega (arith, fits (c .before .before .before .before .before))
 
-loop-less-2 : tie.Need-loop-less-2 Inv-loop μ-loop
-loop-less-2 c = omega arith
-
 loop-again-2 : tie.Need-loop-again-2 Inv-loop μ-loop
 loop-again-2 c =
-    let a = c .before .before .before .before .before .before .before .before .before .args in
-    let p = c .before .before .before .before .before .before .before .before .before .pre in
+    let start = c .before .before .before .before .before .before .before .before .before in
+    let a = start .args in
+    let p = start .pre in
     let l = c .before .before .before .before .before .loop in (
       omega arith,
       miss (a .codes .now) (a .i) (p .0) (p .1) (l .h) (l .inv .1) (c .before .before .place .result)
@@ -118,25 +106,6 @@ returns-2 c =
 
 pub first-of-spec : {M : Type 1} → statement M
 first-of-spec =
-    tie.close
-    (tie.spec
-    Inv-loop
-    μ-loop
-    mul-core
-    shared-slice-read-core
-    mul-top
-    shared-slice-read-top
-    loop-holds
-    add-h
-    loop-less
-    loop-again
-    mul-key
-    add-key
-    place-requires
-    mul-if2
-    shared-slice-read-if2
-    returns
-    add-h-2
-    loop-less-2
-    loop-again-2
-    returns-2)
+    tie.close (tie.spec
+    Inv-loop μ-loop (λ c. search needs) (λ c. search needs) (λ c. search needs) (λ c. search needs) loop-holds add-h (λ c. omega arith) loop-again mul-key
+    add-key place-requires mul-if2 shared-slice-read-if2 returns add-h-2 (λ c. omega arith) loop-again-2 returns-2)

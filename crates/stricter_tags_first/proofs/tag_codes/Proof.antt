@@ -27,9 +27,6 @@ abbrev μ-loop : tie.MeasureT-loop
 loop-holds : tie.Need-loop-holds Inv-loop μ-loop
 loop-holds c = (omega arith, filled-start (tag (c .before .args .codes .now)) (length (c .before .args .codes .now)) (c .before .args .codes .now))
 
-sub-i : tie.Need-sub-i Inv-loop μ-loop
-sub-i c = omega arith
-
 -- the codes up to the next one are as they were
 front : (c : tie.In-loop Inv-loop μ-loop) → take (c .before .loop .i - 1 + 1) (c .before .loop .codes) ≡ take (c .before .loop .i - 1 + 1) (c .before .before .before .args .codes .now)
 front c =
@@ -64,7 +61,8 @@ mul-codes : tie.Need-mul-codes Inv-loop μ-loop
 mul-codes c = omega (arith, low c)
 
 mul-codes-2 : tie.Need-mul-codes-2 Inv-loop μ-loop
-mul-codes-2 c = scaled-fits _ (length (c .before .before .before .before .before .args .codes .now)) 8 (omega (arith, c .before .before .before .loop .inv .1 .long)) (c .before .before .before .before .before .good .0 .1)
+mul-codes-2 c = scaled-fits _ (length (c .before .before .before .before .before .args .codes .now)) 8 (omega (arith, c .before .before .before .loop .inv .1 .long))
+    (c .before .before .before .before .before .good .0 .1)
 
 slice-read-codes : tie.Need-slice-read-codes Inv-loop μ-loop
 slice-read-codes c = omega (arith, c .before .before .before .before .loop .inv .1 .long)
@@ -78,9 +76,6 @@ add-codes c =
 slice-write-codes : tie.Need-slice-write-codes Inv-loop μ-loop
 slice-write-codes c = omega (arith, c .before .before .before .before .loop .inv .1 .long)
 
-loop-less : tie.Need-loop-less Inv-loop μ-loop
-loop-less c = omega arith
-
 loop-again : tie.Need-loop-again Inv-loop μ-loop
 loop-again c =
     let a = c .before .before .before .before .before .before .args in
@@ -91,9 +86,6 @@ loop-again c =
           (omega (arith, found (c .before), l .inv .1 .outside (l .i - 1) (inl (omega arith)))),
     )
 
-same-length : tie.Need-same-length Inv-loop μ-loop
-same-length c = c .before .loop .inv .1 .long
-
 returns : tie.Need-returns Inv-loop μ-loop
 returns c =
     let l = c .before .loop in
@@ -101,19 +93,6 @@ returns c =
 
 pub tag-codes-spec : {M : Type 1} → statement M
 tag-codes-spec =
-    tie.close
-    (tie.spec
-    Inv-loop
-    μ-loop
-    loop-holds
-    sub-i
-    first-of-requires
-    mul-codes
-    mul-codes-2
-    slice-read-codes
-    add-codes
-    slice-write-codes
-    loop-less
-    loop-again
-    same-length
-    returns)
+    tie.close (tie.spec
+    Inv-loop μ-loop loop-holds (λ c. omega arith) first-of-requires mul-codes mul-codes-2 slice-read-codes add-codes slice-write-codes (λ c. omega arith)
+    loop-again (λ c. c .before .loop .inv .1 .long) returns)

@@ -21,31 +21,11 @@ loop-holds : tie.Need-loop-holds Inv-loop μ-loop
 unfolding mask
 loop-holds c = (omega arith, refl)
 
-element-copy-out-class-count : tie.Need-element-copy-out-class-count Inv-loop μ-loop
-element-copy-out-class-count c = search needs
-
-class-count-requires : tie.Need-class-count-requires Inv-loop μ-loop
-class-count-requires c κs = search needs
-
-cast-classes : tie.Need-cast-classes Inv-loop μ-loop
-cast-classes c = search needs
-
-mul-spared-by : tie.Need-mul-spared-by Inv-loop μ-loop
-mul-spared-by c = search needs
-
-element-copy-out-spared-by : tie.Need-element-copy-out-spared-by Inv-loop μ-loop
-element-copy-out-spared-by c = search needs
-
-spared-by-requires : tie.Need-spared-by-requires Inv-loop μ-loop
-spared-by-requires c κs = search needs
-
-shl-spared : tie.Need-shl-spared Inv-loop μ-loop
-shl-spared c = search needs
-
 -- the mask with one more component
 put : (c : tie.After-spared-by Inv-loop μ-loop)
     → c .before .before .before .before .before .loop .spared + c .spared-by .result * 2 ^ c .before .before .before .before .before .loop .k % 2 ^ 64
-    ≡ mask (c .before .before .before .before .before .loop .k + 1) (sparedIn (c .before .before .before .before .before .before .args .ranks) (c .before .before .before .before .before .before .args .parts .now) (c .before .before .before .before .before .before .args .levels .now))
+    ≡ mask (c .before .before .before .before .before .loop .k + 1) (sparedIn (c .before .before .before .before .before .before .args .ranks)
+    (c .before .before .before .before .before .before .args .parts .now) (c .before .before .before .before .before .before .args .levels .now))
 put c =
     let a = c .before .before .before .before .before .before .args in
     let l = c .before .before .before .before .before .loop in
@@ -57,12 +37,6 @@ add-spared c =
     let a = c .before .before .before .before .before .before .args in
     let l = c .before .before .before .before .before .loop in
     omega (arith, put c, mask-small (l .k + 1) (sparedIn (a .ranks) (a .parts .now) (a .levels .now)) (omega arith))
-
-add-k : tie.Need-add-k Inv-loop μ-loop
-add-k c = search needs
-
-loop-less : tie.Need-loop-less Inv-loop μ-loop
-loop-less c = search needs
 
 loop-again : tie.Need-loop-again Inv-loop μ-loop
 loop-again c = (omega arith, put c)
@@ -76,20 +50,6 @@ returns c =
 
 pub spared-in-spec : {M : Type 1} → statement M
 spared-in-spec =
-    tie.close
-    (tie.spec
-    Inv-loop
-    μ-loop
-    loop-holds
-    element-copy-out-class-count
-    class-count-requires
-    cast-classes
-    mul-spared-by
-    element-copy-out-spared-by
-    spared-by-requires
-    shl-spared
-    add-spared
-    add-k
-    loop-less
-    loop-again
-    returns)
+    tie.close (tie.spec
+    Inv-loop μ-loop loop-holds (λ c. search needs) (λ c κs. search needs) (λ c. search needs) (λ c. search needs) (λ c. search needs) (λ c κs. search needs)
+    (λ c. search needs) add-spared (λ c. search needs) (λ c. search needs) loop-again returns)

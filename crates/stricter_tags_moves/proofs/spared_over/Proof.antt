@@ -11,12 +11,6 @@ use Rattle.stricter_tags_moves.proofs.Spared.{mask-small}
 use Rattle.stricter_tags_moves.proofs.spared_over.Statement.{statement}
 use Rattle.stricter_tags_moves.proofs.spared_over.Tie as tie
 
-lowest-requires : tie.Need-lowest-requires
-lowest-requires c κs = search needs
-
-array-read-step-back : tie.Need-array-read-step-back
-array-read-step-back c = search needs
-
 step-back-requires : tie.Need-step-back-requires
 step-back-requires c κs =
     let a = c .before .before .args in
@@ -45,6 +39,4 @@ returns c =
     )
 
 pub spared-over-spec : {M : Type 1} → statement M
-spared-over-spec =
-    tie.close
-    (tie.spec lowest-requires array-read-step-back step-back-requires spared-in-requires returns)
+spared-over-spec = tie.close (tie.spec (λ c κs. search needs) (λ c. search needs) step-back-requires spared-in-requires returns)

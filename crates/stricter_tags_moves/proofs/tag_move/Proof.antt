@@ -18,20 +18,11 @@ use Rattle.stricter_tags_moves.proofs.Moves.{target-low, letter-known, 
 use Rattle.stricter_tags_moves.proofs.tag_move.Statement.{statement}
 use Rattle.stricter_tags_moves.proofs.tag_move.Tie as tie
 
-target-of-requires : tie.Need-target-of-requires
-target-of-requires c κs = search needs
-
-mul-d : tie.Need-mul-d
-mul-d c = search needs
-
 shared-slice-read-d : tie.Need-shared-slice-read-d
 shared-slice-read-d c =
     let a = c .before .before .before .args in
     let (r, start, T, few, C, m) = c .before .before .before .pre in
     omega (arith, c .before .target-of .ensures, C .long, target-low r (a .opens .now) (a .parts .now) (a .shape) T start (a .codes .now) few C (a .t) m)
-
-letter-of-requires : tie.Need-letter-of-requires
-letter-of-requires c κs = search needs
 
 spared-over-requires : tie.Need-spared-over-requires
 spared-over-requires c κs =
@@ -80,22 +71,15 @@ returns c =
     let e = ranks-are r (a .opens .now) (a .parts .now) (a .shape) T start (a .codes .now) few C (a .t) m in
     let v : vectorOf (automaton r) (rankIn (automaton r) (getD (macrostatesFrom r start) (targetOf (a .t)) 0)) ≡ bitAnd (getD (a .codes .now) (t .result) 0 / 2 ^ 8) 4294967295
     = rw (t .ensures) e in
-    let spared : s .result ≡ mask 8 (λ K. ltb K ((automaton r) .components) && spares (automaton r) (letterOf (a .t)) (getD (macrostatesFrom r start) (sourceOf (a .t)) 0) (getD (macrostatesFrom r start) (targetOf (a .t)) 0) K)
-    = rw (c .before .letter-of .ensures) at (s .ensures .1 r T (getD (macrostatesFrom r start) (sourceOf (a .t)) 0) (getD (macrostatesFrom r start) (targetOf (a .t)) 0) N v (rw (c .before .letter-of .ensures) G)) in
+    let spared : s .result ≡ mask 8 (λ K. ltb K ((automaton r) .components) && spares (automaton r) (letterOf (a .t)) (getD (macrostatesFrom r start) (sourceOf (a .t)) 0)
+    (getD (macrostatesFrom r start) (targetOf (a .t)) 0) K)
+    = rw (c .before .letter-of .ensures) at (s .ensures .1 r T (getD (macrostatesFrom r start) (sourceOf (a .t)) 0) (getD (macrostatesFrom r start) (targetOf (a .t)) 0) N v
+    (rw (c .before .letter-of .ensures) G)) in
     rw (t .ensures)
     (tags-are r (a .opens .now) (a .parts .now) (a .shape) T start (a .codes .now) few C (a .t) m (s .result) spared)
 
 pub tag-move-spec : {M : Type 1} → statement M
 tag-move-spec =
-    tie.close
-    (tie.spec
-    target-of-requires
-    mul-d
-    shared-slice-read-d
-    letter-of-requires
-    spared-over-requires
-    mul-result
-    add-result
-    mul-result-2
-    add-result-2
+    tie.close (tie.spec
+    (λ c κs. search needs) (λ c. search needs) shared-slice-read-d (λ c κs. search needs) spared-over-requires mul-result add-result mul-result-2 add-result-2
     returns)

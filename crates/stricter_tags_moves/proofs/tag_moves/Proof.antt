@@ -39,9 +39,6 @@ loop-holds c =
 mul-tag-move : tie.Need-mul-tag-move Inv-loop μ-loop
 mul-tag-move c = scaled-fits _ (length (c .before .before .before .before .args .moves .now)) 8 (omega (arith, c .before .loop .inv .1)) (c .before .before .before .before .good .0 .1)
 
-slice-read-tag-move : tie.Need-slice-read-tag-move Inv-loop μ-loop
-slice-read-tag-move c = omega arith
-
 -- what stands at place i is a transition
 here : (c : tie.In-loop Inv-loop μ-loop) (ts : List ℕ) → c .before .before .before .before .args .moves .now ≡ ts → List·Memᴰ (getD (c .before .loop .moves) (c .before .loop .i) 0) ts
 here c ts e =
@@ -55,10 +52,8 @@ tag-move-requires c κs =
     (r, start, T, few, C, here (c .before) (transitionsFrom r start) e)
 
 mul-moves : tie.Need-mul-moves Inv-loop μ-loop
-mul-moves c = scaled-fits _ (length (c .before .before .before .before .before .before .args .moves .now)) 8 (omega (arith, c .before .before .before .loop .inv .1)) (c .before .before .before .before .before .before .good .0 .1)
-
-slice-write-moves : tie.Need-slice-write-moves Inv-loop μ-loop
-slice-write-moves c = omega arith
+mul-moves c = scaled-fits _ (length (c .before .before .before .before .before .before .args .moves .now)) 8 (omega (arith, c .before .before .before .loop .inv .1))
+    (c .before .before .before .before .before .before .good .0 .1)
 
 add-i : tie.Need-add-i Inv-loop μ-loop
 add-i c = omega (arith, c .before .before .before .loop .inv .1)
@@ -79,9 +74,6 @@ loop-again c =
           (c .tag-move .ensures r start T few C (here (c .before .before) (transitionsFrom r start) e) ∙ ap (λ (t : ℕ). t + 1099511627776 * tagOf (automaton r) (macrostatesFrom r start) t) same),
     )
 
-same-length : tie.Need-same-length Inv-loop μ-loop
-same-length c = c .before .loop .inv .1
-
 returns : tie.Need-returns Inv-loop μ-loop
 returns c =
     let l = c .before .loop in
@@ -91,18 +83,6 @@ returns c =
 
 pub tag-moves-spec : {M : Type 1} → statement M
 tag-moves-spec =
-    tie.close
-    (tie.spec
-    Inv-loop
-    μ-loop
-    loop-holds
-    mul-tag-move
-    slice-read-tag-move
-    tag-move-requires
-    mul-moves
-    slice-write-moves
-    add-i
-    loop-less
-    loop-again
-    same-length
-    returns)
+    tie.close (tie.spec
+    Inv-loop μ-loop loop-holds mul-tag-move (λ c. omega arith) tag-move-requires mul-moves (λ c. omega arith) add-i loop-less loop-again
+    (λ c. c .before .loop .inv .1) returns)

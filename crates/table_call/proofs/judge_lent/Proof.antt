@@ -13,97 +13,102 @@ use borrow.Author.Needs.{needs}
 use Rattle.table_call.proofs.judge_lent.Statement.{statement}
 use Rattle.table_call.proofs.judge_lent.Tie as tie
 
-word-row-requires : tie.Need-word-row-requires
-word-row-requires c κs = search needs
-
 returns : tie.Need-returns
-returns c = let a = c .before .before .before .before .before .before .before .before .before .args in called-refused (a .h .s) (λ x. bit x (a .h .initial)) (a .lead .now) (a .cycle .now) (inBoth (a .codes .now) (a .codebytes .now)) (inBoth (a .moves .now) (a .movebytes .now)) (a .scratch .now) (c .before .word-row .result) (c .if1 .taken) (word-refuses (a .h .s) (a .lead .now) (a .cycle .now) (inBoth (a .codes .now) (a .codebytes .now)) (inBoth (a .moves .now) (a .movebytes .now)) (length (a .scratch .now)) (c .before .word-row .result) (c .if1 .taken) (c .before .word-row .ensures))
-
-table-row-requires : tie.Need-table-row-requires
-table-row-requires c κs = search needs
+returns c =
+    let start = c .before .before .before .before .before .before .before .before .before in
+    let a = start .args in called-refused (a .h .s) (λ x. bit x (a .h .initial)) (a .lead .now) (a .cycle .now) (inBoth (a .codes .now) (a .codebytes .now))
+    (inBoth (a .moves .now) (a .movebytes .now)) (a .scratch .now) (c .before .word-row .result) (c .if1 .taken)
+    (word-refuses (a .h .s) (a .lead .now) (a .cycle .now) (inBoth (a .codes .now) (a .codebytes .now)) (inBoth (a .moves .now) (a .movebytes .now)) (length (a .scratch .now))
+    (c .before .word-row .result) (c .if1 .taken) (c .before .word-row .ensures))
 
 returns-2 : tie.Need-returns-2
-returns-2 c = let a = c .before .before .before .before .before .before .before .before .before .before .before .args in called-refused (a .h .s) (λ x. bit x (a .h .initial)) (a .lead .now) (a .cycle .now) (inBoth (a .codes .now) (a .codebytes .now)) (inBoth (a .moves .now) (a .movebytes .now)) (a .scratch .now) (c .before .table-row .result) (c .if2 .taken) (table-refuses (a .h .s) (a .lead .now) (a .cycle .now) (inBoth (a .codes .now) (a .codebytes .now)) (inBoth (a .moves .now) (a .movebytes .now)) (length (a .scratch .now)) (sym (c .before .before .before .word-row .ensures) ∙ c .before .before .if1 .left) (c .before .table-row .result) (c .if2 .taken) (c .before .table-row .ensures))
-
-count-requires : tie.Need-count-requires
-count-requires c κs = search needs
-
-add-used : tie.Need-add-used
-add-used c = search needs
+returns-2 c =
+    let start = c .before .before .before .before .before .before .before .before .before .before .before in
+    let a = start .args in called-refused (a .h .s) (λ x. bit x (a .h .initial)) (a .lead .now) (a .cycle .now) (inBoth (a .codes .now) (a .codebytes .now))
+    (inBoth (a .moves .now) (a .movebytes .now)) (a .scratch .now) (c .before .table-row .result) (c .if2 .taken)
+    (table-refuses (a .h .s) (a .lead .now) (a .cycle .now) (inBoth (a .codes .now) (a .codebytes .now)) (inBoth (a .moves .now) (a .movebytes .now)) (length (a .scratch .now))
+    (sym (c .before .before .before .word-row .ensures) ∙ c .before .before .if1 .left) (c .before .table-row .result) (c .if2 .taken) (c .before .table-row .ensures))
 
 mul-used : tie.Need-mul-used
-mul-used c = let a = c .before .before .before .before .before .before .before .before .before .before .before .before .args in rw (c .count .ensures) (omega (arith, few-marks (a .h .s) (a .lead .now) (a .cycle .now) (inBoth (a .codes .now) (a .codebytes .now)) (inBoth (a .moves .now) (a .movebytes .now)) (sym (c .before .before .before .before .word-row .ensures) ∙ c .before .before .before .if1 .left) (sym (c .before .before .table-row .ensures) ∙ c .before .if2 .left)))
+mul-used c =
+    let start = c .before .before .before .before .before .before .before .before .before .before .before .before in
+    let a = start .args in rw (c .count .ensures) (omega (
+      arith,
+      few-marks (a .h .s) (a .lead .now) (a .cycle .now) (inBoth (a .codes .now) (a .codebytes .now))
+          (inBoth (a .moves .now) (a .movebytes .now)) (sym (c .before .before .before .before .word-row .ensures) ∙ c .before .before .before .if1 .left)
+          (sym (c .before .before .table-row .ensures) ∙ c .before .if2 .left),
+    ))
 
 returns-3 : tie.Need-returns-3
 returns-3 c =
-    let a = c .before .before .before .before .before .before .before .before .before .before .before .before .before .args in
+    let start = c .before .before .before .before .before .before .before .before .before .before .before .before .before in
+    let a = start .args in
     let used = ap (λ (n : ℕ). n * places (a .lead .now) (a .cycle .now)) (c .before .count .ensures) in
     let short : length (a .scratch .now) < length (inBoth (a .codes .now) (a .codebytes .now) .numbers) * places (a .lead .now) (a .cycle .now) = omega (arith, used, c .if3 .taken) in
-    called-refused (a .h .s) (λ x. bit x (a .h .initial)) (a .lead .now) (a .cycle .now) (inBoth (a .codes .now) (a .codebytes .now)) (inBoth (a .moves .now) (a .movebytes .now)) (a .scratch .now) 16 (λ e. omega arith) (scratch-refuses (a .h .s) (a .lead .now) (a .cycle .now) (inBoth (a .codes .now) (a .codebytes .now)) (inBoth (a .moves .now) (a .movebytes .now)) (length (a .scratch .now)) (sym (c .before .before .before .before .before .word-row .ensures) ∙ c .before .before .before .before .if1 .left) (sym (c .before .before .before .table-row .ensures) ∙ c .before .before .if2 .left) short)
-
-cast-search : tie.Need-cast-search
-cast-search c = search needs
-
-slice-relend-prefix-search : tie.Need-slice-relend-prefix-search
-slice-relend-prefix-search c = search needs
+    called-refused (a .h .s) (λ x. bit x (a .h .initial)) (a .lead .now) (a .cycle .now) (inBoth (a .codes .now) (a .codebytes .now)) (inBoth (a .moves .now) (a .movebytes .now)) (a .scratch .now) 16
+    (λ e. omega arith) (scratch-refuses (a .h .s) (a .lead .now) (a .cycle .now) (inBoth (a .codes .now) (a .codebytes .now)) (inBoth (a .moves .now) (a .movebytes .now))
+    (length (a .scratch .now)) (sym (c .before .before .before .before .before .word-row .ensures) ∙ c .before .before .before .before .if1 .left)
+    (sym (c .before .before .before .table-row .ensures) ∙ c .before .before .if2 .left) short)
 
 slice-aggregate-search : tie.Need-slice-aggregate-search
-slice-aggregate-search c = sym (length-take-le _ (c .before .before .before .before .before .before .before .before .before .before .before .before .before .before .before .args .scratch .now) (c .before .before .if3 .left))
+slice-aggregate-search c =
+    let start = c .before .before .before .before .before .before .before .before .before .before .before .before .before .before .before in
+    sym (length-take-le _ (start .args .scratch .now) (c .before .before .if3 .left))
 
 search-requires : tie.Need-search-requires
 search-requires c κs =
-    let a = c .before .before .before .before .before .before .before .before .before .before .before .before .before .before .before .args in
-    (c .before .before .before .before .before .before .before .before .before .before .before .before .before .before .before .pre, ready (a .h .s) (a .lead .now) (a .cycle .now) (inBoth (a .codes .now) (a .codebytes .now)) (inBoth (a .moves .now) (a .movebytes .now)) (sym (c .before .before .before .before .before .before .before .word-row .ensures) ∙ c .before .before .before .before .before .before .if1 .left) (sym (c .before .before .before .before .before .table-row .ensures) ∙ c .before .before .before .before .if2 .left) _ (length-take-le _ (a .scratch .now) (c .before .before .if3 .left) ∙ ap (λ (n : ℕ). n * places (a .lead .now) (a .cycle .now)) (c .before .before .before .count .ensures)))
-
-fill-with-requires : tie.Need-fill-with-requires
-fill-with-requires c κs = search needs
-
-same-length : tie.Need-same-length
-same-length c = search needs
+    let at-word-row = c .before .before .before .before .before .before .before in
+    let start = at-word-row .before .before .before .before .before .before .before .before in
+    let a = start .args in (
+      start .pre,
+      ready (a .h .s) (a .lead .now) (a .cycle .now) (inBoth (a .codes .now) (a .codebytes .now)) (inBoth (a .moves .now) (a .movebytes .now))
+          (sym (at-word-row .word-row .ensures) ∙ c .before .before .before .before .before .before .if1 .left)
+          (sym (c .before .before .before .before .before .table-row .ensures) ∙ c .before .before .before .before .if2 .left) _
+          (length-take-le _ (a .scratch .now) (c .before .before .if3 .left) ∙ ap (λ (n : ℕ). n * places (a .lead .now) (a .cycle .now)) (c .before .before .before .count .ensures)),
+    )
 
 returns-4 : tie.Need-returns-4
 returns-4 c =
-    let a = c .before .before .before .before .before .before .before .before .before .before .before .before .before .before .before .before .before .before .before .before .before .before .before .args in
+    let a = c .before .before .before .before .before .before .before .before .before .before .before .before .before .before .before .before .before .before .before .before .before .before
+    .before .args in
     let used = ap (λ (n : ℕ). n * places (a .lead .now) (a .cycle .now)) (c .before .before .before .before .before .before .before .before .before .before .before .count .ensures) in
-    let room : length (inBoth (a .codes .now) (a .codebytes .now) .numbers) * places (a .lead .now) (a .cycle .now) ≤ length (a .scratch .now) = omega (arith, used, c .before .before .before .before .before .before .before .before .before .before .if3 .left) in
-    let low : c .before .before .before .before .before .before .before .search .result < length (inBoth (a .codes .now) (a .codebytes .now) .numbers) = omega (arith, c .before .before .before .before .before .before .before .before .before .before .before .count .ensures, c .if4 .taken) in
-    let e = call-served (a .h .s) (a .lead .now) (a .cycle .now) (inBoth (a .codes .now) (a .codebytes .now)) (inBoth (a .moves .now) (a .movebytes .now)) (length (a .scratch .now)) (sym (c .before .before .before .before .before .before .before .before .before .before .before .before .before .before .before .word-row .ensures) ∙ c .before .before .before .before .before .before .before .before .before .before .before .before .before .before .if1 .left) (sym (c .before .before .before .before .before .before .before .before .before .before .before .before .before .table-row .ensures) ∙ c .before .before .before .before .before .before .before .before .before .before .before .before .if2 .left) room in
+    let room : length (inBoth (a .codes .now) (a .codebytes .now) .numbers) * places (a .lead .now) (a .cycle .now) ≤ length (a .scratch .now) =
+    omega (arith, used, c .before .before .before .before .before .before .before .before .before .before .if3 .left) in
+    let low : c .before .before .before .before .before .before .before .search .result < length (inBoth (a .codes .now) (a .codebytes .now) .numbers) =
+    omega (arith, c .before .before .before .before .before .before .before .before .before .before .before .count .ensures, c .if4 .taken) in
+    let e = call-served (a .h .s) (a .lead .now) (a .cycle .now) (inBoth (a .codes .now) (a .codebytes .now)) (inBoth (a .moves .now) (a .movebytes .now)) (length (a .scratch .now))
+    (sym (c .before .before .before .before .before .before .before .before .before .before .before .before .before .before .before .word-row .ensures)
+    ∙ c .before .before .before .before .before .before .before .before .before .before .before .before .before .before .if1 .left)
+    (sym (c .before .before .before .before .before .before .before .before .before .before .before .before .before .table-row .ensures)
+    ∙ c .before .before .before .before .before .before .before .before .before .before .before .before .if2 .left) room in
     let f = c .before .before .before .fill-with in
     let k : length (f .last .0) ≡ length (a .scratch .now) = search needs in
-    rw (f .ensures ∙ ap (λ (n : ℕ). replicate n 0) (sym (f .kept .0) ∙ k)) (called-yes (a .h .s) (λ x. bit x (a .h .initial)) (a .lead .now) (a .cycle .now) (inBoth (a .codes .now) (a .codebytes .now)) (inBoth (a .moves .now) (a .movebytes .now)) (a .scratch .now) e (c .before .before .before .before .before .before .before .search .result) low (c .before .before .before .before .before .before .before .search .ensures))
-
-same-length-2 : tie.Need-same-length-2
-same-length-2 c = search needs
+    rw (f .ensures ∙ ap (λ (n : ℕ). replicate n 0) (sym (f .kept .0) ∙ k))
+    (called-yes (a .h .s) (λ x. bit x (a .h .initial)) (a .lead .now) (a .cycle .now) (inBoth (a .codes .now) (a .codebytes .now)) (inBoth (a .moves .now) (a .movebytes .now)) (a .scratch .now) e
+    (c .before .before .before .before .before .before .before .search .result) low (c .before .before .before .before .before .before .before .search .ensures))
 
 returns-5 : tie.Need-returns-5
 returns-5 c =
-    let a = c .before .before .before .before .before .before .before .before .before .before .before .before .before .before .before .before .before .before .before .before .before .before .before .args in
+    let a = c .before .before .before .before .before .before .before .before .before .before .before .before .before .before .before .before .before .before .before .before .before .before
+    .before .args in
     let used = ap (λ (n : ℕ). n * places (a .lead .now) (a .cycle .now)) (c .before .before .before .before .before .before .before .before .before .before .before .count .ensures) in
-    let room : length (inBoth (a .codes .now) (a .codebytes .now) .numbers) * places (a .lead .now) (a .cycle .now) ≤ length (a .scratch .now) = omega (arith, used, c .before .before .before .before .before .before .before .before .before .before .if3 .left) in
-    let high : length (inBoth (a .codes .now) (a .codebytes .now) .numbers) ≤ c .before .before .before .before .before .before .before .search .result = omega (arith, c .before .before .before .before .before .before .before .before .before .before .before .count .ensures, c .if4 .left) in
-    let e = call-served (a .h .s) (a .lead .now) (a .cycle .now) (inBoth (a .codes .now) (a .codebytes .now)) (inBoth (a .moves .now) (a .movebytes .now)) (length (a .scratch .now)) (sym (c .before .before .before .before .before .before .before .before .before .before .before .before .before .before .before .word-row .ensures) ∙ c .before .before .before .before .before .before .before .before .before .before .before .before .before .before .if1 .left) (sym (c .before .before .before .before .before .before .before .before .before .before .before .before .before .table-row .ensures) ∙ c .before .before .before .before .before .before .before .before .before .before .before .before .if2 .left) room in
+    let room : length (inBoth (a .codes .now) (a .codebytes .now) .numbers) * places (a .lead .now) (a .cycle .now) ≤ length (a .scratch .now) =
+    omega (arith, used, c .before .before .before .before .before .before .before .before .before .before .if3 .left) in
+    let high : length (inBoth (a .codes .now) (a .codebytes .now) .numbers) ≤ c .before .before .before .before .before .before .before .search .result =
+    omega (arith, c .before .before .before .before .before .before .before .before .before .before .before .count .ensures, c .if4 .left) in
+    let e = call-served (a .h .s) (a .lead .now) (a .cycle .now) (inBoth (a .codes .now) (a .codebytes .now)) (inBoth (a .moves .now) (a .movebytes .now)) (length (a .scratch .now))
+    (sym (c .before .before .before .before .before .before .before .before .before .before .before .before .before .before .before .word-row .ensures)
+    ∙ c .before .before .before .before .before .before .before .before .before .before .before .before .before .before .if1 .left)
+    (sym (c .before .before .before .before .before .before .before .before .before .before .before .before .before .table-row .ensures)
+    ∙ c .before .before .before .before .before .before .before .before .before .before .before .before .if2 .left) room in
     let f = c .before .before .before .fill-with in
     let k : length (f .last .0) ≡ length (a .scratch .now) = search needs in
-    rw (f .ensures ∙ ap (λ (n : ℕ). replicate n 0) (sym (f .kept .0) ∙ k)) (called-no (a .h .s) (λ x. bit x (a .h .initial)) (a .lead .now) (a .cycle .now) (inBoth (a .codes .now) (a .codebytes .now)) (inBoth (a .moves .now) (a .movebytes .now)) (a .scratch .now) e (c .before .before .before .before .before .before .before .search .result) high (c .before .before .before .before .before .before .before .search .ensures))
+    rw (f .ensures ∙ ap (λ (n : ℕ). replicate n 0) (sym (f .kept .0) ∙ k))
+    (called-no (a .h .s) (λ x. bit x (a .h .initial)) (a .lead .now) (a .cycle .now) (inBoth (a .codes .now) (a .codebytes .now)) (inBoth (a .moves .now) (a .movebytes .now)) (a .scratch .now) e
+    (c .before .before .before .before .before .before .before .search .result) high (c .before .before .before .before .before .before .before .search .ensures))
 
 pub judge-lent-spec : {M : Type 1} → statement M
 judge-lent-spec =
-    tie.close
-    (tie.spec
-    word-row-requires
-    returns
-    table-row-requires
-    returns-2
-    count-requires
-    add-used
-    mul-used
-    returns-3
-    cast-search
-    slice-relend-prefix-search
-    slice-aggregate-search
-    search-requires
-    fill-with-requires
-    same-length
-    returns-4
-    same-length-2
-    returns-5)
+    tie.close (tie.spec
+    (λ c κs. search needs) returns (λ c κs. search needs) returns-2 (λ c κs. search needs) (λ c. search needs) mul-used returns-3 (λ c. search needs)
+    (λ c. search needs) slice-aggregate-search search-requires (λ c κs. search needs) (λ c. search needs) returns-4 (λ c. search needs) returns-5)

@@ -6,12 +6,6 @@ use Rattle.table_lent.proofs.element.Statement.{statement}
 use Rattle.table_lent.proofs.element.Tie as tie
 use Rattle.table_lent.proofs.Reading.{both-length, both-low, both-high}
 
-mul-result : tie.Need-mul-result
-mul-result c = search needs
-
-shared-slice-read-result : tie.Need-shared-slice-read-result
-shared-slice-read-result c = omega arith
-
 returns : tie.Need-returns
 returns c =
     let a = c .before .before .before .before .args in
@@ -33,6 +27,4 @@ returns-2 c =
     c .word-at .ensures ∙ sym (both-high (a .words .now) (a .bytes .now) (a .i) (omega arith) (omega (arith, both-length (a .words .now) (a .bytes .now))))
 
 pub element-spec : {M : Type 1} → statement M
-element-spec =
-    tie.close
-    (tie.spec mul-result shared-slice-read-result returns mul-word-at word-at-requires returns-2)
+element-spec = tie.close (tie.spec (λ c. search needs) (λ c. omega arith) returns mul-word-at word-at-requires returns-2)

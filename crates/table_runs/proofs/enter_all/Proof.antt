@@ -12,13 +12,11 @@ use Rattle.table_runs.proofs.enter_all.Statement.{statement}
 use Rattle.table_runs.proofs.enter_all.Tie as tie
 
 abbrev Inv-loop : tie.InvT-loop
-Inv-loop moves movebytes letter marks₀ here there m i₀ marks i = (i ≤ length (inBoth moves movebytes .numbers)) × (length marks ≡ length marks₀) × (enteredAll letter here there (inBoth moves movebytes .numbers) marks₀ ≡ enteredAll letter here there (drop i (inBoth moves movebytes .numbers)) marks)
+Inv-loop moves movebytes letter marks₀ here there m i₀ marks i = (i ≤ length (inBoth moves movebytes .numbers)) × (length marks ≡ length marks₀)
+    × (enteredAll letter here there (inBoth moves movebytes .numbers) marks₀ ≡ enteredAll letter here there (drop i (inBoth moves movebytes .numbers)) marks)
 
 abbrev μ-loop : tie.MeasureT-loop
 μ-loop moves movebytes letter marks₀ here there m i₀ marks i = length (inBoth moves movebytes .numbers) - i
-
-count-requires : tie.Need-count-requires Inv-loop μ-loop
-count-requires c κs = search needs
 
 loop-holds : tie.Need-loop-holds Inv-loop μ-loop
 loop-holds c = (omega arith, refl, refl)
@@ -28,28 +26,31 @@ element-requires c κs = omega (arith, c .before .before .count .ensures)
 
 enter-requires : tie.Need-enter-requires Inv-loop μ-loop
 enter-requires c κs =
+    let start = c .before .before .before .before .before .before .before .before in
     let l = c .before .before .before .loop in
-    let a = c .before .before .before .before .before .before .before .before .args in
+    let a = start .args in
     let k = inBoth (a .moves .now) (a .movebytes .now) .numbers in
-    let h = c .before .before .before .before .before .before .before .before .pre (getD k (l .i) 0) (mem-at k (l .i) (omega (arith, c .before .before .before .before .count .ensures))) in
+    let h = start .pre (getD k (l .i) 0) (mem-at k (l .i) (omega (arith, c .before .before .before .before .count .ensures))) in
     rw (c .before .element .ensures, l .inv .1) h
 
-add-i : tie.Need-add-i Inv-loop μ-loop
-add-i c = search needs
-
 loop-less : tie.Need-loop-less Inv-loop μ-loop
-loop-less c = omega (arith, c .before .before .before .before .before .before .before .count .ensures)
+loop-less c =
+    let at-count = c .before .before .before .before .before .before .before in
+    omega (arith, at-count .count .ensures)
 
 loop-again : tie.Need-loop-again Inv-loop μ-loop
 loop-again c =
+    let at-count = c .before .before .before .before .before .before .before in
+    let start = at-count .before .before .before .before in
     let l = c .before .before .before .before .before .before .loop in
-    let a = c .before .before .before .before .before .before .before .before .before .before .before .args in
+    let a = start .args in
     let k = inBoth (a .moves .now) (a .movebytes .now) .numbers in
-    let e = c .before .before .enter .ensures ∙ ap (λ (t : ℕ). enteredBy (a .letter) (a .here) (a .there) t (l .marks)) (c .before .before .before .before .element .ensures) in
-    (omega (arith, c .before .before .before .before .before .before .before .count .ensures), c .before .before .enter .kept .1 .1 .0 ∙ l .inv .1, l .inv .2 ∙ all-next (a .letter) (a .here) (a .there) k (l .marks) (l .i) (omega (arith, c .before .before .before .before .before .before .before .count .ensures)) ∙ ap (enteredAll (a .letter) (a .here) (a .there) (drop (l .i + 1) k)) (sym e))
-
-same-length : tie.Need-same-length Inv-loop μ-loop
-same-length c = c .before .loop .inv .1
+    let e = c .before .before .enter .ensures ∙ ap (λ (t : ℕ). enteredBy (a .letter) (a .here) (a .there) t (l .marks)) (c .before .before .before .before .element .ensures) in (
+      omega (arith, at-count .count .ensures),
+      c .before .before .enter .kept .1 .1 .0 ∙ l .inv .1,
+      l .inv .2 ∙ all-next (a .letter) (a .here) (a .there) k (l .marks) (l .i) (omega (arith, at-count .count .ensures))
+          ∙ ap (enteredAll (a .letter) (a .here) (a .there) (drop (l .i + 1) k)) (sym e),
+    )
 
 returns : tie.Need-returns Inv-loop μ-loop
 returns c =
@@ -59,16 +60,6 @@ returns c =
 
 pub enter-all-spec : {M : Type 1} → statement M
 enter-all-spec =
-    tie.close
-    (tie.spec
-    Inv-loop
-    μ-loop
-    count-requires
-    loop-holds
-    element-requires
-    enter-requires
-    add-i
-    loop-less
-    loop-again
-    same-length
+    tie.close (tie.spec
+    Inv-loop μ-loop (λ c κs. search needs) loop-holds element-requires enter-requires (λ c. search needs) loop-less loop-again (λ c. c .before .loop .inv .1)
     returns)

@@ -17,44 +17,44 @@ abbrev μ-loop : tie.MeasureT-loop
 μ-loop moves movebytes lead n marks₀ p₀ marks p = p
 
 loop-holds : tie.Need-loop-holds Inv-loop μ-loop
-loop-holds c = let a = c .before .before .before .before .args in (omega arith, none-done (a .n) (a .lead .now) (inBoth (a .moves .now) (a .movebytes .now) .numbers) (a .marks .now) (c .before .before .before .before .pre .2))
-
-sub-p : tie.Need-sub-p Inv-loop μ-loop
-sub-p c = search needs
+loop-holds c = let a = c .before .before .before .before .args in (
+  omega arith,
+  none-done (a .n) (a .lead .now) (inBoth (a .moves .now) (a .movebytes .now) .numbers) (a .marks .now) (c .before .before .before .before .pre .2),
+)
 
 mul-here : tie.Need-mul-here Inv-loop μ-loop
-mul-here c = let l = c .before .loop in let a = c .before .before .before .before .before .before .args in let h : (l .p - 1) * a .n ≤ length (a .lead .now) * a .n = mul-le-mul-right (a .n) (omega arith) in omega (arith, h, c .before .before .before .before .before .before .pre .0, c .before .before .before .before .before .before .good)
-
-shared-slice-read-enter-all : tie.Need-shared-slice-read-enter-all Inv-loop μ-loop
-shared-slice-read-enter-all c = omega arith
+mul-here c = let l = c .before .loop in let a = c .before .before .before .before .before .before .args in let h : (l .p - 1) * a .n ≤ length (a .lead .now) * a .n =
+    mul-le-mul-right (a .n) (omega arith) in omega (arith, h, c .before .before .before .before .before .before .pre .0, c .before .before .before .before .before .before .good)
 
 cast-enter-all : tie.Need-cast-enter-all Inv-loop μ-loop
 cast-enter-all c = omega (arith, c .shared-slice-known4 .given (c .before .before .loop .p - 1))
 
 add-enter-all : tie.Need-add-enter-all Inv-loop μ-loop
-add-enter-all c = let l = c .before .before .before .loop in let a = c .before .before .before .before .before .before .before .before .args in let h : (l .p - 1) * a .n ≤ length (a .lead .now) * a .n = mul-le-mul-right (a .n) (omega arith) in omega (arith, h, c .before .before .before .before .before .before .before .before .pre .0, c .before .before .before .before .before .before .before .before .good)
+add-enter-all c =
+    let start = c .before .before .before .before .before .before .before .before in
+    let l = c .before .before .before .loop in let a = start .args in let h : (l .p - 1) * a .n ≤ length (a .lead .now) * a .n = mul-le-mul-right (a .n) (omega arith) in
+    omega (arith, h, start .pre .0, start .good)
 
 enter-all-requires : tie.Need-enter-all-requires Inv-loop μ-loop
 enter-all-requires c κs =
+    let start = c .before .before .before .before .before .before .before .before in
     let l = c .before .before .before .loop in
-    let a = c .before .before .before .before .before .before .before .before .args in
-    let p = c .before .before .before .before .before .before .before .before .pre in
+    let a = start .args in
+    let p = start .pre in
     let e : suc (l .p - 1) ≡ l .p = omega arith in
     within (a .n) (a .lead .now) (inBoth (a .moves .now) (a .movebytes .now) .numbers) (a .marks .now) (p .0) (p .1) (l .p - 1) (l .marks) (omega arith) (rw e (l .inv .1))
 
-loop-less : tie.Need-loop-less Inv-loop μ-loop
-loop-less c = omega arith
-
 loop-again : tie.Need-loop-again Inv-loop μ-loop
 loop-again c =
+    let start = c .before .before .before .before .before .before .before .before .before .before .before in
     let l = c .before .before .before .before .before .before .loop in
-    let a = c .before .before .before .before .before .before .before .before .before .before .before .args in
-    let p = c .before .before .before .before .before .before .before .before .before .before .before .pre in
-    let e : suc (l .p - 1) ≡ l .p = omega arith in
-    (omega arith, rw (c .before .before .enter-all .ensures) (turn (a .n) (a .lead .now) (inBoth (a .moves .now) (a .movebytes .now) .numbers) (a .marks .now) (p .0) (p .1) (l .p - 1) (l .marks) (omega arith) (rw e (l .inv .1))))
-
-same-length : tie.Need-same-length Inv-loop μ-loop
-same-length c = c .before .loop .inv .1 .long
+    let a = start .args in
+    let p = start .pre in
+    let e : suc (l .p - 1) ≡ l .p = omega arith in (
+      omega arith,
+      rw (c .before .before .enter-all .ensures) (turn (a .n) (a .lead .now) (inBoth (a .moves .now) (a .movebytes .now) .numbers) (a .marks .now) (p .0) (p .1) (l .p - 1) (l .marks)
+          (omega arith) (rw e (l .inv .1))),
+    )
 
 returns : tie.Need-returns Inv-loop μ-loop
 returns c =
@@ -65,18 +65,6 @@ returns c =
 
 pub enter-lead-spec : {M : Type 1} → statement M
 enter-lead-spec =
-    tie.close
-    (tie.spec
-    Inv-loop
-    μ-loop
-    loop-holds
-    sub-p
-    mul-here
-    shared-slice-read-enter-all
-    cast-enter-all
-    add-enter-all
-    enter-all-requires
-    loop-less
-    loop-again
-    same-length
-    returns)
+    tie.close (tie.spec
+    Inv-loop μ-loop loop-holds (λ c. search needs) mul-here (λ c. omega arith) cast-enter-all add-enter-all enter-all-requires (λ c. omega arith) loop-again
+    (λ c. c .before .loop .inv .1 .long) returns)

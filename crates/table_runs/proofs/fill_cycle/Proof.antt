@@ -7,22 +7,18 @@ use borrow.Author.Needs.{needs}
 use Rattle.table_runs.proofs.fill_cycle.Statement.{statement}
 use Rattle.table_runs.proofs.fill_cycle.Tie as tie
 
-fill-with-requires : tie.Need-fill-with-requires
-fill-with-requires c κs = search needs
-
 solve-requires : tie.Need-solve-requires
 solve-requires c κs =
-    let a = c .before .before .before .before .before .before .before .before .before .before .before .args in
+    let start = c .before .before .before .before .before .before .before .before .before .before .before in
+    let a = start .args in
     let w = c .before .before .before .fill-with in
-    (fits-long _ _ _ _ _ (w .kept .0) (c .before .before .before .before .before .before .before .before .before .before .before .pre), rw (w .ensures) (all-two (length (a .marks .now))))
-
-same-length : tie.Need-same-length
-same-length c = search needs
+    (fits-long _ _ _ _ _ (w .kept .0) (start .pre), rw (w .ensures) (all-two (length (a .marks .now))))
 
 returns : tie.Need-returns
 returns c =
-    let a = c .before .before .before .before .before .before .before .before .before .before .before .before .before .before .args in
-    let q = c .before .before .before .before .before .before .before .before .before .before .before .before .before .before .pre in
+    let start = c .before .before .before .before .before .before .before .before .before .before .before .before .before .before in
+    let a = start .args in
+    let q = start .pre in
     let w = c .before .before .before .before .before .before .fill-with in
     let s = c .before .before .solve in
     solution (inBoth (a .codes .now) (a .codebytes .now) .numbers) (inBoth (a .moves .now) (a .movebytes .now) .numbers) (a .cycle .now)
@@ -31,10 +27,4 @@ returns c =
     (s .ensures)
 
 pub fill-cycle-spec : {M : Type 1} → statement M
-fill-cycle-spec =
-    tie.close
-    (tie.spec
-    fill-with-requires
-    solve-requires
-    same-length
-    returns)
+fill-cycle-spec = tie.close (tie.spec (λ c κs. search needs) solve-requires (λ c. search needs) returns)

@@ -15,7 +15,11 @@ abbrev μ-loop : tie.MeasureT-loop
 μ-loop codes codebytes marks₀ x₀ marks x = length marks₀ - x
 
 loop-holds : tie.Need-loop-holds Inv-loop μ-loop
-loop-holds c = (omega arith, none-flagged (inBoth (c .before .before .before .args .codes .now) (c .before .before .before .args .codebytes .now) .numbers) (c .before .before .before .args .marks .now))
+loop-holds c = (
+  omega arith,
+  none-flagged (inBoth (c .before .before .before .args .codes .now) (c .before .before .before .args .codebytes .now) .numbers)
+      (c .before .before .before .args .marks .now),
+)
 
 flag-node-requires : tie.Need-flag-node-requires Inv-loop μ-loop
 flag-node-requires c κs =
@@ -24,34 +28,24 @@ flag-node-requires c κs =
     let p = c .before .before .before .before .before .before .pre in
     (omega arith, some-codes (p .0) (length (inBoth (a .codes .now) (a .codebytes .now) .numbers)) (l .x) (length (a .marks .now)) (p .1) (omega (arith, l .inv .1 .long)))
 
-add-x : tie.Need-add-x Inv-loop μ-loop
-add-x c = search needs
-
 loop-less : tie.Need-loop-less Inv-loop μ-loop
 loop-less c = omega (arith, c .before .before .before .before .before .loop .inv .1 .long)
 
 loop-again : tie.Need-loop-again Inv-loop μ-loop
 loop-again c =
+    let start = c .before .before .before .before .before .before .before .before .before in
     let l = c .before .before .before .before .before .loop in
-    let a = c .before .before .before .before .before .before .before .before .before .args in
-    (omega (arith, l .inv .1 .long), rw (c .before .before .flag-node .ensures) (flag-turn (inBoth (a .codes .now) (a .codebytes .now) .numbers) (a .marks .now) (l .x) (l .marks) (omega arith) (l .inv .1)))
-
-same-length : tie.Need-same-length Inv-loop μ-loop
-same-length c = c .before .loop .inv .1 .long
+    let a = start .args in (
+      omega (arith, l .inv .1 .long),
+      rw (c .before .before .flag-node .ensures)
+          (flag-turn (inBoth (a .codes .now) (a .codebytes .now) .numbers) (a .marks .now) (l .x) (l .marks) (omega arith) (l .inv .1)),
+    )
 
 returns : tie.Need-returns Inv-loop μ-loop
-returns c = let a = c .before .before .before .before .before .args in all-flagged (inBoth (a .codes .now) (a .codebytes .now) .numbers) (a .marks .now) (c .before .loop .x) (c .before .loop .marks) (omega arith) (c .before .loop .inv .1)
+returns c = let a = c .before .before .before .before .before .args in all-flagged (inBoth (a .codes .now) (a .codebytes .now) .numbers) (a .marks .now) (c .before .loop .x) (c .before .loop .marks)
+    (omega arith) (c .before .loop .inv .1)
 
 pub flag-spec : {M : Type 1} → statement M
 flag-spec =
-    tie.close
-    (tie.spec
-    Inv-loop
-    μ-loop
-    loop-holds
-    flag-node-requires
-    add-x
-    loop-less
-    loop-again
-    same-length
-    returns)
+    tie.close (tie.spec
+    Inv-loop μ-loop loop-holds flag-node-requires (λ c. search needs) loop-less loop-again (λ c. c .before .loop .inv .1 .long) returns)

@@ -12,17 +12,8 @@ use borrow.Author.Needs.{needs}
 use Rattle.table_runs.proofs.flag_node.Statement.{statement}
 use Rattle.table_runs.proofs.flag_node.Tie as tie
 
-slice-read-if1 : tie.Need-slice-read-if1
-slice-read-if1 c = search needs
-
 returns : tie.Need-returns
 returns c = let a = c .before .before .before .before .before .args in sym (flagged-out (inBoth (a .codes .now) (a .codebytes .now) .numbers) (a .marks .now) (a .x) (c .if1 .taken))
-
-count-requires : tie.Need-count-requires
-count-requires c κs = search needs
-
-rem-element : tie.Need-rem-element
-rem-element c = search needs
 
 element-requires : tie.Need-element-requires
 element-requires c κs =
@@ -30,31 +21,16 @@ element-requires c κs =
     let h = c .before .before .before .before .before .before .pre .1 in
     rw (sym e) (mod-lt (c .before .before .before .before .before .before .args .x) (omega arith))
 
-flag-of-requires : tie.Need-flag-of-requires
-flag-of-requires c κs = search needs
-
-slice-write-marks : tie.Need-slice-write-marks
-slice-write-marks c = search needs
-
-same-length : tie.Need-same-length
-same-length c = search needs
-
 returns-2 : tie.Need-returns-2
 returns-2 c =
-    let a = c .before .before .before .before .before .before .before .before .args in
+    let start = c .before .before .before .before .before .before .before .before in
+    let a = start .args in
     let k = inBoth (a .codes .now) (a .codebytes .now) .numbers in
-    sym (flagged-in k (a .marks .now) (a .x) (c .before .before .before .if1 .left) ∙ ap (λ (v : ℕ). set (a .marks .now) (a .x) v) (sym (c .flag-of .ensures ∙ ap flagOf (c .before .element .ensures ∙ ap (λ (n : ℕ). getD k (a .x % n) 0) (c .before .before .count .ensures)))))
+    sym (flagged-in k (a .marks .now) (a .x) (c .before .before .before .if1 .left)
+    ∙ ap (λ (v : ℕ). set (a .marks .now) (a .x) v) (sym (c .flag-of .ensures ∙ ap flagOf (c .before .element .ensures ∙ ap (λ (n : ℕ). getD k (a .x % n) 0) (c .before .before .count .ensures)))))
 
 pub flag-node-spec : {M : Type 1} → statement M
 flag-node-spec =
-    tie.close
-    (tie.spec
-    slice-read-if1
-    returns
-    count-requires
-    rem-element
-    element-requires
-    flag-of-requires
-    slice-write-marks
-    same-length
+    tie.close (tie.spec
+    (λ c. search needs) returns (λ c κs. search needs) (λ c. search needs) element-requires (λ c κs. search needs) (λ c. search needs) (λ c. search needs)
     returns-2)

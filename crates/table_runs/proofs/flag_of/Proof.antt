@@ -5,9 +5,6 @@ use borrow.Author.Needs.{needs}
 use Rattle.table_runs.proofs.flag_of.Statement.{statement}
 use Rattle.table_runs.proofs.flag_of.Tie as tie
 
-is-accepting-requires : tie.Need-is-accepting-requires
-is-accepting-requires c κs = search needs
-
 returns : tie.Need-returns
 returns c = sym (flag-accepting (c .before .before .args .code) (sym (c .before .is-accepting .ensures) ∙ c .if1 .taken))
 
@@ -15,4 +12,4 @@ returns-2 : tie.Need-returns-2
 returns-2 c = sym (flag-other (c .before .before .args .code) (sym (c .before .is-accepting .ensures) ∙ c .if1 .left))
 
 pub flag-of-spec : {M : Type 1} → statement M
-flag-of-spec = tie.close (tie.spec is-accepting-requires returns returns-2)
+flag-of-spec = tie.close (tie.spec (λ c κs. search needs) returns returns-2)

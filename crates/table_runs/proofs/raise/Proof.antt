@@ -16,18 +16,6 @@ abbrev μ-loop : tie.MeasureT-loop
 loop-holds : tie.Need-loop-holds Inv-loop μ-loop
 loop-holds c = (omega arith, none-raised (c .before .args .marks .now))
 
-slice-read-raised-mark : tie.Need-slice-read-raised-mark Inv-loop μ-loop
-slice-read-raised-mark c = search needs
-
-raised-mark-requires : tie.Need-raised-mark-requires Inv-loop μ-loop
-raised-mark-requires c κs = search needs
-
-slice-write-marks : tie.Need-slice-write-marks Inv-loop μ-loop
-slice-write-marks c = search needs
-
-add-x : tie.Need-add-x Inv-loop μ-loop
-add-x c = search needs
-
 loop-less : tie.Need-loop-less Inv-loop μ-loop
 loop-less c = omega (arith, c .before .before .before .loop .inv .1 .long)
 
@@ -36,24 +24,11 @@ loop-again c =
     let l = c .before .before .before .loop in
     (omega (arith, l .inv .1 .long), raise-turn _ (l .x) (l .marks) _ (omega arith) (c .raised-mark .ensures) (l .inv .1))
 
-same-length : tie.Need-same-length Inv-loop μ-loop
-same-length c = c .before .loop .inv .1 .long
-
 returns : tie.Need-returns Inv-loop μ-loop
 returns c = all-raised _ (c .before .loop .x) (c .before .loop .marks) (omega arith) (c .before .loop .inv .1)
 
 pub raise-spec : {M : Type 1} → statement M
 raise-spec =
-    tie.close
-    (tie.spec
-    Inv-loop
-    μ-loop
-    loop-holds
-    slice-read-raised-mark
-    raised-mark-requires
-    slice-write-marks
-    add-x
-    loop-less
-    loop-again
-    same-length
-    returns)
+    tie.close (tie.spec
+    Inv-loop μ-loop loop-holds (λ c. search needs) (λ c κs. search needs) (λ c. search needs) (λ c. search needs) loop-less loop-again
+    (λ c. c .before .loop .inv .1 .long) returns)

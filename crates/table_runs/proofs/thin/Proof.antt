@@ -11,55 +11,43 @@ use Rattle.table_runs.proofs.thin.Tie as tie
 
 returns : tie.Need-returns
 returns c =
-    let a = c .before .before .before .before .before .before .before .args in
-    let begun = c .before .before .before .before .before .before .before .pre .1 in
+    let start = c .before .before .before .before .before .before .before in
+    let a = start .args in
+    let begun = start .pre .1 in
     thinned-none _ (inBoth (a .codes .now) (a .codebytes .now) .numbers) (a .round) (a .marks .now) (λ e. absurd (omega arith)) begun
 
 returns-2 : tie.Need-returns-2
 returns-2 c =
-    let a = c .before .before .before .before .before .before .before .before .args in
-    let begun = c .before .before .before .before .before .before .before .before .pre .1 in
+    let start = c .before .before .before .before .before .before .before .before in
+    let a = start .args in
+    let begun = start .pre .1 in
     thinned-none _ (inBoth (a .codes .now) (a .codebytes .now) .numbers) (a .round) (a .marks .now) (λ e. absurd (omega arith)) begun
-
-count-requires : tie.Need-count-requires
-count-requires c κs = search needs
-
-raise-requires : tie.Need-raise-requires
-raise-requires c κs = search needs
 
 prune-requires : tie.Need-prune-requires
 prune-requires c κs =
+    let start = c .before .before .before .before .before .before .before .before .before .before .before .before .before .before in
     let r = c .before .before .before .raise .ensures in
     let n = c .before .before .before .before .before .count .ensures in
-    rw n (fits-long _ _ _ _ _ (r .long) (c .before .before .before .before .before .before .before .before .before .before .before .before .before .before .pre .0), raised-two _ _ r)
+    rw n (fits-long _ _ _ _ _ (r .long) (start .pre .0), raised-two _ _ r)
 
 flag-requires : tie.Need-flag-requires
 flag-requires c κs =
-    let a = c .before .before .before .before .before .before .before .before .before .before .before .before .before .before .before .before .before .before .args in
-    let fits = c .before .before .before .before .before .before .before .before .before .before .before .before .before .before .before .before .before .before .pre .0 in
-    let r = c .before .before .before .before .before .before .before .raise .ensures in
+    let at-raise = c .before .before .before .before .before .before .before in
+    let start = at-raise .before .before .before .before .before .before .before .before .before .before .before in
+    let a = start .args in
+    let fits = start .pre .0 in
+    let r = at-raise .raise .ensures in
     let p = c .before .before .before .prune .ensures in
     (length (a .cycle .now), p .long ∙ r .long ∙ fits .marked)
 
-same-length : tie.Need-same-length
-same-length c = search needs
-
 returns-3 : tie.Need-returns-3
 returns-3 c =
-    let n = c .before .before .before .before .before .before .before .before .before .before .before .before .count .ensures in
-    let r = c .before .before .before .before .before .before .before .before .before .before .raise .ensures in
+    let at-raise = c .before .before .before .before .before .before .before .before .before .before in
+    let at-count = at-raise .before .before in
+    let n = at-count .count .ensures in
+    let r = at-raise .raise .ensures in
     let p = c .before .before .before .before .before .before .prune .ensures in
     thinned _ _ _ _ _ _ r (rw n at p) (c .before .before .flag .ensures)
 
 pub thin-spec : {M : Type 1} → statement M
-thin-spec =
-    tie.close
-    (tie.spec
-    returns
-    returns-2
-    count-requires
-    raise-requires
-    prune-requires
-    flag-requires
-    same-length
-    returns-3)
+thin-spec = tie.close (tie.spec returns returns-2 (λ c κs. search needs) (λ c κs. search needs) prune-requires flag-requires (λ c. search needs) returns-3)

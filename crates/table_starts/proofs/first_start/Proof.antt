@@ -24,9 +24,6 @@ Inv-loop codes codebytes initial marks n m₀ m = (m ≤ length (inBoth codes co
 abbrev μ-loop : tie.MeasureT-loop
 μ-loop codes codebytes initial marks n m₀ m = length (inBoth codes codebytes .numbers) - m
 
-count-requires : tie.Need-count-requires Inv-loop μ-loop
-count-requires c κs = search needs
-
 loop-holds : tie.Need-loop-holds Inv-loop μ-loop
 loop-holds c = (omega arith, λ l k. absurd (omega arith))
 
@@ -34,29 +31,36 @@ element-requires : tie.Need-element-requires Inv-loop μ-loop
 element-requires c κs = omega (arith, c .before .before .count .ensures)
 
 shared-slice-read-is-start : tie.Need-shared-slice-read-is-start Inv-loop μ-loop
-shared-slice-read-is-start c = omega (arith, c .before .before .before .before .count .ensures, c .before .before .before .before .before .before .before .before .pre)
+shared-slice-read-is-start c =
+    let start = c .before .before .before .before .before .before .before .before in
+    omega (arith, c .before .before .before .before .count .ensures, start .pre)
 
 is-start-requires : tie.Need-is-start-requires Inv-loop μ-loop
-is-start-requires c κs = c .before .before .before .before .before .before .before .before .pre .0
+is-start-requires c κs =
+    let start = c .before .before .before .before .before .before .before .before in
+    start .pre .0
 
 -- the test of a number is that of its code and mark
-tested : (c : lts.After-is-start (count-reads.Asked, count-reads.Learnt, element-reads.Asked, element-reads.Learnt, is-start-reads.Asked, is-start-reads.Learnt) reads.Pre reads.Post Inv-loop μ-loop) → startsAt (λ x. bit x (c .before .before .before .before .before .before .before .before .before .args .initial)) (inBoth (c .before .before .before .before .before .before .before .before .before .args .codes .now) (c .before .before .before .before .before .before .before .before .before .args .codebytes .now) .numbers) (c .before .before .before .before .before .before .before .before .before .args .marks .now) (c .before .before .before .before .loop .m) ≡ c .is-start .result
+tested : (c : lts.After-is-start (count-reads.Asked, count-reads.Learnt, element-reads.Asked, element-reads.Learnt, is-start-reads.Asked, is-start-reads.Learnt) reads.Pre reads.Post Inv-loop μ-loop)
+    → startsAt (λ x. bit x (c .before .before .before .before .before .before .before .before .before .args .initial))
+    (inBoth (c .before .before .before .before .before .before .before .before .before .args .codes .now)
+    (c .before .before .before .before .before .before .before .before .before .args .codebytes .now) .numbers)
+    (c .before .before .before .before .before .before .before .before .before .args .marks .now) (c .before .before .before .before .loop .m) ≡ c .is-start .result
 unfolding startsAt
 tested c = rw (sym (c .before .before .element .ensures)) (sym (c .is-start .ensures))
 
 returns : tie.Need-returns Inv-loop μ-loop
 returns c = let l = c .before .before .before .before .before .loop in record { most = l .inv .0; none = l .inv .1; found = λ k. tested (c .before) ∙ c .if1 .taken }
 
-add-m : tie.Need-add-m Inv-loop μ-loop
-add-m c = search needs
-
 loop-less : tie.Need-loop-less Inv-loop μ-loop
 loop-less c = omega (arith, c .before .before .before .before .before .before .count .ensures)
 
 loop-again : tie.Need-loop-again Inv-loop μ-loop
 loop-again c =
-    let l = c .before .before .before .before .before .loop in
-    (omega (arith, c .before .before .before .before .before .before .count .ensures), λ j k. by-cases (ℕ-discrete j (l .m)) (λ e. rw e (tested (c .before) ∙ c .if1 .left)) (λ e. l .inv .1 j (omega arith)))
+    let l = c .before .before .before .before .before .loop in (
+      omega (arith, c .before .before .before .before .before .before .count .ensures),
+      λ j k. by-cases (ℕ-discrete j (l .m)) (λ e. rw e (tested (c .before) ∙ c .if1 .left)) (λ e. l .inv .1 j (omega arith)),
+    )
 
 returns-2 : tie.Need-returns-2 Inv-loop μ-loop
 returns-2 c =
@@ -67,17 +71,6 @@ returns-2 c =
 
 pub first-start-spec : {M : Type 1} → statement M
 first-start-spec =
-    tie.close
-    (tie.spec
-    Inv-loop
-    μ-loop
-    count-requires
-    loop-holds
-    element-requires
-    shared-slice-read-is-start
-    is-start-requires
-    returns
-    add-m
-    loop-less
-    loop-again
-    returns-2)
+    tie.close (tie.spec
+    Inv-loop μ-loop (λ c κs. search needs) loop-holds element-requires shared-slice-read-is-start is-start-requires returns (λ c. search needs) loop-less
+    loop-again returns-2)

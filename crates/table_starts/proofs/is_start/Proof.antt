@@ -8,11 +8,8 @@ use Rattle.table_starts.proofs.is_start.Tie as tie
 returns : tie.Need-returns
 returns c = rw (le-ltb 0 (c .before .args .mark) (omega (arith, c .if1 .taken)))
 
-is-initial-requires : tie.Need-is-initial-requires
-is-initial-requires c κs = search needs
-
 returns-2 : tie.Need-returns-2
 returns-2 c = rw (lt-ltb 0 (c .before .before .args .mark) (omega (arith, c .before .if1 .left))) (c .is-initial .ensures)
 
 pub is-start-spec : {M : Type 1} → statement M
-is-start-spec = tie.close (tie.spec returns is-initial-requires returns-2)
+is-start-spec = tie.close (tie.spec returns (λ c κs. search needs) returns-2)

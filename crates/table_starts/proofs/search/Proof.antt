@@ -10,23 +10,26 @@ use borrow.Author.Needs.{needs}
 use Rattle.table_starts.proofs.search.Statement.{statement}
 use Rattle.table_starts.proofs.search.Tie as tie
 
-fill-requires : tie.Need-fill-requires
-fill-requires c κs = search needs
-
 first-start-requires : tie.Need-first-start-requires
 first-start-requires c κs =
-    let a = c .before .before .before .before .before .before .before .before .before .before .before .before .args in
-    let p = c .before .before .before .before .before .before .before .before .before .before .before .before .pre in
-    let n = length (inBoth (a .codes .now) (a .codebytes .now) .numbers) in
-    (p .0, omega (arith, cycle-room (length (a .lead .now)) (length (a .cycle .now)) n n (length (a .marks .now)) refl (p .1 .marked) (p .1 .repeats), c .before .before .before .fill .kept .1 .1 .1 .1 .1 .1 .0))
-
-same-length : tie.Need-same-length
-same-length c = search needs
+    let start = c .before .before .before .before .before .before .before .before .before .before .before .before in
+    let a = start .args in
+    let p = start .pre in
+    let n = length (inBoth (a .codes .now) (a .codebytes .now) .numbers) in (
+      p .0,
+      omega (
+        arith,
+        cycle-room (length (a .lead .now)) (length (a .cycle .now)) n n (length (a .marks .now)) refl (p .1 .marked) (p .1 .repeats),
+        c .before .before .before .fill .kept .1 .1 .1 .1 .1 .1 .0,
+      ),
+    )
 
 returns : tie.Need-returns
 returns c =
-    let a = c .before .before .before .before .before .before .before .before .before .before .before .before .before .args in
-    earliest (λ x. bit x (a .initial)) (inBoth (a .codes .now) (a .codebytes .now) .numbers) (inBoth (a .moves .now) (a .movebytes .now) .numbers) (a .lead .now) (a .cycle .now) (c .before .before .before .before .fill .last .1 .1 .1 .1 .1 .1 .0) (c .before .before .before .before .fill .ensures) (c .first-start .result) (c .first-start .ensures)
+    let start = c .before .before .before .before .before .before .before .before .before .before .before .before .before in
+    let a = start .args in
+    earliest (λ x. bit x (a .initial)) (inBoth (a .codes .now) (a .codebytes .now) .numbers) (inBoth (a .moves .now) (a .movebytes .now) .numbers) (a .lead .now) (a .cycle .now)
+    (c .before .before .before .before .fill .last .1 .1 .1 .1 .1 .1 .0) (c .before .before .before .before .fill .ensures) (c .first-start .result) (c .first-start .ensures)
 
 pub search-spec : {M : Type 1} → statement M
-search-spec = tie.close (tie.spec fill-requires first-start-requires same-length returns)
+search-spec = tie.close (tie.spec (λ c κs. search needs) first-start-requires (λ c. search needs) returns)

@@ -24,9 +24,6 @@ long c = c .loop .inv .1 .long
 mul-flagged : tie.Need-mul-flagged Inv-loop μ-loop
 mul-flagged c = scaled-fits _ (length (c .before .before .before .args .codes .now)) 8 (omega (arith, long (c .before))) (c .before .before .before .good .0 .1)
 
-slice-read-flagged : tie.Need-slice-read-flagged Inv-loop μ-loop
-slice-read-flagged c = omega arith
-
 flagged-requires : tie.Need-flagged-requires Inv-loop μ-loop
 flagged-requires c κs =
     let l = c .before .before .loop in
@@ -34,13 +31,8 @@ flagged-requires c κs =
     omega (arith, c .before .before .before .before .pre (l .i))
 
 mul-codes : tie.Need-mul-codes Inv-loop μ-loop
-mul-codes c = scaled-fits _ (length (c .before .before .before .before .before .args .codes .now)) 8 (omega (arith, long (c .before .before .before))) (c .before .before .before .before .before .good .0 .1)
-
-slice-write-codes : tie.Need-slice-write-codes Inv-loop μ-loop
-slice-write-codes c = omega arith
-
-add-i : tie.Need-add-i Inv-loop μ-loop
-add-i c = omega arith
+mul-codes c = scaled-fits _ (length (c .before .before .before .before .before .args .codes .now)) 8 (omega (arith, long (c .before .before .before)))
+    (c .before .before .before .before .before .good .0 .1)
 
 loop-less : tie.Need-loop-less Inv-loop μ-loop
 loop-less c = omega (arith, long (c .before .before .before))
@@ -59,18 +51,6 @@ returns c = let l = c .before .loop in all-flagged (c .before .before .before .a
 
 pub flag-spec : {M : Type 1} → statement M
 flag-spec =
-    tie.close
-    (tie.spec
-    Inv-loop
-    μ-loop
-    loop-holds
-    mul-flagged
-    slice-read-flagged
-    flagged-requires
-    mul-codes
-    slice-write-codes
-    add-i
-    loop-less
-    loop-again
-    same-length
+    tie.close (tie.spec
+    Inv-loop μ-loop loop-holds mul-flagged (λ c. omega arith) flagged-requires mul-codes (λ c. omega arith) (λ c. omega arith) loop-less loop-again same-length
     returns)

@@ -20,15 +20,6 @@ free-facts v e = (ltb-true 0 v (and-l (ltb 0 v) _ e), ltb-true v 3 (and-r (ltb 0
 free-yes : (v : ℕ) → 0 < v → v < 3 → (ltb 0 v && ltb v 3) ≡ true
 free-yes v a b = and-i (lt-ltb 0 v a) (lt-ltb v 3 b)
 
-mul-c : tie.Need-mul-c
-mul-c c = search needs
-
-slice-read-c : tie.Need-slice-read-c
-slice-read-c c = search needs
-
-is-free-requires : tie.Need-is-free-requires
-is-free-requires c κs = search needs
-
 returns : tie.Need-returns
 returns c =
     let a = c .before .before .before .before .args in
@@ -38,12 +29,6 @@ returns c =
     let none = sym (c .before .is-free .ensures) ∙ not-true _ (c .if1 .taken) in
     let k = mark-no (a .x) (a .y) ms (λ d. clash (free-yes v (omega (arith, d .member, e)) (omega (arith, d .free, e))) none) in
     (k .0, refl, k .1)
-
-mul-if2 : tie.Need-mul-if2
-mul-if2 c = search needs
-
-slice-read-if2 : tie.Need-slice-read-if2
-slice-read-if2 c = search needs
 
 returns-2 : tie.Need-returns-2
 returns-2 c =
@@ -57,15 +42,6 @@ add-codes c =
     let v = getD (c .before .before .before .before .before .before .args .codes .now) (c .before .before .before .before .before .before .args .x) 0 / 2 ^ 48 in
     let g = free-facts v (sym (c .before .before .before .is-free .ensures) ∙ not-false _ (c .before .before .if1 .left)) in
     omega (arith, g .1)
-
-mul-codes : tie.Need-mul-codes
-mul-codes c = search needs
-
-slice-write-codes : tie.Need-slice-write-codes
-slice-write-codes c = search needs
-
-same-length : tie.Need-same-length
-same-length c = search needs
 
 returns-3 : tie.Need-returns-3
 returns-3 c =
@@ -84,17 +60,6 @@ returns-3 c =
 
 pub mark-spec : {M : Type 1} → statement M
 mark-spec =
-    tie.close
-    (tie.spec
-    mul-c
-    slice-read-c
-    is-free-requires
-    returns
-    mul-if2
-    slice-read-if2
-    returns-2
-    add-codes
-    mul-codes
-    slice-write-codes
-    same-length
-    returns-3)
+    tie.close (tie.spec
+    (λ c. search needs) (λ c. search needs) (λ c κs. search needs) returns (λ c. search needs) (λ c. search needs) returns-2 add-codes (λ c. search needs)
+    (λ c. search needs) (λ c. search needs) returns-3)

@@ -13,30 +13,20 @@ use Rattle.trim_laws.proofs.Sweeping.{flags-low, live-solved}
 use Rattle.trim_marks.proofs.mark_live.Statement.{statement}
 use Rattle.trim_marks.proofs.mark_live.Tie as tie
 
-flag-requires : tie.Need-flag-requires
-flag-requires c κs = search needs
-
 solve-requires : tie.Need-solve-requires
 solve-requires c κs =
-    let a = c .before .before .before .before .before .before .before .args in
-    (rw (c .before .before .before .flag .kept .0) (c .before .before .before .before .before .before .before .pre .0), λ x. rw (c .before .before .before .flag .ensures .0) (flags-low (a .codes .now) x))
-
-same-length : tie.Need-same-length
-same-length c = search needs
+    let start = c .before .before .before .before .before .before .before in
+    let a = start .args in
+    (rw (c .before .before .before .flag .kept .0) (start .pre .0), λ x. rw (c .before .before .before .flag .ensures .0) (flags-low (a .codes .now) x))
 
 returns : tie.Need-returns
 returns c =
-    let a = c .before .before .before .before .before .before .before .before .before .before .args in
+    let start = c .before .before .before .before .before .before .before .before .before .before in
+    let a = start .args in
     let f = c .before .before .before .before .before .before .flag .ensures in
     let s = c .before .before .solve .ensures in
     let S : Solved (Step (a .transitions .now)) (flags (a .codes .now)) (highs (c .before .before .solve .last .0)) = rw (f .0) at (s .0) in
     (solved-unique (Step (a .transitions .now)) (flags (a .codes .now)) _ _ S (live-solved (a .codes .now) (a .transitions .now)), s .1 ∙ f .1)
 
 pub mark-live-spec : {M : Type 1} → statement M
-mark-live-spec =
-    tie.close
-    (tie.spec
-    flag-requires
-    solve-requires
-    same-length
-    returns)
+mark-live-spec = tie.close (tie.spec (λ c κs. search needs) solve-requires (λ c. search needs) returns)

@@ -27,30 +27,17 @@ loop-holds c = (omega arith, refl, settling-start 0 _, refl)
 mul-c : tie.Need-mul-c Inv-loop μ-loop
 mul-c c = scaled-fits _ (length (c .before .before .before .args .codes .now)) 8 (omega (arith, c .before .loop .inv .1)) (c .before .before .before .good .0 .1)
 
-slice-read-c : tie.Need-slice-read-c Inv-loop μ-loop
-slice-read-c c = omega arith
-
-settled-code-requires : tie.Need-settled-code-requires Inv-loop μ-loop
-settled-code-requires c κs = search needs
-
 mul-codes : tie.Need-mul-codes Inv-loop μ-loop
-mul-codes c = scaled-fits _ (length (c .before .before .before .before .before .args .codes .now)) 8 (omega (arith, c .before .before .before .loop .inv .1)) (c .before .before .before .before .before .good .0 .1)
-
-slice-write-codes : tie.Need-slice-write-codes Inv-loop μ-loop
-slice-write-codes c = omega arith
-
-add-i : tie.Need-add-i Inv-loop μ-loop
-add-i c = omega arith
-
-goes-out-requires : tie.Need-goes-out-requires Inv-loop μ-loop
-goes-out-requires c κs = search needs
+mul-codes c = scaled-fits _ (length (c .before .before .before .before .before .args .codes .now)) 8 (omega (arith, c .before .before .before .loop .inv .1))
+    (c .before .before .before .before .before .good .0 .1)
 
 loop-less : tie.Need-loop-less Inv-loop μ-loop
 loop-less c = omega (arith, c .before .before .before .before .before .loop .inv .1)
 
 loop-again : tie.Need-loop-again Inv-loop μ-loop
 loop-again c =
-    let a = c .before .before .before .before .before .before .before .args in
+    let start = c .before .before .before .before .before .before .before in
+    let a = start .args in
     let l = c .before .before .before .before .before .loop in
     let e = highs-at (l .codes) (l .i) in
     let told : goesOut (getD (highs (l .codes)) (l .i) 0) ≡ true = ap goesOut e ∙ sym (c .before .goes-out .ensures) ∙ c .if1 .taken in
@@ -68,7 +55,8 @@ loop-less-2 c = omega (arith, c .before .before .before .before .before .loop .i
 
 loop-again-2 : tie.Need-loop-again-2 Inv-loop μ-loop
 loop-again-2 c =
-    let a = c .before .before .before .before .before .before .before .args in
+    let start = c .before .before .before .before .before .before .before in
+    let a = start .args in
     let l = c .before .before .before .before .before .loop in
     let e = highs-at (l .codes) (l .i) in
     let told : goesOut (getD (highs (l .codes)) (l .i) 0) ≡ false = ap goesOut e ∙ sym (c .before .goes-out .ensures) ∙ c .if1 .left in
@@ -81,9 +69,6 @@ loop-again-2 c =
       k .1 ∙ l .inv .3,
     )
 
-same-length : tie.Need-same-length Inv-loop μ-loop
-same-length c = c .before .loop .inv .1
-
 returns : tie.Need-returns Inv-loop μ-loop
 returns c =
     let a = c .before .before .before .args in
@@ -93,21 +78,6 @@ returns c =
 
 pub settle-spec : {M : Type 1} → statement M
 settle-spec =
-    tie.close
-    (tie.spec
-    Inv-loop
-    μ-loop
-    loop-holds
-    mul-c
-    slice-read-c
-    settled-code-requires
-    mul-codes
-    slice-write-codes
-    add-i
-    goes-out-requires
-    loop-less
-    loop-again
-    loop-less-2
-    loop-again-2
-    same-length
-    returns)
+    tie.close (tie.spec
+    Inv-loop μ-loop loop-holds mul-c (λ c. omega arith) (λ c κs. search needs) mul-codes (λ c. omega arith) (λ c. omega arith) (λ c κs. search needs) loop-less
+    loop-again loop-less-2 loop-again-2 (λ c. c .before .loop .inv .1) returns)

@@ -16,9 +16,6 @@ returns c =
     let low : bitAnd x 281474976710655 ≡ x % 2 ^ 48 = and-mask x 48 in
     (omega arith, omega arith)
 
-sub-result : tie.Need-sub-result
-sub-result c = omega arith
-
 returns-2 : tie.Need-returns-2
 unfolding settled
 returns-2 c =
@@ -27,9 +24,4 @@ returns-2 c =
     (omega arith, omega arith)
 
 pub settled-code-spec : {M : Type 1} → statement M
-settled-code-spec =
-    tie.close
-    (tie.spec
-    returns
-    sub-result
-    returns-2)
+settled-code-spec = tie.close (tie.spec returns (λ c. omega arith) returns-2)

@@ -40,14 +40,4 @@ returns c =
     (solved _ _ _ _ (v .1) (rw (c .if1 .left) at (e .0)), e .1 ∙ v .2)
 
 pub solve-spec : {M : Type 1} → statement M
-solve-spec =
-    tie.close
-    (tie.spec
-    Inv-loop
-    μ-loop
-    loop-holds
-    solve-round-requires
-    loop-less
-    loop-again
-    same-length
-    returns)
+solve-spec = tie.close (tie.spec Inv-loop μ-loop loop-holds solve-round-requires loop-less loop-again same-length returns)

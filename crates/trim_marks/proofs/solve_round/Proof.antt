@@ -5,26 +5,12 @@ use Rattle.graph_walks.proofs.Rounds.{solve-round}
 use Rattle.trim_marks.proofs.solve_round.Statement.{statement}
 use Rattle.trim_marks.proofs.solve_round.Tie as tie
 
-sweep-out-requires : tie.Need-sweep-out-requires
-sweep-out-requires c κs = search needs
-
-settle-requires : tie.Need-settle-requires
-settle-requires c κs = search needs
-
-same-length : tie.Need-same-length
-same-length c = search needs
-
 returns : tie.Need-returns
 returns c =
+    let start = c .before .before .before .before .before .before .before .before .before .before in
     let s = c .before .before .settle .ensures in
     let o = c .before .before .before .before .before .before .sweep-out .ensures in
-    (solve-round _ _ _ _ _ (c .before .before .before .before .before .before .before .before .before .before .pre .1) (o .0) (s .0), s .1 ∙ o .1)
+    (solve-round _ _ _ _ _ (start .pre .1) (o .0) (s .0), s .1 ∙ o .1)
 
 pub solve-round-spec : {M : Type 1} → statement M
-solve-round-spec =
-    tie.close
-    (tie.spec
-    sweep-out-requires
-    settle-requires
-    same-length
-    returns)
+solve-round-spec = tie.close (tie.spec (λ c κs. search needs) (λ c κs. search needs) (λ c. search needs) returns)

@@ -17,8 +17,4 @@ returns c =
     (omega (arith, c .pre), omega (arith, c .pre))
 
 pub carrying-spec : {M : Type 1} → statement M
-carrying-spec =
-    tie.close
-    (tie.spec
-    add-result
-    returns)
+carrying-spec = tie.close (tie.spec add-result returns)

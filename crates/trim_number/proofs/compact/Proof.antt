@@ -23,17 +23,9 @@ loop-holds c = compact-start _ _
 mul-c : tie.Need-mul-c Inv-loop μ-loop
 mul-c c = scaled-fits _ (length (c .before .before .before .args .codes .now)) 8 (omega (arith, c .before .loop .inv .long)) (c .before .before .before .good .0 .1)
 
-slice-read-c : tie.Need-slice-read-c Inv-loop μ-loop
-slice-read-c c = omega arith
-
-add-i : tie.Need-add-i Inv-loop μ-loop
-add-i c = omega arith
-
-without-number-requires : tie.Need-without-number-requires Inv-loop μ-loop
-without-number-requires c κs = search needs
-
 mul-codes : tie.Need-mul-codes Inv-loop μ-loop
-mul-codes c = let v = c .before .before .before .before .loop .inv in scaled-fits _ (length (c .before .before .before .before .before .before .args .codes .now)) 8 (omega (arith, v .long, v .behind)) (c .before .before .before .before .before .before .good .0 .1)
+mul-codes c = let v = c .before .before .before .before .loop .inv in scaled-fits _ (length (c .before .before .before .before .before .before .args .codes .now)) 8
+    (omega (arith, v .long, v .behind)) (c .before .before .before .before .before .before .good .0 .1)
 
 slice-write-codes : tie.Need-slice-write-codes Inv-loop μ-loop
 slice-write-codes c = omega (arith, c .before .before .before .before .loop .inv .behind)
@@ -74,30 +66,15 @@ same-length c = c .before .before .zero-from .kept .0 ∙ c .before .before .bef
 
 returns : tie.Need-returns Inv-loop μ-loop
 returns c =
+    let start = c .before .before .before .before .before .before .before in
     let l = c .before .before .before .before .before .loop in
-    let xs = c .before .before .before .before .before .before .before .args .codes .now in (
+    let xs = start .args .codes .now in (
       compact-count compacted xs (l .codes) (l .w) (l .i) (omega (arith, l .inv .long)) compacted-none (l .inv),
       c .before .before .zero-from .ensures ∙ compact-end compacted xs (l .codes) (l .w) (l .i) (omega (arith, l .inv .long)) compacted-none (l .inv),
     )
 
 pub compact-spec : {M : Type 1} → statement M
 compact-spec =
-    tie.close
-    (tie.spec
-    Inv-loop
-    μ-loop
-    loop-holds
-    mul-c
-    slice-read-c
-    add-i
-    without-number-requires
-    mul-codes
-    slice-write-codes
-    add-w
-    loop-less
-    loop-again
-    loop-less-2
-    loop-again-2
-    zero-from-requires
-    same-length
-    returns)
+    tie.close (tie.spec
+    Inv-loop μ-loop loop-holds mul-c (λ c. omega arith) (λ c. omega arith) (λ c κs. search needs) mul-codes slice-write-codes add-w loop-less loop-again
+    loop-less-2 loop-again-2 zero-from-requires same-length returns)

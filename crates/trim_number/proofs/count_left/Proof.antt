@@ -21,20 +21,8 @@ abbrev μ-loop : tie.MeasureT-loop
 loop-holds : tie.Need-loop-holds Inv-loop μ-loop
 loop-holds c = (omega arith, sym (number-start _))
 
-mul-c : tie.Need-mul-c Inv-loop μ-loop
-mul-c c = search needs
-
-shared-slice-read-c : tie.Need-shared-slice-read-c Inv-loop μ-loop
-shared-slice-read-c c = search needs
-
-add-i : tie.Need-add-i Inv-loop μ-loop
-add-i c = search needs
-
 add-k : tie.Need-add-k Inv-loop μ-loop
 add-k c = let l = c .before .before .before .loop in omega (arith, l .inv .1, number-max (highs (c .before .before .before .before .args .codes .now)) (l .i))
-
-loop-less : tie.Need-loop-less Inv-loop μ-loop
-loop-less c = omega arith
 
 loop-again : tie.Need-loop-again Inv-loop μ-loop
 loop-again c =
@@ -43,9 +31,6 @@ loop-again c =
     let h = highs-at xs (l .i) in
     let left : 0 < getD (highs xs) (l .i) 0 = omega arith in
     (omega arith, ap (λ (x : ℕ). x + 1) (l .inv .1) ∙ sym (number-yes (highs xs) (l .i) left))
-
-loop-less-2 : tie.Need-loop-less-2 Inv-loop μ-loop
-loop-less-2 c = omega arith
 
 loop-again-2 : tie.Need-loop-again-2 Inv-loop μ-loop
 loop-again-2 c =
@@ -63,17 +48,6 @@ returns c =
 
 pub count-left-spec : {M : Type 1} → statement M
 count-left-spec =
-    tie.close
-    (tie.spec
-    Inv-loop
-    μ-loop
-    loop-holds
-    mul-c
-    shared-slice-read-c
-    add-i
-    add-k
-    loop-less
-    loop-again
-    loop-less-2
-    loop-again-2
+    tie.close (tie.spec
+    Inv-loop μ-loop loop-holds (λ c. search needs) (λ c. search needs) (λ c. search needs) add-k (λ c. omega arith) loop-again (λ c. omega arith) loop-again-2
     returns)

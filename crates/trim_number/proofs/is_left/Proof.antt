@@ -11,15 +11,6 @@ use Rattle.trim_laws.proofs.Ends.{left-not, left-by}
 use Rattle.trim_number.proofs.is_left.Statement.{statement}
 use Rattle.trim_number.proofs.is_left.Tie as tie
 
-source-of-requires : tie.Need-source-of-requires
-source-of-requires c κs = search needs
-
-mul-if1 : tie.Need-mul-if1
-mul-if1 c = search needs
-
-shared-slice-read-if1 : tie.Need-shared-slice-read-if1
-shared-slice-read-if1 c = search needs
-
 returns : tie.Need-returns
 returns c =
     let a = c .before .before .before .before .args in
@@ -27,15 +18,6 @@ returns c =
     let out : getD xs (c .before .before .source-of .result) 0 / 2 ^ 48 ≡ 0 = omega arith in
     let source : getD xs (sourceOf (a .t)) 0 / 2 ^ 48 ≡ 0 = rw (c .before .before .source-of .ensures) at out in
     sym (left-not xs (a .t) source)
-
-target-of-requires : tie.Need-target-of-requires
-target-of-requires c κs = search needs
-
-mul-result : tie.Need-mul-result
-mul-result c = search needs
-
-shared-slice-read-result : tie.Need-shared-slice-read-result
-shared-slice-read-result c = search needs
 
 returns-2 : tie.Need-returns-2
 returns-2 c =
@@ -47,13 +29,5 @@ returns-2 c =
 
 pub is-left-spec : {M : Type 1} → statement M
 is-left-spec =
-    tie.close
-    (tie.spec
-    source-of-requires
-    mul-if1
-    shared-slice-read-if1
-    returns
-    target-of-requires
-    mul-result
-    shared-slice-read-result
-    returns-2)
+    tie.close (tie.spec
+    (λ c κs. search needs) (λ c. search needs) (λ c. search needs) returns (λ c κs. search needs) (λ c. search needs) (λ c. search needs) returns-2)

@@ -20,17 +20,15 @@ loop-holds c = none-numbered _
 mul-c : tie.Need-mul-c Inv-loop μ-loop
 mul-c c = scaled-fits _ (length (c .before .before .before .args .codes .now)) 8 (omega (arith, c .before .loop .inv .long)) (c .before .before .before .good .0 .1)
 
-slice-read-c : tie.Need-slice-read-c Inv-loop μ-loop
-slice-read-c c = omega arith
-
-add-i : tie.Need-add-i Inv-loop μ-loop
-add-i c = omega arith
-
 add-k : tie.Need-add-k Inv-loop μ-loop
 add-k c =
     let l = c .before .before .before .loop in
     let left : 0 < getD (l .codes) (l .i) 0 / 2 ^ 48 = omega arith in
-    omega (arith, number-room (c .before .before .before .before .before .args .codes .now) (l .codes) (l .k) (l .i) (omega (arith, l .inv .long)) (l .inv) left (c .before .before .before .before .before .pre))
+    omega (
+      arith,
+      number-room (c .before .before .before .before .before .args .codes .now) (l .codes) (l .k) (l .i) (omega (arith, l .inv .long)) (l .inv) left
+          (c .before .before .before .before .before .pre),
+    )
 
 carrying-requires : tie.Need-carrying-requires Inv-loop μ-loop
 carrying-requires c κs =
@@ -39,10 +37,8 @@ carrying-requires c κs =
     number-room (c .before .before .before .before .before .args .codes .now) (l .codes) (l .k) (l .i) (omega (arith, l .inv .long)) (l .inv) left (c .before .before .before .before .before .pre)
 
 mul-codes : tie.Need-mul-codes Inv-loop μ-loop
-mul-codes c = scaled-fits _ (length (c .before .before .before .before .before .before .args .codes .now)) 8 (omega (arith, c .before .before .before .before .loop .inv .long)) (c .before .before .before .before .before .before .good .0 .1)
-
-slice-write-codes : tie.Need-slice-write-codes Inv-loop μ-loop
-slice-write-codes c = omega arith
+mul-codes c = scaled-fits _ (length (c .before .before .before .before .before .before .args .codes .now)) 8 (omega (arith, c .before .before .before .before .loop .inv .long))
+    (c .before .before .before .before .before .before .good .0 .1)
 
 loop-less : tie.Need-loop-less Inv-loop μ-loop
 loop-less c = omega (arith, c .before .before .before .before .loop .inv .long)
@@ -63,29 +59,11 @@ loop-again-2 c =
     let out : getD (l .codes) (l .i) 0 / 2 ^ 48 ≡ 0 = omega arith in
     number-skip (c .before .before .before .before .before .args .codes .now) (l .codes) (l .k) (l .i) (omega (arith, l .inv .long)) (l .inv) out
 
-same-length : tie.Need-same-length Inv-loop μ-loop
-same-length c = c .before .loop .inv .long
-
 returns : tie.Need-returns Inv-loop μ-loop
 returns c = let l = c .before .loop in all-numbered (c .before .before .before .args .codes .now) (l .codes) (l .k) (l .i) (omega (arith, l .inv .long)) (l .inv)
 
 pub number-spec : {M : Type 1} → statement M
 number-spec =
-    tie.close
-    (tie.spec
-    Inv-loop
-    μ-loop
-    loop-holds
-    mul-c
-    slice-read-c
-    add-i
-    add-k
-    carrying-requires
-    mul-codes
-    slice-write-codes
-    loop-less
-    loop-again
-    loop-less-2
-    loop-again-2
-    same-length
-    returns)
+    tie.close (tie.spec
+    Inv-loop μ-loop loop-holds mul-c (λ c. omega arith) (λ c. omega arith) add-k carrying-requires mul-codes (λ c. omega arith) loop-less loop-again loop-less-2
+    loop-again-2 (λ c. c .before .loop .inv .long) returns)

@@ -26,12 +26,6 @@ loop-holds c = compact-start _ _
 mul-t : tie.Need-mul-t Inv-loop μ-loop
 mul-t c = scaled-fits _ (length (c .before .before .before .before .args .transitions .now)) 8 (omega (arith, c .before .loop .inv .long)) (c .before .before .before .before .good .1 .0 .1)
 
-slice-read-t : tie.Need-slice-read-t Inv-loop μ-loop
-slice-read-t c = omega arith
-
-add-i : tie.Need-add-i Inv-loop μ-loop
-add-i c = omega arith
-
 is-left-requires : tie.Need-is-left-requires Inv-loop μ-loop
 is-left-requires c κs =
     let a = c .before .before .before .before .before .args in
@@ -44,16 +38,19 @@ is-left-requires c κs =
 
 rewritten-one-requires : tie.Need-rewritten-one-requires Inv-loop μ-loop
 rewritten-one-requires c κs =
-    let a = c .before .before .before .before .before .before .before .args in
+    let start = c .before .before .before .before .before .before .before in
+    let a = start .args in
     let l = c .before .before .before .before .loop in
     let ts = a .transitions .now in
     let inside : l .i < length ts = omega (arith, l .inv .long) in
     let e = compact-at _ ts (l .transitions) (l .w) (l .i) inside (l .inv) in
     let m = mem-at ts (l .i) inside in
-    (rw e (c .before .before .before .before .before .before .before .pre .sources (getD ts (l .i) 0) m), rw e (c .before .before .before .before .before .before .before .pre .targets (getD ts (l .i) 0) m), sym (c .before .is-left .ensures) ∙ c .if1 .taken)
+    (rw e (start .pre .sources (getD ts (l .i) 0) m), rw e (start .pre .targets (getD ts (l .i) 0) m), sym (c .before .is-left .ensures) ∙ c .if1 .taken)
 
 mul-transitions : tie.Need-mul-transitions Inv-loop μ-loop
-mul-transitions c = let v = c .before .before .before .before .before .loop .inv in scaled-fits _ (length (c .before .before .before .before .before .before .before .before .args .transitions .now)) 8 (omega (arith, v .long, v .behind)) (c .before .before .before .before .before .before .before .before .good .1 .0 .1)
+mul-transitions c =
+    let start = c .before .before .before .before .before .before .before .before in
+    let v = c .before .before .before .before .before .loop .inv in scaled-fits _ (length (start .args .transitions .now)) 8 (omega (arith, v .long, v .behind)) (start .good .1 .0 .1)
 
 slice-write-transitions : tie.Need-slice-write-transitions Inv-loop μ-loop
 slice-write-transitions c = omega (arith, c .before .before .before .before .before .loop .inv .behind)
@@ -66,7 +63,8 @@ loop-less c = omega (arith, c .before .before .before .before .before .loop .inv
 
 loop-again : tie.Need-loop-again Inv-loop μ-loop
 loop-again c =
-    let a = c .before .before .before .before .before .before .before .before .args in
+    let start = c .before .before .before .before .before .before .before .before in
+    let a = start .args in
     let l = c .before .before .before .before .before .loop in
     let ts = a .transitions .now in
     let tags = highs (a .codes .now) in
@@ -81,7 +79,8 @@ loop-less-2 c = omega (arith, c .before .before .before .before .loop .inv .long
 
 loop-again-2 : tie.Need-loop-again-2 Inv-loop μ-loop
 loop-again-2 c =
-    let a = c .before .before .before .before .before .before .before .args in
+    let start = c .before .before .before .before .before .before .before in
+    let a = start .args in
     let l = c .before .before .before .before .loop in
     let ts = a .transitions .now in
     let tags = highs (a .codes .now) in
@@ -98,7 +97,8 @@ same-length c = c .before .before .zero-from .kept .0 ∙ c .before .before .bef
 
 returns : tie.Need-returns Inv-loop μ-loop
 returns c =
-    let a = c .before .before .before .before .before .before .before .before .args in
+    let start = c .before .before .before .before .before .before .before .before in
+    let a = start .args in
     let l = c .before .before .before .before .before .loop in
     let ts = a .transitions .now in
     let tags = highs (a .codes .now) in (
@@ -108,23 +108,6 @@ returns c =
 
 pub rewrite-all-spec : {M : Type 1} → statement M
 rewrite-all-spec =
-    tie.close
-    (tie.spec
-    Inv-loop
-    μ-loop
-    loop-holds
-    mul-t
-    slice-read-t
-    add-i
-    is-left-requires
-    rewritten-one-requires
-    mul-transitions
-    slice-write-transitions
-    add-w
-    loop-less
-    loop-again
-    loop-less-2
-    loop-again-2
-    zero-from-requires
-    same-length
-    returns)
+    tie.close (tie.spec
+    Inv-loop μ-loop loop-holds mul-t (λ c. omega arith) (λ c. omega arith) is-left-requires rewritten-one-requires mul-transitions slice-write-transitions add-w
+    loop-less loop-again loop-less-2 loop-again-2 zero-from-requires same-length returns)

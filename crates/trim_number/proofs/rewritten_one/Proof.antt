@@ -9,15 +9,6 @@ use Rattle.trim_laws.proofs.Ends.{left-source, left-target, rewrite-is}
 use Rattle.trim_number.proofs.rewritten_one.Statement.{statement}
 use Rattle.trim_number.proofs.rewritten_one.Tie as tie
 
-source-of-requires : tie.Need-source-of-requires
-source-of-requires c κs = search needs
-
-mul-source : tie.Need-mul-source
-mul-source c = search needs
-
-shared-slice-read-source : tie.Need-shared-slice-read-source
-shared-slice-read-source c = search needs
-
 sub-source : tie.Need-sub-source
 sub-source c =
     let a = c .before .before .before .args in
@@ -25,24 +16,12 @@ sub-source c =
     let k : 0 < getD (a .codes .now) (c .before .source-of .result) 0 / 2 ^ 48 = rw e (left-source (a .codes .now) (a .t) (c .before .before .before .pre .2)) in
     omega arith
 
-target-of-requires : tie.Need-target-of-requires
-target-of-requires c κs = search needs
-
-mul-target : tie.Need-mul-target
-mul-target c = search needs
-
-shared-slice-read-target : tie.Need-shared-slice-read-target
-shared-slice-read-target c = search needs
-
 sub-target : tie.Need-sub-target
 sub-target c =
     let a = c .before .before .before .before .before .args in
     let e : c .before .target-of .result ≡ targetOf (a .t) = c .before .target-of .ensures in
     let k : 0 < getD (a .codes .now) (c .before .target-of .result) 0 / 2 ^ 48 = rw e (left-target (a .codes .now) (a .t) (c .before .before .before .before .before .pre .2)) in
     omega arith
-
-letter-of-requires : tie.Need-letter-of-requires
-letter-of-requires c κs = search needs
 
 pack-transition-requires : tie.Need-pack-transition-requires
 pack-transition-requires c κs =
@@ -54,21 +33,13 @@ pack-transition-requires c κs =
 
 returns : tie.Need-returns
 returns c =
-    let a = c .before .before .before .before .before .before .before .args in
-    rw (c .pack-transition .ensures, c .before .letter-of .ensures, c .before .before .before .target-of .ensures, c .before .before .before .before .before .source-of .ensures) (sym (rewrite-is (a .codes .now) (a .t)))
+    let start = c .before .before .before .before .before .before .before in
+    let a = start .args in
+    rw (c .pack-transition .ensures, c .before .letter-of .ensures, c .before .before .before .target-of .ensures, c .before .before .before .before .before .source-of .ensures)
+    (sym (rewrite-is (a .codes .now) (a .t)))
 
 pub rewritten-one-spec : {M : Type 1} → statement M
 rewritten-one-spec =
-    tie.close
-    (tie.spec
-    source-of-requires
-    mul-source
-    shared-slice-read-source
-    sub-source
-    target-of-requires
-    mul-target
-    shared-slice-read-target
-    sub-target
-    letter-of-requires
-    pack-transition-requires
-    returns)
+    tie.close (tie.spec
+    (λ c κs. search needs) (λ c. search needs) (λ c. search needs) sub-source (λ c κs. search needs) (λ c. search needs) (λ c. search needs) sub-target
+    (λ c κs. search needs) pack-transition-requires returns)

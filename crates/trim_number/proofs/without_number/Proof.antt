@@ -12,7 +12,4 @@ returns c =
     omega arith
 
 pub without-number-spec : {M : Type 1} → statement M
-without-number-spec =
-    tie.close
-    (tie.spec
-    returns)
+without-number-spec = tie.close (tie.spec returns)

@@ -30,10 +30,4 @@ returns-4 c =
     sym (no-length-row (a .lead .now) (a .cycle .now) (omega arith) lead-short cycle-short)
 
 pub length-row-spec : {M : Type 1} → statement M
-length-row-spec =
-    tie.close
-    (tie.spec
-    returns
-    returns-2
-    returns-3
-    returns-4)
+length-row-spec = tie.close (tie.spec returns returns-2 returns-3 returns-4)

@@ -5,23 +5,11 @@ use Rattle.word_rows.proofs.Letters.{in-lead, in-cycle}
 use Rattle.word_rows.proofs.letter_at.Statement.{statement}
 use Rattle.word_rows.proofs.letter_at.Tie as tie
 
-shared-slice-read-result : tie.Need-shared-slice-read-result
-shared-slice-read-result c = search needs
-
 returns : tie.Need-returns
 returns c = let a = c .before .before .args in in-lead (a .lead .now) (a .cycle .now) (a .p) (omega arith)
-
-shared-slice-read-result-2 : tie.Need-shared-slice-read-result-2
-shared-slice-read-result-2 c = search needs
 
 returns-2 : tie.Need-returns-2
 returns-2 c = let a = c .before .before .args in in-cycle (a .lead .now) (a .cycle .now) (a .p) (omega arith)
 
 pub letter-at-spec : {M : Type 1} → statement M
-letter-at-spec =
-    tie.close
-    (tie.spec
-    shared-slice-read-result
-    returns
-    shared-slice-read-result-2
-    returns-2)
+letter-at-spec = tie.close (tie.spec (λ c. search needs) returns (λ c. search needs) returns-2)

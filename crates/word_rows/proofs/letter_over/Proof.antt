@@ -19,9 +19,6 @@ abbrev μ-loop : tie.MeasureT-loop
 loop-holds : tie.Need-loop-holds Inv-loop μ-loop
 loop-holds c = (omega arith, refl)
 
-shared-slice-read-if1 : tie.Need-shared-slice-read-if1 Inv-loop μ-loop
-shared-slice-read-if1 c = omega arith
-
 cast-if1 : tie.Need-cast-if1 Inv-loop μ-loop
 cast-if1 c = omega (arith, c .shared-slice-known .given (c .before .before .loop .i))
 
@@ -31,12 +28,6 @@ returns c =
     let l = c .before .before .before .loop in
     let over : a .s ≤ getD (a .letters .now) (l .i) 0 = omega arith in
     sym (l .inv .1 ∙ any-stop (λ x. leb (a .s) x) (a .letters .now) (l .i) (omega arith) (le-leb (a .s) (getD (a .letters .now) (l .i) 0) over))
-
-add-i : tie.Need-add-i Inv-loop μ-loop
-add-i c = omega arith
-
-loop-less : tie.Need-loop-less Inv-loop μ-loop
-loop-less c = omega arith
 
 loop-again : tie.Need-loop-again Inv-loop μ-loop
 loop-again c =
@@ -53,15 +44,5 @@ returns-2 c =
 
 pub letter-over-spec : {M : Type 1} → statement M
 letter-over-spec =
-    tie.close
-    (tie.spec
-    Inv-loop
-    μ-loop
-    loop-holds
-    shared-slice-read-if1
-    cast-if1
-    returns
-    add-i
-    loop-less
-    loop-again
-    returns-2)
+    tie.close (tie.spec
+    Inv-loop μ-loop loop-holds (λ c. omega arith) cast-if1 returns (λ c. omega arith) (λ c. omega arith) loop-again returns-2)

@@ -9,29 +9,13 @@ use Rattle.theory_laws.proofs.Places.{next-place-last, next-place-other}
 use Rattle.word_rows.proofs.next_place.Statement.{statement}
 use Rattle.word_rows.proofs.next_place.Tie as tie
 
-add-if1 : tie.Need-add-if1
-add-if1 c = search needs
-
-add-if1-2 : tie.Need-add-if1-2
-add-if1-2 c = search needs
-
 returns : tie.Need-returns
 returns c = λ u v eu ev.
     let last : suc (c .before .args .p) ≡ places u v = omega (arith, c .if1 .taken) in
     sym (next-place-last u v (c .before .args .p) last ∙ eu)
 
-add-result : tie.Need-add-result
-add-result c = search needs
-
 returns-2 : tie.Need-returns-2
 returns-2 c = λ u v eu ev. add-one (c .before .args .p) ∙ sym (next-place-other u v (c .before .args .p) (λ e. omega (arith, c .if1 .left)))
 
 pub next-place-spec : {M : Type 1} → statement M
-next-place-spec =
-    tie.close
-    (tie.spec
-    add-if1
-    add-if1-2
-    returns
-    add-result
-    returns-2)
+next-place-spec = tie.close (tie.spec (λ c. search needs) (λ c. search needs) returns (λ c. search needs) returns-2)

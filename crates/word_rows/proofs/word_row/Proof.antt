@@ -7,17 +7,11 @@ use Rattle.word_rows.proofs.Checks.{word-lengths, lead-letter, cycle-le
 use Rattle.word_rows.proofs.word_row.Statement.{statement}
 use Rattle.word_rows.proofs.word_row.Tie as tie
 
-length-row-requires : tie.Need-length-row-requires
-length-row-requires c κs = search needs
-
 returns : tie.Need-returns
 returns c =
     let a = c .before .before .before .before .args in
     let row = c .before .length-row in
     sym (word-lengths (a .s) (a .lead .now) (a .cycle .now) (row .result) (omega arith) (sym (row .ensures)))
-
-letter-over-requires : tie.Need-letter-over-requires
-letter-over-requires c κs = search needs
 
 returns-2 : tie.Need-returns-2
 returns-2 c =
@@ -25,29 +19,20 @@ returns-2 c =
     let none : lengthRow (a .lead .now) (a .cycle .now) ≡ 0 = sym (c .before .before .before .length-row .ensures) ∙ c .before .before .if1 .left in
     sym (lead-letter (a .s) (a .lead .now) (a .cycle .now) none (sym (c .before .letter-over .ensures) ∙ c .if2 .taken))
 
-letter-over-requires-2 : tie.Need-letter-over-requires-2
-letter-over-requires-2 c κs = search needs
-
 returns-3 : tie.Need-returns-3
 returns-3 c =
-    let a = c .before .before .before .before .before .before .before .before .args in
+    let start = c .before .before .before .before .before .before .before .before in
+    let a = start .args in
     let none : lengthRow (a .lead .now) (a .cycle .now) ≡ 0 = sym (c .before .before .before .before .before .length-row .ensures) ∙ c .before .before .before .before .if1 .left in
     sym (cycle-letter (a .s) (a .lead .now) (a .cycle .now) none (sym (c .before .letter-over2 .ensures) ∙ c .if3 .taken))
 
 returns-4 : tie.Need-returns-4
 returns-4 c =
-    let a = c .before .before .before .before .before .before .before .before .args in
+    let start = c .before .before .before .before .before .before .before .before in
+    let a = start .args in
     let none : lengthRow (a .lead .now) (a .cycle .now) ≡ 0 = sym (c .before .before .before .before .before .length-row .ensures) ∙ c .before .before .before .before .if1 .left in
-    sym (no-word-row (a .s) (a .lead .now) (a .cycle .now) none (sym (c .before .before .before .letter-over .ensures) ∙ c .before .before .if2 .left) (sym (c .before .letter-over2 .ensures) ∙ c .if3 .left))
+    sym (no-word-row (a .s) (a .lead .now) (a .cycle .now) none (sym (c .before .before .before .letter-over .ensures) ∙ c .before .before .if2 .left)
+    (sym (c .before .letter-over2 .ensures) ∙ c .if3 .left))
 
 pub word-row-spec : {M : Type 1} → statement M
-word-row-spec =
-    tie.close
-    (tie.spec
-    length-row-requires
-    returns
-    letter-over-requires
-    returns-2
-    letter-over-requires-2
-    returns-3
-    returns-4)
+word-row-spec = tie.close (tie.spec (λ c κs. search needs) returns (λ c κs. search needs) returns-2 (λ c κs. search needs) returns-3 returns-4)

@@ -31,15 +31,6 @@ low c =
       rw (l .inv .2) (places-low (s .args .lead2 .now) (s .args .cycle2 .now) (s .pre .0 .1) (l .i)),
     )
 
-add-steps : tie.Need-add-steps Inv-loop μ-loop
-add-steps c = omega arith
-
-add-steps-2 : tie.Need-add-steps-2 Inv-loop μ-loop
-add-steps-2 c = omega arith
-
-add-steps-3 : tie.Need-add-steps-3 Inv-loop μ-loop
-add-steps-3 c = omega arith
-
 loop-holds : tie.Need-loop-holds Inv-loop μ-loop
 unfolding every place
 loop-holds c = (omega arith, refl, refl, refl)
@@ -52,27 +43,27 @@ letter-at-requires-2 c κs = low (c .before) .1
 
 returns : tie.Need-returns Inv-loop μ-loop
 returns c =
-    let a = c .before .before .before .before .before .before .before .before .before .args in
+    let start = c .before .before .before .before .before .before .before .before .before in
+    let a = start .args in
     let l = c .before .before .before .before .loop in
     let n : letterAt (a .lead1 .now) (a .cycle1 .now) (l .p) ≡ letterAt (a .lead2 .now) (a .cycle2 .now) (l .q) → ⊥
     = λ e. c .if1 .taken (c .before .before .letter-at .ensures ∙ e ∙ sym (c .before .letter-at2 .ensures)) in
     sym (step-differs (a .lead1 .now) (a .cycle1 .now) (a .lead2 .now) (a .cycle2 .now) (l .i) (l .p) (l .q) (l .inv .1) (l .inv .2) (omega arith) n)
 
 next-place-requires : tie.Need-next-place-requires Inv-loop μ-loop
-next-place-requires c κs = let h = low (c .before .before .before) in (h .0, omega (arith, c .before .before .before .before .before .before .before .before .before .pre))
+next-place-requires c κs =
+    let start = c .before .before .before .before .before .before .before .before .before in
+    let h = low (c .before .before .before) in (h .0, omega (arith, start .pre))
 
 next-place-requires-2 : tie.Need-next-place-requires-2 Inv-loop μ-loop
-next-place-requires-2 c κs = let h = low (c .before .before .before .before) in (h .1, omega (arith, c .before .before .before .before .before .before .before .before .before .before .pre))
-
-add-i : tie.Need-add-i Inv-loop μ-loop
-add-i c = omega arith
-
-loop-less : tie.Need-loop-less Inv-loop μ-loop
-loop-less c = omega arith
+next-place-requires-2 c κs =
+    let start = c .before .before .before .before .before .before .before .before .before .before in
+    let h = low (c .before .before .before .before) in (h .1, omega (arith, start .pre))
 
 loop-again : tie.Need-loop-again Inv-loop μ-loop
 loop-again c =
-    let a = c .before .before .before .before .before .before .before .before .before .before .before .args in
+    let start = c .before .before .before .before .before .before .before .before .before .before .before in
+    let a = start .args in
     let l = c .before .before .before .before .before .before .loop in
     let e : letterAt (a .lead1 .now) (a .cycle1 .now) (l .p) ≡ letterAt (a .lead2 .now) (a .cycle2 .now) (l .q)
     = sym (c .before .before .before .before .letter-at .ensures) ∙ c .before .before .if1 .left ∙ c .before .before .before .letter-at2 .ensures in (
@@ -90,20 +81,6 @@ returns-2 c =
 
 pub agree-spec : {M : Type 1} → statement M
 agree-spec =
-    tie.close
-    (tie.spec
-    Inv-loop
-    μ-loop
-    add-steps
-    add-steps-2
-    add-steps-3
-    loop-holds
-    letter-at-requires
-    letter-at-requires-2
-    returns
-    next-place-requires
-    next-place-requires-2
-    add-i
-    loop-less
-    loop-again
-    returns-2)
+    tie.close (tie.spec
+    Inv-loop μ-loop (λ c. omega arith) (λ c. omega arith) (λ c. omega arith) loop-holds letter-at-requires letter-at-requires-2 returns next-place-requires
+    next-place-requires-2 (λ c. omega arith) (λ c. omega arith) loop-again returns-2)

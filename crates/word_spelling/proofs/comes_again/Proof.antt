@@ -24,12 +24,6 @@ loop-holds c =
     let a = c .before .args in
     (omega arith, c .before .pre, later-first (a .cycle .now) (omega (arith, c .before .pre)) (a .d) (c .before .pre), refl)
 
-shared-slice-read-if1 : tie.Need-shared-slice-read-if1 Inv-loop μ-loop
-shared-slice-read-if1 c = omega arith
-
-shared-slice-read-if1-2 : tie.Need-shared-slice-read-if1-2 Inv-loop μ-loop
-shared-slice-read-if1-2 c = omega arith
-
 returns : tie.Need-returns Inv-loop μ-loop
 returns c =
     let a = c .before .before .before .before .before .before .args in
@@ -37,18 +31,10 @@ returns c =
     let h : 0 < length (a .cycle .now) = omega arith in
     sym (again-stop (a .cycle .now) h (a .d) (l .j) (l .later) (omega arith) (l .inv .2) (c .if1 .taken))
 
-next-place-requires : tie.Need-next-place-requires Inv-loop μ-loop
-next-place-requires c κs = omega arith
-
-add-j : tie.Need-add-j Inv-loop μ-loop
-add-j c = omega arith
-
-loop-less : tie.Need-loop-less Inv-loop μ-loop
-loop-less c = omega arith
-
 loop-again : tie.Need-loop-again Inv-loop μ-loop
 loop-again c =
-    let a = c .before .before .before .before .before .before .before .args in
+    let start = c .before .before .before .before .before .before .before in
+    let a = start .args in
     let l = c .before .before .before .before .before .loop in
     let h : 0 < length (a .cycle .now) = omega arith in
     let low : nextPlace [] (a .cycle .now) (l .later) < length (a .cycle .now) = omega (arith, next-place-low [] (a .cycle .now) h (l .later) (omega arith)) in
@@ -68,16 +54,5 @@ returns-2 c =
 
 pub comes-again-spec : {M : Type 1} → statement M
 comes-again-spec =
-    tie.close
-    (tie.spec
-    Inv-loop
-    μ-loop
-    loop-holds
-    shared-slice-read-if1
-    shared-slice-read-if1-2
-    returns
-    next-place-requires
-    add-j
-    loop-less
-    loop-again
-    returns-2)
+    tie.close (tie.spec
+    Inv-loop μ-loop loop-holds (λ c. omega arith) (λ c. omega arith) returns (λ c κs. omega arith) (λ c. omega arith) (λ c. omega arith) loop-again returns-2)

@@ -20,20 +20,11 @@ abbrev μ-loop : tie.MeasureT-loop
 loop-holds : tie.Need-loop-holds Inv-loop μ-loop
 loop-holds c = (omega arith, c .before .pre, none-first (c .before .args .cycle .now))
 
-comes-again-requires : tie.Need-comes-again-requires Inv-loop μ-loop
-comes-again-requires c κs = omega arith
-
 returns : tie.Need-returns Inv-loop μ-loop
 returns c =
     let v = c .before .before .before .before .before .args .cycle .now in
     let l = c .before .before .before .loop in
     sym (found v (l .d) (omega arith) (sym (c .before .comes-again .ensures) ∙ c .if1 .taken) (l .inv .2))
-
-add-d : tie.Need-add-d Inv-loop μ-loop
-add-d c = omega arith
-
-loop-less : tie.Need-loop-less Inv-loop μ-loop
-loop-less c = omega arith
 
 loop-again : tie.Need-loop-again Inv-loop μ-loop
 loop-again c =
@@ -49,15 +40,4 @@ returns-2 c =
     sym (found v (l .d) (omega arith) (rw e (own-again v (c .before .before .before .pre))) (l .inv .2))
 
 pub cycle-length-spec : {M : Type 1} → statement M
-cycle-length-spec =
-    tie.close
-    (tie.spec
-    Inv-loop
-    μ-loop
-    loop-holds
-    comes-again-requires
-    returns
-    add-d
-    loop-less
-    loop-again
-    returns-2)
+cycle-length-spec = tie.close (tie.spec Inv-loop μ-loop loop-holds (λ c κs. omega arith) returns (λ c. omega arith) (λ c. omega arith) loop-again returns-2)

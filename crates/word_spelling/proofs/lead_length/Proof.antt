@@ -18,24 +18,10 @@ abbrev μ-loop : tie.MeasureT-loop
 loop-holds : tie.Need-loop-holds Inv-loop μ-loop
 loop-holds c = (omega arith, refl)
 
-sub-letter-at : tie.Need-sub-letter-at Inv-loop μ-loop
-sub-letter-at c = omega arith
-
-letter-at-requires : tie.Need-letter-at-requires Inv-loop μ-loop
-letter-at-requires c κs = omega arith
-
-sub-letter-at-2 : tie.Need-sub-letter-at-2 Inv-loop μ-loop
-sub-letter-at-2 c = omega arith
-
-add-letter-at : tie.Need-add-letter-at Inv-loop μ-loop
-add-letter-at c = omega arith
-
-letter-at-requires-2 : tie.Need-letter-at-requires-2 Inv-loop μ-loop
-letter-at-requires-2 c κs = omega arith
-
 returns : tie.Need-returns Inv-loop μ-loop
 returns c =
-    let s = c .before .before .before .before .before .before .before in
+    let earlier = c .before .before .before .before .before .before .before in
+    let s = earlier in
     let a = s .args in
     let l = c .before .before .before .before .loop in
     let fits : l .m - 1 + a .p < places (a .lead .now) (a .cycle .now) = omega arith in
@@ -43,15 +29,10 @@ returns c =
     = λ e. c .if1 .taken (c .before .before .letter-at .ensures ∙ e ∙ sym (c .before .letter-at2 .ensures)) in
     sym (l .inv .1 ∙ shortest (a .lead .now) (a .cycle .now) (s .pre .0) (a .p) (l .m) (omega arith) fits n)
 
-sub-m : tie.Need-sub-m Inv-loop μ-loop
-sub-m c = omega arith
-
-loop-less : tie.Need-loop-less Inv-loop μ-loop
-loop-less c = omega arith
-
 loop-again : tie.Need-loop-again Inv-loop μ-loop
 loop-again c =
-    let s = c .before .before .before .before .before .before .before in
+    let earlier = c .before .before .before .before .before .before .before in
+    let s = earlier in
     let a = s .args in
     let l = c .before .before .before .before .loop in
     let fits : l .m - 1 + a .p < places (a .lead .now) (a .cycle .now) = omega arith in
@@ -69,18 +50,6 @@ returns-2 c =
 
 pub lead-length-spec : {M : Type 1} → statement M
 lead-length-spec =
-    tie.close
-    (tie.spec
-    Inv-loop
-    μ-loop
-    loop-holds
-    sub-letter-at
-    letter-at-requires
-    sub-letter-at-2
-    add-letter-at
-    letter-at-requires-2
-    returns
-    sub-m
-    loop-less
-    loop-again
-    returns-2)
+    tie.close (tie.spec
+    Inv-loop μ-loop loop-holds (λ c. omega arith) (λ c κs. omega arith) (λ c. omega arith) (λ c. omega arith) (λ c κs. omega arith) returns (λ c. omega arith)
+    (λ c. omega arith) loop-again returns-2)

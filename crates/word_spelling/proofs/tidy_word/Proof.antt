@@ -11,9 +11,6 @@ use Rattle.word_spelling.proofs.Answers.{Found, found, word-refused, sl
 use Rattle.word_spelling.proofs.tidy_word.Statement.{statement}
 use Rattle.word_spelling.proofs.tidy_word.Tie as tie
 
-length-row-requires : tie.Need-length-row-requires
-length-row-requires c κs = search needs
-
 returns : tie.Need-returns
 returns c =
     let a = c .before .before .before .before .before .args in
@@ -32,11 +29,13 @@ lead-length-requires c κs =
     let most : c .cycle-length .result ≤ length (a .cycle .now) = rw (c .cycle-length .ensures) (cycle-max (a .lead .now) (a .cycle .now) (s .repeats)) in
     (s .repeats, most, omega (arith, s .lead-short, s .cycle-short))
 
-lengths : (c : tie.After-lead-length)
-    → Found (c .before .before .before .before .before .before .before .args .lead .now) (c .before .before .before .before .before .before .before .args .cycle .now)
-    (c .lead-length .result) (c .before .cycle-length .result)
+abbrev start-of-after-lead-length : tie.After-lead-length → tie.Start
+start-of-after-lead-length c = c .before .before .before .before .before .before .before
+
+lengths : (c : tie.After-lead-length) → Found (start-of-after-lead-length c .args .lead .now) (start-of-after-lead-length c .args .cycle .now) (c .lead-length .result)
+    (c .before .cycle-length .result)
 lengths c =
-    let a = c .before .before .before .before .before .before .before .args in
+    let a = start-of-after-lead-length c .args in
     found (a .lead .now) (a .cycle .now) (c .lead-length .result) (c .before .cycle-length .result)
     (sym (c .before .before .before .length-row .ensures) ∙ c .before .before .if1 .left) (c .before .cycle-length .ensures) (c .lead-length .ensures)
 
@@ -45,7 +44,8 @@ add-if2 c = let f = lengths c in omega (arith, f)
 
 returns-2 : tie.Need-returns-2
 returns-2 c =
-    let a = c .before .before .before .before .before .before .before .before .args in
+    let start = c .before .before .before .before .before .before .before .before in
+    let a = start .args in
     let f = lengths (c .before) in
     let short : length (a .out .now) < leadLength (a .lead .now) (a .cycle .now) + cycleLength (a .cycle .now) = omega (arith, f, c .if2) in
     slice-refused (a .lead .now) (a .cycle .now) (a .out .now) (f .passed) short
@@ -56,26 +56,15 @@ add-write-letters c = let f = lengths (c .before) in omega (arith, f)
 write-letters-requires : tie.Need-write-letters-requires
 write-letters-requires c κs = let f = lengths (c .before .before) in (omega (arith, f), omega (arith, c .before .if2))
 
-same-length : tie.Need-same-length
-same-length c = search needs
-
 returns-3 : tie.Need-returns-3
 returns-3 c =
-    let a = c .before .before .before .before .before .before .before .before .before .before .before .before .args in
+    let start = c .before .before .before .before .before .before .before .before .before .before .before .before in
+    let a = start .args in
     let f = lengths (c .before .before .before .before .before) in
     served (a .lead .now) (a .cycle .now) (a .out .now) (f .passed) _ _ _ (f .lead) (f .cycle) (omega (arith, c .before .before .before .before .if2)) (c .before .before .write-letters .ensures)
 
 pub tidy-word-spec : {M : Type 1} → statement M
 tidy-word-spec =
-    tie.close
-    (tie.spec
-    length-row-requires
-    returns
-    cycle-length-requires
-    lead-length-requires
-    add-if2
-    returns-2
-    add-write-letters
-    write-letters-requires
-    same-length
+    tie.close (tie.spec
+    (λ c κs. search needs) returns cycle-length-requires lead-length-requires add-if2 returns-2 add-write-letters write-letters-requires (λ c. search needs)
     returns-3)

@@ -26,53 +26,61 @@ abbrev μ-loop : tie.MeasureT-loop
 μ-loop keys₀ heads₀ last₀ first shape opens parts caps from₀ n₀ keys heads last from n = length keys₀ - from
 
 loop-holds : tie.Need-loop-holds Inv-loop μ-loop
-loop-holds c = let p = c .before .pre in (p .1, omega arith, refl, λ r T R. R, λ r T R H. record { chained = p .1; place = omega arith; sound = R; holds = H; closed = λ q y l d. absurd (omega arith) })
+loop-holds c = let p = c .before .pre in (
+  p .1,
+  omega arith,
+  refl,
+  λ r T R. R,
+  λ r T R H. record { chained = p .1; place = omega arith; sound = R; holds = H; closed = λ q y l d. absurd (omega arith) },
+)
 
 round-requires : tie.Need-round-requires Inv-loop μ-loop
-round-requires c κs = let p = c .before .before .before .before .before .before .pre in let l = c .before .before .before .before .loop in ((p .0 .0, p .0 .1, l .inv .3 (p .0 .0) (p .0 .1) (p .0 .2)), l .inv .0, c .before .before .before .loop-test .taken, p .2)
+round-requires c κs = let p = c .before .before .before .before .before .before .pre in let l = c .before .before .before .before .loop in
+    ((p .0 .0, p .0 .1, l .inv .3 (p .0 .0) (p .0 .1) (p .0 .2)), l .inv .0, c .before .before .before .loop-test .taken, p .2)
 
 same-length : tie.Need-same-length Inv-loop μ-loop
-same-length c = c .before .before .before .round .kept .0 ∙ c .before .before .before .before .before .before .before .before .loop .inv .2
+same-length c =
+    let at-loop = c .before .before .before .before .before .before .before .before in
+    c .before .before .before .round .kept .0 ∙ at-loop .loop .inv .2
 
 returns : tie.Need-returns Inv-loop μ-loop
 returns c =
-    let a = c .before .before .before .before .before .before .before .before .before .before .args in let l = c .before .before .before .before .before .before .before .before .loop in let g = c .before .before .before .round in
-    λ r T R H. gathered-full (ReachedKey r (a .parts .now) (a .shape)) (After (l .from) (l .n) (l .keys) (KeyEdge (automaton r) (a .parts .now) (a .shape .components) (a .shape .s))) (ReachedKey r (a .parts .now) (a .shape)) (l .keys) (l .n) (g .last .0) (g .last .1 .0) (g .last .1 .1 .0) (g .result .m) (g .result .full) (g .ensures r T (l .inv .3 r T R)) (c .if1 .taken) (l .inv .3 r T R) (λ y h. h) (a .keys .now) (l .inv .2)
+    let at-loop = c .before .before .before .before .before .before .before .before in
+    let start = at-loop .before .before in
+    let a = start .args in let l = at-loop .loop in let g = c .before .before .before .round in
+    λ r T R H. gathered-full (ReachedKey r (a .parts .now) (a .shape)) (After (l .from) (l .n) (l .keys) (KeyEdge (automaton r) (a .parts .now) (a .shape .components) (a .shape .s)))
+    (ReachedKey r (a .parts .now) (a .shape)) (l .keys) (l .n) (g .last .0) (g .last .1 .0) (g .last .1 .1 .0) (g .result .m) (g .result .full) (g .ensures r T (l .inv .3 r T R)) (c .if1 .taken)
+    (l .inv .3 r T R) (λ y h. h) (a .keys .now) (l .inv .2)
 
 loop-less : tie.Need-loop-less Inv-loop μ-loop
 loop-less c =
-    let p = c .before .before .before .before .before .before .before .before .before .before .pre in let l = c .before .before .before .before .before .before .before .before .loop in let G = c .before .before .before .round .ensures (p .0 .0) (p .0 .1) (l .inv .3 (p .0 .0) (p .0 .1) (p .0 .2)) in
-    omega (arith, c .before .before .before .before .before .before .before .loop-test .taken, l .inv .0 .fits, l .inv .2, G .more)
+    let at-loop-test = c .before .before .before .before .before .before .before in
+    let at-loop = at-loop-test .before in
+    let start = at-loop .before .before in
+    let p = start .pre in let l = at-loop .loop in let G = c .before .before .before .round .ensures (p .0 .0) (p .0 .1) (l .inv .3 (p .0 .0) (p .0 .1) (p .0 .2)) in
+    omega (arith, at-loop-test .loop-test .taken, l .inv .0 .fits, l .inv .2, G .more)
 
 loop-again : tie.Need-loop-again Inv-loop μ-loop
 loop-again c =
-    let a = c .before .before .before .before .before .before .before .before .before .before .args in let p = c .before .before .before .before .before .before .before .before .before .before .pre in let l = c .before .before .before .before .before .before .before .before .loop in let g = c .before .before .before .round in let G = g .ensures (p .0 .0) (p .0 .1) (l .inv .3 (p .0 .0) (p .0 .1) (p .0 .2)) in (
+    let at-loop = c .before .before .before .before .before .before .before .before in
+    let start = at-loop .before .before in
+    let a = start .args in let p = start .pre in let l = at-loop .loop in let g = c .before .before .before .round in let G =
+    g .ensures (p .0 .0) (p .0 .1) (l .inv .3 (p .0 .0) (p .0 .1) (p .0 .2)) in (
       G .chained,
       omega (arith, G .more),
       g .kept .0 ∙ l .inv .2,
-      (λ r T R. let C = g .ensures r T (l .inv .3 r T R) in all-in (After (l .from) (l .n) (l .keys) (KeyEdge (automaton r) (a .parts .now) (a .shape .components) (a .shape .s))) (ReachedKey r (a .parts .now) (a .shape)) (l .keys) (l .n) (g .last .0) (g .last .1 .0) (g .last .1 .1 .0) (g .result .m) (g .result .full) C (ReachedKey r (a .parts .now) (a .shape)) (l .inv .3 r T R) (λ y h. h)),
-      (λ r T R H. close-next (First r (a .parts .now) (a .shape .components) (a .shape .holds)) (KeyEdge (automaton r) (a .parts .now) (a .shape .components) (a .shape .s)) (l .keys) (l .heads) (l .last) (l .n) (l .from) (l .inv .4 r T R H) (g .last .0) (g .last .1 .0) (g .last .1 .1 .0) (g .result .m) (g .result .full) (g .ensures r T (l .inv .3 r T R)) (c .if1 .left)),
+      (λ r T R. let C = g .ensures r T (l .inv .3 r T R) in all-in (After (l .from) (l .n) (l .keys) (KeyEdge (automaton r) (a .parts .now) (a .shape .components) (a .shape .s)))
+          (ReachedKey r (a .parts .now) (a .shape)) (l .keys) (l .n) (g .last .0) (g .last .1 .0) (g .last .1 .1 .0) (g .result .m) (g .result .full) C (ReachedKey r (a .parts .now) (a .shape))
+          (l .inv .3 r T R) (λ y h. h)),
+      (λ r T R H. close-next (First r (a .parts .now) (a .shape .components) (a .shape .holds)) (KeyEdge (automaton r) (a .parts .now) (a .shape .components) (a .shape .s)) (l .keys) (l .heads)
+          (l .last) (l .n) (l .from) (l .inv .4 r T R H) (g .last .0) (g .last .1 .0) (g .last .1 .1 .0) (g .result .m) (g .result .full) (g .ensures r T (l .inv .3 r T R)) (c .if1 .left)),
     )
-
-same-length-2 : tie.Need-same-length-2 Inv-loop μ-loop
-same-length-2 c = c .before .loop .inv .2
 
 returns-2 : tie.Need-returns-2 Inv-loop μ-loop
 returns-2 c =
     let a = c .before .before .before .args in let l = c .before .loop in
-    λ r T R H. close-end (First r (a .parts .now) (a .shape .components) (a .shape .holds)) (KeyEdge (automaton r) (a .parts .now) (a .shape .components) (a .shape .s)) (l .keys) (l .heads) (l .last) (l .n) (l .from) (l .inv .4 r T R H) (a .keys .now) (l .inv .2) (omega (arith, c .loop-test .left))
+    λ r T R H. close-end (First r (a .parts .now) (a .shape .components) (a .shape .holds)) (KeyEdge (automaton r) (a .parts .now) (a .shape .components) (a .shape .s)) (l .keys) (l .heads) (l .last)
+    (l .n) (l .from) (l .inv .4 r T R H) (a .keys .now) (l .inv .2) (omega (arith, c .loop-test .left))
 
 pub close-spec : {M : Type 1} → statement M
-close-spec =
-    tie.close
-    (tie.spec
-    Inv-loop
-    μ-loop
-    loop-holds
-    round-requires
-    same-length
-    returns
-    loop-less
-    loop-again
-    same-length-2
-    returns-2)
+close-spec = tie.close (tie.spec Inv-loop μ-loop loop-holds round-requires same-length returns loop-less loop-again (λ c. c .before .loop .inv .2) returns-2)

@@ -27,48 +27,49 @@ loop-holds c =
     let a = c .before .before .args in let p = c .before .before .pre in
     (omega arith, refl, omega arith, λ r T R. cores-start r (a .opens .now) (a .parts .now) (a .shape) T (a .keys .now) (a .heads .now) (a .last .now) (a .n) (p .1) R (a .out .now))
 
-core-before-requires : tie.Need-core-before-requires Inv-loop μ-loop
-core-before-requires c κs = search needs
-
-add-j : tie.Need-add-j Inv-loop μ-loop
-add-j c = search needs
-
-loop-less : tie.Need-loop-less Inv-loop μ-loop
-loop-less c = search needs
-
 loop-again : tie.Need-loop-again Inv-loop μ-loop
 loop-again c =
-    let a = c .before .before .before .before .before .before .args in let p = c .before .before .before .before .before .before .pre in let l = c .before .before .before .loop in
-    (omega (arith, c .before .before .loop-test .taken), l .inv .1, l .inv .2, λ r T R. cores-skip r (a .opens .now) (a .parts .now) (a .shape) T (a .keys .now) (a .heads .now) (a .last .now) (a .n) (p .1) R (a .out .now) (l .j) (c .before .before .loop-test .taken) (l .out) (l .m) (l .inv .3 r T R) (c .before .core-before .ensures .0 (c .if1 .taken)))
+    let a = c .before .before .before .before .before .before .args in let p = c .before .before .before .before .before .before .pre in let l = c .before .before .before .loop in (
+      omega (arith, c .before .before .loop-test .taken),
+      l .inv .1,
+      l .inv .2,
+      λ r T R. cores-skip r (a .opens .now) (a .parts .now) (a .shape) T (a .keys .now) (a .heads .now) (a .last .now) (a .n) (p .1) R (a .out .now) (l .j) (c .before .before .loop-test .taken)
+          (l .out) (l .m) (l .inv .3 r T R) (c .before .core-before .ensures .0 (c .if1 .taken)),
+    )
 
 emit-core-requires : tie.Need-emit-core-requires Inv-loop μ-loop
-emit-core-requires c κs = let p = c .before .before .before .before .before .before .before .pre in let l = c .before .before .before .before .loop in (p .0, p .1, c .before .before .before .loop-test .taken, l .inv .2)
+emit-core-requires c κs =
+    let start = c .before .before .before .before .before .before .before in
+    let p = start .pre in let l = c .before .before .before .before .loop in (p .0, p .1, c .before .before .before .loop-test .taken, l .inv .2)
 
 same-length : tie.Need-same-length Inv-loop μ-loop
-same-length c = c .before .before .before .emit-core .kept .0 ∙ c .before .before .before .before .before .before .before .before .loop .inv .1
+same-length c =
+    let at-loop = c .before .before .before .before .before .before .before .before in
+    c .before .before .before .emit-core .kept .0 ∙ at-loop .loop .inv .1
 
 returns : tie.Need-returns Inv-loop μ-loop
 returns c =
-    let a = c .before .before .before .before .before .before .before .before .before .before .before .args in let p = c .before .before .before .before .before .before .before .before .before .before .before .pre in let l = c .before .before .before .before .before .before .before .before .loop in let g = c .before .before .before .emit-core in
-    λ r T R. cores-full r (a .opens .now) (a .parts .now) (a .shape) T (a .keys .now) (a .heads .now) (a .last .now) (a .n) (p .1) R (a .out .now) (l .j) (c .before .before .before .before .before .before .before .loop-test .taken) (l .out) (l .m) (l .inv .3 r T R) (c .before .before .before .before .before .before .core-before .ensures .1 (c .before .before .before .before .before .if1 .left)) (g .last .0) (g .result .m) (g .result .full) (g .ensures r T R) (c .if2 .taken)
-
-add-j-2 : tie.Need-add-j-2 Inv-loop μ-loop
-add-j-2 c = search needs
-
-loop-less-2 : tie.Need-loop-less-2 Inv-loop μ-loop
-loop-less-2 c = search needs
+    let at-loop-test = c .before .before .before .before .before .before .before in
+    let at-loop = at-loop-test .before in
+    let start = at-loop .before .before .before in
+    let a = start .args in let p = start .pre in let l = at-loop .loop in let g = c .before .before .before .emit-core in
+    λ r T R. cores-full r (a .opens .now) (a .parts .now) (a .shape) T (a .keys .now) (a .heads .now) (a .last .now) (a .n) (p .1) R (a .out .now) (l .j) (at-loop-test .loop-test .taken) (l .out)
+    (l .m) (l .inv .3 r T R) (c .before .before .before .before .before .before .core-before .ensures .1 (c .before .before .before .before .before .if1 .left)) (g .last .0) (g .result .m)
+    (g .result .full) (g .ensures r T R) (c .if2 .taken)
 
 loop-again-2 : tie.Need-loop-again-2 Inv-loop μ-loop
 loop-again-2 c =
-    let a = c .before .before .before .before .before .before .before .before .before .before .before .args in let p = c .before .before .before .before .before .before .before .before .before .before .before .pre in let l = c .before .before .before .before .before .before .before .before .loop in let g = c .before .before .before .emit-core in let e = p .0 in (
-      omega (arith, c .before .before .before .before .before .before .before .loop-test .taken),
+    let at-loop-test = c .before .before .before .before .before .before .before in
+    let at-loop = at-loop-test .before in
+    let start = at-loop .before .before .before in
+    let a = start .args in let p = start .pre in let l = at-loop .loop in let g = c .before .before .before .emit-core in let e = p .0 in (
+      omega (arith, at-loop-test .loop-test .taken),
       g .kept .0 ∙ l .inv .1,
       g .ensures (e .0) (e .1) (e .2) .fits,
-      λ r T R. cores-next r (a .opens .now) (a .parts .now) (a .shape) T (a .keys .now) (a .heads .now) (a .last .now) (a .n) (p .1) R (a .out .now) (l .j) (c .before .before .before .before .before .before .before .loop-test .taken) (l .out) (l .m) (l .inv .3 r T R) (c .before .before .before .before .before .before .core-before .ensures .1 (c .before .before .before .before .before .if1 .left)) (g .last .0) (g .result .m) (g .result .full) (g .ensures r T R) (c .if2 .left),
+      λ r T R. cores-next r (a .opens .now) (a .parts .now) (a .shape) T (a .keys .now) (a .heads .now) (a .last .now) (a .n) (p .1) R (a .out .now) (l .j) (at-loop-test .loop-test .taken) (l .out)
+          (l .m) (l .inv .3 r T R) (c .before .before .before .before .before .before .core-before .ensures .1 (c .before .before .before .before .before .if1 .left)) (g .last .0) (g .result .m)
+          (g .result .full) (g .ensures r T R) (c .if2 .left),
     )
-
-same-length-2 : tie.Need-same-length-2 Inv-loop μ-loop
-same-length-2 c = c .before .loop .inv .1
 
 returns-2 : tie.Need-returns-2 Inv-loop μ-loop
 returns-2 c =
@@ -77,20 +78,6 @@ returns-2 c =
 
 pub emit-spec : {M : Type 1} → statement M
 emit-spec =
-    tie.close
-    (tie.spec
-    Inv-loop
-    μ-loop
-    loop-holds
-    core-before-requires
-    add-j
-    loop-less
-    loop-again
-    emit-core-requires
-    same-length
-    returns
-    add-j-2
-    loop-less-2
-    loop-again-2
-    same-length-2
-    returns-2)
+    tie.close (tie.spec
+    Inv-loop μ-loop loop-holds (λ c κs. search needs) (λ c. search needs) (λ c. search needs) loop-again emit-core-requires same-length returns
+    (λ c. search needs) (λ c. search needs) loop-again-2 (λ c. c .before .loop .inv .1) returns-2)

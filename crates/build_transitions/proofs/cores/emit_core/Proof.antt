@@ -35,12 +35,6 @@ shared-slice-read-ranks c = let p = c .before .before .before .pre in omega (ari
 ranks-of : (x : ℕ) → bitAnd x 281474976710655 / 2 ^ 16 ≡ x % 2 ^ 48 / 256 / 256
 ranks-of x = ap (λ (y : ℕ). y / 2 ^ 16) (and-mask x 48) ∙ (let e : x % 2 ^ 48 / 2 ^ 16 ≡ x % 2 ^ 48 / 256 / 256 = omega arith in e)
 
-lowest-requires : tie.Need-lowest-requires Inv-loop μ-loop
-lowest-requires c κs = search needs
-
-array-read-core-of : tie.Need-array-read-core-of Inv-loop μ-loop
-array-read-core-of c = search needs
-
 core-of-requires : tie.Need-core-of-requires Inv-loop μ-loop
 core-of-requires c κs = omega (arith, and-mask (getD (c .before .before .before .before .args .keys .now) (c .before .before .before .before .args .j) 0) 48)
 
@@ -51,7 +45,8 @@ loop-holds c =
 
 emit-letter-requires : tie.Need-emit-letter-requires Inv-loop μ-loop
 emit-letter-requires c κs =
-    let a = c .before .before .before .before .before .before .before .before .before .before .args in let p = c .before .before .before .before .before .before .before .before .before .before .pre in let l = c .before .before .before .before .loop in let e = p .0 in
+    let start = c .before .before .before .before .before .before .before .before .before .before in
+    let a = start .args in let p = start .pre in let l = c .before .before .before .before .loop in let e = p .0 in
     let K = key-cored (e .0) (a .opens .now) (a .parts .now) (a .shape) (e .1) (keyAt (a .keys .now) (a .j)) (e .2 (a .j) (p .2)) in (
       e,
       p .1,
@@ -64,62 +59,51 @@ emit-letter-requires c κs =
     )
 
 same-length : tie.Need-same-length Inv-loop μ-loop
-same-length c = c .before .before .before .emit-letter .kept .0 ∙ c .before .before .before .before .before .before .before .before .loop .inv .1
+same-length c =
+    let at-loop = c .before .before .before .before .before .before .before .before in
+    c .before .before .before .emit-letter .kept .0 ∙ at-loop .loop .inv .1
 
 returns : tie.Need-returns Inv-loop μ-loop
 returns c =
-    let a = c .before .before .before .before .before .before .before .before .before .before .before .before .before .before .args in let p = c .before .before .before .before .before .before .before .before .before .before .before .before .before .before .pre in let l = c .before .before .before .before .before .before .before .before .loop in let g = c .before .before .before .emit-letter in
+    let at-loop = c .before .before .before .before .before .before .before .before in
+    let start = at-loop .before .before .before .before .before .before in
+    let a = start .args in let p = start .pre in let l = at-loop .loop in let g = c .before .before .before .emit-letter in
     λ r T R.
-    rw (← ranks-of (getD (a .keys .now) (a .j) 0)) (letters-full (automaton r) (a .keys .now) (a .n) (bitAnd (getD (a .keys .now) (a .j) 0) 281474976710655 / 2 ^ 16) (omega (arith, p .1 .fits, p .1 .few)) (a .out .now) (a .m) (l .a)
-    (omega (arith, c .before .before .before .before .before .before .if1 .taken, T .shaped .letters-are, T .table .few-letters)) (l .out) (l .r) (l .inv .3 r T R) (g .last .0) (g .result .m) (g .result .full) (g .ensures r T R) (a .shape .s) (c .before .before .before .before .before .before .if1 .taken) (c .if2 .taken))
-
-add-a : tie.Need-add-a Inv-loop μ-loop
-add-a c = search needs
-
-loop-less : tie.Need-loop-less Inv-loop μ-loop
-loop-less c = search needs
+    rw (← ranks-of (getD (a .keys .now) (a .j) 0)) (letters-full (automaton r) (a .keys .now) (a .n) (bitAnd (getD (a .keys .now) (a .j) 0) 281474976710655 / 2 ^ 16)
+    (omega (arith, p .1 .fits, p .1 .few)) (a .out .now) (a .m) (l .a)
+    (omega (arith, c .before .before .before .before .before .before .if1 .taken, T .shaped .letters-are, T .table .few-letters)) (l .out) (l .r) (l .inv .3 r T R) (g .last .0) (g .result .m)
+    (g .result .full) (g .ensures r T R) (a .shape .s) (c .before .before .before .before .before .before .if1 .taken) (c .if2 .taken))
 
 -- what the letter wrote
 fits : (c : tie.After-emit-letter Inv-loop μ-loop) → c .emit-letter .result .m ≤ length (c .emit-letter .last .0)
-fits c = let e = c .before .before .before .before .before .before .before .before .before .before .before .pre .0 in c .emit-letter .ensures (e .0) (e .1) (e .2) .fits
+fits c =
+    let start = c .before .before .before .before .before .before .before .before .before .before .before in
+    let e = start .pre .0 in c .emit-letter .ensures (e .0) (e .1) (e .2) .fits
 
 loop-again : tie.Need-loop-again Inv-loop μ-loop
 loop-again c =
-    let a = c .before .before .before .before .before .before .before .before .before .before .before .before .before .before .args in let p = c .before .before .before .before .before .before .before .before .before .before .before .before .before .before .pre in let l = c .before .before .before .before .before .before .before .before .loop in let g = c .before .before .before .emit-letter in (
+    let at-loop = c .before .before .before .before .before .before .before .before in
+    let start = at-loop .before .before .before .before .before .before in
+    let a = start .args in let p = start .pre in let l = at-loop .loop in let g = c .before .before .before .emit-letter in (
       omega (arith, c .before .before .before .before .before .before .if1 .taken),
       g .kept .0 ∙ l .inv .1,
       fits (c .before .before .before),
       λ r T R. letters-next (automaton r) (a .keys .now) (a .n) (bitAnd (getD (a .keys .now) (a .j) 0) 281474976710655 / 2 ^ 16) (omega (arith, p .1 .fits, p .1 .few)) (a .out .now) (a .m) (l .a)
-          (omega (arith, c .before .before .before .before .before .before .if1 .taken, T .shaped .letters-are, T .table .few-letters)) (l .out) (l .r) (l .inv .3 r T R) (g .last .0) (g .result .m) (g .result .full) (g .ensures r T R) (c .if2 .left),
+          (omega (arith, c .before .before .before .before .before .before .if1 .taken, T .shaped .letters-are, T .table .few-letters)) (l .out) (l .r) (l .inv .3 r T R) (g .last .0) (g .result .m)
+          (g .result .full) (g .ensures r T R) (c .if2 .left),
     )
-
-same-length-2 : tie.Need-same-length-2 Inv-loop μ-loop
-same-length-2 c = c .before .before .loop .inv .1
 
 returns-2 : tie.Need-returns-2 Inv-loop μ-loop
 returns-2 c =
-    let a = c .before .before .before .before .before .before .before .before .args in let l = c .before .before .loop in let e : l .a ≡ a .shape .s = omega (arith, l .inv .0, c .if1 .left) in
+    let start = c .before .before .before .before .before .before .before .before in
+    let a = start .args in let l = c .before .before .loop in let e : l .a ≡ a .shape .s = omega (arith, l .inv .0, c .if1 .left) in
     λ r T R.
-    let all : Emitted (Into (automaton r) (a .shape .s) (a .keys .now) (a .n) (bitAnd (getD (a .keys .now) (a .j) 0) 281474976710655 / 2 ^ 16)) (a .out .now) (a .m) (l .out) (l .r) false = rw e at (l .inv .3 r T R) in
+    let all : Emitted (Into (automaton r) (a .shape .s) (a .keys .now) (a .n) (bitAnd (getD (a .keys .now) (a .j) 0) 281474976710655 / 2 ^ 16)) (a .out .now) (a .m) (l .out) (l .r) false =
+    rw e at (l .inv .3 r T R) in
     rw (← ranks-of (getD (a .keys .now) (a .j) 0)) all
 
 pub emit-core-spec : {M : Type 1} → statement M
 emit-core-spec =
-    tie.close
-    (tie.spec
-    Inv-loop
-    μ-loop
-    mul-ranks
-    shared-slice-read-ranks
-    lowest-requires
-    array-read-core-of
-    core-of-requires
-    loop-holds
-    emit-letter-requires
-    same-length
-    returns
-    add-a
-    loop-less
-    loop-again
-    same-length-2
-    returns-2)
+    tie.close (tie.spec
+    Inv-loop μ-loop mul-ranks shared-slice-read-ranks (λ c κs. search needs) (λ c. search needs) core-of-requires loop-holds emit-letter-requires same-length
+    returns (λ c. search needs) (λ c. search needs) loop-again (λ c. c .before .before .loop .inv .1) returns-2)

@@ -16,14 +16,8 @@ use Rattle.build_transitions_spec.proofs.Letters.{nothing-over, over-in, over-o
 use Rattle.build_transitions.proofs.cores.emit_letter.Statement.{statement}
 use Rattle.build_transitions.proofs.cores.emit_letter.Tie as tie
 
-element-copy-out-opened : tie.Need-element-copy-out-opened
-element-copy-out-opened c = search needs
-
 set-before-requires : tie.Need-set-before-requires
 set-before-requires c κs = let p = c .before .before .before .pre in omega (arith, p .5, p .0 .1 .shaped .letters-are, p .0 .1 .table .few-letters)
-
-last-of-requires : tie.Need-last-of-requires
-last-of-requires c κs = search needs
 
 returns : tie.Need-returns
 returns c =
@@ -40,45 +34,45 @@ step-back-requires c κs =
 
 earlier-core-requires : tie.Need-earlier-core-requires
 earlier-core-requires c κs =
-    let a = c .before .before .before .before .before .before .before .args in let p = c .before .before .before .before .before .before .before .pre in let e = p .0 in let b = c .step-back in
-    (omega (arith, p .5, e .1 .shaped .letters-are, e .1 .table .few-letters), ranks-fit (e .0) (a .opens .now) (a .parts .now) (a .shape) (e .1) (a .letter) (a .ranks) (p .5) (p .3) (a .low .now) (p .4) (b .result .ranks) (b .result .levels) (b .ensures))
+    let start = c .before .before .before .before .before .before .before in
+    let a = start .args in let p = start .pre in let e = p .0 in let b = c .step-back in (
+      omega (arith, p .5, e .1 .shaped .letters-are, e .1 .table .few-letters),
+      ranks-fit (e .0) (a .opens .now) (a .parts .now) (a .shape) (e .1) (a .letter) (a .ranks) (p .5) (p .3) (a .low .now) (p .4) (b .result .ranks) (b .result .levels) (b .ensures),
+    )
 
 emit-sources-requires : tie.Need-emit-sources-requires
 emit-sources-requires c κs =
-    let a = c .before .before .before .before .before .before .before .before .before .before .before .args in let p = c .before .before .before .before .before .before .before .before .before .before .before .pre in let e = p .0 in let b = c .before .before .before .before .step-back in (
+    let start = c .before .before .before .before .before .before .before .before .before .before .before in
+    let a = start .args in let p = start .pre in let e = p .0 in let b = c .before .before .before .before .step-back in (
       p .1,
       p .2,
       (λ q l. key-paired (e .0) (a .parts .now) (a .shape) (e .1 .shaped) (e .2 q l)),
       few (e .0) (a .parts .now) (a .shape) (e .1 .shaped),
       rw (p .6) (core-fits (e .0) (a .parts .now) (a .shape) (e .1 .shaped) (a .ranks) (p .3 .within) (a .low .now) (p .4)),
-      rw (c .before .before .before .earlier-core .ensures) (earlier-fits (e .0) (a .opens .now) (a .parts .now) (a .shape) (e .1) (a .letter) (a .ranks) (p .5) (p .3) (a .low .now) (p .4) (b .result .ranks) (b .result .levels) (b .ensures)),
+      rw (c .before .before .before .earlier-core .ensures) (earlier-fits (e .0) (a .opens .now) (a .parts .now) (a .shape) (e .1) (a .letter) (a .ranks) (p .5) (p .3) (a .low .now) (p .4)
+          (b .result .ranks) (b .result .levels) (b .ensures)),
       omega (arith, p .5, e .1 .shaped .letters-are, e .1 .table .few-letters),
       p .7,
     )
 
-same-length : tie.Need-same-length
-same-length c = search needs
-
 returns-2 : tie.Need-returns-2
 returns-2 c =
-    let a = c .before .before .before .before .before .before .before .before .before .before .before .before .before .before .args in let p = c .before .before .before .before .before .before .before .before .before .before .before .before .before .before .pre in let b = c .before .before .before .before .before .before .before .step-back in let e = c .before .before .before .before .before .before .earlier-core in let g = c .before .before .emit-sources in
+    let at-step-back = c .before .before .before .before .before .before .before in
+    let start = at-step-back .before .before .before .before .before .before .before in
+    let a = start .args in let p = start .pre in let b = at-step-back .step-back in let e = c .before .before .before .before .before .before .earlier-core in let g =
+    c .before .before .emit-sources in
     λ r T R.
     let paired : (q : ℕ) → q < a .n → keyAt (a .keys .now) q % 16 < a .shape .components = λ q l. key-paired r (a .parts .now) (a .shape) (T .shaped) (R q l) in
-    emitted-as (Crossings (e .result) (a .core) (onwardIn (a .ranks) (a .parts .now) (a .shape .components) (b .result .levels)) (a .letter) (a .keys .now) (a .n)) (a .out .now) (a .m) (g .last .0) (g .result .m) (g .result .full) (g .ensures)
+    emitted-as (Crossings (e .result) (a .core) (onwardIn (a .ranks) (a .parts .now) (a .shape .components) (b .result .levels)) (a .letter) (a .keys .now) (a .n)) (a .out .now) (a .m) (g .last .0)
+    (g .result .m) (g .result .full) (g .ensures)
     (Over (automaton r) (a .keys .now) (a .n) (a .ranks) (a .letter))
-    (over-in r (a .opens .now) (a .parts .now) (a .shape) T (a .letter) (a .ranks) (p .5) (p .3) (a .low .now) (p .4) (a .keys .now) (a .n) (b .result .ranks) (b .result .levels) (b .ensures) (a .core) (e .result) (p .6) (e .ensures) paired)
-    (λ t. over-out r (a .opens .now) (a .parts .now) (a .shape) T (a .letter) (a .ranks) (p .5) (p .3) (a .low .now) (p .4) (a .keys .now) (a .n) (b .result .ranks) (b .result .levels) (b .ensures) (a .core) (e .result) (p .6) (e .ensures) paired)
+    (over-in r (a .opens .now) (a .parts .now) (a .shape) T (a .letter) (a .ranks) (p .5) (p .3) (a .low .now) (p .4) (a .keys .now) (a .n) (b .result .ranks) (b .result .levels) (b .ensures)
+    (a .core) (e .result) (p .6) (e .ensures) paired)
+    (λ t. over-out r (a .opens .now) (a .parts .now) (a .shape) T (a .letter) (a .ranks) (p .5) (p .3) (a .low .now) (p .4) (a .keys .now) (a .n) (b .result .ranks) (b .result .levels) (b .ensures)
+    (a .core) (e .result) (p .6) (e .ensures) paired)
 
 pub emit-letter-spec : {M : Type 1} → statement M
 emit-letter-spec =
-    tie.close
-    (tie.spec
-    element-copy-out-opened
-    set-before-requires
-    last-of-requires
-    returns
-    step-back-requires
-    earlier-core-requires
-    emit-sources-requires
-    same-length
+    tie.close (tie.spec
+    (λ c. search needs) set-before-requires (λ c κs. search needs) returns step-back-requires earlier-core-requires emit-sources-requires (λ c. search needs)
     returns-2)

@@ -17,30 +17,34 @@ abbrev μ-loop : tie.MeasureT-loop
 loop-holds : tie.Need-loop-holds Inv-loop μ-loop
 loop-holds c = let a = c .before .args in (omega arith, chaining-start (a .codes .now) (a .heads .now) (a .last .now) (c .before .pre .0))
 
-mul-code : tie.Need-mul-code Inv-loop μ-loop
-mul-code c = search needs
-
-slice-read-code : tie.Need-slice-read-code Inv-loop μ-loop
-slice-read-code c = search needs
-
 put-requires : tie.Need-put-requires Inv-loop μ-loop
 put-requires c κs =
-    let a = c .before .before .before .before .before .before .before .args in let p = c .before .before .before .before .before .before .before .pre in let l = c .before .before .before .before .before .loop in let inside : l .p < length (a .codes .now) = omega (arith, c .before .before .before .before .loop-test .taken, l .inv .1 .long) in
-    (l .inv .1 .chained, omega (arith, inside, l .inv .1 .long), rw (key-read (a .codes .now) (l .codes) (l .heads) (l .last) (l .p) (l .inv .1) (p .2 (l .p) inside)) (key-low (getD (a .codes .now) (l .p) 0) (p .2 (l .p) inside)))
-
-add-p : tie.Need-add-p Inv-loop μ-loop
-add-p c = search needs
+    let start = c .before .before .before .before .before .before .before in
+    let a = start .args in let p = start .pre in let l = c .before .before .before .before .before .loop in let inside : l .p < length (a .codes .now) =
+    omega (arith, c .before .before .before .before .loop-test .taken, l .inv .1 .long) in (
+      l .inv .1 .chained,
+      omega (arith, inside, l .inv .1 .long),
+      rw (key-read (a .codes .now) (l .codes) (l .heads) (l .last) (l .p) (l .inv .1) (p .2 (l .p) inside))
+          (key-low (getD (a .codes .now) (l .p) 0) (p .2 (l .p) inside)),
+    )
 
 loop-less : tie.Need-loop-less Inv-loop μ-loop
-loop-less c = let l = c .before .before .before .before .before .before .before .before .loop in omega (arith, c .before .before .before .before .before .before .before .loop-test .taken, l .inv .1 .long)
+loop-less c =
+    let at-loop-test = c .before .before .before .before .before .before .before in
+    let at-loop = at-loop-test .before in
+    let l = at-loop .loop in omega (arith, at-loop-test .loop-test .taken, l .inv .1 .long)
 
 loop-again : tie.Need-loop-again Inv-loop μ-loop
 loop-again c =
-    let a = c .before .before .before .before .before .before .before .before .before .before .args in let p = c .before .before .before .before .before .before .before .before .before .before .pre in let l = c .before .before .before .before .before .before .before .before .loop in let e = c .before .before .put .ensures in let inside : l .p < length (a .codes .now) = omega (arith, c .before .before .before .before .before .before .before .loop-test .taken, l .inv .1 .long) in
-    (omega arith, rw (e .0, e .1, e .2) (chaining-next (a .codes .now) (p .1) (p .2) (l .codes) (l .heads) (l .last) (l .p) (l .inv .1) inside _ (key-read (a .codes .now) (l .codes) (l .heads) (l .last) (l .p) (l .inv .1) (p .2 (l .p) inside))))
-
-same-length : tie.Need-same-length Inv-loop μ-loop
-same-length c = c .before .loop .inv .1 .long
+    let at-loop-test = c .before .before .before .before .before .before .before in
+    let at-loop = at-loop-test .before in
+    let start = at-loop .before .before in
+    let a = start .args in let p = start .pre in let l = at-loop .loop in let e = c .before .before .put .ensures in let inside : l .p < length (a .codes .now) =
+    omega (arith, at-loop-test .loop-test .taken, l .inv .1 .long) in (
+      omega arith,
+      rw (e .0, e .1, e .2) (chaining-next (a .codes .now) (p .1) (p .2) (l .codes) (l .heads) (l .last) (l .p) (l .inv .1) inside _
+          (key-read (a .codes .now) (l .codes) (l .heads) (l .last) (l .p) (l .inv .1) (p .2 (l .p) inside))),
+    )
 
 returns : tie.Need-returns Inv-loop μ-loop
 returns c =
@@ -50,16 +54,6 @@ returns c =
 
 pub chain-spec : {M : Type 1} → statement M
 chain-spec =
-    tie.close
-    (tie.spec
-    Inv-loop
-    μ-loop
-    loop-holds
-    mul-code
-    slice-read-code
-    put-requires
-    add-p
-    loop-less
-    loop-again
-    same-length
-    returns)
+    tie.close (tie.spec
+    Inv-loop μ-loop loop-holds (λ c. search needs) (λ c. search needs) put-requires (λ c. search needs) loop-less loop-again
+    (λ c. c .before .loop .inv .1 .long) returns)

@@ -18,7 +18,8 @@ begins-requires c κs = let p = c .before .pre in initial-low (p .0 .0) (c .befo
 returns : tie.Need-returns
 returns c =
     let a = c .before .before .before .args in let p = c .before .before .before .pre in
-    λ r S. grown-none (StartsAt r (a .parts .now) (a .shape .components) (a .shape .holds) (a .ranks)) (StartsAt r (a .parts .now) (a .shape .components) (a .shape .holds) (a .ranks)) (a .keys .now) (a .heads .now) (a .last .now) (a .n) (p .1)
+    λ r S. grown-none (StartsAt r (a .parts .now) (a .shape .components) (a .shape .holds) (a .ranks)) (StartsAt r (a .parts .now) (a .shape .components) (a .shape .holds) (a .ranks)) (a .keys .now)
+    (a .heads .now) (a .last .now) (a .n) (p .1)
     (λ y f. absurd (clash (f .1 .start) (sym (start-is r (a .parts .now) (a .shape) S (a .ranks) (p .2)) ∙ sym (c .before .begins .ensures) ∙ not-true _ (c .if1 .taken))))
 
 is-core-requires : tie.Need-is-core-requires
@@ -27,54 +28,53 @@ is-core-requires c κs = let p = c .before .before .before .pre in few (p .0 .0)
 returns-2 : tie.Need-returns-2
 returns-2 c =
     let a = c .before .before .before .before .before .args in let p = c .before .before .before .before .before .pre in
-    λ r S. grown-none (StartsAt r (a .parts .now) (a .shape .components) (a .shape .holds) (a .ranks)) (StartsAt r (a .parts .now) (a .shape .components) (a .shape .holds) (a .ranks)) (a .keys .now) (a .heads .now) (a .last .now) (a .n) (p .1)
+    λ r S. grown-none (StartsAt r (a .parts .now) (a .shape .components) (a .shape .holds) (a .ranks)) (StartsAt r (a .parts .now) (a .shape .components) (a .shape .holds) (a .ranks)) (a .keys .now)
+    (a .heads .now) (a .last .now) (a .n) (p .1)
     (λ y f. absurd (clash (f .0 .passes) (sym (c .before .is-core .ensures) ∙ not-true _ (c .if2 .taken))))
 
-lowest-requires : tie.Need-lowest-requires
-lowest-requires c κs = search needs
-
-array-read-core-of : tie.Need-array-read-core-of
-array-read-core-of c = search needs
-
 core-of-requires : tie.Need-core-of-requires
-core-of-requires c κs = let a = c .before .before .before .before .before .before .args in let p = c .before .before .before .before .before .before .pre in vector-low (p .0 .0) (a .parts .now) (a .shape) (p .0 .1) (a .ranks) (p .2)
+core-of-requires c κs = let a = c .before .before .before .before .before .before .args in let p = c .before .before .before .before .before .before .pre in
+    vector-low (p .0 .0) (a .parts .now) (a .shape) (p .0 .1) (a .ranks) (p .2)
 
 -- the core has 40 bits
 fits : (c : tie.After-core-of) → c .core-of .result < 2 ^ 40
-fits c = let a = c .before .before .before .before .before .before .before .args in let p = c .before .before .before .before .before .before .before .pre in omega (arith, c .core-of .ensures, core-fits (p .0 .0) (a .parts .now) (a .shape) (p .0 .1) (a .ranks) (p .2) (c .before .lowest .result) (c .before .lowest .ensures))
+fits c =
+    let start = c .before .before .before .before .before .before .before in
+    let a = start .args in let p = start .pre in omega (
+      arith,
+      c .core-of .ensures,
+      core-fits (p .0 .0) (a .parts .now) (a .shape) (p .0 .1) (a .ranks) (p .2) (c .before .lowest .result) (c .before .lowest .ensures),
+    )
 
 -- its first key
 key : (c : tie.After-core-of) → c .core-of .result * 2 ^ 8 % 2 ^ 64 ≡ c .core-of .result * 256
 key c = first-key (c .core-of .result) (fits c)
 
 admit-requires : tie.Need-admit-requires
-admit-requires c κs = let p = c .before .before .before .before .before .before .before .before .before .before .pre in (p .1, omega (arith, key (c .before .before .before), fits (c .before .before .before)))
-
-same-length : tie.Need-same-length
-same-length c = search needs
+admit-requires c κs =
+    let start = c .before .before .before .before .before .before .before .before .before .before in
+    let p = start .pre in (p .1, omega (arith, key (c .before .before .before), fits (c .before .before .before)))
 
 returns-3 : tie.Need-returns-3
 returns-3 c =
-    let a = c .before .before .before .before .before .before .before .before .before .before .before .before .before .args in let p = c .before .before .before .before .before .before .before .before .before .before .before .before .before .pre in let g = c .before .before .admit in let core = c .before .before .before .before .before .before .core-of .result in let low = c .before .before .before .before .before .before .before .lowest in
+    let at-core-of = c .before .before .before .before .before .before in
+    let at-lowest = at-core-of .before in
+    let at-if2 = at-lowest .before in
+    let at-is-core = at-if2 .before in
+    let at-if1 = at-is-core .before in
+    let at-begins = at-if1 .before in
+    let start = at-begins .before .before in
+    let a = start .args in let p = start .pre in let g = c .before .before .admit in let core = at-core-of .core-of .result in let low = at-lowest .lowest in
     λ r S.
-    grown-as (λ z. z ≡ core * 2 ^ 8 % 2 ^ 64) (λ z. z ≡ core * 2 ^ 8 % 2 ^ 64) (a .keys .now) (a .n) (g .last .0) (g .last .1 .0) (g .last .1 .1 .0) (g .result .m) (g .result .full) (g .ensures) (StartsAt r (a .parts .now) (a .shape .components) (a .shape .holds) (a .ranks)) (StartsAt r (a .parts .now) (a .shape .components) (a .shape .holds) (a .ranks))
-    (λ t y f. first-out r (a .parts .now) (a .shape) S (a .ranks) (p .2) (low .result) (low .ensures) core (c .before .before .before .before .before .before .core-of .ensures) y f ∙ sym (key (c .before .before .before .before .before .before)))
-    (λ y e. first-in r (a .parts .now) (a .shape) S (a .ranks) (p .2) (low .result) (low .ensures) core (c .before .before .before .before .before .before .core-of .ensures)
-    (sym (c .before .before .before .before .before .before .before .before .before .is-core .ensures) ∙ not-false _ (c .before .before .before .before .before .before .before .before .if2 .left))
-    (sym (start-is r (a .parts .now) (a .shape) S (a .ranks) (p .2)) ∙ sym (c .before .before .before .before .before .before .before .before .before .before .before .begins .ensures) ∙ not-false _ (c .before .before .before .before .before .before .before .before .before .before .if1 .left))
-    y (e ∙ key (c .before .before .before .before .before .before)))
+    grown-as (λ z. z ≡ core * 2 ^ 8 % 2 ^ 64) (λ z. z ≡ core * 2 ^ 8 % 2 ^ 64) (a .keys .now) (a .n) (g .last .0) (g .last .1 .0) (g .last .1 .1 .0) (g .result .m) (g .result .full) (g .ensures)
+    (StartsAt r (a .parts .now) (a .shape .components) (a .shape .holds) (a .ranks)) (StartsAt r (a .parts .now) (a .shape .components) (a .shape .holds) (a .ranks))
+    (λ t y f. first-out r (a .parts .now) (a .shape) S (a .ranks) (p .2) (low .result) (low .ensures) core (at-core-of .core-of .ensures) y f ∙ sym (key (at-core-of)))
+    (λ y e. first-in r (a .parts .now) (a .shape) S (a .ranks) (p .2) (low .result) (low .ensures) core (at-core-of .core-of .ensures)
+    (sym (at-is-core .is-core .ensures) ∙ not-false _ (at-if2 .if2 .left))
+    (sym (start-is r (a .parts .now) (a .shape) S (a .ranks) (p .2)) ∙ sym (at-begins .begins .ensures) ∙ not-false _ (at-if1 .if1 .left))
+    y (e ∙ key (at-core-of)))
 
 pub visit-first-spec : {M : Type 1} → statement M
 visit-first-spec =
-    tie.close
-    (tie.spec
-    begins-requires
-    returns
-    is-core-requires
-    returns-2
-    lowest-requires
-    array-read-core-of
-    core-of-requires
-    admit-requires
-    same-length
-    returns-3)
+    tie.close (tie.spec
+    begins-requires returns is-core-requires returns-2 (λ c κs. search needs) (λ c. search needs) core-of-requires admit-requires (λ c. search needs) returns-3)

@@ -21,14 +21,16 @@ onward-requires : tie.Need-onward-requires
 onward-requires c κs = let a = c .before .before .args in let p = c .before .before .pre in let e = and-mask (a .key) 8 in (omega (arith, e), omega (arith, e, p .1), p .2)
 
 -- the pair that the key goes on to
-onto : (c : tie.After-onward) → c .onward .result ≡ onwardIn (c .before .before .before .args .ranks) (c .before .before .before .args .parts .now) (c .before .before .before .args .components) (c .before .before .before .args .levels .now) (c .before .before .before .args .key % 256)
+onto : (c : tie.After-onward) → c .onward .result ≡ onwardIn (c .before .before .before .args .ranks) (c .before .before .before .args .parts .now) (c .before .before .before .args .components)
+    (c .before .before .before .args .levels .now) (c .before .before .before .args .key % 256)
 onto c =
     let a = c .before .before .before .args in
     let found : c .onward .result ≡ onwardIn (a .ranks) (a .parts .now) (a .components) (a .levels .now) (bitAnd (a .key) 255) = c .onward .ensures in
     found ∙ ap (onwardIn (a .ranks) (a .parts .now) (a .components) (a .levels .now)) (and-mask (a .key) 8)
 
 low : (c : tie.After-onward) → c .onward .result < 256
-low c = let a = c .before .before .before .args in let p = c .before .before .before .pre in rw (onto c) (onward-low (a .ranks) (a .parts .now) (a .components) (a .levels .now) (a .key % 256) (p .2) (omega (arith, p .1)))
+low c = let a = c .before .before .before .args in let p = c .before .before .before .pre in
+    rw (onto c) (onward-low (a .ranks) (a .parts .now) (a .components) (a .levels .now) (a .key % 256) (p .2) (omega (arith, p .1)))
 
 -- the key with that pair
 key : (c : tie.After-onward) → bitOr (c .before .before .before .args .core * 2 ^ 8 % 2 ^ 64) (c .onward .result) ≡ c .before .before .before .args .core * 256 + c .onward .result
@@ -37,15 +39,16 @@ key c = let a = c .before .before .before .args in let p = c .before .before .be
 admit-requires : tie.Need-admit-requires
 admit-requires c κs = let p = c .before .before .before .before .before .before .pre in (p .0, omega (arith, key (c .before .before .before), low (c .before .before .before), p .3))
 
-same-length : tie.Need-same-length
-same-length c = search needs
-
 returns-2 : tie.Need-returns-2
 returns-2 c =
-    let a = c .before .before .before .before .before .before .before .before .before .args in let g = c .before .before .admit in let y = bitOr (a .core * 2 ^ 8 % 2 ^ 64) (c .before .before .before .before .before .before .onward .result) in let M = Moved (a .earlier) (a .core) (onwardIn (a .ranks) (a .parts .now) (a .components) (a .levels .now)) (a .key) in
-    let e : y ≡ a .core * 256 + onwardIn (a .ranks) (a .parts .now) (a .components) (a .levels .now) (a .key % 256) = key (c .before .before .before .before .before .before) ∙ ap (λ (x : ℕ). a .core * 256 + x) (onto (c .before .before .before .before .before .before)) in
+    let at-onward = c .before .before .before .before .before .before in
+    let at-if1 = at-onward .before in
+    let start = at-if1 .before .before in
+    let a = start .args in let g = c .before .before .admit in let y = bitOr (a .core * 2 ^ 8 % 2 ^ 64) (at-onward .onward .result) in let M =
+    Moved (a .earlier) (a .core) (onwardIn (a .ranks) (a .parts .now) (a .components) (a .levels .now)) (a .key) in
+    let e : y ≡ a .core * 256 + onwardIn (a .ranks) (a .parts .now) (a .components) (a .levels .now) (a .key % 256) = key (at-onward) ∙ ap (λ (x : ℕ). a .core * 256 + x) (onto (at-onward)) in
     grown-as (λ z. z ≡ y) (λ z. z ≡ y) (a .keys .now) (a .n) (g .last .0) (g .last .1 .0) (g .last .1 .1 .0) (g .result .m) (g .result .full) (g .ensures) M M
-    (λ t z h. h .to ∙ sym e) (λ z h. record { from = c .before .before .before .before .before .before .before .if1 .left; to = h ∙ e })
+    (λ t z h. h .to ∙ sym e) (λ z h. record { from = at-if1 .if1 .left; to = h ∙ e })
 
 pub move-key-spec : {M : Type 1} → statement M
-move-key-spec = tie.close (tie.spec returns onward-requires admit-requires same-length returns-2)
+move-key-spec = tie.close (tie.spec returns onward-requires admit-requires (λ c. search needs) returns-2)

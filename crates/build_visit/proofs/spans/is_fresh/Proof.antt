@@ -23,25 +23,19 @@ loop-holds c = (omega arith, λ b h. absurd (omega arith))
 set-before-requires : tie.Need-set-before-requires Inv-loop μ-loop
 set-before-requires c κs = omega (arith, c .if1 .taken, c .before .before .before .pre)
 
-last-of-requires : tie.Need-last-of-requires Inv-loop μ-loop
-last-of-requires c κs = search needs
-
-wide-requires : tie.Need-wide-requires Inv-loop μ-loop
-wide-requires c κs = search needs
-
 returns : tie.Need-returns Inv-loop μ-loop
 returns c = λ t. absurd (true≢false t)
-
-add-a : tie.Need-add-a Inv-loop μ-loop
-add-a c = search needs
 
 loop-less : tie.Need-loop-less Inv-loop μ-loop
 loop-less c = omega (arith, c .before .before .before .before .if1 .taken)
 
 loop-again : tie.Need-loop-again Inv-loop μ-loop
 loop-again c =
-    let a = c .before .before .before .before .before .before .before .args in let l = c .before .before .before .before .before .before .loop in
-    let old : getD (a .last .now) (bitXor (getD (a .opens .now) (l .a * 256 + a .x) 0) (a .shape .accepting)) 0 ≤ a .from = rw (← c .before .before .before .set-before .ensures) (let z : getD (a .last .now) (c .before .before .before .set-before .result) 0 ≤ a .from = omega (arith, c .before .wide .ensures, c .before .before .last-of .ensures, c .if2 .left) in z) in
+    let start = c .before .before .before .before .before .before .before in
+    let a = start .args in let l = c .before .before .before .before .before .before .loop in
+    let old : getD (a .last .now) (bitXor (getD (a .opens .now) (l .a * 256 + a .x) 0) (a .shape .accepting)) 0 ≤ a .from =
+    rw (← c .before .before .before .set-before .ensures) (let z : getD (a .last .now) (c .before .before .before .set-before .result) 0 ≤ a .from =
+    omega (arith, c .before .wide .ensures, c .before .before .last-of .ensures, c .if2 .left) in z) in
     (omega (arith, c .before .before .before .before .if1 .taken), λ b h. by-cases (decLt b (l .a)) (λ k. l .inv .1 b k) (λ k. let e : b ≡ l .a = omega arith in rw e old))
 
 returns-2 : tie.Need-returns-2 Inv-loop μ-loop
@@ -49,16 +43,5 @@ returns-2 c = λ t b h. c .before .before .loop .inv .1 b (omega (arith, c .if1 
 
 pub is-fresh-spec : {M : Type 1} → statement M
 is-fresh-spec =
-    tie.close
-    (tie.spec
-    Inv-loop
-    μ-loop
-    loop-holds
-    set-before-requires
-    last-of-requires
-    wide-requires
-    returns
-    add-a
-    loop-less
-    loop-again
-    returns-2)
+    tie.close (tie.spec
+    Inv-loop μ-loop loop-holds set-before-requires (λ c κs. search needs) (λ c κs. search needs) returns (λ c. search needs) loop-less loop-again returns-2)

@@ -18,36 +18,19 @@ abbrev μ-loop : tie.MeasureT-loop
 loop-holds : tie.Need-loop-holds Inv-loop μ-loop
 loop-holds c = (omega arith, refl, λ q h. absurd (omega arith))
 
-element-copy-out-those : tie.Need-element-copy-out-those Inv-loop μ-loop
-element-copy-out-those c = search needs
-
-array-write-those : tie.Need-array-write-those Inv-loop μ-loop
-array-write-those c = search needs
-
-add-c : tie.Need-add-c Inv-loop μ-loop
-add-c c = search needs
-
-loop-less : tie.Need-loop-less Inv-loop μ-loop
-loop-less c = search needs
-
 loop-again : tie.Need-loop-again Inv-loop μ-loop
 loop-again c =
-    let a = c .before .before .before .args in let l = c .before .before .loop in
-    (omega (arith, c .before .loop-test .taken), simp length-set (l .inv .1), put-next (λ q. bitAnd (getD (a .parts .now) q 0) (a .x)) (l .those) (l .c) (bitAnd (getD (a .parts .now) (l .c) 0) (a .x)) (omega (arith, c .before .loop-test .taken, l .inv .1)) refl (l .inv .2))
+    let a = c .before .before .before .args in let l = c .before .before .loop in (
+      omega (arith, c .before .loop-test .taken),
+      simp length-set (l .inv .1),
+      put-next (λ q. bitAnd (getD (a .parts .now) q 0) (a .x)) (l .those) (l .c) (bitAnd (getD (a .parts .now) (l .c) 0) (a .x)) (omega (arith, c .before .loop-test .taken, l .inv .1)) refl
+          (l .inv .2),
+    )
 
 returns : tie.Need-returns Inv-loop μ-loop
 returns c = λ q h. c .before .loop .inv .2 q (omega (arith, c .loop-test .left))
 
 pub open-parts-spec : {M : Type 1} → statement M
 open-parts-spec =
-    tie.close
-    (tie.spec
-    Inv-loop
-    μ-loop
-    loop-holds
-    element-copy-out-those
-    array-write-those
-    add-c
-    loop-less
-    loop-again
-    returns)
+    tie.close (tie.spec
+    Inv-loop μ-loop loop-holds (λ c. search needs) (λ c. search needs) (λ c. search needs) (λ c. search needs) loop-again returns)

@@ -12,17 +12,11 @@ use borrow.Author.Needs.{needs}
 use Rattle.file_rows.proofs.rule.lists_row.Statement.{statement}
 use Rattle.file_rows.proofs.rule.lists_row.Tie as tie
 
-any-from-requires : tie.Need-any-from-requires
-any-from-requires c κs = search needs
-
 returns : tie.Need-returns
 returns c =
     let a = c .before .before .before .before .args in
     let over : anyOf (a .counts .now) (leb 9) ≡ true = sym (c .before .any-from .ensures) ∙ c .if1 .taken in
     row-8 (a .n) (a .counts .now) (a .clauses .now) over
-
-total-requires : tie.Need-total-requires
-total-requires c κs = search needs
 
 -- no count over 8
 few : (c : tie.Else1) → anyOf (c .before .before .before .before .args .counts .now) (leb 9) ≡ false
@@ -33,15 +27,10 @@ returns-2 c =
     let a = c .before .before .before .before .before .before .args in
     row-9 (a .n) (a .counts .now) (a .clauses .now) (few (c .before .before)) (omega arith)
 
-shl-any-from : tie.Need-shl-any-from
-shl-any-from c = search needs
-
-any-from-requires-2 : tie.Need-any-from-requires-2
-any-from-requires-2 c κs = search needs
-
 returns-3 : tie.Need-returns-3
 returns-3 c =
-    let a = c .before .before .before .before .before .before .before .before .args in
+    let start = c .before .before .before .before .before .before .before .before in
+    let a = start .args in
     let adds : sum (a .counts .now) ≡ length (a .clauses .now) = omega arith in
     let over : anyOf (a .clauses .now) (leb (2 ^ a .n)) ≡ true =
     rw (shl-one 64 (a .n) (omega arith)) at (sym (c .before .any-from2 .ensures) ∙ c .if3 .taken) in
@@ -49,7 +38,8 @@ returns-3 c =
 
 returns-4 : tie.Need-returns-4
 returns-4 c =
-    let a = c .before .before .before .before .before .before .before .before .args in
+    let start = c .before .before .before .before .before .before .before .before in
+    let a = start .args in
     let adds : sum (a .counts .now) ≡ length (a .clauses .now) = omega arith in
     let within : anyOf (a .clauses .now) (leb (2 ^ a .n)) ≡ false =
     rw (shl-one 64 (a .n) (omega arith)) at (sym (c .before .any-from2 .ensures) ∙ c .if3 .left) in
@@ -57,13 +47,5 @@ returns-4 c =
 
 pub lists-row-spec : {M : Type 1} → statement M
 lists-row-spec =
-    tie.close
-    (tie.spec
-    any-from-requires
-    returns
-    total-requires
-    returns-2
-    shl-any-from
-    any-from-requires-2
-    returns-3
-    returns-4)
+    tie.close (tie.spec
+    (λ c κs. search needs) returns (λ c κs. search needs) returns-2 (λ c. search needs) (λ c κs. search needs) returns-3 returns-4)

@@ -18,9 +18,6 @@ returns-3 c = under-4 (c .before .before .before .args .h) (omega arith) (omega 
 returns-4 : tie.Need-returns-4
 returns-4 c = over-4 (c .before .before .before .before .args .h) (omega arith) (omega arith) (omega arith) (omega arith)
 
-shl-states : tie.Need-shl-states
-shl-states c = search needs
-
 returns-5 : tie.Need-returns-5
 returns-5 c = row-5 (c .before .before .before .before .before .args .h) (omega arith) (omega arith) (omega arith) (omega arith) (omega arith)
 
@@ -35,6 +32,4 @@ returns-7 c =
     pass-6 h (omega arith) (omega arith) (omega arith) (omega arith) (omega arith) (omega (arith, shl-one 64 (h .n) (omega arith)))
 
 pub numbers-row-spec : {M : Type 1} → statement M
-numbers-row-spec =
-    tie.close
-    (tie.spec returns returns-2 returns-3 returns-4 shl-states returns-5 returns-6 returns-7)
+numbers-row-spec = tie.close (tie.spec returns returns-2 returns-3 returns-4 (λ c. search needs) returns-5 returns-6 returns-7)

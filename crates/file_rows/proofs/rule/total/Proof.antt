@@ -14,23 +14,11 @@ Inv-loop xs t₀ i₀ t i = (i ≤ length xs) × (t ≤ 255 * i) × (t + sum (dr
 abbrev μ-loop : tie.MeasureT-loop
 μ-loop xs t₀ i₀ t i = length xs - i
 
-loop-holds : tie.Need-loop-holds Inv-loop μ-loop
-loop-holds c = omega arith
-
-shared-slice-read-t : tie.Need-shared-slice-read-t Inv-loop μ-loop
-shared-slice-read-t c = omega arith
-
 cast-t : tie.Need-cast-t Inv-loop μ-loop
 cast-t c = omega (arith, c .shared-slice-known .given (c .before .before .loop .i))
 
 add-t : tie.Need-add-t Inv-loop μ-loop
 add-t c = omega (arith, c .shared-slice-known .given (c .before .before .loop .i))
-
-add-i : tie.Need-add-i Inv-loop μ-loop
-add-i c = omega arith
-
-loop-less : tie.Need-loop-less Inv-loop μ-loop
-loop-less c = omega arith
 
 loop-again : tie.Need-loop-again Inv-loop μ-loop
 loop-again c =
@@ -41,16 +29,4 @@ returns : tie.Need-returns Inv-loop μ-loop
 returns c = omega (arith, sum-end (c .before .before .args .xs .now) (c .before .loop .i) (omega arith))
 
 pub total-spec : {M : Type 1} → statement M
-total-spec =
-    tie.close
-    (tie.spec
-    Inv-loop
-    μ-loop
-    loop-holds
-    shared-slice-read-t
-    cast-t
-    add-t
-    add-i
-    loop-less
-    loop-again
-    returns)
+total-spec = tie.close (tie.spec Inv-loop μ-loop (λ c. omega arith) (λ c. omega arith) cast-t add-t (λ c. omega arith) (λ c. omega arith) loop-again returns)

@@ -6,24 +6,6 @@ use Rattle.file_spec.specs.File.{trailer}
 use Rattle.file_rows.proofs.trailer.read_count.Statement.{statement}
 use Rattle.file_rows.proofs.trailer.read_count.Tie as tie
 
-trailer-byte-requires : tie.Need-trailer-byte-requires
-trailer-byte-requires c κs = search needs
-
-cast-result : tie.Need-cast-result
-cast-result c = search needs
-
-trailer-byte-requires-2 : tie.Need-trailer-byte-requires-2
-trailer-byte-requires-2 c κs = search needs
-
-cast-result-2 : tie.Need-cast-result-2
-cast-result-2 c = search needs
-
-mul-result : tie.Need-mul-result
-mul-result c = omega arith
-
-add-result : tie.Need-add-result
-add-result c = omega arith
-
 returns : tie.Need-returns
 returns c =
     let f = c .before .before .before .args .f .now in
@@ -33,12 +15,5 @@ returns c =
 
 pub read-count-spec : {M : Type 1} → statement M
 read-count-spec =
-    tie.close
-    (tie.spec
-    trailer-byte-requires
-    cast-result
-    trailer-byte-requires-2
-    cast-result-2
-    mul-result
-    add-result
-    returns)
+    tie.close (tie.spec
+    (λ c κs. search needs) (λ c. search needs) (λ c κs. search needs) (λ c. search needs) (λ c. omega arith) (λ c. omega arith) returns)

@@ -8,24 +8,12 @@ use Rattle.file_spec.specs.File.{trailer, tagged}
 use Rattle.file_rows.proofs.trailer.tag_ends.Statement.{statement}
 use Rattle.file_rows.proofs.trailer.tag_ends.Tie as tie
 
-trailer-byte-requires : tie.Need-trailer-byte-requires
-trailer-byte-requires c κs = search needs
-
-array-read-if1 : tie.Need-array-read-if1
-array-read-if1 c = search needs
-
 returns : tie.Need-returns
 unfolding tagged
 returns c =
     let f = c .before .before .before .args .f .now in
     let first : eqb (trailer f 6) 0x41 ≡ false = rw (← c .before .trailer-byte .ensures) (ne-eqb (c .before .trailer-byte .result) 0x41 (c .if1 .taken)) in
     rw first
-
-trailer-byte-requires-2 : tie.Need-trailer-byte-requires-2
-trailer-byte-requires-2 c κs = search needs
-
-array-read-result : tie.Need-array-read-result
-array-read-result c = search needs
 
 returns-2 : tie.Need-returns-2
 unfolding tagged
@@ -35,12 +23,4 @@ returns-2 c =
     rw (first, c .trailer-byte2 .ensures)
 
 pub tag-ends-spec : {M : Type 1} → statement M
-tag-ends-spec =
-    tie.close
-    (tie.spec
-    trailer-byte-requires
-    array-read-if1
-    returns
-    trailer-byte-requires-2
-    array-read-result
-    returns-2)
+tag-ends-spec = tie.close (tie.spec (λ c κs. search needs) (λ c. search needs) returns (λ c κs. search needs) (λ c. search needs) returns-2)

@@ -17,19 +17,10 @@ use Rattle.file_rows.proofs.trailer.trailer_row.Tie as tie
 returns : tie.Need-returns
 returns c = row-1 (c .before .before .args .f .now) (omega arith)
 
-tag-ends-requires : tie.Need-tag-ends-requires
-tag-ends-requires c κs = search needs
-
 returns-2 : tie.Need-returns-2
 returns-2 c =
     let f = c .before .before .before .before .args .f .now in
     row-2 f (omega arith) (sym (c .before .tag-ends .ensures) ∙ not-true _ (c .if2 .taken))
-
-read-head-requires : tie.Need-read-head-requires
-read-head-requires c κs = search needs
-
-numbers-row-requires : tie.Need-numbers-row-requires
-numbers-row-requires c κs = search needs
 
 -- the tag is there
 tag-is : (c : tie.Else2) → tagged (c .before .before .before .before .args .f .now) ≡ true
@@ -41,50 +32,43 @@ numbers-are c = c .numbers-row .ensures ∙ ap (λ h. firstRow (numberRows h)) (
 
 returns-3 : tie.Need-returns-3
 returns-3 c =
-    let f = c .before .before .before .before .before .before .before .args .f .now in
+    let start = c .before .before .before .before .before .before .before in
+    let f = start .args .f .now in
     row-numbers f (omega arith) (tag-is (c .before .before .before)) (c .before .numbers-row .result) (c .if3 .taken) (numbers-are (c .before))
 
-read-count-requires : tie.Need-read-count-requires
-read-count-requires c κs = search needs
-
-sub-if4 : tie.Need-sub-if4
-sub-if4 c = search needs
+abbrev start-of-else3 : tie.Else3 → tie.Start
+start-of-else3 c = c .before .before .before .before .before .before .before
 
 -- no row of the numbers refuses
-pass : (c : tie.Else3) → firstRow (numberRows (headOf (c .before .before .before .before .before .before .before .args .f .now))) ≡ 0
+pass : (c : tie.Else3) → firstRow (numberRows (headOf (start-of-else3 c .args .f .now))) ≡ 0
 pass c = sym (numbers-are (c .before)) ∙ c .if3 .left
 
 mul-if4 : tie.Need-mul-if4
-mul-if4 c = rw (c .before .before .before .read-head .ensures) (omega (arith, ranges (headOf (c .before .before .before .before .before .before .before .before .args .f .now)) (pass (c .before))))
+mul-if4 c =
+    let start = c .before .before .before .before .before .before .before .before in
+    rw (c .before .before .before .read-head .ensures) (omega (arith, ranges (headOf (start .args .f .now)) (pass (c .before))))
 
 add-if4 : tie.Need-add-if4
-add-if4 c = rw (c .before .before .before .read-head .ensures) (omega (arith, ranges (headOf (c .before .before .before .before .before .before .before .before .args .f .now)) (pass (c .before))))
+add-if4 c =
+    let start = c .before .before .before .before .before .before .before .before in
+    rw (c .before .before .before .read-head .ensures) (omega (arith, ranges (headOf (start .args .f .now)) (pass (c .before))))
 
 returns-4 : tie.Need-returns-4
 returns-4 c =
-    let f = c .before .before .before .before .before .before .before .before .before .args .f .now in
+    let start = c .before .before .before .before .before .before .before .before .before in
+    let f = start .args .f .now in
     let l : length f - 8 < clauseCount f + entryCount f = rw (c .before .read-count .ensures .0, c .before .before .before .before .read-head .ensures) at (c .if4 .taken) in
     row-7 f (omega arith) (tag-is (c .before .before .before .before .before)) (pass (c .before .before)) l
 
 returns-5 : tie.Need-returns-5
 returns-5 c =
-    let f = c .before .before .before .before .before .before .before .before .before .args .f .now in
+    let start = c .before .before .before .before .before .before .before .before .before in
+    let f = start .args .f .now in
     let l : clauseCount f + entryCount f ≤ length f - 8 = rw (c .before .read-count .ensures .0, c .before .before .before .before .read-head .ensures) at (c .if4 .left) in
     pass-7 f (omega arith) (tag-is (c .before .before .before .before .before)) (pass (c .before .before)) l
 
 pub trailer-row-spec : {M : Type 1} → statement M
 trailer-row-spec =
-    tie.close
-    (tie.spec
-    returns
-    tag-ends-requires
-    returns-2
-    read-head-requires
-    numbers-row-requires
-    returns-3
-    read-count-requires
-    sub-if4
-    mul-if4
-    add-if4
-    returns-4
-    returns-5)
+    tie.close (tie.spec
+    returns (λ c κs. search needs) returns-2 (λ c κs. search needs) (λ c κs. search needs) returns-3 (λ c κs. search needs) (λ c. search needs) mul-if4 add-if4
+    returns-4 returns-5)

@@ -11,23 +11,15 @@ use Rattle.file_write.proofs.Names.{fill-both}
 use Rattle.file_write.proofs.layout.fill.Statement.{statement}
 use Rattle.file_write.proofs.layout.fill.Tie as tie
 
-fill-names-requires : tie.Need-fill-names-requires
-fill-names-requires c κs = search needs
-
-fill-rule-requires : tie.Need-fill-rule-requires
-fill-rule-requires c κs = search needs
-
-same-length : tie.Need-same-length
-same-length c = search needs
-
 returns : tie.Need-returns
 returns c =
-    let a = c .before .before .before .before .before .before .before .before .before .before .before .before .args in
-    let p = c .before .before .before .before .before .before .before .before .before .before .before .before .pre in
+    let start = c .before .before .before .before .before .before .before .before .before .before .before .before in
+    let a = start .args in
+    let p = start .pre in
     let f = bodyOf (ruleOf (a .h) (a .counts .now) (a .clauses .now)) in
     c .before .before .fill-rule .ensures
     ∙ rw (c .before .before .before .before .before .before .fill-names .ensures)
     (fill-both (a .out .now) (prefaceFrom (a .names .now)) f (a .at) (p .1) (omega (arith, p .2, length-body (a .h) (a .counts .now) (a .clauses .now))))
 
 pub fill-spec : {M : Type 1} → statement M
-fill-spec = tie.close (tie.spec fill-names-requires fill-rule-requires same-length returns)
+fill-spec = tie.close (tie.spec (λ c κs. search needs) (λ c κs. search needs) (λ c. search needs) returns)

@@ -19,22 +19,17 @@ room c = omega (arith, c .before .before .before .pre, length-preface (c .before
 put-requires : tie.Need-put-requires
 put-requires c κs = omega (arith, room (c .before))
 
-slice-aggregate-put : tie.Need-slice-aggregate-put
-slice-aggregate-put c = search needs
-
 put-requires-2 : tie.Need-put-requires-2
 put-requires-2 c κs = omega (arith, room (c .before .before .before .before .before .before))
 
-same-length : tie.Need-same-length
-same-length c = search needs
-
 returns-2 : tie.Need-returns-2
 returns-2 c =
-    let a = c .before .before .before .before .before .before .before .before .before .before .before .before .args in
-    let e = c .before .before .before .before .before .before .before .before .before in
-    c .before .before .put2 .ensures ∙ rw (c .before .before .before .before .before .before .before .put .ensures) (fill-some (a .out .now) (a .names .now) (e .if1 .left) (room e))
+    let at-put = c .before .before .before .before .before .before .before in
+    let earlier = at-put .before .before in
+    let start = earlier .before .before .before in
+    let a = start .args in
+    let e = earlier in
+    c .before .before .put2 .ensures ∙ rw (at-put .put .ensures) (fill-some (a .out .now) (a .names .now) (e .if1 .left) (room e))
 
 pub fill-names-spec : {M : Type 1} → statement M
-fill-names-spec =
-    tie.close
-    (tie.spec returns put-requires slice-aggregate-put put-requires-2 same-length returns-2)
+fill-names-spec = tie.close (tie.spec returns put-requires (λ c. search needs) put-requires-2 (λ c. search needs) returns-2)

@@ -12,9 +12,6 @@ use Rattle.file_write_spec.proofs.Laws.{by-numbers, by-entries, by-lists, by-fo
 use Rattle.file_write.proofs.writer.rule_row.Statement.{statement}
 use Rattle.file_write.proofs.writer.rule_row.Tie as tie
 
-numbers-row-requires : tie.Need-numbers-row-requires
-numbers-row-requires c κs = search needs
-
 returns : tie.Need-returns
 returns c =
     let a = c .before .before .before .before .args in
@@ -33,7 +30,8 @@ returns-2 c =
     by-entries (a .h) (a .counts .now) (a .clauses .now) (pass (c .before)) (omega arith)
 
 -- the counts are n × s
-entries-are : (c : tie.Else2) → length (c .before .before .before .before .before .args .counts .now) ≡ c .before .before .before .before .before .args .h .n * c .before .before .before .before .before .args .h .s
+entries-are : (c : tie.Else2) → length (c .before .before .before .before .before .args .counts .now)
+    ≡ c .before .before .before .before .before .args .h .n * c .before .before .before .before .before .args .h .s
 entries-are c = omega arith
 
 lists-row-requires : tie.Need-lists-row-requires
@@ -43,33 +41,29 @@ lists-row-requires c κs =
 
 returns-3 : tie.Need-returns-3
 returns-3 c =
-    let a = c .before .before .before .before .before .before .before .args in
+    let start = c .before .before .before .before .before .before .before in
+    let a = start .args in
     by-lists (a .h) (a .counts .now) (a .clauses .now) (pass (c .before .before .before)) (entries-are (c .before .before)) (c .before .lists-row .result) (c .if3 .taken)
     (c .before .lists-row .ensures)
 
+abbrev start-of-else3 : tie.Else3 → tie.Start
+start-of-else3 c = c .before .before .before .before .before .before .before
+
 -- no row of the lists refuses
-listed : (c : tie.Else3) → firstRow (listRows (c .before .before .before .before .before .before .before .args .h .n) (c .before .before .before .before .before .before .before .args .counts .now) (c .before .before .before .before .before .before .before .args .clauses .now)) ≡ 0
+listed : (c : tie.Else3) → firstRow (listRows (start-of-else3 c .args .h .n) (start-of-else3 c .args .counts .now) (start-of-else3 c .args .clauses .now)) ≡ 0
 listed c = sym (c .before .lists-row .ensures) ∙ c .if3 .left
 
 formed-row-requires : tie.Need-formed-row-requires
 formed-row-requires c κs =
-    let a = c .before .before .before .before .before .before .before .args in
+    let start = c .before .before .before .before .before .before .before in
+    let a = start .args in
     formed (a .h) (a .counts .now) (a .clauses .now) (pass (c .before .before .before)) (entries-are (c .before .before)) (listed c)
 
 returns-4 : tie.Need-returns-4
 returns-4 c =
-    let a = c .before .before .before .before .before .before .before .before .args in
+    let start = c .before .before .before .before .before .before .before .before in
+    let a = start .args in
     c .formed-row .ensures ∙ sym (by-formed (a .h) (a .counts .now) (a .clauses .now) (pass (c .before .before .before .before)) (entries-are (c .before .before .before)) (listed (c .before)))
 
 pub rule-row-spec : {M : Type 1} → statement M
-rule-row-spec =
-    tie.close
-    (tie.spec
-    numbers-row-requires
-    returns
-    mul-if2
-    returns-2
-    lists-row-requires
-    returns-3
-    formed-row-requires
-    returns-4)
+rule-row-spec = tie.close (tie.spec (λ c κs. search needs) returns mul-if2 returns-2 lists-row-requires returns-3 formed-row-requires returns-4)

@@ -13,9 +13,6 @@ use Rattle.file_write.proofs.Names.{names-few, preface-most}
 use Rattle.file_write.proofs.writer.write_head.Statement.{statement}
 use Rattle.file_write.proofs.writer.write_head.Tie as tie
 
-rule-row-requires : tie.Need-rule-row-requires
-rule-row-requires c κs = search needs
-
 returns : tie.Need-returns
 returns c =
     let a = c .before .before .before .before .before .before .args in
@@ -33,24 +30,30 @@ given-row-requires c κs = letters c
 
 returns-2 : tie.Need-returns-2
 returns-2 c =
-    let a = c .before .before .before .before .before .before .before .before .args in
+    let start = c .before .before .before .before .before .before .before .before in
+    let a = start .args in
     by-names (a .h) (a .counts .now) (a .clauses .now) (a .names .now) (a .out .now) (pass (c .before .before)) (c .before .given-row .result) (c .if2 .taken) (c .before .given-row .ensures)
 
+abbrev start-of-else2 : tie.Else2 → tie.Start
+start-of-else2 c = c .before .before .before .before .before .before .before .before
+
 -- no row of the names refuses
-named : (c : tie.Else2) → let a = c .before .before .before .before .before .before .before .before .args in firstRow (givenRows (a .h .s) (a .names .now)) ≡ 0
+named : (c : tie.Else2) → let a = start-of-else2 c .args in firstRow (givenRows (a .h .s) (a .names .now)) ≡ 0
 named c = sym (c .before .given-row .ensures) ∙ c .if2 .left
 
-few-names : (c : tie.Else2) → length (c .before .before .before .before .before .before .before .before .args .names .now) ≤ 128
-few-names c = let a = c .before .before .before .before .before .before .before .before .args in names-few (a .h .s) (a .names .now) (letters (c .before .before)) (named c)
+few-names : (c : tie.Else2) → length (start-of-else2 c .args .names .now) ≤ 128
+few-names c = let a = start-of-else2 c .args in names-few (a .h .s) (a .names .now) (letters (c .before .before)) (named c)
 
 preface-length-requires : tie.Need-preface-length-requires
 preface-length-requires c κs = few-names c
 
+abbrev start-of-after-preface-length : tie.After-preface-length → tie.Start
+start-of-after-preface-length c = c .before .before .before .before .before .before .before .before .before
+
 -- the preface, the clauses and the counts are short
-short : (c : tie.After-preface-length) → let a = c .before .before .before .before .before .before .before .before .before .args in
-    (c .preface-length .result ≤ 130) × (length (a .clauses .now) < 65536) × (length (a .counts .now) ≤ 128)
+short : (c : tie.After-preface-length) → let a = start-of-after-preface-length c .args in (c .preface-length .result ≤ 130) × (length (a .clauses .now) < 65536) × (length (a .counts .now) ≤ 128)
 short c =
-    let a = c .before .before .before .before .before .before .before .before .before .args in
+    let a = start-of-after-preface-length c .args in
     let p = pass (c .before .before .before) in (
       omega (arith, c .preface-length .ensures, preface-most (a .names .now), few-names (c .before)),
       in-bytes (a .h) (a .counts .now) (a .clauses .now) p .count,
@@ -68,53 +71,31 @@ add-if3-3 c = omega (arith, short c)
 
 returns-3 : tie.Need-returns-3
 returns-3 c =
-    let a = c .before .before .before .before .before .before .before .before .before .before .args in
+    let start = c .before .before .before .before .before .before .before .before .before .before in
+    let a = start .args in
     let few : length (a .out .now) < length (prefaceFrom (a .names .now)) + length (a .clauses .now) + length (a .counts .now) + 8 =
     omega (arith, c .before .preface-length .ensures, c .if3 .taken) in
     by-room (a .h) (a .counts .now) (a .clauses .now) (a .names .now) (a .out .now) (pass (c .before .before .before .before)) (named (c .before .before)) few
 
 fill-requires : tie.Need-fill-requires
 fill-requires c κs =
-    let a = c .before .before .before .before .before .before .before .before .before .before .before .args in
+    let start = c .before .before .before .before .before .before .before .before .before .before .before in
+    let a = start .args in
     let room : c .before .before .preface-length .result + length (a .clauses .now) + length (a .counts .now) + 8 ≤ length (a .out .now) = omega (arith, c .before .if3 .left) in
     (in-bytes (a .h) (a .counts .now) (a .clauses .now) (pass (c .before .before .before .before .before)), c .before .before .preface-length .ensures, room)
 
-add-t12 : tie.Need-add-t12
-add-t12 c = search needs
-
-add-t16 : tie.Need-add-t16
-add-t16 c = search needs
-
-add-t15 : tie.Need-add-t15
-add-t15 c = search needs
-
-same-length : tie.Need-same-length
-same-length c = search needs
-
 returns-4 : tie.Need-returns-4
 returns-4 c =
-    let a = c .before .before .before .before .before .before .before .before .before .before .before .before .before .before .args in
+    let earlier = c .before .before .before .before .before .before .before .before in
+    let start = earlier .before .before .before .before .before .before in
+    let a = start .args in
     let e = c .before .before .before .before .before .preface-length .ensures in
     let room : length (prefaceFrom (a .names .now)) + length (a .clauses .now) + length (a .counts .now) + 8 ≤ length (a .out .now) = omega (arith, e, c .before .before .before .before .if3 .left) in
-    let d = done (a .h) (a .counts .now) (a .clauses .now) (a .names .now) (a .out .now) (pass (c .before .before .before .before .before .before .before .before)) (named (c .before .before .before .before .before .before)) room in
+    let d = done (a .h) (a .counts .now) (a .clauses .now) (a .names .now) (a .out .now) (pass (earlier)) (named (c .before .before .before .before .before .before)) room in
     (rw e (d .0), c .before .before .fill .ensures ∙ d .1)
 
 pub write-head-spec : {M : Type 1} → statement M
 write-head-spec =
-    tie.close
-    (tie.spec
-    rule-row-requires
-    returns
-    given-row-requires
-    returns-2
-    preface-length-requires
-    add-if3
-    add-if3-2
-    add-if3-3
-    returns-3
-    fill-requires
-    add-t12
-    add-t16
-    add-t15
-    same-length
-    returns-4)
+    tie.close (tie.spec
+    (λ c κs. search needs) returns given-row-requires returns-2 preface-length-requires add-if3 add-if3-2 add-if3-3 returns-3 fill-requires (λ c. search needs)
+    (λ c. search needs) (λ c. search needs) (λ c. search needs) returns-4)

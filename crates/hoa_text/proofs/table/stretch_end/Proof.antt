@@ -23,11 +23,9 @@ loop-holds c = (omega arith, omega (arith, words-in-length (c .before .args .mov
 number-at-requires : tie.Need-number-at-requires Inv-loop μ-loop
 number-at-requires c κs = omega (arith, words-in-length (c .before .before .before .args .moves .now))
 
-source-of-requires : tie.Need-source-of-requires Inv-loop μ-loop
-source-of-requires c κs = search needs
-
 -- the source of the transition at place k
-source : (c : tie.After-source-of Inv-loop μ-loop) → c .source-of .result ≡ sourceOf (getD (wordsIn (c .before .before .before .before .before .args .moves .now)) (c .before .before .before .loop .k) 0)
+source : (c : tie.After-source-of Inv-loop μ-loop) → c .source-of .result
+    ≡ sourceOf (getD (wordsIn (c .before .before .before .before .before .args .moves .now)) (c .before .before .before .loop .k) 0)
 source c = c .source-of .ensures ∙ ap sourceOf (c .before .number-at .ensures)
 
 returns : tie.Need-returns Inv-loop μ-loop
@@ -39,12 +37,6 @@ returns c =
       all = l .inv .2;
       last = λ m e. c .if1 .taken (source (c .before) ∙ e);
     }
-
-add-k : tie.Need-add-k Inv-loop μ-loop
-add-k c = omega arith
-
-loop-less : tie.Need-loop-less Inv-loop μ-loop
-loop-less c = omega arith
 
 loop-again : tie.Need-loop-again Inv-loop μ-loop
 loop-again c =
@@ -64,15 +56,5 @@ returns-2 c =
 
 pub stretch-end-spec : {M : Type 1} → statement M
 stretch-end-spec =
-    tie.close
-    (tie.spec
-    Inv-loop
-    μ-loop
-    loop-holds
-    number-at-requires
-    source-of-requires
-    returns
-    add-k
-    loop-less
-    loop-again
-    returns-2)
+    tie.close (tie.spec
+    Inv-loop μ-loop loop-holds number-at-requires (λ c κs. search needs) returns (λ c. omega arith) (λ c. omega arith) loop-again returns-2)

@@ -18,16 +18,25 @@ put-state-requires c κs =
 
 put-edges-requires : tie.Need-put-edges-requires
 put-edges-requires c κs =
-    let a = c .before .before .before .before .before .before .before .args in
-    let p = c .before .before .before .before .before .before .before .pre in
-    let P = c .before .before .before .put-state .ensures in
-    (p .0, p .1, p .2, omega (arith, p .3, P .ends, put-length P, length-append (stateLine (a .i) (a .accepting)) (lines (edgeOf (a .b)) 0 (take (a .k - a .j) (drop (a .j) (wordsIn (a .moves .now)))))))
-
-same-length : tie.Need-same-length
-same-length c = search needs
+    let start = c .before .before .before .before .before .before .before in
+    let a = start .args in
+    let p = start .pre in
+    let P = c .before .before .before .put-state .ensures in (
+      p .0,
+      p .1,
+      p .2,
+      omega (
+        arith,
+        p .3,
+        P .ends,
+        put-length P,
+        length-append (stateLine (a .i) (a .accepting))
+            (lines (edgeOf (a .b)) 0 (take (a .k - a .j) (drop (a .j) (wordsIn (a .moves .now))))),
+      ),
+    )
 
 returns : tie.Need-returns
 returns c = put-then (c .before .before .before .before .before .before .put-state .ensures) (c .before .before .put-edges .ensures)
 
 pub put-block-spec : {M : Type 1} → statement M
-put-block-spec = tie.close (tie.spec put-state-requires put-edges-requires same-length returns)
+put-block-spec = tie.close (tie.spec put-state-requires put-edges-requires (λ c. search needs) returns)

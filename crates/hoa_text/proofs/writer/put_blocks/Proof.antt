@@ -29,48 +29,57 @@ abbrev μ-loop : tie.MeasureT-loop
 
 loop-holds : tie.Need-loop-holds Inv-loop μ-loop
 loop-holds c =
-    let a = c .before .before .before .args in
-    (omega arith, cursor-start (wordsIn (a .moves .now)), put-no-lines (blockOf (a .b) (wordsIn (a .moves .now))) (flagsOf (initialAt (a .initial)) (wordsIn (a .codes .now))) (a .out .now) (a .at) (c .before .before .before .pre .2))
+    let a = c .before .before .before .args in (
+      omega arith,
+      cursor-start (wordsIn (a .moves .now)),
+      put-no-lines (blockOf (a .b) (wordsIn (a .moves .now))) (flagsOf (initialAt (a .initial)) (wordsIn (a .codes .now))) (a .out .now) (a .at)
+          (c .before .before .before .pre .2),
+    )
 
 number-at-requires : tie.Need-number-at-requires Inv-loop μ-loop
 number-at-requires c κs = omega (arith, words-in-length (c .before .before .before .before .before .args .codes .now))
 
-is-accepting-requires : tie.Need-is-accepting-requires Inv-loop μ-loop
-is-accepting-requires c κs = search needs
-
 stretch-end-requires : tie.Need-stretch-end-requires Inv-loop μ-loop
 stretch-end-requires c κs = c .before .before .before .loop .inv .1 .within
 
+abbrev start-of-after-stretch-end : tie.After-stretch-end Inv-loop μ-loop → tie.Start Inv-loop μ-loop
+start-of-after-stretch-end c = c .before .before .before .before .before .before .before .before
+
 -- the lines that are written
-text-is : (c : tie.After-stretch-end Inv-loop μ-loop) → let a = c .before .before .before .before .before .before .before .before .args in let l = c .before .before .before .before .loop in
+text-is : (c : tie.After-stretch-end Inv-loop μ-loop) → let a = start-of-after-stretch-end c .args in let l = c .before .before .before .before .loop in
     stateLine (l .i) (c .before .is-accepting .result) ++ lines (edgeOf (a .b)) 0 (take (c .stretch-end .result - l .j) (drop (l .j) (wordsIn (a .moves .now))))
     ≡ blockOf (a .b) (wordsIn (a .moves .now)) (l .i) (getD (flagsOf (initialAt (a .initial)) (wordsIn (a .codes .now))) (l .i) 0)
 text-is c =
-    let a = c .before .before .before .before .before .before .before .before .args in
+    let a = start-of-after-stretch-end c .args in
     let l = c .before .before .before .before .loop in
-    block-is (initialAt (a .initial)) (a .codes .now) (l .i) (c .before .before .before .loop-test .taken) (a .b) (wordsIn (a .moves .now)) _ (c .before .is-accepting .result) (c .before .is-accepting .ensures ∙ ap isAccepting (c .before .before .number-at .ensures))
-    (leaving-is (wordsIn (a .moves .now)) (c .before .before .before .before .before .before .before .before .pre .1) (l .i) (l .j) (c .stretch-end .result) (l .inv .1) (c .stretch-end .ensures))
+    block-is (initialAt (a .initial)) (a .codes .now) (l .i) (c .before .before .before .loop-test .taken) (a .b) (wordsIn (a .moves .now)) _ (c .before .is-accepting .result)
+    (c .before .is-accepting .ensures ∙ ap isAccepting (c .before .before .number-at .ensures))
+    (leaving-is (wordsIn (a .moves .now)) (start-of-after-stretch-end c .pre .1) (l .i) (l .j) (c .stretch-end .result) (l .inv .1) (c .stretch-end .ensures))
 
 put-block-requires : tie.Need-put-block-requires Inv-loop μ-loop
 put-block-requires c κs =
-    let a = c .before .before .before .before .before .before .before .before .before .args in
+    let start = c .before .before .before .before .before .before .before .before .before in
+    let a = start .args in
     let l = c .before .before .before .before .before .loop in
-    let R = c .before .stretch-end .ensures in
-    (c .before .before .before .before .before .before .before .before .before .pre .0, R .from, R .within, room-line (blockOf (a .b) (wordsIn (a .moves .now))) (flagsOf (initialAt (a .initial)) (wordsIn (a .codes .now))) (l .i) (omega (arith, flags-count (initialAt (a .initial)) (a .codes .now))) (l .inv .2) _ (text-is (c .before)) (c .before .before .before .before .before .before .before .before .before .pre .2))
-
-add-i : tie.Need-add-i Inv-loop μ-loop
-add-i c = omega arith
-
-loop-less : tie.Need-loop-less Inv-loop μ-loop
-loop-less c = omega arith
+    let R = c .before .stretch-end .ensures in (
+      start .pre .0,
+      R .from,
+      R .within,
+      room-line (blockOf (a .b) (wordsIn (a .moves .now))) (flagsOf (initialAt (a .initial)) (wordsIn (a .codes .now))) (l .i)
+          (omega (arith, flags-count (initialAt (a .initial)) (a .codes .now))) (l .inv .2) _ (text-is (c .before)) (start .pre .2),
+    )
 
 loop-again : tie.Need-loop-again Inv-loop μ-loop
 loop-again c =
-    let a = c .before .before .before .before .before .before .before .before .before .before .before .before .args in
-    let l = c .before .before .before .before .before .before .before .before .loop in (
+    let at-stretch-end = c .before .before .before .before in
+    let at-loop = at-stretch-end .before .before .before .before in
+    let start = at-loop .before .before .before .before in
+    let a = start .args in
+    let l = at-loop .loop in (
       omega arith,
-      cursor-next (wordsIn (a .moves .now)) (c .before .before .before .before .before .before .before .before .before .before .before .before .pre .1) (l .i) (l .j) (c .before .before .before .before .stretch-end .result) (l .inv .1) (c .before .before .before .before .stretch-end .ensures),
-      put-line (blockOf (a .b) (wordsIn (a .moves .now))) (flagsOf (initialAt (a .initial)) (wordsIn (a .codes .now))) (l .i) (omega (arith, flags-count (initialAt (a .initial)) (a .codes .now))) (l .inv .2) _ (text-is (c .before .before .before .before)) (c .before .before .put-block .ensures),
+      cursor-next (wordsIn (a .moves .now)) (start .pre .1) (l .i) (l .j) (at-stretch-end .stretch-end .result) (l .inv .1) (at-stretch-end .stretch-end .ensures),
+      put-line (blockOf (a .b) (wordsIn (a .moves .now))) (flagsOf (initialAt (a .initial)) (wordsIn (a .codes .now))) (l .i) (omega (arith, flags-count (initialAt (a .initial)) (a .codes .now)))
+          (l .inv .2) _ (text-is (at-stretch-end)) (c .before .before .put-block .ensures),
     )
 
 same-length : tie.Need-same-length Inv-loop μ-loop
@@ -80,21 +89,11 @@ returns : tie.Need-returns Inv-loop μ-loop
 returns c =
     let a = c .before .before .before .before .before .args in
     let l = c .before .loop in
-    put-lines (blockOf (a .b) (wordsIn (a .moves .now))) (flagsOf (initialAt (a .initial)) (wordsIn (a .codes .now))) (l .i) (omega (arith, c .loop-test .left, flags-count (initialAt (a .initial)) (a .codes .now))) (l .inv .2)
+    put-lines (blockOf (a .b) (wordsIn (a .moves .now))) (flagsOf (initialAt (a .initial)) (wordsIn (a .codes .now))) (l .i)
+    (omega (arith, c .loop-test .left, flags-count (initialAt (a .initial)) (a .codes .now))) (l .inv .2)
 
 pub put-blocks-spec : {M : Type 1} → statement M
 put-blocks-spec =
-    tie.close
-    (tie.spec
-    Inv-loop
-    μ-loop
-    loop-holds
-    number-at-requires
-    is-accepting-requires
-    stretch-end-requires
-    put-block-requires
-    add-i
-    loop-less
-    loop-again
-    same-length
-    returns)
+    tie.close (tie.spec
+    Inv-loop μ-loop loop-holds number-at-requires (λ c κs. search needs) stretch-end-requires put-block-requires (λ c. omega arith) (λ c. omega arith)
+    loop-again same-length returns)

@@ -32,25 +32,26 @@ loop-holds : tie.Need-loop-holds Inv-loop μ-loop
 loop-holds c =
     let a = c .before .before .args in
     let none : a .j - a .j ≡ 0 = omega arith in
-    let p = c .before .before .pre in
-    (omega arith, p .1, put-as (ap (λ (x : ℕ). lines (edgeOf (a .b)) 0 (take x (part (a .moves .now) (a .j) (a .k)))) none) (put-no-lines (edgeOf (a .b)) (part (a .moves .now) (a .j) (a .k)) (a .out .now) (a .at) (p .3)))
+    let p = c .before .before .pre in (
+      omega arith,
+      p .1,
+      put-as (ap (λ (x : ℕ). lines (edgeOf (a .b)) 0 (take x (part (a .moves .now) (a .j) (a .k)))) none)
+          (put-no-lines (edgeOf (a .b)) (part (a .moves .now) (a .j) (a .k)) (a .out .now) (a .at) (p .3)),
+    )
 
 number-at-requires : tie.Need-number-at-requires Inv-loop μ-loop
 number-at-requires c κs = omega (arith, c .before .before .before .before .pre .2)
 
-letter-of-requires : tie.Need-letter-of-requires Inv-loop μ-loop
-letter-of-requires c κs = search needs
-
-target-of-requires : tie.Need-target-of-requires Inv-loop μ-loop
-target-of-requires c κs = search needs
+abbrev start-of-after-target-of : tie.After-target-of Inv-loop μ-loop → tie.Start Inv-loop μ-loop
+start-of-after-target-of c = c .before .before .before .before .before .before .before
 
 -- the line that is written
-text-is : (c : tie.After-target-of Inv-loop μ-loop) → let a = c .before .before .before .before .before .before .before .args in let i = c .before .before .before .before .loop .i in
+text-is : (c : tie.After-target-of Inv-loop μ-loop) → let a = start-of-after-target-of c .args in let i = c .before .before .before .before .loop .i in
     edgeLine (a .b) (c .before .letter-of .result) (c .target-of .result) ≡ edgeOf (a .b) (i - a .j) (getD (part (a .moves .now) (a .j) (a .k)) (i - a .j) 0)
 text-is c =
-    let a = c .before .before .before .before .before .before .before .args in
+    let a = start-of-after-target-of c .args in
     let l = c .before .before .before .before .loop in
-    let p = c .before .before .before .before .before .before .before .pre in
+    let p = start-of-after-target-of c .pre in
     let t : c .before .before .number-at .result ≡ getD (part (a .moves .now) (a .j) (a .k)) (l .i - a .j) 0 =
     c .before .before .number-at .ensures ∙ sym (part-at (wordsIn (a .moves .now)) (a .j) (a .k) (p .1) (p .2) (l .i) (l .inv .0) (c .before .before .before .loop-test .taken)) in
     ap₂ (λ (x y : ℕ). edgeLine (a .b) x y) (c .before .letter-of .ensures ∙ ap letterOf t) (c .target-of .ensures ∙ ap targetOf t)
@@ -64,26 +65,25 @@ listed c =
 
 put-edge-requires : tie.Need-put-edge-requires Inv-loop μ-loop
 put-edge-requires c κs =
-    let a = c .before .before .before .before .before .before .before .before .args in
+    let start = c .before .before .before .before .before .before .before .before in
+    let a = start .args in
     let l = c .before .before .before .before .before .loop in
-    let p = c .before .before .before .before .before .before .before .before .pre in
+    let p = start .pre in
     (p .0, room-line (edgeOf (a .b)) (part (a .moves .now) (a .j) (a .k)) (l .i - a .j) (listed (c .before .before .before .before)) (l .inv .2) _ (text-is (c .before)) (p .3))
-
-add-i : tie.Need-add-i Inv-loop μ-loop
-add-i c = omega arith
-
-loop-less : tie.Need-loop-less Inv-loop μ-loop
-loop-less c = omega arith
 
 loop-again : tie.Need-loop-again Inv-loop μ-loop
 loop-again c =
-    let a = c .before .before .before .before .before .before .before .before .before .before .before .args in
-    let l = c .before .before .before .before .before .before .before .before .loop in
+    let earlier = c .before .before .before .before .before .before .before in
+    let at-loop = earlier .before in
+    let start = at-loop .before .before .before in
+    let a = start .args in
+    let l = at-loop .loop in
     let next : l .i + 1 - a .j ≡ l .i - a .j + 1 = omega (arith, l .inv .0) in (
       omega arith,
       omega arith,
       put-as (ap (λ (x : ℕ). lines (edgeOf (a .b)) 0 (take x (part (a .moves .now) (a .j) (a .k)))) next)
-          (put-line (edgeOf (a .b)) (part (a .moves .now) (a .j) (a .k)) (l .i - a .j) (listed (c .before .before .before .before .before .before .before)) (l .inv .2) _ (text-is (c .before .before .before .before)) (c .before .before .put-edge .ensures)),
+          (put-line (edgeOf (a .b)) (part (a .moves .now) (a .j) (a .k)) (l .i - a .j) (listed (earlier)) (l .inv .2) _ (text-is (c .before .before .before .before))
+          (c .before .before .put-edge .ensures)),
     )
 
 same-length : tie.Need-same-length Inv-loop μ-loop
@@ -98,17 +98,6 @@ returns c =
 
 pub put-edges-spec : {M : Type 1} → statement M
 put-edges-spec =
-    tie.close
-    (tie.spec
-    Inv-loop
-    μ-loop
-    loop-holds
-    number-at-requires
-    letter-of-requires
-    target-of-requires
-    put-edge-requires
-    add-i
-    loop-less
-    loop-again
-    same-length
-    returns)
+    tie.close (tie.spec
+    Inv-loop μ-loop loop-holds number-at-requires (λ c κs. search needs) (λ c κs. search needs) put-edge-requires (λ c. omega arith) (λ c. omega arith)
+    loop-again same-length returns)

@@ -41,25 +41,27 @@ text-is : (c : tie.After-is-initial Inv-loop μ-loop) → let a = c .before .bef
     cond (c .is-initial .result) (startLine i) [] ≡ startOf i (getD (flagsOf (initialAt (a .initial)) (wordsIn (a .codes .now))) i 0)
 text-is c =
     let a = c .before .before .before .before .before .before .args in
-    start-is (initialAt (a .initial)) (a .codes .now) (c .before .before .before .loop .i) (c .before .before .loop-test .taken) (c .is-initial .result) (c .is-initial .ensures ∙ ap (initialAt (a .initial)) (c .before .number-at .ensures))
+    start-is (initialAt (a .initial)) (a .codes .now) (c .before .before .before .loop .i) (c .before .before .loop-test .taken) (c .is-initial .result)
+    (c .is-initial .ensures ∙ ap (initialAt (a .initial)) (c .before .number-at .ensures))
 
 put-start-requires : tie.Need-put-start-requires Inv-loop μ-loop
 put-start-requires c κs =
-    let a = c .before .before .before .before .before .before .before .args in
+    let start = c .before .before .before .before .before .before .before in
+    let a = start .args in
     let l = c .before .before .before .before .loop in
-    room-line startOf (flagsOf (initialAt (a .initial)) (wordsIn (a .codes .now))) (l .i) (omega (arith, flags-count (initialAt (a .initial)) (a .codes .now))) (l .inv .1) _ (text-is (c .before)) (c .before .before .before .before .before .before .before .pre .1)
-
-add-i : tie.Need-add-i Inv-loop μ-loop
-add-i c = omega arith
-
-loop-less : tie.Need-loop-less Inv-loop μ-loop
-loop-less c = omega arith
+    room-line startOf (flagsOf (initialAt (a .initial)) (wordsIn (a .codes .now))) (l .i) (omega (arith, flags-count (initialAt (a .initial)) (a .codes .now))) (l .inv .1) _ (text-is (c .before))
+    (start .pre .1)
 
 loop-again : tie.Need-loop-again Inv-loop μ-loop
 loop-again c =
-    let a = c .before .before .before .before .before .before .before .before .before .before .args in
-    let l = c .before .before .before .before .before .before .before .loop in
-    (omega arith, put-line startOf (flagsOf (initialAt (a .initial)) (wordsIn (a .codes .now))) (l .i) (omega (arith, flags-count (initialAt (a .initial)) (a .codes .now))) (l .inv .1) _ (text-is (c .before .before .before .before)) (c .before .before .put-start .ensures))
+    let at-loop = c .before .before .before .before .before .before .before in
+    let start = at-loop .before .before .before in
+    let a = start .args in
+    let l = at-loop .loop in (
+      omega arith,
+      put-line startOf (flagsOf (initialAt (a .initial)) (wordsIn (a .codes .now))) (l .i) (omega (arith, flags-count (initialAt (a .initial)) (a .codes .now))) (l .inv .1) _
+          (text-is (c .before .before .before .before)) (c .before .before .put-start .ensures),
+    )
 
 same-length : tie.Need-same-length Inv-loop μ-loop
 same-length c = put-length (c .before .loop .inv .1)
@@ -72,16 +74,5 @@ returns c =
 
 pub put-starts-spec : {M : Type 1} → statement M
 put-starts-spec =
-    tie.close
-    (tie.spec
-    Inv-loop
-    μ-loop
-    loop-holds
-    number-at-requires
-    is-initial-requires
-    put-start-requires
-    add-i
-    loop-less
-    loop-again
-    same-length
-    returns)
+    tie.close (tie.spec
+    Inv-loop μ-loop loop-holds number-at-requires is-initial-requires put-start-requires (λ c. omega arith) (λ c. omega arith) loop-again same-length returns)

@@ -23,19 +23,16 @@ abbrev μ-loop : tie.MeasureT-loop
 loop-holds : tie.Need-loop-holds Inv-loop μ-loop
 loop-holds c = (omega arith, λ i. c .slice-known .given i .fits, walk-start _ _ _ _)
 
-sub-p : tie.Need-sub-p Inv-loop μ-loop
-sub-p c = omega arith
-
 open-at-requires : tie.Need-open-at-requires Inv-loop μ-loop
-open-at-requires c κs = let z = c .before .before .before .before .before .before .before .pre in (z .0, z .1, c .before .before .loop .inv .2 .long ∙ z .2, omega arith)
-
-loop-less : tie.Need-loop-less Inv-loop μ-loop
-loop-less c = omega arith
+open-at-requires c κs =
+    let start = c .before .before .before .before .before .before .before in
+    let z = start .pre in (z .0, z .1, c .before .before .loop .inv .2 .long ∙ z .2, omega arith)
 
 loop-again : tie.Need-loop-again Inv-loop μ-loop
 loop-again c =
-    let a = c .before .before .before .before .before .before .before .before .before .before .before .args in
-    let z = c .before .before .before .before .before .before .before .before .before .before .before .pre in
+    let start = c .before .before .before .before .before .before .before .before .before .before .before in
+    let a = start .args in
+    let z = start .pre in
     let l = c .before .before .before .before .before .before .loop in
     let r = ruleOf (a .h) (a .counts .now) (a .clauses .now) in
     let v = opened r (a .cycle .now) (a .layer) (l .masks) (l .p - 1) in
@@ -46,16 +43,15 @@ loop-again c =
     let w : Walk r (a .cycle .now) (a .layer) (a .masks .now) (l .masks) (l .changed) (l .p - 1 + 1) = rw one (l .inv .2) in (
       omega arith,
       λ i. c .before .slice-known2 .given i .fits,
-      rw (e .0) (walk-changed r (a .cycle .now) (a .layer) (a .masks .now) (z .0 .passing) (z .0 .word .repeats) (l .masks) (l .changed) (l .p - 1) w (z .2) (omega arith) (l .inv .1 (l .p - 1)) (eqb-false v o (not-t (eqb v o) told))),
+      rw (e .0) (walk-changed r (a .cycle .now) (a .layer) (a .masks .now) (z .0 .passing) (z .0 .word .repeats) (l .masks) (l .changed) (l .p - 1) w (z .2) (omega arith) (l .inv .1 (l .p - 1))
+          (eqb-false v o (not-t (eqb v o) told))),
     )
-
-loop-less-2 : tie.Need-loop-less-2 Inv-loop μ-loop
-loop-less-2 c = omega arith
 
 loop-again-2 : tie.Need-loop-again-2 Inv-loop μ-loop
 loop-again-2 c =
-    let a = c .before .before .before .before .before .before .before .before .before .before .before .args in
-    let z = c .before .before .before .before .before .before .before .before .before .before .before .pre in
+    let start = c .before .before .before .before .before .before .before .before .before .before .before in
+    let a = start .args in
+    let z = start .pre in
     let l = c .before .before .before .before .before .before .loop in
     let r = ruleOf (a .h) (a .counts .now) (a .clauses .now) in
     let v = opened r (a .cycle .now) (a .layer) (l .masks) (l .p - 1) in
@@ -66,11 +62,9 @@ loop-again-2 c =
     let w : Walk r (a .cycle .now) (a .layer) (a .masks .now) (l .masks) (l .changed) (l .p - 1 + 1) = rw one (l .inv .2) in (
       omega arith,
       λ i. c .before .slice-known2 .given i .fits,
-      rw (e .0) (walk-same r (a .cycle .now) (a .layer) (a .masks .now) (z .0 .passing) (z .0 .word .repeats) (l .masks) (l .changed) (l .p - 1) w (z .2) (omega arith) (l .inv .1 (l .p - 1)) (eqb-true v o (not-f (eqb v o) told))),
+      rw (e .0) (walk-same r (a .cycle .now) (a .layer) (a .masks .now) (z .0 .passing) (z .0 .word .repeats) (l .masks) (l .changed) (l .p - 1) w (z .2) (omega arith) (l .inv .1 (l .p - 1))
+          (eqb-true v o (not-f (eqb v o) told))),
     )
-
-same-length : tie.Need-same-length Inv-loop μ-loop
-same-length c = c .before .loop .inv .2 .long
 
 returns : tie.Need-returns Inv-loop μ-loop
 returns c =
@@ -80,16 +74,6 @@ returns c =
 
 pub round-spec : {M : Type 1} → statement M
 round-spec =
-    tie.close
-    (tie.spec
-    Inv-loop
-    μ-loop
-    loop-holds
-    sub-p
-    open-at-requires
-    loop-less
-    loop-again
-    loop-less-2
-    loop-again-2
-    same-length
-    returns)
+    tie.close (tie.spec
+    Inv-loop μ-loop loop-holds (λ c. omega arith) open-at-requires (λ c. omega arith) loop-again (λ c. omega arith) loop-again-2
+    (λ c. c .before .loop .inv .2 .long) returns)

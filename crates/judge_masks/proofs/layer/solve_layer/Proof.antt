@@ -23,9 +23,16 @@ round-requires c κs = let z = c .before .before .before .before .before .before
 
 loop-less : tie.Need-loop-less Inv-loop μ-loop
 loop-less c =
-    let a = c .before .before .before .before .before .before .before .before .before .before .args in
+    let start = c .before .before .before .before .before .before .before .before .before .before in
+    let a = start .args in
     let p = c .before .before .before .round .ensures in
-    omega (arith, p .grown (c .if1 .taken), p .long, c .before .before .before .before .before .loop .inv .long, extent-le (ruleOf (a .h) (a .counts .now) (a .clauses .now)) (a .cycle .now) (a .layer) (c .before .before .before .round .last .1 .1 .1 .1 .1 .1 .0))
+    omega (
+      arith,
+      p .grown (c .if1 .taken),
+      p .long,
+      c .before .before .before .before .before .loop .inv .long,
+      extent-le (ruleOf (a .h) (a .counts .now) (a .clauses .now)) (a .cycle .now) (a .layer) (c .before .before .before .round .last .1 .1 .1 .1 .1 .1 .0),
+    )
 
 loop-again : tie.Need-loop-again Inv-loop μ-loop
 loop-again c = rounds-on _ _ _ _ _ _ _ (c .before .before .before .before .before .loop .inv) (c .before .before .before .round .ensures)
@@ -35,8 +42,9 @@ same-length c = c .before .before .before .round .ensures .long ∙ c .before .b
 
 returns : tie.Need-returns Inv-loop μ-loop
 returns c =
-    let a = c .before .before .before .before .before .before .before .before .before .before .args in
-    let z = c .before .before .before .before .before .before .before .before .before .before .pre in
+    let start = c .before .before .before .before .before .before .before .before .before .before in
+    let a = start .args in
+    let z = start .pre in
     let r = ruleOf (a .h) (a .counts .now) (a .clauses .now) in
     let p = c .before .before .before .round .ensures in
     let t = c .before .before .before .round .last .1 .1 .1 .1 .1 .1 .0 in
@@ -45,6 +53,4 @@ returns c =
     (λ j l. ap (λ (x : ℕ). opened r (a .cycle .now) x t j) (sym e) ∙ p .still (c .if1 .left) j l)
 
 pub solve-layer-spec : {M : Type 1} → statement M
-solve-layer-spec =
-    tie.close
-    (tie.spec Inv-loop μ-loop loop-holds round-requires loop-less loop-again same-length returns)
+solve-layer-spec = tie.close (tie.spec Inv-loop μ-loop loop-holds round-requires loop-less loop-again same-length returns)

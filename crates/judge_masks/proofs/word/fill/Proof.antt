@@ -10,19 +10,5 @@ starts-of-requires c κs =
     let a = c .before .before .before .before .before .args in
     entries-few (ruleOf (a .h) (a .counts .now) (a .clauses .now)) (c .before .before .before .before .before .pre .0 .formed)
 
-closures-requires : tie.Need-closures-requires
-closures-requires c κs = search needs
-
-fill-word-requires : tie.Need-fill-word-requires
-fill-word-requires c κs = search needs
-
-same-length : tie.Need-same-length
-same-length c = search needs
-
-returns : tie.Need-returns
-returns c = search needs
-
 pub fill-spec : {M : Type 1} → statement M
-fill-spec =
-    tie.close
-    (tie.spec starts-of-requires closures-requires fill-word-requires same-length returns)
+fill-spec = tie.close (tie.spec starts-of-requires (λ c κs. search needs) (λ c κs. search needs) (λ c. search needs) (λ c. search needs))

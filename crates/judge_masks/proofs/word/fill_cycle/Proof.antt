@@ -23,67 +23,65 @@ abbrev μ-loop : tie.MeasureT-loop
 cast-fill-with : tie.Need-cast-fill-with Inv-loop μ-loop
 cast-fill-with c = let w = c .before .before .before .before .before .before .pre .0 .passing .formed in omega (arith, accepting-small _ w)
 
-fill-with-requires : tie.Need-fill-with-requires Inv-loop μ-loop
-fill-with-requires c κs = search needs
-
 cast-top : tie.Need-cast-top Inv-loop μ-loop
-cast-top c = omega (arith, c .before .before .before .before .before .before .before .before .before .pre .0 .passing .formed .few-states)
+cast-top c =
+    let start = c .before .before .before .before .before .before .before .before .before in
+    omega (arith, start .pre .0 .passing .formed .few-states)
 
 loop-holds : tie.Need-loop-holds Inv-loop μ-loop
 loop-holds c =
-    let a = c .before .before .before .before .before .before .before .before .before .args in
-    let z = c .before .before .before .before .before .before .before .before .before .pre in
+    let start = c .before .before .before .before .before .before .before .before .before in
+    let a = start .args in
+    let z = start .pre in
     let closed : c .before .before .fill-with .last .0 ≡ replicate (length (a .masks .now)) (a .h .accepting) = c .before .before .fill-with .ensures in (
       omega arith,
-      part-start (ruleOf (a .h) (a .counts .now) (a .clauses .now)) (z .0 .passing) (a .cycle .now) (c .before .before .fill-with .last .0) (closed ∙ ap (λ (x : ℕ). replicate x (a .h .accepting)) (z .2)),
+      part-start (ruleOf (a .h) (a .counts .now) (a .clauses .now)) (z .0 .passing) (a .cycle .now) (c .before .before .fill-with .last .0)
+          (closed ∙ ap (λ (x : ℕ). replicate x (a .h .accepting)) (z .2)),
     )
 
 at-height-requires : tie.Need-at-height-requires Inv-loop μ-loop
-at-height-requires c κs = c .before .before .before .before .before .before .before .before .before .before .before .pre .0 .passing .formed .few-states
+at-height-requires c κs =
+    let start = c .before .before .before .before .before .before .before .before .before .before .before in
+    start .pre .0 .passing .formed .few-states
 
 solve-layer-requires : tie.Need-solve-layer-requires Inv-loop μ-loop
 solve-layer-requires c κs =
-    let z = c .before .before .before .before .before .before .before .before .before .before .before .before .before .pre in
+    let start = c .before .before .before .before .before .before .before .before .before .before .before .before .before in
+    let z = start .pre in
     (z .0, rw (c .before .at-height .ensures) (mask-lt _ _), c .before .before .before .loop .inv .1 .long)
 
 add-height : tie.Need-add-height Inv-loop μ-loop
-add-height c = omega (arith, c .before .before .before .before .before .before .before .before .before .before .before .before .before .before .before .before .pre .0 .passing .formed .few-states)
-
-loop-less : tie.Need-loop-less Inv-loop μ-loop
-loop-less c = omega arith
+add-height c =
+    let start = c .before .before .before .before .before .before .before .before .before .before .before .before .before .before .before .before in
+    omega (arith, start .pre .0 .passing .formed .few-states)
 
 loop-again : tie.Need-loop-again Inv-loop μ-loop
 loop-again c =
-    let a = c .before .before .before .before .before .before .before .before .before .before .before .before .before .before .before .before .args in
-    let z = c .before .before .before .before .before .before .before .before .before .before .before .before .before .before .before .before .pre in
+    let start = c .before .before .before .before .before .before .before .before .before .before .before .before .before .before .before .before in
+    let a = start .args in
+    let z = start .pre in
     let l = c .before .before .before .before .before .before .loop in
-    let r = ruleOf (a .h) (a .counts .now) (a .clauses .now) in
-    (omega arith, c .before .before .solve-layer .ensures (l .height) (c .before .before .before .before .at-height .ensures ∙ layer-is r (z .0 .passing .formed .few-states) (a .reach .now) (z .1) (l .height)) (l .inv .1))
+    let r = ruleOf (a .h) (a .counts .now) (a .clauses .now) in (
+      omega arith,
+      c .before .before .solve-layer .ensures (l .height) (c .before .before .before .before .at-height .ensures
+          ∙ layer-is r (z .0 .passing .formed .few-states) (a .reach .now) (z .1) (l .height)) (l .inv .1),
+    )
 
 same-length : tie.Need-same-length Inv-loop μ-loop
-same-length c = c .before .loop .inv .1 .long ∙ sym (c .before .before .before .before .before .before .before .before .before .before .before .pre .2)
+same-length c =
+    let start = c .before .before .before .before .before .before .before .before .before .before .before in
+    c .before .loop .inv .1 .long ∙ sym (start .pre .2)
 
 returns : tie.Need-returns Inv-loop μ-loop
 returns c =
-    let a = c .before .before .before .before .before .before .before .before .before .before .before .args in
+    let start = c .before .before .before .before .before .before .before .before .before .before .before in
+    let a = start .args in
     let l = c .before .loop in
     let e : l .height ≡ a .h .n + 1 = omega arith in
-    part-end (ruleOf (a .h) (a .counts .now) (a .clauses .now)) (c .before .before .before .before .before .before .before .before .before .before .before .pre .0 .passing) (a .cycle .now) (l .masks) (rw e at (l .inv .1))
+    part-end (ruleOf (a .h) (a .counts .now) (a .clauses .now)) (start .pre .0 .passing) (a .cycle .now) (l .masks) (rw e at (l .inv .1))
 
 pub fill-cycle-spec : {M : Type 1} → statement M
 fill-cycle-spec =
-    tie.close
-    (tie.spec
-    Inv-loop
-    μ-loop
-    cast-fill-with
-    fill-with-requires
-    cast-top
-    loop-holds
-    at-height-requires
-    solve-layer-requires
-    add-height
-    loop-less
-    loop-again
-    same-length
-    returns)
+    tie.close (tie.spec
+    Inv-loop μ-loop cast-fill-with (λ c κs. search needs) cast-top loop-holds at-height-requires solve-layer-requires add-height (λ c. omega arith) loop-again
+    same-length returns)

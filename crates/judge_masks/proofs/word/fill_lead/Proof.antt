@@ -26,51 +26,44 @@ full-requires : tie.Need-full-requires Inv-loop μ-loop
 full-requires c κs = c .before .before .before .before .before .pre .0 .few-states
 
 loop-holds : tie.Need-loop-holds Inv-loop μ-loop
-loop-holds c = let a = c .before .before .before .before .before .before .args in (c .full .ensures, omega arith, refl, back-start (ruleOf (a .h) (a .counts .now) (a .clauses .now)) (a .lead .now) (a .masks .now))
-
-sub-i : tie.Need-sub-i Inv-loop μ-loop
-sub-i c = omega arith
-
-shared-slice-read-met-by : tie.Need-shared-slice-read-met-by Inv-loop μ-loop
-shared-slice-read-met-by c = omega arith
+loop-holds c = let a = c .before .before .before .before .before .before .args in
+    (c .full .ensures, omega arith, refl, back-start (ruleOf (a .h) (a .counts .now) (a .clauses .now)) (a .lead .now) (a .masks .now))
 
 cast-met-by : tie.Need-cast-met-by Inv-loop μ-loop
 cast-met-by c = omega (arith, c .shared-slice-known4 .given (c .before .before .loop .i - 1))
 
-add-met-by : tie.Need-add-met-by Inv-loop μ-loop
-add-met-by c = omega arith
-
 slice-read-met-by : tie.Need-slice-read-met-by Inv-loop μ-loop
-slice-read-met-by c = omega (arith, c .before .before .before .before .before .before .before .before .before .before .pre .2)
+slice-read-met-by c =
+    let start = c .before .before .before .before .before .before .before .before .before .before in
+    omega (arith, start .pre .2)
 
 met-by-requires : tie.Need-met-by-requires Inv-loop μ-loop
 met-by-requires c κs =
-    let z = c .before .before .before .before .before .before .before .before .before .before .pre in
+    let start = c .before .before .before .before .before .before .before .before .before .before in
+    let z = start .pre in
     (z .0, z .1, z .3 (c .before .before .before .loop .i - 1) (omega arith), rw (c .before .before .before .loop .inv .0) (full-lt _ (z .0 .few-states)))
 
 slice-write-masks : tie.Need-slice-write-masks Inv-loop μ-loop
-slice-write-masks c = omega (arith, c .before .before .before .before .before .before .before .before .before .before .before .pre .2)
-
-loop-less : tie.Need-loop-less Inv-loop μ-loop
-loop-less c = omega arith
+slice-write-masks c =
+    let start = c .before .before .before .before .before .before .before .before .before .before .before in
+    omega (arith, start .pre .2)
 
 loop-again : tie.Need-loop-again Inv-loop μ-loop
 loop-again c =
-    let a = c .before .before .before .before .before .before .before .before .before .before .before .args in
-    let z = c .before .before .before .before .before .before .before .before .before .before .before .pre in
+    let start = c .before .before .before .before .before .before .before .before .before .before .before in
+    let a = start .args in
+    let z = start .pre in
     let l = c .before .before .before .before .loop in
     let r = ruleOf (a .h) (a .counts .now) (a .clauses .now) in
     let one : l .i - 1 + 1 ≡ l .i = omega arith in
     let v : c .met-by .result ≡ mask (r .n) (λ q. satisfies (r .n) (bit (getD (l .masks) (l .i - 1 + 1) 0)) (entry r q (getD (a .lead .now) (l .i - 1) 0)))
-    = c .met-by .ensures ∙ ap (λ (x : ℕ). metBy r (getD (a .lead .now) (l .i - 1) 0) (getD (l .masks) (l .i - 1 + 1) 0) x) (l .inv .0) ∙ met-all r (z .0 .few-states) (getD (a .lead .now) (l .i - 1) 0) (getD (l .masks) (l .i - 1 + 1) 0) in (
+    = c .met-by .ensures ∙ ap (λ (x : ℕ). metBy r (getD (a .lead .now) (l .i - 1) 0) (getD (l .masks) (l .i - 1 + 1) 0) x) (l .inv .0)
+    ∙ met-all r (z .0 .few-states) (getD (a .lead .now) (l .i - 1) 0) (getD (l .masks) (l .i - 1 + 1) 0) in (
       l .inv .0,
       omega arith,
       length-set (l .masks) (l .i - 1) _ ∙ l .inv .2,
       back-next r (a .lead .now) (l .masks) (drop (length (a .lead .now)) (a .masks .now)) (l .i - 1) (omega arith) (omega (arith, z .2)) (rw one (l .inv .3)) (c .met-by .result) v,
     )
-
-same-length : tie.Need-same-length Inv-loop μ-loop
-same-length c = c .before .loop .inv .2
 
 returns : tie.Need-returns Inv-loop μ-loop
 returns c =
@@ -80,21 +73,6 @@ returns c =
 
 pub fill-lead-spec : {M : Type 1} → statement M
 fill-lead-spec =
-    tie.close
-    (tie.spec
-    Inv-loop
-    μ-loop
-    cast-full
-    full-requires
-    loop-holds
-    sub-i
-    shared-slice-read-met-by
-    cast-met-by
-    add-met-by
-    slice-read-met-by
-    met-by-requires
-    slice-write-masks
-    loop-less
-    loop-again
-    same-length
-    returns)
+    tie.close (tie.spec
+    Inv-loop μ-loop cast-full full-requires loop-holds (λ c. omega arith) (λ c. omega arith) cast-met-by (λ c. omega arith) slice-read-met-by met-by-requires
+    slice-write-masks (λ c. omega arith) loop-again (λ c. c .before .loop .inv .2) returns)

@@ -14,18 +14,6 @@ use borrow.Author.Needs.{needs}
 use Rattle.judge_masks.proofs.word.fill_word.Statement.{statement}
 use Rattle.judge_masks.proofs.word.fill_word.Tie as tie
 
-add-end : tie.Need-add-end
-add-end c = search needs
-
-sub-fill-cycle : tie.Need-sub-fill-cycle
-sub-fill-cycle c = search needs
-
-part-fill-cycle-start : tie.Need-part-fill-cycle-start
-part-fill-cycle-start c = search needs
-
-part-fill-cycle-end : tie.Need-part-fill-cycle-end
-part-fill-cycle-end c = search needs
-
 fill-cycle-requires : tie.Need-fill-cycle-requires
 fill-cycle-requires c κs =
     let a = c .before .before .before .before .before .before .args in
@@ -37,8 +25,9 @@ fill-cycle-requires c κs =
 
 fill-lead-requires : tie.Need-fill-lead-requires
 fill-lead-requires c κs =
-    let a = c .before .before .before .before .before .before .before .before .before .before .args in
-    let z = c .before .before .before .before .before .before .before .before .before .before .pre in
+    let start = c .before .before .before .before .before .before .before .before .before .before in
+    let a = start .args in
+    let z = start .pre in
     let r = ruleOf (a .h) (a .counts .now) (a .clauses .now) in
     let f = c .before .before .before .fill-cycle in
     let long : length (f .last .1 .1 .1 .1 .1 .1 .0) ≡ length (a .cycle .now) = ap length (f .ensures) ∙ truth-length r [] (a .cycle .now) ∙ zero-add (length (a .cycle .now)) in (
@@ -48,13 +37,11 @@ fill-lead-requires c κs =
       λ p l. z .3 .lead-letters _ (mem-at (a .lead .now) p l),
     )
 
-same-length : tie.Need-same-length
-same-length c = search needs
-
 returns : tie.Need-returns
 returns c =
-    let a = c .before .before .before .before .before .before .before .before .before .before .before .before .before .args in
-    let z = c .before .before .before .before .before .before .before .before .before .before .before .before .before .pre in
+    let start = c .before .before .before .before .before .before .before .before .before .before .before .before .before in
+    let a = start .args in
+    let z = start .pre in
     let r = ruleOf (a .h) (a .counts .now) (a .clauses .now) in
     let f = c .before .before .before .before .before .before .fill-cycle in
     let rest = drop (length (a .lead .now) + length (a .cycle .now)) (a .masks .now) in
@@ -64,13 +51,5 @@ returns c =
 
 pub fill-word-spec : {M : Type 1} → statement M
 fill-word-spec =
-    tie.close
-    (tie.spec
-    add-end
-    sub-fill-cycle
-    part-fill-cycle-start
-    part-fill-cycle-end
-    fill-cycle-requires
-    fill-lead-requires
-    same-length
-    returns)
+    tie.close (tie.spec
+    (λ c. search needs) (λ c. search needs) (λ c. search needs) (λ c. search needs) fill-cycle-requires fill-lead-requires (λ c. search needs) returns)

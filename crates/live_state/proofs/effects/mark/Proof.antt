@@ -13,65 +13,37 @@ use borrow.Author.Needs.{needs}
 use Rattle.live_state.proofs.effects.mark.Statement.{statement}
 use Rattle.live_state.proofs.effects.mark.Tie as tie
 
-number-at-requires : tie.Need-number-at-requires
-number-at-requires c κs = search needs
-
-add-put-byte : tie.Need-add-put-byte
-add-put-byte c = search needs
-
-put-byte-requires : tie.Need-put-byte-requires
-put-byte-requires c κs = search needs
-
-mul-put-number : tie.Need-mul-put-number
-mul-put-number c = search needs
-
-add-put-number : tie.Need-add-put-number
-add-put-number c = search needs
-
 put-number-requires : tie.Need-put-number-requires
 put-number-requires c κs =
-    let a = c .before .before .before .before .before .before .before .before .args in
-    (omega (arith, number-low (a .state .now), c .before .before .before .before .before .number-at .ensures), omega (arith, c .before .before .before .before .before .before .before .before .pre .1, c .before .before .before .put-byte .kept .0))
-
-mul-copy-letters : tie.Need-mul-copy-letters
-mul-copy-letters c = search needs
-
-add-copy-letters : tie.Need-add-copy-letters
-add-copy-letters c = search needs
+    let start = c .before .before .before .before .before .before .before .before in
+    let a = start .args in
+    (omega (arith, number-low (a .state .now), c .before .before .before .before .before .number-at .ensures), omega (arith, start .pre .1, c .before .before .before .put-byte .kept .0))
 
 copy-letters-requires : tie.Need-copy-letters-requires
 copy-letters-requires c κs =
-    let pre = c .before .before .before .before .before .before .before .before .before .before .before .before .pre in
-    let first = c .before .before .before .before .before .before .before .put-byte .kept .0 in
+    let at-put-byte = c .before .before .before .before .before .before .before in
+    let start = at-put-byte .before .before .before .before .before in
+    let pre = start .pre in
+    let first = at-put-byte .put-byte .kept .0 in
     let second = c .before .before .before .put-number .kept .0 in
     (omega (arith, pre .1, first, second), omega (arith, pre .0, pre .1, first, second), inl (omega arith))
 
-same-length : tie.Need-same-length
-same-length c = search needs
-
 returns : tie.Need-returns
 returns c =
-    let a = c .before .before .before .before .before .before .before .before .before .before .before .before .before .before .before .args in
-    let pre = c .before .before .before .before .before .before .before .before .before .before .before .before .before .before .before .pre in
+    let at-put-byte = c .before .before .before .before .before .before .before .before .before .before in
+    let at-number-at = at-put-byte .before .before in
+    let start = at-number-at .before .before .before in
+    let a = start .args in
+    let pre = start .pre in
     let written =
     c .before .before .before .before .before .before .put-number .ensures
-    ∙ ap₂ (λ (k : ℕ) (s : List ℕ). put (markNumberAt (a .m)) (twoBytes k) s) (c .before .before .before .before .before .before .before .before .before .before .before .before .number-at .ensures) (c .before .before .before .before .before .before .before .before .before .before .put-byte .ensures) in
+    ∙ ap₂ (λ (k : ℕ) (s : List ℕ). put (markNumberAt (a .m)) (twoBytes k) s) (at-number-at .number-at .ensures) (at-put-byte .put-byte .ensures) in
     c .before .before .copy-letters .ensures
     ∙ ap (λ (s : List ℕ). put (markLettersAt (a .m)) (take 512 (drop lettersAtByte s)) s) written
     ∙ marked-end (a .state .now) (pre .1) (a .m) (pre .0)
 
 pub mark-spec : {M : Type 1} → statement M
 mark-spec =
-    tie.close
-    (tie.spec
-    number-at-requires
-    add-put-byte
-    put-byte-requires
-    mul-put-number
-    add-put-number
-    put-number-requires
-    mul-copy-letters
-    add-copy-letters
-    copy-letters-requires
-    same-length
-    returns)
+    tie.close (tie.spec
+    (λ c κs. search needs) (λ c. search needs) (λ c κs. search needs) (λ c. search needs) (λ c. search needs) put-number-requires (λ c. search needs)
+    (λ c. search needs) copy-letters-requires (λ c. search needs) returns)

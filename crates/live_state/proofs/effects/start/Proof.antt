@@ -13,38 +13,19 @@ use borrow.Author.Needs.{needs}
 use Rattle.live_state.proofs.effects.start.Statement.{statement}
 use Rattle.live_state.proofs.effects.start.Tie as tie
 
-slice-relend-prefix-fill-with : tie.Need-slice-relend-prefix-fill-with
-slice-relend-prefix-fill-with c = search needs
-
 slice-aggregate-fill-with : tie.Need-slice-aggregate-fill-with
 slice-aggregate-fill-with c = sym (length-take-le stateLength (c .before .before .before .args .state .now) (c .before .before .before .pre .2))
-
-fill-with-requires : tie.Need-fill-with-requires
-fill-with-requires c κs = search needs
-
-begin-requires : tie.Need-begin-requires
-begin-requires c κs = search needs
-
-same-length : tie.Need-same-length
-same-length c = search needs
 
 returns : tie.Need-returns
 unfolding started
 returns c =
-    let a = c .before .before .before .before .before .before .before .before .before .before .args in
+    let start = c .before .before .before .before .before .before .before .before .before .before in
+    let a = start .args in
     let state = a .state .now in
-    let long = length-take-le stateLength state (c .before .before .before .before .before .before .before .before .before .before .pre .2) in
+    let long = length-take-le stateLength state (start .pre .2) in
     let zeros = c .before .before .before .before .before .before .fill-with .ensures ∙ ap (λ (n : ℕ). replicate n 0) long in
     let cleared = put-front stateLength _ state (ap (λ (s : List ℕ). length s) zeros ∙ length-replicate {A = ℕ} stateLength 0) ∙ ap (λ (s : List ℕ). put 0 s state) zeros in
     λ ts. c .before .before .begin .ensures ∙ ap (λ (s : List ℕ). withSet (initialSet (a .initial) (wordsIn (a .codes .now))) s) cleared
 
 pub start-spec : {M : Type 1} → statement M
-start-spec =
-    tie.close
-    (tie.spec
-    slice-relend-prefix-fill-with
-    slice-aggregate-fill-with
-    fill-with-requires
-    begin-requires
-    same-length
-    returns)
+start-spec = tie.close (tie.spec (λ c. search needs) slice-aggregate-fill-with (λ c κs. search needs) (λ c κs. search needs) (λ c. search needs) returns)

@@ -11,52 +11,44 @@ use borrow.Author.Needs.{needs}
 use Rattle.live_state.proofs.effects.withdraw.Statement.{statement}
 use Rattle.live_state.proofs.effects.withdraw.Tie as tie
 
-number-at-requires : tie.Need-number-at-requires
-number-at-requires c κs = search needs
-
-sub-n : tie.Need-sub-n
-sub-n c = search needs
-
 put-number-requires : tie.Need-put-number-requires
 put-number-requires c κs =
     let a = c .before .before .before .before .before .before .args in
     (omega (arith, number-low (a .state .now), c .before .number-at .ensures), omega (arith, c .before .before .before .before .before .before .pre .1 .long))
 
 add-put-byte : tie.Need-add-put-byte
-add-put-byte c = omega (arith, number-low (c .before .before .before .before .before .before .before .before .before .before .args .state .now), c .before .before .before .before .before .number-at .ensures)
+add-put-byte c =
+    let start = c .before .before .before .before .before .before .before .before .before .before in
+    omega (arith, number-low (start .args .state .now), c .before .before .before .before .before .number-at .ensures)
 
 put-byte-requires : tie.Need-put-byte-requires
-put-byte-requires c κs = omega (arith, number-low (c .before .before .before .before .before .before .before .before .before .before .args .state .now), c .before .before .before .before .before .number-at .ensures, c .before .before .before .before .before .before .before .before .before .before .pre .1 .long, c .before .before .before .put-number .kept .0)
+put-byte-requires c κs =
+    let start = c .before .before .before .before .before .before .before .before .before .before in
+    omega (arith, number-low (start .args .state .now), c .before .before .before .before .before .number-at .ensures, start .pre .1 .long, c .before .before .before .put-number .kept .0)
 
 refresh-requires : tie.Need-refresh-requires
 refresh-requires c κs =
-    let pre = c .before .before .before .before .before .before .before .before .before .before .before .before .before .before .pre in
-    (pre .0, record { few = pre .1 .few; inside = pre .1 .inside; long = omega (arith, pre .1 .long, c .before .before .before .put-byte .kept .0, c .before .before .before .before .before .before .before .put-number .kept .0) })
-
-same-length : tie.Need-same-length
-same-length c = search needs
+    let at-put-number = c .before .before .before .before .before .before .before in
+    let start = at-put-number .before .before .before .before .before .before .before in
+    let pre = start .pre in
+    (pre .0, record { few = pre .1 .few; inside = pre .1 .inside; long = omega (arith, pre .1 .long, c .before .before .before .put-byte .kept .0, at-put-number .put-number .kept .0) })
 
 returns : tie.Need-returns
 unfolding withdrawn numbered
 returns c =
-    let a = c .before .before .before .before .before .before .before .before .before .before .before .before .before .before .before .before .before .args in
-    let n = ap (λ (k : ℕ). k - 1) (c .before .before .before .before .before .before .before .before .before .before .before .before .number-at .ensures) in
+    let at-put-number = c .before .before .before .before .before .before .before .before .before .before in
+    let at-number-at = at-put-number .before .before in
+    let start = at-number-at .before .before .before .before .before in
+    let a = start .args in
+    let n = ap (λ (k : ℕ). k - 1) (at-number-at .number-at .ensures) in
     let written =
     c .before .before .before .before .before .before .put-byte .ensures
     ∙ ap₂ (λ (k : ℕ) (s : List ℕ). put (lettersAtByte + k) (0 ∷ []) s) n
-    (c .before .before .before .before .before .before .before .before .before .before .put-number .ensures ∙ ap (λ (k : ℕ). put 0 (twoBytes k) (a .state .now)) n) in
+    (at-put-number .put-number .ensures ∙ ap (λ (k : ℕ). put 0 (twoBytes k) (a .state .now)) n) in
     c .before .before .refresh .ensures
     ∙ ap (λ (s : List ℕ). refreshed (a .initial) (wordsIn (a .codes .now)) (wordsIn (a .transitions .now)) s) written
 
 pub withdraw-spec : {M : Type 1} → statement M
 withdraw-spec =
-    tie.close
-    (tie.spec
-    number-at-requires
-    sub-n
-    put-number-requires
-    add-put-byte
-    put-byte-requires
-    refresh-requires
-    same-length
-    returns)
+    tie.close (tie.spec
+    (λ c κs. search needs) (λ c. search needs) put-number-requires add-put-byte put-byte-requires refresh-requires (λ c. search needs) returns)

@@ -15,15 +15,6 @@ use borrow.Author.Needs.{needs}
 use Rattle.live_state.proofs.set_part.begin.Statement.{statement}
 use Rattle.live_state.proofs.set_part.begin.Tie as tie
 
-add-end : tie.Need-add-end
-add-end c = search needs
-
-sub-begin-set : tie.Need-sub-begin-set
-sub-begin-set c = search needs
-
-part-begin-set-start : tie.Need-part-begin-set-start
-part-begin-set-start c = search needs
-
 part-begin-set-end : tie.Need-part-begin-set-end
 part-begin-set-end c = omega (arith, words-in-length (c .before .before .args .codes .now))
 
@@ -34,9 +25,6 @@ begin-set-requires c κs =
     let k = setAt + length (a .codes .now) / 8 - setAt in
     let same : k ≡ length (wordsIn (a .codes .now)) = omega arith in
     (c .before .before .before .pre .0, length-take-le k (drop setAt (a .state .now)) (omega (arith, length-drop setAt (a .state .now))) ∙ same)
-
-same-length : tie.Need-same-length
-same-length c = search needs
 
 returns : tie.Need-returns
 unfolding withSet
@@ -49,13 +37,4 @@ returns c =
     put-mid setAt _ _ (a .state .now) (long ∙ same) ∙ ap (λ (s : List ℕ). put setAt s (a .state .now)) e
 
 pub begin-spec : {M : Type 1} → statement M
-begin-spec =
-    tie.close
-    (tie.spec
-    add-end
-    sub-begin-set
-    part-begin-set-start
-    part-begin-set-end
-    begin-set-requires
-    same-length
-    returns)
+begin-spec = tie.close (tie.spec (λ c. search needs) (λ c. search needs) (λ c. search needs) part-begin-set-end begin-set-requires (λ c. search needs) returns)

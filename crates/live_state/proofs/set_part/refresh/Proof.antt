@@ -14,26 +14,22 @@ use borrow.Author.Needs.{needs}
 use Rattle.live_state.proofs.set_part.refresh.Statement.{statement}
 use Rattle.live_state.proofs.set_part.refresh.Tie as tie
 
-begin-requires : tie.Need-begin-requires
-begin-requires c κs = search needs
-
 replay-requires : tie.Need-replay-requires
 replay-requires c κs =
-    let a = c .before .before .before .before .before .before .before .before .args in
-    let pre = c .before .before .before .before .before .before .before .before .pre .1 in
+    let start = c .before .before .before .before .before .before .before .before in
+    let a = start .args in
+    let pre = start .pre .1 in
     let codes = wordsIn (a .codes .now) in
     let w = words-in-length (a .codes .now) in
     let fits : setAt + length codes ≤ length (a .state .now) = omega (arith, pre .few, pre .long) in
     let long = ap (λ (l : List ℕ). length l) (c .before .before .before .begin .ensures) ∙ begun-long (a .initial) codes (wordsIn (a .transitions .now)) (a .state .now) fits in
     (rw (sym w) (pre .inside), omega (arith, w, long, fits))
 
-same-length : tie.Need-same-length
-same-length c = search needs
-
 returns : tie.Need-returns
 returns c =
-    let a = c .before .before .before .before .before .before .before .before .before .before .before .args in
-    let pre = c .before .before .before .before .before .before .before .before .before .before .before .pre .1 in
+    let start = c .before .before .before .before .before .before .before .before .before .before .before in
+    let a = start .args in
+    let pre = start .pre .1 in
     let codes = wordsIn (a .codes .now) in
     let ts = wordsIn (a .transitions .now) in
     let n = length (a .codes .now) / 8 in
@@ -43,4 +39,4 @@ returns c =
     ∙ refresh-end (a .initial) codes ts (a .state .now) fits n (sym (words-in-length (a .codes .now)))
 
 pub refresh-spec : {M : Type 1} → statement M
-refresh-spec = tie.close (tie.spec begin-requires replay-requires same-length returns)
+refresh-spec = tie.close (tie.spec (λ c κs. search needs) replay-requires (λ c. search needs) returns)

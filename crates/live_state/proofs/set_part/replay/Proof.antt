@@ -18,9 +18,6 @@ Inv-loop n transitions state₀ m i₀ state i = (i ≤ m) × (length state ≡ 
 abbrev μ-loop : tie.MeasureT-loop
 μ-loop n transitions state₀ m i₀ state i = m - i
 
-number-at-requires : tie.Need-number-at-requires Inv-loop μ-loop
-number-at-requires c κs = omega arith
-
 loop-holds : tie.Need-loop-holds Inv-loop μ-loop
 loop-holds c =
     let a = c .before .before .before .before .args in
@@ -30,26 +27,25 @@ add-letter : tie.Need-add-letter Inv-loop μ-loop
 add-letter c = omega (arith, number-low (c .before .before .before .before .before .before .args .state .now), c .before .before .number-at .ensures)
 
 slice-read-letter : tie.Need-slice-read-letter Inv-loop μ-loop
-slice-read-letter c = omega (arith, c .before .before .loop .inv .1, number-low (c .before .before .before .before .before .before .before .args .state .now), c .before .before .before .number-at .ensures)
+slice-read-letter c =
+    let start = c .before .before .before .before .before .before .before in
+    omega (arith, c .before .before .loop .inv .1, number-low (start .args .state .now), c .before .before .before .number-at .ensures)
 
 step-requires : tie.Need-step-requires Inv-loop μ-loop
 step-requires c κs =
-    let pre = c .before .before .before .before .before .before .before .before .pre in
+    let start = c .before .before .before .before .before .before .before .before in
+    let pre = start .pre in
     (pre .0, omega (arith, pre .1, c .before .before .before .loop .inv .1))
-
-add-i : tie.Need-add-i Inv-loop μ-loop
-add-i c = omega arith
-
-loop-less : tie.Need-loop-less Inv-loop μ-loop
-loop-less c = omega arith
 
 loop-again : tie.Need-loop-again Inv-loop μ-loop
 loop-again c =
-    let a = c .before .before .before .before .before .before .before .before .before .before .before .args in
-    let pre = c .before .before .before .before .before .before .before .before .before .before .before .pre in
+    let at-number-at = c .before .before .before .before .before .before .before in
+    let start = at-number-at .before .before .before .before in
+    let a = start .args in
+    let pre = start .pre in
     let l = c .before .before .before .before .before .before .loop in
     let ts = wordsIn (a .transitions .now) in
-    let more : l .i < numberIn (a .state .now) = omega (arith, c .before .before .before .before .before .before .before .number-at .ensures) in
+    let more : l .i < numberIn (a .state .now) = omega (arith, at-number-at .number-at .ensures) in
     let letter : getD (l .state) (lettersAtByte + l .i) 0 ≡ getD (lettersIn (a .state .now)) (l .i) 0 =
     ap (λ (s : List ℕ). getD s (lettersAtByte + l .i) 0) (l .inv .2) ∙ replay-letter (a .n) ts (a .state .now) (pre .1) (l .i) more in
     let next : c .before .before .step .last .1 .1 .1 .0 ≡ withSet (after (a .n) ts (a .state .now) (l .i + 1)) (a .state .now) =
@@ -57,9 +53,6 @@ loop-again c =
     ∙ ap₂ (λ (x : ℕ) (s : List ℕ). withSet (stepped (a .n) ts x (setIn s)) s) letter (l .inv .2)
     ∙ replay-next (a .n) ts (a .state .now) (pre .1) (l .i) more (pre .0) in
     (omega arith, ap (λ (s : List ℕ). length s) next ∙ replay-long (a .n) ts (a .state .now) (pre .1) (l .i + 1), next)
-
-same-length : tie.Need-same-length Inv-loop μ-loop
-same-length c = c .before .loop .inv .1
 
 returns : tie.Need-returns Inv-loop μ-loop
 returns c =
@@ -71,17 +64,6 @@ returns c =
 
 pub replay-spec : {M : Type 1} → statement M
 replay-spec =
-    tie.close
-    (tie.spec
-    Inv-loop
-    μ-loop
-    number-at-requires
-    loop-holds
-    add-letter
-    slice-read-letter
-    step-requires
-    add-i
-    loop-less
-    loop-again
-    same-length
-    returns)
+    tie.close (tie.spec
+    Inv-loop μ-loop (λ c κs. omega arith) loop-holds add-letter slice-read-letter step-requires (λ c. omega arith) (λ c. omega arith) loop-again
+    (λ c. c .before .loop .inv .1) returns)

@@ -14,27 +14,12 @@ use borrow.Author.Needs.{needs}
 use Rattle.live_state.proofs.set_part.step.Statement.{statement}
 use Rattle.live_state.proofs.set_part.step.Tie as tie
 
-add-end : tie.Need-add-end
-add-end c = search needs
-
-sub-step-set : tie.Need-sub-step-set
-sub-step-set c = search needs
-
-part-step-set-start : tie.Need-part-step-set-start
-part-step-set-start c = search needs
-
-part-step-set-end : tie.Need-part-step-set-end
-part-step-set-end c = search needs
-
 step-set-requires : tie.Need-step-set-requires
 step-set-requires c κs =
     let a = c .before .before .before .args in
     let long : length (take (setAt + a .n - setAt) (drop setAt (a .state .now))) ≡ a .n =
     length-take-le (setAt + a .n - setAt) (drop setAt (a .state .now)) (omega (arith, length-drop setAt (a .state .now))) ∙ omega arith in
     rw long (c .before .before .before .pre .0)
-
-same-length : tie.Need-same-length
-same-length c = search needs
 
 returns : tie.Need-returns
 unfolding withSet
@@ -48,13 +33,4 @@ returns c =
     put-mid setAt _ _ (a .state .now) (long ∙ sym same) ∙ ap (λ (s : List ℕ). put setAt s (a .state .now)) e
 
 pub step-spec : {M : Type 1} → statement M
-step-spec =
-    tie.close
-    (tie.spec
-    add-end
-    sub-step-set
-    part-step-set-start
-    part-step-set-end
-    step-set-requires
-    same-length
-    returns)
+step-spec = tie.close (tie.spec (λ c. search needs) (λ c. search needs) (λ c. search needs) (λ c. search needs) step-set-requires (λ c. search needs) returns)

@@ -6,23 +6,10 @@ use Rattle.mulgreddi.proofs.Meaning.{meant-as}
 use Rattle.mulgreddi.proofs.choices.mulgreddi_judge_choices.Statement.{statement}
 use Rattle.mulgreddi.proofs.choices.mulgreddi_judge_choices.Tie as tie
 
-judge-choices-requires : tie.Need-judge-choices-requires
-judge-choices-requires c κs = search needs
-
-verdict-requires : tie.Need-verdict-requires
-verdict-requires c κs = search needs
-
-same-length : tie.Need-same-length
-same-length c = search needs
-
-same-length-2 : tie.Need-same-length-2
-same-length-2 c = search needs
-
 returns : tie.Need-returns
 returns c =
     let j = c .before .before .before .before .before .judge-choices .ensures in
     (c .verdict .ensures ∙ ap verdictAnswer (j .answer), (j .masks-written, (j .choices-written, (λ e. meant-as (j .answer) (j .meant e), j .chosen))))
 
 pub mulgreddi-judge-choices-spec : {M : Type 1} → statement M
-mulgreddi-judge-choices-spec =
-    tie.close (tie.spec judge-choices-requires verdict-requires same-length same-length-2 returns)
+mulgreddi-judge-choices-spec = tie.close (tie.spec (λ c κs. search needs) (λ c κs. search needs) (λ c. search needs) (λ c. search needs) returns)

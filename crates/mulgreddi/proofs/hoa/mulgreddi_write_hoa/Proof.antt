@@ -5,20 +5,10 @@ use Rattle.mulgreddi_answers.specs.Answers.{writtenAnswer}
 use Rattle.mulgreddi.proofs.hoa.mulgreddi_write_hoa.Statement.{statement}
 use Rattle.mulgreddi.proofs.hoa.mulgreddi_write_hoa.Tie as tie
 
-write-hoa-requires : tie.Need-write-hoa-requires
-write-hoa-requires c κs = search needs
-
-written-requires : tie.Need-written-requires
-written-requires c κs = search needs
-
-same-length : tie.Need-same-length
-same-length c = search needs
-
 returns : tie.Need-returns
 returns c =
     let w = c .before .before .before .write-hoa .ensures in
     (c .written .ensures ∙ ap writtenAnswer (w .0), w .1)
 
 pub mulgreddi-write-hoa-spec : {M : Type 1} → statement M
-mulgreddi-write-hoa-spec =
-    tie.close (tie.spec write-hoa-requires written-requires same-length returns)
+mulgreddi-write-hoa-spec = tie.close (tie.spec (λ c κs. search needs) (λ c κs. search needs) (λ c. search needs) returns)

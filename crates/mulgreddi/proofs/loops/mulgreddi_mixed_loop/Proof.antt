@@ -6,15 +6,6 @@ use Rattle.mulgreddi.proofs.Told.{reported-first}
 use Rattle.mulgreddi.proofs.loops.mulgreddi_mixed_loop.Statement.{statement}
 use Rattle.mulgreddi.proofs.loops.mulgreddi_mixed_loop.Tie as tie
 
-mixed-loop-requires : tie.Need-mixed-loop-requires
-mixed-loop-requires c κs = search needs
-
-reported-requires : tie.Need-reported-requires
-reported-requires c κs = search needs
-
-same-length : tie.Need-same-length
-same-length c = search needs
-
 returns : tie.Need-returns
 returns c =
     let m = c .before .before .before .mixed-loop in
@@ -22,5 +13,4 @@ returns c =
     (e, (m .ensures .1 .0, λ z. reported-first _ (m .result) _ (c .reported .result) _ (m .ensures .0) e (m .ensures .1 .1 z)))
 
 pub mulgreddi-mixed-loop-spec : {M : Type 1} → statement M
-mulgreddi-mixed-loop-spec =
-    tie.close (tie.spec mixed-loop-requires reported-requires same-length returns)
+mulgreddi-mixed-loop-spec = tie.close (tie.spec (λ c κs. search needs) (λ c κs. search needs) (λ c. search needs) returns)

@@ -23,21 +23,6 @@ abbrev μ-loop : tie.MeasureT-loop
 loop-holds : tie.Need-loop-holds Inv-loop μ-loop
 loop-holds c = (omega arith, refl)
 
-shared-slice-read-first-met : tie.Need-shared-slice-read-first-met Inv-loop μ-loop
-shared-slice-read-first-met c = omega arith
-
-first-met-requires : tie.Need-first-met-requires Inv-loop μ-loop
-first-met-requires c κs = search needs
-
-enum-told : tie.Need-enum-told Inv-loop μ-loop
-enum-told c = search needs
-
-add-j : tie.Need-add-j Inv-loop μ-loop
-add-j c = omega arith
-
-loop-less : tie.Need-loop-less Inv-loop μ-loop
-loop-less c = omega arith
-
 -- a clause is met exactly if the set satisfies the entry
 met : (c : tie.After-first-met Inv-loop μ-loop) →
     let a = c .before .before .before .before .before .before .args in
@@ -49,18 +34,17 @@ met c =
 loop-again : tie.Need-loop-again Inv-loop μ-loop
 unfolding isMet
 loop-again c =
-    let a = c .before .before .before .before .before .before .before .before .args in
+    let start = c .before .before .before .before .before .before .before .before in
+    let a = start .args in
     let l = c .before .before .before .before .before .loop in
     let e : satisfies 8 (bit (getD (a .first .now) (l .j) 0)) (a .second .now) ≡ true = sym (met (c .before .before)) ∙ ap isMet (c .enum-told .given .1) in
     (omega arith, l .inv .1 ∙ all-next (λ x. satisfies 8 (bit x) (a .second .now)) (a .first .now) (l .j) (omega arith) e)
 
-enum-told-2 : tie.Need-enum-told-2 Inv-loop μ-loop
-enum-told-2 c = search needs
-
 returns : tie.Need-returns Inv-loop μ-loop
 unfolding isMet
 returns c =
-    let a = c .before .before .before .before .before .before .before .before .args in
+    let start = c .before .before .before .before .before .before .before .before in
+    let a = start .args in
     let l = c .before .before .before .before .before .loop in
     let e : satisfies 8 (bit (getD (a .first .now) (l .j) 0)) (a .second .now) ≡ false = sym (met (c .before .before)) ∙ ap isMet (c .enum-told2 .given .1) in
     sym (l .inv .1 ∙ all-stop (λ x. satisfies 8 (bit x) (a .second .now)) (a .first .now) (l .j) (omega arith) e)
@@ -73,17 +57,6 @@ returns-2 c =
 
 pub clauses-satisfy-spec : {M : Type 1} → statement M
 clauses-satisfy-spec =
-    tie.close
-    (tie.spec
-    Inv-loop
-    μ-loop
-    loop-holds
-    shared-slice-read-first-met
-    first-met-requires
-    enum-told
-    add-j
-    loop-less
-    loop-again
-    enum-told-2
-    returns
-    returns-2)
+    tie.close (tie.spec
+    Inv-loop μ-loop loop-holds (λ c. omega arith) (λ c κs. search needs) (λ c. search needs) (λ c. omega arith) (λ c. omega arith) loop-again
+    (λ c. search needs) returns returns-2)

@@ -13,7 +13,8 @@ use Rattle.rule_same.proofs.entries.same_entries.Statement.{statement}
 use Rattle.rule_same.proofs.entries.same_entries.Tie as tie
 
 abbrev Inv-loop : tie.InvT-loop
-Inv-loop h counts clauses counts2 clauses2 q₀ q = (q ≤ h .n) × (every q (λ p. every (h .s) (λ a. sameEntry (h .n) (entry (ruleOf h counts clauses) p a) (entry (ruleOf h counts2 clauses2) p a))) ≡ true)
+Inv-loop h counts clauses counts2 clauses2 q₀ q = (q ≤ h .n) × (every q (λ p. every (h .s) (λ a. sameEntry (h .n) (entry (ruleOf h counts clauses) p a) (entry (ruleOf h counts2 clauses2) p a)))
+    ≡ true)
 
 abbrev μ-loop : tie.MeasureT-loop
 μ-loop h counts clauses counts2 clauses2 q₀ q = h .n - q
@@ -23,25 +24,24 @@ unfolding every
 loop-holds c = (omega arith, refl)
 
 same-state-requires : tie.Need-same-state-requires Inv-loop μ-loop
-same-state-requires c κs = let p = c .before .before .before .before .before .before .before .pre in (p .0, p .1, c .if1 .taken)
+same-state-requires c κs =
+    let start = c .before .before .before .before .before .before .before in
+    let p = start .pre in (p .0, p .1, c .if1 .taken)
 
 returns : tie.Need-returns Inv-loop μ-loop
 unfolding sameEntries
 returns c =
-    let a = c .before .before .before .before .before .before .before .before .before .args in
+    let start = c .before .before .before .before .before .before .before .before .before in
+    let a = start .args in
     let r = ruleOf (a .h) (a .counts .now) (a .clauses .now) in
     let t = ruleOf (a .h) (a .counts2 .now) (a .clauses2 .now) in
-    sym (every-stop (a .h .n) (λ p. every (a .h .s) (λ b. sameEntry (a .h .n) (entry r p b) (entry t p b))) (c .before .before .before .before .loop .q) (c .before .before .if1 .taken) (sym (c .before .same-state .ensures) ∙ not-t _ (c .if2 .taken)))
-
-add-q : tie.Need-add-q Inv-loop μ-loop
-add-q c = omega arith
-
-loop-less : tie.Need-loop-less Inv-loop μ-loop
-loop-less c = omega arith
+    sym (every-stop (a .h .n) (λ p. every (a .h .s) (λ b. sameEntry (a .h .n) (entry r p b) (entry t p b))) (c .before .before .before .before .loop .q) (c .before .before .if1 .taken)
+    (sym (c .before .same-state .ensures) ∙ not-t _ (c .if2 .taken)))
 
 loop-again : tie.Need-loop-again Inv-loop μ-loop
 loop-again c =
-    let a = c .before .before .before .before .before .before .before .before .before .args in
+    let start = c .before .before .before .before .before .before .before .before .before in
+    let a = start .args in
     let l = c .before .before .before .before .loop in
     let r = ruleOf (a .h) (a .counts .now) (a .clauses .now) in
     let t = ruleOf (a .h) (a .counts2 .now) (a .clauses2 .now) in
@@ -50,7 +50,8 @@ loop-again c =
 returns-2 : tie.Need-returns-2 Inv-loop μ-loop
 unfolding sameEntries
 returns-2 c =
-    let a = c .before .before .before .before .before .before .before .args in
+    let start = c .before .before .before .before .before .before .before in
+    let a = start .args in
     let l = c .before .before .loop in
     let r = ruleOf (a .h) (a .counts .now) (a .clauses .now) in
     let t = ruleOf (a .h) (a .counts2 .now) (a .clauses2 .now) in
@@ -58,15 +59,4 @@ returns-2 c =
     sym (ap (λ (x : ℕ). every x (λ p. every (a .h .s) (λ b. sameEntry (a .h .n) (entry r p b) (entry t p b)))) (sym e) ∙ l .inv .1)
 
 pub same-entries-spec : {M : Type 1} → statement M
-same-entries-spec =
-    tie.close
-    (tie.spec
-    Inv-loop
-    μ-loop
-    loop-holds
-    same-state-requires
-    returns
-    add-q
-    loop-less
-    loop-again
-    returns-2)
+same-entries-spec = tie.close (tie.spec Inv-loop μ-loop loop-holds same-state-requires returns (λ c. omega arith) (λ c. omega arith) loop-again returns-2)

@@ -5,18 +5,11 @@ use borrow.Author.Needs.{needs}
 use Rattle.rule_same.proofs.entries.same_entry.Statement.{statement}
 use Rattle.rule_same.proofs.entries.same_entry.Tie as tie
 
-clauses-satisfy-requires : tie.Need-clauses-satisfy-requires
-clauses-satisfy-requires c κs = search needs
-
 returns : tie.Need-returns
 returns c = rw (sym (c .before .clauses-satisfy .ensures) ∙ not-t _ (c .if1 .taken))
-
-clauses-satisfy-requires-2 : tie.Need-clauses-satisfy-requires-2
-clauses-satisfy-requires-2 c κs = search needs
 
 returns-2 : tie.Need-returns-2
 returns-2 c = rw (sym (c .before .before .clauses-satisfy .ensures) ∙ not-f _ (c .before .if1 .left)) (c .clauses-satisfy2 .ensures)
 
 pub same-entry-spec : {M : Type 1} → statement M
-same-entry-spec =
-    tie.close (tie.spec clauses-satisfy-requires returns clauses-satisfy-requires-2 returns-2)
+same-entry-spec = tie.close (tie.spec (λ c κs. search needs) returns (λ c κs. search needs) returns-2)

@@ -25,43 +25,41 @@ unfolding every
 loop-holds c = (omega arith, refl)
 
 entry-of-requires : tie.Need-entry-of-requires Inv-loop μ-loop
-entry-of-requires c κs = let p = c .before .before .before .before .before .before .before .pre in (p .0, p .2, c .if1 .taken)
+entry-of-requires c κs =
+    let start = c .before .before .before .before .before .before .before in
+    let p = start .pre in (p .0, p .2, c .if1 .taken)
 
 entry-of-requires-2 : tie.Need-entry-of-requires-2 Inv-loop μ-loop
-entry-of-requires-2 c κs = let p = c .before .before .before .before .before .before .before .before .pre in (p .1, p .2, c .before .if1 .taken)
+entry-of-requires-2 c κs =
+    let start = c .before .before .before .before .before .before .before .before in
+    let p = start .pre in (p .1, p .2, c .before .if1 .taken)
 
-same-entry-requires : tie.Need-same-entry-requires Inv-loop μ-loop
-same-entry-requires c κs = search needs
+abbrev start-of-after-same-entry : tie.After-same-entry Inv-loop μ-loop → tie.Start Inv-loop μ-loop
+start-of-after-same-entry c = c .before .before .before .before .before .before .before .before .before .before
 
 -- what the call says of the entries at the letter
-told : (c : tie.After-same-entry Inv-loop μ-loop) →
-    let a = c .before .before .before .before .before .before .before .before .before .before .args in
-    let k = c .before .before .before .before .before .loop .a in
+told : (c : tie.After-same-entry Inv-loop μ-loop) → let a = start-of-after-same-entry c .args in let k = c .before .before .before .before .before .loop .a in
     c .same-entry .result ≡ sameEntry (a .h .n) (entry (ruleOf (a .h) (a .counts .now) (a .clauses .now)) (a .q) k) (entry (ruleOf (a .h) (a .counts2 .now) (a .clauses2 .now)) (a .q) k)
 told c =
-    let a = c .before .before .before .before .before .before .before .before .before .before .args in
-    let p = c .before .before .before .before .before .before .before .before .before .before .pre in
+    let a = start-of-after-same-entry c .args in
+    let p = start-of-after-same-entry c .pre in
     let k = c .before .before .before .before .before .loop .a in
     entries-told (ruleOf (a .h) (a .counts .now) (a .clauses .now)) (ruleOf (a .h) (a .counts2 .now) (a .clauses2 .now)) (p .0) (p .1) refl refl (a .q) k (p .2) (c .before .before .before .if1 .taken)
     (c .same-entry .ensures) (c .before .before .entry-of .ensures) (c .before .entry-of2 .ensures)
 
 returns : tie.Need-returns Inv-loop μ-loop
 returns c =
-    let a = c .before .before .before .before .before .before .before .before .before .before .before .args in
+    let start = c .before .before .before .before .before .before .before .before .before .before .before in
+    let a = start .args in
     let k = c .before .before .before .before .before .before .loop .a in
     let r = ruleOf (a .h) (a .counts .now) (a .clauses .now) in
     let t = ruleOf (a .h) (a .counts2 .now) (a .clauses2 .now) in
     sym (every-stop (a .h .s) (λ b. sameEntry (a .h .n) (entry r (a .q) b) (entry t (a .q) b)) k (c .before .before .before .before .if1 .taken) (sym (told (c .before)) ∙ not-t _ (c .if2 .taken)))
 
-add-a : tie.Need-add-a Inv-loop μ-loop
-add-a c = omega arith
-
-loop-less : tie.Need-loop-less Inv-loop μ-loop
-loop-less c = omega arith
-
 loop-again : tie.Need-loop-again Inv-loop μ-loop
 loop-again c =
-    let a = c .before .before .before .before .before .before .before .before .before .before .before .args in
+    let start = c .before .before .before .before .before .before .before .before .before .before .before in
+    let a = start .args in
     let l = c .before .before .before .before .before .before .loop in
     let r = ruleOf (a .h) (a .counts .now) (a .clauses .now) in
     let t = ruleOf (a .h) (a .counts2 .now) (a .clauses2 .now) in
@@ -69,23 +67,14 @@ loop-again c =
 
 returns-2 : tie.Need-returns-2 Inv-loop μ-loop
 returns-2 c =
-    let a = c .before .before .before .before .before .before .before .args in
+    let start = c .before .before .before .before .before .before .before in
+    let a = start .args in
     let l = c .before .before .loop in
     let e : l .a ≡ a .h .s = omega arith in
-    sym (ap (λ (x : ℕ). every x (λ b. sameEntry (a .h .n) (entry (ruleOf (a .h) (a .counts .now) (a .clauses .now)) (a .q) b) (entry (ruleOf (a .h) (a .counts2 .now) (a .clauses2 .now)) (a .q) b))) (sym e) ∙ l .inv .1)
+    sym (ap (λ (x : ℕ). every x (λ b. sameEntry (a .h .n) (entry (ruleOf (a .h) (a .counts .now) (a .clauses .now)) (a .q) b) (entry (ruleOf (a .h) (a .counts2 .now) (a .clauses2 .now)) (a .q) b)))
+    (sym e) ∙ l .inv .1)
 
 pub same-state-spec : {M : Type 1} → statement M
 same-state-spec =
-    tie.close
-    (tie.spec
-    Inv-loop
-    μ-loop
-    loop-holds
-    entry-of-requires
-    entry-of-requires-2
-    same-entry-requires
-    returns
-    add-a
-    loop-less
-    loop-again
-    returns-2)
+    tie.close (tie.spec
+    Inv-loop μ-loop loop-holds entry-of-requires entry-of-requires-2 (λ c κs. search needs) returns (λ c. omega arith) (λ c. omega arith) loop-again returns-2)

@@ -7,42 +7,31 @@ use borrow.Author.Needs.{needs}
 use Rattle.rule_same.proofs.files.same_bodies.Statement.{statement}
 use Rattle.rule_same.proofs.files.same_bodies.Tie as tie
 
-same-numbers-requires : tie.Need-same-numbers-requires
-same-numbers-requires c κs = search needs
-
 returns : tie.Need-returns
 returns c =
     let a = c .before .before .before .before .before .before .args in
     let p = c .before .before .before .before .before .before .pre in
     numbers-differ (a .first .now) (a .second .now) (a .l) (a .m) (p .0) (p .1) (sym (c .before .same-numbers .ensures) ∙ not-t _ (c .if1 .taken))
 
-counts-of-requires : tie.Need-counts-of-requires
-counts-of-requires c κs = search needs
-
-clauses-of-requires : tie.Need-clauses-of-requires
-clauses-of-requires c κs = search needs
-
-counts-of-requires-2 : tie.Need-counts-of-requires-2
-counts-of-requires-2 c κs = search needs
-
-clauses-of-requires-2 : tie.Need-clauses-of-requires-2
-clauses-of-requires-2 c κs = search needs
-
 same-entries-requires : tie.Need-same-entries-requires
 same-entries-requires c κs =
-    let a = c .before .before .before .before .before .before .before .before .before .before .args in
-    let p = c .before .before .before .before .before .before .before .before .before .before .pre in
-    both-formed (a .first .now) (a .second .now) (a .l) (a .m) (p .0) (p .1) (sym (c .before .before .before .before .before .same-numbers .ensures) ∙ not-f _ (c .before .before .before .before .if1 .left))
+    let start = c .before .before .before .before .before .before .before .before .before .before in
+    let a = start .args in
+    let p = start .pre in
+    both-formed (a .first .now) (a .second .now) (a .l) (a .m) (p .0) (p .1)
+    (sym (c .before .before .before .before .before .same-numbers .ensures) ∙ not-f _ (c .before .before .before .before .if1 .left))
     (c .before .before .before .counts-of .ensures) (c .before .before .clauses-of .ensures) (c .before .counts-of2 .ensures) (c .clauses-of2 .ensures)
 
+abbrev start-of-after-same-entries : tie.After-same-entries → tie.Start
+start-of-after-same-entries c = c .before .before .before .before .before .before .before .before .before .before .before
+
 -- what the comparison of all entries says of the files
-told : (c : tie.After-same-entries) →
-    let a = c .before .before .before .before .before .before .before .before .before .before .before .args in
-    verdict (c .same-entries .result) ≡ sameBodies (a .first .now) (a .second .now)
+told : (c : tie.After-same-entries) → let a = start-of-after-same-entries c .args in verdict (c .same-entries .result) ≡ sameBodies (a .first .now) (a .second .now)
 told c =
-    let a = c .before .before .before .before .before .before .before .before .before .before .before .args in
-    let p = c .before .before .before .before .before .before .before .before .before .before .before .pre in
-    same-told (a .first .now) (a .second .now) (a .l) (a .m) (p .0) (p .1) (sym (c .before .before .before .before .before .before .same-numbers .ensures) ∙ not-f _ (c .before .before .before .before .before .if1 .left))
+    let a = start-of-after-same-entries c .args in
+    let p = start-of-after-same-entries c .pre in
+    same-told (a .first .now) (a .second .now) (a .l) (a .m) (p .0) (p .1)
+    (sym (c .before .before .before .before .before .before .same-numbers .ensures) ∙ not-f _ (c .before .before .before .before .before .if1 .left))
     (c .before .before .before .before .counts-of .ensures) (c .before .before .before .clauses-of .ensures) (c .before .before .counts-of2 .ensures) (c .before .clauses-of2 .ensures)
     (c .same-entries .result) (c .same-entries .ensures)
 
@@ -56,14 +45,6 @@ returns-3 c = ap verdict (sym (c .if2 .left)) ∙ told (c .before)
 
 pub same-bodies-spec : {M : Type 1} → statement M
 same-bodies-spec =
-    tie.close
-    (tie.spec
-    same-numbers-requires
-    returns
-    counts-of-requires
-    clauses-of-requires
-    counts-of-requires-2
-    clauses-of-requires-2
-    same-entries-requires
-    returns-2
+    tie.close (tie.spec
+    (λ c κs. search needs) returns (λ c κs. search needs) (λ c κs. search needs) (λ c κs. search needs) (λ c κs. search needs) same-entries-requires returns-2
     returns-3)

@@ -8,27 +8,10 @@ use borrow.Author.Needs.{needs}
 use Rattle.rule_same.proofs.files.same_rules.Statement.{statement}
 use Rattle.rule_same.proofs.files.same_rules.Tie as tie
 
-read-rule-requires : tie.Need-read-rule-requires
-read-rule-requires c κs = search needs
-
-enum-known-row : tie.Need-enum-known-row
-enum-known-row c = search needs
-
-enum-known-l : tie.Need-enum-known-l
-enum-known-l c = search needs
-
-read-rule-requires-2 : tie.Need-read-rule-requires-2
-read-rule-requires-2 c κs = search needs
-
-enum-known-second-row : tie.Need-enum-known-second-row
-enum-known-second-row c = search needs
-
-enum-known-m : tie.Need-enum-known-m
-enum-known-m c = search needs
-
 same-files-requires : tie.Need-same-files-requires
 same-files-requires c κs =
-    (sym (c .before .before .before .before .before .before .before .read-rule .ensures) ∙ c .before .before .before .before .before .l .given .1, sym (c .before .before .before .read-rule2 .ensures) ∙ c .before .m .given .1)
+    let at-read-rule = c .before .before .before .before .before .before .before in
+    (sym (at-read-rule .read-rule .ensures) ∙ c .before .before .before .before .before .l .given .1, sym (c .before .before .before .read-rule2 .ensures) ∙ c .before .m .given .1)
 
 returns : tie.Need-returns
 returns c =
@@ -38,32 +21,27 @@ returns c =
 
 returns-2 : tie.Need-returns-2
 returns-2 c =
-    let a = c .before .before .before .before .before .before .before .before .before .before .args in
+    let at-read-rule = c .before .before .before .before .before .before .before in
+    let start = at-read-rule .before .before .before in
+    let a = start .args in
     let l = c .before .before .before .before .before .l .given .0 .0 in
-    let p : readOf (a .first .now) ≡ Accepted l = sym (c .before .before .before .before .before .before .before .read-rule .ensures) ∙ c .before .before .before .before .before .l .given .1 in
+    let p : readOf (a .first .now) ≡ Accepted l = sym (at-read-rule .read-rule .ensures) ∙ c .before .before .before .before .before .l .given .1 in
     let e : readOf (a .second .now) ≡ Refused (c .before .second-row .given .0 .0) = sym (c .before .before .before .read-rule2 .ensures) ∙ c .before .second-row .given .1 in
     refused-second (a .first .now) (a .second .now) (c .before .second-row .given .0 .0) (served (a .first .now) l p .row) (turned-away (a .second .now) (c .before .second-row .given .0 .0) e)
 
 returns-3 : tie.Need-returns-3
 returns-3 c =
-    let a = c .before .before .before .before .before .before .before .before .before .before .before .args in
+    let at-read-rule = c .before .before .before .before .before .before .before .before in
+    let start = at-read-rule .before .before .before in
+    let a = start .args in
     let l = c .before .before .before .before .before .before .l .given .0 .0 in
     let m = c .before .before .m .given .0 .0 in
-    let p : readOf (a .first .now) ≡ Accepted l = sym (c .before .before .before .before .before .before .before .before .read-rule .ensures) ∙ c .before .before .before .before .before .before .l .given .1 in
+    let p : readOf (a .first .now) ≡ Accepted l = sym (at-read-rule .read-rule .ensures) ∙ c .before .before .before .before .before .before .l .given .1 in
     let q : readOf (a .second .now) ≡ Accepted m = sym (c .before .before .before .before .read-rule2 .ensures) ∙ c .before .before .m .given .1 in
     c .same-files .ensures ∙ served-both (a .first .now) (a .second .now) (served (a .first .now) l p .row) (served (a .second .now) m q .row)
 
 pub same-rules-spec : {M : Type 1} → statement M
 same-rules-spec =
-    tie.close
-    (tie.spec
-    read-rule-requires
-    enum-known-row
-    enum-known-l
-    read-rule-requires-2
-    enum-known-second-row
-    enum-known-m
-    same-files-requires
-    returns
-    returns-2
-    returns-3)
+    tie.close (tie.spec
+    (λ c κs. search needs) (λ c. search needs) (λ c. search needs) (λ c κs. search needs) (λ c. search needs) (λ c. search needs) same-files-requires returns
+    returns-2 returns-3)

@@ -23,43 +23,28 @@ abbrev μ-loop : tie.MeasureT-loop
 loop-holds : tie.Need-loop-holds Inv-loop μ-loop
 loop-holds c = let pre = c .before .before .before .before .pre in (pre .0 .repeats, pruned-start _ _, pre .1)
 
-place-before-requires : tie.Need-place-before-requires Inv-loop μ-loop
-place-before-requires c κs = c .before .loop .inv .0
-
 prune-place-requires : tie.Need-prune-place-requires Inv-loop μ-loop
 prune-place-requires c κs =
+    let start = c .before .before .before .before .before .before .before .before in
     let v = c .before .before .before .loop .inv in
-    (fits-long _ _ _ _ _ (v .1 .long) (c .before .before .before .before .before .before .before .before .pre .0), v .2, rw (c .before .place-before .ensures) (before-low _ _ (v .0)))
+    (fits-long _ _ _ _ _ (v .1 .long) (start .pre .0), v .2, rw (c .before .place-before .ensures) (before-low _ _ (v .0)))
 
 waiting-after-requires : tie.Need-waiting-after-requires Inv-loop μ-loop
 waiting-after-requires c κs = c .before .before .before .before .before .loop-test .taken
 
 loop-less : tie.Need-loop-less Inv-loop μ-loop
-loop-less c = prune-less _ _ _ _ _ _ (c .before .before .before .prune-place .ensures) (rw (c .waiting-after .ensures) (left-after _ _ (c .before .before .before .before .before .before .loop-test .taken)))
+loop-less c = prune-less _ _ _ _ _ _ (c .before .before .before .prune-place .ensures)
+    (rw (c .waiting-after .ensures) (left-after _ _ (c .before .before .before .before .before .before .loop-test .taken)))
 
 loop-again : tie.Need-loop-again Inv-loop μ-loop
 loop-again c =
-    let v = c .before .before .before .before .before .before .before .loop .inv in
+    let at-loop = c .before .before .before .before .before .before .before in
+    let v = at-loop .loop .inv in
     let e = c .before .before .before .prune-place .ensures in
     (rw (c .before .before .before .before .before .place-before .ensures) (before-low _ _ (v .0)), pruned-then _ _ _ _ (v .1) (e .pruned), e .even)
 
-same-length : tie.Need-same-length Inv-loop μ-loop
-same-length c = c .before .loop .inv .1 .long
-
-returns : tie.Need-returns Inv-loop μ-loop
-returns c = c .before .loop .inv .1
-
 pub prune-spec : {M : Type 1} → statement M
 prune-spec =
-    tie.close
-    (tie.spec
-    Inv-loop
-    μ-loop
-    loop-holds
-    place-before-requires
-    prune-place-requires
-    waiting-after-requires
-    loop-less
-    loop-again
-    same-length
-    returns)
+    tie.close (tie.spec
+    Inv-loop μ-loop loop-holds (λ c κs. c .before .loop .inv .0) prune-place-requires waiting-after-requires loop-less loop-again
+    (λ c. c .before .loop .inv .1 .long) (λ c. c .before .loop .inv .1))

@@ -12,14 +12,15 @@ use Rattle.table_fixpoints_spec.proofs.Pruning.{prune-at}
 use Rattle.table_fixpoints.proofs.fixpoints.prune_place.Statement.{statement}
 use Rattle.table_fixpoints.proofs.fixpoints.prune_place.Tie as tie
 
-mark-place-requires : tie.Need-mark-place-requires
-mark-place-requires c κs = search needs
+abbrev start-of-after-settle-arg : tie.After-settle-arg → tie.Start
+start-of-after-settle-arg c = c .before .before .before .before .before .before .before .before .before
 
 -- the nodes of a place have marks
-room : (c : tie.After-settle-arg) → c .before .before .before .before .before .before .before .before .before .args .p * c .before .before .before .before .before .before .before .before .before .args .n + c .before .before .before .before .before .before .before .before .before .args .n ≤ length (c .before .before .before .before .before .before .before .before .before .args .marks .now)
+room : (c : tie.After-settle-arg) → start-of-after-settle-arg c .args .p * start-of-after-settle-arg c .args .n + start-of-after-settle-arg c .args .n ≤ length
+    (start-of-after-settle-arg c .args .marks .now)
 room c =
-    let a = c .before .before .before .before .before .before .before .before .before .args in
-    let pre = c .before .before .before .before .before .before .before .before .before .pre in
+    let a = start-of-after-settle-arg c .args in
+    let pre = start-of-after-settle-arg c .pre in
     omega (arith, place-room (a .n) (a .p) (length (a .cycle .now)) (pre .2), pre .0 .marked)
 
 mul-settle : tie.Need-mul-settle
@@ -36,25 +37,15 @@ settle-requires c κs =
     let long = at-long _ _ _ _ _ _ (c .before .before .before .mark-place .ensures .0) in
     (omega arith, omega (arith, room c))
 
-same-length : tie.Need-same-length
-same-length c = search needs
-
 returns : tie.Need-returns
 returns c =
-    let a = c .before .before .before .before .before .before .before .before .before .before .before .before .args in
-    let pre = c .before .before .before .before .before .before .before .before .before .before .before .before .pre in
+    let start = c .before .before .before .before .before .before .before .before .before .before .before .before in
+    let a = start .args in
+    let pre = start .pre in
     let ts = inBoth (a .moves .now) (a .movebytes .now) .numbers in
-    let mid : c .before .before .before .before .before .before .mark-place .last .1 .1 .1 .1 .1 .0 ≡ markedAt (a .n) (a .cycle .now) ts (a .p) (a .marks .now) = c .before .before .before .before .before .before .mark-place .ensures .0 in
+    let mid : c .before .before .before .before .before .before .mark-place .last .1 .1 .1 .1 .1 .0 ≡ markedAt (a .n) (a .cycle .now) ts (a .p) (a .marks .now) =
+    c .before .before .before .before .before .before .mark-place .ensures .0 in
     prune-at (a .n) (a .cycle .now) ts (a .marks .now) _ (a .p) _ (pre .0) (pre .1) (pre .2) (rw mid at (c .before .before .settle .ensures))
 
 pub prune-place-spec : {M : Type 1} → statement M
-prune-place-spec =
-    tie.close
-    (tie.spec
-    mark-place-requires
-    mul-settle
-    mul-settle-2
-    add-settle
-    settle-requires
-    same-length
-    returns)
+prune-place-spec = tie.close (tie.spec (λ c κs. search needs) mul-settle mul-settle-2 add-settle settle-requires (λ c. search needs) returns)

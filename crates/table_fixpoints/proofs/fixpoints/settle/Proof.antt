@@ -24,24 +24,10 @@ loop-holds c = (omega arith, omega arith, settling-start _ _)
 slice-read-v : tie.Need-slice-read-v Inv-loop μ-loop
 slice-read-v c = omega (arith, c .before .before .loop .inv .2 .long)
 
-settled-mark-requires : tie.Need-settled-mark-requires Inv-loop μ-loop
-settled-mark-requires c κs = search needs
-
-slice-write-marks : tie.Need-slice-write-marks Inv-loop μ-loop
-slice-write-marks c = omega arith
-
-add-i : tie.Need-add-i Inv-loop μ-loop
-add-i c = omega arith
-
-goes-out-requires : tie.Need-goes-out-requires Inv-loop μ-loop
-goes-out-requires c κs = search needs
-
-loop-less : tie.Need-loop-less Inv-loop μ-loop
-loop-less c = omega arith
-
 loop-again : tie.Need-loop-again Inv-loop μ-loop
 loop-again c =
-    let a = c .before .before .before .before .before .before .before .args in
+    let start = c .before .before .before .before .before .before .before in
+    let a = start .args in
     let l = c .before .before .before .before .before .loop in
     let s = l .inv .2 in
     let v = getD (l .marks) (l .i) 0 in
@@ -52,12 +38,10 @@ loop-again c =
       rw mark (settling-next (a .from) (a .marks .now) (l .i) (l .marks) (l .changed) s (l .inv .0) (omega (arith, s .long)) true (λ e. inr told) (λ e. absurd (true≢false e))),
     )
 
-loop-less-2 : tie.Need-loop-less-2 Inv-loop μ-loop
-loop-less-2 c = omega arith
-
 loop-again-2 : tie.Need-loop-again-2 Inv-loop μ-loop
 loop-again-2 c =
-    let a = c .before .before .before .before .before .before .before .args in
+    let start = c .before .before .before .before .before .before .before in
+    let a = start .args in
     let l = c .before .before .before .before .before .loop in
     let s = l .inv .2 in
     let v = getD (l .marks) (l .i) 0 in
@@ -68,9 +52,6 @@ loop-again-2 c =
       rw mark (settling-next (a .from) (a .marks .now) (l .i) (l .marks) (l .changed) s (l .inv .0) (omega (arith, s .long)) (l .changed) (λ e. inl e) (λ e. (e, told))),
     )
 
-same-length : tie.Need-same-length Inv-loop μ-loop
-same-length c = c .before .loop .inv .2 .long
-
 returns : tie.Need-returns Inv-loop μ-loop
 returns c =
     let a = c .before .before .before .args in
@@ -80,19 +61,6 @@ returns c =
 
 pub settle-spec : {M : Type 1} → statement M
 settle-spec =
-    tie.close
-    (tie.spec
-    Inv-loop
-    μ-loop
-    loop-holds
-    slice-read-v
-    settled-mark-requires
-    slice-write-marks
-    add-i
-    goes-out-requires
-    loop-less
-    loop-again
-    loop-less-2
-    loop-again-2
-    same-length
-    returns)
+    tie.close (tie.spec
+    Inv-loop μ-loop loop-holds slice-read-v (λ c κs. search needs) (λ c. omega arith) (λ c. omega arith) (λ c κs. search needs) (λ c. omega arith) loop-again
+    (λ c. omega arith) loop-again-2 (λ c. c .before .loop .inv .2 .long) returns)

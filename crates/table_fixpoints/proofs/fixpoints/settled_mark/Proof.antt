@@ -15,9 +15,6 @@ returns c =
     let out : settled v ≡ 0 = rw (lt-ltb v 3 (omega arith)) in
     omega arith
 
-sub-result : tie.Need-sub-result
-sub-result c = search needs
-
 returns-2 : tie.Need-returns-2
 unfolding settled
 returns-2 c =
@@ -26,4 +23,4 @@ returns-2 c =
     omega arith
 
 pub settled-mark-spec : {M : Type 1} → statement M
-settled-mark-spec = tie.close (tie.spec returns sub-result returns-2)
+settled-mark-spec = tie.close (tie.spec returns (λ c. search needs) returns-2)

@@ -5,23 +5,11 @@ use Rattle.table_fixpoints_spec.proofs.Orders.{from-end, from-front}
 use Rattle.table_fixpoints.proofs.marks.element_from.Statement.{statement}
 use Rattle.table_fixpoints.proofs.marks.element_from.Tie as tie
 
-sub-element : tie.Need-sub-element
-sub-element c = search needs
-
-sub-element-2 : tie.Need-sub-element-2
-sub-element-2 c = search needs
-
-element-requires : tie.Need-element-requires
-element-requires c κs = search needs
-
 returns : tie.Need-returns
 returns c =
     let a = c .before .before .before .before .args in
     let pre = c .before .before .before .before .pre in
     from-end (a .back) (inBoth (a .moves .now) (a .movebytes .now) .numbers) (a .m) (a .i) _ (pre .0) (pre .1) (c .before .if1 .taken) (c .element .ensures)
-
-element-requires-2 : tie.Need-element-requires-2
-element-requires-2 c κs = search needs
 
 returns-2 : tie.Need-returns-2
 returns-2 c =
@@ -29,6 +17,4 @@ returns-2 c =
     from-front (a .back) (inBoth (a .moves .now) (a .movebytes .now) .numbers) (a .i) _ (c .before .if1 .left) (c .element2 .ensures)
 
 pub element-from-spec : {M : Type 1} → statement M
-element-from-spec =
-    tie.close
-    (tie.spec sub-element sub-element-2 element-requires returns element-requires-2 returns-2)
+element-from-spec = tie.close (tie.spec (λ c. search needs) (λ c. search needs) (λ c κs. search needs) returns (λ c κs. search needs) returns-2)

@@ -7,29 +7,14 @@ use Rattle.graph_walks.proofs.Marking.{mark-yes, mark-no}
 use Rattle.table_fixpoints.proofs.marks.mark.Statement.{statement}
 use Rattle.table_fixpoints.proofs.marks.mark.Tie as tie
 
-slice-read-if1 : tie.Need-slice-read-if1
-slice-read-if1 c = search needs
-
 returns : tie.Need-returns
 returns c = let a = c .before .before .args in mark-no (a .x) (a .y) (a .marks .now) (λ d. omega arith)
-
-slice-read-v : tie.Need-slice-read-v
-slice-read-v c = search needs
 
 returns-2 : tie.Need-returns-2
 returns-2 c = let a = c .before .before .before .before .args in mark-no (a .x) (a .y) (a .marks .now) (λ d. omega arith)
 
 returns-3 : tie.Need-returns-3
 returns-3 c = let a = c .before .before .before .before .before .args in mark-no (a .x) (a .y) (a .marks .now) (λ d. omega arith)
-
-add-marks : tie.Need-add-marks
-add-marks c = search needs
-
-slice-write-marks : tie.Need-slice-write-marks
-slice-write-marks c = search needs
-
-same-length : tie.Need-same-length
-same-length c = search needs
 
 returns-4 : tie.Need-returns-4
 returns-4 c =
@@ -42,14 +27,5 @@ returns-4 c =
 
 pub mark-spec : {M : Type 1} → statement M
 mark-spec =
-    tie.close
-    (tie.spec
-    slice-read-if1
-    returns
-    slice-read-v
-    returns-2
-    returns-3
-    add-marks
-    slice-write-marks
-    same-length
-    returns-4)
+    tie.close (tie.spec
+    (λ c. search needs) returns (λ c. search needs) returns-2 returns-3 (λ c. search needs) (λ c. search needs) (λ c. search needs) returns-4)

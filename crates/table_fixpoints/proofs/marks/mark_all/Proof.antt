@@ -20,37 +20,31 @@ Inv-loop moves movebytes back letter marks₀ here there m changed₀ i₀ marks
 abbrev μ-loop : tie.MeasureT-loop
 μ-loop moves movebytes back letter marks₀ here there m changed₀ i₀ marks changed i = m - i
 
-count-requires : tie.Need-count-requires Inv-loop μ-loop
-count-requires c κs = search needs
-
 loop-holds : tie.Need-loop-holds Inv-loop μ-loop
 loop-holds c = (omega arith, passed-start _ _ _ _ _)
 
 element-from-requires : tie.Need-element-from-requires Inv-loop μ-loop
 element-from-requires c κs = (c .before .before .count .ensures, omega arith)
 
-add-i : tie.Need-add-i Inv-loop μ-loop
-add-i c = omega arith
-
 mark-over-requires : tie.Need-mark-over-requires Inv-loop μ-loop
 mark-over-requires c κs =
-    let a = c .before .before .before .before .before .before .before .before .args in
+    let start = c .before .before .before .before .before .before .before .before in
+    let a = start .args in
     let l = c .before .before .before .loop in
     let ts = inBoth (a .moves .now) (a .movebytes .now) .numbers in
     let us = ordered (a .back) ts in
     let inside : l .i < length us = omega (arith, ordered-long (a .back) ts) in
     let e : c .before .element-from .result ≡ getD us (l .i) 0 = c .before .element-from .ensures in
-    let q = c .before .before .before .before .before .before .before .before .pre (getD us (l .i) 0) (ordered-from (a .back) ts _ (mem-at us (l .i) inside)) in
+    let q = start .pre (getD us (l .i) 0) (ordered-from (a .back) ts _ (mem-at us (l .i) inside)) in
     let long : length (l .marks) ≡ length (a .marks .now) = l .inv .1 .long in
     (omega (arith, q .0), omega (arith, q .1))
 
-loop-less : tie.Need-loop-less Inv-loop μ-loop
-loop-less c = omega arith
-
 loop-again : tie.Need-loop-again Inv-loop μ-loop
 loop-again c =
-    let a = c .before .before .before .before .before .before .before .before .before .before .before .before .args in
-    let l = c .before .before .before .before .before .before .before .loop in
+    let at-loop = c .before .before .before .before .before .before .before in
+    let start = at-loop .before .before .before .before .before in
+    let a = start .args in
+    let l = at-loop .loop in
     let o = c .before .before .before .mark-over .ensures in
     let long = ordered-long (a .back) (inBoth (a .moves .now) (a .movebytes .now) .numbers) in (
       omega arith,
@@ -58,22 +52,18 @@ loop-again c =
           (c .before .before .before .before .before .element-from .ensures) (o .0) (o .1) (or-now (l .changed) _ (c .if1 .taken)),
     )
 
-loop-less-2 : tie.Need-loop-less-2 Inv-loop μ-loop
-loop-less-2 c = omega arith
-
 loop-again-2 : tie.Need-loop-again-2 Inv-loop μ-loop
 loop-again-2 c =
-    let a = c .before .before .before .before .before .before .before .before .before .before .before .before .args in
-    let l = c .before .before .before .before .before .before .before .loop in
+    let at-loop = c .before .before .before .before .before .before .before in
+    let start = at-loop .before .before .before .before .before in
+    let a = start .args in
+    let l = at-loop .loop in
     let o = c .before .before .before .mark-over .ensures in
     let long = ordered-long (a .back) (inBoth (a .moves .now) (a .movebytes .now) .numbers) in (
       omega arith,
       passed-next (a .letter) (a .here) (a .there) _ (a .marks .now) (l .marks) _ (l .changed) _ (l .changed) (l .i) _ (omega arith) (l .inv .1)
           (c .before .before .before .before .before .element-from .ensures) (o .0) (o .1) (or-before (l .changed) _ (c .if1 .left)),
     )
-
-same-length : tie.Need-same-length Inv-loop μ-loop
-same-length c = c .before .loop .inv .1 .long
 
 returns : tie.Need-returns Inv-loop μ-loop
 returns c =
@@ -85,18 +75,6 @@ returns c =
 
 pub mark-all-spec : {M : Type 1} → statement M
 mark-all-spec =
-    tie.close
-    (tie.spec
-    Inv-loop
-    μ-loop
-    count-requires
-    loop-holds
-    element-from-requires
-    add-i
-    mark-over-requires
-    loop-less
-    loop-again
-    loop-less-2
-    loop-again-2
-    same-length
-    returns)
+    tie.close (tie.spec
+    Inv-loop μ-loop (λ c κs. search needs) loop-holds element-from-requires (λ c. omega arith) mark-over-requires (λ c. omega arith) loop-again
+    (λ c. omega arith) loop-again-2 (λ c. c .before .loop .inv .1 .long) returns)

@@ -7,36 +7,16 @@ use Rattle.table_fixpoints_spec.proofs.Marking.{over-yes, over-no}
 use Rattle.table_fixpoints.proofs.marks.mark_over.Statement.{statement}
 use Rattle.table_fixpoints.proofs.marks.mark_over.Tie as tie
 
-letter-of-requires : tie.Need-letter-of-requires
-letter-of-requires c κs = search needs
-
 returns : tie.Need-returns
 returns c =
     let a = c .before .before .before .args in
     let other : letterOf (a .t) ≡ a .letter → ⊥ = λ e. omega arith in
     over-no (a .letter) (a .here) (a .there) (a .t) (a .marks .now) other
 
-source-of-requires : tie.Need-source-of-requires
-source-of-requires c κs = search needs
-
-add-mark : tie.Need-add-mark
-add-mark c = search needs
-
-target-of-requires : tie.Need-target-of-requires
-target-of-requires c κs = search needs
-
-add-mark-2 : tie.Need-add-mark-2
-add-mark-2 c = search needs
-
-mark-requires : tie.Need-mark-requires
-mark-requires c κs = search needs
-
-same-length : tie.Need-same-length
-same-length c = search needs
-
 returns-2 : tie.Need-returns-2
 returns-2 c =
-    let a = c .before .before .before .before .before .before .before .before .before .args in
+    let start = c .before .before .before .before .before .before .before .before .before in
+    let a = start .args in
     let e = c .before .before .mark .ensures in
     let source : c .before .before .before .before .source-of .result ≡ sourceOf (a .t) = c .before .before .before .before .source-of .ensures in
     let target : c .before .before .before .target-of .result ≡ targetOf (a .t) = c .before .before .before .target-of .ensures in
@@ -46,14 +26,6 @@ returns-2 c =
 
 pub mark-over-spec : {M : Type 1} → statement M
 mark-over-spec =
-    tie.close
-    (tie.spec
-    letter-of-requires
-    returns
-    source-of-requires
-    add-mark
-    target-of-requires
-    add-mark-2
-    mark-requires
-    same-length
-    returns-2)
+    tie.close (tie.spec
+    (λ c κs. search needs) returns (λ c κs. search needs) (λ c. search needs) (λ c κs. search needs) (λ c. search needs) (λ c κs. search needs)
+    (λ c. search needs) returns-2)

@@ -25,17 +25,12 @@ add-there c =
     let pre = c .before .before .before .before .pre in
     omega (arith, place-room (a .n) (a .p) (length (a .cycle .now)) (pre .1), pre .0 .marked)
 
-add-if1 : tie.Need-add-if1
-add-if1 c = search needs
-
-shared-slice-read-mark-all : tie.Need-shared-slice-read-mark-all
-shared-slice-read-mark-all c = search needs
-
 cast-mark-all : tie.Need-cast-mark-all
 cast-mark-all c = omega (arith, c .shared-slice-known4 .given (c .before .before .before .before .before .before .args .p))
 
 -- the nodes of the place that follows begin there
-follows : (c : tie.Joined1) → c .if1 .there ≡ nextPlace [] (c .before .before .before .before .before .args .cycle .now) (c .before .before .before .before .before .args .p) * c .before .before .before .before .before .args .n
+follows : (c : tie.Joined1) → c .if1 .there ≡ nextPlace [] (c .before .before .before .before .before .args .cycle .now)
+    (c .before .before .before .before .before .args .p) * c .before .before .before .before .before .args .n
 follows c =
     let a = c .before .before .before .before .before .args in
     ⊎-elim
@@ -45,27 +40,15 @@ follows c =
 
 mark-all-requires : tie.Need-mark-all-requires
 mark-all-requires c κs =
-    let a = c .before .before .before .before .before .before .before .args in
-    let pre = c .before .before .before .before .before .before .before .pre in
+    let start = c .before .before .before .before .before .before .before in
+    let a = start .args in
+    let pre = start .pre in
     λ t m. let q = ends-fit (a .n) (a .cycle .now) (inBoth (a .moves .now) (a .movebytes .now) .numbers) (a .marks .now) (a .p) (pre .0) (pre .1) t m in
     (q .0, rw (follows (c .before .before)) (q .1))
-
-same-length : tie.Need-same-length
-same-length c = search needs
 
 returns : tie.Need-returns
 unfolding letterAt
 returns c = all-same _ _ _ _ _ _ _ _ (follows (c .before .before .before .before .before)) (c .before .before .mark-all .ensures)
 
 pub mark-place-spec : {M : Type 1} → statement M
-mark-place-spec =
-    tie.close
-    (tie.spec
-    mul-here
-    add-there
-    add-if1
-    shared-slice-read-mark-all
-    cast-mark-all
-    mark-all-requires
-    same-length
-    returns)
+mark-place-spec = tie.close (tie.spec mul-here add-there (λ c. search needs) (λ c. search needs) cast-mark-all mark-all-requires (λ c. search needs) returns)

@@ -19,41 +19,44 @@ abbrev μ-loop : tie.MeasureT-loop
 loop-holds : tie.Need-loop-holds Inv-loop μ-loop
 loop-holds c = around-start _ _ _ _ (c .before .before .before .before .pre .0 .repeats)
 
-place-before-requires : tie.Need-place-before-requires Inv-loop μ-loop
-place-before-requires c κs = c .before .loop .inv .inside
-
 mark-place-requires : tie.Need-mark-place-requires Inv-loop μ-loop
 mark-place-requires c κs =
+    let start = c .before .before .before .before .before .before .before .before in
     let v = c .before .before .before .loop .inv in
-    (fits-long _ _ _ _ _ (v .marking .long) (c .before .before .before .before .before .before .before .before .pre .0), rw (c .before .place-before .ensures) (before-low _ _ (v .inside)))
+    (fits-long _ _ _ _ _ (v .marking .long) (start .pre .0), rw (c .before .place-before .ensures) (before-low _ _ (v .inside)))
 
 waiting-after-requires : tie.Need-waiting-after-requires Inv-loop μ-loop
 waiting-after-requires c κs = c .before .before .before .before .before .loop-test .taken
 
 -- how many places wait then
-left : (c : tie.After-waiting-after Inv-loop μ-loop) → Left (c .before .before .before .mark-place .result) (c .before .before .before .before .before .before .before .loop .waiting) (c .waiting-after .result)
+left : (c : tie.After-waiting-after Inv-loop μ-loop) → Left (c .before .before .before .mark-place .result) (c .before .before .before .before .before .before .before .loop .waiting)
+    (c .waiting-after .result)
 left c = rw (c .waiting-after .ensures) (left-after _ _ (c .before .before .before .before .before .before .loop-test .taken))
 
+abbrev start-of-after-waiting-after : tie.After-waiting-after Inv-loop μ-loop → tie.Start Inv-loop μ-loop
+start-of-after-waiting-after c = c .before .before .before .before .before .before .before .before .before .before .before .before
+
 -- the marks then
-swept : (c : tie.After-waiting-after Inv-loop μ-loop)
-    → Around (c .before .before .before .before .before .before .before .before .before .before .before .before .args .n) (c .before .before .before .before .before .before .before .before .before .before .before .before .args .cycle .now) (inBoth (c .before .before .before .before .before .before .before .before .before .before .before .before .args .moves .now) (c .before .before .before .before .before .before .before .before .before .before .before .before .args .movebytes .now) .numbers) (c .before .before .before .before .before .before .before .before .before .before .before .before .args .marks .now)
+swept : (c : tie.After-waiting-after Inv-loop μ-loop) → Around (start-of-after-waiting-after c .args .n) (start-of-after-waiting-after c .args .cycle .now)
+    (inBoth (start-of-after-waiting-after c .args .moves .now) (start-of-after-waiting-after c .args .movebytes .now) .numbers) (start-of-after-waiting-after c .args .marks .now)
     (c .before .before .before .mark-place .last .1 .1 .1 .1 .1 .0) (c .before .before .before .before .before .place-before .result) (c .waiting-after .result)
 swept c =
-    let l = c .before .before .before .before .before .before .before .loop in
+    let at-loop = c .before .before .before .before .before .before .before in
+    let l = at-loop .loop in
     let m = c .before .before .before .mark-place .ensures in
-    around-next _ _ _ _ (l .marks) _ (l .back) _ (l .p) _ (l .waiting) _ (fits-long _ _ _ _ _ (l .inv .marking .long) (c .before .before .before .before .before .before .before .before .before .before .before .before .pre .0)) (l .inv) (c .before .before .before .before .before .place-before .ensures) (m .0) (m .1) (left c)
+    around-next _ _ _ _ (l .marks) _ (l .back) _ (l .p) _ (l .waiting) _ (fits-long _ _ _ _ _ (l .inv .marking .long) (start-of-after-waiting-after c .pre .0)) (l .inv)
+    (c .before .before .before .before .before .place-before .ensures) (m .0) (m .1) (left c)
 
 loop-less : tie.Need-loop-less Inv-loop μ-loop
 loop-less c =
-    let l = c .before .before .before .before .before .before .before .loop in
+    let at-loop = c .before .before .before .before .before .before .before in
+    let start = at-loop .before .before .before .before .before in
+    let l = at-loop .loop in
     let m = c .before .before .before .mark-place .ensures in
-    around-less _ _ _ _ (l .marks) _ (l .back) _ _ _ (l .waiting) _ (c .before .before .before .before .before .before .before .before .before .before .before .before .pre .1) (swept c) (m .0) (m .1) (left c)
+    around-less _ _ _ _ (l .marks) _ (l .back) _ _ _ (l .waiting) _ (start .pre .1) (swept c) (m .0) (m .1) (left c)
 
 loop-again : tie.Need-loop-again Inv-loop μ-loop
 loop-again c = swept c
-
-same-length : tie.Need-same-length Inv-loop μ-loop
-same-length c = c .before .loop .inv .marking .long
 
 returns : tie.Need-returns Inv-loop μ-loop
 returns c =
@@ -63,15 +66,6 @@ returns c =
 
 pub mark-until-stable-spec : {M : Type 1} → statement M
 mark-until-stable-spec =
-    tie.close
-    (tie.spec
-    Inv-loop
-    μ-loop
-    loop-holds
-    place-before-requires
-    mark-place-requires
-    waiting-after-requires
-    loop-less
-    loop-again
-    same-length
-    returns)
+    tie.close (tie.spec
+    Inv-loop μ-loop loop-holds (λ c κs. c .before .loop .inv .inside) mark-place-requires waiting-after-requires loop-less loop-again
+    (λ c. c .before .loop .inv .marking .long) returns)

@@ -4,17 +4,11 @@ use Rattle.table_fixpoints_spec.proofs.Waiting.{before-first, before-other}
 use Rattle.table_fixpoints.proofs.rounds.place_before.Statement.{statement}
 use Rattle.table_fixpoints.proofs.rounds.place_before.Tie as tie
 
-sub-result : tie.Need-sub-result
-sub-result c = search needs
-
 returns : tie.Need-returns
 returns c = before-first (c .before .args .c) (c .before .args .p) (c .if1 .taken)
-
-sub-result-2 : tie.Need-sub-result-2
-sub-result-2 c = search needs
 
 returns-2 : tie.Need-returns-2
 returns-2 c = before-other (c .before .args .c) (c .before .args .p) (c .if1 .left)
 
 pub place-before-spec : {M : Type 1} → statement M
-place-before-spec = tie.close (tie.spec sub-result returns sub-result-2 returns-2)
+place-before-spec = tie.close (tie.spec (λ c. search needs) returns (λ c. search needs) returns-2)

@@ -16,35 +16,19 @@ Inv-loop words bytes n s m i₀ i = anyOf (inBoth words bytes .numbers) (isAstra
 abbrev μ-loop : tie.MeasureT-loop
 μ-loop words bytes n s m i₀ i = m - i
 
-count-requires : tie.Need-count-requires Inv-loop μ-loop
-count-requires c κs = search needs
-
-loop-holds : tie.Need-loop-holds Inv-loop μ-loop
-loop-holds c = refl
-
-element-requires : tie.Need-element-requires Inv-loop μ-loop
-element-requires c κs = omega arith
-
-is-astray-requires : tie.Need-is-astray-requires Inv-loop μ-loop
-is-astray-requires c κs = search needs
-
 returns : tie.Need-returns Inv-loop μ-loop
 returns c =
-    let a = c .before .before .before .before .before .before .before .before .args in
+    let start = c .before .before .before .before .before .before .before .before in
+    let a = start .args in
     let xs = inBoth (a .words .now) (a .bytes .now) .numbers in
     let l = c .before .before .before .before .loop in
     let f = isAstray (a .n) (a .s) in
     sym (l .inv ∙ any-stop f xs (l .i) (omega arith) (ap f (sym (c .before .before .element .ensures)) ∙ sym (c .before .is-astray .ensures) ∙ c .if1 .taken))
 
-add-i : tie.Need-add-i Inv-loop μ-loop
-add-i c = search needs
-
-loop-less : tie.Need-loop-less Inv-loop μ-loop
-loop-less c = search needs
-
 loop-again : tie.Need-loop-again Inv-loop μ-loop
 loop-again c =
-    let a = c .before .before .before .before .before .before .before .before .args in
+    let start = c .before .before .before .before .before .before .before .before in
+    let a = start .args in
     let xs = inBoth (a .words .now) (a .bytes .now) .numbers in
     let l = c .before .before .before .before .loop in
     let f = isAstray (a .n) (a .s) in
@@ -59,16 +43,6 @@ returns-2 c =
 
 pub has-astray-spec : {M : Type 1} → statement M
 has-astray-spec =
-    tie.close
-    (tie.spec
-    Inv-loop
-    μ-loop
-    count-requires
-    loop-holds
-    element-requires
-    is-astray-requires
-    returns
-    add-i
-    loop-less
-    loop-again
+    tie.close (tie.spec
+    Inv-loop μ-loop (λ c κs. search needs) (λ c. refl) (λ c κs. omega arith) (λ c κs. search needs) returns (λ c. search needs) (λ c. search needs) loop-again
     returns-2)

@@ -17,33 +17,20 @@ Inv-loop words bytes n i₀ i = anyOf (inBoth words bytes .numbers) isHigh ≡ a
 abbrev μ-loop : tie.MeasureT-loop
 μ-loop words bytes n i₀ i = n - i
 
-count-requires : tie.Need-count-requires Inv-loop μ-loop
-count-requires c κs = search needs
-
-loop-holds : tie.Need-loop-holds Inv-loop μ-loop
-loop-holds c = refl
-
-element-requires : tie.Need-element-requires Inv-loop μ-loop
-element-requires c κs = omega arith
-
 returns : tie.Need-returns Inv-loop μ-loop
 returns c =
-    let a = c .before .before .before .before .before .before .before .args in
+    let start = c .before .before .before .before .before .before .before in
+    let a = start .args in
     let xs = inBoth (a .words .now) (a .bytes .now) .numbers in
     let l = c .before .before .before .loop in
     let x = c .before .element .result in
     let above : 2 ^ 48 ≤ x = omega arith in
     sym (l .inv ∙ any-stop isHigh xs (l .i) (omega arith) (ap isHigh (sym (c .before .element .ensures)) ∙ high x above))
 
-add-i : tie.Need-add-i Inv-loop μ-loop
-add-i c = search needs
-
-loop-less : tie.Need-loop-less Inv-loop μ-loop
-loop-less c = search needs
-
 loop-again : tie.Need-loop-again Inv-loop μ-loop
 loop-again c =
-    let a = c .before .before .before .before .before .before .before .args in
+    let start = c .before .before .before .before .before .before .before in
+    let a = start .args in
     let xs = inBoth (a .words .now) (a .bytes .now) .numbers in
     let l = c .before .before .before .loop in
     let x = c .before .element .result in
@@ -59,15 +46,5 @@ returns-2 c =
 
 pub has-high-spec : {M : Type 1} → statement M
 has-high-spec =
-    tie.close
-    (tie.spec
-    Inv-loop
-    μ-loop
-    count-requires
-    loop-holds
-    element-requires
-    returns
-    add-i
-    loop-less
-    loop-again
-    returns-2)
+    tie.close (tie.spec
+    Inv-loop μ-loop (λ c κs. search needs) (λ c. refl) (λ c κs. omega arith) returns (λ c. search needs) (λ c. search needs) loop-again returns-2)

@@ -18,18 +18,12 @@ Inv-loop words bytes n last₀ i₀ last i =
 abbrev μ-loop : tie.MeasureT-loop
 μ-loop words bytes n last₀ i₀ last i = n - i
 
-count-requires : tie.Need-count-requires Inv-loop μ-loop
-count-requires c κs = search needs
-
 returns : tie.Need-returns Inv-loop μ-loop
 returns c =
     let a = c .before .before .before .before .args in
     let xs = inBoth (a .words .now) (a .bytes .now) .numbers in
     let n = c .before .count .result in
     ascends-none xs n (c .if1 .taken) ∙ ap ascends (take-all n xs (omega arith))
-
-element-requires : tie.Need-element-requires Inv-loop μ-loop
-element-requires c κs = omega arith
 
 loop-holds : tie.Need-loop-holds Inv-loop μ-loop
 loop-holds c =
@@ -38,26 +32,19 @@ loop-holds c =
     let n = c .before .before .count .result in
     (omega arith, rw (c .element .ensures) (ascends-start xs n (omega arith) (omega arith)))
 
-element-requires-2 : tie.Need-element-requires-2 Inv-loop μ-loop
-element-requires-2 c κs = omega arith
-
 returns-2 : tie.Need-returns-2 Inv-loop μ-loop
 returns-2 c =
-    let a = c .before .before .before .before .before .before .before .before .before .args in
+    let start = c .before .before .before .before .before .before .before .before .before in
+    let a = start .args in
     let l = c .before .before .before .loop in
     let xs = inBoth (a .words .now) (a .bytes .now) .numbers in
     let n = c .before .before .before .before .before .before .count .result in
     ascends-not xs n (omega arith) (l .last) (l .i) (omega arith) (omega (arith, c .if2 .taken)) (l .inv .1) ∙ ap ascends (take-all n xs (omega arith))
 
-add-i : tie.Need-add-i Inv-loop μ-loop
-add-i c = search needs
-
-loop-less : tie.Need-loop-less Inv-loop μ-loop
-loop-less c = search needs
-
 loop-again : tie.Need-loop-again Inv-loop μ-loop
 loop-again c =
-    let a = c .before .before .before .before .before .before .before .before .before .args in
+    let start = c .before .before .before .before .before .before .before .before .before in
+    let a = start .args in
     let l = c .before .before .before .loop in
     let xs = inBoth (a .words .now) (a .bytes .now) .numbers in
     let n = c .before .before .before .before .before .before .count .result in
@@ -67,7 +54,8 @@ loop-again c =
 
 returns-3 : tie.Need-returns-3 Inv-loop μ-loop
 returns-3 c =
-    let a = c .before .before .before .before .before .before .before .args in
+    let start = c .before .before .before .before .before .before .before in
+    let a = start .args in
     let l = c .before .loop in
     let xs = inBoth (a .words .now) (a .bytes .now) .numbers in
     let n = c .before .before .before .before .count .result in
@@ -75,17 +63,6 @@ returns-3 c =
 
 pub is-ascending-spec : {M : Type 1} → statement M
 is-ascending-spec =
-    tie.close
-    (tie.spec
-    Inv-loop
-    μ-loop
-    count-requires
-    returns
-    element-requires
-    loop-holds
-    element-requires-2
-    returns-2
-    add-i
-    loop-less
-    loop-again
-    returns-3)
+    tie.close (tie.spec
+    Inv-loop μ-loop (λ c κs. search needs) returns (λ c κs. omega arith) loop-holds (λ c κs. omega arith) returns-2 (λ c. search needs) (λ c. search needs)
+    loop-again returns-3)

@@ -8,24 +8,15 @@ use Rattle.table_rows.proofs.Faults.{source-astray, letter-astray, targ
 use Rattle.table_rows.proofs.checks.is_astray.Statement.{statement}
 use Rattle.table_rows.proofs.checks.is_astray.Tie as tie
 
-source-of-requires : tie.Need-source-of-requires
-source-of-requires c κs = search needs
-
 returns : tie.Need-returns
 returns c =
     let a = c .before .before .args in
     sym (source-astray (a .n) (a .s) (a .t) (omega arith))
 
-letter-of-requires : tie.Need-letter-of-requires
-letter-of-requires c κs = search needs
-
 returns-2 : tie.Need-returns-2
 returns-2 c =
     let a = c .before .before .before .before .args in
     sym (letter-astray (a .n) (a .s) (a .t) (omega arith))
-
-target-of-requires : tie.Need-target-of-requires
-target-of-requires c κs = search needs
 
 returns-3 : tie.Need-returns-3
 returns-3 c =
@@ -41,13 +32,4 @@ returns-4 c =
     sym (in-range (a .n) (a .s) (a .t) source letter target)
 
 pub is-astray-spec : {M : Type 1} → statement M
-is-astray-spec =
-    tie.close
-    (tie.spec
-    source-of-requires
-    returns
-    letter-of-requires
-    returns-2
-    target-of-requires
-    returns-3
-    returns-4)
+is-astray-spec = tie.close (tie.spec (λ c κs. search needs) returns (λ c κs. search needs) returns-2 (λ c κs. search needs) returns-3 returns-4)

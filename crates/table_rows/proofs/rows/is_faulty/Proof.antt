@@ -14,9 +14,6 @@ use Rattle.table_rows.proofs.Faults.{faulty, by-transitions}
 use Rattle.table_rows.proofs.rows.is_faulty.Statement.{statement}
 use Rattle.table_rows.proofs.rows.is_faulty.Tie as tie
 
-count-requires : tie.Need-count-requires
-count-requires c κs = search needs
-
 returns : tie.Need-returns
 returns c =
     let a = c .before .before .before .before .before .before .args in
@@ -24,61 +21,46 @@ returns c =
     let transitions = inBoth (a .moves .now) (a .movebytes .now) .numbers in
     faulty (a .s) codes transitions (λ p. let few = p .few in omega (arith, c .if1 .taken))
 
-is-ascending-requires : tie.Need-is-ascending-requires
-is-ascending-requires c κs = search needs
-
 returns-2 : tie.Need-returns-2
 returns-2 c =
-    let a = c .before .before .before .before .before .before .before .before .args in
+    let start = c .before .before .before .before .before .before .before .before in
+    let a = start .args in
     let codes = inBoth (a .codes .now) (a .codebytes .now) .numbers in
     let transitions = inBoth (a .moves .now) (a .movebytes .now) .numbers in
     faulty (a .s) codes transitions (λ p. clash (p .codes-ascend) (sym (c .before .is-ascending .ensures) ∙ not-true _ (c .if2 .taken)))
 
-is-ascending-requires-2 : tie.Need-is-ascending-requires-2
-is-ascending-requires-2 c κs = search needs
-
 returns-3 : tie.Need-returns-3
 returns-3 c =
-    let a = c .before .before .before .before .before .before .before .before .before .before .args in
+    let start = c .before .before .before .before .before .before .before .before .before .before in
+    let a = start .args in
     let codes = inBoth (a .codes .now) (a .codebytes .now) .numbers in
     let transitions = inBoth (a .moves .now) (a .movebytes .now) .numbers in
     faulty (a .s) codes transitions (λ p. clash (p .transitions-ascend) (sym (c .before .is-ascending2 .ensures) ∙ not-true _ (c .if3 .taken)))
 
-has-high-requires : tie.Need-has-high-requires
-has-high-requires c κs = search needs
-
 returns-4 : tie.Need-returns-4
 returns-4 c =
-    let a = c .before .before .before .before .before .before .before .before .before .before .before .before .args in
+    let start = c .before .before .before .before .before .before .before .before .before .before .before .before in
+    let a = start .args in
     let codes = inBoth (a .codes .now) (a .codebytes .now) .numbers in
     let transitions = inBoth (a .moves .now) (a .movebytes .now) .numbers in
     faulty (a .s) codes transitions (λ p. clash (sym (c .before .has-high .ensures) ∙ c .if4 .taken) (p .none-high))
 
-has-astray-requires : tie.Need-has-astray-requires
-has-astray-requires c κs = search needs
-
 returns-5 : tie.Need-returns-5
 returns-5 c =
-    let a = c .before .before .before .before .before .before .before .before .before .before .before .before .before .args in
+    let at-count = c .before .before .before .before .before .before .before .before in
+    let start = at-count .before .before .before .before .before in
+    let a = start .args in
     let codes = inBoth (a .codes .now) (a .codebytes .now) .numbers in
     let transitions = inBoth (a .moves .now) (a .movebytes .now) .numbers in
     let few : length codes ≤ 65536 = omega arith in
     let codes-ascend : ascends codes ≡ true = sym (c .before .before .before .before .before .before .is-ascending .ensures) ∙ not-false _ (c .before .before .before .before .before .if2 .left) in
     let transitions-ascend : ascends transitions ≡ true = sym (c .before .before .before .before .is-ascending2 .ensures) ∙ not-false _ (c .before .before .before .if3 .left) in
     let none-high : anyOf codes isHigh ≡ false = sym (c .before .before .has-high .ensures) ∙ c .before .if4 .left in
-    c .has-astray .ensures ∙ ap (λ (n : ℕ). anyOf transitions (isAstray n (a .s))) (c .before .before .before .before .before .before .before .before .count .ensures) ∙ sym (by-transitions (a .s) codes transitions few codes-ascend transitions-ascend none-high)
+    c .has-astray .ensures ∙ ap (λ (n : ℕ). anyOf transitions (isAstray n (a .s))) (at-count .count .ensures)
+    ∙ sym (by-transitions (a .s) codes transitions few codes-ascend transitions-ascend none-high)
 
 pub is-faulty-spec : {M : Type 1} → statement M
 is-faulty-spec =
-    tie.close
-    (tie.spec
-    count-requires
-    returns
-    is-ascending-requires
-    returns-2
-    is-ascending-requires-2
-    returns-3
-    has-high-requires
-    returns-4
-    has-astray-requires
+    tie.close (tie.spec
+    (λ c κs. search needs) returns (λ c κs. search needs) returns-2 (λ c κs. search needs) returns-3 (λ c κs. search needs) returns-4 (λ c κs. search needs)
     returns-5)

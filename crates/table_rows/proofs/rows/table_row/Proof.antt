@@ -23,19 +23,18 @@ returns-2 c =
     let transitions = inBoth (a .moves .now) (a .movebytes .now) in
     refused (a .s) codes transitions (λ z. let e = rest-none (a .moves .now) (a .movebytes .now) (parts (a .s) codes transitions z .1) in omega (arith, c .if2 .taken))
 
-is-faulty-requires : tie.Need-is-faulty-requires
-is-faulty-requires c κs = search needs
-
 returns-3 : tie.Need-returns-3
 returns-3 c =
-    let a = c .before .before .before .before .before .before .before .before .args in
+    let start = c .before .before .before .before .before .before .before .before in
+    let a = start .args in
     let codes = inBoth (a .codes .now) (a .codebytes .now) in
     let transitions = inBoth (a .moves .now) (a .movebytes .now) in
     faulty-refused (a .s) codes transitions (c .before .is-faulty .ensures) (c .if3 .taken)
 
 returns-4 : tie.Need-returns-4
 returns-4 c =
-    let a = c .before .before .before .before .before .before .before .before .args in
+    let start = c .before .before .before .before .before .before .before .before in
+    let a = start .args in
     let codes = inBoth (a .codes .now) (a .codebytes .now) in
     let transitions = inBoth (a .moves .now) (a .movebytes .now) in
     let codes-whole : length (a .codebytes .now) % 8 ≡ 0 = omega arith in
@@ -44,4 +43,4 @@ returns-4 c =
     (c .if3 .left)
 
 pub table-row-spec : {M : Type 1} → statement M
-table-row-spec = tie.close (tie.spec returns returns-2 is-faulty-requires returns-3 returns-4)
+table-row-spec = tie.close (tie.spec returns returns-2 (λ c κs. search needs) returns-3 returns-4)
