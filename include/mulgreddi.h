@@ -266,7 +266,7 @@ typedef struct {
  * scratch P bytes; both builds' counts tell P beforehand. With no, the start of word becomes the letters of a word that a accepts and b
  * rejects, lead-in then cycle, at most 3 * P together and perhaps over 32 each; which of several it is, is not laid down. The rest of word,
  * and with yes all of it, is not touched. scratch is zero throughout afterwards.
- * Its time grows with the pairs of cores from which both tables can go on, and with P for zeroing scratch: P of 250 million took 2.2 seconds
+ * Its time grows with the pairs of cores from which both tables can go on, and with P for zeroing scratch: P of 250 million took 2.4 seconds
  * besides the builds, 1,590 million with few such pairs 0.1 seconds.
  * Refusals: the rule's of a, then of b, 28, 17 and 18 by the table of a, 17 and 18 by that of b, 29. 17, 18 and 29 set all four rooms to
  * zero throughout; no refusal changes word or scratch. */
