@@ -1,26 +1,12 @@
 // The rows 3 to 6 and 8 to 10 that try a rule's numbers, counts and clauses.
 use rule_entries::Head;
+use slice_search::any_from;
 ghost use mathlib.Core.Path.{_≡_};
 ghost use Prim.Native.Nat.{_≤_};
 ghost use lib.ListN.{length};
-ghost use lib.Dec.{leb};
-ghost use Rattle.sets.specs.Lists.{anyOf, sum};
+ghost use Rattle.sets.specs.Lists.{sum};
 ghost use Rattle.refusals.specs.Rows.{firstRow};
 ghost use Rattle.file_spec.specs.RuleRows.{numberRows, listRows};
-
-// Whether some byte is k or more.
-fn any_from(xs: &[u8], k: usize) -> bool
-    ensures { λ r. ⌜ r ≡ anyOf (now (xs .entry)) (leb k) ⌝ }
-{
-    let mut i = 0;
-    while i < xs.len() {
-        if k <= xs[i] as usize {
-            return true;
-        }
-        i += 1;
-    }
-    false
-}
 
 // The sum of the bytes.
 fn total(xs: &[u8]) -> usize

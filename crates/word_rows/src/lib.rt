@@ -1,10 +1,9 @@
 // Words: a lead-in and a cycle, one letter a byte.
+use slice_search::any_from;
 ghost use mathlib.Core.Path.{_≡_};
 ghost use mathlib.Core.List.{List};
 ghost use Prim.Native.Nat.{ℕ, _+_, _<_};
-ghost use lib.Dec.{leb};
 ghost use lib.ListN.{length};
-ghost use Rattle.sets.specs.Lists.{anyOf};
 ghost use Rattle.theory.specs.Word.{letterAt, nextPlace};
 ghost use Rattle.word_rows.specs.Words.{lengthRow, wordRow};
 
@@ -24,20 +23,6 @@ pub fn length_row(lead: &[u8], cycle: &[u8]) -> u8
     0
 }
 
-// Whether a letter is not below s.
-fn letter_over(letters: &[u8], s: usize) -> bool
-    ensures { λ r. ⌜ r ≡ anyOf (now (letters .entry)) (λ a. leb s a) ⌝ }
-{
-    let mut i = 0;
-    while i < letters.len() {
-        if s <= letters[i] as usize {
-            return true;
-        }
-        i += 1;
-    }
-    false
-}
-
 // The first of rows 12 to 14 that refuses the word over s letters, or 0.
 pub fn word_row(s: usize, lead: &[u8], cycle: &[u8]) -> u8
     ensures { λ r. ⌜ r ≡ wordRow s (now (lead .entry)) (now (cycle .entry)) ⌝ }
@@ -46,10 +31,10 @@ pub fn word_row(s: usize, lead: &[u8], cycle: &[u8]) -> u8
     if row != 0 {
         return row;
     }
-    if letter_over(lead, s) {
+    if any_from(lead, s) {
         return 14;
     }
-    if letter_over(cycle, s) {
+    if any_from(cycle, s) {
         return 14;
     }
     0

@@ -17,22 +17,22 @@ returns-2 : tie.Need-returns-2
 returns-2 c =
     let a = c .before .before .before .before .before .before .args in
     let none : lengthRow (a .lead .now) (a .cycle .now) ≡ 0 = sym (c .before .before .before .length-row .ensures) ∙ c .before .before .if1 .left in
-    sym (lead-letter (a .s) (a .lead .now) (a .cycle .now) none (sym (c .before .letter-over .ensures) ∙ c .if2 .taken))
+    sym (lead-letter (a .s) (a .lead .now) (a .cycle .now) none (sym (c .before .any-from .ensures) ∙ c .if2 .taken))
 
 returns-3 : tie.Need-returns-3
 returns-3 c =
     let start = c .before .before .before .before .before .before .before .before in
     let a = start .args in
     let none : lengthRow (a .lead .now) (a .cycle .now) ≡ 0 = sym (c .before .before .before .before .before .length-row .ensures) ∙ c .before .before .before .before .if1 .left in
-    sym (cycle-letter (a .s) (a .lead .now) (a .cycle .now) none (sym (c .before .letter-over2 .ensures) ∙ c .if3 .taken))
+    sym (cycle-letter (a .s) (a .lead .now) (a .cycle .now) none (sym (c .before .any-from2 .ensures) ∙ c .if3 .taken))
 
 returns-4 : tie.Need-returns-4
 returns-4 c =
     let start = c .before .before .before .before .before .before .before .before in
     let a = start .args in
     let none : lengthRow (a .lead .now) (a .cycle .now) ≡ 0 = sym (c .before .before .before .before .before .length-row .ensures) ∙ c .before .before .before .before .if1 .left in
-    sym (no-word-row (a .s) (a .lead .now) (a .cycle .now) none (sym (c .before .before .before .letter-over .ensures) ∙ c .before .before .if2 .left)
-    (sym (c .before .letter-over2 .ensures) ∙ c .if3 .left))
+    sym (no-word-row (a .s) (a .lead .now) (a .cycle .now) none (sym (c .before .before .before .any-from .ensures) ∙ c .before .before .if2 .left)
+    (sym (c .before .any-from2 .ensures) ∙ c .if3 .left))
 
 pub word-row-spec : {M : Type 1} → statement M
 word-row-spec = tie.close (tie.spec (λ c κs. search needs) returns (λ c κs. search needs) returns-2 (λ c κs. search needs) returns-3 returns-4)
