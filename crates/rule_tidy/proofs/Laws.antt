@@ -1,6 +1,6 @@
 -- Laws of tidying on masks of eight states: containment as a conjunction, one clause of an entry more, one entry more.
 use mathlib.Core.Path.{_≡_, refl, sym, _∙_, ap, ap₂}
-use mathlib.Core.Bool.{true, false}
+use mathlib.Core.Bool.{Bool, true, false, not}
 use mathlib.Core.List.{List, _++_}
 use Prim.Native.Nat.{ℕ, suc, _+_, _-_, _≤_, _<_}
 use native.Mathlib.Omega.{arith}
@@ -17,29 +17,34 @@ use Rattle.sets.proofs.Bits.{subset-and}
 use Rattle.sets.proofs.Members.{inside-at, inside-all}
 use Rattle.sets.proofs.Walks.{drop-next}
 use Rattle.rule_tidy_spec.specs.Tidy.{contains, properlyContains, drops, tidyFrom}
-use Rattle.rule_tidy_spec.proofs.Contains.{contains-antisym, properly-irrefl}
+use Rattle.rule_tidy_spec.proofs.Contains.{contains-refl, contains-antisym, properly-irrefl}
 use Rattle.rule_tidy_spec.proofs.Minimal.{tidy-drop, tidy-keep}
-use Rattle.rule_tidy.specs.Filled.{filled, keptWith, Kept}
+use Rattle.rule_tidy.specs.Filled.{containing, filled, keptWith, Kept}
 
 -- ---- one clause in another
 
 -- c contains d exactly if c leaves d as it is
-pub contains-and : (c d : ℕ) → d < 256 → eqb (bitAnd d c) d ≡ contains 8 c d
+contains-and : (c d : ℕ) → d < 256 → eqb (bitAnd d c) d ≡ contains 8 c d
 contains-and c d l =
     iff (eqb (bitAnd d c) d) (contains 8 c d)
     (λ e. inside-all 8 (bit c) d (subset-and 8 d c l .1 (eqb-true (bitAnd d c) d e)))
     (λ e. eq-eqb (bitAnd d c) d (subset-and 8 d c l .0 (inside-at 8 (bit c) d e)))
 
-pub properly-same : (c d : ℕ) → c ≡ d → false ≡ properlyContains 8 c d
-properly-same c d e = rw (← e) (sym (properly-irrefl 8 c))
-
 -- two clauses: containment is proper
-pub properly-other : (c d : ℕ) → c < 256 → d < 256 → (c ≡ d → ⊥) → contains 8 c d ≡ properlyContains 8 c d
+properly-other : (c d : ℕ) → c < 256 → d < 256 → (c ≡ d → ⊥) → contains 8 c d ≡ properlyContains 8 c d
 unfolding properlyContains
 properly-other c d k l n =
     bif (contains 8 c d)
     (λ t. bif (contains 8 d c) (λ v. absurd (n (contains-antisym 8 c d k l t v))) (λ v. rw (t, v)))
     (λ t. rw t)
+
+pub containing-same : (properly : Bool) (c d : ℕ) → c ≡ d → not properly ≡ containing properly c d
+containing-same true c d e = rw (← e) (sym (properly-irrefl 8 c))
+containing-same false c d e = rw (← e) (sym (contains-refl 8 c))
+
+pub containing-other : (properly : Bool) (c d : ℕ) → c < 256 → d < 256 → (c ≡ d → ⊥) → eqb (bitAnd d c) d ≡ containing properly c d
+containing-other true c d k l n = contains-and c d l ∙ properly-other c d k l n
+containing-other false c d k l n = contains-and c d l
 
 -- ---- one clause of an entry
 

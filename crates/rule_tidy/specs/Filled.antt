@@ -1,10 +1,16 @@
--- What a slice holds that is filled from its start.
+-- The two ways to contain a clause, and what a slice holds that is filled from its start.
 use mathlib.Core.Path.{_≡_}
-use mathlib.Core.Bool.{cond}
+use mathlib.Core.Bool.{Bool, true, false, cond}
 use mathlib.Core.List.{List, [], _∷_, _++_}
 use Prim.Native.Nat.{ℕ, _+_, _≤_}
 use lib.ListN.{length, take, drop}
-use Rattle.rule_tidy_spec.specs.Tidy.{drops}
+use Rattle.sets.specs.Tests.{Set}
+use Rattle.rule_tidy_spec.specs.Tidy.{contains, properlyContains, drops}
+
+-- the clause c, a mask of eight states, contains another, or contains it properly
+abbrev pub containing : Bool → ℕ → Set
+containing true = properlyContains 8
+containing false = contains 8
 
 -- 02: "fills lent slices from their start and leaves the rest as lent": front stands at the start of the slice that held old
 abbrev pub filled : List ℕ → List ℕ → List ℕ

@@ -6,47 +6,27 @@ ghost use lib.ListN.{length, take};
 ghost use Rattle.sets.specs.Lists.{anyOf, sum};
 ghost use Rattle.theory.specs.Passing.{WellFormed};
 ghost use Rattle.rule_entries.specs.Entries.{ruleOf};
-ghost use Rattle.rule_tidy_spec.specs.Tidy.{contains, properlyContains, drops, tidyEntry, tidyCounts, tidyClauses, tidyRule};
-ghost use Rattle.rule_tidy.specs.Filled.{filled, Kept};
+ghost use Rattle.rule_tidy_spec.specs.Tidy.{drops, tidyEntry, tidyCounts, tidyClauses, tidyRule};
+ghost use Rattle.rule_tidy.specs.Filled.{containing, filled, Kept};
 
-// Whether the clause c contains the clause d.
-fn contains_clause(c: u8, d: u8) -> bool
-    ensures { λ r. ⌜ r ≡ contains 8 c d ⌝ }
+// Whether the clause c contains the clause d, or contains it properly. A clause contains itself, and not properly; another
+// is contained properly or not at all.
+fn contains_clause(c: u8, d: u8, properly: bool) -> bool
+    ensures { λ r. ⌜ r ≡ containing properly c d ⌝ }
 {
+    if c == d {
+        return !properly;
+    }
     d & c == d
 }
 
-// Whether the clause c properly contains the clause d.
-fn properly_contains_clause(c: u8, d: u8) -> bool
-    ensures { λ r. ⌜ r ≡ properlyContains 8 c d ⌝ }
-{
-    if c == d {
-        return false;
-    }
-    contains_clause(c, d)
-}
-
-// Whether the clause c contains one of the clauses.
-fn contains_any(c: u8, clauses: &[u8]) -> bool
-    ensures { λ r. ⌜ r ≡ anyOf (now (clauses .entry)) (contains 8 c) ⌝ }
+// Whether it does so for one of the clauses.
+fn contains_any(c: u8, clauses: &[u8], properly: bool) -> bool
+    ensures { λ r. ⌜ r ≡ anyOf (now (clauses .entry)) (containing properly c) ⌝ }
 {
     let mut j = 0;
     while j < clauses.len() {
-        if contains_clause(c, clauses[j]) {
-            return true;
-        }
-        j += 1;
-    }
-    false
-}
-
-// Whether the clause c properly contains one of the clauses.
-fn properly_contains_any(c: u8, clauses: &[u8]) -> bool
-    ensures { λ r. ⌜ r ≡ anyOf (now (clauses .entry)) (properlyContains 8 c) ⌝ }
-{
-    let mut j = 0;
-    while j < clauses.len() {
-        if properly_contains_clause(c, clauses[j]) {
+        if contains_clause(c, clauses[j], properly) {
             return true;
         }
         j += 1;
@@ -58,10 +38,10 @@ fn properly_contains_any(c: u8, clauses: &[u8]) -> bool
 fn is_dropped(clauses: &[u8], kept: &[u8], c: u8) -> bool
     ensures { λ r. ⌜ r ≡ drops 8 (now (clauses .entry)) (now (kept .entry)) c ⌝ }
 {
-    if contains_any(c, kept) {
+    if contains_any(c, kept, false) {
         return true;
     }
-    properly_contains_any(c, clauses)
+    contains_any(c, clauses, true)
 }
 
 // Puts the clause c of an entry after the first k elements of out, which are the clauses kept before it, unless it is dropped.

@@ -1,4 +1,4 @@
--- `rule_tidy::contains_any` meets its contract: no clause passed is contained.
+-- `rule_tidy::contains_any` meets its contract: no clause passed is contained so.
 use Prim.Native.Nat.{_-_, _≤_}
 use mathlib.Core.Path.{_≡_, refl, sym, _∙_}
 use mathlib.Core.Bool.{true, false}
@@ -7,15 +7,15 @@ use borrow.Author.Needs.{needs}
 use lib.ListN.{length, drop, getD}
 use Rattle.sets.specs.Lists.{anyOf}
 use Rattle.sets.proofs.Walks.{any-next, any-stop, any-end}
-use Rattle.rule_tidy_spec.specs.Tidy.{contains}
+use Rattle.rule_tidy.specs.Filled.{containing}
 use Rattle.rule_tidy.proofs.contains_any.Statement.{statement}
 use Rattle.rule_tidy.proofs.contains_any.Tie as tie
 
 abbrev Inv-loop : tie.InvT-loop
-Inv-loop c clauses j₀ j = (j ≤ length clauses) × (anyOf clauses (contains 8 c) ≡ anyOf (drop j clauses) (contains 8 c))
+Inv-loop c clauses properly j₀ j = (j ≤ length clauses) × (anyOf clauses (containing properly c) ≡ anyOf (drop j clauses) (containing properly c))
 
 abbrev μ-loop : tie.MeasureT-loop
-μ-loop c clauses j₀ j = length clauses - j
+μ-loop c clauses properly j₀ j = length clauses - j
 
 loop-holds : tie.Need-loop-holds Inv-loop μ-loop
 loop-holds c = (omega arith, refl)
@@ -24,21 +24,21 @@ returns : tie.Need-returns Inv-loop μ-loop
 returns c =
     let a = c .before .before .before .before .before .before .args in
     let l = c .before .before .before .before .loop in
-    let e : contains 8 (a .c) (getD (a .clauses .now) (l .j) 0) ≡ true = sym (c .before .contains-clause .ensures) ∙ c .if1 .taken in
-    sym (l .inv .1 ∙ any-stop (contains 8 (a .c)) (a .clauses .now) (l .j) (omega arith) e)
+    let e : containing (a .properly) (a .c) (getD (a .clauses .now) (l .j) 0) ≡ true = sym (c .before .contains-clause .ensures) ∙ c .if1 .taken in
+    sym (l .inv .1 ∙ any-stop (containing (a .properly) (a .c)) (a .clauses .now) (l .j) (omega arith) e)
 
 loop-again : tie.Need-loop-again Inv-loop μ-loop
 loop-again c =
     let a = c .before .before .before .before .before .before .args in
     let l = c .before .before .before .before .loop in
-    let e : contains 8 (a .c) (getD (a .clauses .now) (l .j) 0) ≡ false = sym (c .before .contains-clause .ensures) ∙ c .if1 .left in
-    (omega arith, l .inv .1 ∙ any-next (contains 8 (a .c)) (a .clauses .now) (l .j) (omega arith) e)
+    let e : containing (a .properly) (a .c) (getD (a .clauses .now) (l .j) 0) ≡ false = sym (c .before .contains-clause .ensures) ∙ c .if1 .left in
+    (omega arith, l .inv .1 ∙ any-next (containing (a .properly) (a .c)) (a .clauses .now) (l .j) (omega arith) e)
 
 returns-2 : tie.Need-returns-2 Inv-loop μ-loop
 returns-2 c =
     let a = c .before .before .before .args in
     let l = c .before .loop in
-    sym (l .inv .1 ∙ any-end (contains 8 (a .c)) (a .clauses .now) (l .j) (c .loop-test .left))
+    sym (l .inv .1 ∙ any-end (containing (a .properly) (a .c)) (a .clauses .now) (l .j) (c .loop-test .left))
 
 pub contains-any-spec : {M : Type 1} → statement M
 contains-any-spec =

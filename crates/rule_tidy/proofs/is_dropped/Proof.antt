@@ -13,7 +13,7 @@ returns c =
 returns-2 : tie.Need-returns-2
 returns-2 c =
     let a = c .before .before .before .before .before .args in
-    c .properly-contains-any .ensures ∙ drops-rest (a .clauses .now) (a .kept .now) (a .c) (sym (c .before .before .contains-any .ensures) ∙ c .before .if1 .left)
+    c .contains-any2 .ensures ∙ drops-rest (a .clauses .now) (a .kept .now) (a .c) (sym (c .before .before .contains-any .ensures) ∙ c .before .if1 .left)
 
 pub is-dropped-spec : {M : Type 1} → statement M
 is-dropped-spec = tie.close (tie.spec (λ c κs. search needs) returns (λ c κs. search needs) returns-2)
