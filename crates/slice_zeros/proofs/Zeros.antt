@@ -1,5 +1,5 @@
 -- Zeros, one or eight more.
-use mathlib.Core.Path.{_≡_, ap, _∙_}
+use mathlib.Core.Path.{_≡_, sym, ap, subst, _∙_}
 use mathlib.Core.Logic.{by-cases}
 use mathlib.Core.List.{List}
 use Prim.Native.Nat.{ℕ, zero, suc, _+_, _-_, _≤_, _<_}
@@ -38,3 +38,15 @@ module _ (xs : List ℕ) where
         let s : i + (x - i) ≡ x = omega arith in
         rw s at (digits-zero 8 (λ j. getD xs (i + j) 0) e (x - i) (omega arith)));
   }
+
+-- ---- searches that pass over zeros, by a fact that holds where the element is 0
+
+module _ (xs : List ℕ) (F : ℕ → Type 0) (zero-holds : (y : ℕ) → getD xs y 0 ≡ 0 → F y) (from : ℕ) where
+  pub over-zeros : (r : ℕ) → Zeros xs from r → (y : ℕ) → from ≤ y → y < r → F y
+  over-zeros r z y a b = zero-holds y (z .zeros y a b)
+
+  -- place x is looked at, and zeros come after it
+  pub over-next : (x r : ℕ) → ((y : ℕ) → from ≤ y → y < x → F y) → F x → Zeros xs (x + 1) r → (y : ℕ) → from ≤ y → y < r → F y
+  over-next x r h f z y a b =
+      by-cases (decLt y x) (h y a)
+      (λ n. by-cases (ℕ-discrete y x) (λ e. subst F (sym e) f) (λ e. zero-holds y (z .zeros y (omega arith) b)))

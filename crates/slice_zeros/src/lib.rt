@@ -1,8 +1,10 @@
 // Places of a byte slice that are not 0, eight bytes at a time where all of them are.
 use codes::word_at;
-ghost use Prim.Native.Nat.{_≤_};
+ghost use mathlib.Core.Path.{_≡_};
+ghost use mathlib.Core.Bool.{true, false};
+ghost use Prim.Native.Nat.{_≤_, _<_};
 ghost use lib.ListN.{length};
-ghost use Rattle.slice_zeros.specs.Zeros.{Zeros, NextSet};
+ghost use Rattle.slice_zeros.specs.Zeros.{Zeros, NextSet, NextBetween};
 
 // A place from `from` on, up to `to`, before which all bytes are 0: it steps by eight.
 fn skip_words(xs: &[u8], from: usize, to: usize) -> usize
@@ -32,4 +34,29 @@ pub fn next_set(xs: &[u8], from: usize, to: usize) -> usize
         i += 1;
     }
     i
+}
+
+// Whether the byte v is `low` or more and below `high`.
+fn is_between(v: u8, low: u8, high: u8) -> bool
+    ensures { λ r. ⌜ (r ≡ true → (low ≤ v) × (v < high)) × (r ≡ false → low ≤ v → high ≤ v) ⌝ }
+{
+    if v < low {
+        return false;
+    }
+    v < high
+}
+
+// The first place from `from` on, below `to`, whose byte is `low` or more and below `high`; `to` where there is none. Zeros are passed over.
+pub fn next_between(xs: &[u8], from: usize, to: usize, low: u8, high: u8) -> usize
+    requires { ⌜ (from ≤ to) × (to ≤ length (now xs)) × (0 < low) ⌝ }
+    ensures { λ r. ⌜ NextBetween low high (now (xs .entry)) from to r ⌝ }
+{
+    let mut x = next_set(xs, from, to);
+    while x < to {
+        if is_between(xs[x], low, high) {
+            return x;
+        }
+        x = next_set(xs, x + 1, to);
+    }
+    x
 }

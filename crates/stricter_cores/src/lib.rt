@@ -1,5 +1,6 @@
 // Rounds over the pairs of cores of two tagged tables: once pairs go out that lead to none that is in, then for each component of either
 // table those that cannot reach a step that spares it, until none goes out.
+use slice_zeros::next_between;
 use slice_zeros::next_set;
 use stricter_core_rows::Asked;
 use stricter_core_rows::cut_row;
@@ -13,7 +14,7 @@ ghost use Rattle.stricter_laws.specs.Pairs.{RowCut};
 ghost use Rattle.stricter_cores_spec.specs.Tags.{rowOf, untagged};
 ghost use Rattle.stricter_cores_spec.specs.Steps.{CoreStep, SparedStep, CoresFit, standsIn, OnlyCores};
 ghost use Rattle.stricter_cores_spec.specs.Rounds.{Tried, Swept, Round, Narrowed, AllSound, Pass};
-ghost use Rattle.stricter_cores_laws.specs.Parts.{Ready, Begun, Waiting, Settled, Side, Thinned};
+ghost use Rattle.stricter_cores_laws.specs.Parts.{Ready, Begun, Settled, Side, Thinned};
 
 // ---- sweeps
 
@@ -23,21 +24,6 @@ fn stands(acodes: &[u64], i: usize) -> bool
     ensures { λ r. ⌜ r ≡ standsIn (now (acodes .entry)) i ⌝ }
 {
     (acodes[i] >> 48) as usize == i
-}
-
-// The first place from `from` on, below `to`, of a pair that is in and not marked, or `to`.
-fn first_waiting(marks: &[u8], from: usize, to: usize) -> usize
-    requires { ⌜ (from ≤ to) × (to ≤ length (now marks)) ⌝ }
-    ensures { λ r. ⌜ Waiting (now (marks .entry)) from to r ⌝ }
-{
-    let mut x = next_set(marks, from, to);
-    while x < to {
-        if marks[x] == 1 {
-            return x;
-        }
-        x = next_set(marks, x + 1, to);
-    }
-    x
 }
 
 // Marks the pair of core i, whose row is cut, and core j if it is in, not marked, and a step that spares the component asked for leads to
@@ -103,7 +89,8 @@ fn sweep_row(
     changed
 }
 
-// The same for the pairs of number i, none of which is in if it does not stand for its core.
+// The same for the pairs of number i, none of which is in if it does not stand for its core. A row is cut where a pair is in and not
+// marked.
 fn visit_row(
     acodes: &[u64],
     left: &[u64],
@@ -124,7 +111,7 @@ fn visit_row(
     }
     let row = i * nb;
     let end = row + nb;
-    let first = first_waiting(marks, row, end);
+    let first = next_between(marks, row, end, 1, 2);
     if first == end {
         return false;
     }

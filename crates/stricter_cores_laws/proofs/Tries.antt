@@ -12,7 +12,7 @@ use Rattle.sets.proofs.Bools.{bif, or-cases, or-fl, or-fr}
 use Rattle.graph_walks.proofs.Sums.{split-set, has-place, sum-set}
 use Rattle.stricter_cores_spec.specs.Steps.{OnlyCores}
 use Rattle.stricter_cores_spec.specs.Rounds.{Toward, Stuck, Leading, Marking, Tried, Swept}
-use Rattle.stricter_cores_laws.specs.Parts.{Begun, Waiting}
+use Rattle.stricter_cores_laws.specs.Parts.{Begun}
 use Rattle.stricter_cores_laws.proofs.Fitting.{only-sub}
 
 -- marks of at most 2
@@ -20,24 +20,6 @@ pub sum-most : (ms : List ℕ) → ((x : ℕ) → getD ms x 0 ≤ 2) → sum ms 
 unfolding sum
 sum-most [] h = omega arith
 sum-most (m ∷ ms) h = let ih = sum-most ms (λ x. h (suc x)) in omega (arith, h 0)
-
--- ---- a node that waits
-
-module _ (ms : List ℕ) (from to : ℕ) where
-  -- zeros up to r
-  pub waiting-start : (r : ℕ) → from ≤ r → r ≤ to → ((x : ℕ) → from ≤ x → x < r → getD ms x 0 ≡ 0) → Waiting ms from to r
-  waiting-start r f t o = record { ordered = f; within = t; none = λ x a b h. let z = o x a b in omega arith }
-
-  -- node x is not 1, and after it come zeros up to r
-  pub waiting-next : (x r : ℕ) → Waiting ms from to x → (getD ms x 0 ≡ 1 → ⊥) → x + 1 ≤ r → r ≤ to
-      → ((y : ℕ) → x + 1 ≤ y → y < r → getD ms y 0 ≡ 0) → Waiting ms from to r
-  waiting-next x r w n f t o = record {
-    ordered = omega (arith, w .ordered);
-    within = t;
-    none = λ y a b h. by-cases (decLt y x) (λ l. w .none y a l h) (λ l. by-cases (ℕ-discrete y x)
-        (λ q. n (subst (λ (k : ℕ). getD ms k 0 ≡ 1) q h))
-        (λ q. let z = o y (omega arith) b in omega arith));
-  }
 
 module _ (E F : ℕ → ℕ → Type 0) where
   -- ---- marking

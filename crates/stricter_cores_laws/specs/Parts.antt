@@ -23,12 +23,6 @@ pub record Begun (E F : ℕ → ℕ → Type 0) (codes : List ℕ) (nb : ℕ) (m
   pub cores : OnlyCores codes nb base
   pub marking : Marking E F base ms
 
--- the nodes from `from` up to r, which is at most `to`, are not 1
-pub record Waiting (ms : List ℕ) (from to r : ℕ) : Type 0 where
-  pub ordered : from ≤ r
-  pub within : r ≤ to
-  pub none : (x : ℕ) → from ≤ x → x < r → getD ms x 0 ≡ 1 → ⊥
-
 -- the nodes from `from` up to `to` are settled: 2 becomes 1, less becomes 0; whether there was a 1
 pub record Settled (from to : ℕ) (old new : List ℕ) (changed : Bool) : Type 0 where
   pub long : length new ≡ length old

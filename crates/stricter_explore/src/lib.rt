@@ -5,18 +5,20 @@ use codes::letter_of;
 use codes::source_of;
 use codes::target_of;
 use slice_search::place;
+use slice_zeros::next_between;
 use slice_zeros::next_set;
 use stricter_rows::cut_row;
 ghost use mathlib.Core.Path.{_≡_};
-ghost use mathlib.Core.Bool.{true, false};
+ghost use mathlib.Core.Bool.{true};
 ghost use mathlib.Core.List.{List·Memᴰ};
 ghost use Prim.Native.Nat.{ℕ, _+_, _*_, _≤_, _<_};
 ghost use lib.ListN.{length, getD};
 ghost use Rattle.sets.specs.Tests.{one};
 ghost use Rattle.theory.specs.Macrostate.{isAccepting};
 ghost use Rattle.theory.specs.Run.{targetOf};
+ghost use Rattle.slice_zeros.specs.Zeros.{NextBetween};
 ghost use Rattle.stricter_laws.specs.Pairs.{PairStep, PairEdge, Paired, Fits, RowCut, Beside};
-ghost use Rattle.stricter_forest.specs.Forest.{kindIn, Marked, Tried, Cleared, Waits, NextWaiting, Passed, Exhausted, Explored};
+ghost use Rattle.stricter_forest.specs.Forest.{kindIn, Marked, Tried, Cleared, Waits, Passed, Exhausted, Explored};
 
 // ---- one pair's steps
 
@@ -91,29 +93,12 @@ fn kind(a: u64, b: u64) -> u8
     0
 }
 
-// Whether a pair that has the byte was met and waits for its steps to be tried.
-fn waits(v: u8) -> bool
-    ensures { λ r. ⌜ (r ≡ true → (1 < v) × (v < 128)) × (r ≡ false → 1 < v → 128 ≤ v) ⌝ }
-{
-    if v < 2 {
-        return false;
-    }
-    v < 128
-}
-
-// The first pair from `from` on, below `to`, that waits; `to` where there is none.
+// The first pair from `from` on, below `to`, that was met and waits for its steps to be tried; `to` where there is none.
 fn next_waiting(marks: &[u8], from: usize, to: usize) -> usize
     requires { ⌜ (from ≤ to) × (to ≤ length (now marks)) ⌝ }
-    ensures { λ r. ⌜ NextWaiting (now (marks .entry)) from to r ⌝ }
+    ensures { λ r. ⌜ NextBetween 2 128 (now (marks .entry)) from to r ⌝ }
 {
-    let mut x = next_set(marks, from, to);
-    while x < to {
-        if waits(marks[x]) {
-            return x;
-        }
-        x = next_set(marks, x + 1, to);
-    }
-    x
+    next_between(marks, from, to, 2, 128)
 }
 
 // Tries the steps of the pair of number i, whose row is cut, and number j, which waits for it.

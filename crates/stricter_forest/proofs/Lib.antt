@@ -6,4 +6,3 @@ pub mod Reach
 pub mod Routes
 pub mod Parents
 pub mod Words
-pub mod Skips

@@ -54,13 +54,6 @@ pub record Waits (ms : List ℕ) (x : ℕ) : Type 0 where
 abbrev pub NoneWaits : List ℕ → ℕ → ℕ → Type 0
 NoneWaits ms from to = (x : ℕ) → from ≤ x → x < to → 1 < getD ms x 0 → 128 ≤ getD ms x 0
 
--- r is the first node from `from` on, below `to`, that waits, or `to`
-pub record NextWaiting (ms : List ℕ) (from to r : ℕ) : Type 0 where
-  pub ordered : from ≤ r
-  pub within : r ≤ to
-  pub before : NoneWaits ms from r
-  pub waits : r < to → Waits ms r
-
 module _ (S : ℕ → ℕ → ℕ → Type 0) where
   -- from o, in one step or more, along nodes that are in
   pub data Reaches (ms : List ℕ) (o : ℕ) : ℕ → Type 0 where

@@ -2,14 +2,14 @@
 use mathlib.Core.Path.{_≡_, sym, ap, _∙_}
 use mathlib.Core.Bool.{true, false, _&&_}
 use mathlib.Core.List.{List}
-use mathlib.Core.Logic.{by-cases}
 use Prim.Native.Nat.{ℕ, _+_, _-_, _*_, _≤_, _<_}
 use native.Mathlib.Omega.{arith}
-use native.Mathlib.Decide.{ℕ-discrete, decLt}
 use lib.ListN.{length, getD}
 use Rattle.sets.specs.Tests.{Set}
 use Rattle.sets.proofs.Bools.{and-l, and-r, and-i, clash}
 use Rattle.theory.specs.Macrostate.{begun}
+use Rattle.slice_zeros.specs.Zeros.{Zeros}
+use Rattle.slice_zeros.proofs.Zeros.{over-zeros, over-next}
 use Rattle.stricter_laws.specs.Tests.{startsIn}
 use Rattle.stricter_laws.proofs.Sides.{starts-both}
 use Rattle.stricter_cores_spec.specs.Steps.{standsIn, OnlyCores}
@@ -29,19 +29,20 @@ module _ (ca cb : List ℕ) (s t : Set) (marks : List ℕ) (i : ℕ) where
   pub starts-row : (x : ℕ) → row ≤ x → x < end → startsIn ca cb s t x ≡ (begun s (getD ca i 0) && begun t (getD cb (x - row) 0))
   starts-row x a b = ap (startsIn ca cb s t) (row-node x a b) ∙ starts-both ca cb i (x - row) (omega arith) s t
 
+  -- node y is out, or no start
+  abbrev Lacks : ℕ → Type 0
+  Lacks y = 0 < getD marks y 0 → startsIn ca cb s t y ≡ true → ⊥
+
   -- none of the nodes from the row's first up to x
   abbrev pub NoneUp : ℕ → Type 0
-  NoneUp x = (y : ℕ) → row ≤ y → y < x → 0 < getD marks y 0 → startsIn ca cb s t y ≡ true → ⊥
+  NoneUp x = (y : ℕ) → row ≤ y → y < x → Lacks y
 
-  pub none-zeros : (x : ℕ) → ((y : ℕ) → row ≤ y → y < x → getD marks y 0 ≡ 0) → NoneUp x
-  none-zeros x z y a b h e = omega (arith, z y a b)
+  pub none-zeros : (x : ℕ) → Zeros marks row x → NoneUp x
+  none-zeros = over-zeros marks Lacks (λ y e h. absurd (omega arith)) row
 
-  pub none-next : (x r : ℕ) → row ≤ x → x < end → NoneUp x → begun t (getD cb (x - row) 0) ≡ false → ((y : ℕ) → x + 1 ≤ y → y < r → getD marks y 0 ≡ 0) → NoneUp r
-  none-next x r a b n f z y c d h e =
-      by-cases (decLt y x) (λ l. n y c l h e)
-      (λ l. by-cases (ℕ-discrete y x)
-      (λ q. clash (and-r (begun s (getD ca i 0)) _ (sym (starts-row x a b) ∙ ap (startsIn ca cb s t) (sym q) ∙ e)) f)
-      (λ q. omega (arith, z y (omega arith) d)))
+  pub none-next : (x r : ℕ) → row ≤ x → x < end → NoneUp x → begun t (getD cb (x - row) 0) ≡ false → Zeros marks (x + 1) r → NoneUp r
+  none-next x r a b n f =
+      over-next marks Lacks (λ y e h. absurd (omega arith)) row x r n (λ h e. clash (and-r (begun s (getD ca i 0)) _ (sym (starts-row x a b) ∙ e)) f)
 
   -- no run of A may begin at i, or i does not stand for its core
   pub no-start : OnlyCores ca (length cb) marks → (standsIn ca i && begun s (getD ca i 0)) ≡ false → RowStart (startsIn ca cb s t) marks row end end

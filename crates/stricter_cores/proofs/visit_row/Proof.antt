@@ -33,15 +33,15 @@ mul-row c = omega (arith, room c)
 add-end : tie.Need-add-end
 add-end c = omega (arith, room c)
 
-first-waiting-requires : tie.Need-first-waiting-requires
-first-waiting-requires c κs = (omega arith, room (c .before))
+next-between-requires : tie.Need-next-between-requires
+next-between-requires c κs = (omega arith, room (c .before), omega arith)
 
 returns-2 : tie.Need-returns-2
 returns-2 c =
     let start = c .before .before .before .before .before .before .before .before .before in
     let a = start .args in
     tried-none (CoreStep (a .nb) (a .left .now) (a .right .now)) (SparedStep (a .nb) (a .left .now) (a .right .now) (a .ask .second) (a .ask .k)) (a .i * a .nb) (a .i * a .nb + a .nb) (a .marks .now)
-    (λ x f t h. c .before .first-waiting .ensures .none x f (omega arith) h)
+    (λ x f t h. let l = c .before .next-between .ensures .none x f (omega arith) (omega arith) in omega arith)
 
 cut-row-requires : tie.Need-cut-row-requires
 cut-row-requires c κs =
@@ -53,7 +53,7 @@ sweep-row-requires c κs =
     let start = c .before .before .before .before .before .before .before .before .before .before .before .before in
     let a = start .args in
     let p = start .pre in
-    let w = c .before .before .before .before .first-waiting .ensures in (
+    let w = c .before .before .before .before .next-between .ensures in (
       (length (a .acodes .now), p .0),
       c .before .before .cut-row .ensures,
       omega (arith, p .2, p .0 .fits .few-A),
@@ -66,18 +66,18 @@ sweep-row-requires c κs =
 
 returns-3 : tie.Need-returns-3
 returns-3 c =
-    let at-first-waiting = c .before .before .before .before .before .before .before in
-    let start = at-first-waiting .before .before .before .before .before .before .before .before in
+    let at-next-between = c .before .before .before .before .before .before .before in
+    let start = at-next-between .before .before .before .before .before .before .before .before in
     let a = start .args in
-    let w = at-first-waiting .first-waiting in
+    let w = at-next-between .next-between in
     tried-then (CoreStep (a .nb) (a .left .now) (a .right .now)) (SparedStep (a .nb) (a .left .now) (a .right .now) (a .ask .second) (a .ask .k)) (a .i * a .nb) (w .result) (a .i * a .nb + a .nb)
     (a .marks .now) (a .marks .now) _ false _ _
     (tried-none (CoreStep (a .nb) (a .left .now) (a .right .now)) (SparedStep (a .nb) (a .left .now) (a .right .now) (a .ask .second) (a .ask .k)) (a .i * a .nb) (w .result) (a .marks .now)
-    (w .ensures .none))
+    (λ x f t h. let l = w .ensures .none x f t (omega arith) in omega arith))
     (c .before .before .sweep-row .ensures) refl
 
 pub visit-row-spec : {M : Type 1} → statement M
 visit-row-spec =
     tie.close (tie.spec
-    (λ c κs. search needs) returns mul-row add-end first-waiting-requires (λ c. search needs) returns-2 cut-row-requires sweep-row-requires (λ c. search needs)
+    (λ c κs. search needs) returns mul-row add-end next-between-requires (λ c. search needs) returns-2 cut-row-requires sweep-row-requires (λ c. search needs)
     returns-3)

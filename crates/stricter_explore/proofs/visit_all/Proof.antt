@@ -25,9 +25,9 @@ loop-holds c =
     let a = start .args in
     let n = c .next-waiting .ensures in (
       n .within,
-      n .waits,
+      (λ h. let w = n .found h in record { big = w .0; small = w .1 }),
       passed-over (PairStep (length (a .rcodes .now)) (a .left .now) (a .right .now)) (kindIn (a .lcodes .now) (a .rcodes .now))
-          (step-lettered _ _ _ _ (start .pre .paired)) (kind-low _ _) 0 _ (a .marks .now) (n .before),
+          (step-lettered _ _ _ _ (start .pre .paired)) (kind-low _ _) 0 _ (a .marks .now) (n .none),
     )
 
 abbrev start-of-in-loop : tie.In-loop Inv-loop μ-loop → tie.Start Inv-loop μ-loop
@@ -102,9 +102,9 @@ loop-again c =
     let nb = length (a .rcodes .now) in
     let long : _ ≡ length (a .marks .now) = c .before .before .before .before .visit-row .ensures .long ∙ l .inv .2 .long in (
       omega (arith, n .within, long),
-      λ h. n .waits (omega (arith, h, long)),
+      (λ h. let w = n .found (omega (arith, h, long)) in record { big = w .0; small = w .1 }),
       passed-turn (PairStep nb (a .left .now) (a .right .now)) (kindIn (a .lcodes .now) (a .rcodes .now)) (step-lettered _ _ _ _ (start .pre .paired)) (kind-low _ _)
-          0 (l .x) (l .x / nb * nb + nb) _ (a .marks .now) (l .marks) _ (l .changed) (l .inv .2) (rw (numbers (earlier) .whole) at (c .before .before .before .before .visit-row .ensures)) (n .before),
+          0 (l .x) (l .x / nb * nb + nb) _ (a .marks .now) (l .marks) _ (l .changed) (l .inv .2) (rw (numbers (earlier) .whole) at (c .before .before .before .before .visit-row .ensures)) (n .none),
     )
 
 returns : tie.Need-returns Inv-loop μ-loop

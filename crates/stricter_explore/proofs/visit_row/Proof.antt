@@ -89,7 +89,7 @@ turn c =
     let row = a .i * length (a .rcodes .now) in
     passed-turn (PairStep (length (a .rcodes .now)) (a .left .now) (a .right .now)) (kindIn (a .lcodes .now) (a .rcodes .now))
     (step-lettered _ _ _ _ (start .pre .0 .paired)) (kind-low _ _) (row + a .j) (row + l .k) (row + l .k + 1) _ (a .marks .now) (l .marks) _ (l .inv .2 .0)
-    (l .inv .2 .1) (c .before .before .before .before .visit .ensures) (c .next-waiting .ensures .before)
+    (l .inv .2 .1) (c .before .before .before .before .visit .ensures) (c .next-waiting .ensures .none)
 
 returns : tie.Need-returns Inv-loop μ-loop
 returns c = rw (c .if1 .taken) at (turn (c .before))
@@ -107,9 +107,10 @@ loop-again c =
     let start = c .before .before .before .before .before .before .before .before .before .before .before .before .before in
     let a = start .args in
     let n = c .before .next-waiting .ensures in
+    let w = n .found (omega (arith, n .within, c .if1 .left)) in
     let row = a .i * length (a .rcodes .now) in
     let e : row + (c .before .next-waiting .result - row) ≡ c .before .next-waiting .result = omega (arith, n .ordered) in
-    (omega (arith, n .within, n .ordered, c .if1 .left), rw e (n .waits (omega (arith, n .within, c .if1 .left))), (true, rw e (turn (c .before))))
+    (omega (arith, n .within, n .ordered, c .if1 .left), rw e (record { big = w .0; small = w .1 }), (true, rw e (turn (c .before))))
 
 pub visit-row-spec : {M : Type 1} → statement M
 visit-row-spec =

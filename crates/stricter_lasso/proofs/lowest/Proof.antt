@@ -11,16 +11,16 @@ use lib.ListN.{length, getD}
 use Rattle.sets.proofs.Bools.{and-l, and-r, and-i, clash}
 use Rattle.graph_walks.proofs.Sums.{has-place}
 use Rattle.stricter_laws.specs.Tests.{acceptsIn}
-use Rattle.stricter_forest.proofs.Skips.{lacking-zeros, lacking-next}
+use Rattle.slice_zeros.proofs.Zeros.{over-zeros, over-next}
 use Rattle.stricter_lasso.proofs.lowest.Statement.{statement}
 use Rattle.stricter_lasso.proofs.lowest.Tie as tie
 
--- y is met and accepting on the side
-abbrev Serves : List ℕ → List ℕ → Bool → List ℕ → ℕ → Type 0
-Serves lcodes rcodes second marks y = (1 < getD marks y 0) × (acceptsIn lcodes rcodes second y ≡ true)
+-- y is not met, or not accepting on the side
+abbrev Lacks : List ℕ → List ℕ → Bool → List ℕ → ℕ → Type 0
+Lacks lcodes rcodes second marks y = 1 < getD marks y 0 → acceptsIn lcodes rcodes second y ≡ true → ⊥
 
 abbrev Inv-loop : tie.InvT-loop
-Inv-loop lcodes rcodes second marks x₀ x = (x ≤ length marks) × ((y : ℕ) → y < x → Serves lcodes rcodes second marks y → ⊥)
+Inv-loop lcodes rcodes second marks x₀ x = (x ≤ length marks) × ((y : ℕ) → 0 ≤ y → y < x → Lacks lcodes rcodes second marks y)
 
 abbrev μ-loop : tie.MeasureT-loop
 μ-loop lcodes rcodes second marks x₀ x = length marks - x
@@ -29,7 +29,7 @@ loop-holds : tie.Need-loop-holds Inv-loop μ-loop
 loop-holds c =
     let a = c .before .before .before .before .args in
     let n = c .next-set .ensures in
-    (n .within, lacking-zeros (a .marks .now) (Serves (a .lcodes .now) (a .rcodes .now) (a .second) (a .marks .now)) (λ y p. omega (arith, p .0)) _ (n .before .zeros))
+    (n .within, over-zeros (a .marks .now) (Lacks (a .lcodes .now) (a .rcodes .now) (a .second) (a .marks .now)) (λ y e l. absurd (omega arith)) 0 _ (n .before))
 
 returns : tie.Need-returns Inv-loop μ-loop
 returns c =
@@ -49,15 +49,15 @@ loop-again c =
     let l = c .before .before .before .before .loop in
     let n = c .next-set2 .ensures in (
       n .within,
-      lacking-next (a .marks .now) (Serves (a .lcodes .now) (a .rcodes .now) (a .second) (a .marks .now)) (λ y p. omega (arith, p .0)) (l .x) _ (l .inv .1)
-          (λ p. clash (c .before .before .serves .ensures ∙ and-i (lt-ltb 1 (getD (a .marks .now) (l .x) 0) (p .0)) (p .1)) (c .before .if1 .left)) (n .before .zeros),
+      over-next (a .marks .now) (Lacks (a .lcodes .now) (a .rcodes .now) (a .second) (a .marks .now)) (λ y e k. absurd (omega arith)) 0 (l .x) _ (l .inv .1)
+          (λ m e. clash (c .before .before .serves .ensures ∙ and-i (lt-ltb 1 (getD (a .marks .now) (l .x) 0) m) e) (c .before .if1 .left)) (n .before),
     )
 
 returns-2 : tie.Need-returns-2 Inv-loop μ-loop
 returns-2 c =
     let (y, l, e) = c .before .before .before .before .before .before .pre .1 in
     let place = has-place (c .before .before .before .before .before .before .args .marks .now) y (omega arith) in
-    absurd (c .before .loop .inv .1 y (omega arith) (l, e))
+    absurd (c .before .loop .inv .1 y (omega arith) (omega arith) l e)
 
 pub lowest-spec : {M : Type 1} → statement M
 lowest-spec =

@@ -55,7 +55,7 @@ loop-holds c =
       n .within,
       n .set,
       and-r (standsIn (a .acodes .now) (a .i)) _ (sym (c .before .before .begins-here .ensures) ∙ not-f _ (c .before .if1 .left)),
-      none-zeros (a .acodes .now) (a .bcodes .now) (λ x. bit x (a .ainitial)) (λ x. not (bit x (a .binitial))) (a .marks .now) (a .i) _ (n .before .zeros),
+      none-zeros (a .acodes .now) (a .bcodes .now) (λ x. bit x (a .ainitial)) (λ x. not (bit x (a .binitial))) (a .marks .now) (a .i) _ (n .before),
     )
 
 sub-begins-lacking : tie.Need-sub-begins-lacking Inv-loop μ-loop
@@ -91,7 +91,7 @@ loop-again c =
       l .inv .6,
       none-next (a .acodes .now) (a .bcodes .now) (λ x. bit x (a .ainitial)) (λ x. not (bit x (a .binitial))) (a .marks .now) (a .i) (l .x) _
           (omega (arith, l .inv .0)) (omega (arith, l .inv .1)) (l .inv .7)
-          (sym (c .before .before .begins-lacking .ensures) ∙ c .before .if2 .left) (n .before .zeros),
+          (sym (c .before .before .begins-lacking .ensures) ∙ c .before .if2 .left) (n .before),
     )
 
 returns-3 : tie.Need-returns-3 Inv-loop μ-loop
