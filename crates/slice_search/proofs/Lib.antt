@@ -1,3 +1,4 @@
 pub mod Search
 pub mod Ascends
 pub mod Zeros
+pub mod LowParts

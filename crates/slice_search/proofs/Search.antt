@@ -6,11 +6,10 @@ use Prim.Native.Nat.{ℕ, zero, suc, _+_, _≤_, _<_}
 use native.Mathlib.Omega.{arith}
 use native.Mathlib.Nat.{eq-or-lt-of-le}
 use native.Mathlib.Decide.{decLt}
-use lib.ListN.{length, getD, take}
-use lib.Seq.{getD-take, length-take-le}
+use lib.ListN.{length, getD}
 use borrow.Author.Tests.{lt-ltb, le-ltb}
 use Rattle.sets.specs.Lists.{Above, more, Ascending, from}
-use Rattle.sets.proofs.Ascending.{above-asc, above-at, asc-take-at}
+use Rattle.sets.proofs.Ascending.{above-asc, above-at, asc-at}
 use Rattle.slice_search.specs.Places.{below}
 
 -- ---- the number of members below x
@@ -73,24 +72,13 @@ place-is x (y ∷ ys) zero h b a =
 place-is x (y ∷ ys) (suc p) h b a =
     ap suc (place-is x ys p (omega arith) (λ k l. b (suc k) (omega arith)) (λ k l m. a (suc k) (omega arith) (omega arith))) ∙ sym (below-yes x y ys (b zero (omega arith)))
 
--- ---- the first n elements of a slice
-
-module _ (xs : List ℕ) (n x : ℕ) (fits : n ≤ length xs) (asc : Ascending (take n xs)) where
-  long : length (take n xs) ≡ n
-  long = length-take-le n xs fits
-
-  -- what one comparison settles
-  pub go-up : (m : ℕ) → m < n → getD xs m 0 < x → (k : ℕ) → k < m + 1 → getD xs k 0 < x
-  go-up m h l k b =
+-- what one comparison settles
+module _ (xs : List ℕ) (x : ℕ) (asc : Ascending xs) (m : ℕ) where
+  pub go-up : m < length xs → getD xs m 0 < x → (k : ℕ) → k < m + 1 → getD xs k 0 < x
+  go-up h l k b =
       let k≤m : k ≤ m = omega arith in
-      ⊎-elim (λ (e : k ≡ m). rw e l) (λ (p : k < m). omega (arith, asc-take-at xs n fits asc k m p h)) (eq-or-lt-of-le k≤m)
+      ⊎-elim (λ (e : k ≡ m). rw e l) (λ (p : k < m). omega (arith, asc-at xs asc k m p h)) (eq-or-lt-of-le k≤m)
 
-  pub go-down : (m : ℕ) → x ≤ getD xs m 0 → (k : ℕ) → m ≤ k → k < n → x ≤ getD xs k 0
-  go-down m l k b t =
-      ⊎-elim (λ (e : m ≡ k). rw (← e) l) (λ (p : m < k). omega (arith, asc-take-at xs n fits asc m k p t)) (eq-or-lt-of-le b)
-
-  -- the place of x in the slice
-  pub placed : (p : ℕ) → p ≤ n → ((k : ℕ) → k < p → getD xs k 0 < x) → ((k : ℕ) → p ≤ k → k < n → x ≤ getD xs k 0) → p ≡ below x (take n xs)
-  placed p h b a =
-      place-is x (take n xs) p (omega (arith, long)) (λ k l. rw (getD-take n xs k 0 (omega arith)) (b k l))
-      (λ k l m. let r : k < n = omega (arith, long) in rw (getD-take n xs k 0 r) (a k l r))
+  pub go-down : x ≤ getD xs m 0 → (k : ℕ) → m ≤ k → k < length xs → x ≤ getD xs k 0
+  go-down l k b t =
+      ⊎-elim (λ (e : m ≡ k). rw (← e) l) (λ (p : m < k). omega (arith, asc-at xs asc m k p t)) (eq-or-lt-of-le b)

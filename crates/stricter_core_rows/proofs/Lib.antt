@@ -1,3 +1,2 @@
-pub mod Untagged
 pub mod Parts
 pub mod Steps

@@ -1,12 +1,11 @@
-// The steps of a pair of cores, one of each of two tagged tables: rows of transitions, and whether a pair leads to one that has a mark.
+// The steps of a pair of cores, one of each of two tagged tables: whether a pair leads to one that has a mark.
 use codes::letter_of;
+use slice_search::place_low;
 ghost use mathlib.Core.Path.{_≡_};
 ghost use mathlib.Core.Bool.{cond};
 ghost use mathlib.Core.List.{List·Memᴰ};
 ghost use Prim.Native.Nat.{ℕ, _+_, _*_, _≤_, _<_};
 ghost use lib.ListN.{length, getD};
-ghost use Rattle.sets.specs.Lists.{Ascending};
-ghost use Rattle.slice_search.specs.Places.{below};
 ghost use Rattle.theory.specs.Run.{letterOf};
 ghost use Rattle.stricter_laws.specs.Pairs.{RowCut};
 ghost use Rattle.stricter_cores_spec.specs.Tags.{rowOf, ontoOf, sparing, untagged};
@@ -60,41 +59,6 @@ fn least_of(t: u64, ask: Asked) -> u8
     ask.other
 }
 
-// ---- rows
-
-// How many transitions are below x without their tags, by binary search.
-fn place_low(moves: &[u64], x: u64) -> usize
-    requires { ⌜ Ascending (untagged (now moves)) ⌝ }
-    ensures { λ r. ⌜ r ≡ below x (untagged (now (moves .entry))) ⌝ }
-{
-    let mut low = 0;
-    let mut high = moves.len();
-    while low < high {
-        let middle = low + (high - low) / 2;
-        if moves[middle] & 0xff_ffff_ffff < x {
-            low = middle + 1;
-        } else {
-            high = middle;
-        }
-    }
-    low
-}
-
-// Where the transitions of number i over each letter begin.
-pub fn cut_row(moves: &[u64], i: usize) -> [usize; 17]
-    requires { ⌜ Ascending (untagged (now moves)) × (i < 65536) ⌝ }
-    ensures { λ r. ⌜ RowCut (untagged (now (moves .entry))) i r ⌝ }
-{
-    let mut cuts = [0usize; 17];
-    let mut a = 0;
-    while a < 17 {
-        let key = i * 0x0100_0000 + a * 0x0001_0000;
-        cuts[a] = place_low(moves, key as u64);
-        a += 1;
-    }
-    cuts
-}
-
 // ---- steps
 
 // Whether a transition of A from place `from` up to `to` leads, beside the transition u of B, to a pair that has the mark it needs.
@@ -144,7 +108,7 @@ pub fn leads(
         (SparedStep nb (now (left .entry)) (now (right .entry)) (ask .second) (ask .k)) (ask .other) (now (marks .entry)) (i * nb + j) r) ⌝ }
 {
     let key = j * 0x0100_0000;
-    let mut p = place_low(right, key as u64);
+    let mut p = place_low(right, 0xff_ffff_ffff, key as u64);
     while p < right.len() {
         let u = right[p];
         if row_of(u) != j {

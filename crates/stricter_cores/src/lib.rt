@@ -3,8 +3,8 @@
 use slice_zeros::next_between;
 use slice_zeros::next_set;
 use stricter_core_rows::Asked;
-use stricter_core_rows::cut_row;
 use stricter_core_rows::leads;
+use stricter_rows::cut_low;
 ghost use mathlib.Core.Path.{_≡_};
 ghost use mathlib.Core.Bool.{Bool, true, false, cond};
 ghost use mathlib.Core.List.{List·Memᴰ};
@@ -115,7 +115,7 @@ fn visit_row(
     if first == end {
         return false;
     }
-    let cuts = cut_row(left, i);
+    let cuts = cut_low(left, 0xff_ffff_ffff, i);
     sweep_row(left, &cuts, right, nb, i, first, ask, marks)
 }
 
@@ -360,7 +360,7 @@ fn thin_row(acodes: &[u64], left: &[u64], right: &[u64], nb: usize, i: usize, ma
     if first == end {
         return;
     }
-    let cuts = cut_row(left, i);
+    let cuts = cut_low(left, 0xff_ffff_ffff, i);
     drop_row(left, &cuts, right, nb, i, first, marks);
 }
 

@@ -1,12 +1,13 @@
 -- While pairs of cores are sorted out, the free bits of codes and transitions hold what a step says of cores: tags.
 use mathlib.Core.Path.{_≡_}
 use mathlib.Core.Bool.{Bool, _&&_, _||_, cond}
-use mathlib.Core.List.{List, [], _∷_}
+use mathlib.Core.List.{List}
 use Prim.Native.Nat.{ℕ, _+_, _*_, _/_, _%_, _<_}
 use lib.Dec.{eqb, ltb, leb}
 use lib.ListN.{length, getD}
 use Rattle.sets.specs.Tests.{first}
 use Rattle.sets.specs.Masks.{bit, mask}
+use Rattle.slice_search.specs.Places.{lowParts}
 use Rattle.theory.specs.Automaton.{Automaton}
 use Rattle.theory.specs.Run.{sourceOf, letterOf, targetOf}
 use Rattle.trim_spec.specs.Trimmed.{isLive}
@@ -64,11 +65,6 @@ ontoOf t = t / 1099511627776 % 65536
 -- it spares component K
 unfoldable pub sparing : ℕ → ℕ → Bool
 sparing t K = bit t (56 + K)
-
--- numbers without what stands above m
-unfoldable pub lowParts : ℕ → List ℕ → List ℕ
-lowParts m [] = []
-lowParts m (x ∷ xs) = x % m ∷ lowParts m xs
 
 -- the transitions without tags
 abbrev pub untagged : List ℕ → List ℕ

@@ -18,7 +18,7 @@ use Rattle.theory.specs.Macrostate.{begun}
 use Rattle.stricter_laws.specs.Tests.{startsIn}
 use Rattle.stricter_cores_spec.specs.Tags.{coreIn, firstOf, plain}
 use Rattle.stricter_tags_laws.proofs.First.{first-is}
-use Rattle.stricter_tags_laws.proofs.Tags.{low-long, low-at}
+use Rattle.slice_search.proofs.LowParts.{low-long, low-at}
 
 pub bit-low : (q : ℕ) → q < 8 → (c : ℕ) → bit (c % 281474976710656) q ≡ bit c q
 unfolding bit

@@ -1,10 +1,9 @@
 -- What tags show, and that the lists come back without them.
-use mathlib.Core.Path.{_≡_, refl, sym, _∙_, ap}
+use mathlib.Core.Path.{_≡_, sym, _∙_, ap}
 use mathlib.Core.Bool.{Bool, _&&_}
-use mathlib.Core.List.{List, [], _∷_, List·Memᴰ}
-use Prim.Native.Nat.{ℕ, zero, suc, _+_, _*_, _/_, _%_, _^_, _≤_, _<_}
+use mathlib.Core.List.{List, List·Memᴰ}
+use Prim.Native.Nat.{ℕ, _+_, _*_, _/_, _%_, _^_, _≤_, _<_}
 use native.Mathlib.Omega.{arith}
-use native.Mathlib.Nat.{mod-eq-of-lt}
 use lib.Dec.{eqb, ltb}
 use lib.ListN.{length, getD}
 use lib.Pow.{shr-shr}
@@ -13,26 +12,15 @@ use borrow.Author.Tests.{lt-ltb}
 use Rattle.sets.specs.Masks.{bit, mask}
 use Rattle.sets.proofs.Lists.{mem-at}
 use Rattle.sets.proofs.Masks.{bit-mask}
+use Rattle.slice_search.proofs.LowParts.{low-long, low-at}
 use Rattle.theory.specs.Automaton.{Automaton}
 use Rattle.theory.specs.Run.{sourceOf, letterOf, targetOf}
 use Rattle.trim_spec.specs.Graph.{Inside}
-use Rattle.stricter_cores_spec.specs.Tags.{firstOf, sparesAt, TaggedCodes, toldOf, ToldCodes, tagOf, TaggedMoves, coreNumber, rowOf, ontoOf, sparing, lowParts, untagged, plain}
+use Rattle.stricter_cores_spec.specs.Tags.{firstOf, sparesAt, TaggedCodes, toldOf, ToldCodes, tagOf, TaggedMoves, coreNumber, rowOf, ontoOf, sparing, untagged, plain}
 use Rattle.stricter_cores_spec.specs.Tables.{Shown}
 use Rattle.stricter_tags_laws.proofs.First.{first-low}
 
 -- ---- without tags, by place
-
-pub low-long : (m : ℕ) (xs : List ℕ) → length (lowParts m xs) ≡ length xs
-unfolding lowParts
-low-long m [] = refl
-low-long m (x ∷ xs) = ap suc (low-long m xs)
-
-module _ (m : ℕ) (some : 0 < m) where
-  pub low-at : (xs : List ℕ) (i : ℕ) → getD (lowParts m xs) i 0 ≡ getD xs i 0 % m
-  unfolding lowParts
-  low-at [] i = sym (mod-eq-of-lt some)
-  low-at (x ∷ xs) zero = refl
-  low-at (x ∷ xs) (suc i) = low-at xs i
 
 pub untagged-long : (ts : List ℕ) → length (untagged ts) ≡ length ts
 untagged-long ts = low-long 1099511627776 ts

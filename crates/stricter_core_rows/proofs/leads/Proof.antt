@@ -119,6 +119,6 @@ returns-3 c = ended (c .before) (λ h. absurd (omega arith))
 pub leads-spec : {M : Type 1} → statement M
 leads-spec =
     tie.close (tie.spec
-    Inv-loop μ-loop (λ c. search needs) (λ c κs. c .before .before .before .pre .0 .0 .1 .ascend-B) loop-holds (λ c. search needs) (λ c. search needs)
+    Inv-loop μ-loop (λ c. search needs) (λ c κs. ((40, refl), c .before .before .before .pre .0 .0 .1 .ascend-B)) loop-holds (λ c. search needs) (λ c. search needs)
     (λ c κs. search needs) returns (λ c κs. search needs) (λ c. search needs) element-copy-out-has-marked (λ c. search needs) (λ c. search needs)
     element-copy-out-has-marked-2 has-marked-requires returns-2 (λ c. search needs) (λ c. search needs) loop-again returns-3)

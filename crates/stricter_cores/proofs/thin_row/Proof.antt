@@ -1,4 +1,5 @@
 -- `thin_row` meets its contract.
+use mathlib.Core.Path.{refl}
 use Prim.Native.Nat.{_+_, _*_, _≤_}
 use native.Mathlib.Omega.{arith}
 use borrow.Author.Needs.{needs}
@@ -33,10 +34,10 @@ returns-2 c =
     let start = c .before .before .before .before .before .before .before .before .before in
     let a = start .args in thinned-start (CoreStep (a .nb) (a .left .now) (a .right .now)) (a .marks .now)
 
-cut-row-requires : tie.Need-cut-row-requires
-cut-row-requires c κs =
+cut-low-requires : tie.Need-cut-low-requires
+cut-low-requires c κs =
     let start = c .before .before .before .before .before .before .before .before .before in
-    (start .pre .0 .fits .ascend-A, omega (arith, start .pre .1, start .pre .0 .fits .few-A))
+    ((40, refl), start .pre .0 .fits .ascend-A, omega (arith, start .pre .1, start .pre .0 .fits .few-A))
 
 drop-row-requires : tie.Need-drop-row-requires
 drop-row-requires c κs =
@@ -45,7 +46,7 @@ drop-row-requires c κs =
     let p = start .pre in
     let s = c .before .before .before .before .next-set .ensures in (
       (length (a .acodes .now), p .0),
-      c .before .before .cut-row .ensures,
+      c .before .before .cut-low .ensures,
       omega (arith, p .1, p .0 .fits .few-A),
       s .before .ordered,
       s .within,
@@ -55,5 +56,5 @@ drop-row-requires c κs =
 pub thin-row-spec : {M : Type 1} → statement M
 thin-row-spec =
     tie.close (tie.spec
-    (λ c κs. search needs) returns mul-row add-end next-set-requires (λ c. search needs) returns-2 cut-row-requires drop-row-requires (λ c. search needs)
+    (λ c κs. search needs) returns mul-row add-end next-set-requires (λ c. search needs) returns-2 cut-low-requires drop-row-requires (λ c. search needs)
     (λ c. search needs))

@@ -43,10 +43,10 @@ returns-2 c =
     tried-none (CoreStep (a .nb) (a .left .now) (a .right .now)) (SparedStep (a .nb) (a .left .now) (a .right .now) (a .ask .second) (a .ask .k)) (a .i * a .nb) (a .i * a .nb + a .nb) (a .marks .now)
     (λ x f t h. let l = c .before .next-between .ensures .none x f (omega arith) (omega arith) in omega arith)
 
-cut-row-requires : tie.Need-cut-row-requires
-cut-row-requires c κs =
+cut-low-requires : tie.Need-cut-low-requires
+cut-low-requires c κs =
     let start = c .before .before .before .before .before .before .before .before .before in
-    (start .pre .0 .fits .ascend-A, omega (arith, start .pre .2, start .pre .0 .fits .few-A))
+    ((40, refl), start .pre .0 .fits .ascend-A, omega (arith, start .pre .2, start .pre .0 .fits .few-A))
 
 sweep-row-requires : tie.Need-sweep-row-requires
 sweep-row-requires c κs =
@@ -55,7 +55,7 @@ sweep-row-requires c κs =
     let p = start .pre in
     let w = c .before .before .before .before .next-between .ensures in (
       (length (a .acodes .now), p .0),
-      c .before .before .cut-row .ensures,
+      c .before .before .cut-low .ensures,
       omega (arith, p .2, p .0 .fits .few-A),
       w .ordered,
       w .within,
@@ -79,5 +79,5 @@ returns-3 c =
 pub visit-row-spec : {M : Type 1} → statement M
 visit-row-spec =
     tie.close (tie.spec
-    (λ c κs. search needs) returns mul-row add-end next-between-requires (λ c. search needs) returns-2 cut-row-requires sweep-row-requires (λ c. search needs)
+    (λ c κs. search needs) returns mul-row add-end next-between-requires (λ c. search needs) returns-2 cut-low-requires sweep-row-requires (λ c. search needs)
     returns-3)

@@ -1,40 +1,19 @@
--- `cut_row` meets its contract.
-use mathlib.Core.Path.{_≡_, ap, _∙_}
-use Prim.Native.Nat.{ℕ, _+_, _-_, _*_, _≤_, _<_}
+-- `cut_row` meets its contract: the mask leaves a 64-bit number as it is.
+use mathlib.Core.Path.{_≡_, refl}
 use native.Mathlib.Omega.{arith}
-use borrow.Author.Needs.{needs}
-use lib.ListN.{length, getD, length-set}
-use lib.Seq.{take-length}
-use Rattle.graph_walks.proofs.Sums.{split-set}
-use Rattle.slice_search.specs.Places.{below}
+use Rattle.slice_search.specs.Places.{lowParts}
+use Rattle.slice_search.proofs.LowParts.{low-same}
 use Rattle.stricter_rows.proofs.cut_row.Statement.{statement}
 use Rattle.stricter_rows.proofs.cut_row.Tie as tie
 
-abbrev Inv-loop : tie.InvT-loop
-Inv-loop moves i cuts₀ a₀ cuts a = (a ≤ 17) × (length cuts ≡ 17) × ((k : ℕ) → k < a → getD cuts k 0 ≡ below (i * 16777216 + k * 65536) moves)
+all-bits : (c : tie.After-shared-slice-known) → lowParts 18446744073709551616 (c .before .args .moves .now) ≡ c .before .args .moves .now
+all-bits c = low-same 18446744073709551616 (omega arith) (c .before .args .moves .now) (λ i l. omega (arith, c .shared-slice-known .given i))
 
-abbrev μ-loop : tie.MeasureT-loop
-μ-loop moves i cuts₀ a₀ cuts a = 17 - a
+cut-low-requires : tie.Need-cut-low-requires
+cut-low-requires c κs = ((64, refl), rw (all-bits c) (c .before .pre .0), c .before .pre .1)
 
-place-requires : tie.Need-place-requires Inv-loop μ-loop
-place-requires c κs = (omega arith, rw (take-length (c .before .before .before .args .moves .now)) (c .before .before .before .pre .0))
-
-loop-again : tie.Need-loop-again Inv-loop μ-loop
-loop-again c =
-    let a = c .before .before .before .before .args in
-    let l = c .before .before .loop in
-    let e : c .place .result ≡ below (a .i * 16777216 + l .a * 65536) (a .moves .now) = c .place .ensures ∙ ap (below (a .i * 16777216 + l .a * 65536)) (take-length (a .moves .now)) in (
-      omega arith,
-      length-set (l .cuts) (l .a) _ ∙ l .inv .1,
-      split-set (λ k v. k < l .a + 1 → v ≡ below (a .i * 16777216 + k * 65536) (a .moves .now)) (l .cuts) (l .a) (c .place .result) (omega (arith, l .inv .1)) (λ h. e)
-          (λ k n h. l .inv .2 k (omega arith)),
-    )
-
-returns : tie.Need-returns Inv-loop μ-loop
-returns c = λ a h. c .before .loop .inv .2 a (omega arith)
+returns : tie.Need-returns
+returns c = rw (all-bits (c .before)) at (c .cut-low .ensures)
 
 pub cut-row-spec : {M : Type 1} → statement M
-cut-row-spec =
-    tie.close (tie.spec
-    Inv-loop μ-loop (λ c. search needs) (λ c. search needs) (λ c. search needs) (λ c. search needs) place-requires (λ c. search needs) (λ c. search needs)
-    (λ c. search needs) (λ c. search needs) loop-again returns)
+cut-row-spec = tie.close (tie.spec cut-low-requires returns)

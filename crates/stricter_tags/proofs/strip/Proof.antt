@@ -9,10 +9,10 @@ use lib.ListN.{length, getD}
 use lib.Pow.{pow-pos}
 use lib.Seq.{ext-getD}
 use Rattle.sets.proofs.Bits.{shl-one}
-use Rattle.stricter_cores_spec.specs.Tags.{lowParts}
+use Rattle.slice_search.specs.Places.{lowParts}
 use Rattle.stricter_tags_laws.specs.Fill.{Filled}
 use Rattle.stricter_tags_laws.proofs.Fill.{filled-start, filled-next}
-use Rattle.stricter_tags_laws.proofs.Tags.{low-at, low-long}
+use Rattle.slice_search.proofs.LowParts.{low-at, low-long}
 use Rattle.stricter_tags.proofs.strip.Statement.{statement}
 use Rattle.stricter_tags.proofs.strip.Tie as tie
 
