@@ -28,16 +28,16 @@ use Rattle.file_spec.specs.File.{ruleIn}
 use Rattle.file_spec.specs.Rows.{fileRow}
 use Rattle.file_read.proofs.FileRows.{accepted-passing}
 use Rattle.word_rows.specs.Words.{wordRow}
-use Rattle.word_spelling_spec.specs.SpellingComputed.{sameLetters}
+use Rattle.slice_search.specs.Same.{sameLists}
 use Rattle.word_rows.proofs.Checks.{word-over}
-use Rattle.word_spelling_spec.proofs.Same.{letters-equal}
+use Rattle.slice_search.proofs.Same.{lists-equal}
 use Rattle.cases_starred.specs.Claim.{codesOf, Builds, Said, Judges, through, Begins, Starts, Meets, Claim}
 use Rattle.cases_starred.specs.Case.{Line, Start, unsaid, from, Expected, builds, judges, Case}
 use Rattle.cases_starred.proofs.Lasso.{conj, conj-at, loops, loop-accepts}
 
 -- two lists of numbers are equal
 abbrev equal : List ℕ → List ℕ → Bool
-equal = sameLetters
+equal = sameLists
 
 -- the marks of a line are read off its code
 abbrev marks : Rule → Line → Bool
@@ -122,7 +122,7 @@ module _ (r : Rule) (P : Passing r) where
   builds-so : (codeCount moveCount : ℕ) (lines : List Line) (moves : List ℕ) → conj (buildTests r codeCount moveCount lines moves) ≡ true → Builds r codeCount moveCount lines moves
   builds-so codeCount moveCount lines moves e =
       let test = conj-at (buildTests r codeCount moveCount lines moves) e in
-      let L = listed (codesOf lines) moves (letters-equal _ _ (test 0)) (letters-equal _ _ (test 1)) (leb-true _ _ (test 5)) in
+      let L = listed (codesOf lines) moves (lists-equal _ _ (test 0)) (lists-equal _ _ (test 1)) (leb-true _ _ (test 5)) in
       record {
         codes-counted = eqb-true _ _ (test 2);
         moves-counted = eqb-true _ _ (test 3);
@@ -148,7 +148,7 @@ module _ (r : Rule) (P : Passing r) where
       let word : wordRow (r .s) lead cycle ≡ 0 = eqb-true _ _ (test 0) in
       let W = word-over (r .s) lead cycle word in
       let there = W .repeats in
-      let m : truthMasks r lead cycle ≡ masks = letters-equal _ _ (test 1) in
+      let m : truthMasks r lead cycle ≡ masks = lists-equal _ _ (test 1) in
       let y : accepted ≡ bit (getD masks 0 0) (r .initial) = beq-true _ _ (test 2) in
       let s : (bit (getD masks 0 0) (r .initial) ≡ true) ↔ AcceptsWord r lead cycle = rw m at (truth-accepts r P lead cycle there 0 (r .initial) (omega arith) (P .formed .initial-state)) in
       record {

@@ -28,7 +28,7 @@ use Rattle.file_spec.specs.Names.{hasNames, namesBefore, repeatsName}
 use Rattle.file_spec.specs.Rows.{trailerRows, layoutRows, bodyRows, nameRows, prefaceRows, fileRows, fileRow}
 use Rattle.file_spec.specs.RuleRows.{numberRows, listRows, nested, someNested, clauseRows, componentRows, formedRows}
 use Rattle.word_rows.specs.Words.{lengthRows, letterRows, wordRows, wordRow}
-use Rattle.word_spelling_spec.specs.SpellingComputed.{sameLetters}
+use Rattle.slice_search.specs.Same.{sameLists}
 use Rattle.cases_starred.specs.Files.{F, D, E, I, Z}
 use Rattle.cases_starred.specs.Claim.{codesOf, Claim}
 use Rattle.cases_starred.specs.Case.{Case}
@@ -50,7 +50,7 @@ unfolding truthMasks solvedBelow roundsAt layer heightOf nextPlace letterAt plac
 computed = 0
 
 unfoldable checks : ℕ
-unfolding F D E I Z case1 case2 case3 case4 case5 case6 case7 case8 case9 starred codesOf conj loops allMarks startPasses passes casePasses sameLetters
+unfolding F D E I Z case1 case2 case3 case4 case5 case6 case7 case8 case9 starred codesOf conj loops allMarks startPasses passes casePasses sameLists
 checks = 0
 
 unfoldable allPass : List Case → Bool

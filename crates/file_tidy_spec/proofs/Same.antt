@@ -2,14 +2,15 @@
 use Prim.Native.Nat.{ℕ, _^_, _<_}
 use mathlib.Core.Path.{_≡_, refl, sym}
 use mathlib.Core.Bool.{Bool, true, false}
-use mathlib.Core.List.{List, [], _∷_, List·Memᴰ}
+use mathlib.Core.List.{List, List·Memᴰ}
 use borrow.Author.Tests.{eq-eqb}
 use Rattle.sets.specs.Masks.{bit}
+use Rattle.slice_search.proofs.Same.{lists-refl}
 use Rattle.refusals.specs.Rows.{firstRow}
 use Rattle.sets.proofs.Tests.{every-all}
 use Rattle.theory.specs.Rule.{Rule, entry, satisfies}
 use Rattle.file_spec.specs.File.{namedIn, namesOf, ruleIn}
-use Rattle.rule_same.specs.Same.{agree, sameEntry, sameEntries, sameRules, sameNames, sameNamed}
+use Rattle.rule_same.specs.Same.{agree, sameEntry, sameEntries, sameRules, sameNamed}
 use Rattle.rule_tidy_spec.specs.Tidy.{tidyRule}
 use Rattle.rule_tidy_spec.proofs.Rules.{entry-satisfies}
 use Rattle.file_tidy_spec.specs.Tidied.{tidyRows, tidyFile}
@@ -28,14 +29,9 @@ tidy-same r small =
     (every-all (r .n) _ (λ q l. every-all (r .s) _ (λ a m. every-all (2 ^ r .n) _ (λ X k.
     agree-equal (satisfies (r .n) (bit X) (entry (tidyRule r) q a)) (satisfies (r .n) (bit X) (entry r q a)) (entry-satisfies r small q a (bit X))))))
 
-names-same : (xs : List ℕ) → sameNames xs xs ≡ true
-unfolding sameNames
-names-same [] = refl
-names-same (x ∷ xs) = rw (eq-eqb x x refl, names-same xs)
-
 -- 02: "besides, both lack names or all names agree"
 pub tidied-same : (f : List ℕ) → firstRow (tidyRows f) ≡ 0 → sameNamed (namedIn f) (namedIn (tidyFile f)) ≡ true
 unfolding sameNamed
 tidied-same f e =
     let t = tidied-reads f e in
-    rw (t .rule, t .letters, tidy-same (ruleIn f) (tidy-served f e .formed .clause-states), names-same (namesOf f))
+    rw (t .rule, t .letters, tidy-same (ruleIn f) (tidy-served f e .formed .clause-states), lists-refl (namesOf f))

@@ -1,3 +1,2 @@
 pub mod Prefaces
 pub mod Same
-pub mod SameNames

@@ -22,10 +22,12 @@ use Rattle.file_read.specs.declared.Layout.{Layout}
 use Rattle.file_read.specs.declared.Read.the-variants.{Accepted}
 use Rattle.file_spec.specs.File.{countsOf, clausesOf, namesOf, ruleIn, namedIn}
 use Rattle.file_spec.specs.Rows.{fileRow}
+use Rattle.slice_search.specs.Same.{sameLists}
+use Rattle.slice_search.proofs.Same.{lists-told}
 use Rattle.file_read.specs.Read.{readOf}
 use Rattle.file_read.proofs.Answer.{served}
 use Rattle.rule_same.specs.declared.entries.SameRules.the-variants.{Different, Refused}
-use Rattle.rule_same.specs.Same.{agree, sameEntry, sameEntries, sameRules, sameNames, sameNamed, verdict, answer, sameFiles, sameBodies, sameRulesOf}
+use Rattle.rule_same.specs.Same.{agree, sameEntry, sameEntries, sameRules, sameNamed, verdict, answer, sameFiles, sameBodies, sameRulesOf}
 
 -- ---- evaluated
 
@@ -47,15 +49,6 @@ opposite = refl
 other-mask : sameRules (one 0 (1 ∷ []) (1 ∷ [])) (one 1 (1 ∷ []) (1 ∷ [])) ≡ false
 unfolding sameRules sameEntries sameEntry every entry sum satisfies inside bit one
 other-mask = refl
-
--- the same rule, with names: equal names, another last byte, names of one rule alone
-same-letters : (sameNames (71 ∷ (79 ∷ [])) (71 ∷ (79 ∷ [])) ≡ true)
-    × (sameNames (71 ∷ (79 ∷ [])) (71 ∷ (33 ∷ [])) ≡ false)
-    × (sameNames (71 ∷ (79 ∷ [])) [] ≡ false)
-    × (sameNames [] (71 ∷ (79 ∷ [])) ≡ false)
-    × (sameNames [] [] ≡ true)
-unfolding sameNames
-same-letters = (refl, refl, refl, refl, refl)
 
 -- ---- both hold, or neither
 
@@ -241,9 +234,9 @@ module _ (f g : List ℕ) (l m : Layout) (p : readOf f ≡ Accepted l) (q : read
 
 -- ---- the names of two files
 
-module _ (f g : List ℕ) {xs ys : List ℕ} {b : Bool} (x : xs ≡ namesOf f) (y : ys ≡ namesOf g) (e : b ≡ sameNames xs ys) where
-  names-are : sameNames (namesOf f) (namesOf g) ≡ b
-  names-are = ap (λ (l : List ℕ). sameNames l (namesOf g)) (sym x) ∙ ap (sameNames xs) (sym y) ∙ sym e
+module _ (f g : List ℕ) {xs ys : List ℕ} {b : Bool} (x : xs ≡ namesOf f) (y : ys ≡ namesOf g) (e : (b ≡ true → xs ≡ ys) × (xs ≡ ys → b ≡ true)) where
+  names-are : sameLists (namesOf f) (namesOf g) ≡ b
+  names-are = sym (lists-told b (namesOf f) (namesOf g) (λ t. sym x ∙ e .0 t ∙ y) (λ p. e .1 (x ∙ p ∙ sym y)))
 
   pub names-differ : b ≡ false → Different ≡ sameFiles f g
   unfolding sameNamed verdict

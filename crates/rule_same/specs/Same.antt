@@ -1,10 +1,11 @@
 -- Sameness of rules.
 use Prim.Native.Nat.{ℕ, zero, suc, _^_}
 use mathlib.Core.Bool.{Bool, true, false, _&&_, not}
-use mathlib.Core.List.{List, [], _∷_}
+use mathlib.Core.List.{List}
 use lib.Dec.{eqb}
 use Rattle.sets.specs.Tests.{every}
 use Rattle.sets.specs.Masks.{bit}
+use Rattle.slice_search.specs.Same.{sameLists}
 use Rattle.theory.specs.Rule.{Rule, entry, satisfies}
 use Rattle.file_spec.specs.File.{NamedRule, namedIn, ruleIn}
 use Rattle.file_spec.specs.Rows.{fileRow}
@@ -36,16 +37,9 @@ unfoldable pub verdict : Bool → SameRules
 verdict true = Same
 verdict false = Different
 
--- "both lack names or all names agree": the bytes of the names are the same ones
-unfoldable pub sameNames : List ℕ → List ℕ → Bool
-sameNames [] [] = true
-sameNames [] (y ∷ ys) = false
-sameNames (x ∷ xs) [] = false
-sameNames (x ∷ xs) (y ∷ ys) = eqb x y && sameNames xs ys
-
--- 02: "From now on two rules are the same only if, besides, both lack names or all names agree."
+-- 02: "From now on two rules are the same only if, besides, both lack names or all names agree.": the bytes of the names are the same ones
 unfoldable pub sameNamed : NamedRule → NamedRule → Bool
-sameNamed r t = sameRules (r .rule) (t .rule) && sameNames (r .names) (t .names)
+sameNamed r t = sameRules (r .rule) (t .rule) && sameLists (r .names) (t .names)
 
 -- the answer for two files that no row refuses
 abbrev pub sameFiles : List ℕ → List ℕ → SameRules

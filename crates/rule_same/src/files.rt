@@ -1,7 +1,7 @@
 // Sameness of rules.
 use crate::entries::SameRules;
 use crate::entries::same_entries;
-use crate::names::same_names;
+use check::same;
 use file_read::Layout;
 use file_read::Read;
 use rule_entries::Head;
@@ -68,7 +68,7 @@ fn same_files(first: &[u8], l: Layout, second: &[u8], m: Layout) -> SameRules
     requires { ⌜ (readOf (now first) ≡ Accepted l) × (readOf (now second) ≡ Accepted m) ⌝ }
     ensures { λ r. ⌜ r ≡ sameFiles (now (first .entry)) (now (second .entry)) ⌝ }
 {
-    if !same_names(
+    if !same(
         file_read::names_of(first, l),
         file_read::names_of(second, m),
     ) {

@@ -10,8 +10,6 @@ use native.Mathlib.Numerals.{add-one}
 use lib.ListN.{length, getD, take, drop, set, length-append}
 use lib.Seq.{getD-set-same, getD-set-other}
 use Rattle.sets.proofs.Bools.{bif}
-use Rattle.word_spelling_spec.specs.SpellingComputed.{sameLetters}
-use Rattle.word_spelling_spec.proofs.Same.{letters-equal, letters-iff}
 use Rattle.sheet_spec.specs.Computed.{isKnown}
 use Rattle.sheet_laws.proofs.Distinct.{known-iff}
 use Rattle.sheet_cycles.specs.Known.{partAt, knownOf, Found}
@@ -38,27 +36,25 @@ module _ (sheet from size : List ℕ) where
     unfolding knownOf isKnown
     not-start = refl
 
-    not-more : (k : ℕ) → sameLetters (partAt sheet from size k) c ≡ false → NotTo k → NotTo (suc k)
+    not-more : (k : ℕ) → (partAt sheet from size k ≡ c → ⊥) → NotTo k → NotTo (suc k)
     unfolding knownOf
     not-more k e t =
         bif (isKnown c (knownOf sheet from size k ++ (partAt sheet from size k ∷ [])))
         (λ y. absurd (⊎-elim
         (λ m. false≢true (sym t ∙ known-iff c (knownOf sheet from size k) .1 m))
-        (λ m. false≢true (sym e ∙ letters-iff (partAt sheet from size k) c .1 (sym (List·Memᴰ·eq-of-singleton m))))
+        (λ m. e (sym (List·Memᴰ·eq-of-singleton m)))
         (List·Memᴰ·append-cases (knownOf sheet from size k) (known-iff c (knownOf sheet from size k ++ (partAt sheet from size k ∷ [])) .0 y))))
         (λ y. y)
 
-    pub not-next : (k : ℕ) → sameLetters (partAt sheet from size k) c ≡ false → NotTo k → NotTo (k + 1)
+    pub not-next : (k : ℕ) → (partAt sheet from size k ≡ c → ⊥) → NotTo k → NotTo (k + 1)
     not-next k e t = ap (λ (x : ℕ). isKnown c (knownOf sheet from size x)) (add-one k) ∙ not-more k e t
 
-    pub found-here : (n k : ℕ) → k < n → sameLetters (partAt sheet from size k) c ≡ true → Found sheet from size n c k
-    found-here n k l e =
-        let q = letters-equal (partAt sheet from size k) c e in
-        record {
-          most = omega arith;
-          same = λ h. (known-iff c (knownOf sheet from size n) .1 (Memᴰ·cast (sym q) (known-in n k l)), q);
-          none = λ h. absurd (omega arith);
-        }
+    pub found-here : (n k : ℕ) → k < n → partAt sheet from size k ≡ c → Found sheet from size n c k
+    found-here n k l e = record {
+      most = omega arith;
+      same = λ h. (known-iff c (knownOf sheet from size n) .1 (Memᴰ·cast (sym e) (known-in n k l)), e);
+      none = λ h. absurd (omega arith);
+    }
 
     pub found-none : (n k : ℕ) → k ≡ n → NotTo k → Found sheet from size n c k
     found-none n k e t = record {

@@ -1,4 +1,5 @@
 // The cycles of a sheet that are known, each a part of the sheet, and the masks of each, filled once.
+use check::same;
 use judge_masks::word::fill_cycle;
 use rule_entries::Head;
 ghost use mathlib.Core.Path.{_≡_};
@@ -7,26 +8,8 @@ ghost use lib.ListN.{length, take, drop};
 ghost use Rattle.rule_entries.specs.Entries.{ruleOf};
 ghost use Rattle.rule_reach.specs.Tables.{closuresOf};
 ghost use Rattle.judge_place.specs.Starts.{CycleReady};
-ghost use Rattle.word_spelling_spec.specs.SpellingComputed.{sameLetters};
 ghost use Rattle.sheet_cycles.specs.Known.{Parts, Found};
 ghost use Rattle.sheet_cycles.specs.Filled.{Filled, Learnt};
-
-// Whether two lists of letters are equal.
-fn same_letters(a: &[u8], b: &[u8]) -> bool
-    ensures { λ r. ⌜ r ≡ sameLetters (now (a .entry)) (now (b .entry)) ⌝ }
-{
-    if a.len() != b.len() {
-        return false;
-    }
-    let mut i = 0;
-    while i < a.len() {
-        if a[i] != b[i] {
-            return false;
-        }
-        i += 1;
-    }
-    true
-}
 
 // The number of the first of n known cycles that is the given one, or n. Cycle k is the sheet's part of size[k] bytes from byte from[k] on.
 pub fn find_cycle(sheet: &[u8], from: &[usize], size: &[usize], n: usize, cycle: &[u8]) -> usize
@@ -37,7 +20,7 @@ pub fn find_cycle(sheet: &[u8], from: &[usize], size: &[usize], n: usize, cycle:
     while k < n {
         let start = from[k];
         let end = start + size[k];
-        if same_letters(&sheet[start..end], cycle) {
+        if same(&sheet[start..end], cycle) {
             return k;
         }
         k += 1;

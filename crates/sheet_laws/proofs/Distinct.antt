@@ -10,17 +10,17 @@ use native.Mathlib.Decide.{decLt}
 use lib.ListN.{length, getD, length-append, List·getD-append}
 use lib.Seq.{getD-append-seam}
 use Rattle.sets.proofs.Bools.{bif}
-use Rattle.word_spelling_spec.specs.SpellingComputed.{sameLetters}
-use Rattle.word_spelling_spec.proofs.Same.{letters-equal, letters-iff}
+use Rattle.slice_search.specs.Same.{sameLists}
+use Rattle.slice_search.proofs.Same.{lists-equal, lists-iff}
 use Rattle.sheet_spec.specs.Words.{SheetWord, faultOf}
 use Rattle.sheet_spec.specs.Computed.{isKnown, learn, learnBy, cyclesAfter, tidyOf, Counted}
 use Rattle.sheet_spec.specs.Judged.{Once}
 
-pub known-yes : (c k : List ℕ) (ks : List (List ℕ)) → sameLetters k c ≡ true → isKnown c (k ∷ ks) ≡ true
+pub known-yes : (c k : List ℕ) (ks : List (List ℕ)) → sameLists k c ≡ true → isKnown c (k ∷ ks) ≡ true
 unfolding isKnown
 known-yes c k ks e = rw (e, isKnown)
 
-pub known-no : (c k : List ℕ) (ks : List (List ℕ)) → sameLetters k c ≡ false → isKnown c (k ∷ ks) ≡ isKnown c ks
+pub known-no : (c k : List ℕ) (ks : List (List ℕ)) → sameLists k c ≡ false → isKnown c (k ∷ ks) ≡ isKnown c ks
 unfolding isKnown
 known-no c k ks e = rw (e, isKnown)
 
@@ -30,11 +30,11 @@ unfolding isKnown
 known-iff c [] = (λ e. absurd (false≢true e), λ m. absurd (List·Memᴰ·not-nil m))
 known-iff c (k ∷ ks) =
     let ih = known-iff c ks in
-    bif (sameLetters k c)
-    (λ e. (λ t. List·Memᴰ·head (sym (letters-equal k c e)), λ m. known-yes c k ks e))
+    bif (sameLists k c)
+    (λ e. (λ t. List·Memᴰ·head (sym (lists-equal k c e)), λ m. known-yes c k ks e))
     (λ e. (
       λ t. List·Memᴰ·tail (ih .0 (sym (known-no c k ks e) ∙ t)),
-      λ m. known-no c k ks e ∙ ⊎-elim (λ p. absurd (false≢true (sym e ∙ letters-iff k c .1 (sym p)))) (ih .1) (List·Memᴰ·cases-cons m),
+      λ m. known-no c k ks e ∙ ⊎-elim (λ p. absurd (false≢true (sym e ∙ lists-iff k c .1 (sym p)))) (ih .1) (List·Memᴰ·cases-cons m),
     ))
 
 pub learn-known : (ks : List (List ℕ)) (c : List ℕ) → isKnown c ks ≡ true → learn ks c ≡ ks

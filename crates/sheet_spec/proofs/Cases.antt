@@ -16,7 +16,8 @@ use Rattle.file_spec.specs.Names.{hasNames, namesBefore, repeatsName}
 use Rattle.file_spec.specs.Rows.{trailerRows, layoutRows, bodyRows, nameRows, prefaceRows, fileRows}
 use Rattle.file_spec.specs.RuleRows.{numberRows, listRows, nested, someNested, clauseRows, componentRows, formedRows}
 use Rattle.word_rows.specs.Words.{letterRows}
-use Rattle.word_spelling_spec.specs.SpellingComputed.{comesAgain, cycleLength, shortened, leadLength, tidyCycle, sameLetters}
+use Rattle.slice_search.specs.Same.{sameLists}
+use Rattle.word_spelling_spec.specs.SpellingComputed.{comesAgain, cycleLength, shortened, leadLength, tidyCycle}
 use Rattle.sheet_spec.specs.Words.{SheetWord, lone, spelled, wordsIn, wordsOf, leadOf, cycleOf, lengthFaults, faultOf}
 use Rattle.sheet_spec.specs.Sheet.{sheetRows, sheetRow}
 use Rattle.sheet_spec.specs.Computed.{answerOf, masksOf, allMasks, isKnown, learn, cyclesAfter, cycleCount, sheetOf}
@@ -24,7 +25,7 @@ use Rattle.sheet_spec.specs.declared.SheetAnswer.the-variants.{Judged, R
 
 -- what an evaluation unfolds
 unfoldable computed : ℕ
-unfolding sheetRows cycleCount cyclesAfter learn isKnown sameLetters wordsOf wordsIn leadOf cycleOf faultOf lengthFaults firstRow letterRows anyOf tidyCycle leadLength cycleLength comesAgain
+unfolding sheetRows cycleCount cyclesAfter learn isKnown sameLists wordsOf wordsIn leadOf cycleOf faultOf lengthFaults firstRow letterRows anyOf tidyCycle leadLength cycleLength comesAgain
     shortened every first letterAt nextPlace place
 computed = 0
 

@@ -12,7 +12,8 @@ use Rattle.theory.specs.Truth.{truthMasks}
 use Rattle.theory.specs.Word.{places}
 use Rattle.file_spec.specs.File.{ruleIn}
 use Rattle.judge_spec.specs.Judge.{holdsStart, judgeRow, judgeOf, after}
-use Rattle.word_spelling_spec.specs.SpellingComputed.{tidyCycle, sameLetters}
+use Rattle.slice_search.specs.Same.{sameLists}
+use Rattle.word_spelling_spec.specs.SpellingComputed.{tidyCycle}
 use Rattle.sheet_spec.specs.Words.{SheetWord, spelled, wordsOf, leadOf, cycleOf, faultOf}
 use Rattle.sheet_spec.specs.Sheet.{byteOf, sheetRow}
 use Rattle.sheet_spec.specs.Judged.{Once}
@@ -47,7 +48,7 @@ module _ (r : Rule) where
 -- whether a cycle is one of those known
 unfoldable pub isKnown : List ℕ → List (List ℕ) → Bool
 isKnown c [] = false
-isKnown c (k ∷ ks) = elim (sameLetters k c) [ true ↦ true | false ↦ isKnown c ks ]
+isKnown c (k ∷ ks) = elim (sameLists k c) [ true ↦ true | false ↦ isKnown c ks ]
 
 -- the cycles known after one more
 unfoldable pub learn : List (List ℕ) → List ℕ → List (List ℕ)

@@ -1,24 +1,20 @@
 -- Sameness: words that agree at as many steps as both have places together agree at every step.
-use mathlib.Core.Path.{_≡_, refl, sym, _∙_, ap, ap₂}
+use mathlib.Core.Path.{_≡_, sym, _∙_, ap}
 use mathlib.Core.Logic.{_↔_, by-cases}
-use mathlib.Core.Bool.{Bool, true, false, _&&_, false≢true}
-use mathlib.Core.List.{List, [], _∷_}
-use Prim.Native.Nat.{ℕ, zero, suc, _+_, _-_, _≤_, _<_}
+use mathlib.Core.Bool.{true}
+use mathlib.Core.List.{List}
+use Prim.Native.Nat.{ℕ, zero, suc, _+_, _-_, _<_}
 use native.Mathlib.Omega.{arith}
 use native.Mathlib.Decide.{decLt}
 use lib.Dec.{eqb}
-use lib.ListN.{length, getD, drop, drop-of-length-le}
-use borrow.Author.Tests.{eqb-true, eq-eqb, ne-eqb}
+use lib.ListN.{length}
+use borrow.Author.Tests.{eqb-true, eq-eqb}
 use Rattle.sets.specs.Tests.{every}
-use Rattle.sets.proofs.Bools.{bif, and-l, and-r, and-i}
 use Rattle.sets.proofs.Tests.{every-at, every-all}
-use Rattle.sets.proofs.Walks.{drop-next}
 use Rattle.theory.specs.Word.{places, letters}
 use Rattle.word_spelling_spec.specs.Spelling.{Agree}
-use Rattle.word_spelling_spec.specs.SpellingComputed.{sameWord, sameLetters}
+use Rattle.word_spelling_spec.specs.SpellingComputed.{sameWord}
 use Rattle.word_spelling_spec.proofs.Steps.{letters-again}
-
--- ---- steps
 
 module _ (l₁ c₁ l₂ c₂ : List ℕ) (h₁ : 0 < length c₁) (h₂ : 0 < length c₂) where
   -- a step past them comes a cycle of each earlier, and both cycles earlier
@@ -47,21 +43,3 @@ module _ (l₁ c₁ l₂ c₂ : List ℕ) (h₁ : 0 < length c₁) (h₂ : 0 < l
     λ t i. beyond (λ j l. eqb-true _ _ (every-at (places l₁ c₁ + places l₂ c₂) (λ x. eqb (letters l₁ c₁ x) (letters l₂ c₂ x)) t j l)) (suc i) i (omega arith),
     λ a. every-all (places l₁ c₁ + places l₂ c₂) (λ x. eqb (letters l₁ c₁ x) (letters l₂ c₂ x)) (λ j l. eq-eqb _ _ (a j)),
   )
-
--- ---- lists of letters
-
-pub letters-equal : (xs ys : List ℕ) → sameLetters xs ys ≡ true → xs ≡ ys
-unfolding sameLetters
-letters-equal [] [] e = refl
-letters-equal [] (y ∷ ys) e = absurd (false≢true e)
-letters-equal (x ∷ xs) [] e = absurd (false≢true e)
-letters-equal (x ∷ xs) (y ∷ ys) e =
-    ap₂ _∷_ (eqb-true x y (and-l (eqb x y) (sameLetters xs ys) e)) (letters-equal xs ys (and-r (eqb x y) (sameLetters xs ys) e))
-
-letters-refl : (xs : List ℕ) → sameLetters xs xs ≡ true
-unfolding sameLetters
-letters-refl [] = refl
-letters-refl (x ∷ xs) = and-i (eq-eqb x x refl) (letters-refl xs)
-
-pub letters-iff : (xs ys : List ℕ) → (sameLetters xs ys ≡ true) ↔ (xs ≡ ys)
-letters-iff xs ys = (λ e. letters-equal xs ys e, λ p. ap (sameLetters xs) (sym p) ∙ letters-refl xs)

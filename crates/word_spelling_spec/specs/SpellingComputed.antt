@@ -1,6 +1,6 @@
 -- The tidy spelling and sameness, computed: the one that `Tidy` describes, by proofs/Tidied, and agreement at every step, by proofs/Same.
-use mathlib.Core.Bool.{Bool, true, false, _&&_}
-use mathlib.Core.List.{List, [], _∷_, _++_}
+use mathlib.Core.Bool.{Bool, true, false}
+use mathlib.Core.List.{List, [], _++_}
 use Prim.Native.Nat.{ℕ, zero, suc, _+_}
 use lib.Dec.{eqb}
 use lib.ListN.{length, take, drop}
@@ -30,13 +30,6 @@ tidyLead lead cycle = take (leadLength lead cycle) lead
 
 unfoldable pub tidyCycle : List ℕ → List ℕ → List ℕ
 tidyCycle lead cycle = take (cycleLength cycle) (drop (leadLength lead cycle) (lead ++ cycle))
-
--- whether two lists of letters are equal
-unfoldable pub sameLetters : List ℕ → List ℕ → Bool
-sameLetters [] [] = true
-sameLetters [] (y ∷ ys) = false
-sameLetters (x ∷ xs) [] = false
-sameLetters (x ∷ xs) (y ∷ ys) = eqb x y && sameLetters xs ys
 
 -- whether two words agree at as many steps as both have places together
 unfoldable pub sameWord : List ℕ → List ℕ → List ℕ → List ℕ → Bool

@@ -1,11 +1,10 @@
 -- `sheet_cycles::find_cycle` meets its contract: none of the first k is the cycle.
 use Prim.Native.Nat.{ℕ, _+_, _-_, _≤_, _<_}
 use mathlib.Core.Path.{_≡_, refl, sym, _∙_, ap}
-use mathlib.Core.Bool.{true, false}
+use mathlib.Core.Bool.{true≢false}
 use native.Mathlib.Omega.{arith}
 use lib.ListN.{length, getD, take, drop}
 use borrow.Author.Needs.{needs}
-use Rattle.word_spelling_spec.specs.SpellingComputed.{sameLetters}
 use Rattle.sheet_cycles.specs.Known.{partAt}
 use Rattle.sheet_cycles.proofs.Known.{NotTo, not-start, not-next, found-here, found-none}
 use Rattle.sheet_cycles.proofs.find_cycle.Statement.{statement}
@@ -43,8 +42,8 @@ add-end c =
     let start = c .before .before .before .before .before .before .before .before in
     omega (arith, start .pre .within (c .before .before .before .loop .k) (omega arith))
 
-part-same-letters-end : tie.Need-part-same-letters-end Inv-loop μ-loop
-part-same-letters-end c =
+part-same-end : tie.Need-part-same-end Inv-loop μ-loop
+part-same-end c =
     let start = c .before .before .before .before .before .before .before .before in
     omega (arith, start .pre .within (c .before .before .before .loop .k) (omega arith))
 
@@ -55,8 +54,7 @@ returns c =
     let k = c .before .before .before .before .before .before .loop .k in
     let s = getD (a .from .now) k 0 in
     let q : s + getD (a .size .now) k 0 - s ≡ getD (a .size .now) k 0 = omega arith in
-    let e : sameLetters (partAt (a .sheet .now) (a .from .now) (a .size .now) k) (a .cycle .now) ≡ true
-    = ap (λ (x : ℕ). sameLetters (take x (drop s (a .sheet .now))) (a .cycle .now)) (sym q) ∙ sym (c .before .same-letters .ensures) ∙ c .if1 .taken in
+    let e : partAt (a .sheet .now) (a .from .now) (a .size .now) k ≡ a .cycle .now = ap (λ (x : ℕ). take x (drop s (a .sheet .now))) (sym q) ∙ c .before .same .ensures .0 (c .if1 .taken) in
     found-here (a .sheet .now) (a .from .now) (a .size .now) (a .cycle .now) (a .n) k (omega arith) e
 
 loop-again : tie.Need-loop-again Inv-loop μ-loop
@@ -66,8 +64,8 @@ loop-again c =
     let k = c .before .before .before .before .before .before .loop .k in
     let s = getD (a .from .now) k 0 in
     let q : s + getD (a .size .now) k 0 - s ≡ getD (a .size .now) k 0 = omega arith in
-    let e : sameLetters (partAt (a .sheet .now) (a .from .now) (a .size .now) k) (a .cycle .now) ≡ false
-    = ap (λ (x : ℕ). sameLetters (take x (drop s (a .sheet .now))) (a .cycle .now)) (sym q) ∙ sym (c .before .same-letters .ensures) ∙ c .if1 .left in
+    let e : partAt (a .sheet .now) (a .from .now) (a .size .now) k ≡ a .cycle .now → ⊥
+    = λ h. true≢false (sym (c .before .same .ensures .1 (ap (λ (x : ℕ). take x (drop s (a .sheet .now))) q ∙ h)) ∙ c .if1 .left) in
     (omega arith, not-next (a .sheet .now) (a .from .now) (a .size .now) (a .cycle .now) k e (c .before .before .before .before .before .before .loop .inv .1))
 
 returns-2 : tie.Need-returns-2 Inv-loop μ-loop
@@ -80,4 +78,4 @@ pub find-cycle-spec : {M : Type 1} → statement M
 find-cycle-spec =
     tie.close (tie.spec
     Inv-loop μ-loop loop-holds mul-start shared-slice-read-start mul-end shared-slice-read-end add-end (λ c. omega arith) (λ c. omega arith)
-    part-same-letters-end (λ c κs. search needs) returns (λ c. omega arith) (λ c. omega arith) loop-again returns-2)
+    part-same-end (λ c κs. search needs) returns (λ c. omega arith) (λ c. omega arith) loop-again returns-2)
