@@ -1,6 +1,8 @@
 // A macrostate as a 64-bit number, and packed transitions.
 ghost use mathlib.Core.Path.{_≡_};
+ghost use mathlib.Core.Bool.{_&&_};
 ghost use Prim.Native.Nat.{_+_, _≤_, _<_};
+ghost use lib.Dec.{eqb};
 ghost use lib.ListN.{length};
 ghost use Rattle.sets.specs.Masks.{bit};
 ghost use Rattle.theory.specs.Code.{componentIn, classesIn};
@@ -23,6 +25,16 @@ pub fn classes_of(code: u64) -> u8
     ((code >> 44) & 15) as u8
 }
 
+// Whether a run may begin at a macrostate, but for its set: K is 0 and k is 0.
+pub fn is_first(code: u64) -> bool
+    ensures { λ r. ⌜ r ≡ (eqb (componentIn code) 0 && eqb (classesIn code) 0) ⌝ }
+{
+    if component_of(code) != 0 {
+        return false;
+    }
+    classes_of(code) == 0
+}
+
 // Whether a macrostate is initial: its set holds the initial state, K is 0 and k is 0.
 pub fn is_initial(code: u64, initial: u32) -> bool
     requires { ⌜ initial < 8 ⌝ }
@@ -31,10 +43,7 @@ pub fn is_initial(code: u64, initial: u32) -> bool
     if (code >> initial) & 1 != 1 {
         return false;
     }
-    if component_of(code) != 0 {
-        return false;
-    }
-    classes_of(code) == 0
+    is_first(code)
 }
 
 // Whether a macrostate is accepting: k is 0.

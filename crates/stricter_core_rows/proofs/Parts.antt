@@ -1,5 +1,5 @@
 -- The mark that a step needs, and a part of a row walked place by place.
-use mathlib.Core.Path.{_≡_, sym, _∙_, subst}
+use mathlib.Core.Path.{_≡_, subst}
 use mathlib.Core.Logic.{by-cases}
 use mathlib.Core.Bool.{Bool, true, false, cond, true≢false, false≢true}
 use mathlib.Core.List.{List}
@@ -7,20 +7,19 @@ use Prim.Native.Nat.{ℕ, _+_, _-_, _/_, _%_, _^_, _≤_, _<_}
 use native.Mathlib.Omega.{arith}
 use native.Mathlib.Decide.{decLt}
 use lib.ListN.{getD}
-use lib.Bits.{bitAnd, and-mask}
-use borrow.Author.Tests.{eq-eqb, ne-eqb}
-use Rattle.sets.specs.Masks.{bit}
+use lib.Bits.{bitAnd}
+use Rattle.codes.proofs.Starts.{held, lacking}
 use Rattle.stricter_cores_spec.specs.Tags.{sparing}
 use Rattle.stricter_core_rows.specs.Rows.{needed, Met}
 
 -- the digit that tells whether component k is spared
 pub digit-spares : (t k : ℕ) → bitAnd (t / 2 ^ (56 + k)) 1 ≡ 1 → sparing t k ≡ true
-unfolding sparing bit
-digit-spares t k e = eq-eqb (t / 2 ^ (56 + k) % 2) 1 (sym (and-mask (t / 2 ^ (56 + k)) 1) ∙ e)
+unfolding sparing
+digit-spares t k = held t (56 + k)
 
 pub digit-not : (t k : ℕ) → (bitAnd (t / 2 ^ (56 + k)) 1 ≡ 1 → ⊥) → sparing t k ≡ false
-unfolding sparing bit
-digit-not t k n = ne-eqb (t / 2 ^ (56 + k) % 2) 1 (λ e. n (and-mask (t / 2 ^ (56 + k)) 1 ∙ e))
+unfolding sparing
+digit-not t k = lacking t (56 + k)
 
 -- one place more
 pub one-more : (F : ℕ → Type 0) (from c : ℕ) → ((p : ℕ) → from ≤ p → p < c → F p) → F c → (p : ℕ) → from ≤ p → p < c + 1 → F p

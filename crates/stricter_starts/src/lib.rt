@@ -1,7 +1,6 @@
 // Start pairs among the pairs of cores of two tagged tables. A run begins where K and k are 0, and of the numbers of a core that one is the
 // first.
-use codes::classes_of;
-use codes::component_of;
+use codes::is_first;
 use codes::is_initial;
 use slice_zeros::next_set;
 ghost use mathlib.Core.Path.{_≡_};
@@ -22,10 +21,7 @@ fn begins_lacking(code: u64, initial: u32) -> bool
     if (code >> initial) & 1 == 1 {
         return false;
     }
-    if component_of(code) != 0 {
-        return false;
-    }
-    classes_of(code) == 0
+    is_first(code)
 }
 
 // Whether number i stands for its core and a run may begin at it if its set holds the initial state.

@@ -1,28 +1,18 @@
 -- `codes::is_initial` meets its contract.
-use mathlib.Core.Path.{_≡_, sym, _∙_, ap}
-use Prim.Native.Nat.{ℕ}
-use native.Mathlib.Omega.{arith}
-use lib.Dec.{eqb}
+use mathlib.Core.Path.{_∙_, sym}
 use borrow.Author.Needs.{needs}
-use Rattle.theory.specs.Code.{componentIn}
-use Rattle.codes.proofs.Starts.{lacks-state, other-component, by-classes}
+use Rattle.theory.specs.Macrostate.{begun}
+use Rattle.codes.proofs.Starts.{held, lacking}
 use Rattle.codes.proofs.is_initial.Statement.{statement}
 use Rattle.codes.proofs.is_initial.Tie as tie
 
 returns : tie.Need-returns
-returns c = sym (lacks-state (c .before .args .code) (c .before .args .initial) (c .if1 .taken))
+unfolding begun
+returns c = let a = c .before .args in rw (lacking (a .code) (a .initial) (c .if1 .taken))
 
 returns-2 : tie.Need-returns-2
-returns-2 c =
-    let a = c .before .before .before .args in
-    let other : componentIn (a .code) ≡ 0 → ⊥ = λ e. omega (arith, c .if2 .taken, c .before .component-of .ensures) in
-    sym (other-component (a .code) (a .initial) (c .before .before .if1 .left) other)
-
-returns-3 : tie.Need-returns-3
-returns-3 c =
-    let a = c .before .before .before .before .args in
-    let first : componentIn (a .code) ≡ 0 = omega (arith, c .before .if2 .left, c .before .before .component-of .ensures) in
-    ap (λ (x : ℕ). eqb x 0) (c .classes-of .ensures) ∙ sym (by-classes (a .code) (a .initial) (c .before .before .before .if1 .left) first)
+unfolding begun
+returns-2 c = let a = c .before .before .args in c .is-first .ensures ∙ rw (held (a .code) (a .initial) (c .before .if1 .left))
 
 pub is-initial-spec : {M : Type 1} → statement M
-is-initial-spec = tie.close (tie.spec (λ c. search needs) returns (λ c κs. search needs) returns-2 (λ c κs. search needs) returns-3)
+is-initial-spec = tie.close (tie.spec (λ c. search needs) returns (λ c κs. search needs) returns-2)
