@@ -1,12 +1,17 @@
--- Where transitions come from, and a way that is found and written.
+-- Where transitions come from, a way that is found and written, and what a word is found by.
 use mathlib.Core.Path.{_≡_}
-use mathlib.Core.Bool.{Bool, true}
+use mathlib.Core.Bool.{Bool, true, false}
 use mathlib.Core.List.{List, List·Memᴰ}
-use Prim.Native.Nat.{ℕ, _≤_, _<_}
+use Prim.Native.Nat.{ℕ, _*_, _≤_, _<_}
 use lib.ListN.{length, getD}
 use Rattle.sets.specs.Tests.{Set}
 use Rattle.theory.specs.Macrostate.{isAccepting}
 use Rattle.theory.specs.Run.{sourceOf, letterOf, targetOf}
+use Rattle.stricter_spec.specs.declared.Found.{Found}
+use Rattle.stricter_spec.specs.Search.{Searchable, Searched}
+use Rattle.stricter_laws.specs.Pairs.{PairEdge}
+use Rattle.stricter_laws.specs.Sound.{BothSound}
+use Rattle.stricter_laws.specs.Tests.{acceptsIn, startsIn}
 use Rattle.stricter_forest.specs.Forest.{SameIn}
 use Rattle.stricter_forest.specs.Routes.{RouteAt}
 
@@ -38,3 +43,16 @@ pub record Round (S : ℕ → ℕ → ℕ → Type 0) (p q : Set) (start r : ℕ
   pub written : 0 < r → RouteAt S start start 0 r old new
   pub first : 0 < r → p start ≡ true
   pub second : 0 < r → q start ≡ true
+
+module _ (lcodes left rcodes right : List ℕ) (start : ℕ) where
+  -- what is asked of two tables, the word slice and the marks of the pairs, of which the start pair is in
+  abbrev pub LassoReady : List ℕ → List ℕ → Type 0
+  LassoReady word marks =
+      Searchable lcodes left × Searchable rcodes right × (length marks ≡ length lcodes * length rcodes)
+      × (3 * (length lcodes * length rcodes) ≤ length word) × (0 < getD marks start 0)
+      × BothSound (PairEdge (length rcodes) left right) (acceptsIn lcodes rcodes false) (acceptsIn lcodes rcodes true) marks
+
+  -- the word that is found begins at the start pair, by whatever start conditions that passes
+  abbrev pub LassoFound : List ℕ → List ℕ → Found → Type 0
+  LassoFound old new r =
+      (startA startB : Set) → startsIn lcodes rcodes startA startB start ≡ true → Searched lcodes left startA rcodes right startB old new r

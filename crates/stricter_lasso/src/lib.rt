@@ -12,15 +12,14 @@ ghost use mathlib.Core.Bool.{true, false, _&&_};
 ghost use Prim.Native.Nat.{ℕ, _+_, _*_, _/_, _%_, _≤_, _<_};
 ghost use lib.Dec.{ltb};
 ghost use lib.ListN.{length, getD};
-ghost use Rattle.sets.specs.Tests.{Set};
 ghost use Rattle.theory.specs.Run.{sourceOf};
-ghost use Rattle.stricter_spec.specs.Search.{Searchable, Searched};
+ghost use Rattle.stricter_spec.specs.Search.{Searchable};
 ghost use Rattle.stricter_laws.specs.Pairs.{PairStep, PairEdge};
 ghost use Rattle.stricter_laws.specs.Sound.{BothSound};
-ghost use Rattle.stricter_laws.specs.Tests.{acceptsIn, startsIn};
+ghost use Rattle.stricter_laws.specs.Tests.{acceptsIn};
 ghost use Rattle.stricter_forest.specs.Forest.{kindIn, SameIn, Reaches, Back, ParentIs};
 ghost use Rattle.stricter_forest.specs.Routes.{RouteAt, Turning};
-ghost use Rattle.stricter_lasso.specs.Tables.{Suits, SourceIs, Way, Round};
+ghost use Rattle.stricter_lasso.specs.Tables.{Suits, SourceIs, Way, Round, LassoReady, LassoFound};
 
 // ---- the way back
 
@@ -246,14 +245,9 @@ fn find_lasso(
     word: &mut [u8],
     marks: &mut [u8],
 ) -> Found
-    requires { ⌜ Searchable (now lcodes) (now left) × Searchable (now rcodes) (now right)
-        × (length (now marks) ≡ length (now lcodes) * length (now rcodes))
-        × (3 * (length (now lcodes) * length (now rcodes)) ≤ length (now word)) × (0 < getD (now marks) start 0)
-        × BothSound (PairEdge (length (now rcodes)) (now left) (now right)) (acceptsIn (now lcodes) (now rcodes) false)
-        (acceptsIn (now lcodes) (now rcodes) true) (now marks) ⌝ }
-    ensures { λ r. ⌜ ((startA startB : Set) → startsIn (now (lcodes .entry)) (now (rcodes .entry)) startA startB start ≡ true
-        → Searched (now (lcodes .entry)) (now (left .entry)) startA (now (rcodes .entry)) (now (right .entry)) startB
-        (now (word .entry)) (now (word .exit)) r) ⌝ }
+    requires { ⌜ LassoReady (now lcodes) (now left) (now rcodes) (now right) start (now word) (now marks) ⌝ }
+    ensures { λ r. ⌜ LassoFound (now (lcodes .entry)) (now (left .entry)) (now (rcodes .entry)) (now (right .entry)) start
+        (now (word .entry)) (now (word .exit)) r ⌝ }
 {
     let t = find_turn(lcodes, left, rcodes, right, start, marks);
     let u = t.u;
@@ -305,14 +299,9 @@ pub fn find_word(
     word: &mut [u8],
     marks: &mut [u8],
 ) -> Found
-    requires { ⌜ Searchable (now lcodes) (now left) × Searchable (now rcodes) (now right)
-        × (length (now marks) ≡ length (now lcodes) * length (now rcodes))
-        × (3 * (length (now lcodes) * length (now rcodes)) ≤ length (now word)) × (0 < getD (now marks) start 0)
-        × BothSound (PairEdge (length (now rcodes)) (now left) (now right)) (acceptsIn (now lcodes) (now rcodes) false)
-        (acceptsIn (now lcodes) (now rcodes) true) (now marks) ⌝ }
-    ensures { λ r. ⌜ ((startA startB : Set) → startsIn (now (lcodes .entry)) (now (rcodes .entry)) startA startB start ≡ true
-        → Searched (now (lcodes .entry)) (now (left .entry)) startA (now (rcodes .entry)) (now (right .entry)) startB
-        (now (word .entry)) (now (word .exit)) r) ⌝ }
+    requires { ⌜ LassoReady (now lcodes) (now left) (now rcodes) (now right) start (now word) (now marks) ⌝ }
+    ensures { λ r. ⌜ LassoFound (now (lcodes .entry)) (now (left .entry)) (now (rcodes .entry)) (now (right .entry)) start
+        (now (word .entry)) (now (word .exit)) r ⌝ }
 {
     let n = write_round(lcodes, left, rcodes, right, start, marks, word);
     if 0 < n {
