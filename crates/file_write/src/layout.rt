@@ -2,6 +2,7 @@
 use file_names::NAMES_TAG;
 use file_rows::trailer::TAG;
 use rule_entries::Head;
+use slice_text::put;
 ghost use mathlib.Core.Path.{_≡_};
 ghost use Prim.Native.Nat.{_+_, _≤_, _<_};
 ghost use lib.ListN.{length};
@@ -10,18 +11,6 @@ ghost use Rattle.rule_entries.specs.Entries.{ruleOf};
 ghost use Rattle.file_spec.specs.File.{bodyOf};
 ghost use Rattle.file_spec.specs.Names.{prefaceFrom};
 ghost use Rattle.file_write_spec.specs.Written.{fileOf, after, InBytes};
-
-// Copies src to place at of dst.
-fn put(dst: &mut [u8], at: usize, src: &[u8])
-    requires { ⌜ at + length (now src) ≤ length (now dst) ⌝ }
-    ensures { λ _. ⌜ now (dst .exit) ≡ paste (now (dst .entry)) at (now (src .entry)) (length (now (src .entry))) ⌝ }
-{
-    let mut i = 0;
-    while i < src.len() {
-        dst[at + i] = src[i];
-        i += 1;
-    }
-}
 
 // A number below 256 as a byte.
 fn low(x: usize) -> u8

@@ -1,5 +1,5 @@
 -- Texts written one after the other.
-use mathlib.Core.Path.{_≡_, refl, sym, _∙_, ap}
+use mathlib.Core.Path.{_≡_, refl, sym, _∙_, ap, ap₂}
 use mathlib.Core.List.{List, [], _∷_, _++_, append-assoc, append-nil}
 use Prim.Native.Nat.{ℕ, _+_, _≤_, _<_}
 use native.Mathlib.Omega.{arith}
@@ -56,6 +56,10 @@ put-one d at x h = record {
 -- a copy
 pub put-copy : (d : List ℕ) (at : ℕ) (s new : List ℕ) → at + length s ≤ length d → new ≡ paste d at s (length s) → Put d at s new (at + length s)
 put-copy d at s new h e = record { ends = refl; fits = h; text = e ∙ ap (λ (t : List ℕ). (take at d ++ t) ++ drop (at + length s) d) (take-length s) }
+
+-- the slice with the text, as a copy
+pub put-paste : {d : List ℕ} {at : ℕ} {s new : List ℕ} {r : ℕ} → Put d at s new r → new ≡ paste d at s (length s)
+put-paste {d} {at} {s} P = P .text ∙ ap₂ (λ (t : List ℕ) (k : ℕ). (take at d ++ t) ++ drop k d) (sym (take-length s)) (P .ends)
 
 -- nothing
 pub put-none : (d : List ℕ) (at : ℕ) → at ≤ length d → Put d at [] d at

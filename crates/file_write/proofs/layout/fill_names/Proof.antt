@@ -4,6 +4,7 @@ use mathlib.Core.Path.{_≡_, _∙_}
 use native.Mathlib.Omega.{arith}
 use borrow.Author.Needs.{needs}
 use lib.ListN.{length}
+use Rattle.slice_text.proofs.Puts.{put-paste}
 use Rattle.file_write_spec.proofs.Laws.{length-preface}
 use Rattle.file_write.proofs.Names.{fill-none, fill-some}
 use Rattle.file_write.proofs.layout.fill_names.Statement.{statement}
@@ -29,7 +30,7 @@ returns-2 c =
     let start = earlier .before .before .before in
     let a = start .args in
     let e = earlier in
-    c .before .before .put2 .ensures ∙ rw (at-put .put .ensures) (fill-some (a .out .now) (a .names .now) (e .if1 .left) (room e))
+    put-paste (c .before .before .put2 .ensures) ∙ rw (put-paste (at-put .put .ensures)) (fill-some (a .out .now) (a .names .now) (e .if1 .left) (room e))
 
 pub fill-names-spec : {M : Type 1} → statement M
 fill-names-spec = tie.close (tie.spec returns put-requires (λ c. search needs) put-requires-2 (λ c. search needs) returns-2)

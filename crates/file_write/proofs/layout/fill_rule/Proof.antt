@@ -5,6 +5,7 @@ use mathlib.Core.List.{[], _∷_}
 use native.Mathlib.Omega.{arith}
 use borrow.Author.Needs.{needs}
 use lib.ListN.{length}
+use Rattle.slice_text.proofs.Puts.{put-paste}
 use Rattle.rule_entries.specs.Entries.{ruleOf}
 use Rattle.file_spec.specs.File.{trailerOf, bodyOf}
 use Rattle.file_write_spec.proofs.Laws.{paste-three}
@@ -33,8 +34,8 @@ returns c =
     let earlier = at-put .before .before in
     let start = earlier .before .before .before .before .before .before .before .before .before in
     let a = start .args in
-    c .before .before .put3 .ensures
-    ∙ rw (at-put2 .put2 .ensures, at-put .put .ensures, tail-is (earlier))
+    put-paste (c .before .before .put3 .ensures)
+    ∙ rw (put-paste (at-put2 .put2 .ensures), put-paste (at-put .put .ensures), tail-is (earlier))
     (paste-three (a .out .now) (a .at) (a .clauses .now) (a .counts .now) (trailerOf (ruleOf (a .h) (a .counts .now) (a .clauses .now))) (start .pre .1))
 
 pub fill-rule-spec : {M : Type 1} → statement M
