@@ -2,19 +2,18 @@
 use mathlib.Core.Path.{_≡_, refl, sym, _∙_, ap}
 use mathlib.Core.Bool.{Bool, true, false, not}
 use mathlib.Core.List.{List, [], _∷_, _++_}
-use Prim.Native.Nat.{ℕ, _+_, _*_, _≤_, _<_}
+use Prim.Native.Nat.{ℕ, suc, _+_, _*_, _≤_, _<_}
 use native.Mathlib.Omega.{arith}
 use native.Mathlib.Nat.{zero-add}
 use native.Mathlib.Numerals.{add-one}
 use lib.ListN.{length, getD, take, drop, set}
-use lib.Seq.{set-at, take-suc, take-all, length-take-le, length-front, append-snoc}
+use lib.Seq.{take-all, paste-suc, length-paste}
 use lib.Bits.{bitAnd}
 use lib.Count.{trailingZeros}
 use Rattle.sets.specs.Tests.{some, first}
 use Rattle.sets.specs.Masks.{mask}
 use Rattle.sets.proofs.Bools.{bif, not-f}
 use Rattle.sets.proofs.Tests.{some-at, some-no}
-use Rattle.sets.proofs.Walks.{drop-next}
 use Rattle.sets.proofs.Lists.{tabulate-at, length-tabulate}
 use Rattle.event_spec.specs.Events.{lineCount, lineByte, holds, firstLine, letterOf, eventCount, kindAt, driveAt, known, lettersOf}
 use Rattle.event_spec.specs.Translation.{hasUnknown}
@@ -79,13 +78,10 @@ letters-length t log = length-tabulate (eventCount log) (λ k. letterOf t (kindA
 -- ---- the slice, with k letters written
 
 pub put-letter : (new old : List ℕ) (k : ℕ) → k < length new → k < length old → set (take k new ++ drop k old) k (getD new k 0) ≡ take (k + 1) new ++ drop (k + 1) old
-put-letter new old k l h =
-    ap (λ (r : List ℕ). set (take k new ++ r) k (getD new k 0)) (drop-next old k h)
-    ∙ set-at (take k new) (getD old k 0) (drop (k + 1) old) (getD new k 0) k (length-take-le k new (omega arith))
-    ∙ sym (ap (λ (p : List ℕ). p ++ drop (k + 1) old) (ap (λ (n : ℕ). take n new) (add-one k) ∙ take-suc new k 0 l) ∙ append-snoc (take k new) (getD new k 0) (drop (k + 1) old))
+put-letter new old k l h = rw (add-one k) (rw (zero-add k, zero-add (suc k)) at (paste-suc old 0 new k 0 (omega arith) l))
 
 pub put-all : (new old : List ℕ) (k : ℕ) → length new ≡ k → take k new ++ drop k old ≡ new ++ drop k old
 put-all new old k e = ap (λ (p : List ℕ). p ++ drop k old) (take-all k new (omega arith))
 
 pub put-length : (new old : List ℕ) (k : ℕ) → k ≤ length new → k ≤ length old → length (take k new ++ drop k old) ≡ length old
-put-length new old k l h = length-front old (take k new) k (length-take-le k new l ∙ sym (length-take-le k old h))
+put-length new old k l h = rw (zero-add k) at (length-paste old 0 new k (omega arith) l)

@@ -1,7 +1,7 @@
 -- The first pass over a text, line by line.
 use mathlib.Core.Path.{_≡_, refl, sym, _∙_, ap}
 use mathlib.Core.Bool.{true, false}
-use mathlib.Core.List.{List, [], _∷_, _++_, append-assoc}
+use mathlib.Core.List.{List, [], _∷_, _++_, append-assoc, append-cancel-left}
 use mathlib.Core.Logic.{by-cases}
 use Prim.Native.Nat.{ℕ, suc, _+_, _-_, _≤_, _<_}
 use native.Mathlib.Omega.{arith}
@@ -18,7 +18,7 @@ use Rattle.hoa_spec.specs.Lines.{hoaLine, statesLine, apLine, acceptanceLines, 
 use Rattle.hoa_spec.specs.Text.{startOf, blockOf, automatonText}
 use Rattle.hoa_read_spec.specs.Shape.{flagsFrom, Marked, Shaped}
 use Rattle.hoa_read_laws.specs.Took.{Ended, Took, TookOne}
-use Rattle.hoa_read_laws.proofs.Lines.{append-cancel, states-once, ap-once}
+use Rattle.hoa_read_laws.proofs.Lines.{states-once, ap-once}
 use Rattle.hoa_read_laws.proofs.Starts.{start-yes, start-no}
 use Rattle.hoa_read_laws.proofs.Blocks.{Same, blocks-left, blocks-bits}
 use Rattle.hoa_read_laws.proofs.Marks.{flags-length, accepting-bit, initial-bit, marked-length, marked-bit}
@@ -135,7 +135,7 @@ module _ (text : List ℕ) (n b last starts blocks : ℕ) (H : HeadOf text n b l
       let o = H .read .only fs (lowText c fs ts) (sym (h .0)) (ap-no-start c _) (h .1) in
       let low = o .0 ∙ ap (λ (gs : List ℕ). lines startOf n gs ++ lowText c fs ts) (drop-of-length-le fs {i = n} (omega (arith, h .0))) in
       let a = ap-once b c (H .propositions) (P .propositions) (sym (H .low-text) ∙ low) in
-      (sym (h .0), sym (a .0), append-cancel acceptanceLines (a .1), o .1)
+      (sym (h .0), sym (a .0), append-cancel-left acceptanceLines _ _ (a .1), o .1)
 
   module _ (old : List ℕ) (accepting m q : ℕ) (new : List ℕ) (B : TookBlocks text blocks b n old accepting m q new) where
     -- over the same number of propositions
@@ -203,7 +203,7 @@ module _ (text : List ℕ) (n b last starts blocks : ℕ) (H : HeadOf text n b l
           pub survey-more : (r ≡ length text → ⊥) → NoShape text
           survey-more n c fs ts P e =
               let f = E .found g in
-              let d : drop r text ≡ [] = append-cancel endLine (sym (f .1) ∙ end-part c fs ts P e) in
+              let d : drop r text ≡ [] = append-cancel-left endLine _ _ (sym (f .1) ∙ end-part c fs ts P e) in
               n (omega (arith, f .0, length-drop r text, ap length d))
 
           pub survey-done : last ≤ accepting → r ≡ length text → 0 < blocks → Surveyed text n b accepting m starts blocks r

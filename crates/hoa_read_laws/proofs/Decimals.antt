@@ -1,6 +1,6 @@
 -- Decimal digits tell the number, and where they end.
 use mathlib.Core.Path.{_≡_, refl, sym, _∙_, ap}
-use mathlib.Core.List.{List, [], _∷_, _++_, append-assoc, append-nil}
+use mathlib.Core.List.{List, [], _∷_, _++_, append-assoc, append-nil, nil≢cons}
 use mathlib.Core.Logic.{by-cases}
 use Prim.Native.Nat.{ℕ, zero, suc, _+_, _-_, _*_, _/_, _%_, _≤_, _<_}
 use native.Mathlib.Omega.{arith}
@@ -99,9 +99,6 @@ lead-in (suc n) x h l =
     let ih = lead-in n (x / 10) (omega arith) (omega arith) in
     (ih .0, ih .1 ++ (digit (x % 10) ∷ []), ih .2, more-digits x m ∙ ap (λ (ds : List ℕ). ds ++ (digit (x % 10) ∷ [])) (ih .3)))
 
-pub never : {x : ℕ} {xs : List ℕ} → [] ≡ x ∷ xs → ⊥
-never e = let z : _≡_ {A = ℕ} 0 1 = cc in omega arith
-
 -- a number has a first digit
 pub first-digit : (x : ℕ) → (d : ℕ) × (ds : List ℕ) × (48 ≤ d) × (d ≤ 57) × (decimal x ≡ d ∷ ds)
 first-digit x = cased (decimal x) refl (decimal-digits x)
@@ -109,8 +106,8 @@ first-digit x = cased (decimal x) refl (decimal-digits x)
     cased : (s : List ℕ) → decimal x ≡ s → Digits s → (d : ℕ) × (ds : List ℕ) × (48 ≤ d) × (d ≤ 57) × (decimal x ≡ d ∷ ds)
     cased [] e p =
         by-cases (decLt 0 x)
-        (λ l. let k = lead-in x x (omega arith) l in absurd (never (sym e ∙ k .3)))
-        (λ n. let g : x ≡ 0 = omega arith in absurd (never (sym e ∙ ap decimal g ∙ one-digit 0 (omega arith))))
+        (λ l. let k = lead-in x x (omega arith) l in absurd (nil≢cons (sym e ∙ k .3)))
+        (λ n. let g : x ≡ 0 = omega arith in absurd (nil≢cons (sym e ∙ ap decimal g ∙ one-digit 0 (omega arith))))
     cased (d ∷ ds) e p = let h = digits-head p in (d, ds, h .0, h .1, e)
 
 -- more digits come next, or the byte that ends them
@@ -145,7 +142,7 @@ module _ {s : List ℕ} (x : ℕ) {rest : List ℕ} (S : Stops rest) (is : s ≡
         by-cases (decLt 0 x)
         (λ p. let k = lead-in x x (omega arith) p in let g : 48 ≡ k .0 = cc (k .3) in omega (arith, k .2))
         (λ n. let g : x ≡ 0 = omega arith in
-        let k : decimal x ≡ 48 ∷ [] = ap decimal g ∙ one-digit 0 (omega arith) in never (let j : [] ≡ c ∷ m .0 = cc in j))
+        let k : decimal x ≡ 48 ∷ [] = ap decimal g ∙ one-digit 0 (omega arith) in nil≢cons (let j : [] ≡ c ∷ m .0 = cc in j))
 
     pub not-larger : x < 10 * v + (c - 48) → ⊥
     unfolding value

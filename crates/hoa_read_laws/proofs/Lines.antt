@@ -1,7 +1,7 @@
 -- A line tells its numbers, and where it ends.
 use mathlib.Core.Path.{_≡_, refl, sym, _∙_, ap}
 use mathlib.Core.Bool.{Bool, true, false}
-use mathlib.Core.List.{List, [], _∷_, _++_, append-assoc}
+use mathlib.Core.List.{List, [], _∷_, _++_, append-assoc, append-cancel-left}
 use mathlib.Core.Logic.{by-cases}
 use Prim.Native.Nat.{ℕ, zero, suc, _+_, _*_, _^_, _≤_, _<_}
 use native.Mathlib.Omega.{arith}
@@ -18,10 +18,6 @@ use Rattle.hoa_laws.proofs.Lengths.{literal-yes, literal-no}
 use Rattle.hoa_read_laws.specs.Took.{Stops}
 use Rattle.hoa_read_laws.proofs.Decimals.{word-once}
 
-pub append-cancel : (s : List ℕ) {a b : List ℕ} → s ++ a ≡ s ++ b → a ≡ b
-append-cancel [] e = e
-append-cancel (x ∷ s) {a} {b} e = let t : s ++ a ≡ s ++ b = cc in append-cancel s t
-
 pub other-heads : {x y : ℕ} {a b : List ℕ} → x ∷ a ≡ y ∷ b → (x ≡ y → ⊥) → ⊥
 other-heads {x} {y} e n = let h : x ≡ y = cc in n h
 
@@ -35,7 +31,7 @@ number-line s x rest = simp append-assoc
 
 pub number-once : (s : List ℕ) (x x′ : ℕ) {rest rest′ : List ℕ} → (s ++ (word x ++ newline)) ++ rest ≡ (s ++ (word x′ ++ newline)) ++ rest′ → (x ≡ x′) × (rest ≡ rest′)
 number-once s x x′ {rest} {rest′} e =
-    let f : word x ++ (newline ++ rest) ≡ word x′ ++ (newline ++ rest′) = append-cancel s (sym (number-line s x rest) ∙ e ∙ number-line s x′ rest′) in
+    let f : word x ++ (newline ++ rest) ≡ word x′ ++ (newline ++ rest′) = append-cancel-left s _ _ (sym (number-line s x rest) ∙ e ∙ number-line s x′ rest′) in
     let r = word-once x x′ (at-newline rest) (at-newline rest′) f in
     let t = r .1 in
     (r .0, cc)
@@ -63,7 +59,7 @@ state-line i a rest = simp append-assoc
 
 pub state-once : (i : ℕ) (a a′ : Bool) {rest rest′ : List ℕ} → stateLine i a ++ rest ≡ stateLine i a′ ++ rest′ → (a ≡ a′) × (rest ≡ rest′)
 state-once i a a′ {rest} {rest′} e =
-    mark-once a a′ (append-cancel (word i) (append-cancel (83 ∷ 116 ∷ 97 ∷ 116 ∷ 101 ∷ 58 ∷ []) (sym (state-line i a rest) ∙ e ∙ state-line i a′ rest′)))
+    mark-once a a′ (append-cancel-left (word i) _ _ (append-cancel-left (83 ∷ 116 ∷ 97 ∷ 116 ∷ 101 ∷ 58 ∷ []) _ _ (sym (state-line i a rest) ∙ e ∙ state-line i a′ rest′)))
 
 -- ---- labels and edge lines
 
@@ -104,8 +100,8 @@ edge-line b l t rest = simp append-assoc
 
 pub edge-once : (b l t l′ t′ : ℕ) {rest rest′ : List ℕ} → l < 2 ^ b → l′ < 2 ^ b → edgeLine b l t ++ rest ≡ edgeLine b l′ t′ ++ rest′ → (l ≡ l′) × (t ≡ t′) × (rest ≡ rest′)
 edge-once b l t l′ t′ {rest} {rest′} h h′ e =
-    let r = label-once b l l′ h h′ (append-cancel (91 ∷ []) (sym (edge-line b l t rest) ∙ e ∙ edge-line b l′ t′ rest′)) in
-    let w = word-once t t′ (at-newline rest) (at-newline rest′) (append-cancel (93 ∷ []) (r .1)) in
+    let r = label-once b l l′ h h′ (append-cancel-left (91 ∷ []) _ _ (sym (edge-line b l t rest) ∙ e ∙ edge-line b l′ t′ rest′)) in
+    let w = word-once t t′ (at-newline rest) (at-newline rest′) (append-cancel-left (93 ∷ []) _ _ (r .1)) in
     let z = w .1 in
     (r .0, w .0, cc)
 
@@ -139,6 +135,6 @@ ap-line b rest = simp append-assoc
 
 pub ap-once : (b b′ : ℕ) {rest rest′ : List ℕ} → b ≤ 4 → b′ ≤ 4 → apLine b ++ rest ≡ apLine b′ ++ rest′ → (b ≡ b′) × (rest ≡ rest′)
 ap-once b b′ {rest} {rest′} h h′ e =
-    let f = append-cancel (65 ∷ 80 ∷ 58 ∷ []) (sym (ap-line b rest) ∙ e ∙ ap-line b′ rest′) in
+    let f = append-cancel-left (65 ∷ 80 ∷ 58 ∷ []) _ _ (sym (ap-line b rest) ∙ e ∙ ap-line b′ rest′) in
     let r = word-once b b′ (after-names b rest h) (after-names b′ rest′ h′) f in
-    (r .0, append-cancel (apLine b) (e ∙ ap (λ (k : ℕ). apLine k ++ rest′) (sym (r .0))))
+    (r .0, append-cancel-left (apLine b) _ _ (e ∙ ap (λ (k : ℕ). apLine k ++ rest′) (sym (r .0))))

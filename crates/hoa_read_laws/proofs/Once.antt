@@ -1,6 +1,6 @@
 -- A text carries one table at most: it tells the number of propositions, the flags and the transitions.
 use mathlib.Core.Path.{_≡_, refl, sym, _∙_, ap}
-use mathlib.Core.List.{List, _++_}
+use mathlib.Core.List.{List, _++_, append-cancel-left}
 use Prim.Native.Nat.{ℕ, _<_}
 use native.Mathlib.Omega.{arith}
 use native.Mathlib.Nat.{zero-add}
@@ -11,7 +11,7 @@ use Rattle.hoa_spec.specs.Lines.{hoaLine, statesLine, propositions, apLine, acc
 use Rattle.hoa_spec.specs.Text.{startOf, blockOf, automatonText}
 use Rattle.hoa_read_spec.specs.Shape.{Shaped}
 use Rattle.hoa_read_laws.specs.Took.{NoStart, NoEdge}
-use Rattle.hoa_read_laws.proofs.Lines.{append-cancel, other-heads, states-once, ap-once}
+use Rattle.hoa_read_laws.proofs.Lines.{other-heads, states-once, ap-once}
 use Rattle.hoa_read_laws.proofs.Starts.{starts-once}
 use Rattle.hoa_read_laws.proofs.Blocks.{blocks-left, moves-same}
 use Rattle.hoa_read_laws.proofs.Marks.{flags-same}
@@ -53,9 +53,9 @@ module _ {b c : ℕ} {fs gs ts us : List ℕ} (P : Shaped b fs ts) (Q : Shaped c
 
   pub text-once : automatonText b fs ts ≡ automatonText c gs us → (b ≡ c) × (fs ≡ gs) × (ts ≡ us)
   text-once e =
-      let f = append-cancel hoaLine (sym (text-parts b fs ts) ∙ e ∙ text-parts c gs us) in
+      let f = append-cancel-left hoaLine _ _ (sym (text-parts b fs ts) ∙ e ∙ text-parts c gs us) in
       let n = states-once (length fs) (length gs) f in
       let s = starts-once 0 fs gs (lowText b fs ts) (lowText c gs us) (n .0) (ap-no-start b _) (ap-no-start c _) (n .1) in
       let a = ap-once b c (P .propositions) (Q .propositions) (s .1) in
-      let r = body-once (a .0) (n .0) (λ i l. s .0 i) (append-cancel acceptanceLines (a .1)) in
+      let r = body-once (a .0) (n .0) (λ i l. s .0 i) (append-cancel-left acceptanceLines _ _ (a .1)) in
       (a .0, r .0, r .1)

@@ -1,7 +1,7 @@
 -- The start lines tell which numbers are initial, and where they end.
 use mathlib.Core.Path.{_≡_, refl, sym, _∙_, ap}
 use mathlib.Core.Bool.{true, false}
-use mathlib.Core.List.{List, [], _∷_, _++_, append-assoc}
+use mathlib.Core.List.{List, [], _∷_, _++_, append-assoc, append-cancel-left}
 use Prim.Native.Nat.{ℕ, zero, suc, _+_, _<_}
 use native.Mathlib.Omega.{arith}
 use native.Mathlib.Numerals.{add-one}
@@ -13,7 +13,7 @@ use Rattle.listing_lines_spec.specs.Lines.{lines}
 use Rattle.hoa_spec.specs.Lines.{startLine}
 use Rattle.hoa_spec.specs.Text.{startOf}
 use Rattle.hoa_read_laws.specs.Took.{NoStart, SameBits}
-use Rattle.hoa_read_laws.proofs.Lines.{append-cancel, start-once}
+use Rattle.hoa_read_laws.proofs.Lines.{start-once}
 
 pub start-yes : (i f : ℕ) → bit f 0 ≡ true → startOf i f ≡ startLine i
 unfolding startOf
@@ -58,7 +58,7 @@ starts-once i (f ∷ fs) [] rest rest′ h n n′ e = absurd (omega arith)
 starts-once i (f ∷ fs) (g ∷ gs) rest rest′ h n n′ e =
     bif (bit f 0)
     (λ t. bif (bit g 0)
-    (λ u. let r = starts-once (suc i) fs gs rest rest′ (omega arith) n n′ (append-cancel (startLine i) (sym (starts-yes i f fs rest t) ∙ e ∙ starts-yes i g gs rest′ u)) in
+    (λ u. let r = starts-once (suc i) fs gs rest rest′ (omega arith) n n′ (append-cancel-left (startLine i) _ _ (sym (starts-yes i f fs rest t) ∙ e ∙ starts-yes i g gs rest′ u)) in
     (same-cons 0 f g fs gs (t ∙ sym u) (r .0), r .1))
     (λ u. absurd (starts-later i (suc i) gs rest′ (lines startOf (suc i) fs ++ rest) (omega arith) n′ (sym (starts-no i g gs rest′ u) ∙ sym e ∙ starts-yes i f fs rest t))))
     (λ t. bif (bit g 0)
@@ -76,7 +76,7 @@ module _ (s : List ℕ) (fs rest : List ℕ) (n : NoStart rest) (i : ℕ) (h : i
   pub start-taken : (more : List ℕ) → s ≡ startLine i ++ more → (bit (getD fs i 0) 0 ≡ true) × (more ≡ lines startOf (i + 1) (drop (i + 1) fs) ++ rest)
   start-taken more f =
       bif (bit (getD fs i 0) 0)
-      (λ t. (t, rw (add-one i) (append-cancel (startLine i) (sym f ∙ here ∙ starts-yes i (getD fs i 0) (drop (suc i) fs) rest t))))
+      (λ t. (t, rw (add-one i) (append-cancel-left (startLine i) _ _ (sym f ∙ here ∙ starts-yes i (getD fs i 0) (drop (suc i) fs) rest t))))
       (λ t. absurd (starts-later i (suc i) (drop (suc i) fs) rest more (omega arith) n (sym (starts-no i (getD fs i 0) (drop (suc i) fs) rest t) ∙ sym here ∙ f)))
 
   -- it does not

@@ -1,6 +1,6 @@
 -- Texts read one after the other.
 use mathlib.Core.Path.{_≡_, refl, sym, _∙_, ap}
-use mathlib.Core.List.{List, [], _∷_, _++_, append-assoc}
+use mathlib.Core.List.{List, [], _∷_, _++_, append-assoc, append-cancel-left, nil≢cons}
 use mathlib.Core.Logic.{by-cases, _⊎_, ⊎-elim}
 use Prim.Native.Nat.{ℕ, suc, _+_, _-_, _*_, _≤_, _<_}
 use native.Mathlib.Omega.{arith}
@@ -12,8 +12,8 @@ use lib.Seq.{drop-cons, take-suc, take-length, getD-drop}
 use Rattle.slice_text.specs.Decimal.{digit, decimal, word}
 use Rattle.slice_text.proofs.Decimal.{one-digit}
 use Rattle.hoa_read_laws.specs.Took.{Ended, Took, TookOne, Stops, TookWord, TookDigits}
-use Rattle.hoa_read_laws.proofs.Decimals.{never, first-digit, not-high, not-zero-led, not-larger, grown}
-use Rattle.hoa_read_laws.proofs.Lines.{append-cancel, other-heads}
+use Rattle.hoa_read_laws.proofs.Decimals.{first-digit, not-high, not-zero-led, not-larger, grown}
+use Rattle.hoa_read_laws.proofs.Lines.{other-heads}
 
 -- ---- what was found and what was not
 
@@ -33,7 +33,7 @@ module _ {text : List ℕ} {p : ℕ} {May : ℕ → Type 0} {textOf : ℕ → Li
 
 -- what follows a text that was read
 pub after : (s : List ℕ) {d t rest : List ℕ} → d ≡ s ++ t → d ≡ s ++ rest → t ≡ rest
-after s e f = append-cancel s (sym e ∙ f)
+after s e f = append-cancel-left s _ _ (sym e ∙ f)
 
 -- a text that was read ends later than it began
 pub later : (text : List ℕ) (p : ℕ) (s : List ℕ) (r : ℕ) → 0 < length s → r ≤ length text → drop p text ≡ s ++ drop r text → p < r
@@ -51,7 +51,7 @@ module _ (text : List ℕ) (p : ℕ) where
 
   -- a number is not the last
   pub stops-inside : Stops (drop p text) → p < length text
-  stops-inside S = by-cases (decLt p (length text)) (λ l. l) (λ n. absurd (never (sym (drop-of-length-le text {i = p} (omega arith)) ∙ S .is)))
+  stops-inside S = by-cases (decLt p (length text)) (λ l. l) (λ n. absurd (nil≢cons (sym (drop-of-length-le text {i = p} (omega arith)) ∙ S .is)))
 
   module _ (x : ℕ) where
     pub byte-inside : Ended text → p < length text → getD text p 0 ≡ x → (x ≡ 10 → ⊥) → p + 1 < length text

@@ -1,6 +1,6 @@
 -- Edge lines of a number, read one after the other.
 use mathlib.Core.Path.{_≡_, refl, sym, _∙_, ap}
-use mathlib.Core.List.{List, [], _∷_, _++_, append-assoc, List·Memᴰ, List·Memᴰ·append-cases, List·Memᴰ·eq-of-singleton, List·Memᴰ·not-nil}
+use mathlib.Core.List.{List, [], _∷_, _++_, append-assoc, List·Memᴰ, List·Memᴰ·append-cases, List·Memᴰ·eq-of-singleton, List·Memᴰ·not-nil, nil≢cons}
 use mathlib.Core.Logic.{inl, inr, ⊎-elim}
 use Prim.Native.Nat.{ℕ, suc, _+_, _≤_, _<_}
 use native.Mathlib.Omega.{arith}
@@ -11,7 +11,6 @@ use Rattle.listing_lines_spec.specs.Lines.{lines}
 use Rattle.hoa_spec.specs.Text.{edgeOf}
 use Rattle.hoa_read_laws.specs.Took.{TookOne, NoEdge, Leaves}
 use Rattle.hoa_read_parts_laws.specs.Parts.{Edging, EdgesOf, TookEdges}
-use Rattle.hoa_read_laws.proofs.Decimals.{never}
 use Rattle.hoa_read_laws.proofs.Lines.{other-heads, moves-once}
 use Rattle.hoa_read_laws.proofs.Edges.{From, edges-left, edges-cons, edges-snoc, edge-head}
 use Rattle.hoa_read_parts_laws.proofs.Lists.{asc-append, asc-alone, asc-as, asc-before, in-middle, in-list, sets-append}
@@ -32,7 +31,7 @@ edging-none text p b n i h = record {
 }
 
 pub no-edge-end : (text : List ℕ) (r : ℕ) → length text ≤ r → NoEdge (drop r text)
-no-edge-end text r h others e = never (sym (drop-of-length-le text {i = r} h) ∙ e)
+no-edge-end text r h others e = nil≢cons (sym (drop-of-length-le text {i = r} h) ∙ e)
 
 pub no-edge-here : (text : List ℕ) (r : ℕ) → r < length text → (getD text r 0 ≡ 91 → ⊥) → NoEdge (drop r text)
 no-edge-here text r h n others e = other-heads (sym (byte-here text r h) ∙ e) n

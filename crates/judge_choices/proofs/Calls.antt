@@ -1,7 +1,7 @@
 -- The rows of a call, and what a call answers and writes.
 use mathlib.Core.Path.{_≡_, refl, sym, _∙_, ap}
 use mathlib.Core.Bool.{Bool, true, false}
-use mathlib.Core.List.{List, [], _∷_, _++_}
+use mathlib.Core.List.{List, _++_}
 use Prim.Native.Nat.{ℕ, zero, suc, _+_, _*_, _≤_, _<_}
 use native.Mathlib.Omega.{arith}
 use native.Mathlib.Nat.{mul-le-mul}
@@ -35,13 +35,6 @@ module _ (r : Rule) (lead cycle : List ℕ) where
   pub choices-long : length (choicesOf r lead cycle) ≡ places lead cycle * r .n
   unfolding choicesBy
   choices-long = length-tabulate (places lead cycle * r .n) _ 0
-
--- a list in front of another
-pub front-of : (n : ℕ) (xs ys : List ℕ) → length xs ≡ n → take n (xs ++ ys) ≡ xs
-front-of zero [] ys e = refl
-front-of zero (x ∷ xs) ys e = absurd (omega arith)
-front-of (suc n) [] ys e = absurd (omega arith)
-front-of (suc n) (x ∷ xs) ys e = ap (λ (z : List ℕ). x ∷ z) (front-of n xs ys (omega arith))
 
 -- a word that passes has at most 64 places
 pub places-few : (s : ℕ) (lead cycle : List ℕ) → wordRow s lead cycle ≡ 0 → places lead cycle ≤ 64

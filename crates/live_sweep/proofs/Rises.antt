@@ -1,6 +1,6 @@
 -- Ascending numbers, one and four a turn.
 use mathlib.Core.Path.{_≡_, refl, sym, _∙_, ap, ap₂}
-use mathlib.Core.Bool.{Bool, true, false, _&&_}
+use mathlib.Core.Bool.{Bool, true, false, _&&_, and-assoc}
 use mathlib.Core.List.{List, [], _∷_}
 use Prim.Native.Nat.{ℕ, _+_, _≤_, _<_}
 use native.Mathlib.Omega.{arith}
@@ -10,10 +10,6 @@ use borrow.Author.Tests.{lt-ltb, le-ltb}
 use Rattle.sets.proofs.Walks.{drop-next}
 use Rattle.slice_search.specs.Places.{ascends, ascendsFrom}
 use Rattle.live_sweep.specs.Tried.{risesFour}
-
-and-assoc : (a b c : Bool) → (a && b) && c ≡ a && (b && c)
-and-assoc true b c = refl
-and-assoc false b c = refl
 
 pub rises-none : (xs : List ℕ) → length xs ≡ 0 → true ≡ ascends xs
 unfolding ascends

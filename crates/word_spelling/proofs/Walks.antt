@@ -4,10 +4,11 @@ use mathlib.Core.Bool.{true, false}
 use mathlib.Core.List.{List, [], _∷_, _++_, append-assoc}
 use Prim.Native.Nat.{ℕ, zero, suc, _+_, _-_, _≤_, _<_}
 use native.Mathlib.Omega.{arith}
+use native.Mathlib.Nat.{zero-add}
 use native.Mathlib.Numerals.{add-one}
 use lib.Dec.{eqb}
 use lib.ListN.{length, getD, take, drop, set, length-append, length-take, length-drop}
-use lib.Seq.{take-suc, drop-cons, set-at, append-snoc}
+use lib.Seq.{paste-suc}
 use borrow.Author.Tests.{eq-eqb, ne-eqb}
 use Rattle.sets.specs.Tests.{every, first}
 use Rattle.sets.proofs.Tests.{every-next, every-stop, first-yes, first-no}
@@ -103,9 +104,4 @@ module _ (lead cycle : List ℕ) (repeats : 0 < length cycle) (p m : ℕ) (some-
 -- ---- letters written in order
 
 pub written-next : (s old : List ℕ) (i x : ℕ) → i < length s → i < length old → x ≡ getD s i 0 → set (take i s ++ drop i old) i x ≡ take (i + 1) s ++ drop (i + 1) old
-written-next s old i x h k e =
-    let front : length (take i s) ≡ i = simp length-take (omega arith) in
-    ap (λ (l : List ℕ). set (take i s ++ l) i x) (drop-cons old i 0 k)
-    ∙ set-at (take i s) (getD old i 0) (drop (suc i) old) x i front
-    ∙ sym (append-snoc (take i s) x (drop (suc i) old))
-    ∙ rw (e, add-one i, take-suc s i 0 h)
+written-next s old i x h k e = rw (e, add-one i) (rw (zero-add i, zero-add (suc i)) at (paste-suc old 0 s i 0 (omega arith) h))

@@ -4,12 +4,12 @@ use mathlib.Core.Path.{_≡_, sym, ap, _∙_}
 use mathlib.Core.List.{List, _++_}
 use native.Mathlib.Omega.{arith}
 use lib.ListN.{length, take, drop, length-append}
+use lib.Seq.{take-at}
 use Rattle.theory.specs.Truth.{truthMasks}
 use Rattle.theory.specs.Word.{places}
 use Rattle.theory_laws.proofs.Truth.{truth-length}
 use Rattle.rule_entries.specs.Entries.{ruleOf}
 use Rattle.rule_entries.proofs.Entries.{entries-few}
-use Rattle.judge_choices.proofs.Calls.{front-of}
 use borrow.Author.Needs.{needs}
 use Rattle.judge_choices.proofs.fill_both.Statement.{statement}
 use Rattle.judge_choices.proofs.fill_both.Tie as tie
@@ -28,7 +28,7 @@ front c =
     let a = start-of-after-fill-word c .args in
     let r = ruleOf (a .h) (a .counts .now) (a .clauses .now) in
     ap (take (places (a .lead .now) (a .cycle .now))) (c .fill-word .ensures)
-    ∙ front-of (places (a .lead .now) (a .cycle .now)) (truthMasks r (a .lead .now) (a .cycle .now)) _ (truth-length r (a .lead .now) (a .cycle .now))
+    ∙ take-at (truthMasks r (a .lead .now) (a .cycle .now)) _ (places (a .lead .now) (a .cycle .now)) (truth-length r (a .lead .now) (a .cycle .now))
 
 slice-aggregate-fill-choices : tie.Need-slice-aggregate-fill-choices
 slice-aggregate-fill-choices c =
