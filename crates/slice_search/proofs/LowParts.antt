@@ -7,7 +7,7 @@ use native.Mathlib.Nat.{mod-eq-of-lt}
 use lib.Bits.{bitAnd, and-mask}
 use lib.ListN.{length, getD, take}
 use lib.Seq.{ext-getD, getD-take, length-take-le}
-use Rattle.slice_search.specs.Places.{lowParts, LowBits}
+use Rattle.slice_search.specs.LowParts.{lowParts, LowBits}
 
 pub low-long : (m : ℕ) (xs : List ℕ) → length (lowParts m xs) ≡ length xs
 unfolding lowParts

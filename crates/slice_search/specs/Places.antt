@@ -1,8 +1,7 @@
 -- Places in a strictly ascending list ("writes reachable codes ascending into a lent slice of 64-bit numbers, numbered from 0").
-use mathlib.Core.Path.{_≡_}
 use mathlib.Core.Bool.{Bool, true, _&&_}
 use mathlib.Core.List.{List, [], _∷_, _++_}
-use Prim.Native.Nat.{ℕ, _+_, _-_, _%_, _^_}
+use Prim.Native.Nat.{ℕ, _+_, _-_}
 use lib.Dec.{ltb}
 use lib.ListN.{length, take, replicate}
 use Rattle.sets.specs.Tests.{one}
@@ -26,12 +25,3 @@ ascends (x ∷ xs) = ascendsFrom x xs
 -- the first n elements, and zeros in place of the others ("unused elements become 0")
 abbrev pub zeroedFrom : ℕ → List ℕ → List ℕ
 zeroedFrom n xs = take n xs ++ replicate (length xs - n) 0
-
--- numbers without what stands above m
-unfoldable pub lowParts : ℕ → List ℕ → List ℕ
-lowParts m [] = []
-lowParts m (x ∷ xs) = x % m ∷ lowParts m xs
-
--- a mask of the lowest bits
-abbrev pub LowBits : ℕ → Type 0
-LowBits mask = (k : ℕ) × (mask + 1 ≡ 2 ^ k)

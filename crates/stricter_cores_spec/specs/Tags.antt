@@ -7,7 +7,7 @@ use lib.Dec.{eqb, ltb, leb}
 use lib.ListN.{length, getD}
 use Rattle.sets.specs.Tests.{first}
 use Rattle.sets.specs.Masks.{bit, mask}
-use Rattle.slice_search.specs.Places.{lowParts}
+use Rattle.slice_search.specs.LowParts.{lowParts}
 use Rattle.theory.specs.Automaton.{Automaton}
 use Rattle.theory.specs.Run.{sourceOf, letterOf, targetOf}
 use Rattle.trim_spec.specs.Trimmed.{isLive}

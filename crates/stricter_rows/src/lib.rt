@@ -2,7 +2,7 @@
 use slice_search::place_low;
 ghost use Prim.Native.Nat.{_+_, _<_};
 ghost use Rattle.sets.specs.Lists.{Ascending};
-ghost use Rattle.slice_search.specs.Places.{lowParts, LowBits};
+ghost use Rattle.slice_search.specs.LowParts.{lowParts, LowBits};
 ghost use Rattle.stricter_laws.specs.Pairs.{RowCut};
 
 // Where the transitions of number i over each letter begin, by their bits in the mask.

@@ -14,7 +14,7 @@ use Rattle.sets.proofs.Bools.{bif}
 use Rattle.trim_spec.specs.Trimmed.{isLive}
 use Rattle.trim_spec.specs.Tagged.{highs, lows}
 use Rattle.trim_laws.proofs.Tagged.{highs-at}
-use Rattle.slice_search.specs.Places.{lowParts}
+use Rattle.slice_search.specs.LowParts.{lowParts}
 use Rattle.stricter_cores_spec.specs.Tags.{firstOf, TaggedCodes, toldOf, ToldCodes}
 use Rattle.stricter_tags_laws.specs.Fill.{Filled}
 use Rattle.stricter_tags_laws.proofs.Fill.{filled-same}

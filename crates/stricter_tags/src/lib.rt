@@ -13,7 +13,7 @@ ghost use Rattle.theory.specs.TableComputed.{macrostatesFrom, transitionsFrom};
 ghost use Rattle.build_closure_spec.specs.Tables.{RuleTables};
 ghost use Rattle.trim_spec.specs.Graph.{Inside};
 ghost use Rattle.trim_spec.specs.Trimmed.{liveMarks, isLive};
-ghost use Rattle.slice_search.specs.Places.{lowParts};
+ghost use Rattle.slice_search.specs.LowParts.{lowParts};
 ghost use Rattle.stricter_cores_spec.specs.Tags.{TaggedCodes, TaggedMoves, ToldCodes, plain, untagged};
 ghost use Rattle.stricter_tags_laws.specs.Fill.{Filled};
 ghost use Rattle.stricter_tags.specs.Buried.{Buried};

@@ -5,7 +5,8 @@ use native.Mathlib.Omega.{arith}
 use borrow.Author.Needs.{needs}
 use lib.ListN.{length, getD, length-set}
 use Rattle.graph_walks.proofs.Sums.{split-set}
-use Rattle.slice_search.specs.Places.{below, lowParts}
+use Rattle.slice_search.specs.Places.{below}
+use Rattle.slice_search.specs.LowParts.{lowParts}
 use Rattle.stricter_rows.proofs.cut_low.Statement.{statement}
 use Rattle.stricter_rows.proofs.cut_low.Tie as tie
 

@@ -1,7 +1,7 @@
 -- `cut_row` meets its contract: the mask leaves a 64-bit number as it is.
 use mathlib.Core.Path.{_≡_, refl}
 use native.Mathlib.Omega.{arith}
-use Rattle.slice_search.specs.Places.{lowParts}
+use Rattle.slice_search.specs.LowParts.{lowParts}
 use Rattle.slice_search.proofs.LowParts.{low-same}
 use Rattle.stricter_rows.proofs.cut_row.Statement.{statement}
 use Rattle.stricter_rows.proofs.cut_row.Tie as tie

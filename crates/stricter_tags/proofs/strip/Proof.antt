@@ -9,7 +9,7 @@ use lib.ListN.{length, getD}
 use lib.Pow.{pow-pos}
 use lib.Seq.{ext-getD}
 use Rattle.sets.proofs.Bits.{shl-one}
-use Rattle.slice_search.specs.Places.{lowParts}
+use Rattle.slice_search.specs.LowParts.{lowParts}
 use Rattle.stricter_tags_laws.specs.Fill.{Filled}
 use Rattle.stricter_tags_laws.proofs.Fill.{filled-start, filled-next}
 use Rattle.slice_search.proofs.LowParts.{low-at, low-long}
