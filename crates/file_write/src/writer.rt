@@ -54,7 +54,7 @@ pub fn write_head(h: Head, counts: &[u8], clauses: &[u8], names: &[u8], out: &mu
     Written::Length(at + clauses.len() + counts.len() + 8)
 }
 
-// The same, of a rule given by numbers of 32 bits.
+// Writes the file of a rule given by numbers of 32 bits.
 pub fn write_named(
     n: u32,
     s: u32,
@@ -81,7 +81,7 @@ pub fn write_named(
     write_head(h, counts, clauses, names, out)
 }
 
-// The same, without names.
+// Writes the file of a rule without names.
 pub fn write_rule(
     n: u32,
     s: u32,

@@ -45,7 +45,7 @@ sameNamed r t = sameRules (r .rule) (t .rule) && sameLists (r .names) (t .names)
 abbrev pub sameFiles : List ℕ → List ℕ → SameRules
 sameFiles f g = verdict (sameNamed (namedIn f) (namedIn g))
 
--- the same but for their names
+-- the answer whatever their names
 abbrev pub sameBodies : List ℕ → List ℕ → SameRules
 sameBodies f g = verdict (sameRules (ruleIn f) (ruleIn g))
 

@@ -46,7 +46,7 @@ fn is_between(v: u8, low: u8, high: u8) -> bool
     v < high
 }
 
-// The first place from `from` on, below `to`, whose byte is `low` or more and below `high`; `to` where there is none. Zeros are passed over.
+// The first place from `from` on, below `to`, whose byte is `low` or more and below `high`; `to` where there is none.
 pub fn next_between(xs: &[u8], from: usize, to: usize, low: u8, high: u8) -> usize
     requires { ⌜ (from ≤ to) × (to ≤ length (now xs)) × (0 < low) ⌝ }
     ensures { λ r. ⌜ NextBetween low high (now (xs .entry)) from to r ⌝ }

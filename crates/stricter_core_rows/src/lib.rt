@@ -105,7 +105,8 @@ pub fn leads(
     requires { ⌜ ((u : ℕ) → List·Memᴰ u (now right) → rowOf u < nb) ⌝ }
     ensures { λ r. ⌜ ((i : ℕ) → i < 65536 → RowCut (untagged (now (left .entry))) i (now (cuts .entry))
         → Leading (CoreStep nb (now (left .entry)) (now (right .entry)))
-        (SparedStep nb (now (left .entry)) (now (right .entry)) (ask .second) (ask .k)) (ask .other) (now (marks .entry)) (i * nb + j) r) ⌝ }
+        (SparedStep nb (now (left .entry)) (now (right .entry)) (ask .second) (ask .k)) (ask .other) (now (marks .entry))
+        (i * nb + j) r) ⌝ }
 {
     let key = j * 0x0100_0000;
     let mut p = place_low(right, 0xff_ffff_ffff, key as u64);

@@ -55,7 +55,7 @@ fn mark_pair(
     true
 }
 
-// The same for the pairs of core i from place `from` on; pairs that are out are skipped.
+// Marks such pairs of core i from place `from` on; pairs that are out are skipped.
 fn sweep_row(
     left: &[u64],
     cuts: &[usize; 17],
@@ -89,8 +89,7 @@ fn sweep_row(
     changed
 }
 
-// The same for the pairs of number i, none of which is in if it does not stand for its core. A row is cut where a pair is in and not
-// marked.
+// Marks such pairs of number i, none of which is in if it does not stand for its core. A row is cut where a pair is in and not marked.
 fn visit_row(
     acodes: &[u64],
     left: &[u64],
@@ -119,7 +118,7 @@ fn visit_row(
     sweep_row(left, &cuts, right, nb, i, first, ask, marks)
 }
 
-// The same for all pairs.
+// Marks all such pairs.
 fn sweep(
     acodes: &[u64],
     left: &[u64],
@@ -129,7 +128,8 @@ fn sweep(
     marks: &mut [u8],
 ) -> bool
     requires { ⌜ Ready (length (now acodes)) nb (now left) (now right) (now marks) × (ask .k < 8) × (ask .other ≡ 2)
-        × Begun (CoreStep nb (now left) (now right)) (SparedStep nb (now left) (now right) (ask .second) (ask .k)) (now acodes) nb (now marks) ⌝ }
+        × Begun (CoreStep nb (now left) (now right)) (SparedStep nb (now left) (now right) (ask .second) (ask .k)) (now acodes) nb
+        (now marks) ⌝ }
     ensures { λ r. ⌜ Tried (CoreStep nb (now (left .entry)) (now (right .entry)))
         (SparedStep nb (now (left .entry)) (now (right .entry)) (ask .second) (ask .k))
         0 (length (now (acodes .entry)) * nb) (now (marks .entry)) (now (marks .exit)) r ⌝ }
@@ -184,7 +184,7 @@ fn settle_row(acodes: &[u64], nb: usize, i: usize, marks: &mut [u8]) -> bool
     changed
 }
 
-// The same for all pairs.
+// Takes out all pairs that are not marked, and the marks off the others; whether a pair went out.
 fn settle(acodes: &[u64], nb: usize, marks: &mut [u8]) -> bool
     requires { ⌜ (length (now marks) ≡ length (now acodes) * nb) × OnlyCores (now acodes) nb (now marks) ⌝ }
     ensures { λ r. ⌜ Settled 0 (length (now (acodes .entry)) * nb) (now (marks .entry)) (now (marks .exit)) r ⌝ }
@@ -323,7 +323,7 @@ fn drop_pair(
     marks[i * nb + j] = 0;
 }
 
-// The same for the pairs of core i from place `from` on.
+// Takes out such pairs of core i from place `from` on.
 fn drop_row(
     left: &[u64],
     cuts: &[usize; 17],
@@ -346,7 +346,7 @@ fn drop_row(
     }
 }
 
-// The same for the pairs of number i.
+// Takes out such pairs of number i.
 fn thin_row(acodes: &[u64], left: &[u64], right: &[u64], nb: usize, i: usize, marks: &mut [u8])
     requires { ⌜ Ready (length (now acodes)) nb (now left) (now right) (now marks) × (i < length (now acodes)) ⌝ }
     ensures { λ _. ⌜ Thinned (CoreStep nb (now (left .entry)) (now (right .entry))) (now (marks .entry)) (now (marks .exit)) ⌝ }
@@ -364,7 +364,7 @@ fn thin_row(acodes: &[u64], left: &[u64], right: &[u64], nb: usize, i: usize, ma
     drop_row(left, &cuts, right, nb, i, first, marks);
 }
 
-// The same for all pairs: most of them go at once.
+// Takes out all such pairs: most of them go at once.
 fn thin(acodes: &[u64], left: &[u64], right: &[u64], nb: usize, marks: &mut [u8])
     requires { ⌜ Ready (length (now acodes)) nb (now left) (now right) (now marks) ⌝ }
     ensures { λ _. ⌜ Thinned (CoreStep nb (now (left .entry)) (now (right .entry))) (now (marks .entry)) (now (marks .exit)) ⌝ }

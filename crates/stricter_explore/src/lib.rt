@@ -132,7 +132,7 @@ fn visit(
     marks[x] = v + 128;
 }
 
-// The same for the pairs of number i that wait, of which j is the first.
+// Tries the steps of the pairs of number i that wait, of which j is the first.
 fn visit_row(
     lcodes: &[u64],
     left: &[u64],
@@ -163,7 +163,7 @@ fn visit_row(
     }
 }
 
-// The same for all pairs: a row without a pair that waits is not cut. Whether there was one.
+// Tries the steps of all pairs that wait: a row without one is not cut. Whether there was one.
 fn visit_all(lcodes: &[u64], left: &[u64], rcodes: &[u64], right: &[u64], marks: &mut [u8]) -> bool
     requires { ⌜ Fits (length (now lcodes)) (length (now rcodes)) (now left) (now right) (now marks) ⌝ }
     ensures { λ r. ⌜ Passed (PairStep (length (now (rcodes .entry))) (now (left .entry)) (now (right .entry)))

@@ -28,7 +28,7 @@ node-low : (c : tie.At-loop Inv-loop μ-loop) → c .loop .c < length (c .before
     (c .before .before .before .args .marks .now)
 node-low c l = c .before .before .before .pre .2 _ (mem-at _ (c .loop .c) l)
 
--- the same of what `target_of` answers
+-- so is what `target_of` answers
 at-low : (c : tie.After-target-of Inv-loop μ-loop) → c .target-of .result * c .before .before .before .before .before .before .args .nb + c .before .before .before .before .before
     .before .args .q < length (c .before .before .before .before .before .before .args .marks .now)
 at-low c =
