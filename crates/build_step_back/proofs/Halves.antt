@@ -1,7 +1,7 @@
 -- With the tables of an automaton, the step back over the rejecting components is 01's step on them alone, and so for the accepting ones.
 use mathlib.Core.Path.{_≡_, refl, ap, ap₂, sym, _∙_}
 use mathlib.Core.Logic.{by-cases}
-use mathlib.Core.Bool.{Bool, true, false, _&&_, not, cond, Bool·not-not}
+use mathlib.Core.Bool.{Bool, true, false, _&&_, not, cond}
 use mathlib.Core.List.{List}
 use Prim.Native.Nat.{ℕ, _/_, _%_, _≤_, _<_}
 use native.Mathlib.Decide.{decLt}
@@ -11,7 +11,7 @@ use lib.ListN.{getD}
 use lib.Bits.{bitAnd, and-le-l}
 use borrow.Author.Tests.{eqb-true, eq-eqb, ne-eqb, lt-ltb, ltb-true}
 use Rattle.sets.specs.Tests.{Set}
-use Rattle.sets.specs.Masks.{bit, mask}
+use Rattle.sets.specs.Masks.{bit, mask, exclusive}
 use Rattle.sets.specs.Digits.{num}
 use Rattle.sets.proofs.Bools.{bif, clash, and-i}
 use Rattle.sets.proofs.Bits.{bit-and, bit-none, bit-ext}
@@ -30,8 +30,8 @@ use Rattle.build_opens.specs.Opens.{Opens}
 use Rattle.paper_spec.specs.Definition7.{MeetsR1, MeetsR2}
 use Rattle.paper_spec.specs.Halves.{EarlierRejecting, EarlierAccepting}
 use Rattle.paper_laws.proofs.Definition7.{rejecting-meets, accepting-meets}
-use Rattle.paper_laws.proofs.Halves.{rejecting-half, accepting-half, rejecting-same, accepting-same}
-use Rattle.build_step_back.specs.Step.{rejectingPart, acceptingPart, ranksIn, BackOf}
+use Rattle.paper_laws.proofs.Halves.{EarlierOf, to-rejecting, to-accepting, half, half-same}
+use Rattle.build_step_back.specs.Step.{rejectingPart, acceptingPart, partOf, ranksIn, BackOf}
 use Rattle.build_step_back.specs.Earlier.{earlierSet, earlierLevel, earlierRank}
 use Rattle.build_step_back.proofs.Theory.{ranks-are}
 use Rattle.build_step_back.proofs.Tables.{masks-at, earlier-exact, earlier-rank, earlier-is, part-small}
@@ -112,27 +112,33 @@ module _ (A : Automaton) (H : Layered A) (s : ℕ) (opens parts : List ℕ) (P :
         (λ n. both-bit c p h n ∙ bif (eqb (A .component p) c) (λ u. rw u (H .pure p q n m (eqb-true (A .component p) c u ∙ sym e) ∙ x)) (λ u. rw u) ∙ sym (bit-none p))
         (λ n. no-bit c p h (omega arith) ∙ sym (bit-none p)))) ∙ sym (ap not x))
 
-    accepting-at : (c q : ℕ) → c < A .components → q < A .n → A .component q ≡ c → acceptingPart parts accepting c ≡ A .accepting q
-    unfolding acceptingPart
-    accepting-at c q h m e = ap not (rejecting-at c q h m e) ∙ Bool·not-not (A .accepting q)
+    part-at : (k : Bool) (c q : ℕ) → c < A .components → q < A .n → A .component q ≡ c → partOf parts accepting k c ≡ exclusive k (not (A .accepting q))
+    unfolding rejectingPart acceptingPart
+    part-at true c q h m e = ap not (rejecting-at c q h m e)
+    part-at false c q h m e = rejecting-at c q h m e
 
-    -- what step_rejecting returns are the ranks of 01's step on the rejecting components
+    kind-is : (k b : Bool) → b ≡ k → exclusive k (not b) ≡ true
+    kind-is true b e = ap (λ (x : Bool). not (not x)) e
+    kind-is false b e = ap not e
+
+    -- what the step back over the components of kind k returns are the ranks of 01's step on them
+    back-kind : (k : Bool) (before : List ℕ) (ranks : ℕ) (levels : List ℕ)
+        → BackOf (partOf parts accepting k) opens a (getD low 15 0) parts (A .components) low before ranks levels
+        → EarlierOf A k a (earlierSet A a v) (rankAt ranks) (setOf A v) (rankAt v) (earlierLevel A a v)
+    back-kind k before ranks levels B =
+        half-same A H a S (earlierRank A a v) (setOf A v) (rankAt v) l k (rankAt ranks) l
+        (λ q m x. (rank-at (partOf parts accepting k) (λ p. exclusive k (not (A .accepting p))) (part-at k) before ranks levels B q m (kind-is k (A .accepting q) x), refl))
+        (half A H a S (earlierRank A a v) (setOf A v) (rankAt v) l k (earlier-is A H s opens parts P O a v letter w low lowest))
+
     pub rejecting-back : (before : List ℕ) (ranks : ℕ) (levels : List ℕ)
         → BackOf (rejectingPart parts accepting) opens a (getD low 15 0) parts (A .components) low before ranks levels
         → EarlierRejecting A a (earlierSet A a v) (rankAt ranks) (setOf A v) (rankAt v) (earlierLevel A a v)
-    rejecting-back before ranks levels B =
-        rejecting-same A H a S (earlierRank A a v) (setOf A v) (rankAt v) l (rankAt ranks) l
-        (λ q m x. (rank-at (rejectingPart parts accepting) (λ p. not (A .accepting p)) rejecting-at before ranks levels B q m (ap not x), refl))
-        (rejecting-half A H a S (earlierRank A a v) (setOf A v) (rankAt v) l (earlier-is A H s opens parts P O a v letter w low lowest))
+    rejecting-back before ranks levels B = to-rejecting A (back-kind false before ranks levels B)
 
-    -- and what step_accepting returns, those on the accepting components
     pub accepting-back : (before : List ℕ) (ranks : ℕ) (levels : List ℕ)
         → BackOf (acceptingPart parts accepting) opens a (getD low 15 0) parts (A .components) low before ranks levels
         → EarlierAccepting A a (earlierSet A a v) (rankAt ranks) (setOf A v) (rankAt v) (earlierLevel A a v)
-    accepting-back before ranks levels B =
-        accepting-same A H a S (earlierRank A a v) (setOf A v) (rankAt v) l (rankAt ranks) l
-        (λ q m x. (rank-at (acceptingPart parts accepting) (A .accepting) accepting-at before ranks levels B q m x, refl))
-        (accepting-half A H a S (earlierRank A a v) (setOf A v) (rankAt v) l (earlier-is A H s opens parts P O a v letter w low lowest))
+    accepting-back before ranks levels B = to-accepting A (back-kind true before ranks levels B)
 
     -- each half meets its rule of source 000's Definition 7 without the other, where v is a core
     module _ (C : Core A (setOf A v) (rankAt v)) where

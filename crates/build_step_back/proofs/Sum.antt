@@ -1,20 +1,21 @@
 -- Components one after the other: those of one kind, and both kinds together.
 use mathlib.Core.Path.{_≡_, refl, sym, _∙_, ap}
 use mathlib.Core.Logic.{by-cases}
-use mathlib.Core.Bool.{Bool, true, false, _&&_, not, cond}
+use mathlib.Core.Bool.{Bool, Bool·beq, true, false, _&&_, not, cond}
 use mathlib.Core.List.{List}
 use Prim.Native.Nat.{ℕ, zero, suc, _+_, _*_, _^_, _≤_, _<_}
 use native.Mathlib.Omega.{arith}
 use native.Mathlib.Decide.{decLt, ℕ-discrete}
 use native.Mathlib.Numerals.{add-one}
-use lib.Dec.{ltb}
+use lib.Dec.{eqb, ltb}
+use lib.Bits.{bitAnd}
 use lib.ListN.{length, getD, set, length-set}
 use lib.Seq.{getD-set-same, getD-set-other}
 use borrow.Author.Tests.{lt-ltb, le-ltb}
 use Rattle.sets.specs.Tests.{Set}
 use Rattle.sets.proofs.Bools.{bif}
 use Rattle.build_cores.specs.Used.{sumOf}
-use Rattle.build_step_back.specs.Step.{Stepped, ranksIn, BackOf, Back}
+use Rattle.build_step_back.specs.Step.{Stepped, rejectingPart, acceptingPart, partOf, ranksIn, BackOf, Back}
 
 -- another number is below c + 1 exactly if it is below c
 below-other : (d c : ℕ) → (d ≡ c → ⊥) → ltb d (c + 1) ≡ ltb d c
@@ -30,6 +31,18 @@ sum-both kind f (suc n) =
     bif (kind n)
     (λ t. rw t (omega (arith, sum-both kind f n)))
     (λ t. rw t (omega (arith, sum-both kind f n)))
+
+-- the test of a component's kind, as the code has it
+beq-not : (b k : Bool) → cond k (not b) b ≡ Bool·beq (not b) k
+beq-not true true = refl
+beq-not true false = refl
+beq-not false true = refl
+beq-not false false = refl
+
+pub part-kind : (parts : List ℕ) (accepting : ℕ) (k : Bool) (c : ℕ) → partOf parts accepting k c ≡ Bool·beq (not (eqb (bitAnd (getD parts c 0) accepting) 0)) k
+unfolding rejectingPart acceptingPart
+part-kind parts accepting true c = beq-not (eqb (bitAnd (getD parts c 0) accepting) 0) true
+part-kind parts accepting false c = beq-not (eqb (bitAnd (getD parts c 0) accepting) 0) false
 
 module _ (kind : Set) (opens : List ℕ) (letter opened : ℕ) (parts low before : List ℕ) where
   pub start : BackOf kind opens letter opened parts 0 low before 0 before

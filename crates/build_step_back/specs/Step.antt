@@ -1,6 +1,6 @@
 -- The step back of one component, on masks of open states.
 use mathlib.Core.Path.{_≡_}
-use mathlib.Core.Bool.{true, _&&_, not, cond}
+use mathlib.Core.Bool.{Bool, true, _&&_, not, cond}
 use mathlib.Core.List.{List}
 use Prim.Native.Nat.{ℕ, suc, _+_, _*_, _^_, _≤_, _<_}
 use lib.Dec.{eqb, leb, ltb}
@@ -70,6 +70,10 @@ module _ (parts : List ℕ) (accepting : ℕ) where
   unfoldable pub acceptingPart : Set
   unfolding rejectingPart
   acceptingPart c = not (rejectingPart c)
+
+  -- it is of kind k, true for accepting
+  abbrev pub partOf : Bool → Set
+  partOf k = cond k acceptingPart rejectingPart
 
 -- what the step back over the components of one kind leaves: their ranks, their levels, and the levels before of all other components
 pub record BackOf (kind : Set) (opens : List ℕ) (letter opened : ℕ) (parts : List ℕ) (components : ℕ) (low before : List ℕ)

@@ -4,7 +4,7 @@ ghost use mathlib.Core.Path.{_≡_};
 ghost use Prim.Native.Nat.{ℕ, _+_, _*_, _^_, _<_, _≤_};
 ghost use lib.ListN.{length, getD};
 ghost use lib.Bits.{bitXor};
-ghost use Rattle.build_step_back.specs.Step.{Rising, Stepped, rejectingPart, acceptingPart, BackOf, Back};
+ghost use Rattle.build_step_back.specs.Step.{Rising, Stepped, rejectingPart, acceptingPart, partOf, BackOf, Back};
 
 // A 1 in each nibble but the lowest.
 const ONES: u64 = 0x1111_1111_1111_1110;
@@ -69,7 +69,44 @@ fn wide(x: u32) -> u64
     x as u64
 }
 
-// Definition 7, R1': the earlier ranks of the rejecting components. Their levels go to their places of levels, the other places stay.
+// The earlier ranks of the components of one kind, the accepting ones or the rejecting ones.
+// Their levels go to their places of levels, the other places stay.
+fn step_kind(
+    opens: &[u8; 4096],
+    letter: usize,
+    opened: u8,
+    parts: &[u8; 8],
+    components: usize,
+    accepting: u8,
+    low: &[u8; 16],
+    levels: &mut [u64; 8],
+    kind: bool,
+) -> u64
+    requires { ⌜ (components ≤ 8)
+        × ((c : ℕ) → c < components → Rising (now opens) letter opened (getD (now parts) c 0) (now low))
+        × (length (now levels) ≡ 8) ⌝ }
+    ensures { λ r. ⌜ BackOf (partOf (now (parts .entry)) accepting kind) (now (opens .entry)) letter opened (now (parts .entry))
+        components (now (low .entry)) (now (levels .entry)) r (now (levels .exit)) ⌝ }
+{
+    let mut ranks: u64 = 0;
+    let mut c = 0;
+    while c < components {
+        let part = parts[c];
+        if (part & accepting != 0) != kind {
+            c += 1;
+            continue;
+        }
+        let step = step_component(opens, letter, opened, part, low);
+        let r = step.ranks;
+        let l = step.levels;
+        ranks += wide(r);
+        levels[c] = l;
+        c += 1;
+    }
+    ranks
+}
+
+// Definition 7, R1': the earlier ranks of the rejecting components.
 pub fn step_rejecting(
     opens: &[u8; 4096],
     letter: usize,
@@ -86,25 +123,20 @@ pub fn step_rejecting(
     ensures { λ r. ⌜ BackOf (rejectingPart (now (parts .entry)) accepting) (now (opens .entry)) letter opened (now (parts .entry))
         components (now (low .entry)) (now (levels .entry)) r (now (levels .exit)) ⌝ }
 {
-    let mut ranks: u64 = 0;
-    let mut c = 0;
-    while c < components {
-        let part = parts[c];
-        if part & accepting != 0 {
-            c += 1;
-            continue;
-        }
-        let step = step_component(opens, letter, opened, part, low);
-        let r = step.ranks;
-        let l = step.levels;
-        ranks += wide(r);
-        levels[c] = l;
-        c += 1;
-    }
-    ranks
+    step_kind(
+        opens,
+        letter,
+        opened,
+        parts,
+        components,
+        accepting,
+        low,
+        levels,
+        false,
+    )
 }
 
-// Definition 7, R2': the same for the accepting components.
+// Definition 7, R2': those of the accepting components.
 pub fn step_accepting(
     opens: &[u8; 4096],
     letter: usize,
@@ -121,22 +153,17 @@ pub fn step_accepting(
     ensures { λ r. ⌜ BackOf (acceptingPart (now (parts .entry)) accepting) (now (opens .entry)) letter opened (now (parts .entry))
         components (now (low .entry)) (now (levels .entry)) r (now (levels .exit)) ⌝ }
 {
-    let mut ranks: u64 = 0;
-    let mut c = 0;
-    while c < components {
-        let part = parts[c];
-        if part & accepting == 0 {
-            c += 1;
-            continue;
-        }
-        let step = step_component(opens, letter, opened, part, low);
-        let r = step.ranks;
-        let l = step.levels;
-        ranks += wide(r);
-        levels[c] = l;
-        c += 1;
-    }
-    ranks
+    step_kind(
+        opens,
+        letter,
+        opened,
+        parts,
+        components,
+        accepting,
+        low,
+        levels,
+        true,
+    )
 }
 
 // Ranks of the earlier core, and in place c the levels of component c.

@@ -19,7 +19,7 @@ use Rattle.theory.specs.Plan.{Reach, Accepts}
 use Rattle.theory.specs.Plan.Reach.{here, on}
 use Rattle.theory.specs.Rule.{satisfies}
 use Rattle.theory_laws.proofs.Certified.{discharged}
-use Rattle.theory_laws.proofs.Pursuit.{open-rej, mix-in, mix-out, settled-rej, discharged-open}
+use Rattle.theory_laws.proofs.Pursuit.{open-kind, mix-in, mix-out, settled-kind, discharged-open}
 use Rattle.theory_laws.proofs.PlanOfSet.{δ, δ-leb, δ-pos, aim, Good, Aimed, nearer, good-on, lower, aimed-valid, aimed-fair}
 use Rattle.judge_choices_spec.specs.Distance as dist
 use Rattle.judge_choices_spec.specs.Distance.{After, Left, Leaves, Distance, Nearer, Suits}
@@ -62,8 +62,8 @@ module _ (A : Automaton) (H : Layered A) (L : ℕ) (nx w : ℕ → ℕ) (stays :
   unfolding discharged later
   left-discharged zero q p l k a P f = absurd (f q p dist.here refl)
   left-discharged (suc d) q p l k a P f =
-      and-i (open-rej A (S p) q a ∙ sound q p l k P)
-      (settled-rej A (S (nx p)) (discharged A nx w S (nx p) d) q _ a
+      and-i (open-kind A false (S p) q a ∙ sound q p l k P)
+      (settled-kind A false (S (nx p)) (discharged A nx w S (nx p) d) q _ a
       ∙ satisfies-in (A .n) _ _ (P .pick q p) (P .valid q p here) (inside-all (A .n) _ (P .pick q p) (λ r m b.
       bif (eqb (A .component r) (A .component q))
       (λ t. let c = eqb-true _ _ t in
@@ -78,7 +78,7 @@ module _ (A : Automaton) (H : Layered A) (L : ℕ) (nx w : ℕ → ℕ) (stays :
   True = Good A H L nx w stays S exact N near
 
   rejecting-open : (q p : ℕ) → True q p → A .accepting q ≡ false → isOpen A (S p) q ≡ true
-  rejecting-open q p g a = open-rej A (S p) q a ∙ g .true-in
+  rejecting-open q p g a = open-kind A false (S p) q a ∙ g .true-in
 
   module _ (pick : ℕ → ℕ → ℕ) (P : Aimed A H L nx w stays S exact N near pick) where
     module _ (q p : ℕ) (g : True q p) (a : A .accepting q ≡ false) where
@@ -166,7 +166,7 @@ module _ (A : Automaton) (H : Layered A) (L : ℕ) (nx w : ℕ → ℕ) (stays :
           let o = discharged-open A nx w S (nx p) (delta p q - 1) r v in
           let h = leb-true (delta (nx p) r) (delta p q - 1) (δ-leb A H L nx w stays S exact N near (nx p) r l o (delta p q - 1) ∙ v) in
           let k = δ-pos A H L nx w stays S exact N near p q (g .below) (rejecting-open q p g a) in
-          (sym (open-rej A (S (nx p)) r (H .pure r q l (g .below) e ∙ a)) ∙ o, omega arith)
+          (sym (open-kind A false (S (nx p)) r (H .pure r q l (g .below) e ∙ a)) ∙ o, omega arith)
 
       aim-true : (r : ℕ) → r < A .n → aims r ≡ true → S (nx p) r ≡ true
       aim-true r l t =

@@ -31,7 +31,7 @@ use Rattle.theory_laws.proofs.Certified.{discharged}
 use Rattle.theory_laws.proofs.Distance.{discharged-up}
 use Rattle.theory_laws.proofs.FixedPoint.{exact, near-open}
 use Rattle.theory_laws.proofs.Places.{next-place-low}
-use Rattle.theory_laws.proofs.Pursuit.{open-rej, mix-in, mix-out, settled-rej}
+use Rattle.theory_laws.proofs.Pursuit.{open-kind, mix-in, mix-out, settled-kind}
 use Rattle.theory_laws.proofs.PlanOfSet.{δ, δ-leb, aim, Good, Aimed, aim-sat}
 use Rattle.theory_laws.proofs.Satisfies.{satisfies-ext}
 use Rattle.theory_laws.proofs.Truth.{heights, certain, truth-certain, truth-accepts}
@@ -106,7 +106,7 @@ module _ (r : Rule) (P : Passing r) (lead cycle : List ℕ) (W : WordOver (r .s)
       (λ c. mix-in A q _ _ x c ∙ near-is d (next p) x (low p l) i (H .pure x q i k (eqb-true _ _ c) ∙ a) ∙ sym (mix-in A q _ _ x c))
       (λ c. mix-out A q _ _ x c ∙ true-is (next p) x (low p l) i ∙ sym (mix-out A q _ _ x c)))) (entry r q (letter p)) in
       bit-mask (r .n) _ q k
-      ∙ rw (a, true-is p q l k, open-rej A (S p) q a, settled-rej A (S (next p)) (discharged A next letter S (next p) d) q (entry r q (letter p)) a) (ap (λ (b : Bool). S p q && b) e)
+      ∙ rw (a, true-is p q l k, open-kind A false (S p) q a, settled-kind A false (S (next p)) (discharged A next letter S (next p) d) q (entry r q (letter p)) a) (ap (λ (b : Bool). S p q && b) e)
 
   abbrev delta : ℕ → ℕ → ℕ
   delta = δ A H L next letter low S right (L * A .n) soon
@@ -120,13 +120,13 @@ module _ (r : Rule) (P : Passing r) (lead cycle : List ℕ) (W : WordOver (r .s)
   -- the distance is the number of rounds
   pub distance-leb : (p q : ℕ) → True q p → bit (r .accepting) q ≡ false → (d : ℕ) → leb (delta p q) d ≡ bit (nearAt r lead cycle T d p) q
   unfolding automaton
-  distance-leb p q g a d = δ-leb A H L next letter low S right (L * A .n) soon p q (g .below) (open-rej A (S p) q a ∙ g .true-in) d ∙ sym (near-is d p q (g .place) (g .below) a)
+  distance-leb p q g a d = δ-leb A H L next letter low S right (L * A .n) soon p q (g .below) (open-kind A false (S p) q a ∙ g .true-in) d ∙ sym (near-is d p q (g .place) (g .below) a)
 
   pub distance-is : (p q : ℕ) → True q p → bit (r .accepting) q ≡ false → distanceAt r lead cycle T p q ≡ delta p q
   unfolding distanceAt automaton
   distance-is p q g a =
       let same = distance-leb p q g a in
-      let all : bit (nearAt r lead cycle T (L * r .n) p) q ≡ true = near-is (L * r .n) p q (g .place) (g .below) a ∙ soon p q (g .below) (open-rej A (S p) q a ∙ g .true-in) in
+      let all : bit (nearAt r lead cycle T (L * r .n) p) q ≡ true = near-is (L * r .n) p q (g .place) (g .below) a ∙ soon p q (g .below) (open-kind A false (S p) q a ∙ g .true-in) in
       let e : (d : ℕ) → leb (distanceAt r lead cycle T p q) d ≡ leb (delta p q) d
       = λ d. first-leb (L * r .n) (λ i. bit (nearAt r lead cycle T i p) q)
       (λ i j h v. let k = leb-true (delta p q) i (same i ∙ v) in sym (same j) ∙ le-leb (delta p q) j (omega arith)) all d ∙ sym (same d) in
@@ -160,7 +160,7 @@ module _ (r : Rule) (P : Passing r) (lead cycle : List ℕ) (W : WordOver (r .s)
       iff _ _
       (λ t. let x = near-true (L * r .n) p q k t in and-i (x .0) (ap not (x .1)))
       (λ t. let a = not-t (bit (r .accepting) q) (and-r (bit (getD T p 0) q) _ t) in
-      near-is (L * r .n) p q l k a ∙ soon p q k (open-rej A (S p) q a ∙ sym (true-is p q l k) ∙ and-l (bit (getD T p 0) q) _ t))
+      near-is (L * r .n) p q l k a ∙ soon p q k (open-kind A false (S p) q a ∙ sym (true-is p q l k) ∙ and-l (bit (getD T p 0) q) _ t))
 
   -- the choice of a rejecting state is that of the round in which it comes near
   pub choice-now : (d p q : ℕ) → p < L → q < r .n → bit (nearAt r lead cycle T d p) q ≡ false → bit (nearAt r lead cycle T (suc d) p) q ≡ true

@@ -1,27 +1,28 @@
 -- One level is below another exactly if some class of the later core comes between: R1' and R2' are the order by levels.
-use mathlib.Core.Path.{_≡_, refl, sym, _∙_, ap, ap₂}
+use mathlib.Core.Path.{_≡_, refl, sym, _∙_, ap}
 use mathlib.Core.Logic.{_↔_, by-cases}
 use mathlib.Core.Bool.{Bool, true, false, _&&_, _||_, not, cond}
 use mathlib.Core.List.{List}
-use Prim.Native.Nat.{ℕ, suc, _-_, _≤_, _<_}
+use Prim.Native.Nat.{ℕ, suc, _-_, _<_}
 use native.Mathlib.Omega.{arith}
 use native.Mathlib.Decide.{decLt, decLe}
 use lib.Dec.{eqb, leb, ltb}
 use borrow.Author.Tests.{eqb-true, eq-eqb, lt-ltb, le-ltb, le-leb, lt-leb}
 use Rattle.sets.specs.Tests.{Set, some, largest}
+use Rattle.sets.specs.Masks.{exclusive}
 use Rattle.sets.proofs.Bools.{bif, clash, and-l, and-r, and-i, not-t}
 use Rattle.sets.proofs.Tests.{some-get, some-at, largest-hit}
 use Rattle.theory.specs.Automaton.{Automaton}
 use Rattle.theory.specs.Layered.{Layered}
 use Rattle.theory.specs.Rule.{satisfies}
-use Rattle.theory.specs.Core.{isOpen, mix, rejectingSettled, acceptingSettled, test, Core, Earlier, openOf}
-use Rattle.theory_laws.proofs.Pursuit.{open-acc, open-rej}
-use Rattle.theory_laws.proofs.Satisfies.{satisfies-ext}
+use Rattle.theory.specs.Core.{isOpen, mix, test, Core, Earlier, openOf}
+use Rattle.theory_laws.proofs.Pursuit.{open-kind, open-at}
+use Rattle.theory_laws.proofs.Satisfies.{openIn, meets, satisfies-ext}
 use Rattle.theory_laws.proofs.Levels.{test-mono}
 use Rattle.theory_laws.proofs.Classes.{open-component, open-state}
 use Rattle.theory_laws.proofs.Cores.{level-classes}
 use Rattle.paper_spec.specs.Definition7.{satisfiesDual, inC, lowerR1, witnessR1, lowerR2, witnessR2}
-use Rattle.paper_laws.proofs.Halves.{test-rejecting, test-accepting}
+use Rattle.paper_laws.proofs.Halves.{test-kind}
 use Rattle.paper_laws.proofs.Dual.{dual-is}
 
 below-suc : (x k : ℕ) → ltb x (suc k) ≡ leb x k
@@ -43,6 +44,10 @@ lower-out true false true = refl
 lower-out true false false = refl
 lower-out false true x = refl
 lower-out false false x = refl
+
+-- the right-hand side of R1', or of R2' where the kind k is accepting
+abbrev pub witnessOf : Automaton → ℕ → Set → (ℕ → ℕ) → Bool → ℕ → ℕ → Bool
+witnessOf A a T t k = cond k (witnessR2 A a T t) (witnessR1 A a T t)
 
 -- (S, r) is the core before the core (T, t) at letter a
 module _ (A : Automaton) (H : Layered A) (a : ℕ) (S : Set) (r : ℕ → ℕ) (T : Set) (t : ℕ → ℕ) (l : ℕ → ℕ) (E : Earlier A a S r T t l) (C : Core A T t) where
@@ -87,120 +92,82 @@ module _ (A : Automaton) (H : Layered A) (a : ℕ) (S : Set) (r : ℕ → ℕ) (
       let x = largest-hit (A .n) (openOf A T (A .component q′)) t (omega (arith, level-classes A a T t H S r l E q′ n u)) in
       class-at q q′ (x .0) m n c o u h (x .1) (x .2) (x .3)
 
-  -- ---- R1'
+  -- ---- R1' and R2', by the kind k
 
-  module _ (q : ℕ) (m : q < A .n) (x : A .accepting q ≡ false) where
-    r1-set : (p v k s : ℕ) → A .component p ≡ A .component q → t v ≡ suc k → lowerR1 A a T t q v s ≡ mix A p T (λ y. T y && leb (t y) k) s
-    unfolding lowerR1 inC mix
-    r1-set p v k s c e = rw (c, e, below-suc (t s) k) (lower-in (eqb (A .component s) (A .component q)) (T s) (leb (t s) k))
+  abbrev lowerOf : Bool → ℕ → ℕ → Set
+  lowerOf k = cond k (lowerR2 A a T t) (lowerR1 A a T t)
 
-    -- the classes below the state v, with the true states outside, on the entry of a state p of q's component
-    r1-test : (p v k : ℕ) → p < A .n → A .component p ≡ A .component q → t v ≡ suc k → satisfies (A .n) (lowerR1 A a T t q v) (A .entry p a) ≡ tested p k
-    unfolding rejectingSettled
-    r1-test p v k n c e =
-        satisfies-ext (A .n) (lowerR1 A a T t q v) (mix A p T (λ y. T y && leb (t y) k)) (λ s h. r1-set p v k s c e) (A .entry p a)
-        ∙ sym (test-rejecting A H T t p (A .entry p a) n (H .pure p q n m c ∙ x) k)
+  abbrev satisfiesOf : Bool → Set → List ℕ → Bool
+  satisfiesOf k = cond k (satisfiesDual (A .n)) (satisfies (A .n))
+
+  lower-set : (k : Bool) (q p v j s : ℕ) → A .component p ≡ A .component q → t v ≡ suc j → lowerOf k q v s ≡ mix A p (openIn k T) (λ y. openIn k T y && leb (t y) j) s
+  unfolding lowerR1 lowerR2 inC mix
+  lower-set true q p v j s c e = rw (c, e, below-suc (t s) j) (lower-out (eqb (A .component s) (A .component q)) (T s) (leb (t s) j))
+  lower-set false q p v j s c e = rw (c, e, below-suc (t s) j) (lower-in (eqb (A .component s) (A .component q)) (T s) (leb (t s) j))
+
+  satisfies-kind : (k : Bool) (X Y : Set) → ((s : ℕ) → X s ≡ Y s) → (e : List ℕ) → satisfiesOf k X e ≡ meets k (A .n) Y e
+  satisfies-kind true X Y h e = dual-is (A .n) X e ∙ ap not (satisfies-ext (A .n) _ _ (λ s l. ap not (h s)) e)
+  satisfies-kind false X Y h e = satisfies-ext (A .n) X Y (λ s l. h s) e
+
+  -- v shows that q is below q′
+  abbrev shows : Bool → ℕ → ℕ → ℕ → Bool
+  shows k q q′ v = satisfiesOf k (lowerOf k q v) (A .entry q a) && not (satisfiesOf k (lowerOf k q v) (A .entry q′ a))
+
+  witness-is : (k : Bool) (q q′ : ℕ) → witnessOf A a T t k q q′ ≡ some (A .n) (λ v. (inC A a T t q v && openIn k T v) && shows k q q′ v)
+  unfolding witnessR1 witnessR2
+  witness-is true q q′ = refl
+  witness-is false q q′ = refl
+
+  module _ (k : Bool) (q : ℕ) (m : q < A .n) (x : A .accepting q ≡ k) where
+    -- the classes below the state v, with the states outside that are as open states of the kind, on the entry of a state p of q's component
+    lower-test : (p v j : ℕ) → p < A .n → A .component p ≡ A .component q → t v ≡ suc j → satisfiesOf k (lowerOf k q v) (A .entry p a) ≡ tested p j
+    lower-test p v j n c e =
+        satisfies-kind k (lowerOf k q v) (mix A p (openIn k T) (λ y. openIn k T y && leb (t y) j)) (λ s. lower-set k q p v j s c e) (A .entry p a)
+        ∙ sym (test-kind A H k T t p (A .entry p a) n (H .pure p q n m c ∙ x) j)
 
     module _ (q′ : ℕ) (n : q′ < A .n) (c : A .component q ≡ A .component q′) where
-      abbrev found1 : ℕ → Bool
-      found1 v = satisfies (A .n) (lowerR1 A a T t q v) (A .entry q a) && not (satisfies (A .n) (lowerR1 A a T t q v) (A .entry q′ a))
-
-      abbrev at1 : ℕ → Bool
-      at1 v = (inC A a T t q v && T v) && found1 v
-
-      r1-between : witnessR1 A a T t q q′ ≡ true → Between q q′
-      unfolding witnessR1 inC
-      r1-between w =
-          let g = some-get (A .n) at1 w in
-          let i = and-l (inC A a T t q (g .0) && T (g .0)) (found1 (g .0)) (g .2) in
-          let f = and-r (inC A a T t q (g .0) && T (g .0)) (found1 (g .0)) (g .2) in
-          let s = eqb-true (A .component (g .0)) (A .component q) (and-l (inC A a T t q (g .0)) (T (g .0)) i) in
-          let o = open-rej A T (g .0) (H .pure (g .0) q (g .1) m s ∙ x) ∙ and-r (inC A a T t q (g .0)) (T (g .0)) i in
-          let e : t (g .0) ≡ suc (t (g .0) - 1) = omega (arith, C .ranked (g .0) (g .1) o) in
+      witness-between : witnessOf A a T t k q q′ ≡ true → Between q q′
+      unfolding inC
+      witness-between w =
+          let g = some-get (A .n) (λ v. (inC A a T t q v && openIn k T v) && shows k q q′ v) (sym (witness-is k q q′) ∙ w) in
+          let v = g .0 in
+          let i = and-l (inC A a T t q v && openIn k T v) (shows k q q′ v) (g .2) in
+          let f = and-r (inC A a T t q v && openIn k T v) (shows k q q′ v) (g .2) in
+          let s = eqb-true (A .component v) (A .component q) (and-l (inC A a T t q v) (openIn k T v) i) in
+          let o = open-kind A k T v (H .pure v q (g .1) m s ∙ x) ∙ and-r (inC A a T t q v) (openIn k T v) i in
+          let e : t v ≡ suc (t v - 1) = omega (arith, C .ranked v (g .1) o) in
+          let here = satisfiesOf k (lowerOf k q v) (A .entry q a) in
+          let there = satisfiesOf k (lowerOf k q v) (A .entry q′ a) in
           record {
-            state = g .0;
+            state = v;
             below = g .1;
             same = s;
             opened = o;
-            lower = t (g .0) - 1;
+            lower = t v - 1;
             rank = e;
-            yes-at = sym (r1-test q (g .0) (t (g .0) - 1) m refl e) ∙ and-l (satisfies (A .n) (lowerR1 A a T t q (g .0)) (A .entry q a))
-                (not (satisfies (A .n) (lowerR1 A a T t q (g .0)) (A .entry q′ a))) f;
-            not-at = sym (r1-test q′ (g .0) (t (g .0) - 1) n (sym c) e)
-                ∙ not-t _ (and-r (satisfies (A .n) (lowerR1 A a T t q (g .0)) (A .entry q a)) (not (satisfies (A .n) (lowerR1 A a T t q (g .0)) (A .entry q′ a))) f);
+            yes-at = sym (lower-test q v (t v - 1) m refl e) ∙ and-l here (not there) f;
+            not-at = sym (lower-test q′ v (t v - 1) n (sym c) e) ∙ not-t there (and-r here (not there) f);
           }
 
-      between-r1 : Between q q′ → witnessR1 A a T t q q′ ≡ true
-      unfolding witnessR1 inC
-      between-r1 b =
-          some-at (A .n) at1 (b .state) (b .below)
+      between-witness : Between q q′ → witnessOf A a T t k q q′ ≡ true
+      unfolding inC
+      between-witness b =
+          witness-is k q q′ ∙ some-at (A .n) (λ v. (inC A a T t q v && openIn k T v) && shows k q q′ v) (b .state) (b .below)
           (and-i
-          (and-i (eq-eqb (A .component (b .state)) (A .component q) (b .same)) (sym (open-rej A T (b .state) (H .pure (b .state) q (b .below) m (b .same) ∙ x)) ∙ b .opened))
-          (and-i (r1-test q (b .state) (b .lower) m refl (b .rank) ∙ b .yes-at) (ap not (r1-test q′ (b .state) (b .lower) n (sym c) (b .rank) ∙ b .not-at))))
+          (and-i (eq-eqb (A .component (b .state)) (A .component q) (b .same)) (sym (open-kind A k T (b .state) (H .pure (b .state) q (b .below) m (b .same) ∙ x)) ∙ b .opened))
+          (and-i (lower-test q (b .state) (b .lower) m refl (b .rank) ∙ b .yes-at) (ap not (lower-test q′ (b .state) (b .lower) n (sym c) (b .rank) ∙ b .not-at))))
 
-      -- R1' is the order by levels
-      pub r1-levels : S q ≡ true → S q′ ≡ true → (l q < l q′) ↔ (witnessR1 A a T t q q′ ≡ true)
-      r1-levels o u =
-          let v = open-rej A S q x ∙ o in
-          let w = open-rej A S q′ (H .pure q′ q n m (sym c) ∙ x) ∙ u in
-          (λ h. between-r1 (less-between q q′ m n c v w h), λ h. between-less q q′ m n v w (r1-between h))
+      -- the rule is the order by levels
+      pub witness-levels : S q ≡ exclusive k true → S q′ ≡ exclusive k true → (l q < l q′) ↔ (witnessOf A a T t k q q′ ≡ true)
+      witness-levels o u =
+          let v = open-at A k true S q x o in
+          let w = open-at A k true S q′ (H .pure q′ q n m (sym c) ∙ x) u in
+          (λ h. between-witness (less-between q q′ m n c v w h), λ h. between-less q q′ m n v w (witness-between h))
 
-  -- ---- R2'
+  pub r1-levels : (q : ℕ) → q < A .n → A .accepting q ≡ false → (q′ : ℕ) → q′ < A .n → A .component q ≡ A .component q′ → S q ≡ true → S q′ ≡ true
+      → (l q < l q′) ↔ (witnessR1 A a T t q q′ ≡ true)
+  r1-levels = witness-levels false
 
-  module _ (q : ℕ) (m : q < A .n) (x : A .accepting q ≡ true) where
-    r2-set : (p v k s : ℕ) → A .component p ≡ A .component q → t v ≡ suc k → lowerR2 A a T t q v s ≡ mix A p (λ y. not (T y)) (λ y. not (T y) && leb (t y) k) s
-    unfolding lowerR2 inC mix
-    r2-set p v k s c e = rw (c, e, below-suc (t s) k) (lower-out (eqb (A .component s) (A .component q)) (T s) (leb (t s) k))
-
-    -- the classes below the state v, with the false states outside, on the dual entry of a state p of q's component
-    r2-test : (p v k : ℕ) → p < A .n → A .component p ≡ A .component q → t v ≡ suc k → satisfiesDual (A .n) (lowerR2 A a T t q v) (A .entry p a) ≡ tested p k
-    unfolding acceptingSettled
-    r2-test p v k n c e =
-        dual-is (A .n) (lowerR2 A a T t q v) (A .entry p a)
-        ∙ ap not (satisfies-ext (A .n) (λ s. not (lowerR2 A a T t q v s)) (λ s. not (mix A p (λ y. not (T y)) (λ y. not (T y) && leb (t y) k) s))
-        (λ s h. ap not (r2-set p v k s c e)) (A .entry p a))
-        ∙ sym (test-accepting A H T t p (A .entry p a) n (H .pure p q n m c ∙ x) k)
-
-    module _ (q′ : ℕ) (n : q′ < A .n) (c : A .component q ≡ A .component q′) where
-      abbrev found2 : ℕ → Bool
-      found2 v = satisfiesDual (A .n) (lowerR2 A a T t q v) (A .entry q a) && not (satisfiesDual (A .n) (lowerR2 A a T t q v) (A .entry q′ a))
-
-      abbrev at2 : ℕ → Bool
-      at2 v = (inC A a T t q v && not (T v)) && found2 v
-
-      r2-between : witnessR2 A a T t q q′ ≡ true → Between q q′
-      unfolding witnessR2 inC
-      r2-between w =
-          let g = some-get (A .n) at2 w in
-          let i = and-l (inC A a T t q (g .0) && not (T (g .0))) (found2 (g .0)) (g .2) in
-          let f = and-r (inC A a T t q (g .0) && not (T (g .0))) (found2 (g .0)) (g .2) in
-          let s = eqb-true (A .component (g .0)) (A .component q) (and-l (inC A a T t q (g .0)) (not (T (g .0))) i) in
-          let o = open-acc A T (g .0) (H .pure (g .0) q (g .1) m s ∙ x) ∙ and-r (inC A a T t q (g .0)) (not (T (g .0))) i in
-          let e : t (g .0) ≡ suc (t (g .0) - 1) = omega (arith, C .ranked (g .0) (g .1) o) in
-          record {
-            state = g .0;
-            below = g .1;
-            same = s;
-            opened = o;
-            lower = t (g .0) - 1;
-            rank = e;
-            yes-at = sym (r2-test q (g .0) (t (g .0) - 1) m refl e) ∙ and-l (satisfiesDual (A .n) (lowerR2 A a T t q (g .0)) (A .entry q a))
-                (not (satisfiesDual (A .n) (lowerR2 A a T t q (g .0)) (A .entry q′ a))) f;
-            not-at = sym (r2-test q′ (g .0) (t (g .0) - 1) n (sym c) e)
-                ∙ not-t _ (and-r (satisfiesDual (A .n) (lowerR2 A a T t q (g .0)) (A .entry q a)) (not (satisfiesDual (A .n) (lowerR2 A a T t q (g .0)) (A .entry q′ a))) f);
-          }
-
-      between-r2 : Between q q′ → witnessR2 A a T t q q′ ≡ true
-      unfolding witnessR2 inC
-      between-r2 b =
-          some-at (A .n) at2 (b .state) (b .below)
-          (and-i
-          (and-i (eq-eqb (A .component (b .state)) (A .component q) (b .same)) (sym (open-acc A T (b .state) (H .pure (b .state) q (b .below) m (b .same) ∙ x)) ∙ b .opened))
-          (and-i (r2-test q (b .state) (b .lower) m refl (b .rank) ∙ b .yes-at) (ap not (r2-test q′ (b .state) (b .lower) n (sym c) (b .rank) ∙ b .not-at))))
-
-      -- R2' is the order by levels
-      pub r2-levels : S q ≡ false → S q′ ≡ false → (l q < l q′) ↔ (witnessR2 A a T t q q′ ≡ true)
-      r2-levels o u =
-          let v = open-acc A S q x ∙ ap not o in
-          let w = open-acc A S q′ (H .pure q′ q n m (sym c) ∙ x) ∙ ap not u in
-          (λ h. between-r2 (less-between q q′ m n c v w h), λ h. between-less q q′ m n v w (r2-between h))
+  pub r2-levels : (q : ℕ) → q < A .n → A .accepting q ≡ true → (q′ : ℕ) → q′ < A .n → A .component q ≡ A .component q′ → S q ≡ false → S q′ ≡ false
+      → (l q < l q′) ↔ (witnessR2 A a T t q q′ ≡ true)
+  r2-levels = witness-levels true

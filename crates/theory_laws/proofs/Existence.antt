@@ -19,7 +19,7 @@ use Rattle.theory.specs.Rule.{satisfies}
 use Rattle.theory_laws.proofs.Certified.{discharged, Backed, Run}
 use Rattle.theory_laws.proofs.Classes.{open-component, open-state, rank-max, rank-order, rank-upto}
 use Rattle.theory_laws.proofs.Distance.{discharged-le}
-use Rattle.theory_laws.proofs.Pursuit.{discharged-open, open-rej}
+use Rattle.theory_laws.proofs.Pursuit.{discharged-open, open-kind}
 use Rattle.theory_laws.proofs.Ranks.{levAt, lev-test}
 use Rattle.theory_laws.proofs.Settled.{settled-ext}
 
@@ -189,7 +189,7 @@ module _ (A : Automaton) (H : Layered A) (B : ℕ) (room : A .n ≤ B) (w : ℕ 
 
   rk-trim : ((i q : ℕ) → A .n ≤ q → S i q ≡ false) → (i q : ℕ) → A .n ≤ q → rk i q ≡ 0
   unfolding rk rankOf
-  rk-trim trim i q l = ap (λ (b : Bool). cond b (count (suc (δ i q)) (taken A (S i) (δ i) (A .component q))) 0) (open-rej A (S i) q (H .plain q l) ∙ trim i q l)
+  rk-trim trim i q l = ap (λ (b : Bool). cond b (count (suc (δ i q)) (taken A (S i) (δ i) (A .component q))) 0) (open-kind A false (S i) q (H .plain q l) ∙ trim i q l)
 
   pub run : ((i q : ℕ) → A .n ≤ q → S i q ≡ false) → Run A B w S rk (λ i. (work i) .component) (λ i. (work i) .left)
   unfolding work

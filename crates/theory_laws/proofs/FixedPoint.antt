@@ -1,28 +1,26 @@
 -- The solved sets of a word are certified.
 use mathlib.Core.Path.{_≡_, refl, sym, _∙_, ap}
 use mathlib.Core.Logic.{⊎-elim, by-cases}
-use mathlib.Core.Bool.{Bool, true, false, _&&_, not, cond, false≢true, Bool·not-not}
-use mathlib.Core.List.{List, List·Memᴰ}
+use mathlib.Core.Bool.{Bool, true, false, _&&_, not, cond, false≢true}
+use mathlib.Core.List.{List·Memᴰ}
 use Prim.Native.Nat.{ℕ, zero, suc, _+_, _-_, _*_, _/_, _%_, _≤_, _<_}
 use native.Mathlib.Omega.{arith}
 use native.Mathlib.Decide.{ℕ-discrete}
 use native.Mathlib.Nat.{add-zero, add-suc, mod-lt, div-lt-iff-lt-mul}
-use lib.Dec.{eqb}
 use lib.Arith.{digits-div, digits-mod, digits-lt}
-use borrow.Author.Tests.{eqb-true, eqb-false, eq-eqb, ne-eqb}
-use Rattle.sets.specs.Masks.{bit}
+use borrow.Author.Tests.{eq-eqb, ne-eqb}
+use Rattle.sets.specs.Masks.{bit, exclusive}
 use Rattle.sets.specs.Tests.{Set}
-use Rattle.sets.proofs.Bools.{bif, and-i}
+use Rattle.sets.proofs.Bools.{and-i, xor-twice}
 use Rattle.sets.proofs.Growth.{still}
 use Rattle.theory.specs.Automaton.{Automaton}
 use Rattle.theory.specs.Layered.{Layered}
-use Rattle.theory.specs.Core.{isOpen, mix, settled}
+use Rattle.theory.specs.Core.{isOpen, settled}
 use Rattle.theory.specs.Rule.{satisfies}
 use Rattle.theory.specs.Word.{place}
 use Rattle.theory_laws.proofs.Certified.{discharged, Certified, rounds, solved}
-use Rattle.theory_laws.proofs.Pursuit.{open-acc, open-rej, mix-in, mix-out, settled-acc, settled-rej}
-use Rattle.theory_laws.proofs.Satisfies.{satisfies-ext-in}
-use Rattle.theory_laws.proofs.Settled.{settled-ext, settled-mono, all-acc, all-rej}
+use Rattle.theory_laws.proofs.Pursuit.{open-at}
+use Rattle.theory_laws.proofs.Settled.{settled-in-ext, settled-ext, settled-mono, settled-all}
 
 -- every step of a word is at one of its places
 pub place-below : (L : ℕ) (nx : ℕ → ℕ) → ((p : ℕ) → p < L → nx p < L) → 0 < L → (i : ℕ) → place nx i < L
@@ -66,22 +64,6 @@ module _ (A : Automaton) (L : ℕ) (nx w : ℕ → ℕ) (stays : (p : ℕ) → p
       ∙ still (L * A .n) flat (λ d x h t. rounds-up d (x / A .n) (x % A .n) (mod-lt x (pos x h)) t) flat-det (p * A .n + q) (digits-lt l m)
       ∙ flat-at (suc (L * A .n)) p q m
 
--- settled by what the members of the entry's clauses are
-module _ (A : Automaton) (S S′ D D′ : Set) (q : ℕ) (e : List ℕ)
-    (inner : (c r : ℕ) → List·Memᴰ c e → r < A .n → bit c r ≡ true → A .component r ≡ A .component q → D r ≡ D′ r)
-    (outer : (c r : ℕ) → List·Memᴰ c e → r < A .n → bit c r ≡ true → (A .component r ≡ A .component q → ⊥) → S r ≡ S′ r) where
-  mix-in-ext : (f : Bool → Bool) (c r : ℕ) → List·Memᴰ c e → r < A .n → bit c r ≡ true → mix A q (λ x. f (S x)) D r ≡ mix A q (λ x. f (S′ x)) D′ r
-  mix-in-ext f c r m l b =
-      bif (eqb (A .component r) (A .component q))
-      (λ t. mix-in A q _ _ r t ∙ inner c r m l b (eqb-true _ _ t) ∙ sym (mix-in A q _ _ r t))
-      (λ t. mix-out A q _ _ r t ∙ ap f (outer c r m l b (eqb-false _ _ t)) ∙ sym (mix-out A q _ _ r t))
-
-  settled-in-ext : settled A S D q e ≡ settled A S′ D′ q e
-  settled-in-ext =
-      bif (A .accepting q)
-      (λ a. settled-acc A S D q e a ∙ ap not (satisfies-ext-in (A .n) _ _ e (λ c r m l b. ap not (mix-in-ext not c r m l b))) ∙ sym (settled-acc A S′ D′ q e a))
-      (λ a. settled-rej A S D q e a ∙ satisfies-ext-in (A .n) _ _ e (mix-in-ext (λ x. x)) ∙ sym (settled-rej A S′ D′ q e a))
-
 module _ (A : Automaton) (H : Layered A) (L : ℕ) (nx w : ℕ → ℕ) (stays : (p : ℕ) → p < L → nx p < L) where
   abbrev sol : ℕ → ℕ → Set
   sol h = solved A nx w (H .height) (L * A .n) h
@@ -109,10 +91,7 @@ module _ (A : Automaton) (H : Layered A) (L : ℕ) (nx w : ℕ → ℕ) (stays :
   set-is p q l = sol-top (H .top) p q (H .tall q l) ∙ sol-at p q
 
   open-is : (p q : ℕ) → q < A .n → isOpen A (Sp p) q ≡ own (L * A .n) p q
-  open-is p q l =
-      bif (A .accepting q)
-      (λ a. open-acc A (Sp p) q a ∙ ap not (rw a at (set-is p q l)) ∙ Bool·not-not _)
-      (λ a. open-rej A (Sp p) q a ∙ (rw a at (set-is p q l)))
+  open-is p q l = open-at A (A .accepting q) (own (L * A .n) p q) (Sp p) q refl (set-is p q l)
 
   -- heights in a component, and out of it
   own-same : (d p q r : ℕ) → q < A .n → r < A .n → A .component r ≡ A .component q → rounds A nx w (sol (H .height q)) d p r ≡ own d p r
@@ -130,9 +109,7 @@ module _ (A : Automaton) (H : Layered A) (L : ℕ) (nx w : ℕ → ℕ) (stays :
       let o : own (L * A .n) p q ≡ settled A (Sp (nx p)) (isOpen A (Sp (nx p))) q e
       = rounds-still A L nx w stays (sol (H .height q)) p q k l
       ∙ settled-in-ext A _ _ _ _ q e (λ c r m b t s. own-same (L * A .n) (nx p) q r l b s ∙ sym (open-is (nx p) r b)) (outside p q l) in
-      bif (A .accepting q)
-      (λ a. (rw a at (set-is p q l)) ∙ ap not (o ∙ all-acc A H (Sp (nx p)) q l e a) ∙ Bool·not-not _)
-      (λ a. (rw a at (set-is p q l)) ∙ o ∙ all-rej A H (Sp (nx p)) q l e a)
+      set-is p q l ∙ ap (exclusive (A .accepting q)) (o ∙ settled-all A H (Sp (nx p)) q l e) ∙ xor-twice (A .accepting q) _
 
   near : (d p q : ℕ) → q < A .n → d ≤ L * A .n → own d p q ≡ true → discharged A nx w Sp p d q ≡ true
   unfolding rounds discharged

@@ -1,21 +1,22 @@
 -- Levels: one step back over the letter a, from a core with the set T and ranks t to the set S.
-use mathlib.Core.Path.{_≡_, sym, _∙_, ap}
-use mathlib.Core.Bool.{true, not}
+use mathlib.Core.Path.{_≡_, refl, sym, _∙_, ap}
+use mathlib.Core.Bool.{true}
 use mathlib.Core.List.{List}
 use Prim.Native.Nat.{ℕ, _≤_, _<_}
 use native.Mathlib.Nat.{le-trans, le-antisymm, le-refl}
 use lib.Dec.{leb}
 use borrow.Author.Tests.{leb-true, le-leb, eq-eqb}
 use Rattle.sets.specs.Tests.{Set, largest}
-use Rattle.sets.proofs.Bools.{bif, and-l, and-r, and-i}
+use Rattle.sets.specs.Masks.{exclusive}
+use Rattle.sets.proofs.Bools.{and-l, and-r, and-i}
 use Rattle.sets.proofs.Tests.{first-leb, largest-ge}
 use Rattle.theory.specs.Automaton.{Automaton}
 use Rattle.theory.specs.Layered.{Layered}
 use Rattle.theory.specs.Core.{Least, isOpen, settled, test, openOf}
 use Rattle.theory.specs.CoreComputed.{levelOf}
 use Rattle.theory.specs.Rule.{satisfies}
-use Rattle.theory_laws.proofs.Pursuit.{open-acc, open-rej}
-use Rattle.theory_laws.proofs.Settled.{settled-mono, all-acc, all-rej}
+use Rattle.theory_laws.proofs.Pursuit.{open-kind}
+use Rattle.theory_laws.proofs.Settled.{settled-mono, settled-all}
 
 -- a least number is one
 pub least-unique : (f : Set) (i j : ℕ) → Least f i → Least f j → i ≡ j
@@ -30,10 +31,7 @@ module _ (A : Automaton) (T : Set) (t : ℕ → ℕ) (q : ℕ) (e : List ℕ) wh
 module _ (A : Automaton) (H : Layered A) (a : ℕ) (S T : Set) (exact : (q : ℕ) → q < A .n → S q ≡ satisfies (A .n) T (A .entry q a)) where
   -- an open state is settled by all the open states after it
   pub open-settled : (q : ℕ) → q < A .n → isOpen A S q ≡ true → settled A T (isOpen A T) q (A .entry q a) ≡ true
-  open-settled q l o =
-      bif (A .accepting q)
-      (λ x. all-acc A H T q l _ x ∙ ap not (sym (exact q l)) ∙ sym (open-acc A S q x) ∙ o)
-      (λ x. all-rej A H T q l _ x ∙ sym (exact q l) ∙ sym (open-rej A S q x) ∙ o)
+  open-settled q l o = settled-all A H T q l _ ∙ ap (exclusive (A .accepting q)) (sym (exact q l)) ∙ sym (open-kind A (A .accepting q) S q refl) ∙ o
 
   module _ (t : ℕ → ℕ) where
     -- its test holds at every number that no rank of its component exceeds

@@ -18,7 +18,7 @@ use Rattle.theory.specs.Plan.{Reach, here, on, Accepts}
 use Rattle.theory.specs.Rule.{satisfies}
 use Rattle.theory_laws.proofs.Certified.{discharged}
 use Rattle.theory_laws.proofs.Distance.{discharged-le}
-use Rattle.theory_laws.proofs.Pursuit.{open-rej, mix-in, mix-out, settled-rej, discharged-open, discharged-settled}
+use Rattle.theory_laws.proofs.Pursuit.{open-kind, mix-in, mix-out, settled-kind, discharged-open, discharged-settled}
 
 -- the first clause inside X
 unfoldable pub choose : ℕ → Set → List ℕ → ℕ
@@ -77,11 +77,11 @@ module _ (A : Automaton) (H : Layered A) (L : ℕ) (nx w : ℕ → ℕ) (stays :
       bif (A .accepting q)
       (λ a. rw a (sym (exact p q (g .place) (g .below)) ∙ g .true-in))
       (λ a.
-      let o = open-rej A (S p) q a ∙ g .true-in in
+      let o = open-kind A false (S p) q a ∙ g .true-in in
       let h = δ-pos p q (g .below) o in
       let x : suc (δ p q - 1) ≡ δ p q = omega arith in
       let t : discharged A nx w S p (suc (δ p q - 1)) q ≡ true = rw x (sym (δ-leb p q (g .below) o (δ p q)) ∙ le-leb (δ p q) (δ p q) (omega arith)) in
-      rw a (sym (settled-rej A (S (nx p)) _ q _ a) ∙ discharged-settled A nx w S p (δ p q - 1) q t))
+      rw a (sym (settled-kind A false (S (nx p)) _ q _ a) ∙ discharged-settled A nx w S p (δ p q - 1) q t))
 
   -- the clause of each true pair is one of its entry and inside what it is chosen from
   pub record Aimed (pick : ℕ → ℕ → ℕ) : Type 0 where
@@ -99,8 +99,8 @@ module _ (A : Automaton) (H : Layered A) (L : ℕ) (nx w : ℕ → ℕ) (stays :
         let t : discharged A nx w S (nx p) (δ p q - 1) r ≡ true = sym (mix-in A q _ _ r (eq-eqb _ _ c)) ∙ aim-rej q p r g l b a in
         let o = discharged-open A nx w S (nx p) (δ p q - 1) r t in
         let h = leb-true (δ (nx p) r) (δ p q - 1) (δ-leb (nx p) r l o (δ p q - 1) ∙ t) in
-        let k = δ-pos p q (g .below) (open-rej A (S p) q a ∙ g .true-in) in
-        (sym (open-rej A (S (nx p)) r (H .pure r q l (g .below) c ∙ a)) ∙ o, omega arith)
+        let k = δ-pos p q (g .below) (open-kind A false (S p) q a ∙ g .true-in) in
+        (sym (open-kind A false (S (nx p)) r (H .pure r q l (g .below) c ∙ a)) ∙ o, omega arith)
 
     -- a step of the plan
     pub good-on : (q p r : ℕ) → Good q p → r < A .n → bit (pick q p) r ≡ true → Good r (nx p)

@@ -19,7 +19,7 @@ use Rattle.theory.specs.Rule.{satisfies}
 use Rattle.theory_laws.proofs.Certified.{discharged, Certified, Backed}
 use Rattle.theory_laws.proofs.Pursuit.{discharged-open}
 use Rattle.theory_laws.proofs.Levels.{open-settled, level-test}
-pub use Rattle.theory_laws.proofs.Settled.{settled-ext, settled-mono, not-mono, all-acc, all-rej}
+pub use Rattle.theory_laws.proofs.Settled.{settled-ext, settled-mono}
 
 -- two numbers that no test up to c tells apart
 abbrev Agree : ℕ → ℕ → ℕ → Type 0

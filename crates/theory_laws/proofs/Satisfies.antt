@@ -4,9 +4,9 @@ use mathlib.Core.Bool.{Bool, true, false, _||_, not, false≢true}
 use mathlib.Core.List.{List, [], _∷_, List·Memᴰ, List·Memᴰ·head, List·Memᴰ·tail}
 use Prim.Native.Nat.{ℕ, _<_}
 use Rattle.sets.specs.Tests.{Set}
-use Rattle.sets.specs.Masks.{bit, inside}
-use Rattle.sets.proofs.Bools.{bif, clash, or-fl, or-fr, or-rt, or-tf, not-f}
-use Rattle.sets.proofs.Tests.{every-at, every-not, every-ext}
+use Rattle.sets.specs.Masks.{bit, inside, exclusive}
+use Rattle.sets.proofs.Bools.{bif, clash, or-fl, or-fr, or-rt, or-tf, not-t, not-f, iff, xor-twice}
+use Rattle.sets.proofs.Tests.{every-at, every-not}
 use Rattle.theory.specs.Rule.{satisfies}
 
 pub record Apart (n : ℕ) (X Y : Set) (cs : List ℕ) : Type 0 where
@@ -46,22 +46,33 @@ split n X Y (c ∷ cs) e k =
       not-in = r .not-in;
     })
 
-pub satisfies-ext : (n : ℕ) (X Y : Set) → ((q : ℕ) → q < n → X q ≡ Y q) → (cs : List ℕ) → satisfies n X cs ≡ satisfies n Y cs
-unfolding satisfies inside
-satisfies-ext n X Y h [] = refl
-satisfies-ext n X Y h (c ∷ cs) =
-    rw (every-ext n (λ q. not (bit c q) || X q) (λ q. not (bit c q) || Y q) (λ q l. ap (λ (b : Bool). not (bit c q) || b) (h q l)), satisfies-ext n X Y h cs)
+-- ---- by the kind k of a component, true if it is accepting: its open states, and what settles an entry
 
-pub satisfies-mono : (n : ℕ) (X Y : Set) → ((q : ℕ) → q < n → X q ≡ true → Y q ≡ true) → (cs : List ℕ) → satisfies n X cs ≡ true → satisfies n Y cs ≡ true
-satisfies-mono n X Y h cs e = bif (satisfies n Y cs) (λ t. t) (λ t. let r = split n X Y cs e t in clash (h (r .state) (r .below) (r .yes-in)) (r .not-in))
+abbrev pub openIn : Bool → Set → Set
+openIn k S q = exclusive k (S q)
 
--- the same, only at the members of the entry's clauses
-pub satisfies-mono-in : (n : ℕ) (X Y : Set) (cs : List ℕ) → ((c q : ℕ) → List·Memᴰ c cs → q < n → bit c q ≡ true → X q ≡ true → Y q ≡ true) → satisfies n X cs ≡ true → satisfies n Y cs ≡ true
-satisfies-mono-in n X Y cs h e =
-    bif (satisfies n Y cs) (λ t. t) (λ t. let r = split n X Y cs e t in clash (h (r .clause) (r .state) (r .listed) (r .below) (r .member) (r .yes-in)) (r .not-in))
+abbrev pub meets : Bool → ℕ → Set → List ℕ → Bool
+meets k n X e = exclusive k (satisfies n (λ p. exclusive k (X p)) e)
 
+pub meets-split : (k : Bool) (n : ℕ) (X Y : Set) (cs : List ℕ) → meets k n X cs ≡ true → meets k n Y cs ≡ false → Apart n X Y cs
+meets-split true n X Y cs s t =
+    let x = split n (λ p. not (Y p)) (λ p. not (X p)) cs (not-f _ t) (not-t _ s) in
+    record { clause = x .clause; listed = x .listed; state = x .state; below = x .below; member = x .member; yes-in = not-f _ (x .not-in); not-in = not-t _ (x .yes-in) }
+meets-split false n X Y cs s t = split n X Y cs s t
+
+-- sets that grow at the members of the entry's clauses
+pub meets-mono : (k : Bool) (n : ℕ) (X Y : Set) (cs : List ℕ) → ((c q : ℕ) → List·Memᴰ c cs → q < n → bit c q ≡ true → X q ≡ true → Y q ≡ true)
+    → meets k n X cs ≡ true → meets k n Y cs ≡ true
+meets-mono k n X Y cs h e =
+    bif (meets k n Y cs) (λ t. t) (λ t. let r = meets-split k n X Y cs e t in clash (h (r .clause) (r .state) (r .listed) (r .below) (r .member) (r .yes-in)) (r .not-in))
+
+-- sets that agree there, and sets that agree
 pub satisfies-ext-in : (n : ℕ) (X Y : Set) (cs : List ℕ) → ((c q : ℕ) → List·Memᴰ c cs → q < n → bit c q ≡ true → X q ≡ Y q) → satisfies n X cs ≡ satisfies n Y cs
 satisfies-ext-in n X Y cs h =
-    bif (satisfies n X cs)
-    (λ t. t ∙ sym (satisfies-mono-in n X Y cs (λ c q m l b x. sym (h c q m l b) ∙ x) t))
-    (λ t. bif (satisfies n Y cs) (λ v. clash (satisfies-mono-in n Y X cs (λ c q m l b x. h c q m l b ∙ x) v) t) (λ v. t ∙ sym v))
+    iff _ _ (meets-mono false n X Y cs (λ c q m l b x. sym (h c q m l b) ∙ x)) (meets-mono false n Y X cs (λ c q m l b x. h c q m l b ∙ x))
+
+pub satisfies-ext : (n : ℕ) (X Y : Set) → ((q : ℕ) → q < n → X q ≡ Y q) → (cs : List ℕ) → satisfies n X cs ≡ satisfies n Y cs
+satisfies-ext n X Y h cs = satisfies-ext-in n X Y cs (λ c q m l b. h q l)
+
+pub meets-open : (k : Bool) (n : ℕ) (S : Set) (cs : List ℕ) → meets k n (openIn k S) cs ≡ exclusive k (satisfies n S cs)
+meets-open k n S cs = ap (exclusive k) (satisfies-ext n _ S (λ p l. xor-twice k (S p)) cs)

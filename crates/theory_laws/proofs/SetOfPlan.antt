@@ -19,7 +19,7 @@ use Rattle.theory.specs.Plan.{Reach, here, on, Accepts}
 use Rattle.theory.specs.Rule.{satisfies}
 use Rattle.theory_laws.proofs.Certified.{discharged}
 use Rattle.theory_laws.proofs.Classes.{insert-t}
-use Rattle.theory_laws.proofs.Pursuit.{open-acc, mix-in, mix-out, settled-acc, discharged-open, discharged-settled}
+use Rattle.theory_laws.proofs.Pursuit.{open-kind, mix-in, mix-out, settled-kind, discharged-open, discharged-settled}
 
 -- a listed clause named a member outside a set that does not satisfy the entry
 out : (n : ℕ) (Y : Set) (c : ℕ) (cs : List ℕ) → List·Memᴰ c cs → satisfies n Y cs ≡ false → inside n Y c ≡ false
@@ -68,7 +68,7 @@ module _ (A : Automaton) (H : Layered A) (L : ℕ) (nx w : ℕ → ℕ) (stays :
       let v : discharged A nx w S (nx p) d r ≡ true = sym (mix-in A q _ _ r t) ∙ m in
       let a′ = H .pure r q l (o .below) c ∙ a in
       let e = H .level r q l (o .below) c in
-      ihd r (nx p) (omega arith) (go-on q p r o l b (not-t _ (sym (open-acc A (S (nx p)) r a′) ∙ discharged-open A nx w S (nx p) d r v))) a′ v)
+      ihd r (nx p) (omega arith) (go-on q p r o l b (not-t _ (sym (open-kind A true (S (nx p)) r a′) ∙ discharged-open A nx w S (nx p) d r v))) a′ v)
       (λ t. ⊎-elim (λ c. eqb-false _ _ t c) (λ lt. ih r (nx p) (omega arith) (go-on q p r o l b (not-t _ (sym (mix-out A q _ _ r t) ∙ m)))) (lower q p r o l b))
 
   acc-hunt : (h : ℕ) → ((q p : ℕ) → H .height q < h → Out q p → ⊥) → (d q p : ℕ) → H .height q < suc h → Out q p → A .accepting q ≡ true → discharged A nx w S p d q ≡ true → ⊥
@@ -76,7 +76,7 @@ module _ (A : Automaton) (H : Layered A) (L : ℕ) (nx w : ℕ → ℕ) (stays :
   acc-hunt h ih zero q p k o a t = false≢true t
   acc-hunt h ih (suc d) q p k o a t =
       let f = miss (A .n) (λ r. not (mix A q (λ s. not (S (nx p) s)) (discharged A nx w S (nx p) d) r)) (A .entry q (w p)) (P .pick q p) (P .valid q p (o .come))
-      (not-t _ (sym (settled-acc A _ _ q _ a) ∙ discharged-settled A nx w S p d q t)) in
+      (not-t _ (sym (settled-kind A true _ _ q _ a) ∙ discharged-settled A nx w S p d q t)) in
       acc-step h d q p (f .0) (acc-hunt h ih d) ih k o a (f .1) (f .2) (not-f _ (f .3))
 
   rej-step : (q p : ℕ) → Out q p → (r : ℕ) × (r < A .n) × (bit (P .pick q p) r ≡ true) × (S (nx p) r ≡ false)
@@ -136,7 +136,7 @@ module _ (A : Automaton) (H : Layered A) (L : ℕ) (nx w : ℕ → ℕ) (stays :
   hunt zero q p l o = omega arith
   hunt (suc h) q p l o =
       bif (A .accepting q)
-      (λ a. acc-hunt h (hunt h) N q p l o a (near p q (o .below) (open-acc A (S p) q a ∙ ap not (o .false-in))))
+      (λ a. acc-hunt h (hunt h) N q p l o a (near p q (o .below) (open-kind A true (S p) q a ∙ ap not (o .false-in))))
       (λ a. rej-hunt h (hunt h) (L * A .n) (λ j. false) q p (omega arith) l o a (λ b y m t. absurd (false≢true t)))
 
   pub true-in : a0 < A .n → x0 < L → S x0 a0 ≡ true

@@ -1,16 +1,16 @@
 -- The computed masks hold exactly the states from which the rule accepts by some plan.
-use mathlib.Core.Path.{_≡_, sym, _∙_, ap}
+use mathlib.Core.Path.{_≡_, refl, sym, _∙_, ap}
 use mathlib.Core.Logic.{_↔_, ⊎-elim, by-cases}
-use mathlib.Core.Bool.{Bool, true, false, not, cond, Bool·not-not}
+use mathlib.Core.Bool.{Bool, true, false, not, cond}
 use mathlib.Core.List.{List, List·Memᴰ}
 use Prim.Native.Nat.{ℕ, zero, suc, _*_, _^_, _<_}
 use native.Mathlib.Omega.{arith}
 use native.Mathlib.Decide.{decLt, ℕ-discrete}
 use lib.Dec.{eqb}
 use lib.ListN.{length, getD, List·getD-eq-default}
-use borrow.Author.Tests.{eqb-true, eqb-false, eq-eqb, ne-eqb}
+use borrow.Author.Tests.{eq-eqb, ne-eqb}
 use Rattle.sets.specs.Tests.{Set}
-use Rattle.sets.specs.Masks.{bit, mask}
+use Rattle.sets.specs.Masks.{bit, mask, exclusive}
 use Rattle.sets.specs.Lists.{tabulate}
 use Rattle.sets.proofs.Bools.{bif}
 use Rattle.sets.proofs.Tests.{count-max}
@@ -22,7 +22,7 @@ use Rattle.theory.specs.Components.{reaches}
 use Rattle.theory.specs.Passing.{Passing}
 use Rattle.theory.specs.Automaton.{Automaton, automaton}
 use Rattle.theory.specs.Layered.{Layered}
-use Rattle.theory.specs.Core.{isOpen, settled}
+use Rattle.theory.specs.Core.{isOpen}
 use Rattle.theory.specs.Word.{places, nextPlace, letterAt, WordOver}
 use Rattle.theory.specs.Plan.{AcceptsFrom}
 use Rattle.theory.specs.Truth.{heightOf, layer, roundsAt, solvedBelow, truthMasks}
@@ -32,8 +32,9 @@ use Rattle.theory_laws.proofs.FixedPoint.{Sp, exact, near-open}
 use Rattle.theory_laws.proofs.Layers.{layered}
 use Rattle.theory_laws.proofs.Places.{next-place-low}
 use Rattle.theory_laws.proofs.PlanOfSet.{accepted}
-use Rattle.theory_laws.proofs.Pursuit.{open-acc, open-rej, mix-in, mix-out, settled-acc, settled-rej}
-use Rattle.theory_laws.proofs.Satisfies.{satisfies-ext, satisfies-ext-in}
+use Rattle.theory_laws.proofs.Pursuit.{open-kind, open-of}
+use Rattle.theory_laws.proofs.Satisfies.{satisfies-ext}
+use Rattle.theory_laws.proofs.Settled.{settled-in-ext, settled-all}
 use Rattle.theory_laws.proofs.SetOfPlan.{true-in}
 
 -- the layers by height
@@ -57,24 +58,6 @@ height-is r q l = sym (height-in r q l)
 
 tabulated : (k : ℕ) (f : ℕ → ℕ) (i : ℕ) → i < k → getD (tabulate k f 0) i 0 ≡ f i
 tabulated k f i l = tabulate-at k f 0 i l ∙ ap f (omega arith)
-
--- what is settled by sets that agree with S, at the members of the entry's clauses: D with the open states of q's component, X with S elsewhere
-module _ (R : Automaton) (H : Layered R) (X D S : Set) (q : ℕ) (l : q < R .n) (e : List ℕ)
-    (inner : (c x : ℕ) → List·Memᴰ c e → x < R .n → bit c x ≡ true → R .component x ≡ R .component q → D x ≡ isOpen R S x)
-    (outer : (c x : ℕ) → List·Memᴰ c e → x < R .n → bit c x ≡ true → (R .component x ≡ R .component q → ⊥) → X x ≡ S x) where
-  pub settled-by-acc : R .accepting q ≡ true → settled R X D q e ≡ not (satisfies (R .n) S e)
-  settled-by-acc a =
-      settled-acc R X D q e a ∙ ap not (satisfies-ext-in (R .n) _ _ e (λ c x m k b.
-      bif (eqb (R .component x) (R .component q))
-      (λ t. let s = eqb-true _ _ t in ap not (mix-in R q _ _ x t ∙ inner c x m k b s ∙ open-acc R S x (H .pure x q k l s ∙ a)) ∙ Bool·not-not (S x))
-      (λ t. ap not (mix-out R q _ _ x t) ∙ Bool·not-not (X x) ∙ outer c x m k b (eqb-false _ _ t))))
-
-  pub settled-by-rej : R .accepting q ≡ false → settled R X D q e ≡ satisfies (R .n) S e
-  settled-by-rej a =
-      settled-rej R X D q e a ∙ satisfies-ext-in (R .n) _ _ e (λ c x m k b.
-      bif (eqb (R .component x) (R .component q))
-      (λ t. let s = eqb-true _ _ t in mix-in R q _ _ x t ∙ inner c x m k b s ∙ open-rej R S x (H .pure x q k l s ∙ a))
-      (λ t. mix-out R q _ _ x t ∙ outer c x m k b (eqb-false _ _ t)))
 
 module _ (r : Rule) (P : Passing r) (lead cycle : List ℕ) (repeats : 0 < length cycle) where
   abbrev A : Automaton
@@ -118,8 +101,8 @@ module _ (r : Rule) (P : Passing r) (lead cycle : List ℕ) (repeats : 0 < lengt
   unfolding roundsAt automaton rounds heights
   rounds-open h ms below zero p q l k e =
       bif (bit (r .accepting) q)
-      (λ a. open-acc A _ q a ∙ ap not (layer-in h _ ms p q l k e ∙ a))
-      (λ a. open-rej A _ q a ∙ layer-in h _ ms p q l k e ∙ a)
+      (λ a. open-kind A true _ q a ∙ ap not (layer-in h _ ms p q l k e ∙ a))
+      (λ a. open-kind A false _ q a ∙ layer-in h _ ms p q l k e ∙ a)
   rounds-open h ms below (suc d) p q l k e =
       let t = roundsAt r lead cycle h ms d in
       let S = bit (getD t (next p) 0) in
@@ -130,9 +113,8 @@ module _ (r : Rule) (P : Passing r) (lead cycle : List ℕ) (repeats : 0 < lengt
       = λ c x m i b n. ⊎-elim (λ s. absurd (n s))
       (λ lt. sym (rounds-out h ms d (next p) x z i (λ s. omega arith) ∙ below (next p) x z i))
       (heights r P .down q (letter p) c x k i m b) in
-      bif (bit (r .accepting) q)
-      (λ a. open-acc A _ q a ∙ ap not (layer-in h _ t p q l k e) ∙ sym (settled-by-acc A (heights r P) _ _ S q k _ inner outer a))
-      (λ a. open-rej A _ q a ∙ layer-in h _ t p q l k e ∙ sym (settled-by-rej A (heights r P) _ _ S q k _ inner outer a))
+      open-kind A (A .accepting q) _ q refl ∙ ap (exclusive (A .accepting q)) (layer-in h _ t p q l k e)
+      ∙ sym (settled-in-ext A _ S _ (isOpen A S) q _ inner outer ∙ settled-all A (heights r P) S q k _)
 
   solved-is : (h p q : ℕ) → p < L → q < r .n → bit (getD (solvedBelow r lead cycle h) p 0) q ≡ sets h p q
   unfolding solvedBelow solved automaton
@@ -140,9 +122,7 @@ module _ (r : Rule) (P : Passing r) (lead cycle : List ℕ) (repeats : 0 < lengt
   solved-is (suc h) p q l k =
       by-cases (ℕ-discrete (height r q) h)
       (λ e. let o = rounds-open h (solvedBelow r lead cycle h) (solved-is h) (L * r .n) p q l k e in
-      bif (bit (r .accepting) q)
-      (λ a. rw (eq-eqb _ _ e, a) (sym (Bool·not-not _) ∙ ap not (sym (open-acc A _ q a) ∙ o)))
-      (λ a. rw (eq-eqb _ _ e, a) (sym (open-rej A _ q a) ∙ o)))
+      rw (eq-eqb _ _ e) (open-of A (A .accepting q) _ _ q refl o))
       (λ e. rw (ne-eqb _ _ e) (rounds-out h (solvedBelow r lead cycle h) (L * r .n) p q l k e ∙ solved-is h p q l k))
 
   -- the masks' bits

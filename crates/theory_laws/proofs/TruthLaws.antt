@@ -1,7 +1,7 @@
 -- What a program needs that computes the masks: one height after another, and one letter more in front.
 use mathlib.Core.Path.{_≡_, refl, sym, _∙_, ap}
 use mathlib.Core.Logic.{_⊎_, inl, inr, ⊎-elim, by-cases}
-use mathlib.Core.Bool.{Bool, true, _&&_, not, cond, false≢true, Bool·not-not}
+use mathlib.Core.Bool.{Bool, true, _&&_, cond, false≢true}
 use mathlib.Core.List.{List, _∷_, List·Memᴰ}
 use Prim.Native.Nat.{ℕ, zero, suc, _*_, _<_}
 use native.Mathlib.Omega.{arith}
@@ -11,8 +11,8 @@ use lib.ListN.{length, getD}
 use lib.Seq.{ext-getD}
 use borrow.Author.Tests.{lt-ltb, le-ltb}
 use Rattle.sets.specs.Tests.{Set}
-use Rattle.sets.specs.Masks.{bit, mask}
-use Rattle.sets.proofs.Bools.{bif, clash, not-t, iff}
+use Rattle.sets.specs.Masks.{bit, mask, exclusive}
+use Rattle.sets.proofs.Bools.{iff}
 use Rattle.sets.proofs.Bits.{bit-ext, mask-unique}
 use Rattle.theory.specs.Rule.{Rule, entry, satisfies}
 use Rattle.theory.specs.Passing.{Passing}
@@ -24,18 +24,15 @@ use Rattle.theory.specs.Truth.{heightOf, truthMasks}
 use Rattle.theory_laws.proofs.Certified.{discharged, Certified}
 use Rattle.theory_laws.proofs.FixedPoint.{exact, near-open}
 use Rattle.theory_laws.proofs.Places.{next-place-low, next-place-behind, next-place-first}
-use Rattle.theory_laws.proofs.Pursuit.{open-acc, open-rej, unique, discharged-settled}
-use Rattle.theory_laws.proofs.Ranks.{settled-ext, settled-mono}
-use Rattle.theory_laws.proofs.Satisfies.{satisfies-ext, satisfies-mono-in}
-use Rattle.theory_laws.proofs.Truth.{heights, height-is, settled-by-acc, settled-by-rej, truth, certain, truth-certain, truth-exact, truth-length, truth-lt}
+use Rattle.theory_laws.proofs.Pursuit.{open-kind, open-of, unique, discharged-settled}
+use Rattle.theory_laws.proofs.Settled.{settled-in-ext, settled-ext, settled-mono, settled-all}
+use Rattle.theory_laws.proofs.Satisfies.{openIn, meets-mono, meets-open, satisfies-ext}
+use Rattle.theory_laws.proofs.Truth.{heights, height-is, truth, certain, truth-certain, truth-exact, truth-length, truth-lt}
 use Rattle.theory_laws.proofs.Cores.{open-ext}
 
 module _ (R : Automaton) (S T : Set) (q : ℕ) where
   open-back : isOpen R S q ≡ isOpen R T q → S q ≡ T q
-  open-back e =
-      bif (R .accepting q)
-      (λ a. sym (Bool·not-not (S q)) ∙ ap not (sym (open-acc R S q a) ∙ e ∙ open-acc R T q a) ∙ Bool·not-not (T q))
-      (λ a. sym (open-rej R S q a) ∙ e ∙ open-rej R T q a)
+  open-back e = open-of R (R .accepting q) (isOpen R T q) S q refl e ∙ sym (open-of R (R .accepting q) (isOpen R T q) T q refl refl)
 
 -- ---- the states of one height, the lower ones known: M are the masks so far
 module _ (r : Rule) (P : Passing r) (lead cycle : List ℕ) (repeats : 0 < length cycle) (M : ℕ → Set) (h : ℕ)
@@ -75,24 +72,15 @@ module _ (r : Rule) (P : Passing r) (lead cycle : List ℕ) (repeats : 0 < lengt
   unfolding automaton
   sound-step p q l k e o =
       let z = next-place-low lead cycle repeats p l in
-      bif (bit (r .accepting) q)
-      (λ a. open-acc A (T p) q a ∙ ap not (bif (T p q)
-      (λ t. clash (satisfies-mono-in (r .n) (T (next p)) (M (next p)) (entry r q (letter p))
+      let f = A .accepting q in
+      let es = entry r q (letter p) in
+      open-kind A f (T p) q refl ∙ ap (exclusive f) (truth-exact r P lead cycle repeats p q l k) ∙ sym (meets-open f (r .n) (T (next p)) es)
+      ∙ meets-mono f (r .n) (openIn f (M (next p))) (openIn f (T (next p))) es
       (λ c x m i b v. ⊎-elim
-      (λ s. bif (M (next p) x) (λ u. u)
-      (λ u. let a′ = heights r P .pure x q i k (s .0) ∙ a in
-      clash v (not-t _ (sym (open-acc A (T (next p)) x a′) ∙ sound (next p) x z i (s .1) (open-acc A (M (next p)) x a′ ∙ ap not u)))))
-      (λ u. u ∙ v) (lower p q l k e c x m i b))
-      (sym (truth-exact r P lead cycle repeats p q l k) ∙ t))
-      (not-t _ (sym (open-acc A (now p) q a) ∙ o)))
-      (λ t. t)))
-      (λ a. open-rej A (T p) q a ∙ truth-exact r P lead cycle repeats p q l k
-      ∙ satisfies-mono-in (r .n) (M (next p)) (T (next p)) (entry r q (letter p))
-      (λ c x m i b v. ⊎-elim
-      (λ s. let a′ = heights r P .pure x q i k (s .0) ∙ a in
-      sym (open-rej A (T (next p)) x a′) ∙ sound (next p) x z i (s .1) (open-rej A (M (next p)) x a′ ∙ v))
-      (λ u. sym u ∙ v) (lower p q l k e c x m i b))
-      (sym (open-rej A (now p) q a) ∙ o))
+      (λ s. let a = heights r P .pure x q i k (s .0) in
+      sym (open-kind A f (T (next p)) x a) ∙ sound (next p) x z i (s .1) (open-kind A f (M (next p)) x a ∙ v))
+      (λ u. ap (exclusive f) (sym u) ∙ v) (lower p q l k e c x m i b))
+      (meets-open f (r .n) (M (next p)) es ∙ sym (open-kind A f (now p) q refl) ∙ o)
 
   -- once no entry opens a state that is not open, the masks so far are the truth
   module _ (done : (p q : ℕ) → p < L → q < r .n → heightOf r q ≡ h → isOpen A (now p) q ≡ true → isOpen A (M p) q ≡ true) where
@@ -110,9 +98,8 @@ module _ (r : Rule) (P : Passing r) (lead cycle : List ℕ) (repeats : 0 < lengt
         let outer : (c x : ℕ) → List·Memᴰ c (entry r q (letter p)) → x < r .n → bit c x ≡ true → (A .component x ≡ A .component q → ⊥) → C (next p) x ≡ S x
         = λ c x m i b n. ⊎-elim (λ s. absurd (n (s .0))) (λ u. sym (u ∙ truth-certain r P lead cycle repeats (next p) x z i)) (lower p q l k e c x m i b) in
         done p q l k e
-        (bif (bit (r .accepting) q)
-        (λ a. open-acc A (now p) q a ∙ sym (settled-by-acc A (heights r P) (C (next p)) (isOpen A S) S q k _ (λ c x m i b s. refl) outer a) ∙ v)
-        (λ a. open-rej A (now p) q a ∙ sym (settled-by-rej A (heights r P) (C (next p)) (isOpen A S) S q k _ (λ c x m i b s. refl) outer a) ∙ v))
+        (open-kind A (A .accepting q) (now p) q refl
+        ∙ sym (settled-in-ext A (C (next p)) S (isOpen A S) (isOpen A S) q _ (λ c x m i b s. refl) outer ∙ settled-all A (heights r P) S q k _) ∙ v)
 
     pub layer-truth : (p q : ℕ) → p < L → q < r .n → heightOf r q ≡ h → M p q ≡ T p q
     unfolding automaton

@@ -1,0 +1,63 @@
+-- `build_step_back::step_kind` meets its contract.
+use Prim.Native.Nat.{_-_, _≤_}
+use mathlib.Core.Path.{_≡_, _∙_}
+use native.Mathlib.Omega.{arith}
+use lib.ListN.{length, length-set}
+use borrow.Author.Needs.{needs}
+use borrow.Author.Tests.{not-true, not-false}
+use Rattle.build_step_back.specs.Step.{partOf, BackOf}
+use Rattle.build_step_back.proofs.Sum.{part-kind, start, next, skip}
+use Rattle.build_step_back.proofs.step_kind.Statement.{statement}
+use Rattle.build_step_back.proofs.step_kind.Tie as tie
+
+abbrev Inv-loop : tie.InvT-loop
+Inv-loop opens letter opened parts components accepting low levels₀ kind ranks₀ c₀ levels ranks c =
+    (c ≤ components) × BackOf (partOf parts accepting kind) opens letter opened parts c low levels₀ ranks levels × (length levels ≡ 8)
+
+abbrev μ-loop : tie.MeasureT-loop
+μ-loop opens letter opened parts components accepting low levels₀ kind ranks₀ c₀ levels ranks c = components - c
+
+loop-holds : tie.Need-loop-holds Inv-loop μ-loop
+loop-holds c =
+    let a = c .args in
+    (omega arith, start (partOf (a .parts .now) (a .accepting) (a .kind)) (a .opens .now) (a .letter) (a .opened) (a .parts .now) (a .low .now) (a .levels .now), c .pre .2)
+
+loop-again : tie.Need-loop-again Inv-loop μ-loop
+loop-again c =
+    let a = c .before .before .before .before .args in let l = c .before .before .before .loop in
+    let kind = part-kind (a .parts .now) (a .accepting) (a .kind) (l .c) in (
+      omega arith,
+      skip (partOf (a .parts .now) (a .accepting) (a .kind)) (a .opens .now) (a .letter) (a .opened) (a .parts .now) (a .low .now) (a .levels .now) (l .levels) (l .ranks) (l .c) (l .inv .1)
+          (kind ∙ not-true _ (c .if1 .taken)),
+      l .inv .2,
+    )
+
+step-component-requires : tie.Need-step-component-requires Inv-loop μ-loop
+step-component-requires c κs = c .before .before .before .before .pre .1 (c .before .before .before .loop .c) (omega arith)
+
+add-ranks : tie.Need-add-ranks Inv-loop μ-loop
+add-ranks c = omega (arith, c .before .before .before .before .before .loop .inv .1 .bound)
+
+element-write-levels : tie.Need-element-write-levels Inv-loop μ-loop
+element-write-levels c = omega (arith, c .before .before .before .before .before .loop .inv .2)
+
+loop-again-2 : tie.Need-loop-again-2 Inv-loop μ-loop
+loop-again-2 c =
+    let a = c .before .before .before .before .before .before .args in let l = c .before .before .before .before .before .loop in let s = c .before .step-component in
+    let kind = part-kind (a .parts .now) (a .accepting) (a .kind) (l .c) in (
+      omega arith,
+      rw (c .wide .ensures)
+          (next (partOf (a .parts .now) (a .accepting) (a .kind)) (a .opens .now) (a .letter) (a .opened) (a .parts .now) (a .low .now) (a .levels .now) (l .levels) (l .ranks) (l .c) (l .inv .1)
+          (s .result .ranks) (s .result .levels) (kind ∙ not-false _ (c .before .before .if1 .left)) (omega (arith, l .inv .2)) (search needs) (s .ensures)),
+      simp length-set (l .inv .2),
+    )
+
+returns : tie.Need-returns Inv-loop μ-loop
+returns c =
+    let l = c .before .loop in let e : l .c ≡ c .before .before .args .components = omega (arith, l .inv .0) in rw (← e) (l .inv .1)
+
+pub step-kind-spec : {M : Type 1} → statement M
+step-kind-spec =
+    tie.close (tie.spec
+    Inv-loop μ-loop loop-holds (λ c. search needs) (λ c. omega arith) (λ c. omega arith) loop-again step-component-requires (λ c κs. search needs) add-ranks
+    (λ c. search needs) element-write-levels (λ c. omega arith) (λ c. omega arith) loop-again-2 returns)
