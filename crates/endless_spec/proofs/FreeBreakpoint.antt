@@ -2,24 +2,20 @@
 -- Definition 2 of 000, and the rule of its Figure 1 from state q on.
 use mathlib.Core.Path.{_≡_, refl, ap}
 use mathlib.Core.Logic.{_⊎_, inl, inr}
-use mathlib.Core.Bool.{Bool, true, false, _&&_, _||_, not}
-use mathlib.Core.List.{List, [], _∷_, List·Memᴰ}
-use Prim.Native.Nat.{ℕ, zero, suc, _<_, _≤_}
+use mathlib.Core.Bool.{Bool, true, _&&_, _||_, not}
+use mathlib.Core.List.{[], _∷_}
+use Prim.Native.Nat.{ℕ, zero, suc, _<_}
 use native.Mathlib.Omega.{arith}
-use lib.Dec.{eqb, ltb}
-use lib.ListN.{getD, take, drop}
-use borrow.Author.Tests.{ltb-false}
 use Rattle.sets.specs.Lists.{anyOf, sum}
 use Rattle.sets.specs.Masks.{bit, mask, inside}
 use Rattle.sets.specs.Tests.{every}
-use Rattle.sets.proofs.Lists.{any-none}
 use Rattle.theory.specs.Automaton.{automaton}
 use Rattle.theory.specs.Components.{mixed}
 use Rattle.theory.specs.Passing.{Passing}
 use Rattle.theory.specs.Rule.{Rule, entry, satisfies}
 use Rattle.theory.specs.CodeRuns.{CodeRun}
 use Rattle.theory_laws.proofs.Codes.{code-unique}
-use Rattle.theory_laws.proofs.Components.{unmixed-iff}
+use Rattle.theory_laws.proofs.Components.{passing-by}
 use Rattle.theory_laws.proofs.Layers.{layered}
 
 -- ---- Definition 2 of 000, sets of states as masks
@@ -243,26 +239,9 @@ free-breakpoint-two-runs claim = let e : _≡_ {A = ℕ} 3 5 = ap (λ (m : Tuple
 
 -- ---- with k rank classes the same rule has one run
 
-most : (b : ℕ) (l : List ℕ) → anyOf l (λ x. ltb b x) ≡ false → (x : ℕ) → List·Memᴰ x l → x ≤ b
-most b l e x m = ltb-false b x (any-none l (λ x. ltb b x) x e m)
-
 passing-G : Passing G
 unfolding anyOf sum mixed
-passing-G = record {
-  formed = record {
-    some-state = omega arith;
-    few-states = omega arith;
-    some-letter = omega arith;
-    few-letters = omega arith;
-    initial-state = omega arith;
-    accepting-states = omega arith;
-    all-entries = refl;
-    few-clauses = most 8 (G .counts) refl;
-    all-clauses = refl;
-    clause-states = λ x m. let h = most 15 (G .clauses) refl x m in omega arith;
-  };
-  unmixed = unmixed-iff G .0 refl;
-}
+passing-G = passing-by G (omega arith) (omega arith) (omega arith) (omega arith) (omega arith) (omega arith) refl refl refl refl refl
 
 pub k-one-run : (w c d : ℕ → ℕ) → CodeRun (automaton G) w c → CodeRun (automaton G) w d → (i : ℕ) → c i ≡ d i
 k-one-run = code-unique (automaton G) (layered G passing-G)

@@ -1,3 +1,4 @@
+pub mod ListedTables
 pub mod Joined
 pub mod BuiltTables
 pub mod TrimmedTables

@@ -1,9 +1,8 @@
 -- 02: "An empty set means that no continuation which ends in a cycle is accepted, and a non-empty one means that some is."
-use mathlib.Core.Path.{_≡_, refl, sym, ap, _∙_}
+use mathlib.Core.Path.{_≡_, refl, ap, _∙_}
 use mathlib.Core.Logic.{_↔_, by-cases}
-use mathlib.Core.Bool.{true}
 use mathlib.Core.List.{List, [], _∷_, _++_, List·Memᴰ}
-use Prim.Native.Nat.{ℕ, zero, suc, _+_, _≤_, _<_}
+use Prim.Native.Nat.{ℕ, suc, _+_, _≤_, _<_}
 use native.Mathlib.Omega.{arith}
 use native.Mathlib.Decide.{decLt}
 use lib.ListN.{length, getD}
@@ -12,26 +11,25 @@ use Rattle.sets.proofs.Lists.{mem-at}
 use Rattle.sets.proofs.Tests.{count-hit, count-lt}
 use Rattle.theory.specs.Automaton.{automaton}
 use Rattle.theory.specs.Demand.{Demand3}
-use Rattle.theory.specs.Macrostate.{holdsInitial, Goes, Macrostate}
+use Rattle.theory.specs.Macrostate.{holdsInitial, Macrostate}
 use Rattle.theory.specs.Passing.{Passing}
 use Rattle.theory.specs.Plan.{AcceptsWord}
 use Rattle.theory.specs.Rule.{Rule}
 use Rattle.theory.specs.Run.{targetOf, Leads}
-use Rattle.theory.specs.Table.{Transition}
 use Rattle.theory.specs.TableComputed.{macrostates, transitions}
-use Rattle.theory.specs.Word.{WordOver, letters}
+use Rattle.theory.specs.Word.{letters}
 use Rattle.theory_laws.proofs.Demand.{demand3}
 use Rattle.theory_laws.proofs.Layers.{layered}
 use Rattle.theory_laws.proofs.Lists.{codes-once, moves-once}
 use Rattle.theory_laws.proofs.Places.{letter-first, letter-behind}
-use Rattle.theory_laws.proofs.Tables.{few-states, components-there, reachable-macrostate, lists-reachable, letters-fit, transition-leads}
+use Rattle.theory_laws.proofs.Tables.{few-states, components-there, reachable-macrostate, lists-reachable, goes-by, in-range}
 use Rattle.trim_spec.specs.Matters.{Matters, ListsMattering}
 use Rattle.trim_spec.specs.Trimmed.{trimmedCodes, trimmedTransitions}
 use Rattle.trim_laws.proofs.Empty.{matters-before, before-lead, before-cycle, accepted}
 use Rattle.trim_laws.proofs.Trimmed.{trimmed-lists, trimmed-demand3, trimmed-room}
 use Rattle.live_spec.specs.Reached.{Walks, here, step, ReachedOver, Accepted}
 use Rattle.live_spec.specs.Afresh.{isIn, afresh, membersOf}
-use Rattle.live_laws.proofs.Reached.{in-low, afresh-length, reached-iff}
+use Rattle.live_laws.proofs.Reached.{reached-iff}
 
 -- the beginning of a run is a walk over the letters that the word begins with
 pub run-walks : (ts l lead cycle : List ℕ) → 0 < length cycle → (x : ℕ → ℕ)
@@ -60,11 +58,8 @@ module _ (r : Rule) (P : Passing r) (room : length (macrostates r) ≤ 65536) wh
     few : length codes ≤ 65536
     few = rw codes-same (trimmed-room r P room)
 
-    taken-apart : (t : ℕ) (T : Transition (automaton r) (r .s) codes t) → Leads t (T .source) (T .letter) (T .target)
-    taken-apart = transition-leads (automaton r) (r .s) codes (layered r P) (letters-fit r P) few
-
     pub low-targets : (t : ℕ) → List·Memᴰ t ts → targetOf t < length codes
-    low-targets t m = let T = L .transitions-are t .0 m in rw (taken-apart t T .target) (T .target-listed)
+    low-targets t m = in-range r P L few t m .target
 
     macrostate-at : (x : ℕ) → x < length codes → Macrostate (automaton r) (code x)
     macrostate-at x l =
@@ -78,14 +73,8 @@ module _ (r : Rule) (P : Passing r) (room : length (macrostates r) ≤ 65536) wh
     walk-matters here K = (K, refl, refl)
     walk-matters (step {x = x} {z = z} t a m k w) K =
         let (J, e, f) = walk-matters w K in
-        let T = L .transitions-are t .0 m in
-        let h = taken-apart t T in
-        let source : T .source ≡ x = sym (h .source) ∙ k .source in
-        let letter : T .letter ≡ a = sym (h .letter) ∙ k .letter in
-        let target : T .target ≡ z = sym (h .target) ∙ k .target in
-        let G : Goes (automaton r) (code x) a (code z) = rw (source, letter, target) at (T .steps) in
-        let known : a < r .s = rw letter at (T .letter-known) in
-        let M = macrostate-at x (rw source at (T .source-listed)) in (
+        let (G, known) = goes-by r P L few t x a z m k in
+        let M = macrostate-at x (rw (k .source) at (in-range r P L few t m .source)) in (
           matters-before r (code x) a (code z) known M G J,
           before-lead r (code x) a (code z) known M G J ∙ ap (λ (v : List ℕ). a ∷ v) e,
           before-cycle r (code x) a (code z) known M G J ∙ f,

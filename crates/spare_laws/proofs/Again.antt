@@ -4,7 +4,6 @@ use mathlib.Core.Logic.{_↔_, _⊎_, inl, inr, ⊎-elim, by-cases}
 use mathlib.Core.Bool.{true}
 use Prim.Native.Nat.{ℕ, zero, suc, _+_, _-_, _≤_, _<_}
 use native.Mathlib.Omega.{arith}
-use native.Mathlib.Nat.{add-zero, zero-add}
 use native.Mathlib.Decide.{ℕ-discrete}
 use borrow.Author.Tests.{eqb-true, eq-eqb}
 use Rattle.sets.specs.Tests.{Set, count, one}
@@ -13,9 +12,8 @@ use Rattle.sets.proofs.Tests.{count-le, count-lt}
 use Rattle.theory.specs.Automaton.{Automaton}
 use Rattle.theory.specs.Layered.{Layered}
 use Rattle.theory.specs.Code.{componentIn, classesIn}
-use Rattle.theory.specs.Core.{nextComponent}
 use Rattle.theory.specs.Macrostate.{isAccepting, Goes}
-use Rattle.theory_laws.proofs.Cores.{next-below, next-last}
+use Rattle.theory_laws.proofs.Turns.{turn-of}
 use Rattle.spare_spec.specs.Spare.{Steps, SparesAgain}
 use Rattle.spare_spec.specs.SpareComputed.{spares}
 use Rattle.spare_laws.proofs.Steps.{classesAt, sizeOf, classes-size, unspared-some, no-class-spares, spares-iff}
@@ -145,45 +143,6 @@ module _ (A : Automaton) (H : Layered A) (w c : ℕ → ℕ) (R : Steps A w c) w
   -- ---- from accepting to sparing
 
   module _ (again : (i : ℕ) → (j : ℕ) × (i < j) × (k j ≡ 0)) where
-    -- from step i on, k is 0 with component C at work
-    record Stop (i C : ℕ) : Type 0 where
-      at : ℕ
-      later : i ≤ at
-      zero-k : k at ≡ 0
-      comp-K : K at ≡ C
-
-    stop-go : (t i j : ℕ) → j ≡ i + t → k j ≡ 0 → Stop i (K i)
-    stop-go zero i j x e = let y : j ≡ i = omega arith in record { at = i; later = omega arith; zero-k = ap k (sym y) ∙ e; comp-K = refl }
-    stop-go (suc t) i j x e =
-        by-cases (ℕ-discrete (k i) 0)
-        (λ z. record { at = i; later = omega arith; zero-k = z; comp-K = refl })
-        (λ z. let f = stop-go t (suc i) j (omega arith) e in
-        record { at = f .at; later = omega (arith, f .later); zero-k = f .zero-k; comp-K = f .comp-K ∙ R .steps i .stays z })
-
-    stop : (i : ℕ) → Stop i (K i)
-    stop i = let (j, l, e) = again i in stop-go (j - i) i j (omega arith) e
-
-    next-stop : (i C : ℕ) → Stop i C → Stop i (nextComponent A C)
-    next-stop i C s =
-        let f = stop (suc (s .at)) in
-        let e = f .comp-K ∙ R .steps (s .at) .next (s .zero-k) ∙ ap (nextComponent A) (s .comp-K) in
-        record { at = f .at; later = omega (arith, f .later, s .later); zero-k = f .zero-k; comp-K = e }
-
-    -- from a stop at C, a stop at C + t
-    up : (i C t : ℕ) → C + t < A .components → Stop i C → Stop i (C + t)
-    up i C zero h s = rw add-zero s
-    up i C (suc t) h s =
-        let x : C + suc t ≡ suc (C + t) = omega arith in
-        rw (x, ← next-below A (C + t) (omega arith)) (next-stop i (C + t) (up i C t (omega arith) s))
-
-    stop-at : (i C : ℕ) → C < A .components → Stop i C
-    stop-at i C h =
-        let b = R .macrostate i .component in
-        let x : suc (K i + (A .components - suc (K i))) ≡ A .components = omega arith in
-        let s = up i (K i) (A .components - suc (K i)) (omega arith) (stop i) in
-        let z : Stop i 0 = rw (next-last A (K i + (A .components - suc (K i))) x) at (next-stop i _ s) in
-        rw zero-add at (up i 0 C (omega arith) z)
-
     -- a step that spares C
     Spared : ℕ → ℕ → Type 0
     Spared i C = (j : ℕ) × (i ≤ j) × (spared C j ≡ true)
@@ -203,25 +162,17 @@ module _ (A : Automaton) (H : Layered A) (w c : ℕ → ℕ) (R : Steps A w c) w
         (y, omega arith, r))
 
     -- in its turn a component is spared
-    turn-spared : (i C C′ : ℕ) → nextComponent A C′ ≡ C → Stop i C′ → Spared i C
+    find-spared : (C : ℕ) → C < A .components → (i : ℕ) → Spared i C
     unfolding Spared
-    turn-spared i C C′ n s =
-        let p = s .at in
-        let l = s .later in
-        let e : K (suc p) ≡ C = R .steps p .next (s .zero-k) ∙ ap (nextComponent A) (s .comp-K) ∙ n in
-        let f : k (suc p) ≡ classes (suc p) (K (suc p)) = R .steps p .all (s .zero-k) in
+    find-spared C h i =
+        let (p, l, z, e) = turn-of A K k (λ j. R .macrostate j .component) (λ j. R .steps j .stays) (λ j. R .steps j .next) again i C h in
+        let f : k (suc p) ≡ classes (suc p) C = R .steps p .all z ∙ ap (classes (suc p)) e in
         by-cases (ℕ-discrete (k (suc p)) 0)
-        (λ z. (p, l, no-class-spares A H (w p) (c p) (c (suc p)) (R .steps p .level) (R .steps p .earlier) C (rw e at (sym f ∙ z))))
+        (λ z. (p, l, no-class-spares A H (w p) (c p) (c (suc p)) (R .steps p .level) (R .steps p .earlier) C (sym f ∙ z)))
         (λ z.
         let (j, m, a) = again (suc p) in
-        let (y, b, t) = full-spared C (j - suc p) (suc p) j (omega arith) a e z (rw (← e) (omega arith)) in
+        let (y, b, t) = full-spared C (j - suc p) (suc p) j (omega arith) a e z (omega arith) in
         (y, omega arith, t))
-
-    find-spared : (C : ℕ) → C < A .components → (i : ℕ) → Spared i C
-    find-spared zero h i =
-        let x : suc (A .components - 1) ≡ A .components = omega arith in
-        turn-spared i 0 (A .components - 1) (next-last A (A .components - 1) x) (stop-at i (A .components - 1) (omega arith))
-    find-spared (suc C) h i = turn-spared i (suc C) C (next-below A C h) (stop-at i C (omega arith))
 
     to-sparing : SparesAgain A w c
     unfolding Spared

@@ -5,7 +5,7 @@ use mathlib.Core.Bool.{true, _&&_}
 use Prim.Native.Nat.{ℕ, zero, suc, _+_, _-_, _≤_, _<_}
 use native.Mathlib.Omega.{arith}
 use native.Mathlib.Decide.{ℕ-discrete}
-use native.Mathlib.Nat.{add-zero, zero-add}
+use native.Mathlib.Nat.{add-zero}
 use lib.Dec.{leb}
 use borrow.Author.Tests.{leb-true, le-leb, eq-eqb}
 use Rattle.sets.specs.Tests.{Set}
@@ -13,11 +13,12 @@ use Rattle.sets.proofs.Bools.{and-l, and-r, and-i}
 use Rattle.sets.proofs.Tests.{largest-ge}
 use Rattle.theory.specs.Automaton.{Automaton}
 use Rattle.theory.specs.Layered.{Layered}
-use Rattle.theory.specs.Core.{isOpen, settled, test, openOf, nextComponent}
+use Rattle.theory.specs.Core.{isOpen, settled, test, openOf}
 use Rattle.theory_laws.proofs.Certified.{discharged, Certified, Run}
-use Rattle.theory_laws.proofs.Cores.{next-below, next-last, next-low}
+use Rattle.theory_laws.proofs.Cores.{next-low}
 use Rattle.theory_laws.proofs.Ranks.{settled-open, levAt, lev-test, rank-pos}
 use Rattle.theory_laws.proofs.Settled.{settled-mono}
+use Rattle.theory_laws.proofs.Turns.{turn-of}
 
 module _ (A : Automaton) (H : Layered A) (B : ℕ) (w : ℕ → ℕ) (S : ℕ → Set) (r : ℕ → ℕ → ℕ) (K k : ℕ → ℕ) (run : Run A B w S r K k) where
   -- the open states of component C at i are discharged within d
@@ -68,51 +69,17 @@ module _ (A : Automaton) (H : Layered A) (B : ℕ) (w : ℕ → ℕ) (S : ℕ �
       (suc (f .0), left-suc i (f .0) nz (f .1)))
 
   -- after an accepting step all of the new component is discharged
-  turn : (i : ℕ) → k i ≡ 0 → (d : ℕ) × Clear (suc i) d (nextComponent A (K i))
+  turn : (i : ℕ) → k i ≡ 0 → (d : ℕ) × Clear (suc i) d (K (suc i))
   unfolding Clear Left openOf
   turn i z =
       let a = run .accepts (suc i) in
       let x : suc i + (a .0 - suc i) ≡ a .0 = omega (arith, a .1) in
       let f = left-go (a .0 - suc i) (suc i) (ap k x ∙ a .2) in (
         f .0,
-        λ q l c o. f .1 q l (c ∙ sym (run .turn-K i z)) o
-            (let m = largest-ge (A .n) (openOf A (S (suc i)) (K (suc i))) (r (suc i)) q l (and-i (eq-eqb _ _ (c ∙ sym (run .turn-K i z))) o) in
+        λ q l c o. f .1 q l c o
+            (let m = largest-ge (A .n) (openOf A (S (suc i)) (K (suc i))) (r (suc i)) q l (and-i (eq-eqb _ _ c) o) in
             let e = run .turn-k i z in omega arith),
       )
-
-  -- the next accepting step, with the same component at work
-  record Stop (i C : ℕ) : Type 0 where
-    at : ℕ
-    later : i ≤ at
-    zero-k : k at ≡ 0
-    comp-K : K at ≡ C
-
-  stop-go : (t i : ℕ) → k (i + t) ≡ 0 → Stop i (K i)
-  stop-go zero i e = record { at = i; later = omega arith; zero-k = rw add-zero at e; comp-K = refl }
-  stop-go (suc t) i e =
-      by-cases (ℕ-discrete (k i) 0)
-      (λ z. record { at = i; later = omega arith; zero-k = z; comp-K = refl })
-      (λ nz. let x : i + suc t ≡ suc i + t = omega arith in
-      let f = stop-go t (suc i) (rw x at e) in
-      record { at = f .at; later = omega (arith, f .later); zero-k = f .zero-k; comp-K = f .comp-K ∙ run .stay-K i nz })
-
-  stop : (i : ℕ) → Stop i (K i)
-  stop i =
-      let a = run .accepts i in
-      let x : i + (a .0 - i) ≡ a .0 = omega (arith, a .1) in
-      stop-go (a .0 - i) i (ap k x ∙ a .2)
-
-  next-stop : (i C : ℕ) → Stop i C → Stop i (nextComponent A C)
-  next-stop i C s =
-      let f = stop (suc (s .at)) in
-      record { at = f .at; later = omega (arith, f .later, s .later); zero-k = f .zero-k; comp-K = f .comp-K ∙ run .turn-K (s .at) (s .zero-k) ∙ ap (nextComponent A) (s .comp-K) }
-
-  -- from a stop at C, a stop at C + t
-  up : (i C t : ℕ) → C + t < A .components → Stop i C → Stop i (C + t)
-  up i C zero h s = rw add-zero s
-  up i C (suc t) h s =
-      let x : C + suc t ≡ suc (C + t) = omega arith in
-      rw (x, ← next-below A (C + t) (omega arith)) (next-stop i (C + t) (up i C t (omega arith) s))
 
   pub comp-below : (i : ℕ) → 0 < A .components → K i < A .components
   comp-below zero h = rw (run .start-K) h
@@ -121,26 +88,13 @@ module _ (A : Automaton) (H : Layered A) (B : ℕ) (w : ℕ → ℕ) (S : ℕ �
       (λ z. rw (run .turn-K i z) (next-low A (K i) (comp-below i h)))
       (λ nz. rw (run .stay-K i nz) (comp-below i h))
 
-  stop-at : (i C : ℕ) → C < A .components → Stop i C
-  stop-at i C h =
-      let b = comp-below i (omega arith) in
-      let x : suc (K i + (A .components - suc (K i))) ≡ A .components = omega arith in
-      let s = up i (K i) (A .components - suc (K i)) (omega arith) (stop i) in
-      let z : Stop i 0 = rw (next-last A (K i + (A .components - suc (K i))) x) at (next-stop i _ s) in
-      rw zero-add at (up i 0 C (omega arith) z)
-
   -- every component is discharged from every step
-  clear-from : (i C C′ : ℕ) → nextComponent A C′ ≡ C → Stop i C′ → (d : ℕ) × Clear i d C
-  clear-from i C C′ e s =
-      let t = turn (s .at) (s .zero-k) in
-      let x : suc (s .at) ≡ i + (suc (s .at) - i) = omega (arith, s .later) in
-      far-earlier (suc (s .at) - i) i (t .0) C (rw (x, s .comp-K, e) at (t .1))
-
   clear : (i C : ℕ) → C < A .components → (d : ℕ) × Clear i d C
-  clear i zero h =
-      let x : suc (A .components - 1) ≡ A .components = omega arith in
-      clear-from i 0 (A .components - 1) (next-last A (A .components - 1) x) (stop-at i (A .components - 1) (omega arith))
-  clear i (suc C) h = clear-from i (suc C) C (next-below A C h) (stop-at i C (omega arith))
+  clear i C h =
+      let (j, l, z, e) = turn-of A K k (λ x. comp-below x (omega arith)) (run .stay-K) (run .turn-K) (run .accepts) i C h in
+      let t = turn j z in
+      let x : suc j ≡ i + (suc j - i) = omega arith in
+      far-earlier (suc j - i) i (t .0) C (rw (e, x) at (t .1))
 
   pub certified : Certified A suc w S
   unfolding Clear

@@ -3,17 +3,21 @@ use mathlib.Core.Path.{_≡_, refl, sym, _∙_, ap, ap₂}
 use mathlib.Core.Logic.{_⊎_, inl, inr, ⊎-elim, by-cases, _↔_}
 use mathlib.Core.Bool.{Bool, true, false, _&&_, _||_, cond}
 use mathlib.Core.List.{List, [], _∷_, List·Memᴰ, List·Memᴰ·cases-cons, List·Memᴰ·not-nil}
-use Prim.Native.Nat.{ℕ, zero, suc, _≤_, _<_}
+use Prim.Native.Nat.{ℕ, zero, suc, _*_, _^_, _≤_, _<_}
 use native.Mathlib.Omega.{arith}
 use native.Mathlib.Decide.{decLt}
-use lib.Dec.{eqb, ltb}
-use borrow.Author.Tests.{eqb-true, eq-eqb, lt-ltb, le-ltb, ltb-true}
+use lib.Dec.{eqb, leb, ltb}
+use lib.ListN.{length}
+use borrow.Author.Tests.{eqb-true, eq-eqb, lt-ltb, le-ltb, ltb-true, ltb-false, leb-false}
 use Rattle.sets.specs.Tests.{some, count}
 use Rattle.sets.specs.Masks.{bit}
+use Rattle.sets.specs.Lists.{anyOf, sum}
 use Rattle.sets.proofs.Bools.{bif, clash, and-l, and-r, and-i, or-l, or-r, or-cases, iff}
 use Rattle.sets.proofs.Tests.{some-at, some-get, some-no, some-none, some-ext, count-ext, count-lt, count-more, first-at, first-le}
 use Rattle.sets.proofs.Growth.{still}
 use Rattle.sets.proofs.Masks.{bit-mask}
+use Rattle.sets.proofs.Lists.{any-none}
+use Rattle.theory.specs.Passing.{Passing}
 use Rattle.theory.specs.Rule.{Rule, entry}
 use Rattle.theory.specs.Components.{named, leads, LeadsTo, here, step, Together, within, reaches, together, smallest, isSmallest, component, components, mixed}
 
@@ -214,3 +218,22 @@ module _ (R : Rule) where
         (λ t. bif (bit (R .accepting) q) (λ a. rw (t, a, sym (h q p l m (together-iff q p l m .0 t)) ∙ a)) (λ a. rw (t, a)))
         (λ t. rw t))),
   )
+
+  -- a rule whose checks compute
+  pub passing-by : 1 ≤ R .n → R .n ≤ 8 → 1 ≤ R .s → R .s ≤ 16 → R .initial < R .n → R .accepting < 2 ^ R .n → length (R .counts) ≡ R .n * R .s
+      → anyOf (R .counts) (ltb 8) ≡ false → sum (R .counts) ≡ length (R .clauses) → anyOf (R .clauses) (leb (2 ^ R .n)) ≡ false → mixed R ≡ false → Passing R
+  passing-by n₁ n₈ s₁ s₁₆ i f entries few clauses states unmixed = record {
+    formed = record {
+      some-state = n₁;
+      few-states = n₈;
+      some-letter = s₁;
+      few-letters = s₁₆;
+      initial-state = i;
+      accepting-states = f;
+      all-entries = entries;
+      few-clauses = λ x m. ltb-false 8 x (any-none (R .counts) (ltb 8) x few m);
+      all-clauses = clauses;
+      clause-states = λ x m. leb-false (2 ^ R .n) x (any-none (R .clauses) (leb (2 ^ R .n)) x states m);
+    };
+    unmixed = unmixed-iff .0 unmixed;
+  }

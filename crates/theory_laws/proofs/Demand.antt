@@ -29,7 +29,7 @@ use Rattle.theory_laws.proofs.Codes.{code-unique}
 use Rattle.theory_laws.proofs.Layers.{layered, few-in-all}
 use Rattle.theory_laws.proofs.Packing.{code, code-run, code-set}
 use Rattle.theory_laws.proofs.Places.{next-place-low, places-low}
-use Rattle.theory_laws.proofs.Tables.{few-states, components-there, letters-fit, codes-of, codes-start, table-unique, number, table-of}
+use Rattle.theory_laws.proofs.Tables.{few-states, components-there, lists-from, codes-of, codes-start, table-unique, table-of}
 
 -- the letters of a word over s letters are below s
 pub letters-low : (s : ℕ) (lead cycle : List ℕ) → WordOver s lead cycle → (i : ℕ) → letters lead cycle i < s
@@ -79,29 +79,18 @@ module _ (r : Rule) (P : Passing r) where
     -- two accepting runs over the same letters are the same
     pub table-one-run : (w x y : ℕ → ℕ) → AcceptingRun (macrostatesFrom r start) (transitionsFrom r start) start w x → AcceptingRun (macrostatesFrom r start) (transitionsFrom r start) start w y
         → (i : ℕ) → x i ≡ y i
-    unfolding macrostatesFrom transitionsFrom
-    table-one-run w = table-unique (automaton r) (layered r P) (few-states r P) (components-there r P) (r .s) (letters-fit r P) start room w
+    table-one-run = table-unique r P (lists-from r P start room) room
 
     -- an accepting run has the codes of the one run of codes
     pub table-codes : (w x c : ℕ → ℕ) → AcceptingRun (macrostatesFrom r start) (transitionsFrom r start) start w x → CodeRun (automaton r) w c → (i : ℕ) → getD (macrostatesFrom r start) (x i) 0 ≡ c i
-    unfolding macrostatesFrom transitionsFrom
-    table-codes w x c R C = one-run w (λ i. getD (macrostatesFrom r start) (x i) 0) c
-        (codes-of (automaton r) (layered r P) (few-states r P) (components-there r P) (r .s) (letters-fit r P) start room w x R) C
-
-    table-start : (w x : ℕ → ℕ) → AcceptingRun (macrostatesFrom r start) (transitionsFrom r start) start w x → start (getD (macrostatesFrom r start) (x 0) 0) ≡ true
-    unfolding macrostatesFrom transitionsFrom
-    table-start w x R = codes-start (automaton r) (layered r P) (few-states r P) (components-there r P) (r .s) (letters-fit r P) start room w x R
+    table-codes w x c R C = one-run w (λ i. getD (macrostatesFrom r start) (x i) 0) c (codes-of r P (lists-from r P start room) room w x R) C
 
     -- there is one exactly if the start condition holds of the first code of that run
     pub table-run-iff : (w c : ℕ → ℕ) → CodeRun (automaton r) w c → ((i : ℕ) → w i < r .s) → ((x : ℕ → ℕ) × AcceptingRun (macrostatesFrom r start) (transitionsFrom r start) start w x) ↔
         (start (c 0) ≡ true)
-    unfolding macrostatesFrom transitionsFrom
     table-run-iff w c C known = (
-      λ x. ap start (sym (table-codes w (x .0) c (x .1) C 0)) ∙ table-start w (x .0) (x .1),
-      λ e. (
-        number (automaton r) (layered r P) (few-states r P) (components-there r P) (r .s) (letters-fit r P) start room w c C known e,
-        table-of (automaton r) (layered r P) (few-states r P) (components-there r P) (r .s) (letters-fit r P) start room w c C known e,
-      ),
+      λ x. ap start (sym (table-codes w (x .0) c (x .1) C 0)) ∙ codes-start r P (lists-from r P start room) room w (x .0) (x .1),
+      table-of r P (lists-from r P start room) room w c C known,
     )
 
   -- ---- demand 3

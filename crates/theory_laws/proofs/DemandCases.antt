@@ -26,49 +26,18 @@ use Rattle.theory.specs.Run.{AcceptingRun, Leads}
 use Rattle.theory.specs.TableComputed.{macrostates, transitions}
 use Rattle.theory.specs.Word.{nextPlace, letterAt, place, letters, WordOver}
 use Rattle.theory.proofs.AboutExamples.{macrostates-F, macrostates-D, transitions-D, rejecting-cycle}
-use Rattle.theory_laws.proofs.Components.{unmixed-iff}
+use Rattle.theory_laws.proofs.Components.{passing-by}
 use Rattle.theory_laws.proofs.Demand.{demand3}
 
 -- ---- the rules pass the checks
 
-most : (b : ℕ) (l : List ℕ) → anyOf l (λ x. ltb b x) ≡ false → (x : ℕ) → List·Memᴰ x l → x ≤ b
-most b l e x m = ltb-false b x (any-none l (λ x. ltb b x) x e m)
-
 pub passing-F : Passing F
 unfolding anyOf sum mixed
-passing-F = record {
-  formed = record {
-    some-state = omega arith;
-    few-states = omega arith;
-    some-letter = omega arith;
-    few-letters = omega arith;
-    initial-state = omega arith;
-    accepting-states = omega arith;
-    all-entries = refl;
-    few-clauses = most 8 (F .counts) refl;
-    all-clauses = refl;
-    clause-states = λ x m. let h = most 1 (F .clauses) refl x m in omega arith;
-  };
-  unmixed = unmixed-iff F .0 refl;
-}
+passing-F = passing-by F (omega arith) (omega arith) (omega arith) (omega arith) (omega arith) (omega arith) refl refl refl refl refl
 
 pub passing-D : Passing D
 unfolding anyOf sum mixed
-passing-D = record {
-  formed = record {
-    some-state = omega arith;
-    few-states = omega arith;
-    some-letter = omega arith;
-    few-letters = omega arith;
-    initial-state = omega arith;
-    accepting-states = omega arith;
-    all-entries = refl;
-    few-clauses = most 8 (D .counts) refl;
-    all-clauses = refl;
-    clause-states = λ x m. let h = most 3 (D .clauses) refl x m in omega arith;
-  };
-  unmixed = unmixed-iff D .0 refl;
-}
+passing-D = passing-by D (omega arith) (omega arith) (omega arith) (omega arith) (omega arith) (omega arith) refl refl refl refl refl
 
 -- ---- demand 3 of the two rules
 
@@ -77,6 +46,9 @@ demand-F = demand3 F passing-F (rw macrostates-F (omega arith))
 
 pub demand-D : Demand3 D (macrostates D) (transitions D)
 demand-D = demand3 D passing-D (rw macrostates-D (omega arith))
+
+most : (b : ℕ) (l : List ℕ) → anyOf l (λ x. ltb b x) ≡ false → (x : ℕ) → List·Memᴰ x l → x ≤ b
+most b l e x m = ltb-false b x (any-none l (λ x. ltb b x) x e m)
 
 letters-01 : (a : ℕ) → List·Memᴰ a (0 ∷ 1 ∷ []) → a < 2
 unfolding anyOf

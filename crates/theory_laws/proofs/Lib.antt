@@ -8,6 +8,7 @@ pub mod Ranks
 pub mod Classes
 pub mod Cores
 pub mod Goes
+pub mod Turns
 pub mod Breakpoint
 pub mod Unambiguous
 pub mod Distance

@@ -22,13 +22,13 @@ use Rattle.theory.specs.Layered.{Layered}
 use Rattle.theory.specs.Code.{setIn, rankIn, componentIn, classesIn, wellCoded}
 use Rattle.theory.specs.Core.{openOf}
 use Rattle.theory.specs.CoreComputed.{isCore}
-use Rattle.theory.specs.Macrostate.{begun, holdsInitial, Macrostate, Goes, Reachable, begins, goesTo}
+use Rattle.theory.specs.Macrostate.{begun, holdsInitial, isAccepting, Macrostate, Goes, Reachable, begins, goesTo}
 use Rattle.theory.specs.MacrostateComputed.{goes}
 use Rattle.theory.specs.Passing.{Passing}
 use Rattle.theory.specs.Rule.{Rule}
 use Rattle.theory.specs.Run.{sourceOf, letterOf, targetOf, Leads, AcceptingRun}
 use Rattle.theory.specs.CodeRuns.{CodeRun}
-use Rattle.theory.specs.Table.{Transition, ListsFrom, ListsReachable}
+use Rattle.theory.specs.Table.{Transition, Listed, ListsFrom, ListsReachable}
 use Rattle.theory.specs.TableComputed.{candidates, cores, codesFrom, transitionsOf, macrostatesFrom, transitionsFrom, macrostates, transitions}
 use Rattle.theory_laws.proofs.Candidates.{candidate}
 use Rattle.theory_laws.proofs.Classes.{open-component, open-state}
@@ -220,89 +220,6 @@ module _ (A : Automaton) (s : ℕ) (codes : List ℕ) where
       target = ap targetOf (T .packed) ∙ target-is (T .source) (T .letter) (T .target) (omega (arith, T .letter-known)) (omega (arith, T .target-listed));
     }
 
--- ---- runs
-
-module _ (A : Automaton) (H : Layered A) (small : A .n ≤ 8) (filled : 0 < A .components) (s : ℕ) (low : s ≤ 256) (start : Set) (room : length (codesFrom A s start) ≤ 65536) (w : ℕ → ℕ) where
-  abbrev listed : ℕ → ℕ
-  listed x = getD (codesFrom A s start) x 0
-
-  -- an accepting run of the table is one of codes
-  module _ (x : ℕ → ℕ) (run : AcceptingRun (codesFrom A s start) (transitionsOf A s (codesFrom A s start)) start w x) where
-    step-of-table : (i t : ℕ) → Transition A s (codesFrom A s start) t → Leads t (x i) (w i) (x (suc i)) → Goes A (listed (x i)) (w i) (listed (x (suc i)))
-    step-of-table i t T L =
-        let M = transition-leads A s (codesFrom A s start) H low room t T in
-        let e = sym (M .source) ∙ L .source in
-        let f = sym (M .letter) ∙ L .letter in
-        let g = sym (M .target) ∙ L .target in
-        rw (e, f, g) at (T .steps)
-
-    pub codes-of : CodeRun A w (λ i. listed (x i))
-    codes-of = record {
-      macrostate = λ i. reachable-macrostate A H small filled s start (codes-iff A H small filled s start (listed (x i)) .0 (mem-at (codesFrom A s start) (x i) (run .run .within i)));
-      component = begun-component start (listed (x 0)) (run .run .begins);
-      classes = begun-classes start (listed (x 0)) (run .run .begins);
-      steps = λ i. let t = run .run .moves i in step-of-table i (t .0) (steps-iff A s (codesFrom A s start) H low room (t .0) .0 (t .1)) (t .2);
-      again = run .again;
-    }
-
-    pub codes-start : start (listed (x 0)) ≡ true
-    codes-start = begun-start start (listed (x 0)) (run .run .begins)
-
-  pub table-unique : (x y : ℕ → ℕ) → AcceptingRun (codesFrom A s start) (transitionsOf A s (codesFrom A s start)) start w x →
-      AcceptingRun (codesFrom A s start) (transitionsOf A s (codesFrom A s start)) start w y
-      → (i : ℕ) → x i ≡ y i
-  table-unique x y t u i =
-      asc-inj (codesFrom A s start) (codes-ascending A H small filled s start) (x i) (y i) (t .run .within i) (u .run .within i)
-      (code-unique A H w (λ j. listed (x j)) (λ j. listed (y j)) (codes-of x t) (codes-of y u) i)
-
-  -- a run of codes over the letters, whose first code meets the start condition, is one of the table
-  module _ (c : ℕ → ℕ) (run : CodeRun A w c) (known : (i : ℕ) → w i < s) (first : start (c 0) ≡ true) where
-    reach : (i : ℕ) → Reachable A s start (c i)
-    reach zero = begins (run .macrostate 0) (is-begun start (c 0) first (run .component) (run .classes))
-    reach (suc i) = goesTo (w i) (reach i) (known i) (run .macrostate (suc i)) (run .steps i)
-
-    spot : (i : ℕ) → (x : ℕ) × (x < length (codesFrom A s start)) × (listed x ≡ c i)
-    spot i = place-of (codesFrom A s start) (c i) (codes-iff A H small filled s start (c i) .1 (reach i))
-
-    -- the numbers of the codes
-    pub number : ℕ → ℕ
-    number i = (spot i) .0
-
-    pub number-low : (i : ℕ) → number i < length (codesFrom A s start)
-    unfolding number
-    number-low i = (spot i) .1
-
-    pub number-is : (i : ℕ) → listed (number i) ≡ c i
-    unfolding number
-    number-is i = (spot i) .2
-
-    transition : (i : ℕ) → Transition A s (codesFrom A s start) (number i * 16777216 + w i * 65536 + number (suc i))
-    transition i = record {
-      source = number i;
-      letter = w i;
-      target = number (suc i);
-      source-listed = number-low i;
-      letter-known = known i;
-      target-listed = number-low (suc i);
-      packed = refl;
-      steps = rw (number-is i, number-is (suc i)) (run .steps i);
-    }
-
-    pub table-of : AcceptingRun (codesFrom A s start) (transitionsOf A s (codesFrom A s start)) start w number
-    unfolding transition
-    table-of = record {
-      run = record {
-        within = number-low;
-        begins = rw (number-is 0) (is-begun start (c 0) first (run .component) (run .classes));
-        moves = λ i. (
-          number i * 16777216 + w i * 65536 + number (suc i),
-          steps-iff A s (codesFrom A s start) H low room _ .1 (transition i),
-          transition-leads A s (codesFrom A s start) H low room _ (transition i),
-        );
-      };
-      again = λ i. let a = run .again i in (a .0, a .1, rw (number-is (a .0)) (a .2));
-    }
-
 -- ---- of a rule that passes the checks
 
 module _ (r : Rule) (P : Passing r) where
@@ -343,3 +260,107 @@ module _ (r : Rule) (P : Passing r) where
   -- from 01's start condition
   pub lists-reachable : length (macrostates r) ≤ 65536 → ListsReachable r (macrostates r) (transitions r)
   lists-reachable = lists-from (holdsInitial r)
+
+-- ---- the numbers of a table: its transitions are steps of macrostates
+
+pub record InRange (n s t : ℕ) : Type 0 where
+  pub source : sourceOf t < n
+  pub letter : letterOf t < s
+  pub target : targetOf t < n
+
+module _ (r : Rule) (P : Passing r) {kind : ℕ → Type 0} {codes ts : List ℕ} (L : Listed r kind codes ts) (room : length codes ≤ 65536) where
+  -- a listed transition taken apart
+  pub taken-apart : (t : ℕ) (T : Transition (automaton r) (r .s) codes t) → Leads t (T .source) (T .letter) (T .target)
+  taken-apart = transition-leads (automaton r) (r .s) codes (layered r P) (letters-fit r P) room
+
+  -- it is a step over a letter of the rule
+  pub goes-by : (t x a y : ℕ) → List·Memᴰ t ts → Leads t x a y → Goes (automaton r) (getD codes x 0) a (getD codes y 0) × (a < r .s)
+  goes-by t x a y m l =
+      let T = L .transitions-are t .0 m in
+      let k = taken-apart t T in
+      let e : T .source ≡ x = sym (k .source) ∙ l .source in
+      let f : T .letter ≡ a = sym (k .letter) ∙ l .letter in
+      let g : T .target ≡ y = sym (k .target) ∙ l .target in
+      (rw (e, f, g) at (T .steps), rw f at (T .letter-known))
+
+  pub in-range : (t : ℕ) → List·Memᴰ t ts → InRange (length codes) (r .s) t
+  in-range t m =
+      let T = L .transitions-are t .0 m in
+      let k = taken-apart t T in
+      record { source = rw (k .source) (T .source-listed); letter = rw (k .letter) (T .letter-known); target = rw (k .target) (T .target-listed) }
+
+-- the numbers of codes, and the transitions between them
+pub record NumberedRun (codes ts : List ℕ) (w c : ℕ → ℕ) : Type 0 where
+  pub number : ℕ → ℕ
+  pub low : (i : ℕ) → number i < length codes
+  pub same : (i : ℕ) → getD codes (number i) 0 ≡ c i
+  pub moves : (i : ℕ) → (t : ℕ) × List·Memᴰ t ts × Leads t (number i) (w i) (number (suc i))
+
+-- an accepting run of codes is one of the table
+module _ {codes ts : List ℕ} {w c : ℕ → ℕ} (N : NumberedRun codes ts w c) (again : (i : ℕ) → (j : ℕ) × (i < j) × (isAccepting (c j) ≡ true)) where
+  pub numbered-again : (i : ℕ) → (j : ℕ) × (i < j) × (isAccepting (getD codes (N .number j) 0) ≡ true)
+  numbered-again i = let (j, l, e) = again i in (j, l, ap isAccepting (N .same j) ∙ e)
+
+  pub numbered-run : (start : Set) → begun start (c 0) ≡ true → AcceptingRun codes ts start w (N .number)
+  numbered-run start e = record { run = record { within = N .low; begins = ap (begun start) (N .same 0) ∙ e; moves = N .moves }; again = numbered-again }
+
+module _ (r : Rule) (P : Passing r) {start : Set} {codes ts : List ℕ} (L : ListsFrom r start codes ts) (room : length codes ≤ 65536) where
+  pub macrostate-at : (m : ℕ) → m < length codes → Macrostate (automaton r) (getD codes m 0)
+  macrostate-at m l = reachable-macrostate (automaton r) (layered r P) (few-states r P) (components-there r P) (r .s) start (L .codes-are (getD codes m 0) .0 (mem-at codes m l))
+
+  -- steps from a reachable macrostate on
+  module _ (w c : ℕ → ℕ) (first : Reachable (automaton r) (r .s) start (c 0)) (known : (i : ℕ) → w i < r .s)
+      (macrostate : (i : ℕ) → Macrostate (automaton r) (c i)) (steps : (i : ℕ) → Goes (automaton r) (c i) (w i) (c (suc i))) where
+    reach : (i : ℕ) → Reachable (automaton r) (r .s) start (c i)
+    reach zero = first
+    reach (suc i) = goesTo (w i) (reach i) (known i) (macrostate (suc i)) (steps i)
+
+    spot : (i : ℕ) → (x : ℕ) × (x < length codes) × (getD codes x 0 ≡ c i)
+    spot i = place-of codes (c i) (L .codes-are (c i) .1 (reach i))
+
+    transition-at : (i : ℕ) → Transition (automaton r) (r .s) codes (spot i .0 * 16777216 + w i * 65536 + spot (suc i) .0)
+    transition-at i = record {
+      source = spot i .0;
+      letter = w i;
+      target = spot (suc i) .0;
+      source-listed = spot i .1;
+      letter-known = known i;
+      target-listed = spot (suc i) .1;
+      packed = refl;
+      steps = rw (spot i .2, spot (suc i) .2) (steps i);
+    }
+
+    pub numbered : NumberedRun codes ts w c
+    unfolding transition-at
+    numbered = record {
+      number = λ i. spot i .0;
+      low = λ i. spot i .1;
+      same = λ i. spot i .2;
+      moves = λ i. (spot i .0 * 16777216 + w i * 65536 + spot (suc i) .0, L .transitions-are _ .1 (transition-at i), taken-apart r P L room _ (transition-at i));
+    }
+
+  -- an accepting run of the table is one of codes
+  module _ (w x : ℕ → ℕ) (run : AcceptingRun codes ts start w x) where
+    pub codes-of : CodeRun (automaton r) w (λ i. getD codes (x i) 0)
+    codes-of = record {
+      macrostate = λ i. macrostate-at (x i) (run .run .within i);
+      component = begun-component start (getD codes (x 0) 0) (run .run .begins);
+      classes = begun-classes start (getD codes (x 0) 0) (run .run .begins);
+      steps = λ i. let (t, m, l) = run .run .moves i in goes-by r P L room t (x i) (w i) (x (suc i)) m l .0;
+      again = run .again;
+    }
+
+    pub codes-start : start (getD codes (x 0) 0) ≡ true
+    codes-start = begun-start start (getD codes (x 0) 0) (run .run .begins)
+
+  pub table-unique : (w x y : ℕ → ℕ) → AcceptingRun codes ts start w x → AcceptingRun codes ts start w y → (i : ℕ) → x i ≡ y i
+  table-unique w x y t u i =
+      asc-inj codes (L .codes-ascend) (x i) (y i) (t .run .within i) (u .run .within i)
+      (code-unique (automaton r) (layered r P) w (λ j. getD codes (x j) 0) (λ j. getD codes (y j) 0) (codes-of w x t) (codes-of w y u) i)
+
+  -- and a run of codes over the letters, whose first code meets the start condition, is one of the table
+  pub table-of : (w c : ℕ → ℕ) → CodeRun (automaton r) w c → ((i : ℕ) → w i < r .s) → start (c 0) ≡ true → (x : ℕ → ℕ) × AcceptingRun codes ts start w x
+  table-of w c run known first =
+      let b = is-begun start (c 0) first (run .component) (run .classes) in
+      let N = numbered w c (begins (run .macrostate 0) b) known (run .macrostate) (run .steps) in
+      (N .number, numbered-run N (run .again) start b)

@@ -1,15 +1,15 @@
 -- "A rule that accepts no word gives an empty table", and no other rule does.
-use mathlib.Core.Path.{_≡_, refl, sym, ap, _∙_}
+use mathlib.Core.Path.{_≡_, refl, ap, _∙_}
 use mathlib.Core.Logic.{_↔_}
 use mathlib.Core.Bool.{true}
-use mathlib.Core.List.{List, [], _∷_, List·Memᴰ, List·Memᴰ·head, List·Memᴰ·tail, List·Memᴰ·cases-cons}
+use mathlib.Core.List.{List, [], _∷_, List·Memᴰ, List·Memᴰ·head, List·Memᴰ·cases-cons}
 use mathlib.Core.Logic.{⊎-elim}
 use Prim.Native.Nat.{ℕ, zero, suc, _≤_, _<_}
 use native.Mathlib.Omega.{arith}
-use lib.ListN.{length, getD}
+use lib.ListN.{length}
 use Rattle.theory.specs.Automaton.{automaton}
 use Rattle.theory.specs.Demand.{Demand3}
-use Rattle.theory.specs.Macrostate.{begun, isAccepting, holdsInitial, Macrostate, Goes, Reachable, begins, goesTo}
+use Rattle.theory.specs.Macrostate.{begun, holdsInitial, Macrostate, Goes, Reachable, begins, goesTo}
 use Rattle.theory.specs.Passing.{Passing}
 use Rattle.theory.specs.Plan.{AcceptsWord}
 use Rattle.theory.specs.Rule.{Rule}
@@ -18,9 +18,8 @@ use Rattle.theory.specs.Word.{WordOver, letters}
 use Rattle.theory_laws.proofs.Demand.{letters-low}
 use Rattle.theory_laws.proofs.Layers.{layered}
 use Rattle.theory_laws.proofs.Places.{letter-first, letter-behind}
-use Rattle.theory_laws.proofs.Tables.{few-states, components-there, reachable-macrostate}
+use Rattle.theory_laws.proofs.Tables.{few-states, components-there, reachable-macrostate, numbered, numbered-run}
 use Rattle.trim_spec.specs.Matters.{Matters, ListsMattering}
-use Rattle.trim_laws.proofs.Mattering.{number, number-low, number-is, number-moves, number-again}
 
 -- ---- a macrostate before one that matters does
 
@@ -77,18 +76,9 @@ module _ (r : Rule) (P : Passing r) where
         let w = letters (K .lead) (K .cycle) in
         let first : Reachable (automaton r) (r .s) (holdsInitial r) (K .run 0) = rw (K .begins) (begins M e) in
         let known = letters-low (r .s) (K .lead) (K .cycle) (K .word) in
-        let x = number r P codes ts L room w (K .run) first known (K .goes-on) in
-        D .exact (K .lead) (K .cycle) (K .word) .1 (
-          x,
-          record {
-            run = record {
-              within = number-low r P codes ts L room w (K .run) first known (K .goes-on);
-              begins = ap (begun (holdsInitial r)) (number-is r P codes ts L room w (K .run) first known (K .goes-on) 0 ∙ K .begins) ∙ e;
-              moves = number-moves r P codes ts L room w (K .run) first known (K .goes-on);
-            };
-            again = number-again r P codes ts L room w (K .run) first known (K .goes-on);
-          },
-        )
+        let G = K .goes-on in
+        let N = numbered r P L room w (K .run) first known (G .macrostate) (G .steps) in
+        D .exact (K .lead) (K .cycle) (K .word) .1 (N .number, numbered-run N (G .again) (holdsInitial r) (ap (begun (holdsInitial r)) (K .begins) ∙ e))
 
     -- a rule with a macrostate that matters accepts a word
     pub some-word : {c : ℕ} → Reachable (automaton r) (r .s) (holdsInitial r) c → Matters r c → (lead cycle : List ℕ) × WordOver (r .s) lead cycle × AcceptsWord r lead cycle

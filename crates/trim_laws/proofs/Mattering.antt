@@ -3,27 +3,26 @@ use mathlib.Core.Path.{_≡_, refl, sym, ap, _∙_}
 use mathlib.Core.Logic.{_↔_, ⊎-elim, by-cases}
 use mathlib.Core.Bool.{true}
 use mathlib.Core.List.{List, List·Memᴰ}
-use Prim.Native.Nat.{ℕ, zero, suc, _+_, _*_, _^_, _≤_, _<_}
+use Prim.Native.Nat.{ℕ, suc, _^_, _≤_, _<_}
 use native.Mathlib.Omega.{arith}
 use native.Mathlib.Decide.{decLt}
 use lib.ListN.{length, getD, List·getD-eq-default}
-use Rattle.sets.proofs.Lists.{place-of, mem-at}
+use Rattle.sets.proofs.Lists.{mem-at}
 use Rattle.sets.proofs.Ascending.{asc-inj}
 use Rattle.theory.specs.Automaton.{Automaton, automaton}
-use Rattle.theory.specs.Macrostate.{isAccepting, holdsInitial, Macrostate, Goes, Reachable, goesTo}
+use Rattle.theory.specs.Macrostate.{isAccepting, holdsInitial, Reachable}
 use Rattle.theory.specs.Passing.{Passing}
 use Rattle.theory.specs.Rule.{Rule}
 use Rattle.theory.specs.Run.{letterOf, Leads}
-use Rattle.theory.specs.Table.{Transition, ListsReachable}
+use Rattle.theory.specs.Table.{ListsReachable}
 use Rattle.theory.specs.Word.{letters}
 use Rattle.theory_laws.proofs.Demand.{letters-low}
-use Rattle.theory_laws.proofs.Layers.{layered}
-use Rattle.theory_laws.proofs.Tables.{few-states, components-there, letters-fit, reachable-macrostate, transition-leads}
+use Rattle.theory_laws.proofs.Tables.{goes-by, in-range, macrostate-at, numbered, numbered-again}
 use Rattle.graph_walks.specs.Walks.{Walk, Solved}
 use Rattle.graph_walks.proofs.Sums.{has-place}
 use Rattle.graph_walks.proofs.Endless.{endless}
 use Rattle.graph_walks.proofs.Closing.{closes}
-use Rattle.trim_spec.specs.Matters.{GoesOn, Matters}
+use Rattle.trim_spec.specs.Matters.{Matters}
 use Rattle.trim_spec.specs.Graph.{Step, Inside}
 use Rattle.trim_spec.specs.Trimmed.{flagOf, flags}
 use Rattle.trim_laws.proofs.Narrow.{narrow}
@@ -39,35 +38,16 @@ module _ (r : Rule) (P : Passing r) (codes ts : List ℕ) (L : ListsReachable r 
 
   -- ---- the table
 
-  pub taken-apart : (t : ℕ) (T : Transition A (r .s) codes t) → Leads t (T .source) (T .letter) (T .target)
-  taken-apart = transition-leads A (r .s) codes (layered r P) (letters-fit r P) room
-
-  -- a listed transition is a step of macrostates over a letter of the rule
-  pub goes-by : (t x a y : ℕ) → List·Memᴰ t ts → Leads t x a y → Goes A (code x) a (code y) × (a < r .s)
-  goes-by t x a y m l =
-      let T = L .transitions-are t .0 m in
-      let k = taken-apart t T in
-      let e : T .source ≡ x = sym (k .source) ∙ l .source in
-      let f : T .letter ≡ a = sym (k .letter) ∙ l .letter in
-      let g : T .target ≡ y = sym (k .target) ∙ l .target in
-      (rw (e, f, g) at (T .steps), rw f at (T .letter-known))
-
   pub table-inside : Inside (length codes) ts
-  table-inside = record {
-    sources = λ t m. let T = L .transitions-are t .0 m in rw (taken-apart t T .source) (T .source-listed);
-    targets = λ t m. let T = L .transitions-are t .0 m in rw (taken-apart t T .target) (T .target-listed);
-  }
+  table-inside = record { sources = λ t m. in-range r P L room t m .source; targets = λ t m. in-range r P L room t m .target }
 
   pub reachable-at : (m : ℕ) → m < length codes → Reachable A (r .s) (holdsInitial r) (code m)
   reachable-at m l = L .codes-are (code m) .0 (mem-at codes m l)
 
-  pub macrostate-at : (m : ℕ) → m < length codes → Macrostate A (code m)
-  macrostate-at m l = reachable-macrostate A (layered r P) (few-states r P) (components-there r P) (r .s) (holdsInitial r) (reachable-at m l)
-
   pub narrow-at : (m : ℕ) → getD codes m 0 < 2 ^ 48
   narrow-at m =
       by-cases (decLt m (length codes))
-      (λ l. narrow A (code m) (macrostate-at m l))
+      (λ l. narrow A (code m) (macrostate-at r P L room m l))
       (λ l. rw (List·getD-eq-default codes 0 {n = m} (omega arith)) (omega arith))
 
   -- ---- a walk that comes back to an accepting number is a run over a word
@@ -82,7 +62,7 @@ module _ (r : Rule) (P : Passing r) (codes ts : List ℕ) (L : ListsReachable r 
         record { source = w .source; letter = sym (letter-at letter i j later k); target = w .target ∙ at-next letter i j later z same k }
 
     known : (k : ℕ) → letter k < r .s
-    known k = let w = walk k in goes-by (w .transition) (z k) (letter k) (z (suc k)) (w .listed) (record { source = w .source; letter = refl; target = w .target }) .1
+    known k = let w = walk k in goes-by r P L room (w .transition) (z k) (letter k) (z (suc k)) (w .listed) (record { source = w .source; letter = refl; target = w .target }) .1
 
     folded : Matters r (code (z 0))
     folded = record {
@@ -92,51 +72,11 @@ module _ (r : Rule) (P : Passing r) (codes ts : List ℕ) (L : ListsReachable r 
       run = λ k. code (z (at letter i j later k));
       begins = ap (λ (k : ℕ). code (z k)) (at-first letter i j later);
       goes-on = record {
-        macrostate = λ k. macrostate-at (z (at letter i j later k)) (low (at letter i j later k));
-        steps = λ k. goes-by _ (z (at letter i j later k)) _ (z (at letter i j later (suc k))) (walk (at letter i j later k) .listed) (leads-at k) .0;
+        macrostate = λ k. macrostate-at r P L room (z (at letter i j later k)) (low (at letter i j later k));
+        steps = λ k. goes-by r P L room _ (z (at letter i j later k)) _ (z (at letter i j later (suc k))) (walk (at letter i j later k) .listed) (leads-at k) .0;
         again = λ k. let (n, l, e) = at-again letter i j later k in (n, l, ap (λ (v : ℕ). isAccepting (code (z v))) e ∙ accepts);
       };
     }
-
-  -- ---- a run of codes from a reachable macrostate on is one of the table
-
-  module _ (w c : ℕ → ℕ) (first : Reachable A (r .s) (holdsInitial r) (c 0)) (known : (i : ℕ) → w i < r .s) (G : GoesOn A w c) where
-    reach : (i : ℕ) → Reachable A (r .s) (holdsInitial r) (c i)
-    reach zero = first
-    reach (suc i) = goesTo (w i) (reach i) (known i) (G .macrostate (suc i)) (G .steps i)
-
-    spot : (i : ℕ) → (x : ℕ) × (x < length codes) × (code x ≡ c i)
-    spot i = place-of codes (c i) (L .codes-are (c i) .1 (reach i))
-
-    pub number : ℕ → ℕ
-    number i = spot i .0
-
-    pub number-low : (i : ℕ) → number i < length codes
-    unfolding number
-    number-low i = spot i .1
-
-    pub number-is : (i : ℕ) → code (number i) ≡ c i
-    unfolding number
-    number-is i = spot i .2
-
-    transition-at : (i : ℕ) → Transition A (r .s) codes (number i * 16777216 + w i * 65536 + number (suc i))
-    transition-at i = record {
-      source = number i;
-      letter = w i;
-      target = number (suc i);
-      source-listed = number-low i;
-      letter-known = known i;
-      target-listed = number-low (suc i);
-      packed = refl;
-      steps = rw (number-is i, number-is (suc i)) (G .steps i);
-    }
-
-    pub number-moves : (i : ℕ) → (t : ℕ) × List·Memᴰ t ts × Leads t (number i) (w i) (number (suc i))
-    unfolding transition-at
-    number-moves i = (number i * 16777216 + w i * 65536 + number (suc i), L .transitions-are _ .1 (transition-at i), taken-apart _ (transition-at i))
-
-    pub number-again : (i : ℕ) → (j : ℕ) × (i < j) × (isAccepting (code (number j)) ≡ true)
-    number-again i = let (j, l, e) = G .again i in (j, l, ap isAccepting (number-is j) ∙ e)
 
   -- ---- the numbers that are left
 
@@ -171,10 +111,10 @@ module _ (r : Rule) (P : Passing r) (codes ts : List ℕ) (L : ListsReachable r 
         let w = letters (M .lead) (M .cycle) in
         let first : Reachable A (r .s) (holdsInitial r) (M .run 0) = rw (M .begins) (reachable-at m l) in
         let known = letters-low (r .s) (M .lead) (M .cycle) (M .word) in
-        let x = number w (M .run) first known (M .goes-on) in
-        let low : (i : ℕ) → x i < length codes = number-low w (M .run) first known (M .goes-on) in
-        let e : x 0 ≡ m = asc-inj codes (L .codes-ascend) (x 0) m (low 0) l (number-is w (M .run) first known (M .goes-on) 0 ∙ M .begins) in
-        rw e at (run-live w x low (number-moves w (M .run) first known (M .goes-on)) (number-again w (M .run) first known (M .goes-on)) 0)
+        let G = M .goes-on in
+        let N = numbered r P L room w (M .run) first known (G .macrostate) (G .steps) in
+        let e : N .number 0 ≡ m = asc-inj codes (L .codes-ascend) (N .number 0) m (N .low 0) l (N .same 0 ∙ M .begins) in
+        rw e at (run-live w (N .number) (N .low) (N .moves) (numbered-again N (G .again)) 0)
 
     -- a number is left exactly if its macrostate matters
     pub matters-iff : (m : ℕ) → m < length codes → (0 < getD live m 0) ↔ Matters r (code m)

@@ -3,7 +3,7 @@ use mathlib.Core.Path.{_≡_, refl, sym, ap, _∙_}
 use mathlib.Core.Logic.{⊎-elim, by-cases}
 use mathlib.Core.Bool.{true, false}
 use mathlib.Core.List.{List, [], _∷_, List·Memᴰ, List·Memᴰ·head, List·Memᴰ·tail, List·Memᴰ·not-nil, List·Memᴰ·cases-cons}
-use Prim.Native.Nat.{ℕ, _+_, _*_, _/_, _%_, _≤_, _<_}
+use Prim.Native.Nat.{ℕ, _+_, _*_, _≤_, _<_}
 use native.Mathlib.Omega.{arith}
 use native.Mathlib.Decide.{decLt}
 use lib.ListN.{length, getD}
@@ -18,12 +18,12 @@ use Rattle.theory.specs.Run.{sourceOf, letterOf, targetOf, Leads}
 use Rattle.theory.specs.Table.{Transition, ListsReachable}
 use Rattle.theory.specs.TableComputed.{transitionsOf}
 use Rattle.theory_laws.proofs.Layers.{layered}
-use Rattle.theory_laws.proofs.Tables.{letters-fit, steps-ascending, steps-iff, source-is, letter-is, target-is}
+use Rattle.theory_laws.proofs.Tables.{letters-fit, steps-ascending, steps-iff, taken-apart}
 use Rattle.graph_walks.specs.Walks.{Solved}
 use Rattle.trim_spec.specs.Graph.{Step}
 use Rattle.trim_spec.specs.Trimmed.{flags, isLive, newNumber, picked, isLeft, renumber, renumbered}
 use Rattle.trim_laws.proofs.Numbers.{live-yes, live-is, picked-at, number-low, picked-from, number-less, number-max}
-use Rattle.trim_laws.proofs.Mattering.{taken-apart, live-long}
+use Rattle.trim_laws.proofs.Mattering.{live-long}
 use Rattle.trim_laws.proofs.Runs.{kept-room}
 
 -- ---- an example: of three numbers the middle one is out
@@ -148,7 +148,7 @@ module _ (r : Rule) (P : Passing r) (codes ts : List ℕ) (L : ListsReachable r 
   onto : (t : ℕ) → List·Memᴰ t ts → isLeft live t ≡ true → Transition A (r .s) kept (renumber live t)
   onto t m e =
       let T = L .transitions-are t .0 m in
-      let k = taken-apart r P codes ts L room t T in
+      let k = taken-apart r P L room t T in
       let ends = left-ends live t e in
       let a : 0 < getD live (T .source) 0 = rw (k .source) at (ends .0) in
       let b : 0 < getD live (T .target) 0 = rw (k .target) at (ends .1) in
@@ -181,7 +181,7 @@ module _ (r : Rule) (P : Passing r) (codes ts : List ℕ) (L : ListsReachable r 
         steps =
             rw (p, q) at (T .steps);
       } in
-      let k = taken-apart r P codes ts L room u U in
+      let k = taken-apart r P L room u U in
       let m = renumbered-in live ts u (L .transitions-are u .1 U) (ends-left live u (rw (k .source) a) (rw (k .target) b)) in
       let g : renumber live u ≡ v = renumber-leads u x (T .letter) y k ∙ rw (e, f) (sym (T .packed)) in
       rw g at m

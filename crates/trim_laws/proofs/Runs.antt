@@ -1,12 +1,10 @@
 -- The table of the macrostates that matter: its lists, and its accepting runs, which are those of the whole table by other numbers.
 use mathlib.Core.Path.{_≡_, refl, sym, ap, _∙_}
-use mathlib.Core.Logic.{_↔_}
-use mathlib.Core.Bool.{true}
 use mathlib.Core.List.{List, List·Memᴰ}
 use Prim.Native.Nat.{ℕ, suc, _+_, _*_, _≤_, _<_}
 use native.Mathlib.Omega.{arith}
 use lib.ListN.{length, getD}
-use Rattle.sets.proofs.Lists.{place-of, mem-at}
+use Rattle.sets.proofs.Lists.{place-of}
 use Rattle.sets.proofs.Ascending.{asc-inj}
 use Rattle.theory.specs.Automaton.{Automaton, automaton}
 use Rattle.theory.specs.Demand.{Demand3}
@@ -17,13 +15,13 @@ use Rattle.theory.specs.Run.{Leads, AcceptingRun}
 use Rattle.theory.specs.Table.{Transition, ListsReachable}
 use Rattle.theory.specs.TableComputed.{transitionsOf}
 use Rattle.theory_laws.proofs.Layers.{layered}
-use Rattle.theory_laws.proofs.Tables.{letters-fit, steps-ascending, steps-iff, transition-leads}
+use Rattle.theory_laws.proofs.Tables.{letters-fit, steps-ascending, steps-iff, transition-leads, goes-by}
 use Rattle.graph_walks.specs.Walks.{Solved}
 use Rattle.trim_spec.specs.Matters.{ListsMattering}
 use Rattle.trim_spec.specs.Graph.{Step}
 use Rattle.trim_spec.specs.Trimmed.{flags, picked, newNumber}
 use Rattle.trim_laws.proofs.Numbers.{picked-length, picked-at, number-low, picked-from, picked-out, picked-mem, picked-asc, number-max}
-use Rattle.trim_laws.proofs.Mattering.{goes-by, reachable-at, live-long, live-low, run-live, matters-iff}
+use Rattle.trim_laws.proofs.Mattering.{reachable-at, live-long, run-live, matters-iff}
 
 module _ (r : Rule) (P : Passing r) (codes ts : List ℕ) (L : ListsReachable r codes ts) (room : length codes ≤ 65536)
     (live : List ℕ) (S : Solved (Step ts) (flags codes) live) where
@@ -75,7 +73,7 @@ module _ (r : Rule) (P : Passing r) (codes ts : List ℕ) (L : ListsReachable r 
           run = record {
             within = low;
             begins = ap (begun (holdsInitial r)) (same 0) ∙ R .run .begins;
-            moves = λ i. let (t, m, l) = R .run .moves i in let g = goes-by r P codes ts L room t (x i) (w i) (x (suc i)) m l in
+            moves = λ i. let (t, m, l) = R .run .moves i in let g = goes-by r P L room t (x i) (w i) (x (suc i)) m l in
                 step-in (newNumber live (x i)) (w i) (newNumber live (x (suc i))) (low i) (low (suc i)) (g .1) (rw (same i, same (suc i)) (g .0));
           };
           again = λ i. let (j, l, e) = R .again i in (j, l, ap isAccepting (same j) ∙ e);
