@@ -4,3 +4,4 @@ pub mod Rounds
 pub mod Endless
 pub mod Unique
 pub mod Closing
+pub mod Loops

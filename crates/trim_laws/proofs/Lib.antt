@@ -7,7 +7,6 @@ pub mod Empty
 pub mod Trimmed
 pub mod Renumbering
 pub mod Tagged
-pub mod Loops
 pub mod Rewriting
 pub mod Ends
 pub mod Narrow

@@ -1,14 +1,14 @@
 -- The sweeps over the transitions of a table solve its graph: the marks that are left are those of `Solved`.
 use mathlib.Core.Path.{_≡_, refl, sym, ap, _∙_}
 use mathlib.Core.Logic.{_⊎_, inl, inr, ⊎-elim, by-cases}
-use mathlib.Core.Bool.{Bool, true, false, true≢false}
-use mathlib.Core.List.{List, [], _∷_, List·Memᴰ, List·Memᴰ·head, List·Memᴰ·tail, List·Memᴰ·not-nil, List·Memᴰ·cases-cons}
+use mathlib.Core.Bool.{Bool, true, false}
+use mathlib.Core.List.{List, [], _∷_, List·Memᴰ·head, List·Memᴰ·tail, List·Memᴰ·not-nil, List·Memᴰ·cases-cons}
 use Prim.Native.Nat.{ℕ, zero, suc, _+_, _*_, _≤_, _<_}
 use native.Mathlib.Omega.{arith}
 use native.Mathlib.Decide.{decLt}
 use lib.ListN.{length, getD, List·getD-eq-default}
 use Rattle.sets.specs.Lists.{anyOf, sum}
-use Rattle.sets.proofs.Bools.{bif, or-fl, or-fr}
+use Rattle.sets.proofs.Bools.{bif}
 use Rattle.sets.proofs.Lists.{any-out, any-none, place-of, mem-at}
 use Rattle.theory.specs.Run.{sourceOf, targetOf}
 use Rattle.theory.specs.Code.{classesIn}
@@ -17,6 +17,7 @@ use Rattle.graph_walks.specs.Walks.{Solved}
 use Rattle.graph_walks.specs.Marks.{isDue, marked, isNew, settled, goesOut}
 use Rattle.graph_walks.specs.Rounds.{Settling, Marking, Stable, SolveRound}
 use Rattle.graph_walks.proofs.Marking.{Round, round-none, round-one, round-then, marking-start, marking-one}
+use Rattle.graph_walks.proofs.Loops.{Pass}
 use Rattle.graph_walks.proofs.Rounds.{marking-sum, stable, solve-round, Kept, kept-start, kept-low, kept-then, solved}
 use Rattle.trim_spec.specs.Graph.{Step}
 use Rattle.trim_spec.specs.Trimmed.{flagOf, flags, swept, isNewIn, sweptOut, settledAll, solvedIn, liveMarks}
@@ -48,6 +49,16 @@ round-in [] ms = round-none (Step []) (λ x y s. List·Memᴰ·not-nil (s .liste
 round-in (t ∷ ts) ms =
     round-then (λ x y. (x ≡ sourceOf t) × (y ≡ targetOf t)) (Step ts) (Step (t ∷ ts)) (step-first t ts) ms _ _ _ _
     (round-one (sourceOf t) (targetOf t) ms) (round-in ts (marked (sourceOf t) (targetOf t) ms))
+
+pub pass-swept : Pass (λ t. marked (sourceOf t) (targetOf t)) (λ t. isNew (sourceOf t) (targetOf t)) swept isNewIn
+unfolding swept isNewIn
+pass-swept = record {
+  long = λ t ms. round-one (sourceOf t) (targetOf t) ms .long;
+  mark-none = λ ms. refl;
+  mark-next = λ t ts ms. refl;
+  new-none = λ ms. refl;
+  new-next = λ t ts ms. refl;
+}
 
 marking-by : (E : ℕ → ℕ → Type 0) (b ts : List ℕ) → ((x y : ℕ) → Step ts x y → E x y) → (ms : List ℕ) → Marking E b ms → Marking E b (swept ts ms)
 unfolding swept

@@ -1,16 +1,13 @@
 -- Codes and the numbers that they carry, one by one.
-use mathlib.Core.Path.{_≡_, refl, sym, ap, ap₂, _∙_}
+use mathlib.Core.Path.{_≡_, refl, sym, ap, _∙_}
 use mathlib.Core.Logic.{by-cases}
-use mathlib.Core.Bool.{true, false}
 use mathlib.Core.List.{List, [], _∷_}
 use Prim.Native.Nat.{ℕ, zero, suc, _+_, _*_, _-_, _/_, _%_, _^_, _≤_, _<_}
 use native.Mathlib.Omega.{arith}
 use native.Mathlib.Decide.{decLt}
-use lib.Dec.{ltb}
 use lib.ListN.{length, getD, set, length-set}
 use lib.Seq.{ext-getD}
 use borrow.Author.Tests.{lt-ltb, le-ltb}
-use Rattle.graph_walks.specs.Marks.{settled}
 use Rattle.graph_walks.proofs.Sums.{split-set}
 use Rattle.trim_spec.specs.Trimmed.{flagOf, flags, picked}
 use Rattle.trim_spec.specs.Tagged.{highs, lows, compacted}
@@ -21,6 +18,9 @@ pub highs-length : (xs : List ℕ) → length (highs xs) ≡ length xs
 unfolding highs
 highs-length [] = refl
 highs-length (x ∷ xs) = ap suc (highs-length xs)
+
+pub highs-long : (xs ys : List ℕ) → length (highs xs) ≡ length (highs ys) → length xs ≡ length ys
+highs-long xs ys e = sym (highs-length xs) ∙ e ∙ highs-length ys
 
 pub lows-length : (xs : List ℕ) → length (lows xs) ≡ length xs
 unfolding lows
@@ -65,7 +65,7 @@ raised xs i = let e = highs-at xs i in carried xs i (getD xs i 0 + 5629499534213
 
 pub parts-same : (xs ys : List ℕ) → highs xs ≡ highs ys → lows xs ≡ lows ys → xs ≡ ys
 parts-same xs ys e f =
-    ext-getD 0 xs ys (sym (highs-length xs) ∙ ap length e ∙ highs-length ys)
+    ext-getD 0 xs ys (highs-long xs ys (ap length e))
     (λ i l. let a : getD xs i 0 / 2 ^ 48 ≡ getD ys i 0 / 2 ^ 48 = sym (highs-at xs i) ∙ ap (λ (k : List ℕ). getD k i 0) e ∙ highs-at ys i in
     let b : getD xs i 0 % 2 ^ 48 ≡ getD ys i 0 % 2 ^ 48 = sym (lows-at xs i) ∙ ap (λ (k : List ℕ). getD k i 0) f ∙ lows-at ys i in
     omega arith)

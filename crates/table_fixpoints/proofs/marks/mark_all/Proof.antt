@@ -9,19 +9,20 @@ use Rattle.sets.proofs.Lists.{mem-at}
 use Rattle.table_lent.specs.Lent.{inBoth}
 use Rattle.table_fixpoints_spec.specs.Marks.{ordered}
 use Rattle.table_fixpoints_spec.proofs.Orders.{ordered-long, ordered-from}
-use Rattle.table_fixpoints_spec.proofs.Loops.{or-now, or-before, Passed, passed-start, passed-next, passed-end}
+use Rattle.graph_walks.proofs.Loops.{or-now, or-before, PassedTo, passed-none, passed-next, passed-all}
+use Rattle.table_fixpoints_spec.proofs.Loops.{pass-over}
 use Rattle.table_fixpoints.proofs.marks.mark_all.Statement.{statement}
 use Rattle.table_fixpoints.proofs.marks.mark_all.Tie as tie
 
 abbrev Inv-loop : tie.InvT-loop
 Inv-loop moves movebytes back letter marks₀ here there m changed₀ i₀ marks changed i =
-    (i ≤ m) × Passed letter here there (ordered back (inBoth moves movebytes .numbers)) marks₀ marks changed i
+    (i ≤ m) × PassedTo (pass-over letter here there) (ordered back (inBoth moves movebytes .numbers)) marks₀ marks changed i
 
 abbrev μ-loop : tie.MeasureT-loop
 μ-loop moves movebytes back letter marks₀ here there m changed₀ i₀ marks changed i = m - i
 
 loop-holds : tie.Need-loop-holds Inv-loop μ-loop
-loop-holds c = (omega arith, passed-start _ _ _ _ _)
+loop-holds c = (omega arith, passed-none (pass-over _ _ _) _ _)
 
 element-from-requires : tie.Need-element-from-requires Inv-loop μ-loop
 element-from-requires c κs = (c .before .before .count .ensures, omega arith)
@@ -48,7 +49,7 @@ loop-again c =
     let o = c .before .before .before .mark-over .ensures in
     let long = ordered-long (a .back) (inBoth (a .moves .now) (a .movebytes .now) .numbers) in (
       omega arith,
-      passed-next (a .letter) (a .here) (a .there) _ (a .marks .now) (l .marks) _ (l .changed) _ true (l .i) _ (omega arith) (l .inv .1)
+      passed-next (pass-over (a .letter) (a .here) (a .there)) _ (a .marks .now) (l .marks) _ (l .changed) _ true (l .i) _ (omega arith) (l .inv .1)
           (c .before .before .before .before .before .element-from .ensures) (o .0) (o .1) (or-now (l .changed) _ (c .if1 .taken)),
     )
 
@@ -61,7 +62,7 @@ loop-again-2 c =
     let o = c .before .before .before .mark-over .ensures in
     let long = ordered-long (a .back) (inBoth (a .moves .now) (a .movebytes .now) .numbers) in (
       omega arith,
-      passed-next (a .letter) (a .here) (a .there) _ (a .marks .now) (l .marks) _ (l .changed) _ (l .changed) (l .i) _ (omega arith) (l .inv .1)
+      passed-next (pass-over (a .letter) (a .here) (a .there)) _ (a .marks .now) (l .marks) _ (l .changed) _ (l .changed) (l .i) _ (omega arith) (l .inv .1)
           (c .before .before .before .before .before .element-from .ensures) (o .0) (o .1) (or-before (l .changed) _ (c .if1 .left)),
     )
 
@@ -71,7 +72,7 @@ returns c =
     let l = c .before .loop in
     let ts = inBoth (a .moves .now) (a .movebytes .now) .numbers in
     let long = ordered-long (a .back) ts in
-    passed-end (a .letter) (a .here) (a .there) (ordered (a .back) ts) (a .marks .now) (l .marks) (l .changed) (l .i) (omega arith) (l .inv .1)
+    passed-all (pass-over (a .letter) (a .here) (a .there)) (ordered (a .back) ts) (a .marks .now) (l .marks) (l .changed) (l .i) (omega arith) (l .inv .1)
 
 pub mark-all-spec : {M : Type 1} → statement M
 mark-all-spec =
