@@ -1,8 +1,7 @@
 -- The laws of marking along the transitions over a letter.
 use mathlib.Core.Path.{_≡_, refl}
-use mathlib.Core.Logic.{_⊎_, inl, inr, ⊎-elim}
 use mathlib.Core.Bool.{false}
-use mathlib.Core.List.{List, [], _∷_, List·Memᴰ, List·Memᴰ·head, List·Memᴰ·tail, List·Memᴰ·not-nil, List·Memᴰ·cases-cons}
+use mathlib.Core.List.{List, [], _∷_, List·Memᴰ}
 use Prim.Native.Nat.{ℕ, _+_}
 use lib.Dec.{eqb}
 use borrow.Author.Tests.{eqb-true, eqb-false, eq-eqb, ne-eqb}
@@ -10,7 +9,8 @@ use Rattle.sets.proofs.Bools.{bif}
 use Rattle.theory.specs.Run.{sourceOf, letterOf, targetOf}
 use Rattle.graph_walks.specs.Marks.{isDue, marked, isNew}
 use Rattle.graph_walks.specs.Rounds.{Marking}
-use Rattle.graph_walks.proofs.Marking.{Round, round-none, round-one, round-of, round-then, marking-one}
+use Rattle.graph_walks.proofs.Loops.{Pass, round-pass, marking-pass}
+use Rattle.graph_walks.proofs.Marking.{Round, round-none, round-one, round-of, marking-one}
 use Rattle.table_fixpoints_spec.specs.Marks.{markedOver, isNewOver, markedAll, isNewAll}
 
 -- ---- examples
@@ -36,19 +36,9 @@ pub record Over (letter here there : ℕ) (ts : List ℕ) (x y : ℕ) : Type 0 w
   pub target : y ≡ there + targetOf transition
 
 module _ (letter here there : ℕ) where
-  over-first : (t : ℕ) (ts : List ℕ) (x y : ℕ) → Over letter here there (t ∷ ts) x y → Over letter here there (t ∷ []) x y ⊎ Over letter here there ts x y
-  over-first t ts x y o =
-      ⊎-elim
-      (λ e. inl (record { transition = o .transition; listed = List·Memᴰ·head e; over = o .over; source = o .source; target = o .target }))
-      (λ m. inr (record { transition = o .transition; listed = m; over = o .over; source = o .source; target = o .target }))
-      (List·Memᴰ·cases-cons (o .listed))
-
-  over-alone : (t x y : ℕ) → Over letter here there (t ∷ []) x y → (letterOf t ≡ letter) × (x ≡ here + sourceOf t) × (y ≡ there + targetOf t)
-  over-alone t x y o =
-      ⊎-elim
-      (λ e. (rw (← e) (o .over), rw (← e) (o .source), rw (← e) (o .target)))
-      (λ m. absurd (List·Memᴰ·not-nil m))
-      (List·Memᴰ·cases-cons (o .listed))
+  -- the edge of one
+  abbrev pub OverBy : ℕ → ℕ → ℕ → Type 0
+  OverBy t x y = (letterOf t ≡ letter) × (x ≡ here + sourceOf t) × (y ≡ there + targetOf t)
 
   module _ (t : ℕ) (ms : List ℕ) where
     pub over-yes : letterOf t ≡ letter → (marked (here + sourceOf t) (there + targetOf t) ms ≡ markedOver letter here there t ms)
@@ -60,35 +50,36 @@ module _ (letter here there : ℕ) where
     unfolding markedOver isNewOver
     over-no n = let q = ne-eqb (letterOf t) letter n in (rw q, rw q)
 
-  pub round-over : (t : ℕ) (ms : List ℕ) → Round (Over letter here there (t ∷ [])) ms (markedOver letter here there t ms) (isNewOver letter here there t ms)
+  pub round-over : (t : ℕ) (ms : List ℕ) → Round (OverBy t) ms (markedOver letter here there t ms) (isNewOver letter here there t ms)
   unfolding markedOver isNewOver
   round-over t ms =
       bif (eqb (letterOf t) letter)
-      (λ e. rw e (round-of _ _ (λ x y o. let q = over-alone t x y o in (q .1, q .2)) _ _ _ (round-one (here + sourceOf t) (there + targetOf t) ms)))
-      (λ e. rw e (round-none _ (λ x y o. eqb-false (letterOf t) letter e (over-alone t x y o .0)) ms))
+      (λ e. rw e (round-of _ _ (λ x y o. (o .1, o .2)) _ _ _ (round-one (here + sourceOf t) (there + targetOf t) ms)))
+      (λ e. rw e (round-none _ (λ x y o. eqb-false (letterOf t) letter e (o .0)) ms))
+
+  pub pass-over : Pass (markedOver letter here there) (isNewOver letter here there) (markedAll letter here there) (isNewAll letter here there)
+  unfolding markedAll isNewAll
+  pass-over = record {
+    long = λ t ms. round-over t ms .long;
+    mark-none = λ ms. refl;
+    mark-next = λ t ts ms. refl;
+    new-none = λ ms. refl;
+    new-next = λ t ts ms. refl;
+  }
 
   pub round-all : (ts ms : List ℕ) → Round (Over letter here there ts) ms (markedAll letter here there ts ms) (isNewAll letter here there ts ms)
-  unfolding markedAll isNewAll
-  round-all [] ms = round-none (Over letter here there []) (λ x y o. List·Memᴰ·not-nil (o .listed)) ms
-  round-all (t ∷ ts) ms =
-      round-then _ _ _ (over-first t ts) ms _ _ _ _ (round-over t ms) (round-all ts (markedOver letter here there t ms))
+  round-all ts ms = round-of _ (Over letter here there ts) (λ x y o. (o .transition, o .listed, (o .over, o .source, o .target))) ms _ _ (round-pass pass-over OverBy round-over ts ms)
 
--- ---- only what has a walk to an accepting node is marked
+  -- ---- only what has a walk to an accepting node is marked
 
-module _ (E : ℕ → ℕ → Type 0) (b : List ℕ) where
-  module _ (letter here there : ℕ) where
-    marking-over : (t : ℕ) → (letterOf t ≡ letter → E (here + sourceOf t) (there + targetOf t)) → (ms : List ℕ) → Marking E b ms → Marking E b (markedOver letter here there t ms)
+  module _ (E : ℕ → ℕ → Type 0) (b : List ℕ) where
+    marking-over : (t : ℕ) (ms : List ℕ) → ((x y : ℕ) → OverBy t x y → E x y) → Marking E b ms → Marking E b (markedOver letter here there t ms)
     unfolding markedOver
-    marking-over t e ms m =
+    marking-over t ms e m =
         bif (eqb (letterOf t) letter)
-        (λ f. rw f (marking-one E b (here + sourceOf t) (there + targetOf t) (e (eqb-true (letterOf t) letter f)) ms m))
+        (λ f. rw f (marking-one E b (here + sourceOf t) (there + targetOf t) (e _ _ (eqb-true (letterOf t) letter f, refl, refl)) ms m))
         (λ f. rw f m)
 
     pub marking-all : (ts : List ℕ) → ((x y : ℕ) → Over letter here there ts x y → E x y) → (ms : List ℕ) → Marking E b ms → Marking E b (markedAll letter here there ts ms)
-    unfolding markedAll
-    marking-all [] e ms m = m
-    marking-all (t ∷ ts) e ms m =
-        marking-all ts
-        (λ x y o. e x y (record { transition = o .transition; listed = List·Memᴰ·tail (o .listed); over = o .over; source = o .source; target = o .target }))
-        (markedOver letter here there t ms)
-        (marking-over t (λ f. e _ _ (record { transition = t; listed = List·Memᴰ·head refl; over = f; source = refl; target = refl })) ms m)
+    marking-all ts e =
+        marking-pass pass-over OverBy E b marking-over ts (λ t x y m o. e x y (record { transition = t; listed = m; over = o .0; source = o .1; target = o .2 }))

@@ -136,7 +136,7 @@ module _ (n : ℕ) (cycle ts : List ℕ) where
 
   module _ (E : ℕ → ℕ → Type 0) (b : List ℕ) where
     pub marking-at : (p : ℕ) → p < length cycle → ((x y : ℕ) → At p x y → E x y) → (ms : List ℕ) → Marking E b ms → Marking E b (markedAt n cycle ts p ms)
-    marking-at p l e ms m = marking-all E b (letterAt [] cycle p) (p * n) (nextPlace [] cycle p * n) ts (λ x y o. e x y (over-edge p l x y o)) ms m
+    marking-at p l e ms m = marking-all (letterAt [] cycle p) (p * n) (nextPlace [] cycle p * n) E b ts (λ x y o. e x y (over-edge p l x y o)) ms m
 
   -- nodes at other places stay as they are
   pub elsewhere : (ms : List ℕ) (p : ℕ) → Fits n cycle ts ms → p < length cycle → (x : ℕ) → (x < p * n) ⊎ (p * n + n ≤ x) → getD (markedAt n cycle ts p ms) x 0 ≡ getD ms x 0

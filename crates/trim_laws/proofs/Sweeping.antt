@@ -1,8 +1,8 @@
 -- The sweeps over the transitions of a table solve its graph: the marks that are left are those of `Solved`.
 use mathlib.Core.Path.{_≡_, refl, sym, ap, _∙_}
-use mathlib.Core.Logic.{_⊎_, inl, inr, ⊎-elim, by-cases}
+use mathlib.Core.Logic.{_⊎_, ⊎-elim, by-cases}
 use mathlib.Core.Bool.{Bool, true, false}
-use mathlib.Core.List.{List, [], _∷_, List·Memᴰ·head, List·Memᴰ·tail, List·Memᴰ·not-nil, List·Memᴰ·cases-cons}
+use mathlib.Core.List.{List, [], _∷_}
 use Prim.Native.Nat.{ℕ, zero, suc, _+_, _*_, _≤_, _<_}
 use native.Mathlib.Omega.{arith}
 use native.Mathlib.Decide.{decLt}
@@ -16,8 +16,8 @@ use Rattle.theory.specs.Macrostate.{isAccepting}
 use Rattle.graph_walks.specs.Walks.{Solved}
 use Rattle.graph_walks.specs.Marks.{isDue, marked, isNew, settled, goesOut}
 use Rattle.graph_walks.specs.Rounds.{Settling, Marking, Stable, SolveRound}
-use Rattle.graph_walks.proofs.Marking.{Round, round-none, round-one, round-then, marking-start, marking-one}
-use Rattle.graph_walks.proofs.Loops.{Pass}
+use Rattle.graph_walks.proofs.Marking.{Round, round-one, round-of, marking-start, marking-one}
+use Rattle.graph_walks.proofs.Loops.{Pass, round-pass, marking-pass}
 use Rattle.graph_walks.proofs.Rounds.{marking-sum, stable, solve-round, Kept, kept-start, kept-low, kept-then, solved}
 use Rattle.trim_spec.specs.Graph.{Step}
 use Rattle.trim_spec.specs.Trimmed.{flagOf, flags, swept, isNewIn, sweptOut, settledAll, solvedIn, liveMarks}
@@ -36,20 +36,6 @@ all-matter = refl
 
 -- ---- one sweep
 
-step-first : (t : ℕ) (ts : List ℕ) (x y : ℕ) → Step (t ∷ ts) x y → ((x ≡ sourceOf t) × (y ≡ targetOf t)) ⊎ Step ts x y
-step-first t ts x y s =
-    ⊎-elim
-    (λ e. inl (sym (s .source) ∙ ap sourceOf e, sym (s .target) ∙ ap targetOf e))
-    (λ m. inr (record { transition = s .transition; listed = m; source = s .source; target = s .target }))
-    (List·Memᴰ·cases-cons (s .listed))
-
-pub round-in : (ts ms : List ℕ) → Round (Step ts) ms (swept ts ms) (isNewIn ts ms)
-unfolding swept isNewIn
-round-in [] ms = round-none (Step []) (λ x y s. List·Memᴰ·not-nil (s .listed)) ms
-round-in (t ∷ ts) ms =
-    round-then (λ x y. (x ≡ sourceOf t) × (y ≡ targetOf t)) (Step ts) (Step (t ∷ ts)) (step-first t ts) ms _ _ _ _
-    (round-one (sourceOf t) (targetOf t) ms) (round-in ts (marked (sourceOf t) (targetOf t) ms))
-
 pub pass-swept : Pass (λ t. marked (sourceOf t) (targetOf t)) (λ t. isNew (sourceOf t) (targetOf t)) swept isNewIn
 unfolding swept isNewIn
 pass-swept = record {
@@ -60,17 +46,19 @@ pass-swept = record {
   new-next = λ t ts ms. refl;
 }
 
-marking-by : (E : ℕ → ℕ → Type 0) (b ts : List ℕ) → ((x y : ℕ) → Step ts x y → E x y) → (ms : List ℕ) → Marking E b ms → Marking E b (swept ts ms)
-unfolding swept
-marking-by E b [] e ms m = m
-marking-by E b (t ∷ ts) e ms m =
-    marking-by E b ts
-    (λ x y s. e x y (record { transition = s .transition; listed = List·Memᴰ·tail (s .listed); source = s .source; target = s .target }))
-    (marked (sourceOf t) (targetOf t) ms)
-    (marking-one E b (sourceOf t) (targetOf t) (e _ _ (record { transition = t; listed = List·Memᴰ·head refl; source = refl; target = refl })) ms m)
+-- the edge of a transition
+abbrev edgeOf : ℕ → ℕ → ℕ → Type 0
+edgeOf t x y = (x ≡ sourceOf t) × (y ≡ targetOf t)
+
+pub round-in : (ts ms : List ℕ) → Round (Step ts) ms (swept ts ms) (isNewIn ts ms)
+round-in ts ms =
+    round-of _ (Step ts) (λ x y s. (s .transition, s .listed, (sym (s .source), sym (s .target)))) ms _ _
+    (round-pass pass-swept edgeOf (λ t. round-one (sourceOf t) (targetOf t)) ts ms)
 
 pub marking-in : (b ts ms : List ℕ) → Marking (Step ts) b ms → Marking (Step ts) b (swept ts ms)
-marking-in b ts = marking-by (Step ts) b ts (λ x y s. s)
+marking-in b ts =
+    marking-pass pass-swept edgeOf (Step ts) b (λ t ms e m. marking-one (Step ts) b (sourceOf t) (targetOf t) (e _ _ (refl, refl)) ms m) ts
+    (λ t x y m e. record { transition = t; listed = m; source = sym (e .0); target = sym (e .1) })
 
 -- ---- sweeps until nothing is new
 

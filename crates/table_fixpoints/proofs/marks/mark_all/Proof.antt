@@ -10,7 +10,7 @@ use Rattle.table_lent.specs.Lent.{inBoth}
 use Rattle.table_fixpoints_spec.specs.Marks.{ordered}
 use Rattle.table_fixpoints_spec.proofs.Orders.{ordered-long, ordered-from}
 use Rattle.graph_walks.proofs.Loops.{or-now, or-before, PassedTo, passed-none, passed-next, passed-all}
-use Rattle.table_fixpoints_spec.proofs.Loops.{pass-over}
+use Rattle.table_fixpoints_spec.proofs.Marking.{pass-over}
 use Rattle.table_fixpoints.proofs.marks.mark_all.Statement.{statement}
 use Rattle.table_fixpoints.proofs.marks.mark_all.Tie as tie
 
