@@ -1,7 +1,7 @@
 -- The set over a table, one turn of a loop at a time.
 use mathlib.Core.Path.{_≡_, refl, sym, _∙_, ap, ap₂}
 use mathlib.Core.Logic.{by-cases}
-use mathlib.Core.Bool.{Bool, true, false, _||_}
+use mathlib.Core.Bool.{Bool, true, false, _||_, or-true, or-false}
 use mathlib.Core.List.{List, [], _∷_, _++_, map, List·Memᴰ, List·Memᴰ·head, List·Memᴰ·tail}
 use Prim.Native.Nat.{ℕ, zero, suc, _+_, _*_, _/_, _%_, _≤_, _<_}
 use native.Mathlib.Decide.{ℕ-discrete}
@@ -85,14 +85,6 @@ any-append : (xs ys : List ℕ) (f : Set) → anyOf (xs ++ ys) f ≡ anyOf xs f 
 unfolding anyOf
 any-append [] ys f = refl
 any-append (x ∷ xs) ys f = bif (f x) (λ t. rw (t, anyOf)) (λ t. rw (t, anyOf) (any-append xs ys f))
-
-or-true : (u : Bool) → u || true ≡ true
-or-true true = refl
-or-true false = refl
-
-or-false : (u : Bool) → u || false ≡ u
-or-false true = refl
-or-false false = refl
 
 -- one member more of a front part
 module _ (f : Set) (ts : List ℕ) (i : ℕ) (l : i < length ts) where

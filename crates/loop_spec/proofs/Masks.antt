@@ -1,7 +1,7 @@
 -- The masks of the search: the states from which a walk of one length leads to t.
 use mathlib.Core.Path.{_≡_, refl, sym, _∙_, ap}
 use mathlib.Core.Logic.{_⊎_, ⊎-elim}
-use mathlib.Core.Bool.{Bool, true, false, _&&_, _||_, cond, false≢true}
+use mathlib.Core.Bool.{Bool, true, false, _&&_, _||_, cond, false≢true, or-assoc}
 use mathlib.Core.List.{List, [], _∷_}
 use Prim.Native.Nat.{ℕ, zero, suc, _<_}
 use lib.Dec.{eqb, ltb}
@@ -17,7 +17,7 @@ use Rattle.sets.proofs.Bits.{bit-shl-one, bit-none}
 use Rattle.sets.proofs.Lists.{any-cons}
 use Rattle.loop_spec.specs.Loops.{along, allBelow}
 use Rattle.loop_spec.specs.Search.{leadsBy, sources, stepBack, ways}
-use Rattle.loop_spec.proofs.Walks.{below-cons, or-assoc}
+use Rattle.loop_spec.proofs.Walks.{below-cons}
 
 module _ (n : ℕ) (es : List ℕ) where
   source-out : (m q : ℕ) → q < n → bit (sources n es m) q ≡ true → (p : ℕ) × (p < n) × (leadsBy es q p ≡ true) × (bit m p ≡ true)
@@ -174,8 +174,8 @@ module _ (n : ℕ) (es : List ℕ) where
 
     pub goes-rest : (passed : Bool) (q p : ℕ) (ps : List ℕ) → Goes passed q (p ∷ ps) → Goes (passed || other q) p ps
     goes-rest passed q p ps g =
-        record { leads = leads-rest q p ps (g .leads); passes = sym (or-assoc passed (other q) (anyOf (p ∷ ps) other)) ∙ ap (λ (b : Bool). passed || b) (sym (any-cons other q (p ∷ ps))) ∙ g .passes }
+        record { leads = leads-rest q p ps (g .leads); passes = or-assoc passed (other q) (anyOf (p ∷ ps) other) ∙ ap (λ (b : Bool). passed || b) (sym (any-cons other q (p ∷ ps))) ∙ g .passes }
 
     pub goes-cons : (passed : Bool) (q p : ℕ) (ps : List ℕ) → p < n → leadsBy es q p ≡ true → Goes (passed || other q) p ps → Goes passed q (p ∷ ps)
     goes-cons passed q p ps l e g =
-        record { leads = leads-cons q p ps l e (g .leads); passes = ap (λ (b : Bool). passed || b) (any-cons other q (p ∷ ps)) ∙ or-assoc passed (other q) (anyOf (p ∷ ps) other) ∙ g .passes }
+        record { leads = leads-cons q p ps l e (g .leads); passes = ap (λ (b : Bool). passed || b) (any-cons other q (p ∷ ps)) ∙ sym (or-assoc passed (other q) (anyOf (p ∷ ps) other)) ∙ g .passes }

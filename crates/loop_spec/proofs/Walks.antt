@@ -1,7 +1,7 @@
 -- Laws of walks: two in a row, another relation, turned to begin elsewhere, split where a state stands twice.
 use mathlib.Core.Path.{_≡_, refl, sym, _∙_, ap}
 use mathlib.Core.Logic.{_⊎_, inl, inr, ⊎-elim}
-use mathlib.Core.Bool.{Bool, true, false, _&&_, _||_, not, false≢true}
+use mathlib.Core.Bool.{Bool, true, false, _&&_, _||_, not, false≢true, and-assoc, or-assoc, or-comm}
 use mathlib.Core.List.{List, [], _∷_, _++_, List·Memᴰ·head, List·Memᴰ·tail}
 use Prim.Native.Nat.{ℕ, zero, suc, _+_, _≤_, _<_}
 use native.Mathlib.Omega.{arith}
@@ -18,31 +18,17 @@ use Rattle.theory.specs.Rule.{Rule}
 use Rattle.theory.specs.Components.{leads}
 use Rattle.loop_spec.specs.Loops.{along, allBelow, isClosedWalk, passesBoth, isMixedLoop, repeats}
 
-and-assoc : (a b c : Bool) → a && (b && c) ≡ (a && b) && c
-and-assoc true b c = refl
-and-assoc false b c = refl
-
-or-comm : (a b : Bool) → a || b ≡ b || a
-or-comm true true = refl
-or-comm true false = refl
-or-comm false true = refl
-or-comm false false = refl
-
-pub or-assoc : (a b c : Bool) → a || (b || c) ≡ (a || b) || c
-or-assoc true b c = refl
-or-assoc false b c = refl
-
 -- a walk from q to t over x is one from q to x and one from x to t
 pub along-append : (lead : ℕ → Set) (q : ℕ) (bs : List ℕ) (x : ℕ) (cs : List ℕ) (t : ℕ) → along lead q (bs ++ (x ∷ cs)) t ≡ along lead q bs x && along lead x cs t
 unfolding along
 along-append lead q [] x cs t = refl
-along-append lead q (p ∷ bs) x cs t = ap (λ (b : Bool). lead q p && b) (along-append lead p bs x cs t) ∙ and-assoc (lead q p) (along lead p bs x) (along lead x cs t)
+along-append lead q (p ∷ bs) x cs t = ap (λ (b : Bool). lead q p && b) (along-append lead p bs x cs t) ∙ sym (and-assoc (lead q p) (along lead p bs x) (along lead x cs t))
 
 pub any-append : (hs bs : List ℕ) (f : Set) → anyOf (hs ++ bs) f ≡ anyOf hs f || anyOf bs f
 unfolding anyOf
 any-append [] bs f = refl
 any-append (a ∷ hs) bs f =
-    any-cons f a (hs ++ bs) ∙ ap (λ (b : Bool). f a || b) (any-append hs bs f) ∙ or-assoc (f a) (anyOf hs f) (anyOf bs f)
+    any-cons f a (hs ++ bs) ∙ ap (λ (b : Bool). f a || b) (any-append hs bs f) ∙ sym (or-assoc (f a) (anyOf hs f) (anyOf bs f))
     ∙ ap (λ (b : Bool). b || anyOf bs f) (sym (any-cons f a hs))
 
 pub below-cons : (n p : ℕ) (ps : List ℕ) → allBelow n (p ∷ ps) ≡ ltb p n && allBelow n ps
@@ -52,7 +38,7 @@ below-cons n p ps = refl
 pub below-append : (n : ℕ) (hs bs : List ℕ) → allBelow n (hs ++ bs) ≡ allBelow n hs && allBelow n bs
 unfolding allBelow allOf
 below-append n [] bs = refl
-below-append n (a ∷ hs) bs = ap (λ (b : Bool). ltb a n && b) (below-append n hs bs) ∙ and-assoc (ltb a n) (allBelow n hs) (allBelow n bs)
+below-append n (a ∷ hs) bs = ap (λ (b : Bool). ltb a n && b) (below-append n hs bs) ∙ sym (and-assoc (ltb a n) (allBelow n hs) (allBelow n bs))
 
 -- relations that agree on the states below n have the same walks
 pub along-ext : (n : ℕ) (lead lead′ : ℕ → Set) → ((q p : ℕ) → q < n → p < n → lead q p ≡ lead′ q p)

@@ -4,7 +4,7 @@ use mathlib.Core.Bool.{true, _&&_, cond}
 use Prim.Native.Nat.{ℕ, _+_, _*_, _/_, _%_, _^_, _≤_, _<_}
 use native.Mathlib.Omega.{arith}
 use lib.Dec.{eqb, ltb}
-use lib.Pow.{shr-shr}
+use lib.Pow.{shr-shr, split}
 use Rattle.sets.specs.Masks.{bit, mask}
 use Rattle.sets.specs.Tests.{Set}
 use Rattle.sets.proofs.Digits.{digit-above, pow16}
@@ -18,11 +18,8 @@ use Rattle.spare_spec.specs.SpareComputed.{hasLevel, spares}
 use Rattle.spare_laws.proofs.Along.{same-set, same-ranks}
 use Rattle.stricter_cores_spec.specs.Tags.{coreIn}
 
-split : (c : ℕ) → c ≡ c / 1099511627776 * 2 ^ 40 + c % 1099511627776
-split c = omega arith
-
 digit-core : (c q : ℕ) → q < 40 → c / 2 ^ q % 2 ≡ coreIn c / 2 ^ q % 2
-digit-core c q l = ap (λ (x : ℕ). x / 2 ^ q % 2) (split c) ∙ above (c / 1099511627776) (coreIn c) 40 q l
+digit-core c q l = ap (λ (x : ℕ). x / 2 ^ q % 2) (sym (split c 40)) ∙ above (c / 1099511627776) (coreIn c) 40 q l
 
 split-ranks : (c : ℕ) → c / 2 ^ 8 ≡ c / 1099511627776 * 16 ^ 8 + coreIn c / 2 ^ 8
 split-ranks c = omega arith
