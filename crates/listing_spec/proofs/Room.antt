@@ -18,9 +18,9 @@ use Rattle.theory.specs.Macrostate.{holdsInitial, isInitial}
 use Rattle.theory.specs.Passing.{Passing}
 use Rattle.theory.specs.Rule.{Rule}
 use Rattle.theory.specs.Run.{sourceOf, letterOf, targetOf}
-use Rattle.theory.specs.TableComputed.{macrostates, transitions, macrostatesFrom, transitionsFrom}
+use Rattle.theory.specs.TableComputed.{macrostates, transitions}
 use Rattle.theory_laws.proofs.Layers.{layered}
-use Rattle.theory_laws.proofs.Tables.{few-states, components-there, letters-fit, reachable-iff, reachable-macrostate, transition-iff, transition-leads}
+use Rattle.theory_laws.proofs.Tables.{few-states, components-there, reachable-iff, reachable-macrostate, lists-reachable, in-range}
 use Rattle.file_spec.specs.File.{NamedRule, trailer, partBefore, namesOf, ruleIn, namedIn}
 use Rattle.file_spec.specs.Names.{hasNames}
 use Rattle.file_spec.proofs.Names.{fit-21, names-length, no-names}
@@ -74,16 +74,10 @@ module _ (r : Rule) (P : Passing r) (few : length (macrostates r) ≤ 512) where
     target : targetOf t < 512
 
   move-low : (t : ℕ) → List·Memᴰ t (transitions r) → Low t
-  unfolding transitionsFrom
   move-low t m =
-      let room : length (macrostatesFrom r (holdsInitial r)) ≤ 65536 = omega arith in
-      let T = transition-iff r P (holdsInitial r) room t .0 m in
-      let L = transition-leads (automaton r) (r .s) (macrostatesFrom r (holdsInitial r)) (layered r P) (letters-fit r P) room t T in
-      record {
-        source = omega (arith, L .source, T .source-listed);
-        letter = omega (arith, L .letter, T .letter-known, P .formed .few-letters);
-        target = omega (arith, L .target, T .target-listed);
-      }
+      let room : length (macrostates r) ≤ 65536 = omega arith in
+      let I = in-range r P (lists-reachable r P room) room t m in
+      record { source = omega (arith, I .source); letter = omega (arith, I .letter, P .formed .few-letters); target = omega (arith, I .target) }
 
   m-lines-most : length (macrostateLines (isInitial r) (macrostates r)) ≤ 26 * 512
   m-lines-most =
