@@ -2,8 +2,8 @@
 use mathlib.Core.Path.{_≡_, refl, sym, _∙_, ap, ap₂}
 use mathlib.Core.Logic.{by-cases}
 use mathlib.Core.Bool.{Bool, true, false, _||_, or-true, or-false}
-use mathlib.Core.List.{List, [], _∷_, _++_, map, List·Memᴰ, List·Memᴰ·head, List·Memᴰ·tail}
-use Prim.Native.Nat.{ℕ, zero, suc, _+_, _*_, _/_, _%_, _≤_, _<_}
+use mathlib.Core.List.{List, [], _∷_, map, List·Memᴰ, List·Memᴰ·head, List·Memᴰ·tail}
+use Prim.Native.Nat.{ℕ, zero, suc, _+_, _/_, _%_, _≤_, _<_}
 use native.Mathlib.Decide.{ℕ-discrete}
 use native.Mathlib.Nat.{zero-add}
 use native.Mathlib.Numerals.{add-one}
@@ -15,7 +15,7 @@ use borrow.Author.Tests.{eq-eqb, ne-eqb, lt-ltb, le-ltb}
 use Rattle.sets.specs.Tests.{Set, one}
 use Rattle.sets.specs.Lists.{anyOf, tabulate}
 use Rattle.sets.proofs.Bools.{bif}
-use Rattle.sets.proofs.Lists.{tabulate-at, length-tabulate, any-cons}
+use Rattle.sets.proofs.Lists.{tabulate-at, length-tabulate, any-cons, any-append}
 use Rattle.sets.specs.Masks.{bit}
 use Rattle.theory.specs.Macrostate.{begun}
 use Rattle.theory.specs.Run.{sourceOf, letterOf, targetOf}
@@ -80,11 +80,6 @@ module _ (a t : ℕ) (bytes : List ℕ) where
   moved-yes e n = let o : getD bytes (sourceOf t) 0 % 2 ≡ 1 = omega arith in rw (eq-eqb (letterOf t) a e, o)
 
 -- ---- a sweep
-
-any-append : (xs ys : List ℕ) (f : Set) → anyOf (xs ++ ys) f ≡ anyOf xs f || anyOf ys f
-unfolding anyOf
-any-append [] ys f = refl
-any-append (x ∷ xs) ys f = bif (f x) (λ t. rw (t, anyOf)) (λ t. rw (t, anyOf) (any-append xs ys f))
 
 -- one member more of a front part
 module _ (f : Set) (ts : List ℕ) (i : ℕ) (l : i < length ts) where

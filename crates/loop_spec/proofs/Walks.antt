@@ -1,7 +1,7 @@
 -- Laws of walks: two in a row, another relation, turned to begin elsewhere, split where a state stands twice.
 use mathlib.Core.Path.{_≡_, refl, sym, _∙_, ap}
 use mathlib.Core.Logic.{_⊎_, inl, inr, ⊎-elim}
-use mathlib.Core.Bool.{Bool, true, false, _&&_, _||_, not, false≢true, and-assoc, or-assoc, or-comm}
+use mathlib.Core.Bool.{Bool, true, false, _&&_, _||_, not, false≢true, and-assoc, or-comm}
 use mathlib.Core.List.{List, [], _∷_, _++_, List·Memᴰ·head, List·Memᴰ·tail}
 use Prim.Native.Nat.{ℕ, zero, suc, _+_, _≤_, _<_}
 use native.Mathlib.Omega.{arith}
@@ -13,7 +13,7 @@ use Rattle.sets.specs.Masks.{bit}
 use Rattle.sets.specs.Lists.{anyOf, allOf, among}
 use Rattle.sets.proofs.Bools.{bif, and-l, and-r, and-i, or-cases, or-fl, or-fr}
 use Rattle.sets.proofs.Tests.{count-max, count-more}
-use Rattle.sets.proofs.Lists.{any-cons, among-in, among-out}
+use Rattle.sets.proofs.Lists.{any-cons, any-append, among-in, among-out}
 use Rattle.theory.specs.Rule.{Rule}
 use Rattle.theory.specs.Components.{leads}
 use Rattle.loop_spec.specs.Loops.{along, allBelow, isClosedWalk, passesBoth, isMixedLoop, repeats}
@@ -23,13 +23,6 @@ pub along-append : (lead : ℕ → Set) (q : ℕ) (bs : List ℕ) (x : ℕ) (cs 
 unfolding along
 along-append lead q [] x cs t = refl
 along-append lead q (p ∷ bs) x cs t = ap (λ (b : Bool). lead q p && b) (along-append lead p bs x cs t) ∙ sym (and-assoc (lead q p) (along lead p bs x) (along lead x cs t))
-
-pub any-append : (hs bs : List ℕ) (f : Set) → anyOf (hs ++ bs) f ≡ anyOf hs f || anyOf bs f
-unfolding anyOf
-any-append [] bs f = refl
-any-append (a ∷ hs) bs f =
-    any-cons f a (hs ++ bs) ∙ ap (λ (b : Bool). f a || b) (any-append hs bs f) ∙ sym (or-assoc (f a) (anyOf hs f) (anyOf bs f))
-    ∙ ap (λ (b : Bool). b || anyOf bs f) (sym (any-cons f a hs))
 
 pub below-cons : (n p : ℕ) (ps : List ℕ) → allBelow n (p ∷ ps) ≡ ltb p n && allBelow n ps
 unfolding allBelow allOf

@@ -5,13 +5,13 @@ use mathlib.Core.Bool.{Bool, true, false, _&&_, _||_, not, or-assoc}
 use Prim.Native.Nat.{ℕ, zero, suc, _+_, _-_, _*_, _/_, _%_, _^_, _≤_, _<_, min, max}
 use native.Mathlib.Omega.{arith}
 use native.Mathlib.Decide.{decLt, ℕ-discrete}
-use native.Mathlib.Nat.{zero-div, div-eq-of-lt, lt-of-lt-of-le, mod-lt, pow-suc, one-mul, mod-eq-of-lt}
+use native.Mathlib.Nat.{zero-div, div-eq-of-lt, lt-of-lt-of-le, mod-lt, pow-suc, one-mul}
 use native.Mathlib.Numerals.{one-add}
 use lib.Dec.{eqb, ltb}
 use lib.Bits.{bitAnd, bitOr, bitXor, differ, and-shr, or-shr, xor-shr, and-step, or-step, xor-step, and-le-l, and-le-r, or-add-and, or-lt}
 use lib.Count.{ones, ones-cat, onesIn}
-use lib.Pow.{pow-pos, pow-mono, pow-lt, shr-lt, shr-shr, split, ones-lt}
-use lib.Arith.{lt-one, digits-div}
+use lib.Pow.{pow-pos, pow-mono, pow-lt, shr-lt, shr-shr, shl-shr, shl-exact, split, ones-lt}
+use lib.Arith.{lt-one}
 use borrow.Author.Tests.{eqb-true, eqb-false, eq-eqb, ne-eqb, lt-ltb, le-ltb}
 use Rattle.sets.specs.Tests.{Set, one, count}
 use Rattle.sets.specs.Masks.{bit, mask, exclusive}
@@ -112,15 +112,12 @@ pub bit-mod : (m k q : ℕ) → q < k → bit (m % 2 ^ k) q ≡ bit m q
 unfolding bit
 bit-mod m k q l = sym (ap (λ (x : ℕ). eqb x 1) (above (m / 2 ^ k) (m % 2 ^ k) k q l)) ∙ ap (λ (x : ℕ). eqb (x / 2 ^ q % 2) 1) (split m k)
 
-pow-self : (q : ℕ) → 2 ^ q / 2 ^ q ≡ 1
-pow-self q = let e : 1 * 2 ^ q + 0 ≡ 2 ^ q = omega arith in ap (λ (x : ℕ). x / 2 ^ q) (sym e) ∙ digits-div 1 (pow-pos q)
-
 -- the mask of q alone
 pub bit-shl-one : (q p : ℕ) → bit (2 ^ q) p ≡ eqb q p
 unfolding bit
 bit-shl-one q p =
     by-cases (ℕ-discrete q p)
-    (λ e. ap (λ (x : ℕ). eqb (2 ^ q / 2 ^ x % 2) 1) (sym e) ∙ ap (λ (x : ℕ). eqb (x % 2) 1) (pow-self q) ∙ sym (eq-eqb q p e))
+    (λ e. ap (λ (x : ℕ). eqb (2 ^ q / 2 ^ x % 2) 1) (sym e) ∙ ap (λ (x : ℕ). eqb (x / 2 ^ q % 2) 1) (sym (one-mul (2 ^ q))) ∙ ap (λ (x : ℕ). eqb (x % 2) 1) (shl-shr 1 q) ∙ sym (eq-eqb q p e))
     (λ n. by-cases (decLt p q)
     (λ l. let e : 1 * 2 ^ q + 0 ≡ 2 ^ q = omega arith in
     ap (λ (x : ℕ). eqb (x / 2 ^ p % 2) 1) (sym e) ∙ ap (λ (x : ℕ). eqb x 1) (above 1 0 q p l) ∙ bit-none p ∙ sym (ne-eqb q p n))
@@ -128,7 +125,7 @@ bit-shl-one q p =
 
 -- the machine's 1 << q in w bits
 pub shl-one : (w q : ℕ) → q < w → 1 * 2 ^ q % 2 ^ w ≡ 2 ^ q
-shl-one w q h = rw one-mul (mod-eq-of-lt (pow-lt h))
+shl-one w q h = shl-exact {a = 1} 1 q w (omega arith) (omega arith) ∙ one-mul (2 ^ q)
 
 -- ---- a mask is given by its members
 

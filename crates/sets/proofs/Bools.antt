@@ -2,6 +2,7 @@
 use mathlib.Core.Path.{_≡_, refl, sym, _∙_, ap}
 use mathlib.Core.Logic.{_⊎_, inl, inr}
 use mathlib.Core.Bool.{Bool, true, false, _&&_, _||_, not, Bool·beq, true≢false, false≢true, or-true}
+use borrow.Author.Tests.{not-true, not-false}
 use Rattle.sets.specs.Masks.{exclusive}
 
 -- a test either way, with its equation
@@ -44,12 +45,10 @@ or-tf true b e k = e
 or-tf false b e k = clash k refl
 
 pub not-t : (a : Bool) → not a ≡ true → a ≡ false
-not-t true e = absurd (false≢true e)
-not-t false e = refl
+not-t = not-true
 
 pub not-f : (a : Bool) → not a ≡ false → a ≡ true
-not-f true e = refl
-not-f false e = absurd (true≢false e)
+not-f = not-false
 
 pub and-fl : (a b : Bool) → a && b ≡ false → b ≡ true → a ≡ false
 and-fl true b e k = clash k e
