@@ -15,6 +15,14 @@ pub fn bucket(core: u64) -> usize
     ((((core >> 8) * 2654435761) >> 18) & 16383) as usize
 }
 
+// The place where the chain of the bucket of a core begins.
+pub fn chain_top(heads: &[u16; 16384], core: u64) -> u16
+    requires { ⌜ core < 2 ^ 40 ⌝ }
+    ensures { λ r. ⌜ r ≡ getD (now (heads .entry)) (bucketOf core) 0 ⌝ }
+{
+    heads[bucket(core)]
+}
+
 // Puts a key at place n. Its link is the head of its bucket, and the head is then n.
 pub fn put(keys: &mut [u64], heads: &mut [u16; 16384], last: &mut [u32; 256], n: usize, key: u64)
     requires { ⌜ Chained (now keys) (now heads) (now last) n × (n < length (now keys)) × (key < 2 ^ 48) ⌝ }
@@ -38,7 +46,7 @@ pub fn find(keys: &[u64], heads: &[u16; 16384], last: &[u32; 256], n: usize, key
     if n == 0 {
         return n;
     }
-    let mut i = heads[bucket(key >> 8)] as usize;
+    let mut i = chain_top(heads, key >> 8) as usize;
     loop {
         let x = keys[i];
         if x & 0x0000_ffff_ffff_ffff == key {

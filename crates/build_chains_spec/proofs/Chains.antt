@@ -15,8 +15,8 @@ unfolding bucketOf
 bucket-low core = omega (arith, and-le-r (core / 2 ^ 8 * 2654435761 / 2 ^ 18) 16383)
 
 -- a chain of a list that agrees below place n
-pub begins-same : (xs ys : List ℕ) (n b top : ℕ) → ((p : ℕ) → p < n → getD ys p 0 ≡ getD xs p 0) → Begins xs n b top → Begins ys n b top
-begins-same xs ys n b top s g = record {
+pub begins-same : {xs ys : List ℕ} {n b top : ℕ} → ((p : ℕ) → p < n → getD ys p 0 ≡ getD xs p 0) → Begins xs n b top → Begins ys n b top
+begins-same {n = n} {top = top} s g = record {
   inside = g .inside;
   own = by-cases (decLt top n)
       (λ l. ⊎-elim inl (λ e. inr (ap (λ (x : ℕ). bucketOf (x % 2 ^ 48 / 256)) (s top l) ∙ e)) (g .own))
@@ -25,8 +25,8 @@ begins-same xs ys n b top s g = record {
 }
 
 -- with an element more that is not of the bucket
-pub begins-other : (xs : List ℕ) (n b top : ℕ) → (bucketAt xs n ≡ b → ⊥) → Begins xs n b top → Begins xs (n + 1) b top
-begins-other xs n b top o g = record {
+pub begins-other : {xs : List ℕ} {n b top : ℕ} → (bucketAt xs n ≡ b → ⊥) → Begins xs n b top → Begins xs (n + 1) b top
+begins-other {n = n} o g = record {
   inside = omega (arith, g .inside);
   own = g .own;
   above = λ p l e. by-cases (ℕ-discrete p n) (λ q. absurd (o (rw q at e))) (λ q. g .above p (omega arith) e);
@@ -37,12 +37,12 @@ pub begins-own : (xs : List ℕ) (n : ℕ) → Begins xs (n + 1) (bucketAt xs n)
 begins-own xs n = record { inside = omega arith; own = inr refl; above = λ p l e. omega arith }
 
 -- heads and links are places
-pub head-low : (xs heads last : List ℕ) (n : ℕ) → Chained xs heads last n → (b : ℕ) → b < 16384 → getD heads b 0 < 65536
-head-low xs heads last n C b l = omega (arith, C .begin b l .inside, C .fits, C .few)
+pub head-low : {xs heads last : List ℕ} {n : ℕ} → Chained xs heads last n → (b : ℕ) → b < 16384 → getD heads b 0 < 65536
+head-low C b l = omega (arith, C .begin b l .inside, C .fits, C .few)
 
 -- no key
-pub chained-none : (xs heads last : List ℕ) → length xs ≤ 65536 → heads ≡ replicate 16384 0 → last ≡ replicate 256 0 → Chained xs heads last 0
-chained-none xs heads last f eh el = record {
+pub chained-none : {xs heads last : List ℕ} → length xs ≤ 65536 → heads ≡ replicate 16384 0 → last ≡ replicate 256 0 → Chained xs heads last 0
+chained-none {heads = heads} f eh el = record {
   fits = omega arith;
   few = f;
   buckets = ap length eh ∙ length-replicate {A = ℕ} 16384 0;
@@ -57,7 +57,7 @@ chained-none xs heads last f eh el = record {
     zero b l = ap (λ (h : List ℕ). getD h b 0) eh ∙ getD-replicate 16384 b 0 0 l
 
 -- one key more
-module _ (xs heads last : List ℕ) (n : ℕ) (C : Chained xs heads last n) (y : ℕ) (room : n < length xs) (low : y < 2 ^ 48) (new : Lists xs n y → ⊥) where
+module _ {xs heads last : List ℕ} {n : ℕ} (C : Chained xs heads last n) (y : ℕ) (room : n < length xs) (low : y < 2 ^ 48) (new : Lists xs n y → ⊥) where
   abbrev b : ℕ
   b = bucketOf (y / 256)
 
@@ -95,13 +95,13 @@ module _ (xs heads last : List ℕ) (n : ℕ) (C : Chained xs heads last n) (y :
   begins-new c l =
       by-cases (ℕ-discrete c b)
       (λ e. rw (e, getD-set-same heads b n 0 (let h = bucket-low (y / 256) in omega (arith, C .buckets))) (rw bucket-new at (begins-own ys n)))
-      (λ e. rw (getD-set-other heads b c n 0 e) (begins-other ys n c (getD heads c 0) (λ q. e (sym q ∙ bucket-new)) (begins-same xs ys n c (getD heads c 0) put-same (C .begin c l))))
+      (λ e. rw (getD-set-other heads b c n 0 e) (begins-other (λ q. e (sym q ∙ bucket-new)) (begins-same put-same (C .begin c l))))
 
   links-new : (p : ℕ) → 0 < p → p < n + 1 → Begins ys p (bucketAt ys p) (linkAt ys p)
   links-new p h l =
       by-cases (ℕ-discrete p n)
-      (λ e. rw (e, link-new, bucket-new) (begins-same xs ys n b (getD heads b 0) put-same (C .begin b (bucket-low (y / 256)))))
-      (λ e. let k : p < n = omega arith in rw (put-same p k) (begins-same xs ys p (bucketAt xs p) (linkAt xs p) (λ q j. put-same q (omega arith)) (C .links p h k)))
+      (λ e. rw (e, link-new, bucket-new) (begins-same put-same (C .begin b (bucket-low (y / 256)))))
+      (λ e. let k : p < n = omega arith in rw (put-same p k) (begins-same (λ q j. put-same q (omega arith)) (C .links p h k)))
 
   once-new : (p q : ℕ) → p < q → q < n + 1 → keyAt ys p ≡ keyAt ys q → ⊥
   once-new p q h l e =

@@ -59,8 +59,7 @@ pub fn reachable(codes: &mut [u64], shape: Shape, opens: &[u8; 4096], parts: &[u
     if g.full {
         return g;
     }
-    let m = g.m;
-    to_codes(codes, m);
-    slice_sort_bytes::sort_first(codes, m);
-    Grow { m, full: false }
+    to_codes(codes, g.m);
+    slice_sort_bytes::sort_first(codes, g.m);
+    g
 }

@@ -33,16 +33,15 @@ pub fn firsts(
         (First r (now (parts .entry)) (shape .components) (shape .holds)) (now (keys .entry)) 0 (now (keys .exit))
         (now (heads .exit)) (now (last .exit)) (g .m) (g .full)) ⌝ }
 {
-    let mut m = 0;
+    let mut g = Grow { m: 0, full: false };
     let mut t = 0;
     loop {
-        let g = build_visit::initial::visit_first(keys, heads, last, m, t, shape, parts);
+        g = build_visit::initial::visit_first(keys, heads, last, g.m, t, shape, parts);
         if g.full {
             return g;
         }
-        m = g.m;
         if t == caps {
-            return Grow { m, full: false };
+            return g;
         }
         t = build_cores::next_ranks(t, caps);
     }
@@ -74,14 +73,14 @@ fn round(
 {
     let low = build_cores::lowest(caps);
     let all = low[15];
-    let mut m = n;
+    let mut g = Grow { m: n, full: false };
     let mut x = 0u8;
     loop {
-        let g = build_visit::spans::visit_set(
+        g = build_visit::spans::visit_set(
             keys,
             heads,
             last,
-            m,
+            g.m,
             from,
             x,
             all,
@@ -92,9 +91,8 @@ fn round(
         if g.full {
             return g;
         }
-        m = g.m;
         if x == all {
-            return Grow { m, full: false };
+            return g;
         }
         x += 1;
     }

@@ -229,7 +229,7 @@ reached-paired A H parts P s F f (leads {x} {y} R (v, w, l)) =
 
 -- ---- of a rule
 
-module _ (r : Rule) (parts : List ℕ) (shape : Shape) (S : Shaped r parts shape) where
+module _ {r : Rule} {parts : List ℕ} {shape : Shape} (S : Shaped r parts shape) where
   abbrev edge : ℕ → ℕ → Type 0
   edge = KeyEdge (automaton r) parts (shape .components) (shape .s)
 

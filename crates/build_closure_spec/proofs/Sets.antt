@@ -195,7 +195,7 @@ module _ (A : Automaton) (parts : List ℕ) (P : Parts A parts) (x : ℕ) (state
 
 -- ---- of a rule
 
-module _ (r : Rule) (parts : List ℕ) (shape : Shape) (S : Shaped r parts shape) where
+module _ {r : Rule} {parts : List ℕ} {shape : Shape} (S : Shaped r parts shape) where
   abbrev largest : ℕ
   largest = capsOf parts (shape .components)
 
@@ -243,14 +243,14 @@ module _ (r : Rule) (parts : List ℕ) (shape : Shape) (S : Shaped r parts shape
           rw (e, S .components-are) (span (automaton r) parts (S .masks) x states-of)
 
 -- where no key of an earlier set stands from place `from` on, nothing leads to the cores with the open states x
-pub nothing-fresh : (r : Rule) (opens parts : List ℕ) (shape : Shape) → RuleTables r opens parts shape → (xs heads last : List ℕ) (n from x : ℕ) → Chained xs heads last n
+pub nothing-fresh : {r : Rule} {opens parts : List ℕ} {shape : Shape} → RuleTables r opens parts shape → {xs heads last : List ℕ} {n : ℕ} (from x : ℕ) → Chained xs heads last n
     → ((a : ℕ) → a < shape .s → getD last (bitXor (getD opens (a * 256 + x) 0) (shape .accepting)) 0 ≤ from)
     → (v : ℕ) → openIn v ≡ x → (y : ℕ) → LeadsAt (automaton r) parts (shape .components) (shape .s) from n xs v y → ⊥
-nothing-fresh r opens parts shape T xs heads last n from x C h v o y l =
+nothing-fresh T from x C h v o y l =
     let a = l .1 .3 .0 in let known = l .1 .3 .1 in
     let L : Lowest v low = λ j k. tabulate-at 16 level 0 j k ∙ ap level (let z : 0 + j ≡ j = omega arith in z) in
-    let e : getD low 15 0 ≡ x = open-lowest r parts shape (T .shaped) v low L ∙ o in
-    nothing-new r opens parts shape T a v known (l .0) low L xs heads last n from C (rw e (h a known)) y (l .1 .0, l .1 .1, l .1 .2, l .1 .3 .2)
+    let e : getD low 15 0 ≡ x = open-lowest (T .shaped) v low L ∙ o in
+    nothing-new T a known (l .0) low L from C (rw e (h a known)) y (l .1 .0, l .1 .1, l .1 .2, l .1 .3 .2)
   where
     level : ℕ → ℕ
     level j = mask 8 (λ p. ltb 0 (rankAt v p) && leb (rankAt v p) j)

@@ -51,7 +51,7 @@ pub core-low : (A : Automaton) (v : ℕ) → v < 2 ^ 32 → coreOf A v < 2 ^ 40
 unfolding coreOf
 core-low A v h = omega (arith, mask-lt 8 (setOf A v))
 
-module _ (r : Rule) (parts : List ℕ) (shape : Shape) (S : Shaped r parts shape) where
+module _ {r : Rule} {parts : List ℕ} {shape : Shape} (S : Shaped r parts shape) where
   pub few : shape .components ≤ 8
   few = omega (arith, S .components-are, S .masks .few-components)
 

@@ -10,6 +10,7 @@ use Rattle.theory.specs.Rule.{Rule}
 use Rattle.theory.specs.Automaton.{Automaton, automaton}
 use Rattle.build_cores.specs.Vectors.{Within}
 use Rattle.build_cores.specs.Used.{gapless, capsOf}
+use Rattle.build_breakpoint.specs.Onward.{onwardIn}
 use Rattle.build_step_back.specs.Earlier.{coreOf, backOf, ontoOf}
 use Rattle.build_chains_spec.specs.Chains.{keyAt}
 use Rattle.build_chains_spec.specs.Growth.{After}
@@ -47,6 +48,13 @@ pub record Moved (earlier core : ℕ) (onto : ℕ → ℕ) (x y : ℕ) : Type 0 
 -- 01: "It goes over a letter to each core T whose earlier core is its own": the key x goes over the letter a to y, a key of the core of the vector v
 abbrev pub LeadsOver : Automaton → ℕ → ℕ → ℕ → ℕ → Type 0
 LeadsOver A v a x y = Moved (backOf A a v) (coreOf A v) (ontoOf A a v) x y
+
+-- 01: the step over the letter a into the core of the vector v. The numbers are those of the earlier core and of the core, and by the levels a pair
+-- of K and k goes on as the automaton's does.
+pub record Stepping (A : Automaton) (parts : List ℕ) (components v a earlier core : ℕ) (levels : List ℕ) : Type 0 where
+  pub earlier-is : earlier ≡ backOf A a v
+  pub core-is : core ≡ coreOf A v
+  pub onto-is : (pair : ℕ) → pair < 256 → pair % 16 < components → onwardIn v parts components levels pair ≡ ontoOf A a v pair
 
 -- over one of s letters
 abbrev pub Leads : Automaton → ℕ → ℕ → ℕ → ℕ → Type 0

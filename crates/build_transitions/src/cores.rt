@@ -2,10 +2,13 @@
 use crate::sources::emit_sources;
 use build_chains_spec::Grow;
 use build_closure_spec::Shape;
-ghost use mathlib.Core.Path.{_≡_};
-ghost use Prim.Native.Nat.{_+_, _*_, _^_, _<_, _≤_};
-ghost use lib.Bits.{bitXor};
-ghost use lib.ListN.{length, getD};
+use build_visit::letters::CoreStep;
+use build_visit::letters::LetterBack;
+use build_visit::letters::last_of;
+use build_visit::letters::set_before;
+use build_visit::letters::step_over;
+ghost use Prim.Native.Nat.{_<_, _≤_};
+ghost use lib.ListN.{length};
 ghost use Rattle.theory.specs.Rule.{Rule};
 ghost use Rattle.theory.specs.Automaton.{automaton};
 ghost use Rattle.build_chains_spec.specs.Chains.{Chained};
@@ -21,65 +24,39 @@ fn emit_letter(
     keys: &[u64],
     heads: &[u16; 16384],
     last: &[u32; 256],
-    n: usize,
-    core: u64,
-    ranks: u64,
+    at: LetterBack,
     low: &[u8; 16],
-    letter: usize,
     shape: Shape,
     opens: &[u8; 4096],
     parts: &[u8; 8],
 ) -> Grow
-    requires { ⌜ ((r : Rule) × RuleTables r (now opens) (now parts) shape × AllReached r (now parts) shape (now keys) n)
-        × Chained (now keys) (now heads) (now last) n
-        × (0 < n)
-        × Cored (now parts) (shape .components) ranks
-        × Lowest ranks (now low)
-        × (letter < shape .s)
-        × (core ≡ ranks * 2 ^ 8 + bitXor (getD (now low) 15 0) (shape .accepting))
+    requires { ⌜ ((r : Rule) × RuleTables r (now opens) (now parts) shape × AllReached r (now parts) shape (now keys) (length (now keys)))
+        × Chained (now keys) (now heads) (now last) (length (now keys))
+        × (0 < length (now keys))
+        × Cored (now parts) (shape .components) (at .ranks)
+        × Lowest (at .ranks) (now low)
+        × (at .letter < shape .s)
         × (m ≤ length (now out)) ⌝ }
     ensures { λ g. ⌜ ((r : Rule)
         → RuleTables r (now (opens .entry)) (now (parts .entry)) shape
-        → AllReached r (now (parts .entry)) shape (now (keys .entry)) n
-        → Emitted (Over (automaton r) (now (keys .entry)) n ranks letter) (now (out .entry)) m (now (out .exit)) (g .m) (g .full)) ⌝ }
+        → AllReached r (now (parts .entry)) shape (now (keys .entry)) (length (now (keys .entry)))
+        → Emitted (Over (automaton r) (now (keys .entry)) (length (now (keys .entry))) (at .ranks) (at .letter)) (now (out .entry)) m
+        (now (out .exit)) (g .m) (g .full)) ⌝ }
 {
-    let opened = low[15];
-    let set = build_visit::letters::set_before(opens, letter, opened, shape.accepting);
-    if build_visit::letters::last_of(last, set) == 0 {
+    let set = set_before(opens, at.letter, low[15], shape.accepting);
+    if last_of(last, set) == 0 {
         return Grow { m, full: false };
     }
-    let before = build_step_back::step_back(
-        opens,
-        letter,
-        opened,
-        parts,
-        shape.components,
-        shape.accepting,
-        low,
-    );
-    let earlier = build_visit::letters::earlier_core(
-        opens,
-        letter,
-        opened,
-        shape.accepting,
-        before.ranks,
-    );
-    let levels = before.levels;
-    emit_sources(
-        out,
-        m,
-        keys,
-        heads,
-        last,
-        n,
-        core,
-        earlier,
-        letter,
-        ranks,
-        parts,
-        shape.components,
-        &levels,
-    )
+    let cores = step_over(at, low, shape, opens, parts);
+    let levels = cores.levels;
+    let step = CoreStep {
+        earlier: cores.earlier,
+        core: cores.core,
+        ranks: at.ranks,
+        letter: at.letter,
+        components: shape.components,
+    };
+    emit_sources(out, m, keys, heads, last, step, parts, &levels)
 }
 
 // Writes the transitions into the core of the key at place j.
@@ -89,50 +66,34 @@ fn emit_core(
     keys: &[u64],
     heads: &[u16; 16384],
     last: &[u32; 256],
-    n: usize,
     j: usize,
     shape: Shape,
     opens: &[u8; 4096],
     parts: &[u8; 8],
 ) -> Grow
-    requires { ⌜ ((r : Rule) × RuleTables r (now opens) (now parts) shape × AllReached r (now parts) shape (now keys) n)
-        × Chained (now keys) (now heads) (now last) n
-        × (j < n)
+    requires { ⌜ ((r : Rule) × RuleTables r (now opens) (now parts) shape × AllReached r (now parts) shape (now keys) (length (now keys)))
+        × Chained (now keys) (now heads) (now last) (length (now keys))
+        × (j < length (now keys))
         × (m ≤ length (now out)) ⌝ }
     ensures { λ g. ⌜ ((r : Rule)
         → RuleTables r (now (opens .entry)) (now (parts .entry)) shape
-        → AllReached r (now (parts .entry)) shape (now (keys .entry)) n
-        → Emitted (Into (automaton r) (shape .s) (now (keys .entry)) n (vectorAt (now (keys .entry)) j)) (now (out .entry)) m
-        (now (out .exit)) (g .m) (g .full)) ⌝ }
+        → AllReached r (now (parts .entry)) shape (now (keys .entry)) (length (now (keys .entry)))
+        → Emitted (Into (automaton r) (shape .s) (now (keys .entry)) (length (now (keys .entry))) (vectorAt (now (keys .entry)) j))
+        (now (out .entry)) m (now (out .exit)) (g .m) (g .full)) ⌝ }
 {
     let ranks = (keys[j] & 0x0000_ffff_ffff_ffff) >> 16;
     let low = build_cores::lowest(ranks);
-    let core = build_step_back::core_of(low[15], shape.accepting, ranks);
-    let mut r = m;
+    let mut g = Grow { m, full: false };
     let mut a = 0;
     while a < shape.s {
-        let g = emit_letter(
-            out,
-            r,
-            keys,
-            heads,
-            last,
-            n,
-            core,
-            ranks,
-            &low,
-            a,
-            shape,
-            opens,
-            parts,
-        );
+        let at = LetterBack { ranks, letter: a };
+        g = emit_letter(out, g.m, keys, heads, last, at, &low, shape, opens, parts);
         if g.full {
             return g;
         }
-        r = g.m;
         a += 1;
     }
-    Grow { m: r, full: false }
+    g
 }
 
 // Writes the transitions between all keys.
@@ -141,31 +102,30 @@ pub fn emit(
     keys: &[u64],
     heads: &[u16; 16384],
     last: &[u32; 256],
-    n: usize,
     shape: Shape,
     opens: &[u8; 4096],
     parts: &[u8; 8],
 ) -> Grow
-    requires { ⌜ ((r : Rule) × RuleTables r (now opens) (now parts) shape × AllReached r (now parts) shape (now keys) n)
-        × Chained (now keys) (now heads) (now last) n ⌝ }
+    requires { ⌜ ((r : Rule) × RuleTables r (now opens) (now parts) shape × AllReached r (now parts) shape (now keys) (length (now keys)))
+        × Chained (now keys) (now heads) (now last) (length (now keys)) ⌝ }
     ensures { λ g. ⌜ ((r : Rule)
         → RuleTables r (now (opens .entry)) (now (parts .entry)) shape
-        → AllReached r (now (parts .entry)) shape (now (keys .entry)) n
-        → Emitted (Done (automaton r) (shape .s) (now (keys .entry)) n n) (now (out .entry)) 0 (now (out .exit)) (g .m) (g .full)) ⌝ }
+        → AllReached r (now (parts .entry)) shape (now (keys .entry)) (length (now (keys .entry)))
+        → Emitted (Done (automaton r) (shape .s) (now (keys .entry)) (length (now (keys .entry))) (length (now (keys .entry))))
+        (now (out .entry)) 0 (now (out .exit)) (g .m) (g .full)) ⌝ }
 {
-    let mut m = 0;
+    let mut g = Grow { m: 0, full: false };
     let mut j = 0;
-    while j < n {
-        if build_chains::core_before(keys, heads, last, n, j) {
+    while j < keys.len() {
+        if build_chains::core_before(keys, heads, last, keys.len(), j) {
             j += 1;
             continue;
         }
-        let g = emit_core(out, m, keys, heads, last, n, j, shape, opens, parts);
+        g = emit_core(out, g.m, keys, heads, last, j, shape, opens, parts);
         if g.full {
             return g;
         }
-        m = g.m;
         j += 1;
     }
-    Grow { m, full: false }
+    g
 }

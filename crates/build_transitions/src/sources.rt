@@ -1,5 +1,6 @@
 // The transitions over one letter into one core, from the keys of the core before it.
 use build_chains_spec::Grow;
+use build_visit::letters::CoreStep;
 ghost use mathlib.Core.Path.{_≡_};
 ghost use Prim.Native.Nat.{_%_, _^_, _<_, _≤_};
 ghost use lib.ListN.{length};
@@ -15,41 +16,36 @@ fn emit_source(
     keys: &[u64],
     heads: &[u16; 16384],
     last: &[u32; 256],
-    n: usize,
     p: usize,
     key: u64,
-    core: u64,
-    earlier: u64,
-    letter: usize,
-    ranks: u64,
+    step: CoreStep,
     parts: &[u8; 8],
-    components: usize,
     levels: &[u64; 8],
 ) -> Grow
-    requires { ⌜ Chained (now keys) (now heads) (now last) n
-        × (p < n)
+    requires { ⌜ Chained (now keys) (now heads) (now last) (length (now keys))
+        × (p < length (now keys))
         × (key ≡ keyAt (now keys) p)
-        × (key % 16 < components)
-        × (components ≤ 8)
-        × (core < 2 ^ 40)
-        × (letter < 16)
+        × (key % 16 < step .components)
+        × (step .components ≤ 8)
+        × (step .core < 2 ^ 40)
+        × (step .letter < 16)
         × (m ≤ length (now out)) ⌝ }
     ensures { λ g. ⌜ Emitted
-        (Crossing earlier core (onwardIn ranks (now (parts .entry)) components (now (levels .entry))) letter (now (keys .entry)) n p)
-        (now (out .entry)) m (now (out .exit)) (g .m) (g .full) ⌝ }
+        (Crossing (step .earlier) (step .core) (onwardIn (step .ranks) (now (parts .entry)) (step .components) (now (levels .entry)))
+        (step .letter) (now (keys .entry)) (length (now (keys .entry))) p) (now (out .entry)) m (now (out .exit)) (g .m) (g .full) ⌝ }
 {
-    if key >> 8 != earlier {
+    if key >> 8 != step.earlier {
         return Grow { m, full: false };
     }
-    let pair = build_breakpoint::onward(key & 0xff, ranks, parts, components, levels);
-    let t = build_chains::find(keys, heads, last, n, (core << 8) | pair);
-    if n <= t {
+    let pair = build_breakpoint::onward(key & 0xff, step.ranks, parts, step.components, levels);
+    let t = build_chains::find(keys, heads, last, keys.len(), (step.core << 8) | pair);
+    if keys.len() <= t {
         return Grow { m, full: false };
     }
     if m == out.len() {
         return Grow { m, full: true };
     }
-    out[m] = codes::pack_transition(p, letter, t);
+    out[m] = codes::pack_transition(p, step.letter, t);
     Grow {
         m: m + 1,
         full: false,
@@ -63,54 +59,43 @@ pub fn emit_sources(
     keys: &[u64],
     heads: &[u16; 16384],
     last: &[u32; 256],
-    n: usize,
-    core: u64,
-    earlier: u64,
-    letter: usize,
-    ranks: u64,
+    step: CoreStep,
     parts: &[u8; 8],
-    components: usize,
     levels: &[u64; 8],
 ) -> Grow
-    requires { ⌜ Chained (now keys) (now heads) (now last) n
-        × (0 < n)
-        × Paired components (now keys) n
-        × (components ≤ 8)
-        × (core < 2 ^ 40)
-        × (earlier < 2 ^ 40)
-        × (letter < 16)
+    requires { ⌜ Chained (now keys) (now heads) (now last) (length (now keys))
+        × (0 < length (now keys))
+        × Paired (step .components) (now keys) (length (now keys))
+        × (step .components ≤ 8)
+        × (step .core < 2 ^ 40)
+        × (step .earlier < 2 ^ 40)
+        × (step .letter < 16)
         × (m ≤ length (now out)) ⌝ }
     ensures { λ g. ⌜ Emitted
-        (Crossings earlier core (onwardIn ranks (now (parts .entry)) components (now (levels .entry))) letter (now (keys .entry)) n)
-        (now (out .entry)) m (now (out .exit)) (g .m) (g .full) ⌝ }
+        (Crossings (step .earlier) (step .core) (onwardIn (step .ranks) (now (parts .entry)) (step .components) (now (levels .entry)))
+        (step .letter) (now (keys .entry)) (length (now (keys .entry)))) (now (out .entry)) m (now (out .exit)) (g .m) (g .full) ⌝ }
 {
-    let mut r = m;
-    let mut i = heads[build_chains::bucket(earlier)] as usize;
+    let mut g = Grow { m, full: false };
+    let mut i = build_chains::chain_top(heads, step.earlier) as usize;
     loop {
         let x = keys[i];
-        let g = emit_source(
+        g = emit_source(
             out,
-            r,
+            g.m,
             keys,
             heads,
             last,
-            n,
             i,
             x & 0x0000_ffff_ffff_ffff,
-            core,
-            earlier,
-            letter,
-            ranks,
+            step,
             parts,
-            components,
             levels,
         );
         if g.full {
             return g;
         }
-        r = g.m;
         if i == 0 {
-            return Grow { m: r, full: false };
+            return g;
         }
         i = (x >> 48) as usize;
     }

@@ -57,12 +57,11 @@ pub fn transitions(
     let mut heads = [0u16; 16384];
     let mut last = [0u32; 256];
     chain(codes, &mut heads, &mut last);
-    let g = emit(out, codes, &heads, &last, n, shape, opens, parts);
+    let g = emit(out, codes, &heads, &last, shape, opens, parts);
     build_closure::reach::to_codes(codes, n);
     if g.full {
         return g;
     }
-    let m = g.m;
-    slice_sort_bytes::sort_first(out, m);
-    Grow { m, full: false }
+    slice_sort_bytes::sort_first(out, g.m);
+    g
 }

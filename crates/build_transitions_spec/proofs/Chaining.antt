@@ -35,15 +35,15 @@ pub record Chaining (xs ys heads last : List ℕ) (p : ℕ) : Type 0 where
   pub done : (q : ℕ) → q < p → keyAt ys q ≡ keyOf (getD xs q 0)
   pub rest : (q : ℕ) → p ≤ q → getD ys q 0 ≡ getD xs q 0
 
-pub chaining-start : (xs heads last : List ℕ) → Chained xs heads last 0 → Chaining xs xs heads last 0
-chaining-start xs heads last C = record { long = refl; chained = C; done = λ q l. absurd (omega arith); rest = λ q l. refl }
+pub chaining-start : {xs heads last : List ℕ} → Chained xs heads last 0 → Chaining xs xs heads last 0
+chaining-start C = record { long = refl; chained = C; done = λ q l. absurd (omega arith); rest = λ q l. refl }
 
 -- the key of the code that is read at place p
-pub key-read : (xs ys heads last : List ℕ) (p : ℕ) → Chaining xs ys heads last p → getD xs p 0 < 2 ^ 48 →
+pub key-read : {xs ys heads last : List ℕ} {p : ℕ} → Chaining xs ys heads last p → getD xs p 0 < 2 ^ 48 →
     bitOr (bitAnd (getD ys p 0) 1099511627775 * 2 ^ 8 % 2 ^ 64) (getD ys p 0 / 2 ^ 40) ≡ keyOf (getD xs p 0)
-key-read xs ys heads last p h low = ap (λ (c : ℕ). bitOr (bitAnd c 1099511627775 * 2 ^ 8 % 2 ^ 64) (c / 2 ^ 40)) (h .rest p (omega arith)) ∙ key-put (getD xs p 0) low
+key-read {xs} {p = p} h low = ap (λ (c : ℕ). bitOr (bitAnd c 1099511627775 * 2 ^ 8 % 2 ^ 64) (c / 2 ^ 40)) (h .rest p (omega arith)) ∙ key-put (getD xs p 0) low
 
-module _ (xs : List ℕ) (up : Ascending xs) (low : (p : ℕ) → p < length xs → getD xs p 0 < 2 ^ 48) (ys heads last : List ℕ) (p : ℕ) (h : Chaining xs ys heads last p) (l : p < length xs) (y : ℕ)
+module _ {xs ys heads last : List ℕ} {p : ℕ} (h : Chaining xs ys heads last p) (up : Ascending xs) (low : (p : ℕ) → p < length xs → getD xs p 0 < 2 ^ 48) (l : p < length xs) {y : ℕ}
     (e : y ≡ keyOf (getD xs p 0)) where
   back : (q : ℕ) → q < length xs → codeOf (keyOf (getD xs q 0)) ≡ getD xs q 0
   back q k = code-key (getD xs q 0) (let z = low q k in omega arith)
@@ -65,9 +65,9 @@ module _ (xs : List ℕ) (up : Ascending xs) (low : (p : ℕ) → p < length xs 
   pub chaining-next : Chaining xs (set ys p element) (set heads (bucketOf (y / 256)) p) (set last (y / 256 % 256) (p + 1)) (p + 1)
   chaining-next = record {
     long = length-set ys p element ∙ h .long;
-    chained = put-chained ys heads last p (h .chained) y room y-low new;
+    chained = put-chained (h .chained) y room y-low new;
     done = λ q k. by-cases (ℕ-discrete q p)
-        (λ d. rw d (key-new ys heads last p (h .chained) y room y-low new ∙ e))
-        (λ d. ap (λ (x : ℕ). x % 2 ^ 48) (put-same ys heads last p (h .chained) y room y-low new q (omega arith)) ∙ h .done q (omega arith));
+        (λ d. rw d (key-new (h .chained) y room y-low new ∙ e))
+        (λ d. ap (λ (x : ℕ). x % 2 ^ 48) (put-same (h .chained) y room y-low new q (omega arith)) ∙ h .done q (omega arith));
     rest = λ q k. getD-set-other ys p q element 0 (λ d. omega arith) ∙ h .rest q (omega arith);
   }

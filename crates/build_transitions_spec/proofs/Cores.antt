@@ -1,11 +1,9 @@
 -- Letter by letter into one core, and core by core.
 use mathlib.Core.Path.{_≡_, refl, ap, sym, _∙_}
-use mathlib.Core.Logic.{_⊎_, inl, inr, ⊎-elim, by-cases}
 use mathlib.Core.Bool.{Bool, true, false}
 use mathlib.Core.List.{List}
 use Prim.Native.Nat.{ℕ, _+_, _*_, _/_, _%_, _^_, _≤_, _<_}
 use native.Mathlib.Omega.{arith}
-use native.Mathlib.Decide.{decLt}
 use lib.ListN.{length}
 use Rattle.sets.proofs.Masks.{mask-lt}
 use Rattle.theory.specs.Automaton.{Automaton, automaton}
@@ -26,7 +24,6 @@ use Rattle.build_closure_spec.specs.declared.Shape.{Shape}
 use Rattle.build_closure_spec.proofs.Keys.{key-core}
 use Rattle.build_closure_spec.proofs.Link.{vector, vector-cored, vector-core, onto-low, key-paired, reached-in}
 use Rattle.build_transitions_spec.specs.Emission.{Emitted, Over, Into, vectorAt, Done}
-use Rattle.build_transitions_spec.proofs.Emission.{emitted-none, emitted-as, emitted-then, emitted-over}
 
 pub core-vector : (A : Automaton) (v : ℕ) → coreOf A v / 256 ≡ v
 unfolding coreOf
@@ -34,43 +31,23 @@ core-vector A v = omega (arith, mask-lt 8 (setOf A v))
 
 -- ---- letters: those below a are done
 
-module _ (A : Automaton) (keys : List ℕ) (n v : ℕ) (few : n ≤ 65536) (xs : List ℕ) (m : ℕ) where
-  pub letters-start : m ≤ length xs → Emitted (Into A 0 keys n v) xs m xs m false
-  letters-start h = emitted-none (Into A 0 keys n v) xs m h (λ y f. omega (arith, f .1))
-
-  module _ (a : ℕ) (low : a < 256) (ys : List ℕ) (r : ℕ) (g : Emitted (Into A a keys n v) xs m ys r false) (zs : List ℕ) (u : ℕ) (full : Bool) (h : Emitted (Over A keys n v a) ys r zs u full) where
-    -- transitions over different letters are different
-    letters-apart : (y : ℕ) → Into A a keys n v y → Over A keys n v a y → ⊥
-    letters-apart y f k =
-        let e : f .0 ≡ a = sym (letter-is (f .2 .0) (f .0) (f .2 .2 .0) (omega (arith, f .1)) (omega (arith, f .2 .2 .1))) ∙ ap letterOf (sym (f .2 .2 .3) ∙ k .2 .3)
-        ∙ letter-is (k .0) a (k .2 .0) low (omega (arith, k .2 .1)) in
-        omega (arith, f .1)
-
-    letters-both : Emitted (λ y. Into A a keys n v y ⊎ Over A keys n v a y) xs m zs u full
-    letters-both = emitted-then (Into A a keys n v) xs m ys r false g refl (Over A keys n v a) zs u full h letters-apart
-
-    letters-join : (y : ℕ) → Into A a keys n v y ⊎ Over A keys n v a y → Into A (a + 1) keys n v y
-    letters-join y = ⊎-elim (λ f. (f .0, omega (arith, f .1), f .2)) (λ k. (a, omega arith, k))
-
-    letters-part : (y : ℕ) → Into A (a + 1) keys n v y → Into A a keys n v y ⊎ Over A keys n v a y
-    letters-part y f = by-cases (decLt (f .0) a) (λ l. inl (f .0, l, f .2)) (λ l. let e : f .0 ≡ a = omega (arith, f .1) in inr (rw e at (f .2)))
-
-    pub letters-next : full ≡ false → Emitted (Into A (a + 1) keys n v) xs m zs u false
-    letters-next e = rw e at (emitted-as _ xs m zs u full letters-both (Into A (a + 1) keys n v) letters-join (λ t. letters-part))
-
-    pub letters-full : (s : ℕ) → a < s → full ≡ true → Emitted (Into A s keys n v) xs m zs u full
-    letters-full s l e = emitted-over _ (Into A s keys n v) xs m zs u full e letters-both (λ y f. let k = letters-join y f in (k .0, omega (arith, k .1), k .2))
+-- transitions over different letters are different
+pub letters-apart : (A : Automaton) (keys : List ℕ) (v : ℕ) {n : ℕ} → n ≤ 65536 → (a : ℕ) → a < 256 → (y : ℕ) → Into A a keys n v y → Over A keys n v a y → ⊥
+letters-apart A keys v few a low y f k =
+    let e : f .0 ≡ a = sym (letter-is (f .2 .0) (f .0) (f .2 .2 .0) (omega (arith, f .1)) (omega (arith, f .2 .2 .1))) ∙ ap letterOf (sym (f .2 .2 .3) ∙ k .2 .3)
+    ∙ letter-is (k .0) a (k .2 .0) low (omega (arith, k .2 .1)) in
+    omega (arith, f .1)
 
 -- ---- the keys: each that of a macrostate
 
-module _ (r : Rule) (opens parts : List ℕ) (shape : Shape) (T : RuleTables r opens parts shape) where
+module _ {r : Rule} {opens parts : List ℕ} {shape : Shape} (T : RuleTables r opens parts shape) where
   abbrev A : Automaton
   A = automaton r
 
   -- the vector of a key is that of a core, and the core is its
   pub key-cored : (y : ℕ) → ReachedKey r parts shape y → Cored parts (shape .components) (y / 256 / 256) × (y / 256 ≡ coreOf A (y / 256 / 256))
   key-cored y R =
-      let k = reached-in r parts shape (T .shaped) y R in
+      let k = reached-in (T .shaped) y R in
       let M = reachable-macrostate A (layered r (T .shaped .passing)) (few-states r (T .shaped .passing)) (components-there r (T .shaped .passing)) (r .s) (startOf r (shape .holds)) (k .1) in
       at (k .0) M (k .2)
     where
@@ -81,7 +58,7 @@ module _ (r : Rule) (opens parts : List ℕ) (shape : Shape) (T : RuleTables r o
           let is : y / 256 / 256 ≡ v = ap (λ (x : ℕ). x / 256) core ∙ core-vector A v in
           (rw (is, T .shaped .components-are) (vector-cored A (layered r (T .shaped .passing)) parts (T .shaped .masks) c M), core ∙ ap (coreOf A) (sym is))
 
-  module _ (keys heads last : List ℕ) (n : ℕ) (C : Chained keys heads last n) (R : AllReached r parts shape keys n) where
+  module _ {keys heads last : List ℕ} {n : ℕ} (C : Chained keys heads last n) (R : AllReached r parts shape keys n) where
     few : n ≤ 65536
     few = omega (arith, C .fits, C .few)
 
@@ -91,41 +68,14 @@ module _ (r : Rule) (opens parts : List ℕ) (shape : Shape) (T : RuleTables r o
         let l = f .1 in let k = T .table .few-letters in let q = T .shaped .letters-are in
         let h : t ≡ f .2 .2 .0 = e ∙ ap targetOf (f .2 .2 .3) ∙ target-is (f .2 .0) (f .0) (f .2 .2 .0) (omega arith) (omega (arith, f .2 .2 .1, few)) in
         let o = onto-low A (layered r (T .shaped .passing)) parts (T .shaped .masks) v (rw (T .shaped .components-are) at w) (f .0) (keyAt keys (f .2 .0) % 256)
-        (let p = key-paired r parts shape (T .shaped) (R (f .2 .0) (f .2 .1)) in omega (arith, T .shaped .components-are)) in
+        (let p = key-paired (T .shaped) (R (f .2 .0) (f .2 .1)) in omega (arith, T .shaped .components-are)) in
         rw h (omega (arith, f .2 .2 .2 .to))
 
     -- the core of place j comes for the first time: no transition into it is done
-    fresh : (j : ℕ) → j < n → (Before keys j → ⊥) → (y : ℕ) → Done A (shape .s) keys n j y → Into A (shape .s) keys n (vectorAt keys j) y → ⊥
+    pub fresh : (j : ℕ) → j < n → (Before keys j → ⊥) → (y : ℕ) → Done A (shape .s) keys n j y → Into A (shape .s) keys n (vectorAt keys j) y → ⊥
     fresh j l o y d f =
         let K = key-cored (keyAt keys j) (R j l) in
         let Q = key-cored (keyAt keys (d .0)) (R (d .0) (omega (arith, d .1))) in
         let e : coreOf A (vectorAt keys (d .0)) ≡ coreOf A (vectorAt keys j) =
         sym (into-core (vectorAt keys (d .0)) (Q .0) y (targetOf y) (d .2) refl) ∙ into-core (vectorAt keys j) (K .0) y (targetOf y) f refl in
         o (d .0, d .1, Q .1 ∙ e ∙ sym (K .1))
-
-    module _ (xs : List ℕ) where
-      pub cores-start : Emitted (Done A (shape .s) keys n 0) xs 0 xs 0 false
-      cores-start = emitted-none (Done A (shape .s) keys n 0) xs 0 (omega arith) (λ y f. omega (arith, f .1))
-
-      module _ (j : ℕ) (l : j < n) (ys : List ℕ) (m : ℕ) (g : Emitted (Done A (shape .s) keys n j) xs 0 ys m false) where
-        cores-join : (y : ℕ) → Done A (shape .s) keys n j y ⊎ Into A (shape .s) keys n (vectorAt keys j) y → Done A (shape .s) keys n (j + 1) y
-        cores-join y = ⊎-elim (λ f. (f .0, omega (arith, f .1), f .2)) (λ k. (j, omega arith, k))
-
-        cores-part : (y : ℕ) → Done A (shape .s) keys n (j + 1) y → Done A (shape .s) keys n j y ⊎ Into A (shape .s) keys n (vectorAt keys j) y
-        cores-part y f = by-cases (decLt (f .0) j) (λ k. inl (f .0, k, f .2)) (λ k. let e : f .0 ≡ j = omega (arith, f .1) in inr (rw e at (f .2)))
-
-        -- a core that was there before
-        pub cores-skip : Before keys j → Emitted (Done A (shape .s) keys n (j + 1)) xs 0 ys m false
-        cores-skip b =
-            emitted-as (Done A (shape .s) keys n j) xs 0 ys m false g (Done A (shape .s) keys n (j + 1)) (λ y d. cores-join y (inl d))
-            (λ t y d. ⊎-elim (λ f. f) (λ f. (b .0, b .1, rw (ap (λ (x : ℕ). x / 256) (b .2)) f)) (cores-part y d))
-
-        module _ (o : Before keys j → ⊥) (zs : List ℕ) (u : ℕ) (full : Bool) (h : Emitted (Into A (shape .s) keys n (vectorAt keys j)) ys m zs u full) where
-          cores-both : Emitted (λ y. Done A (shape .s) keys n j y ⊎ Into A (shape .s) keys n (vectorAt keys j) y) xs 0 zs u full
-          cores-both = emitted-then (Done A (shape .s) keys n j) xs 0 ys m false g refl (Into A (shape .s) keys n (vectorAt keys j)) zs u full h (fresh j l o)
-
-          pub cores-next : full ≡ false → Emitted (Done A (shape .s) keys n (j + 1)) xs 0 zs u false
-          cores-next e = rw e at (emitted-as _ xs 0 zs u full cores-both (Done A (shape .s) keys n (j + 1)) cores-join (λ t. cores-part))
-
-          pub cores-full : full ≡ true → Emitted (Done A (shape .s) keys n n) xs 0 zs u full
-          cores-full e = emitted-over _ (Done A (shape .s) keys n n) xs 0 zs u full e cores-both (λ y f. let k = cores-join y f in (k .0, omega (arith, k .1), k .2))

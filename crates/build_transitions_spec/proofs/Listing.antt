@@ -53,7 +53,7 @@ module _ (ys : List ℕ) (m : ℕ) (fits : m ≤ length ys) where
       distinct-at (take m ys)
       (λ i j a b e. let l : j < m = omega (arith, length-take-le m ys fits) in h i j (omega arith) a l (sym (getD-take m ys i 0 (omega arith)) ∙ e ∙ getD-take m ys j 0 l))
 
-module _ (r : Rule) (opens parts : List ℕ) (shape : Shape) (T : RuleTables r opens parts shape) where
+module _ {r : Rule} {opens parts : List ℕ} {shape : Shape} (T : RuleTables r opens parts shape) where
   abbrev start : Set
   start = startOf r (shape .holds)
 
@@ -81,7 +81,7 @@ module _ (r : Rule) (opens parts : List ℕ) (shape : Shape) (T : RuleTables r o
   -- keys holds the keys of the codes
   module _ (few : n ≤ 65536) (keys : List ℕ) (is : (p : ℕ) → p < n → keyAt keys p ≡ keyOf (code p)) where
     pub all-reached : AllReached r parts shape keys n
-    all-reached p l = reached-out r parts shape (T .shaped) (keyAt keys p) (code p, reached p l, is p l)
+    all-reached p l = reached-out (T .shaped) (keyAt keys p) (code p, reached p l, is p l)
 
     vector-is : (j : ℕ) (l : j < n) → vector A (layered r (T .shaped .passing)) parts (T .shaped .masks) (code j) (macrostate j l) ≡ vectorAt keys j
     vector-is j l =
@@ -110,7 +110,7 @@ module _ (r : Rule) (opens parts : List ℕ) (shape : Shape) (T : RuleTables r o
     done-out : (y : ℕ) → Done A (shape .s) keys n n y → List·Memᴰ y (transitionsFrom r start)
     done-out y d =
         let f = d .2 .2 in
-        let w = key-cored r opens parts shape T (keyAt keys (d .0)) (all-reached (d .0) (d .1)) .0 in
+        let w = key-cored T (keyAt keys (d .0)) (all-reached (d .0) (d .1)) .0 in
         transition-iff r (T .shaped .passing) start few y .1 (record {
           source = f .0;
           letter = d .2 .0;
@@ -122,10 +122,10 @@ module _ (r : Rule) (opens parts : List ℕ) (shape : Shape) (T : RuleTables r o
           steps = goes-on (vectorAt keys (d .0)) w (f .0) (f .2 .0) (d .2 .0) (f .1) (f .2 .1) (f .2 .2);
         })
 
-    module _ (xs ys : List ℕ) (m : ℕ) where
+    module _ {xs ys : List ℕ} {m : ℕ} where
       -- sorted
-      pub all-written : Emitted (Done A (shape .s) keys n n) xs 0 ys m false → (us : List ℕ) → ArrangedFirst ys m us → take m us ≡ transitionsFrom r start
-      all-written g us a =
+      pub all-written : Emitted (Done A (shape .s) keys n n) xs 0 ys m false → {us : List ℕ} → ArrangedFirst ys m us → take m us ≡ transitionsFrom r start
+      all-written g {us} a =
           asc-ext (take m us) (transitionsFrom r start) (arranged-asc (take m ys) (take m us) (once-distinct ys m (g .fits) (g .once)) (a .front)) (transitions-ascending r (T .shaped .passing) start)
           (λ y k. let s = in-stands ys m (g .fits) y (rearranged-out (take m ys) (take m us) y (a .front .rearranged) k) in done-out y (rw (s .3) at (g .only (s .0) (s .1) (s .2))))
           (λ y k. rearranged-in (take m ys) (take m us) y (a .front .rearranged) (stands-in ys m (g .fits) y (g .whole refl y (done-in y k))))

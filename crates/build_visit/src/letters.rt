@@ -12,9 +12,18 @@ ghost use Rattle.build_cores.specs.Used.{capsOf};
 ghost use Rattle.build_breakpoint.specs.Onward.{onwardIn};
 ghost use Rattle.build_chains_spec.specs.Chains.{Chained};
 ghost use Rattle.build_chains_spec.specs.Growth.{Grown, After};
-ghost use Rattle.build_closure_spec.specs.Keys.{Paired, Cored, Moved, LeadsOver, LeadsAt};
+ghost use Rattle.build_closure_spec.specs.Keys.{Paired, Cored, Moved, LeadsOver, LeadsAt, Stepping};
 ghost use Rattle.build_closure_spec.specs.Reached.{ReachedKey, AllReached};
 ghost use Rattle.build_closure_spec.specs.Tables.{RuleTables, Lowest};
+
+// A step over a letter from the earlier core to the core of these ranks. Cores are given by their numbers.
+pub struct CoreStep {
+    pub earlier: u64,
+    pub core: u64,
+    pub ranks: u64,
+    pub letter: usize,
+    pub components: usize,
+}
 
 // Adds the key of a core that a key leads to over a letter, if it is one of the earlier core.
 fn move_key(
@@ -23,26 +32,24 @@ fn move_key(
     last: &mut [u32; 256],
     n: usize,
     key: u64,
-    core: u64,
-    earlier: u64,
-    ranks: u64,
+    step: CoreStep,
     parts: &[u8; 8],
-    components: usize,
     levels: &[u64; 8],
 ) -> Grow
     requires { ⌜ Chained (now keys) (now heads) (now last) n
-        × (key % 16 < components)
-        × (components ≤ 8)
-        × (core < 2 ^ 40) ⌝ }
-    ensures { λ g. ⌜ Grown (Moved earlier core (onwardIn ranks (now (parts .entry)) components (now (levels .entry))) key)
-        (Moved earlier core (onwardIn ranks (now (parts .entry)) components (now (levels .entry))) key) (now (keys .entry)) n
-        (now (keys .exit)) (now (heads .exit)) (now (last .exit)) (g .m) (g .full) ⌝ }
+        × (key % 16 < step .components)
+        × (step .components ≤ 8)
+        × (step .core < 2 ^ 40) ⌝ }
+    ensures { λ g. ⌜ Grown
+        (Moved (step .earlier) (step .core) (onwardIn (step .ranks) (now (parts .entry)) (step .components) (now (levels .entry))) key)
+        (Moved (step .earlier) (step .core) (onwardIn (step .ranks) (now (parts .entry)) (step .components) (now (levels .entry))) key)
+        (now (keys .entry)) n (now (keys .exit)) (now (heads .exit)) (now (last .exit)) (g .m) (g .full) ⌝ }
 {
-    if key >> 8 != earlier {
+    if key >> 8 != step.earlier {
         return Grow { m: n, full: false };
     }
-    let pair = build_breakpoint::onward(key & 0xff, ranks, parts, components, levels);
-    build_chains::admit(keys, heads, last, n, (core << 8) | pair)
+    let pair = build_breakpoint::onward(key & 0xff, step.ranks, parts, step.components, levels);
+    build_chains::admit(keys, heads, last, n, (step.core << 8) | pair)
 }
 
 // Adds the keys of a core that the n keys from place `from` on lead to over a letter: the keys of the earlier core stand in one chain.
@@ -52,53 +59,46 @@ fn move_keys(
     last: &mut [u32; 256],
     n: usize,
     from: usize,
-    core: u64,
-    earlier: u64,
-    ranks: u64,
+    step: CoreStep,
     parts: &[u8; 8],
-    components: usize,
     levels: &[u64; 8],
 ) -> Grow
     requires { ⌜ Chained (now keys) (now heads) (now last) n
         × (from < n)
-        × Paired components (now keys) n
-        × (components ≤ 8)
-        × (core < 2 ^ 40)
-        × (earlier < 2 ^ 40) ⌝ }
+        × Paired (step .components) (now keys) n
+        × (step .components ≤ 8)
+        × (step .core < 2 ^ 40)
+        × (step .earlier < 2 ^ 40) ⌝ }
     ensures { λ g. ⌜ Grown
         (After from n (now (keys .entry))
-        (Moved earlier core (onwardIn ranks (now (parts .entry)) components (now (levels .entry)))))
+        (Moved (step .earlier) (step .core) (onwardIn (step .ranks) (now (parts .entry)) (step .components) (now (levels .entry)))))
         (After 0 n (now (keys .entry))
-        (Moved earlier core (onwardIn ranks (now (parts .entry)) components (now (levels .entry))))) (now (keys .entry)) n
-        (now (keys .exit)) (now (heads .exit)) (now (last .exit)) (g .m) (g .full) ⌝ }
+        (Moved (step .earlier) (step .core) (onwardIn (step .ranks) (now (parts .entry)) (step .components) (now (levels .entry)))))
+        (now (keys .entry)) n (now (keys .exit)) (now (heads .exit)) (now (last .exit)) (g .m) (g .full) ⌝ }
 {
-    let mut m = n;
-    let mut i = heads[build_chains::bucket(earlier)] as usize;
+    let mut g = Grow { m: n, full: false };
+    let mut i = build_chains::chain_top(heads, step.earlier) as usize;
     while from <= i {
         let x = keys[i];
-        let g = move_key(
+        g = move_key(
             keys,
             heads,
             last,
-            m,
+            g.m,
             x & 0x0000_ffff_ffff_ffff,
-            core,
-            earlier,
-            ranks,
+            step,
             parts,
-            components,
             levels,
         );
         if g.full {
             return g;
         }
-        m = g.m;
         if i == 0 {
-            return Grow { m, full: false };
+            return g;
         }
         i = (x >> 48) as usize;
     }
-    Grow { m, full: false }
+    g
 }
 
 // The set before a letter, of the set with these open states.
@@ -131,6 +131,55 @@ pub fn wide(x: u32) -> usize
     x as usize
 }
 
+// A letter, to step back over it from the core of these ranks.
+pub struct LetterBack {
+    pub ranks: u64,
+    pub letter: usize,
+}
+
+// The numbers of the earlier core and of the core, and the levels with which pairs go on from one to the other.
+pub struct StepCores {
+    pub earlier: u64,
+    pub core: u64,
+    pub levels: [u64; 8],
+}
+
+// The step back over a letter from a core.
+pub fn step_over(
+    at: LetterBack,
+    low: &[u8; 16],
+    shape: Shape,
+    opens: &[u8; 4096],
+    parts: &[u8; 8],
+) -> StepCores
+    requires { ⌜ ((r : Rule) × RuleTables r (now opens) (now parts) shape)
+        × Cored (now parts) (shape .components) (at .ranks)
+        × Lowest (at .ranks) (now low)
+        × (at .letter < shape .s) ⌝ }
+    ensures { λ c. ⌜ ((r : Rule)
+        → RuleTables r (now (opens .entry)) (now (parts .entry)) shape
+        → Stepping (automaton r) (now (parts .entry)) (shape .components) (at .ranks) (at .letter) (c .earlier) (c .core) (c .levels)) ⌝ }
+{
+    let opened = low[15];
+    let before = build_step_back::step_back(
+        opens,
+        at.letter,
+        opened,
+        parts,
+        shape.components,
+        shape.accepting,
+        low,
+    );
+    let earlier = earlier_core(opens, at.letter, opened, shape.accepting, before.ranks);
+    let core = build_step_back::core_of(opened, shape.accepting, at.ranks);
+    let levels = before.levels;
+    StepCores {
+        earlier,
+        core,
+        levels,
+    }
+}
+
 // Adds the keys of the core of these ranks that the n keys from place `from` on lead to over one letter. The letter is skipped
 // where no key of the earlier set stands there.
 fn visit_letter(
@@ -139,10 +188,8 @@ fn visit_letter(
     last: &mut [u32; 256],
     n: usize,
     from: usize,
-    core: u64,
-    ranks: u64,
+    at: LetterBack,
     low: &[u8; 16],
-    letter: usize,
     shape: Shape,
     opens: &[u8; 4096],
     parts: &[u8; 8],
@@ -150,45 +197,30 @@ fn visit_letter(
     requires { ⌜ ((r : Rule) × RuleTables r (now opens) (now parts) shape × AllReached r (now parts) shape (now keys) n)
         × Chained (now keys) (now heads) (now last) n
         × (from < n)
-        × Cored (now parts) (shape .components) ranks
-        × Lowest ranks (now low)
-        × (letter < shape .s)
-        × (core ≡ ranks * 2 ^ 8 + bitXor (getD (now low) 15 0) (shape .accepting)) ⌝ }
+        × Cored (now parts) (shape .components) (at .ranks)
+        × Lowest (at .ranks) (now low)
+        × (at .letter < shape .s) ⌝ }
     ensures { λ g. ⌜ ((r : Rule)
         → RuleTables r (now (opens .entry)) (now (parts .entry)) shape
         → AllReached r (now (parts .entry)) shape (now (keys .entry)) n
-        → Grown (After from n (now (keys .entry)) (LeadsOver (automaton r) ranks letter)) (ReachedKey r (now (parts .entry)) shape)
-        (now (keys .entry)) n (now (keys .exit)) (now (heads .exit)) (now (last .exit)) (g .m) (g .full)) ⌝ }
+        → Grown (After from n (now (keys .entry)) (LeadsOver (automaton r) (at .ranks) (at .letter)))
+        (ReachedKey r (now (parts .entry)) shape) (now (keys .entry)) n (now (keys .exit)) (now (heads .exit)) (now (last .exit))
+        (g .m) (g .full)) ⌝ }
 {
-    let opened = low[15];
-    let set = set_before(opens, letter, opened, shape.accepting);
+    let set = set_before(opens, at.letter, low[15], shape.accepting);
     if wide(last_of(last, set)) <= from {
         return Grow { m: n, full: false };
     }
-    let before = build_step_back::step_back(
-        opens,
-        letter,
-        opened,
-        parts,
-        shape.components,
-        shape.accepting,
-        low,
-    );
-    let earlier = earlier_core(opens, letter, opened, shape.accepting, before.ranks);
-    let levels = before.levels;
-    move_keys(
-        keys,
-        heads,
-        last,
-        n,
-        from,
-        core,
-        earlier,
-        ranks,
-        parts,
-        shape.components,
-        &levels,
-    )
+    let cores = step_over(at, low, shape, opens, parts);
+    let levels = cores.levels;
+    let step = CoreStep {
+        earlier: cores.earlier,
+        core: cores.core,
+        ranks: at.ranks,
+        letter: at.letter,
+        components: shape.components,
+    };
+    move_keys(keys, heads, last, n, from, step, parts, &levels)
 }
 
 // Adds the keys of the core of these ranks that the n keys from place `from` on lead to; none if the ranks are no core's.
@@ -214,33 +246,19 @@ pub fn visit(
         (ReachedKey r (now (parts .entry)) shape) (now (keys .entry)) n (now (keys .exit)) (now (heads .exit)) (now (last .exit))
         (g .m) (g .full)) ⌝ }
 {
+    let mut g = Grow { m: n, full: false };
     if !build_cores::is_core(ranks, parts, shape.components) {
-        return Grow { m: n, full: false };
+        return g;
     }
     let low = build_cores::lowest(ranks);
-    let core = build_step_back::core_of(low[15], shape.accepting, ranks);
-    let mut m = n;
     let mut a = 0;
     while a < shape.s {
-        let g = visit_letter(
-            keys,
-            heads,
-            last,
-            m,
-            from,
-            core,
-            ranks,
-            &low,
-            a,
-            shape,
-            opens,
-            parts,
-        );
+        let at = LetterBack { ranks, letter: a };
+        g = visit_letter(keys, heads, last, g.m, from, at, &low, shape, opens, parts);
         if g.full {
             return g;
         }
-        m = g.m;
         a += 1;
     }
-    Grow { m, full: false }
+    g
 }

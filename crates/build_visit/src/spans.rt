@@ -97,25 +97,24 @@ pub fn visit_set(
         (ReachedKey r (now (parts .entry)) shape) (now (keys .entry)) n (now (keys .exit)) (now (heads .exit)) (now (last .exit))
         (g .m) (g .full)) ⌝ }
 {
+    let mut g = Grow { m: n, full: false };
     if x & all != x {
-        return Grow { m: n, full: false };
+        return g;
     }
     if !is_fresh(opens, last, from, x, shape) {
-        return Grow { m: n, full: false };
+        return g;
     }
     let span = span_of(parts, shape, x);
     let base = span.base;
     let caps = span.caps;
-    let mut m = n;
     let mut d = 0;
     loop {
-        let g = visit(keys, heads, last, m, from, base + d, shape, opens, parts);
+        g = visit(keys, heads, last, g.m, from, base + d, shape, opens, parts);
         if g.full {
             return g;
         }
-        m = g.m;
         if d == caps {
-            return Grow { m, full: false };
+            return g;
         }
         d = build_cores::next_ranks(d, caps);
     }

@@ -43,7 +43,7 @@ module _ (r : Rule) (opens parts : List ℕ) (shape : Shape) (T : RuleTables r o
       (back : ℕ) (levels : List ℕ) (B : Back opens a (getD low 15 0) parts (shape .components) low back levels) where
     top-level : (K : ℕ) → K < (automaton r) .components → getD levels K 0 / 2 ^ 60 % 16 ≡ levelLeft (automaton r) a ranks K 15
     top-level K l = level-is (automaton r) (layered r (T .shaped .passing)) (r .s) opens parts (T .shaped .masks) (T .table) a ranks (omega (arith, T .shaped .letters-are))
-        (within-all r parts shape (T .shaped) ranks (w .within)) low L back levels (rw (T .shaped .components-are) at B) K 15 l (omega arith)
+        (within-all (T .shaped) ranks (w .within)) low L back levels (rw (T .shaped .components-are) at B) K 15 l (omega arith)
 
     pub over-is : (c d : ℕ) → Macrostate (automaton r) d → vectorOf (automaton r) (rankIn (automaton r) d) ≡ ranks → Goes (automaton r) c a d
         → mask (shape .components) (sparedIn ranks parts levels) ≡ mask 8 (λ K. ltb K ((automaton r) .components) && spares (automaton r) a c d K)

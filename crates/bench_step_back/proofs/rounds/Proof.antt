@@ -13,7 +13,7 @@ abbrev μ-loop : tie.MeasureT-loop
 μ-loop shape opens parts caps tally₀ i₀ tally i = 1000 - i
 
 largest-ranks-requires : tie.Need-largest-ranks-requires Inv-loop μ-loop
-largest-ranks-requires c κs = let p = c .pre in few (p .0) (c .args .parts .now) (c .args .shape) (p .1 .shaped)
+largest-ranks-requires c κs = let p = c .pre in few (p .1 .shaped)
 
 sweep-requires : tie.Need-sweep-requires Inv-loop μ-loop
 sweep-requires c κs = (c .before .before .before .pre, c .before .before .largest-ranks .ensures)

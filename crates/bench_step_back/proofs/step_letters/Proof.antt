@@ -16,8 +16,8 @@ abbrev μ-loop : tie.MeasureT-loop
 step-back-requires : tie.Need-step-back-requires Inv-loop μ-loop
 step-back-requires c κs =
     let a = c .before .before .before .before .args in let p = c .before .before .before .before .pre in let e = p .0 in (
-      few (e .0) (a .parts .now) (a .shape) (e .1 .shaped),
-      rises (e .0) (a .opens .now) (a .parts .now) (a .shape) (e .1) (c .before .before .loop .a) (a .ranks) (c .if1 .taken) (p .1) (a .low .now)
+      few (e .1 .shaped),
+      rises (e .1) (c .before .before .loop .a) (c .if1 .taken) (p .1) (a .low .now)
           (p .2),
     )
 

@@ -2,9 +2,10 @@
 use Prim.Native.Nat.{_-_, _^_, _<_}
 use native.Mathlib.Omega.{arith}
 use Rattle.build_cores.specs.Vectors.{Within}
-use Rattle.build_cores.proofs.Next.{more, within-next}
+use Rattle.build_cores.proofs.Next.{within-next}
 use Rattle.build_cores.proofs.Vectors.{within-zero, within-le}
 use Rattle.build_closure_spec.proofs.Starting.{caps-low}
+use Rattle.build_closure_spec.proofs.Walk.{walk-less}
 use borrow.Author.Needs.{needs}
 use Rattle.bench_step_back.proofs.sweep.Statement.{statement}
 use Rattle.bench_step_back.proofs.sweep.Tie as tie
@@ -16,7 +17,7 @@ abbrev μ-loop : tie.MeasureT-loop
 μ-loop shape opens parts caps done₀ t₀ done t = caps - t
 
 loop-holds : tie.Need-loop-holds Inv-loop μ-loop
-loop-holds c = let a = c .args in let p = c .pre in within-zero (a .caps) (rw (p .1) (caps-low (p .0 .0) (a .parts .now) (a .shape) (p .0 .1 .shaped)))
+loop-holds c = let a = c .args in let p = c .pre in within-zero (a .caps) (rw (p .1) (caps-low (p .0 .1 .shaped)))
 
 visit-requires : tie.Need-visit-requires Inv-loop μ-loop
 visit-requires c κs = let p = c .before .pre in (p .0, rw (p .1) at (c .loop .inv))
@@ -24,14 +25,12 @@ visit-requires c κs = let p = c .before .pre in (p .0, rw (p .1) at (c .loop .i
 next-ranks-requires : tie.Need-next-ranks-requires Inv-loop μ-loop
 next-ranks-requires c κs =
     let a = c .before .before .before .args in let p = c .before .before .before .pre in let l = c .before .before .loop in
-    let low : a .caps < 2 ^ 32 = rw (p .1) (caps-low (p .0 .0) (a .parts .now) (a .shape) (p .0 .1 .shaped)) in
+    let low : a .caps < 2 ^ 32 = rw (p .1) (caps-low (p .0 .1 .shaped)) in
     (low, omega (arith, within-le 8 (l .t) (a .caps) (l .inv)), l .inv, c .if1 .left)
 
 loop-less : tie.Need-loop-less Inv-loop μ-loop
 loop-less c =
-    let a = c .before .before .before .before .args in let l = c .before .before .before .loop in
-    let w = within-le 8 _ (a .caps) (within-next 8 (l .t) (a .caps) (l .inv) (c .before .if1 .left)) in
-    omega (arith, c .next-ranks .ensures, more 8 (l .t) (a .caps) (l .inv) (c .before .if1 .left))
+    let l = c .before .before .before .loop in rw (c .next-ranks .ensures) (walk-less (c .before .before .before .before .args .caps) (l .t) (l .inv) (c .before .if1 .left))
 
 loop-again : tie.Need-loop-again Inv-loop μ-loop
 loop-again c =

@@ -7,7 +7,7 @@ use Rattle.bench_step_back.proofs.visit.Statement.{statement}
 use Rattle.bench_step_back.proofs.visit.Tie as tie
 
 is-core-requires : tie.Need-is-core-requires
-is-core-requires c κs = let p = c .pre in few (p .0 .0) (c .args .parts .now) (c .args .shape) (p .0 .1 .shaped)
+is-core-requires c κs = let p = c .pre in few (p .0 .1 .shaped)
 
 step-letters-requires : tie.Need-step-letters-requires
 step-letters-requires c κs =

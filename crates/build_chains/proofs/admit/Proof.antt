@@ -8,16 +8,13 @@ use Rattle.build_chains.proofs.admit.Tie as tie
 
 returns : tie.Need-returns
 returns c =
-    let a = c .before .before .before .before .before .before .args in let p = c .before .before .before .before .before .before .pre in
-    grown-none (λ z. z ≡ a .key) (λ z. z ≡ a .key) (a .keys .now) (a .heads .now) (a .last .now) (a .n) (p .0)
-    (λ y e. rw e (c .before .find .result, c .if1 .taken, c .before .find .ensures .hit (c .if1 .taken)))
+    let p = c .before .before .before .before .before .before .pre in
+    grown-none (p .0) (λ y e. rw e (c .before .find .result, c .if1 .taken, c .before .find .ensures .hit (c .if1 .taken)))
 
 returns-2 : tie.Need-returns-2
 returns-2 c =
     let start = c .before .before .before .before .before .before .before in
-    let a = start .args in let p = start .pre in
-    grown-full (a .keys .now) (a .heads .now) (a .last .now) (a .n) (a .key) (p .0) (c .before .before .find .ensures .none (c .before .if1 .left))
-    (omega (arith, c .if2 .taken, p .0 .fits, p .0 .few))
+    let p = start .pre in grown-full (p .0) (start .args .key) (c .before .before .find .ensures .none (c .before .if1 .left)) (omega (arith, c .if2 .taken, p .0 .fits, p .0 .few))
 
 put-requires : tie.Need-put-requires
 put-requires c κs =
@@ -34,9 +31,9 @@ returns-3 c =
     let at-if1 = c .before .before .before .before .before .before .before in
     let at-find = at-if1 .before in
     let start = at-find .before .before .before .before .before in
-    let a = start .args in let p = start .pre in let e = c .before .before .put .ensures in
-    rw (e .0, e .1, e .2) (grown-put (a .keys .now) (a .heads .now) (a .last .now) (a .n) (a .key) (p .0) (omega (arith, p .0 .fits, c .before .before .before .before .before .before .if2 .left))
-    (p .1) (at-find .find .ensures .none (at-if1 .if1 .left)))
+    let p = start .pre in let e = c .before .before .put .ensures in
+    rw (e .0, e .1, e .2) (grown-put (p .0) (start .args .key) (at-find .find .ensures .none (at-if1 .if1 .left))
+    (omega (arith, p .0 .fits, c .before .before .before .before .before .before .if2 .left)) (p .1))
 
 pub admit-spec : {M : Type 1} → statement M
 admit-spec =

@@ -28,12 +28,10 @@ shared-slice-read-own c = let p = c .before .before .pre in omega (arith, p .1, 
 loop-holds : tie.Need-loop-holds Inv-loop μ-loop
 loop-holds c =
     let a = c .before .before .args in let p = c .before .before .pre in let some : 0 < a .j = omega (arith, c .before .if1 .left) in
-    walk-from (λ q. keyAt (a .keys .now) q / 256 ≡ keyAt (a .keys .now) (a .j) / 256 → ⊥) (a .keys .now) (a .j) (bucketAt (a .keys .now) (a .j)) (getD (a .keys .now) (a .j) 0 / 2 ^ 48) some
-    (p .0 .links (a .j) some (p .1))
+    walk-from some (p .0 .links (a .j) some (p .1))
 
 inside : (c : tie.At-loop Inv-loop μ-loop) → c .loop .q < c .before .before .before .args .j
-inside c = let a = c .before .before .before .args in walk-inside (λ q. keyAt (a .keys .now) q / 256 ≡ keyAt (a .keys .now) (a .j) / 256 → ⊥) (a .keys .now) (a .j) (bucketAt (a .keys .now) (a .j))
-    (c .loop .q) (c .loop .inv)
+inside c = walk-inside (c .loop .inv)
 
 mul-x : tie.Need-mul-x Inv-loop μ-loop
 mul-x c = let p = c .before .before .before .pre in omega (arith, inside c, p .1, p .0 .fits, p .0 .few)
@@ -57,11 +55,8 @@ other c e = let a = c .before .before .before .before .before .args in c .if2 .l
 
 returns-3 : tie.Need-returns-3 Inv-loop μ-loop
 returns-3 c =
-    let a = c .before .before .before .before .before .before .args in let l = c .before .before .before .loop in let last : l .q ≡ 0 = omega (arith, c .if3 .taken) in (
-      λ t. absurd (false≢true t),
-      λ t h. walk-end (λ q. keyAt (a .keys .now) q / 256 ≡ keyAt (a .keys .now) (a .j) / 256 → ⊥) (a .keys .now) (a .j) (bucketAt (a .keys .now) (a .j)) (l .q)
-          (l .inv) last (other (c .before)) (h .0) (h .1) (ap bucketOf (h .2)) (h .2),
-    )
+    let l = c .before .before .before .loop in let last : l .q ≡ 0 = omega (arith, c .if3 .taken) in
+    (λ t. absurd (false≢true t), λ t h. walk-end (l .inv) last (other (c .before)) (h .0) (h .1) (ap bucketOf (h .2)) (h .2))
 
 loop-less : tie.Need-loop-less Inv-loop μ-loop
 loop-less c =
@@ -70,9 +65,8 @@ loop-less c =
 
 loop-again : tie.Need-loop-again Inv-loop μ-loop
 loop-again c =
-    let a = c .before .before .before .before .before .before .args in let p = c .before .before .before .before .before .before .pre in let l = c .before .before .before .loop in
-    walk-next (λ q. keyAt (a .keys .now) q / 256 ≡ keyAt (a .keys .now) (a .j) / 256 → ⊥) (a .keys .now) (a .j) (bucketAt (a .keys .now) (a .j)) (l .q) (l .inv)
-    (λ q h k. p .0 .links q h (omega (arith, p .1))) (c .if3 .left) (other (c .before))
+    let p = c .before .before .before .before .before .before .pre in
+    walk-next (c .before .before .before .loop .inv) (λ q h k. p .0 .links q h (omega (arith, p .1))) (c .if3 .left) (other (c .before))
 
 pub core-before-spec : {M : Type 1} → statement M
 core-before-spec =

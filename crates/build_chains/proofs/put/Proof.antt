@@ -21,8 +21,7 @@ element-copy-out-keys : tie.Need-element-copy-out-keys
 element-copy-out-keys c = known c
 
 head : (c : tie.After-keys) → getD (c .before .before .before .args .heads .now) (c .before .bucket .result) 0 < 65536
-head c = let a = c .before .before .before .args in let p = c .before .before .before .pre in
-    head-low (a .keys .now) (a .heads .now) (a .last .now) (a .n) (p .0) (c .before .bucket .result) (known (c .before))
+head c = head-low (c .before .before .before .pre .0) (c .before .bucket .result) (known (c .before))
 
 cast-keys : tie.Need-cast-keys
 cast-keys c = omega (arith, head c)

@@ -6,10 +6,9 @@ use lib.ListN.{length}
 use Rattle.theory.specs.Rule.{Rule}
 use Rattle.theory.specs.Automaton.{automaton}
 use Rattle.build_chains_spec.specs.Chains.{Lists, Chained}
-use Rattle.build_chains_spec.specs.Growth.{After}
-use Rattle.build_chains_spec.proofs.Growth.{all-in}
+use Rattle.build_chains_spec.proofs.Growth.{all-kept}
 use Rattle.build_closure_spec.specs.Keys.{KeyEdge, First}
-use Rattle.build_closure_spec.specs.Reached.{ReachedKey, AllReached}
+use Rattle.build_closure_spec.specs.Reached.{AllReached}
 use Rattle.build_closure_spec.specs.Tables.{RuleTables}
 use Rattle.build_closure.proofs.Closing.{Closing, gathered-full, close-next, close-end}
 use Rattle.build_closure.proofs.rounds.close.Statement.{statement}
@@ -46,11 +45,7 @@ same-length c =
 returns : tie.Need-returns Inv-loop μ-loop
 returns c =
     let at-loop = c .before .before .before .before .before .before .before .before in
-    let start = at-loop .before .before in
-    let a = start .args in let l = at-loop .loop in let g = c .before .before .before .round in
-    λ r T R H. gathered-full (ReachedKey r (a .parts .now) (a .shape)) (After (l .from) (l .n) (l .keys) (KeyEdge (automaton r) (a .parts .now) (a .shape .components) (a .shape .s)))
-    (ReachedKey r (a .parts .now) (a .shape)) (l .keys) (l .n) (g .last .0) (g .last .1 .0) (g .last .1 .1 .0) (g .result .m) (g .result .full) (g .ensures r T (l .inv .3 r T R)) (c .if1 .taken)
-    (l .inv .3 r T R) (λ y h. h) (a .keys .now) (l .inv .2)
+    let v = at-loop .loop .inv in λ r T R H. gathered-full (c .before .before .before .round .ensures r T (v .3 r T R)) (c .if1 .taken) (v .3 r T R) (λ y h. h) (v .2)
 
 loop-less : tie.Need-loop-less Inv-loop μ-loop
 loop-less c =
@@ -63,24 +58,16 @@ loop-less c =
 loop-again : tie.Need-loop-again Inv-loop μ-loop
 loop-again c =
     let at-loop = c .before .before .before .before .before .before .before .before in
-    let start = at-loop .before .before in
-    let a = start .args in let p = start .pre in let l = at-loop .loop in let g = c .before .before .before .round in let G =
-    g .ensures (p .0 .0) (p .0 .1) (l .inv .3 (p .0 .0) (p .0 .1) (p .0 .2)) in (
+    let e = at-loop .before .before .pre .0 in let v = at-loop .loop .inv in let g = c .before .before .before .round in let G = g .ensures (e .0) (e .1) (v .3 (e .0) (e .1) (e .2)) in (
       G .chained,
       omega (arith, G .more),
-      g .kept .0 ∙ l .inv .2,
-      (λ r T R. let C = g .ensures r T (l .inv .3 r T R) in all-in (After (l .from) (l .n) (l .keys) (KeyEdge (automaton r) (a .parts .now) (a .shape .components) (a .shape .s)))
-          (ReachedKey r (a .parts .now) (a .shape)) (l .keys) (l .n) (g .last .0) (g .last .1 .0) (g .last .1 .1 .0) (g .result .m) (g .result .full) C (ReachedKey r (a .parts .now) (a .shape))
-          (l .inv .3 r T R) (λ y h. h)),
-      (λ r T R H. close-next (First r (a .parts .now) (a .shape .components) (a .shape .holds)) (KeyEdge (automaton r) (a .parts .now) (a .shape .components) (a .shape .s)) (l .keys) (l .heads)
-          (l .last) (l .n) (l .from) (l .inv .4 r T R H) (g .last .0) (g .last .1 .0) (g .last .1 .1 .0) (g .result .m) (g .result .full) (g .ensures r T (l .inv .3 r T R)) (c .if1 .left)),
+      g .kept .0 ∙ v .2,
+      (λ r T R. all-kept (g .ensures r T (v .3 r T R)) (v .3 r T R)),
+      (λ r T R H. close-next (v .4 r T R H) (g .ensures r T (v .3 r T R)) (c .if1 .left)),
     )
 
 returns-2 : tie.Need-returns-2 Inv-loop μ-loop
-returns-2 c =
-    let a = c .before .before .before .args in let l = c .before .loop in
-    λ r T R H. close-end (First r (a .parts .now) (a .shape .components) (a .shape .holds)) (KeyEdge (automaton r) (a .parts .now) (a .shape .components) (a .shape .s)) (l .keys) (l .heads) (l .last)
-    (l .n) (l .from) (l .inv .4 r T R H) (a .keys .now) (l .inv .2) (omega (arith, c .loop-test .left))
+returns-2 c = let v = c .before .loop .inv in λ r T R H. close-end (v .4 r T R H) (v .2) (omega (arith, c .loop-test .left))
 
 pub close-spec : {M : Type 1} → statement M
 close-spec = tie.close (tie.spec Inv-loop μ-loop loop-holds round-requires same-length returns loop-less loop-again (λ c. c .before .loop .inv .2) returns-2)

@@ -15,7 +15,7 @@ abbrev μ-loop : tie.MeasureT-loop
 μ-loop codes₀ heads₀ last₀ p₀ codes heads last p = length codes₀ - p
 
 loop-holds : tie.Need-loop-holds Inv-loop μ-loop
-loop-holds c = let a = c .before .args in (omega arith, chaining-start (a .codes .now) (a .heads .now) (a .last .now) (c .before .pre .0))
+loop-holds c = (omega arith, chaining-start (c .before .pre .0))
 
 put-requires : tie.Need-put-requires Inv-loop μ-loop
 put-requires c κs =
@@ -24,7 +24,7 @@ put-requires c κs =
     omega (arith, c .before .before .before .before .loop-test .taken, l .inv .1 .long) in (
       l .inv .1 .chained,
       omega (arith, inside, l .inv .1 .long),
-      rw (key-read (a .codes .now) (l .codes) (l .heads) (l .last) (l .p) (l .inv .1) (p .2 (l .p) inside))
+      rw (key-read (l .inv .1) (p .2 (l .p) inside))
           (key-low (getD (a .codes .now) (l .p) 0) (p .2 (l .p) inside)),
     )
 
@@ -42,8 +42,8 @@ loop-again c =
     let a = start .args in let p = start .pre in let l = at-loop .loop in let e = c .before .before .put .ensures in let inside : l .p < length (a .codes .now) =
     omega (arith, at-loop-test .loop-test .taken, l .inv .1 .long) in (
       omega arith,
-      rw (e .0, e .1, e .2) (chaining-next (a .codes .now) (p .1) (p .2) (l .codes) (l .heads) (l .last) (l .p) (l .inv .1) inside _
-          (key-read (a .codes .now) (l .codes) (l .heads) (l .last) (l .p) (l .inv .1) (p .2 (l .p) inside))),
+      rw (e .0, e .1, e .2) (chaining-next (l .inv .1) (p .1) (p .2) inside
+          (key-read (l .inv .1) (p .2 (l .p) inside))),
     )
 
 returns : tie.Need-returns Inv-loop μ-loop

@@ -13,28 +13,26 @@ use Rattle.build_visit.proofs.initial.visit_first.Statement.{statement}
 use Rattle.build_visit.proofs.initial.visit_first.Tie as tie
 
 begins-requires : tie.Need-begins-requires
-begins-requires c κs = let p = c .before .pre in initial-low (p .0 .0) (c .before .args .parts .now) (c .before .args .shape) (p .0 .1)
+begins-requires c κs = let p = c .before .pre in initial-low (p .0 .1)
 
 returns : tie.Need-returns
 returns c =
     let a = c .before .before .before .args in let p = c .before .before .before .pre in
-    λ r S. grown-none (StartsAt r (a .parts .now) (a .shape .components) (a .shape .holds) (a .ranks)) (StartsAt r (a .parts .now) (a .shape .components) (a .shape .holds) (a .ranks)) (a .keys .now)
-    (a .heads .now) (a .last .now) (a .n) (p .1)
-    (λ y f. absurd (clash (f .1 .start) (sym (start-is r (a .parts .now) (a .shape) S (a .ranks) (p .2)) ∙ sym (c .before .begins .ensures) ∙ not-true _ (c .if1 .taken))))
+    λ r S. grown-none (p .1)
+    (λ y f. absurd (clash (f .1 .start) (sym (start-is S (a .ranks) (p .2)) ∙ sym (c .before .begins .ensures) ∙ not-true _ (c .if1 .taken))))
 
 is-core-requires : tie.Need-is-core-requires
-is-core-requires c κs = let p = c .before .before .before .pre in few (p .0 .0) (c .before .before .before .args .parts .now) (c .before .before .before .args .shape) (p .0 .1)
+is-core-requires c κs = let p = c .before .before .before .pre in few (p .0 .1)
 
 returns-2 : tie.Need-returns-2
 returns-2 c =
     let a = c .before .before .before .before .before .args in let p = c .before .before .before .before .before .pre in
-    λ r S. grown-none (StartsAt r (a .parts .now) (a .shape .components) (a .shape .holds) (a .ranks)) (StartsAt r (a .parts .now) (a .shape .components) (a .shape .holds) (a .ranks)) (a .keys .now)
-    (a .heads .now) (a .last .now) (a .n) (p .1)
+    λ r S. grown-none (p .1)
     (λ y f. absurd (clash (f .0 .passes) (sym (c .before .is-core .ensures) ∙ not-true _ (c .if2 .taken))))
 
 core-of-requires : tie.Need-core-of-requires
 core-of-requires c κs = let a = c .before .before .before .before .before .before .args in let p = c .before .before .before .before .before .before .pre in
-    vector-low (p .0 .0) (a .parts .now) (a .shape) (p .0 .1) (a .ranks) (p .2)
+    vector-low (p .0 .1) (a .ranks) (p .2)
 
 -- the core has 40 bits
 fits : (c : tie.After-core-of) → c .core-of .result < 2 ^ 40
@@ -43,7 +41,7 @@ fits c =
     let a = start .args in let p = start .pre in omega (
       arith,
       c .core-of .ensures,
-      core-fits (p .0 .0) (a .parts .now) (a .shape) (p .0 .1) (a .ranks) (p .2) (c .before .lowest .result) (c .before .lowest .ensures),
+      core-fits (p .0 .1) (a .ranks) (p .2) (c .before .lowest .result) (c .before .lowest .ensures),
     )
 
 -- its first key
@@ -66,12 +64,11 @@ returns-3 c =
     let start = at-begins .before .before in
     let a = start .args in let p = start .pre in let g = c .before .before .admit in let core = at-core-of .core-of .result in let low = at-lowest .lowest in
     λ r S.
-    grown-as (λ z. z ≡ core * 2 ^ 8 % 2 ^ 64) (λ z. z ≡ core * 2 ^ 8 % 2 ^ 64) (a .keys .now) (a .n) (g .last .0) (g .last .1 .0) (g .last .1 .1 .0) (g .result .m) (g .result .full) (g .ensures)
-    (StartsAt r (a .parts .now) (a .shape .components) (a .shape .holds) (a .ranks)) (StartsAt r (a .parts .now) (a .shape .components) (a .shape .holds) (a .ranks))
-    (λ t y f. first-out r (a .parts .now) (a .shape) S (a .ranks) (p .2) (low .result) (low .ensures) core (at-core-of .core-of .ensures) y f ∙ sym (key (at-core-of)))
-    (λ y e. first-in r (a .parts .now) (a .shape) S (a .ranks) (p .2) (low .result) (low .ensures) core (at-core-of .core-of .ensures)
+    grown-as (g .ensures)
+    (λ t y f. first-out S (a .ranks) (p .2) (low .result) (low .ensures) core (at-core-of .core-of .ensures) y f ∙ sym (key (at-core-of)))
+    (λ y e. first-in S (a .ranks) (p .2) (low .result) (low .ensures) core (at-core-of .core-of .ensures)
     (sym (at-is-core .is-core .ensures) ∙ not-false _ (at-if2 .if2 .left))
-    (sym (start-is r (a .parts .now) (a .shape) S (a .ranks) (p .2)) ∙ sym (at-begins .begins .ensures) ∙ not-false _ (at-if1 .if1 .left))
+    (sym (start-is S (a .ranks) (p .2)) ∙ sym (at-begins .begins .ensures) ∙ not-false _ (at-if1 .if1 .left))
     y (e ∙ key (at-core-of)))
 
 pub visit-first-spec : {M : Type 1} → statement M

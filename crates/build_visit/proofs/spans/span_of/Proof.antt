@@ -7,14 +7,14 @@ use Rattle.build_visit.proofs.spans.span_of.Statement.{statement}
 use Rattle.build_visit.proofs.spans.span_of.Tie as tie
 
 largest-ranks-requires : tie.Need-largest-ranks-requires
-largest-ranks-requires c κs = let a = c .before .before .before .args in let p = c .before .before .before .pre in few (p .0 .0) (a .parts .now) (a .shape) (p .0 .1)
+largest-ranks-requires c κs = let a = c .before .before .before .args in let p = c .before .before .before .pre in few (p .0 .1)
 
 sub-caps : tie.Need-sub-caps
 sub-caps c =
     let a = c .before .before .before .before .args in let p = c .before .before .before .before .pre in
     omega (
       arith,
-      base-le (p .0 .0) (a .parts .now) (a .shape) (p .0 .1) (a .x) (p .1) (c .before .before .open-parts .result) (c .before .before .open-parts .ensures),
+      base-le (p .0 .1) (a .x) (p .1) (c .before .before .open-parts .result) (c .before .before .open-parts .ensures),
       c .before .before .before .spread .ensures,
       c .largest-ranks .ensures,
     )
@@ -23,7 +23,7 @@ returns : tie.Need-returns
 returns c =
     let a = c .before .before .before .before .args in let p = c .before .before .before .before .pre in
     rw (c .before .before .before .spread .ensures, c .largest-ranks .ensures)
-    (span-of (p .0 .0) (a .parts .now) (a .shape) (p .0 .1) (a .x) (p .1) (c .before .before .open-parts .result) (c .before .before .open-parts .ensures))
+    (span-of (p .0 .1) (a .x) (p .1) (c .before .before .open-parts .result) (c .before .before .open-parts .ensures))
 
 pub span-of-spec : {M : Type 1} → statement M
 span-of-spec = tie.close (tie.spec (λ c κs. search needs) (λ c. search needs) (λ c κs. search needs) largest-ranks-requires sub-caps returns)
