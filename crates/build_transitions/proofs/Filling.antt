@@ -28,7 +28,8 @@ abbrev pub KeysOf : List ℕ → List ℕ → Type 0
 KeysOf codes keys = (p : ℕ) → p < length codes → keyAt keys p ≡ keyOf (getD codes p 0)
 
 -- the codes come back
-pub restored : {codes : List ℕ} (keys : List ℕ) {zs : List ℕ} → length keys ≡ length codes → ((p : ℕ) → p < length codes → getD codes p 0 < 2 ^ 48) → KeysOf codes keys → zs ≡ coded (length codes) keys → zs ≡ codes
+pub restored : {codes : List ℕ} (keys : List ℕ) {zs : List ℕ} → length keys ≡ length codes → ((p : ℕ) → p < length codes → getD codes p 0 < 2 ^ 48) → KeysOf codes keys
+    → zs ≡ coded (length codes) keys → zs ≡ codes
 restored {codes} keys {zs} long low is e =
     ext-getD 0 zs codes (ap length e ∙ coded-long (length codes) keys (omega arith) ∙ long)
     (λ p h.

@@ -32,8 +32,10 @@ core-vector A v = omega (arith, mask-lt 8 (setOf A v))
 -- ---- letters: those below a are done
 
 -- transitions over different letters are different
-pub letters-apart : (A : Automaton) (keys : List ℕ) (v : ℕ) {n : ℕ} → n ≤ 65536 → (a : ℕ) → a < 256 → (y : ℕ) → Into A a keys n v y → Over A keys n v a y → ⊥
-letters-apart A keys v few a low y f k =
+pub letters-apart : {r : Rule} {opens parts : List ℕ} {shape : Shape} → RuleTables r opens parts shape → (keys : List ℕ) (v : ℕ) {n : ℕ} → n ≤ 65536 → (a : ℕ) → a < shape .s → (y : ℕ)
+    → Into (automaton r) a keys n v y → Over (automaton r) keys n v a y → ⊥
+letters-apart T keys v few a known y f k =
+    let low : a < 256 = omega (arith, T .shaped .letters-are, T .table .few-letters) in
     let e : f .0 ≡ a = sym (letter-is (f .2 .0) (f .0) (f .2 .2 .0) (omega (arith, f .1)) (omega (arith, f .2 .2 .1))) ∙ ap letterOf (sym (f .2 .2 .3) ∙ k .2 .3)
     ∙ letter-is (k .0) a (k .2 .0) low (omega (arith, k .2 .1)) in
     omega (arith, f .1)

@@ -24,15 +24,17 @@ returns : tie.Need-returns
 returns c = λ r T. gathered-full (c .before .before .before .firsts .ensures r (T .shaped)) (c .if1 .taken) (λ p l. absurd (omega arith)) (λ y f. reached-in (T .shaped) y (begins f)) refl
 
 -- the first keys are reached
-all : (c : tie.After-firsts) (r : Rule) → RuleTables r (c .before .before .before .before .before .before .args .opens .now) (c .before .before .before .before .before .before .args .parts .now) (c .before .before .before .before .before .before .args .shape) →
-    AllReached r (c .before .before .before .before .before .before .args .parts .now) (c .before .before .before .before .before .before .args .shape) (c .firsts .last .0) (c .firsts .result .m)
-all c r T = all-in (c .firsts .ensures r (T .shaped)) (ReachedKey r (c .before .before .before .before .before .before .args .parts .now) (c .before .before .before .before .before .before .args .shape)) (λ p l. absurd (omega arith)) (λ y f. begins f)
+all : (c : tie.After-firsts) (r : Rule) → let a = c .before .before .before .before .before .before .args in
+    RuleTables r (a .opens .now) (a .parts .now) (a .shape) → AllReached r (a .parts .now) (a .shape) (c .firsts .last .0) (c .firsts .result .m)
+all c r T = let a = c .before .before .before .before .before .before .args in
+    all-in (c .firsts .ensures r (T .shaped)) (ReachedKey r (a .parts .now) (a .shape)) (λ p l. absurd (omega arith)) (λ y f. begins f)
 
 close-requires : tie.Need-close-requires
 close-requires c κs =
-    let at-largest-ranks = c .before .before .before .before .before .before .before .before .before .before in
+    let at-firsts = c .before .before .before .before .before .before in
+    let at-largest-ranks = at-firsts .before .before .before .before in
     let e = at-largest-ranks .before .before .pre .0 in
-    ((e .0, e .1, all (c .before .before .before .before .before .before) (e .0) (e .1)), c .before .before .before .before .before .before .firsts .ensures (e .0) (e .1 .shaped) .chained, at-largest-ranks .largest-ranks .ensures)
+    ((e .0, e .1, all at-firsts (e .0) (e .1)), at-firsts .firsts .ensures (e .0) (e .1 .shaped) .chained, at-largest-ranks .largest-ranks .ensures)
 
 returns-2 : tie.Need-returns-2
 returns-2 c =

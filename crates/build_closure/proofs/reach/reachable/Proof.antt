@@ -25,7 +25,8 @@ returns-2 c =
     let at-if1 = c .before .before .before .before .before .before .before .before in
     let at-reach = at-if1 .before .before .before in
     let t = c .before .before .before .before .before .before .to-codes in let z = c .before .before .sort-first in
-    λ r T. listed-all (T .shaped .passing) (startOf r (at-reach .before .before .before .args .shape .holds)) (at-if1 .if1 .left) (at-reach .reach .ensures r T) (t .ensures) (z .ensures) (z .kept .0 ∙ t .kept .0)
+    λ r T. listed-all (T .shaped .passing) (startOf r (at-reach .before .before .before .args .shape .holds)) (at-if1 .if1 .left) (at-reach .reach .ensures r T)
+    (t .ensures) (z .ensures) (z .kept .0 ∙ t .kept .0)
 
 pub reachable-spec : {M : Type 1} → statement M
 reachable-spec = tie.close (tie.spec (λ c κs. search needs) (λ c. search needs) returns to-codes-requires sort-first-requires (λ c. search needs) returns-2)

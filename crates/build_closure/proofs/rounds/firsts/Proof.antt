@@ -28,7 +28,8 @@ loop-holds : tie.Need-loop-holds Inv-loop μ-loop
 loop-holds c = let p = c .before .pre in (within-zero (c .before .args .caps) (rw (p .2) (caps-low (p .0 .1))), refl, λ r S. upto-start (p .1))
 
 visit-first-requires : tie.Need-visit-first-requires Inv-loop μ-loop
-visit-first-requires c κs = let p = c .before .before .before .before .before .pre in let l = c .before .before .before .loop in (p .0, l .inv .2 (p .0 .0) (p .0 .1) .chained, rw (p .2) at (l .inv .0))
+visit-first-requires c κs =
+    let p = c .before .before .before .before .before .pre in let l = c .before .before .before .loop in (p .0, l .inv .2 (p .0 .0) (p .0 .1) .chained, rw (p .2) at (l .inv .0))
 
 same-length : tie.Need-same-length Inv-loop μ-loop
 same-length c =

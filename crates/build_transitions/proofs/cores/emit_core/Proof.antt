@@ -57,23 +57,22 @@ returns : tie.Need-returns Inv-loop μ-loop
 returns c =
     let at-loop = c .before .before .before .before .before .before .before .before in
     let start = at-loop .before .before .before .before .before in
-    let a = start .args in let l = at-loop .loop in let x = getD (a .keys .now) (a .j) 0 in
-    λ r T R.
-    rw (← ranks-of x) (emitted-over (l .inv .4 r T R) (l .inv .1) (c .before .before .before .emit-letter .ensures r T R) (letters-apart (automaton r) (a .keys .now) (bitAnd x 281474976710655 / 2 ^ 16) (start .pre .1 .few)
-    (l .a) (omega (arith, c .before .before .before .before .before .before .if1 .taken, T .shaped .letters-are, T .table .few-letters))) (c .before .before .before .before .before .before .if1 .taken) (c .if2 .taken))
+    let a = start .args in let l = at-loop .loop in let x = getD (a .keys .now) (a .j) 0 in let known = c .before .before .before .before .before .before .if1 .taken in
+    λ r T R. rw (← ranks-of x) (emitted-over (l .inv .4 r T R) (l .inv .1) (c .before .before .before .emit-letter .ensures r T R)
+    (letters-apart T (a .keys .now) (bitAnd x 281474976710655 / 2 ^ 16) (start .pre .1 .few) (l .a) known) known (c .if2 .taken))
 
 loop-again : tie.Need-loop-again Inv-loop μ-loop
 loop-again c =
     let at-loop = c .before .before .before .before .before .before .before .before in
     let start = at-loop .before .before .before .before .before in
-    let a = start .args in let e = start .pre .0 in let l = at-loop .loop in let g = c .before .before .before .emit-letter in (
-      omega (arith, c .before .before .before .before .before .before .if1 .taken),
+    let a = start .args in let e = start .pre .0 in let l = at-loop .loop in let x = getD (a .keys .now) (a .j) 0 in
+    let known = c .before .before .before .before .before .before .if1 .taken in let g = c .before .before .before .emit-letter in (
+      omega (arith, known),
       c .if2 .left,
       g .kept .0 ∙ l .inv .2,
       g .ensures (e .0) (e .1) (e .2) .fits,
       λ r T R. emitted-next (l .inv .4 r T R) (l .inv .1) (g .ensures r T R)
-          (letters-apart (automaton r) (a .keys .now) (bitAnd (getD (a .keys .now) (a .j) 0) 281474976710655 / 2 ^ 16) (start .pre .1 .few) (l .a)
-          (omega (arith, c .before .before .before .before .before .before .if1 .taken, T .shaped .letters-are, T .table .few-letters))),
+          (letters-apart T (a .keys .now) (bitAnd x 281474976710655 / 2 ^ 16) (start .pre .1 .few) (l .a) known),
     )
 
 returns-2 : tie.Need-returns-2 Inv-loop μ-loop

@@ -1,6 +1,6 @@
 -- `build_transitions::sources::emit_source` meets its contract.
 use Prim.Native.Nat.{ℕ, _+_, _*_, _/_, _%_, _^_, _<_}
-use mathlib.Core.Path.{_≡_, refl, ap, sym, subst, _∙_}
+use mathlib.Core.Path.{_≡_, refl, ap, sym, _∙_}
 use native.Mathlib.Omega.{arith}
 use lib.Bits.{and-mask}
 use lib.ListN.{length}
@@ -28,14 +28,13 @@ find-requires c κs =
     (p .0, rw (k .0) (k .1))
 
 -- the place of the key that the key goes on to
-place : (c : tie.After-find) → Found (c .before .before .before .before .before .before .before .args .keys .now) (length (c .before .before .before .before .before .before .before .args .keys .now)) (c .before .before .before .before .before .before .before .args .step .core * 256 + onwardIn (c .before .before .before .before .before .before .before .args .step .ranks) (c .before .before .before .before .before .before .before .args .parts .now)
-    (c .before .before .before .before .before .before .before .args .step .components) (c .before .before .before .before .before .before .before .args .levels .now) (keyAt (c .before .before .before .before .before .before .before .args .keys .now) (c .before .before .before .before .before .before .before .args .p) % 256)) (c .find .result)
+place : (c : tie.After-find) → let start = c .before .before .before .before .before .before .before in let a = start .args in Found (a .keys .now) (length (a .keys .now))
+    (a .step .core * 256 + onwardIn (a .step .ranks) (a .parts .now) (a .step .components) (a .levels .now) (keyAt (a .keys .now) (a .p) % 256)) (c .find .result)
 place c =
     let start = c .before .before .before .before .before .before .before in
-    let a = start .args in let p = start .pre in
-    let onto = onwardIn (a .step .ranks) (a .parts .now) (a .step .components) (a .levels .now) in
+    let a = start .args in let p = start .pre in let onto = onwardIn (a .step .ranks) (a .parts .now) (a .step .components) (a .levels .now) in
     let k = key-onward (a .step .ranks) (a .parts .now) (a .step .components) (a .levels .now) (a .step .core) (a .key) (p .4) (p .3) (p .5) (c .before .before .onward .ensures) in
-    subst (λ (x : ℕ). Found (a .keys .now) (length (a .keys .now)) x (c .find .result)) (k .0 ∙ ap (λ (x : ℕ). a .step .core * 256 + onto (x % 256)) (p .2)) (c .find .ensures)
+    rw (k .0 ∙ ap (λ (x : ℕ). a .step .core * 256 + onto (x % 256)) (p .2)) at (c .find .ensures)
 
 returns-2 : tie.Need-returns-2
 returns-2 c =

@@ -25,7 +25,8 @@ mul-x c = omega (arith, ahead-inside (c .loop .inv .ahead), c .before .before .b
 
 emit-source-requires : tie.Need-emit-source-requires Inv-loop μ-loop
 emit-source-requires c κs =
-    let p = c .before .before .before .before .before .before .pre in let l = c .before .before .loop in let key = and-mask (getD (c .before .before .before .before .before .before .args .keys .now) (l .i) 0) 48 in let inside = ahead-inside (l .inv .ahead) in
+    let start = c .before .before .before .before .before .before in
+    let p = start .pre in let l = c .before .before .loop in let key = and-mask (getD (start .args .keys .now) (l .i) 0) 48 in let inside = ahead-inside (l .inv .ahead) in
     (p .0, inside, key, rw key (p .2 (l .i) inside), p .3, p .4, p .6, l .inv .emitted .fits)
 
 same-length : tie.Need-same-length Inv-loop μ-loop

@@ -49,7 +49,9 @@ returns-2 c =
     λ r T R. grown-none (p .1) (λ y h. absurd (nothing-fresh T (a .from) (a .x) (p .1) (c .before .is-fresh .ensures (not-true _ (c .if2 .taken))) (h .0) (h .1) y (h .2)))
 
 span-of-requires : tie.Need-span-of-requires Inv-loop μ-loop
-span-of-requires c κs = let p = c .before .before .before .before .before .pre in ((p .0 .0, p .0 .1 .shaped), sym (ap (bitAnd (c .before .before .before .before .before .args .x)) (p .3)) ∙ c .before .before .before .if1 .left)
+span-of-requires c κs =
+    let p = c .before .before .before .before .before .pre in
+    ((p .0 .0, p .0 .1 .shaped), sym (ap (bitAnd (c .before .before .before .before .before .args .x)) (p .3)) ∙ c .before .before .before .if1 .left)
 
 loop-holds : tie.Need-loop-holds Inv-loop μ-loop
 loop-holds c = let s = c .span-of in (within-zero (s .result .caps) (s .ensures .low), refl, λ r T R. upto-start (c .before .before .before .before .before .before .pre .1))
