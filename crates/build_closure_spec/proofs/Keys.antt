@@ -2,7 +2,6 @@
 use mathlib.Core.Path.{_≡_, refl}
 use Prim.Native.Nat.{ℕ, _+_, _*_, _/_, _%_, _^_, _<_}
 use native.Mathlib.Omega.{arith}
-use native.Mathlib.Nat.{mod-eq-of-lt}
 use Rattle.build_closure_spec.specs.Keys.{keyOf, codeOf}
 
 pub key-core : (c : ℕ) → c / 2 ^ 40 < 256 → keyOf c / 256 ≡ c % 2 ^ 40
@@ -20,10 +19,6 @@ code-key c h = omega (arith, key-core c h, key-pair c h)
 pub key-parts : (c : ℕ) → keyOf c ≡ c % 2 ^ 40 * 256 + c / 2 ^ 40
 unfolding keyOf
 key-parts c = refl
-
--- the first key of a core is the core, shifted
-pub first-key : (core : ℕ) → core < 2 ^ 40 → core * 2 ^ 8 % 2 ^ 64 ≡ core * 256
-first-key core h = let fits : core * 2 ^ 8 < 2 ^ 64 = omega arith in mod-eq-of-lt fits
 
 -- the code of a pair above a core
 pub key-of : (pair core : ℕ) → core < 2 ^ 40 → keyOf (pair * 2 ^ 40 + core) ≡ core * 256 + pair

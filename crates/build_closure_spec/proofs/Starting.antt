@@ -11,7 +11,6 @@ use lib.ListN.{getD}
 use lib.Bits.{bitAnd, bitXor, and-mask, xor-lt}
 use lib.Pow.{pow-mono}
 use borrow.Author.Tests.{lt-ltb, le-ltb, le-leb}
-use Rattle.sets.specs.Tests.{every}
 use Rattle.sets.specs.Masks.{bit, mask, exclusive}
 use Rattle.sets.proofs.Masks.{mask-lt, bit-mask, above}
 use Rattle.sets.proofs.Bits.{bit-xor, bit-high, mask-unique}
@@ -19,14 +18,14 @@ use Rattle.sets.proofs.Bools.{xor-comm}
 use Rattle.theory.specs.Rule.{Rule}
 use Rattle.theory.specs.Automaton.{Automaton, automaton}
 use Rattle.build_cores.specs.Vectors.{rankAt, Within}
-use Rattle.build_cores.specs.Used.{gapless, capsOf}
+use Rattle.build_cores.specs.Used.{capsOf}
 use Rattle.build_cores.specs.Parts.{setOf}
 use Rattle.build_cores.proofs.Vectors.{within-lt}
 use Rattle.build_cores.proofs.Gaps.{rank-low}
 use Rattle.build_cores.proofs.Cores.{set-rank, set-beyond, rank-beyond, caps-fit}
 use Rattle.build_step_back.specs.Earlier.{coreOf}
 use Rattle.build_closure_spec.specs.declared.Shape.{Shape}
-use Rattle.build_closure_spec.specs.Keys.{startOf, StartsAt}
+use Rattle.build_closure_spec.specs.Keys.{startOf}
 use Rattle.build_closure_spec.specs.Tables.{Shaped, Lowest}
 
 xor-true : (a : Bool) → exclusive a true ≡ not a
@@ -107,7 +106,7 @@ module _ {r : Rule} {parts : List ℕ} {shape : Shape} (S : Shaped r parts shape
       unfolding coreOf
       core-is = ap (λ (x : ℕ). v * 2 ^ 8 + x) set-is
 
-      pub core-fits : v * 2 ^ 8 + bitXor (getD low 15 0) (shape .accepting) < 2 ^ 40
+      core-fits : v * 2 ^ 8 + bitXor (getD low 15 0) (shape .accepting) < 2 ^ 40
       core-fits = rw core-is (core-low (automaton r) v vector-low)
 
     -- the start condition, by the rank of the initial state
@@ -126,11 +125,10 @@ module _ {r : Rule} {parts : List ℕ} {shape : Shape} (S : Shaped r parts shape
     unfolding startOf
     start-is = ap (λ (b : Bool). cond (shape .holds) b (not b)) holds-is
 
-    -- what visit_first adds
-    module _ (low : List ℕ) (L : Lowest v low) (core : ℕ) (e : core ≡ v * 2 ^ 8 + bitXor (getD low 15 0) (shape .accepting)) where
-      pub first-in : every (shape .components) (λ c. gapless v (getD parts c 0)) ≡ true → startOf r (shape .holds) (coreOf (automaton r) v) ≡ true → (y : ℕ) → y ≡ core * 256 →
-          StartsAt r parts (shape .components) (shape .holds) v y
-      first-in passes start y q = (record { within = w; passes = passes }, record { start = start; key = q ∙ ap (λ (x : ℕ). x * 256) (e ∙ core-is low L) })
+    -- the key with K 0 and k 0, by a shift
+    module _ (low : List ℕ) (L : Lowest v low) {core : ℕ} (e : core ≡ v * 2 ^ 8 + bitXor (getD low 15 0) (shape .accepting)) where
+      pub first-is : core * 2 ^ 8 % 2 ^ 64 ≡ coreOf (automaton r) v * 256
+      first-is = let f = core-fits low L in let q = e ∙ core-is low L in omega arith
 
-      pub first-out : (y : ℕ) → StartsAt r parts (shape .components) (shape .holds) v y → y ≡ core * 256
-      first-out y f = f .1 .key ∙ ap (λ (x : ℕ). x * 256) (sym (e ∙ core-is low L))
+      pub first-low : core * 2 ^ 8 % 2 ^ 64 < 2 ^ 48
+      first-low = let f = core-fits low L in omega arith

@@ -49,7 +49,7 @@ pub record Moved (earlier core : ℕ) (onto : ℕ → ℕ) (x y : ℕ) : Type 0 
 abbrev pub LeadsOver : Automaton → ℕ → ℕ → ℕ → ℕ → Type 0
 LeadsOver A v a x y = Moved (backOf A a v) (coreOf A v) (ontoOf A a v) x y
 
--- 01: the step over the letter a into the core of the vector v. The numbers are those of the earlier core and of the core, and by the levels a pair
+-- the step over the letter a into the core of the vector v. The numbers are those of the earlier core and of the core, and by the levels a pair
 -- of K and k goes on as the automaton's does.
 pub record Stepping (A : Automaton) (parts : List ℕ) (components v a earlier core : ℕ) (levels : List ℕ) : Type 0 where
   pub earlier-is : earlier ≡ backOf A a v
@@ -73,7 +73,7 @@ pub record StartKey (r : Rule) (holds : Bool) (v y : ℕ) : Type 0 where
   pub start : startOf r holds (coreOf (automaton r) v) ≡ true
   pub key : y ≡ coreOf (automaton r) v * 256
 
--- the same, of a vector that is visited
+-- of a vector that is visited
 abbrev pub StartsAt : Rule → List ℕ → ℕ → Bool → ℕ → ℕ → Type 0
 StartsAt r parts components holds v y = Cored parts components v × StartKey r holds v y
 

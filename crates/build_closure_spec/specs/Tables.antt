@@ -23,7 +23,7 @@ pub record Shaped (r : Rule) (parts : List ℕ) (shape : Shape) : Type 0 where
   pub accepting-are : shape .accepting ≡ r .accepting
   pub initial-is : shape .initial ≡ r .initial
 
--- the same, and opens is its table of open states
+-- opens is its table of open states besides
 pub record RuleTables (r : Rule) (opens parts : List ℕ) (shape : Shape) : Type 0 where
   pub shaped : Shaped r parts shape
   pub table : Opens (automaton r) (r .s) opens

@@ -45,7 +45,7 @@ module _ {N : ℕ → Type 0} {xs : List ℕ} {m : ℕ} where
     over = λ t. absurd (false≢true t);
   }
 
--- the same numbers; where there is no room, more of them
+-- numbers of another predicate that are these; where there is no room, more of them
 pub emitted-as : {N U : ℕ → Type 0} {xs ys : List ℕ} {m r : ℕ} {full : Bool} → Emitted N xs m ys r full → ((y : ℕ) → N y → U y) → (full ≡ false → (y : ℕ) → U y → N y) → Emitted U xs m ys r full
 emitted-as {ys = ys} g f v = record {
   long = g .long;

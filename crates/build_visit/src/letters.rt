@@ -124,7 +124,7 @@ pub fn last_of(last: &[u32; 256], set: u8) -> u32
     last[set as usize]
 }
 
-// The same number.
+// A number of 32 bits in 64.
 pub fn wide(x: u32) -> usize
     ensures { λ r. ⌜ r ≡ x ⌝ }
 {
