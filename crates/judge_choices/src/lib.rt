@@ -4,6 +4,7 @@ use file_read::clauses_of;
 use file_read::counts_of;
 use file_read::read_rule;
 use judge_choices_fill::fill_choices;
+use judge_choices_place::Partition;
 use judge_choices_place::classes_of;
 use judge_masks::word::fill_word;
 use judge_spec::Verdict;
@@ -47,14 +48,17 @@ pub fn fill_both(
     let starts = starts_of(counts);
     let reach = closures(h, counts, clauses);
     let classes = classes_of(h, counts, clauses, &reach);
+    let rule = Partition {
+        head: h,
+        classes: classes,
+    };
     let end = lead.len() + cycle.len();
     fill_word(h, counts, &starts, clauses, &reach, lead, cycle, masks);
     fill_choices(
-        h,
+        rule,
         counts,
         &starts,
         clauses,
-        &classes,
         lead,
         cycle,
         &masks[..end],

@@ -1,8 +1,8 @@
 // The choices of a word: accepting states at once, rejecting ones by rounds.
+use judge_choices_place::Partition;
 use judge_choices_place::choose_each;
 use judge_choices_rounds::choose_rejecting;
 use judge_place::fill_with;
-use rule_entries::Head;
 use word_rows::letter_at;
 use word_rows::next_place;
 ghost use mathlib.Core.Path.{_≡_};
@@ -16,21 +16,21 @@ ghost use Rattle.judge_choices_spec.specs.Rounds.{Ready, Started};
 
 // The choices of the accepting states, at every place.
 pub fn choose_accepting(
-    h: Head,
+    rule: Partition,
     counts: &[u8],
     starts: &[u16; 128],
     clauses: &[u8],
-    classes: &[u8; 8],
     lead: &[u8],
     cycle: &[u8],
     masks: &[u8],
     choices: &mut [u8],
 )
-    requires { ⌜ Ready (ruleOf h (now counts) (now clauses)) (now starts) (now classes) (now lead) (now cycle) (now masks)
-        × (places (now lead) (now cycle) * h .n ≤ length (now choices)) ⌝ }
-    ensures { λ _. ⌜ Started (ruleOf h (now (counts .entry)) (now (clauses .entry))) (now (lead .entry)) (now (cycle .entry))
+    requires { ⌜ Ready (ruleOf (rule .head) (now counts) (now clauses)) (now starts) (rule .classes) (now lead) (now cycle) (now masks)
+        × (places (now lead) (now cycle) * rule .head .n ≤ length (now choices)) ⌝ }
+    ensures { λ _. ⌜ Started (ruleOf (rule .head) (now (counts .entry)) (now (clauses .entry))) (now (lead .entry)) (now (cycle .entry))
         (now (masks .entry)) (places (now (lead .entry)) (now (cycle .entry))) (now (choices .entry)) (now (choices .exit)) ⌝ }
 {
+    let h = rule.head;
     let accepting = h.accepting as u8;
     let at = lead.len();
     let end = at + cycle.len();
@@ -38,11 +38,10 @@ pub fn choose_accepting(
     while p < end {
         let all = masks[next_place(at, cycle.len(), p)];
         choose_each(
-            h,
+            rule,
             counts,
             starts,
             clauses,
-            classes,
             letter_at(lead, cycle, p) as usize,
             all,
             all,
@@ -56,44 +55,24 @@ pub fn choose_accepting(
 
 // The choices of a word, from the start of the slice on.
 pub fn fill_choices(
-    h: Head,
+    rule: Partition,
     counts: &[u8],
     starts: &[u16; 128],
     clauses: &[u8],
-    classes: &[u8; 8],
     lead: &[u8],
     cycle: &[u8],
     masks: &[u8],
     choices: &mut [u8],
 )
-    requires { ⌜ Ready (ruleOf h (now counts) (now clauses)) (now starts) (now classes) (now lead) (now cycle) (now masks)
-        × (places (now lead) (now cycle) * h .n ≤ length (now choices)) ⌝ }
+    requires { ⌜ Ready (ruleOf (rule .head) (now counts) (now clauses)) (now starts) (rule .classes) (now lead) (now cycle) (now masks)
+        × (places (now lead) (now cycle) * rule .head .n ≤ length (now choices)) ⌝ }
     ensures { λ _. ⌜ now (choices .exit)
-        ≡ choicesOf (ruleOf h (now (counts .entry)) (now (clauses .entry))) (now (lead .entry)) (now (cycle .entry))
-        ++ drop (places (now (lead .entry)) (now (cycle .entry)) * h .n) (now (choices .entry)) ⌝ }
+        ≡ choicesOf (ruleOf (rule .head) (now (counts .entry)) (now (clauses .entry))) (now (lead .entry)) (now (cycle .entry))
+        ++ drop (places (now (lead .entry)) (now (cycle .entry)) * rule .head .n) (now (choices .entry)) ⌝ }
 {
+    let h = rule.head;
     let end = (lead.len() + cycle.len()) * h.n;
     fill_with(&mut choices[..end], 255);
-    choose_accepting(
-        h,
-        counts,
-        starts,
-        clauses,
-        classes,
-        lead,
-        cycle,
-        masks,
-        choices,
-    );
-    choose_rejecting(
-        h,
-        counts,
-        starts,
-        clauses,
-        classes,
-        lead,
-        cycle,
-        masks,
-        choices,
-    );
+    choose_accepting(rule, counts, starts, clauses, lead, cycle, masks, choices);
+    choose_rejecting(rule, counts, starts, clauses, lead, cycle, masks, choices);
 }

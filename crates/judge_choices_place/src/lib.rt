@@ -15,6 +15,12 @@ ghost use Rattle.rule_entries.specs.Starts.{EntryStarts};
 ghost use Rattle.rule_reach.specs.Tables.{closuresOf};
 ghost use Rattle.judge_choices_spec.specs.Rounds.{Classes, putMet, Tried};
 
+// The numbers of a rule and, for each of its states, the mask of its component.
+pub struct Partition {
+    pub head: Head,
+    pub classes: [u8; 8],
+}
+
 // For each state the mask of its component, from the table of what each state reaches.
 pub fn classes_of(h: Head, counts: &[u8], clauses: &[u8], reach: &[u8; 8]) -> [u8; 8]
     requires { ⌜ WellFormed (ruleOf h (now counts) (now clauses)) × (now reach ≡ closuresOf (ruleOf h (now counts) (now clauses))) ⌝ }
@@ -61,11 +67,10 @@ pub fn choose(
 // Each of the states is tried at letter a: its clause is met by the mask all outside its component and by the mask near inside it.
 // The number of the clause goes to index base + state; the states that meet one.
 pub fn choose_each(
-    h: Head,
+    rule: Partition,
     counts: &[u8],
     starts: &[u16; 128],
     clauses: &[u8],
-    classes: &[u8; 8],
     a: usize,
     all: u8,
     near: u8,
@@ -73,17 +78,19 @@ pub fn choose_each(
     choices: &mut [u8],
     base: usize,
 ) -> u8
-    requires { ⌜ WellFormed (ruleOf h (now counts) (now clauses))
+    requires { ⌜ WellFormed (ruleOf (rule .head) (now counts) (now clauses))
         × EntryStarts (now counts) (now starts)
-        × Classes (ruleOf h (now counts) (now clauses)) (now classes)
-        × (a < h .s)
-        × (all < 2 ^ h .n)
-        × (near < 2 ^ h .n)
-        × (states < 2 ^ h .n)
-        × (base + h .n ≤ length (now choices)) ⌝ }
-    ensures { λ r. ⌜ Tried (ruleOf h (now (counts .entry)) (now (clauses .entry))) a all near states base
+        × Classes (ruleOf (rule .head) (now counts) (now clauses)) (rule .classes)
+        × (a < rule .head .s)
+        × (all < 2 ^ rule .head .n)
+        × (near < 2 ^ rule .head .n)
+        × (states < 2 ^ rule .head .n)
+        × (base + rule .head .n ≤ length (now choices)) ⌝ }
+    ensures { λ r. ⌜ Tried (ruleOf (rule .head) (now (counts .entry)) (now (clauses .entry))) a all near states base
         (now (choices .entry)) (now (choices .exit)) r ⌝ }
 {
+    let h = rule.head;
+    let classes = rule.classes;
     let mut found: u8 = 0;
     let mut left = states;
     while left != 0 {

@@ -1,6 +1,6 @@
 // The choices of the rejecting states, by rounds that count the distance.
+use judge_choices_place::Partition;
 use judge_choices_place::choose_each;
-use rule_entries::Head;
 use set_masks::difference;
 use word_rows::letter_at;
 use word_rows::next_place;
@@ -17,11 +17,10 @@ ghost use Rattle.judge_choices_spec.specs.Rounds.{Ready, Place, Round, Ended};
 
 // The choices of the rejecting states at place p that are new in a round: near has the states of the rounds before. These states.
 pub fn choose_at(
-    h: Head,
+    rule: Partition,
     counts: &[u8],
     starts: &[u16; 128],
     clauses: &[u8],
-    classes: &[u8; 8],
     lead: &[u8],
     cycle: &[u8],
     masks: &[u8],
@@ -29,21 +28,21 @@ pub fn choose_at(
     choices: &mut [u8],
     p: usize,
 ) -> u8
-    requires { ⌜ Ready (ruleOf h (now counts) (now clauses)) (now starts) (now classes) (now lead) (now cycle) (now masks)
-        × ((k : ℕ) → k < places (now lead) (now cycle) → getD (now near) k 0 < 2 ^ h .n)
-        × (places (now lead) (now cycle) * h .n ≤ length (now choices))
+    requires { ⌜ Ready (ruleOf (rule .head) (now counts) (now clauses)) (now starts) (rule .classes) (now lead) (now cycle) (now masks)
+        × ((k : ℕ) → k < places (now lead) (now cycle) → getD (now near) k 0 < 2 ^ rule .head .n)
+        × (places (now lead) (now cycle) * rule .head .n ≤ length (now choices))
         × (p < places (now lead) (now cycle)) ⌝ }
-    ensures { λ r. ⌜ Place (ruleOf h (now (counts .entry)) (now (clauses .entry))) (now (lead .entry)) (now (cycle .entry))
+    ensures { λ r. ⌜ Place (ruleOf (rule .head) (now (counts .entry)) (now (clauses .entry))) (now (lead .entry)) (now (cycle .entry))
         (now (masks .entry)) (now (near .entry)) p (now (choices .entry)) (now (choices .exit)) r ⌝ }
 {
+    let h = rule.head;
     let k = next_place(lead.len(), cycle.len(), p);
     let rejecting = difference(masks[p], h.accepting as u8);
     choose_each(
-        h,
+        rule,
         counts,
         starts,
         clauses,
-        classes,
         letter_at(lead, cycle, p) as usize,
         masks[k],
         near[k],
@@ -64,50 +63,47 @@ pub fn mark(changed: u64, found: u8, p: usize) -> u64
     changed | 1 << p
 }
 
-// One round at the places of work: near has the states of the rounds before, after becomes near with the new states.
+// One round at the places of work: near has the states of the rounds before, and becomes near with the new states.
 // The places where there is one.
 pub fn round(
-    h: Head,
+    rule: Partition,
     counts: &[u8],
     starts: &[u16; 128],
     clauses: &[u8],
-    classes: &[u8; 8],
     lead: &[u8],
     cycle: &[u8],
     masks: &[u8],
-    near: &[u8; 64],
-    after: &mut [u8; 64],
+    near: &mut [u8; 64],
     choices: &mut [u8],
     work: u64,
 ) -> u64
-    requires { ⌜ Ready (ruleOf h (now counts) (now clauses)) (now starts) (now classes) (now lead) (now cycle) (now masks)
-        × ((k : ℕ) → k < places (now lead) (now cycle) → getD (now near) k 0 < 2 ^ h .n)
-        × (places (now lead) (now cycle) * h .n ≤ length (now choices))
-        × (now after ≡ now near)
+    requires { ⌜ Ready (ruleOf (rule .head) (now counts) (now clauses)) (now starts) (rule .classes) (now lead) (now cycle) (now masks)
+        × ((k : ℕ) → k < places (now lead) (now cycle) → getD (now near) k 0 < 2 ^ rule .head .n)
+        × (places (now lead) (now cycle) * rule .head .n ≤ length (now choices))
         × (work < 2 ^ places (now lead) (now cycle))
-        × (length (now after) ≡ 64) ⌝ }
-    ensures { λ r. ⌜ Round (ruleOf h (now (counts .entry)) (now (clauses .entry))) (now (lead .entry)) (now (cycle .entry))
-        (now (masks .entry)) (now (near .entry)) (bit work) (now (choices .entry)) (now (choices .exit)) (now (after .exit)) r
-        × (length (now (after .exit)) ≡ 64) ⌝ }
+        × (length (now near) ≡ 64) ⌝ }
+    ensures { λ r. ⌜ Round (ruleOf (rule .head) (now (counts .entry)) (now (clauses .entry))) (now (lead .entry)) (now (cycle .entry))
+        (now (masks .entry)) (now (near .entry)) (bit work) (now (choices .entry)) (now (choices .exit)) (now (near .exit)) r
+        × (length (now (near .exit)) ≡ 64) ⌝ }
 {
+    let before = *near;
     let mut changed: u64 = 0;
     let mut left = work;
     while left != 0 {
         let p = u64::trailing_zeros(left) as usize;
         let found = choose_at(
-            h,
+            rule,
             counts,
             starts,
             clauses,
-            classes,
             lead,
             cycle,
             masks,
-            near,
+            &before,
             choices,
             p,
         );
-        after[p] = near[p] | found;
+        near[p] = before[p] | found;
         changed = mark(changed, found, p);
         left &= left - 1;
     }
@@ -131,21 +127,21 @@ pub fn places_before(changed: u64, at: usize, end: usize) -> u64
 // The choices of the rejecting states: in round d those of distance d. A round looks only at places
 // whose next place changed in the round before. No distance is above places × states.
 pub fn choose_rejecting(
-    h: Head,
+    rule: Partition,
     counts: &[u8],
     starts: &[u16; 128],
     clauses: &[u8],
-    classes: &[u8; 8],
     lead: &[u8],
     cycle: &[u8],
     masks: &[u8],
     choices: &mut [u8],
 )
-    requires { ⌜ Ready (ruleOf h (now counts) (now clauses)) (now starts) (now classes) (now lead) (now cycle) (now masks)
-        × (places (now lead) (now cycle) * h .n ≤ length (now choices)) ⌝ }
-    ensures { λ _. ⌜ Ended (ruleOf h (now (counts .entry)) (now (clauses .entry))) (now (lead .entry)) (now (cycle .entry))
+    requires { ⌜ Ready (ruleOf (rule .head) (now counts) (now clauses)) (now starts) (rule .classes) (now lead) (now cycle) (now masks)
+        × (places (now lead) (now cycle) * rule .head .n ≤ length (now choices)) ⌝ }
+    ensures { λ _. ⌜ Ended (ruleOf (rule .head) (now (counts .entry)) (now (clauses .entry))) (now (lead .entry)) (now (cycle .entry))
         (now (masks .entry)) (now (choices .entry)) (now (choices .exit)) ⌝ }
 {
+    let h = rule.head;
     let at = lead.len();
     let end = at + cycle.len();
     let mut near = [0u8; 64];
@@ -155,17 +151,14 @@ pub fn choose_rejecting(
         if work == 0 {
             return;
         }
-        let before = near;
         let changed = round(
-            h,
+            rule,
             counts,
             starts,
             clauses,
-            classes,
             lead,
             cycle,
             masks,
-            &before,
             &mut near,
             choices,
             work,

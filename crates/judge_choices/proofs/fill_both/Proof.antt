@@ -32,14 +32,14 @@ front c =
 
 slice-aggregate-fill-choices : tie.Need-slice-aggregate-fill-choices
 slice-aggregate-fill-choices c =
-    let start = c .before .before .before .before .before .before .before .before .before .before .before .before .before .before .before .before .before .before .before in
+    let start = c .before .before .before .before .before .before .before .before .before .before .before .before .before .before .before .before .before .before in
     let a = start .args in
     let r = ruleOf (a .h) (a .counts .now) (a .clauses .now) in
-    sym (ap length (front (c .before .before .before .before .before)) ∙ truth-length r (a .lead .now) (a .cycle .now))
+    sym (ap length (front (c .before .before .before .before)) ∙ truth-length r (a .lead .now) (a .cycle .now))
 
 fill-choices-requires : tie.Need-fill-choices-requires
 fill-choices-requires c κs =
-    let at-classes-of = c .before .before .before .before .before .before .before .before .before .before in
+    let at-classes-of = c .before .before .before .before .before .before .before .before .before in
     let at-starts-of = at-classes-of .before .before .before in
     let start = at-starts-of .before .before .before .before .before .before .before in
     let p = start .pre in (
@@ -50,7 +50,7 @@ fill-choices-requires c κs =
         word = p .1;
         few-places = p .2;
         truths =
-            front (c .before .before .before .before .before .before);
+            front (c .before .before .before .before .before);
       },
       p .4,
     )

@@ -19,68 +19,68 @@ use Rattle.judge_choices_fill.proofs.choose_accepting.Statement.{statem
 use Rattle.judge_choices_fill.proofs.choose_accepting.Tie as tie
 
 abbrev Inv-loop : tie.InvT-loop
-Inv-loop h counts starts clauses classes lead cycle masks choices₀ accepting at end p₀ choices p =
-    (p ≤ places lead cycle) × Started (ruleOf h counts clauses) lead cycle (truthMasks (ruleOf h counts clauses) lead cycle) p choices₀ choices
+Inv-loop rule counts starts clauses lead cycle masks choices₀ h accepting at end p₀ choices p =
+    (p ≤ places lead cycle) × Started (ruleOf (rule .head) counts clauses) lead cycle (truthMasks (ruleOf (rule .head) counts clauses) lead cycle) p choices₀ choices
 
 abbrev μ-loop : tie.MeasureT-loop
-μ-loop h counts starts clauses classes lead cycle masks choices₀ accepting at end p₀ choices p = places lead cycle - p
+μ-loop rule counts starts clauses lead cycle masks choices₀ h accepting at end p₀ choices p = places lead cycle - p
 
 cast-accepting : tie.Need-cast-accepting Inv-loop μ-loop
 cast-accepting c =
-    let start = c .before .before .before .before .before .before .before in
-    let a = start .args in omega (arith, accepting-small (ruleOf (a .h) (a .counts .now) (a .clauses .now)) (start .pre .0 .passing .formed))
+    let start = c .before .before .before .before .before .before .before .before in
+    let a = start .args in omega (arith, accepting-small (ruleOf (a .rule .head) (a .counts .now) (a .clauses .now)) (start .pre .0 .passing .formed))
 
 add-end : tie.Need-add-end Inv-loop μ-loop
 add-end c =
-    let start = c .before .before .before .before .before .before .before in
+    let start = c .before .before .before .before .before .before .before .before in
     omega (arith, start .pre .0 .few-places)
 
 loop-holds : tie.Need-loop-holds Inv-loop μ-loop
 loop-holds c =
-    let start = c .before .before .before .before .before .before .before in
+    let start = c .before .before .before .before .before .before .before .before in
     let a = start .args in
     let p = start .pre in
-    (omega arith, started-none (ruleOf (a .h) (a .counts .now) (a .clauses .now)) (p .0 .passing) (a .lead .now) (a .cycle .now) (p .0 .word) (a .choices .now))
+    (omega arith, started-none (ruleOf (a .rule .head) (a .counts .now) (a .clauses .now)) (p .0 .passing) (a .lead .now) (a .cycle .now) (p .0 .word) (a .choices .now))
 
 next-place-requires : tie.Need-next-place-requires Inv-loop μ-loop
 next-place-requires c κs =
-    let start = c .before .before .before .before .before .before .before .before .before in
+    let start = c .before .before .before .before .before .before .before .before .before .before in
     (c .loop-test .taken, omega (arith, start .pre .0 .few-places))
 
 -- the place that follows is one
 next-is : (c : tie.After-next-place Inv-loop μ-loop) → c .next-place .result
-    ≡ nextPlace (c .before .before .before .before .before .before .before .before .before .before .args .lead .now)
-    (c .before .before .before .before .before .before .before .before .before .before .args .cycle .now) (c .before .before .loop .p)
+    ≡ nextPlace (c .before .before .before .before .before .before .before .before .before .before .before .args .lead .now)
+    (c .before .before .before .before .before .before .before .before .before .before .before .args .cycle .now) (c .before .before .loop .p)
 next-is c =
-    let start = c .before .before .before .before .before .before .before .before .before .before in
+    let start = c .before .before .before .before .before .before .before .before .before .before .before in
     c .next-place .ensures (start .args .lead .now) (start .args .cycle .now) refl refl
 
-follows : (c : tie.After-next-place Inv-loop μ-loop) → c .next-place .result < places (c .before .before .before .before .before .before .before .before .before .before .args .lead .now)
-    (c .before .before .before .before .before .before .before .before .before .before .args .cycle .now)
+follows : (c : tie.After-next-place Inv-loop μ-loop) → c .next-place .result < places (c .before .before .before .before .before .before .before .before .before .before .before .args .lead .now)
+    (c .before .before .before .before .before .before .before .before .before .before .before .args .cycle .now)
 follows c =
-    let start = c .before .before .before .before .before .before .before .before .before .before in
+    let start = c .before .before .before .before .before .before .before .before .before .before .before in
     rw (next-is c) (next-low _ _ _ _ _ _ (start .pre .0) (c .before .before .loop .p) (c .before .loop-test .taken))
 
 shared-slice-read-all : tie.Need-shared-slice-read-all Inv-loop μ-loop
 shared-slice-read-all c =
-    let start = c .before .before .before .before .before .before .before .before .before .before .before in
+    let start = c .before .before .before .before .before .before .before .before .before .before .before .before in
     omega (arith, follows (c .before), masks-long _ _ _ _ _ _ (start .pre .0))
 
 shared-slice-read-choose-each : tie.Need-shared-slice-read-choose-each Inv-loop μ-loop
 shared-slice-read-choose-each c =
-    let start = c .before .before .before .before .before .before .before .before .before .before .before .before .before in
+    let start = c .before .before .before .before .before .before .before .before .before .before .before .before .before .before in
     omega (arith, masks-long _ _ _ _ _ _ (start .pre .0), c .before .before .before .before .loop-test .taken)
 
 mul-choose-each : tie.Need-mul-choose-each Inv-loop μ-loop
 mul-choose-each c =
     let at-loop = c .before .before .before .before .before .before .before in
-    let start = at-loop .before .before .before .before .before .before .before .before in
+    let start = at-loop .before .before .before .before .before .before .before .before .before in
     omega (arith, row-few _ _ _ _ _ _ (start .pre .0) (at-loop .loop .p) (c .before .before .before .before .before .before .loop-test .taken))
 
 choose-each-requires : tie.Need-choose-each-requires Inv-loop μ-loop
 choose-each-requires c κs =
     let at-loop = c .before .before .before .before .before .before .before in
-    let start = at-loop .before .before .before .before .before .before .before .before in
+    let start = at-loop .before .before .before .before .before .before .before .before .before in
     let a = start .args in
     let p = start .pre in
     let l = at-loop .loop in
@@ -92,14 +92,14 @@ choose-each-requires c κs =
       rw (c .before .before .before .letter-at .ensures) (letters-fit _ _ _ _ _ _ (p .0) (l .p) t),
       masks-low _ _ _ _ _ _ (p .0) (c .before .before .before .before .before .next-place .result),
       masks-low _ _ _ _ _ _ (p .0) (c .before .before .before .before .before .next-place .result),
-      and-lt (a .h .n) (getD (a .masks .now) (l .p) 0) (a .h .accepting) (masks-low _ _ _ _ _ _ (p .0) (l .p)) (w .accepting-states),
+      and-lt (a .rule .head .n) (getD (a .masks .now) (l .p) 0) (a .rule .head .accepting) (masks-low _ _ _ _ _ _ (p .0) (l .p)) (w .accepting-states),
       omega (arith, row-fits _ _ _ _ _ _ (p .0) (l .p) t, p .1, l .inv .1 .long),
     )
 
 add-p : tie.Need-add-p Inv-loop μ-loop
 add-p c =
     let at-loop-test = c .before .before .before .before .before .before .before .before .before in
-    let start = at-loop-test .before .before .before .before .before .before .before .before .before in
+    let start = at-loop-test .before .before .before .before .before .before .before .before .before .before in
     omega (arith, at-loop-test .loop-test .taken, start .pre .0 .few-places)
 
 loop-less : tie.Need-loop-less Inv-loop μ-loop
@@ -112,25 +112,25 @@ loop-again c =
     let earlier = c .before .before .before .before .before .before .before .before in
     let at-loop-test = earlier .before in
     let at-loop = at-loop-test .before in
-    let start = at-loop .before .before .before .before .before .before .before .before in
+    let start = at-loop .before .before .before .before .before .before .before .before .before in
     let l = at-loop .loop in
     let a = start .args in
     let p = start .pre in
-    let r = ruleOf (a .h) (a .counts .now) (a .clauses .now) in
+    let r = ruleOf (a .rule .head) (a .counts .now) (a .clauses .now) in
     let f = c .before .before .choose-each in
     let T = truthMasks r (a .lead .now) (a .cycle .now) in
     let F : Tried r (letterAt (a .lead .now) (a .cycle .now) (l .p)) (getD T (nextPlace (a .lead .now) (a .cycle .now) (l .p)) 0) (getD T (nextPlace (a .lead .now) (a .cycle .now) (l .p)) 0)
-    (bitAnd (getD T (l .p) 0) (a .h .accepting)) (l .p * a .h .n) (l .choices) (f .last .1 .1 .1 .1 .1 .1 .1 .1 .1 .0) (f .result)
+    (bitAnd (getD T (l .p) 0) (a .rule .head .accepting)) (l .p * a .rule .head .n) (l .choices) (f .last .1 .1 .1 .1 .1 .1 .1 .1 .0) (f .result)
     = rw (c .before .before .before .before .before .before .letter-at .ensures, next-is (earlier), p .0 .truths) at (f .ensures) in (
       omega (arith, at-loop-test .loop-test .taken),
-      started-step r (p .0 .passing) (a .lead .now) (a .cycle .now) (p .0 .word) (l .p) (bitAnd (getD T (l .p) 0) (a .h .accepting)) (a .choices .now) (l .choices)
-          (f .last .1 .1 .1 .1 .1 .1 .1 .1 .1 .0) (f .result)
-          (at-loop-test .loop-test .taken) (λ q k. bit-and (getD T (l .p) 0) (a .h .accepting) q) (l .inv .1) F,
+      started-step r (p .0 .passing) (a .lead .now) (a .cycle .now) (p .0 .word) (l .p) (bitAnd (getD T (l .p) 0) (a .rule .head .accepting)) (a .choices .now) (l .choices)
+          (f .last .1 .1 .1 .1 .1 .1 .1 .1 .0) (f .result)
+          (at-loop-test .loop-test .taken) (λ q k. bit-and (getD T (l .p) 0) (a .rule .head .accepting) q) (l .inv .1) F,
     )
 
 returns : tie.Need-returns Inv-loop μ-loop
 returns c =
-    let start = c .before .before .before .before .before .before .before .before .before in
+    let start = c .before .before .before .before .before .before .before .before .before .before in
     let l = c .before .loop in
     let a = start .args in
     let e : l .p ≡ places (a .lead .now) (a .cycle .now) = omega (arith, l .inv .0, c .loop-test .left) in

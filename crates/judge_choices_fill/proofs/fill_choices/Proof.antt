@@ -19,17 +19,17 @@ front n xs l = let k = length-take n xs in omega arith
 
 slice-aggregate-fill-with : tie.Need-slice-aggregate-fill-with
 slice-aggregate-fill-with c =
-    let start = c .before .before .before .before .before .before .before .before in
+    let start = c .before .before .before .before .before .before .before .before .before in
     omega (arith, front _ (start .args .choices .now) (start .pre .1))
 
 returns : tie.Need-returns
 returns c =
     let at-fill-with = c .before .before .before .before .before .before .before .before .before .before in
-    let start = at-fill-with .before .before .before .before .before .before .before .before .before in
+    let start = at-fill-with .before .before .before .before .before .before .before .before .before .before in
     let a = start .args in
     let p = start .pre in
-    let r = ruleOf (a .h) (a .counts .now) (a .clauses .now) in
-    let end = places (a .lead .now) (a .cycle .now) * a .h .n in
+    let r = ruleOf (a .rule .head) (a .counts .now) (a .clauses .now) in
+    let end = places (a .lead .now) (a .cycle .now) * a .rule .head .n in
     let f = at-fill-with .fill-with in
     all-filled r (p .0 .passing) (a .lead .now) (a .cycle .now) (p .0 .word) (a .choices .now) _ _ _ (p .1)
     (ap (λ (ys : List ℕ). ys ++ drop end (a .choices .now)) (f .ensures ∙ ap (λ (k : ℕ). replicate {A = ℕ} k 255) (front end (a .choices .now) (p .1))))

@@ -29,7 +29,7 @@ use Rattle.judge_choices_place.proofs.choose_each.Statement.{statement}
 use Rattle.judge_choices_place.proofs.choose_each.Tie as tie
 
 abbrev Inv-loop : tie.InvT-loop
-Inv-loop h counts starts clauses classes a all near states choices₀ base found₀ left₀ choices found left =
+Inv-loop counts starts clauses a all near states choices₀ base h classes found₀ left₀ choices found left =
     (left ≤ states)
     × (found < 2 ^ h .n)
     × ((q : ℕ) → walked (λ p. satisfies (h .n) (bit (aimOf (ruleOf h counts clauses) all near p)) (entry (ruleOf h counts clauses) p a)) found left q
@@ -39,83 +39,83 @@ Inv-loop h counts starts clauses classes a all near states choices₀ base found
     × ((i : ℕ) → (i < base) ⊎ (base + h .n ≤ i) → getD choices i 0 ≡ getD choices₀ i 0)
 
 abbrev μ-loop : tie.MeasureT-loop
-μ-loop h counts starts clauses classes a all near states choices₀ base found₀ left₀ choices found left = left
+μ-loop counts starts clauses a all near states choices₀ base h classes found₀ left₀ choices found left = left
 
 loop-holds : tie.Need-loop-holds Inv-loop μ-loop
-loop-holds c = (omega arith, pow-pos (c .before .before .before .args .h .n), λ q. rw (bit-none q), refl, λ q l. rw (bit-none q), λ i k. refl)
+loop-holds c = (omega arith, pow-pos (c .before .before .before .before .before .args .rule .head .n), λ q. rw (bit-none q), refl, λ q l. rw (bit-none q), λ i k. refl)
 
 -- the states left are the rule's, and the least of them is one
 few : (c : tie.In-loop Inv-loop μ-loop) → c .before .loop .left < 256
-few c = omega (arith, c .before .before .before .before .before .fits .states)
+few c = omega (arith, c .before .before .before .before .before .before .before .fits .states)
 
-below : (c : tie.In-loop Inv-loop μ-loop) → trailingZeros 8 (c .before .loop .left) < c .before .before .before .before .before .args .h .n
+below : (c : tie.In-loop Inv-loop μ-loop) → trailingZeros 8 (c .before .loop .left) < c .before .before .before .before .before .before .before .args .rule .head .n
 below c =
-    bit-below (c .before .before .before .before .before .args .h .n) (c .before .loop .left) _ (lt-of-le-of-lt (c .before .loop .inv .0) (c .before .before .before .before .before .pre .6))
+    bit-below (c .before .before .before .before .before .before .before .args .rule .head .n) (c .before .loop .left) _ (lt-of-le-of-lt (c .before .loop .inv .0) (c .before .before .before .before .before .before .before .pre .6))
     (least-member (c .before .loop .left) (omega arith) (few c))
 
 cast-q : tie.Need-cast-q Inv-loop μ-loop
-cast-q c = omega (arith, below c, c .before .before .before .before .before .pre .0 .few-states)
+cast-q c = omega (arith, below c, c .before .before .before .before .before .before .before .pre .0 .few-states)
 
-element-copy-out-class : tie.Need-element-copy-out-class Inv-loop μ-loop
-element-copy-out-class c = omega (arith, below c, c .before .before .before .before .before .pre .0 .few-states)
+array-read-class : tie.Need-array-read-class Inv-loop μ-loop
+array-read-class c = omega (arith, below c, c .before .before .before .before .before .before .before .pre .0 .few-states)
 
 add-choose : tie.Need-add-choose Inv-loop μ-loop
 add-choose c =
-    let start = c .before .before .before .before .before .before .before .before in
-    omega (arith, below (c .before .before .before), start .pre .7, start .good)
+    let start = c .before .before .before .before .before .before .before .before .before in
+    omega (arith, below (c .before .before), start .pre .7, start .good)
 
 choose-requires : tie.Need-choose-requires Inv-loop μ-loop
 choose-requires c κs =
-    let start = c .before .before .before .before .before .before .before .before in
-    let p = start .pre in (p .0, p .1, below (c .before .before .before), p .3, omega (arith, below (c .before .before .before), p .7, c .before .before .before .before .loop .inv .3))
+    let start = c .before .before .before .before .before .before .before .before .before in
+    let p = start .pre in (p .0, p .1, below (c .before .before), p .3, omega (arith, below (c .before .before), p .7, c .before .before .before .loop .inv .3))
 
 cast-found : tie.Need-cast-found Inv-loop μ-loop
 cast-found c =
-    let earlier = c .before .before .before .before .before .before .before in
-    let start = earlier .before .before .before .before .before in
+    let earlier = c .before .before .before .before .before .before in
+    let start = earlier .before .before .before .before .before .before .before in
     omega (arith, below (earlier), start .pre .0 .few-states)
 
 shl-found : tie.Need-shl-found Inv-loop μ-loop
 shl-found c =
-    let earlier = c .before .before .before .before .before .before .before in
-    let start = earlier .before .before .before .before .before in
+    let earlier = c .before .before .before .before .before .before in
+    let start = earlier .before .before .before .before .before .before .before in
     omega (arith, below (earlier), start .pre .0 .few-states)
 
 loop-less : tie.Need-loop-less Inv-loop μ-loop
 loop-less c =
-    let at-loop = c .before .before .before .before .before .before .before .before in
+    let at-loop = c .before .before .before .before .before .before .before in
     omega (arith, and-le-r (at-loop .loop .left) (at-loop .loop .left - 1))
 
 loop-again : tie.Need-loop-again Inv-loop μ-loop
 loop-again c =
     let at-choose = c .before .before .before in
-    let earlier = at-choose .before .before .before .before in
+    let earlier = at-choose .before .before .before in
     let at-loop = earlier .before in
-    let start = at-loop .before .before .before .before in
+    let start = at-loop .before .before .before .before .before .before in
     let l = at-loop .loop in
     let a = start .args in
     let p = start .pre in
-    let r = ruleOf (a .h) (a .counts .now) (a .clauses .now) in
-    let f : Set = λ x. satisfies (a .h .n) (bit (aimOf r (a .all) (a .near) x)) (entry r x (a .a)) in
+    let r = ruleOf (a .rule .head) (a .counts .now) (a .clauses .now) in
+    let f : Set = λ x. satisfies (a .rule .head .n) (bit (aimOf r (a .all) (a .near) x)) (entry r x (a .a)) in
     let q = trailingZeros 8 (l .left) in
     let k = below (earlier) in
     let pos : 0 < l .left = omega arith in
     let small = few (earlier) in
     let e : q < 8 = omega (arith, k, p .0 .few-states) in
     let one : 1 * 2 ^ q % 2 ^ 8 ≡ 2 ^ q = shl-one 8 q e in
-    let class = getD (a .classes .now) q 0 in
+    let class = getD (a .rule .classes) q 0 in
     let aims : bitOr (at-choose .before .before .difference .result) (bitAnd (a .near) class) ≡ aimOf r (a .all) (a .near) q
     = ap (λ (x : ℕ). bitOr x (bitAnd (a .near) class)) (at-choose .before .before .difference .ensures) ∙ aim-set r (p .0 .few-states) (a .all) (a .near) q class (p .4) (p .5) (p .2 .at q k) in
     let m = metOf (aimOf r (a .all) (a .near) q) (entry r q (a .a)) in
     let chosen = at-choose .choose .ensures in
     let met : at-choose .choose .result ≡ isMet m = chosen .0 ∙ ap (λ (s : ℕ). isMet (metOf s (entry r q (a .a)))) aims in
     let new : at-choose .choose .last .1 .1 .1 .1 .1 .1 .1 .0 ≡ putMet m (a .base + q) (l .choices) = chosen .1 ∙ ap (λ (s : ℕ). putMet (metOf s (entry r q (a .a))) (a .base + q) (l .choices)) aims in
-    let test : at-choose .choose .result ≡ f q = met ∙ met-entry (a .h .n) (aimOf r (a .all) (a .near) q) (entry r q (a .a)) (p .0 .few-states) (entry-states r (p .0) q (a .a) k (p .3)) in
-    let room : a .base + a .h .n ≤ length (l .choices) = omega (arith, p .7, l .inv .3) in
+    let test : at-choose .choose .result ≡ f q = met ∙ met-entry (a .rule .head .n) (aimOf r (a .all) (a .near) q) (entry r q (a .a)) (p .0 .few-states) (entry-states r (p .0) q (a .a) k (p .3)) in
+    let room : a .base + a .rule .head .n ≤ length (l .choices) = omega (arith, p .7, l .inv .3) in
     let number : ℕ → ℕ = metNumber r (a .a) (a .all) (a .near) in (
       omega (arith, and-le-r (l .left) (l .left - 1)),
       ⊎-elim
-          (λ w. rw (w .1, one) (or-lt (a .h .n) (l .found) (2 ^ q) (l .inv .1) (pow-lt k)))
+          (λ w. rw (w .1, one) (or-lt (a .rule .head .n) (l .found) (2 ^ q) (l .inv .1) (pow-lt k)))
           (λ w. rw (w .1) (l .inv .1))
           (c .if1 .came),
       λ x. ⊎-elim
@@ -124,18 +124,18 @@ loop-again c =
           (c .if1 .came),
       ap length new ∙ put-length m (a .base + q) (l .choices) ∙ l .inv .3,
       λ x i. ap (λ (ys : List ℕ). getD ys (a .base + x) 0) new ∙ ⊎-elim
-          (λ w. rw (w .1, one) (here-yes (a .h .n) (a .base) number (a .choices .now) (l .choices) (l .found) room (l .inv .4) m q k (sym met ∙ w .0 .taken) refl x i))
-          (λ w. rw (w .1) (here-no (a .h .n) (a .base) number (a .choices .now) (l .choices) (l .found) room (l .inv .4) m q k (sym met ∙ w .0 .left) x i))
+          (λ w. rw (w .1, one) (here-yes (a .rule .head .n) (a .base) number (a .choices .now) (l .choices) (l .found) room (l .inv .4) m q k (sym met ∙ w .0 .taken) refl x i))
+          (λ w. rw (w .1) (here-no (a .rule .head .n) (a .base) number (a .choices .now) (l .choices) (l .found) room (l .inv .4) m q k (sym met ∙ w .0 .left) x i))
           (c .if1 .came),
-      λ i j. ap (λ (ys : List ℕ). getD ys i 0) new ∙ others-on (a .h .n) (a .base) number (a .choices .now) (l .choices) (l .found) room (l .inv .4) m q k (l .inv .5) i j,
+      λ i j. ap (λ (ys : List ℕ). getD ys i 0) new ∙ others-on (a .rule .head .n) (a .base) number (a .choices .now) (l .choices) (l .found) room (l .inv .4) m q k (l .inv .5) i j,
     )
 
 returns : tie.Need-returns Inv-loop μ-loop
 returns c =
     let l = c .before .loop in
-    let a = c .before .before .before .before .before .args in
-    let r = ruleOf (a .h) (a .counts .now) (a .clauses .now) in
-    let f : Set = λ x. satisfies (a .h .n) (bit (aimOf r (a .all) (a .near) x)) (entry r x (a .a)) in
+    let a = c .before .before .before .before .before .before .before .args in
+    let r = ruleOf (a .rule .head) (a .counts .now) (a .clauses .now) in
+    let f : Set = λ x. satisfies (a .rule .head .n) (bit (aimOf r (a .all) (a .near) x)) (entry r x (a .a)) in
     let e : l .left ≡ 0 = omega arith in
     record {
       long = l .inv .3;
@@ -148,5 +148,5 @@ returns c =
 pub choose-each-spec : {M : Type 1} → statement M
 choose-each-spec =
     tie.close (tie.spec
-    Inv-loop μ-loop loop-holds cast-q element-copy-out-class (λ c κs. search needs) add-choose choose-requires cast-found shl-found (λ c. omega arith) loop-less
+    Inv-loop μ-loop loop-holds cast-q array-read-class (λ c κs. search needs) add-choose choose-requires cast-found shl-found (λ c. omega arith) loop-less
     loop-again (λ c. c .before .loop .inv .3) returns)

@@ -18,53 +18,53 @@ use Rattle.judge_choices_rounds.proofs.choose_at.Tie as tie
 
 shared-slice-read-difference : tie.Need-shared-slice-read-difference
 shared-slice-read-difference c =
-    let start = c .before .before .before .before .before .before .before .before in
+    let start = c .before .before .before .before .before .before .before .before .before in
     let p = start .pre in omega (arith, masks-long _ _ _ _ _ _ (p .0), p .3)
 
 cast-difference : tie.Need-cast-difference
 cast-difference c =
-    let start = c .before .before .before .before .before .before .before .before .before in
-    let a = start .args in omega (arith, accepting-small (ruleOf (a .h) (a .counts .now) (a .clauses .now)) (start .pre .0 .passing .formed))
+    let start = c .before .before .before .before .before .before .before .before .before .before in
+    let a = start .args in omega (arith, accepting-small (ruleOf (a .rule .head) (a .counts .now) (a .clauses .now)) (start .pre .0 .passing .formed))
 
 -- the place that follows is one
-next-is : (c : tie.After-next-place) → c .next-place .result ≡ nextPlace (c .before .before .before .before .before .before .before .args .lead .now)
-    (c .before .before .before .before .before .before .before .args .cycle .now) (c .before .before .before .before .before .before .before .args .p)
+next-is : (c : tie.After-next-place) → c .next-place .result ≡ nextPlace (c .before .before .before .before .before .before .before .before .args .lead .now)
+    (c .before .before .before .before .before .before .before .before .args .cycle .now) (c .before .before .before .before .before .before .before .before .args .p)
 next-is c =
-    let start = c .before .before .before .before .before .before .before in
+    let start = c .before .before .before .before .before .before .before .before in
     c .next-place .ensures (start .args .lead .now) (start .args .cycle .now) refl refl
 
-follows : (c : tie.After-next-place) → c .next-place .result < places (c .before .before .before .before .before .before .before .args .lead .now)
-    (c .before .before .before .before .before .before .before .args .cycle .now)
+follows : (c : tie.After-next-place) → c .next-place .result < places (c .before .before .before .before .before .before .before .before .args .lead .now)
+    (c .before .before .before .before .before .before .before .before .args .cycle .now)
 follows c =
-    let start = c .before .before .before .before .before .before .before in
+    let start = c .before .before .before .before .before .before .before .before in
     rw (next-is c) (next-low _ _ _ _ _ _ (start .pre .0) (start .args .p) (start .pre .3))
 
 shared-slice-read-choose-each : tie.Need-shared-slice-read-choose-each
 shared-slice-read-choose-each c =
-    let start = c .before .before .before .before .before .before .before .before .before .before .before .before in
+    let start = c .before .before .before .before .before .before .before .before .before .before .before .before .before in
     omega (arith, follows (c .before .before .before .before .before), masks-long _ _ _ _ _ _ (start .pre .0))
 
 element-copy-out-choose-each : tie.Need-element-copy-out-choose-each
 element-copy-out-choose-each c =
-    let start = c .before .before .before .before .before .before .before .before .before .before .before .before in
+    let start = c .before .before .before .before .before .before .before .before .before .before .before .before .before in
     omega (arith, follows (c .before .before .before .before .before), start .pre .0 .few-places)
 
 mul-choose-each : tie.Need-mul-choose-each
 mul-choose-each c =
-    let start = c .before .before .before .before .before .before .before .before .before .before .before .before .before .before .before .before .before in
+    let start = c .before .before .before .before .before .before .before .before .before .before .before .before .before .before .before .before .before .before in
     omega (arith, row-few _ _ _ _ _ _ (start .pre .0) (start .args .p) (start .pre .3))
 
 choose-each-requires : tie.Need-choose-each-requires
 choose-each-requires c κs =
     let at-difference = c .before .before .before .before .before .before .before in
     let at-next-place = at-difference .before .before .before in
-    let start = at-next-place .before .before .before .before .before .before .before in
+    let start = at-next-place .before .before .before .before .before .before .before .before in
     let a = start .args in
     let p = start .pre in
     let w = p .0 .passing .formed in
-    let n = a .h .n in
-    let low : at-difference .difference .result < 2 ^ a .h .n = rw (at-difference .difference .ensures)
-    (difference-low n (getD (a .masks .now) (a .p) 0) (a .h .accepting) (w .few-states) (masks-low _ _ _ _ _ _ (p .0) (a .p))) in (
+    let n = a .rule .head .n in
+    let low : at-difference .difference .result < 2 ^ a .rule .head .n = rw (at-difference .difference .ensures)
+    (difference-low n (getD (a .masks .now) (a .p) 0) (a .rule .head .accepting) (w .few-states) (masks-low _ _ _ _ _ _ (p .0) (a .p))) in (
       w,
       p .0 .beginnings,
       p .0 .components,
@@ -81,14 +81,14 @@ returns c =
     let at-letter-at = at-difference2 .before .before .before .before in
     let at-difference = at-letter-at .before in
     let earlier = at-difference .before .before .before in
-    let start = earlier .before .before .before .before .before .before .before in
+    let start = earlier .before .before .before .before .before .before .before .before in
     let a = start .args in
     let p = start .pre in
-    let r = ruleOf (a .h) (a .counts .now) (a .clauses .now) in
+    let r = ruleOf (a .rule .head) (a .counts .now) (a .clauses .now) in
     let w = p .0 .passing .formed in
     let all = getD (a .masks .now) (a .p) 0 in
     let near = getD (a .near .now) (a .p) 0 in
-    let states : (q : ℕ) → q < a .h .n → bit (at-difference2 .difference2 .result) q ≡ ((bit all q && not (bit (a .h .accepting) q)) && not (bit near q))
+    let states : (q : ℕ) → q < a .rule .head .n → bit (at-difference2 .difference2 .result) q ≡ ((bit all q && not (bit (a .rule .head .accepting) q)) && not (bit near q))
     = λ q l. let k : q < 8 = omega (arith, w .few-states) in
     ap (λ (m : ℕ). bit m q) (at-difference2 .difference2 .ensures) ∙ bit-mask 8 _ q k
     ∙ ap (λ (b : Bool). b && not (bit near q)) (ap (λ (m : ℕ). bit m q) (at-difference .difference .ensures) ∙ bit-mask 8 _ q k) in

@@ -16,38 +16,38 @@ use Rattle.judge_choices_rounds.proofs.choose_rejecting.Statement.{stat
 use Rattle.judge_choices_rounds.proofs.choose_rejecting.Tie as tie
 
 abbrev Inv-loop : tie.InvT-loop
-Inv-loop h counts starts clauses classes lead cycle masks choices₀ at end near₀ work₀ d₀ choices near work d =
+Inv-loop rule counts starts clauses lead cycle masks choices₀ h at end near₀ work₀ d₀ choices near work d =
     (length near ≡ 64)
-    × (d ≤ places lead cycle * h .n)
-    × Rounds (ruleOf h counts clauses) lead cycle (truthMasks (ruleOf h counts clauses) lead cycle) d near work choices₀ choices
+    × (d ≤ places lead cycle * rule .head .n)
+    × Rounds (ruleOf (rule .head) counts clauses) lead cycle (truthMasks (ruleOf (rule .head) counts clauses) lead cycle) d near work choices₀ choices
 
 abbrev μ-loop : tie.MeasureT-loop
-μ-loop h counts starts clauses classes lead cycle masks choices₀ at end near₀ work₀ d₀ choices near work d = places lead cycle * h .n - d
+μ-loop rule counts starts clauses lead cycle masks choices₀ h at end near₀ work₀ d₀ choices near work d = places lead cycle * rule .head .n - d
 
 add-end : tie.Need-add-end Inv-loop μ-loop
-add-end c = omega (arith, c .before .before .before .before .before .before .pre .0 .few-places)
+add-end c = omega (arith, c .before .before .before .before .before .before .before .pre .0 .few-places)
 
 sub-work : tie.Need-sub-work Inv-loop μ-loop
-sub-work c = omega (arith, c .before .before .before .before .before .before .pre .0 .few-places)
+sub-work c = omega (arith, c .before .before .before .before .before .before .before .pre .0 .few-places)
 
 shr-work : tie.Need-shr-work Inv-loop μ-loop
-shr-work c = omega (arith, c .before .before .before .before .before .before .pre .0 .few-places, c .before .before .before .before .before .before .pre .0 .word .repeats)
+shr-work c = omega (arith, c .before .before .before .before .before .before .before .pre .0 .few-places, c .before .before .before .before .before .before .before .pre .0 .word .repeats)
 
 loop-holds : tie.Need-loop-holds Inv-loop μ-loop
 loop-holds c =
-    let a = c .before .before .before .before .before .before .args in
-    let p = c .before .before .before .before .before .before .pre in
+    let a = c .before .before .before .before .before .before .before .args in
+    let p = c .before .before .before .before .before .before .before .pre in
     let end = places (a .lead .now) (a .cycle .now) in
     let some : 0 < end = omega (arith, p .0 .word .repeats) in (
       refl,
       omega arith,
-      rounds-start (ruleOf (a .h) (a .counts .now) (a .clauses .now)) (p .0 .passing) (a .lead .now) (a .cycle .now) (p .0 .word) _ (a .choices .now) _
+      rounds-start (ruleOf (a .rule .head) (a .counts .now) (a .clauses .now)) (p .0 .passing) (a .lead .now) (a .cycle .now) (p .0 .word) _ (a .choices .now) _
           (λ x l. getD-replicate 64 x 0 0 (omega (arith, p .0 .few-places))) (all-low end some (p .0 .few-places)) (all-in end some (p .0 .few-places)),
     )
 
 mul-if1 : tie.Need-mul-if1 Inv-loop μ-loop
 mul-if1 c =
-    let start = c .before .before .before .before .before .before .before .before in
+    let start = c .before .before .before .before .before .before .before .before .before in
     omega (arith, bytes-few _ _ _ _ _ _ (start .pre .0))
 
 same-length : tie.Need-same-length Inv-loop μ-loop
@@ -55,11 +55,11 @@ same-length c = c .before .before .before .loop .inv .2 .long
 
 returns : tie.Need-returns Inv-loop μ-loop
 returns c =
-    let start = c .before .before .before .before .before .before .before .before .before .before in
+    let start = c .before .before .before .before .before .before .before .before .before .before .before in
     let l = c .before .before .before .loop in
     let a = start .args in
     let p = start .pre in
-    let r = ruleOf (a .h) (a .counts .now) (a .clauses .now) in
+    let r = ruleOf (a .rule .head) (a .counts .now) (a .clauses .now) in
     let R : Rounds r (a .lead .now) (a .cycle .now) (truthMasks r (a .lead .now) (a .cycle .now)) (l .d) (l .near) 0 (a .choices .now) (l .choices) = rw (c .if2 .taken) at (l .inv .2) in
     rw (p .0 .truths)
     (rounds-end r (p .0 .passing) (a .lead .now) (a .cycle .now) (p .0 .word) (l .d) (l .near) 0 (a .choices .now) (l .choices) R
@@ -68,14 +68,13 @@ returns c =
 round-requires : tie.Need-round-requires Inv-loop μ-loop
 round-requires c κs =
     let start = c .before .before .before .before .before .before .before .before .before .before .before .before .before in
-    let l = c .before .before .before .before .before .before .loop in
+    let l = c .before .before .before .before .before .loop in
     let a = start .args in
     let p = start .pre in
-    let r = ruleOf (a .h) (a .counts .now) (a .clauses .now) in (
+    let r = ruleOf (a .rule .head) (a .counts .now) (a .clauses .now) in (
       p .0,
       λ k m. rw (l .inv .2 .within k m) (near-low r (p .0 .passing) (a .lead .now) (a .cycle .now) (p .0 .word) (l .d) k),
       omega (arith, p .1, l .inv .2 .long),
-      refl,
       l .inv .2 .few,
       l .inv .0,
     )
@@ -88,43 +87,43 @@ places-before-requires c κs =
 
 add-d : tie.Need-add-d Inv-loop μ-loop
 add-d c =
-    let at-if1 = c .before .before .before .before .before .before .before .before in
-    let start = at-if1 .before .before .before .before .before .before .before .before .before in
+    let at-if1 = c .before .before .before .before .before .before .before in
+    let start = at-if1 .before .before .before .before .before .before .before .before .before .before in
     omega (arith, bytes-few _ _ _ _ _ _ (start .pre .0), at-if1 .if1 .taken)
 
 loop-less : tie.Need-loop-less Inv-loop μ-loop
 loop-less c =
-    let at-if1 = c .before .before .before .before .before .before .before .before in
+    let at-if1 = c .before .before .before .before .before .before .before in
     omega (arith, at-if1 .if1 .taken)
 
 loop-again : tie.Need-loop-again Inv-loop μ-loop
 loop-again c =
-    let at-if1 = c .before .before .before .before .before .before .before .before in
+    let at-if1 = c .before .before .before .before .before .before .before in
     let at-loop = at-if1 .before .before in
-    let start = at-loop .before .before .before .before .before .before .before in
+    let start = at-loop .before .before .before .before .before .before .before .before in
     let l = at-loop .loop in
     let a = start .args in
     let p = start .pre in
-    let r = ruleOf (a .h) (a .counts .now) (a .clauses .now) in
+    let r = ruleOf (a .rule .head) (a .counts .now) (a .clauses .now) in
     let f = c .before .before .before .round in
-    let S : Round r (a .lead .now) (a .cycle .now) (truthMasks r (a .lead .now) (a .cycle .now)) (l .near) (bit (l .work)) (l .choices) (f .last .1 .1 .1 .1 .1 .1 .1 .1 .1 .1 .0)
-    (f .last .1 .1 .1 .1 .1 .1 .1 .1 .1 .0) (f .result)
+    let S : Round r (a .lead .now) (a .cycle .now) (truthMasks r (a .lead .now) (a .cycle .now)) (l .near) (bit (l .work)) (l .choices) (f .last .1 .1 .1 .1 .1 .1 .1 .1 .0)
+    (f .last .1 .1 .1 .1 .1 .1 .1 .0) (f .result)
     = rw (p .0 .truths) at (f .ensures .0) in (
       f .ensures .1,
       omega (arith, at-if1 .if1 .taken),
-      rw (add-one (l .d)) (rounds-step r (p .0 .passing) (a .lead .now) (a .cycle .now) (p .0 .word) (l .d) (l .near) (f .last .1 .1 .1 .1 .1 .1 .1 .1 .1 .0) (a .choices .now) (l .choices)
-          (f .last .1 .1 .1 .1 .1 .1 .1 .1 .1 .1 .0)
+      rw (add-one (l .d)) (rounds-step r (p .0 .passing) (a .lead .now) (a .cycle .now) (p .0 .word) (l .d) (l .near) (f .last .1 .1 .1 .1 .1 .1 .1 .0) (a .choices .now) (l .choices)
+          (f .last .1 .1 .1 .1 .1 .1 .1 .1 .0)
           (l .work) (c .places-before .result) (f .result) (l .inv .2) S (c .places-before .ensures .0) (c .places-before .ensures .1 (a .lead .now) (a .cycle .now) refl refl)),
     )
 
 returns-2 : tie.Need-returns-2 Inv-loop μ-loop
 returns-2 c =
-    let start = c .before .before .before .before .before .before .before .before .before in
+    let start = c .before .before .before .before .before .before .before .before .before .before in
     let l = c .before .before .loop in
     let a = start .args in
     let p = start .pre in
-    let r = ruleOf (a .h) (a .counts .now) (a .clauses .now) in
-    let e : l .d ≡ places (a .lead .now) (a .cycle .now) * a .h .n = omega (arith, l .inv .1, c .if1 .left) in
+    let r = ruleOf (a .rule .head) (a .counts .now) (a .clauses .now) in
+    let e : l .d ≡ places (a .lead .now) (a .cycle .now) * a .rule .head .n = omega (arith, l .inv .1, c .if1 .left) in
     rw (p .0 .truths)
     (rounds-end r (p .0 .passing) (a .lead .now) (a .cycle .now) (p .0 .word) (l .d) (l .near) (l .work) (a .choices .now) (l .choices) (l .inv .2)
     (λ x k. ap (λ (d : ℕ). nearAt r (a .lead .now) (a .cycle .now) (truthMasks r (a .lead .now) (a .cycle .now)) d x) e))

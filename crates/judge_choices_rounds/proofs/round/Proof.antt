@@ -20,23 +20,23 @@ use Rattle.judge_choices_rounds.proofs.round.Statement.{statement}
 use Rattle.judge_choices_rounds.proofs.round.Tie as tie
 
 abbrev Inv-loop : tie.InvT-loop
-Inv-loop h counts starts clauses classes lead cycle masks near after₀ choices₀ work changed₀ left₀ after choices changed left =
-    (length after ≡ 64)
+Inv-loop rule counts starts clauses lead cycle masks near₀ choices₀ work before changed₀ left₀ near choices changed left =
+    (length near ≡ 64)
     × (left ≤ work)
     × ((x : ℕ) → bit left x ≡ true → bit work x ≡ true)
-    × Round (ruleOf h counts clauses) lead cycle masks near (λ x. bit work x && not (bit left x)) choices₀ choices after changed
+    × Round (ruleOf (rule .head) counts clauses) lead cycle masks near₀ (λ x. bit work x && not (bit left x)) choices₀ choices near changed
 
 abbrev μ-loop : tie.MeasureT-loop
-μ-loop h counts starts clauses classes lead cycle masks near after₀ choices₀ work changed₀ left₀ after choices changed left = left
+μ-loop rule counts starts clauses lead cycle masks near₀ choices₀ work before changed₀ left₀ near choices changed left = left
 
 loop-holds : tie.Need-loop-holds Inv-loop μ-loop
 loop-holds c =
-    let a = c .before .before .before .before .before .before .args in
-    let p = c .before .before .before .before .before .before .pre in (
-      p .5,
+    let a = c .before .before .before .before .before .before .before .args in
+    let p = c .before .before .before .before .before .before .before .pre in (
+      p .4,
       omega arith,
       λ x t. t,
-      rw (p .3) (round-start (ruleOf (a .h) (a .counts .now) (a .clauses .now)) (a .lead .now) (a .cycle .now) (a .masks .now) (a .near .now) (λ x. bit (a .work) x && not (bit (a .work) x))
+      (round-start (ruleOf (a .rule .head) (a .counts .now) (a .clauses .now)) (a .lead .now) (a .cycle .now) (a .masks .now) (a .near .now) (λ x. bit (a .work) x && not (bit (a .work) x))
           (a .choices .now)
           (λ x l. contrary (bit (a .work) x)) (p .1)),
     )
@@ -46,15 +46,15 @@ loop-holds c =
     contrary false = refl
 
 abbrev start-of-in-loop : tie.In-loop Inv-loop μ-loop → tie.Start Inv-loop μ-loop
-start-of-in-loop c = c .before .before .before .before .before .before .before .before
+start-of-in-loop c = c .before .before .before .before .before .before .before .before .before
 
 -- what is left is places of the word, and the least of them is one
 small : (c : tie.In-loop Inv-loop μ-loop) → c .before .loop .left < 2 ^ places (start-of-in-loop c .args .lead .now) (start-of-in-loop c .args .cycle .now)
-small c = lt-of-le-of-lt (c .before .loop .inv .1) (start-of-in-loop c .pre .4)
+small c = lt-of-le-of-lt (c .before .loop .inv .1) (start-of-in-loop c .pre .3)
 
 few : (c : tie.In-loop Inv-loop μ-loop) → c .before .loop .left < 2 ^ 64
 few c =
-    let start = c .before .before .before .before .before .before .before .before in
+    let start = c .before .before .before .before .before .before .before .before .before in
     lt-of-lt-of-le (small c) (pow-mono (start .pre .0 .few-places))
 
 below : (c : tie.In-loop Inv-loop μ-loop) → trailingZeros 64 (c .before .loop .left) < places (start-of-in-loop c .args .lead .now) (start-of-in-loop c .args .cycle .now)
@@ -63,7 +63,7 @@ below c = bit-below (places (start-of-in-loop c .args .lead .now) (start-of-in-l
 
 low : (c : tie.In-loop Inv-loop μ-loop) → trailingZeros 64 (c .before .loop .left) < 64
 low c =
-    let start = c .before .before .before .before .before .before .before .before in
+    let start = c .before .before .before .before .before .before .before .before .before in
     omega (arith, below c, start .pre .0 .few-places)
 
 cast-p : tie.Need-cast-p Inv-loop μ-loop
@@ -71,15 +71,15 @@ cast-p c = omega (arith, low c)
 
 choose-at-requires : tie.Need-choose-at-requires Inv-loop μ-loop
 choose-at-requires c κs =
-    let start = c .before .before .before .before .before .before .before .before .before in
+    let start = c .before .before .before .before .before .before .before .before .before .before .before in
     let p = start .pre in
-    (p .0, p .1, omega (arith, p .2, c .before .before .loop .inv .3 .long), below (c .before))
+    (p .0, p .1, omega (arith, p .2, c .before .before .before .loop .inv .3 .long), below (c .before .before))
 
-element-copy-out-after : tie.Need-element-copy-out-after Inv-loop μ-loop
-element-copy-out-after c = low (c .before .before .before .before)
+array-read-near : tie.Need-array-read-near Inv-loop μ-loop
+array-read-near c = low (c .before .before .before .before .before)
 
-element-write-after : tie.Need-element-write-after Inv-loop μ-loop
-element-write-after c = low (c .before .before .before .before .before)
+element-write-near : tie.Need-element-write-near Inv-loop μ-loop
+element-write-near c = low (c .before .before .before .before .before)
 
 mark-requires : tie.Need-mark-requires Inv-loop μ-loop
 mark-requires c κs = low (c .before .before .before .before .before)
@@ -91,23 +91,23 @@ loop-less c =
 
 loop-again : tie.Need-loop-again Inv-loop μ-loop
 loop-again c =
-    let at-choose-at = c .before .before .before .before in
-    let at-loop = at-choose-at .before .before .before in
-    let start = at-loop .before .before .before .before .before .before .before in
+    let at-choose-at = c .before .before .before in
+    let at-loop = at-choose-at .before .before .before .before in
+    let start = at-loop .before .before .before .before .before .before .before .before in
     let l = at-loop .loop in
     let a = start .args in
     let p = start .pre in
-    let r = ruleOf (a .h) (a .counts .now) (a .clauses .now) in
+    let r = ruleOf (a .rule .head) (a .counts .now) (a .clauses .now) in
     let x = trailingZeros 64 (l .left) in
     let pos : 0 < l .left = omega arith in
-    let s = few (at-choose-at .before .before) in
-    let k = below (at-choose-at .before .before) in
+    let s = few (at-choose-at .before .before .before) in
+    let k = below (at-choose-at .before .before .before) in
     let m = c .mark .ensures in (
-      length-set (l .after) x _ ∙ l .inv .0,
+      length-set (l .near) x _ ∙ l .inv .0,
       omega (arith, and-le-r (l .left) (l .left - 1)),
       λ y t. l .inv .2 y (still-left 64 (l .left) pos s y t),
       round-step r (a .lead .now) (a .cycle .now) (a .masks .now) (a .near .now) (λ y. bit (a .work) y && not (bit (l .left) y)) (λ y. bit (a .work) y && not (bit (bitAnd (l .left) (l .left - 1)) y))
-          (a .choices .now) (l .choices) (at-choose-at .choose-at .last .1 .1 .1 .1 .1 .1 .1 .1 .1 .0) (l .after) (l .changed) (c .mark .result) x (at-choose-at .choose-at .result) k (l .inv .0)
+          (a .choices .now) (l .choices) (at-choose-at .choose-at .last .1 .1 .1 .1 .1 .1 .1 .1 .0) (l .near) (l .changed) (c .mark .result) x (at-choose-at .choose-at .result) k (l .inv .0)
           (p .0 .few-places)
           (was-left 64 (l .left) pos s (a .work)) (λ y j. now-done 64 (l .left) pos s (a .work) (l .inv .2) y) (p .1 x k) m
           (mark-lt (places (a .lead .now) (a .cycle .now)) (l .changed) (c .mark .result) x (at-choose-at .choose-at .result) k (l .inv .3 .few) m)
@@ -116,17 +116,17 @@ loop-again c =
 
 returns : tie.Need-returns Inv-loop μ-loop
 returns c =
-    let start = c .before .before .before .before .before .before .before .before in
+    let start = c .before .before .before .before .before .before .before .before .before in
     let l = c .before .loop in
     let a = start .args in
     let e : l .left ≡ 0 = omega arith in (
-      round-ext (ruleOf (a .h) (a .counts .now) (a .clauses .now)) (a .lead .now) (a .cycle .now) (a .masks .now) (a .near .now) (λ y. bit (a .work) y && not (bit (l .left) y)) (bit (a .work))
-          (a .choices .now) (l .choices) (l .after) (l .changed) (λ y k. rw (e, bit-none y) (sym (and-true (bit (a .work) y)))) (l .inv .3),
+      round-ext (ruleOf (a .rule .head) (a .counts .now) (a .clauses .now)) (a .lead .now) (a .cycle .now) (a .masks .now) (a .near .now) (λ y. bit (a .work) y && not (bit (l .left) y)) (bit (a .work))
+          (a .choices .now) (l .choices) (l .near) (l .changed) (λ y k. rw (e, bit-none y) (sym (and-true (bit (a .work) y)))) (l .inv .3),
       l .inv .0,
     )
 
 pub round-spec : {M : Type 1} → statement M
 round-spec =
     tie.close (tie.spec
-    Inv-loop μ-loop loop-holds cast-p choose-at-requires element-copy-out-after element-write-after mark-requires (λ c. omega arith) loop-less loop-again
+    Inv-loop μ-loop loop-holds cast-p choose-at-requires array-read-near element-write-near mark-requires (λ c. omega arith) loop-less loop-again
     (λ c. c .before .loop .inv .3 .long) returns)
