@@ -35,8 +35,11 @@ pub record CalledChoices (r : Rule) (lead cycle masks masks′ choices choices�
 
 -- the answer v, and both slices before and after, for a file
 pub record JudgedChoices (f lead cycle masks masks′ choices choices′ : List ℕ) (v : Verdict) : Type 0 where
+  -- the first row that refuses, else whether the initial state is in the mask of place 0
   pub answer : v ≡ verdict (choicesRow f lead cycle (length masks) (length choices)) (holdsStart (ruleIn f) lead cycle)
+  -- a mask a place from the start of the first slice on, and the rest as lent; all as lent where a row refuses
   pub masks-written : masks′ ≡ after (choicesRow f lead cycle (length masks) (length choices)) (truthMasks (ruleIn f) lead cycle) masks
+  -- a clause number a pair from the start of the second slice on, likewise
   pub choices-written : choices′ ≡ after (choicesRow f lead cycle (length masks) (length choices)) (choicesOf (ruleIn f) lead cycle) choices
   -- by plans: yes or no, the mask of each place
   pub meant : choicesRow f lead cycle (length masks) (length choices) ≡ 0 → Meant (ruleIn f) lead cycle masks′ v
