@@ -28,37 +28,52 @@ pub fn find_cycle(sheet: &[u8], from: &[usize], size: &[usize], n: usize, cycle:
     k
 }
 
+// The numbers of a rule and, for each of its states, the mask of the states that it reaches.
+pub struct Reachability {
+    pub head: Head,
+    pub reach: [u8; 8],
+}
+
+// A cycle to be learned: the sheet's part of size bytes from byte begin on; and how many cycles are known.
+pub struct Sought {
+    pub begin: usize,
+    pub size: usize,
+    pub cycles: usize,
+}
+
 // The number of a known cycle, and how many are known.
 pub struct Learned {
     pub number: usize,
     pub cycles: usize,
 }
 
-// The number of the cycle that is the sheet's part of p bytes from byte begin on; n cycles are known. A new one is added, and its
-// masks are filled.
+// The number of the cycle that is sought. A new one is added, and its masks are filled.
 pub fn learn_cycle(
-    h: Head,
+    rule: Reachability,
     counts: &[u8],
     starts: &[u16; 128],
     clauses: &[u8],
-    reach: &[u8; 8],
     sheet: &[u8],
-    begin: usize,
-    p: usize,
+    sought: Sought,
     from: &mut [usize],
     size: &mut [usize],
     filled: &mut [u8],
-    n: usize,
 ) -> Learned
-    requires { ⌜ CycleReady (ruleOf h (now counts) (now clauses)) (now starts) (take p (drop begin (now sheet)))
-        × (now reach ≡ closuresOf (ruleOf h (now counts) (now clauses)))
-        × Filled (ruleOf h (now counts) (now clauses)) (now sheet) (now from) (now size) (now filled) n
-        × (n < 64)
-        × (p ≤ 32)
-        × (begin + p ≤ length (now sheet)) ⌝ }
-    ensures { λ r. ⌜ Learnt (ruleOf h (now (counts .entry)) (now (clauses .entry))) (now (sheet .entry)) (now (from .entry))
-        (now (size .entry)) n (take p (drop begin (now (sheet .entry)))) (now (from .exit)) (now (size .exit)) (now (filled .exit)) r ⌝ }
+    requires { ⌜ CycleReady (ruleOf (rule .head) (now counts) (now clauses)) (now starts) (take (sought .size) (drop (sought .begin) (now sheet)))
+        × (rule .reach ≡ closuresOf (ruleOf (rule .head) (now counts) (now clauses)))
+        × Filled (ruleOf (rule .head) (now counts) (now clauses)) (now sheet) (now from) (now size) (now filled) (sought .cycles)
+        × (sought .cycles < 64)
+        × (sought .size ≤ 32)
+        × (sought .begin + sought .size ≤ length (now sheet)) ⌝ }
+    ensures { λ r. ⌜ Learnt (ruleOf (rule .head) (now (counts .entry)) (now (clauses .entry))) (now (sheet .entry)) (now (from .entry))
+        (now (size .entry)) (sought .cycles) (take (sought .size) (drop (sought .begin) (now (sheet .entry))))
+        (now (from .exit)) (now (size .exit)) (now (filled .exit)) r ⌝ }
 {
+    let h = rule.head;
+    let reach = rule.reach;
+    let begin = sought.begin;
+    let p = sought.size;
+    let n = sought.cycles;
     let end = begin + p;
     let number = find_cycle(sheet, from, size, n, &sheet[begin..end]);
     if number < n {
@@ -71,14 +86,12 @@ pub fn learn_cycle(
         counts,
         starts,
         clauses,
-        reach,
+        &reach,
         &sheet[begin..end],
         &mut filled[first..last],
     );
     from[n] = begin;
     size[n] = p;
-    Learned {
-        number: n,
-        cycles: n + 1,
-    }
+    let cycles = n + 1;
+    Learned { number: n, cycles }
 }

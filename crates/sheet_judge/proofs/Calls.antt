@@ -61,44 +61,41 @@ module _ (sheet : List ℕ) (answers masks : ℕ) where
 
 -- ---- a rule that is read
 
-module _ (r : Rule) (sheet answers masks : List ℕ) where
-  abbrev row : ℕ
-  row = calledRow sheet (length answers) (length masks)
-
-  pub called-refused : (k : ℕ) → (k ≡ 0 → ⊥) → k ≡ row → SheetCalled r sheet answers masks answers masks (Refused k)
+module _ {r : Rule} {sheet answers masks : List ℕ} where
+  pub called-refused : (k : ℕ) → (k ≡ 0 → ⊥) → k ≡ calledRow sheet (length answers) (length masks) → SheetCalled r sheet answers masks answers masks (Refused k)
   unfolding after
   called-refused zero z e = absurd (z refl)
   called-refused (suc k) z e =
-      let j : row ≡ suc k = sym e in
+      let j : calledRow sheet (length answers) (length masks) ≡ suc k = sym e in
       let kept : (old new : List ℕ) → old ≡ after (suc k) new old = λ old new. refl in
       record { answered = rw j; answers-written = rw j (kept answers (map (answerOf r) (wordsOf sheet))); masks-written = rw j (kept masks (allMasks r (wordsOf sheet))) }
 
-  pub called-served : row ≡ 0 → (answers′ masks′ : List ℕ) (n cycles : ℕ) → n ≡ length (wordsOf sheet) → WordsJudged r sheet answers masks answers′ masks′ cycles
+  pub called-served : calledRow sheet (length answers) (length masks) ≡ 0 → {answers′ masks′ : List ℕ} {n cycles : ℕ} → n ≡ length (wordsOf sheet) → WordsJudged r sheet answers masks answers′ masks′ cycles
       → SheetCalled r sheet answers masks answers′ masks′ (Judged (record { words = n; cycles = cycles }))
-  called-served e answers′ masks′ n cycles w J = record { answered = rw (e, w, J .count); answers-written = rw e (J .answers-written); masks-written = rw e (J .masks-written) }
+  called-served e w J = record { answered = rw (e, w, J .count); answers-written = rw e (J .answers-written); masks-written = rw e (J .masks-written) }
 
 -- ---- a file
 
-module _ (f sheet answers masks : List ℕ) where
+refused-kept : (k j : ℕ) (new old : List ℕ) → k ≡ suc j → after k new old ≡ old
+unfolding after
+refused-kept k j new old e = rw e
+
+module _ {f sheet answers masks : List ℕ} where
   -- what holds of every answer as it is computed
-  computed : (answers′ masks′ : List ℕ) (v : SheetAnswer) → v ≡ sheetOf f sheet (length answers) (length masks)
+  computed : {answers′ masks′ : List ℕ} {v : SheetAnswer} → v ≡ sheetOf f sheet (length answers) (length masks)
       → answers′ ≡ after (sheetRow f sheet (length answers) (length masks)) (map (answerOf (ruleIn f)) (wordsOf sheet)) answers
       → masks′ ≡ after (sheetRow f sheet (length answers) (length masks)) (allMasks (ruleIn f) (wordsOf sheet)) masks → SheetComputed f sheet answers masks answers′ masks′ v
-  computed answers′ masks′ v a b c = record {
+  computed a b c = record {
     answered = a;
     answers-written = b;
     masks-written = c;
     alone = λ e a b t l. alone f (file-served sheet (length answers) (length masks) f e) a b t l;
   }
 
-  refused-kept : (k j : ℕ) (new old : List ℕ) → k ≡ suc j → after k new old ≡ old
-  unfolding after
-  refused-kept k j new old e = rw e
-
   -- it is what plans and tidy spellings say
-  judged : (answers′ masks′ : List ℕ) (v : SheetAnswer) → SheetComputed f sheet answers masks answers′ masks′ v → SheetJudged f sheet answers masks answers′ masks′ v
+  judged : {answers′ masks′ : List ℕ} {v : SheetAnswer} → SheetComputed f sheet answers masks answers′ masks′ v → SheetJudged f sheet answers masks answers′ masks′ v
   unfolding sheetOf
-  judged answers′ masks′ v C =
+  judged {answers′} {masks′} {v} C =
       let row = sheetRow f sheet (length answers) (length masks) in
       record {
         served = λ e. sheet-meant (ruleIn f) (accepted-passing f (file-served sheet (length answers) (length masks) f e)) sheet answers masks answers′ masks′ v
@@ -116,13 +113,13 @@ module _ (f sheet answers masks : List ℕ) where
   judged-refused (suc k) z e =
       let j : sheetRow f sheet (length answers) (length masks) ≡ suc k = sym (file-refuses sheet (length answers) (length masks) f (suc k) z e) in
       let kept : (old new : List ℕ) → old ≡ after (suc k) new old = λ old new. refl in
-      let C = computed answers masks (Refused (suc k)) (rw j) (rw j (kept answers (map (answerOf (ruleIn f)) (wordsOf sheet)))) (rw j (kept masks (allMasks (ruleIn f) (wordsOf sheet)))) in
-      (judged answers masks (Refused (suc k)) C, C)
+      let C : SheetComputed f sheet answers masks answers masks (Refused (suc k)) = computed (rw j) (rw j (kept answers (map (answerOf (ruleIn f)) (wordsOf sheet)))) (rw j (kept masks (allMasks (ruleIn f) (wordsOf sheet)))) in
+      (judged C, C)
 
-  pub judged-called : (answers′ masks′ : List ℕ) (v : SheetAnswer) → fileRow f ≡ 0 → SheetCalled (ruleIn f) sheet answers masks answers′ masks′ v
+  pub judged-called : {answers′ masks′ : List ℕ} {v : SheetAnswer} → fileRow f ≡ 0 → SheetCalled (ruleIn f) sheet answers masks answers′ masks′ v
       → SheetJudged f sheet answers masks answers′ masks′ v × SheetComputed f sheet answers masks answers′ masks′ v
   unfolding sheetOf
-  judged-called answers′ masks′ v e D =
+  judged-called {answers′} {masks′} {v} e D =
       let p = file-passes sheet (length answers) (length masks) f e in
-      let C = computed answers′ masks′ v (rw p (D .answered)) (rw p (D .answers-written)) (rw p (D .masks-written)) in
-      (judged answers′ masks′ v C, C)
+      let C : SheetComputed f sheet answers masks answers′ masks′ v = computed (rw p (D .answered)) (rw p (D .answers-written)) (rw p (D .masks-written)) in
+      (judged C, C)

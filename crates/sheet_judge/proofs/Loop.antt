@@ -37,7 +37,7 @@ masks-by r zero w h =
     ∙ omega (arith, truth-length r (leadOf w) (cycleOf w), length-replicate {A = ℕ} (64 - places (leadOf w) (cycleOf w)) 0, h refl)
 masks-by r (suc k) w h = length-replicate {A = ℕ} 64 0
 
-pub masks-long : (r : Rule) (sheet : List ℕ) (at : ℕ) → at < length sheet → length (masksOf r (wordFrom sheet at)) ≡ 64
+masks-long : (r : Rule) (sheet : List ℕ) (at : ℕ) → at < length sheet → length (masksOf r (wordFrom sheet at)) ≡ 64
 unfolding masksOf
 masks-long r sheet at l =
     masks-by r (faultOf (r .s) (wordFrom sheet at)) (wordFrom sheet at)
@@ -46,85 +46,74 @@ masks-long r sheet at l =
     let b : length (cycleOf (wordFrom sheet at)) ≤ 32 = rw (S .cycle) (simp (length-take, length-drop) (omega (arith, S .cycle-short))) in
     omega (arith, a, b))
 
-module _ (r : Rule) (sheet answers masks : List ℕ) where
-  -- i words are judged, those from byte at on left
-  pub record Done (answers′ masks′ from size filled : List ℕ) (cycles at i : ℕ) : Type 0 where
-    pub within : at ≤ length sheet
-    pub counted : CountedTo sheet at i
-    pub answered : Front (map (answerOf r) (wordsOf sheet)) answers answers′ i (map (answerOf r) (wordsOf (drop at sheet)))
-    pub masked : Front (allMasks r (wordsOf sheet)) masks masks′ (64 * i) (allMasks r (wordsOf (drop at sheet)))
-    pub known : cyclesAfter (r .s) [] (wordsOf sheet) ≡ cyclesAfter (r .s) (knownOf sheet from size cycles) (wordsOf (drop at sheet))
-    pub held : Filled r sheet from size filled cycles
-    pub few : cycles ≤ i
+-- i words are judged, those from byte at on left
+pub record Done (r : Rule) (sheet answers masks answers′ masks′ from size filled : List ℕ) (cycles at i : ℕ) : Type 0 where
+  pub within : at ≤ length sheet
+  pub counted : CountedTo sheet at i
+  pub answered : Front (map (answerOf r) (wordsOf sheet)) answers answers′ i (map (answerOf r) (wordsOf (drop at sheet)))
+  pub masked : Front (allMasks r (wordsOf sheet)) masks masks′ (64 * i) (allMasks r (wordsOf (drop at sheet)))
+  pub known : cyclesAfter (r .s) [] (wordsOf sheet) ≡ cyclesAfter (r .s) (knownOf sheet from size cycles) (wordsOf (drop at sheet))
+  pub held : Filled r sheet from size filled cycles
+  pub few : cycles ≤ i
 
-  -- nothing is known yet
-  pub filled-start : (from size filled : List ℕ) → length from ≡ 64 → length size ≡ 64 → length filled ≡ 2048 → Filled r sheet from size filled 0
-  filled-start from size filled a b c = record {
+-- nothing is known yet
+pub done-start : {r : Rule} {sheet answers masks from size filled : List ℕ} → length from ≡ 64 → length size ≡ 64 → length filled ≡ 2048
+    → Done r sheet answers masks answers masks from size filled 0 0 0
+unfolding knownOf
+done-start a b c = record {
+  within = omega arith;
+  counted = omega arith;
+  answered = front-start;
+  masked = front-start;
+  known = refl;
+  held = record {
     parts = record { few = omega arith; froms = a; sizes = b; within = λ k l. absurd (omega arith); short = λ k l. absurd (omega arith) };
     room = c;
     masks = λ k l. absurd (omega arith);
-  }
+  };
+  few = omega arith;
+}
 
-  pub done-start : (from size filled : List ℕ) → Filled r sheet from size filled 0 → Done answers masks from size filled 0 0 0
-  unfolding knownOf
-  done-start from size filled F = record {
-    within = omega arith;
-    counted = omega arith;
-    answered = front-start _ answers;
-    masked = front-start _ masks;
-    known = refl;
-    held = F;
-    few = omega arith;
-  }
+module _ {r : Rule} {sheet answers masks answers′ masks′ from size filled : List ℕ} {cycles at i : ℕ} (D : Done r sheet answers masks answers′ masks′ from size filled cycles at i) where
+  -- where a word is left there is room for one more
+  pub words-more : at < length sheet → i < length (wordsOf sheet)
+  words-more more = omega (arith, some-left sheet at more, D .counted)
 
-  module _ (answers′ masks′ from size filled : List ℕ) (cycles at i : ℕ) (D : Done answers′ masks′ from size filled cycles at i) (more : at < length sheet) where
-    abbrev w : SheetWord
-    w = wordFrom sheet at
+  module _ (more : at < length sheet) {next : ℕ} (N : Next sheet at next) {from′ size′ filled′ block : List ℕ} {v : WordAnswer}
+      (J : WordJudged r sheet at from size cycles from′ size′ filled′ block v) where
+    answers-left : map (answerOf r) (wordsOf (drop at sheet)) ≡ v .answer ∷ map (answerOf r) (wordsOf (drop next sheet))
+    answers-left = rw (N .words, J .answer)
 
-    -- so there is room for one more
-    pub words-more : i < length (wordsOf sheet)
-    words-more = omega (arith, some-left sheet at more, D .counted)
+    masks-left : allMasks r (wordsOf (drop at sheet)) ≡ block ++ allMasks r (wordsOf (drop next sheet))
+    unfolding allMasks
+    masks-left = rw (N .words, J .served .masks)
 
-    module _ (next : ℕ) (N : Next sheet at next) where
-      module _ (from′ size′ filled′ block : List ℕ) (v : WordAnswer) (J : WordJudged r sheet at from size cycles from′ size′ filled′ block v) (long : length block ≡ 64)
-          (room : length (wordsOf sheet) ≤ length answers) (space : 64 * length (wordsOf sheet) ≤ length masks) where
-        answers-left : map (answerOf r) (wordsOf (drop at sheet)) ≡ v .answer ∷ map (answerOf r) (wordsOf (drop next sheet))
-        answers-left = ap (map (answerOf r)) (N .words) ∙ ap (λ (x : ℕ). x ∷ map (answerOf r) (wordsOf (drop next sheet))) (sym (J .answer))
+    known-left : cyclesAfter (r .s) (knownOf sheet from size cycles) (wordsOf (drop at sheet)) ≡ cyclesAfter (r .s) (knownOf sheet from′ size′ (v .cycles)) (wordsOf (drop next sheet))
+    unfolding cyclesAfter
+    known-left = rw (N .words, J .served .known)
 
-        masks-left : allMasks r (wordsOf (drop at sheet)) ≡ block ++ allMasks r (wordsOf (drop next sheet))
-        unfolding allMasks
-        masks-left = ap (allMasks r) (N .words) ∙ ap (λ (x : List ℕ). x ++ allMasks r (wordsOf (drop next sheet))) (sym (J .masks))
+    pub done-next : length (wordsOf sheet) ≤ length answers → 64 * length (wordsOf sheet) ≤ length masks
+        → Done r sheet answers masks (set answers′ i (v .answer)) (take (64 * i) masks′ ++ (block ++ drop (64 * i + 64 - 64 * i) (drop (64 * i) masks′))) from′ size′ filled′ (v .cycles) next (i + 1)
+    done-next room space =
+        let end : 64 * i + 64 ≡ 64 * (i + 1) = omega arith in
+        let long : length block ≡ 64 = ap length (J .served .masks) ∙ masks-long r sheet at more in
+        let F = front-block {e = 64 * i + 64} block (rw masks-left at (D .masked)) (omega (arith, long)) (omega (arith, words-more more)) in
+        record {
+          within = N .within;
+          counted = counted-next sheet at next i N (D .counted);
+          answered = front-byte (rw answers-left at (D .answered)) (omega (arith, words-more more));
+          masked = front-at end F;
+          known = D .known ∙ known-left;
+          held = J .served .filled;
+          few = omega (arith, J .served .one, D .few);
+        }
 
-        known-left : cyclesAfter (r .s) (knownOf sheet from size cycles) (wordsOf (drop at sheet)) ≡ cyclesAfter (r .s) (knownOf sheet from′ size′ (v .cycles)) (wordsOf (drop next sheet))
-        unfolding cyclesAfter
-        known-left =
-            ap (cyclesAfter (r .s) (knownOf sheet from size cycles)) (N .words)
-            ∙ ap (λ (ks : List (List ℕ)). cyclesAfter (r .s) ks (wordsOf (drop next sheet))) (sym (J .known))
-
-        pub done-next : Done (set answers′ i (v .answer)) (take (64 * i) masks′ ++ (block ++ drop (64 * i + 64 - 64 * i) (drop (64 * i) masks′))) from′ size′ filled′ (v .cycles) next (i + 1)
-        done-next =
-            let end : 64 * i + 64 ≡ 64 * (i + 1) = omega arith in
-            let F = front-block (allMasks r (wordsOf sheet)) masks masks′ block (allMasks r (wordsOf (drop next sheet))) (64 * i) (64 * i + 64)
-            (rw masks-left at (D .masked)) (omega (arith, long)) (omega (arith, words-more)) in
-            record {
-              within = N .within;
-              counted = counted-next sheet at next i N (D .counted);
-              answered = front-byte (map (answerOf r) (wordsOf sheet)) answers answers′ (v .answer) (map (answerOf r) (wordsOf (drop next sheet))) i
-                  (rw answers-left at (D .answered)) (omega (arith, words-more));
-              masked = front-at (allMasks r (wordsOf sheet)) masks (take (64 * i) masks′ ++ (block ++ drop (64 * i + 64 - 64 * i) (drop (64 * i) masks′))) (64 * i + 64) (64 * (i + 1))
-                  (allMasks r (wordsOf (drop next sheet))) end F;
-              known = D .known ∙ known-left;
-              held = J .filled;
-              few = omega (arith, J .one, D .few);
-            }
-
-  pub done-end : (answers′ masks′ from size filled : List ℕ) (cycles at i : ℕ) → Done answers′ masks′ from size filled cycles at i → length sheet ≤ at
-      → WordsJudged r sheet answers masks answers′ masks′ cycles
+  pub done-end : length sheet ≤ at → WordsJudged r sheet answers masks answers′ masks′ cycles
   unfolding cycleCount cyclesAfter allMasks
-  done-end answers′ masks′ from size filled cycles at i D h =
+  done-end h =
       let none = words-end sheet at h in
       record {
-        answers-written = front-end _ answers answers′ i (rw none at (D .answered));
-        masks-written = front-end _ masks masks′ (64 * i) (rw none at (D .masked));
+        answers-written = front-end (rw none at (D .answered));
+        masks-written = front-end (rw none at (D .masked));
         count = sym (ap length (D .known ∙ ap (cyclesAfter (r .s) (knownOf sheet from size cycles)) none) ∙ known-length sheet from size cycles);
       }

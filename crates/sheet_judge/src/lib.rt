@@ -6,8 +6,10 @@ use file_read::read_rule;
 use rule_entries::Head;
 use rule_entries::starts_of;
 use rule_reach::closures;
+use sheet_cycles::Reachability;
 use sheet_spec::SheetAnswer;
 use sheet_spec::Totals;
+use sheet_word::Turn;
 use sheet_word::judge_word;
 use sheet_words::count_words;
 use sheet_words::next_word;
@@ -38,6 +40,10 @@ pub fn judge_words(
 {
     let starts = starts_of(counts);
     let reach = closures(h, counts, clauses);
+    let rule = Reachability {
+        head: h,
+        reach: reach,
+    };
     let mut from = [0usize; 64];
     let mut size = [0usize; 64];
     let mut filled = [0u8; 2048];
@@ -47,18 +53,17 @@ pub fn judge_words(
     while at < sheet.len() {
         let begin = 64 * i;
         let end = begin + 64;
+        let turn = Turn { at, cycles };
         let word = judge_word(
-            h,
+            rule,
             counts,
             &starts,
             clauses,
-            &reach,
             sheet,
-            at,
+            turn,
             &mut from,
             &mut size,
             &mut filled,
-            cycles,
             &mut masks[begin..end],
         );
         answers[i] = word.answer;

@@ -1,4 +1,4 @@
--- The masks of a word from those of its tidy cycle, once both lengths of the tidy spelling are known.
+-- The tidy spelling of a word of a sheet as parts of the sheet, and the masks of the word from those of its tidy cycle.
 use mathlib.Core.Path.{_≡_, refl, sym, _∙_, ap}
 use mathlib.Core.List.{List, [], _++_}
 use Prim.Native.Nat.{ℕ, _+_, _-_, _≤_, _<_}
@@ -9,67 +9,108 @@ use Rattle.sets.proofs.Lists.{mem-at}
 use Rattle.theory.specs.Passing.{Passing}
 use Rattle.theory.specs.Rule.{Rule}
 use Rattle.theory.specs.Truth.{truthMasks}
-use Rattle.theory.specs.Word.{places, WordOver}
+use Rattle.theory.specs.Word.{places, letters, WordOver}
 use Rattle.judge_place.specs.Starts.{backOver}
-use Rattle.word_spelling_spec.specs.SpellingComputed.{cycleLength, leadLength, tidyLead, tidyCycle}
-use Rattle.word_spelling_spec.proofs.Tidied.{cycle-pos, tidy-lead-length}
-use Rattle.sheet_laws.proofs.Shared.{cycle-long, cycle-repeats, lead-long, lead-within, cycle-within, tidy-part, tidy-front, tidy-over}
+use Rattle.word_spelling_spec.specs.SpellingComputed.{cycleLength, shortened, leadLength, tidyLead, tidyCycle}
+use Rattle.word_spelling_spec.proofs.Tidied.{lead-max, tidy-lead-length}
+use Rattle.sheet_spec.specs.Words.{leadOf, cycleOf, faultOf}
+use Rattle.sheet_spec.specs.Computed.{masksBy}
+use Rattle.sheet_laws.proofs.Shared.{cycle-long, lead-long, lead-within, cycle-within, tidy-part, tidy-front, tidy-over}
+use Rattle.sheet_words.specs.Places.{leadAt, cycleAt, wordFrom}
+use Rattle.sheet_words.proofs.Places.{SoundAt, sound-at}
 use Rattle.sheet_masks.specs.Repeats.{repeated}
 use Rattle.sheet_masks.proofs.Repeated.{word-masks}
+use Rattle.sheet_word.specs.declared.Spelling.{Spelling}
+use Rattle.sheet_word.specs.Word.{TidyAt}
 
-module _ (s : ℕ) (sheet : List ℕ) (first a b : ℕ) (room : first + a + b ≤ length sheet) (W : WordOver s (take a (drop first sheet)) (take b (drop (first + a) sheet))) where
-  abbrev u : List ℕ
-  u = take a (drop first sheet)
+-- a word that is not faulty is one over s letters
+pub word-at : (s : ℕ) (sheet : List ℕ) (at : ℕ) → at < length sheet → faultOf s (wordFrom sheet at) ≡ 0 → WordOver s (leadOf (wordFrom sheet at)) (cycleOf (wordFrom sheet at))
+word-at s sheet at l e = let S = sound-at sheet at s l e in rw (S .lead, S .cycle) (S .word)
 
-  abbrev v : List ℕ
-  v = take b (drop (first + a) sheet)
+-- ---- where the tidy spelling stands
 
-  abbrev pos : 0 < b
-  pos = let z = W .repeats in let e : length v ≡ b = simp (length-take, length-drop) (omega arith) in omega arith
+module _ {sheet : List ℕ} {at s : ℕ} (S : SoundAt sheet at s) where
+  abbrev u : ℕ → List ℕ
+  u x = take x (drop (at + 2) sheet)
 
-  -- p and m are the lengths of the tidy cycle and the tidy lead-in
-  module _ (p m : ℕ) (ep : p ≡ cycleLength v) (em : m ≡ leadLength u v) where
-    pub lead-at-most : m ≤ a
-    lead-at-most = omega (arith, lead-within sheet first a b room pos)
+  abbrev v : ℕ → List ℕ
+  v y = take y (drop (at + 2 + leadAt sheet at) sheet)
 
-    pub cycle-at-most : p ≤ b
-    cycle-at-most = omega (arith, cycle-within sheet first a b room pos)
+  -- the lengths of the parts that are lent
+  abbrev x : ℕ
+  x = at + 2 + leadAt sheet at - (at + 2)
 
-    pub cycle-least : 0 < p
-    cycle-least = omega (arith, cycle-pos u v (cycle-repeats sheet first a b room pos))
+  abbrev y : ℕ
+  y = at + 2 + leadAt sheet at + cycleAt sheet at - (at + 2 + leadAt sheet at)
 
-    -- the part of the sheet that is the tidy cycle
-    pub part : take p (drop (first + m) sheet) ≡ tidyCycle u v
-    part = rw (ep, em) (sym (tidy-part sheet first a b room pos))
+  pub tidy-there : {p m : ℕ} → p ≡ cycleLength (v y) → m ≡ shortened (letters (u x) (v y)) p (length (u x))
+      → TidyAt sheet at (record { first = at + 2; begin = at + 2 + m; size = p; places = at + 2 + leadAt sheet at + cycleAt sheet at - (at + 2) })
+  unfolding leadLength tidyLead
+  tidy-there {p} {m} hp hm =
+      let a = leadAt sheet at in
+      let b = cycleAt sheet at in
+      let ex : x ≡ a = omega arith in
+      let ey : y ≡ b = omega arith in
+      let ep : p ≡ cycleLength (v b) = hp ∙ ap (λ (z : ℕ). cycleLength (v z)) ey in
+      let em : m ≡ leadLength (u a) (v b)
+      = hm ∙ ap (λ (z : ℕ). shortened (letters (u z) (v y)) p (length (u z))) ex ∙ ap (λ (z : ℕ). shortened (letters (u a) (v z)) p (length (u a))) ey
+      ∙ ap (λ (z : ℕ). shortened (letters (u a) (v b)) z (length (u a))) ep in
+      let lw = lead-within sheet (at + 2) a b (S .room) (S .repeats) in
+      let cw = cycle-within sheet (at + 2) a b (S .room) (S .repeats) in
+      let behind : at + 2 + m - (at + 2) ≡ leadLength (u a) (v b) = omega arith in
+      record {
+        order = omega arith;
+        within = omega (arith, S .room);
+        short = omega (arith, S .cycle-short);
+        few = omega (arith, S .lead-short, S .cycle-short);
+        all = rw (S .lead, S .cycle) (omega (arith, lead-long sheet (at + 2) a b (S .room) (S .repeats), cycle-long sheet (at + 2) a b (S .room) (S .repeats)));
+        lead = rw (S .lead, S .cycle, behind) (sym (tidy-front sheet (at + 2) a b (S .room) (S .repeats)));
+        cycle = rw (S .lead, S .cycle, ep, em) (sym (tidy-part sheet (at + 2) a b (S .room) (S .repeats)));
+      }
 
-    pub part-over : WordOver s [] (take p (drop (first + m) sheet))
-    part-over = rw part (tidy-over s u v W)
+-- ---- what is lent and written for it
 
-    pub part-long : length (take p (drop (first + m) sheet)) ≡ p
-    part-long = simp (length-take, length-drop) (omega (arith, lead-at-most, cycle-at-most))
+module _ {sheet : List ℕ} {at : ℕ} {t : Spelling} (T : TidyAt sheet at t) {s : ℕ} (W : WordOver s (leadOf (wordFrom sheet at)) (cycleOf (wordFrom sheet at))) where
+  abbrev lead : List ℕ
+  lead = leadOf (wordFrom sheet at)
 
-    -- the letters of its tidy lead-in
-    pub front-letters : (x : ℕ) → x ≡ m → (j : ℕ) → j < length (take x (drop first sheet)) → getD (take x (drop first sheet)) j 0 < s
-    front-letters x e j l =
-        let here : j < x = omega (arith, simp (length-take, length-drop) at l) in
-        let there : j < a = omega (arith, lead-at-most) in
-        let letter = W .lead-letters (getD u j 0) (mem-at u j (omega (arith, lead-long sheet first a b room pos))) in
-        rw (getD-take x (drop first sheet) j 0 here ∙ sym (getD-take a (drop first sheet) j 0 there)) letter
+  abbrev cycle : List ℕ
+  cycle = cycleOf (wordFrom sheet at)
 
-    -- what is written is the masks of the word, and zeros
-    pub served-masks : (r : Rule) → Passing r → (lead cycle block : List ℕ) (n : ℕ) → lead ≡ take m (drop first sheet) → cycle ≡ truthMasks r [] (take p (drop (first + m) sheet)) → n ≡ 64
-        → block ≡ backOver r lead (repeated cycle (a + b - length lead) ++ replicate (n - (a + b)) 0) → block ≡ truthMasks r u v ++ replicate (64 - places u v) 0
-    unfolding tidyLead
-    served-masks r P lead cycle block n e f g h =
-        let repeats = cycle-repeats sheet first a b room pos in
-        let front : lead ≡ take (leadLength u v) u = e ∙ ap (λ (x : ℕ). take x (drop first sheet)) em ∙ sym (tidy-front sheet first a b room pos) in
-        let masks : cycle ≡ truthMasks r [] (tidyCycle u v) = f ∙ ap (truthMasks r []) part in
-        let sum : a + b ≡ places u v = omega (arith, lead-long sheet first a b room pos, cycle-long sheet first a b room pos) in
-        let size : length (take (leadLength u v) u) ≡ leadLength u v = tidy-lead-length u v repeats in
-        h
-        ∙ ap (λ (x : List ℕ). backOver r x (repeated cycle (a + b - length x) ++ replicate (n - (a + b)) 0)) front
-        ∙ ap (λ (x : List ℕ). backOver r (take (leadLength u v) u) (repeated x (a + b - length (take (leadLength u v) u)) ++ replicate (n - (a + b)) 0)) masks
-        ∙ ap (λ (x : ℕ). backOver r (take (leadLength u v) u) (repeated (truthMasks r [] (tidyCycle u v)) (x - length (take (leadLength u v) u)) ++ replicate (n - x) 0)) sum
-        ∙ ap (λ (x : ℕ). backOver r (take (leadLength u v) u) (repeated (truthMasks r [] (tidyCycle u v)) (places u v - x) ++ replicate (n - places u v) 0)) size
-        ∙ ap (λ (x : ℕ). backOver r (take (leadLength u v) u) (repeated (truthMasks r [] (tidyCycle u v)) (places u v - leadLength u v) ++ replicate (x - places u v) 0)) g
-        ∙ word-masks u v repeats r P (replicate (64 - places u v) 0)
+  abbrev front : List ℕ
+  front = take (t .begin - t .first) (drop (t .first) sheet)
+
+  abbrev part : List ℕ
+  part = take (t .size) (drop (t .begin) sheet)
+
+  pub part-over : WordOver s [] part
+  part-over = rw (T .cycle) (tidy-over s lead cycle W)
+
+  pub part-long : length part ≡ t .size
+  part-long = simp (length-take, length-drop) (omega (arith, T .within))
+
+  pub part-some : 0 < t .size
+  part-some = omega (arith, part-over .repeats, part-long)
+
+  -- the letters of the tidy lead-in are the word's
+  pub front-letters : (j : ℕ) → j < length front → getD front j 0 < s
+  unfolding tidyLead
+  front-letters j l =
+      let k : j < length (tidyLead lead cycle) = rw (T .lead) at l in
+      let here : j < leadLength lead cycle = omega (arith, tidy-lead-length lead cycle (W .repeats)) in
+      let there : j < length lead = omega (arith, lead-max lead cycle (W .repeats)) in
+      rw (T .lead, getD-take (leadLength lead cycle) lead j 0 here) (W .lead-letters (getD lead j 0) (mem-at lead j there))
+
+  pub front-short : length front < t .places
+  front-short = rw (T .lead) (omega (arith, T .all, tidy-lead-length lead cycle (W .repeats), lead-max lead cycle (W .repeats), W .repeats))
+
+  -- what is written is the masks of the word, and zeros
+  pub served-masks : {r : Rule} → Passing r → {masks block : List ℕ} {n : ℕ} → masks ≡ truthMasks r [] part → n ≡ 64
+      → block ≡ backOver r front (repeated masks (t .places - length front) ++ replicate (n - t .places) 0) → block ≡ masksBy r 0 (wordFrom sheet at)
+  unfolding tidyLead
+  served-masks {r} P {masks} {block} {n} e f h =
+      let size = tidy-lead-length lead cycle (W .repeats) in
+      let all : masks ≡ truthMasks r [] (tidyCycle lead cycle) = e ∙ ap (truthMasks r []) (T .cycle) in
+      let w : backOver r (tidyLead lead cycle) (repeated masks (places lead cycle - length (tidyLead lead cycle)) ++ replicate (64 - places lead cycle) 0) ≡ masksBy r 0 (wordFrom sheet at)
+      = rw (all, size) (word-masks lead cycle (W .repeats) r P (replicate (64 - places lead cycle) 0)) in
+      h ∙ rw (T .lead, T .all, f) w

@@ -1,77 +1,109 @@
 // One word of a sheet, judged by the masks of its tidy cycle.
 use judge_place::fill_with;
-use rule_entries::Head;
 use set_masks::contains;
+use sheet_cycles::Reachability;
+use sheet_cycles::Sought;
 use sheet_cycles::learn_cycle;
 use sheet_masks::write_masks;
 use sheet_words::word_fault;
 use word_spelling::cycle_length;
 use word_spelling::lead_length;
 ghost use mathlib.Core.Path.{_≡_};
-ghost use Prim.Native.Nat.{_+_, _≤_, _<_};
-ghost use lib.ListN.{length, take, drop};
-ghost use Rattle.theory.specs.Word.{WordOver};
+ghost use Prim.Native.Nat.{ℕ, _<_};
+ghost use lib.ListN.{length};
 ghost use Rattle.rule_entries.specs.Entries.{ruleOf};
-ghost use Rattle.sheet_word.specs.Word.{SheetReady, Served, WordJudged};
+ghost use Rattle.sheet_spec.specs.Words.{faultOf};
+ghost use Rattle.sheet_words.specs.Places.{wordFrom};
+ghost use Rattle.sheet_word.specs.Word.{SheetReady, TidyAt, Served, WordJudged};
 
-// The masks of the word whose lead-in begins at byte first, with the two lengths, written to the block; n cycles are known. How many are
-// known now.
-fn serve_word(
-    h: Head,
-    counts: &[u8],
-    starts: &[u16; 128],
-    clauses: &[u8],
-    reach: &[u8; 8],
-    sheet: &[u8],
-    first: usize,
-    lead: usize,
-    cycle: usize,
-    from: &mut [usize],
-    size: &mut [usize],
-    filled: &mut [u8],
-    n: usize,
-    block: &mut [u8],
-) -> usize
-    requires { ⌜ SheetReady (ruleOf h (now counts) (now clauses)) (now starts) (now reach) (now sheet) (now from) (now size) (now filled) n
-        × (first + lead + cycle ≤ length (now sheet))
-        × (lead ≤ 32)
-        × (cycle ≤ 32)
-        × WordOver (h .s) (take lead (drop first (now sheet))) (take cycle (drop (first + lead) (now sheet)))
-        × (length (now block) ≡ 64) ⌝ }
-    ensures { λ r. ⌜ Served (ruleOf h (now (counts .entry)) (now (clauses .entry))) (now (sheet .entry))
-        (take lead (drop first (now (sheet .entry)))) (take cycle (drop (first + lead) (now (sheet .entry))))
-        (now (from .entry)) (now (size .entry)) n (now (from .exit)) (now (size .exit)) (now (filled .exit)) (now (block .exit)) r ⌝ }
+// Where the tidy spelling of a word of a sheet stands: the lead-in begins at byte first, the cycle is the size bytes from byte begin on;
+// and how many places the word has.
+pub struct Spelling {
+    pub first: usize,
+    pub begin: usize,
+    pub size: usize,
+    pub places: usize,
+}
+
+// The tidy spelling of the word that begins at byte at.
+fn tidy_at(sheet: &[u8], at: usize) -> Spelling
+    requires { ⌜ (at < length (now sheet)) × ((s : ℕ) × (faultOf s (wordFrom (now sheet) at) ≡ 0)) ⌝ }
+    ensures { λ r. ⌜ TidyAt (now (sheet .entry)) at r ⌝ }
 {
-    let middle = first + lead;
-    let last = middle + cycle;
+    let first = at + 2;
+    let middle = first + sheet[at] as usize;
+    let last = middle + sheet[at + 1] as usize;
     let p = cycle_length(&sheet[middle..last]);
     let m = lead_length(&sheet[first..middle], &sheet[middle..last], p);
     let begin = first + m;
+    let places = last - first;
+    Spelling {
+        first,
+        begin,
+        size: p,
+        places,
+    }
+}
+
+// The word to be judged, by where it begins; and how many cycles are known.
+pub struct Turn {
+    pub at: usize,
+    pub cycles: usize,
+}
+
+// The masks of a word that is not faulty, written to the block. How many cycles are known now.
+fn serve_word(
+    rule: Reachability,
+    counts: &[u8],
+    starts: &[u16; 128],
+    clauses: &[u8],
+    sheet: &[u8],
+    turn: Turn,
+    from: &mut [usize],
+    size: &mut [usize],
+    filled: &mut [u8],
+    block: &mut [u8],
+) -> usize
+    requires { ⌜ SheetReady (ruleOf (rule .head) (now counts) (now clauses)) (now starts) (rule .reach) (now sheet)
+        (now from) (now size) (now filled) (turn .cycles)
+        × (turn .at < length (now sheet))
+        × (faultOf (rule .head .s) (wordFrom (now sheet) (turn .at)) ≡ 0)
+        × (length (now block) ≡ 64) ⌝ }
+    ensures { λ r. ⌜ Served (ruleOf (rule .head) (now (counts .entry)) (now (clauses .entry))) (now (sheet .entry)) (turn .at)
+        (now (from .entry)) (now (size .entry)) (turn .cycles) (now (from .exit)) (now (size .exit)) (now (filled .exit)) (now (block .exit)) r ⌝ }
+{
+    let h = rule.head;
+    let at = turn.at;
+    let tidy = tidy_at(sheet, at);
+    let first = tidy.first;
+    let begin = tidy.begin;
+    let p = tidy.size;
+    let sought = Sought {
+        begin: begin,
+        size: p,
+        cycles: turn.cycles,
+    };
     let known = learn_cycle(
-        h,
+        rule,
         counts,
         starts,
         clauses,
-        reach,
         sheet,
-        begin,
-        p,
+        sought,
         from,
         size,
         filled,
-        n,
     );
-    let at = 32 * known.number;
-    let end = at + p;
-    let places = lead + cycle;
+    let start = 32 * known.number;
+    let end = start + p;
     write_masks(
         h,
         counts,
         starts,
         clauses,
         &sheet[first..begin],
-        &filled[at..end],
-        places,
+        &filled[start..end],
+        tidy.places,
         block,
     );
     known.cycles
@@ -83,53 +115,45 @@ pub struct WordAnswer {
     pub cycles: usize,
 }
 
-// The answer byte of the word that begins at byte at, and its mask bytes, written to the block; n cycles are known.
+// The answer byte of a word, and its mask bytes, written to the block.
 pub fn judge_word(
-    h: Head,
+    rule: Reachability,
     counts: &[u8],
     starts: &[u16; 128],
     clauses: &[u8],
-    reach: &[u8; 8],
     sheet: &[u8],
-    at: usize,
+    turn: Turn,
     from: &mut [usize],
     size: &mut [usize],
     filled: &mut [u8],
-    n: usize,
     block: &mut [u8],
 ) -> WordAnswer
-    requires { ⌜ SheetReady (ruleOf h (now counts) (now clauses)) (now starts) (now reach) (now sheet) (now from) (now size) (now filled) n
-        × (at < length (now sheet))
+    requires { ⌜ SheetReady (ruleOf (rule .head) (now counts) (now clauses)) (now starts) (rule .reach) (now sheet)
+        (now from) (now size) (now filled) (turn .cycles)
+        × (turn .at < length (now sheet))
         × (length (now block) ≡ 64) ⌝ }
-    ensures { λ r. ⌜ WordJudged (ruleOf h (now (counts .entry)) (now (clauses .entry))) (now (sheet .entry)) at
-        (now (from .entry)) (now (size .entry)) n (now (from .exit)) (now (size .exit)) (now (filled .exit)) (now (block .exit)) r ⌝ }
+    ensures { λ r. ⌜ WordJudged (ruleOf (rule .head) (now (counts .entry)) (now (clauses .entry))) (now (sheet .entry)) (turn .at)
+        (now (from .entry)) (now (size .entry)) (turn .cycles) (now (from .exit)) (now (size .exit)) (now (filled .exit)) (now (block .exit)) r ⌝ }
 {
-    let s = h.s;
-    let row = word_fault(s, sheet, at);
+    let h = rule.head;
+    let row = word_fault(h.s, sheet, turn.at);
     if row != 0 {
         fill_with(block, 0);
         return WordAnswer {
             answer: row,
-            cycles: n,
+            cycles: turn.cycles,
         };
     }
-    let lead = sheet[at] as usize;
-    let cycle = sheet[at + 1] as usize;
-    let first = at + 2;
     let cycles = serve_word(
-        h,
+        rule,
         counts,
         starts,
         clauses,
-        reach,
         sheet,
-        first,
-        lead,
-        cycle,
+        turn,
         from,
         size,
         filled,
-        n,
         block,
     );
     if contains(block[0], h.initial as u32) {

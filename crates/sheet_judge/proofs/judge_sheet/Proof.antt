@@ -36,7 +36,7 @@ returns c =
     let a = h .before .before .before .before .before .before .before .before .before .args in
     let l = h .before .before .l .given .0 .0 in
     let j = c .before .before .before .before .judge-sheet-read in
-    judged-called (a .file .now) (a .sheet .now) (a .answers .now) (a .masks .now) (j .last .1 .1 .1 .1 .0) (j .last .1 .1 .1 .1 .1 .0) (j .result) (served (a .file .now) l (read h) .row)
+    judged-called (served (a .file .now) l (read h) .row)
     (rw (lent-rule (a .file .now) l (read h) _ _ (at-counts-of .counts-of .ensures) (at-clauses-of .clauses-of .ensures)) at (j .ensures))
 
 returns-2 : tie.Need-returns-2
@@ -45,7 +45,7 @@ returns-2 c =
     let a = start .args in
     let k = c .before .k .given .0 .0 in
     let t = turned-away (a .file .now) k (sym (c .before .before .before .read-rule .ensures) ∙ c .before .k .given .1) in
-    judged-refused (a .file .now) (a .sheet .now) (a .answers .now) (a .masks .now) k (λ e. t .1 (t .0 ∙ e)) (sym (t .0))
+    judged-refused k (λ e. t .1 (t .0 ∙ e)) (sym (t .0))
 
 pub judge-sheet-spec : {M : Type 1} → statement M
 judge-sheet-spec =
