@@ -11,7 +11,7 @@ ghost use Rattle.refusals.specs.Rows.{firstRow};
 ghost use Rattle.theory.specs.Passing.{WellFormed};
 ghost use Rattle.rule_entries.specs.Entries.{ruleOf};
 ghost use Rattle.file_spec.specs.File.{clauseCount, entryCount, countsOf, clausesOf, namesOf};
-ghost use Rattle.file_spec.specs.Rows.{layoutRows, bodyRow, fileRow};
+ghost use Rattle.file_spec.specs.Rows.{trailerRows, layoutRows, fileRow};
 ghost use Rattle.file_spec.specs.RuleRows.{componentRows, formedRows};
 ghost use Rattle.file_read.specs.declared.Read.the-variants.{Accepted};
 ghost use Rattle.file_read.specs.Read.{partsOf, readOf, prefaceOf};
@@ -54,6 +54,19 @@ pub fn lay_out(f: &[u8]) -> Parts
     }
 }
 
+// The first of rows 8 to 10 that refuses the lists of a file that is laid out so, or 0.
+fn lists_at(f: &[u8], l: Parts) -> u8
+    requires { ⌜ (firstRow (trailerRows (now f)) ≡ 0) × (l ≡ partsOf (now f)) ⌝ }
+    ensures { λ r. ⌜ r ≡ firstRow (layoutRows (now (f .entry))) ⌝ }
+{
+    let h = l.head;
+    let n = h.n;
+    let at = l.at;
+    let c = l.clauses;
+    let end = f.len() - 8;
+    lists_row(n, &f[at + c..end], &f[at..at + c])
+}
+
 // The first of rows 1 to 10 that refuses a file, or 0.
 pub fn layout_row(f: &[u8]) -> u8
     ensures { λ r. ⌜ r ≡ firstRow (layoutRows (now (f .entry))) ⌝ }
@@ -62,13 +75,7 @@ pub fn layout_row(f: &[u8]) -> u8
     if first != 0 {
         return first;
     }
-    let l = lay_out(f);
-    let h = l.head;
-    let n = h.n;
-    let at = l.at;
-    let c = l.clauses;
-    let end = f.len() - 8;
-    lists_row(n, &f[at + c..end], &f[at..at + c])
+    lists_at(f, lay_out(f))
 }
 
 // 11 where a component of a well-formed rule is mixed, else 0.
@@ -94,34 +101,24 @@ pub fn formed_row(h: Head, counts: &[u8], clauses: &[u8]) -> u8
     components_row(h, counts, clauses)
 }
 
-// The first of rows 1 to 11 and 20 that refuses a file, or 0.
-fn body_row(f: &[u8]) -> u8
-    ensures { λ r. ⌜ r ≡ bodyRow (now (f .entry)) ⌝ }
-{
-    let first = layout_row(f);
-    if first != 0 {
-        return first;
-    }
-    let l = lay_out(f);
-    let h = l.head;
-    let at = l.at;
-    let c = l.clauses;
-    let end = f.len() - 8;
-    formed_row(h, &f[at + c..end], &f[at..at + c])
-}
-
-// The first row that refuses a file, or 0.
-fn file_row(f: &[u8]) -> u8
+// The first row that refuses a file that is laid out so and whose trailer passes, or 0.
+fn laid_row(f: &[u8], l: Parts) -> u8
+    requires { ⌜ (firstRow (trailerRows (now f)) ≡ 0) × (l ≡ partsOf (now f)) ⌝ }
     ensures { λ r. ⌜ r ≡ fileRow (now (f .entry)) ⌝ }
 {
-    let first = body_row(f);
+    let first = lists_at(f, l);
     if first != 0 {
         return first;
     }
-    let l = lay_out(f);
     let h = l.head;
     let s = h.s;
     let at = l.at;
+    let c = l.clauses;
+    let end = f.len() - 8;
+    let second = formed_row(h, &f[at + c..end], &f[at..at + c]);
+    if second != 0 {
+        return second;
+    }
     file_names::preface_row(&f[..at], s)
 }
 
@@ -129,11 +126,15 @@ fn file_row(f: &[u8]) -> u8
 pub fn read_rule(f: &[u8]) -> Read
     ensures { λ r. ⌜ r ≡ readOf (now (f .entry)) ⌝ }
 {
-    let first = file_row(f);
+    let first = trailer_row(f);
     if first != 0 {
         return Read::Refused(first);
     }
     let l = lay_out(f);
+    let row = laid_row(f, l);
+    if row != 0 {
+        return Read::Refused(row);
+    }
     let h = l.head;
     let s = h.s;
     let at = l.at;

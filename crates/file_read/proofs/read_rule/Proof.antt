@@ -1,48 +1,62 @@
 -- `file_read::read_rule` meets its contract: the row that refuses, else the parts of the file and how many bytes its names have.
 use Prim.Native.Nat.{_≤_}
-use mathlib.Core.Path.{_≡_, ap, sym, _∙_}
-use mathlib.Core.List.{List}
+use mathlib.Core.Path.{_≡_, sym, _∙_}
 use native.Mathlib.Omega.{arith}
 use borrow.Author.Needs.{needs}
 use lib.ListN.{length, length-take}
-use Rattle.file_spec.specs.Rows.{fileRow}
-use Rattle.file_spec.proofs.TrailerRows.{Placed}
-use Rattle.file_read.proofs.FileRows.{accepted-placed, accepted-rows}
+use Rattle.refusals.specs.Rows.{firstRow}
+use Rattle.file_spec.specs.Rows.{trailerRows, fileRow}
+use Rattle.file_spec.proofs.TrailerRows.{Placed, placed, rows-trailer}
+use Rattle.file_read.proofs.FileRows.{rows-layout, rows-body, accepted-rows}
 use Rattle.file_read.proofs.Answer.{refused, accepted, names-kept}
 use Rattle.file_read.proofs.read_rule.Statement.{statement}
 use Rattle.file_read.proofs.read_rule.Tie as tie
 
 returns : tie.Need-returns
-returns c = refused (c .before .before .before .args .f .now) (c .before .file-row .result) (c .if1 .taken) (c .before .file-row .ensures)
+returns c =
+    let f = c .before .before .before .args .f .now in
+    let k = c .before .trailer-row .result in
+    let n = c .if1 .taken in
+    refused f k n (rows-body f k n (rows-layout f k n (rows-trailer f k n (c .before .trailer-row .ensures))))
 
--- no row refuses
-pass : (c : tie.Else1) → fileRow (c .before .before .before .args .f .now) ≡ 0
-pass c = sym (c .before .file-row .ensures) ∙ c .if1 .left
+-- no row of the trailer refuses
+pass : (c : tie.Else1) → firstRow (trailerRows (c .before .before .before .args .f .now)) ≡ 0
+pass c = sym (c .before .trailer-row .ensures) ∙ c .if1 .left
 
 -- so the parts are in their places
 known : (c : tie.Else1) → Placed (c .before .before .before .args .f .now)
-known c = accepted-placed (c .before .before .before .args .f .now) (pass c)
+known c = placed (c .before .before .before .args .f .now) (pass c)
 
 lay-out-requires : tie.Need-lay-out-requires
 lay-out-requires c κs = (known c .long, known c .fits)
+
+laid-row-requires : tie.Need-laid-row-requires
+laid-row-requires c κs = (pass (c .before), c .lay-out .ensures)
+
+returns-2 : tie.Need-returns-2
+returns-2 c = refused (c .before .before .before .before .before .before .args .f .now) (c .before .laid-row .result) (c .if2 .taken) (c .before .laid-row .ensures)
+
+-- no row refuses
+none : (c : tie.Else2) → fileRow (c .before .before .before .before .before .before .args .f .now) ≡ 0
+none c = sym (c .before .laid-row .ensures) ∙ c .if2 .left
 
 -- the preface is a part of the file
 bound : (c : tie.After-lay-out) → c .lay-out .result .at ≤ length (c .before .before .before .before .args .f .now)
 bound c = rw (c .lay-out .ensures) (omega (arith, known (c .before)))
 
 slice-aggregate-names-in : tie.Need-slice-aggregate-names-in
-slice-aggregate-names-in c = simp length-take (omega (arith, bound (c .before .before)))
+slice-aggregate-names-in c = simp length-take (omega (arith, bound (c .before .before .before .before)))
 
 names-in-requires : tie.Need-names-in-requires
 names-in-requires c κs =
-    let f = c .before .before .before .before .before .before .args .f .now in
-    rw (c .before .before .lay-out .ensures) (known (c .before .before .before) .ranges .few-letters, names-kept f (accepted-rows f (pass (c .before .before .before)) .1))
+    let l = c .before .before .before .before in
+    let f = l .before .before .before .before .args .f .now in
+    rw (l .lay-out .ensures) (known (l .before) .ranges .few-letters, names-kept f (accepted-rows f (none (c .before .before)) .1))
 
-returns-2 : tie.Need-returns-2
-returns-2 c =
-    let start = c .before .before .before .before .before .before .before in
-    let f = start .args .f .now in
-    rw (c .names-in .ensures, c .before .before .before .lay-out .ensures) (accepted f (pass (c .before .before .before .before)))
+returns-3 : tie.Need-returns-3
+returns-3 c =
+    let l = c .before .before .before .before .before in
+    rw (c .names-in .ensures, l .lay-out .ensures) (accepted (l .before .before .before .before .args .f .now) (none (c .before .before .before)))
 
 pub read-rule-spec : {M : Type 1} → statement M
-read-rule-spec = tie.close (tie.spec (λ c κs. search needs) returns lay-out-requires slice-aggregate-names-in names-in-requires returns-2)
+read-rule-spec = tie.close (tie.spec (λ c κs. search needs) returns lay-out-requires laid-row-requires returns-2 slice-aggregate-names-in names-in-requires returns-3)
