@@ -24,7 +24,7 @@ kept xs ys zs k n y h l e =
     ap (take y) (drop-append-le (32 * k) xs ys in-front) ∙ take-append-le y (drop (32 * k) xs) ys long
     ∙ sym (ap (take y) (drop-append-le (32 * k) xs zs in-front) ∙ take-append-le y (drop (32 * k) xs) zs long)
 
-module _ (r : Rule) (sheet from size filled : List ℕ) (n x y : ℕ) (F : Filled r sheet from size filled n) where
+module _ {r : Rule} {sheet from size filled : List ℕ} {n : ℕ} (x y : ℕ) (F : Filled r sheet from size filled n) where
   abbrev c : List ℕ
   c = take y (drop x sheet)
 

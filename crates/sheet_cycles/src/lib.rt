@@ -59,7 +59,8 @@ pub fn learn_cycle(
     size: &mut [usize],
     filled: &mut [u8],
 ) -> Learned
-    requires { ⌜ CycleReady (ruleOf (rule .head) (now counts) (now clauses)) (now starts) (take (sought .size) (drop (sought .begin) (now sheet)))
+    requires { ⌜ CycleReady (ruleOf (rule .head) (now counts) (now clauses)) (now starts)
+        (take (sought .size) (drop (sought .begin) (now sheet)))
         × (rule .reach ≡ closuresOf (ruleOf (rule .head) (now counts) (now clauses)))
         × Filled (ruleOf (rule .head) (now counts) (now clauses)) (now sheet) (now from) (now size) (now filled) (sought .cycles)
         × (sought .cycles < 64)

@@ -70,8 +70,8 @@ module _ {r : Rule} {sheet answers masks : List ℕ} where
       let kept : (old new : List ℕ) → old ≡ after (suc k) new old = λ old new. refl in
       record { answered = rw j; answers-written = rw j (kept answers (map (answerOf r) (wordsOf sheet))); masks-written = rw j (kept masks (allMasks r (wordsOf sheet))) }
 
-  pub called-served : calledRow sheet (length answers) (length masks) ≡ 0 → {answers′ masks′ : List ℕ} {n cycles : ℕ} → n ≡ length (wordsOf sheet) → WordsJudged r sheet answers masks answers′ masks′ cycles
-      → SheetCalled r sheet answers masks answers′ masks′ (Judged (record { words = n; cycles = cycles }))
+  pub called-served : calledRow sheet (length answers) (length masks) ≡ 0 → {answers′ masks′ : List ℕ} {n cycles : ℕ} → n ≡ length (wordsOf sheet)
+      → WordsJudged r sheet answers masks answers′ masks′ cycles → SheetCalled r sheet answers masks answers′ masks′ (Judged (record { words = n; cycles = cycles }))
   called-served e w J = record { answered = rw (e, w, J .count); answers-written = rw e (J .answers-written); masks-written = rw e (J .masks-written) }
 
 -- ---- a file
@@ -113,7 +113,8 @@ module _ {f sheet answers masks : List ℕ} where
   judged-refused (suc k) z e =
       let j : sheetRow f sheet (length answers) (length masks) ≡ suc k = sym (file-refuses sheet (length answers) (length masks) f (suc k) z e) in
       let kept : (old new : List ℕ) → old ≡ after (suc k) new old = λ old new. refl in
-      let C : SheetComputed f sheet answers masks answers masks (Refused (suc k)) = computed (rw j) (rw j (kept answers (map (answerOf (ruleIn f)) (wordsOf sheet)))) (rw j (kept masks (allMasks (ruleIn f) (wordsOf sheet)))) in
+      let C : SheetComputed f sheet answers masks answers masks (Refused (suc k))
+      = computed (rw j) (rw j (kept answers (map (answerOf (ruleIn f)) (wordsOf sheet)))) (rw j (kept masks (allMasks (ruleIn f) (wordsOf sheet)))) in
       (judged C, C)
 
   pub judged-called : {answers′ masks′ : List ℕ} {v : SheetAnswer} → fileRow f ≡ 0 → SheetCalled (ruleIn f) sheet answers masks answers′ masks′ v

@@ -9,7 +9,7 @@ use rule_reach::closures;
 use sheet_cycles::Reachability;
 use sheet_spec::SheetAnswer;
 use sheet_spec::Totals;
-use sheet_word::Turn;
+use sheet_word::WordAt;
 use sheet_word::judge_word;
 use sheet_words::count_words;
 use sheet_words::next_word;
@@ -53,14 +53,14 @@ pub fn judge_words(
     while at < sheet.len() {
         let begin = 64 * i;
         let end = begin + 64;
-        let turn = Turn { at, cycles };
+        let next = WordAt { at, cycles };
         let word = judge_word(
             rule,
             counts,
             &starts,
             clauses,
             sheet,
-            turn,
+            next,
             &mut from,
             &mut size,
             &mut filled,

@@ -20,7 +20,7 @@ use Rattle.sheet_words.specs.Places.{leadAt, cycleAt, wordFrom}
 use Rattle.sheet_words.proofs.Places.{SoundAt, sound-at}
 use Rattle.sheet_masks.specs.Repeats.{repeated}
 use Rattle.sheet_masks.proofs.Repeated.{word-masks}
-use Rattle.sheet_word.specs.declared.Spelling.{Spelling}
+use Rattle.sheet_word.specs.declared.TidyPart.{TidyPart}
 use Rattle.sheet_word.specs.Word.{TidyAt}
 
 -- a word that is not faulty is one over s letters
@@ -70,7 +70,7 @@ module _ {sheet : List ℕ} {at s : ℕ} (S : SoundAt sheet at s) where
 
 -- ---- what is lent and written for it
 
-module _ {sheet : List ℕ} {at : ℕ} {t : Spelling} (T : TidyAt sheet at t) {s : ℕ} (W : WordOver s (leadOf (wordFrom sheet at)) (cycleOf (wordFrom sheet at))) where
+module _ {sheet : List ℕ} {at : ℕ} {t : TidyPart} (T : TidyAt sheet at t) {s : ℕ} (W : WordOver s (leadOf (wordFrom sheet at)) (cycleOf (wordFrom sheet at))) where
   abbrev lead : List ℕ
   lead = leadOf (wordFrom sheet at)
 

@@ -14,7 +14,7 @@ use Rattle.sheet_spec.specs.Computed.{answerOf, masksOf, learnBy}
 use Rattle.sheet_words.specs.Places.{wordFrom}
 use Rattle.sheet_cycles.specs.Known.{knownOf}
 use Rattle.sheet_cycles.specs.Filled.{Filled}
-use Rattle.sheet_word.specs.declared.Spelling.{Spelling}
+use Rattle.sheet_word.specs.declared.TidyPart.{TidyPart}
 use Rattle.sheet_word.specs.declared.WordAnswer.{WordAnswer}
 
 -- a rule that passes every check, its tables, and n known cycles of the sheet with their masks
@@ -26,7 +26,7 @@ pub record SheetReady (r : Rule) (starts reach sheet from size filled : List ℕ
   pub room : n < 64
 
 -- the tidy spelling of the word at byte at, as parts of the sheet
-pub record TidyAt (sheet : List ℕ) (at : ℕ) (t : Spelling) : Type 0 where
+pub record TidyAt (sheet : List ℕ) (at : ℕ) (t : TidyPart) : Type 0 where
   pub order : t .first ≤ t .begin
   pub within : t .begin + t .size ≤ length sheet
   pub short : t .size ≤ 32

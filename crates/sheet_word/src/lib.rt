@@ -18,7 +18,7 @@ ghost use Rattle.sheet_word.specs.Word.{SheetReady, TidyAt, Served, Word
 
 // Where the tidy spelling of a word of a sheet stands: the lead-in begins at byte first, the cycle is the size bytes from byte begin on;
 // and how many places the word has.
-pub struct Spelling {
+pub struct TidyPart {
     pub first: usize,
     pub begin: usize,
     pub size: usize,
@@ -26,7 +26,7 @@ pub struct Spelling {
 }
 
 // The tidy spelling of the word that begins at byte at.
-fn tidy_at(sheet: &[u8], at: usize) -> Spelling
+fn tidy_at(sheet: &[u8], at: usize) -> TidyPart
     requires { ⌜ (at < length (now sheet)) × ((s : ℕ) × (faultOf s (wordFrom (now sheet) at) ≡ 0)) ⌝ }
     ensures { λ r. ⌜ TidyAt (now (sheet .entry)) at r ⌝ }
 {
@@ -37,7 +37,7 @@ fn tidy_at(sheet: &[u8], at: usize) -> Spelling
     let m = lead_length(&sheet[first..middle], &sheet[middle..last], p);
     let begin = first + m;
     let places = last - first;
-    Spelling {
+    TidyPart {
         first,
         begin,
         size: p,
@@ -46,7 +46,7 @@ fn tidy_at(sheet: &[u8], at: usize) -> Spelling
 }
 
 // The word to be judged, by where it begins; and how many cycles are known.
-pub struct Turn {
+pub struct WordAt {
     pub at: usize,
     pub cycles: usize,
 }
@@ -58,22 +58,23 @@ fn serve_word(
     starts: &[u16; 128],
     clauses: &[u8],
     sheet: &[u8],
-    turn: Turn,
+    next: WordAt,
     from: &mut [usize],
     size: &mut [usize],
     filled: &mut [u8],
     block: &mut [u8],
 ) -> usize
     requires { ⌜ SheetReady (ruleOf (rule .head) (now counts) (now clauses)) (now starts) (rule .reach) (now sheet)
-        (now from) (now size) (now filled) (turn .cycles)
-        × (turn .at < length (now sheet))
-        × (faultOf (rule .head .s) (wordFrom (now sheet) (turn .at)) ≡ 0)
+        (now from) (now size) (now filled) (next .cycles)
+        × (next .at < length (now sheet))
+        × (faultOf (rule .head .s) (wordFrom (now sheet) (next .at)) ≡ 0)
         × (length (now block) ≡ 64) ⌝ }
-    ensures { λ r. ⌜ Served (ruleOf (rule .head) (now (counts .entry)) (now (clauses .entry))) (now (sheet .entry)) (turn .at)
-        (now (from .entry)) (now (size .entry)) (turn .cycles) (now (from .exit)) (now (size .exit)) (now (filled .exit)) (now (block .exit)) r ⌝ }
+    ensures { λ r. ⌜ Served (ruleOf (rule .head) (now (counts .entry)) (now (clauses .entry))) (now (sheet .entry)) (next .at)
+        (now (from .entry)) (now (size .entry)) (next .cycles)
+        (now (from .exit)) (now (size .exit)) (now (filled .exit)) (now (block .exit)) r ⌝ }
 {
     let h = rule.head;
-    let at = turn.at;
+    let at = next.at;
     let tidy = tidy_at(sheet, at);
     let first = tidy.first;
     let begin = tidy.begin;
@@ -81,7 +82,7 @@ fn serve_word(
     let sought = Sought {
         begin: begin,
         size: p,
-        cycles: turn.cycles,
+        cycles: next.cycles,
     };
     let known = learn_cycle(
         rule,
@@ -122,26 +123,27 @@ pub fn judge_word(
     starts: &[u16; 128],
     clauses: &[u8],
     sheet: &[u8],
-    turn: Turn,
+    next: WordAt,
     from: &mut [usize],
     size: &mut [usize],
     filled: &mut [u8],
     block: &mut [u8],
 ) -> WordAnswer
     requires { ⌜ SheetReady (ruleOf (rule .head) (now counts) (now clauses)) (now starts) (rule .reach) (now sheet)
-        (now from) (now size) (now filled) (turn .cycles)
-        × (turn .at < length (now sheet))
+        (now from) (now size) (now filled) (next .cycles)
+        × (next .at < length (now sheet))
         × (length (now block) ≡ 64) ⌝ }
-    ensures { λ r. ⌜ WordJudged (ruleOf (rule .head) (now (counts .entry)) (now (clauses .entry))) (now (sheet .entry)) (turn .at)
-        (now (from .entry)) (now (size .entry)) (turn .cycles) (now (from .exit)) (now (size .exit)) (now (filled .exit)) (now (block .exit)) r ⌝ }
+    ensures { λ r. ⌜ WordJudged (ruleOf (rule .head) (now (counts .entry)) (now (clauses .entry))) (now (sheet .entry)) (next .at)
+        (now (from .entry)) (now (size .entry)) (next .cycles)
+        (now (from .exit)) (now (size .exit)) (now (filled .exit)) (now (block .exit)) r ⌝ }
 {
     let h = rule.head;
-    let row = word_fault(h.s, sheet, turn.at);
+    let row = word_fault(h.s, sheet, next.at);
     if row != 0 {
         fill_with(block, 0);
         return WordAnswer {
             answer: row,
-            cycles: turn.cycles,
+            cycles: next.cycles,
         };
     }
     let cycles = serve_word(
@@ -150,7 +152,7 @@ pub fn judge_word(
         starts,
         clauses,
         sheet,
-        turn,
+        next,
         from,
         size,
         filled,

@@ -44,41 +44,44 @@ abbrev μ-loop : tie.MeasureT-loop
 loop-holds : tie.Need-loop-holds Inv-loop μ-loop
 loop-holds c = (omega arith, pow-pos (c .before .before .before .before .before .args .rule .head .n), λ q. rw (bit-none q), refl, λ q l. rw (bit-none q), λ i k. refl)
 
+abbrev start-of : tie.In-loop Inv-loop μ-loop → tie.Start Inv-loop μ-loop
+start-of c = c .before .before .before .before .before .before .before
+
 -- the states left are the rule's, and the least of them is one
 few : (c : tie.In-loop Inv-loop μ-loop) → c .before .loop .left < 256
-few c = omega (arith, c .before .before .before .before .before .before .before .fits .states)
+few c = omega (arith, start-of c .fits .states)
 
-below : (c : tie.In-loop Inv-loop μ-loop) → trailingZeros 8 (c .before .loop .left) < c .before .before .before .before .before .before .before .args .rule .head .n
+below : (c : tie.In-loop Inv-loop μ-loop) → trailingZeros 8 (c .before .loop .left) < start-of c .args .rule .head .n
 below c =
-    bit-below (c .before .before .before .before .before .before .before .args .rule .head .n) (c .before .loop .left) _ (lt-of-le-of-lt (c .before .loop .inv .0) (c .before .before .before .before .before .before .before .pre .6))
+    bit-below (start-of c .args .rule .head .n) (c .before .loop .left) _ (lt-of-le-of-lt (c .before .loop .inv .0) (start-of c .pre .6))
     (least-member (c .before .loop .left) (omega arith) (few c))
 
 cast-q : tie.Need-cast-q Inv-loop μ-loop
-cast-q c = omega (arith, below c, c .before .before .before .before .before .before .before .pre .0 .few-states)
+cast-q c = omega (arith, below c, start-of c .pre .0 .few-states)
 
 array-read-class : tie.Need-array-read-class Inv-loop μ-loop
-array-read-class c = omega (arith, below c, c .before .before .before .before .before .before .before .pre .0 .few-states)
+array-read-class c = omega (arith, below c, start-of c .pre .0 .few-states)
 
 add-choose : tie.Need-add-choose Inv-loop μ-loop
 add-choose c =
-    let start = c .before .before .before .before .before .before .before .before .before in
+    let start = start-of (c .before .before) in
     omega (arith, below (c .before .before), start .pre .7, start .good)
 
 choose-requires : tie.Need-choose-requires Inv-loop μ-loop
 choose-requires c κs =
-    let start = c .before .before .before .before .before .before .before .before .before in
+    let start = start-of (c .before .before) in
     let p = start .pre in (p .0, p .1, below (c .before .before), p .3, omega (arith, below (c .before .before), p .7, c .before .before .before .loop .inv .3))
 
 cast-found : tie.Need-cast-found Inv-loop μ-loop
 cast-found c =
     let earlier = c .before .before .before .before .before .before in
-    let start = earlier .before .before .before .before .before .before .before in
+    let start = start-of earlier in
     omega (arith, below (earlier), start .pre .0 .few-states)
 
 shl-found : tie.Need-shl-found Inv-loop μ-loop
 shl-found c =
     let earlier = c .before .before .before .before .before .before in
-    let start = earlier .before .before .before .before .before .before .before in
+    let start = start-of earlier in
     omega (arith, below (earlier), start .pre .0 .few-states)
 
 loop-less : tie.Need-loop-less Inv-loop μ-loop
@@ -91,7 +94,7 @@ loop-again c =
     let at-choose = c .before .before .before in
     let earlier = at-choose .before .before .before in
     let at-loop = earlier .before in
-    let start = at-loop .before .before .before .before .before .before in
+    let start = start-of earlier in
     let l = at-loop .loop in
     let a = start .args in
     let p = start .pre in
@@ -133,7 +136,8 @@ loop-again c =
 returns : tie.Need-returns Inv-loop μ-loop
 returns c =
     let l = c .before .loop in
-    let a = c .before .before .before .before .before .before .before .args in
+    let start = c .before .before .before .before .before .before .before in
+    let a = start .args in
     let r = ruleOf (a .rule .head) (a .counts .now) (a .clauses .now) in
     let f : Set = λ x. satisfies (a .rule .head .n) (bit (aimOf r (a .all) (a .near) x)) (entry r x (a .a)) in
     let e : l .left ≡ 0 = omega arith in

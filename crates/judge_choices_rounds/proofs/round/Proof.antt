@@ -120,8 +120,8 @@ returns c =
     let l = c .before .loop in
     let a = start .args in
     let e : l .left ≡ 0 = omega arith in (
-      round-ext (ruleOf (a .rule .head) (a .counts .now) (a .clauses .now)) (a .lead .now) (a .cycle .now) (a .masks .now) (a .near .now) (λ y. bit (a .work) y && not (bit (l .left) y)) (bit (a .work))
-          (a .choices .now) (l .choices) (l .near) (l .changed) (λ y k. rw (e, bit-none y) (sym (and-true (bit (a .work) y)))) (l .inv .3),
+      round-ext (ruleOf (a .rule .head) (a .counts .now) (a .clauses .now)) (a .lead .now) (a .cycle .now) (a .masks .now) (a .near .now) (λ y. bit (a .work) y && not (bit (l .left) y))
+          (bit (a .work)) (a .choices .now) (l .choices) (l .near) (l .changed) (λ y k. rw (e, bit-none y) (sym (and-true (bit (a .work) y)))) (l .inv .3),
       l .inv .0,
     )
 

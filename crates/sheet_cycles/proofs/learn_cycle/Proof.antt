@@ -45,8 +45,7 @@ returns c =
     let a = start .args in
     let z = start .pre in
     let long : length (take (a .sought .size) (drop (a .sought .begin) (a .sheet .now))) ≡ a .sought .size = simp (length-take, length-drop) (omega (arith, z .5)) in
-    learnt-known (ruleOf (a .rule .head) (a .counts .now) (a .clauses .now)) (a .sheet .now) (a .from .now) (a .size .now) (a .filled .now) (a .sought .cycles) (a .sought .begin) (a .sought .size) (z .2)
-    (c .before .find-cycle .result) (c .if1 .taken) long (found (c .before))
+    learnt-known (a .sought .begin) (a .sought .size) (z .2) (c .before .find-cycle .result) (c .if1 .taken) long (found (c .before))
 
 mul-first : tie.Need-mul-first
 mul-first c =
@@ -116,7 +115,7 @@ returns-2 c =
     let size : length m ≡ a .sought .size = ap length right ∙ truth-length r [] cycle ∙ zero-add (length cycle) ∙ long in
     let room : 32 * a .sought .cycles + a .sought .size ≤ length (a .filled .now) = omega (arith, z .2 .room, z .3, z .4) in
     let g = found (c .before .before .before .before .before .before .before) in
-    learnt-new r (a .sheet .now) (a .from .now) (a .size .now) (a .filled .now) (a .sought .cycles) (a .sought .begin) (a .sought .size) (z .2) (z .3) (z .4) (z .5) m right size
+    learnt-new (a .sought .begin) (a .sought .size) (z .2) (z .3) (z .4) (z .5) m right size
     (drop (32 * a .sought .cycles + a .sought .size - 32 * a .sought .cycles) (drop (32 * a .sought .cycles) (a .filled .now)))
     (mid-length (a .filled .now) (32 * a .sought .cycles) (a .sought .size) room m size) long (g .none (omega (arith, g .most, c .before .before .before .before .before .before .if1 .left)))
 

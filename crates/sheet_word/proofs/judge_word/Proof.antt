@@ -32,13 +32,13 @@ returns c =
     (c .before .before .fill-with .ensures ∙ ap (λ (x : ℕ). replicate x 0) (z .2))
 
 -- the word is not faulty
-sound : (c : tie.Else1) → let a = start-of (c .before) .args in faultOf (a .rule .head .s) (wordFrom (a .sheet .now) (a .turn .at)) ≡ 0
+sound : (c : tie.Else1) → let a = start-of (c .before) .args in faultOf (a .rule .head .s) (wordFrom (a .sheet .now) (a .next .at)) ≡ 0
 sound c = sym (c .before .word-fault .ensures) ∙ c .if1 .left
 
 -- its cycle has a letter
-repeats : (c : tie.Else1) → let a = start-of (c .before) .args in 0 < length (cycleOf (wordFrom (a .sheet .now) (a .turn .at)))
+repeats : (c : tie.Else1) → let a = start-of (c .before) .args in 0 < length (cycleOf (wordFrom (a .sheet .now) (a .next .at)))
 repeats c = let start = start-of (c .before) in
-    word-at (start .args .rule .head .s) (start .args .sheet .now) (start .args .turn .at) (start .pre .1) (sound c) .repeats
+    word-at (start .args .rule .head .s) (start .args .sheet .now) (start .args .next .at) (start .pre .1) (sound c) .repeats
 
 serve-word-requires : tie.Need-serve-word-requires
 serve-word-requires c κs =

@@ -18,8 +18,8 @@ use Rattle.sheet_word.proofs.serve_word.Statement.{statement}
 use Rattle.sheet_word.proofs.serve_word.Tie as tie
 
 -- the word is one over the rule's letters
-over : (c : tie.Start) → let w = wordFrom (c .args .sheet .now) (c .args .turn .at) in WordOver (c .args .rule .head .s) (leadOf w) (cycleOf w)
-over c = word-at (c .args .rule .head .s) (c .args .sheet .now) (c .args .turn .at) (c .pre .1) (c .pre .2)
+over : (c : tie.Start) → let w = wordFrom (c .args .sheet .now) (c .args .next .at) in WordOver (c .args .rule .head .s) (leadOf w) (cycleOf w)
+over c = word-at (c .args .rule .head .s) (c .args .sheet .now) (c .args .next .at) (c .pre .1) (c .pre .2)
 
 abbrev start-of : tie.After-tidy-at → tie.Start
 start-of c = c .before .before .before .before .before .before .before .before .before
@@ -95,7 +95,7 @@ returns c =
     let masks : take (32 * k + p - 32 * k) (drop (32 * k) filled) ≡ truthMasks r [] (take p (drop (t .tidy-at .result .begin) (a .sheet .now)))
     = ap (λ (x : ℕ). take x (drop (32 * k) filled)) (long ∙ sym (part-long T W)) ∙ L .masks in
     served-by (z .2) (served-masks T W (z .0 .passing) masks (z .3) (c .before .before .write-masks .ensures))
-    (L .known ∙ ap (learn (knownOf (a .sheet .now) (a .from .now) (a .size .now) (a .turn .cycles))) (T .cycle)) (L .filled) (L .one)
+    (L .known ∙ ap (learn (knownOf (a .sheet .now) (a .from .now) (a .size .now) (a .next .cycles))) (T .cycle)) (L .filled) (L .one)
 
 pub serve-word-spec : {M : Type 1} → statement M
 serve-word-spec =
