@@ -1,12 +1,12 @@
 // The states from which a rule accepts, at each place of a word.
 use crate::layer::solve_layer;
 use judge_place::at_height;
-use judge_place::fill_with;
 use judge_place::met_by;
 use rule_entries::Head;
 use rule_entries::starts_of;
 use rule_reach::closures;
 use set_masks::full;
+use slice_zeros::fill_with;
 ghost use mathlib.Core.Path.{_≡_};
 ghost use mathlib.Core.List.{_++_, []};
 ghost use Prim.Native.Nat.{ℕ, _+_, _≤_, _<_};

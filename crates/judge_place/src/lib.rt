@@ -7,7 +7,7 @@ ghost use mathlib.Core.Bool.{not};
 ghost use Prim.Native.Nat.{_^_, _≤_, _<_};
 ghost use lib.Count.{ones};
 ghost use lib.Dec.{eqb};
-ghost use lib.ListN.{length, getD, set, replicate};
+ghost use lib.ListN.{length, getD, set};
 ghost use Rattle.sets.specs.Masks.{bit, mask};
 ghost use Rattle.theory.specs.Rule.{entry, satisfies};
 ghost use Rattle.theory.specs.Passing.{WellFormed};
@@ -56,17 +56,6 @@ pub fn at_height(reach: &[u8; 8], n: usize, height: u32) -> u8
         q += 1;
     }
     layer
-}
-
-// Every place gets the mask v.
-pub fn fill_with(masks: &mut [u8], v: u8)
-    ensures { λ _. ⌜ now (masks .exit) ≡ replicate (length (now (masks .entry))) v ⌝ }
-{
-    let mut i = 0;
-    while i < masks.len() {
-        masks[i] = v;
-        i += 1;
-    }
 }
 
 // The states of the layer that the mask at the following place opens are opened at place p of a cycle; whether there is a new one.

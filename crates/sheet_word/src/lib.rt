@@ -1,11 +1,11 @@
 // One word of a sheet, judged by the masks of its tidy cycle.
-use judge_place::fill_with;
 use set_masks::contains;
 use sheet_cycles::Reachability;
 use sheet_cycles::Sought;
 use sheet_cycles::learn_cycle;
 use sheet_masks::write_masks;
 use sheet_words::word_fault;
+use slice_zeros::fill_with;
 use word_spelling::cycle_length;
 use word_spelling::lead_length;
 ghost use mathlib.Core.Path.{_≡_};

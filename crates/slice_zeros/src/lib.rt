@@ -1,10 +1,21 @@
-// Places of a byte slice that are not 0, eight bytes at a time where all of them are.
+// Bytes of a slice: one value for all of them, and the places of those that are not 0, eight bytes at a time where all are.
 use codes::word_at;
 ghost use mathlib.Core.Path.{_≡_};
 ghost use mathlib.Core.Bool.{true, false};
 ghost use Prim.Native.Nat.{_≤_, _<_};
-ghost use lib.ListN.{length};
+ghost use lib.ListN.{length, replicate};
 ghost use Rattle.slice_zeros.specs.Zeros.{Zeros, NextSet, NextBetween};
+
+// Every byte becomes v.
+pub fn fill_with(xs: &mut [u8], v: u8)
+    ensures { λ _. ⌜ now (xs .exit) ≡ replicate (length (now (xs .entry))) v ⌝ }
+{
+    let mut i = 0;
+    while i < xs.len() {
+        xs[i] = v;
+        i += 1;
+    }
+}
 
 // A place from `from` on, up to `to`, before which all bytes are 0: it steps by eight.
 fn skip_words(xs: &[u8], from: usize, to: usize) -> usize

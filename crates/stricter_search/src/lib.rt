@@ -1,6 +1,6 @@
 // The search for a word that two tables accept: the pairs from which both can, a start pair among them, and the word.
 use file_read::Layout;
-use judge_place::fill_with;
+use slice_zeros::fill_with;
 use stricter_files::sort_files;
 use stricter_lasso::find_word;
 use stricter_spec::Found;

@@ -1,6 +1,6 @@
 // The judge of words on a lent table, for a rule of s letters and its initial state.
-use judge_place::fill_with;
 use rule_entries::Head;
+use slice_zeros::fill_with;
 use table_lent::count;
 use table_rows::rows::table_row;
 use table_starts::search;

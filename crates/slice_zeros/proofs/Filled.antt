@@ -1,4 +1,4 @@
--- Laws of lists: sums of a front part, a part of a filled list.
+-- A list of one value.
 use mathlib.Core.Path.{_≡_, sym, _∙_}
 use mathlib.Core.List.{List}
 use Prim.Native.Nat.{ℕ, _<_}
