@@ -2,6 +2,7 @@
 use mulgreddi_answers_stricter::Numbers;
 ghost use mathlib.Core.Path.{_≡_};
 ghost use Rattle.stricter_entry_spec.specs.declared.Comparison.{Comparison};
+ghost use Rattle.stricter_entry_spec.specs.Rows.{slicesOf};
 ghost use Rattle.stricter_entry_spec.specs.Compared.{Compared};
 ghost use Rattle.mulgreddi_answers_stricter.specs.Answers.{comparisonAnswer};
 
@@ -20,22 +21,10 @@ pub extern "C" fn mulgreddi_stricter(
 ) -> Numbers
     ensures { λ r. ⌜ ((answer : Comparison) × (r ≡ comparisonAnswer answer)
         × Compared (now (a .entry)) (now (b .entry))
-        (record {
-          codes-a = now (acodes .entry);
-          transitions-a = now (atransitions .entry);
-          codes-b = now (bcodes .entry);
-          transitions-b = now (btransitions .entry);
-          word = now (word .entry);
-          scratch = now (scratch .entry);
-        }) answer
-        (record {
-          codes-a = now (acodes .exit);
-          transitions-a = now (atransitions .exit);
-          codes-b = now (bcodes .exit);
-          transitions-b = now (btransitions .exit);
-          word = now (word .exit);
-          scratch = now (scratch .exit);
-        })) ⌝ }
+        (slicesOf (now (acodes .entry)) (now (atransitions .entry)) (now (bcodes .entry)) (now (btransitions .entry))
+        (now (word .entry)) (now (scratch .entry))) answer
+        (slicesOf (now (acodes .exit)) (now (atransitions .exit)) (now (bcodes .exit)) (now (btransitions .exit))
+        (now (word .exit)) (now (scratch .exit)))) ⌝ }
 {
     mulgreddi_answers_stricter::compared(stricter::stricter(
         a,

@@ -20,7 +20,7 @@ use Rattle.build.specs.Built.{roomRow}
 use Rattle.build.specs.Filling.{Made}
 use Rattle.stricter_entry_spec.specs.declared.Comparison.{Comparison}
 use Rattle.stricter_entry_spec.specs.declared.Comparison.the-variants.{Refused}
-use Rattle.stricter_entry_spec.specs.Rows.{Slices, pairRows}
+use Rattle.stricter_entry_spec.specs.Rows.{Slices, slicesOf, pairRows}
 use Rattle.stricter.specs.Steps.{codesOf, movesOf, Held, OwnTable, OtherTable, otherRow, pairRow, rowOf, ByRow}
 use Rattle.stricter.proofs.Rooms.{by-row, refused-zero, lent-same, Emptied, made-refused, made-held, other-refused, other-served, other-settles, pair-settles, own-refused, own-served}
 
@@ -93,7 +93,7 @@ module _ (a b : Rule) (lent : Slices) where
   module _ (n : Counts) (ys ws : List ℕ) (answer : Comparison) (left : Slices) where
     -- B's rooms hold ys and ws
     abbrev othered : Slices
-    othered = record { codes-a = lent .codes-a; transitions-a = lent .transitions-a; codes-b = ys; transitions-b = ws; word = lent .word; scratch = lent .scratch }
+    othered = slicesOf (lent .codes-a) (lent .transitions-a) ys ws (lent .word) (lent .scratch)
 
     same-pair : pairRow a b othered ≡ pairRow a b lent
     unfolding pairRow pairRows
@@ -109,7 +109,7 @@ module _ (a b : Rule) (lent : Slices) where
 
     -- A's rooms hold ys and ws
     abbrev owned : Slices
-    owned = record { codes-a = ys; transitions-a = ws; codes-b = lent .codes-b; transitions-b = lent .transitions-b; word = lent .word; scratch = lent .scratch }
+    owned = slicesOf ys ws (lent .codes-b) (lent .transitions-b) (lent .word) (lent .scratch)
 
     same-other : otherRow a b owned ≡ otherRow a b lent
     unfolding otherRow pairRows

@@ -25,7 +25,7 @@ use Rattle.stricter_rules_laws.proofs.Words.{none-shared, shared-against}
 use Rattle.stricter_entry_spec.specs.declared.Sizes.{Sizes}
 use Rattle.stricter_entry_spec.specs.declared.Comparison.{Comparison}
 use Rattle.stricter_entry_spec.specs.declared.Comparison.the-variants.{Yes, No, Refused}
-use Rattle.stricter_entry_spec.specs.Rows.{Slices, tablesOf, pairs, pairRows, roomAfter, scratchAfter}
+use Rattle.stricter_entry_spec.specs.Rows.{Slices, slicesOf, tablesOf, pairs, pairRows, roomAfter, scratchAfter}
 use Rattle.stricter_entry_spec.specs.Compared.{sizesOf, WordFound, Told}
 use Rattle.stricter.specs.Steps.{OwnTable, OtherTable, pairRow, ByRow}
 use Rattle.stricter.proofs.Rooms.{front-codes, front-moves, by-row, refused-zero}
@@ -113,15 +113,8 @@ module _ (a b : Rule) (same : a .s ≡ b .s) (n m : Counts) (p q : ℕ) (cs ts d
 
   pub served : (xs zs ys ws : List ℕ) → xs ≡ codesA → zs ≡ movesA → ys ≡ codesB → ws ≡ movesB
       → (word scratch word′ scratch′ : List ℕ) (answer : Comparison) → Told a b (tablesOf a b) 0 answer word word′ → scratch′ ≡ replicate (length scratch) 0
-      → ByRow a b 0 (record { codes-a = cs; transitions-a = ts; codes-b = ds; transitions-b = us; word = word; scratch = scratch }) answer
-      (record {
-        codes-a = xs ++ drop (n .macrostates) cs;
-        transitions-a = zs ++ drop (n .transitions) ts;
-        codes-b = ys ++ drop (m .macrostates) ds;
-        transitions-b = ws ++ drop (m .transitions) us;
-        word = word′;
-        scratch = scratch′;
-      })
+      → ByRow a b 0 (slicesOf cs ts ds us word scratch) answer
+      (slicesOf (xs ++ drop (n .macrostates) cs) (zs ++ drop (n .transitions) ts) (ys ++ drop (m .macrostates) ds) (ws ++ drop (m .transitions) us) word′ scratch′)
   unfolding roomAfter scratchAfter
   served xs zs ys ws e f g h word scratch word′ scratch′ answer T s = record {
     told = T;

@@ -9,6 +9,7 @@ use Rattle.theory.specs.Passing.{Passing}
 use Rattle.theory.specs.Rule.{Rule}
 use Rattle.theory.specs.TableComputed.{macrostates, transitions}
 use Rattle.rejecting_spec.specs.RejectingComputed.{rejectingMacrostates, rejectingTransitions}
+use Rattle.file_spec.specs.File.{ruleIn}
 use Rattle.build.specs.declared.Counts.{Counts}
 use Rattle.build.specs.Built.{roomRows}
 use Rattle.stricter_entry_spec.specs.declared.Comparison.{Comparison}
@@ -58,3 +59,7 @@ rowOf a b lent = rulesRow a b (tablesOf a b) lent
 
 abbrev pub ByRow : Rule → Rule → ℕ → Slices → Comparison → Slices → Type 0
 ByRow a b row lent answer left = ComparedBy a b (tablesOf a b) row lent answer left
+
+-- two files, by the rows that are left
+abbrev pub FilesBy : (Rule → Rule → Slices → ℕ) → List ℕ → List ℕ → Slices → Comparison → Slices → Type 0
+FilesBy row a b lent answer left = ByRow (ruleIn a) (ruleIn b) (row (ruleIn a) (ruleIn b) lent) lent answer left

@@ -16,9 +16,9 @@ ghost use Rattle.file_spec.specs.File.{ruleIn};
 ghost use Rattle.file_read.specs.Read.{readOf};
 ghost use Rattle.file_read.specs.declared.Read.the-variants.{Accepted};
 ghost use Rattle.build.specs.Filling.{Made};
-ghost use Rattle.stricter_entry_spec.specs.Rows.{Slices};
+ghost use Rattle.stricter_entry_spec.specs.Rows.{slicesOf};
 ghost use Rattle.stricter_entry_spec.specs.Compared.{Compared};
-ghost use Rattle.stricter.specs.Steps.{codesOf, movesOf, OwnTable, OtherTable, otherRow, pairRow, rowOf, ByRow};
+ghost use Rattle.stricter.specs.Steps.{codesOf, movesOf, OwnTable, OtherTable, otherRow, pairRow, rowOf, ByRow, FilesBy};
 
 // ---- the tables
 
@@ -87,22 +87,10 @@ fn find_word(
         × OtherTable (ruleIn (now b)) m (bl .head .initial) (now bcodes) (now btransitions)
         × (n .macrostates * m .macrostates ≤ length (now scratch)) × (3 * (n .macrostates * m .macrostates) ≤ length (now word)) ⌝ }
     ensures { λ r. ⌜ ByRow (ruleIn (now (a .entry))) (ruleIn (now (b .entry))) 0
-        (record {
-          codes-a = now (acodes .entry);
-          transitions-a = now (atransitions .entry);
-          codes-b = now (bcodes .entry);
-          transitions-b = now (btransitions .entry);
-          word = now (word .entry);
-          scratch = now (scratch .entry);
-        }) r
-        (record {
-          codes-a = now (acodes .exit);
-          transitions-a = now (atransitions .exit);
-          codes-b = now (bcodes .exit);
-          transitions-b = now (btransitions .exit);
-          word = now (word .exit);
-          scratch = now (scratch .exit);
-        }) ⌝ }
+        (slicesOf (now (acodes .entry)) (now (atransitions .entry)) (now (bcodes .entry)) (now (btransitions .entry))
+        (now (word .entry)) (now (scratch .entry))) r
+        (slicesOf (now (acodes .exit)) (now (atransitions .exit)) (now (bcodes .exit)) (now (btransitions .exit))
+        (now (word .exit)) (now (scratch .exit))) ⌝ }
 {
     let na = n.macrostates;
     let ta = n.transitions;
@@ -143,24 +131,11 @@ fn search_tables(
     requires { ⌜ (readOf (now a) ≡ Accepted al) × (readOf (now b) ≡ Accepted bl) × (ruleIn (now a) .s ≡ ruleIn (now b) .s)
         × OwnTable (ruleIn (now a)) n (al .head .initial) (now acodes) (now atransitions)
         × OtherTable (ruleIn (now b)) m (bl .head .initial) (now bcodes) (now btransitions) ⌝ }
-    ensures { λ r. ⌜ (let lent : Slices = record {
-      codes-a = now (acodes .entry);
-      transitions-a = now (atransitions .entry);
-      codes-b = now (bcodes .entry);
-      transitions-b = now (btransitions .entry);
-      word = now (word .entry);
-      scratch = now (scratch .entry);
-    } in
-        ByRow (ruleIn (now (a .entry))) (ruleIn (now (b .entry)))
-        (pairRow (ruleIn (now (a .entry))) (ruleIn (now (b .entry))) lent) lent r
-        (record {
-          codes-a = now (acodes .exit);
-          transitions-a = now (atransitions .exit);
-          codes-b = now (bcodes .exit);
-          transitions-b = now (btransitions .exit);
-          word = now (word .exit);
-          scratch = now (scratch .exit);
-        })) ⌝ }
+    ensures { λ r. ⌜ FilesBy pairRow (now (a .entry)) (now (b .entry))
+        (slicesOf (now (acodes .entry)) (now (atransitions .entry)) (now (bcodes .entry)) (now (btransitions .entry))
+        (now (word .entry)) (now (scratch .entry))) r
+        (slicesOf (now (acodes .exit)) (now (atransitions .exit)) (now (bcodes .exit)) (now (btransitions .exit))
+        (now (word .exit)) (now (scratch .exit))) ⌝ }
 {
     let pairs = n.macrostates * m.macrostates;
     if lacks_room(pairs, word, scratch) {
@@ -203,24 +178,11 @@ fn compare_other(
 ) -> Comparison
     requires { ⌜ (readOf (now a) ≡ Accepted al) × (readOf (now b) ≡ Accepted bl) × (ruleIn (now a) .s ≡ ruleIn (now b) .s)
         × OwnTable (ruleIn (now a)) n (al .head .initial) (now acodes) (now atransitions) ⌝ }
-    ensures { λ r. ⌜ (let lent : Slices = record {
-      codes-a = now (acodes .entry);
-      transitions-a = now (atransitions .entry);
-      codes-b = now (bcodes .entry);
-      transitions-b = now (btransitions .entry);
-      word = now (word .entry);
-      scratch = now (scratch .entry);
-    } in
-        ByRow (ruleIn (now (a .entry))) (ruleIn (now (b .entry)))
-        (otherRow (ruleIn (now (a .entry))) (ruleIn (now (b .entry))) lent) lent r
-        (record {
-          codes-a = now (acodes .exit);
-          transitions-a = now (atransitions .exit);
-          codes-b = now (bcodes .exit);
-          transitions-b = now (btransitions .exit);
-          word = now (word .exit);
-          scratch = now (scratch .exit);
-        })) ⌝ }
+    ensures { λ r. ⌜ FilesBy otherRow (now (a .entry)) (now (b .entry))
+        (slicesOf (now (acodes .entry)) (now (atransitions .entry)) (now (bcodes .entry)) (now (btransitions .entry))
+        (now (word .entry)) (now (scratch .entry))) r
+        (slicesOf (now (acodes .exit)) (now (atransitions .exit)) (now (bcodes .exit)) (now (btransitions .exit))
+        (now (word .exit)) (now (scratch .exit))) ⌝ }
 {
     match build_from(b, bl, false, bcodes, btransitions) {
         Built::Refused(row) => {
@@ -258,23 +220,11 @@ fn compare_files(
     scratch: &mut [u8],
 ) -> Comparison
     requires { ⌜ (readOf (now a) ≡ Accepted l) × (readOf (now b) ≡ Accepted m) ⌝ }
-    ensures { λ r. ⌜ (let lent : Slices = record {
-      codes-a = now (acodes .entry);
-      transitions-a = now (atransitions .entry);
-      codes-b = now (bcodes .entry);
-      transitions-b = now (btransitions .entry);
-      word = now (word .entry);
-      scratch = now (scratch .entry);
-    } in
-        ByRow (ruleIn (now (a .entry))) (ruleIn (now (b .entry))) (rowOf (ruleIn (now (a .entry))) (ruleIn (now (b .entry))) lent) lent r
-        (record {
-          codes-a = now (acodes .exit);
-          transitions-a = now (atransitions .exit);
-          codes-b = now (bcodes .exit);
-          transitions-b = now (btransitions .exit);
-          word = now (word .exit);
-          scratch = now (scratch .exit);
-        })) ⌝ }
+    ensures { λ r. ⌜ FilesBy rowOf (now (a .entry)) (now (b .entry))
+        (slicesOf (now (acodes .entry)) (now (atransitions .entry)) (now (bcodes .entry)) (now (btransitions .entry))
+        (now (word .entry)) (now (scratch .entry))) r
+        (slicesOf (now (acodes .exit)) (now (atransitions .exit)) (now (bcodes .exit)) (now (btransitions .exit))
+        (now (word .exit)) (now (scratch .exit))) ⌝ }
 {
     if l.head.s != m.head.s {
         return Comparison::Refused(28);
@@ -315,22 +265,10 @@ pub fn stricter(
     scratch: &mut [u8],
 ) -> Comparison
     ensures { λ r. ⌜ Compared (now (a .entry)) (now (b .entry))
-        (record {
-          codes-a = now (acodes .entry);
-          transitions-a = now (atransitions .entry);
-          codes-b = now (bcodes .entry);
-          transitions-b = now (btransitions .entry);
-          word = now (word .entry);
-          scratch = now (scratch .entry);
-        }) r
-        (record {
-          codes-a = now (acodes .exit);
-          transitions-a = now (atransitions .exit);
-          codes-b = now (bcodes .exit);
-          transitions-b = now (btransitions .exit);
-          word = now (word .exit);
-          scratch = now (scratch .exit);
-        }) ⌝ }
+        (slicesOf (now (acodes .entry)) (now (atransitions .entry)) (now (bcodes .entry)) (now (btransitions .entry))
+        (now (word .entry)) (now (scratch .entry))) r
+        (slicesOf (now (acodes .exit)) (now (atransitions .exit)) (now (bcodes .exit)) (now (btransitions .exit))
+        (now (word .exit)) (now (scratch .exit))) ⌝ }
 {
     match file_read::read_rule(a) {
         Read::Refused(row) => Comparison::Refused(row),

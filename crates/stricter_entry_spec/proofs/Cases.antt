@@ -28,7 +28,7 @@ use Rattle.build.specs.Built.{roomRows}
 use Rattle.stricter_rules_spec.proofs.Cases.{against-F, not-stricter-F}
 use Rattle.stricter_entry_spec.specs.declared.Sizes.{Sizes}
 use Rattle.stricter_entry_spec.specs.declared.Comparison.the-variants.{Yes, No}
-use Rattle.stricter_entry_spec.specs.Rows.{Slices, tablesOf, pairs, letterRows, tableRows, pairRows, rulesRows, stricterRow, roomAfter, scratchAfter}
+use Rattle.stricter_entry_spec.specs.Rows.{Slices, slicesOf, tablesOf, pairs, letterRows, tableRows, pairRows, rulesRows, stricterRow, roomAfter, scratchAfter}
 use Rattle.stricter_entry_spec.specs.Compared.{sizesOf, WordFound, Told}
 
 abbrev fileF : List ℕ
@@ -42,15 +42,7 @@ fileZ = 0x00 ∷ 0x01 ∷ 0x01 ∷ 0x00 ∷ 0x01 ∷ 0x00 ∷ 0x00 ∷ 0x41 ∷ 
 
 -- slices of these lengths
 abbrev lengths : ℕ → ℕ → ℕ → ℕ → ℕ → ℕ → Slices
-lengths ca ta cb tb word scratch = record {
-  codes-a = replicate ca 9;
-  transitions-a = replicate ta 9;
-  codes-b = replicate cb 9;
-  transitions-b = replicate tb 9;
-  word = replicate word 9;
-  scratch =
-      replicate scratch 9;
-}
+lengths ca ta cb tb word scratch = slicesOf (replicate ca 9) (replicate ta 9) (replicate cb 9) (replicate tb 9) (replicate word 9) (replicate scratch 9)
 
 -- what an evaluation unfolds
 unfoldable computed : ℕ

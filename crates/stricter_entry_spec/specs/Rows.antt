@@ -22,6 +22,17 @@ pub record Slices : Type 0 where
   pub word : List ℕ
   pub scratch : List ℕ
 
+-- A's two rooms, those of the words that B rejects, the word slice and the scratch, by what each holds
+abbrev pub slicesOf : List ℕ → List ℕ → List ℕ → List ℕ → List ℕ → List ℕ → Slices
+slicesOf acodes atransitions bcodes btransitions word scratch = record {
+  codes-a = acodes;
+  transitions-a = atransitions;
+  codes-b = bcodes;
+  transitions-b = btransitions;
+  word = word;
+  scratch = scratch;
+}
+
 -- the two tables: A's, and that of the words that B rejects
 pub record Tables : Type 0 where
   pub codes-a : List ℕ

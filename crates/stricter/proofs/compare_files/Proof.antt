@@ -1,7 +1,7 @@
 -- `compare_files` meets its contract: 28, then 17 and 18 by A's table, then what is left once it is built.
 use mathlib.Core.Path.{_≡_, refl, sym, _∙_}
 use Rattle.file_spec.specs.File.{ruleIn}
-use Rattle.stricter_entry_spec.specs.Rows.{Slices}
+use Rattle.stricter_entry_spec.specs.Rows.{Slices, slicesOf}
 use Rattle.stricter.proofs.Rooms.{different}
 use Rattle.stricter.proofs.Rules.{file-letters, own-table, own-turned-away, own-searched}
 use borrow.Author.Needs.{needs}
@@ -13,15 +13,7 @@ returns c =
     let start = c .before .before .before .before .before .before .before .before .before .before .before in
     let a = start .args in
     let p = start .pre in
-    let lent : Slices = record {
-      codes-a = a .acodes .now;
-      transitions-a = a .atransitions .now;
-      codes-b = a .bcodes .now;
-      transitions-b = a .btransitions .now;
-      word = a .word .now;
-      scratch =
-          a .scratch .now;
-    } in
+    let lent : Slices = slicesOf (a .acodes .now) (a .atransitions .now) (a .bcodes .now) (a .btransitions .now) (a .word .now) (a .scratch .now) in
     different (ruleIn (a .a .now)) (ruleIn (a .b .now)) lent (λ e. c .if1 .taken (file-letters (a .a .now) (a .l) (p .0) ∙ e ∙ sym (file-letters (a .b .now) (a .m) (p .1))))
 
 compare-other-requires : tie.Need-compare-other-requires
@@ -49,26 +41,9 @@ returns-2 c =
     let p = start .pre in
     let f = at-build-from .build-from in
     let z = c .before .before .before .before .zero-rooms in
-    let lent : Slices = record {
-      codes-a = a .acodes .now;
-      transitions-a = a .atransitions .now;
-      codes-b = a .bcodes .now;
-      transitions-b = a .btransitions .now;
-      word = a .word .now;
-      scratch =
-          a .scratch .now;
-    } in
-    let left : Slices = record {
-      codes-a = f .last .1 .1 .1 .0;
-      transitions-a = f .last .1 .1 .1 .1 .0;
-      codes-b = z .last .0;
-      transitions-b = z .last .1 .0;
-      word = a .word .now;
-      scratch =
-          a .scratch .now;
-    } in
+    let lent : Slices = slicesOf (a .acodes .now) (a .atransitions .now) (a .bcodes .now) (a .btransitions .now) (a .word .now) (a .scratch .now) in
     own-turned-away (ruleIn (a .a .now)) (ruleIn (a .b .now)) lent (sym (file-letters (a .a .now) (a .l) (p .0)) ∙ at-if1 .if1 .left ∙ file-letters (a .b .now) (a .m) (p .1))
-    (at-row .row .given .0 .0) left (rw (at-row .row .given .1) at (f .ensures)) (z .ensures .0) (z .ensures .1) refl refl
+    (at-row .row .given .0 .0) _ (rw (at-row .row .given .1) at (f .ensures)) (z .ensures .0) (z .ensures .1) refl refl
 
 returns-3 : tie.Need-returns-3
 returns-3 c =
@@ -84,27 +59,10 @@ returns-3 c =
     let n = at-n .n .given .0 .0 in
     let ys = f .last .1 .1 .1 .0 in
     let ws = f .last .1 .1 .1 .1 .0 in
-    let lent : Slices = record {
-      codes-a = a .acodes .now;
-      transitions-a = a .atransitions .now;
-      codes-b = a .bcodes .now;
-      transitions-b = a .btransitions .now;
-      word = a .word .now;
-      scratch =
-          a .scratch .now;
-    } in
-    let left : Slices = record {
-      codes-a = s .last .1 .1 .1 .1 .1 .0;
-      transitions-a = s .last .1 .1 .1 .1 .1 .1 .0;
-      codes-b = s .last .1 .1 .1 .1 .1 .1 .1 .0;
-      transitions-b =
-          s .last .1 .1 .1 .1 .1 .1 .1 .1 .0;
-      word = s .last .1 .1 .1 .1 .1 .1 .1 .1 .1 .0;
-      scratch = s .last .1 .1 .1 .1 .1 .1 .1 .1 .1 .1 .0;
-    } in
+    let lent : Slices = slicesOf (a .acodes .now) (a .atransitions .now) (a .bcodes .now) (a .btransitions .now) (a .word .now) (a .scratch .now) in
     let M = rw (at-n .n .given .1) at (f .ensures) in
     let e = sym (file-letters (a .a .now) (a .l) (p .0)) ∙ at-if1 .if1 .left ∙ file-letters (a .b .now) (a .m) (p .1) in
-    own-searched (ruleIn (a .a .now)) (ruleIn (a .b .now)) lent n ys ws (s .result) left e M (f .kept .1 .1 .1 .0) (f .kept .1 .1 .1 .1 .0)
+    own-searched (ruleIn (a .a .now)) (ruleIn (a .b .now)) lent n ys ws (s .result) _ e M (f .kept .1 .1 .1 .0) (f .kept .1 .1 .1 .1 .0)
     (s .ensures)
 
 pub compare-files-spec : {M : Type 1} → statement M

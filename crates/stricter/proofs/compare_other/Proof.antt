@@ -1,7 +1,7 @@
 -- `compare_other` meets its contract: 17 and 18 by the table of the words that B rejects, then the search.
 use mathlib.Core.Path.{_≡_, refl}
 use Rattle.file_spec.specs.File.{ruleIn}
-use Rattle.stricter_entry_spec.specs.Rows.{Slices}
+use Rattle.stricter_entry_spec.specs.Rows.{Slices, slicesOf}
 use Rattle.stricter.proofs.Rules.{other-table, other-turned-away, other-searched}
 use borrow.Author.Needs.{needs}
 use Rattle.stricter.proofs.compare_other.Statement.{statement}
@@ -31,25 +31,8 @@ returns c =
     let a = start .args in
     let f = at-build-from .build-from in
     let z = c .before .before .before .before .zero-rooms in
-    let lent : Slices = record {
-      codes-a = a .acodes .now;
-      transitions-a = a .atransitions .now;
-      codes-b = a .bcodes .now;
-      transitions-b = a .btransitions .now;
-      word = a .word .now;
-      scratch =
-          a .scratch .now;
-    } in
-    let left : Slices = record {
-      codes-a = z .last .0;
-      transitions-a = z .last .1 .0;
-      codes-b = f .last .1 .1 .1 .0;
-      transitions-b = f .last .1 .1 .1 .1 .0;
-      word = a .word .now;
-      scratch =
-          a .scratch .now;
-    } in
-    other-turned-away (ruleIn (a .a .now)) (ruleIn (a .b .now)) lent (at-row .row .given .0 .0) left (rw (at-row .row .given .1) at (f .ensures)) (z .ensures .0) (z .ensures .1) refl refl
+    let lent : Slices = slicesOf (a .acodes .now) (a .atransitions .now) (a .bcodes .now) (a .btransitions .now) (a .word .now) (a .scratch .now) in
+    other-turned-away (ruleIn (a .a .now)) (ruleIn (a .b .now)) lent (at-row .row .given .0 .0) _ (rw (at-row .row .given .1) at (f .ensures)) (z .ensures .0) (z .ensures .1) refl refl
 
 returns-2 : tie.Need-returns-2
 returns-2 c =
@@ -63,26 +46,9 @@ returns-2 c =
     let m = at-m .m .given .0 .0 in
     let ys = f .last .1 .1 .1 .0 in
     let ws = f .last .1 .1 .1 .1 .0 in
-    let lent : Slices = record {
-      codes-a = a .acodes .now;
-      transitions-a = a .atransitions .now;
-      codes-b = a .bcodes .now;
-      transitions-b = a .btransitions .now;
-      word = a .word .now;
-      scratch =
-          a .scratch .now;
-    } in
-    let left : Slices = record {
-      codes-a = s .last .1 .1 .1 .1 .1 .1 .0;
-      transitions-a = s .last .1 .1 .1 .1 .1 .1 .1 .0;
-      codes-b = s .last .1 .1 .1 .1 .1 .1 .1 .1 .0;
-      transitions-b =
-          s .last .1 .1 .1 .1 .1 .1 .1 .1 .1 .0;
-      word = s .last .1 .1 .1 .1 .1 .1 .1 .1 .1 .1 .0;
-      scratch = s .last .1 .1 .1 .1 .1 .1 .1 .1 .1 .1 .1 .0;
-    } in
+    let lent : Slices = slicesOf (a .acodes .now) (a .atransitions .now) (a .bcodes .now) (a .btransitions .now) (a .word .now) (a .scratch .now) in
     let M = rw (at-m .m .given .1) at (f .ensures) in
-    other-searched (ruleIn (a .a .now)) (ruleIn (a .b .now)) lent m ys ws (s .result) left M (f .kept .1 .1 .1 .0) (f .kept .1 .1 .1 .1 .0)
+    other-searched (ruleIn (a .a .now)) (ruleIn (a .b .now)) lent m ys ws (s .result) _ M (f .kept .1 .1 .1 .0) (f .kept .1 .1 .1 .1 .0)
     (s .ensures)
 
 pub compare-other-spec : {M : Type 1} → statement M

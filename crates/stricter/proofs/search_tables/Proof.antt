@@ -3,7 +3,7 @@ use mathlib.Core.Path.{_≡_, refl}
 use native.Mathlib.Omega.{arith}
 use Rattle.file_spec.specs.File.{ruleIn}
 use Rattle.stricter_entry_spec.specs.declared.Comparison.the-variants.{Refused}
-use Rattle.stricter_entry_spec.specs.Rows.{Slices}
+use Rattle.stricter_entry_spec.specs.Rows.{Slices, slicesOf}
 use Rattle.stricter.specs.Steps.{pairRow}
 use Rattle.stricter.proofs.Rooms.{by-row, refused-zero}
 use Rattle.stricter.proofs.Searching.{pairs-small, pair-short, pair-room, roomy}
@@ -38,20 +38,11 @@ returns c =
     let p = start .pre in
     let z = at-zero-rooms .zero-rooms in
     let v = c .before .before .before .before .zero-rooms2 in
-    let lent : Slices = record {
-      codes-a = a .acodes .now;
-      transitions-a = a .atransitions .now;
-      codes-b = a .bcodes .now;
-      transitions-b = a .btransitions .now;
-      word = a .word .now;
-      scratch =
-          a .scratch .now;
-    } in
-    let left : Slices = record { codes-a = z .last .0; transitions-a = z .last .1 .0; codes-b = v .last .0; transitions-b = v .last .1 .0; word = a .word .now; scratch = a .scratch .now } in
-    by-row (ruleIn (a .a .now)) (ruleIn (a .b .now)) 29 (pairRow (ruleIn (a .a .now)) (ruleIn (a .b .now)) lent) lent (Refused 29) left
+    let lent : Slices = slicesOf (a .acodes .now) (a .atransitions .now) (a .bcodes .now) (a .btransitions .now) (a .word .now) (a .scratch .now) in
+    by-row (ruleIn (a .a .now)) (ruleIn (a .b .now)) 29 (pairRow (ruleIn (a .a .now)) (ruleIn (a .b .now)) lent) lent (Refused 29) _
     (pair-short (ruleIn (a .a .now)) (ruleIn (a .b .now)) (p .2) (a .n) (a .m) (a .al .head .initial) (a .bl .head .initial) (a .acodes .now) (a .atransitions .now) (a .bcodes .now)
     (a .btransitions .now) (p .3) (p .4) lent _ (at-lacks-room .lacks-room .ensures) (at-if1 .if1 .taken))
-    (refused-zero (ruleIn (a .a .now)) (ruleIn (a .b .now)) 29 lent left (λ z. omega arith) refl (z .ensures .0) (z .ensures .1) (v .ensures .0) (v .ensures .1) refl refl)
+    (refused-zero (ruleIn (a .a .now)) (ruleIn (a .b .now)) 29 lent _ (λ z. omega arith) refl (z .ensures .0) (z .ensures .1) (v .ensures .0) (v .ensures .1) refl refl)
 
 find-word-requires : tie.Need-find-word-requires
 find-word-requires c κs =
@@ -59,15 +50,7 @@ find-word-requires c κs =
     let start = at-lacks-room .before .before .before .before .before .before .before .before .before .before .before .before .before in
     let a = start .args in
     let p = start .pre in
-    let lent : Slices = record {
-      codes-a = a .acodes .now;
-      transitions-a = a .atransitions .now;
-      codes-b = a .bcodes .now;
-      transitions-b = a .btransitions .now;
-      word = a .word .now;
-      scratch =
-          a .scratch .now;
-    } in
+    let lent : Slices = slicesOf (a .acodes .now) (a .atransitions .now) (a .bcodes .now) (a .btransitions .now) (a .word .now) (a .scratch .now) in
     let h = roomy (ruleIn (a .a .now)) (ruleIn (a .b .now)) (p .2) (a .n) (a .m) (a .al .head .initial) (a .bl .head .initial) (a .acodes .now) (a .atransitions .now) (a .bcodes .now)
     (a .btransitions .now) (p .3) (p .4) lent _ (at-lacks-room .lacks-room .ensures) (c .before .before .before .before .before .before .if1 .left) in
     (p .0, p .1, p .2, p .3, p .4, h .0, h .1)
@@ -81,25 +64,8 @@ returns-2 c =
     let a = start .args in
     let p = start .pre in
     let f = at-find-word .find-word in
-    let lent : Slices = record {
-      codes-a = a .acodes .now;
-      transitions-a = a .atransitions .now;
-      codes-b = a .bcodes .now;
-      transitions-b = a .btransitions .now;
-      word = a .word .now;
-      scratch =
-          a .scratch .now;
-    } in
-    let left : Slices = record {
-      codes-a = f .last .1 .1 .1 .1 .1 .1 .0;
-      transitions-a = f .last .1 .1 .1 .1 .1 .1 .1 .0;
-      codes-b = f .last .1 .1 .1 .1 .1 .1 .1 .1 .0;
-      transitions-b =
-          f .last .1 .1 .1 .1 .1 .1 .1 .1 .1 .0;
-      word = f .last .1 .1 .1 .1 .1 .1 .1 .1 .1 .1 .0;
-      scratch = f .last .1 .1 .1 .1 .1 .1 .1 .1 .1 .1 .1 .0;
-    } in
-    by-row (ruleIn (a .a .now)) (ruleIn (a .b .now)) 0 (pairRow (ruleIn (a .a .now)) (ruleIn (a .b .now)) lent) lent (f .result) left
+    let lent : Slices = slicesOf (a .acodes .now) (a .atransitions .now) (a .bcodes .now) (a .btransitions .now) (a .word .now) (a .scratch .now) in
+    by-row (ruleIn (a .a .now)) (ruleIn (a .b .now)) 0 (pairRow (ruleIn (a .a .now)) (ruleIn (a .b .now)) lent) lent (f .result) _
     (pair-room (ruleIn (a .a .now)) (ruleIn (a .b .now)) (p .2) (a .n) (a .m) (a .al .head .initial) (a .bl .head .initial) (a .acodes .now) (a .atransitions .now) (a .bcodes .now)
     (a .btransitions .now) (p .3) (p .4) lent _ (at-lacks-room .lacks-room .ensures) (at-if1 .if1 .left)) (f .ensures)
 

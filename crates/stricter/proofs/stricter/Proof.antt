@@ -1,7 +1,7 @@
 -- `stricter` meets its contract: the rows of both rules by the reader, then the comparison of the rules.
 use mathlib.Core.Path.{_≡_, sym, _∙_}
 use Rattle.file_read.proofs.Answer.{served, turned-away}
-use Rattle.stricter_entry_spec.specs.Rows.{Slices}
+use Rattle.stricter_entry_spec.specs.Rows.{Slices, slicesOf}
 use Rattle.stricter.proofs.Files.{first-refused, second-refused, both-read}
 use borrow.Author.Needs.{needs}
 use Rattle.stricter.proofs.stricter.Statement.{statement}
@@ -20,15 +20,7 @@ returns c =
     let start = c .before .before .before .before .before .before .before .before .before .before .before .before in
     let a = start .args in
     let k = c .before .row .given .0 .0 in
-    let lent : Slices = record {
-      codes-a = a .acodes .now;
-      transitions-a = a .atransitions .now;
-      codes-b = a .bcodes .now;
-      transitions-b = a .btransitions .now;
-      word = a .word .now;
-      scratch =
-          a .scratch .now;
-    } in
+    let lent : Slices = slicesOf (a .acodes .now) (a .atransitions .now) (a .bcodes .now) (a .btransitions .now) (a .word .now) (a .scratch .now) in
     first-refused (a .a .now) (a .b .now) lent k (turned-away (a .a .now) k (sym (c .before .before .before .read-rule .ensures) ∙ c .before .row .given .1))
 
 returns-2 : tie.Need-returns-2
@@ -37,15 +29,7 @@ returns-2 c =
     let start = at-read-rule .before .before .before .before .before .before .before .before .before in
     let a = start .args in
     let k = c .before .other .given .0 .0 in
-    let lent : Slices = record {
-      codes-a = a .acodes .now;
-      transitions-a = a .atransitions .now;
-      codes-b = a .bcodes .now;
-      transitions-b = a .btransitions .now;
-      word = a .word .now;
-      scratch =
-          a .scratch .now;
-    } in
+    let lent : Slices = slicesOf (a .acodes .now) (a .atransitions .now) (a .bcodes .now) (a .btransitions .now) (a .word .now) (a .scratch .now) in
     second-refused (a .a .now) (a .b .now) lent (served (a .a .now) (c .before .before .before .before .before .l .given .0 .0)
     (sym (at-read-rule .read-rule .ensures) ∙ c .before .before .before .before .before .l .given .1) .row) k
     (turned-away (a .b .now) k (sym (c .before .before .before .read-rule2 .ensures) ∙ c .before .other .given .1))
@@ -60,26 +44,9 @@ returns-3 c =
     let start = at-read-rule .before .before .before .before .before .before .before .before .before in
     let a = start .args in
     let s = at-compare-files .compare-files in
-    let lent : Slices = record {
-      codes-a = a .acodes .now;
-      transitions-a = a .atransitions .now;
-      codes-b = a .bcodes .now;
-      transitions-b = a .btransitions .now;
-      word = a .word .now;
-      scratch =
-          a .scratch .now;
-    } in
-    let left : Slices = record {
-      codes-a = s .last .1 .1 .1 .1 .0;
-      transitions-a = s .last .1 .1 .1 .1 .1 .0;
-      codes-b = s .last .1 .1 .1 .1 .1 .1 .0;
-      transitions-b =
-          s .last .1 .1 .1 .1 .1 .1 .1 .0;
-      word = s .last .1 .1 .1 .1 .1 .1 .1 .1 .0;
-      scratch = s .last .1 .1 .1 .1 .1 .1 .1 .1 .1 .0;
-    } in
+    let lent : Slices = slicesOf (a .acodes .now) (a .atransitions .now) (a .bcodes .now) (a .btransitions .now) (a .word .now) (a .scratch .now) in
     both-read (a .a .now) (a .b .now) lent (served (a .a .now) (at-l .l .given .0 .0) (sym (at-read-rule .read-rule .ensures) ∙ at-l .l .given .1) .row)
-    (served (a .b .now) (at-m .m .given .0 .0) (sym (at-read-rule2 .read-rule2 .ensures) ∙ at-m .m .given .1) .row) (s .result) left (s .ensures)
+    (served (a .b .now) (at-m .m .given .0 .0) (sym (at-read-rule2 .read-rule2 .ensures) ∙ at-m .m .given .1) .row) (s .result) _ (s .ensures)
 
 pub stricter-spec : {M : Type 1} → statement M
 stricter-spec =
