@@ -1,14 +1,14 @@
 // Steps back over every letter from every core of the rule on standard input, again and again, so that a driver can time it.
 use build_closure_spec::Shape;
+use file_read::Layout;
 use file_read::Read;
 use libc::STDIN_FILENO;
 use libc::STDOUT_FILENO;
-use rule_entries::Head;
 use std::num::wrapping_add_u64;
 ghost use mathlib.Core.Path.{_≡_};
 ghost use Rattle.theory.specs.Rule.{Rule};
-ghost use Rattle.theory.specs.Passing.{Passing};
-ghost use Rattle.rule_entries.specs.Entries.{ruleOf};
+ghost use Rattle.file_read.specs.Read.{readOf};
+ghost use Rattle.file_read.specs.declared.Read.the-variants.{Accepted};
 ghost use Rattle.build_cores.specs.Vectors.{Within};
 ghost use Rattle.build_cores.specs.Used.{capsOf};
 ghost use Rattle.build_closure_spec.specs.Keys.{Cored};
@@ -114,22 +114,14 @@ fn rounds(shape: Shape, opens: &[u8; 4096], parts: &[u8; 8]) -> Tally
     tally
 }
 
-// The tally of a rule that passes the checks, from the tables that the build makes of it.
-fn rule_rounds(h: Head, counts: &[u8], clauses: &[u8]) -> Tally
-    requires { ⌜ Passing (ruleOf h (now counts) (now clauses)) ⌝ }
+// The tally of an accepted file's rule, from the tables that the build makes of it.
+fn rule_rounds(file: &[u8], l: Layout) -> Tally
+    requires { ⌜ readOf (now file) ≡ Accepted l ⌝ }
 {
-    let split = rule_components::split(h, counts, clauses);
-    let parts = split.masks;
-    let components = split.count;
-    let opens = build_opens::open_table(h, counts, clauses);
-    let shape = Shape {
-        s: h.s,
-        components,
-        accepting: h.accepting as u8,
-        initial: h.initial,
-        holds: true,
-    };
-    rounds(shape, &opens, &parts)
+    let p = build_prepare::prepare(file, l, true);
+    let opens = p.opens;
+    let parts = p.parts;
+    rounds(p.shape, &opens, &parts)
 }
 
 // Prints a name and a number.
@@ -145,11 +137,7 @@ fn run(file: &[u8]) {
         Read::Refused(row) => say(b"refused ", row as u64),
         Read::Accepted(l) => {
             let h = l.head;
-            let tally = rule_rounds(
-                h,
-                file_read::counts_of(file, l),
-                file_read::clauses_of(file, l),
-            );
+            let tally = rule_rounds(file, l);
             say(b"cores ", tally.cores);
             say(b"letters ", h.s as u64);
             say(b"steps ", tally.steps);

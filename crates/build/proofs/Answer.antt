@@ -16,45 +16,41 @@ use Rattle.theory.specs.Passing.{Passing}
 use Rattle.theory.specs.Table.{ListsFrom}
 use Rattle.theory.specs.TableComputed.{macrostatesFrom, transitionsFrom}
 use Rattle.theory_laws.proofs.Tables.{lists-from}
-use Rattle.rule_entries.specs.Entries.{ruleOf}
 use Rattle.file_read.specs.declared.Layout.{Layout}
 use Rattle.file_read.specs.declared.Read.the-variants.{Accepted}
-use Rattle.file_spec.specs.File.{countsOf, clausesOf, ruleIn}
+use Rattle.file_spec.specs.File.{ruleIn}
 use Rattle.file_read.specs.Read.{readOf}
-use Rattle.file_read.proofs.Answer.{served, lent-rule}
+use Rattle.file_read.proofs.Answer.{served}
 use Rattle.file_spec.specs.Rows.{fileRow, fileRows, layoutRows, trailerRows, bodyRows, nameRows, prefaceRows}
 use Rattle.file_spec.specs.RuleRows.{numberRows, listRows, clauseRows, componentRows, formedRows}
 use Rattle.file_read.proofs.FileRows.{file-numbered, accepted-passing}
 use Rattle.build.specs.declared.Counts.{Counts}
 use Rattle.build.specs.declared.Built.{Built}
 use Rattle.build.specs.declared.Built.the-variants.{Table, Refused}
-use Rattle.build.specs.Built.{roomRow, builtBy, refusesRoom, sliceAfter, fileCodes, fileMoves, rowFrom, builtFrom, codesAfterFrom, transitionsAfterFrom}
+use Rattle.build.specs.Built.{roomRow, builtBy, refusesRoom, roomAfter, sliceAfter, fileCodes, fileMoves, rowFrom, builtFrom, codesAfterFrom, transitionsAfterFrom}
 use Rattle.build.specs.Filling.{Filled, Made, FileFilled}
 use Rattle.build.specs.Entry.{FileBuilt}
 use Rattle.build.proofs.ByLists.{made-by-lists}
-use Rattle.build.proofs.RoomRows.{room-few}
+use Rattle.build.proofs.RoomRows.{room-few, room-kept}
 
 -- ---- the rows of a file do not refuse for room
 
-unfoldable noRoomRows : List Check → Bool
-noRoomRows [] = true
-noRoomRows (c ∷ cs) = not (refusesRoom (c .number)) && noRoomRows cs
+-- no row has a number of the kind
+unfoldable pub noneOf : (ℕ → Bool) → List Check → Bool
+noneOf kind [] = true
+noneOf kind (c ∷ cs) = not (kind (c .number)) && noneOf kind cs
 
-first-other : (cs : List Check) → noRoomRows cs ≡ true → refusesRoom (firstRow cs) ≡ false
-unfolding noRoomRows firstRow
-first-other [] e = refl
-first-other (c ∷ cs) e =
+pub first-other : (kind : ℕ → Bool) → kind 0 ≡ false → (cs : List Check) → noneOf kind cs ≡ true → kind (firstRow cs) ≡ false
+unfolding noneOf firstRow
+first-other kind z [] e = z
+first-other kind z (c ∷ cs) e =
     bif (c .applies)
-    (λ t. rw (row-yes c cs t) (not-t (refusesRoom (c .number)) (and-l (not (refusesRoom (c .number))) (noRoomRows cs) e)))
-    (λ t. rw (row-no c cs t) (first-other cs (and-r (not (refusesRoom (c .number))) (noRoomRows cs) e)))
-
-file-other : (f : List ℕ) → noRoomRows (fileRows f) ≡ true
-unfolding noRoomRows fileRows bodyRows prefaceRows nameRows layoutRows trailerRows numberRows listRows formedRows clauseRows componentRows
-file-other f = refl
+    (λ t. rw (row-yes c cs t) (not-t (kind (c .number)) (and-l (not (kind (c .number))) (noneOf kind cs) e)))
+    (λ t. rw (row-no c cs t) (first-other kind z cs (and-r (not (kind (c .number))) (noneOf kind cs) e)))
 
 pub file-row-other : (f : List ℕ) → refusesRoom (fileRow f) ≡ false
-unfolding fileRow
-file-row-other f = first-other (fileRows f) (file-other f)
+unfolding fileRow noneOf fileRows bodyRows prefaceRows nameRows layoutRows trailerRows numberRows listRows formedRows clauseRows componentRows
+file-row-other f = first-other (λ k. refusesRoom k) refl (fileRows f) refl
 
 -- ---- the answer and the slices
 
@@ -63,11 +59,6 @@ unfolding builtBy
 refused-by zero codes moves n = absurd (n refl)
 refused-by (suc k) codes moves n = refl
 
-kept-by : (k : ℕ) (list lent : List ℕ) → (k ≡ 0 → ⊥) → refusesRoom k ≡ false → lent ≡ sliceAfter k list lent
-unfolding sliceAfter
-kept-by zero list lent n l = absurd (n refl)
-kept-by (suc k) list lent n l = rw l
-
 -- a table is answered only where no row refuses
 pub table-by : (k : ℕ) (codes moves : List ℕ) (n : Counts) → Table n ≡ builtBy k codes moves → (k ≡ 0) × (n .macrostates ≡ length codes) × (n .transitions ≡ length moves)
 unfolding builtBy
@@ -75,7 +66,7 @@ table-by zero codes moves n e = (refl, cc, cc)
 table-by (suc k) codes moves n e = let z : _≡_ {A = ℕ} 0 1 = cc in absurd (omega arith)
 
 front : (row : ℕ) (list lent : List ℕ) → row ≡ 0 → take (length list) (sliceAfter row list lent) ≡ list
-unfolding sliceAfter
+unfolding roomAfter
 front row list lent e = rw e (take-append-seam list (replicate (length lent - length list) 0))
 
 module _ (start : Rule → Set) (f xs zs : List ℕ) where
@@ -97,8 +88,8 @@ module _ (start : Rule → Set) (f xs zs : List ℕ) where
       let l : refusesRoom k ≡ false = rw (e .0) at (file-row-other f) in
       record {
         answer = rw (← same) (refused-by k _ _ n);
-        codes-after = rw (← same) (kept-by k _ xs n l);
-        moves-after = rw (← same) (kept-by k _ zs n l);
+        codes-after = rw (← same) (room-kept (λ j. refusesRoom j) k _ xs n l);
+        moves-after = rw (← same) (room-kept (λ j. refusesRoom j) k _ zs n l);
       }
 
   -- a file that no row of the rule refuses
@@ -112,17 +103,10 @@ module _ (start : Rule → Set) (f xs zs : List ℕ) where
 
 -- ---- the rule of an accepted file
 
-module _ (f : List ℕ) (l : Layout) (p : readOf f ≡ Accepted l) (counts clauses : List ℕ) (e : counts ≡ countsOf f) (d : clauses ≡ clausesOf f)
-    (start : Rule → Set) (xs zs : List ℕ) (b : Built) (ys ws : List ℕ) where
-  abbrev lent : Rule
-  lent = ruleOf (l .head) counts clauses
-
-  -- by rows 17 and 18
-  pub made-served : Made (macrostatesFrom lent (start lent)) (transitionsFrom lent (start lent)) xs zs b ys ws → Made (fileCodes start f) (fileMoves start f) xs zs b ys ws
-  made-served M = rw (lent-rule f l p counts clauses e d) at M
-
-  pub filled-served : Made (macrostatesFrom lent (start lent)) (transitionsFrom lent (start lent)) xs zs b ys ws → FileFilled start f xs zs b ys ws
-  filled-served M = subst (λ (k : ℕ). Filled k (fileCodes start f) (fileMoves start f) xs zs b ys ws) (sym (build-row start f xs zs (served f l p .row))) (made-served M)
+pub filled-served : (start : Rule → Set) (f : List ℕ) (l : Layout) → readOf f ≡ Accepted l → (xs zs : List ℕ) (b : Built) (ys ws : List ℕ)
+    → Made (fileCodes start f) (fileMoves start f) xs zs b ys ws → FileFilled start f xs zs b ys ws
+filled-served start f l p xs zs b ys ws M =
+    subst (λ (k : ℕ). Filled k (fileCodes start f) (fileMoves start f) xs zs b ys ws) (sym (build-row start f xs zs (served f l p .row))) M
 
 -- ---- the whole contract
 

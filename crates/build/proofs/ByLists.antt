@@ -16,7 +16,7 @@ use Rattle.theory_laws.proofs.Lists.{codes-once, moves-once, lists-exist}
 use Rattle.theory_laws.proofs.Tables.{lists-from}
 use Rattle.build_lists.proofs.Room.{room-cap}
 use Rattle.build.specs.declared.Built.{Built}
-use Rattle.build.specs.Built.{roomRow, builtBy, sliceAfter}
+use Rattle.build.specs.Built.{roomRow, builtBy, roomAfter}
 use Rattle.build.specs.Filling.{Filled, Made}
 use Rattle.build.proofs.RoomRows.{row-codes, room-few}
 
@@ -38,7 +38,7 @@ module _ (r : Rule) (P : Passing r) {start : Set} (codes moves : List ℕ) (L : 
 -- the lists matter only where no row refuses
 pub filled-same : (row : ℕ) (codes moves cs ts xs zs : List ℕ) (b : Built) (ys ws : List ℕ) → (row ≡ 0 → (codes ≡ cs) × (moves ≡ ts))
     → Filled row cs ts xs zs b ys ws → Filled row codes moves xs zs b ys ws
-unfolding builtBy sliceAfter
+unfolding builtBy roomAfter
 filled-same zero codes moves cs ts xs zs b ys ws same F = let e = same refl in rw (e .0, e .1) F
 filled-same (suc k) codes moves cs ts xs zs b ys ws same F = record { answer = F .answer; codes-after = F .codes-after; moves-after = F .moves-after }
 

@@ -11,7 +11,7 @@ use Rattle.theory.specs.TableComputed.{macrostatesFrom}
 use Rattle.build_closure_spec.specs.Keys.{startOf}
 use Rattle.build.specs.declared.Built.{Built}
 use Rattle.build.specs.declared.Built.the-variants.{Table, Refused}
-use Rattle.build.specs.Built.{roomRow, builtBy, sliceAfter}
+use Rattle.build.specs.Built.{roomRow, builtBy, roomAfter, sliceAfter}
 use Rattle.build_lists.specs.Lists.{Padded, Codes}
 use Rattle.build.specs.Filling.{Made}
 use Rattle.build.proofs.RoomRows.{row-codes, row-moves, row-fits}
@@ -26,7 +26,7 @@ module _ (codes moves xs zs : List ℕ) where
   -- 17
   pub made-17 : (mid ys ws : List ℕ) (m : ℕ) (full : Bool) → full ≡ true → Padded 65536 codes xs mid m full → ys ≡ replicate (length mid) 0 → ws ≡ replicate (length zs) 0 →
       Made codes moves xs zs (Refused 17) ys ws
-  unfolding builtBy sliceAfter
+  unfolding builtBy roomAfter
   made-17 mid ys ws m full t P y w =
       let row : roomRow codes moves (length xs) (length zs) ≡ 17 = row-codes codes moves (length xs) (length zs) (P .crowded t) in
       by-row 17 row (Refused 17) ys ws refl (y ∙ ap (λ (k : ℕ). replicate k 0) (P .long)) w
@@ -34,7 +34,7 @@ module _ (codes moves xs zs : List ℕ) where
   -- 18
   pub made-18 : (mid mid′ ys ws : List ℕ) (m m′ : ℕ) (full full′ : Bool) → full ≡ false → full′ ≡ true → Padded 65536 codes xs mid m full → Padded 1048576 moves zs mid′ m′ full′
       → ys ≡ replicate (length mid) 0 → ws ≡ replicate (length mid′) 0 → Made codes moves xs zs (Refused 18) ys ws
-  unfolding builtBy sliceAfter
+  unfolding builtBy roomAfter
   made-18 mid mid′ ys ws m m′ full full′ t t′ P P′ y w =
       let row : roomRow codes moves (length xs) (length zs) ≡ 18 = row-moves codes moves (length xs) (length zs) (P .fits t) (P′ .crowded t′) in
       by-row 18 row (Refused 18) ys ws refl (y ∙ ap (λ (k : ℕ). replicate k 0) (P .long)) (w ∙ ap (λ (k : ℕ). replicate k 0) (P′ .long))
@@ -42,7 +42,7 @@ module _ (codes moves xs zs : List ℕ) where
   -- both have room: a and b are the counts that are answered
   pub made-table : (ys ws : List ℕ) (m m′ : ℕ) (full full′ : Bool) → full ≡ false → full′ ≡ false → Padded 65536 codes xs ys m full → Padded 1048576 moves zs ws m′ full′
       → {a b : ℕ} → a ≡ m → b ≡ m′ → Made codes moves xs zs (Table (record { macrostates = a; transitions = b })) ys ws
-  unfolding builtBy sliceAfter
+  unfolding builtBy roomAfter
   made-table ys ws m m′ full full′ t t′ P P′ e e′ =
       let row : roomRow codes moves (length xs) (length zs) ≡ 0 = row-fits codes moves (length xs) (length zs) (P .fits t) (P′ .fits t′) in
       by-row 0 row _ ys ws (ap₂ (λ (a b : ℕ). Table (record { macrostates = a; transitions = b })) (e ∙ P .count t) (e′ ∙ P′ .count t′)) (P .written t) (P′ .written t′)

@@ -8,7 +8,7 @@ use Rattle.theory.specs.TableComputed.{macrostates, transitions}
 use Rattle.file_spec.specs.File.{ruleIn}
 use Rattle.file_spec.specs.Rows.{prefaceRow, fileRow, oldRows}
 use Rattle.file_read.proofs.Prefaces.{answer-after, old-answer}
-use Rattle.build.specs.Built.{roomRows, builtBy, sliceAfter, rowFrom, builtFrom, codesAfterFrom, transitionsAfterFrom, builtOf, codesAfter, transitionsAfter}
+use Rattle.build.specs.Built.{roomRows, builtBy, roomAfter, sliceAfter, rowFrom, builtFrom, codesAfterFrom, transitionsAfterFrom, builtOf, codesAfter, transitionsAfter}
 
 module _ (p f : List ℕ) (n₁ : fileRow f ≡ 1 → ⊥) (n₇ : fileRow f ≡ 7 → ⊥) (u : prefaceRow f ≡ 0) (v : prefaceRow (p ++ f) ≡ 0) where
   pub built-after : (codesLen movesLen : ℕ) → builtOf (p ++ f) codesLen movesLen ≡ builtOf f codesLen movesLen
@@ -16,11 +16,11 @@ module _ (p f : List ℕ) (n₁ : fileRow f ≡ 1 → ⊥) (n₇ : fileRow f ≡
   built-after codesLen movesLen = answer-after (λ r. roomRows (macrostates r) (transitions r) codesLen movesLen) (λ k r. builtBy k (macrostates r) (transitions r)) (λ k r t. refl) p f n₁ n₇ u v
 
   pub codes-after : (xs : List ℕ) (movesLen : ℕ) → codesAfter (p ++ f) xs movesLen ≡ codesAfter f xs movesLen
-  unfolding codesAfterFrom rowFrom sliceAfter
+  unfolding codesAfterFrom rowFrom roomAfter
   codes-after xs movesLen = answer-after (λ r. roomRows (macrostates r) (transitions r) (length xs) movesLen) (λ k r. sliceAfter k (macrostates r) xs) (λ k r t. refl) p f n₁ n₇ u v
 
   pub transitions-after : (codesLen : ℕ) (zs : List ℕ) → transitionsAfter (p ++ f) codesLen zs ≡ transitionsAfter f codesLen zs
-  unfolding transitionsAfterFrom rowFrom sliceAfter
+  unfolding transitionsAfterFrom rowFrom roomAfter
   transitions-after codesLen zs = answer-after (λ r. roomRows (macrostates r) (transitions r) codesLen (length zs)) (λ k r. sliceAfter k (transitions r) zs) (λ k r t. refl) p f n₁ n₇ u v
 
 -- 02: "On a file that the new readers accept, both must reach equal verdicts."

@@ -16,7 +16,7 @@ use Rattle.file_spec.specs.RuleRows.{someNested}
 use Rattle.file_read.proofs.Layouts.{layout-accepted}
 use Rattle.build.specs.declared.Built.the-variants.{Table}
 use Rattle.build_lists.specs.Room.{codesRoom, transitionsRoom}
-use Rattle.build.specs.Built.{builtBy, sliceAfter, builtFrom, codesAfterFrom, transitionsAfterFrom, buildRow, builtOf, codesAfter, transitionsAfter}
+use Rattle.build.specs.Built.{builtBy, roomAfter, sliceAfter, builtFrom, codesAfterFrom, transitionsAfterFrom, buildRow, builtOf, codesAfter, transitionsAfter}
 use Rattle.build.proofs.RoomRows.{row-fits}
 use Rattle.build.proofs.Answer.{build-row}
 
@@ -27,11 +27,11 @@ module _ (row : ℕ) (t r : Rule) (none : row ≡ 0) (same : t ≡ r) where
   counted = rw (none, same)
 
   codes-there : (xs : List ℕ) → sliceAfter row (macrostates t) xs ≡ macrostates r ++ replicate (length xs - length (macrostates r)) 0
-  unfolding sliceAfter
+  unfolding roomAfter
   codes-there xs = rw (none, same)
 
   moves-there : (zs : List ℕ) → sliceAfter row (transitions t) zs ≡ transitions r ++ replicate (length zs - length (transitions r)) 0
-  unfolding sliceAfter
+  unfolding roomAfter
   moves-there zs = rw (none, same)
 
 module _ (r : Rule) (P : Passing r) (apart : someNested r ≡ false) (p : List ℕ) (named : firstRow (prefaceRows (r .s) p) ≡ 0) (xs zs : List ℕ)

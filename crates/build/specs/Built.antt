@@ -37,12 +37,15 @@ builtBy (suc k) codes moves = Refused (suc k)
 abbrev pub refusesRoom : ℕ → Bool
 refusesRoom k = eqb k 17 || eqb k 18
 
--- by the first row that refuses: what a lent slice holds afterwards, the list being what is to be written there.
--- None: the list at its start, "unused elements become 0". "1 to 16 change no lent slice, 17 and 18 set both room slices to zero throughout.";
--- 02: "refusals from 19 on change no lent slice"
-unfoldable pub sliceAfter : ℕ → List ℕ → List ℕ → List ℕ
-sliceAfter zero list lent = list ++ replicate (length lent - length list) 0
-sliceAfter (suc k) list lent = cond (refusesRoom (suc k)) (replicate (length lent) 0) lent
+-- by the first row that refuses, where some rows zero a lent slice: what it holds afterwards, the list being what is to be written there.
+-- None: the list at its start, "unused elements become 0"
+unfoldable pub roomAfter : (ℕ → Bool) → ℕ → List ℕ → List ℕ → List ℕ
+roomAfter zeroes zero list lent = list ++ replicate (length lent - length list) 0
+roomAfter zeroes (suc k) list lent = cond (zeroes (suc k)) (replicate (length lent) 0) lent
+
+-- of the build: "1 to 16 change no lent slice, 17 and 18 set both room slices to zero throughout."; 02: "refusals from 19 on change no lent slice"
+abbrev pub sliceAfter : ℕ → List ℕ → List ℕ → List ℕ
+sliceAfter = roomAfter refusesRoom
 
 -- ---- of a file: the table of its rule, begun by a start condition
 

@@ -2,17 +2,17 @@
 use build_closure_spec::Shape;
 use build_lists::list_codes;
 use build_lists::list_transitions;
+use file_read::Layout;
 use file_read::Read;
-use rule_entries::Head;
 ghost use mathlib.Core.Path.{_≡_};
 ghost use mathlib.Core.Bool.{true};
-ghost use lib.ListN.{length, take};
 ghost use Rattle.theory.specs.Rule.{Rule};
-ghost use Rattle.theory.specs.Passing.{Passing};
 ghost use Rattle.theory.specs.TableComputed.{macrostatesFrom, transitionsFrom};
-ghost use Rattle.rule_entries.specs.Entries.{ruleOf};
+ghost use Rattle.file_read.specs.Read.{readOf};
+ghost use Rattle.file_read.specs.declared.Read.the-variants.{Accepted};
 ghost use Rattle.build_closure_spec.specs.Keys.{startOf};
 ghost use Rattle.build_closure_spec.specs.Tables.{RuleTables};
+ghost use Rattle.build.specs.Built.{fileCodes, fileMoves};
 ghost use Rattle.build.specs.Entry.{TableBuilt};
 ghost use Rattle.build.specs.Filling.{Made, FileFilled};
 
@@ -63,59 +63,36 @@ fn build_table(
     })
 }
 
-// Builds the table of a rule that passes the checks. A run begins where the set holds the initial state, or, if `holds` is false, where
-// it lacks it. 17 or 18 if a slice has too little room; both are zero throughout then.
-pub fn build_rule(
-    h: Head,
-    counts: &[u8],
-    clauses: &[u8],
-    holds: bool,
-    codes: &mut [u64],
-    out: &mut [u64],
-) -> Built
-    requires { ⌜ Passing (ruleOf h (now counts) (now clauses)) ⌝ }
-    ensures { λ b. ⌜ Made
-        (macrostatesFrom (ruleOf h (now (counts .entry)) (now (clauses .entry)))
-        (startOf (ruleOf h (now (counts .entry)) (now (clauses .entry))) holds))
-        (transitionsFrom (ruleOf h (now (counts .entry)) (now (clauses .entry)))
-        (startOf (ruleOf h (now (counts .entry)) (now (clauses .entry))) holds)) (now (codes .entry)) (now (out .entry)) b
-        (now (codes .exit)) (now (out .exit)) ⌝ }
-{
-    let split = rule_components::split(h, counts, clauses);
-    let parts = split.masks;
-    let components = split.count;
-    let opens = build_opens::open_table(h, counts, clauses);
-    let shape = Shape {
-        s: h.s,
-        components,
-        accepting: h.accepting as u8,
-        initial: h.initial,
-        holds,
-    };
-    build_table(shape, &opens, &parts, codes, out)
-}
-
 // ---- files
 
-// Builds the table of a file's rule, as `build_rule` does. If a row refuses, it answers the number of the first: a rule's row leaves the
-// slices as they are.
+// Builds the table of the rule of an accepted file. A run begins where the set holds the initial state, or, if `holds` is false, where it
+// lacks it. 17 or 18 if a slice has too little room; both are zero throughout then.
+pub fn build_accepted(
+    file: &[u8],
+    l: Layout,
+    holds: bool,
+    codes: &mut [u64],
+    transitions: &mut [u64],
+) -> Built
+    requires { ⌜ readOf (now file) ≡ Accepted l ⌝ }
+    ensures { λ b. ⌜ Made (fileCodes (λ r. startOf r holds) (now (file .entry))) (fileMoves (λ r. startOf r holds) (now (file .entry)))
+        (now (codes .entry)) (now (transitions .entry)) b (now (codes .exit)) (now (transitions .exit)) ⌝ }
+{
+    let p = build_prepare::prepare(file, l, holds);
+    let opens = p.opens;
+    let parts = p.parts;
+    build_table(p.shape, &opens, &parts, codes, transitions)
+}
+
+// Builds the table of a file's rule, as `build_accepted` does. If a row refuses, it answers the number of the first: a rule's row leaves
+// the slices as they are.
 pub fn build_file(file: &[u8], holds: bool, codes: &mut [u64], transitions: &mut [u64]) -> Built
     ensures { λ b. ⌜ FileFilled (λ r. startOf r holds) (now (file .entry)) (now (codes .entry)) (now (transitions .entry)) b
         (now (codes .exit)) (now (transitions .exit)) ⌝ }
 {
     match file_read::read_rule(file) {
         Read::Refused(row) => Built::Refused(row),
-        Read::Accepted(l) => {
-            let h = l.head;
-            build_rule(
-                h,
-                file_read::counts_of(file, l),
-                file_read::clauses_of(file, l),
-                holds,
-                codes,
-                transitions,
-            )
-        }
+        Read::Accepted(l) => build_accepted(file, l, holds, codes, transitions),
     }
 }
 

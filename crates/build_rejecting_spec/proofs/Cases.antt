@@ -21,7 +21,7 @@ use Rattle.file_spec.specs.Rows.{trailerRows, layoutRows, bodyRows, nameRows, p
 use Rattle.file_spec.specs.RuleRows.{numberRows, listRows, nested, someNested, clauseRows, componentRows, formedRows}
 use Rattle.file_spec.specs.Names.{hasNames, namesBefore, repeatsName}
 use Rattle.build_lists.specs.Room.{roomOf}
-use Rattle.build.specs.Built.{roomRows, builtBy, sliceAfter, rowFrom, builtFrom, codesAfterFrom, transitionsAfterFrom}
+use Rattle.build.specs.Built.{roomRows, builtBy, roomAfter, rowFrom, builtFrom, codesAfterFrom, transitionsAfterFrom}
 use Rattle.build.specs.declared.Built.the-variants.{Table, Refused}
 use Rattle.build_rejecting_spec.specs.Answers.{rejectingOf, rejectingCodesAfter, rejectingTransitionsAfter}
 
@@ -30,7 +30,7 @@ fileE = 0x01 ∷ 0x01 ∷ 0x00 ∷ 0x01 ∷ 0x02 ∷ 0x00 ∷ 0x01 ∷ 0x01 ∷ 
 
 -- what an evaluation unfolds
 unfoldable computed : ℕ
-unfolding rowFrom builtFrom codesAfterFrom transitionsAfterFrom sliceAfter builtBy roomRows roomOf fileRows bodyRows formedRows clauseRows someNested nested prefaceRows nameRows hasNames namesBefore
+unfolding rowFrom builtFrom codesAfterFrom transitionsAfterFrom roomAfter builtBy roomRows roomOf fileRows bodyRows formedRows clauseRows someNested nested prefaceRows nameRows hasNames namesBefore
     repeatsName layoutRows trailerRows numberRows listRows componentRows firstRow tagged clausesOf countsOf mixed isAccepting macrostatesFrom transitionsFrom transitionsOf codesFrom cores candidates
     digitals tabulate flat keep among anyOf insertAscending sorted reachedIn reached wellCoded pack fields mask num goes before onward begun automaton setIn rankIn componentIn classesIn every
     satisfies inside bit rankOf levelOf test settled rejectingSettled acceptingSettled mix isOpen taken some count first largest openOf nextComponent isCore component components isSmallest smallest

@@ -24,7 +24,7 @@ use Rattle.file_read.proofs.FileRows.{file-numbered, accepted-passing}
 use Rattle.build.specs.declared.Counts.{Counts}
 use Rattle.build.specs.declared.Built.{Built}
 use Rattle.build.specs.declared.Built.the-variants.{Table, Refused}
-use Rattle.build.specs.Built.{roomRow, builtBy, sliceAfter, rowFrom, builtFrom, codesAfterFrom, transitionsAfterFrom, buildRow, builtOf, codesAfter, transitionsAfter}
+use Rattle.build.specs.Built.{roomRow, builtBy, roomAfter, sliceAfter, rowFrom, builtFrom, codesAfterFrom, transitionsAfterFrom, buildRow, builtOf, codesAfter, transitionsAfter}
 use Rattle.build.specs.Filling.{Filled}
 use Rattle.build.proofs.Answer.{table-by, build-row}
 use Rattle.build.proofs.ByLists.{codes-same, moves-same, row-same, filled-same}
@@ -48,7 +48,7 @@ refused-same zero a b c d k e = let z : _≡_ {A = ℕ} 0 1 = cc in absurd (omeg
 refused-same (suc n) a b c d k e = e
 
 slice-same : (row : ℕ) (a b list other lent : List ℕ) (k : ℕ) → Refused k ≡ builtBy row a b → sliceAfter row list lent ≡ sliceAfter row other lent
-unfolding builtBy sliceAfter
+unfolding builtBy roomAfter
 slice-same zero a b list other lent k e = let z : _≡_ {A = ℕ} 0 1 = cc in absurd (omega arith)
 slice-same (suc n) a b list other lent k e = refl
 
@@ -57,7 +57,7 @@ unfolding builtBy
 by-none row codes moves n e a b = rw e (ap₂ (λ (x y : ℕ). Table (record { macrostates = x; transitions = y })) a b)
 
 slice-none : (row : ℕ) (list lent : List ℕ) → row ≡ 0 → sliceAfter row list lent ≡ padded list (length lent)
-unfolding sliceAfter
+unfolding roomAfter
 slice-none row list lent e = rw e refl
 
 -- ---- a list in the place of another one, in front of zeros

@@ -13,8 +13,9 @@ use Rattle.file_spec.specs.Rows.{trailerRows, layoutRows, bodyRows, nameRows, p
 use Rattle.file_spec.specs.RuleRows.{numberRows, listRows, clauseRows, componentRows, formedRows}
 use Rattle.file_read.proofs.FileRows.{file-numbered, old-numbered, old-accepts}
 use Rattle.file_read.proofs.Prefaces.{preface-no-effect, accepted-after, holds-after}
+use Rattle.build.specs.Built.{roomAfter}
 use Rattle.stricter_entry_spec.specs.declared.Comparison.{Comparison}
-use Rattle.stricter_entry_spec.specs.Rows.{Slices, tablesOf, rulesRows, stricterRow, roomAfter, scratchAfter}
+use Rattle.stricter_entry_spec.specs.Rows.{Slices, tablesOf, rulesRows, stricterRow, scratchAfter}
 use Rattle.stricter_entry_spec.specs.Compared.{ComparedBy}
 use Rattle.file_prefaces.proofs.Verdicts.{Before, both-alike}
 

@@ -15,7 +15,7 @@ use Rattle.table_lent.specs.Lent.{Lent}
 use Rattle.trim_spec.specs.Trimmed.{trimmedCodes, trimmedTransitions}
 use Rattle.rejecting_spec.specs.RejectingComputed.{rejectingMacrostates, rejectingTransitions}
 use Rattle.build.specs.declared.Built.{Built}
-use Rattle.build.specs.Built.{roomRows, builtBy, sliceAfter, rowFrom, builtFrom, codesAfterFrom, transitionsAfterFrom}
+use Rattle.build.specs.Built.{roomRows, builtBy, roomAfter, sliceAfter, rowFrom, builtFrom, codesAfterFrom, transitionsAfterFrom}
 use Rattle.build_trimmed_spec.specs.Answers.{trimmedOf, trimmedCodesAfter, trimmedTransitionsAfter}
 use Rattle.build_rejecting_spec.specs.Answers.{rejectingOf, rejectingCodesAfter, rejectingTransitionsAfter}
 use Rattle.hoa_write.specs.Written as hoa
@@ -27,7 +27,7 @@ module _ (xs zs : List ℕ) (b : Built) (ys ws : List ℕ) where
   BuiltBy k codes moves = (b ≡ builtBy k codes moves) × (ys ≡ sliceAfter k codes xs) × (ws ≡ sliceAfter k moves zs)
 
   built-alone : (k : ℕ) (codes moves others more : List ℕ) → BuiltBy (suc k) codes moves → BuiltBy (suc k) others more
-  unfolding builtBy sliceAfter
+  unfolding builtBy roomAfter
   built-alone k codes moves others more h = h
 
   -- ---- the trimmed build

@@ -1,7 +1,7 @@
 -- The listing by the answer of the build, and the lists that the rooms then hold.
-use mathlib.Core.Path.{_≡_, refl, _∙_, ap, ap₂}
+use mathlib.Core.Path.{_≡_, sym, _∙_, ap, ap₂}
 use mathlib.Core.List.{List, _++_}
-use Prim.Native.Nat.{ℕ, zero, suc, _-_, _≤_, _<_}
+use Prim.Native.Nat.{ℕ, _-_, _≤_, _<_}
 use native.Mathlib.Omega.{arith}
 use borrow.Author.Tests.{lt-ltb, le-ltb, ltb-false}
 use lib.Dec.{ltb}
@@ -16,19 +16,14 @@ use Rattle.file_read.proofs.FileRows.{file-numbered}
 use Rattle.build.specs.declared.Counts.{Counts}
 use Rattle.build.specs.declared.Built.the-variants.{Table, Refused}
 use Rattle.build_lists.specs.Room.{roomOf}
-use Rattle.build.specs.Built.{roomRows, builtBy, sliceAfter, rowFrom, builtFrom, codesAfterFrom, transitionsAfterFrom, buildRow, builtOf, codesAfter, transitionsAfter}
+use Rattle.build.specs.Built.{roomRows, roomAfter, sliceAfter, rowFrom, builtFrom, codesAfterFrom, transitionsAfterFrom, buildRow, builtOf, codesAfter, transitionsAfter}
+use Rattle.build.proofs.Answer.{table-by}
 use Rattle.listing_lines_spec.specs.Lines.{initialAt, refusedLine, longLine, tableText}
 use Rattle.listing_spec.specs.Computed.{answerText, listingOf}
 
--- a table: no row refuses, and the counts are those of the lists
-from-table : (k : ℕ) (codes moves : List ℕ) (n : Counts) → builtBy k codes moves ≡ Table n → (k ≡ 0) × (n .macrostates ≡ length codes) × (n .transitions ≡ length moves)
-unfolding builtBy
-from-table zero codes moves n e = (refl, cc, cc)
-from-table (suc k) codes moves n e = let z : _≡_ {A = ℕ} 0 1 = cc in absurd (omega arith)
-
 -- a slice that holds a list at its start
 front : (row : ℕ) (list lent new : List ℕ) (m : ℕ) → row ≡ 0 → m ≡ length list → new ≡ sliceAfter row list lent → (m ≤ length new) × (take m new ≡ list)
-unfolding sliceAfter
+unfolding roomAfter
 front row list lent new m z e w =
     let is : new ≡ list ++ replicate (length lent - length list) 0 = w ∙ ap (λ (k : ℕ). sliceAfter k list lent) z in (
       omega (arith, ap length is, length-append list (replicate (length lent - length list) 0)),
@@ -68,7 +63,7 @@ module _ (f : List ℕ) where
 
       counted : (buildRow f 512 4096 ≡ 0) × (n .macrostates ≡ length (macrostates (ruleIn f))) × (n .transitions ≡ length (transitions (ruleIn f)))
       unfolding builtFrom
-      counted = from-table (buildRow f 512 4096) (macrostates (ruleIn f)) (transitions (ruleIn f)) n e
+      counted = table-by (buildRow f 512 4096) (macrostates (ruleIn f)) (transitions (ruleIn f)) n (sym e)
 
       pub accepted : fileRow f ≡ 0
       accepted = both-rows (counted .0) .0

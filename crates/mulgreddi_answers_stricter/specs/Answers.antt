@@ -1,12 +1,12 @@
 -- For each case of the answer, the eight numbers of the C interface.
 use Prim.Native.Nat.{ℕ}
-use Rattle.stricter_entry_spec.specs.declared.Sizes.{Sizes}
+use Rattle.stricter_entry_spec.specs.declared.BothCounts.{BothCounts}
 use Rattle.stricter_entry_spec.specs.declared.Comparison.{Comparison}
 use Rattle.stricter_entry_spec.specs.declared.Comparison.the-variants.{Yes, No, Refused}
 use Rattle.mulgreddi_answers_stricter.specs.declared.Numbers.{Numbers}
 
 -- a served call: the verdict, the lengths of lead-in and cycle, and the counts of both tables
-abbrev pub toldAs : ℕ → ℕ → ℕ → Sizes → Numbers
+abbrev pub toldAs : ℕ → ℕ → ℕ → BothCounts → Numbers
 toldAs stricter lead cycle sizes = record {
   refusal = 0;
   stricter = stricter;

@@ -1,6 +1,6 @@
 // The answer of the comparison of two rules as the eight numbers of the C interface.
+use stricter_entry_spec::BothCounts;
 use stricter_entry_spec::Comparison;
-use stricter_entry_spec::Sizes;
 ghost use mathlib.Core.Path.{_≡_};
 ghost use Rattle.mulgreddi_answers_stricter.specs.Answers.{toldAs, comparisonAnswer};
 
@@ -18,7 +18,7 @@ pub struct Numbers {
 }
 
 // The answer of a served call.
-fn told(stricter: u64, lead: usize, cycle: usize, sizes: Sizes) -> Numbers
+fn told(stricter: u64, lead: usize, cycle: usize, sizes: BothCounts) -> Numbers
     ensures { λ r. ⌜ r ≡ toldAs stricter lead cycle sizes ⌝ }
 {
     let a = sizes.a;

@@ -1,13 +1,10 @@
 -- The comparison on two files: the rows of the rules before those of the comparison.
-use mathlib.Core.Path.{_≡_, refl, sym, _∙_}
-use mathlib.Core.Bool.{Bool, true, false, not}
+use mathlib.Core.Path.{_≡_, sym, _∙_}
 use mathlib.Core.List.{List, _++_}
 use Prim.Native.Nat.{ℕ}
-use native.Mathlib.Omega.{arith}
-use lib.Dec.{eqb}
 use lib.ListN.{length}
-use Rattle.refusals.specs.Rows.{Check, firstRow, check}
-use Rattle.refusals.proofs.Rows.{numbered, first-left, first-right, first-parts}
+use Rattle.refusals.specs.Rows.{Check}
+use Rattle.refusals.proofs.Rows.{first-left, first-right, first-parts}
 use Rattle.theory.specs.Rule.{Rule}
 use Rattle.theory.specs.Table.{ListsReachable}
 use Rattle.theory.specs.TableComputed.{macrostates, transitions}
@@ -18,15 +15,15 @@ use Rattle.rejecting_laws.proofs.Demand.{lists-rejecting}
 use Rattle.file_spec.specs.File.{ruleIn}
 use Rattle.file_spec.specs.Rows.{fileRow, fileRows}
 use Rattle.file_read.proofs.FileRows.{file-numbered, accepted-passing}
-use Rattle.build.specs.Built.{roomRow, roomRows}
+use Rattle.build.specs.Built.{roomRow}
 use Rattle.build.proofs.RoomRows.{room-few}
 use Rattle.stricter_entry_spec.specs.declared.Comparison.{Comparison}
 use Rattle.stricter_entry_spec.specs.declared.Comparison.the-variants.{Refused}
-use Rattle.stricter_entry_spec.specs.Rows.{Slices, tablesOf, letterRows, tableRows, pairRows, rulesRows, rulesRow, stricterRow}
+use Rattle.stricter_entry_spec.specs.Rows.{Slices, tablesOf, rulesRows, rulesRow, stricterRow}
 use Rattle.stricter_entry_spec.specs.Compared.{Compared}
 use Rattle.stricter.specs.Steps.{rowOf, ByRow}
 use Rattle.stricter.proofs.Rooms.{by-row, refused-kept, file-keeps}
-use Rattle.stricter.proofs.Lists.{compared-by-lists}
+use Rattle.stricter.proofs.Lists.{both-rows, compared-by-lists}
 
 module _ (f g : List ℕ) (lent : Slices) where
   abbrev a : Rule
@@ -38,18 +35,6 @@ module _ (f g : List ℕ) (lent : Slices) where
   abbrev rest : List Check
   rest = rulesRows a b (tablesOf a b) lent
 
-  letters-numbered : numbered (letterRows a b) ≡ true
-  unfolding numbered letterRows
-  letters-numbered = refl
-
-  tables-numbered : numbered (roomRows (macrostates a) (transitions a) (length (lent .codes-a)) (length (lent .transitions-a))) ≡ true
-  unfolding numbered roomRows
-  tables-numbered = refl
-
-  both-numbered : numbered (tableRows (tablesOf a b) lent) ≡ true
-  unfolding numbered tableRows roomRows
-  both-numbered = refl
-
   -- what a row of 0 says of the rows
   record Passed : Type 0 where
     first : fileRow f ≡ 0
@@ -58,13 +43,11 @@ module _ (f g : List ℕ) (lent : Slices) where
     other : roomRow (rejectingMacrostates b) (rejectingTransitions b) (length (lent .codes-b)) (length (lent .transitions-b)) ≡ 0
 
   passed : stricterRow f g lent ≡ 0 → Passed
-  unfolding stricterRow rulesRows fileRow roomRow tableRows
+  unfolding stricterRow fileRow rulesRow
   passed e =
       let x = first-parts (fileRows f) (fileRows g ++ rest) (file-numbered f) e in
       let y = first-parts (fileRows g) rest (file-numbered g) (x .1) in
-      let z = first-parts (letterRows a b) (tableRows (tablesOf a b) lent ++ pairRows (tablesOf a b) lent) letters-numbered (y .1) in
-      let u = first-parts (tableRows (tablesOf a b) lent) (pairRows (tablesOf a b) lent) both-numbered (z .1) in
-      let v = first-parts (roomRows (macrostates a) (transitions a) (length (lent .codes-a)) (length (lent .transitions-a))) _ tables-numbered (u .0) in
+      let v = both-rows a b lent (y .1) in
       record { first = x .0; second = y .0; own = v .0; other = v .1 }
 
   lists-of-a : stricterRow f g lent ≡ 0 → ListsReachable a (macrostates a) (transitions a)
@@ -83,17 +66,15 @@ module _ (f g : List ℕ) (lent : Slices) where
   unfolding stricterRow fileRow
   first-refused k e =
       let n : k ≡ 0 → ⊥ = λ z. e .1 (e .0 ∙ z) in
-      turned-away k (λ z. e .1 (z .0)) (by-row a b k (stricterRow f g lent) lent (Refused k) lent (first-left (fileRows f) (fileRows g ++ rest) k n (sym (e .0)))
-      (refused-kept a b k lent n (rw (e .0) at (file-keeps f))))
+      turned-away k (λ z. e .1 (z .0)) (refused-kept (first-left (fileRows f) (fileRows g ++ rest) k n (sym (e .0))) n (rw (e .0) at (file-keeps f)))
 
   -- a row of B's
   pub second-refused : fileRow f ≡ 0 → (k : ℕ) → (fileRow g ≡ k) × (fileRow g ≡ 0 → ⊥) → Compared f g lent (Refused k) lent
   unfolding stricterRow fileRow
   second-refused z k e =
       let n : k ≡ 0 → ⊥ = λ y. e .1 (e .0 ∙ y) in
-      turned-away k (λ y. e .1 (y .1)) (by-row a b k (stricterRow f g lent) lent (Refused k) lent
-      (first-left (fileRows g) rest k n (sym (e .0)) ∙ sym (first-right (fileRows f) (fileRows g ++ rest) (file-numbered f) z))
-      (refused-kept a b k lent n (rw (e .0) at (file-keeps g))))
+      turned-away k (λ y. e .1 (y .1))
+      (refused-kept (first-left (fileRows g) rest k n (sym (e .0)) ∙ sym (first-right (fileRows f) (fileRows g ++ rest) (file-numbered f) z)) n (rw (e .0) at (file-keeps g)))
 
   row-is : fileRow f ≡ 0 → fileRow g ≡ 0 → rowOf a b lent ≡ stricterRow f g lent
   unfolding stricterRow fileRow rulesRow
@@ -102,7 +83,7 @@ module _ (f g : List ℕ) (lent : Slices) where
   -- none does
   pub both-read : fileRow f ≡ 0 → fileRow g ≡ 0 → (answer : Comparison) (left : Slices) → ByRow a b (rowOf a b lent) lent answer left → Compared f g lent answer left
   both-read z y answer left C = record {
-    by-row = by-row a b (rowOf a b lent) (stricterRow f g lent) lent answer left (row-is z y) C;
+    by-row = by-row (row-is z y) C;
     by-lists = λ _ _ tables L M. compared-by-lists a b (accepted-passing f z) (accepted-passing g y) tables L M lent answer left C;
     lists-a = lists-of-a;
     lists-b = lists-of-b;

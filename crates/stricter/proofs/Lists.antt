@@ -1,11 +1,10 @@
 -- Any lists of the macrostates and transitions of the two tables decide the answer and all slices: they are the computed ones, or a row refuses both alike.
-use mathlib.Core.Path.{_≡_, refl, sym, _∙_, ap, ap₂, subst}
+use mathlib.Core.Path.{_≡_, refl, sym, _∙_, ap₂, subst}
 use mathlib.Core.Logic.{by-cases}
-use mathlib.Core.Bool.{Bool, true, cond}
+use mathlib.Core.Bool.{true}
 use mathlib.Core.List.{List, _++_}
-use Prim.Native.Nat.{ℕ, zero, suc, _*_, _≤_, _<_}
-use native.Mathlib.Omega.{arith}
-use native.Mathlib.Decide.{decLt, ℕ-discrete}
+use Prim.Native.Nat.{ℕ, zero, suc, _*_}
+use native.Mathlib.Decide.{ℕ-discrete}
 use lib.ListN.{length}
 use Rattle.refusals.specs.Rows.{Check, firstRow}
 use Rattle.refusals.proofs.Rows.{numbered, first-left, first-right, first-parts}
@@ -15,14 +14,13 @@ use Rattle.theory.specs.Table.{ListsReachable}
 use Rattle.theory.specs.TableComputed.{macrostates, transitions}
 use Rattle.rejecting_spec.specs.Rejecting.{ListsRejecting}
 use Rattle.rejecting_spec.specs.RejectingComputed.{rejectingMacrostates, rejectingTransitions}
-use Rattle.build_lists.proofs.Room.{room-cap}
-use Rattle.build.specs.Built.{roomRow, roomRows}
-use Rattle.build.proofs.RoomRows.{row-codes, room-few}
-use Rattle.build.proofs.ByLists.{codes-same, moves-same}
-use Rattle.build_rejecting.proofs.ByLists as rejecting
+use Rattle.build.specs.Built.{roomRow, roomRows, roomAfter}
+use Rattle.build.proofs.RoomRows.{room-few}
+use Rattle.build.proofs.ByLists.{codes-same, moves-same, row-same}
 use Rattle.stricter_entry_spec.specs.declared.Comparison.{Comparison}
-use Rattle.stricter_entry_spec.specs.Rows.{Slices, Tables, tablesOf, pairs, letterRows, tableRows, pairRows, rulesRows, rulesRow, roomAfter, scratchAfter}
-use Rattle.stricter_entry_spec.specs.Compared.{Told, ComparedBy}
+use Rattle.stricter_entry_spec.specs.Rows.{Slices, Tables, tablesOf, pairs, letterRows, tableRows, pairRows, rulesRows, rulesRow, zeroesRooms}
+use Rattle.stricter_entry_spec.specs.Compared.{ComparedBy}
+use Rattle.stricter.proofs.Rooms.{numbered-room}
 
 -- ---- rows
 
@@ -32,18 +30,6 @@ append-same xs zs ys ws m n e f =
     (λ z. first-right xs ys m z ∙ f ∙ sym (first-right zs ws n (sym e ∙ z)))
     (λ z. sym (first-left xs ys (firstRow xs) z refl) ∙ first-left zs ws (firstRow xs) z e)
 
--- rows 17 and 18 by equal codes, where the transitions are equal unless there are more codes than any room
-room-same : (codes moves cs ts : List ℕ) (cl ml : ℕ) → codes ≡ cs → (length cs ≤ 65536 → moves ≡ ts) → roomRow codes moves cl ml ≡ roomRow cs ts cl ml
-room-same codes moves cs ts cl ml e f =
-    by-cases (decLt 65536 (length cs))
-    (λ big. let cap = room-cap 65536 cl in
-    row-codes codes moves cl ml (omega (arith, ap length e)) ∙ sym (row-codes cs ts cl ml (omega arith)))
-    (λ few. ap₂ (λ (x y : List ℕ). roomRow x y cl ml) e (f (omega arith)))
-
-rows-numbered : (codes moves : List ℕ) (cl ml : ℕ) → numbered (roomRows codes moves cl ml) ≡ true
-unfolding numbered roomRows
-rows-numbered codes moves cl ml = refl
-
 tables-numbered : (tables : Tables) (lent : Slices) → numbered (tableRows tables lent) ≡ true
 unfolding numbered tableRows roomRows
 tables-numbered tables lent = refl
@@ -52,9 +38,19 @@ letters-numbered : (a b : Rule) → numbered (letterRows a b) ≡ true
 unfolding numbered letterRows
 letters-numbered a b = refl
 
+-- where no row refuses, both tables have room
+pub both-rows : (a b : Rule) (lent : Slices) → rulesRow a b (tablesOf a b) lent ≡ 0
+    → (roomRow (macrostates a) (transitions a) (length (lent .codes-a)) (length (lent .transitions-a)) ≡ 0)
+    × (roomRow (rejectingMacrostates b) (rejectingTransitions b) (length (lent .codes-b)) (length (lent .transitions-b)) ≡ 0)
+unfolding rulesRow rulesRows tableRows roomRow
+both-rows a b lent e =
+    let x = first-parts (letterRows a b) _ (letters-numbered a b) e in
+    let y = first-parts (tableRows (tablesOf a b) lent) (pairRows (tablesOf a b) lent) (tables-numbered (tablesOf a b) lent) (x .1) in
+    first-parts (roomRows (macrostates a) (transitions a) (length (lent .codes-a)) (length (lent .transitions-a))) _ (numbered-room _ _ _ _) (y .0)
+
 -- ---- a row that refuses
 
-room-other : (k : ℕ) (list other lent : List ℕ) → roomAfter (suc k) list lent ≡ roomAfter (suc k) other lent
+room-other : (k : ℕ) (list other lent : List ℕ) → roomAfter zeroesRooms (suc k) list lent ≡ roomAfter zeroesRooms (suc k) other lent
 unfolding roomAfter
 room-other k list other lent = refl
 
@@ -78,19 +74,14 @@ module _ (a b : Rule) (P : Passing a) (Q : Passing b) (tables : Tables) (L : Lis
   codes-a = codes-same a P (tables .codes-a) (tables .transitions-a) L
 
   codes-b : tables .codes-b ≡ rejectingMacrostates b
-  codes-b = rejecting.codes-same b Q (tables .codes-b) (tables .transitions-b) M
-
-  rows-a : roomRow (tables .codes-a) (tables .transitions-a) (length (lent .codes-a)) (length (lent .transitions-a))
-      ≡ roomRow (macrostates a) (transitions a) (length (lent .codes-a)) (length (lent .transitions-a))
-  rows-a = room-same (tables .codes-a) (tables .transitions-a) (macrostates a) (transitions a) _ _ codes-a (moves-same a P (tables .codes-a) (tables .transitions-a) L)
-
-  rows-b : roomRow (tables .codes-b) (tables .transitions-b) (length (lent .codes-b)) (length (lent .transitions-b))
-      ≡ roomRow (rejectingMacrostates b) (rejectingTransitions b) (length (lent .codes-b)) (length (lent .transitions-b))
-  rows-b = room-same (tables .codes-b) (tables .transitions-b) (rejectingMacrostates b) (rejectingTransitions b) _ _ codes-b (rejecting.moves-same b Q (tables .codes-b) (tables .transitions-b) M)
+  codes-b = codes-same b Q (tables .codes-b) (tables .transitions-b) M
 
   rows-tables : firstRow (tableRows tables lent) ≡ firstRow (tableRows (tablesOf a b) lent)
   unfolding tableRows roomRow
-  rows-tables = append-same _ _ _ _ (rows-numbered _ _ _ _) (rows-numbered _ _ _ _) rows-a rows-b
+  rows-tables =
+      append-same _ _ _ _ (numbered-room _ _ _ _) (numbered-room _ _ _ _)
+      (row-same a P (tables .codes-a) (tables .transitions-a) L (length (lent .codes-a)) (length (lent .transitions-a)))
+      (row-same b Q (tables .codes-b) (tables .transitions-b) M (length (lent .codes-b)) (length (lent .transitions-b)))
 
   same-pairs : pairs tables ≡ pairs (tablesOf a b)
   unfolding pairs
@@ -107,21 +98,11 @@ module _ (a b : Rule) (P : Passing a) (Q : Passing b) (tables : Tables) (L : Lis
       (append-same (tableRows tables lent) (tableRows (tablesOf a b) lent) (pairRows tables lent) (pairRows (tablesOf a b) lent) (tables-numbered tables lent)
       (tables-numbered (tablesOf a b) lent) rows-tables rows-pairs)
 
-  -- where no row refuses, the tables have at most 65,536 macrostates
-  both-rows : rulesRow a b (tablesOf a b) lent ≡ 0
-      → (roomRow (macrostates a) (transitions a) (length (lent .codes-a)) (length (lent .transitions-a)) ≡ 0)
-      × (roomRow (rejectingMacrostates b) (rejectingTransitions b) (length (lent .codes-b)) (length (lent .transitions-b)) ≡ 0)
-  unfolding rulesRow rulesRows tableRows roomRow
-  both-rows e =
-      let x = first-parts (letterRows a b) _ (letters-numbered a b) e in
-      let y = first-parts (tableRows (tablesOf a b) lent) (pairRows (tablesOf a b) lent) (tables-numbered (tablesOf a b) lent) (x .1) in
-      first-parts (roomRows (macrostates a) (transitions a) (length (lent .codes-a)) (length (lent .transitions-a))) _ (rows-numbered _ _ _ _) (y .0)
-
   tables-same : rulesRow a b (tablesOf a b) lent ≡ 0 → tablesOf a b ≡ tables
   tables-same e =
-      let r = both-rows e in
+      let r = both-rows a b lent e in
       let ma = moves-same a P (tables .codes-a) (tables .transitions-a) L (room-few (macrostates a) (transitions a) (length (lent .codes-a)) (length (lent .transitions-a)) (r .0)) in
-      let mb = rejecting.moves-same b Q (tables .codes-b) (tables .transitions-b) M
+      let mb = moves-same b Q (tables .codes-b) (tables .transitions-b) M
       (room-few (rejectingMacrostates b) (rejectingTransitions b) (length (lent .codes-b)) (length (lent .transitions-b)) (r .1)) in
       sym (ap₂ (λ (x y : List ℕ). record { codes-a = x; transitions-a = y; codes-b = tables .codes-b; transitions-b = tables .transitions-b }) codes-a ma
       ∙ ap₂ (λ (x y : List ℕ). record { codes-a = macrostates a; transitions-a = transitions a; codes-b = x; transitions-b = y }) codes-b mb)

@@ -1,49 +1,37 @@
 -- What the steps of the comparison know of the rooms.
 use mathlib.Core.Path.{_≡_}
-use mathlib.Core.Bool.{Bool, true, false}
+use mathlib.Core.Bool.{Bool}
 use mathlib.Core.List.{List, _++_}
 use Prim.Native.Nat.{ℕ, _-_, _≤_}
 use lib.ListN.{length, replicate}
 use Rattle.refusals.specs.Rows.{firstRow}
-use Rattle.theory.specs.Passing.{Passing}
 use Rattle.theory.specs.Rule.{Rule}
-use Rattle.theory.specs.TableComputed.{macrostates, transitions}
 use Rattle.rejecting_spec.specs.RejectingComputed.{rejectingMacrostates, rejectingTransitions}
 use Rattle.file_spec.specs.File.{ruleIn}
-use Rattle.build.specs.declared.Counts.{Counts}
-use Rattle.build.specs.Built.{roomRows}
+use Rattle.file_read.specs.Read.{readOf}
+use Rattle.file_read.specs.declared.Read.the-variants.{Accepted}
+use Rattle.build_closure_spec.specs.Keys.{startOf}
+use Rattle.build.specs.Built.{roomRows, fileCodes, fileMoves}
 use Rattle.stricter_entry_spec.specs.declared.Comparison.{Comparison}
 use Rattle.stricter_entry_spec.specs.Rows.{Slices, tablesOf, pairRows, rulesRow}
 use Rattle.stricter_entry_spec.specs.Compared.{ComparedBy}
+use Rattle.stricter.specs.declared.Side.{Side}
 
--- the table of a rule, or that of the words that it rejects
-unfoldable pub codesOf : Rule → Bool → List ℕ
-codesOf r true = macrostates r
-codesOf r false = rejectingMacrostates r
+-- the table of a file's rule, or where `holds` is false that of the words that it rejects
+abbrev pub codesOf : List ℕ → Bool → List ℕ
+codesOf file holds = fileCodes (λ r. startOf r holds) file
 
-unfoldable pub movesOf : Rule → Bool → List ℕ
-movesOf r true = transitions r
-movesOf r false = rejectingTransitions r
+abbrev pub movesOf : List ℕ → Bool → List ℕ
+movesOf file holds = fileMoves (λ r. startOf r holds) file
 
--- the rooms cs and ts hold a table, and zeros after it
-pub record Held (codes moves : List ℕ) (n : Counts) (cs ts : List ℕ) : Type 0 where
-  pub few : length codes ≤ 65536
-  pub macrostates : n .macrostates ≡ length codes
-  pub transitions : n .transitions ≡ length moves
-  pub codes-held : cs ≡ codes ++ replicate (length cs - length codes) 0
-  pub moves-held : ts ≡ moves ++ replicate (length ts - length moves) 0
-
--- the rule A passes the checks, its table is held, and q is its initial state
-pub record OwnTable (a : Rule) (n : Counts) (q : ℕ) (cs ts : List ℕ) : Type 0 where
-  pub passing : Passing a
-  pub held : Held (macrostates a) (transitions a) n cs ts
-  pub initial : q ≡ a .initial
-
--- the rule B passes the checks, the table of the words that it rejects is held, and q is its initial state
-pub record OtherTable (b : Rule) (n : Counts) (q : ℕ) (cs ts : List ℕ) : Type 0 where
-  pub passing : Passing b
-  pub held : Held (rejectingMacrostates b) (rejectingTransitions b) n cs ts
-  pub initial : q ≡ b .initial
+-- the file is accepted, and the rooms cs and ts hold its table, and zeros after it
+pub record Ready (file : List ℕ) (holds : Bool) (side : Side) (cs ts : List ℕ) : Type 0 where
+  pub read : readOf file ≡ Accepted (side .layout)
+  pub few : length (codesOf file holds) ≤ 65536
+  pub macrostates : side .counts .macrostates ≡ length (codesOf file holds)
+  pub transitions : side .counts .transitions ≡ length (movesOf file holds)
+  pub codes-held : cs ≡ codesOf file holds ++ replicate (length cs - length (codesOf file holds)) 0
+  pub moves-held : ts ≡ movesOf file holds ++ replicate (length ts - length (movesOf file holds)) 0
 
 -- the rows that are left once A's table is built
 unfoldable pub otherRow : Rule → Rule → Slices → ℕ

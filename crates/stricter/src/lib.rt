@@ -4,23 +4,28 @@ use build::Built;
 use build::Counts;
 use file_read::Layout;
 use file_read::Read;
+use stricter_entry_spec::BothCounts;
 use stricter_entry_spec::Comparison;
-use stricter_entry_spec::Sizes;
 use stricter_spec::Found;
 ghost use mathlib.Core.Path.{_≡_};
-ghost use mathlib.Core.Bool.{_||_};
+ghost use mathlib.Core.Bool.{true, false, _||_};
 ghost use lib.Dec.{ltb};
 ghost use Prim.Native.Nat.{_*_, _≤_};
 ghost use lib.ListN.{length, replicate};
 ghost use Rattle.file_spec.specs.File.{ruleIn};
 ghost use Rattle.file_read.specs.Read.{readOf};
 ghost use Rattle.file_read.specs.declared.Read.the-variants.{Accepted};
-ghost use Rattle.build.specs.Filling.{Made};
 ghost use Rattle.stricter_entry_spec.specs.Rows.{slicesOf};
 ghost use Rattle.stricter_entry_spec.specs.Compared.{Compared};
-ghost use Rattle.stricter.specs.Steps.{codesOf, movesOf, OwnTable, OtherTable, otherRow, pairRow, rowOf, ByRow, FilesBy};
+ghost use Rattle.stricter.specs.Steps.{Ready, otherRow, pairRow, rowOf, ByRow, FilesBy};
 
-// ---- the tables
+// One of the two rules: where it stands in its file, and the counts of its table in the rooms, A's own or that of the words that B rejects.
+struct Side {
+    layout: Layout,
+    counts: Counts,
+}
+
+// ---- the rooms
 
 // Sets both rooms of a table to zero throughout.
 fn zero_rooms(codes: &mut [u64], transitions: &mut [u64])
@@ -29,29 +34,6 @@ fn zero_rooms(codes: &mut [u64], transitions: &mut [u64])
 {
     slice_search::zero_all(codes);
     slice_search::zero_all(transitions);
-}
-
-// Builds the table of a file's rule, or, if `holds` is false, that of the words that it rejects.
-fn build_from(
-    file: &[u8],
-    l: Layout,
-    holds: bool,
-    codes: &mut [u64],
-    transitions: &mut [u64],
-) -> Built
-    requires { ⌜ readOf (now file) ≡ Accepted l ⌝ }
-    ensures { λ r. ⌜ Made (codesOf (ruleIn (now (file .entry))) holds) (movesOf (ruleIn (now (file .entry))) holds)
-        (now (codes .entry)) (now (transitions .entry)) r (now (codes .exit)) (now (transitions .exit)) ⌝ }
-{
-    let h = l.head;
-    build::build_rule(
-        h,
-        file_read::counts_of(file, l),
-        file_read::clauses_of(file, l),
-        holds,
-        codes,
-        transitions,
-    )
 }
 
 // ---- the search
@@ -68,13 +50,11 @@ fn lacks_room(pairs: usize, word: &[u8], scratch: &[u8]) -> bool
 }
 
 // Looks for a word that both tables accept.
-fn find_word(
+fn search_tables(
     a: &[u8],
-    al: Layout,
-    n: Counts,
+    x: Side,
     b: &[u8],
-    bl: Layout,
-    m: Counts,
+    y: Side,
     acodes: &mut [u64],
     atransitions: &mut [u64],
     bcodes: &mut [u64],
@@ -82,45 +62,44 @@ fn find_word(
     word: &mut [u8],
     scratch: &mut [u8],
 ) -> Comparison
-    requires { ⌜ (readOf (now a) ≡ Accepted al) × (readOf (now b) ≡ Accepted bl) × (ruleIn (now a) .s ≡ ruleIn (now b) .s)
-        × OwnTable (ruleIn (now a)) n (al .head .initial) (now acodes) (now atransitions)
-        × OtherTable (ruleIn (now b)) m (bl .head .initial) (now bcodes) (now btransitions)
-        × (n .macrostates * m .macrostates ≤ length (now scratch)) × (3 * (n .macrostates * m .macrostates) ≤ length (now word)) ⌝ }
+    requires { ⌜ Ready (now a) true x (now acodes) (now atransitions) × Ready (now b) false y (now bcodes) (now btransitions)
+        × (ruleIn (now a) .s ≡ ruleIn (now b) .s) × (x .counts .macrostates * y .counts .macrostates ≤ length (now scratch))
+        × (3 * (x .counts .macrostates * y .counts .macrostates) ≤ length (now word)) ⌝ }
     ensures { λ r. ⌜ ByRow (ruleIn (now (a .entry))) (ruleIn (now (b .entry))) 0
         (slicesOf (now (acodes .entry)) (now (atransitions .entry)) (now (bcodes .entry)) (now (btransitions .entry))
         (now (word .entry)) (now (scratch .entry))) r
         (slicesOf (now (acodes .exit)) (now (atransitions .exit)) (now (bcodes .exit)) (now (btransitions .exit))
         (now (word .exit)) (now (scratch .exit))) ⌝ }
 {
+    let n = x.counts;
+    let m = y.counts;
     let na = n.macrostates;
     let ta = n.transitions;
     let nb = m.macrostates;
     let tb = m.transitions;
     match stricter_search::search(
         a,
-        al,
+        x.layout,
         &mut acodes[..na],
         &mut atransitions[..ta],
         b,
-        bl,
+        y.layout,
         &mut bcodes[..nb],
         &mut btransitions[..tb],
         word,
         scratch,
     ) {
-        Found::Nothing => Comparison::Yes(Sizes { a: n, b: m }),
-        Found::Word(lead, cycle) => Comparison::No(Sizes { a: n, b: m }, lead, cycle),
+        Found::Nothing => Comparison::Yes(BothCounts { a: n, b: m }),
+        Found::Word(lead, cycle) => Comparison::No(BothCounts { a: n, b: m }, lead, cycle),
     }
 }
 
 // Compares two rules by their tables. 29 if word or scratch is too short; all four rooms are zero throughout then.
-fn search_tables(
+fn compare_tables(
     a: &[u8],
-    al: Layout,
-    n: Counts,
+    x: Side,
     b: &[u8],
-    bl: Layout,
-    m: Counts,
+    y: Side,
     acodes: &mut [u64],
     atransitions: &mut [u64],
     bcodes: &mut [u64],
@@ -128,28 +107,25 @@ fn search_tables(
     word: &mut [u8],
     scratch: &mut [u8],
 ) -> Comparison
-    requires { ⌜ (readOf (now a) ≡ Accepted al) × (readOf (now b) ≡ Accepted bl) × (ruleIn (now a) .s ≡ ruleIn (now b) .s)
-        × OwnTable (ruleIn (now a)) n (al .head .initial) (now acodes) (now atransitions)
-        × OtherTable (ruleIn (now b)) m (bl .head .initial) (now bcodes) (now btransitions) ⌝ }
+    requires { ⌜ Ready (now a) true x (now acodes) (now atransitions) × Ready (now b) false y (now bcodes) (now btransitions)
+        × (ruleIn (now a) .s ≡ ruleIn (now b) .s) ⌝ }
     ensures { λ r. ⌜ FilesBy pairRow (now (a .entry)) (now (b .entry))
         (slicesOf (now (acodes .entry)) (now (atransitions .entry)) (now (bcodes .entry)) (now (btransitions .entry))
         (now (word .entry)) (now (scratch .entry))) r
         (slicesOf (now (acodes .exit)) (now (atransitions .exit)) (now (bcodes .exit)) (now (btransitions .exit))
         (now (word .exit)) (now (scratch .exit))) ⌝ }
 {
-    let pairs = n.macrostates * m.macrostates;
+    let pairs = x.counts.macrostates * y.counts.macrostates;
     if lacks_room(pairs, word, scratch) {
         zero_rooms(acodes, atransitions);
         zero_rooms(bcodes, btransitions);
         return Comparison::Refused(29);
     }
-    find_word(
+    search_tables(
         a,
-        al,
-        n,
+        x,
         b,
-        bl,
-        m,
+        y,
         acodes,
         atransitions,
         bcodes,
@@ -165,10 +141,9 @@ fn search_tables(
 // are zero throughout then.
 fn compare_other(
     a: &[u8],
-    al: Layout,
-    n: Counts,
+    x: Side,
     b: &[u8],
-    bl: Layout,
+    l: Layout,
     acodes: &mut [u64],
     atransitions: &mut [u64],
     bcodes: &mut [u64],
@@ -176,26 +151,27 @@ fn compare_other(
     word: &mut [u8],
     scratch: &mut [u8],
 ) -> Comparison
-    requires { ⌜ (readOf (now a) ≡ Accepted al) × (readOf (now b) ≡ Accepted bl) × (ruleIn (now a) .s ≡ ruleIn (now b) .s)
-        × OwnTable (ruleIn (now a)) n (al .head .initial) (now acodes) (now atransitions) ⌝ }
+    requires { ⌜ Ready (now a) true x (now acodes) (now atransitions) × (readOf (now b) ≡ Accepted l)
+        × (ruleIn (now a) .s ≡ ruleIn (now b) .s) ⌝ }
     ensures { λ r. ⌜ FilesBy otherRow (now (a .entry)) (now (b .entry))
         (slicesOf (now (acodes .entry)) (now (atransitions .entry)) (now (bcodes .entry)) (now (btransitions .entry))
         (now (word .entry)) (now (scratch .entry))) r
         (slicesOf (now (acodes .exit)) (now (atransitions .exit)) (now (bcodes .exit)) (now (btransitions .exit))
         (now (word .exit)) (now (scratch .exit))) ⌝ }
 {
-    match build_from(b, bl, false, bcodes, btransitions) {
+    match build::build_accepted(b, l, false, bcodes, btransitions) {
         Built::Refused(row) => {
             zero_rooms(acodes, atransitions);
             Comparison::Refused(row)
         }
-        Built::Table(m) => search_tables(
+        Built::Table(m) => compare_tables(
             a,
-            al,
-            n,
+            x,
             b,
-            bl,
-            m,
+            Side {
+                layout: l,
+                counts: m,
+            },
             acodes,
             atransitions,
             bcodes,
@@ -229,15 +205,17 @@ fn compare_files(
     if l.head.s != m.head.s {
         return Comparison::Refused(28);
     }
-    match build_from(a, l, true, acodes, atransitions) {
+    match build::build_accepted(a, l, true, acodes, atransitions) {
         Built::Refused(row) => {
             zero_rooms(bcodes, btransitions);
             Comparison::Refused(row)
         }
         Built::Table(n) => compare_other(
             a,
-            l,
-            n,
+            Side {
+                layout: l,
+                counts: n,
+            },
             b,
             m,
             acodes,

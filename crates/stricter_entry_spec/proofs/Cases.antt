@@ -24,11 +24,11 @@ use Rattle.file_spec.specs.Rows.{trailerRows, layoutRows, bodyRows, nameRows, p
 use Rattle.file_spec.specs.RuleRows.{numberRows, listRows, nested, someNested, clauseRows, componentRows, formedRows}
 use Rattle.file_spec.specs.Names.{hasNames, namesBefore, repeatsName}
 use Rattle.build_lists.specs.Room.{roomOf}
-use Rattle.build.specs.Built.{roomRows}
+use Rattle.build.specs.Built.{roomRows, roomAfter}
 use Rattle.stricter_rules_spec.proofs.Cases.{against-F, not-stricter-F}
-use Rattle.stricter_entry_spec.specs.declared.Sizes.{Sizes}
+use Rattle.stricter_entry_spec.specs.declared.BothCounts.{BothCounts}
 use Rattle.stricter_entry_spec.specs.declared.Comparison.the-variants.{Yes, No}
-use Rattle.stricter_entry_spec.specs.Rows.{Slices, slicesOf, tablesOf, pairs, letterRows, tableRows, pairRows, rulesRows, stricterRow, roomAfter, scratchAfter}
+use Rattle.stricter_entry_spec.specs.Rows.{Slices, slicesOf, tablesOf, pairs, letterRows, tableRows, pairRows, rulesRows, stricterRow, zeroesRooms, scratchAfter}
 use Rattle.stricter_entry_spec.specs.Compared.{sizesOf, WordFound, Told}
 
 abbrev fileF : List ℕ
@@ -84,15 +84,15 @@ different-letters = refl
 
 -- ---- the slices
 
-pub zeroed-29 : roomAfter 29 (5 ∷ []) (9 ∷ 9 ∷ []) ≡ (0 ∷ 0 ∷ [])
+pub zeroed-29 : roomAfter zeroesRooms 29 (5 ∷ []) (9 ∷ 9 ∷ []) ≡ (0 ∷ 0 ∷ [])
 unfolding computed
 zeroed-29 = refl
 
-pub kept-28 : roomAfter 28 (5 ∷ []) (9 ∷ 9 ∷ []) ≡ (9 ∷ 9 ∷ [])
+pub kept-28 : roomAfter zeroesRooms 28 (5 ∷ []) (9 ∷ 9 ∷ []) ≡ (9 ∷ 9 ∷ [])
 unfolding computed
 kept-28 = refl
 
-pub table-left : roomAfter 0 (5 ∷ []) (9 ∷ 9 ∷ []) ≡ (5 ∷ 0 ∷ [])
+pub table-left : roomAfter zeroesRooms 0 (5 ∷ []) (9 ∷ 9 ∷ []) ≡ (5 ∷ 0 ∷ [])
 unfolding computed
 table-left = refl
 
@@ -116,5 +116,5 @@ unfolding computed
 no-EF = (refl, record { lead = []; cycle = 0 ∷ []; lead-long = refl; cycle-long = refl; letters = refl; short = omega arith; against = against-F })
 
 -- so yes may not be said of them
-pub not-yes-EF : (sizes : Sizes) (old new : List ℕ) → Told E F (tablesOf E F) 0 (Yes sizes) old new → ⊥
+pub not-yes-EF : (sizes : BothCounts) (old new : List ℕ) → Told E F (tablesOf E F) 0 (Yes sizes) old new → ⊥
 not-yes-EF sizes old new t = not-stricter-F (t .2)

@@ -10,14 +10,15 @@ use Rattle.file_spec.specs.File.{ruleIn}
 use Rattle.file_spec.specs.Rows.{fileRow}
 use Rattle.rejecting_spec.specs.Rejecting.{ListsRejecting}
 use Rattle.rejecting_spec.specs.RejectingComputed.{rejectingMacrostates, rejectingTransitions}
+use Rattle.build.specs.Built.{roomAfter}
 use Rattle.stricter_rules_spec.specs.Rules.{Stricter, Against}
-use Rattle.stricter_entry_spec.specs.declared.Sizes.{Sizes}
+use Rattle.stricter_entry_spec.specs.declared.BothCounts.{BothCounts}
 use Rattle.stricter_entry_spec.specs.declared.Comparison.{Comparison}
 use Rattle.stricter_entry_spec.specs.declared.Comparison.the-variants.{Yes, No, Refused}
-use Rattle.stricter_entry_spec.specs.Rows.{Slices, Tables, tablesOf, pairs, rulesRow, stricterRow, roomAfter, scratchAfter}
+use Rattle.stricter_entry_spec.specs.Rows.{Slices, Tables, tablesOf, pairs, rulesRow, stricterRow, zeroesRooms, scratchAfter}
 
 -- the counts of both tables
-unfoldable pub sizesOf : Tables → Sizes
+unfoldable pub sizesOf : Tables → BothCounts
 sizesOf tables = record {
   a = record { macrostates = length (tables .codes-a); transitions = length (tables .transitions-a) };
   b = record { macrostates = length (tables .codes-b); transitions = length (tables .transitions-b) };
@@ -46,10 +47,10 @@ module _ (a b : Rule) (tables : Tables) where
   -- by the first row that refuses: the answer, and the slices as they were lent and afterwards
   pub record ComparedBy (row : ℕ) (lent : Slices) (answer : Comparison) (left : Slices) : Type 0 where
     pub told : Told row answer (lent .word) (left .word)
-    pub codes-a-after : left .codes-a ≡ roomAfter row (tables .codes-a) (lent .codes-a)
-    pub transitions-a-after : left .transitions-a ≡ roomAfter row (tables .transitions-a) (lent .transitions-a)
-    pub codes-b-after : left .codes-b ≡ roomAfter row (tables .codes-b) (lent .codes-b)
-    pub transitions-b-after : left .transitions-b ≡ roomAfter row (tables .transitions-b) (lent .transitions-b)
+    pub codes-a-after : left .codes-a ≡ roomAfter zeroesRooms row (tables .codes-a) (lent .codes-a)
+    pub transitions-a-after : left .transitions-a ≡ roomAfter zeroesRooms row (tables .transitions-a) (lent .transitions-a)
+    pub codes-b-after : left .codes-b ≡ roomAfter zeroesRooms row (tables .codes-b) (lent .codes-b)
+    pub transitions-b-after : left .transitions-b ≡ roomAfter zeroesRooms row (tables .transitions-b) (lent .transitions-b)
     pub scratch-after : left .scratch ≡ scratchAfter row (lent .scratch)
 
 -- of two files

@@ -1,7 +1,7 @@
 -- The rows of the comparison of two rules, and what the lent slices hold afterwards by the first that refuses.
-use mathlib.Core.Bool.{Bool, _||_, not, cond}
+use mathlib.Core.Bool.{Bool, _||_, not}
 use mathlib.Core.List.{List, [], _∷_, _++_}
-use Prim.Native.Nat.{ℕ, zero, suc, _-_, _*_}
+use Prim.Native.Nat.{ℕ, zero, suc, _*_}
 use lib.Dec.{ltb, eqb}
 use lib.ListN.{length, replicate}
 use Rattle.refusals.specs.Rows.{Check, firstRow, check}
@@ -75,14 +75,10 @@ stricterRow a b lent = firstRow (fileRows a ++ (fileRows b ++ rulesRows (ruleIn 
 
 -- ---- what the slices hold afterwards
 
--- 02: 17 and 18 "zero all four rooms"; 29, "with the rooms zeroed as for 17"
+-- 02: 17 and 18 "zero all four rooms"; 29, "with the rooms zeroed as for 17". "A served call leaves both tables in the rooms, unused elements 0":
+-- a room holds `roomAfter zeroesRooms` of the row and the list that is to be written there
 abbrev pub zeroesRooms : ℕ → Bool
 zeroesRooms k = refusesRoom k || eqb k 29
-
--- a room, where the list is to be written. 02: "A served call leaves both tables in the rooms, unused elements 0"
-unfoldable pub roomAfter : ℕ → List ℕ → List ℕ → List ℕ
-roomAfter zero list lent = list ++ replicate (length lent - length list) 0
-roomAfter (suc k) list lent = cond (zeroesRooms (suc k)) (replicate (length lent) 0) lent
 
 -- 02: a served call leaves "the scratch all zero"; "a refused one leaves word slice and scratch as lent"
 unfoldable pub scratchAfter : ℕ → List ℕ → List ℕ

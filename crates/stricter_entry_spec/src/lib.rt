@@ -2,7 +2,7 @@
 use build::Counts;
 
 // The counts of both tables: that of A, and that of the words that B rejects.
-pub struct Sizes {
+pub struct BothCounts {
     pub a: Counts,
     pub b: Counts,
 }
@@ -10,7 +10,7 @@ pub struct Sizes {
 // The answer: yes, or no with the lengths of the lead-in and the cycle of a word that A accepts and B rejects, or the number of the first
 // row that refuses.
 pub enum Comparison {
-    Yes(Sizes),
-    No(Sizes, usize, usize),
+    Yes(BothCounts),
+    No(BothCounts, usize, usize),
     Refused(u8),
 }

@@ -1,6 +1,5 @@
--- The tables of an accepted file's rule.
-use mathlib.Core.Path.{_≡_, ap, _∙_, subst}
-use mathlib.Core.Bool.{Bool}
+-- The tables of two accepted files.
+use mathlib.Core.Path.{_≡_, ap, _∙_}
 use mathlib.Core.List.{List}
 use Prim.Native.Nat.{ℕ, zero, suc, _*_, _≤_, _<_}
 use native.Mathlib.Omega.{arith}
@@ -9,45 +8,30 @@ use lib.Arith.{digits-lt}
 use lib.ListN.{length}
 use Rattle.sets.specs.Tests.{Set}
 use Rattle.theory.specs.Automaton.{automaton}
-use Rattle.theory.specs.Passing.{WellFormed}
 use Rattle.theory.specs.Rule.{Rule}
-use Rattle.rule_entries.specs.Entries.{ruleOf}
-use Rattle.rule_entries.proofs.Entries.{accepting-small}
-use Rattle.rule_components.specs.declared.Components.{Components}
-use Rattle.rule_components.specs.Numbered.{componentsOf}
+use Rattle.theory.specs.TableComputed.{macrostatesFrom}
 use Rattle.file_read.specs.declared.Layout.{Layout}
-use Rattle.file_read.specs.declared.Read.the-variants.{Accepted}
-use Rattle.file_read.specs.Read.{readOf}
-use Rattle.file_read.proofs.Answer.{served, lent-rule, lent-passing}
-use Rattle.file_spec.specs.File.{countsOf, clausesOf, ruleIn}
-use Rattle.build_opens.specs.Opens.{Opens}
-use Rattle.build_lists.proofs.Ready.{tables-of}
-use Rattle.build_closure_spec.specs.Tables.{RuleTables}
+use Rattle.file_read.proofs.Answer.{served}
+use Rattle.file_spec.specs.File.{ruleIn}
+use Rattle.build.proofs.ByLists.{codes-same, moves-same}
 use Rattle.stricter_fixpoints.specs.Sorted.{Sorted, TableOf}
-use Rattle.stricter_files.specs.Lists.{ListsOf}
+use Rattle.stricter_files.specs.Lists.{FileLists}
 
-module _ (f : List ℕ) (l : Layout) (p : readOf f ≡ Accepted l) (counts clauses : List ℕ) (c : counts ≡ countsOf f) (d : clauses ≡ clausesOf f) where
-  pub file-formed : WellFormed (ruleOf (l .head) counts clauses)
-  file-formed = lent-passing f l p counts clauses c d .formed
+module _ {f : List ℕ} {l : Layout} {start : Rule → Set} {codes moves : List ℕ} (L : FileLists f l start codes moves) where
+  -- the initial state is one of eight
+  pub initial-low : l .head .initial < 8
+  initial-low =
+      let s = served f l (L .read) in
+      let e = ap (λ (x : Layout). x .head .initial) (s .layout) in
+      omega (arith, s .passing .formed .initial-state, s .passing .formed .few-states)
 
-  pub file-accepting : l .head .accepting < 256
-  file-accepting = accepting-small (ruleOf (l .head) counts clauses) file-formed
-
-  pub file-tables : (opens : List ℕ) → Opens (automaton (ruleOf (l .head) counts clauses)) (l .head .s) opens
-      → (k : Components) → k ≡ componentsOf (ruleOf (l .head) counts clauses) → (holds : Bool)
-      → RuleTables (ruleIn f) opens (k .masks)
-      (record { s = l .head .s; components = k .count; accepting = l .head .accepting; initial = l .head .initial; holds = holds })
-  file-tables opens O k e holds =
-      subst (λ (r : Rule). RuleTables r opens (k .masks) (record { s = l .head .s; components = k .count; accepting = l .head .accepting; initial = l .head .initial; holds = holds }))
-      (lent-rule f l p counts clauses c d) (tables-of (ruleOf (l .head) counts clauses) (lent-passing f l p counts clauses c d) opens O k e holds)
-
--- the initial state is one of eight
-pub initial-low : (f : List ℕ) (l : Layout) → readOf f ≡ Accepted l → l .head .initial < 8
-initial-low f l p =
-    let e = ap (λ (x : Layout). x .head .initial) (served f l p .layout) in
-    let h = served f l p .passing .formed .initial-state in
-    let k = served f l p .passing .formed .few-states in
-    omega arith
+  -- the table as the steps by cores take it
+  pub file-table : {count : ℕ} → count ≡ automaton (ruleIn f) .components → TableOf (ruleIn f) (start (ruleIn f)) count codes moves
+  file-table e =
+      let P = served f l (L .read) .passing in
+      let c = codes-same (ruleIn f) P codes moves (L .lists) in
+      let few : length (macrostatesFrom (ruleIn f) (start (ruleIn f))) ≤ 65536 = rw c at (L .few) in
+      record { passing = P; counted = e; few = L .few; codes-are = c; moves-are = moves-same (ruleIn f) P codes moves (L .lists) few }
 
 -- without pairs no run of each table goes over one sequence of letters
 pub no-pairs : (ca ma : List ℕ) (s : Set) (cb mb : List ℕ) (t : Set) (marks : List ℕ) → length marks ≡ length ca * length cb → length marks ≡ 0
@@ -71,14 +55,3 @@ room-A n (suc m) p e h = let o = mul-suc n m in omega (arith, e)
 pub room-B : (n m p : ℕ) → p ≡ n * m → (p ≡ 0 → ⊥) → m ≤ p
 room-B zero m p e h = absurd (h (e ∙ zero-mul m))
 room-B (suc n) m p e h = let o = suc-mul n m in omega (arith, e)
-
--- the table as the steps by cores take it
-pub file-table : (f : List ℕ) (l : Layout) → readOf f ≡ Accepted l → (count : ℕ) → count ≡ automaton (ruleIn f) .components
-    → (start : Set) (codes moves : List ℕ) → ListsOf (ruleIn f) start codes moves → TableOf (ruleIn f) start count codes moves
-file-table f l p count e start codes moves L = record {
-  passing = served f l p .passing;
-  counted = e;
-  few = L .few;
-  codes-are = L .codes-are;
-  moves-are = L .moves-are;
-}

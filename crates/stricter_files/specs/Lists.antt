@@ -1,14 +1,18 @@
--- The lists of a rule's table.
+-- The lists of an accepted file's table.
 use mathlib.Core.Path.{_≡_}
 use mathlib.Core.List.{List}
 use Prim.Native.Nat.{ℕ, _≤_}
 use lib.ListN.{length}
 use Rattle.sets.specs.Tests.{Set}
 use Rattle.theory.specs.Rule.{Rule}
-use Rattle.theory.specs.TableComputed.{macrostatesFrom, transitionsFrom}
+use Rattle.theory.specs.Table.{ListsFrom}
+use Rattle.file_spec.specs.File.{ruleIn}
+use Rattle.file_read.specs.declared.Layout.{Layout}
+use Rattle.file_read.specs.declared.Read.the-variants.{Accepted}
+use Rattle.file_read.specs.Read.{readOf}
 
--- codes and moves are the table of the rule r, begun by the start condition
-pub record ListsOf (r : Rule) (start : Set) (codes moves : List ℕ) : Type 0 where
+-- the file is accepted, and codes and moves list the macrostates and transitions of its rule, begun by the start condition
+pub record FileLists (file : List ℕ) (l : Layout) (start : Rule → Set) (codes moves : List ℕ) : Type 0 where
+  pub read : readOf file ≡ Accepted l
+  pub lists : ListsFrom (ruleIn file) (start (ruleIn file)) codes moves
   pub few : length codes ≤ 65536
-  pub codes-are : codes ≡ macrostatesFrom r start
-  pub moves-are : moves ≡ transitionsFrom r start

@@ -1,5 +1,4 @@
 // Sorts out the pairs of numbers of the tables of two rules, from their files. While it does, the free bits of both tables hold tags.
-use build_closure_spec::Shape;
 use file_read::Layout;
 use stricter_fixpoints::sort_cores;
 use stricter_tags::tag_live;
@@ -12,44 +11,32 @@ ghost use lib.ListN.{length};
 ghost use Rattle.sets.specs.Masks.{bit};
 ghost use Rattle.sets.specs.Tests.{Set};
 ghost use Rattle.theory.specs.Automaton.{automaton};
+ghost use Rattle.theory.specs.Rule.{Rule};
 ghost use Rattle.theory.specs.Macrostate.{holdsInitial};
 ghost use Rattle.rejecting_spec.specs.Rejecting.{lacksInitial};
 ghost use Rattle.file_spec.specs.File.{ruleIn};
-ghost use Rattle.file_read.specs.Read.{readOf};
-ghost use Rattle.file_read.specs.declared.Read.the-variants.{Accepted};
 ghost use Rattle.trim_spec.specs.Trimmed.{liveMarks};
 ghost use Rattle.stricter_cores_spec.specs.Tags.{ToldCodes, TaggedMoves, rowOf, plain, untagged};
 ghost use Rattle.stricter_cores_spec.specs.Steps.{CoresFit};
 ghost use Rattle.stricter_laws.specs.Tests.{startsIn};
 ghost use Rattle.stricter_spread.specs.Rows.{Standing};
 ghost use Rattle.stricter_fixpoints.specs.Sorted.{Sorted, CoresSorted};
-ghost use Rattle.stricter_files.specs.Lists.{ListsOf};
+ghost use Rattle.stricter_files.specs.Lists.{FileLists};
 
 // Puts tags on the table of a file's rule; the number of its components. The bytes are lost.
 fn tag_file(file: &[u8], l: Layout, codes: &mut [u64], moves: &mut [u64], live: &mut [u8]) -> usize
-    requires { ⌜ (readOf (now file) ≡ Accepted l) × ((start : Set) × ListsOf (ruleIn (now file)) start (now codes) (now moves))
+    requires { ⌜ ((start : Rule → Set) × FileLists (now file) l start (now codes) (now moves))
         × (length (now codes) ≤ length (now live)) ⌝ }
     ensures { λ r. ⌜ r ≡ automaton (ruleIn (now (file .entry))) .components ⌝ }
-    ensures { λ _. ⌜ ((start : Set) → ListsOf (ruleIn (now (file .entry))) start (now (codes .entry)) (now (moves .entry))
-        → ToldCodes (now (codes .entry)) (liveMarks (now (codes .entry)) (now (moves .entry))) (now (codes .exit))
-        × TaggedMoves (automaton (ruleIn (now (file .entry)))) (now (codes .entry)) (now (moves .entry)) (now (moves .exit))) ⌝ }
+    ensures { λ _. ⌜ ToldCodes (now (codes .entry)) (liveMarks (now (codes .entry)) (now (moves .entry))) (now (codes .exit))
+        × TaggedMoves (automaton (ruleIn (now (file .entry)))) (now (codes .entry)) (now (moves .entry)) (now (moves .exit)) ⌝ }
 {
-    let h = l.head;
-    let counts = file_read::counts_of(file, l);
-    let clauses = file_read::clauses_of(file, l);
-    let split = rule_components::split(h, counts, clauses);
-    let parts = split.masks;
-    let components = split.count;
-    let opens = build_opens::open_table(h, counts, clauses);
-    let shape = Shape {
-        s: h.s,
-        components,
-        accepting: h.accepting as u8,
-        initial: h.initial,
-        holds: true,
-    };
+    let p = build_prepare::prepare(file, l, true);
+    let opens = p.opens;
+    let parts = p.parts;
+    let shape = p.shape;
     tag_live(shape, &opens, &parts, codes, moves, live);
-    components
+    shape.components
 }
 
 // Sorts out the pairs of two tagged tables, and takes the tags off.
@@ -101,8 +88,7 @@ pub fn sort_files(
     bmoves: &mut [u64],
     marks: &mut [u8],
 ) -> usize
-    requires { ⌜ (readOf (now a) ≡ Accepted l) × ListsOf (ruleIn (now a)) (holdsInitial (ruleIn (now a))) (now acodes) (now amoves)
-        × (readOf (now b) ≡ Accepted m) × ListsOf (ruleIn (now b)) (lacksInitial (ruleIn (now b))) (now bcodes) (now bmoves)
+    requires { ⌜ FileLists (now a) l holdsInitial (now acodes) (now amoves) × FileLists (now b) m lacksInitial (now bcodes) (now bmoves)
         × (length (now marks) ≡ length (now acodes) * length (now bcodes)) ⌝ }
     ensures { λ r. ⌜ Sorted (now (acodes .entry)) (now (amoves .entry)) (λ c. bit c (l .head .initial))
         (now (bcodes .entry)) (now (bmoves .entry)) (λ c. not (bit c (m .head .initial))) (now (marks .exit)) r ⌝ }

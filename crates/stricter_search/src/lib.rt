@@ -12,12 +12,9 @@ ghost use Rattle.sets.specs.Masks.{bit};
 ghost use Rattle.sets.specs.Tests.{Set};
 ghost use Rattle.theory.specs.Macrostate.{holdsInitial};
 ghost use Rattle.rejecting_spec.specs.Rejecting.{lacksInitial};
-ghost use Rattle.file_spec.specs.File.{ruleIn};
-ghost use Rattle.file_read.specs.Read.{readOf};
-ghost use Rattle.file_read.specs.declared.Read.the-variants.{Accepted};
 ghost use Rattle.stricter_spec.specs.Search.{Searchable, Searched};
 ghost use Rattle.stricter_fixpoints.specs.Sorted.{Sorted};
-ghost use Rattle.stricter_files.specs.Lists.{ListsOf};
+ghost use Rattle.stricter_files.specs.Lists.{FileLists};
 
 // ---- the search
 
@@ -57,8 +54,7 @@ fn search_files(
     word: &mut [u8],
     marks: &mut [u8],
 ) -> Found
-    requires { ⌜ (readOf (now a) ≡ Accepted l) × ListsOf (ruleIn (now a)) (holdsInitial (ruleIn (now a))) (now acodes) (now amoves)
-        × (readOf (now b) ≡ Accepted m) × ListsOf (ruleIn (now b)) (lacksInitial (ruleIn (now b))) (now bcodes) (now bmoves)
+    requires { ⌜ FileLists (now a) l holdsInitial (now acodes) (now amoves) × FileLists (now b) m lacksInitial (now bcodes) (now bmoves)
         × (length (now marks) ≡ length (now acodes) * length (now bcodes))
         × (3 * (length (now acodes) * length (now bcodes)) ≤ length (now word)) ⌝ }
     ensures { λ r. ⌜ Searched (now (acodes .entry)) (now (amoves .entry)) (λ c. bit c (l .head .initial))
@@ -84,8 +80,7 @@ pub fn search(
     word: &mut [u8],
     scratch: &mut [u8],
 ) -> Found
-    requires { ⌜ (readOf (now a) ≡ Accepted l) × ListsOf (ruleIn (now a)) (holdsInitial (ruleIn (now a))) (now acodes) (now amoves)
-        × (readOf (now b) ≡ Accepted m) × ListsOf (ruleIn (now b)) (lacksInitial (ruleIn (now b))) (now bcodes) (now bmoves)
+    requires { ⌜ FileLists (now a) l holdsInitial (now acodes) (now amoves) × FileLists (now b) m lacksInitial (now bcodes) (now bmoves)
         × (length (now acodes) * length (now bcodes) ≤ length (now scratch))
         × (3 * (length (now acodes) * length (now bcodes)) ≤ length (now word)) ⌝ }
     ensures { λ r. ⌜ Searched (now (acodes .entry)) (now (amoves .entry)) (λ c. bit c (l .head .initial))

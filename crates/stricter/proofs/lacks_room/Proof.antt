@@ -1,7 +1,6 @@
 -- `lacks_room` meets its contract.
 use borrow.Author.Needs.{needs}
 use borrow.Author.Tests.{lt-ltb, le-ltb}
-use native.Mathlib.Omega.{arith}
 use Rattle.stricter.proofs.lacks_room.Statement.{statement}
 use Rattle.stricter.proofs.lacks_room.Tie as tie
 

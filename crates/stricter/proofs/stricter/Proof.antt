@@ -1,5 +1,5 @@
 -- `stricter` meets its contract: the rows of both rules by the reader, then the comparison of the rules.
-use mathlib.Core.Path.{_≡_, sym, _∙_}
+use mathlib.Core.Path.{sym, _∙_}
 use Rattle.file_read.proofs.Answer.{served, turned-away}
 use Rattle.stricter_entry_spec.specs.Rows.{Slices, slicesOf}
 use Rattle.stricter.proofs.Files.{first-refused, second-refused, both-read}

@@ -16,14 +16,14 @@ returns : tie.Need-returns
 returns c =
     let start = c .before .before .before .before .before .before .before .before in
     let a = start .args in
-    (no-pairs (a .acodes .now) (a .amoves .now) _ (a .bcodes .now) (a .bmoves .now) _ (a .marks .now) (start .pre .4) (c .if1 .taken), ((refl, refl), (refl, refl)))
+    (no-pairs (a .acodes .now) (a .amoves .now) _ (a .bcodes .now) (a .bmoves .now) _ (a .marks .now) (start .pre .2) (c .if1 .taken), ((refl, refl), (refl, refl)))
 
 tag-file-requires : tie.Need-tag-file-requires
 tag-file-requires c κs =
     let start = c .before .before .before .before .before .before .before .before .before .before .before in
     let a = start .args in
     let p = start .pre in
-    (p .0, (holdsInitial (ruleIn (a .a .now)), p .1), room-A (length (a .acodes .now)) (length (a .bcodes .now)) _ (p .4) (c .before .before .before .if1 .left))
+    ((holdsInitial, p .0), room-A (length (a .acodes .now)) (length (a .bcodes .now)) _ (p .2) (c .before .before .before .if1 .left))
 
 tag-file-requires-2 : tie.Need-tag-file-requires-2
 tag-file-requires-2 c κs =
@@ -32,20 +32,20 @@ tag-file-requires-2 c κs =
     let start = at-if1 .before .before .before .before .before .before .before .before in
     let a = start .args in
     let p = start .pre in
-    let h = room-B (length (a .acodes .now)) (length (a .bcodes .now)) (length (a .marks .now)) (p .4) (at-if1 .if1 .left) in
-    (p .2, (lacksInitial (ruleIn (a .b .now)), p .3), omega (arith, h, at-tag-file .tag-file .kept .1 .1 .1 .1 .0))
+    let h = room-B (length (a .acodes .now)) (length (a .bcodes .now)) (length (a .marks .now)) (p .2) (at-if1 .if1 .left) in
+    ((lacksInitial, p .1), omega (arith, h, at-tag-file .tag-file .kept .1 .1 .1 .1 .0))
 
 cast-ainitial : tie.Need-cast-ainitial
 cast-ainitial c =
     let start = c .before .before .before .before .before .before .before .before .before .before .before .before .before .before .before .before .before .before .before .before .before .before
     .before .before .before .before .before .before .before in
-    let a = start .args in omega (arith, initial-low (a .a .now) (a .l) (start .pre .0))
+    omega (arith, initial-low (start .pre .0))
 
 cast-binitial : tie.Need-cast-binitial
 cast-binitial c =
     let start = c .before .before .before .before .before .before .before .before .before .before .before .before .before .before .before .before .before .before .before .before .before .before
     .before .before .before .before .before .before .before .before in
-    let a = start .args in omega (arith, initial-low (a .b .now) (a .m) (start .pre .2))
+    omega (arith, initial-low (start .pre .1))
 
 sort-tagged-requires : tie.Need-sort-tagged-requires
 sort-tagged-requires c κs =
@@ -60,18 +60,18 @@ sort-tagged-requires c κs =
     let q = ruleIn (a .b .now) in
     let s = holdsInitial r in
     let t = lacksInitial q in
-    let A = file-table (a .a .now) (a .l) (p .0) _ (x .0) s (a .acodes .now) (a .amoves .now) (p .1) in
-    let B = file-table (a .b .now) (a .m) (p .2) _ (y .0) t (a .bcodes .now) (a .bmoves .now) (p .3) in
-    let u = x .1 s (p .1) in
-    let v = y .1 t (p .3) in (
+    let A = file-table (p .0) (x .0) in
+    let B = file-table (p .1) (y .0) in
+    let u = x .1 in
+    let v = y .1 in (
       (
-        fits r q s t _ _ _ _ _ _ A B _ _ _ _ (u .0) (u .1) (v .0) (v .1) _ (at-tag-file2 .tag-file2 .kept .1 .1 .1 .1 .0 ∙ at-tag-file .tag-file .kept .1 .1 .1 .1 .0 ∙ p .4),
+        fits r q s t _ _ _ _ _ _ A B _ _ _ _ (u .0) (u .1) (v .0) (v .1) _ (at-tag-file2 .tag-file2 .kept .1 .1 .1 .1 .0 ∙ at-tag-file .tag-file .kept .1 .1 .1 .1 .0 ∙ p .2),
         stands r s _ _ _ A _ _ (u .0) (u .1),
         stands q t _ _ _ B _ _ (v .0) (v .1),
         few-components r s _ _ _ A,
         few-components q t _ _ _ B,
-        initial-low (a .a .now) (a .l) (p .0),
-        initial-low (a .b .now) (a .m) (p .2),
+        initial-low (p .0),
+        initial-low (p .1),
       ),
       rows-low q t _ _ _ B _ _ (v .0) (v .1),
     )
@@ -111,13 +111,13 @@ returns-2 c =
     let q = ruleIn (a .b .now) in
     let s = holdsInitial r in
     let t = lacksInitial q in
-    let A = file-table (a .a .now) (a .l) (p .0) _ (x .0) s (a .acodes .now) (a .amoves .now) (p .1) in
-    let B = file-table (a .b .now) (a .m) (p .2) _ (y .0) t (a .bcodes .now) (a .bmoves .now) (p .3) in
-    let u = x .1 s (p .1) in
-    let v = y .1 t (p .3) in
+    let A = file-table (p .0) (x .0) in
+    let B = file-table (p .1) (y .0) in
+    let u = x .1 in
+    let v = y .1 in
     let d = at-sort-tagged .sort-tagged .ensures in (
       sorted r q s t _ _ _ _ _ _ A B _ _ _ _ (u .0) (u .1) (v .0) (v .1) (a .l .head .initial) (a .m .head .initial)
-          (initial-low (a .a .now) (a .l) (p .0)) (initial-low (a .b .now) (a .m) (p .2)) _ _ (same-length-5 c ∙ p .4) (d .0),
+          (initial-low (p .0)) (initial-low (p .1)) _ _ (same-length-5 c ∙ p .2) (d .0),
       (
         (d .1 .0 .0 ∙ codes-again r s _ _ _ A _ _ (u .0) (u .1), d .1 .0 .1 ∙ moves-again r s _ _ _ A _ _ (u .0) (u .1)),
         (d .1 .1 .0 ∙ codes-again q t _ _ _ B _ _ (v .0) (v .1), d .1 .1 .1 ∙ moves-again q t _ _ _ B _ _ (v .0) (v .1)),

@@ -11,14 +11,14 @@ slice-aggregate-search-files : tie.Need-slice-aggregate-search-files
 slice-aggregate-search-files c =
     let start = c .before .before .before .before .before .before .before .before .before .before .before .before .before .before in
     let a = start .args in
-    sym (length-take-le (length (a .acodes .now) * length (a .bcodes .now)) (a .scratch .now) (start .pre .4))
+    sym (length-take-le (length (a .acodes .now) * length (a .bcodes .now)) (a .scratch .now) (start .pre .2))
 
 search-files-requires : tie.Need-search-files-requires
 search-files-requires c κs =
     let start = c .before .before .before .before .before .before .before .before .before .before .before .before .before .before in
     let a = start .args in
     let p = start .pre in
-    (p .0, p .1, p .2, p .3, length-take-le (length (a .acodes .now) * length (a .bcodes .now)) (a .scratch .now) (p .4), p .5)
+    (p .0, p .1, length-take-le (length (a .acodes .now) * length (a .bcodes .now)) (a .scratch .now) (p .2), p .3)
 
 same-length-6 : tie.Need-same-length-6
 same-length-6 c = search needs

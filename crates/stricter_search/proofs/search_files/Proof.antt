@@ -14,10 +14,10 @@ search-pairs-requires c κs =
     let p = start .pre in
     let s = at-sort-files .sort-files .ensures in
     rw (s .1 .0 .0, s .1 .0 .1, s .1 .1 .0, s .1 .1 .1) (
-      file-searchable (a .a .now) (a .l) (p .0) _ (a .acodes .now) (a .amoves .now) (p .1),
-      file-searchable (a .b .now) (a .m) (p .2) _ (a .bcodes .now) (a .bmoves .now) (p .3),
+      file-searchable (p .0),
+      file-searchable (p .1),
       ((λ x. bit x (a .l .head .initial)), (λ x. not (bit x (a .m .head .initial))), s .0),
-      p .5,
+      p .3,
     )
 
 returns : tie.Need-returns
