@@ -119,8 +119,8 @@ fn rule_rounds(file: &[u8], l: Layout) -> Tally
     requires { ⌜ readOf (now file) ≡ Accepted l ⌝ }
 {
     let p = build_prepare::prepare(file, l, true);
-    let opens = p.opens;
     let parts = p.parts;
+    let opens = build_prepare::file_opens(file, l);
     rounds(p.shape, &opens, &parts)
 }
 

@@ -79,8 +79,8 @@ pub fn build_accepted(
         (now (codes .entry)) (now (transitions .entry)) b (now (codes .exit)) (now (transitions .exit)) ⌝ }
 {
     let p = build_prepare::prepare(file, l, holds);
-    let opens = p.opens;
     let parts = p.parts;
+    let opens = build_prepare::file_opens(file, l);
     build_table(p.shape, &opens, &parts, codes, transitions)
 }
 

@@ -1,4 +1,4 @@
--- The tables that are made of a rule.
+-- What the build and the comparison work by is that of the file's rule.
 use mathlib.Core.Path.{_≡_, refl, subst}
 use mathlib.Core.Bool.{Bool}
 use mathlib.Core.List.{List}
@@ -17,30 +17,30 @@ use Rattle.file_read.proofs.Answer.{lent-rule, lent-passing}
 use Rattle.file_spec.specs.File.{countsOf, clausesOf, ruleIn}
 use Rattle.build_opens.specs.Opens.{Opens}
 use Rattle.build_cores.proofs.Rules.{parts-of}
-use Rattle.build_closure_spec.specs.Tables.{RuleTables}
+use Rattle.build_closure_spec.specs.Tables.{Shaped}
 
--- the tables of a rule
-tables-of : (r : Rule) → Passing r → (opens : List ℕ) → Opens (automaton r) (r .s) opens → (k : Components) → k ≡ componentsOf r → (holds : Bool)
-    → RuleTables r opens (k .masks) (record { s = r .s; components = k .count; accepting = r .accepting; initial = r .initial; holds = holds })
+-- the numbers of a rule and the masks of its components
+shape-of : (r : Rule) → Passing r → (k : Components) → k ≡ componentsOf r → (holds : Bool)
+    → Shaped r (k .masks) (record { s = r .s; components = k .count; accepting = r .accepting; initial = r .initial; holds = holds })
 unfolding automaton componentsOf
-tables-of r P opens O k e holds =
-    rw e (record {
-      shaped = record { passing = P; masks = parts-of r P; letters-are = refl; components-are = refl; accepting-are = refl; initial-is = refl };
-      table = O;
-    })
+shape-of r P k e holds = rw e (record { passing = P; masks = parts-of r P; letters-are = refl; components-are = refl; accepting-are = refl; initial-is = refl })
 
 -- from the parts of an accepted file
 module _ (f : List ℕ) (l : Layout) (p : readOf f ≡ Accepted l) (counts clauses : List ℕ) (c : counts ≡ countsOf f) (d : clauses ≡ clausesOf f) where
-  pub file-formed : WellFormed (ruleOf (l .head) counts clauses)
+  abbrev lent : Rule
+  lent = ruleOf (l .head) counts clauses
+
+  pub file-formed : WellFormed lent
   file-formed = lent-passing f l p counts clauses c d .formed
 
   pub file-accepting : l .head .accepting < 256
-  file-accepting = accepting-small (ruleOf (l .head) counts clauses) file-formed
+  file-accepting = accepting-small lent file-formed
 
-  pub file-tables : (opens : List ℕ) → Opens (automaton (ruleOf (l .head) counts clauses)) (l .head .s) opens
-      → (k : Components) → k ≡ componentsOf (ruleOf (l .head) counts clauses) → (holds : Bool)
-      → RuleTables (ruleIn f) opens (k .masks)
-      (record { s = l .head .s; components = k .count; accepting = l .head .accepting; initial = l .head .initial; holds = holds })
-  file-tables opens O k e holds =
-      subst (λ (r : Rule). RuleTables r opens (k .masks) (record { s = l .head .s; components = k .count; accepting = l .head .accepting; initial = l .head .initial; holds = holds }))
-      (lent-rule f l p counts clauses c d) (tables-of (ruleOf (l .head) counts clauses) (lent-passing f l p counts clauses c d) opens O k e holds)
+  pub file-shape : (k : Components) → k ≡ componentsOf lent → (holds : Bool)
+      → Shaped (ruleIn f) (k .masks) (record { s = l .head .s; components = k .count; accepting = l .head .accepting; initial = l .head .initial; holds = holds })
+  file-shape k e holds =
+      subst (λ (r : Rule). Shaped r (k .masks) (record { s = l .head .s; components = k .count; accepting = l .head .accepting; initial = l .head .initial; holds = holds }))
+      (lent-rule f l p counts clauses c d) (shape-of lent (lent-passing f l p counts clauses c d) k e holds)
+
+  pub opens-same : (opens : List ℕ) → Opens (automaton lent) (l .head .s) opens → Opens (automaton (ruleIn f)) (ruleIn f .s) opens
+  opens-same opens O = subst (λ (r : Rule). Opens (automaton r) (r .s) opens) (lent-rule f l p counts clauses c d) O

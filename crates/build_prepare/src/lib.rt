@@ -2,30 +2,32 @@
 use build_closure_spec::Shape;
 use file_read::Layout;
 ghost use mathlib.Core.Path.{_≡_};
+ghost use Rattle.theory.specs.Automaton.{automaton};
 ghost use Rattle.file_spec.specs.File.{ruleIn};
 ghost use Rattle.file_read.specs.Read.{readOf};
 ghost use Rattle.file_read.specs.declared.Read.the-variants.{Accepted};
-ghost use Rattle.build_closure_spec.specs.Tables.{RuleTables};
+ghost use Rattle.build_opens.specs.Opens.{Opens};
+ghost use Rattle.build_closure_spec.specs.Tables.{Shaped};
 
-// The numbers and tables of a rule.
+// The numbers of a rule and the masks of its components.
 pub struct Prepared {
     pub shape: Shape,
-    pub opens: [u8; 4096],
     pub parts: [u8; 8],
 }
 
-// The numbers and tables of an accepted file's rule. A run begins where the set holds the initial state, or, if `holds` is false, where it
-// lacks it.
+// The numbers of an accepted file's rule and the masks of its components. A run begins where the set holds the initial state, or, if
+// `holds` is false, where it lacks it.
 pub fn prepare(file: &[u8], l: Layout, holds: bool) -> Prepared
     requires { ⌜ readOf (now file) ≡ Accepted l ⌝ }
-    ensures { λ p. ⌜ RuleTables (ruleIn (now (file .entry))) (p .opens) (p .parts) (p .shape) × (p .shape .holds ≡ holds) ⌝ }
+    ensures { λ p. ⌜ Shaped (ruleIn (now (file .entry))) (p .parts) (p .shape) × (p .shape .holds ≡ holds) ⌝ }
 {
     let h = l.head;
-    let counts = file_read::counts_of(file, l);
-    let clauses = file_read::clauses_of(file, l);
-    let split = rule_components::split(h, counts, clauses);
+    let split = rule_components::split(
+        h,
+        file_read::counts_of(file, l),
+        file_read::clauses_of(file, l),
+    );
     let parts = split.masks;
-    let opens = build_opens::open_table(h, counts, clauses);
     let shape = Shape {
         s: h.s,
         components: split.count,
@@ -33,9 +35,18 @@ pub fn prepare(file: &[u8], l: Layout, holds: bool) -> Prepared
         initial: h.initial,
         holds,
     };
-    Prepared {
-        shape,
-        opens,
-        parts,
-    }
+    Prepared { shape, parts }
+}
+
+// The table of the open states of an accepted file's rule. It is not in the struct, since a copy of it would stay on the stack.
+pub fn file_opens(file: &[u8], l: Layout) -> [u8; 4096]
+    requires { ⌜ readOf (now file) ≡ Accepted l ⌝ }
+    ensures { λ r. ⌜ Opens (automaton (ruleIn (now (file .entry)))) (ruleIn (now (file .entry)) .s) r ⌝ }
+{
+    let h = l.head;
+    build_opens::open_table(
+        h,
+        file_read::counts_of(file, l),
+        file_read::clauses_of(file, l),
+    )
 }

@@ -32,8 +32,8 @@ fn tag_file(file: &[u8], l: Layout, codes: &mut [u64], moves: &mut [u64], live: 
         × TaggedMoves (automaton (ruleIn (now (file .entry)))) (now (codes .entry)) (now (moves .entry)) (now (moves .exit)) ⌝ }
 {
     let p = build_prepare::prepare(file, l, true);
-    let opens = p.opens;
     let parts = p.parts;
+    let opens = build_prepare::file_opens(file, l);
     let shape = p.shape;
     tag_live(shape, &opens, &parts, codes, moves, live);
     shape.components

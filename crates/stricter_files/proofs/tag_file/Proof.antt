@@ -8,23 +8,25 @@ use Rattle.stricter_files.proofs.tag_file.Tie as tie
 
 tag-live-requires : tie.Need-tag-live-requires
 tag-live-requires c κs =
-    let at-prepare = c .before .before .before .before .before .before .before .before in
+    let at-opens = c .before .before .before .before .before .before in
+    let at-prepare = at-opens .before .before in
     let start = at-prepare .before .before .before .before .before in
     let (begins, lists) = start .pre .0 in
     let r = ruleIn (start .args .file .now) in
     let T = file-table lists refl in
-    ((r, begins r, at-prepare .prepare .ensures .0, T .few, T .codes-are, T .moves-are), start .pre .1)
+    ((r, begins r, record { shaped = at-prepare .prepare .ensures .0; table = at-opens .file-opens .ensures }, T .few, T .codes-are, T .moves-are), start .pre .1)
 
 returns : tie.Need-returns
 returns c =
     let at-tag-live = c .before .before .before .before .before .before in
-    let at-prepare = at-tag-live .before .before .before .before .before .before .before .before .before in
+    let at-opens = at-tag-live .before .before .before .before .before .before .before in
+    let at-prepare = at-opens .before .before in
     let start = at-prepare .before .before .before .before .before in
     let (begins, lists) = start .pre .0 in
     let r = ruleIn (start .args .file .now) in
     let T = file-table lists refl in
     let P = at-prepare .prepare .ensures .0 in
-    (P .shaped .components-are, at-tag-live .tag-live .ensures r (begins r) P (T .few) (T .codes-are) (T .moves-are))
+    (P .components-are, at-tag-live .tag-live .ensures r (begins r) (record { shaped = P; table = at-opens .file-opens .ensures }) (T .few) (T .codes-are) (T .moves-are))
 
 pub tag-file-spec : {M : Type 1} → statement M
-tag-file-spec = tie.close (tie.spec (λ c κs. search needs) tag-live-requires (λ c. search needs) (λ c. search needs) (λ c. search needs) returns)
+tag-file-spec = tie.close (tie.spec (λ c κs. search needs) (λ c κs. search needs) tag-live-requires (λ c. search needs) (λ c. search needs) (λ c. search needs) returns)
