@@ -1,14 +1,14 @@
 // Steps back over every letter from every core of the rule on standard input, again and again, so that a driver can time it.
 use build_closure_spec::Shape;
-use file_read::Layout;
-use file_read::Read;
+use file_spec::Layout;
+use file_spec::Read;
 use libc::STDIN_FILENO;
 use libc::STDOUT_FILENO;
 use std::num::wrapping_add_u64;
 ghost use mathlib.Core.Path.{_≡_};
 ghost use Rattle.theory.specs.Rule.{Rule};
-ghost use Rattle.file_read.specs.Read.{readOf};
-ghost use Rattle.file_read.specs.declared.Read.the-variants.{Accepted};
+ghost use Rattle.file_spec.specs.Reading.{readOf};
+ghost use Rattle.file_spec.specs.declared.Read.the-variants.{Accepted};
 ghost use Rattle.build_cores.specs.Vectors.{Within};
 ghost use Rattle.build_cores.specs.Used.{capsOf};
 ghost use Rattle.build_closure_spec.specs.Keys.{Cored};

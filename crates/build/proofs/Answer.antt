@@ -16,10 +16,10 @@ use Rattle.theory.specs.Passing.{Passing}
 use Rattle.theory.specs.Table.{ListsFrom}
 use Rattle.theory.specs.TableComputed.{macrostatesFrom, transitionsFrom}
 use Rattle.theory_laws.proofs.Tables.{lists-from}
-use Rattle.file_read.specs.declared.Layout.{Layout}
-use Rattle.file_read.specs.declared.Read.the-variants.{Accepted}
+use Rattle.file_spec.specs.declared.Layout.{Layout}
+use Rattle.file_spec.specs.declared.Read.the-variants.{Accepted}
 use Rattle.file_spec.specs.File.{ruleIn}
-use Rattle.file_read.specs.Read.{readOf}
+use Rattle.file_spec.specs.Reading.{readOf}
 use Rattle.file_read.proofs.Answer.{served}
 use Rattle.file_spec.specs.Rows.{fileRow, fileRows, layoutRows, trailerRows, bodyRows, nameRows, prefaceRows}
 use Rattle.file_spec.specs.RuleRows.{numberRows, listRows, clauseRows, componentRows, formedRows}

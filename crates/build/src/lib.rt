@@ -2,14 +2,14 @@
 use build_closure_spec::Shape;
 use build_lists::list_codes;
 use build_lists::list_transitions;
-use file_read::Layout;
-use file_read::Read;
+use file_spec::Layout;
+use file_spec::Read;
 ghost use mathlib.Core.Path.{_≡_};
 ghost use mathlib.Core.Bool.{true};
 ghost use Rattle.theory.specs.Rule.{Rule};
 ghost use Rattle.theory.specs.TableComputed.{macrostatesFrom, transitionsFrom};
-ghost use Rattle.file_read.specs.Read.{readOf};
-ghost use Rattle.file_read.specs.declared.Read.the-variants.{Accepted};
+ghost use Rattle.file_spec.specs.Reading.{readOf};
+ghost use Rattle.file_spec.specs.declared.Read.the-variants.{Accepted};
 ghost use Rattle.build_closure_spec.specs.Keys.{startOf};
 ghost use Rattle.build_closure_spec.specs.Tables.{RuleTables};
 ghost use Rattle.build.specs.Built.{fileCodes, fileMoves};

@@ -10,9 +10,9 @@ use Rattle.rule_entries.specs.Entries.{ruleOf}
 use Rattle.rule_entries.proofs.Entries.{accepting-small}
 use Rattle.rule_components.specs.declared.Components.{Components}
 use Rattle.rule_components.specs.Numbered.{componentsOf}
-use Rattle.file_read.specs.declared.Layout.{Layout}
-use Rattle.file_read.specs.declared.Read.the-variants.{Accepted}
-use Rattle.file_read.specs.Read.{readOf}
+use Rattle.file_spec.specs.declared.Layout.{Layout}
+use Rattle.file_spec.specs.declared.Read.the-variants.{Accepted}
+use Rattle.file_spec.specs.Reading.{readOf}
 use Rattle.file_read.proofs.Answer.{lent-rule, lent-passing}
 use Rattle.file_spec.specs.File.{countsOf, clausesOf, ruleIn}
 use Rattle.build_opens.specs.Opens.{Opens}

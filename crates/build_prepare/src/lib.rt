@@ -1,11 +1,11 @@
 // What the build and the comparison work by: the numbers of a rule, the masks of its components and the table of its open states.
 use build_closure_spec::Shape;
-use file_read::Layout;
+use file_spec::Layout;
 ghost use mathlib.Core.Path.{_≡_};
 ghost use Rattle.theory.specs.Automaton.{automaton};
 ghost use Rattle.file_spec.specs.File.{ruleIn};
-ghost use Rattle.file_read.specs.Read.{readOf};
-ghost use Rattle.file_read.specs.declared.Read.the-variants.{Accepted};
+ghost use Rattle.file_spec.specs.Reading.{readOf};
+ghost use Rattle.file_spec.specs.declared.Read.the-variants.{Accepted};
 ghost use Rattle.build_opens.specs.Opens.{Opens};
 ghost use Rattle.build_closure_spec.specs.Tables.{Shaped};
 

@@ -11,7 +11,7 @@ use crate::text::say_answer;
 use crate::text::say_bytes;
 use crate::text::say_numbers;
 use build::Built;
-use file_read::Read;
+use file_spec::Read;
 use file_write_spec::Written;
 use judge_spec::Verdict;
 use libc::STDIN_FILENO;

@@ -24,7 +24,7 @@ use Rattle.file_tidy_spec.proofs.Laws.{tidy-laid}
 use Rattle.loop_spec.specs.declared.Report.{Report}
 use Rattle.loop_spec.specs.Loops.{Reported}
 use Rattle.loop_spec.specs.Search.{loopOf}
-use Rattle.loop_report.specs.Report as report
+use Rattle.loop_spec.specs.Reported as report
 use Rattle.file_prefaces.proofs.Verdicts.{both-alike}
 
 -- ---- the tidy tool

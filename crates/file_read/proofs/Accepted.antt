@@ -13,8 +13,8 @@ use Rattle.file_spec.specs.File.{trailer, tagged, clauseCount, entryCount, clau
 use Rattle.file_spec.specs.Names.{namesTag, hasNames, namesBefore, repeatsName}
 use Rattle.file_spec.specs.Rows.{fileRow, trailerRows, layoutRows, bodyRows, nameRows, prefaceRows, fileRows}
 use Rattle.file_spec.specs.RuleRows.{numberRows, listRows, nested, someNested, clauseRows, componentRows, formedRows}
-use Rattle.file_read.specs.Read.{unrefused, prefaceOf}
-use Rattle.file_spec.proofs.Parts.{clauses-length}
+use Rattle.file_spec.specs.Reading.{unrefused, prefaceOf}
+use Rattle.file_spec.proofs.FileParts.{clauses-length}
 use Rattle.file_read.proofs.FileRows.{accepted-placed}
 use Rattle.sets.specs.Tests.{every, some}
 use Rattle.sets.specs.Masks.{bit, mask, inside}

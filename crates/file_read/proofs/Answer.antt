@@ -7,12 +7,12 @@ use native.Mathlib.Omega.{arith}
 use lib.ListN.{length, take, drop}
 use Rattle.theory.specs.Passing.{Passing}
 use Rattle.rule_entries.specs.Entries.{ruleOf}
-use Rattle.file_read.specs.declared.Layout.{Layout}
-use Rattle.file_read.specs.declared.Read.the-variants.{Accepted, Refused}
+use Rattle.file_spec.specs.declared.Layout.{Layout}
+use Rattle.file_spec.specs.declared.Read.the-variants.{Accepted, Refused}
 use Rattle.file_spec.specs.File.{trailer, clausesOf, countsOf, clausesAt, partBefore, namesOf, ruleIn}
 use Rattle.file_spec.specs.Rows.{prefaceRow, fileRow}
-use Rattle.file_read.specs.Read.{layoutOf, answer, readOf, unrefused, prefaceOf}
-use Rattle.file_spec.proofs.Parts.{clauses-part, counts-part}
+use Rattle.file_spec.specs.Reading.{layoutOf, answer, readOf, unrefused, prefaceOf}
+use Rattle.file_spec.proofs.FileParts.{clauses-part, counts-part}
 use Rattle.file_spec.proofs.Names.{cutOff, fit-21}
 use Rattle.file_read.proofs.FileRows.{accepted-placed, accepted-passing, accepted-rows}
 use Rattle.file_read.proofs.Accepted.{preface-accepted}

@@ -12,7 +12,7 @@ use Rattle.file_spec.specs.Rows.{trailerRows, layoutRows, bodyRows, bodyRow}
 use Rattle.file_spec.specs.RuleRows.{numberRows, listRows, someNested, clauseRows, componentRows, formedRows}
 use Rattle.file_spec.specs.Rows.{nameRows, prefaceRows, prefaceRow, fileRows, fileRow, oldRows, oldRow}
 use Rattle.file_spec.proofs.TrailerRows.{Placed, placed, trailer-numbered, trailer-numbers}
-use Rattle.file_spec.proofs.Parts.{counts-length}
+use Rattle.file_spec.proofs.FileParts.{counts-length}
 use Rattle.file_spec.proofs.Formed.{formed, formed-parts, formed-passing, formed-apart}
 
 pub layout-numbered : (f : List ℕ) → numbered (layoutRows f) ≡ true

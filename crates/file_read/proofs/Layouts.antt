@@ -13,7 +13,7 @@ use Rattle.file_spec.specs.File.{trailer, tagged, headOf, clauseCount, entryCou
 use Rattle.file_spec.specs.Names.{namesBefore}
 use Rattle.file_spec.specs.Rows.{layoutRows, trailerRows, bodyRow, prefaceRows, prefaceRow, fileRow}
 use Rattle.file_spec.specs.RuleRows.{someNested}
-use Rattle.file_read.specs.Read.{prefaceOf}
+use Rattle.file_spec.specs.Reading.{prefaceOf}
 use Rattle.file_spec.proofs.TrailerRows.{pass-7, rows-lists}
 use Rattle.file_spec.proofs.Names.{no-preface}
 use Rattle.file_spec.proofs.Formed.{formed-numbers, formed-lists, passing-formed}

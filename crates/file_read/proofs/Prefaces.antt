@@ -21,7 +21,7 @@ use Rattle.file_spec.specs.Names.{repeatsName}
 use Rattle.file_spec.proofs.Names.{cutOff}
 use Rattle.file_spec.specs.Rows.{trailerRows, layoutRows, bodyRows, bodyRow, nameRows, prefaceRows, prefaceRow, fileRows, fileRow, oldRows, oldRow}
 use Rattle.file_spec.specs.RuleRows.{outside, numberRows, componentRows, formedRows}
-use Rattle.file_read.specs.Read.{prefaceOf}
+use Rattle.file_spec.specs.Reading.{prefaceOf}
 use Rattle.file_spec.proofs.TrailerRows.{row-1, row-2, row-numbers, row-7, rows-trailer, placed}
 use Rattle.file_read.proofs.FileRows.{layout-numbered, file-numbered, old-numbered, old-accepts, laid, accepted-placed, accepted-rows, rows-layout, rows-body, rows-preface}
 use Rattle.file_read.proofs.Accepted.{preface-accepted}

@@ -3,6 +3,9 @@ use file_rows::rule::lists_row;
 use file_rows::trailer::read_count;
 use file_rows::trailer::read_head;
 use file_rows::trailer::trailer_row;
+use file_spec::Layout;
+use file_spec::Parts;
+use file_spec::Read;
 use rule_entries::Head;
 ghost use mathlib.Core.Path.{_≡_};
 ghost use Prim.Native.Nat.{_+_, _-_, _≤_};
@@ -13,29 +16,8 @@ ghost use Rattle.rule_entries.specs.Entries.{ruleOf};
 ghost use Rattle.file_spec.specs.File.{clauseCount, entryCount, countsOf, clausesOf, namesOf};
 ghost use Rattle.file_spec.specs.Rows.{trailerRows, layoutRows, fileRow};
 ghost use Rattle.file_spec.specs.RuleRows.{componentRows, formedRows};
-ghost use Rattle.file_read.specs.declared.Read.the-variants.{Accepted};
-ghost use Rattle.file_read.specs.Read.{partsOf, readOf, prefaceOf};
-
-// Where a file's parts stand: its numbers, the place of its first clause, and how many clauses it has.
-pub struct Parts {
-    pub head: Head,
-    pub at: usize,
-    pub clauses: usize,
-}
-
-// Where the rule of an accepted file stands: its parts, and how many bytes of names end two bytes before its first clause.
-pub struct Layout {
-    pub head: Head,
-    pub at: usize,
-    pub clauses: usize,
-    pub names: usize,
-}
-
-// The answer of the reader: the layout of an accepted file, or the number of the first row that refuses it.
-pub enum Read {
-    Accepted(Layout),
-    Refused(u8),
-}
+ghost use Rattle.file_spec.specs.declared.Read.the-variants.{Accepted};
+ghost use Rattle.file_spec.specs.Reading.{partsOf, readOf, prefaceOf};
 
 // Where the parts of a file stand that has room for them.
 pub fn lay_out(f: &[u8]) -> Parts

@@ -2,7 +2,8 @@ pub mod Examples
 pub mod Numbers
 pub mod ListRows
 pub mod TrailerRows
-pub mod Parts
+pub mod FileParts
 pub mod Formed
 pub mod Names
 pub mod Walks
+pub mod Reading

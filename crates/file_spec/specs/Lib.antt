@@ -2,3 +2,4 @@ pub mod File
 pub mod Names
 pub mod RuleRows
 pub mod Rows
+pub mod Reading

@@ -18,7 +18,7 @@ use Rattle.file_spec.specs.File.{trailer, clausesAt, partBefore, namesOf, ruleI
 use Rattle.file_spec.specs.Names.{prefaceFrom}
 use Rattle.file_spec.specs.Rows.{fileRow}
 use Rattle.file_spec.proofs.Names.{written-before}
-use Rattle.file_spec.proofs.Parts.{clauses-length, counts-length}
+use Rattle.file_spec.proofs.FileParts.{clauses-length, counts-length}
 use Rattle.file_spec.proofs.TrailerRows.{placed}
 use Rattle.file_read.proofs.FileRows.{laid, accepted-passing, accepted-apart}
 use Rattle.file_read.proofs.Layouts.{layout-accepted}

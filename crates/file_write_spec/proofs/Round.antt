@@ -15,7 +15,7 @@ use Rattle.file_spec.specs.File.{trailer, partBefore, namesOf, ruleIn, bodyOf}
 use Rattle.file_spec.specs.Rows.{prefaceRow, fileRow}
 use Rattle.file_spec.specs.Names.{namesTag, hasNames, prefaceFrom}
 use Rattle.file_spec.proofs.Names.{fit-21, names-split, names-length, given-whole, given-names, written-row, written-before}
-use Rattle.file_read.specs.Read.{prefaceOf}
+use Rattle.file_spec.specs.Reading.{prefaceOf}
 use Rattle.file_read.proofs.FileRows.{accepted-rows}
 use Rattle.file_read.proofs.Accepted.{Bytes, preface-accepted, accepted-layout}
 use Rattle.file_read.proofs.Layouts.{layout-accepted}

@@ -1,6 +1,6 @@
 // The writer of a table's text in the Hanoi Omega-Automata format, version 1.
-use file_read::Read;
 use file_read::read_rule;
+use file_spec::Read;
 use file_write_spec::Written;
 use hoa_length::text_length;
 use hoa_lines::propositions_of;

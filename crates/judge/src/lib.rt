@@ -1,8 +1,8 @@
 // The judge of words on a rule.
-use file_read::Read;
 use file_read::clauses_of;
 use file_read::counts_of;
 use file_read::read_rule;
+use file_spec::Read;
 use judge_masks::word::fill;
 use judge_spec::Verdict;
 use rule_entries::Head;

@@ -1,8 +1,8 @@
 // The judge of words on a rule that shows which clause carried the verdict.
-use file_read::Read;
 use file_read::clauses_of;
 use file_read::counts_of;
 use file_read::read_rule;
+use file_spec::Read;
 use judge_choices_fill::fill_choices;
 use judge_choices_place::Partition;
 use judge_choices_place::classes_of;

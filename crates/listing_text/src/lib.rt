@@ -1,6 +1,6 @@
 // The text of a rule file's listing.
 use build::Built;
-use file_read::Read;
+use file_spec::Read;
 ghost use mathlib.Core.Path.{_≡_};
 ghost use mathlib.Core.List.{_++_};
 ghost use Prim.Native.Nat.{_≤_, _<_};

@@ -16,7 +16,7 @@ use Rattle.theory.specs.Rule.{Rule}
 use Rattle.theory.specs.Run.{sourceOf, targetOf}
 use Rattle.rule_entries.specs.Entries.{ruleOf}
 use Rattle.trim_spec.specs.Graph.{Inside}
-use Rattle.file_read.specs.declared.Layout.{Layout}
+use Rattle.file_spec.specs.declared.Layout.{Layout}
 use Rattle.file_spec.specs.File.{countsOf, clausesOf, ruleIn}
 use Rattle.file_spec.specs.Rows.{fileRows, fileRow}
 use Rattle.file_read.proofs.Answer as read

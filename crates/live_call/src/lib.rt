@@ -1,6 +1,6 @@
 // The five calls that follow a log live: start, arrival, withdrawal, mark and return.
-use file_read::Read;
 use file_read::read_rule;
+use file_spec::Read;
 use live_arrive::Quick;
 use live_arrive::try_quickly;
 use live_letters::number_at;

@@ -20,7 +20,7 @@ use Rattle.loop_spec.proofs.Reported.{first-found}
 use Rattle.loop_spec.proofs.Routes.{best}
 use Rattle.loop_search.specs.declared.Start.{Start}
 use Rattle.loop_search.specs.Begins.{Begins}
-use Rattle.loop_report.specs.Report.{sliceRows, answer, after}
+use Rattle.loop_spec.specs.Reported.{sliceRows, answer, after}
 
 -- ---- row 16, and the answer
 

@@ -18,7 +18,7 @@ use Rattle.loop_spec.specs.Search.{loopOf}
 use Rattle.loop_spec.specs.declared.Report.{Report}
 use Rattle.loop_spec.specs.declared.Report.the-variants.{States, Nothing, Refused}
 use Rattle.loop_spec.proofs.Reported.{reported}
-use Rattle.loop_report.specs.Report.{sliceRows, formedRows, reportRow, answer, reportOf, after, sliceAfter, told}
+use Rattle.loop_spec.specs.Reported.{sliceRows, formedRows, reportRow, answer, reportOf, after, sliceAfter, told}
 
 -- a refusal
 pub answer-refused : (k : ℕ) (states : List ℕ) → (k ≡ 0 → ⊥) → Refused k ≡ answer k states

@@ -16,7 +16,7 @@ ghost use Rattle.rule_entries.specs.Entries.{ruleOf};
 ghost use Rattle.file_spec.specs.File.{ruleIn};
 ghost use Rattle.loop_spec.specs.Loops.{Reported};
 ghost use Rattle.loop_spec.specs.Search.{loopOf};
-ghost use Rattle.loop_report.specs.Report.{sliceRows, formedRows, reportRow, answer, reportOf, after, sliceAfter, told};
+ghost use Rattle.loop_spec.specs.Reported.{sliceRows, formedRows, reportRow, answer, reportOf, after, sliceAfter, told};
 
 // The report on a well-formed rule: the loop's states to the start of out.
 fn search(h: Head, counts: &[u8], clauses: &[u8], out: &mut [u8]) -> Report

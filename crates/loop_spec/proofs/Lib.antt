@@ -5,3 +5,4 @@ pub mod Routes
 pub mod Reported
 pub mod Shape
 pub mod Components
+pub mod ReportCases

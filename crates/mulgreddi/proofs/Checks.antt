@@ -5,9 +5,9 @@ use Prim.Native.Nat.{ℕ}
 use native.Mathlib.Omega.{arith}
 use Rattle.mulgreddi_answers.specs.declared.Answer.{Answer}
 use Rattle.mulgreddi_answers.specs.Answers.{refusedAs, servedAs}
-use Rattle.file_read.specs.declared.Layout.{Layout}
-use Rattle.file_read.specs.declared.Read.the-variants.{Accepted, Refused}
-use Rattle.file_read.specs.Read.{readOf}
+use Rattle.file_spec.specs.declared.Layout.{Layout}
+use Rattle.file_spec.specs.declared.Read.the-variants.{Accepted, Refused}
+use Rattle.file_spec.specs.Reading.{readOf}
 use Rattle.file_read.proofs.Answer.{served, turned-away}
 use Rattle.mulgreddi.specs.Check.{readAnswer, Checked}
 

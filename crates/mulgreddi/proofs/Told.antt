@@ -7,7 +7,7 @@ use Rattle.theory.specs.Rule.{Rule}
 use Rattle.loop_spec.specs.Loops.{Reported}
 use Rattle.loop_spec.specs.declared.Report.{Report}
 use Rattle.loop_spec.specs.declared.Report.the-variants.{States, Nothing, Refused}
-use Rattle.loop_report.specs.Report.{told}
+use Rattle.loop_spec.specs.Reported.{told}
 use Rattle.mulgreddi_answers.specs.declared.Answer.{Answer}
 use Rattle.mulgreddi_answers.specs.Answers.{loopAnswer}
 

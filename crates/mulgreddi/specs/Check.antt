@@ -6,9 +6,9 @@ use lib.ListN.{take, drop}
 use Rattle.mulgreddi_answers.specs.declared.Answer.{Answer}
 use Rattle.mulgreddi_answers.specs.Answers.{refusedAs, servedAs}
 use Rattle.file_spec.specs.File.{namesOf}
-use Rattle.file_read.specs.declared.Read.{Read}
-use Rattle.file_read.specs.declared.Read.the-variants as read
-use Rattle.file_read.specs.Read.{readOf}
+use Rattle.file_spec.specs.declared.Read.{Read}
+use Rattle.file_spec.specs.declared.Read.the-variants as read
+use Rattle.file_spec.specs.Reading.{readOf}
 
 -- the length of the preface, and how many of its bytes are names
 unfoldable pub readAnswer : Read → Answer

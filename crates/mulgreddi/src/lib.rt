@@ -12,7 +12,7 @@ pub mod tidy;
 pub mod trimmed;
 pub mod word;
 
-use file_read::Read;
+use file_spec::Read;
 use mulgreddi_answers::Answer;
 ghost use mathlib.Core.Path.{_≡_};
 ghost use mathlib.Core.Logic.{_↔_};

@@ -4,7 +4,7 @@ ghost use mathlib.Core.Path.{_≡_};
 ghost use lib.ListN.{length, take};
 ghost use Rattle.file_spec.specs.File.{ruleIn};
 ghost use Rattle.loop_spec.specs.Loops.{Reported};
-ghost use Rattle.loop_report.specs.Report.{reportRow, reportOf, sliceAfter};
+ghost use Rattle.loop_spec.specs.Reported.{reportRow, reportOf, sliceAfter};
 ghost use Rattle.mulgreddi_answers.specs.Answers.{loopAnswer};
 
 // The shortest mixed loop of a rule file: writes its states to the start of out; their number, 0 for none.

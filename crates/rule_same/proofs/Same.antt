@@ -18,13 +18,13 @@ use Rattle.rule_entries.proofs.Clauses.{satisfies-wide}
 use Rattle.rule_entries.proofs.Entries.{entry-states}
 use Rattle.rule_entries.specs.declared.Head.{Head}
 use Rattle.rule_entries.specs.Entries.{ruleOf}
-use Rattle.file_read.specs.declared.Layout.{Layout}
-use Rattle.file_read.specs.declared.Read.the-variants.{Accepted}
+use Rattle.file_spec.specs.declared.Layout.{Layout}
+use Rattle.file_spec.specs.declared.Read.the-variants.{Accepted}
 use Rattle.file_spec.specs.File.{countsOf, clausesOf, namesOf, ruleIn, namedIn}
 use Rattle.file_spec.specs.Rows.{fileRow}
 use Rattle.slice_search.specs.Same.{sameLists}
 use Rattle.slice_search.proofs.Same.{lists-told}
-use Rattle.file_read.specs.Read.{readOf}
+use Rattle.file_spec.specs.Reading.{readOf}
 use Rattle.file_read.proofs.Answer.{served}
 use Rattle.rule_same.specs.declared.entries.SameRules.the-variants.{Different, Refused}
 use Rattle.rule_same.specs.Same.{agree, sameEntry, sameEntries, sameRules, sameNamed, verdict, answer, sameFiles, sameBodies, sameRulesOf}

@@ -2,15 +2,15 @@
 use crate::entries::SameRules;
 use crate::entries::same_entries;
 use check::same;
-use file_read::Layout;
-use file_read::Read;
+use file_spec::Layout;
+use file_spec::Read;
 use rule_entries::Head;
 ghost use mathlib.Core.Path.{_≡_};
 ghost use mathlib.Core.Bool.{_&&_};
 ghost use lib.Dec.{eqb};
 ghost use Rattle.theory.specs.Rule.{entry};
-ghost use Rattle.file_read.specs.Read.{readOf};
-ghost use Rattle.file_read.specs.declared.Read.the-variants.{Accepted};
+ghost use Rattle.file_spec.specs.Reading.{readOf};
+ghost use Rattle.file_spec.specs.declared.Read.the-variants.{Accepted};
 ghost use Rattle.rule_same.specs.Same.{sameRulesOf, sameFiles, sameBodies};
 
 // Whether n, s, initial state and accepting mask agree.

@@ -1,8 +1,8 @@
 // The judge of a sheet of words on a rule.
-use file_read::Read;
 use file_read::clauses_of;
 use file_read::counts_of;
 use file_read::read_rule;
+use file_spec::Read;
 use rule_entries::Head;
 use rule_entries::starts_of;
 use rule_reach::closures;

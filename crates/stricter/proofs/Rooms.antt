@@ -19,9 +19,9 @@ use Rattle.theory.specs.TableComputed.{macrostates, transitions}
 use Rattle.rejecting_spec.specs.RejectingComputed.{rejectingMacrostates, rejectingTransitions}
 use Rattle.theory_laws.proofs.Tables.{lists-from}
 use Rattle.file_spec.specs.File.{ruleIn}
-use Rattle.file_read.specs.declared.Layout.{Layout}
-use Rattle.file_read.specs.declared.Read.the-variants.{Accepted}
-use Rattle.file_read.specs.Read.{readOf}
+use Rattle.file_spec.specs.declared.Layout.{Layout}
+use Rattle.file_spec.specs.declared.Read.the-variants.{Accepted}
+use Rattle.file_spec.specs.Reading.{readOf}
 use Rattle.file_read.proofs.Answer.{served}
 use Rattle.build_closure_spec.specs.Keys.{startOf}
 use Rattle.build.specs.declared.Counts.{Counts}

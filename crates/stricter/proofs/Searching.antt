@@ -19,7 +19,7 @@ use Rattle.theory.specs.TableComputed.{macrostates, transitions}
 use Rattle.rejecting_spec.specs.Rejecting.{lacksInitial}
 use Rattle.rejecting_spec.specs.RejectingComputed.{rejectingMacrostates, rejectingTransitions}
 use Rattle.file_spec.specs.File.{ruleIn}
-use Rattle.file_read.specs.declared.Layout.{Layout}
+use Rattle.file_spec.specs.declared.Layout.{Layout}
 use Rattle.file_read.proofs.Answer as reader
 use Rattle.build_closure_spec.specs.Keys.{startOf}
 use Rattle.build.specs.declared.Counts.{Counts}

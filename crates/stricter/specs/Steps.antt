@@ -8,8 +8,8 @@ use Rattle.refusals.specs.Rows.{firstRow}
 use Rattle.theory.specs.Rule.{Rule}
 use Rattle.rejecting_spec.specs.RejectingComputed.{rejectingMacrostates, rejectingTransitions}
 use Rattle.file_spec.specs.File.{ruleIn}
-use Rattle.file_read.specs.Read.{readOf}
-use Rattle.file_read.specs.declared.Read.the-variants.{Accepted}
+use Rattle.file_spec.specs.Reading.{readOf}
+use Rattle.file_spec.specs.declared.Read.the-variants.{Accepted}
 use Rattle.build_closure_spec.specs.Keys.{startOf}
 use Rattle.build.specs.Built.{roomRows, fileCodes, fileMoves}
 use Rattle.stricter_entry_spec.specs.declared.Comparison.{Comparison}

@@ -2,8 +2,8 @@
 // that B rejects.
 use build::Built;
 use build::Counts;
-use file_read::Layout;
-use file_read::Read;
+use file_spec::Layout;
+use file_spec::Read;
 use stricter_entry_spec::BothCounts;
 use stricter_entry_spec::Comparison;
 use stricter_spec::Found;
@@ -13,8 +13,8 @@ ghost use lib.Dec.{ltb};
 ghost use Prim.Native.Nat.{_*_, _≤_};
 ghost use lib.ListN.{length, replicate};
 ghost use Rattle.file_spec.specs.File.{ruleIn};
-ghost use Rattle.file_read.specs.Read.{readOf};
-ghost use Rattle.file_read.specs.declared.Read.the-variants.{Accepted};
+ghost use Rattle.file_spec.specs.Reading.{readOf};
+ghost use Rattle.file_spec.specs.declared.Read.the-variants.{Accepted};
 ghost use Rattle.stricter_entry_spec.specs.Rows.{slicesOf};
 ghost use Rattle.stricter_entry_spec.specs.Compared.{Compared};
 ghost use Rattle.stricter.specs.Steps.{Ready, otherRow, pairRow, rowOf, ByRow, FilesBy};

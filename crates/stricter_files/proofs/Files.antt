@@ -10,7 +10,7 @@ use Rattle.sets.specs.Tests.{Set}
 use Rattle.theory.specs.Automaton.{automaton}
 use Rattle.theory.specs.Rule.{Rule}
 use Rattle.theory.specs.TableComputed.{macrostatesFrom}
-use Rattle.file_read.specs.declared.Layout.{Layout}
+use Rattle.file_spec.specs.declared.Layout.{Layout}
 use Rattle.file_read.proofs.Answer.{served}
 use Rattle.file_spec.specs.File.{ruleIn}
 use Rattle.build.proofs.ByLists.{codes-same, moves-same}

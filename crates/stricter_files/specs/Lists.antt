@@ -7,9 +7,9 @@ use Rattle.sets.specs.Tests.{Set}
 use Rattle.theory.specs.Rule.{Rule}
 use Rattle.theory.specs.Table.{ListsFrom}
 use Rattle.file_spec.specs.File.{ruleIn}
-use Rattle.file_read.specs.declared.Layout.{Layout}
-use Rattle.file_read.specs.declared.Read.the-variants.{Accepted}
-use Rattle.file_read.specs.Read.{readOf}
+use Rattle.file_spec.specs.declared.Layout.{Layout}
+use Rattle.file_spec.specs.declared.Read.the-variants.{Accepted}
+use Rattle.file_spec.specs.Reading.{readOf}
 
 -- the file is accepted, and codes and moves list the macrostates and transitions of its rule, begun by the start condition
 pub record FileLists (file : List ℕ) (l : Layout) (start : Rule → Set) (codes moves : List ℕ) : Type 0 where

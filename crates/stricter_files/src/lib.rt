@@ -1,5 +1,5 @@
 // Sorts out the pairs of numbers of the tables of two rules, from their files. While it does, the free bits of both tables hold tags.
-use file_read::Layout;
+use file_spec::Layout;
 use stricter_fixpoints::sort_cores;
 use stricter_tags::tag_live;
 use stricter_tags::untag;

@@ -6,7 +6,7 @@ use lib.ListN.{length}
 use Rattle.sets.specs.Tests.{Set}
 use Rattle.theory.specs.Rule.{Rule}
 use Rattle.theory.specs.TableComputed.{macrostatesFrom}
-use Rattle.file_read.specs.declared.Layout.{Layout}
+use Rattle.file_spec.specs.declared.Layout.{Layout}
 use Rattle.file_spec.specs.File.{ruleIn}
 use Rattle.stricter_spec.specs.Search.{Searchable}
 use Rattle.stricter_rules_laws.proofs.Parents.{searchable}

@@ -1,5 +1,5 @@
 // The search for a word that two tables accept: the pairs from which both can, a start pair among them, and the word.
-use file_read::Layout;
+use file_spec::Layout;
 use slice_zeros::fill_with;
 use stricter_files::sort_files;
 use stricter_lasso::find_word;

@@ -9,7 +9,7 @@ use Rattle.theory.specs.Macrostate.{holdsInitial}
 use Rattle.theory.specs.Passing.{Passing}
 use Rattle.theory.specs.Rule.{Rule}
 use Rattle.rule_entries.specs.Entries.{ruleOf}
-use Rattle.file_read.specs.declared.Layout.{Layout}
+use Rattle.file_spec.specs.declared.Layout.{Layout}
 use Rattle.file_spec.specs.File.{countsOf, clausesOf, ruleIn}
 use Rattle.file_spec.specs.Rows.{fileRow}
 use Rattle.file_read.proofs.Answer.{Served}

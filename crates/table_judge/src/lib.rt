@@ -1,6 +1,6 @@
 // The judge of words on a built table.
-use file_read::Read;
 use file_read::read_rule;
+use file_spec::Read;
 use table_call::Start;
 use table_call::judge_lent;
 ghost use Rattle.table_lent.specs.Lent.{inWords, inBytes};

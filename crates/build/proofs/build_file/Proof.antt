@@ -1,7 +1,7 @@
 -- `build_file` meets its contract: the rule's rows by the reader, then the table of the file's rule.
 use mathlib.Core.Path.{_≡_, sym, _∙_}
-use Rattle.file_read.specs.declared.Read.the-variants.{Refused}
-use Rattle.file_read.specs.Read.{readOf}
+use Rattle.file_spec.specs.declared.Read.the-variants.{Refused}
+use Rattle.file_spec.specs.Reading.{readOf}
 use Rattle.file_read.proofs.Answer.{turned-away}
 use Rattle.build.proofs.Answer.{filled-refused, filled-served}
 use Rattle.build_closure_spec.specs.Keys.{startOf}

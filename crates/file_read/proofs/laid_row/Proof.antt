@@ -8,7 +8,7 @@ use Rattle.refusals.specs.Rows.{firstRow}
 use Rattle.file_spec.specs.File.{ruleIn}
 use Rattle.file_spec.specs.Rows.{layoutRows, bodyRow, prefaceRow}
 use Rattle.file_spec.specs.RuleRows.{formedRows}
-use Rattle.file_spec.proofs.Parts.{clauses-part, counts-part}
+use Rattle.file_spec.proofs.FileParts.{clauses-part, counts-part}
 use Rattle.file_spec.proofs.TrailerRows.{Placed, placed}
 use Rattle.file_read.proofs.FileRows.{laid-formed, rows-layout, rows-formed, rows-body, rows-preface}
 use Rattle.file_read.proofs.laid_row.Statement.{statement}

@@ -7,7 +7,7 @@ use lib.ListN.{length}
 use Rattle.refusals.specs.Rows.{firstRow}
 use Rattle.file_spec.specs.File.{trailer, clausesOf, countsOf}
 use Rattle.file_spec.specs.RuleRows.{listRows}
-use Rattle.file_spec.proofs.Parts.{clauses-part, counts-part, counts-length}
+use Rattle.file_spec.proofs.FileParts.{clauses-part, counts-part, counts-length}
 use Rattle.file_spec.proofs.TrailerRows.{Placed, placed, rows-lists}
 use Rattle.file_read.proofs.lists_at.Statement.{statement}
 use Rattle.file_read.proofs.lists_at.Tie as tie

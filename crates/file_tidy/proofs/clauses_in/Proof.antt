@@ -1,7 +1,7 @@
 -- `file_tidy::clauses_in` meets its contract.
 use native.Mathlib.Omega.{arith}
 use borrow.Author.Needs.{needs}
-use Rattle.file_spec.proofs.Parts.{clauses-part}
+use Rattle.file_spec.proofs.FileParts.{clauses-part}
 use Rattle.file_tidy.proofs.clauses_in.Statement.{statement}
 use Rattle.file_tidy.proofs.clauses_in.Tie as tie
 

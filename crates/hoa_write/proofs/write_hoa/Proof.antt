@@ -2,9 +2,9 @@
 use mathlib.Core.Path.{_≡_, sym, _∙_, subst}
 use native.Mathlib.Omega.{arith}
 use Rattle.theory.specs.Rule.{Rule}
-use Rattle.file_read.specs.declared.Layout.{Layout}
-use Rattle.file_read.specs.declared.Read.the-variants.{Accepted}
-use Rattle.file_read.specs.Read.{readOf}
+use Rattle.file_spec.specs.declared.Layout.{Layout}
+use Rattle.file_spec.specs.declared.Read.the-variants.{Accepted}
+use Rattle.file_spec.specs.Reading.{readOf}
 use Rattle.file_read.proofs.Answer.{served, served-letters, turned-away}
 use Rattle.table_lent.specs.Lent.{inBytes}
 use Rattle.table_judge.proofs.Answers.{initial-low}

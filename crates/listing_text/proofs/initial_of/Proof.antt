@@ -3,7 +3,7 @@ use Prim.Native.Nat.{_<_}
 use mathlib.Core.Path.{_≡_, sym, _∙_, ap}
 use native.Mathlib.Omega.{arith}
 use borrow.Author.Needs.{needs}
-use Rattle.file_read.specs.declared.Layout.{Layout}
+use Rattle.file_spec.specs.declared.Layout.{Layout}
 use Rattle.file_spec.specs.File.{trailer}
 use Rattle.file_read.proofs.Answer.{Served, served, turned-away}
 use Rattle.listing_text.proofs.initial_of.Statement.{statement}

@@ -6,11 +6,11 @@ use lib.ListN.{length}
 use Rattle.refusals.specs.Rows.{firstRow}
 use Rattle.file_spec.specs.File.{ruleIn}
 use Rattle.file_spec.specs.Rows.{layoutRows}
-use Rattle.file_spec.proofs.Parts.{clauses-part, counts-part}
+use Rattle.file_spec.proofs.FileParts.{clauses-part, counts-part}
 use Rattle.file_spec.proofs.TrailerRows.{Placed, placed}
 use Rattle.file_read.proofs.FileRows.{laid, laid-formed}
 use Rattle.loop_spec.specs.Search.{loopOf}
-use Rattle.loop_report.specs.Report.{formedRows, answer, after}
+use Rattle.loop_spec.specs.Reported.{formedRows, answer, after}
 use Rattle.loop_report.proofs.Rows.{refused, passed, meant}
 use borrow.Author.Needs.{needs}
 use Rattle.loop_report.proofs.mixed_loop.Statement.{statement}

@@ -1,7 +1,7 @@
 -- `rule_same::files::same_rules` meets its contract: the first file's row, then the second's, then the comparison.
 use mathlib.Core.Path.{_≡_, sym, _∙_}
-use Rattle.file_read.specs.declared.Read.the-variants.{Accepted, Refused}
-use Rattle.file_read.specs.Read.{readOf}
+use Rattle.file_spec.specs.declared.Read.the-variants.{Accepted, Refused}
+use Rattle.file_spec.specs.Reading.{readOf}
 use Rattle.file_read.proofs.Answer.{served, turned-away}
 use Rattle.rule_same.proofs.Same.{refused-first, refused-second, served-both}
 use borrow.Author.Needs.{needs}

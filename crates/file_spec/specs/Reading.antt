@@ -2,12 +2,12 @@
 use Prim.Native.Nat.{ℕ, zero, suc}
 use mathlib.Core.List.{List, []}
 use lib.ListN.{length, take}
-use Rattle.file_read.specs.declared.Parts.{Parts}
-use Rattle.file_read.specs.declared.Layout.{Layout}
-use Rattle.file_read.specs.declared.Read.{Read}
-use Rattle.file_read.specs.declared.Read.the-variants.{Accepted, Refused}
+use Rattle.file_spec.specs.declared.Parts.{Parts}
+use Rattle.file_spec.specs.declared.Layout.{Layout}
+use Rattle.file_spec.specs.declared.Read.{Read}
+use Rattle.file_spec.specs.declared.Read.the-variants.{Accepted, Refused}
 use Rattle.file_spec.specs.File.{headOf, clauseCount, clausesAt, namesOf}
 use Rattle.file_spec.specs.Rows.{fileRow}
 
 -- the numbers of a file, where its first clause stands, and how many clauses it has
 abbrev pub partsOf : List ℕ → Parts

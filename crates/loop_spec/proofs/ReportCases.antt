@@ -2,19 +2,22 @@
 use mathlib.Core.Path.{_≡_, refl}
 use mathlib.Core.List.{List, [], _∷_}
 use Prim.Native.Nat.{ℕ}
-use Rattle.sets.specs.Tests.{every}
-use Rattle.sets.specs.Masks.{inside}
+use Rattle.sets.specs.Tests.{every, some}
+use Rattle.sets.specs.Masks.{bit, mask, inside}
 use Rattle.refusals.specs.Rows.{firstRow}
+use Rattle.theory.specs.Rule.{entry}
+use Rattle.theory.specs.Components.{named, leads, within, reaches, together, mixed}
 use Rattle.file_spec.specs.File.{tagged, clausesOf, countsOf}
 use Rattle.file_spec.specs.Rows.{trailerRows, layoutRows}
-use Rattle.file_spec.specs.RuleRows.{numberRows, listRows, nested, someNested, clauseRows}
+use Rattle.file_spec.specs.RuleRows.{numberRows, listRows, nested, someNested, clauseRows, componentRows}
 use Rattle.loop_spec.specs.declared.Report.the-variants.{States, Nothing, Refused}
 use Rattle.loop_spec.proofs.Cases.{computed as searched}
-use Rattle.loop_report.specs.Report.{sliceRows, formedRows, reportRow, answer, reportOf, after, sliceAfter}
+use Rattle.loop_spec.specs.Reported.{sliceRows, formedRows, reportRow, answer, reportOf, after, sliceAfter}
 
 -- what an evaluation unfolds
 unfoldable computed : ℕ
-unfolding reportOf sliceAfter answer after reportRow formedRows sliceRows firstRow layoutRows trailerRows numberRows listRows clauseRows someNested nested inside every tagged clausesOf countsOf
+unfolding reportOf sliceAfter answer after reportRow formedRows sliceRows firstRow layoutRows trailerRows numberRows listRows clauseRows componentRows mixed together reaches within leads named entry some bit mask
+    someNested nested inside every tagged clausesOf countsOf
     searched
 computed = 0
 

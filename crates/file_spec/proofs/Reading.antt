@@ -1,0 +1,44 @@
+-- What the reader answers for files with a preface, with names and with a mixed component, computed from the definitions.
+use mathlib.Core.Path.{_≡_, refl}
+use mathlib.Core.List.{List, [], _∷_}
+use Prim.Native.Nat.{ℕ}
+use Rattle.sets.specs.Tests.{every, some}
+use Rattle.sets.specs.Masks.{bit, mask, inside}
+use Rattle.sets.specs.Lists.{anyOf, sum}
+use Rattle.refusals.specs.Rows.{firstRow}
+use Rattle.theory.specs.Rule.{entry}
+use Rattle.theory.specs.Components.{named, leads, within, reaches, together, mixed}
+use Rattle.file_spec.specs.declared.Read.the-variants.{Accepted, Refused}
+use Rattle.file_spec.specs.File.{tagged, clausesOf, countsOf, namesOf}
+use Rattle.file_spec.specs.Names.{hasNames, namesBefore, repeatsName}
+use Rattle.file_spec.specs.Rows.{trailerRows, layoutRows, bodyRows, nameRows, prefaceRows, fileRows, fileRow}
+use Rattle.file_spec.specs.RuleRows.{numberRows, listRows, nested, someNested, clauseRows, componentRows, formedRows}
+use Rattle.file_spec.specs.Reading.{answer, readOf, unrefused, prefaceOf}
+
+-- what an evaluation unfolds
+unfoldable computed : ℕ
+unfolding readOf answer prefaceOf unrefused fileRow fileRows bodyRows layoutRows trailerRows numberRows listRows formedRows clauseRows componentRows prefaceRows nameRows hasNames namesBefore repeatsName
+    firstRow tagged clausesOf countsOf anyOf sum someNested nested inside every mixed together reaches within leads named entry some bit mask
+computed = 0
+
+-- rule Z behind three bytes and the name of its letter
+abbrev named-Z : List ℕ
+named-Z = 0x01 ∷ 0x02 ∷ 0x03 ∷ 0x47 ∷ 0x4f ∷ 0x20 ∷ 0x20 ∷ 0x20 ∷ 0x20 ∷ 0x20 ∷ 0x20 ∷ 0x4e ∷ 0x4d ∷ 0x00 ∷ 0x01 ∷ 0x01 ∷ 0x00 ∷ 0x01 ∷ 0x00 ∷ 0x00 ∷ 0x41 ∷ 0x57 ∷ []
+
+-- its names are eight bytes, and its clauses would begin behind their tag
+named-read : readOf named-Z ≡ Accepted (record { head = record { n = 1; s = 1; initial = 0; accepting = 1 }; at = 13; clauses = 0; names = 8 })
+unfolding computed
+named-read = refl
+
+-- the preface is all that stands before the first clause
+named-preface : prefaceOf named-Z ≡ 0x01 ∷ 0x02 ∷ 0x03 ∷ 0x47 ∷ 0x4f ∷ 0x20 ∷ 0x20 ∷ 0x20 ∷ 0x20 ∷ 0x20 ∷ 0x20 ∷ 0x4e ∷ 0x4d ∷ []
+unfolding computed
+named-preface = refl
+
+-- 01's example of row 11 behind one byte: refused, and "From a refused file that part is empty."
+abbrev mixed-behind : List ℕ
+mixed-behind = 0x07 ∷ 0x02 ∷ 0x01 ∷ 0x01 ∷ 0x01 ∷ 0x02 ∷ 0x01 ∷ 0x00 ∷ 0x01 ∷ 0x02 ∷ 0x00 ∷ 0x41 ∷ 0x57 ∷ []
+
+mixed-read : (readOf mixed-behind ≡ Refused 11) × (prefaceOf mixed-behind ≡ [])
+unfolding computed
+mixed-read = (refl, refl)
