@@ -16,7 +16,7 @@ use Rattle.sets.proofs.Digits.{num-lt}
 use Rattle.theory.specs.Rule.{Rule}
 use Rattle.theory.specs.Automaton.{Automaton, automaton}
 use Rattle.theory.specs.Layered.{Layered}
-use Rattle.theory.specs.Core.{Core, test, nextComponent}
+use Rattle.theory.specs.Core.{Core, settledUpTo, nextComponent}
 use Rattle.theory.specs.CoreComputed.{levelOf}
 use Rattle.theory.specs.Code.{pack, setIn, rankIn, componentIn, classesIn, wellCoded}
 use Rattle.theory.specs.Macrostate.{begun, Macrostate, Goes, Reachable}
@@ -100,7 +100,7 @@ module _ (A : Automaton) (H : Layered A) (parts : List ℕ) (P : Parts A parts) 
 
     level-low : (a K k : ℕ) → levelLeft A a v K k ≤ 15
     unfolding levelLeft earlierLevel levelOf
-    level-low a K k = largest-le (A .n) _ _ 15 (λ q l t. first-max 15 (test A (setOf A v) (rankAt v) q (A .entry q a)) 0)
+    level-low a K k = largest-le (A .n) _ _ 15 (λ q l t. first-max 15 (settledUpTo A (setOf A v) (rankAt v) q (A .entry q a)) 0)
 
     all-low : (a K : ℕ) → allClasses A a v K ≤ 8
     unfolding allClasses

@@ -13,7 +13,7 @@ use lib.Bits.{bitAnd, bitOr, and-step, and-self, or-lt}
 use lib.Count.{ones, trailingZeros}
 use lib.Pow.{shr-lt, pow-lt}
 use borrow.Author.Tests.{eq-eqb, ne-eqb}
-use Rattle.sets.specs.Tests.{Set, one, some, count}
+use Rattle.sets.specs.Tests.{Set, one, someBelow, count}
 use Rattle.sets.specs.Masks.{bit, mask, members}
 use Rattle.sets.specs.Lists.{anyOf}
 use Rattle.sets.specs.Digits.{num}
@@ -30,9 +30,9 @@ use Rattle.build_cores.proofs.Sums.{num-nothing}
 
 -- ---- the walk over a component
 
-any-some : (m : ℕ) (f : Set) → anyOf (members m) f ≡ some 8 (λ q. bit m q && f q)
+any-some : (m : ℕ) (f : Set) → anyOf (members m) f ≡ someBelow 8 (λ q. bit m q && f q)
 any-some m f =
-    iff (anyOf (members m) f) (some 8 (λ q. bit m q && f q))
+    iff (anyOf (members m) f) (someBelow 8 (λ q. bit m q && f q))
     (λ t. let r = any-out (members m) f t in let i = members-out m (r .0) (r .1) in some-at 8 (λ q. bit m q && f q) (r .0) (i .0) (and-i (i .1) (r .2)))
     (λ t. let r = some-get 8 (λ q. bit m q && f q) t in
     any-in (members m) f (r .0) (members-in m (r .0) (r .1) (and-l (bit m (r .0)) (f (r .0)) (r .2))) (and-r (bit m (r .0)) (f (r .0)) (r .2)))

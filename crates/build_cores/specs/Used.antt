@@ -4,7 +4,7 @@ use mathlib.Core.List.{List}
 use Prim.Native.Nat.{ℕ, zero, suc, _+_, _*_}
 use lib.Dec.{eqb}
 use lib.ListN.{getD}
-use Rattle.sets.specs.Tests.{Set, one, every, some, count}
+use Rattle.sets.specs.Tests.{Set, one, every, someBelow, count}
 use Rattle.sets.specs.Masks.{bit}
 use Rattle.sets.specs.Digits.{num}
 use Rattle.build_cores.specs.Vectors.{rankAt}
@@ -17,7 +17,7 @@ sumOf (suc n) f = sumOf n f + f n
 module _ (ranks part : ℕ) where
   -- some state of the component has rank j
   unfoldable pub taken : Set
-  taken j = some 8 (λ q. bit part q && eqb (rankAt ranks q) j)
+  taken j = someBelow 8 (λ q. bit part q && eqb (rankAt ranks q) j)
 
   -- the same, and rank 0 in any case
   unfoldable pub used : Set

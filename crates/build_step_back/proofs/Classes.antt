@@ -9,7 +9,7 @@ use native.Mathlib.Nat.{le-trans, le-antisymm}
 use native.Mathlib.Numerals.{add-one}
 use lib.Dec.{eqb, leb, ltb}
 use borrow.Author.Tests.{eqb-true, eq-eqb, ne-eqb, lt-ltb, le-ltb, ltb-true, leb-true, leb-false, le-leb, lt-leb}
-use Rattle.sets.specs.Tests.{Set, some, count, largest, one}
+use Rattle.sets.specs.Tests.{Set, someBelow, count, largest, one}
 use Rattle.sets.specs.Masks.{bit}
 use Rattle.sets.specs.Digits.{num}
 use Rattle.sets.proofs.Bools.{bif, clash, and-l, and-r, and-i}
@@ -21,7 +21,7 @@ use Rattle.build_step_back.proofs.Masks.{ones-from, ones-first, ones-ne
 
 -- two members with the levels 0 and 2: the second has rank 2, "closed up", and not 3
 closed-up : class (λ q. ltb q 2) (λ q. q * 2) 1 ≡ 2
-unfolding class valued count some
+unfolding class valued count someBelow
 closed-up = refl
 
 module _ (P : Set) (l : ℕ → ℕ) (low : (q : ℕ) → q < 8 → P q ≡ true → l q ≤ 8) where

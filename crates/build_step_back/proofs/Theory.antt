@@ -15,7 +15,7 @@ use Rattle.sets.specs.Masks.{bit, exclusive}
 use Rattle.theory.specs.Rule.{satisfies}
 use Rattle.sets.specs.Digits.{num}
 use Rattle.theory.specs.Automaton.{Automaton}
-use Rattle.theory.specs.Core.{isOpen, mix, rejectingSettled, acceptingSettled, settled, test, openOf}
+use Rattle.theory.specs.Core.{isOpen, mix, rejectingSettled, acceptingSettled, settled, settledUpTo, openOf}
 use Rattle.theory.specs.CoreComputed.{levelOf, taken, rankOf}
 use Rattle.sets.proofs.Bools.{bif, clash, and-l, and-r, and-i, xor-twice}
 use Rattle.theory_laws.proofs.Satisfies.{satisfies-ext}
@@ -120,8 +120,8 @@ module _ (W : Automaton) (opens : List ℕ) (a opened part : ℕ) (low : List �
   settled-is j q l m e = bif (W .accepting q) (λ t. rw t (accepting-is j q l m e t)) (λ t. rw t (rejecting-is j q l m e t))
 
   -- the states of level at most j
-  pub test-is : (j q : ℕ) → j < 16 → q < W .n → W .component q ≡ K → bit (upto opens a opened part low j) q ≡ test W T r q (W .entry q a) j
-  unfolding upto test
+  pub test-is : (j q : ℕ) → j < 16 → q < W .n → W .component q ≡ K → bit (upto opens a opened part low j) q ≡ settledUpTo W T r q (W .entry q a) j
+  unfolding upto settledUpTo
   test-is j q l m e =
       bit-and (getD opens (a * 256 + arg j) 0) part q
       ∙ ap₂ (λ (x y : Bool). x && y) (entry-is (arg j) q (arg-small opened part (getD low j 0) (h .opened-small) (h .part-small)) m) (h .part-bits q m ∙ eq-eqb (W .component q) K e)
@@ -136,7 +136,7 @@ module _ (W : Automaton) (opens : List ℕ) (a opened part : ℕ) (low : List �
       (λ m. clash t (h .part-rest q (omega arith) l))
 
   mono-in : (i j q : ℕ) → q < W .n → W .component q ≡ K → i ≤ j → j < 16 → bit (upto opens a opened part low i) q ≡ true → bit (upto opens a opened part low j) q ≡ true
-  unfolding test
+  unfolding settledUpTo
   mono-in i j q m e l b t =
       test-is j q b m e
       ∙ settled-mono W T (D i) (D j) q (W .entry q a) (λ p k c u. and-i (and-l (isOpen W T p) (leb (r p) i) u)

@@ -6,7 +6,7 @@ use Prim.Native.Nat.{ℕ, suc, _+_, _*_, _^_, _≤_, _<_}
 use lib.Dec.{eqb, leb, ltb}
 use lib.ListN.{length, getD}
 use lib.Bits.{bitAnd, bitOr, bitXor}
-use Rattle.sets.specs.Tests.{Set, some, count, first, largest}
+use Rattle.sets.specs.Tests.{Set, someBelow, count, first, largest}
 use Rattle.sets.specs.Masks.{bit}
 use Rattle.sets.specs.Digits.{num}
 use Rattle.build_cores.specs.Used.{sumOf}
@@ -16,7 +16,7 @@ use Rattle.build_cores.specs.Used.{sumOf}
 module _ (P : Set) (l : ℕ → ℕ) where
   -- some member has the value j
   unfoldable pub valued : Set
-  valued j = some 8 (λ p. P p && eqb (l p) j)
+  valued j = someBelow 8 (λ p. P p && eqb (l p) j)
 
   -- values closed up to 1, 2, ..
   unfoldable pub class : ℕ → ℕ

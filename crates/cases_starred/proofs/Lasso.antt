@@ -10,7 +10,7 @@ use native.Mathlib.Nat.{zero-add, suc-add}
 use lib.Dec.{eqb, ltb}
 use lib.ListN.{length, getD}
 use borrow.Author.Tests.{eqb-true, ltb-true}
-use Rattle.sets.specs.Tests.{Set, every, some}
+use Rattle.sets.specs.Tests.{Set, every, someBelow}
 use Rattle.sets.specs.Lists.{anyOf}
 use Rattle.sets.proofs.Bools.{and-l, and-r}
 use Rattle.sets.proofs.Lists.{any-out}
@@ -99,7 +99,7 @@ module _ (codes moves : List ℕ) (start : Set) (lead cycle first loop : List �
       ∷ begun start (getD codes (number 0) 0)
       ∷ every end (λ i. ltb (number i) (length codes))
       ∷ every end (λ i. anyOf moves (leads i))
-      ∷ some (length loop) accepting
+      ∷ someBelow (length loop) accepting
       ∷ []
 
   -- The loop returns, to the same place of the word too; the first number is initial; the numbers are those of codes, each step is a listed transition

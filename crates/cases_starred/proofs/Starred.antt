@@ -10,12 +10,12 @@ use Rattle.sets.specs.Digits.{num}
 use Rattle.sets.specs.Lists.{keep, among, anyOf, sum, tabulate, flat, insertAscending, sorted}
 use Rattle.sets.specs.Masks.{bit, mask, inside}
 use Rattle.refusals.specs.Rows.{firstRow}
-use Rattle.sets.specs.Tests.{every, some, count, first, largest}
+use Rattle.sets.specs.Tests.{every, someBelow, count, first, largest}
 use Rattle.sets.proofs.Bools.{and-l, and-r}
 use Rattle.theory.specs.Automaton.{automaton}
 use Rattle.theory.specs.Code.{fields, pack, componentIn, classesIn, setIn, rankIn, wellCoded}
 use Rattle.theory.specs.Components.{named, leads, within, reaches, together, smallest, isSmallest, component, components, mixed}
-use Rattle.theory.specs.Core.{isOpen, mix, rejectingSettled, acceptingSettled, settled, test, openOf, nextComponent}
+use Rattle.theory.specs.Core.{isOpen, mix, rejectingSettled, acceptingSettled, settled, settledUpTo, openOf, nextComponent}
 use Rattle.theory.specs.CoreComputed.{levelOf, taken, rankOf, isCore}
 use Rattle.theory.specs.Macrostate.{begun, isAccepting}
 use Rattle.theory.specs.MacrostateComputed.{before, onward, goes}
@@ -45,7 +45,7 @@ rows = 0
 unfoldable computed : ℕ
 unfolding truthMasks solvedBelow roundsAt layer heightOf nextPlace letterAt place isAccepting macrostatesFrom transitionsFrom transitionsOf codesFrom cores candidates digitals tabulate flat keep
     among anyOf insertAscending sorted reachedIn reached wellCoded pack fields mask num goes before onward begun automaton setIn rankIn componentIn classesIn every satisfies inside bit rankOf levelOf
-    test settled rejectingSettled acceptingSettled mix isOpen taken some count first largest openOf nextComponent isCore component components isSmallest smallest together reaches within leads named
+    settledUpTo settled rejectingSettled acceptingSettled mix isOpen taken someBelow count first largest openOf nextComponent isCore component components isSmallest smallest together reaches within leads named
     entry sum
 computed = 0
 

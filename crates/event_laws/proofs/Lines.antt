@@ -6,7 +6,7 @@ use mathlib.Core.List.{List}
 use Prim.Native.Nat.{ℕ, _+_, _*_, _≤_, _<_}
 use native.Mathlib.Omega.{arith}
 use lib.ListN.{length, getD}
-use Rattle.sets.specs.Tests.{some, first}
+use Rattle.sets.specs.Tests.{someBelow, first}
 use Rattle.sets.proofs.Bools.{bif, clash, and-l, and-r, and-i}
 use Rattle.sets.proofs.Tests.{some-no}
 use Rattle.event_spec.specs.Events.{within, between, lineCount, lineByte, spans, holds, firstLine, covered}
@@ -37,9 +37,9 @@ module _ (t : List ℕ) where
   pub record IsFirst (kind drive j : ℕ) : Type 0 where
     pub line : j < lineCount t
     pub held : holds t kind drive j ≡ true
-    pub none-earlier : some j (holds t kind drive) ≡ false
+    pub none-earlier : someBelow j (holds t kind drive) ≡ false
 
-  pub first-iff : (kind drive j : ℕ) → some (lineCount t) (holds t kind drive) ≡ true → (firstLine t kind drive ≡ j) ↔ IsFirst kind drive j
+  pub first-iff : (kind drive j : ℕ) → someBelow (lineCount t) (holds t kind drive) ≡ true → (firstLine t kind drive ≡ j) ↔ IsFirst kind drive j
   unfolding firstLine
   first-iff x y j e =
       let n = lineCount t in
@@ -56,14 +56,14 @@ module _ (t : List ℕ) where
 
   -- 02: "a line all of whose pairs fall in earlier lines"
   abbrev pub Covered : ℕ → Type 0
-  Covered j = (kind drive : ℕ) → holds t kind drive j ≡ true → some j (holds t kind drive) ≡ true
+  Covered j = (kind drive : ℕ) → holds t kind drive j ≡ true → someBelow j (holds t kind drive) ≡ true
 
   covered-all : (j : ℕ) → covered t j ≡ true → Covered j
   unfolding covered
   covered-all j e x y h =
       let b = bounds-of x y j h in
-      between-at (lineByte t j 2) (lineByte t j 3) (λ d. some j (holds t x d))
-      (between-at (lineByte t j 0) (lineByte t j 1) (λ k. between (lineByte t j 2) (lineByte t j 3) (λ d. some j (holds t k d))) e x (b .kind-low) (b .kind-high))
+      between-at (lineByte t j 2) (lineByte t j 3) (λ d. someBelow j (holds t x d))
+      (between-at (lineByte t j 0) (lineByte t j 1) (λ k. between (lineByte t j 2) (lineByte t j 3) (λ d. someBelow j (holds t k d))) e x (b .kind-low) (b .kind-high))
       y (b .drive-low) (b .drive-high)
 
   -- a pair of line j that no earlier line holds
@@ -71,13 +71,13 @@ module _ (t : List ℕ) where
     pub kind : ℕ
     pub drive : ℕ
     pub held : holds t kind drive j ≡ true
-    pub none-earlier : some j (holds t kind drive) ≡ false
+    pub none-earlier : someBelow j (holds t kind drive) ≡ false
 
   pub uncovered : (j : ℕ) → covered t j ≡ false → Uncovered j
   unfolding covered
   uncovered j e =
-      let a = between-not (lineByte t j 0) (lineByte t j 1) (λ k. between (lineByte t j 2) (lineByte t j 3) (λ d. some j (holds t k d))) e in
-      let b = between-not (lineByte t j 2) (lineByte t j 3) (λ d. some j (holds t (a .0) d)) (a .3) in
+      let a = between-not (lineByte t j 0) (lineByte t j 1) (λ k. between (lineByte t j 2) (lineByte t j 3) (λ d. someBelow j (holds t k d))) e in
+      let b = between-not (lineByte t j 2) (lineByte t j 3) (λ d. someBelow j (holds t (a .0) d)) (a .3) in
       record {
         kind = a .0;
         drive = b .0;

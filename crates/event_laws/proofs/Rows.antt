@@ -15,31 +15,31 @@ use Rattle.file_read.proofs.FileRows.{file-numbered}
 use Rattle.event_spec.specs.declared.Translated.{Translated}
 use Rattle.event_spec.specs.declared.Translated.the-variants.{Letters, Refused}
 use Rattle.event_spec.specs.Events.{eventCount, lettersOf}
-use Rattle.event_spec.specs.Translation.{faultyTable, hasCovered, hasUnknown, callRows, callRow, translateRow, answer, translatedOf, filled, lettersAfter, Called}
+use Rattle.event_spec.specs.Translation.{faultyTable, hasCovered, hasUnknown, translationRows, translationRow, translateRow, answer, translatedOf, filled, lettersAfter, Called}
 
 module _ (s : ℕ) (t log : List ℕ) (m : ℕ) where
   -- 25
-  pub table-refuses : faultyTable s t ≡ true → callRow s t log m ≡ 25
-  unfolding callRow callRows firstRow
+  pub table-refuses : faultyTable s t ≡ true → translationRow s t log m ≡ 25
+  unfolding translationRow translationRows firstRow
   table-refuses e = rw e
 
   -- 26
-  pub cover-refuses : faultyTable s t ≡ false → hasCovered t ≡ true → callRow s t log m ≡ 26
-  unfolding callRow callRows firstRow
+  pub cover-refuses : faultyTable s t ≡ false → hasCovered t ≡ true → translationRow s t log m ≡ 26
+  unfolding translationRow translationRows firstRow
   cover-refuses e c = rw (e, c)
 
   -- 27
-  pub log-refuses : faultyTable s t ≡ false → hasCovered t ≡ false → hasUnknown t log ≡ true → callRow s t log m ≡ 27
-  unfolding callRow callRows firstRow
+  pub log-refuses : faultyTable s t ≡ false → hasCovered t ≡ false → hasUnknown t log ≡ true → translationRow s t log m ≡ 27
+  unfolding translationRow translationRows firstRow
   log-refuses e c u = rw (e, c, u)
 
   -- 16
-  pub slice-refuses : faultyTable s t ≡ false → hasCovered t ≡ false → hasUnknown t log ≡ false → m < eventCount log → callRow s t log m ≡ 16
-  unfolding callRow callRows firstRow
+  pub slice-refuses : faultyTable s t ≡ false → hasCovered t ≡ false → hasUnknown t log ≡ false → m < eventCount log → translationRow s t log m ≡ 16
+  unfolding translationRow translationRows firstRow
   slice-refuses e c u l = rw (e, c, u, lt-ltb m (eventCount log) l)
 
-  pub call-served : faultyTable s t ≡ false → hasCovered t ≡ false → hasUnknown t log ≡ false → eventCount log ≤ m → callRow s t log m ≡ 0
-  unfolding callRow callRows firstRow
+  pub call-served : faultyTable s t ≡ false → hasCovered t ≡ false → hasUnknown t log ≡ false → eventCount log ≤ m → translationRow s t log m ≡ 0
+  unfolding translationRow translationRows firstRow
   call-served e c u l = rw (e, c, u, le-ltb m (eventCount log) l)
 
   -- what a call passes that is served
@@ -49,8 +49,8 @@ module _ (s : ℕ) (t log : List ℕ) (m : ℕ) where
     pub events : hasUnknown t log ≡ false
     pub room : eventCount log ≤ m
 
-  pub call-passes : callRow s t log m ≡ 0 → Passes
-  unfolding callRow callRows
+  pub call-passes : translationRow s t log m ≡ 0 → Passes
+  unfolding translationRow translationRows
   call-passes e =
       let a = first-pass (faultyTable s t) 24 _ e in
       let b = first-pass (hasCovered t) 25 _ (a .1) in
@@ -61,19 +61,19 @@ module _ (s : ℕ) (t log : List ℕ) (m : ℕ) where
 -- ---- a rule over s letters that is read
 
 module _ (s : ℕ) (t log old : List ℕ) where
-  pub called-refused : (k : ℕ) → callRow s t log (length old) ≡ suc k → Called s t log old old (Refused (suc k))
+  pub called-refused : (k : ℕ) → translationRow s t log (length old) ≡ suc k → Called s t log old old (Refused (suc k))
   unfolding filled
   called-refused k e = let kept : old ≡ filled (suc k) (lettersOf t log) old = refl in record { answers = rw e; written = rw e kept }
 
-  pub called-served : callRow s t log (length old) ≡ 0 → (new : List ℕ) → new ≡ lettersOf t log ++ drop (length (lettersOf t log)) old → Called s t log old new (Letters (eventCount log))
+  pub called-served : translationRow s t log (length old) ≡ 0 → (new : List ℕ) → new ≡ lettersOf t log ++ drop (length (lettersOf t log)) old → Called s t log old new (Letters (eventCount log))
   unfolding filled
   called-served e new w = record { answers = rw e; written = rw e w }
 
 -- ---- a file
 
 module _ (f t log : List ℕ) where
-  pub file-passes : (m : ℕ) → fileRow f ≡ 0 → translateRow f t log m ≡ callRow (ruleIn f .s) t log m
-  unfolding translateRow callRow fileRow
+  pub file-passes : (m : ℕ) → fileRow f ≡ 0 → translateRow f t log m ≡ translationRow (ruleIn f .s) t log m
+  unfolding translateRow translationRow fileRow
   file-passes m e = first-right (fileRows f) _ (file-numbered f) e
 
   file-refuses : (m k : ℕ) → (k ≡ 0 → ⊥) → k ≡ fileRow f → k ≡ translateRow f t log m

@@ -10,12 +10,12 @@ use lib.ListN.{length, getD, take, drop, set}
 use lib.Seq.{take-all, paste-suc, length-paste}
 use lib.Bits.{bitAnd}
 use lib.Count.{trailingZeros}
-use Rattle.sets.specs.Tests.{some, first}
+use Rattle.sets.specs.Tests.{someBelow, first}
 use Rattle.sets.specs.Masks.{mask}
 use Rattle.sets.proofs.Bools.{bif, not-f}
 use Rattle.sets.proofs.Tests.{some-at, some-no}
 use Rattle.sets.proofs.Lists.{tabulate-at, length-tabulate}
-use Rattle.event_spec.specs.Events.{lineCount, lineByte, holds, firstLine, letterOf, eventCount, kindAt, driveAt, known, lettersOf}
+use Rattle.event_spec.specs.Events.{lineCount, lineByte, holds, firstLine, eventLetter, eventCount, kindAt, driveAt, known, lettersOf}
 use Rattle.event_spec.specs.Translation.{hasUnknown}
 use Rattle.event_laws.proofs.Ranges.{first-found}
 use Rattle.event_table.specs.Masks.{Masks}
@@ -49,10 +49,10 @@ module _ (t kinds drives log : List ℕ) (m : Masks t kinds drives) (k : ℕ) (l
 
   -- so its letter stands there
   pub least-letter : known t log k ≡ true → k < eventCount log → getD t (5 * trailingZeros 64 lines + 4) 0 ≡ getD (lettersOf t log) k 0
-  unfolding lettersOf letterOf
+  unfolding lettersOf eventLetter
   least-letter e l =
       ap (λ (j : ℕ). getD t (5 * j + 4) 0) (least-line e)
-      ∙ sym (tabulate-at (eventCount log) (λ z. letterOf t (kindAt log z) (driveAt log z)) 0 k l ∙ ap (λ (z : ℕ). letterOf t (kindAt log z) (driveAt log z)) (zero-add k))
+      ∙ sym (tabulate-at (eventCount log) (λ z. eventLetter t (kindAt log z) (driveAt log z)) 0 k l ∙ ap (λ (z : ℕ). eventLetter t (kindAt log z) (driveAt log z)) (zero-add k))
 
 -- ---- the loop over the events
 
@@ -60,12 +60,12 @@ pub unknown-here : (t log : List ℕ) (k : ℕ) → k < eventCount log → known
 unfolding hasUnknown
 unknown-here t log k l e = some-at (eventCount log) (λ z. not (known t log z)) k l (ap not e)
 
-pub known-next : (t log : List ℕ) (k : ℕ) → some k (λ z. not (known t log z)) ≡ false → known t log k ≡ true → some (k + 1) (λ z. not (known t log z)) ≡ false
+pub known-next : (t log : List ℕ) (k : ℕ) → someBelow k (λ z. not (known t log z)) ≡ false → known t log k ≡ true → someBelow (k + 1) (λ z. not (known t log z)) ≡ false
 known-next t log k h e = some-next k (λ z. not (known t log z)) h (ap not e)
 
-pub known-all : (t log : List ℕ) (k : ℕ) → eventCount log ≡ k → some k (λ z. not (known t log z)) ≡ false → hasUnknown t log ≡ false
+pub known-all : (t log : List ℕ) (k : ℕ) → eventCount log ≡ k → someBelow k (λ z. not (known t log z)) ≡ false → hasUnknown t log ≡ false
 unfolding hasUnknown
-known-all t log k e h = ap (λ (n : ℕ). some n (λ z. not (known t log z))) e ∙ h
+known-all t log k e h = ap (λ (n : ℕ). someBelow n (λ z. not (known t log z))) e ∙ h
 
 pub known-at : (t log : List ℕ) (k : ℕ) → hasUnknown t log ≡ false → k < eventCount log → known t log k ≡ true
 unfolding hasUnknown
@@ -73,7 +73,7 @@ known-at t log k h l = not-f (known t log k) (some-no (eventCount log) (λ z. no
 
 pub letters-length : (t log : List ℕ) → length (lettersOf t log) ≡ eventCount log
 unfolding lettersOf
-letters-length t log = length-tabulate (eventCount log) (λ k. letterOf t (kindAt log k) (driveAt log k)) 0
+letters-length t log = length-tabulate (eventCount log) (λ k. eventLetter t (kindAt log k) (driveAt log k)) 0
 
 -- ---- the slice, with k letters written
 

@@ -4,7 +4,7 @@ use mathlib.Core.Bool.{false}
 use mathlib.Core.List.{List, [], _∷_}
 use Prim.Native.Nat.{ℕ}
 use lib.ListN.{length}
-use Rattle.sets.specs.Tests.{every, some, count, first}
+use Rattle.sets.specs.Tests.{every, someBelow, count, first}
 use Rattle.sets.specs.Masks.{bit, inside}
 use Rattle.sets.specs.Lists.{anyOf, sum, tabulate, flat}
 use Rattle.refusals.specs.Rows.{firstRow}
@@ -16,8 +16,8 @@ use Rattle.file_spec.specs.Rows.{trailerRows, layoutRows, bodyRows, nameRows, p
 use Rattle.file_spec.specs.RuleRows.{numberRows, listRows, nested, someNested, clauseRows, componentRows, formedRows}
 use Rattle.event_spec.specs.declared.Translated.{Translated}
 use Rattle.event_spec.specs.declared.Translated.the-variants.{Letters, Refused}
-use Rattle.event_spec.specs.Events.{spans, holds, firstLine, letterOf, covered, known, lettersOf}
-use Rattle.event_spec.specs.Translation.{faulty, faultyTable, hasCovered, hasUnknown, callRows, callRow, translateRow, translatedOf, filled, lettersAfter}
+use Rattle.event_spec.specs.Events.{spans, holds, firstLine, eventLetter, covered, known, lettersOf}
+use Rattle.event_spec.specs.Translation.{faulty, faultyTable, hasCovered, hasUnknown, translationRows, translationRow, translateRow, translatedOf, filled, lettersAfter}
 
 F : List ℕ
 F = 0x01 ∷ 0x00 ∷ 0x01 ∷ 0x01 ∷ 0x01 ∷ 0x02 ∷ 0x00 ∷ 0x00 ∷ 0x02 ∷ 0x00 ∷ 0x41 ∷ 0x57 ∷ []
@@ -34,20 +34,20 @@ two = 0 ∷ 3 ∷ 0 ∷ 3 ∷ 1 ∷ 2 ∷ 5 ∷ 1 ∷ 5 ∷ 0 ∷ []
 -- "The first line that holds an event's two bytes gives its letter"; "an odd last byte is no event yet"; the byte after the letters stays
 served : Case two (2 ∷ 2 ∷ 2 ∷ 4 ∷ 0 ∷ 0 ∷ 9 ∷ []) (Letters 3) (7 ∷ 7 ∷ 7 ∷ 7 ∷ []) (1 ∷ 0 ∷ 1 ∷ 7 ∷ [])
 unfolding F two translatedOf lettersAfter translateRow filled firstRow fileRows bodyRows layoutRows trailerRows numberRows listRows formedRows clauseRows componentRows prefaceRows nameRows hasNames
-    namesBefore repeatsName someNested nested tagged clausesOf countsOf anyOf sum mixed together reaches within leads named entry callRows faultyTable hasCovered hasUnknown faulty covered known
-    lettersOf letterOf firstLine holds spans tabulate first bit inside every some count
+    namesBefore repeatsName someNested nested tagged clausesOf countsOf anyOf sum mixed together reaches within leads named entry translationRows faultyTable hasCovered hasUnknown faulty covered known
+    lettersOf eventLetter firstLine holds spans tabulate first bit inside every someBelow count
 served = record { answers = refl; writes = refl }
 
 -- ---- the row that refuses first, under two letters
 
 -- what an evaluation of it unfolds
 unfoldable deciding : ℕ
-unfolding callRow callRows firstRow faultyTable hasCovered hasUnknown faulty covered known holds spans every some
+unfolding translationRow translationRows firstRow faultyTable hasCovered hasUnknown faulty covered known holds spans every someBelow
 deciding = 0
 
 -- 26: a line covered by one earlier line, by two together, by three together; a line partly covered is served
 abbrev table-26 : List ℕ → Type 0
-table-26 t = callRow 2 t [] 0 ≡ 26
+table-26 t = translationRow 2 t [] 0 ≡ 26
 
 -- an exact repeat, in the same table with another letter
 repeated : table-26 (0 ∷ 1 ∷ 0 ∷ 1 ∷ 0 ∷ 0 ∷ 1 ∷ 0 ∷ 1 ∷ 1 ∷ [])
@@ -63,36 +63,36 @@ by-three : table-26 (0 ∷ 0 ∷ 0 ∷ 2 ∷ 0 ∷ 1 ∷ 2 ∷ 0 ∷ 0 ∷ 1 ∷
 unfolding deciding
 by-three = refl
 
-partly : callRow 2 (0 ∷ 1 ∷ 0 ∷ 1 ∷ 0 ∷ 0 ∷ 2 ∷ 0 ∷ 1 ∷ 1 ∷ []) (2 ∷ 1 ∷ []) 1 ≡ 0
+partly : translationRow 2 (0 ∷ 1 ∷ 0 ∷ 1 ∷ 0 ∷ 0 ∷ 2 ∷ 0 ∷ 1 ∷ 1 ∷ []) (2 ∷ 1 ∷ []) 1 ≡ 0
 unfolding deciding
 partly = refl
 
 -- kind 1 and drive 5 are in the line, kind 5 and drive 1 in none
-kind-and-drive : (callRow 2 (0 ∷ 1 ∷ 5 ∷ 6 ∷ 1 ∷ []) (1 ∷ 5 ∷ []) 1 ≡ 0) × (callRow 2 (0 ∷ 1 ∷ 5 ∷ 6 ∷ 1 ∷ []) (5 ∷ 1 ∷ []) 1 ≡ 27)
+kind-and-drive : (translationRow 2 (0 ∷ 1 ∷ 5 ∷ 6 ∷ 1 ∷ []) (1 ∷ 5 ∷ []) 1 ≡ 0) × (translationRow 2 (0 ∷ 1 ∷ 5 ∷ 6 ∷ 1 ∷ []) (5 ∷ 1 ∷ []) 1 ≡ 27)
 unfolding deciding
 kind-and-drive = (refl, refl)
 
 -- an odd last byte of a kind in no line: no event, nothing refused, no letter wanted
-odd-byte : (callRow 2 two (9 ∷ []) 0 ≡ 0) × (callRow 2 two (0 ∷ 0 ∷ 9 ∷ []) 1 ≡ 0) × (callRow 2 two (0 ∷ 0 ∷ 9 ∷ 9 ∷ []) 2 ≡ 27)
+odd-byte : (translationRow 2 two (9 ∷ []) 0 ≡ 0) × (translationRow 2 two (0 ∷ 0 ∷ 9 ∷ []) 1 ≡ 0) × (translationRow 2 two (0 ∷ 0 ∷ 9 ∷ 9 ∷ []) 2 ≡ 27)
 unfolding two deciding
 odd-byte = (refl, refl, refl)
 
 -- "They come in this order .. and before 16": 25 before 26, 26 before 27, 27 before 16
 order :
-    (callRow 2 (0 ∷ 1 ∷ 0 ∷ 1 ∷ 0 ∷ 0 ∷ 1 ∷ 0 ∷ 1 ∷ 2 ∷ []) (9 ∷ 9 ∷ []) 0 ≡ 25)
-    × (callRow 2 (0 ∷ 1 ∷ 0 ∷ 1 ∷ 0 ∷ 0 ∷ 1 ∷ 0 ∷ 1 ∷ 1 ∷ []) (9 ∷ 9 ∷ []) 0 ≡ 26)
-    × (callRow 2 two (9 ∷ 9 ∷ []) 0 ≡ 27)
-    × (callRow 2 two (0 ∷ 0 ∷ []) 0 ≡ 16)
+    (translationRow 2 (0 ∷ 1 ∷ 0 ∷ 1 ∷ 0 ∷ 0 ∷ 1 ∷ 0 ∷ 1 ∷ 2 ∷ []) (9 ∷ 9 ∷ []) 0 ≡ 25)
+    × (translationRow 2 (0 ∷ 1 ∷ 0 ∷ 1 ∷ 0 ∷ 0 ∷ 1 ∷ 0 ∷ 1 ∷ 1 ∷ []) (9 ∷ 9 ∷ []) 0 ≡ 26)
+    × (translationRow 2 two (9 ∷ 9 ∷ []) 0 ≡ 27)
+    × (translationRow 2 two (0 ∷ 0 ∷ []) 0 ≡ 16)
 unfolding two deciding
 order = (refl, refl, refl, refl)
 
 -- 25: a kind, then a drive, with lowest above highest; letter 2; a last line of four bytes, one of a single byte
 table-25 :
-    (callRow 2 (1 ∷ 0 ∷ 0 ∷ 0 ∷ 0 ∷ []) [] 0 ≡ 25)
-    × (callRow 2 (0 ∷ 0 ∷ 1 ∷ 0 ∷ 0 ∷ []) [] 0 ≡ 25)
-    × (callRow 2 (0 ∷ 0 ∷ 0 ∷ 0 ∷ 2 ∷ []) [] 0 ≡ 25)
-    × (callRow 2 (0 ∷ 0 ∷ 0 ∷ 0 ∷ []) [] 0 ≡ 25)
-    × (callRow 2 (0 ∷ 0 ∷ 0 ∷ 0 ∷ 0 ∷ 0 ∷ []) [] 0 ≡ 25)
+    (translationRow 2 (1 ∷ 0 ∷ 0 ∷ 0 ∷ 0 ∷ []) [] 0 ≡ 25)
+    × (translationRow 2 (0 ∷ 0 ∷ 1 ∷ 0 ∷ 0 ∷ []) [] 0 ≡ 25)
+    × (translationRow 2 (0 ∷ 0 ∷ 0 ∷ 0 ∷ 2 ∷ []) [] 0 ≡ 25)
+    × (translationRow 2 (0 ∷ 0 ∷ 0 ∷ 0 ∷ []) [] 0 ≡ 25)
+    × (translationRow 2 (0 ∷ 0 ∷ 0 ∷ 0 ∷ 0 ∷ 0 ∷ []) [] 0 ≡ 25)
 unfolding deciding
 table-25 = (refl, refl, refl, refl, refl)
 
@@ -102,11 +102,11 @@ unfolding flat tabulate
 lines n = flat (tabulate n (λ j. j) 0) (λ j. j ∷ j ∷ 0 ∷ 0 ∷ 1 ∷ [])
 
 -- 64 lines are no fault by their number
-lines-64 : (t : List ℕ) → length t ≡ 320 → some 64 (faulty 2 t) ≡ false → faultyTable 2 t ≡ false
+lines-64 : (t : List ℕ) → length t ≡ 320 → someBelow 64 (faulty 2 t) ≡ false → faultyTable 2 t ≡ false
 unfolding faultyTable
 lines-64 t e f = rw (e, f) refl
 
 -- no line at all, 64 lines, 65 lines
-line-counts : (callRow 2 [] [] 0 ≡ 0) × (callRow 2 (lines 64) (63 ∷ 0 ∷ []) 1 ≡ 0) × (callRow 2 (lines 65) [] 0 ≡ 25)
+line-counts : (translationRow 2 [] [] 0 ≡ 0) × (translationRow 2 (lines 64) (63 ∷ 0 ∷ []) 1 ≡ 0) × (translationRow 2 (lines 65) [] 0 ≡ 25)
 unfolding lines flat tabulate deciding
 line-counts = (refl, refl, refl)

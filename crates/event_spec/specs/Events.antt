@@ -4,7 +4,7 @@ use mathlib.Core.List.{List}
 use Prim.Native.Nat.{ℕ, _+_, _-_, _*_, _/_}
 use lib.Dec.{leb}
 use lib.ListN.{length, getD}
-use Rattle.sets.specs.Tests.{Set, every, some, first}
+use Rattle.sets.specs.Tests.{Set, every, someBelow, first}
 use Rattle.sets.specs.Lists.{tabulate}
 
 -- x is from a to b
@@ -36,15 +36,15 @@ unfoldable pub firstLine : List ℕ → ℕ → ℕ → ℕ
 firstLine t kind drive = first (lineCount t) (holds t kind drive) 0
 
 -- it "gives its letter"
-unfoldable pub letterOf : List ℕ → ℕ → ℕ → ℕ
-letterOf t kind drive = lineByte t (firstLine t kind drive) 4
+unfoldable pub eventLetter : List ℕ → ℕ → ℕ → ℕ
+eventLetter t kind drive = lineByte t (firstLine t kind drive) 4
 
 -- line j has all its pairs of a kind and a drive "in earlier lines"
 unfoldable pub covered : List ℕ → Set
 covered t j =
     between (lineByte t j 0) (lineByte t j 1) (λ kind.
     between (lineByte t j 2) (lineByte t j 3) (λ drive.
-    some j (holds t kind drive)))
+    someBelow j (holds t kind drive)))
 
 -- 02: "Log events have a kind byte and a drive byte", "an odd last byte is no event yet": how many events there are
 abbrev pub eventCount : List ℕ → ℕ
@@ -58,8 +58,8 @@ driveAt log k = getD log (2 * k + 1) 0
 
 -- some line holds event k
 unfoldable pub known : List ℕ → List ℕ → Set
-known t log k = some (lineCount t) (holds t (kindAt log k) (driveAt log k))
+known t log k = someBelow (lineCount t) (holds t (kindAt log k) (driveAt log k))
 
 -- 02: "Translate a log into letters, one per event, in order"
 unfoldable pub lettersOf : List ℕ → List ℕ → List ℕ
-lettersOf t log = tabulate (eventCount log) (λ k. letterOf t (kindAt log k) (driveAt log k)) 0
+lettersOf t log = tabulate (eventCount log) (λ k. eventLetter t (kindAt log k) (driveAt log k)) 0

@@ -5,7 +5,7 @@ use mathlib.Core.List.{List, [], _∷_, _++_}
 use Prim.Native.Nat.{ℕ, zero, suc, _%_}
 use lib.Dec.{eqb, leb, ltb}
 use lib.ListN.{length, drop}
-use Rattle.sets.specs.Tests.{Set, some}
+use Rattle.sets.specs.Tests.{Set, someBelow}
 use Rattle.refusals.specs.Rows.{Check, firstRow, check}
 use Rattle.file_spec.specs.File.{ruleIn}
 use Rattle.file_spec.specs.Rows.{fileRows}
@@ -24,7 +24,7 @@ faulty s t j =
 -- the table is at fault under s letters
 unfoldable pub faultyTable : ℕ → List ℕ → Bool
 faultyTable s t =
-    some (lineCount t) (faulty s t)
+    someBelow (lineCount t) (faulty s t)
     -- "an unfinished last line"
     || (not (eqb (length t % 5) 0)
     -- "or more than 64 lines"
@@ -32,15 +32,15 @@ faultyTable s t =
 
 -- some line has all its pairs in earlier lines
 unfoldable pub hasCovered : List ℕ → Bool
-hasCovered t = some (lineCount t) (covered t)
+hasCovered t = someBelow (lineCount t) (covered t)
 
 -- some event is in no line
 unfoldable pub hasUnknown : List ℕ → List ℕ → Bool
-hasUnknown t log = some (eventCount log) (λ k. not (known t log k))
+hasUnknown t log = someBelow (eventCount log) (λ k. not (known t log k))
 
 -- the rows of a call under s letters, with a slice of m letters: "They come in this order, after the rule's checks and before 16."
-unfoldable pub callRows : ℕ → List ℕ → List ℕ → ℕ → List Check
-callRows s t log m =
+unfoldable pub translationRows : ℕ → List ℕ → List ℕ → ℕ → List Check
+translationRows s t log m =
     -- "a line with lowest above highest, a letter not below s, an unfinished last line, or more than 64 lines"
     check (faultyTable s t) 25
     -- "a line all of whose pairs fall in earlier lines"
@@ -52,12 +52,12 @@ callRows s t log m =
     ∷ []
 
 -- the first row that refuses, or 0, once the rule is read
-unfoldable pub callRow : ℕ → List ℕ → List ℕ → ℕ → ℕ
-callRow s t log m = firstRow (callRows s t log m)
+unfoldable pub translationRow : ℕ → List ℕ → List ℕ → ℕ → ℕ
+translationRow s t log m = firstRow (translationRows s t log m)
 
 -- the first row that refuses, or 0
 unfoldable pub translateRow : List ℕ → List ℕ → List ℕ → ℕ → ℕ
-translateRow f t log m = firstRow (fileRows f ++ callRows (ruleIn f .s) t log m)
+translateRow f t log m = firstRow (fileRows f ++ translationRows (ruleIn f .s) t log m)
 
 -- by the row, or 0: "The answer is the number alone", else the number of letters
 abbrev pub answer : ℕ → ℕ → Translated
@@ -77,5 +77,5 @@ lettersAfter f t log old = filled (translateRow f t log (length old)) (lettersOf
 
 -- the answer v, and the slice before and after, once a rule over s letters is read
 pub record Called (s : ℕ) (t log old new : List ℕ) (v : Translated) : Type 0 where
-  pub answers : v ≡ answer (callRow s t log (length old)) (eventCount log)
-  pub written : new ≡ filled (callRow s t log (length old)) (lettersOf t log) old
+  pub answers : v ≡ answer (translationRow s t log (length old)) (eventCount log)
+  pub written : new ≡ filled (translationRow s t log (length old)) (lettersOf t log) old

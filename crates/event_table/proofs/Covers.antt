@@ -9,7 +9,7 @@ use lib.ListN.{getD}
 use lib.Bits.{bitAnd}
 use lib.Count.{ones, trailingZeros}
 use borrow.Author.Tests.{lt-ltb, le-ltb}
-use Rattle.sets.specs.Tests.{Set, one, some, count}
+use Rattle.sets.specs.Tests.{Set, one, someBelow, count}
 use Rattle.sets.specs.Masks.{bit, mask}
 use Rattle.sets.proofs.Bools.{bif, clash, and-l, and-r, and-i, not-t}
 use Rattle.sets.proofs.Tests.{some-at, some-get, some-none, count-ext, count-trim, count-more, count-max}
@@ -23,26 +23,26 @@ use Rattle.event_table.proofs.Meets.{meet, least-at, least-out}
 
 -- ---- counting the numbers that fail a test
 
-all-left : (n : ℕ) (f : Set) → some n f ≡ false → count n (λ j. not (f j)) ≡ n
-unfolding some count
+all-left : (n : ℕ) (f : Set) → someBelow n f ≡ false → count n (λ j. not (f j)) ≡ n
+unfolding someBelow count
 all-left zero f e = refl
 all-left (suc n) f e =
     bif (f n)
     (λ t. clash (some-at (suc n) f n (omega arith) t) e)
-    (λ t. bif (some n f)
+    (λ t. bif (someBelow n f)
     (λ s. let r = some-get n f s in clash (some-at (suc n) f (r .0) (omega (arith, r .1)) (r .2)) e)
     (λ s. let ih = all-left n f s in let z : one (not (f n)) ≡ 1 = rw t in omega arith))
 
-fewer-left : (n : ℕ) (f : Set) → some n f ≡ true → count n (λ j. not (f j)) < n
+fewer-left : (n : ℕ) (f : Set) → someBelow n f ≡ true → count n (λ j. not (f j)) < n
 fewer-left n f e =
     let r = some-get n f e in
     let k = count-more n (λ j. not (f j)) (λ j. true) (λ x l t. refl) (r .0) (r .1) (ap not (r .2)) refl in
     omega (arith, count-max n (λ j. true))
 
 -- some number passes exactly if fewer than n fail
-left-over : (n : ℕ) (f : Set) → ltb (count n (λ j. not (f j))) n ≡ some n f
+left-over : (n : ℕ) (f : Set) → ltb (count n (λ j. not (f j))) n ≡ someBelow n f
 left-over n f =
-    bif (some n f)
+    bif (someBelow n f)
     (λ t. lt-ltb (count n (λ j. not (f j))) n (fewer-left n f t) ∙ sym t)
     (λ t. le-ltb (count n (λ j. not (f j))) n (let e = all-left n f t in omega arith) ∙ sym t)
 
@@ -54,16 +54,16 @@ module _ (t kinds drives : List ℕ) (bytes : (i : ℕ) → getD t i 0 < 256) (m
   leads x y j = eqb (trailingZeros 64 (bitAnd (getD kinds x 0) (getD drives y 0))) j
 
   abbrev isFirst : Set
-  isFirst j = some 256 (λ x. some 256 (λ y. leads x y j))
+  isFirst j = someBelow 256 (λ x. someBelow 256 (λ y. leads x y j))
 
-  leads-is : (x y j : ℕ) → x < 256 → y < 256 → j < lineCount t → leads x y j ≡ holds t x y j && not (some j (holds t x y))
+  leads-is : (x y j : ℕ) → x < 256 → y < 256 → j < lineCount t → leads x y j ≡ holds t x y j && not (someBelow j (holds t x y))
   leads-is x y j lx ly l =
       ap (λ (k : ℕ). eqb (trailingZeros 64 k) j) (meet t kinds drives m x y lx ly) ∙ least-at (lineCount t) (holds t x y) (m .lines) j l
 
   first-uncovered : (j : ℕ) → j < lineCount t → isFirst j ≡ not (covered t j)
   first-uncovered j l =
       bif (covered t j)
-      (λ c. some-none 256 (λ x. some 256 (λ y. leads x y j))
+      (λ c. some-none 256 (λ x. someBelow 256 (λ y. leads x y j))
       (λ x lx. some-none 256 (λ y. leads x y j)
       (λ y ly. leads-is x y j lx ly l ∙
       bif (holds t x y j)
@@ -74,14 +74,14 @@ module _ (t kinds drives : List ℕ) (bytes : (i : ℕ) → getD t i 0 < 256) (m
       let b = bounds-of t (u .kind) (u .drive) j (u .held) in
       let lx : u .kind < 256 = omega (arith, b .kind-high, bytes (5 * j + 1)) in
       let ly : u .drive < 256 = omega (arith, b .drive-high, bytes (5 * j + 3)) in
-      some-at 256 (λ x. some 256 (λ y. leads x y j)) (u .kind) lx
+      some-at 256 (λ x. someBelow 256 (λ y. leads x y j)) (u .kind) lx
       (some-at 256 (λ y. leads (u .kind) y j) (u .drive) ly
       (leads-is (u .kind) (u .drive) j lx ly l ∙ and-i (u .held) (ap not (u .none-earlier))))
       ∙ sym (ap not c))
 
   none-out : (j : ℕ) → lineCount t ≤ j → j < 64 → isFirst j ≡ false
   none-out j l k =
-      some-none 256 (λ x. some 256 (λ y. leads x y j))
+      some-none 256 (λ x. someBelow 256 (λ y. leads x y j))
       (λ x lx. some-none 256 (λ y. leads x y j)
       (λ y ly. ap (λ (z : ℕ). eqb (trailingZeros 64 z) j) (meet t kinds drives m x y lx ly) ∙ least-out (lineCount t) (holds t x y) (m .lines) j l k))
 

@@ -8,7 +8,7 @@ use native.Mathlib.Nat.{add-zero}
 use lib.Dec.{eqb, leb, ltb}
 use lib.ListN.{length, getD}
 use borrow.Author.Tests.{lt-ltb, le-ltb, le-leb, lt-leb, eq-eqb, ne-eqb}
-use Rattle.sets.specs.Tests.{some}
+use Rattle.sets.specs.Tests.{someBelow}
 use Rattle.sets.proofs.Bools.{or-l, or-r}
 use Rattle.sets.proofs.Tests.{some-at}
 use Rattle.event_spec.specs.Events.{lineCount, lineByte, spans}
@@ -32,7 +32,7 @@ module _ (s : ℕ) (t : List ℕ) (j : ℕ) where
 
 module _ (s : ℕ) (t : List ℕ) where
   abbrev lineFault : Bool
-  lineFault = some (lineCount t) (faulty s t)
+  lineFault = someBelow (lineCount t) (faulty s t)
 
   abbrev ragged : Bool
   ragged = not (eqb (length t % 5) 0)
@@ -49,7 +49,7 @@ module _ (s : ℕ) (t : List ℕ) where
   unfolding faultyTable
   table-line j l e = or-l lineFault (ragged || ltb 64 (lineCount t)) (some-at (lineCount t) (faulty s t) j l e)
 
-  pub table-sound : length t % 5 ≡ 0 → lineCount t ≤ 64 → some (lineCount t) (faulty s t) ≡ false → faultyTable s t ≡ false
+  pub table-sound : length t % 5 ≡ 0 → lineCount t ≤ 64 → someBelow (lineCount t) (faulty s t) ≡ false → faultyTable s t ≡ false
   unfolding faultyTable
   table-sound z l e = rw (e, eq-eqb (length t % 5) 0 z, le-ltb 64 (lineCount t) l)
 

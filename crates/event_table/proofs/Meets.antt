@@ -10,7 +10,7 @@ use lib.ListN.{getD}
 use lib.Bits.{bitAnd, and-le-l}
 use lib.Count.{trailingZeros, trailing-of-zero}
 use borrow.Author.Tests.{eqb-true, eq-eqb}
-use Rattle.sets.specs.Tests.{Set, some, first}
+use Rattle.sets.specs.Tests.{Set, someBelow, first}
 use Rattle.sets.specs.Masks.{bit, mask}
 use Rattle.sets.proofs.Bools.{bif, clash, and-l, and-r, and-i, not-t, iff}
 use Rattle.sets.proofs.Tests.{some-at, some-no, some-none, some-ext}
@@ -41,15 +41,15 @@ meet t kinds drives m x y lx ly =
 
 module _ (n : ℕ) (f : Set) where
   -- the empty mask
-  pub none-of : mask n f ≡ 0 → some n f ≡ false
+  pub none-of : mask n f ≡ 0 → someBelow n f ≡ false
   none-of e = some-none n f (λ q l. sym (bit-mask n f q l) ∙ ap (λ (m : ℕ). bit m q) e ∙ bit-none q)
 
-  pub empty-of : some n f ≡ false → mask n f ≡ 0
+  pub empty-of : someBelow n f ≡ false → mask n f ≡ 0
   empty-of e = mask-none n f (λ q l. some-no n f e q l)
 
   module _ (h : n ≤ 64) where
     -- trailing zeros count to the first line
-    pub least-first : some n f ≡ true → trailingZeros 64 (mask n f) ≡ first n f 0
+    pub least-first : someBelow n f ≡ true → trailingZeros 64 (mask n f) ≡ first n f 0
     least-first e =
         let r = first-found n f e in
         let l = r .0 in
@@ -57,28 +57,28 @@ module _ (n : ℕ) (f : Set) where
         ∙ first-is 64 (bit (mask n f)) (first n f 0) (omega arith) (bit-mask n f (first n f 0) l ∙ r .1)
         (some-ext (first n f 0) (bit (mask n f)) f (λ q k. bit-mask n f q (omega arith)) ∙ none-before n f)
 
-    least-none : some n f ≡ false → trailingZeros 64 (mask n f) ≡ 64
+    least-none : someBelow n f ≡ false → trailingZeros 64 (mask n f) ≡ 64
     least-none e = ap (trailingZeros 64) (empty-of e) ∙ trailing-of-zero 64
 
     -- they count to j exactly if f holds at j and nowhere before it
-    pub least-at : (j : ℕ) → j < n → eqb (trailingZeros 64 (mask n f)) j ≡ f j && not (some j f)
+    pub least-at : (j : ℕ) → j < n → eqb (trailingZeros 64 (mask n f)) j ≡ f j && not (someBelow j f)
     least-at j l =
-        iff (eqb (trailingZeros 64 (mask n f)) j) (f j && not (some j f))
+        iff (eqb (trailingZeros 64 (mask n f)) j) (f j && not (someBelow j f))
         (λ e. let z = eqb-true (trailingZeros 64 (mask n f)) j e in
-        bif (some n f)
+        bif (someBelow n f)
         (λ s. let p = sym (least-first s) ∙ z in
-        and-i (ap f (sym p) ∙ first-found n f s .1) (ap not (ap (λ (k : ℕ). some k f) (sym p) ∙ none-before n f)))
+        and-i (ap f (sym p) ∙ first-found n f s .1) (ap not (ap (λ (k : ℕ). someBelow k f) (sym p) ∙ none-before n f)))
         (λ s. let k = least-none s in absurd (omega arith)))
-        (λ e. let t = and-l (f j) (not (some j f)) e in
+        (λ e. let t = and-l (f j) (not (someBelow j f)) e in
         eq-eqb (trailingZeros 64 (mask n f)) j
-        (least-first (some-at n f j l t) ∙ first-is n f j l t (not-t (some j f) (and-r (f j) (not (some j f)) e))))
+        (least-first (some-at n f j l t) ∙ first-is n f j l t (not-t (someBelow j f) (and-r (f j) (not (someBelow j f)) e))))
 
     -- they count to no number that is neither below n nor 64
     pub least-out : (j : ℕ) → n ≤ j → j < 64 → eqb (trailingZeros 64 (mask n f)) j ≡ false
     least-out j l k =
         bif (eqb (trailingZeros 64 (mask n f)) j)
         (λ e. let z = eqb-true (trailingZeros 64 (mask n f)) j e in
-        bif (some n f)
+        bif (someBelow n f)
         (λ s. let p = least-first s in let r = first-found n f s .0 in absurd (omega arith))
         (λ s. let p = least-none s in absurd (omega arith)))
         (λ e. e)

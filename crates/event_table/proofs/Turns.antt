@@ -13,7 +13,7 @@ use lib.Bits.{bitOr}
 use lib.Count.{trailingZeros, trailing-of-zero}
 use lib.Pow.{pow-mono, pow-lt}
 use borrow.Author.Tests.{ne-eqb}
-use Rattle.sets.specs.Tests.{Set, one, some}
+use Rattle.sets.specs.Tests.{Set, one, someBelow}
 use Rattle.sets.specs.Masks.{mask}
 use Rattle.sets.proofs.Masks.{mask-lt, mask-ext, mask-none}
 use Rattle.sets.proofs.Bits.{mask-or, mask-unique, bit-shl-one, shl-one}
@@ -23,8 +23,8 @@ use Rattle.event_spec.specs.Events.{lineCount, spans}
 use Rattle.event_table.specs.Masks.{masksOf, leastOf}
 use Rattle.event_table.proofs.Meets.{masks-at}
 
-pub some-next : (k : ℕ) (f : Set) → some k f ≡ false → f k ≡ false → some (k + 1) f ≡ false
-unfolding some
+pub some-next : (k : ℕ) (f : Set) → someBelow k f ≡ false → f k ≡ false → someBelow (k + 1) f ≡ false
+unfolding someBelow
 some-next k f h e = rw (add-one k, h, e)
 
 -- ---- a mask, from number 0 up
@@ -60,12 +60,12 @@ least-mask m p h =
 
 -- ---- a union, from number 0 up
 
-pub union-start : (g : ℕ → Set) → 0 ≡ mask 64 (λ j. some 0 (λ z. g z j))
-unfolding some
-union-start g = sym (mask-none 64 (λ j. some 0 (λ z. g z j)) (λ j l. refl))
+pub union-start : (g : ℕ → Set) → 0 ≡ mask 64 (λ j. someBelow 0 (λ z. g z j))
+unfolding someBelow
+union-start g = sym (mask-none 64 (λ j. someBelow 0 (λ z. g z j)) (λ j l. refl))
 
-pub union-more : (g : ℕ → Set) (k : ℕ) → bitOr (mask 64 (λ j. some k (λ z. g z j))) (mask 64 (g k)) ≡ mask 64 (λ j. some (k + 1) (λ z. g z j))
-unfolding some
+pub union-more : (g : ℕ → Set) (k : ℕ) → bitOr (mask 64 (λ j. someBelow k (λ z. g z j))) (mask 64 (g k)) ≡ mask 64 (λ j. someBelow (k + 1) (λ z. g z j))
+unfolding someBelow
 union-more g k =
-    mask-or 64 (λ j. some k (λ z. g z j)) (g k)
-    ∙ mask-ext 64 (λ j. some k (λ z. g z j) || g k j) (λ j. some (k + 1) (λ z. g z j)) (λ j l. ap (λ (n : ℕ). some n (λ z. g z j)) (sym (add-one k)))
+    mask-or 64 (λ j. someBelow k (λ z. g z j)) (g k)
+    ∙ mask-ext 64 (λ j. someBelow k (λ z. g z j) || g k j) (λ j. someBelow (k + 1) (λ z. g z j)) (λ j l. ap (λ (n : ℕ). someBelow n (λ z. g z j)) (sym (add-one k)))

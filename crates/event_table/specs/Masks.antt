@@ -6,7 +6,7 @@ use lib.Dec.{eqb}
 use lib.ListN.{getD}
 use lib.Bits.{bitAnd}
 use lib.Count.{trailingZeros}
-use Rattle.sets.specs.Tests.{some}
+use Rattle.sets.specs.Tests.{someBelow}
 use Rattle.sets.specs.Masks.{mask}
 use Rattle.sets.specs.Lists.{tabulate}
 use Rattle.event_spec.specs.Events.{lineCount, spans}
@@ -27,8 +27,8 @@ leastOf m = mask 64 (λ j. eqb (trailingZeros 64 m) j)
 
 -- the lines that are the least of the meet of m with the lines of some drive
 abbrev pub firstsBeside : ℕ → List ℕ → ℕ
-firstsBeside m drives = mask 64 (λ j. some 256 (λ y. eqb (trailingZeros 64 (bitAnd m (getD drives y 0))) j))
+firstsBeside m drives = mask 64 (λ j. someBelow 256 (λ y. eqb (trailingZeros 64 (bitAnd m (getD drives y 0))) j))
 
 -- the lines that are the least of the meet of the lines of some kind with those of some drive
 abbrev pub firstsOf : List ℕ → List ℕ → ℕ
-firstsOf kinds drives = mask 64 (λ j. some 256 (λ x. some 256 (λ y. eqb (trailingZeros 64 (bitAnd (getD kinds x 0) (getD drives y 0))) j)))
+firstsOf kinds drives = mask 64 (λ j. someBelow 256 (λ x. someBelow 256 (λ y. eqb (trailingZeros 64 (bitAnd (getD kinds x 0) (getD drives y 0))) j)))

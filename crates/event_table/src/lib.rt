@@ -6,7 +6,7 @@ ghost use lib.Dec.{eqb};
 ghost use lib.ListN.{length, getD};
 ghost use lib.Bits.{bitAnd};
 ghost use lib.Count.{trailingZeros};
-ghost use Rattle.sets.specs.Tests.{one, some};
+ghost use Rattle.sets.specs.Tests.{one, someBelow};
 ghost use Rattle.sets.specs.Masks.{mask};
 ghost use Rattle.event_spec.specs.Events.{lineCount, spans};
 ghost use Rattle.event_spec.specs.Translation.{faulty, faultyTable, hasCovered};

@@ -6,7 +6,7 @@ use Prim.Native.Nat.{ℕ, _%_, _≤_}
 use lib.Dec.{eqb, ltb}
 use lib.ListN.{length}
 use borrow.Author.Tests.{ltb-false}
-use Rattle.sets.specs.Tests.{some}
+use Rattle.sets.specs.Tests.{someBelow}
 use Rattle.sets.proofs.Bools.{or-fr}
 use Rattle.event_spec.specs.Events.{lineCount}
 use Rattle.event_spec.specs.Translation.{faulty, faultyTable}
@@ -15,4 +15,4 @@ pub few-lines : (s : ℕ) (t : List ℕ) → faultyTable s t ≡ false → lineC
 unfolding faultyTable
 few-lines s t e =
     let ragged = not (eqb (length t % 5) 0) in
-    ltb-false 64 (lineCount t) (or-fr ragged (ltb 64 (lineCount t)) (or-fr (some (lineCount t) (faulty s t)) (ragged || ltb 64 (lineCount t)) e))
+    ltb-false 64 (lineCount t) (or-fr ragged (ltb 64 (lineCount t)) (or-fr (someBelow (lineCount t) (faulty s t)) (ragged || ltb 64 (lineCount t)) e))

@@ -7,7 +7,7 @@ use borrow.Author.Tests.{eqb-true, eq-eqb, ne-eqb}
 use lib.Bits.{bitAnd}
 use lib.Dec.{eqb}
 use lib.ListN.{length, getD}
-use Rattle.sets.specs.Tests.{some}
+use Rattle.sets.specs.Tests.{someBelow}
 use Rattle.sets.specs.Masks.{bit, inside}
 use Rattle.sets.proofs.Bools.{iff}
 use Rattle.sets.proofs.Tests.{some-ext}
@@ -41,7 +41,7 @@ module _ (cs : List ℕ) (i j : ℕ) where
 nested-trim : (n : ℕ) (cs : List ℕ) → n ≤ 8 → ((c : ℕ) → List·Memᴰ c cs → c < 2 ^ n) → nested 8 cs ≡ nested n cs
 unfolding nested
 nested-trim n cs l h =
-    some-ext (length cs) (λ i. some (length cs) (λ j. containsAt 8 cs i j)) (λ i. some (length cs) (λ j. containsAt n cs i j))
+    some-ext (length cs) (λ i. someBelow (length cs) (λ j. containsAt 8 cs i j)) (λ i. someBelow (length cs) (λ j. containsAt n cs i j))
     (λ i u. some-ext (length cs) (λ j. containsAt 8 cs i j) (λ j. containsAt n cs i j)
     (λ j v. ap (λ (b : Bool). not (eqb i j) && b) (inside-trim n 8 (bit (getD cs i 0)) (getD cs j 0) l (h (getD cs j 0) (mem-at cs j v)))))
 

@@ -3,7 +3,7 @@ use rule_entries::Head;
 ghost use mathlib.Core.Path.{_≡_};
 ghost use Prim.Native.Nat.{_<_};
 ghost use lib.ListN.{length};
-ghost use Rattle.sets.specs.Tests.{some};
+ghost use Rattle.sets.specs.Tests.{someBelow};
 ghost use Rattle.refusals.specs.Rows.{firstRow};
 ghost use Rattle.theory.specs.Rule.{entry};
 ghost use Rattle.theory.specs.Passing.{WellFormed};
@@ -24,7 +24,7 @@ fn contains_at(clauses: &[u8], i: usize, j: usize) -> bool
 // Whether the clause at i contains another one.
 fn contains_another(clauses: &[u8], i: usize) -> bool
     requires { ⌜ i < length (now clauses) ⌝ }
-    ensures { λ r. ⌜ r ≡ some (length (now (clauses .entry))) (λ j. containsAt 8 (now (clauses .entry)) i j) ⌝ }
+    ensures { λ r. ⌜ r ≡ someBelow (length (now (clauses .entry))) (λ j. containsAt 8 (now (clauses .entry)) i j) ⌝ }
 {
     let mut j = 0;
     while j < clauses.len() {
@@ -53,7 +53,7 @@ fn is_nested(clauses: &[u8]) -> bool
 // Whether some entry of state q is nested.
 fn nested_state(h: Head, counts: &[u8], clauses: &[u8], q: usize) -> bool
     requires { ⌜ WellFormed (ruleOf h (now counts) (now clauses)) × (q < h .n) ⌝ }
-    ensures { λ r. ⌜ r ≡ some (h .s) (λ a. nested (h .n) (entry (ruleOf h (now (counts .entry)) (now (clauses .entry))) q a)) ⌝ }
+    ensures { λ r. ⌜ r ≡ someBelow (h .s) (λ a. nested (h .n) (entry (ruleOf h (now (counts .entry)) (now (clauses .entry))) q a)) ⌝ }
 {
     let mut a = 0;
     while a < h.s {

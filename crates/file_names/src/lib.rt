@@ -4,7 +4,7 @@ ghost use mathlib.Core.Bool.{false, _&&_, _||_, not};
 ghost use Prim.Native.Nat.{_+_, _-_, _*_, _≤_};
 ghost use lib.ListN.{length};
 ghost use lib.Dec.{ltb, eqb};
-ghost use Rattle.sets.specs.Tests.{some};
+ghost use Rattle.sets.specs.Tests.{someBelow};
 ghost use Rattle.sets.specs.Lists.{anyOf};
 ghost use Rattle.refusals.specs.Rows.{firstRow};
 ghost use Rattle.file_spec.specs.Names.{hasNames, namesBefore, sameName, repeatsName};
@@ -86,7 +86,7 @@ fn same_name(names: &[u8], a: usize, b: usize) -> bool
 // Whether the name of the letter b is equal to an earlier one.
 fn repeats_earlier(names: &[u8], b: usize) -> bool
     requires { ⌜ 8 * b + 8 ≤ length (now names) ⌝ }
-    ensures { λ r. ⌜ r ≡ some b (λ a. sameName (now (names .entry)) a b) ⌝ }
+    ensures { λ r. ⌜ r ≡ someBelow b (λ a. sameName (now (names .entry)) a b) ⌝ }
 {
     let mut a = 0;
     while a < b {

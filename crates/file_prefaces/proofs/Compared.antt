@@ -15,7 +15,7 @@ use Rattle.file_read.proofs.FileRows.{file-numbered, old-numbered, old-accepts}
 use Rattle.file_read.proofs.Prefaces.{preface-no-effect, accepted-after, holds-after}
 use Rattle.build.specs.Built.{roomAfter}
 use Rattle.stricter_entry_spec.specs.declared.Comparison.{Comparison}
-use Rattle.stricter_entry_spec.specs.Rows.{Slices, tablesOf, rulesRows, stricterRow, scratchAfter}
+use Rattle.stricter_entry_spec.specs.Rows.{Slices, tablesOf, rulesRows, stricterRow, scratchLeft}
 use Rattle.stricter_entry_spec.specs.Compared.{ComparedBy}
 use Rattle.file_prefaces.proofs.Verdicts.{Before, both-alike}
 
@@ -36,7 +36,7 @@ module _ (lent : Slices) (answer : Comparison) (left : Slices) where
   rulesRest a b = rulesRows a b (tablesOf a b) lent
 
   refused-alone : (k : ℕ) (a b c d : Rule) → RulesBy (suc k) a b → RulesBy (suc k) c d
-  unfolding roomAfter scratchAfter
+  unfolding roomAfter scratchLeft
   refused-alone k a b c d h = record {
     told = h .told;
     codes-a-after = h .codes-a-after;

@@ -12,7 +12,7 @@ use Rattle.file_spec.specs.Rows.{fileRows}
 use Rattle.table_lent.specs.Lent.{Lent}
 use Rattle.event_spec.specs.declared.Translated.{Translated}
 use Rattle.event_spec.specs.Events.{eventCount, lettersOf}
-use Rattle.event_spec.specs.Translation.{callRows, translateRow, answer, translatedOf, filled, lettersAfter}
+use Rattle.event_spec.specs.Translation.{translationRows, translateRow, answer, translatedOf, filled, lettersAfter}
 use Rattle.live_spec.specs.declared.LiveCall.{LiveCall}
 use Rattle.live_spec.specs.declared.LiveAnswer.{LiveAnswer}
 use Rattle.live_spec.specs.History.{History, later, Served}
@@ -25,7 +25,7 @@ module _ (table log old new : List ℕ) (v : Translated) where
   Translates f = (v ≡ translatedOf f table log (length old)) × (new ≡ lettersAfter f table log old)
 
   abbrev translateRest : Rule → List Check
-  translateRest r = callRows (r .s) table log (length old)
+  translateRest r = translationRows (r .s) table log (length old)
 
   abbrev TranslatesBy : ℕ → Rule → Type 0
   TranslatesBy k r = (v ≡ answer k (eventCount log)) × (new ≡ filled k (lettersOf table log) old)

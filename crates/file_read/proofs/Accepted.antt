@@ -16,7 +16,7 @@ use Rattle.file_spec.specs.RuleRows.{numberRows, listRows, nested, someNested, 
 use Rattle.file_spec.specs.Reading.{unrefused, prefaceOf}
 use Rattle.file_spec.proofs.FileParts.{clauses-length}
 use Rattle.file_read.proofs.FileRows.{accepted-placed}
-use Rattle.sets.specs.Tests.{every, some}
+use Rattle.sets.specs.Tests.{every, someBelow}
 use Rattle.sets.specs.Masks.{bit, mask, inside}
 use Rattle.sets.specs.Lists.{anyOf, sum}
 use Rattle.refusals.specs.Rows.{firstRow}
@@ -28,7 +28,7 @@ use Rattle.theory.specs.Components.{named, leads, within, reaches, together, mi
 -- 07 08 before F is the preface
 pub preface-F : prefaceOf (0x07 ∷ 0x08 ∷ 0x01 ∷ 0x00 ∷ 0x01 ∷ 0x01 ∷ 0x01 ∷ 0x02 ∷ 0x00 ∷ 0x00 ∷ 0x02 ∷ 0x00 ∷ 0x41 ∷ 0x57 ∷ []) ≡ 0x07 ∷ 0x08 ∷ []
 unfolding prefaceOf unrefused fileRow fileRows bodyRows layoutRows trailerRows numberRows listRows formedRows clauseRows componentRows prefaceRows nameRows hasNames namesBefore repeatsName firstRow
-    tagged clausesOf countsOf anyOf sum someNested nested inside every mixed together reaches within leads named entry some bit mask
+    tagged clausesOf countsOf anyOf sum someNested nested inside every mixed together reaches within leads named entry someBelow bit mask
 preface-F = refl
 
 -- nothing of a refused file: 07 before the example of row 9

@@ -9,7 +9,7 @@ use borrow.Author.Tests.{ltb-false, le-ltb, le-leb, leb-true, eqb-true, not-fals
 use lib.Dec.{leb, ltb, eqb}
 use lib.ListN.{length, getD, take, drop, length-append, length-take, length-drop, take-append-drop, drop-of-length-le}
 use lib.Seq.{getD-append-add, drop-append-add, drop-drop, take-at}
-use Rattle.sets.specs.Tests.{some}
+use Rattle.sets.specs.Tests.{someBelow}
 use Rattle.sets.specs.Lists.{anyOf}
 use Rattle.refusals.specs.Rows.{firstRow}
 use Rattle.sets.proofs.Bools.{bif, clash, and-l, and-r, or-cases}
@@ -163,7 +163,7 @@ module _ (s : ℕ) (q names : List ℕ) (l : length names ≡ 8 * s) where
 
 -- a preface of no byte has no names
 pub no-preface : (s : ℕ) → firstRow (prefaceRows s []) ≡ 0
-unfolding firstRow prefaceRows nameRows hasNames namesBefore repeatsName anyOf some
+unfolding firstRow prefaceRows nameRows hasNames namesBefore repeatsName anyOf someBelow
 no-preface s = refl
 
 no-bytes : anyOf [] (outside 0x20 0x7E) ≡ false
@@ -171,7 +171,7 @@ unfolding anyOf
 no-bytes = refl
 
 no-repeats : repeatsName [] ≡ false
-unfolding repeatsName some
+unfolding repeatsName someBelow
 no-repeats = refl
 
 -- ---- the preface that is written

@@ -2,7 +2,7 @@
 use mathlib.Core.Path.{_≡_, refl}
 use mathlib.Core.List.{List, [], _∷_}
 use Prim.Native.Nat.{ℕ}
-use Rattle.sets.specs.Tests.{every, some}
+use Rattle.sets.specs.Tests.{every, someBelow}
 use Rattle.sets.specs.Masks.{bit, mask, inside}
 use Rattle.sets.specs.Lists.{anyOf, sum}
 use Rattle.refusals.specs.Rows.{firstRow}
@@ -18,7 +18,7 @@ use Rattle.file_spec.specs.Reading.{answer, readOf, unrefused, prefaceOf
 -- what an evaluation unfolds
 unfoldable computed : ℕ
 unfolding readOf answer prefaceOf unrefused fileRow fileRows bodyRows layoutRows trailerRows numberRows listRows formedRows clauseRows componentRows prefaceRows nameRows hasNames namesBefore repeatsName
-    firstRow tagged clausesOf countsOf anyOf sum someNested nested inside every mixed together reaches within leads named entry some bit mask
+    firstRow tagged clausesOf countsOf anyOf sum someNested nested inside every mixed together reaches within leads named entry someBelow bit mask
 computed = 0
 
 -- rule Z behind three bytes and the name of its letter

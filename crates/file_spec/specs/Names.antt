@@ -4,7 +4,7 @@ use mathlib.Core.List.{List, [], _∷_, _++_}
 use mathlib.Core.Bool.{Bool, _&&_, cond}
 use lib.ListN.{length, getD, take, drop}
 use lib.Dec.{leb, eqb}
-use Rattle.sets.specs.Tests.{every, some}
+use Rattle.sets.specs.Tests.{every, someBelow}
 
 -- 02: "4E 4D"
 abbrev pub namesTag : List ℕ
@@ -26,7 +26,7 @@ sameName names a b = every 8 (λ i. eqb (getD names (8 * a + i) 0) (getD names (
 
 -- 02: "two equal names"
 unfoldable pub repeatsName : List ℕ → Bool
-repeatsName names = some (length names / 8) (λ b. some b (λ a. sameName names a b))
+repeatsName names = someBelow (length names / 8) (λ b. someBelow b (λ a. sameName names a b))
 
 -- 02: "The writer writes the names, with 4E 4D, as its whole preface"
 unfoldable pub prefaceFrom : List ℕ → List ℕ

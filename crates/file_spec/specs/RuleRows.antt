@@ -4,7 +4,7 @@ use mathlib.Core.List.{List, [], _∷_, _++_}
 use mathlib.Core.Bool.{Bool, not, _&&_, _||_}
 use lib.ListN.{length, getD}
 use lib.Dec.{ltb, leb, eqb}
-use Rattle.sets.specs.Tests.{some}
+use Rattle.sets.specs.Tests.{someBelow}
 use Rattle.sets.specs.Masks.{bit, inside}
 use Rattle.sets.specs.Lists.{anyOf, sum}
 use Rattle.refusals.specs.Rows.{Check, check}
@@ -50,11 +50,11 @@ containsAt n cs i j = not (eqb i j) && inside n (bit (getD cs i 0)) (getD cs j 0
 
 -- 02: "an entry with a clause that contains another of its clauses"
 unfoldable pub nested : ℕ → List ℕ → Bool
-nested n cs = some (length cs) (λ i. some (length cs) (λ j. containsAt n cs i j))
+nested n cs = someBelow (length cs) (λ i. someBelow (length cs) (λ j. containsAt n cs i j))
 
 -- some entry of the rule is nested; clauses of different entries are not compared
 unfoldable pub someNested : Rule → Bool
-someNested r = some (r .n) (λ q. some (r .s) (λ a. nested (r .n) (entry r q a)))
+someNested r = someBelow (r .n) (λ q. someBelow (r .s) (λ a. nested (r .n) (entry r q a)))
 
 -- row 20, of a rule's entries. 02: "after 10 and before 11"
 unfoldable pub clauseRows : Rule → List Check

@@ -3,7 +3,7 @@ use Prim.Native.Nat.{ℕ}
 use mathlib.Core.Path.{_≡_, refl}
 use mathlib.Core.List.{List, [], _∷_}
 use lib.ListN.{length, replicate}
-use Rattle.sets.specs.Tests.{every, some}
+use Rattle.sets.specs.Tests.{every, someBelow}
 use Rattle.sets.specs.Masks.{bit, mask, inside}
 use Rattle.sets.specs.Lists.{anyOf, sum}
 use Rattle.refusals.specs.Rows.{firstRow}
@@ -19,25 +19,25 @@ use Rattle.file_write_spec.specs.Written.{headFrom, ruleRows, givenRuleR
 pub writes-Z : sliceAfter (headFrom 1 1 0 1) (0x00 ∷ []) [] [] (7 ∷ 7 ∷ 7 ∷ 7 ∷ 7 ∷ 7 ∷ 7 ∷ 7 ∷ 7 ∷ 8 ∷ [])
     ≡ 0x00 ∷ 0x01 ∷ 0x01 ∷ 0x00 ∷ 0x01 ∷ 0x00 ∷ 0x00 ∷ 0x41 ∷ 0x57 ∷ 8 ∷ []
 unfolding sliceAfter after writeRow givenRuleRows ruleRows sliceRows numberRows listRows formedRows clauseRows componentRows givenRows nameRows repeatsName prefaceFrom firstRow anyOf sum bodyOf
-    trailerOf someNested nested inside every mixed together reaches within leads named entry some bit mask
+    trailerOf someNested nested inside every mixed together reaches within leads named entry someBelow bit mask
 writes-Z = refl
 
 -- eight bytes are too few for it, and stay as they were
 pub short-Z : sliceAfter (headFrom 1 1 0 1) (0x00 ∷ []) [] [] (7 ∷ 7 ∷ 7 ∷ 7 ∷ 7 ∷ 7 ∷ 7 ∷ 8 ∷ []) ≡ 7 ∷ 7 ∷ 7 ∷ 7 ∷ 7 ∷ 7 ∷ 7 ∷ 8 ∷ []
 unfolding sliceAfter after writeRow givenRuleRows ruleRows sliceRows numberRows listRows formedRows clauseRows componentRows givenRows nameRows repeatsName prefaceFrom firstRow anyOf sum bodyOf
-    trailerOf someNested nested inside every mixed together reaches within leads named entry some bit mask
+    trailerOf someNested nested inside every mixed together reaches within leads named entry someBelow bit mask
 short-Z = refl
 
 -- a mixed component and no room at all: 11
 pub order-11-16 : writeRow (headFrom 2 1 0 1) (0x01 ∷ 0x01 ∷ []) (0x02 ∷ 0x01 ∷ []) [] 0 ≡ 11
 unfolding writeRow givenRuleRows ruleRows sliceRows numberRows listRows formedRows clauseRows componentRows givenRows nameRows repeatsName prefaceFrom firstRow anyOf sum bodyOf trailerOf someNested
-    nested inside every mixed together reaches within leads named entry some bit mask
+    nested inside every mixed together reaches within leads named entry someBelow bit mask
 order-11-16 = refl
 
 -- a repeated clause, a mixed component and no room at all: 20
 pub order-20-11-16 : writeRow (headFrom 2 1 0 1) (0x02 ∷ 0x01 ∷ []) (0x02 ∷ 0x02 ∷ 0x01 ∷ []) [] 0 ≡ 20
 unfolding writeRow givenRuleRows ruleRows sliceRows numberRows listRows formedRows clauseRows componentRows givenRows nameRows repeatsName prefaceFrom firstRow anyOf sum bodyOf trailerOf someNested
-    nested inside every mixed together reaches within leads named entry some bit mask
+    nested inside every mixed together reaches within leads named entry someBelow bit mask
 order-20-11-16 = refl
 
 -- one count too many: 7, before its value is looked at
@@ -48,7 +48,7 @@ entries-7 = refl
 -- 65,536 clauses, of which the counts know none: 9, and no room changes it
 pub zeros-9 : writeRow (headFrom 1 1 0 1) (0x00 ∷ []) (replicate 65536 0) [] 0 ≡ 9
 unfolding writeRow givenRuleRows ruleRows sliceRows numberRows listRows formedRows clauseRows componentRows givenRows nameRows repeatsName prefaceFrom firstRow anyOf sum bodyOf trailerOf someNested
-    nested inside every mixed together reaches within leads named entry some bit mask
+    nested inside every mixed together reaches within leads named entry someBelow bit mask
 zeros-9 = refl
 
 -- and whatever the clauses are
@@ -63,29 +63,29 @@ pub writes-names : sliceAfter (headFrom 1 2 0 1) (0x00 ∷ 0x00 ∷ []) [] (0x47
     ≡ 0x47 ∷ 0x4f ∷ 0x20 ∷ 0x20 ∷ 0x20 ∷ 0x20 ∷ 0x20 ∷ 0x20 ∷ 0x53 ∷ 0x54 ∷ 0x4f ∷ 0x50 ∷ 0x20 ∷ 0x20 ∷ 0x20 ∷ 0x20 ∷ 0x4e ∷ 0x4d ∷ 0x00 ∷ 0x00 ∷ 0x01 ∷ 0x02 ∷ 0x00 ∷ 0x01 ∷ 0x00 ∷ 0x00 ∷ 0x41 ∷ 0x57
     ∷ 0x07 ∷ []
 unfolding sliceAfter after writeRow givenRuleRows ruleRows sliceRows numberRows listRows formedRows clauseRows componentRows givenRows nameRows repeatsName prefaceFrom firstRow anyOf sum bodyOf
-    trailerOf someNested nested inside every mixed together reaches within leads named entry some bit mask
+    trailerOf someNested nested inside every mixed together reaches within leads named entry someBelow bit mask
 writes-names = refl
 
 -- one byte too few
 pub short-names : writeRow (headFrom 1 2 0 1) (0x00 ∷ 0x00 ∷ []) [] (0x47 ∷ 0x4f ∷ 0x20 ∷ 0x20 ∷ 0x20 ∷ 0x20 ∷ 0x20 ∷ 0x20 ∷ 0x53 ∷ 0x54 ∷ 0x4f ∷ 0x50 ∷ 0x20 ∷ 0x20 ∷ 0x20 ∷ 0x20 ∷ []) 27 ≡ 16
 unfolding writeRow givenRuleRows ruleRows sliceRows numberRows listRows formedRows clauseRows componentRows givenRows nameRows repeatsName prefaceFrom firstRow anyOf sum bodyOf trailerOf someNested
-    nested inside every mixed together reaches within leads named entry some bit mask
+    nested inside every mixed together reaches within leads named entry someBelow bit mask
 short-names = refl
 
 -- one name for two letters: 21, also where there is no room
 pub names-21 : writeRow (headFrom 1 2 0 1) (0x00 ∷ 0x00 ∷ []) [] (0x47 ∷ 0x4f ∷ 0x20 ∷ 0x20 ∷ 0x20 ∷ 0x20 ∷ 0x20 ∷ 0x20 ∷ []) 0 ≡ 21
 unfolding writeRow givenRuleRows ruleRows sliceRows numberRows listRows formedRows clauseRows componentRows givenRows nameRows repeatsName prefaceFrom firstRow anyOf sum bodyOf trailerOf someNested
-    nested inside every mixed together reaches within leads named entry some bit mask
+    nested inside every mixed together reaches within leads named entry someBelow bit mask
 names-21 = refl
 
 -- 7F in a name, and the names are equal: 22
 pub names-22 : writeRow (headFrom 1 2 0 1) (0x00 ∷ 0x00 ∷ []) [] (0x7f ∷ 0x7f ∷ 0x7f ∷ 0x7f ∷ 0x7f ∷ 0x7f ∷ 0x7f ∷ 0x7f ∷ 0x7f ∷ 0x7f ∷ 0x7f ∷ 0x7f ∷ 0x7f ∷ 0x7f ∷ 0x7f ∷ 0x7f ∷ []) 40 ≡ 22
 unfolding writeRow givenRuleRows ruleRows sliceRows numberRows listRows formedRows clauseRows componentRows givenRows nameRows repeatsName prefaceFrom firstRow anyOf sum bodyOf trailerOf someNested
-    nested inside every mixed together reaches within leads named entry some bit mask
+    nested inside every mixed together reaches within leads named entry someBelow bit mask
 names-22 = refl
 
 -- equal names: 23
 pub names-23 : writeRow (headFrom 1 2 0 1) (0x00 ∷ 0x00 ∷ []) [] (0x47 ∷ 0x4f ∷ 0x20 ∷ 0x20 ∷ 0x20 ∷ 0x20 ∷ 0x20 ∷ 0x20 ∷ 0x47 ∷ 0x4f ∷ 0x20 ∷ 0x20 ∷ 0x20 ∷ 0x20 ∷ 0x20 ∷ 0x20 ∷ []) 40 ≡ 23
 unfolding writeRow givenRuleRows ruleRows sliceRows numberRows listRows formedRows clauseRows componentRows givenRows nameRows repeatsName prefaceFrom firstRow anyOf sum bodyOf trailerOf someNested
-    nested inside every mixed together reaches within leads named entry some bit mask
+    nested inside every mixed together reaches within leads named entry someBelow bit mask
 names-23 = refl

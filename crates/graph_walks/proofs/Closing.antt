@@ -9,7 +9,7 @@ use native.Mathlib.Decide.{decLt, ℕ-discrete}
 use lib.Dec.{eqb, ltb}
 use lib.ListN.{length, getD}
 use borrow.Author.Tests.{eqb-true, eqb-false, lt-ltb, le-ltb}
-use Rattle.sets.specs.Tests.{Set, some}
+use Rattle.sets.specs.Tests.{Set, someBelow}
 use Rattle.sets.proofs.Bools.{bif}
 use Rattle.sets.proofs.Tests.{some-get, some-no}
 use Rattle.graph_walks.proofs.Sums.{has-place}
@@ -46,7 +46,7 @@ same f p k = eqb (f k) p
 pub pigeonhole : (n : ℕ) (f : ℕ → ℕ) → ((k : ℕ) → k < suc n → f k < n) → (a b : ℕ) × (a < b) × (b < suc n) × (f a ≡ f b)
 pigeonhole zero f low = absurd (omega (arith, low 0 (omega arith)))
 pigeonhole (suc n) f low =
-    bif (some (suc n) (same f (f (suc n))))
+    bif (someBelow (suc n) (same f (f (suc n))))
     (λ t. let k = some-get (suc n) (same f (f (suc n))) t in (k .0, suc n, k .1, omega arith, eqb-true (f (k .0)) (f (suc n)) (k .2)))
     (λ t. let other : (k : ℕ) → k < suc n → f k ≡ f (suc n) → ⊥ = λ k l. eqb-false (f k) (f (suc n)) (some-no (suc n) (same f (f (suc n))) t k l) in
     let r = pigeonhole n (λ k. squash (f (suc n)) (f k)) (λ k l. squash-low n (f (suc n)) (f k) (low (suc n) (omega arith)) (low k (omega arith)) (other k l)) in

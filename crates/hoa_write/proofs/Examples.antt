@@ -15,17 +15,17 @@ use Rattle.table_lent.specs.Lent.{inWords, isFaulty, tableRows}
 use Rattle.hoa_spec.specs.Lines.{statesLine, startLine, propositions, names, apLine, stateLine, literal, label, edgeLine}
 use Rattle.hoa_spec.specs.Text.{flagOf, flagsOf, startOf, leaving, blockOf, automatonText, textOf}
 use Rattle.file_write_spec.specs.Written.{after}
-use Rattle.hoa_write.specs.Written.{callRows, callRow}
+use Rattle.hoa_write.specs.Written.{textRows, textRow}
 
 -- what an evaluation unfolds
 unfoldable computed : ℕ
-unfolding callRow callRows tableRows firstRow inWords isFaulty ascends ascendsFrom anyOf first bit keep componentIn classesIn begun isAccepting digitsIn decimal word lines statesLine startLine
+unfolding textRow textRows tableRows firstRow inWords isFaulty ascends ascendsFrom anyOf first bit keep componentIn classesIn begun isAccepting digitsIn decimal word lines statesLine startLine
     propositions names apLine stateLine literal label edgeLine flagOf flagsOf startOf leaving blockOf automatonText textOf
 computed = 0
 
 -- the row of a table under a rule of two letters with initial state 0
 abbrev row : List ℕ → List ℕ → ℕ → ℕ
-row codes transitions room = callRow 2 0 (inWords codes) (inWords transitions) room
+row codes transitions room = textRow 2 0 (inWords codes) (inWords transitions) room
 
 -- F's text has 223 bytes
 pub room-222 : row (0 ∷ 257 ∷ 17592186044673 ∷ []) (0 ∷ 16777218 ∷ 16842752 ∷ 16842754 ∷ 33554434 ∷ 33619968 ∷ 33619969 ∷ []) 222 ≡ 16

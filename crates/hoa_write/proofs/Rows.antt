@@ -16,7 +16,7 @@ use Rattle.file_write_spec.specs.declared.Written.{Written}
 use Rattle.file_write_spec.specs.declared.Written.the-variants.{Length, Refused}
 use Rattle.file_write_spec.specs.Written.{answer, after}
 use Rattle.table_lent.specs.Lent.{Lent, tableRows, tableRow}
-use Rattle.hoa_write.specs.Written.{lentText, callRows, callRow, writeRow, fileText, hoaWritten, hoaAfter, Called}
+use Rattle.hoa_write.specs.Written.{lentText, textRows, textRow, writeRow, fileText, hoaWritten, hoaAfter, Called}
 
 module _ (s initial : ℕ) (codes transitions : Lent) where
   abbrev text : List ℕ
@@ -28,32 +28,32 @@ module _ (s initial : ℕ) (codes transitions : Lent) where
 
   module _ (room : ℕ) where
     -- row 15
-    pub table-refuses : (k : ℕ) → (k ≡ 0 → ⊥) → k ≡ tableRow s codes transitions → k ≡ callRow s initial codes transitions room
-    unfolding callRow callRows tableRow
+    pub table-refuses : (k : ℕ) → (k ≡ 0 → ⊥) → k ≡ tableRow s codes transitions → k ≡ textRow s initial codes transitions room
+    unfolding textRow textRows tableRow
     table-refuses k n e = first-left (tableRows s codes transitions) (check (ltb room (length text)) 16 ∷ []) k n e
 
-    table-passes : tableRow s codes transitions ≡ 0 → callRow s initial codes transitions room ≡ firstRow (check (ltb room (length text)) 16 ∷ [])
-    unfolding callRow callRows tableRow
+    table-passes : tableRow s codes transitions ≡ 0 → textRow s initial codes transitions room ≡ firstRow (check (ltb room (length text)) 16 ∷ [])
+    unfolding textRow textRows tableRow
     table-passes e = first-right (tableRows s codes transitions) (check (ltb room (length text)) 16 ∷ []) table-numbered e
 
     -- row 16
-    pub slice-refuses : tableRow s codes transitions ≡ 0 → room < length text → 16 ≡ callRow s initial codes transitions room
+    pub slice-refuses : tableRow s codes transitions ≡ 0 → room < length text → 16 ≡ textRow s initial codes transitions room
     unfolding firstRow
     slice-refuses e l = sym (table-passes e ∙ rw (lt-ltb room (length text) l))
 
-    pub call-served : tableRow s codes transitions ≡ 0 → length text ≤ room → callRow s initial codes transitions room ≡ 0
+    pub call-served : tableRow s codes transitions ≡ 0 → length text ≤ room → textRow s initial codes transitions room ≡ 0
     unfolding firstRow
     call-served e l = table-passes e ∙ rw (le-ltb room (length text) l)
 
   -- ---- a rule of s letters that is read
 
   module _ (old : List ℕ) where
-    pub called-refused : (k : ℕ) → (k ≡ 0 → ⊥) → k ≡ callRow s initial codes transitions (length old) → Called s initial codes transitions old old (Refused k)
+    pub called-refused : (k : ℕ) → (k ≡ 0 → ⊥) → k ≡ textRow s initial codes transitions (length old) → Called s initial codes transitions old old (Refused k)
     unfolding answer after
     called-refused zero n e = absurd (n refl)
     called-refused (suc k) n e = record { answers = rw (sym e) refl; written = rw (sym e) refl }
 
-    pub called-served : callRow s initial codes transitions (length old) ≡ 0 → (n : ℕ) (new : List ℕ) → n ≡ length text → new ≡ text ++ drop (length text) old
+    pub called-served : textRow s initial codes transitions (length old) ≡ 0 → (n : ℕ) (new : List ℕ) → n ≡ length text → new ≡ text ++ drop (length text) old
         → Called s initial codes transitions old new (Length n)
     unfolding answer after
     called-served e n new l w = record { answers = rw (e, l) refl; written = rw e w }
@@ -61,8 +61,8 @@ module _ (s initial : ℕ) (codes transitions : Lent) where
 -- ---- a file
 
 module _ (f : List ℕ) (codes transitions : Lent) where
-  pub file-passes : (room : ℕ) → fileRow f ≡ 0 → writeRow f codes transitions room ≡ callRow (ruleIn f .s) (ruleIn f .initial) codes transitions room
-  unfolding writeRow callRow fileRow
+  pub file-passes : (room : ℕ) → fileRow f ≡ 0 → writeRow f codes transitions room ≡ textRow (ruleIn f .s) (ruleIn f .initial) codes transitions room
+  unfolding writeRow textRow fileRow
   file-passes room e = first-right (fileRows f) _ (file-numbered f) e
 
   file-refuses : (room k : ℕ) → (k ≡ 0 → ⊥) → k ≡ fileRow f → k ≡ writeRow f codes transitions room

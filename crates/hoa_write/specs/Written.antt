@@ -17,17 +17,17 @@ abbrev pub lentText : ℕ → ℕ → Lent → Lent → List ℕ
 lentText s initial codes transitions = textOf s initial (codes .numbers) (transitions .numbers)
 
 -- rows 15 and 16, "result or scratch slice too short", once the rule is read; the slice has room bytes
-unfoldable pub callRows : ℕ → ℕ → Lent → Lent → ℕ → List Check
-callRows s initial codes transitions room =
+unfoldable pub textRows : ℕ → ℕ → Lent → Lent → ℕ → List Check
+textRows s initial codes transitions room =
     tableRows s codes transitions ++ (check (ltb room (length (lentText s initial codes transitions))) 16 ∷ [])
 
 -- the first of them that refuses, or 0
-unfoldable pub callRow : ℕ → ℕ → Lent → Lent → ℕ → ℕ
-callRow s initial codes transitions room = firstRow (callRows s initial codes transitions room)
+unfoldable pub textRow : ℕ → ℕ → Lent → Lent → ℕ → ℕ
+textRow s initial codes transitions room = firstRow (textRows s initial codes transitions room)
 
 -- 01, "Refused, in order of checking": rule, table, slices: the first row that refuses, or 0
 unfoldable pub writeRow : List ℕ → Lent → Lent → ℕ → ℕ
-writeRow f codes transitions room = firstRow (fileRows f ++ callRows (ruleIn f .s) (ruleIn f .initial) codes transitions room)
+writeRow f codes transitions room = firstRow (fileRows f ++ textRows (ruleIn f .s) (ruleIn f .initial) codes transitions room)
 
 -- the text of a lent table under the rule of a file
 abbrev pub fileText : List ℕ → Lent → Lent → List ℕ
@@ -47,5 +47,5 @@ bound macrostates transitions = 30 * macrostates + 20 * transitions + 153
 
 -- the answer v, and the slice before and after, once a rule of s letters with this initial state is read
 pub record Called (s initial : ℕ) (codes transitions : Lent) (old new : List ℕ) (v : Written) : Type 0 where
-  pub answers : v ≡ answer (callRow s initial codes transitions (length old)) (lentText s initial codes transitions)
-  pub written : new ≡ after (callRow s initial codes transitions (length old)) (lentText s initial codes transitions) old
+  pub answers : v ≡ answer (textRow s initial codes transitions (length old)) (lentText s initial codes transitions)
+  pub written : new ≡ after (textRow s initial codes transitions (length old)) (lentText s initial codes transitions) old

@@ -21,7 +21,7 @@ ghost use Rattle.theory.specs.Passing.{Passing};
 ghost use Rattle.theory.specs.Word.{WordOver, places};
 ghost use Rattle.theory.specs.Truth.{truthMasks};
 ghost use Rattle.rule_entries.specs.Entries.{ruleOf};
-ghost use Rattle.judge_choices_spec.specs.Choice.{choicesOf};
+ghost use Rattle.judge_choices_spec.specs.ChoicesComputed.{choicesOf};
 ghost use Rattle.judge_choices.specs.Judge.{CalledChoices, JudgedChoices};
 
 // The masks and the choices of a word, each from the start of its slice on.

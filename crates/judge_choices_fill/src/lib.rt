@@ -11,7 +11,7 @@ ghost use Prim.Native.Nat.{_*_, _≤_};
 ghost use lib.ListN.{length, drop};
 ghost use Rattle.theory.specs.Word.{places};
 ghost use Rattle.rule_entries.specs.Entries.{ruleOf};
-ghost use Rattle.judge_choices_spec.specs.Choice.{choicesOf};
+ghost use Rattle.judge_choices_spec.specs.ChoicesComputed.{choicesOf};
 ghost use Rattle.judge_choices_spec.specs.Rounds.{Ready, Started};
 
 // The choices of the accepting states, at every place.

@@ -21,7 +21,7 @@ use Rattle.theory.specs.Word.{places, nextPlace, letterAt, WordOver}
 use Rattle.theory.specs.Truth.{truthMasks}
 use Rattle.theory_laws.proofs.Satisfies.{satisfies-ext}
 use Rattle.theory_laws.proofs.Truth.{truth-exact}
-use Rattle.judge_choices_spec.specs.Choice.{aimOf, choiceAt, choicesBy, choicesOf}
+use Rattle.judge_choices_spec.specs.ChoicesComputed.{aimOf, choiceAt, choicesBy, choicesOf}
 use Rattle.judge_choices_spec.specs.Rounds.{metNumber, Tried, Started, Ended}
 use Rattle.judge_choices_laws.proofs.Meaning.{aim-bit, mix-same, choice-accepting, choice-false}
 use Rattle.judge_choices_laws.proofs.Rounds.{apart}

@@ -22,7 +22,8 @@ use Rattle.theory_laws.proofs.Certified.{discharged}
 use Rattle.theory_laws.proofs.Pursuit.{open-kind, mix-in, mix-out, settled-kind, discharged-open}
 use Rattle.theory_laws.proofs.PlanOfSet.{δ, δ-leb, δ-pos, aim, Good, Aimed, nearer, good-on, lower, aimed-valid, aimed-fair}
 use Rattle.judge_choices_spec.specs.Distance as dist
-use Rattle.judge_choices_spec.specs.Distance.{After, Left, Leaves, Distance, Nearer, Suits}
+use Rattle.judge_choices_spec.specs.Distance.{After, Left, Leaves, Distance, Nearer}
+use Rattle.judge_choices_spec.specs.Choice.{Suits}
 
 -- a clause of an entry inside a set satisfies it
 pub satisfies-in : (n : ℕ) (X : Set) (cs : List ℕ) (c : ℕ) → List·Memᴰ c cs → inside n X c ≡ true → satisfies n X cs ≡ true

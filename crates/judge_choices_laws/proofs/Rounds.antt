@@ -26,7 +26,7 @@ use Rattle.theory.specs.Word.{places, nextPlace, letterAt, WordOver}
 use Rattle.theory.specs.Truth.{truthMasks}
 use Rattle.theory_laws.proofs.Places.{next-place-low}
 use Rattle.rule_entries.specs.Met.{metOf}
-use Rattle.judge_choices_spec.specs.Choice.{numberOf, aimOf, nearer, nearAt, distanceAt, aimAt, choiceAt}
+use Rattle.judge_choices_spec.specs.ChoicesComputed.{numberOf, aimOf, nearer, nearAt, distanceAt, aimAt, choiceAt}
 use Rattle.judge_choices_spec.specs.Rounds.{metNumber, roundNumber, fresh, Tried, Place, Round, Rounds, Ended}
 use Rattle.judge_choices_laws.proofs.Meaning.{near-grows, choice-now, near-all}
 

@@ -31,7 +31,7 @@ use Rattle.rule_entries.specs.declared.Met.the-variants.{Clause, Nothing}
 use Rattle.rule_entries.specs.Met.{metOf, isMet}
 use Rattle.rule_entries.proofs.Clauses.{met-first, met-satisfies}
 use Rattle.rule_entries.proofs.Entries.{entry-number, entry-part}
-use Rattle.judge_choices_spec.specs.Choice.{numberOf, aimOf}
+use Rattle.judge_choices_spec.specs.ChoicesComputed.{numberOf, aimOf}
 use Rattle.judge_choices_spec.specs.Rounds.{putMet, metNumber}
 
 -- ---- the set that a state's clause has to meet

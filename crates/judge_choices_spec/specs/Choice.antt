@@ -1,84 +1,24 @@
--- The choices of a word, computed. judge_choices_laws/proofs/Meaning proves them to be those by plans, so what stands here has not to be believed.
+-- The choice of a true pair, by plans.
 use mathlib.Core.Path.{_≡_}
-use mathlib.Core.Bool.{_&&_, not, cond}
-use mathlib.Core.List.{List}
-use Prim.Native.Nat.{ℕ, zero, suc, _+_, _-_, _*_, _/_, _%_, _<_}
-use lib.ListN.{getD}
-use Rattle.sets.specs.Tests.{first}
-use Rattle.sets.specs.Masks.{bit, mask}
-use Rattle.sets.specs.Lists.{tabulate}
-use Rattle.theory.specs.Rule.{Rule, entry, satisfies}
-use Rattle.theory.specs.Automaton.{automaton}
-use Rattle.theory.specs.Core.{mix}
-use Rattle.theory.specs.Plan.{AcceptsFrom}
-use Rattle.theory.specs.Word.{places, nextPlace, letterAt}
-use Rattle.theory.specs.Truth.{truthMasks}
-use Rattle.rule_entries.specs.declared.Met.{Met}
-use Rattle.rule_entries.specs.declared.Met.the-variants.{Clause, Nothing}
-use Rattle.rule_entries.specs.Met.{metOf}
-use Rattle.judge_choices_spec.specs.Distance.{Choice}
+use mathlib.Core.Bool.{true, false}
+use Prim.Native.Nat.{ℕ, _<_}
+use lib.ListN.{length, getD}
+use Rattle.sets.specs.Masks.{bit}
+use Rattle.theory.specs.Automaton.{Automaton}
+use Rattle.theory.specs.Plan.{Accepts}
+use Rattle.judge_choices_spec.specs.Distance.{Nearer}
 
--- 02: "False pairs get 255."
-abbrev pub noChoice : ℕ
-noChoice = 255
+-- next is the place that follows a place, letter the letter there
+module _ (A : Automaton) (next letter : ℕ → ℕ) where
+  -- the clause c will do for state q at place p
+  pub record Suits (q p c : ℕ) : Type 0 where
+    -- 02: "whose states are all true at the next place"
+    pub truths : (r : ℕ) → r < A .n → bit c r ≡ true → Accepts A next letter r (next p)
+    -- 02, for a rejecting state: "and, within the component, have a smaller distance"
+    pub nearer : A .accepting q ≡ false → (r : ℕ) → r < A .n → bit c r ≡ true → A .component r ≡ A .component q → Nearer A next letter r (next p) q p
 
--- 02: "a clause number, 0 for the entry's first"
-unfoldable pub numberOf : Met → ℕ
-numberOf (Clause j) = j
-numberOf Nothing = noChoice
-
--- the states of the mask all that are outside q's component, and those of the mask near that are in it
-unfoldable pub aimOf : Rule → ℕ → ℕ → ℕ → ℕ
-aimOf r all near q = mask (r .n) (mix (automaton r) q (bit all) (bit near))
-
--- masks are the truth masks of the word
-module _ (r : Rule) (lead cycle masks : List ℕ) where
-  -- the states of a true pair at place p: those whose entry is satisfied by the states that are true at the place that follows and,
-  -- within the component, are in the mask near
-  unfoldable pub nearer : ℕ → ℕ → ℕ
-  nearer near p =
-      mask (r .n) (λ q. bit (getD masks p 0) q
-      && (not (bit (r .accepting) q)
-      && satisfies (r .n) (bit (aimOf r (getD masks (nextPlace lead cycle p) 0) near q)) (entry r q (letterAt lead cycle p))))
-
-  -- the rejecting states whose distance at place p is at most d
-  unfoldable pub nearAt : ℕ → ℕ → ℕ
-  nearAt zero p = 0
-  nearAt (suc d) p = nearer (nearAt d (nextPlace lead cycle p)) p
-
-  -- the distance of a rejecting state
-  unfoldable pub distanceAt : ℕ → ℕ → ℕ
-  distanceAt p q = first (places lead cycle * r .n) (λ d. bit (nearAt d p) q) 0
-
-  -- what the states of the clause have to be among: those that are true at the place that follows, for a rejecting state those of its component with a smaller distance
-  unfoldable pub aimAt : ℕ → ℕ → ℕ
-  aimAt p q =
-      let all = getD masks (nextPlace lead cycle p) 0 in
-      aimOf r all (cond (bit (r .accepting) q) all (nearAt (distanceAt p q - 1) (nextPlace lead cycle p))) q
-
-  -- the byte of state q at place p
-  unfoldable pub choiceAt : ℕ → ℕ → ℕ
-  choiceAt p q = cond (bit (getD masks p 0) q) (numberOf (metOf (aimAt p q) (entry r q (letterAt lead cycle p)))) noChoice
-
-  -- 02: "at byte place × n + state"
-  unfoldable pub choicesBy : List ℕ
-  choicesBy = tabulate (places lead cycle * r .n) (λ i. choiceAt (i / r .n) (i % r .n)) 0
-
--- the choices of a word
-abbrev pub choicesOf : Rule → List ℕ → List ℕ → List ℕ
-choicesOf r lead cycle = choicesBy r lead cycle (truthMasks r lead cycle)
-
--- the plan that a slice of choices writes down
-abbrev pub planOf : Rule → List ℕ → List ℕ → List ℕ → ℕ → ℕ → ℕ
-planOf r lead cycle choices q p = getD (entry r q (letterAt lead cycle p)) (getD choices (p * r .n + q) 0) 0
-
--- what choices mean, by plans
-pub record Written (r : Rule) (lead cycle choices : List ℕ) : Type 0 where
-  -- 02: "The judge writes for each true pair a clause number, 0 for the entry's first, at byte place × n + state"
-  pub true-pairs : (q p : ℕ) → q < r .n → p < places lead cycle → AcceptsFrom r lead cycle q p
-      → Choice (automaton r) (nextPlace lead cycle) (letterAt lead cycle) q p (getD choices (p * r .n + q) 0)
-  -- 02: "False pairs get 255."
-  pub false-pairs : (q p : ℕ) → q < r .n → p < places lead cycle → (AcceptsFrom r lead cycle q p → ⊥) → getD choices (p * r .n + q) 0 ≡ 255
-  -- 02: "The written choices must form an accepting plan from every true pair."
-  pub plan : (q p : ℕ) → q < r .n → p < places lead cycle → AcceptsFrom r lead cycle q p
-      → (P : AcceptsFrom r lead cycle q p) × (P .pick ≡ planOf r lead cycle choices)
+  -- 02: the choice of a true pair: clause number k, "0 for the entry's first", is "the first clause" of the entry that will do
+  pub record Choice (q p k : ℕ) : Type 0 where
+    pub listed : k < length (A .entry q (letter p))
+    pub suits : Suits q p (getD (A .entry q (letter p)) k 0)
+    pub first : (j : ℕ) → j < k → Suits q p (getD (A .entry q (letter p)) j 0) → ⊥

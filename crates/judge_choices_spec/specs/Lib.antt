@@ -1,3 +1,4 @@
 pub mod Distance
 pub mod Choice
+pub mod ChoicesComputed
 pub mod Rounds

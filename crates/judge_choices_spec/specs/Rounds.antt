@@ -17,7 +17,7 @@ use Rattle.rule_entries.specs.declared.Met.{Met}
 use Rattle.rule_entries.specs.declared.Met.the-variants.{Clause, Nothing}
 use Rattle.rule_entries.specs.Met.{metOf}
 use Rattle.rule_entries.specs.Starts.{EntryStarts}
-use Rattle.judge_choices_spec.specs.Choice.{numberOf, aimOf, nearer, nearAt, choiceAt}
+use Rattle.judge_choices_spec.specs.ChoicesComputed.{numberOf, aimOf, nearer, nearAt, choiceAt}
 
 -- for each state the mask of its component
 pub record Classes (r : Rule) (classes : List ℕ) : Type 0 where

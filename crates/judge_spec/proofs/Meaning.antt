@@ -20,7 +20,7 @@ use Rattle.file_read.proofs.FileRows.{accepted-passing}
 use Rattle.word_rows.proofs.Checks.{word-over}
 use Rattle.judge_spec.specs.declared.Verdict.{Verdict}
 use Rattle.judge_spec.specs.declared.Verdict.the-variants.{Yes, No, Refused}
-use Rattle.judge_spec.specs.Judge.{callRow, judgeRow, verdict, holdsStart, judgeOf, after, Meant, JudgeCalled, Judged}
+use Rattle.judge_spec.specs.Judge.{judgeCallRow, judgeRow, verdict, holdsStart, judgeOf, after, Meant, JudgeCalled, Judged}
 use Rattle.judge_spec.proofs.Rows.{call-passes, file-refuses, file-passes}
 
 -- ---- examples: two masks at the start of a slice of three bytes, and a refusal
@@ -63,7 +63,7 @@ module _ (r : Rule) (P : Passing r) (lead cycle : List ℕ) (W : WordOver (r .s)
       }
 
 -- a served call
-pub called-meant : (r : Rule) → Passing r → (lead cycle old new : List ℕ) (v : Verdict) → JudgeCalled r lead cycle old new v → callRow r lead cycle (length old) ≡ 0 → Meant r lead cycle new v
+pub called-meant : (r : Rule) → Passing r → (lead cycle old new : List ℕ) (v : Verdict) → JudgeCalled r lead cycle old new v → judgeCallRow r lead cycle (length old) ≡ 0 → Meant r lead cycle new v
 unfolding after
 called-meant r P lead cycle old new v c e =
     let p = call-passes r lead cycle (length old) e in
@@ -98,16 +98,16 @@ module _ (f lead cycle old new : List ℕ) where
 
 -- ---- a rule that is read
 module _ (r : Rule) (lead cycle old : List ℕ) where
-  pub called-refused : (k : ℕ) → (k ≡ 0 → ⊥) → k ≡ callRow r lead cycle (length old) → JudgeCalled r lead cycle old old (Refused k)
+  pub called-refused : (k : ℕ) → (k ≡ 0 → ⊥) → k ≡ judgeCallRow r lead cycle (length old) → JudgeCalled r lead cycle old old (Refused k)
   unfolding after
   called-refused zero n e = absurd (n refl)
   called-refused (suc k) n e =
-      let j : callRow r lead cycle (length old) ≡ suc k = sym e in
+      let j : judgeCallRow r lead cycle (length old) ≡ suc k = sym e in
       let kept : old ≡ after (suc k) (truthMasks r lead cycle) old = refl in
       record { answer = rw j; written = rw j kept }
 
   -- the masks are written; b tells whether the first holds the initial state
-  pub called-served : callRow r lead cycle (length old) ≡ 0 → (new : List ℕ) → new ≡ truthMasks r lead cycle ++ drop (places lead cycle) old → 0 < length cycle
+  pub called-served : judgeCallRow r lead cycle (length old) ≡ 0 → (new : List ℕ) → new ≡ truthMasks r lead cycle ++ drop (places lead cycle) old → 0 < length cycle
       → (b : Bool) → bit (getD new 0 0) (r .initial) ≡ b → JudgeCalled r lead cycle old new (verdict 0 b)
   unfolding after
   called-served j new w h b t =

@@ -13,7 +13,7 @@ use Rattle.file_spec.specs.File.{ruleIn}
 use Rattle.file_spec.specs.Rows.{fileRows, fileRow}
 use Rattle.file_read.proofs.FileRows.{file-numbered}
 use Rattle.word_rows.specs.Words.{lengthRows, letterRows, wordRows, wordRow}
-use Rattle.judge_spec.specs.Judge.{sliceRows, callRow, judgeRow}
+use Rattle.judge_spec.specs.Judge.{sliceRows, judgeCallRow, judgeRow}
 
 module _ (r : Rule) (lead cycle : List ℕ) (m : ℕ) where
   rows-numbered : numbered (wordRows (r .s) lead cycle) ≡ true
@@ -21,20 +21,20 @@ module _ (r : Rule) (lead cycle : List ℕ) (m : ℕ) where
   rows-numbered = refl
 
   -- rows 12 to 14
-  pub word-refuses : (k : ℕ) → (k ≡ 0 → ⊥) → k ≡ wordRow (r .s) lead cycle → k ≡ callRow r lead cycle m
-  unfolding callRow wordRow wordRows
+  pub word-refuses : (k : ℕ) → (k ≡ 0 → ⊥) → k ≡ wordRow (r .s) lead cycle → k ≡ judgeCallRow r lead cycle m
+  unfolding judgeCallRow wordRow wordRows
   word-refuses k n e = first-left (wordRows (r .s) lead cycle) (sliceRows lead cycle m) k n e
 
-  word-passes : wordRow (r .s) lead cycle ≡ 0 → callRow r lead cycle m ≡ firstRow (sliceRows lead cycle m)
-  unfolding callRow wordRow wordRows
+  word-passes : wordRow (r .s) lead cycle ≡ 0 → judgeCallRow r lead cycle m ≡ firstRow (sliceRows lead cycle m)
+  unfolding judgeCallRow wordRow wordRows
   word-passes e = first-right (wordRows (r .s) lead cycle) (sliceRows lead cycle m) rows-numbered e
 
   -- row 16
-  pub slice-refuses : wordRow (r .s) lead cycle ≡ 0 → m < places lead cycle → 16 ≡ callRow r lead cycle m
+  pub slice-refuses : wordRow (r .s) lead cycle ≡ 0 → m < places lead cycle → 16 ≡ judgeCallRow r lead cycle m
   unfolding sliceRows firstRow
   slice-refuses e l = sym (word-passes e ∙ rw (lt-ltb m (places lead cycle) l))
 
-  pub call-served : wordRow (r .s) lead cycle ≡ 0 → places lead cycle ≤ m → callRow r lead cycle m ≡ 0
+  pub call-served : wordRow (r .s) lead cycle ≡ 0 → places lead cycle ≤ m → judgeCallRow r lead cycle m ≡ 0
   unfolding sliceRows firstRow
   call-served e l = word-passes e ∙ rw (le-ltb m (places lead cycle) l)
 
@@ -42,8 +42,8 @@ module _ (r : Rule) (lead cycle : List ℕ) (m : ℕ) where
     pub word : wordRow (r .s) lead cycle ≡ 0
     pub room : places lead cycle ≤ m
 
-  pub call-passes : callRow r lead cycle m ≡ 0 → Passes
-  unfolding callRow wordRow wordRows sliceRows
+  pub call-passes : judgeCallRow r lead cycle m ≡ 0 → Passes
+  unfolding judgeCallRow wordRow wordRows sliceRows
   call-passes e =
       let p = first-parts (wordRows (r .s) lead cycle) (sliceRows lead cycle m) rows-numbered e in
       record { word = p .0; room = ltb-false m (places lead cycle) (first-pass (ltb m (places lead cycle)) 15 [] (p .1) .0) }
@@ -54,6 +54,6 @@ module _ (f lead cycle : List ℕ) (m : ℕ) where
   unfolding judgeRow fileRow
   file-refuses k n e = first-left (fileRows f) _ k n e
 
-  pub file-passes : fileRow f ≡ 0 → judgeRow f lead cycle m ≡ callRow (ruleIn f) lead cycle m
-  unfolding judgeRow callRow fileRow
+  pub file-passes : fileRow f ≡ 0 → judgeRow f lead cycle m ≡ judgeCallRow (ruleIn f) lead cycle m
+  unfolding judgeRow judgeCallRow fileRow
   file-passes e = first-right (fileRows f) _ (file-numbered f) e

@@ -23,8 +23,8 @@ unfoldable pub sliceRows : List ℕ → List ℕ → ℕ → List Check
 sliceRows lead cycle m = check (ltb m (places lead cycle)) 16 ∷ []
 
 -- the first row that refuses, or 0, once the rule is read
-unfoldable pub callRow : Rule → List ℕ → List ℕ → ℕ → ℕ
-callRow r lead cycle m = firstRow (wordRows (r .s) lead cycle ++ sliceRows lead cycle m)
+unfoldable pub judgeCallRow : Rule → List ℕ → List ℕ → ℕ → ℕ
+judgeCallRow r lead cycle m = firstRow (wordRows (r .s) lead cycle ++ sliceRows lead cycle m)
 
 -- 01, "Refused, in order of checking": "Rule .., word, table, slices, room": the first row that refuses, or 0
 unfoldable pub judgeRow : List ℕ → List ℕ → List ℕ → ℕ → ℕ
@@ -59,8 +59,8 @@ pub record Meant (r : Rule) (lead cycle masks : List ℕ) (v : Verdict) : Type 0
 
 -- the answer v, and the slice before and after, for a rule that passes every check
 pub record JudgeCalled (r : Rule) (lead cycle old new : List ℕ) (v : Verdict) : Type 0 where
-  pub answer : v ≡ verdict (callRow r lead cycle (length old)) (holdsStart r lead cycle)
-  pub written : new ≡ after (callRow r lead cycle (length old)) (truthMasks r lead cycle) old
+  pub answer : v ≡ verdict (judgeCallRow r lead cycle (length old)) (holdsStart r lead cycle)
+  pub written : new ≡ after (judgeCallRow r lead cycle (length old)) (truthMasks r lead cycle) old
 
 -- the answer v, and the slice before and after, for a file
 pub record Judged (f lead cycle old new : List ℕ) (v : Verdict) : Type 0 where

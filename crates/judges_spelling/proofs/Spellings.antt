@@ -16,7 +16,7 @@ use Rattle.file_read.proofs.FileRows.{file-numbered, accepted-passing}
 use Rattle.word_rows.proofs.Checks.{word-over}
 use Rattle.word_spelling_spec.specs.Spelling.{Agree}
 use Rattle.word_spelling_spec.proofs.Truths.{mask-spelled}
-use Rattle.judge_spec.specs.Judge.{judgeRow, judgeOf, callRow, verdict}
+use Rattle.judge_spec.specs.Judge.{judgeRow, judgeOf, judgeCallRow, verdict}
 use Rattle.judge_spec.proofs.Rows.{call-passes}
 use Rattle.table_lent.specs.Lent.{Lent}
 use Rattle.table_call.specs.Calls.{Answered}
@@ -30,7 +30,7 @@ record Served (f lead cycle : List ℕ) : Type 0 where
   word : WordOver (ruleIn f .s) lead cycle
 
 served : (f lead cycle : List ℕ) (m : ℕ) → judgeRow f lead cycle m ≡ 0 → Served f lead cycle
-unfolding judgeRow fileRow callRow
+unfolding judgeRow fileRow judgeCallRow
 served f lead cycle m e =
     let p = first-parts (fileRows f) _ (file-numbered f) e in
     record { rule = accepted-passing f (p .0); word = word-over (ruleIn f .s) lead cycle (call-passes (ruleIn f) lead cycle m (p .1) .word) }

@@ -22,9 +22,9 @@ use Rattle.trim_spec.specs.Graph.{Inside}
 use Rattle.live_spec.specs.declared.LiveCall.{LiveCall}
 use Rattle.live_spec.specs.declared.LiveCall.the-variants.{Arrive}
 use Rattle.live_spec.specs.Afresh.{stepped}
-use Rattle.live_spec.specs.State.{setAt, stateLength, lettersAtByte, twoBytes, numberIn, setIn}
+use Rattle.live_spec.specs.State.{setAt, stateLength, lettersAtByte, twoBytes, numberIn, setBytes}
 use Rattle.live_spec.specs.Effects.{put, numbered, withSet, arrived}
-use Rattle.live_spec.specs.Rows.{letterRows, callRow}
+use Rattle.live_spec.specs.Rows.{arrivalRows, liveCallRow}
 use Rattle.live_spec.specs.Called.{effect}
 use Rattle.live_letters.proofs.Puts.{put-long, put-before, put-in, put-behind, put-ext, put-mid, put-back}
 use Rattle.live_state.proofs.Replays.{step-long, step-part}
@@ -73,15 +73,15 @@ module _ (s a : ℕ) (codes transitions state : List ℕ) (room : ℕ) (t : Tria
   unfolding tableRow tableRows firstRow inBytes
   table-by = rw (eq-eqb (length codes % 8) 0 (t .whole), eq-eqb (length transitions % 8) 0 (t .whole-transitions), faulty-by)
 
-  letter : firstRow (letterRows s (Arrive a)) ≡ 0
+  letter : firstRow (arrivalRows s (Arrive a)) ≡ 0
   letter = sym (letter-known s (Arrive a) a refl (t .known))
 
   -- 15 for the transitions
-  pub fifteen : passes n s (wordsIn transitions) ≡ false → callRow (Arrive a) s (inBytes codes) (inBytes transitions) state room ≡ 15
+  pub fifteen : passes n s (wordsIn transitions) ≡ false → liveCallRow (Arrive a) s (inBytes codes) (inBytes transitions) state room ≡ 15
   fifteen e = sym (table-refuses (Arrive a) s (inBytes codes) (inBytes transitions) state room letter 15 (λ z. omega arith) (sym (table-by ∙ rw e)))
 
   -- or no row
-  pub no-row : passes n s (wordsIn transitions) ≡ true → callRow (Arrive a) s (inBytes codes) (inBytes transitions) state room ≡ 0
+  pub no-row : passes n s (wordsIn transitions) ≡ true → liveCallRow (Arrive a) s (inBytes codes) (inBytes transitions) state room ≡ 0
   unfolding inBytes
   no-row e =
       sym
@@ -128,11 +128,11 @@ put-comm at part to other bytes l m =
 
 -- the letter and the number may be written before the set or after it
 pub made : (q a : ℕ) (codes ts state : List ℕ) → stateLength ≤ length state → length codes ≤ 65536 → numberIn state < 512 → (k n : ℕ) → k ≡ numberIn state → n ≡ length codes
-    → put (lettersAtByte + k) (a ∷ []) (put 0 (twoBytes (k + 1)) (withSet (stepped n ts a (setIn state)) state)) ≡ effect (Arrive a) q codes ts state
+    → put (lettersAtByte + k) (a ∷ []) (put 0 (twoBytes (k + 1)) (withSet (stepped n ts a (setBytes state)) state)) ≡ effect (Arrive a) q codes ts state
 unfolding effect arrived numbered withSet twoBytes
 made q a codes ts state long few free k n e f =
-    let set = stepped (length codes) ts a (setIn state) in
-    let m : length set ≡ length codes = step-long (length codes) ts a (setIn state) in
+    let set = stepped (length codes) ts a (setBytes state) in
+    let m : length set ≡ length codes = step-long (length codes) ts a (setBytes state) in
     let i = numberIn state in
     let two = twoBytes (i + 1) in
     let first : put 0 two (put setAt set state) ≡ put setAt set (put 0 two state) = put-comm 0 two setAt set state (omega arith) (omega arith) in
@@ -189,7 +189,7 @@ module _ (c : LiveCall) (s : ℕ) (codes transitions state : List ℕ) (room : �
         untried = λ e. refl;
       }
 
-  pub quickly-refused : (after : List ℕ) → callRow c s (inBytes codes) (inBytes transitions) state room ≡ 15 → after ≡ state
+  pub quickly-refused : (after : List ℕ) → liveCallRow c s (inBytes codes) (inBytes transitions) state room ≡ 15 → after ≡ state
       → Quickly c s codes transitions state room after Refused
   quickly-refused after row back =
       record {
@@ -200,7 +200,7 @@ module _ (c : LiveCall) (s : ℕ) (codes transitions state : List ℕ) (room : �
         untried = λ e. absurd (refused-untried e);
       }
 
-  pub quickly-served : (after : List ℕ) → callRow c s (inBytes codes) (inBytes transitions) state room ≡ 0
+  pub quickly-served : (after : List ℕ) → liveCallRow c s (inBytes codes) (inBytes transitions) state room ≡ 0
       → ((q : ℕ) → after ≡ effect c q (wordsIn codes) (wordsIn transitions) state) → Quickly c s codes transitions state room after Served
   quickly-served after row left =
       record {

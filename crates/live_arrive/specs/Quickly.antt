@@ -9,10 +9,10 @@ use Rattle.slice_search.specs.Places.{ascends}
 use Rattle.table_lent.specs.Lent.{wordsIn, inBytes, isHigh}
 use Rattle.live_spec.specs.declared.LiveCall.{LiveCall}
 use Rattle.live_spec.specs.Afresh.{stepped}
-use Rattle.live_spec.specs.State.{setAt, setIn, stateLength, numberIn}
+use Rattle.live_spec.specs.State.{setAt, setBytes, stateLength, numberIn}
 use Rattle.live_spec.specs.Effects.{withSet}
 use Rattle.live_spec.specs.Called.{effect}
-use Rattle.live_spec.specs.Rows.{callRow}
+use Rattle.live_spec.specs.Rows.{liveCallRow}
 use Rattle.live_sweep.specs.Tried.{passes}
 use Rattle.live_arrive.specs.declared.Quick.{Quick}
 use Rattle.live_arrive.specs.declared.Quick.the-variants.{Served, Refused, Untried}
@@ -37,13 +37,13 @@ pub record Triable (s a : ℕ) (codes transitions state : List ℕ) (room : ℕ)
 -- the step of state's set of n macrostates: made, or taken back
 pub record PartStepped (s a n : ℕ) (ts before after : List ℕ) (r : Bool) : Type 0 where
   pub verdict : r ≡ passes n s ts
-  pub yes : r ≡ true → after ≡ withSet (stepped n ts a (setIn before)) before
+  pub yes : r ≡ true → after ≡ withSet (stepped n ts a (setBytes before)) before
   pub no : r ≡ false → after ≡ before
 
 -- a call, for a rule of s letters and a table in bytes: made, or refused by 15, or not tried
 pub record Quickly (c : LiveCall) (s : ℕ) (codes transitions state : List ℕ) (room : ℕ) (state′ : List ℕ) (r : Quick) : Type 0 where
-  pub served : r ≡ Served → callRow c s (inBytes codes) (inBytes transitions) state room ≡ 0
+  pub served : r ≡ Served → liveCallRow c s (inBytes codes) (inBytes transitions) state room ≡ 0
   pub made : r ≡ Served → (q : ℕ) → state′ ≡ effect c q (wordsIn codes) (wordsIn transitions) state
-  pub refused : r ≡ Refused → callRow c s (inBytes codes) (inBytes transitions) state room ≡ 15
+  pub refused : r ≡ Refused → liveCallRow c s (inBytes codes) (inBytes transitions) state room ≡ 15
   pub taken-back : r ≡ Refused → state′ ≡ state
   pub untried : r ≡ Untried → state′ ≡ state

@@ -7,7 +7,7 @@ use Rattle.live_spec.specs.declared.LiveCall.the-variants.{Start, Arrive, Withd
 use Rattle.live_spec.specs.Called.{effect}
 use Rattle.live_spec.specs.Afresh.{membersOf}
 use Rattle.live_spec.specs.Effects.{put, started, arrived, withdrawn, marked, returned, shown}
-use Rattle.live_spec.specs.State.{numberIn, setIn}
+use Rattle.live_spec.specs.State.{numberIn, setBytes}
 use Rattle.live_call.specs.Callable.{Callable, Counted}
 
 module _ (c : LiveCall) (state : List ℕ) where
@@ -45,10 +45,10 @@ module _ (c : LiveCall) (state : List ℕ) where
     return-effect m e h = rw e h
 
 -- both counts and the slice of the set, of the bytes that are left
-pub counted : (n k : ℕ) (left set state′ set′ : List ℕ) (letters macrostates : ℕ) → k ≡ n → state′ ≡ left → set′ ≡ put 0 (shown k state′) set → macrostates ≡ membersOf k (setIn state′)
+pub counted : (n k : ℕ) (left set state′ set′ : List ℕ) (letters macrostates : ℕ) → k ≡ n → state′ ≡ left → set′ ≡ put 0 (shown k state′) set → macrostates ≡ membersOf k (setBytes state′)
     → letters ≡ numberIn state′ → Counted n left set state′ set′ (record { letters = letters; macrostates = macrostates })
 counted n k left set state′ set′ letters macrostates e s t m l = record {
   state-left = s;
   set-left = t ∙ ap₂ (λ (j : ℕ) (x : List ℕ). put 0 (shown j x) set) e s;
-  counts = ap₂ (λ (x y : ℕ). record { letters = x; macrostates = y }) (l ∙ ap numberIn s) (m ∙ ap₂ (λ (j : ℕ) (x : List ℕ). membersOf j (setIn x)) e s);
+  counts = ap₂ (λ (x y : ℕ). record { letters = x; macrostates = y }) (l ∙ ap numberIn s) (m ∙ ap₂ (λ (j : ℕ) (x : List ℕ). membersOf j (setBytes x)) e s);
 }

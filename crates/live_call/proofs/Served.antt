@@ -33,8 +33,8 @@ use Rattle.live_spec.specs.Afresh.{afresh, membersOf}
 use Rattle.live_spec.specs.Called.{effect, answerBy, leftBy, CalledBy, Gets, Leaves, LiveCalled}
 use Rattle.live_spec.specs.Effects.{put, shown}
 use Rattle.live_spec.specs.History.{History, later, isSet, Log, logOf, Serves, Served}
-use Rattle.live_spec.specs.Rows.{sliceRows, letterRows, logRows, callRows, callRow, liveRow}
-use Rattle.live_spec.specs.State.{stateLength, stateOf, numberIn, isMarked, setIn}
+use Rattle.live_spec.specs.Rows.{sliceRows, arrivalRows, logRows, liveCallRows, liveCallRow, liveRow}
+use Rattle.live_spec.specs.State.{stateLength, stateOf, numberIn, isMarked, setBytes}
 use Rattle.live_laws.proofs.Histories.{Small, small, state-bytes}
 use Rattle.live_laws.proofs.Leaves.{number-told, mark-told, leaves}
 use Rattle.live_rows.proofs.Checks.{parts}
@@ -44,8 +44,8 @@ use Rattle.live_call.specs.Callable.{Callable, Counted}
 -- ---- by the rows behind the rule's
 
 -- 14 and 30 to 33
-letter-known : (s a : ℕ) → firstRow (letterRows s (Arrive a)) ≡ 0 → a < s
-unfolding letterRows
+letter-known : (s a : ℕ) → firstRow (arrivalRows s (Arrive a)) ≡ 0 → a < s
+unfolding arrivalRows
 letter-known s a e = leb-false s a (first-pass (leb s a) 13 [] e .0)
 
 not-full : (a : ℕ) (state : List ℕ) → firstRow (logRows (Arrive a) state) ≡ 0 → numberIn state < 512
@@ -67,7 +67,7 @@ return-known m state e =
     let l : m ≤ 15 = ltb-false 15 m f in
     (omega (arith, l), not-false (isMarked state m) (first-pass (not (isMarked state m)) 32 [] g .0))
 
-callable : (c : LiveCall) (s : ℕ) (state : List ℕ) → s ≤ 16 → firstRow (letterRows s c) ≡ 0 → firstRow (logRows c state) ≡ 0 → Callable c state
+callable : (c : LiveCall) (s : ℕ) (state : List ℕ) → s ≤ 16 → firstRow (arrivalRows s c) ≡ 0 → firstRow (logRows c state) ≡ 0 → Callable c state
 callable Start s state h e f = tt
 callable (Arrive a) s state h e f = (let l = letter-known s a e in omega (arith, l, h), not-full a state f)
 callable Withdraw s state h e f = not-none state f
@@ -81,7 +81,7 @@ slices-long n state room e =
     let f = first-pass _ 15 [] e .0 in
     (ltb-false (length state) stateLength (or-fl (ltb (length state) stateLength) (ltb room n) f), ltb-false room n (or-fr (ltb (length state) stateLength) (ltb room n) f))
 
-module _ (c : LiveCall) (s : ℕ) (codes transitions state : List ℕ) (room : ℕ) (e : callRow c s (inBytes codes) (inBytes transitions) state room ≡ 0) where
+module _ (c : LiveCall) (s : ℕ) (codes transitions state : List ℕ) (room : ℕ) (e : liveCallRow c s (inBytes codes) (inBytes transitions) state room ≡ 0) where
   table-passed : Passed s (wordsIn codes) (wordsIn transitions)
   unfolding inBytes
   table-passed = passed s (inBytes codes) (inBytes transitions) (parts c s (inBytes codes) (inBytes transitions) state room e .1)
@@ -120,17 +120,17 @@ module _ (c : LiveCall) (f : List ℕ) (codes transitions : Lent) (state : List 
   unfolding liveRow fileRow
   file-refuses k n e = first-left (fileRows f) _ k n e
 
-  file-passes : fileRow f ≡ 0 → liveRow c f codes transitions state room ≡ callRow c (ruleIn f .s) codes transitions state room
-  unfolding liveRow callRow fileRow
+  file-passes : fileRow f ≡ 0 → liveRow c f codes transitions state room ≡ liveCallRow c (ruleIn f .s) codes transitions state room
+  unfolding liveRow liveCallRow fileRow
   file-passes e = first-right (fileRows f) _ (file-numbered f) e
 
-  file-passed : liveRow c f codes transitions state room ≡ 0 → (fileRow f ≡ 0) × (callRow c (ruleIn f .s) codes transitions state room ≡ 0)
-  unfolding liveRow callRow fileRow
+  file-passed : liveRow c f codes transitions state room ≡ 0 → (fileRow f ≡ 0) × (liveCallRow c (ruleIn f .s) codes transitions state room ≡ 0)
+  unfolding liveRow liveCallRow fileRow
   file-passed e = first-parts (fileRows f) _ (file-numbered f) e
 
 -- a call that no row refuses, of what a history left, is one that the history may go on with
 may-serve : (q s : ℕ) (codes ts : List ℕ) → length codes ≤ 65536 → (h : History) (c : LiveCall) (state : List ℕ) → Served s h
-    → firstRow (letterRows s c) ≡ 0 → firstRow (logRows c state) ≡ 0 → Gets c q codes ts h state → Serves s (logOf h) c
+    → firstRow (arrivalRows s c) ≡ 0 → firstRow (logRows c state) ≡ 0 → Gets c q codes ts h state → Serves s (logOf h) c
 may-serve q s codes ts few h c state S e f = by c e f
   where
     g : Log
@@ -148,7 +148,7 @@ may-serve q s codes ts few h c state S e f = by c e f
     number : take stateLength state ≡ stateOf q codes ts h → numberIn state ≡ length (g .letters)
     number k = ap numberIn (bytes k ∙ state-bytes q codes ts h rest) ∙ number-told q codes ts few g K rest
 
-    by : (c : LiveCall) → firstRow (letterRows s c) ≡ 0 → firstRow (logRows c state) ≡ 0 → Gets c q codes ts h state → Serves s g c
+    by : (c : LiveCall) → firstRow (arrivalRows s c) ≡ 0 → firstRow (logRows c state) ≡ 0 → Gets c q codes ts h state → Serves s g c
     by Start e f k = tt
     by (Arrive a) e f k = (letter-known s a e, let n = not-full a state f in let i = number k in omega (arith, n, i))
     by Withdraw e f k = let n = not-none state f in let i = number k in omega (arith, n, i)
@@ -183,11 +183,11 @@ module _ (c : LiveCall) (f codes transitions state set : List ℕ) where
 
   -- what the answer for the head that was read is for the file
   pub file-served : (l : Layout) (state′ set′ : List ℕ) (v : LiveAnswer) → read.Served f l
-      → CalledBy (callRow c (l .head .s) (inBytes codes) (inBytes transitions) state (length set)) c (l .head .initial) (wordsIn codes) (wordsIn transitions) state set state′ set′ v
+      → CalledBy (liveCallRow c (l .head .s) (inBytes codes) (inBytes transitions) state (length set)) c (l .head .initial) (wordsIn codes) (wordsIn transitions) state set state′ set′ v
       → LiveCalled c f (inBytes codes) (inBytes transitions) state set state′ set′ v
   file-served l state′ set′ v S C =
-      let D : CalledBy (callRow c (ruleIn f .s) (inBytes codes) (inBytes transitions) state (length set)) c (ruleIn f .initial) (wordsIn codes) (wordsIn transitions) state set state′ set′ v =
-      subst (λ (r : Rule). CalledBy (callRow c (r .s) (inBytes codes) (inBytes transitions) state (length set)) c (r .initial) (wordsIn codes) (wordsIn transitions) state set state′ set′ v)
+      let D : CalledBy (liveCallRow c (ruleIn f .s) (inBytes codes) (inBytes transitions) state (length set)) c (ruleIn f .initial) (wordsIn codes) (wordsIn transitions) state set state′ set′ v =
+      subst (λ (r : Rule). CalledBy (liveCallRow c (r .s) (inBytes codes) (inBytes transitions) state (length set)) c (r .initial) (wordsIn codes) (wordsIn transitions) state set state′ set′ v)
       (S .rule) C in
       called-whole state′ set′ v
       (subst (λ (j : ℕ). CalledBy j c (ruleIn f .initial) (wordsIn codes) (wordsIn transitions) state set state′ set′ v)

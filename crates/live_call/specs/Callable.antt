@@ -7,7 +7,7 @@ use Rattle.live_spec.specs.declared.LiveCall.the-variants.{Start, Arrive, Withd
 use Rattle.live_spec.specs.declared.LiveCounts.{LiveCounts}
 use Rattle.live_spec.specs.Afresh.{membersOf}
 use Rattle.live_spec.specs.Effects.{put, shown}
-use Rattle.live_spec.specs.State.{numberIn, setIn}
+use Rattle.live_spec.specs.State.{numberIn, setBytes}
 
 abbrev pub Callable : LiveCall → List ℕ → Type 0
 Callable Start state = Unit {0}
@@ -20,4 +20,4 @@ Callable (Return m) state = m < 16
 pub record Counted (n : ℕ) (left set state′ set′ : List ℕ) (v : LiveCounts) : Type 0 where
   pub state-left : state′ ≡ left
   pub set-left : set′ ≡ put 0 (shown n left) set
-  pub counts : v ≡ record { letters = numberIn left; macrostates = membersOf n (setIn left) }
+  pub counts : v ≡ record { letters = numberIn left; macrostates = membersOf n (setBytes left) }

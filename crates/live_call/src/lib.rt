@@ -20,7 +20,7 @@ ghost use Prim.Native.Nat.{_+_, _≤_, _<_};
 ghost use lib.ListN.{length};
 ghost use Rattle.table_lent.specs.Lent.{wordsIn, inBytes};
 ghost use Rattle.live_spec.specs.State.{setAt};
-ghost use Rattle.live_spec.specs.Rows.{callRow};
+ghost use Rattle.live_spec.specs.Rows.{liveCallRow};
 ghost use Rattle.live_spec.specs.Called.{effect, CalledBy, LiveCalled};
 ghost use Rattle.live_state.specs.Ready.{Ready};
 ghost use Rattle.live_call.specs.Callable.{Callable, Counted};
@@ -84,7 +84,7 @@ fn call_by_rows(
 ) -> LiveAnswer
     requires { ⌜ (h .initial < 8) × (h .s ≤ 16) ⌝ }
     ensures { λ r. ⌜ CalledBy
-        (callRow call (h .s) (inBytes (now (codes .entry))) (inBytes (now (transitions .entry))) (now (state .entry))
+        (liveCallRow call (h .s) (inBytes (now (codes .entry))) (inBytes (now (transitions .entry))) (now (state .entry))
         (length (now (set .entry))))
         call (h .initial) (wordsIn (now (codes .entry))) (wordsIn (now (transitions .entry)))
         (now (state .entry)) (now (set .entry)) (now (state .exit)) (now (set .exit)) r ⌝ }
@@ -107,7 +107,7 @@ fn call_read(
 ) -> LiveAnswer
     requires { ⌜ (h .initial < 8) × (h .s ≤ 16) ⌝ }
     ensures { λ r. ⌜ CalledBy
-        (callRow call (h .s) (inBytes (now (codes .entry))) (inBytes (now (transitions .entry))) (now (state .entry))
+        (liveCallRow call (h .s) (inBytes (now (codes .entry))) (inBytes (now (transitions .entry))) (now (state .entry))
         (length (now (set .entry))))
         call (h .initial) (wordsIn (now (codes .entry))) (wordsIn (now (transitions .entry)))
         (now (state .entry)) (now (set .entry)) (now (state .exit)) (now (set .exit)) r ⌝ }

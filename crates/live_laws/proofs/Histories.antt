@@ -12,7 +12,7 @@ use Rattle.theory.specs.Run.{sourceOf}
 use Rattle.live_spec.specs.declared.LiveCall.{LiveCall}
 use Rattle.live_spec.specs.declared.LiveCall.the-variants.{Start, Arrive, Withdraw, Mark, Return}
 use Rattle.live_spec.specs.Afresh.{afresh}
-use Rattle.live_spec.specs.History.{History, begun, later, Moment, unset, at, isSet, lettersAt, Log, empty, called, logOf, held, markOf, Serves, Served, followed, Keeps}
+use Rattle.live_spec.specs.History.{History, atStart, later, Moment, unset, at, isSet, lettersAt, Log, empty, called, logOf, held, markOf, Serves, Served, followed, Keeps}
 use Rattle.live_spec.specs.State.{stateLength, twoBytes, logBytes, stateOf, padded}
 use Rattle.live_spec.specs.Called.{effect}
 use Rattle.live_laws.proofs.Reached.{afresh-length}
@@ -40,7 +40,7 @@ small-called s g (Return m) S h = record { few-letters = S .few-marked m; few-ma
 
 pub small : (s : ℕ) (h : History) → Served s h → Small (logOf h)
 unfolding logOf
-small s begun S = small-empty
+small s atStart S = small-empty
 small s (later h c) S = small-called s (logOf h) c (small s h (S .0)) (S .1)
 
 -- ---- what state holds is a function of the history

@@ -19,8 +19,8 @@ use Rattle.live_spec.specs.declared.LiveAnswer.the-variants.{Live, Refused}
 use Rattle.live_spec.specs.declared.LiveCall.{LiveCall}
 use Rattle.live_spec.specs.declared.LiveCall.the-variants.{Start, Arrive, Withdraw, Mark, Return}
 use Rattle.live_spec.specs.Afresh.{isIn, afresh, membersOf}
-use Rattle.live_spec.specs.History.{History, begun, later, isSet, Log, empty, called, logOf, held, markOf, Serves, Served}
-use Rattle.live_spec.specs.State.{stateLength, stateOf, numberIn, isMarked, setIn}
+use Rattle.live_spec.specs.History.{History, atStart, later, isSet, Log, empty, called, logOf, held, markOf, Serves, Served}
+use Rattle.live_spec.specs.State.{stateLength, stateOf, numberIn, isMarked, setBytes}
 use Rattle.live_spec.specs.Effects.{put, shown}
 use Rattle.live_spec.specs.Called.{effect, answerBy, leftBy, CalledBy, Gets, TrimmedTable, Leaves}
 use Rattle.live_laws.proofs.Empty.{some-left, none-left}
@@ -50,18 +50,18 @@ module _ (q : ℕ) (codes ts : List ℕ) (room : length codes ≤ 65536) (g : Lo
   unfolding isMarked
   mark-told m h = ap (ltb 0) (flag-held (g .letters) (g .marks) set rest (S .few-letters) (S .few-marked) narrow m h) ∙ in-one (isSet (g .marks m))
 
-  byte-at : (y : ℕ) → y < length codes → getD (setIn state) y 0 ≡ getD set y 0
+  byte-at : (y : ℕ) → y < length codes → getD (setBytes state) y 0 ≡ getD set y 0
   byte-at y l = set-at (g .letters) (g .marks) set rest (S .few-letters) (S .few-marked) narrow y (let e = set-length in omega (arith, l, e))
 
-  pub members-told : membersOf (length codes) (setIn state) ≡ membersOf (length codes) set
+  pub members-told : membersOf (length codes) (setBytes state) ≡ membersOf (length codes) set
   unfolding membersOf
-  members-told = count-ext (length codes) (isIn (setIn state)) (isIn set) (λ y l. ap (ltb 0) (byte-at y l))
+  members-told = count-ext (length codes) (isIn (setBytes state)) (isIn set) (λ y l. ap (ltb 0) (byte-at y l))
 
   pub set-shown : shown (length codes) state ≡ set
   unfolding shown
   set-shown =
       let n = length codes in
-      let f : ℕ → ℕ = λ y. one (isIn (setIn state) y) in
+      let f : ℕ → ℕ = λ y. one (isIn (setBytes state) y) in
       let e : length (tabulate n f 0) ≡ n = length-tabulate n f 0 in
       ext-getD 0 (tabulate n f 0) set (e ∙ sym set-length) (λ y l.
       let k : y < n = rw e at l in
@@ -87,7 +87,7 @@ module _ (r : Rule) (P : Passing r) (codes ts : List ℕ) (room : length codes �
         served = S;
         answered = C .answered ∙ ap₂ (λ (x y : ℕ). Live (record { letters = x; macrostates = y }))
             (ap numberIn f ∙ number-told q codes ts room g K rest)
-            (ap (λ (x : List ℕ). membersOf n (setIn x)) f ∙ members-told q codes ts room g K rest);
+            (ap (λ (x : List ℕ). membersOf n (setBytes x)) f ∙ members-told q codes ts room g K rest);
         state-left = C .state-left ∙ e;
         set-left = C .set-left ∙ ap (λ (x : List ℕ). x ++ drop (0 + length x) set) shows
             ∙ ap (λ (k : ℕ). afresh q codes ts (g .letters) ++ drop k set) (zero-add (length (afresh q codes ts (g .letters))) ∙ afresh-length q codes ts (g .letters));

@@ -15,7 +15,7 @@ use Rattle.sets.proofs.Bools.{bif}
 use Rattle.theory.specs.Run.{sourceOf, targetOf}
 use Rattle.live_spec.specs.Afresh.{isIn, stepped, initialSet, afresh}
 use Rattle.live_spec.specs.History.{Moment, unset, at, isSet, lettersAt, Log}
-use Rattle.live_spec.specs.State.{markNumberAt, lettersAtByte, markLettersAt, setAt, stateLength, twoBytes, padded, forMarks, logBytes, numberAt, numberIn, lettersIn, isMarked, setIn}
+use Rattle.live_spec.specs.State.{markNumberAt, lettersAtByte, markLettersAt, setAt, stateLength, twoBytes, padded, forMarks, logBytes, numberAt, numberIn, lettersIn, isMarked, setBytes}
 use Rattle.live_spec.specs.Effects.{put, numbered, withSet, refreshed, started, arrived, withdrawn, marked, returned, shown}
 use Rattle.live_laws.proofs.Reached.{stepped-length, initial-length, afresh-length, afresh-next, afresh-none, stepped-same}
 use Rattle.live_laws.proofs.Parts.{parts-length, parts-read, parts-put, padded-length, padded-read, padded-put, padded-none, padded-zeros, padded-next, padded-last, put-all, zeros}
@@ -152,11 +152,11 @@ module _ (letters : List ℕ) (marks : ℕ → Moment) (set rest : List ℕ) (fe
       read-letters (twoBytes (length letters)) (flagBytes marks) (numberBytes marks) (padded 512 letters) (markBytes marks) (padded 65536 set) rest L 512 (omega arith)
       ∙ take-all 512 (padded 512 letters) (let e = padded-length 512 letters few in omega (arith, e))
 
-  pub set-held : setIn bytes ≡ padded 65536 set ++ rest
+  pub set-held : setBytes bytes ≡ padded 65536 set ++ rest
   unfolding bytesOf
   set-held = read-set (twoBytes (length letters)) (flagBytes marks) (numberBytes marks) (padded 512 letters) (markBytes marks) (padded 65536 set) rest L
 
-  pub set-at : (y : ℕ) → y < length set → getD (setIn bytes) y 0 ≡ getD set y 0
+  pub set-at : (y : ℕ) → y < length set → getD (setBytes bytes) y 0 ≡ getD set y 0
   unfolding padded
   set-at y l = ap (λ (x : List ℕ). getD x y 0) (set-held ∙ append-assoc set (zeros (65536 - length set)) rest) ∙ List·getD-append set (zeros (65536 - length set) ++ rest) 0 y l
 
@@ -305,8 +305,8 @@ module _ (q : ℕ) (codes ts : List ℕ) (room : length codes ≤ 65536) (inside
     arrive-leaves a h =
         let n = length letters in
         let longer : length (letters ++ (a ∷ [])) ≡ n + 1 = length-append letters (a ∷ []) in
-        let next : stepped (length codes) ts a (setIn state) ≡ afresh q codes ts (letters ++ (a ∷ [])) =
-        stepped-same (length codes) ts a (setIn state) set (λ t m. set-at letters marks set rest few low narrow (sourceOf t) (let i = inside t m in let e = set-length in omega (arith, i, e)))
+        let next : stepped (length codes) ts a (setBytes state) ≡ afresh q codes ts (letters ++ (a ∷ [])) =
+        stepped-same (length codes) ts a (setBytes state) set (λ t m. set-at letters marks set rest few low narrow (sourceOf t) (let i = inside t m in let e = set-length in omega (arith, i, e)))
         ∙ sym (afresh-next q codes ts letters a) in
         let log : put (lettersAtByte + numberIn state) (a ∷ []) (numbered (numberIn state + 1) state) ≡ bytesOf (letters ++ (a ∷ [])) marks set rest =
         ap (λ (k : ℕ). put (lettersAtByte + k) (a ∷ []) (numbered (k + 1) state)) (number-held letters marks set rest few low narrow)

@@ -13,33 +13,33 @@ use Rattle.table_lent.specs.Lent.{Lent, tableRows, tableRow}
 use Rattle.live_spec.specs.declared.LiveCall.{LiveCall}
 use Rattle.live_spec.specs.declared.LiveCall.the-variants.{Start, Arrive, Withdraw, Mark, Return}
 use Rattle.live_spec.specs.State.{stateLength, numberIn, isMarked}
-use Rattle.live_spec.specs.Rows.{sliceRows, letterRows, logRows, callRows, callRow}
+use Rattle.live_spec.specs.Rows.{sliceRows, arrivalRows, logRows, liveCallRows, liveCallRow}
 
 -- ---- 14
 
 module _ (s : ℕ) (c : LiveCall) where
-  pub letter-start : c ≡ Start → 0 ≡ firstRow (letterRows s c)
-  unfolding letterRows firstRow
+  pub letter-start : c ≡ Start → 0 ≡ firstRow (arrivalRows s c)
+  unfolding arrivalRows firstRow
   letter-start e = rw e refl
 
-  pub letter-withdraw : c ≡ Withdraw → 0 ≡ firstRow (letterRows s c)
-  unfolding letterRows firstRow
+  pub letter-withdraw : c ≡ Withdraw → 0 ≡ firstRow (arrivalRows s c)
+  unfolding arrivalRows firstRow
   letter-withdraw e = rw e refl
 
-  pub letter-mark : (m : ℕ) → c ≡ Mark m → 0 ≡ firstRow (letterRows s c)
-  unfolding letterRows firstRow
+  pub letter-mark : (m : ℕ) → c ≡ Mark m → 0 ≡ firstRow (arrivalRows s c)
+  unfolding arrivalRows firstRow
   letter-mark m e = rw e refl
 
-  pub letter-return : (m : ℕ) → c ≡ Return m → 0 ≡ firstRow (letterRows s c)
-  unfolding letterRows firstRow
+  pub letter-return : (m : ℕ) → c ≡ Return m → 0 ≡ firstRow (arrivalRows s c)
+  unfolding arrivalRows firstRow
   letter-return m e = rw e refl
 
-  pub letter-unknown : (a : ℕ) → c ≡ Arrive a → s ≤ a → 14 ≡ firstRow (letterRows s c)
-  unfolding letterRows firstRow
+  pub letter-unknown : (a : ℕ) → c ≡ Arrive a → s ≤ a → 14 ≡ firstRow (arrivalRows s c)
+  unfolding arrivalRows firstRow
   letter-unknown a e h = rw (e, le-leb s a h) refl
 
-  pub letter-known : (a : ℕ) → c ≡ Arrive a → a < s → 0 ≡ firstRow (letterRows s c)
-  unfolding letterRows firstRow
+  pub letter-known : (a : ℕ) → c ≡ Arrive a → a < s → 0 ≡ firstRow (arrivalRows s c)
+  unfolding arrivalRows firstRow
   letter-known a e h = rw (e, lt-leb s a h) refl
 
 -- ---- 30 to 33
@@ -108,10 +108,10 @@ module _ (n : ℕ) (state : List ℕ) (room : ℕ) where
 
 module _ (c : LiveCall) (s : ℕ) (codes transitions : Lent) (state : List ℕ) (room : ℕ) where
   abbrev row : ℕ
-  row = callRow c s codes transitions state room
+  row = liveCallRow c s codes transitions state room
 
-  letters-numbered : (c : LiveCall) → numbered (letterRows s c) ≡ true
-  unfolding numbered letterRows
+  letters-numbered : (c : LiveCall) → numbered (arrivalRows s c) ≡ true
+  unfolding numbered arrivalRows
   letters-numbered Start = refl
   letters-numbered (Arrive a) = refl
   letters-numbered Withdraw = refl
@@ -130,14 +130,14 @@ module _ (c : LiveCall) (s : ℕ) (codes transitions : Lent) (state : List ℕ) 
   unfolding numbered tableRows
   table-numbered = refl
 
-  pub letter-refuses : (k : ℕ) → (k ≡ 0 → ⊥) → k ≡ firstRow (letterRows s c) → k ≡ row
-  unfolding callRow callRows
-  letter-refuses k n e = first-left (letterRows s c) (tableRows s codes transitions ++ (logRows c state ++ sliceRows (length (codes .numbers)) state room)) k n e
+  pub letter-refuses : (k : ℕ) → (k ≡ 0 → ⊥) → k ≡ firstRow (arrivalRows s c) → k ≡ row
+  unfolding liveCallRow liveCallRows
+  letter-refuses k n e = first-left (arrivalRows s c) (tableRows s codes transitions ++ (logRows c state ++ sliceRows (length (codes .numbers)) state room)) k n e
 
-  module _ (letter : firstRow (letterRows s c) ≡ 0) where
+  module _ (letter : firstRow (arrivalRows s c) ≡ 0) where
     after-letter : row ≡ firstRow (tableRows s codes transitions ++ (logRows c state ++ sliceRows (length (codes .numbers)) state room))
-    unfolding callRow callRows
-    after-letter = first-right (letterRows s c) (tableRows s codes transitions ++ (logRows c state ++ sliceRows (length (codes .numbers)) state room)) (letters-numbered c) letter
+    unfolding liveCallRow liveCallRows
+    after-letter = first-right (arrivalRows s c) (tableRows s codes transitions ++ (logRows c state ++ sliceRows (length (codes .numbers)) state room)) (letters-numbered c) letter
 
     pub table-refuses : (k : ℕ) → (k ≡ 0 → ⊥) → k ≡ tableRow s codes transitions → k ≡ row
     unfolding tableRow
@@ -156,11 +156,11 @@ module _ (c : LiveCall) (s : ℕ) (codes transitions : Lent) (state : List ℕ) 
 
   -- ---- what a served call has passed
 
-  pub parts : row ≡ 0 → (firstRow (letterRows s c) ≡ 0) × (tableRow s codes transitions ≡ 0) × (firstRow (logRows c state) ≡ 0)
+  pub parts : row ≡ 0 → (firstRow (arrivalRows s c) ≡ 0) × (tableRow s codes transitions ≡ 0) × (firstRow (logRows c state) ≡ 0)
       × (firstRow (sliceRows (length (codes .numbers)) state room) ≡ 0)
-  unfolding callRow callRows tableRow
+  unfolding liveCallRow liveCallRows tableRow
   parts e =
-      let (x, f) = first-parts (letterRows s c) (tableRows s codes transitions ++ (logRows c state ++ sliceRows (length (codes .numbers)) state room)) (letters-numbered c) e in
+      let (x, f) = first-parts (arrivalRows s c) (tableRows s codes transitions ++ (logRows c state ++ sliceRows (length (codes .numbers)) state room)) (letters-numbered c) e in
       let (y, g) = first-parts (tableRows s codes transitions) (logRows c state ++ sliceRows (length (codes .numbers)) state room) table-numbered f in
       let (z, h) = first-parts (logRows c state) (sliceRows (length (codes .numbers)) state room) (logs-numbered c) g in
       (x, y, z, h)

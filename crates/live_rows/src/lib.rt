@@ -8,11 +8,11 @@ ghost use lib.ListN.{length};
 ghost use Rattle.refusals.specs.Rows.{firstRow};
 ghost use Rattle.table_lent.specs.Lent.{inBytes};
 ghost use Rattle.live_spec.specs.declared.LiveCall.the-variants.{Return};
-ghost use Rattle.live_spec.specs.Rows.{letterRows, logRows, sliceRows, callRow};
+ghost use Rattle.live_spec.specs.Rows.{arrivalRows, logRows, sliceRows, liveCallRow};
 
 // Row 14 if the letter that arrives is none of s letters, or 0.
 fn letter_row(call: LiveCall, s: usize) -> u8
-    ensures { λ r. ⌜ r ≡ firstRow (letterRows s call) ⌝ }
+    ensures { λ r. ⌜ r ≡ firstRow (arrivalRows s call) ⌝ }
 {
     match call {
         LiveCall::Start => 0,
@@ -92,7 +92,7 @@ pub fn call_row(
     room: usize,
 ) -> u8
     ensures { λ r. ⌜
-        r ≡ callRow call s (inBytes (now (codes .entry))) (inBytes (now (transitions .entry))) (now (state .entry)) room ⌝ }
+        r ≡ liveCallRow call s (inBytes (now (codes .entry))) (inBytes (now (transitions .entry))) (now (state .entry)) room ⌝ }
 {
     let letter = letter_row(call, s);
     if letter != 0 {

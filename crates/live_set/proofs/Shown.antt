@@ -15,7 +15,7 @@ use Rattle.sets.specs.Tests.{Set, one, count}
 use Rattle.sets.specs.Lists.{tabulate}
 use Rattle.sets.proofs.Lists.{tabulate-at, length-tabulate}
 use Rattle.live_spec.specs.Afresh.{isIn}
-use Rattle.live_spec.specs.State.{setAt, setIn}
+use Rattle.live_spec.specs.State.{setAt, setBytes}
 use Rattle.live_spec.specs.Effects.{put, shown}
 use Rattle.live_letters.proofs.Puts.{put-ext}
 use Rattle.live_set.specs.Sweeps.{flagOf}
@@ -61,5 +61,5 @@ module _ (f : Set) (before : List ℕ) where
       (λ j k. s .rest j (omega arith))
 
 -- the byte of a macrostate
-pub shown-at : (state : List ℕ) (i : ℕ) → flagOf (getD state (setAt + i) 0) ≡ one (isIn (setIn state) i)
+pub shown-at : (state : List ℕ) (i : ℕ) → flagOf (getD state (setAt + i) 0) ≡ one (isIn (setBytes state) i)
 shown-at state i = ap flagOf (sym (getD-drop setAt state i 0))

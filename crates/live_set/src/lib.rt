@@ -15,7 +15,7 @@ ghost use Rattle.theory.specs.Run.{sourceOf, targetOf};
 ghost use Rattle.table_lent.specs.Lent.{wordsIn};
 ghost use Rattle.trim_spec.specs.Graph.{Inside};
 ghost use Rattle.live_spec.specs.Afresh.{stepped, initialSet, membersOf};
-ghost use Rattle.live_spec.specs.State.{setAt, setIn};
+ghost use Rattle.live_spec.specs.State.{setAt, setBytes};
 ghost use Rattle.live_spec.specs.Effects.{put, shown};
 ghost use Rattle.live_set.specs.Sweeps.{flagOf, moved, Swept};
 
@@ -123,7 +123,7 @@ pub fn step_set(letter: usize, transitions: &[u8], set: &mut [u8])
 pub fn show_set(n: usize, state: &[u8], set: &mut [u8]) -> usize
     requires { ⌜ (setAt + n ≤ length (now state)) × (n ≤ length (now set)) ⌝ }
     ensures { λ r. ⌜ (now (set .exit) ≡ put 0 (shown n (now (state .entry))) (now (set .entry)))
-        × (r ≡ membersOf n (setIn (now (state .entry)))) ⌝ }
+        × (r ≡ membersOf n (setBytes (now (state .entry)))) ⌝ }
 {
     let mut members: usize = 0;
     let mut i = 0;

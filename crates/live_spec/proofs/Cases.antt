@@ -6,13 +6,13 @@ use lib.ListN.{length, getD, take, drop, replicate}
 use Rattle.sets.specs.Digits.{num}
 use Rattle.sets.specs.Lists.{keep, among, anyOf, sum, tabulate, flat, insertAscending, sorted}
 use Rattle.sets.specs.Masks.{bit, mask, inside}
-use Rattle.sets.specs.Tests.{every, some, count, first, largest}
+use Rattle.sets.specs.Tests.{every, someBelow, count, first, largest}
 use Rattle.refusals.specs.Rows.{firstRow}
 use Rattle.theory.specs.Automaton.{automaton}
 use Rattle.theory.specs.Code.{fields, pack, componentIn, classesIn, wellCoded}
 use Rattle.theory.specs.Code as code
 use Rattle.theory.specs.Components.{named, leads, within, reaches, together, smallest, isSmallest, component, components}
-use Rattle.theory.specs.Core.{isOpen, mix, rejectingSettled, acceptingSettled, settled, test, openOf, nextComponent}
+use Rattle.theory.specs.Core.{isOpen, mix, rejectingSettled, acceptingSettled, settled, settledUpTo, openOf, nextComponent}
 use Rattle.theory.specs.CoreComputed.{levelOf, taken, rankOf, isCore}
 use Rattle.theory.specs.Examples.{F}
 use Rattle.theory.specs.Macrostate.{isAccepting}
@@ -27,10 +27,10 @@ use Rattle.table_lent.specs.Lent.{inWords, isFaulty, tableRows}
 use Rattle.live_spec.specs.Afresh.{enters, stepped, steppedOver, initialSet, afresh, membersOf}
 use Rattle.live_spec.specs.declared.LiveCall.{LiveCall}
 use Rattle.live_spec.specs.declared.LiveCall.the-variants.{Start, Arrive, Withdraw, Mark, Return}
-use Rattle.live_spec.specs.History.{History, begun, later, unset, at, empty, called, logOf, held, markOf}
-use Rattle.live_spec.specs.State.{twoBytes, padded, forMarks, logBytes, stateOf, numberAt, numberIn, lettersIn, isMarked, setIn}
+use Rattle.live_spec.specs.History.{History, atStart, later, unset, at, empty, called, logOf, held, markOf}
+use Rattle.live_spec.specs.State.{twoBytes, padded, forMarks, logBytes, stateOf, numberAt, numberIn, lettersIn, isMarked, setBytes}
 use Rattle.live_spec.specs.Effects.{put, numbered, withSet, refreshed, started, arrived, withdrawn, marked, returned, shown}
-use Rattle.live_spec.specs.Rows.{sliceRows, letterRows, logRows, callRows, callRow}
+use Rattle.live_spec.specs.Rows.{sliceRows, arrivalRows, logRows, liveCallRows, liveCallRow}
 
 -- ---- the trimmed table of F
 
@@ -45,7 +45,7 @@ codes-F = trimmed.codes-F
 
 moves-F : transitionsOf (automaton F) 2 codesF ≡ movesF
 unfolding isAccepting transitionsOf tabulate flat keep among anyOf insertAscending sorted wellCoded pack fields mask num goes before onward automaton code.setIn code.rankIn componentIn classesIn
-    every satisfies inside bit rankOf levelOf test settled rejectingSettled acceptingSettled mix isOpen taken some count first largest openOf nextComponent isCore component components isSmallest
+    every satisfies inside bit rankOf levelOf settledUpTo settled rejectingSettled acceptingSettled mix isOpen taken someBelow count first largest openOf nextComponent isCore component components isSmallest
     smallest together reaches within leads named entry sum
 moves-F = refl
 
@@ -94,7 +94,7 @@ members-F = refl
 -- ---- histories
 
 abbrev two : History
-two = later (later begun (Arrive 0)) (Arrive 1)
+two = later (later atStart (Arrive 0)) (Arrive 1)
 
 pub letters-two : held two ≡ (0 ∷ 1 ∷ [])
 unfolding stated
@@ -106,7 +106,7 @@ withdraw-two = refl
 
 -- a drill: mark 0 at 0, mark 1 at 0 1, back to mark 0
 abbrev drill : History
-drill = later (later (later (later (later begun (Arrive 0)) (Mark 0)) (Arrive 1)) (Mark 1)) (Return 0)
+drill = later (later (later (later (later atStart (Arrive 0)) (Mark 0)) (Arrive 1)) (Mark 1)) (Return 0)
 
 pub letters-drill : held drill ≡ (0 ∷ [])
 unfolding stated
@@ -143,7 +143,7 @@ pub marks-drill : take 3 (drop 1074 (stateF drill)) ≡ (0 ∷ 1 ∷ 0 ∷ [])
 unfolding stated
 marks-drill = refl
 
-pub set-drill : take 4 (setIn (stateF drill)) ≡ (0 ∷ 0 ∷ 1 ∷ 0 ∷ [])
+pub set-drill : take 4 (setBytes (stateF drill)) ≡ (0 ∷ 0 ∷ 1 ∷ 0 ∷ [])
 unfolding stated
 set-drill = refl
 
@@ -152,14 +152,14 @@ set-drill = refl
 -- an arrival: the letter, the number, the set one step on
 pub arrived-F : (take 2 (arrived 0 codesF movesF 1 (stateF drill)) ≡ (2 ∷ 0 ∷ []))
     × (lettersIn (arrived 0 codesF movesF 1 (stateF drill)) ≡ (0 ∷ 1 ∷ []))
-    × (take 4 (setIn (arrived 0 codesF movesF 1 (stateF drill))) ≡ (1 ∷ 1 ∷ 0 ∷ 0 ∷ []))
+    × (take 4 (setBytes (arrived 0 codesF movesF 1 (stateF drill))) ≡ (1 ∷ 1 ∷ 0 ∷ 0 ∷ []))
 unfolding stated
 arrived-F = (refl, refl, refl)
 
 -- a withdrawal: one letter fewer, its byte 0, and the set over the letters left
 pub withdrawn-F : (take 2 (withdrawn 0 codesF movesF (stateF two)) ≡ (1 ∷ 0 ∷ []))
     × (take 2 (drop 50 (withdrawn 0 codesF movesF (stateF two))) ≡ (0 ∷ 0 ∷ []))
-    × (take 4 (setIn (withdrawn 0 codesF movesF (stateF two))) ≡ (0 ∷ 0 ∷ 1 ∷ 0 ∷ []))
+    × (take 4 (setBytes (withdrawn 0 codesF movesF (stateF two))) ≡ (0 ∷ 0 ∷ 1 ∷ 0 ∷ []))
 unfolding stated
 withdrawn-F = (refl, refl, refl)
 
@@ -173,13 +173,13 @@ marked-F = (refl, refl, refl)
 -- a return, after two letters: letters and set of the mark, and the marks as they were
 pub returned-F : (take 4 (returned 0 codesF movesF 1 (stateF drill)) ≡ (2 ∷ 0 ∷ 1 ∷ 1 ∷ []))
     × (lettersIn (returned 0 codesF movesF 1 (stateF drill)) ≡ (0 ∷ 1 ∷ []))
-    × (take 4 (setIn (returned 0 codesF movesF 1 (stateF drill))) ≡ (1 ∷ 1 ∷ 0 ∷ 0 ∷ []))
+    × (take 4 (setBytes (returned 0 codesF movesF 1 (stateF drill))) ≡ (1 ∷ 1 ∷ 0 ∷ 0 ∷ []))
 unfolding stated
 returned-F = (refl, refl, refl)
 
 -- a start clears the marks and has the initial set
 pub started-F : (take 4 (started 0 codesF movesF (stateF drill)) ≡ (0 ∷ 0 ∷ 0 ∷ 0 ∷ []))
-    × (take 4 (setIn (started 0 codesF movesF (stateF drill))) ≡ (0 ∷ 1 ∷ 0 ∷ 0 ∷ []))
+    × (take 4 (setBytes (started 0 codesF movesF (stateF drill))) ≡ (0 ∷ 1 ∷ 0 ∷ 0 ∷ []))
 unfolding stated
 started-F = (refl, refl)
 
@@ -191,11 +191,11 @@ shown-F = refl
 -- ---- rows
 
 unfoldable tried : ℕ
-unfolding stated callRow callRows letterRows tableRows isFaulty ascends logRows sliceRows firstRow inWords
+unfolding stated liveCallRow liveCallRows arrivalRows tableRows isFaulty ascends logRows sliceRows firstRow inWords
 tried = 0
 
 abbrev rowF : LiveCall → List ℕ → ℕ → ℕ
-rowF c state setLen = callRow c 2 (inWords codesF) (inWords movesF) state setLen
+rowF c state setLen = liveCallRow c 2 (inWords codesF) (inWords movesF) state setLen
 
 -- 30 at 512 letters and at more, not at 511: then 16, for a state of two bytes; 14 first
 pub full : (rowF (Arrive 1) (0 ∷ 2 ∷ []) 3 ≡ 30) × (rowF (Arrive 1) (1 ∷ 2 ∷ []) 3 ≡ 30) × (rowF (Arrive 1) (255 ∷ 1 ∷ []) 3 ≡ 16) × (rowF (Arrive 2) (0 ∷ 2 ∷ []) 3 ≡ 14)
@@ -214,6 +214,6 @@ unfolding tried
 marks-rows = (refl, refl, refl, refl, refl, refl)
 
 -- 15 before 30 to 33: a transition over letter 1 where s is 1
-pub fifteen-first : callRow Withdraw 1 (inWords codesF) (inWords movesF) [] 3 ≡ 15
+pub fifteen-first : liveCallRow Withdraw 1 (inWords codesF) (inWords movesF) [] 3 ≡ 15
 unfolding tried
 fifteen-first = refl

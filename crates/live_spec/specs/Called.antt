@@ -19,7 +19,7 @@ use Rattle.live_spec.specs.declared.LiveCall.{LiveCall}
 use Rattle.live_spec.specs.declared.LiveCall.the-variants.{Start, Arrive, Withdraw, Mark, Return}
 use Rattle.live_spec.specs.History.{History, later, held, Served}
 use Rattle.live_spec.specs.Rows.{liveRow}
-use Rattle.live_spec.specs.State.{stateLength, stateOf, numberIn, setIn}
+use Rattle.live_spec.specs.State.{stateLength, stateOf, numberIn, setBytes}
 
 -- what a served call leaves of state, for the initial state q of a rule and the numbers of a table
 unfoldable pub effect : LiveCall → ℕ → List ℕ → List ℕ → List ℕ → List ℕ
@@ -31,7 +31,7 @@ effect (Return m) q codes transitions state = returned q codes transitions m sta
 
 -- by the row, or 0: how many letters the state that is left holds, and how many of n macrostates its set, or the number of the row alone
 unfoldable pub answerBy : ℕ → ℕ → List ℕ → LiveAnswer
-answerBy zero n left = Live (record { letters = numberIn left; macrostates = membersOf n (setIn left) })
+answerBy zero n left = Live (record { letters = numberIn left; macrostates = membersOf n (setBytes left) })
 answerBy (suc k) n left = Refused (suc k)
 
 -- by the row, or 0: what is left of a slice. "A refused call changes nothing."

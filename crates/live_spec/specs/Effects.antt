@@ -5,7 +5,7 @@ use lib.ListN.{length, take, drop, replicate}
 use Rattle.sets.specs.Lists.{tabulate}
 use Rattle.sets.specs.Tests.{one}
 use Rattle.live_spec.specs.Afresh.{isIn, stepped, initialSet, afresh}
-use Rattle.live_spec.specs.State.{markNumberAt, lettersAtByte, markLettersAt, setAt, stateLength, twoBytes, numberAt, numberIn, lettersIn, setIn}
+use Rattle.live_spec.specs.State.{markNumberAt, lettersAtByte, markLettersAt, setAt, stateLength, twoBytes, numberAt, numberIn, lettersIn, setBytes}
 
 -- the bytes with a part written over those from at on
 unfoldable pub put : ℕ → List ℕ → List ℕ → List ℕ
@@ -32,7 +32,7 @@ module _ (q : ℕ) (codes transitions : List ℕ) where
   -- the letter comes behind those held, and the set goes one step
   unfoldable pub arrived : ℕ → List ℕ → List ℕ
   arrived a state =
-      withSet (stepped (length codes) transitions a (setIn state))
+      withSet (stepped (length codes) transitions a (setBytes state))
       (put (lettersAtByte + numberIn state) (a ∷ []) (numbered (numberIn state + 1) state))
 
   -- the last letter held becomes 0
@@ -55,4 +55,4 @@ returned q codes transitions m state =
 
 -- the set that state holds, of n macrostates: "in a lent slice with a byte 0 or 1 for each"
 unfoldable pub shown : ℕ → List ℕ → List ℕ
-shown n state = tabulate n (λ y. one (isIn (setIn state) y)) 0
+shown n state = tabulate n (λ y. one (isIn (setBytes state) y)) 0

@@ -10,7 +10,7 @@ use Rattle.live_spec.specs.declared.LiveCall.the-variants.{Start, Arrive
 
 -- the calls that were served, from a start on
 pub data History : Type 0 where
-  begun : History
+  atStart : History
   later : History → LiveCall → History
 
 -- the moment that a mark has: the letters held when it was last set
@@ -48,7 +48,7 @@ called (Return m) g = record { letters = lettersAt (g .marks m); marks = g .mark
 
 -- what a history leaves
 unfoldable pub logOf : History → Log
-logOf begun = empty
+logOf atStart = empty
 logOf (later h c) = called c (logOf h)
 
 -- the letters held
@@ -71,7 +71,7 @@ Serves s g (Return m) = (m < 16) × (isSet (g .marks m) ≡ true)
 
 -- every call of the history was
 abbrev pub Served : ℕ → History → Type 0
-Served s begun = Unit {0}
+Served s atStart = Unit {0}
 Served s (later h c) = Served s h × Serves s (logOf h) c
 
 -- ---- more calls

@@ -18,12 +18,12 @@ unfoldable pub sliceRows : ℕ → List ℕ → ℕ → List Check
 sliceRows n state setLen = check (ltb (length state) stateLength || ltb setLen n) 16 ∷ []
 
 -- 14, for s letters: "14 is checked before 30"
-unfoldable pub letterRows : ℕ → LiveCall → List Check
-letterRows s Start = []
-letterRows s (Arrive a) = check (leb s a) 14 ∷ []
-letterRows s Withdraw = []
-letterRows s (Mark m) = []
-letterRows s (Return m) = []
+unfoldable pub arrivalRows : ℕ → LiveCall → List Check
+arrivalRows s Start = []
+arrivalRows s (Arrive a) = check (leb s a) 14 ∷ []
+arrivalRows s Withdraw = []
+arrivalRows s (Mark m) = []
+arrivalRows s (Return m) = []
 
 -- 30 to 33, "right after 15"
 unfoldable pub logRows : LiveCall → List ℕ → List Check
@@ -46,14 +46,14 @@ heldRows (Mark m) g = check (ltb 15 m) 32 ∷ []
 heldRows (Return m) g = check (ltb 15 m) 32 ∷ (check (not (isSet (g .marks m))) 33 ∷ [])
 
 -- behind the rule's rows, for a rule of s letters
-unfoldable pub callRows : LiveCall → ℕ → Lent → Lent → List ℕ → ℕ → List Check
-callRows c s codes transitions state setLen =
-    letterRows s c ++ (tableRows s codes transitions ++ (logRows c state ++ sliceRows (length (codes .numbers)) state setLen))
+unfoldable pub liveCallRows : LiveCall → ℕ → Lent → Lent → List ℕ → ℕ → List Check
+liveCallRows c s codes transitions state setLen =
+    arrivalRows s c ++ (tableRows s codes transitions ++ (logRows c state ++ sliceRows (length (codes .numbers)) state setLen))
 
 -- the first of these that refuses, or 0
-unfoldable pub callRow : LiveCall → ℕ → Lent → Lent → List ℕ → ℕ → ℕ
-callRow c s codes transitions state setLen = firstRow (callRows c s codes transitions state setLen)
+unfoldable pub liveCallRow : LiveCall → ℕ → Lent → Lent → List ℕ → ℕ → ℕ
+liveCallRow c s codes transitions state setLen = firstRow (liveCallRows c s codes transitions state setLen)
 
 -- the first row that refuses the call, or 0
 unfoldable pub liveRow : LiveCall → List ℕ → Lent → Lent → List ℕ → ℕ → ℕ
-liveRow c f codes transitions state setLen = firstRow (fileRows f ++ callRows c (ruleIn f .s) codes transitions state setLen)
+liveRow c f codes transitions state setLen = firstRow (fileRows f ++ liveCallRows c (ruleIn f .s) codes transitions state setLen)

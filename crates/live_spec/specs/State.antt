@@ -78,5 +78,5 @@ unfoldable pub isMarked : List ℕ → ℕ → Bool
 isMarked state m = ltb 0 (getD state (2 + m) 0)
 
 -- the bytes of the set
-abbrev pub setIn : List ℕ → List ℕ
-setIn state = drop setAt state
+abbrev pub setBytes : List ℕ → List ℕ
+setBytes state = drop setAt state

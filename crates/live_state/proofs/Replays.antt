@@ -11,7 +11,7 @@ use Rattle.sets.proofs.Lists.{length-tabulate}
 use Rattle.theory.specs.Run.{sourceOf}
 use Rattle.trim_spec.specs.Graph.{Inside}
 use Rattle.live_spec.specs.Afresh.{stepped, steppedOver, initialSet, afresh}
-use Rattle.live_spec.specs.State.{setAt, setIn, lettersAtByte, numberAt, numberIn, lettersIn}
+use Rattle.live_spec.specs.State.{setAt, setBytes, lettersAtByte, numberAt, numberIn, lettersIn}
 use Rattle.live_spec.specs.Effects.{put, withSet, refreshed}
 use Rattle.live_letters.proofs.Puts.{put-long, put-before, put-in, put-over, put-back, put-mid, part-before, part-there, number-before}
 use Rattle.live_set.proofs.Sets.{step-ext}
@@ -70,14 +70,14 @@ letters-long bytes l = length-take-le (numberIn bytes) (drop lettersAtByte bytes
 
 -- the set after the first i of them
 abbrev pub after : ℕ → List ℕ → List ℕ → ℕ → List ℕ
-after n ts bytes i = steppedOver n ts (take i (lettersIn bytes)) (take n (setIn bytes))
+after n ts bytes i = steppedOver n ts (take i (lettersIn bytes)) (take n (setBytes bytes))
 
 module _ (n : ℕ) (ts bytes : List ℕ) (fits : setAt + n ≤ length bytes) where
-  pub set-long : length (take n (setIn bytes)) ≡ n
-  set-long = length-take-le n (setIn bytes) (omega (arith, length-drop setAt bytes))
+  pub set-long : length (take n (setBytes bytes)) ≡ n
+  set-long = length-take-le n (setBytes bytes) (omega (arith, length-drop setAt bytes))
 
   after-long : (i : ℕ) → length (after n ts bytes i) ≡ n
-  after-long i = over-long n ts (take i (lettersIn bytes)) (take n (setIn bytes)) set-long
+  after-long i = over-long n ts (take i (lettersIn bytes)) (take n (setBytes bytes)) set-long
 
   pub replay-start : bytes ≡ withSet (after n ts bytes 0) bytes
   unfolding withSet steppedOver
@@ -94,17 +94,17 @@ module _ (n : ℕ) (ts bytes : List ℕ) (fits : setAt + n ≤ length bytes) whe
       ∙ sym (getD-take (numberIn bytes) (drop lettersAtByte bytes) i 0 l ∙ getD-drop lettersAtByte bytes i 0)
 
   pub replay-next : (i : ℕ) → i < numberIn bytes → Inside n ts
-      → withSet (stepped n ts (getD (lettersIn bytes) i 0) (setIn (withSet (after n ts bytes i) bytes))) (withSet (after n ts bytes i) bytes) ≡ withSet (after n ts bytes (i + 1)) bytes
+      → withSet (stepped n ts (getD (lettersIn bytes) i 0) (setBytes (withSet (after n ts bytes i) bytes))) (withSet (after n ts bytes i) bytes) ≡ withSet (after n ts bytes (i + 1)) bytes
   unfolding withSet
   replay-next i l inside =
       let a = getD (lettersIn bytes) i 0 in
       let e : stepped n ts a (drop setAt (put setAt (after n ts bytes i) bytes)) ≡ after n ts bytes (i + 1) =
       step-there setAt n a ts (after n ts bytes i) bytes (after-long i) fits inside
-      ∙ sym (over-next n ts (lettersIn bytes) (take n (setIn bytes)) i (omega (arith, letters-long bytes (omega arith)))) in
+      ∙ sym (over-next n ts (lettersIn bytes) (take n (setBytes bytes)) i (omega (arith, letters-long bytes (omega arith)))) in
       ap (λ (s : List ℕ). put setAt s (put setAt (after n ts bytes i) bytes)) e
       ∙ put-over setAt (after n ts bytes i) bytes (omega (arith, after-long i)) (after n ts bytes (i + 1)) (after-long (i + 1) ∙ sym (after-long i))
 
-  pub replay-end : (i : ℕ) → numberIn bytes ≤ i → withSet (after n ts bytes i) bytes ≡ withSet (steppedOver n ts (lettersIn bytes) (take n (setIn bytes))) bytes
+  pub replay-end : (i : ℕ) → numberIn bytes ≤ i → withSet (after n ts bytes i) bytes ≡ withSet (steppedOver n ts (lettersIn bytes) (take n (setBytes bytes))) bytes
   replay-end i l = rw (take-all i (lettersIn bytes) (omega (arith, letters-long bytes (omega arith))))
 
 -- ---- worked out afresh
@@ -128,12 +128,12 @@ module _ (q : ℕ) (codes ts bytes : List ℕ) (fits : setAt + length codes ≤ 
       ap (λ (k : ℕ). take k (drop lettersAtByte (put setAt (initialSet q codes) bytes))) e
       ∙ part-before setAt (initialSet q codes) bytes room lettersAtByte (numberIn bytes) (omega (arith, number-low bytes))
 
-  begun-set : take (length codes) (setIn (withSet (initialSet q codes) bytes)) ≡ initialSet q codes
+  begun-set : take (length codes) (setBytes (withSet (initialSet q codes) bytes)) ≡ initialSet q codes
   unfolding withSet
   begun-set = part-there setAt (initialSet q codes) bytes room (length codes) (initial-long q codes)
 
   pub refresh-end : (n : ℕ) → n ≡ length codes
-      → (let begun = withSet (initialSet q codes) bytes in withSet (steppedOver n ts (lettersIn begun) (take n (setIn begun))) begun) ≡ refreshed q codes ts bytes
+      → (let begun = withSet (initialSet q codes) bytes in withSet (steppedOver n ts (lettersIn begun) (take n (setBytes begun))) begun) ≡ refreshed q codes ts bytes
   unfolding refreshed afresh withSet
   refresh-end n e =
       rw (e, begun-letters, begun-set)

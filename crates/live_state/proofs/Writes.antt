@@ -6,7 +6,7 @@ use native.Mathlib.Nat.{zero-add}
 use native.Mathlib.Omega.{arith}
 use lib.ListN.{length, take, drop}
 use Rattle.live_spec.specs.Afresh.{stepped}
-use Rattle.live_spec.specs.State.{setAt, stateLength, markNumberAt, markLettersAt, lettersAtByte, twoBytes, numberAt, numberIn, setIn}
+use Rattle.live_spec.specs.State.{setAt, stateLength, markNumberAt, markLettersAt, lettersAtByte, twoBytes, numberAt, numberIn, setBytes}
 use Rattle.live_spec.specs.Effects.{put, numbered, withSet, arrived, marked}
 use Rattle.live_letters.proofs.Puts.{put-long, drop-put}
 
@@ -27,13 +27,13 @@ module _ (bytes : List ℕ) (long : stateLength ≤ length bytes) where
 
   -- the set is read before the letter is written or after it
   pub arrived-end : (q a : ℕ) (codes ts : List ℕ) → numberIn bytes < 512
-      → (let now = put (lettersAtByte + numberIn bytes) (a ∷ []) (numbered (numberIn bytes + 1) bytes) in withSet (stepped (length codes) ts a (setIn now)) now)
+      → (let now = put (lettersAtByte + numberIn bytes) (a ∷ []) (numbered (numberIn bytes + 1) bytes) in withSet (stepped (length codes) ts a (setBytes now)) now)
       ≡ arrived q codes ts a bytes
   unfolding arrived
   arrived-end q a codes ts l =
       let n = numberIn bytes in
       let now = put (lettersAtByte + n) (a ∷ []) (numbered (n + 1) bytes) in
-      let e : setIn now ≡ setIn bytes =
+      let e : setBytes now ≡ setBytes bytes =
       drop-put (lettersAtByte + n) (a ∷ []) (numbered (n + 1) bytes) (omega (arith, numbered-long (n + 1))) setAt (omega arith) ∙ behind-number (n + 1) setAt (omega arith) in
       ap (λ (s : List ℕ). withSet (stepped (length codes) ts a s) now) e
 

@@ -8,7 +8,7 @@ ghost use lib.ListN.{length, take};
 ghost use Rattle.table_lent.specs.Lent.{wordsIn};
 ghost use Rattle.trim_spec.specs.Graph.{Inside};
 ghost use Rattle.live_spec.specs.Afresh.{initialSet, stepped, steppedOver};
-ghost use Rattle.live_spec.specs.State.{setAt, setIn, lettersIn};
+ghost use Rattle.live_spec.specs.State.{setAt, setBytes, lettersIn};
 ghost use Rattle.live_spec.specs.Effects.{withSet, refreshed};
 ghost use Rattle.live_state.specs.Ready.{Ready};
 
@@ -26,7 +26,7 @@ pub fn begin(initial: u32, codes: &[u8], state: &mut [u8])
 pub fn step(letter: u8, n: usize, transitions: &[u8], state: &mut [u8])
     requires { ⌜ Inside n (wordsIn (now transitions)) × (setAt + n ≤ length (now state)) ⌝ }
     ensures { λ _. ⌜ now (state .exit)
-        ≡ withSet (stepped n (wordsIn (now (transitions .entry))) letter (setIn (now (state .entry)))) (now (state .entry)) ⌝ }
+        ≡ withSet (stepped n (wordsIn (now (transitions .entry))) letter (setBytes (now (state .entry)))) (now (state .entry)) ⌝ }
 {
     let from = 8754;
     let end = from + n;
@@ -38,7 +38,7 @@ fn replay(n: usize, transitions: &[u8], state: &mut [u8])
     requires { ⌜ Inside n (wordsIn (now transitions)) × (setAt + n ≤ length (now state)) ⌝ }
     ensures { λ _. ⌜ now (state .exit)
         ≡ withSet
-        (steppedOver n (wordsIn (now (transitions .entry))) (lettersIn (now (state .entry))) (take n (setIn (now (state .entry)))))
+        (steppedOver n (wordsIn (now (transitions .entry))) (lettersIn (now (state .entry))) (take n (setBytes (now (state .entry)))))
         (now (state .entry)) ⌝ }
 {
     let m = number_at(state, 0);

@@ -27,7 +27,7 @@ use Rattle.build_trimmed_spec.specs.Answers.{trimmedOf, trimmedCodesAfter, trim
 use Rattle.build_trimmed.proofs.Answer.{rows, small, codes-are, transitions-are, answered-lists}
 use Rattle.live_spec.specs.declared.LiveCall.the-variants.{Start}
 use Rattle.live_spec.specs.Called.{TrimmedTable}
-use Rattle.live_spec.specs.Rows.{sliceRows, letterRows, logRows, callRows, liveRow}
+use Rattle.live_spec.specs.Rows.{sliceRows, arrivalRows, logRows, liveCallRows, liveRow}
 use Rattle.live_spec.specs.State.{stateLength}
 
 rows-numbered : (s : ℕ) (codes transitions : Lent) → numbered (tableRows s codes transitions) ≡ true
@@ -41,7 +41,7 @@ slices-pass n state room l k = rw (le-ltb (length state) stateLength l, le-ltb r
 -- a start on a table that row 15 passes, with slices that are long enough
 start-row : (f : List ℕ) (codes transitions : Lent) (state : List ℕ) (room : ℕ) → fileRow f ≡ 0 → tableRow (ruleIn f .s) codes transitions ≡ 0
     → stateLength ≤ length state → length (codes .numbers) ≤ room → liveRow Start f codes transitions state room ≡ 0
-unfolding liveRow callRows letterRows logRows fileRow tableRow
+unfolding liveRow liveCallRows arrivalRows logRows fileRow tableRow
 start-row f codes transitions state room e t l k =
     first-right (fileRows f) (tableRows (ruleIn f .s) codes transitions ++ sliceRows (length (codes .numbers)) state room) (file-numbered f) e
     ∙ first-right (tableRows (ruleIn f .s) codes transitions) (sliceRows (length (codes .numbers)) state room) (rows-numbered (ruleIn f .s) codes transitions) t

@@ -7,7 +7,7 @@ use native.Mathlib.Omega.{arith}
 use lib.Dec.{ltb}
 use lib.ListN.{length, drop}
 use borrow.Author.Tests.{lt-ltb, le-ltb}
-use Rattle.sets.specs.Tests.{some, first}
+use Rattle.sets.specs.Tests.{someBelow, first}
 use Rattle.sets.specs.Masks.{bit}
 use Rattle.refusals.specs.Rows.{firstRow}
 use Rattle.sets.proofs.Tests.{first-at, first-le, some-get}
@@ -71,9 +71,9 @@ module _ (r : Rule) (s : Start) (b : Begins (r .n) (successorsOf r) (r .acceptin
     found-route =
         rw (sym (b .length), sym (b .smallest l), lt-ltb (s .further) (r .n) l)
 
-    some-begins : some (r .n) (begins (r .n) (successorsOf r) (r .accepting) (s .further)) ≡ true
+    some-begins : someBelow (r .n) (begins (r .n) (successorsOf r) (r .accepting) (s .further)) ≡ true
     unfolding further
-    some-begins = rw (b .length) (first-found (r .n) (λ k. some (r .n) (begins (r .n) (successorsOf r) (r .accepting) k)) 0 (omega (arith, b .length)))
+    some-begins = rw (b .length) (first-found (r .n) (λ k. someBelow (r .n) (begins (r .n) (successorsOf r) (r .accepting) k)) 0 (omega (arith, b .length)))
 
     pub found-state : s .at < r .n
     found-state =

@@ -6,7 +6,7 @@ use mathlib.Core.List.{List}
 use Prim.Native.Nat.{ℕ, suc, _+_, _≤_, _<_}
 use native.Mathlib.Omega.{arith}
 use native.Mathlib.Decide.{decLt}
-use Rattle.sets.specs.Tests.{some, first}
+use Rattle.sets.specs.Tests.{someBelow, first}
 use Rattle.sets.specs.Masks.{bit}
 use Rattle.sets.proofs.Tests.{first-le, first-max, some-at, some-get}
 use Rattle.loop_spec.specs.Search.{othersOf, ways, begins, further}
@@ -65,10 +65,10 @@ module _ (n : ℕ) (es : List ℕ) (accepting : ℕ) where
     low : k ≤ further n es accepting
     unfolding further
     low =
-        by-cases (decLt (first n (λ k. some n (begins n es accepting k)) 0) k)
-        (λ l. let s = some-get n (begins n es accepting (first n (λ k. some n (begins n es accepting k)) 0))
-        (first-found n (λ k. some n (begins n es accepting k)) 0 (omega (arith, h .bound))) in
-        absurd (omega (arith, from-le (s .0) (first n (λ k. some n (begins n es accepting k)) 0) (s .2), h .low (s .0) (s .1))))
+        by-cases (decLt (first n (λ k. someBelow n (begins n es accepting k)) 0) k)
+        (λ l. let s = some-get n (begins n es accepting (first n (λ k. someBelow n (begins n es accepting k)) 0))
+        (first-found n (λ k. someBelow n (begins n es accepting k)) 0 (omega (arith, h .bound))) in
+        absurd (omega (arith, from-le (s .0) (first n (λ k. someBelow n (begins n es accepting k)) 0) (s .2), h .low (s .0) (s .1))))
         (λ l. omega arith)
 
     here : k < n → begins n es accepting k at ≡ true
@@ -78,8 +78,8 @@ module _ (n : ℕ) (es : List ℕ) (accepting : ℕ) where
     unfolding further
     high =
         by-cases (decLt k n)
-        (λ l. first-le n (λ k. some n (begins n es accepting k)) 0 k (omega arith) (some-at n (begins n es accepting k) at (h .hit l .0) (here l)))
-        (λ l. omega (arith, h .bound, first-max n (λ k. some n (begins n es accepting k)) 0))
+        (λ l. first-le n (λ k. someBelow n (begins n es accepting k)) 0 k (omega arith) (some-at n (begins n es accepting k) at (h .hit l .0) (here l)))
+        (λ l. omega (arith, h .bound, first-max n (λ k. someBelow n (begins n es accepting k)) 0))
 
     smallest : k < n → at ≡ first n (begins n es accepting k) 0
     smallest l =

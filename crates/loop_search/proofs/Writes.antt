@@ -9,7 +9,7 @@ use lib.Bits.{bitAnd}
 use lib.Count.{trailingZeros}
 use lib.ListN.{length, getD, set, drop, length-append, length-drop}
 use lib.Seq.{drop-cons, set-at}
-use Rattle.sets.specs.Tests.{Set, some, first}
+use Rattle.sets.specs.Tests.{Set, someBelow, first}
 use Rattle.sets.specs.Masks.{bit}
 use Rattle.sets.proofs.Bools.{and-r}
 use Rattle.sets.proofs.Tests.{first-at, first-le, first-ext, some-at, some-get}
@@ -27,7 +27,7 @@ first-narrow m n f p h l e =
     omega arith
 
 -- the least state that two sets have in common
-pub least-common : (n x m : ℕ) → n ≤ 8 → some n (λ p. bit x p && bit m p) ≡ true → trailingZeros 8 (bitAnd x m) ≡ first n (λ p. bit x p && bit m p) 0
+pub least-common : (n x m : ℕ) → n ≤ 8 → someBelow n (λ p. bit x p && bit m p) ≡ true → trailingZeros 8 (bitAnd x m) ≡ first n (λ p. bit x p && bit m p) 0
 least-common n x m h e =
     let s = some-get n (λ p. bit x p && bit m p) e in
     least-is 8 (bitAnd x m)
@@ -41,7 +41,7 @@ module _ (n : ℕ) (es : List ℕ) (others t : ℕ) (l : t < n) where
 
   -- a state may follow
   pub follows : (j : ℕ) (passed : Bool) (q : ℕ) → q < n → bit (wayBy n es (bit others) t (suc (suc j)) passed) q ≡ true
-      → some n (next (suc j) (passed || bit others q) q) ≡ true
+      → someBelow n (next (suc j) (passed || bit others q) q) ≡ true
   follows j passed q m e =
       let w = can-walk n es (bit others) t l (suc j) passed q m e in
       let s = next-state n es (bit others) t l j passed q m (w .0) (w .1) (w .2) in
@@ -66,7 +66,7 @@ module _ (n : ℕ) (es : List ℕ) (others t : ℕ) (l : t < n) where
     put : (i : ℕ) (front : List ℕ) (q : ℕ) → length front ≡ i → i < length old → set (front ++ drop i old) i q ≡ front ++ (q ∷ drop (suc i) old)
     put i front q e m = rw (drop-cons old i 0 m) (set-at front (getD old i 0) (drop (suc i) old) q i e)
 
-    pub may-follow : (i : ℕ) (out : List ℕ) (q : ℕ) (passed : Bool) → i < k → Written i out q passed → some n (next (k - i) (passed || bit others q) q) ≡ true
+    pub may-follow : (i : ℕ) (out : List ℕ) (q : ℕ) (passed : Bool) → i < k → Written i out q passed → someBelow n (next (k - i) (passed || bit others q) q) ≡ true
     may-follow i out q passed m w =
         let x : k - i ≡ suc (k - suc i) = omega arith in
         rw x (follows (k - suc i) passed q (w .state) (rw x at (w .may)))

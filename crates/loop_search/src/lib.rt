@@ -8,7 +8,7 @@ ghost use mathlib.Core.Bool.{true, false, _&&_, _||_};
 ghost use mathlib.Core.List.{_++_};
 ghost use Prim.Native.Nat.{suc, _+_, _^_, _≤_, _<_};
 ghost use lib.ListN.{length, drop};
-ghost use Rattle.sets.specs.Tests.{some, first};
+ghost use Rattle.sets.specs.Tests.{someBelow, first};
 ghost use Rattle.sets.specs.Masks.{bit};
 ghost use Rattle.loop_spec.specs.Search.{leadsBy, ways, wayBy, route};
 ghost use Rattle.loop_search.specs.Begins.{Begins};
@@ -63,7 +63,7 @@ fn next_state(
     q: usize,
 ) -> usize
     requires { ⌜ (n ≤ 8) × (t < n) × (q < 8) ⌝ }
-    requires { ⌜ some n (λ p. leadsBy (now es) q p && bit (wayBy n (now es) (bit others) t k passed) p) ≡ true ⌝ }
+    requires { ⌜ someBelow n (λ p. leadsBy (now es) q p && bit (wayBy n (now es) (bit others) t k passed) p) ≡ true ⌝ }
     ensures { λ r. ⌜ r ≡ first n (λ p. leadsBy (now (es .entry)) q p && bit (wayBy n (now (es .entry)) (bit others) t k passed) p) 0 ⌝ }
 {
     let w = ways_to(es, n, others, t, k);

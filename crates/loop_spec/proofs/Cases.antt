@@ -4,7 +4,7 @@ use mathlib.Core.Bool.{true, false}
 use mathlib.Core.List.{List, [], _∷_}
 use Prim.Native.Nat.{ℕ}
 use lib.ListN.{length, replicate}
-use Rattle.sets.specs.Tests.{some, first}
+use Rattle.sets.specs.Tests.{someBelow, first}
 use Rattle.sets.specs.Masks.{bit, mask}
 use Rattle.sets.specs.Lists.{sum, tabulate, anyOf, allOf}
 use Rattle.theory.specs.Rule.{Rule, entry}
@@ -15,7 +15,7 @@ use Rattle.loop_spec.specs.Search.{othersOf, sources, stepBack, ways, ro
 
 -- what an evaluation unfolds
 unfoldable pub computed : ℕ
-unfolding loopOf loopBy further begins route ways stepBack sources othersOf isMixedLoop passesBoth isClosedWalk atMost allBelow along table tabulate some first bit mask leads named entry sum anyOf
+unfolding loopOf loopBy further begins route ways stepBack sources othersOf isMixedLoop passesBoth isClosedWalk atMost allBelow along table tabulate someBelow first bit mask leads named entry sum anyOf
     allOf
 computed = 0
 

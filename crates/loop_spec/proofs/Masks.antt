@@ -7,7 +7,7 @@ use Prim.Native.Nat.{ℕ, zero, suc, _<_}
 use lib.Dec.{eqb, ltb}
 use lib.ListN.{length}
 use borrow.Author.Tests.{eqb-true, eq-eqb, lt-ltb, ltb-true}
-use Rattle.sets.specs.Tests.{Set, some}
+use Rattle.sets.specs.Tests.{Set, someBelow}
 use Rattle.sets.specs.Masks.{bit}
 use Rattle.sets.specs.Lists.{anyOf, allOf}
 use Rattle.sets.proofs.Bools.{clash, and-l, and-r, and-i, or-l, or-r, or-cases}
@@ -23,13 +23,13 @@ module _ (n : ℕ) (es : List ℕ) where
   source-out : (m q : ℕ) → q < n → bit (sources n es m) q ≡ true → (p : ℕ) × (p < n) × (leadsBy es q p ≡ true) × (bit m p ≡ true)
   unfolding sources
   source-out m q l e =
-      let s = some-get n (λ p. leadsBy es q p && bit m p) (sym (bit-mask n (λ q. some n (λ p. leadsBy es q p && bit m p)) q l) ∙ e) in
+      let s = some-get n (λ p. leadsBy es q p && bit m p) (sym (bit-mask n (λ q. someBelow n (λ p. leadsBy es q p && bit m p)) q l) ∙ e) in
       (s .0, s .1, and-l (leadsBy es q (s .0)) (bit m (s .0)) (s .2), and-r (leadsBy es q (s .0)) (bit m (s .0)) (s .2))
 
   source-in : (m q p : ℕ) → q < n → p < n → leadsBy es q p ≡ true → bit m p ≡ true → bit (sources n es m) q ≡ true
   unfolding sources
   source-in m q p l k e b =
-      bit-mask n (λ q. some n (λ p. leadsBy es q p && bit m p)) q l ∙ some-at n (λ p. leadsBy es q p && bit m p) p k (and-i e b)
+      bit-mask n (λ q. someBelow n (λ p. leadsBy es q p && bit m p)) q l ∙ some-at n (λ p. leadsBy es q p && bit m p) p k (and-i e b)
 
   module _ (other : Set) (t : ℕ) (t-state : t < n) where
     abbrev pub any : ℕ → ℕ

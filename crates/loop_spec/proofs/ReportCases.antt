@@ -2,7 +2,7 @@
 use mathlib.Core.Path.{_≡_, refl}
 use mathlib.Core.List.{List, [], _∷_}
 use Prim.Native.Nat.{ℕ}
-use Rattle.sets.specs.Tests.{every, some}
+use Rattle.sets.specs.Tests.{every, someBelow}
 use Rattle.sets.specs.Masks.{bit, mask, inside}
 use Rattle.refusals.specs.Rows.{firstRow}
 use Rattle.theory.specs.Rule.{entry}
@@ -16,7 +16,7 @@ use Rattle.loop_spec.specs.Reported.{sliceRows, formedRows, reportRow, a
 
 -- what an evaluation unfolds
 unfoldable computed : ℕ
-unfolding reportOf sliceAfter answer after reportRow formedRows sliceRows firstRow layoutRows trailerRows numberRows listRows clauseRows componentRows mixed together reaches within leads named entry some bit mask
+unfolding reportOf sliceAfter answer after reportRow formedRows sliceRows firstRow layoutRows trailerRows numberRows listRows clauseRows componentRows mixed together reaches within leads named entry someBelow bit mask
     someNested nested inside every tagged clausesOf countsOf
     searched
 computed = 0

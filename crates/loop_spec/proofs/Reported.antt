@@ -10,7 +10,7 @@ use native.Mathlib.Nat.{add-suc}
 use lib.Dec.{eqb, ltb}
 use lib.ListN.{length}
 use borrow.Author.Tests.{eqb-true, eq-eqb, lt-ltb, le-ltb, ltb-true}
-use Rattle.sets.specs.Tests.{Set, first, some}
+use Rattle.sets.specs.Tests.{Set, first, someBelow}
 use Rattle.sets.specs.Masks.{bit, mask, exclusive}
 use Rattle.sets.specs.Lists.{anyOf}
 use Rattle.sets.proofs.Bools.{bif, clash, and-l, and-r, and-i, or-l, or-r, or-cases}
@@ -115,12 +115,12 @@ module _ (r : Rule) (small : r .n ≤ 8) where
   more-le : (t : ℕ) (ps : List ℕ) → isMixedLoop r (t ∷ ps) ≡ true → more ≤ length ps
   unfolding further
   more-le t ps e =
-      first-le (r .n) (λ k. some (r .n) (start k)) 0 (length ps) (omega arith)
+      first-le (r .n) (λ k. someBelow (r .n) (start k)) 0 (length ps) (omega arith)
       (some-at (r .n) (start (length ps)) t (first-state t ps e) (loop-begins t ps e))
 
-  more-found : more < r .n → some (r .n) (start more) ≡ true
+  more-found : more < r .n → someBelow (r .n) (start more) ≡ true
   unfolding further
-  more-found l = first-found (r .n) (λ k. some (r .n) (start k)) 0 (omega arith)
+  more-found l = first-found (r .n) (λ k. someBelow (r .n) (start k)) 0 (omega arith)
 
   none-found : r .n ≤ more → (qs : List ℕ) → isMixedLoop r qs ≡ false
   none-found l qs = bif (isMixedLoop r qs) (λ e. let f = few r (length qs) qs (omega arith) e in absurd (beyond (f .states) (f .loop) (f .few))) (λ e. e)

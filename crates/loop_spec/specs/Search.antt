@@ -5,7 +5,7 @@ use mathlib.Core.List.{List, [], _∷_}
 use Prim.Native.Nat.{ℕ, zero, suc, _^_}
 use lib.Dec.{ltb}
 use lib.ListN.{getD}
-use Rattle.sets.specs.Tests.{Set, some, first}
+use Rattle.sets.specs.Tests.{Set, someBelow, first}
 use Rattle.sets.specs.Masks.{bit, mask, exclusive}
 use Rattle.theory.specs.Rule.{Rule}
 use Rattle.rule_reach.specs.Tables.{successorsOf}
@@ -23,7 +23,7 @@ othersOf n accepting t = mask n (λ p. exclusive (bit accepting t) (bit acceptin
 module _ (n : ℕ) (es : List ℕ) where
   -- the states that lead to a state of m
   unfoldable pub sources : ℕ → ℕ
-  sources m = mask n (λ q. some n (λ p. leadsBy es q p && bit m p))
+  sources m = mask n (λ q. someBelow n (λ p. leadsBy es q p && bit m p))
 
   -- the states from which a walk leads to t, and those from which one does that passes a state of the other kind than t
   module _ (other : Set) where
@@ -58,7 +58,7 @@ module _ (n : ℕ) (es : List ℕ) where
 
     -- how many states the shortest mixed loops have after their first; n where there is none
     unfoldable pub further : ℕ
-    further = first n (λ k. some n (begins k)) 0
+    further = first n (λ k. someBelow n (begins k)) 0
 
     unfoldable pub loopBy : List ℕ
     loopBy =

@@ -9,7 +9,7 @@ use lib.Bits.{bitAnd, bitOr, or-lt, and-le-l}
 use lib.Dec.{ltb}
 use lib.Pow.{pow-lt}
 use borrow.Author.Tests.{lt-ltb, le-ltb}
-use Rattle.sets.specs.Tests.{Set, some, first}
+use Rattle.sets.specs.Tests.{Set, someBelow, first}
 use Rattle.sets.specs.Masks.{bit}
 use Rattle.sets.proofs.Tests.{some-trim, first-no, first-yes}
 use Rattle.sets.proofs.Masks.{mask-lt, bit-mask, mask-ext, mask-trim}
@@ -19,7 +19,7 @@ use Rattle.loop_spec.specs.declared.Ways.{Ways}
 use Rattle.loop_spec.specs.Search.{othersOf, sources, stepBack, ways}
 
 -- a set of states below n is met below n
-pub meets-below : (n x set : ℕ) → n ≤ 8 → set < 2 ^ n → some 8 (λ p. bit x p && bit set p) ≡ some n (λ p. bit x p && bit set p)
+pub meets-below : (n x set : ℕ) → n ≤ 8 → set < 2 ^ n → someBelow 8 (λ p. bit x p && bit set p) ≡ someBelow n (λ p. bit x p && bit set p)
 meets-below n x set h l = some-trim 8 n (λ p. bit x p && bit set p) h (λ p k m. rw (bit-high n set p l k, and-false))
 
 pub sources-lt : (n : ℕ) (es : List ℕ) (set : ℕ) → sources n es set < 2 ^ n

@@ -6,13 +6,13 @@ use set_masks::full;
 ghost use mathlib.Core.Path.{_≡_};
 ghost use mathlib.Core.Bool.{_&&_};
 ghost use Prim.Native.Nat.{suc, _^_, _≤_, _<_};
-ghost use Rattle.sets.specs.Tests.{some, one, first};
+ghost use Rattle.sets.specs.Tests.{someBelow, one, first};
 ghost use Rattle.sets.specs.Masks.{bit};
 ghost use Rattle.loop_spec.specs.Search.{othersOf, sources, stepBack, ways};
 
 // 1 where the two sets have a state in common, else 0.
 fn meets(a: u8, b: u8) -> u8
-    ensures { λ r. ⌜ r ≡ one (some 8 (λ p. bit a p && bit b p)) ⌝ }
+    ensures { λ r. ⌜ r ≡ one (someBelow 8 (λ p. bit a p && bit b p)) ⌝ }
 {
     if a & b == 0 {
         return 0;

@@ -4,7 +4,7 @@ use mathlib.Core.Logic.{_↔_}
 use mathlib.Core.Bool.{Bool, true, false, _&&_, _||_, not, Bool·not-not}
 use mathlib.Core.List.{List, [], _∷_}
 use Prim.Native.Nat.{ℕ, zero, suc, _<_}
-use Rattle.sets.specs.Tests.{Set, every, some}
+use Rattle.sets.specs.Tests.{Set, every, someBelow}
 use Rattle.sets.specs.Masks.{bit, inside}
 use Rattle.sets.proofs.Bools.{bif, clash, not-t}
 use Rattle.theory.specs.Automaton.{Automaton}
@@ -21,8 +21,8 @@ not-or true b = refl
 not-or false b = refl
 
 -- some number passes exactly if not every number fails
-some-every : (n : ℕ) (f g : Set) → ((q : ℕ) → f q ≡ not (g q)) → some n f ≡ not (every n g)
-unfolding some every
+some-every : (n : ℕ) (f g : Set) → ((q : ℕ) → f q ≡ not (g q)) → someBelow n f ≡ not (every n g)
+unfolding someBelow every
 some-every zero f g e = refl
 some-every (suc n) f g e = ap₂ (λ (a b : Bool). a || b) (some-every n f g e) (e n) ∙ not-and (every n g) (g n)
 

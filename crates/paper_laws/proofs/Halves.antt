@@ -10,11 +10,11 @@ use Rattle.sets.specs.Masks.{exclusive}
 use Rattle.theory.specs.Automaton.{Automaton}
 use Rattle.theory.specs.Layered.{Layered}
 use Rattle.theory.specs.Rule.{satisfies}
-use Rattle.theory.specs.Core.{Least, isOpen, mix, rejectingSettled, acceptingSettled, test, Earlier}
+use Rattle.theory.specs.Core.{Least, isOpen, mix, rejectingSettled, acceptingSettled, settledUpTo, Earlier}
 use Rattle.theory_laws.proofs.Pursuit.{open-kind, open-at, open-of, settled-kind}
 use Rattle.theory_laws.proofs.Satisfies.{openIn, meets}
 use Rattle.theory_laws.proofs.Settled.{settled-ext}
-use Rattle.paper_spec.specs.Halves.{EarlierRejecting, EarlierAccepting, together}
+use Rattle.paper_spec.specs.Halves.{EarlierRejecting, EarlierAccepting, bothHalves}
 
 -- tests that agree have the same least number
 pub least-ext : (f g : Set) → ((j : ℕ) → f j ≡ g j) → (j : ℕ) → Least f j → Least g j
@@ -53,8 +53,8 @@ module _ (A : Automaton) where
 module _ (A : Automaton) (H : Layered A) where
   -- 01's test of a level, in a component of kind k
   pub test-kind : (k : Bool) (T : Set) (t : ℕ → ℕ) (q : ℕ) (e : List ℕ) → q < A .n → A .accepting q ≡ k
-      → (j : ℕ) → test A T t q e j ≡ meets k (A .n) (mix A q (openIn k T) (λ p. openIn k T p && leb (t p) j)) e
-  unfolding test
+      → (j : ℕ) → settledUpTo A T t q e j ≡ meets k (A .n) (mix A q (openIn k T) (λ p. openIn k T p && leb (t p) j)) e
+  unfolding settledUpTo
   test-kind k T t q e m x j =
       settled-ext A T (λ p. isOpen A T p && leb (t p) j) (λ p. openIn k T p && leb (t p) j) q e
       (λ p h c. ap (λ (b : Bool). b && leb (t p) j) (open-kind A k T p (H .pure p q h m c ∙ x)))
@@ -116,15 +116,15 @@ module _ (A : Automaton) (H : Layered A) where
           (g .0, g .1, g .2, g .3, sym (e (g .0) (g .1) (H .pure (g .0) q (g .1) m (g .2) ∙ x) .0) ∙ g .4);
     }
 
-  together-kind : (k : Bool) (f g : ℕ → ℕ) (q : ℕ) → A .accepting q ≡ k → cond k (g q) (f q) ≡ together A f g q
-  unfolding together
+  together-kind : (k : Bool) (f g : ℕ → ℕ) (q : ℕ) → A .accepting q ≡ k → cond k (g q) (f q) ≡ bothHalves A f g q
+  unfolding bothHalves
   together-kind k f g q x = sym (ap (λ (b : Bool). cond b (g q) (f q)) x)
 
   -- two halves found apart, each with ranks and levels of its own, make 01's step
   pub halves-together : (a : ℕ) (S T : Set) (t r₁ l₁ r₂ l₂ : ℕ → ℕ) → EarlierRejecting A a S r₁ T t l₁ → EarlierAccepting A a S r₂ T t l₂
-      → Earlier A a S (together A r₁ r₂) T t (together A l₁ l₂)
-  halves-together a S T t r₁ l₁ r₂ l₂ R P = both-step a S (together A r₁ r₂) T t (together A l₁ l₂) of-kind
+      → Earlier A a S (bothHalves A r₁ r₂) T t (bothHalves A l₁ l₂)
+  halves-together a S T t r₁ l₁ r₂ l₂ R P = both-step a S (bothHalves A r₁ r₂) T t (bothHalves A l₁ l₂) of-kind
     where
-      of-kind : (k : Bool) → EarlierOf A k a S (together A r₁ r₂) T t (together A l₁ l₂)
+      of-kind : (k : Bool) → EarlierOf A k a S (bothHalves A r₁ r₂) T t (bothHalves A l₁ l₂)
       of-kind true = half-same a S r₂ T t l₂ true _ _ (λ q m x. (together-kind true r₁ r₂ q x, together-kind true l₁ l₂ q x)) (of-accepting A P)
       of-kind false = half-same a S r₁ T t l₁ false _ _ (λ q m x. (together-kind false r₁ r₂ q x, together-kind false l₁ l₂ q x)) (of-rejecting A R)

@@ -8,14 +8,14 @@ use native.Mathlib.Omega.{arith}
 use native.Mathlib.Decide.{decLt, decLe}
 use lib.Dec.{eqb, leb, ltb}
 use borrow.Author.Tests.{eqb-true, eq-eqb, lt-ltb, le-ltb, le-leb, lt-leb}
-use Rattle.sets.specs.Tests.{Set, some, largest}
+use Rattle.sets.specs.Tests.{Set, someBelow, largest}
 use Rattle.sets.specs.Masks.{exclusive}
 use Rattle.sets.proofs.Bools.{bif, clash, and-l, and-r, and-i, not-t}
 use Rattle.sets.proofs.Tests.{some-get, some-at, largest-hit}
 use Rattle.theory.specs.Automaton.{Automaton}
 use Rattle.theory.specs.Layered.{Layered}
 use Rattle.theory.specs.Rule.{satisfies}
-use Rattle.theory.specs.Core.{isOpen, mix, test, Core, Earlier, openOf}
+use Rattle.theory.specs.Core.{isOpen, mix, settledUpTo, Core, Earlier, openOf}
 use Rattle.theory_laws.proofs.Pursuit.{open-kind, open-at}
 use Rattle.theory_laws.proofs.Satisfies.{openIn, meets, satisfies-ext}
 use Rattle.theory_laws.proofs.Levels.{test-mono}
@@ -52,7 +52,7 @@ witnessOf A a T t k = cond k (witnessR2 A a T t) (witnessR1 A a T t)
 -- (S, r) is the core before the core (T, t) at letter a
 module _ (A : Automaton) (H : Layered A) (a : ℕ) (S : Set) (r : ℕ → ℕ) (T : Set) (t : ℕ → ℕ) (l : ℕ → ℕ) (E : Earlier A a S r T t l) (C : Core A T t) where
   abbrev tested : ℕ → ℕ → Bool
-  tested q k = test A T t q (A .entry q a) k
+  tested q k = settledUpTo A T t q (A .entry q a) k
 
   -- a class of the later core between the levels of q and q′: the classes below it settle q, and do not settle q′
   record Between (q q′ : ℕ) : Type 0 where
@@ -113,7 +113,7 @@ module _ (A : Automaton) (H : Layered A) (a : ℕ) (S : Set) (r : ℕ → ℕ) (
   abbrev shows : Bool → ℕ → ℕ → ℕ → Bool
   shows k q q′ v = satisfiesOf k (lowerOf k q v) (A .entry q a) && not (satisfiesOf k (lowerOf k q v) (A .entry q′ a))
 
-  witness-is : (k : Bool) (q q′ : ℕ) → witnessOf A a T t k q q′ ≡ some (A .n) (λ v. (inC A a T t q v && openIn k T v) && shows k q q′ v)
+  witness-is : (k : Bool) (q q′ : ℕ) → witnessOf A a T t k q q′ ≡ someBelow (A .n) (λ v. (inC A a T t q v && openIn k T v) && shows k q q′ v)
   unfolding witnessR1 witnessR2
   witness-is true q q′ = refl
   witness-is false q q′ = refl

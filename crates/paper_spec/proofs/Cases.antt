@@ -7,21 +7,21 @@ use native.Mathlib.Omega.{arith}
 use lib.Dec.{eqb, ltb}
 use Rattle.sets.specs.Lists.{sum}
 use Rattle.sets.specs.Masks.{bit, mask, inside}
-use Rattle.sets.specs.Tests.{Set, every, some, count, first}
+use Rattle.sets.specs.Tests.{Set, every, someBelow, count, first}
 use Rattle.theory.specs.Automaton.{automaton}
 use Rattle.theory.specs.Components as parts
 use Rattle.theory.specs.Components.{named, leads, within, reaches, smallest, isSmallest, component, components}
 use Rattle.theory.specs.Core.{mix, rejectingSettled, acceptingSettled}
 use Rattle.theory.specs.Examples.{D, X}
 use Rattle.theory.specs.Rule.{entry, satisfies}
-use Rattle.paper_spec.specs.Halves.{EarlierRejecting, EarlierAccepting, together}
+use Rattle.paper_spec.specs.Halves.{EarlierRejecting, EarlierAccepting, bothHalves}
 use Rattle.paper_spec.specs.Definition7.{satisfiesDual, inC, lowerR1, witnessR1, lowerR2, witnessR2, Consistent}
 use Rattle.paper_spec.specs.Examples.{DualD}
 
 -- what an evaluation unfolds
 unfoldable computed : ℕ
-unfolding mask every satisfies inside bit some count first component components isSmallest smallest parts.together reaches within leads named entry sum automaton satisfiesDual inC lowerR1 witnessR1
-    lowerR2 witnessR2 together rejectingSettled acceptingSettled mix
+unfolding mask every satisfies inside bit someBelow count first component components isSmallest smallest parts.together reaches within leads named entry sum automaton satisfiesDual inC lowerR1 witnessR1
+    lowerR2 witnessR2 bothHalves rejectingSettled acceptingSettled mix
 computed = 0
 
 -- ---- the dual entry
@@ -97,6 +97,6 @@ x-accepting r l E = (E .level 3 (omega arith) refl refl .least 1 refl, E .level 
 
 -- ---- both halves in one: X's rejecting states from the first, its accepting ones from the second
 
-x-together : (together (automaton X) (λ q. 1) (λ q. 2) 0 ∷ together (automaton X) (λ q. 1) (λ q. 2) 3 ∷ []) ≡ (1 ∷ 2 ∷ [])
+x-together : (bothHalves (automaton X) (λ q. 1) (λ q. 2) 0 ∷ bothHalves (automaton X) (λ q. 1) (λ q. 2) 3 ∷ []) ≡ (1 ∷ 2 ∷ [])
 unfolding computed
 x-together = refl

@@ -7,7 +7,7 @@ use mathlib.Core.Bool.{Bool, true, false, _&&_, _||_, not}
 use mathlib.Core.List.{List, [], _∷_}
 use Prim.Native.Nat.{ℕ, _<_}
 use lib.Dec.{eqb, ltb}
-use Rattle.sets.specs.Tests.{Set, some}
+use Rattle.sets.specs.Tests.{Set, someBelow}
 use Rattle.sets.specs.Masks.{bit}
 use Rattle.theory.specs.Rule.{satisfies}
 use Rattle.theory.specs.Automaton.{Automaton}
@@ -16,7 +16,7 @@ use Rattle.theory.specs.Automaton.{Automaton}
 -- of its states, so X satisfies the dual entry if X has some state of every clause. No clause: always. An empty clause: never.
 unfoldable pub satisfiesDual : ℕ → Set → List ℕ → Bool
 satisfiesDual n X [] = true
-satisfiesDual n X (c ∷ cs) = some n (λ p. bit c p && X p) && satisfiesDual n X cs
+satisfiesDual n X (c ∷ cs) = someBelow n (λ p. bit c p && X p) && satisfiesDual n X cs
 
 module _ (A : Automaton) (a : ℕ) (Q₁ : Set) (t : ℕ → ℕ) where
   -- p is in C, the component of q
@@ -31,7 +31,7 @@ module _ (A : Automaton) (a : ℕ) (Q₁ : Set) (t : ℕ → ℕ) where
 
   -- R1', right-hand side: "there exists r ∈ C ∩ Q₁ such that a: [this set] ⊨ δ(q, w[i]) and b: [this set] ⊭ δ(q', w[i]) hold"
   unfoldable pub witnessR1 : ℕ → ℕ → Bool
-  witnessR1 q q′ = some (A .n) (λ r. (inC q r && Q₁ r)
+  witnessR1 q q′ = someBelow (A .n) (λ r. (inC q r && Q₁ r)
       && (satisfies (A .n) (lowerR1 q r) (A .entry q a) && not (satisfies (A .n) (lowerR1 q r) (A .entry q′ a))))
 
   -- ---- R2'
@@ -42,7 +42,7 @@ module _ (A : Automaton) (a : ℕ) (Q₁ : Set) (t : ℕ → ℕ) where
 
   -- R2', right-hand side: "there exists r ∈ C \ Q₁ such that a: [this set] ⊨ δ̂(q, w[i]) and b: [this set] ⊭ δ̂(q', w[i]) hold"
   unfoldable pub witnessR2 : ℕ → ℕ → Bool
-  witnessR2 q q′ = some (A .n) (λ r. (inC q r && not (Q₁ r))
+  witnessR2 q q′ = someBelow (A .n) (λ r. (inC q r && not (Q₁ r))
       && (satisfiesDual (A .n) (lowerR2 q r) (A .entry q a) && not (satisfiesDual (A .n) (lowerR2 q r) (A .entry q′ a))))
 
   -- ---- both

@@ -42,5 +42,5 @@ module _ (A : Automaton) where
         → (p : ℕ) × (p < A .n) × (A .component p ≡ A .component q) × (S p ≡ false) × (r p ≡ j)
 
   -- both halves in one: at a rejecting state the value of the first, at an accepting state that of the second
-  unfoldable pub together : (ℕ → ℕ) → (ℕ → ℕ) → ℕ → ℕ
-  together rejecting accepting q = cond (A .accepting q) (accepting q) (rejecting q)
+  unfoldable pub bothHalves : (ℕ → ℕ) → (ℕ → ℕ) → ℕ → ℕ
+  bothHalves rejecting accepting q = cond (A .accepting q) (accepting q) (rejecting q)

@@ -11,7 +11,7 @@ use borrow.Author.Tests.{eq-eqb, ne-eqb}
 use lib.Dec.{eqb}
 use lib.Bits.{bitAnd, and-lt, and-mask, and-step}
 use lib.ListN.{getD}
-use Rattle.sets.specs.Tests.{Set, some, one}
+use Rattle.sets.specs.Tests.{Set, someBelow, one}
 use Rattle.sets.specs.Masks.{bit, mask}
 use Rattle.sets.proofs.Bools.{bif, clash, and-l, and-r, and-i, not-f, iff}
 use Rattle.sets.proofs.Tests.{some-at, some-get, some-none, some-no, some-ext}
@@ -57,21 +57,21 @@ module _ (k a : ℕ) where
   abbrev pub rejected : Set
   rejected q = bit k q && not (bit a q)
 
-  pub none-accepted : bitAnd k a ≡ 0 → some 8 accepted ≡ false
+  pub none-accepted : bitAnd k a ≡ 0 → someBelow 8 accepted ≡ false
   none-accepted e = some-none 8 accepted (λ q l. sym (bit-and k a q) ∙ ap (λ (x : ℕ). bit x q) e ∙ bit-none q)
 
-  pub some-accepted : k < 256 → a < 256 → (bitAnd k a ≡ 0 → ⊥) → some 8 accepted ≡ true
+  pub some-accepted : k < 256 → a < 256 → (bitAnd k a ≡ 0 → ⊥) → someBelow 8 accepted ≡ true
   some-accepted h j e =
-      bif (some 8 accepted) (λ t. t)
+      bif (someBelow 8 accepted) (λ t. t)
       (λ t. absurd (e (bit-ext 8 (bitAnd k a) 0 (and-lt 8 k a h j) (omega arith) (λ q l. bit-and k a q ∙ some-no 8 accepted t q l ∙ sym (bit-none q)))))
 
-  pub some-rejected : k < 256 → a < 256 → not (eqb (bitAnd k a) k) ≡ some 8 rejected
+  pub some-rejected : k < 256 → a < 256 → not (eqb (bitAnd k a) k) ≡ someBelow 8 rejected
   some-rejected h j =
       by-cases (ℕ-discrete (bitAnd k a) k)
       (λ e. rw (eq-eqb (bitAnd k a) k e) (sym (some-none 8 rejected (λ q l. bif (bit k q)
       (λ t. let u : bit a q ≡ true = and-r (bit k q) (bit a q) (sym (bit-and k a q) ∙ ap (λ (x : ℕ). bit x q) e ∙ t) in rw (t, u))
       (λ t. rw t)))))
-      (λ e. rw (ne-eqb (bitAnd k a) k e) (bif (some 8 rejected)
+      (λ e. rw (ne-eqb (bitAnd k a) k e) (bif (someBelow 8 rejected)
       (λ t. sym t)
       (λ t. absurd (e (bit-ext 8 (bitAnd k a) k (and-lt 8 k a h j) h
       (λ q l. bit-and k a q ∙ bif (bit k q)
@@ -86,7 +86,7 @@ module _ (R : Rule) (few : R .n ≤ 8) (acc : ℕ) (same : acc ≡ R .accepting)
 
   -- the class of q holds both kinds
   abbrev pub both : Set
-  both q = some 8 (accepted (class q) acc) && some 8 (rejected (class q) acc)
+  both q = someBelow 8 (accepted (class q) acc) && someBelow 8 (rejected (class q) acc)
 
   member : (q p : ℕ) → bit (class q) p ≡ true → (p < R .n) × (together R q p ≡ true)
   member q p e =
@@ -101,11 +101,11 @@ module _ (R : Rule) (few : R .n ≤ 8) (acc : ℕ) (same : acc ≡ R .accepting)
       let b = member q z (and-l (bit (class q) z) (not (bit acc z)) v) in
       let c : bit (R .accepting) y ≡ true = rw (sym same) (and-r (bit (class q) y) (bit acc y) u) in
       let d : not (bit (R .accepting) z) ≡ true = rw (sym same) (and-r (bit (class q) z) (not (bit acc z)) v) in
-      some-at (R .n) (λ q. some (R .n) (λ p. together R q p && (bit (R .accepting) q && not (bit (R .accepting) p)))) y (a .0)
+      some-at (R .n) (λ q. someBelow (R .n) (λ p. together R q p && (bit (R .accepting) q && not (bit (R .accepting) p)))) y (a .0)
       (some-at (R .n) (λ p. together R y p && (bit (R .accepting) y && not (bit (R .accepting) p))) z (b .0)
       (and-i (together-trans R y q z (a .0) l (b .0) (together-sym R q y (a .1)) (b .1)) (and-i c d)))
 
-  there : (q p : ℕ) → q < R .n → p < R .n → (together R q p && (bit (R .accepting) q && not (bit (R .accepting) p))) ≡ true → some (R .n) both ≡ true
+  there : (q p : ℕ) → q < R .n → p < R .n → (together R q p && (bit (R .accepting) q && not (bit (R .accepting) p))) ≡ true → someBelow (R .n) both ≡ true
   there q p l m e =
       let t = and-l (together R q p) (bit (R .accepting) q && not (bit (R .accepting) p)) e in
       let u = and-r (together R q p) (bit (R .accepting) q && not (bit (R .accepting) p)) e in
@@ -115,16 +115,16 @@ module _ (R : Rule) (few : R .n ≤ 8) (acc : ℕ) (same : acc ≡ R .accepting)
       (some-at 8 (accepted (class q) acc) q (omega arith) (and-i (bit-mask (R .n) (together R q) q l ∙ together-refl R q l) a))
       (some-at 8 (rejected (class q) acc) p (omega arith) (and-i (bit-mask (R .n) (together R q) p m ∙ t) b)))
 
-  pub mixed-classes : some (R .n) both ≡ mixed R
+  pub mixed-classes : someBelow (R .n) both ≡ mixed R
   unfolding mixed
   mixed-classes =
-      iff (some (R .n) both) (mixed R)
+      iff (someBelow (R .n) both) (mixed R)
       (λ t. let x = some-get (R .n) both t in
       let q = x .0 in
-      let y = some-get 8 (accepted (class q) acc) (and-l (some 8 (accepted (class q) acc)) (some 8 (rejected (class q) acc)) (x .2)) in
-      let z = some-get 8 (rejected (class q) acc) (and-r (some 8 (accepted (class q) acc)) (some 8 (rejected (class q) acc)) (x .2)) in
+      let y = some-get 8 (accepted (class q) acc) (and-l (someBelow 8 (accepted (class q) acc)) (someBelow 8 (rejected (class q) acc)) (x .2)) in
+      let z = some-get 8 (rejected (class q) acc) (and-r (someBelow 8 (accepted (class q) acc)) (someBelow 8 (rejected (class q) acc)) (x .2)) in
       pair (x .0) (y .0) (z .0) (x .1) (y .2) (z .2))
-      (λ t. let x = some-get (R .n) (λ q. some (R .n) (λ p. together R q p && (bit (R .accepting) q && not (bit (R .accepting) p)))) t in
+      (λ t. let x = some-get (R .n) (λ q. someBelow (R .n) (λ p. together R q p && (bit (R .accepting) q && not (bit (R .accepting) p)))) t in
       let y = some-get (R .n) (λ p. together R (x .0) p && (bit (R .accepting) (x .0) && not (bit (R .accepting) p))) (x .2) in
       there (x .0) (y .0) (x .1) (y .1) (y .2))
 
@@ -136,7 +136,7 @@ classBy reach n q = mask n (λ p. bit (getD reach q 0) p && bit (getD reach p 0)
 
 -- it holds both kinds
 abbrev pub bothBy : List ℕ → ℕ → ℕ → Set
-bothBy reach n acc q = some 8 (accepted (classBy reach n q) acc) && some 8 (rejected (classBy reach n q) acc)
+bothBy reach n acc q = someBelow 8 (accepted (classBy reach n q) acc) && someBelow 8 (rejected (classBy reach n q) acc)
 
 pub class-by : (R : Rule) → R .n ≤ 8 → (q : ℕ) → q < R .n → classBy (closuresOf R) (R .n) q ≡ mask (R .n) (together R q)
 unfolding together
@@ -149,22 +149,22 @@ class-by R few q l =
       bit-mask (R .n) (reaches R p) q l,
     ))
 
-pub mixed-by : (R : Rule) → R .n ≤ 8 → (acc : ℕ) → acc ≡ R .accepting → some (R .n) (bothBy (closuresOf R) (R .n) acc) ≡ mixed R
+pub mixed-by : (R : Rule) → R .n ≤ 8 → (acc : ℕ) → acc ≡ R .accepting → someBelow (R .n) (bothBy (closuresOf R) (R .n) acc) ≡ mixed R
 mixed-by R few acc same =
     some-ext (R .n) (bothBy (closuresOf R) (R .n) acc) (both R few acc same)
-    (λ q l. ap (λ (k : ℕ). some 8 (accepted k acc) && some 8 (rejected k acc)) (class-by R few q l))
+    (λ q l. ap (λ (k : ℕ). someBelow 8 (accepted k acc) && someBelow 8 (rejected k acc)) (class-by R few q l))
     ∙ mixed-classes R few acc same
 
 -- one state more
-pub both-next : (reach : List ℕ) (n acc q k : ℕ) (b : Bool) → some q (bothBy reach n acc) ≡ false → k ≡ classBy reach n q
-    → b ≡ (some 8 (accepted k acc) && some 8 (rejected k acc)) → b ≡ false → some (q + 1) (bothBy reach n acc) ≡ false
-unfolding some
+pub both-next : (reach : List ℕ) (n acc q k : ℕ) (b : Bool) → someBelow q (bothBy reach n acc) ≡ false → k ≡ classBy reach n q
+    → b ≡ (someBelow 8 (accepted k acc) && someBelow 8 (rejected k acc)) → b ≡ false → someBelow (q + 1) (bothBy reach n acc) ≡ false
+unfolding someBelow
 both-next reach n acc q k b h e u v =
-    let z : bothBy reach n acc q ≡ false = ap (λ (x : ℕ). some 8 (accepted x acc) && some 8 (rejected x acc)) (sym e) ∙ sym u ∙ v in
+    let z : bothBy reach n acc q ≡ false = ap (λ (x : ℕ). someBelow 8 (accepted x acc) && someBelow 8 (rejected x acc)) (sym e) ∙ sym u ∙ v in
     rw (add-one q, h, z)
 
 pub both-here : (R : Rule) → R .n ≤ 8 → (acc : ℕ) → acc ≡ R .accepting → (q k : ℕ) (b : Bool) → q < R .n → k ≡ classBy (closuresOf R) (R .n) q
-    → b ≡ (some 8 (accepted k acc) && some 8 (rejected k acc)) → b ≡ true → mixed R ≡ true
+    → b ≡ (someBelow 8 (accepted k acc) && someBelow 8 (rejected k acc)) → b ≡ true → mixed R ≡ true
 both-here R few acc same q k b l e u v =
     sym (mixed-by R few acc same)
-    ∙ some-at (R .n) (bothBy (closuresOf R) (R .n) acc) q l (ap (λ (x : ℕ). some 8 (accepted x acc) && some 8 (rejected x acc)) (sym e) ∙ sym u ∙ v)
+    ∙ some-at (R .n) (bothBy (closuresOf R) (R .n) acc) q l (ap (λ (x : ℕ). someBelow 8 (accepted x acc) && someBelow 8 (rejected x acc)) (sym e) ∙ sym u ∙ v)

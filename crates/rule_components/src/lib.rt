@@ -5,7 +5,7 @@ ghost use mathlib.Core.Path.{_≡_};
 ghost use mathlib.Core.Bool.{_&&_, not};
 ghost use Prim.Native.Nat.{_≤_, _<_};
 ghost use lib.ListN.{getD};
-ghost use Rattle.sets.specs.Tests.{some};
+ghost use Rattle.sets.specs.Tests.{someBelow};
 ghost use Rattle.sets.specs.Masks.{bit, mask};
 ghost use Rattle.theory.specs.Passing.{WellFormed};
 ghost use Rattle.theory.specs.Components.{mixed};
@@ -34,7 +34,7 @@ pub fn class_of(reach: &[u8; 8], n: usize, q: usize) -> u8
 
 // Whether the class holds an accepting state and a rejecting one.
 pub fn both_kinds(class: u8, accepting: u8) -> bool
-    ensures { λ r. ⌜ r ≡ (some 8 (λ q. bit class q && bit accepting q) && some 8 (λ p. bit class p && not (bit accepting p))) ⌝ }
+    ensures { λ r. ⌜ r ≡ (someBelow 8 (λ q. bit class q && bit accepting q) && someBelow 8 (λ p. bit class p && not (bit accepting p))) ⌝ }
 {
     let accepted = class & accepting;
     if accepted == 0 {

@@ -4,11 +4,11 @@ use mathlib.Core.List.{[], _∷_}
 use Rattle.sets.specs.Digits.{num}
 use Rattle.sets.specs.Lists.{keep, among, anyOf, sum, tabulate, flat, insertAscending, sorted}
 use Rattle.sets.specs.Masks.{bit, mask, inside}
-use Rattle.sets.specs.Tests.{every, some, count, first, largest}
+use Rattle.sets.specs.Tests.{every, someBelow, count, first, largest}
 use Rattle.theory.specs.Automaton.{automaton}
 use Rattle.theory.specs.Code.{fields, pack, componentIn, classesIn, setIn, rankIn, wellCoded}
 use Rattle.theory.specs.Components.{named, leads, within, reaches, together, smallest, isSmallest, component, components}
-use Rattle.theory.specs.Core.{isOpen, mix, rejectingSettled, acceptingSettled, settled, test, openOf, nextComponent}
+use Rattle.theory.specs.Core.{isOpen, mix, rejectingSettled, acceptingSettled, settled, settledUpTo, openOf, nextComponent}
 use Rattle.theory.specs.CoreComputed.{levelOf, taken, rankOf, isCore}
 use Rattle.theory.specs.Macrostate.{begun}
 use Rattle.theory.specs.MacrostateComputed.{before, onward, goes}
@@ -18,12 +18,12 @@ use Rattle.rule_tidy_spec.proofs.Cases.{glued, split}
 
 pub macrostates-glued : macrostates glued ≡ 257 ∷ 4355 ∷ 4611 ∷ 8451 ∷ 17592186048771 ∷ 35184372093443 ∷ 35184372097283 ∷ []
 unfolding macrostatesFrom codesFrom cores candidates digitals tabulate flat keep among anyOf insertAscending sorted reachedIn reached wellCoded pack fields mask num goes before onward begun automaton
-    setIn rankIn componentIn classesIn every satisfies inside bit rankOf levelOf test settled rejectingSettled acceptingSettled mix isOpen taken some count first largest openOf nextComponent isCore
+    setIn rankIn componentIn classesIn every satisfies inside bit rankOf levelOf settledUpTo settled rejectingSettled acceptingSettled mix isOpen taken someBelow count first largest openOf nextComponent isCore
     component components isSmallest smallest together reaches within leads named entry sum
 macrostates-glued = refl
 
 pub macrostates-split : macrostates split ≡ 257 ∷ 4355 ∷ 1099511632131 ∷ 17592186048771 ∷ 18691697676547 ∷ []
 unfolding macrostatesFrom codesFrom cores candidates digitals tabulate flat keep among anyOf insertAscending sorted reachedIn reached wellCoded pack fields mask num goes before onward begun automaton
-    setIn rankIn componentIn classesIn every satisfies inside bit rankOf levelOf test settled rejectingSettled acceptingSettled mix isOpen taken some count first largest openOf nextComponent isCore
+    setIn rankIn componentIn classesIn every satisfies inside bit rankOf levelOf settledUpTo settled rejectingSettled acceptingSettled mix isOpen taken someBelow count first largest openOf nextComponent isCore
     component components isSmallest smallest together reaches within leads named entry sum
 macrostates-split = refl

@@ -2,7 +2,7 @@
 use mathlib.Core.Path.{_≡_, refl}
 use mathlib.Core.Bool.{true, false}
 use mathlib.Core.List.{[], _∷_}
-use Rattle.sets.specs.Tests.{every, some, count, first}
+use Rattle.sets.specs.Tests.{every, someBelow, count, first}
 use Rattle.sets.specs.Masks.{bit, mask, inside}
 use Rattle.sets.specs.Lists.{anyOf, among, sum}
 use Rattle.theory.specs.Rule.{Rule, entry}
@@ -58,7 +58,7 @@ split-by-tidying = refl
 
 -- 02: "such a clause can glue components together"
 pub glued-components : (components glued ≡ 1) × (components split ≡ 2)
-unfolding components isSmallest smallest together reaches within leads named entry sum some count first bit mask
+unfolding components isSmallest smallest together reaches within leads named entry sum someBelow count first bit mask
 glued-components = (refl, refl)
 
 -- clauses of different entries are not compared: the clause 01 stays in the entry after 01, and 03 in the entry before 01
@@ -70,5 +70,5 @@ entries-apart = refl
 -- ---- clauses inside one another
 
 pub nested-cases : (nested 3 (1 ∷ 2 ∷ 1 ∷ []) ≡ true) × (nested 3 (3 ∷ 4 ∷ 1 ∷ []) ≡ true) × (nested 3 (6 ∷ 3 ∷ 5 ∷ []) ≡ false) × (someNested glued ≡ true) × (someNested split ≡ false)
-unfolding nested someNested entry sum some inside every bit
+unfolding nested someNested entry sum someBelow inside every bit
 nested-cases = (refl, refl, refl, refl, refl)

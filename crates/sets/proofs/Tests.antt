@@ -1,4 +1,4 @@
--- Laws of `every`, `some`, `count`, `first` and `largest`.
+-- Laws of `every`, `someBelow`, `count`, `first` and `largest`.
 use mathlib.Core.Path.{_≡_, refl, sym, _∙_, ap, ap₂}
 use mathlib.Core.Logic.{⊎-elim, by-cases}
 use mathlib.Core.Bool.{Bool, true, false, _&&_, true≢false, false≢true, and-true, and-false, or-true, or-false}
@@ -9,7 +9,7 @@ use native.Mathlib.Nat.{add-zero, zero-add}
 use lib.Dec.{leb, ltb}
 use borrow.Author.Tests.{leb-true, le-leb, lt-leb, lt-ltb}
 use native.Mathlib.Numerals.{add-one}
-use Rattle.sets.specs.Tests.{Set, every, some, count, one, first, largest}
+use Rattle.sets.specs.Tests.{Set, every, someBelow, count, one, first, largest}
 use Rattle.sets.proofs.Bools.{bif, clash, and-l, and-r, and-i, and-fl, or-cases}
 
 -- `every`, read at a number
@@ -40,8 +40,8 @@ unfolding every
 every-ext zero f g h = refl
 every-ext (suc n) f g h = rw (every-ext n f g (λ q l. h q (omega arith)), h n (omega arith))
 
-pub some-ext : (n : ℕ) (f g : Set) → ((q : ℕ) → q < n → f q ≡ g q) → some n f ≡ some n g
-unfolding some
+pub some-ext : (n : ℕ) (f g : Set) → ((q : ℕ) → q < n → f q ≡ g q) → someBelow n f ≡ someBelow n g
+unfolding someBelow
 some-ext zero f g h = refl
 some-ext (suc n) f g h = rw (some-ext n f g (λ q l. h q (omega arith)), h n (omega arith))
 
@@ -50,26 +50,26 @@ unfolding count
 count-ext zero f g h = refl
 count-ext (suc n) f g h = rw (count-ext n f g (λ q l. h q (omega arith)), h n (omega arith))
 
-pub some-get : (n : ℕ) (f : Set) → some n f ≡ true → (q : ℕ) × (q < n) × (f q ≡ true)
-unfolding some
+pub some-get : (n : ℕ) (f : Set) → someBelow n f ≡ true → (q : ℕ) × (q < n) × (f q ≡ true)
+unfolding someBelow
 some-get zero f e = absurd (false≢true e)
 some-get (suc n) f e =
     bif (f n)
     (λ t. (n, omega arith, t))
-    (λ t. let r = some-get n f (⊎-elim (λ x. x) (λ x. clash x t) (or-cases (some n f) (f n) e)) in (r .0, omega arith, r .2))
+    (λ t. let r = some-get n f (⊎-elim (λ x. x) (λ x. clash x t) (or-cases (someBelow n f) (f n) e)) in (r .0, omega arith, r .2))
 
--- ---- `some`, `count`, `first`
+-- ---- `someBelow`, `count`, `first`
 
-pub some-at : (n : ℕ) (f : Set) (q : ℕ) → q < n → f q ≡ true → some n f ≡ true
-unfolding some
+pub some-at : (n : ℕ) (f : Set) (q : ℕ) → q < n → f q ≡ true → someBelow n f ≡ true
+unfolding someBelow
 some-at zero f q l e = absurd (omega arith)
 some-at (suc n) f q l e =
     by-cases (decLt q n)
     (λ k. rw (some-at n f q k e))
-    (λ k. let x : q ≡ n = omega arith in rw (ap f (sym x) ∙ e) (or-true (some n f)))
+    (λ k. let x : q ≡ n = omega arith in rw (ap f (sym x) ∙ e) (or-true (someBelow n f)))
 
-pub some-none : (n : ℕ) (f : Set) → ((q : ℕ) → q < n → f q ≡ false) → some n f ≡ false
-unfolding some
+pub some-none : (n : ℕ) (f : Set) → ((q : ℕ) → q < n → f q ≡ false) → someBelow n f ≡ false
+unfolding someBelow
 some-none zero f h = refl
 some-none (suc n) f h = rw (some-none n f (λ q l. h q (omega arith)), h n (omega arith))
 
@@ -188,8 +188,8 @@ count-same (suc M) f g h e x l =
 pub count-more : (M : ℕ) (f g : Set) → ((x : ℕ) → x < M → f x ≡ true → g x ≡ true) → (x : ℕ) → x < M → f x ≡ false → g x ≡ true → count M f < count M g
 count-more M f g h x l e t = by-cases (decLe (count M g) (count M f)) (λ k. clash (count-same M f g h k x l ∙ t) e) (λ k. omega arith)
 
--- `some` fails at each number
-pub some-no : (n : ℕ) (f : Set) → some n f ≡ false → (q : ℕ) → q < n → f q ≡ false
+-- `someBelow` fails at each number
+pub some-no : (n : ℕ) (f : Set) → someBelow n f ≡ false → (q : ℕ) → q < n → f q ≡ false
 some-no n f e q l = bif (f q) (λ t. clash (some-at n f q l t) e) (λ t. t)
 
 -- ---- tests that agree
@@ -231,13 +231,13 @@ every-trim (suc m) n f l h =
     (λ e. rw e)
     (λ e. rw (h m (omega arith) (omega arith)) (and-true (every m f)) ∙ every-trim m n f (omega arith) (λ p a b. h p a (omega arith)))
 
-pub some-trim : (m n : ℕ) (f : Set) → n ≤ m → ((p : ℕ) → n ≤ p → p < m → f p ≡ false) → some m f ≡ some n f
-unfolding some
+pub some-trim : (m n : ℕ) (f : Set) → n ≤ m → ((p : ℕ) → n ≤ p → p < m → f p ≡ false) → someBelow m f ≡ someBelow n f
+unfolding someBelow
 some-trim zero n f l h = let e : n ≡ 0 = omega arith in rw e
 some-trim (suc m) n f l h =
     by-cases (ℕ-discrete n (suc m))
     (λ e. rw e)
-    (λ e. rw (h m (omega arith) (omega arith)) (or-false (some m f)) ∙ some-trim m n f (omega arith) (λ p a b. h p a (omega arith)))
+    (λ e. rw (h m (omega arith) (omega arith)) (or-false (someBelow m f)) ∙ some-trim m n f (omega arith) (λ p a b. h p a (omega arith)))
 
 pub count-trim : (m n : ℕ) (f : Set) → n ≤ m → ((p : ℕ) → n ≤ p → p < m → f p ≡ false) → count m f ≡ count n f
 unfolding count

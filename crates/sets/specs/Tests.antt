@@ -12,9 +12,9 @@ every zero f = true
 every (suc n) f = every n f && f n
 
 -- the test holds at some number below n
-unfoldable pub some : ℕ → Set → Bool
-some zero f = false
-some (suc n) f = some n f || f n
+unfoldable pub someBelow : ℕ → Set → Bool
+someBelow zero f = false
+someBelow (suc n) f = someBelow n f || f n
 
 -- 1 for true, 0 for false
 abbrev pub one : Bool → ℕ

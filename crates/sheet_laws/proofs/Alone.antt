@@ -20,7 +20,7 @@ use Rattle.file_spec.specs.File.{ruleIn}
 use Rattle.file_spec.specs.Rows.{fileRow}
 use Rattle.word_rows.specs.Words.{lengthRows, letterRows, wordRows, wordRow}
 use Rattle.word_rows.proofs.Checks.{word-over}
-use Rattle.judge_spec.specs.Judge.{judgeRow, judgeOf, callRow, holdsStart, verdict, after}
+use Rattle.judge_spec.specs.Judge.{judgeRow, judgeOf, judgeCallRow, holdsStart, verdict, after}
 use Rattle.judge_spec.proofs.Rows.{word-refuses, call-served, file-passes}
 use Rattle.sheet_spec.specs.Words.{SheetWord, lone, spelled, leadOf, cycleOf, lengthFaults, faultOf}
 use Rattle.sheet_spec.specs.Sheet.{byteOf}

@@ -6,7 +6,7 @@ use lib.ListN.{replicate}
 use Rattle.sets.specs.Lists.{anyOf, sum, tabulate}
 use Rattle.sets.specs.Masks.{bit, mask, inside}
 use Rattle.refusals.specs.Rows.{firstRow}
-use Rattle.sets.specs.Tests.{every, some, count, first}
+use Rattle.sets.specs.Tests.{every, someBelow, count, first}
 use Rattle.theory.specs.Rule.{entry, satisfies}
 use Rattle.theory.specs.Components.{named, leads, within, reaches, together, mixed}
 use Rattle.theory.specs.Truth.{heightOf, layer, roundsAt, solvedBelow, truthMasks}
@@ -33,7 +33,7 @@ computed = 0
 unfoldable judged : ℕ
 unfolding answerOf masksOf allMasks sheetOf sheetRow fileRows bodyRows prefaceRows nameRows hasNames namesBefore repeatsName layoutRows trailerRows numberRows listRows formedRows clauseRows
     someNested nested componentRows tagged clausesOf countsOf sum mixed together truthMasks solvedBelow roundsAt layer heightOf reaches within leads named entry satisfies tabulate bit mask inside
-    some count
+    someBelow count
 judged = 0
 
 -- a word, then one that the sheet's end cuts off

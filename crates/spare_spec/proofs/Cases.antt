@@ -6,11 +6,11 @@ use Prim.Native.Nat.{ℕ, zero, suc, _≤_, _<_}
 use native.Mathlib.Omega.{arith}
 use Rattle.sets.specs.Lists.{sum}
 use Rattle.sets.specs.Masks.{bit, mask, inside}
-use Rattle.sets.specs.Tests.{every, some, count, first, largest}
+use Rattle.sets.specs.Tests.{every, someBelow, count, first, largest}
 use Rattle.theory.specs.Automaton.{automaton}
 use Rattle.theory.specs.Code.{componentIn, classesIn, setIn, rankIn}
 use Rattle.theory.specs.Components.{named, leads, within, reaches, together, smallest, isSmallest, component, components}
-use Rattle.theory.specs.Core.{Least, isOpen, mix, rejectingSettled, acceptingSettled, settled, test, openOf, nextComponent}
+use Rattle.theory.specs.Core.{Least, isOpen, mix, rejectingSettled, acceptingSettled, settled, settledUpTo, openOf, nextComponent}
 use Rattle.theory.specs.CoreComputed.{levelOf, taken, rankOf}
 use Rattle.theory.specs.Examples.{F, D, I}
 use Rattle.theory.specs.MacrostateComputed.{before, onward, goes}
@@ -20,8 +20,8 @@ use Rattle.spare_spec.specs.SpareComputed.{hasLevel, spares}
 
 -- what an evaluation unfolds
 unfoldable computed : ℕ
-unfolding hasLevel spares goes before onward automaton setIn rankIn componentIn classesIn every satisfies inside bit mask rankOf levelOf test settled rejectingSettled acceptingSettled mix isOpen
-    taken some count first largest openOf nextComponent component components isSmallest smallest together reaches within leads named entry sum
+unfolding hasLevel spares goes before onward automaton setIn rankIn componentIn classesIn every satisfies inside bit mask rankOf levelOf settledUpTo settled rejectingSettled acceptingSettled mix isOpen
+    taken someBelow count first largest openOf nextComponent component components isSmallest smallest together reaches within leads named entry sum
 computed = 0
 
 -- ---- F, some time letter 1: the state waits over letter 0
@@ -77,11 +77,11 @@ spared-I = refl
 -- ---- the same steps of F and D, by the definition
 
 -- over letter 0 to itself the state of F has level 1, and there is one class
-level-F : Least (test (automaton F) (setIn (automaton F) 257) (rankIn (automaton F) 257) 0 (entry F 0 0)) 1
+level-F : Least (settledUpTo (automaton F) (setIn (automaton F) 257) (rankIn (automaton F) 257) 0 (entry F 0 0)) 1
 unfolding computed
 level-F = record { holds = refl; least = least }
   where
-    least : (i : ℕ) → test (automaton F) (setIn (automaton F) 257) (rankIn (automaton F) 257) 0 (entry F 0 0) i ≡ true → 1 ≤ i
+    least : (i : ℕ) → settledUpTo (automaton F) (setIn (automaton F) 257) (rankIn (automaton F) 257) 0 (entry F 0 0) i ≡ true → 1 ≤ i
     least zero e = absurd (false≢true e)
     least (suc i) e = omega arith
 
@@ -100,7 +100,7 @@ unfolding computed
 spared-D-defined = inl none
   where
     none : (q : ℕ) → q < 2 → openOf (automaton D) (setIn (automaton D) 4611) 0 q ≡ true
-        → Least (test (automaton D) (setIn (automaton D) 4611) (rankIn (automaton D) 4611) q (entry D q 0)) 2 → ⊥
+        → Least (settledUpTo (automaton D) (setIn (automaton D) 4611) (rankIn (automaton D) 4611) q (entry D q 0)) 2 → ⊥
     none zero l o x = let h = x .least 1 refl in omega arith
     none (suc zero) l o x = let h = x .least 1 refl in omega arith
     none (suc (suc q)) l o x = omega arith

@@ -7,7 +7,7 @@ use Prim.Native.Nat.{ℕ, suc, _≤_, _<_}
 use Rattle.sets.specs.Tests.{Set, largest}
 use Rattle.theory.specs.Automaton.{Automaton, automaton}
 use Rattle.theory.specs.Code.{setIn, rankIn}
-use Rattle.theory.specs.Core.{Least, test, Earlier, openOf}
+use Rattle.theory.specs.Core.{Least, settledUpTo, Earlier, openOf}
 use Rattle.theory.specs.Macrostate.{Macrostate, Goes}
 use Rattle.theory.specs.Rule.{Rule}
 use Rattle.theory.specs.Word.{WordOver, letters}
@@ -19,7 +19,7 @@ module _ (A : Automaton) where
 
   -- The open states of component K in S have no level m over the letter a to the core (T, t).
   abbrev pub NoLevel : ℕ → Set → Set → (ℕ → ℕ) → ℕ → ℕ → Type 0
-  NoLevel a S T t K m = (q : ℕ) → q < A .n → openOf A S K q ≡ true → Least (test A T t q (A .entry q a)) m → ⊥
+  NoLevel a S T t K m = (q : ℕ) → q < A .n → openOf A S K q ≡ true → Least (settledUpTo A T t q (A .entry q a)) m → ⊥
 
   -- The step over the letter a from a core with the set S to the core (T, t) spares component K
   -- if no open state of K in S has level m, m the number of K's classes in T, or if m is 0.

@@ -18,7 +18,7 @@ use Rattle.build.specs.Built.{roomRow, roomRows, roomAfter}
 use Rattle.build.proofs.RoomRows.{room-few}
 use Rattle.build.proofs.ByLists.{codes-same, moves-same, row-same}
 use Rattle.stricter_entry_spec.specs.declared.Comparison.{Comparison}
-use Rattle.stricter_entry_spec.specs.Rows.{Slices, Tables, tablesOf, pairs, letterRows, tableRows, pairRows, rulesRows, rulesRow, zeroesRooms}
+use Rattle.stricter_entry_spec.specs.Rows.{Slices, Tables, tablesOf, pairs, alphabetRows, bothRoomRows, pairRows, rulesRows, rulesRow, zeroesRooms}
 use Rattle.stricter_entry_spec.specs.Compared.{ComparedBy}
 use Rattle.stricter.proofs.Rooms.{numbered-room}
 
@@ -30,22 +30,22 @@ append-same xs zs ys ws m n e f =
     (λ z. first-right xs ys m z ∙ f ∙ sym (first-right zs ws n (sym e ∙ z)))
     (λ z. sym (first-left xs ys (firstRow xs) z refl) ∙ first-left zs ws (firstRow xs) z e)
 
-tables-numbered : (tables : Tables) (lent : Slices) → numbered (tableRows tables lent) ≡ true
-unfolding numbered tableRows roomRows
+tables-numbered : (tables : Tables) (lent : Slices) → numbered (bothRoomRows tables lent) ≡ true
+unfolding numbered bothRoomRows roomRows
 tables-numbered tables lent = refl
 
-letters-numbered : (a b : Rule) → numbered (letterRows a b) ≡ true
-unfolding numbered letterRows
+letters-numbered : (a b : Rule) → numbered (alphabetRows a b) ≡ true
+unfolding numbered alphabetRows
 letters-numbered a b = refl
 
 -- where no row refuses, both tables have room
 pub both-rows : (a b : Rule) (lent : Slices) → rulesRow a b (tablesOf a b) lent ≡ 0
     → (roomRow (macrostates a) (transitions a) (length (lent .codes-a)) (length (lent .transitions-a)) ≡ 0)
     × (roomRow (rejectingMacrostates b) (rejectingTransitions b) (length (lent .codes-b)) (length (lent .transitions-b)) ≡ 0)
-unfolding rulesRow rulesRows tableRows roomRow
+unfolding rulesRow rulesRows bothRoomRows roomRow
 both-rows a b lent e =
-    let x = first-parts (letterRows a b) _ (letters-numbered a b) e in
-    let y = first-parts (tableRows (tablesOf a b) lent) (pairRows (tablesOf a b) lent) (tables-numbered (tablesOf a b) lent) (x .1) in
+    let x = first-parts (alphabetRows a b) _ (letters-numbered a b) e in
+    let y = first-parts (bothRoomRows (tablesOf a b) lent) (pairRows (tablesOf a b) lent) (tables-numbered (tablesOf a b) lent) (x .1) in
     first-parts (roomRows (macrostates a) (transitions a) (length (lent .codes-a)) (length (lent .transitions-a))) _ (numbered-room _ _ _ _) (y .0)
 
 -- ---- a row that refuses
@@ -76,8 +76,8 @@ module _ (a b : Rule) (P : Passing a) (Q : Passing b) (tables : Tables) (L : Lis
   codes-b : tables .codes-b ≡ rejectingMacrostates b
   codes-b = codes-same b Q (tables .codes-b) (tables .transitions-b) M
 
-  rows-tables : firstRow (tableRows tables lent) ≡ firstRow (tableRows (tablesOf a b) lent)
-  unfolding tableRows roomRow
+  rows-tables : firstRow (bothRoomRows tables lent) ≡ firstRow (bothRoomRows (tablesOf a b) lent)
+  unfolding bothRoomRows roomRow
   rows-tables =
       append-same _ _ _ _ (numbered-room _ _ _ _) (numbered-room _ _ _ _)
       (row-same a P (tables .codes-a) (tables .transitions-a) L (length (lent .codes-a)) (length (lent .transitions-a)))
@@ -94,8 +94,8 @@ module _ (a b : Rule) (P : Passing a) (Q : Passing b) (tables : Tables) (L : Lis
   rows-same : rulesRow a b tables lent ≡ rulesRow a b (tablesOf a b) lent
   unfolding rulesRow rulesRows
   rows-same =
-      append-same (letterRows a b) (letterRows a b) _ _ (letters-numbered a b) (letters-numbered a b) refl
-      (append-same (tableRows tables lent) (tableRows (tablesOf a b) lent) (pairRows tables lent) (pairRows (tablesOf a b) lent) (tables-numbered tables lent)
+      append-same (alphabetRows a b) (alphabetRows a b) _ _ (letters-numbered a b) (letters-numbered a b) refl
+      (append-same (bothRoomRows tables lent) (bothRoomRows (tablesOf a b) lent) (pairRows tables lent) (pairRows (tablesOf a b) lent) (tables-numbered tables lent)
       (tables-numbered (tablesOf a b) lent) rows-tables rows-pairs)
 
   tables-same : rulesRow a b (tablesOf a b) lent ≡ 0 → tablesOf a b ≡ tables

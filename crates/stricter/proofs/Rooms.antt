@@ -32,7 +32,7 @@ use Rattle.build.proofs.RoomRows.{room-few, room-zeroed, room-kept, room-writte
 use Rattle.build.proofs.Answer.{noneOf, first-other, table-by}
 use Rattle.stricter_entry_spec.specs.declared.Comparison.{Comparison}
 use Rattle.stricter_entry_spec.specs.declared.Comparison.the-variants as answers
-use Rattle.stricter_entry_spec.specs.Rows.{Slices, slicesOf, tablesOf, letterRows, tableRows, pairRows, rulesRows, rulesRow, zeroesRooms, scratchAfter}
+use Rattle.stricter_entry_spec.specs.Rows.{Slices, slicesOf, tablesOf, alphabetRows, bothRoomRows, pairRows, rulesRows, rulesRow, zeroesRooms, scratchLeft}
 use Rattle.stricter_entry_spec.specs.Compared.{Told}
 use Rattle.stricter_files.specs.Lists.{FileLists}
 use Rattle.stricter.specs.declared.Side.{Side}
@@ -40,8 +40,8 @@ use Rattle.stricter.specs.Steps.{codesOf, movesOf, Ready, otherRow, pair
 
 -- ---- rows that zero the rooms, and those that leave them
 
-scratch-kept : (k : ℕ) (lent : List ℕ) → (k ≡ 0 → ⊥) → lent ≡ scratchAfter k lent
-unfolding scratchAfter
+scratch-kept : (k : ℕ) (lent : List ℕ) → (k ≡ 0 → ⊥) → lent ≡ scratchLeft k lent
+unfolding scratchLeft
 scratch-kept zero lent n = absurd (n refl)
 scratch-kept (suc k) lent n = refl
 
@@ -105,7 +105,7 @@ lent-same {a} {b} {k} {lent = lent} {other = other} r S ca ta cb tb w s C =
       transitions-a-after = C .transitions-a-after ∙ room-same k (transitions a) (lent .transitions-a) (other .transitions-a) S ta;
       codes-b-after = C .codes-b-after ∙ room-same k (rejectingMacrostates b) (lent .codes-b) (other .codes-b) S cb;
       transitions-b-after = C .transitions-b-after ∙ room-same k (rejectingTransitions b) (lent .transitions-b) (other .transitions-b) S tb;
-      scratch-after = C .scratch-after ∙ ap (scratchAfter k) s;
+      scratch-after = C .scratch-after ∙ ap (scratchLeft k) s;
     })
 
 -- ---- rows whose numbers are all of one kind
@@ -246,7 +246,7 @@ module _ (f g : List ℕ) (lent : Slices) where
   pair-settles = first-settles (λ k. zeroesRooms k) _ refl
 
   letters-other : (a .s ≡ b .s → ⊥) → rowOf a b lent ≡ 28
-  unfolding rulesRow rulesRows letterRows
+  unfolding rulesRow rulesRows alphabetRows
   letters-other n = row-yes (check (not (eqb (a .s) (b .s))) 28) _ (ap not (ne-eqb (a .s) (b .s) n))
 
   -- "28, different s"
@@ -255,7 +255,7 @@ module _ (f g : List ℕ) (lent : Slices) where
 
   module _ (same : a .s ≡ b .s) where
     tables-first : rowOf a b lent ≡ firstRow (rowsA ++ (rowsB ++ rowsP))
-    unfolding rulesRow rulesRows letterRows tableRows
+    unfolding rulesRow rulesRows alphabetRows bothRoomRows
     tables-first = row-no (check (not (eqb (a .s) (b .s))) 28) _ (ap not (eq-eqb (a .s) (b .s) same)) ∙ ap firstRow (append-assoc rowsA rowsB rowsP)
 
     -- A's build refuses

@@ -29,7 +29,7 @@ use Rattle.stricter_spec.specs.Search.{NoShared, Shared, Searched}
 use Rattle.stricter_rules_laws.proofs.Words.{none-shared, shared-against}
 use Rattle.stricter_entry_spec.specs.declared.Comparison.{Comparison}
 use Rattle.stricter_entry_spec.specs.declared.Comparison.the-variants.{Yes, No}
-use Rattle.stricter_entry_spec.specs.Rows.{Slices, slicesOf, tablesOf, pairs, pairRows, scratchAfter}
+use Rattle.stricter_entry_spec.specs.Rows.{Slices, slicesOf, tablesOf, pairs, pairRows, scratchLeft}
 use Rattle.stricter_entry_spec.specs.Compared.{sizesOf, Told}
 use Rattle.stricter.specs.declared.Side.{Side}
 use Rattle.stricter.specs.Steps.{Ready, pairRow, ByRow}
@@ -146,7 +146,7 @@ module _ {f g : List ℕ} {x y : Side} {cs ts ds us : List ℕ} (O : Ready f tru
       → xs ≡ codesA → zs ≡ movesA → ys ≡ codesB → ws ≡ movesB → scratch′ ≡ replicate (length scratch) 0
       → ByRow a b 0 (slicesOf cs ts ds us word scratch) answer
       (slicesOf (xs ++ drop (n .macrostates) cs) (zs ++ drop (n .transitions) ts) (ys ++ drop (m .macrostates) ds) (ws ++ drop (m .transitions) us) word′ scratch′)
-  unfolding roomAfter scratchAfter startOf
+  unfolding roomAfter scratchLeft startOf
   searched {xs} {zs} {ys} {ws} T e f g h s = record {
     told = T;
     codes-a-after = whole (n .macrostates) xs cs e ∙ O .codes-held;

@@ -8,11 +8,11 @@ use Rattle.sets.specs.Digits.{num}
 use Rattle.sets.specs.Lists.{keep, among, anyOf, sum, tabulate, flat, insertAscending, sorted}
 use Rattle.sets.specs.Masks.{bit, mask, inside}
 use Rattle.refusals.specs.Rows.{firstRow}
-use Rattle.sets.specs.Tests.{every, some, count, first, largest}
+use Rattle.sets.specs.Tests.{every, someBelow, count, first, largest}
 use Rattle.theory.specs.Automaton.{automaton}
 use Rattle.theory.specs.Code.{fields, pack, componentIn, classesIn, setIn, rankIn, wellCoded}
 use Rattle.theory.specs.Components.{named, leads, within, reaches, together, smallest, isSmallest, component, components, mixed}
-use Rattle.theory.specs.Core.{isOpen, mix, rejectingSettled, acceptingSettled, settled, test, openOf, nextComponent}
+use Rattle.theory.specs.Core.{isOpen, mix, rejectingSettled, acceptingSettled, settled, settledUpTo, openOf, nextComponent}
 use Rattle.theory.specs.CoreComputed.{levelOf, taken, rankOf, isCore}
 use Rattle.theory.specs.Examples.{E, F}
 use Rattle.theory.specs.Macrostate.{begun, isAccepting}
@@ -28,7 +28,7 @@ use Rattle.build.specs.Built.{roomRows, roomAfter}
 use Rattle.stricter_rules_spec.proofs.Cases.{against-F, not-stricter-F}
 use Rattle.stricter_entry_spec.specs.declared.BothCounts.{BothCounts}
 use Rattle.stricter_entry_spec.specs.declared.Comparison.the-variants.{Yes, No}
-use Rattle.stricter_entry_spec.specs.Rows.{Slices, slicesOf, tablesOf, pairs, letterRows, tableRows, pairRows, rulesRows, stricterRow, zeroesRooms, scratchAfter}
+use Rattle.stricter_entry_spec.specs.Rows.{Slices, slicesOf, tablesOf, pairs, alphabetRows, bothRoomRows, pairRows, rulesRows, stricterRow, zeroesRooms, scratchLeft}
 use Rattle.stricter_entry_spec.specs.Compared.{sizesOf, WordFound, Told}
 
 abbrev fileF : List ℕ
@@ -46,10 +46,10 @@ lengths ca ta cb tb word scratch = slicesOf (replicate ca 9) (replicate ta 9) (r
 
 -- what an evaluation unfolds
 unfoldable computed : ℕ
-unfolding stricterRow rulesRows letterRows tableRows pairRows pairs roomAfter scratchAfter sizesOf roomRows roomOf fileRows bodyRows formedRows clauseRows someNested nested prefaceRows nameRows
+unfolding stricterRow rulesRows alphabetRows bothRoomRows pairRows pairs roomAfter scratchLeft sizesOf roomRows roomOf fileRows bodyRows formedRows clauseRows someNested nested prefaceRows nameRows
     hasNames namesBefore repeatsName layoutRows trailerRows numberRows listRows componentRows firstRow tagged clausesOf countsOf mixed isAccepting macrostatesFrom transitionsFrom transitionsOf
     codesFrom cores candidates digitals tabulate flat keep among anyOf insertAscending sorted reachedIn reached wellCoded pack fields mask num goes before onward begun automaton setIn rankIn
-    componentIn classesIn every satisfies inside bit rankOf levelOf test settled rejectingSettled acceptingSettled mix isOpen taken some count first largest openOf nextComponent isCore component
+    componentIn classesIn every satisfies inside bit rankOf levelOf settledUpTo settled rejectingSettled acceptingSettled mix isOpen taken someBelow count first largest openOf nextComponent isCore component
     components isSmallest smallest together reaches within leads named entry sum
 computed = 0
 
@@ -96,11 +96,11 @@ pub table-left : roomAfter zeroesRooms 0 (5 ∷ []) (9 ∷ 9 ∷ []) ≡ (5 ∷ 
 unfolding computed
 table-left = refl
 
-pub scratch-served : scratchAfter 0 (9 ∷ 9 ∷ []) ≡ (0 ∷ 0 ∷ [])
+pub scratch-served : scratchLeft 0 (9 ∷ 9 ∷ []) ≡ (0 ∷ 0 ∷ [])
 unfolding computed
 scratch-served = refl
 
-pub scratch-refused : scratchAfter 29 (9 ∷ 9 ∷ []) ≡ (9 ∷ 9 ∷ [])
+pub scratch-refused : scratchLeft 29 (9 ∷ 9 ∷ []) ≡ (9 ∷ 9 ∷ [])
 unfolding computed
 scratch-refused = refl
 

@@ -15,7 +15,7 @@ use Rattle.stricter_rules_spec.specs.Rules.{Stricter, Against}
 use Rattle.stricter_entry_spec.specs.declared.BothCounts.{BothCounts}
 use Rattle.stricter_entry_spec.specs.declared.Comparison.{Comparison}
 use Rattle.stricter_entry_spec.specs.declared.Comparison.the-variants.{Yes, No, Refused}
-use Rattle.stricter_entry_spec.specs.Rows.{Slices, Tables, tablesOf, pairs, rulesRow, stricterRow, zeroesRooms, scratchAfter}
+use Rattle.stricter_entry_spec.specs.Rows.{Slices, Tables, tablesOf, pairs, rulesRow, stricterRow, zeroesRooms, scratchLeft}
 
 -- the counts of both tables
 unfoldable pub sizesOf : Tables → BothCounts
@@ -51,7 +51,7 @@ module _ (a b : Rule) (tables : Tables) where
     pub transitions-a-after : left .transitions-a ≡ roomAfter zeroesRooms row (tables .transitions-a) (lent .transitions-a)
     pub codes-b-after : left .codes-b ≡ roomAfter zeroesRooms row (tables .codes-b) (lent .codes-b)
     pub transitions-b-after : left .transitions-b ≡ roomAfter zeroesRooms row (tables .transitions-b) (lent .transitions-b)
-    pub scratch-after : left .scratch ≡ scratchAfter row (lent .scratch)
+    pub scratch-after : left .scratch ≡ scratchLeft row (lent .scratch)
 
 -- of two files
 pub record Compared (a b : List ℕ) (lent : Slices) (answer : Comparison) (left : Slices) : Type 0 where

@@ -45,12 +45,12 @@ unfoldable pub pairs : Tables → ℕ
 pairs tables = length (tables .codes-a) * length (tables .codes-b)
 
 -- 02: "28, different s"
-unfoldable pub letterRows : Rule → Rule → List Check
-letterRows a b = check (not (eqb (a .s) (b .s))) 28 ∷ []
+unfoldable pub alphabetRows : Rule → Rule → List Check
+alphabetRows a b = check (not (eqb (a .s) (b .s))) 28 ∷ []
 
 -- 02: "17 and 18 go by A's reachable table, then B's"
-unfoldable pub tableRows : Tables → Slices → List Check
-tableRows tables lent =
+unfoldable pub bothRoomRows : Tables → Slices → List Check
+bothRoomRows tables lent =
     roomRows (tables .codes-a) (tables .transitions-a) (length (lent .codes-a)) (length (lent .transitions-a))
     ++ roomRows (tables .codes-b) (tables .transitions-b) (length (lent .codes-b)) (length (lent .transitions-b))
 
@@ -60,7 +60,7 @@ pairRows tables lent = check (ltb (length (lent .word)) (3 * pairs tables) || lt
 
 -- of two rules: 28 "after both rules", 29 "checked after both builds"
 unfoldable pub rulesRows : Rule → Rule → Tables → Slices → List Check
-rulesRows a b tables lent = letterRows a b ++ (tableRows tables lent ++ pairRows tables lent)
+rulesRows a b tables lent = alphabetRows a b ++ (bothRoomRows tables lent ++ pairRows tables lent)
 
 unfoldable pub rulesRow : Rule → Rule → Tables → Slices → ℕ
 rulesRow a b tables lent = firstRow (rulesRows a b tables lent)
@@ -81,6 +81,6 @@ abbrev pub zeroesRooms : ℕ → Bool
 zeroesRooms k = refusesRoom k || eqb k 29
 
 -- 02: a served call leaves "the scratch all zero"; "a refused one leaves word slice and scratch as lent"
-unfoldable pub scratchAfter : ℕ → List ℕ → List ℕ
-scratchAfter zero lent = replicate (length lent) 0
-scratchAfter (suc k) lent = lent
+unfoldable pub scratchLeft : ℕ → List ℕ → List ℕ
+scratchLeft zero lent = replicate (length lent) 0
+scratchLeft (suc k) lent = lent

@@ -10,11 +10,11 @@ use lib.ListN.{getD}
 use Rattle.sets.specs.Digits.{num}
 use Rattle.sets.specs.Lists.{keep, among, anyOf, sum, tabulate, flat, insertAscending, sorted}
 use Rattle.sets.specs.Masks.{bit, mask, inside}
-use Rattle.sets.specs.Tests.{Set, every, some, count, first, largest}
+use Rattle.sets.specs.Tests.{Set, every, someBelow, count, first, largest}
 use Rattle.theory.specs.Automaton.{automaton}
 use Rattle.theory.specs.Code.{fields, pack, componentIn, classesIn, setIn, rankIn, wellCoded}
 use Rattle.theory.specs.Components.{named, leads, within, reaches, together, smallest, isSmallest, component, components}
-use Rattle.theory.specs.Core.{Least, isOpen, Core, mix, rejectingSettled, acceptingSettled, settled, test, openOf, nextComponent}
+use Rattle.theory.specs.Core.{Least, isOpen, Core, mix, rejectingSettled, acceptingSettled, settled, settledUpTo, openOf, nextComponent}
 use Rattle.theory.specs.CoreComputed.{levelOf, taken, rankOf, isCore}
 use Rattle.theory.specs.Examples.{F, D, E, I, Z, X}
 use Rattle.theory.specs.Macrostate.{begun, isInitial, isAccepting, Macrostate, Goes, begins}
@@ -28,7 +28,7 @@ use Rattle.theory.specs.Word.{nextPlace, letterAt}
 -- what an evaluation unfolds
 unfoldable computed : ℕ
 unfolding isAccepting macrostatesFrom transitionsFrom transitionsOf codesFrom cores candidates digitals tabulate flat keep among anyOf insertAscending sorted reachedIn reached wellCoded pack fields
-    mask num goes before onward begun automaton setIn rankIn componentIn classesIn every satisfies inside bit rankOf levelOf test settled rejectingSettled acceptingSettled mix isOpen taken some count
+    mask num goes before onward begun automaton setIn rankIn componentIn classesIn every satisfies inside bit rankOf levelOf settledUpTo settled rejectingSettled acceptingSettled mix isOpen taken someBelow count
     first largest openOf nextComponent isCore component components isSmallest smallest together reaches within leads named entry sum
 computed = 0
 

@@ -4,7 +4,7 @@ use mathlib.Core.Bool.{Bool, true, false, _&&_, _||_, not}
 use mathlib.Core.List.{List, [], _∷_}
 use Prim.Native.Nat.{ℕ, zero, suc, _<_}
 use lib.Dec.{eqb}
-use Rattle.sets.specs.Tests.{Set, some, count, first}
+use Rattle.sets.specs.Tests.{Set, someBelow, count, first}
 use Rattle.sets.specs.Masks.{bit, mask}
 use Rattle.theory.specs.Rule.{Rule, entry}
 
@@ -17,8 +17,8 @@ named (c ∷ cs) q = bit c q || named cs q
 module _ (r : Rule) where
   -- 01: "State q leads to q' if q' is in some clause of q, at any letter."
   unfoldable pub leads : ℕ → ℕ → Bool
-  unfolding some named entry
-  leads q p = some (r .s) (λ a. named (entry r q a) p)
+  unfolding someBelow named entry
+  leads q p = someBelow (r .s) (λ a. named (entry r q a) p)
 
   -- "lead to .. over some number of steps, zero included"
   pub data LeadsTo : ℕ → ℕ → Type 0 where
@@ -32,9 +32,9 @@ module _ (r : Rule) where
 
   -- The same, computed: the mask of the states that q leads to in at most k steps. `LeadsTo` is this in n steps (theory_laws/proofs/Components: leads-to-iff).
   unfoldable pub within : ℕ → ℕ → ℕ
-  unfolding mask bit some leads
+  unfolding mask bit someBelow leads
   within zero q = mask (r .n) (λ p. eqb q p)
-  within (suc k) q = let m = within k q in mask (r .n) (λ p. bit m p || some (r .n) (λ t. bit m t && leads t p))
+  within (suc k) q = let m = within k q in mask (r .n) (λ p. bit m p || someBelow (r .n) (λ t. bit m t && leads t p))
 
   unfoldable pub reaches : ℕ → ℕ → Bool
   unfolding within bit
@@ -65,5 +65,5 @@ module _ (r : Rule) where
 
   -- "a mixed component": an accepting and a rejecting state that lead to each other
   unfoldable pub mixed : Bool
-  unfolding some together bit
-  mixed = some (r .n) (λ q. some (r .n) (λ p. together q p && (bit (r .accepting) q && not (bit (r .accepting) p))))
+  unfolding someBelow together bit
+  mixed = someBelow (r .n) (λ q. someBelow (r .n) (λ p. together q p && (bit (r .accepting) q && not (bit (r .accepting) p))))

@@ -44,15 +44,19 @@ module _ (A : Automaton) where
   settled T D q e = cond (A .accepting q) (acceptingSettled T D q e) (rejectingSettled T D q e)
 
   -- the condition that the level is the least j of: D are "the open states of K in T of rank at most j"; T and t are the later core, e is q's entry
-  unfoldable pub test : Set → (ℕ → ℕ) → ℕ → List ℕ → ℕ → Bool
-  test T t q e j = settled T (λ p. isOpen T p && leb (t p) j) q e
+  unfoldable pub settledUpTo : Set → (ℕ → ℕ) → ℕ → List ℕ → ℕ → Bool
+  settledUpTo T t q e j = settled T (λ p. isOpen T p && leb (t p) j) q e
+
+  -- 01: "its level is the least j, from 0, such that the following holds": j is the level of the open state q over a letter where its entry is e
+  abbrev pub Level : Set → (ℕ → ℕ) → ℕ → List ℕ → ℕ → Type 0
+  Level T t q e j = Least (settledUpTo T t q e) j
 
   -- 01: "A core T and a letter fix one core before it." (S, r) is the core before (T, t) at letter a, and l gives the levels of its open states.
   pub record Earlier (a : ℕ) (S : Set) (r : ℕ → ℕ) (T : Set) (t : ℕ → ℕ) (l : ℕ → ℕ) : Type 0 where
     -- "S holds q exactly if T's set satisfies q's entry."
     pub exact : (q : ℕ) → q < A .n → S q ≡ satisfies (A .n) T (A .entry q a)
-    -- "its level is the least j, from 0, such that the following holds"
-    pub level : (q : ℕ) → q < A .n → isOpen S q ≡ true → Least (test T t q (A .entry q a)) (l q)
+    -- l q is the level of q
+    pub level : (q : ℕ) → q < A .n → isOpen S q ≡ true → Level T t q (A .entry q a) (l q)
     -- "Ranks of the earlier core order open states of one component by level"
     pub ordered : (q p : ℕ) → q < A .n → p < A .n → A .component q ≡ A .component p → isOpen S q ≡ true → isOpen S p ≡ true → (r q ≤ r p) ↔ (l q ≤ l p)
     -- "closed up to 1, 2, and so on"

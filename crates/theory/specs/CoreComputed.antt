@@ -3,18 +3,18 @@ use mathlib.Core.Bool.{Bool, _&&_, cond}
 use mathlib.Core.List.{List}
 use Prim.Native.Nat.{ℕ, suc}
 use lib.Dec.{eqb, ltb}
-use Rattle.sets.specs.Tests.{Set, every, some, count, first}
+use Rattle.sets.specs.Tests.{Set, every, someBelow, count, first}
 use Rattle.theory.specs.Automaton.{Automaton}
-use Rattle.theory.specs.Core.{isOpen, test}
+use Rattle.theory.specs.Core.{isOpen, settledUpTo}
 
 module _ (A : Automaton) where
   -- the level, for ranks of at most B
   unfoldable pub levelOf : ℕ → Set → (ℕ → ℕ) → ℕ → List ℕ → ℕ
-  levelOf B T t q e = first B (test A T t q e) 0
+  levelOf B T t q e = first B (settledUpTo A T t q e) 0
 
   -- some open state of component K has the level j; l gives the levels
   unfoldable pub taken : Set → (ℕ → ℕ) → ℕ → ℕ → Bool
-  taken S l K j = some (A .n) (λ p. eqb (A .component p) K && (isOpen A S p && eqb (l p) j))
+  taken S l K j = someBelow (A .n) (λ p. eqb (A .component p) K && (isOpen A S p && eqb (l p) j))
 
   -- levels closed up to 1, 2, ..
   unfoldable pub rankOf : Set → (ℕ → ℕ) → ℕ → ℕ
@@ -23,5 +23,5 @@ module _ (A : Automaton) where
   -- whether S and r are a core
   unfoldable pub isCore : Set → (ℕ → ℕ) → Bool
   isCore S r = every (A .n) (λ q. cond (isOpen A S q)
-      (ltb 0 (r q) && every (r q) (λ j. some (A .n) (λ p. eqb (A .component p) (A .component q) && (isOpen A S p && eqb (r p) (suc j)))))
+      (ltb 0 (r q) && every (r q) (λ j. someBelow (A .n) (λ p. eqb (A .component p) (A .component q) && (isOpen A S p && eqb (r p) (suc j)))))
       (eqb (r q) 0))

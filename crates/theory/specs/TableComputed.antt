@@ -3,7 +3,7 @@ use mathlib.Core.Bool.{Bool, _&&_, _||_}
 use mathlib.Core.List.{List, [], _∷_}
 use Prim.Native.Nat.{ℕ, zero, suc, _+_, _*_, _/_, _%_, _^_}
 use lib.ListN.{length, getD}
-use Rattle.sets.specs.Tests.{Set, some}
+use Rattle.sets.specs.Tests.{Set, someBelow}
 use Rattle.sets.specs.Lists.{keep, among, anyOf, tabulate, flat, sorted}
 use Rattle.theory.specs.Rule.{Rule}
 use Rattle.theory.specs.Automaton.{Automaton, automaton}
@@ -40,7 +40,7 @@ module _ (A : Automaton) where
 
   -- the codes of the macrostates reached over s letters, ascending: those of `Reachable` (theory_laws/proofs/Tables: reachable-iff)
   unfoldable pub codesFrom : ℕ → Set → List ℕ
-  codesFrom s start = let all = cores in reached all (begun start) (λ c d. some s (λ a. goes A c a d))
+  codesFrom s start = let all = cores in reached all (begun start) (λ c d. someBelow s (λ a. goes A c a d))
 
   -- the transitions between the numbers of the codes t, ascending, "as source × 16777216 + letter × 65536 + target"
   unfoldable pub transitionsOf : ℕ → List ℕ → List ℕ

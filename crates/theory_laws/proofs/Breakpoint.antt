@@ -13,7 +13,7 @@ use Rattle.sets.proofs.Bools.{and-l, and-r, and-i}
 use Rattle.sets.proofs.Tests.{largest-ge}
 use Rattle.theory.specs.Automaton.{Automaton}
 use Rattle.theory.specs.Layered.{Layered}
-use Rattle.theory.specs.Core.{isOpen, settled, test, openOf}
+use Rattle.theory.specs.Core.{isOpen, settled, settledUpTo, openOf}
 use Rattle.theory_laws.proofs.Certified.{discharged, Certified, Run}
 use Rattle.theory_laws.proofs.Cores.{next-low}
 use Rattle.theory_laws.proofs.Ranks.{settled-open, levAt, lev-test, rank-pos}
@@ -50,11 +50,11 @@ module _ (A : Automaton) (H : Layered A) (B : ℕ) (w : ℕ → ℕ) (S : ℕ �
   left-0 i z q l c o h = let p = rank-pos A H B w S (run .backed .exact) r (run .backed .bound) (run .backed .ranked) i q l o in absurd (omega arith)
 
   left-suc : (i d : ℕ) → (k i ≡ 0 → ⊥) → Left (suc i) d → Left i (suc d)
-  unfolding Left test openOf
+  unfolding Left settledUpTo openOf
   left-suc i d nz f q l c o h =
       let low = largest-ge (A .n) (λ q. openOf A (S i) (K i) q && leb (r i q) (k i)) (levAt A B w S r i) q l (and-i (and-i (eq-eqb _ _ c) o) (le-leb _ _ h)) in
       let e = run .stay-k i nz in
-      let pass : test A (S (suc i)) (r (suc i)) q (A .entry q (w i)) (k (suc i)) ≡ true
+      let pass : settledUpTo A (S (suc i)) (r (suc i)) q (A .entry q (w i)) (k (suc i)) ≡ true
       = sym (lev-test A H B w S (run .backed .exact) r (run .backed .bound) i q l o (k (suc i))) ∙ le-leb (levAt A B w S r i q) (k (suc i)) (omega arith) in
       discharged-intro i d q o (settled-mono A _ _ _ q _
       (λ p m s t. f p m (s ∙ c ∙ sym (run .stay-K i nz)) (and-l (isOpen A (S (suc i)) p) _ t) (leb-true _ _ (and-r (isOpen A (S (suc i)) p) _ t))) pass)

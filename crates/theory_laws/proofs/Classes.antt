@@ -7,7 +7,7 @@ use native.Mathlib.Omega.{arith}
 use native.Mathlib.Decide.{decLe, decLt, ℕ-discrete}
 use lib.Dec.{eqb, leb, ltb, leb·suc-suc}
 use borrow.Author.Tests.{le-leb, lt-leb, eqb-true, eq-eqb, ne-eqb, lt-ltb, le-ltb}
-use Rattle.sets.specs.Tests.{Set, some, count, one}
+use Rattle.sets.specs.Tests.{Set, someBelow, count, one}
 use Rattle.sets.proofs.Bools.{bif, and-l, and-r, and-i}
 use Rattle.sets.proofs.Tests.{count-ext, some-ext, some-at, count-le, count-lt, count-max, count-sub}
 use Rattle.theory.specs.Automaton.{Automaton}
@@ -53,10 +53,10 @@ insertAscending M a f false = let x = count-ext M (λ j. f j || false) f (λ q l
 
 -- the values of l at the states of g, counted at the first state of each
 unfoldable firsts : (ℕ → Bool) → (ℕ → ℕ) → ℕ → ℕ → Bool
-firsts g l m p = g p && (leb (l p) m && not (some p (λ r. g r && eqb (l r) (l p))))
+firsts g l m p = g p && (leb (l p) m && not (someBelow p (λ r. g r && eqb (l r) (l p))))
 
-values : (n m : ℕ) (g : Set) (l : ℕ → ℕ) → count (suc m) (λ j. some n (λ p. g p && eqb (l p) j)) ≡ count n (firsts g l m)
-unfolding some count firsts
+values : (n m : ℕ) (g : Set) (l : ℕ → ℕ) → count (suc m) (λ j. someBelow n (λ p. g p && eqb (l p) j)) ≡ count n (firsts g l m)
+unfolding someBelow count firsts
 values zero m g l = none (suc m)
   where
     none : (M : ℕ) → count M (λ j. false) ≡ 0
@@ -64,8 +64,8 @@ values zero m g l = none (suc m)
     none (suc M) = let ih = none M in omega arith
 values (suc n) m g l =
     let ih = values n m g l in
-    let x = insertAscending (suc m) (l n) (λ j. some n (λ p. g p && eqb (l p) j)) (g n) in
-    x ∙ ap₂ _+_ ih (ap (λ (b : Bool). one (g n && (b && not (some n (λ p. g p && eqb (l p) (l n)))))) (leb·suc-suc (l n) m))
+    let x = insertAscending (suc m) (l n) (λ j. someBelow n (λ p. g p && eqb (l p) j)) (g n) in
+    x ∙ ap₂ _+_ ih (ap (λ (b : Bool). one (g n && (b && not (someBelow n (λ p. g p && eqb (l p) (l n)))))) (leb·suc-suc (l n) m))
 
 module _ (A : Automaton) (S : Set) where
   -- an open state of component K
@@ -77,7 +77,7 @@ module _ (A : Automaton) (S : Set) where
   unfolding openOf
   open-state K p e = and-r (eqb (A .component p) K) (isOpen A S p) e
 
-  taken-is : (l : ℕ → ℕ) (K j : ℕ) → taken A S l K j ≡ some (A .n) (λ p. openOf A S K p && eqb (l p) j)
+  taken-is : (l : ℕ → ℕ) (K j : ℕ) → taken A S l K j ≡ someBelow (A .n) (λ p. openOf A S K p && eqb (l p) j)
   unfolding taken openOf
   taken-is l K j = some-ext (A .n) _ _ (λ p m. sym (and-assoc (eqb (A .component p) K) (isOpen A S p) (eqb (l p) j)))
 

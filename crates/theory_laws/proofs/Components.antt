@@ -9,7 +9,7 @@ use native.Mathlib.Decide.{decLt}
 use lib.Dec.{eqb, leb, ltb}
 use lib.ListN.{length}
 use borrow.Author.Tests.{eqb-true, eq-eqb, lt-ltb, le-ltb, ltb-true, ltb-false, leb-false}
-use Rattle.sets.specs.Tests.{some, count}
+use Rattle.sets.specs.Tests.{someBelow, count}
 use Rattle.sets.specs.Masks.{bit}
 use Rattle.sets.specs.Lists.{anyOf, sum}
 use Rattle.sets.proofs.Bools.{bif, clash, and-l, and-r, and-i, or-l, or-r, or-cases, iff}
@@ -32,7 +32,7 @@ module _ (R : Rule) where
   unfolding within
   within-0 q p l = bit-mask (R .n) _ p l
 
-  pub within-suc : (k q p : ℕ) → p < R .n → bit (within R (suc k) q) p ≡ (bit (within R k q) p || some (R .n) (λ r. bit (within R k q) r && leads R r p))
+  pub within-suc : (k q p : ℕ) → p < R .n → bit (within R (suc k) q) p ≡ (bit (within R k q) p || someBelow (R .n) (λ r. bit (within R k q) r && leads R r p))
   unfolding within
   within-suc k q p l = bit-mask (R .n) _ p l
 

@@ -8,7 +8,7 @@ use native.Mathlib.Nat.{le-trans, le-of-eq}
 use native.Mathlib.Decide.{ℕ-discrete}
 use lib.Dec.{eqb, leb, ltb}
 use borrow.Author.Tests.{eqb-true, eq-eqb, ne-eqb, lt-ltb, le-ltb, ltb-true, leb-true, le-leb}
-use Rattle.sets.specs.Tests.{Set, every, one, some, count, largest}
+use Rattle.sets.specs.Tests.{Set, every, one, someBelow, count, largest}
 use Rattle.sets.proofs.Bools.{bif, and-l, and-r, and-i, iff}
 use Rattle.sets.proofs.Tests.{every-at, every-all, some-at, some-get, some-none, count-hit, count-max, largest-hit, largest-ge, largest-le}
 use Rattle.theory.specs.Automaton.{Automaton}
@@ -180,7 +180,7 @@ module _ (A : Automaton) where
 
   module _ (S : Set) (r : ℕ → ℕ) where
     abbrev held-in : ℕ → ℕ → Bool
-    held-in q j = some (A .n) (λ p. eqb (A .component p) (A .component q) && (isOpen A S p && eqb (r p) (suc j)))
+    held-in q j = someBelow (A .n) (λ p. eqb (A .component p) (A .component q) && (isOpen A S p && eqb (r p) (suc j)))
 
     abbrev ranks-of : ℕ → Bool
     ranks-of q = ltb 0 (r q) && every (r q) (held-in q)

@@ -13,7 +13,7 @@ use Rattle.sets.proofs.Bools.{bif, clash, and-l, and-r}
 use Rattle.sets.proofs.Tests.{first-leb, count-le, some-none, largest-le}
 use Rattle.theory.specs.Automaton.{Automaton}
 use Rattle.theory.specs.Layered.{Layered}
-use Rattle.theory.specs.Core.{isOpen, settled, test, openOf, nextComponent}
+use Rattle.theory.specs.Core.{isOpen, settled, settledUpTo, openOf, nextComponent}
 use Rattle.theory.specs.CoreComputed.{taken, rankOf}
 use Rattle.theory.specs.Rule.{satisfies}
 use Rattle.theory_laws.proofs.Certified.{discharged, Backed, Run}
@@ -66,7 +66,7 @@ module _ (A : Automaton) (H : Layered A) (B : ℕ) (room : A .n ≤ B) (w : ℕ 
   discharged-shut i d q o = bif (discharged A suc w S i d q) (λ t. clash (discharged-open A suc w S i d q t) o) (λ t. t)
 
   star : (i q : ℕ) → q < A .n → isOpen A (S i) q ≡ true → (d : ℕ) → leb (levAt A B w S rk i q) (upto (suc i) (A .component q) d) ≡ leb (δ i q) (suc d)
-  unfolding discharged test rk
+  unfolding discharged settledUpTo rk
   star i q l o d =
       lev-test A H B w S exact rk rk-bound i q l o (upto (suc i) (A .component q) d)
       ∙ settled-ext A _ _ (discharged A suc w S (suc i) d) q _ (λ p m s. bif (isOpen A (S (suc i)) p) (λ t. inside p m s t) (λ t. rw t (sym (discharged-shut (suc i) d p t))))

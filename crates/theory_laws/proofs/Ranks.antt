@@ -13,7 +13,7 @@ use Rattle.sets.proofs.Bools.{bif, clash, and-i}
 use Rattle.sets.proofs.Tests.{some-ext, some-at, count-ext, count-le, count-lt}
 use Rattle.theory.specs.Automaton.{Automaton}
 use Rattle.theory.specs.Layered.{Layered}
-use Rattle.theory.specs.Core.{isOpen, settled, test}
+use Rattle.theory.specs.Core.{isOpen, settled, settledUpTo}
 use Rattle.theory.specs.CoreComputed.{levelOf, taken, rankOf}
 use Rattle.theory.specs.Rule.{satisfies}
 use Rattle.theory_laws.proofs.Certified.{discharged, Certified, Backed}
@@ -53,7 +53,7 @@ module _ (A : Automaton) (H : Layered A) (B : ℕ) (w : ℕ → ℕ) (S : ℕ �
 
   module _ (r : ℕ → ℕ → ℕ) (bound : (i q : ℕ) → q < A .n → r i q ≤ B) where
     -- an open state's level is at most c exactly if its test passes at c
-    pub lev-test : (i q : ℕ) → q < A .n → isOpen A (S i) q ≡ true → (c : ℕ) → leb (levAt A B w S r i q) c ≡ test A (S (suc i)) (r (suc i)) q (A .entry q (w i)) c
+    pub lev-test : (i q : ℕ) → q < A .n → isOpen A (S i) q ≡ true → (c : ℕ) → leb (levAt A B w S r i q) c ≡ settledUpTo A (S (suc i)) (r (suc i)) q (A .entry q (w i)) c
     lev-test i q l o c = level-test A H (w i) (S i) (S (suc i)) (exact i) (r (suc i)) B (bound (suc i)) q l o c
 
     -- a state's rank, read as a count
@@ -107,8 +107,8 @@ module _ (A : Automaton) (H : Layered A) (B : ℕ) (w : ℕ → ℕ) (S : ℕ �
     module _ (d i K : ℕ) (u : Upto (suc i) d K) where
       -- the tests at i agree up to c, so the levels do
       tests : (q : ℕ) → q < A .n → A .component q ≡ K → isOpen A (S i) q ≡ true → (j : ℕ) → j ≤ u .c
-          → test A (S (suc i)) (r1 (suc i)) q (A .entry q (w i)) j ≡ test A (S (suc i)) (r2 (suc i)) q (A .entry q (w i)) j
-      unfolding test
+          → settledUpTo A (S (suc i)) (r1 (suc i)) q (A .entry q (w i)) j ≡ settledUpTo A (S (suc i)) (r2 (suc i)) q (A .entry q (w i)) j
+      unfolding settledUpTo
       tests q l k o j h =
           settled-ext A _ _ _ q _ (λ p m s. bif (isOpen A (S (suc i)) p)
           (λ t. ap (λ (b : Bool). isOpen A (S (suc i)) p && b) (u .agree p m (s ∙ k) t j h))
@@ -129,7 +129,7 @@ module _ (A : Automaton) (H : Layered A) (B : ℕ) (w : ℕ → ℕ) (S : ℕ �
 
       -- what is discharged one step earlier
       reach′ : (q : ℕ) → q < A .n → A .component q ≡ K → isOpen A (S i) q ≡ true → discharged A suc w S i (suc d) q ≡ leb (levAt A B w S r1 i q) (u .c)
-      unfolding discharged test
+      unfolding discharged settledUpTo
       reach′ q l k o =
           ap (λ (b : Bool). b && settled A (S (suc i)) (discharged A suc w S (suc i) d) q (A .entry q (w i))) o
           ∙ settled-ext A _ _ _ q _ (λ p m s. bif (isOpen A (S (suc i)) p)

@@ -12,7 +12,7 @@ use lib.ListN.{length, getD}
 use lib.Arith.{digits-div, digits-mod}
 use borrow.Author.Tests.{eqb-true, eq-eqb}
 use Rattle.sets.specs.Lists.{tabulate, flat, Ascending}
-use Rattle.sets.specs.Tests.{Set, some, largest}
+use Rattle.sets.specs.Tests.{Set, someBelow, largest}
 use Rattle.sets.proofs.Bools.{and-l, and-r, and-i}
 use Rattle.sets.proofs.Lists.{keep-in, keep-out, mem-at, place-of, tabulate-0, tabulate-out, flat-in, flat-out}
 use Rattle.sets.proofs.Tests.{some-at, some-get, largest-le}
@@ -100,7 +100,7 @@ module _ (A : Automaton) (H : Layered A) (small : A .n ≤ 8) (filled : 0 < A .c
   -- ---- the list of codes
 
   edge : ℕ → ℕ → Bool
-  edge c d = some s (λ a. goes A c a d)
+  edge c d = someBelow s (λ a. goes A c a d)
 
   abbrev pub codes : List ℕ
   codes = codesFrom A s start

@@ -4,7 +4,7 @@ use mathlib.Core.Path.{_≡_, refl, sym, _∙_}
 use mathlib.Core.Bool.{false, not}
 use mathlib.Core.List.{List}
 use native.Mathlib.Omega.{arith}
-use Rattle.sets.specs.Tests.{some}
+use Rattle.sets.specs.Tests.{someBelow}
 use Rattle.event_spec.specs.Events.{eventCount, kindAt, driveAt, known}
 use Rattle.event_table.specs.Masks.{Masks}
 use Rattle.event_log.proofs.Letters.{in-none, in-some, unknown-here, known-next, known-all}
@@ -14,13 +14,13 @@ use Rattle.event_log.proofs.has_unknown.Tie as tie
 
 abbrev Inv-loop : tie.InvT-loop
 Inv-loop kinds drives log n k₀ k =
-    (k ≤ eventCount log) × ((t : List ℕ) → Masks t kinds drives → some k (λ z. not (known t log z)) ≡ false)
+    (k ≤ eventCount log) × ((t : List ℕ) → Masks t kinds drives → someBelow k (λ z. not (known t log z)) ≡ false)
 
 abbrev μ-loop : tie.MeasureT-loop
 μ-loop kinds drives log n k₀ k = eventCount log - k
 
 loop-holds : tie.Need-loop-holds Inv-loop μ-loop
-unfolding some
+unfolding someBelow
 loop-holds c = (omega arith, λ t m. refl)
 
 mul-lines-of : tie.Need-mul-lines-of Inv-loop μ-loop

@@ -6,7 +6,7 @@ use lib.Dec.{eqb}
 use lib.ListN.{getD}
 use lib.Bits.{bitAnd, bitOr}
 use lib.Count.{trailingZeros}
-use Rattle.sets.specs.Tests.{some}
+use Rattle.sets.specs.Tests.{someBelow}
 use Rattle.sets.specs.Masks.{mask}
 use Rattle.event_table.proofs.Turns.{union-start, union-more}
 use borrow.Author.Needs.{needs}
@@ -15,7 +15,7 @@ use Rattle.event_table.proofs.firsts.Tie as tie
 
 abbrev Inv-loop : tie.InvT-loop
 Inv-loop kinds drives found₀ x₀ found x =
-    (x ≤ 256) × (found ≡ mask 64 (λ j. some x (λ z. some 256 (λ y. eqb (trailingZeros 64 (bitAnd (getD kinds z 0) (getD drives y 0))) j))))
+    (x ≤ 256) × (found ≡ mask 64 (λ j. someBelow x (λ z. someBelow 256 (λ y. eqb (trailingZeros 64 (bitAnd (getD kinds z 0) (getD drives y 0))) j))))
 
 abbrev μ-loop : tie.MeasureT-loop
 μ-loop kinds drives found₀ x₀ found x = 256 - x
@@ -23,7 +23,7 @@ abbrev μ-loop : tie.MeasureT-loop
 loop-holds : tie.Need-loop-holds Inv-loop μ-loop
 loop-holds c = (
   omega arith,
-  union-start (λ z j. some 256 (λ y. eqb (trailingZeros 64 (bitAnd (getD (c .args .kinds .now) z 0) (getD (c .args .drives .now) y 0))) j)),
+  union-start (λ z j. someBelow 256 (λ y. eqb (trailingZeros 64 (bitAnd (getD (c .args .kinds .now) z 0) (getD (c .args .drives .now) y 0))) j)),
 )
 
 loop-again : tie.Need-loop-again Inv-loop μ-loop
@@ -32,7 +32,7 @@ loop-again c =
     let l = c .before .before .before .loop in (
       omega (arith, c .before .before .loop-test .taken),
       ap₂ bitOr (l .inv .1) (c .firsts-beside .ensures)
-          ∙ union-more (λ z j. some 256 (λ y. eqb (trailingZeros 64 (bitAnd (getD (a .kinds .now) z 0) (getD (a .drives .now) y 0))) j)) (l .x),
+          ∙ union-more (λ z j. someBelow 256 (λ y. eqb (trailingZeros 64 (bitAnd (getD (a .kinds .now) z 0) (getD (a .drives .now) y 0))) j)) (l .x),
     )
 
 returns : tie.Need-returns Inv-loop μ-loop
@@ -40,7 +40,7 @@ returns c =
     let a = c .before .before .args in
     let l = c .before .loop in
     let e : l .x ≡ 256 = omega (arith, l .inv .0, c .loop-test .left) in
-    l .inv .1 ∙ ap (λ (n : ℕ). mask 64 (λ j. some n (λ z. some 256 (λ y. eqb (trailingZeros 64 (bitAnd (getD (a .kinds .now) z 0) (getD (a .drives .now) y 0))) j)))) e
+    l .inv .1 ∙ ap (λ (n : ℕ). mask 64 (λ j. someBelow n (λ z. someBelow 256 (λ y. eqb (trailingZeros 64 (bitAnd (getD (a .kinds .now) z 0) (getD (a .drives .now) y 0))) j)))) e
 
 pub firsts-spec : {M : Type 1} → statement M
 firsts-spec =

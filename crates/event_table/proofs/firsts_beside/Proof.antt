@@ -6,7 +6,7 @@ use lib.Dec.{eqb}
 use lib.ListN.{getD}
 use lib.Bits.{bitAnd, bitOr}
 use lib.Count.{trailingZeros}
-use Rattle.sets.specs.Tests.{some}
+use Rattle.sets.specs.Tests.{someBelow}
 use Rattle.sets.specs.Masks.{mask}
 use Rattle.event_table.proofs.Turns.{union-start, union-more}
 use borrow.Author.Needs.{needs}
@@ -15,7 +15,7 @@ use Rattle.event_table.proofs.firsts_beside.Tie as tie
 
 abbrev Inv-loop : tie.InvT-loop
 Inv-loop lines drives found₀ y₀ found y =
-    (y ≤ 256) × (found ≡ mask 64 (λ j. some y (λ z. eqb (trailingZeros 64 (bitAnd lines (getD drives z 0))) j)))
+    (y ≤ 256) × (found ≡ mask 64 (λ j. someBelow y (λ z. eqb (trailingZeros 64 (bitAnd lines (getD drives z 0))) j)))
 
 abbrev μ-loop : tie.MeasureT-loop
 μ-loop lines drives found₀ y₀ found y = 256 - y
@@ -36,7 +36,7 @@ returns c =
     let a = c .before .before .args in
     let l = c .before .loop in
     let e : l .y ≡ 256 = omega (arith, l .inv .0, c .loop-test .left) in
-    l .inv .1 ∙ ap (λ (n : ℕ). mask 64 (λ j. some n (λ z. eqb (trailingZeros 64 (bitAnd (a .lines) (getD (a .drives .now) z 0))) j))) e
+    l .inv .1 ∙ ap (λ (n : ℕ). mask 64 (λ j. someBelow n (λ z. eqb (trailingZeros 64 (bitAnd (a .lines) (getD (a .drives .now) z 0))) j))) e
 
 pub firsts-beside-spec : {M : Type 1} → statement M
 firsts-beside-spec =

@@ -3,7 +3,7 @@ use Prim.Native.Nat.{_-_, _≤_}
 use mathlib.Core.Path.{_≡_, refl, sym, _∙_, ap}
 use mathlib.Core.Bool.{false}
 use native.Mathlib.Omega.{arith}
-use Rattle.sets.specs.Tests.{some}
+use Rattle.sets.specs.Tests.{someBelow}
 use Rattle.event_spec.specs.Events.{lineCount}
 use Rattle.event_spec.specs.Translation.{faulty}
 use Rattle.event_table.proofs.Faults.{table-ragged, table-long, table-line, table-sound}
@@ -12,7 +12,7 @@ use Rattle.event_table.proofs.is_faulty_table.Statement.{statement}
 use Rattle.event_table.proofs.is_faulty_table.Tie as tie
 
 abbrev Inv-loop : tie.InvT-loop
-Inv-loop s events n j₀ j = (j ≤ lineCount events) × (some j (faulty s events) ≡ false)
+Inv-loop s events n j₀ j = (j ≤ lineCount events) × (someBelow j (faulty s events) ≡ false)
 
 abbrev μ-loop : tie.MeasureT-loop
 μ-loop s events n j₀ j = lineCount events - j
@@ -24,7 +24,7 @@ returns-2 : tie.Need-returns-2 Inv-loop μ-loop
 returns-2 c = let a = c .before .before .before .args in sym (table-long (a .s) (a .events .now) (c .if2 .taken))
 
 loop-holds : tie.Need-loop-holds Inv-loop μ-loop
-unfolding some
+unfolding someBelow
 loop-holds c = (omega arith, refl)
 
 returns-3 : tie.Need-returns-3 Inv-loop μ-loop
@@ -52,7 +52,7 @@ returns-4 c =
     let a = c .before .before .before .before .before .args in
     let l = c .before .loop in
     let e : lineCount (a .events .now) ≡ l .j = omega (arith, l .inv .0, c .loop-test .left) in
-    sym (table-sound (a .s) (a .events .now) (c .before .before .before .if1 .left) (c .before .before .if2 .left) (ap (λ k. some k (faulty (a .s) (a .events .now))) e ∙ l .inv .1))
+    sym (table-sound (a .s) (a .events .now) (c .before .before .before .if1 .left) (c .before .before .if2 .left) (ap (λ k. someBelow k (faulty (a .s) (a .events .now))) e ∙ l .inv .1))
 
 pub is-faulty-table-spec : {M : Type 1} → statement M
 is-faulty-table-spec =

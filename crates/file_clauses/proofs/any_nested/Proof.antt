@@ -3,7 +3,7 @@ use Prim.Native.Nat.{_-_, _≤_}
 use mathlib.Core.Path.{_≡_, refl, sym, _∙_}
 use mathlib.Core.Bool.{false}
 use native.Mathlib.Omega.{arith}
-use Rattle.sets.specs.Tests.{some}
+use Rattle.sets.specs.Tests.{someBelow}
 use Rattle.theory.specs.Rule.{entry}
 use Rattle.rule_entries.specs.Entries.{ruleOf}
 use Rattle.file_spec.specs.RuleRows.{nested, someNested}
@@ -12,13 +12,13 @@ use Rattle.file_clauses.proofs.any_nested.Statement.{statement}
 use Rattle.file_clauses.proofs.any_nested.Tie as tie
 
 abbrev Inv-loop : tie.InvT-loop
-Inv-loop h counts clauses q₀ q = (q ≤ h .n) × (some q (λ p. some (h .s) (λ a. nested (h .n) (entry (ruleOf h counts clauses) p a))) ≡ false)
+Inv-loop h counts clauses q₀ q = (q ≤ h .n) × (someBelow q (λ p. someBelow (h .s) (λ a. nested (h .n) (entry (ruleOf h counts clauses) p a))) ≡ false)
 
 abbrev μ-loop : tie.MeasureT-loop
 μ-loop h counts clauses q₀ q = h .n - q
 
 loop-holds : tie.Need-loop-holds Inv-loop μ-loop
-unfolding some
+unfolding someBelow
 loop-holds c = (omega arith, refl)
 
 nested-state-requires : tie.Need-nested-state-requires Inv-loop μ-loop
@@ -30,7 +30,7 @@ returns c =
     let start = c .before .before .before .before .before .before .before in
     let a = start .args in
     let l = c .before .before .before .before .loop in
-    some-stop (a .h .n) (λ p. some (a .h .s) (λ b. nested (a .h .n) (entry (ruleOf (a .h) (a .counts .now) (a .clauses .now)) p b))) (l .q) (c .before .before .if1 .taken)
+    some-stop (a .h .n) (λ p. someBelow (a .h .s) (λ b. nested (a .h .n) (entry (ruleOf (a .h) (a .counts .now) (a .clauses .now)) p b))) (l .q) (c .before .before .if1 .taken)
     (sym (c .before .nested-state .ensures) ∙ c .if2 .taken)
 
 loop-again : tie.Need-loop-again Inv-loop μ-loop
@@ -39,7 +39,7 @@ loop-again c =
     let a = start .args in
     let l = c .before .before .before .before .loop in (
       omega arith,
-      some-next (l .q) (λ p. some (a .h .s) (λ b. nested (a .h .n) (entry (ruleOf (a .h) (a .counts .now) (a .clauses .now)) p b))) (l .inv .1)
+      some-next (l .q) (λ p. someBelow (a .h .s) (λ b. nested (a .h .n) (entry (ruleOf (a .h) (a .counts .now) (a .clauses .now)) p b))) (l .inv .1)
           (sym (c .before .nested-state .ensures) ∙ c .if2 .left),
     )
 
@@ -48,7 +48,7 @@ unfolding someNested
 returns-2 c =
     let a = c .before .before .before .before .before .args in
     let l = c .before .before .loop in
-    some-end (l .q) (a .h .n) (λ p. some (a .h .s) (λ b. nested (a .h .n) (entry (ruleOf (a .h) (a .counts .now) (a .clauses .now)) p b))) (omega arith) (l .inv .1)
+    some-end (l .q) (a .h .n) (λ p. someBelow (a .h .s) (λ b. nested (a .h .n) (entry (ruleOf (a .h) (a .counts .now) (a .clauses .now)) p b))) (omega arith) (l .inv .1)
 
 pub any-nested-spec : {M : Type 1} → statement M
 any-nested-spec = tie.close (tie.spec Inv-loop μ-loop loop-holds nested-state-requires returns (λ c. omega arith) (λ c. omega arith) loop-again returns-2)

@@ -4,20 +4,20 @@ use mathlib.Core.Path.{_≡_, refl, sym, _∙_}
 use mathlib.Core.Bool.{false}
 use native.Mathlib.Omega.{arith}
 use lib.ListN.{length}
-use Rattle.sets.specs.Tests.{some}
+use Rattle.sets.specs.Tests.{someBelow}
 use Rattle.file_spec.specs.RuleRows.{containsAt}
 use Rattle.file_spec.proofs.Walks.{some-next, some-stop, some-end}
 use Rattle.file_clauses.proofs.contains_another.Statement.{statement}
 use Rattle.file_clauses.proofs.contains_another.Tie as tie
 
 abbrev Inv-loop : tie.InvT-loop
-Inv-loop clauses i j₀ j = (j ≤ length clauses) × (some j (λ k. containsAt 8 clauses i k) ≡ false)
+Inv-loop clauses i j₀ j = (j ≤ length clauses) × (someBelow j (λ k. containsAt 8 clauses i k) ≡ false)
 
 abbrev μ-loop : tie.MeasureT-loop
 μ-loop clauses i j₀ j = length clauses - j
 
 loop-holds : tie.Need-loop-holds Inv-loop μ-loop
-unfolding some
+unfolding someBelow
 loop-holds c = (omega arith, refl)
 
 contains-at-requires : tie.Need-contains-at-requires Inv-loop μ-loop

@@ -4,20 +4,20 @@ use mathlib.Core.Path.{_≡_, refl, sym, _∙_}
 use mathlib.Core.Bool.{false}
 use native.Mathlib.Omega.{arith}
 use lib.ListN.{length}
-use Rattle.sets.specs.Tests.{some}
+use Rattle.sets.specs.Tests.{someBelow}
 use Rattle.file_spec.specs.RuleRows.{containsAt, nested}
 use Rattle.file_spec.proofs.Walks.{some-next, some-stop, some-end}
 use Rattle.file_clauses.proofs.is_nested.Statement.{statement}
 use Rattle.file_clauses.proofs.is_nested.Tie as tie
 
 abbrev Inv-loop : tie.InvT-loop
-Inv-loop clauses i₀ i = (i ≤ length clauses) × (some i (λ k. some (length clauses) (λ j. containsAt 8 clauses k j)) ≡ false)
+Inv-loop clauses i₀ i = (i ≤ length clauses) × (someBelow i (λ k. someBelow (length clauses) (λ j. containsAt 8 clauses k j)) ≡ false)
 
 abbrev μ-loop : tie.MeasureT-loop
 μ-loop clauses i₀ i = length clauses - i
 
 loop-holds : tie.Need-loop-holds Inv-loop μ-loop
-unfolding some
+unfolding someBelow
 loop-holds c = (omega arith, refl)
 
 returns : tie.Need-returns Inv-loop μ-loop
@@ -25,21 +25,21 @@ unfolding nested
 returns c =
     let a = c .before .before .before .before .before .args in
     let l = c .before .before .before .loop in
-    some-stop (length (a .clauses .now)) (λ k. some (length (a .clauses .now)) (λ j. containsAt 8 (a .clauses .now) k j)) (l .i) (omega arith)
+    some-stop (length (a .clauses .now)) (λ k. someBelow (length (a .clauses .now)) (λ j. containsAt 8 (a .clauses .now) k j)) (l .i) (omega arith)
     (sym (c .before .contains-another .ensures) ∙ c .if1 .taken)
 
 loop-again : tie.Need-loop-again Inv-loop μ-loop
 loop-again c =
     let a = c .before .before .before .before .before .args in
     let l = c .before .before .before .loop in
-    (omega arith, some-next (l .i) (λ k. some (length (a .clauses .now)) (λ j. containsAt 8 (a .clauses .now) k j)) (l .inv .1) (sym (c .before .contains-another .ensures) ∙ c .if1 .left))
+    (omega arith, some-next (l .i) (λ k. someBelow (length (a .clauses .now)) (λ j. containsAt 8 (a .clauses .now) k j)) (l .inv .1) (sym (c .before .contains-another .ensures) ∙ c .if1 .left))
 
 returns-2 : tie.Need-returns-2 Inv-loop μ-loop
 unfolding nested
 returns-2 c =
     let a = c .before .before .before .args in
     let l = c .before .loop in
-    some-end (l .i) (length (a .clauses .now)) (λ k. some (length (a .clauses .now)) (λ j. containsAt 8 (a .clauses .now) k j)) (omega arith) (l .inv .1)
+    some-end (l .i) (length (a .clauses .now)) (λ k. someBelow (length (a .clauses .now)) (λ j. containsAt 8 (a .clauses .now) k j)) (omega arith) (l .inv .1)
 
 pub is-nested-spec : {M : Type 1} → statement M
 is-nested-spec = tie.close (tie.spec Inv-loop μ-loop loop-holds (λ c κs. omega arith) returns (λ c. omega arith) (λ c. omega arith) loop-again returns-2)

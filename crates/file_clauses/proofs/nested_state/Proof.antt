@@ -4,7 +4,7 @@ use mathlib.Core.Path.{_≡_, refl, ap, sym, _∙_}
 use mathlib.Core.Bool.{false}
 use native.Mathlib.Omega.{arith}
 use borrow.Author.Needs.{needs}
-use Rattle.sets.specs.Tests.{some}
+use Rattle.sets.specs.Tests.{someBelow}
 use Rattle.theory.specs.Rule.{entry}
 use Rattle.rule_entries.specs.Entries.{ruleOf}
 use Rattle.file_spec.specs.RuleRows.{nested}
@@ -14,13 +14,13 @@ use Rattle.file_clauses.proofs.nested_state.Statement.{statement}
 use Rattle.file_clauses.proofs.nested_state.Tie as tie
 
 abbrev Inv-loop : tie.InvT-loop
-Inv-loop h counts clauses q a₀ a = (a ≤ h .s) × (some a (λ b. nested (h .n) (entry (ruleOf h counts clauses) q b)) ≡ false)
+Inv-loop h counts clauses q a₀ a = (a ≤ h .s) × (someBelow a (λ b. nested (h .n) (entry (ruleOf h counts clauses) q b)) ≡ false)
 
 abbrev μ-loop : tie.MeasureT-loop
 μ-loop h counts clauses q a₀ a = h .s - a
 
 loop-holds : tie.Need-loop-holds Inv-loop μ-loop
-unfolding some
+unfolding someBelow
 loop-holds c = (omega arith, refl)
 
 entry-of-requires : tie.Need-entry-of-requires Inv-loop μ-loop

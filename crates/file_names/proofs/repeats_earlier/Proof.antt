@@ -3,20 +3,20 @@ use Prim.Native.Nat.{_-_, _≤_}
 use mathlib.Core.Path.{_≡_, refl, sym, _∙_}
 use mathlib.Core.Bool.{false}
 use native.Mathlib.Omega.{arith}
-use Rattle.sets.specs.Tests.{some}
+use Rattle.sets.specs.Tests.{someBelow}
 use Rattle.file_spec.specs.Names.{sameName}
 use Rattle.file_spec.proofs.Walks.{some-next, some-stop, some-end}
 use Rattle.file_names.proofs.repeats_earlier.Statement.{statement}
 use Rattle.file_names.proofs.repeats_earlier.Tie as tie
 
 abbrev Inv-loop : tie.InvT-loop
-Inv-loop names b a₀ a = (a ≤ b) × (some a (λ k. sameName names k b) ≡ false)
+Inv-loop names b a₀ a = (a ≤ b) × (someBelow a (λ k. sameName names k b) ≡ false)
 
 abbrev μ-loop : tie.MeasureT-loop
 μ-loop names b a₀ a = b - a
 
 loop-holds : tie.Need-loop-holds Inv-loop μ-loop
-unfolding some
+unfolding someBelow
 loop-holds c = (omega arith, refl)
 
 same-name-requires : tie.Need-same-name-requires Inv-loop μ-loop

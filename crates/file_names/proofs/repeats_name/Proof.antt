@@ -4,20 +4,20 @@ use mathlib.Core.Path.{_≡_, refl, sym, _∙_}
 use mathlib.Core.Bool.{false}
 use native.Mathlib.Omega.{arith}
 use lib.ListN.{length}
-use Rattle.sets.specs.Tests.{some}
+use Rattle.sets.specs.Tests.{someBelow}
 use Rattle.file_spec.specs.Names.{sameName, repeatsName}
 use Rattle.file_spec.proofs.Walks.{some-next, some-stop, some-end}
 use Rattle.file_names.proofs.repeats_name.Statement.{statement}
 use Rattle.file_names.proofs.repeats_name.Tie as tie
 
 abbrev Inv-loop : tie.InvT-loop
-Inv-loop names count b₀ b = (b ≤ count) × (some b (λ k. some k (λ a. sameName names a k)) ≡ false)
+Inv-loop names count b₀ b = (b ≤ count) × (someBelow b (λ k. someBelow k (λ a. sameName names a k)) ≡ false)
 
 abbrev μ-loop : tie.MeasureT-loop
 μ-loop names count b₀ b = count - b
 
 loop-holds : tie.Need-loop-holds Inv-loop μ-loop
-unfolding some
+unfolding someBelow
 loop-holds c = (omega arith, refl)
 
 returns : tie.Need-returns Inv-loop μ-loop
@@ -25,20 +25,20 @@ unfolding repeatsName
 returns c =
     let a = c .before .before .before .before .before .args in
     let l = c .before .before .before .loop in
-    some-stop (length (a .names .now) / 8) (λ k. some k (λ b. sameName (a .names .now) b k)) (l .b) (omega arith) (sym (c .before .repeats-earlier .ensures) ∙ c .if1 .taken)
+    some-stop (length (a .names .now) / 8) (λ k. someBelow k (λ b. sameName (a .names .now) b k)) (l .b) (omega arith) (sym (c .before .repeats-earlier .ensures) ∙ c .if1 .taken)
 
 loop-again : tie.Need-loop-again Inv-loop μ-loop
 loop-again c =
     let a = c .before .before .before .before .before .args in
     let l = c .before .before .before .loop in
-    (omega arith, some-next (l .b) (λ k. some k (λ b. sameName (a .names .now) b k)) (l .inv .1) (sym (c .before .repeats-earlier .ensures) ∙ c .if1 .left))
+    (omega arith, some-next (l .b) (λ k. someBelow k (λ b. sameName (a .names .now) b k)) (l .inv .1) (sym (c .before .repeats-earlier .ensures) ∙ c .if1 .left))
 
 returns-2 : tie.Need-returns-2 Inv-loop μ-loop
 unfolding repeatsName
 returns-2 c =
     let a = c .before .before .before .args in
     let l = c .before .loop in
-    some-end (l .b) (length (a .names .now) / 8) (λ k. some k (λ b. sameName (a .names .now) b k)) (omega arith) (l .inv .1)
+    some-end (l .b) (length (a .names .now) / 8) (λ k. someBelow k (λ b. sameName (a .names .now) b k)) (omega arith) (l .inv .1)
 
 pub repeats-name-spec : {M : Type 1} → statement M
 repeats-name-spec = tie.close (tie.spec Inv-loop μ-loop loop-holds (λ c κs. omega arith) returns (λ c. omega arith) (λ c. omega arith) loop-again returns-2)

@@ -8,7 +8,7 @@ use Rattle.sets.specs.Masks.{bit}
 use Rattle.theory.specs.Truth.{truthMasks}
 use Rattle.theory.specs.Word.{places}
 use Rattle.rule_entries.specs.Entries.{ruleOf}
-use Rattle.judge_choices_spec.specs.Choice.{nearAt}
+use Rattle.judge_choices_spec.specs.ChoicesComputed.{nearAt}
 use Rattle.judge_choices_spec.specs.Rounds.{Round, Rounds}
 use Rattle.judge_choices_laws.proofs.Places.{all-low, all-in, bytes-few}
 use Rattle.judge_choices_laws.proofs.Rounds.{near-low, rounds-start, rounds-step, rounds-stop, rounds-end}

@@ -6,7 +6,7 @@ use native.Mathlib.Omega.{arith}
 use lib.ListN.{length}
 use Rattle.table_lent.specs.Lent.{wordsIn, inBytes}
 use Rattle.live_spec.specs.declared.LiveAnswer.the-variants.{Refused}
-use Rattle.live_spec.specs.Rows.{callRow}
+use Rattle.live_spec.specs.Rows.{liveCallRow}
 use Rattle.live_spec.specs.Called.{CalledBy}
 use Rattle.live_call.specs.Callable.{Counted}
 use Rattle.live_call.proofs.Served.{ready, fits, refused-by, served-by}
@@ -57,7 +57,7 @@ returns-3 c =
     let a = start .args in
     let t = at-try-quickly .try-quickly in
     let told = at-enum-told3 .enum-told3 .given .1 in
-    subst (λ (state : List ℕ). CalledBy (callRow (a .call) (a .h .s) (inBytes (a .codes .now)) (inBytes (a .transitions .now)) state (length (a .set .now))) (a .call) (a .h .initial)
+    subst (λ (state : List ℕ). CalledBy (liveCallRow (a .call) (a .h .s) (inBytes (a .codes .now)) (inBytes (a .transitions .now)) state (length (a .set .now))) (a .call) (a .h .initial)
     (wordsIn (a .codes .now)) (wordsIn (a .transitions .now)) state (a .set .now)
     (at-call-by-rows .call-by-rows .last .1 .1 .1 .1 .0) (at-call-by-rows .call-by-rows .last .1 .1 .1 .1 .1 .0) (at-call-by-rows .call-by-rows .result)) (t .ensures .untried told)
     (at-call-by-rows .call-by-rows .ensures)

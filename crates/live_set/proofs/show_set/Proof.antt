@@ -4,14 +4,14 @@ use Prim.Native.Nat.{_-_, _≤_}
 use native.Mathlib.Omega.{arith}
 use borrow.Author.Needs.{needs}
 use Rattle.live_spec.specs.Afresh.{isIn, membersOf}
-use Rattle.live_spec.specs.State.{setIn}
+use Rattle.live_spec.specs.State.{setBytes}
 use Rattle.live_spec.specs.Effects.{shown}
 use Rattle.live_set.proofs.Shown.{Showing, showing-start, showing-next, showing-end, shown-at}
 use Rattle.live_set.proofs.show_set.Statement.{statement}
 use Rattle.live_set.proofs.show_set.Tie as tie
 
 abbrev Inv-loop : tie.InvT-loop
-Inv-loop n state set₀ members₀ i₀ set members i = (i ≤ n) × Showing (isIn (setIn state)) set₀ set members i
+Inv-loop n state set₀ members₀ i₀ set members i = (i ≤ n) × Showing (isIn (setBytes state)) set₀ set members i
 
 abbrev μ-loop : tie.MeasureT-loop
 μ-loop n state set₀ members₀ i₀ set members i = n - i
@@ -19,14 +19,14 @@ abbrev μ-loop : tie.MeasureT-loop
 loop-holds : tie.Need-loop-holds Inv-loop μ-loop
 loop-holds c =
     let a = c .before .before .args in
-    (omega arith, showing-start (isIn (setIn (a .state .now))) (a .set .now))
+    (omega arith, showing-start (isIn (setBytes (a .state .now))) (a .set .now))
 
 loop-again : tie.Need-loop-again Inv-loop μ-loop
 loop-again c =
     let a = c .before .before .before .before .before .before .args in
     let l = c .before .before .before .loop in
     let e = c .flag .ensures ∙ shown-at (a .state .now) (l .i) in
-    (omega arith, showing-next (isIn (setIn (a .state .now))) (a .set .now) (l .set) (l .members) (l .i) (c .flag .result) (omega arith) e (l .inv .1))
+    (omega arith, showing-next (isIn (setBytes (a .state .now))) (a .set .now) (l .set) (l .members) (l .i) (c .flag .result) (omega arith) e (l .inv .1))
 
 returns : tie.Need-returns Inv-loop μ-loop
 unfolding shown membersOf
@@ -35,7 +35,7 @@ returns c =
     let l = c .before .loop in
     let all : l .i ≡ a .n = omega arith in
     let s = rw all at (l .inv .1) in
-    (showing-end (isIn (setIn (a .state .now))) (a .set .now) (l .set) (l .members) (a .n) (c .before .before .before .before .pre .1) s, s .counted)
+    (showing-end (isIn (setBytes (a .state .now))) (a .set .now) (l .set) (l .members) (a .n) (c .before .before .before .before .pre .1) s, s .counted)
 
 pub show-set-spec : {M : Type 1} → statement M
 show-set-spec =

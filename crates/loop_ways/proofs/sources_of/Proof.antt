@@ -5,7 +5,7 @@ use mathlib.Core.Bool.{_&&_}
 use native.Mathlib.Omega.{arith}
 use borrow.Author.Needs.{needs}
 use lib.ListN.{getD}
-use Rattle.sets.specs.Tests.{some, one}
+use Rattle.sets.specs.Tests.{someBelow, one}
 use Rattle.sets.specs.Masks.{bit, mask}
 use Rattle.sets.proofs.Masks.{put-bit}
 use Rattle.loop_spec.specs.Search.{leadsBy, sources}
@@ -14,7 +14,7 @@ use Rattle.loop_ways.proofs.sources_of.Statement.{statement}
 use Rattle.loop_ways.proofs.sources_of.Tie as tie
 
 abbrev Inv-loop : tie.InvT-loop
-Inv-loop es n set found₀ q₀ found q = (q ≤ n) × (found ≡ mask q (λ p. some n (λ t. leadsBy es p t && bit set t)))
+Inv-loop es n set found₀ q₀ found q = (q ≤ n) × (found ≡ mask q (λ p. someBelow n (λ t. leadsBy es p t && bit set t)))
 
 abbrev μ-loop : tie.MeasureT-loop
 μ-loop es n set found₀ q₀ found q = n - q
@@ -30,7 +30,7 @@ loop-again c =
     let w = c .before .before .before .before .pre in
     let e = c .meets .ensures ∙ ap one (meets-below (a .n) (getD (a .es .now) (l .q) 0) (a .set) (w .0) (w .1)) in (
       omega arith,
-      rw (l .inv .1) (put-bit (l .q) (c .meets .result) (λ p. some (a .n) (λ t. leadsBy (a .es .now) p t && bit (a .set) t)) (omega arith) e),
+      rw (l .inv .1) (put-bit (l .q) (c .meets .result) (λ p. someBelow (a .n) (λ t. leadsBy (a .es .now) p t && bit (a .set) t)) (omega arith) e),
     )
 
 returns : tie.Need-returns Inv-loop μ-loop
@@ -38,7 +38,7 @@ unfolding sources
 returns c =
     let a = c .before .before .args in
     let e : c .before .loop .q ≡ a .n = omega arith in
-    c .before .loop .inv .1 ∙ ap (λ (x : ℕ). mask x (λ p. some (a .n) (λ t. leadsBy (a .es .now) p t && bit (a .set) t))) e
+    c .before .loop .inv .1 ∙ ap (λ (x : ℕ). mask x (λ p. someBelow (a .n) (λ t. leadsBy (a .es .now) p t && bit (a .set) t))) e
 
 pub sources-of-spec : {M : Type 1} → statement M
 sources-of-spec =

@@ -2,7 +2,7 @@
 use mathlib.Core.Path.{_≡_, sym}
 use mathlib.Core.Bool.{false, _&&_}
 use native.Mathlib.Omega.{arith}
-use Rattle.sets.specs.Tests.{some}
+use Rattle.sets.specs.Tests.{someBelow}
 use Rattle.rule_components.proofs.Mixed.{accepted, rejected, none-accepted, some-accepted, some-rejected}
 use Rattle.rule_components.proofs.both_kinds.Statement.{statement}
 use Rattle.rule_components.proofs.both_kinds.Tie as tie
@@ -11,7 +11,7 @@ returns : tie.Need-returns
 returns c =
     let k = c .before .args .class in
     let a = c .before .args .accepting in
-    let none : (some 8 (accepted k a) && some 8 (rejected k a)) ≡ false = rw (none-accepted k a (c .if1 .taken)) in
+    let none : (someBelow 8 (accepted k a) && someBelow 8 (rejected k a)) ≡ false = rw (none-accepted k a (c .if1 .taken)) in
     sym none
 
 returns-2 : tie.Need-returns-2

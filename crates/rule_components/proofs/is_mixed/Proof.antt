@@ -6,7 +6,7 @@ use mathlib.Core.List.{List}
 use Rattle.rule_entries.proofs.Entries.{accepting-small}
 use native.Mathlib.Omega.{arith}
 use borrow.Author.Needs.{needs}
-use Rattle.sets.specs.Tests.{some}
+use Rattle.sets.specs.Tests.{someBelow}
 use Rattle.rule_entries.specs.Entries.{ruleOf}
 use Rattle.rule_reach.specs.Tables.{closuresOf}
 use Rattle.rule_components.proofs.Mixed.{classBy, bothBy, both-next, both-here, mixed-by}
@@ -14,7 +14,7 @@ use Rattle.rule_components.proofs.is_mixed.Statement.{statement}
 use Rattle.rule_components.proofs.is_mixed.Tie as tie
 
 abbrev Inv-loop : tie.InvT-loop
-Inv-loop counts clauses reach n accepting q₀ q = (q ≤ n) × (some q (bothBy reach n accepting) ≡ false)
+Inv-loop counts clauses reach n accepting q₀ q = (q ≤ n) × (someBelow q (bothBy reach n accepting) ≡ false)
 
 abbrev μ-loop : tie.MeasureT-loop
 μ-loop counts clauses reach n accepting q₀ q = n - q
@@ -25,7 +25,7 @@ cast-accepting c =
     omega (arith, accepting-small (ruleOf (a .h) (a .counts .now) (a .clauses .now)) (c .before .before .before .before .pre))
 
 loop-holds : tie.Need-loop-holds Inv-loop μ-loop
-unfolding some
+unfolding someBelow
 loop-holds c = (omega arith, refl)
 
 class-of-requires : tie.Need-class-of-requires Inv-loop μ-loop
@@ -66,8 +66,8 @@ returns-2 c =
     let l = c .before .loop in
     let e : l .q ≡ a .h .n = omega arith in
     sym (sym (mixed-by r (w .few-states) (a .h .accepting) refl)
-    ∙ ap (λ (t : List ℕ). some (a .h .n) (bothBy t (a .h .n) (a .h .accepting))) (sym (c .before .before .before .closures .ensures))
-    ∙ ap (λ (x : ℕ). some x (bothBy (c .before .before .before .closures .result) (a .h .n) (a .h .accepting))) (sym e)
+    ∙ ap (λ (t : List ℕ). someBelow (a .h .n) (bothBy t (a .h .n) (a .h .accepting))) (sym (c .before .before .before .closures .ensures))
+    ∙ ap (λ (x : ℕ). someBelow x (bothBy (c .before .before .before .closures .result) (a .h .n) (a .h .accepting))) (sym e)
     ∙ l .inv .1)
 
 pub is-mixed-spec : {M : Type 1} → statement M

@@ -5,7 +5,7 @@ use mathlib.Core.List.{List}
 use native.Mathlib.Omega.{arith}
 use borrow.Author.Needs.{needs}
 use lib.Bits.{or-lt}
-use Rattle.sets.specs.Tests.{some}
+use Rattle.sets.specs.Tests.{someBelow}
 use Rattle.sets.specs.Masks.{bit, mask}
 use Rattle.theory.specs.Rule.{entry}
 use Rattle.theory.specs.Components.{named, leads}
@@ -16,13 +16,13 @@ use Rattle.rule_reach.proofs.successors.Statement.{statement}
 use Rattle.rule_reach.proofs.successors.Tie as tie
 
 abbrev Inv-loop : tie.InvT-loop
-Inv-loop h counts clauses q found₀ a₀ found a = (a ≤ h .s) × (found < 256) × ((p : ℕ) → p < 8 → bit found p ≡ some a (λ b. named (entry (ruleOf h counts clauses) q b) p))
+Inv-loop h counts clauses q found₀ a₀ found a = (a ≤ h .s) × (found < 256) × ((p : ℕ) → p < 8 → bit found p ≡ someBelow a (λ b. named (entry (ruleOf h counts clauses) q b) p))
 
 abbrev μ-loop : tie.MeasureT-loop
 μ-loop h counts clauses q found₀ a₀ found a = h .s - a
 
 loop-holds : tie.Need-loop-holds Inv-loop μ-loop
-unfolding some
+unfolding someBelow
 loop-holds c = (omega arith, omega arith, λ p l. bit-none p)
 
 entry-of-requires : tie.Need-entry-of-requires Inv-loop μ-loop
@@ -49,8 +49,8 @@ returns c =
     let w = c .before .before .before .before .before .pre in
     let e : l .a ≡ a .h .s = omega arith in
     mask-of 8 (a .h .n) (l .found) (leads r (a .q)) (w .0 .few-states) (l .inv .1)
-    (λ p m. l .inv .2 p (omega (arith, w .0 .few-states)) ∙ ap (λ (x : ℕ). some x (λ b. named (entry r (a .q) b) p)) e)
-    (λ p m n. l .inv .2 p n ∙ ap (λ (x : ℕ). some x (λ b. named (entry r (a .q) b) p)) e ∙ leads-high r (w .0) (a .q) (w .1) p m)
+    (λ p m. l .inv .2 p (omega (arith, w .0 .few-states)) ∙ ap (λ (x : ℕ). someBelow x (λ b. named (entry r (a .q) b) p)) e)
+    (λ p m n. l .inv .2 p n ∙ ap (λ (x : ℕ). someBelow x (λ b. named (entry r (a .q) b) p)) e ∙ leads-high r (w .0) (a .q) (w .1) p m)
 
 pub successors-spec : {M : Type 1} → statement M
 successors-spec =

@@ -6,7 +6,7 @@ use native.Mathlib.Omega.{arith}
 use Rattle.table_lent.specs.Lent.{wordsIn}
 use Rattle.table_lent.proofs.Reading.{words-in-length}
 use Rattle.live_spec.specs.Afresh.{stepped}
-use Rattle.live_spec.specs.State.{lettersAtByte, twoBytes, setIn}
+use Rattle.live_spec.specs.State.{lettersAtByte, twoBytes, setBytes}
 use Rattle.live_spec.specs.Effects.{put, numbered, withSet}
 use Rattle.live_state.proofs.Writes.{arrived-end}
 use borrow.Author.Needs.{needs}
@@ -38,7 +38,7 @@ returns c =
     (at-put-number .put-number .ensures ∙ ap (λ (k : ℕ). put 0 (twoBytes (k + 1)) (a .state .now)) n) in
     λ initial.
     c .before .before .step .ensures
-    ∙ ap₂ (λ (k : ℕ) (s : List ℕ). withSet (stepped k ts (a .letter) (setIn s)) s) (sym (words-in-length (a .codes .now))) written
+    ∙ ap₂ (λ (k : ℕ) (s : List ℕ). withSet (stepped k ts (a .letter) (setBytes s)) s) (sym (words-in-length (a .codes .now))) written
     ∙ arrived-end (a .state .now) (pre .0 .long) initial (a .letter) (wordsIn (a .codes .now)) ts (pre .1)
 
 pub arrive-spec : {M : Type 1} → statement M

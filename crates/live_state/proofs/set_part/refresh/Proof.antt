@@ -7,7 +7,7 @@ use lib.ListN.{length, take}
 use Rattle.table_lent.specs.Lent.{wordsIn}
 use Rattle.table_lent.proofs.Reading.{words-in-length}
 use Rattle.live_spec.specs.Afresh.{steppedOver}
-use Rattle.live_spec.specs.State.{setAt, setIn, lettersIn}
+use Rattle.live_spec.specs.State.{setAt, setBytes, lettersIn}
 use Rattle.live_spec.specs.Effects.{withSet}
 use Rattle.live_state.proofs.Replays.{begun-long, refresh-end}
 use borrow.Author.Needs.{needs}
@@ -35,7 +35,7 @@ returns c =
     let n = length (a .codes .now) / 8 in
     let fits : setAt + length codes ≤ length (a .state .now) = omega (arith, pre .few, pre .long) in
     c .before .before .replay .ensures
-    ∙ ap (λ (s : List ℕ). withSet (steppedOver n ts (lettersIn s) (take n (setIn s))) s) (c .before .before .before .before .before .before .begin .ensures)
+    ∙ ap (λ (s : List ℕ). withSet (steppedOver n ts (lettersIn s) (take n (setBytes s))) s) (c .before .before .before .before .before .before .begin .ensures)
     ∙ refresh-end (a .initial) codes ts (a .state .now) fits n (sym (words-in-length (a .codes .now)))
 
 pub refresh-spec : {M : Type 1} → statement M

@@ -6,7 +6,7 @@ use native.Mathlib.Omega.{arith}
 use lib.ListN.{length, getD}
 use Rattle.table_lent.specs.Lent.{wordsIn}
 use Rattle.live_spec.specs.Afresh.{stepped}
-use Rattle.live_spec.specs.State.{setIn, lettersIn, lettersAtByte, numberIn}
+use Rattle.live_spec.specs.State.{setBytes, lettersIn, lettersAtByte, numberIn}
 use Rattle.live_spec.specs.Effects.{withSet}
 use Rattle.live_state.proofs.Replays.{number-low, after, replay-start, replay-long, replay-letter, replay-next, replay-end}
 use Rattle.live_state.proofs.set_part.replay.Statement.{statement}
@@ -50,7 +50,7 @@ loop-again c =
     ap (λ (s : List ℕ). getD s (lettersAtByte + l .i) 0) (l .inv .2) ∙ replay-letter (a .n) ts (a .state .now) (pre .1) (l .i) more in
     let next : c .before .before .step .last .1 .1 .1 .0 ≡ withSet (after (a .n) ts (a .state .now) (l .i + 1)) (a .state .now) =
     c .before .before .step .ensures
-    ∙ ap₂ (λ (x : ℕ) (s : List ℕ). withSet (stepped (a .n) ts x (setIn s)) s) letter (l .inv .2)
+    ∙ ap₂ (λ (x : ℕ) (s : List ℕ). withSet (stepped (a .n) ts x (setBytes s)) s) letter (l .inv .2)
     ∙ replay-next (a .n) ts (a .state .now) (pre .1) (l .i) more (pre .0) in
     (omega arith, ap (λ (s : List ℕ). length s) next ∙ replay-long (a .n) ts (a .state .now) (pre .1) (l .i + 1), next)
 
