@@ -48,14 +48,14 @@ fn build_table(
     if g.full {
         slice_search::zero_all(codes);
         slice_search::zero_all(out);
-        return Built::Refused(17);
+        return Built::Refused(refusals::MACROSTATE_ROOM);
     }
     let n = g.m;
     let e = list_transitions(out, codes, n, shape, opens, parts);
     if e.full {
         slice_search::zero_all(codes);
         slice_search::zero_all(out);
-        return Built::Refused(18);
+        return Built::Refused(refusals::TRANSITION_ROOM);
     }
     Built::Table(Counts {
         macrostates: n,

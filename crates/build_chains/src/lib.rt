@@ -1,5 +1,7 @@
 // A list of keys in a lent slice, with chains through it: the keys of a core stand in one chain.
 use build_chains_spec::Grow;
+use codes::CODE_BITS;
+use codes::CODE_MASK;
 ghost use mathlib.Core.Path.{_≡_};
 ghost use mathlib.Core.Bool.{true, false};
 ghost use Prim.Native.Nat.{_+_, _*_, _/_, _%_, _^_, _<_};
@@ -33,7 +35,7 @@ pub fn put(keys: &mut [u64], heads: &mut [u16; 16384], last: &mut [u32; 256], n:
 {
     let core = key >> 8;
     let b = bucket(core);
-    keys[n] = ((heads[b] as u64) << 48) | key;
+    keys[n] = ((heads[b] as u64) << CODE_BITS) | key;
     heads[b] = n as u16;
     last[(core & 0xff) as usize] = n as u32 + 1;
 }
@@ -49,13 +51,13 @@ pub fn find(keys: &[u64], heads: &[u16; 16384], last: &[u32; 256], n: usize, key
     let mut i = chain_top(heads, key >> 8) as usize;
     loop {
         let x = keys[i];
-        if x & 0x0000_ffff_ffff_ffff == key {
+        if x & CODE_MASK == key {
             return i;
         }
         if i == 0 {
             return n;
         }
-        i = (x >> 48) as usize;
+        i = (x >> CODE_BITS) as usize;
     }
 }
 
@@ -74,16 +76,16 @@ pub fn core_before(
         return false;
     }
     let own = keys[j];
-    let mut q = (own >> 48) as usize;
+    let mut q = (own >> CODE_BITS) as usize;
     loop {
         let x = keys[q];
-        if (x & 0x0000_ffff_ffff_ffff) >> 8 == (own & 0x0000_ffff_ffff_ffff) >> 8 {
+        if (x & CODE_MASK) >> 8 == (own & CODE_MASK) >> 8 {
             return true;
         }
         if q == 0 {
             return false;
         }
-        q = (x >> 48) as usize;
+        q = (x >> CODE_BITS) as usize;
     }
 }
 

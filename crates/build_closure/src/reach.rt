@@ -3,6 +3,8 @@ use crate::rounds::close;
 use crate::rounds::firsts;
 use build_chains_spec::Grow;
 use build_closure_spec::Shape;
+use codes::CODE_MASK;
+use codes::CORE_BITS;
 ghost use mathlib.Core.Path.{_≡_};
 ghost use mathlib.Core.List.{_++_, map};
 ghost use Prim.Native.Nat.{_≤_};
@@ -43,7 +45,7 @@ pub fn to_codes(keys: &mut [u64], n: usize)
     let mut i = 0;
     while i < n {
         let key = keys[i];
-        keys[i] = ((key & 0xff) << 40) | ((key & 0x0000_ffff_ffff_ffff) >> 8);
+        keys[i] = ((key & 0xff) << CORE_BITS) | ((key & CODE_MASK) >> 8);
         i += 1;
     }
 }

@@ -7,6 +7,7 @@ use build_visit::letters::LetterBack;
 use build_visit::letters::last_of;
 use build_visit::letters::set_before;
 use build_visit::letters::step_over;
+use codes::CODE_MASK;
 ghost use Prim.Native.Nat.{_<_, _≤_};
 ghost use lib.ListN.{length};
 ghost use Rattle.theory.specs.Rule.{Rule};
@@ -81,7 +82,7 @@ fn emit_core(
         → Emitted (Into (automaton r) (shape .s) (now (keys .entry)) (length (now (keys .entry))) (vectorAt (now (keys .entry)) j))
         (now (out .entry)) m (now (out .exit)) (g .m) (g .full)) ⌝ }
 {
-    let ranks = (keys[j] & 0x0000_ffff_ffff_ffff) >> 16;
+    let ranks = (keys[j] & CODE_MASK) >> 16;
     let low = build_cores::lowest(ranks);
     let mut g = Grow { m, full: false };
     let mut a = 0;

@@ -1,6 +1,8 @@
 // The transitions over one letter into one core, from the keys of the core before it.
 use build_chains_spec::Grow;
 use build_visit::letters::CoreStep;
+use codes::CODE_BITS;
+use codes::CODE_MASK;
 ghost use mathlib.Core.Path.{_≡_};
 ghost use Prim.Native.Nat.{_%_, _^_, _<_, _≤_};
 ghost use lib.ListN.{length};
@@ -86,7 +88,7 @@ pub fn emit_sources(
             heads,
             last,
             i,
-            x & 0x0000_ffff_ffff_ffff,
+            x & CODE_MASK,
             step,
             parts,
             levels,
@@ -97,6 +99,6 @@ pub fn emit_sources(
         if i == 0 {
             return g;
         }
-        i = (x >> 48) as usize;
+        i = (x >> CODE_BITS) as usize;
     }
 }

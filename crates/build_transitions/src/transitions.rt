@@ -2,6 +2,8 @@
 use crate::cores::emit;
 use build_chains_spec::Grow;
 use build_closure_spec::Shape;
+use codes::CORE_BITS;
+use codes::CORE_MASK;
 ghost use mathlib.Core.Path.{_≡_};
 ghost use Prim.Native.Nat.{ℕ, _^_, _<_, _≤_};
 ghost use lib.ListN.{length, getD};
@@ -29,7 +31,7 @@ fn chain(codes: &mut [u64], heads: &mut [u16; 16384], last: &mut [u32; 256])
             heads,
             last,
             p,
-            ((code & 0x00ff_ffff_ffff) << 8) | (code >> 40),
+            ((code & CORE_MASK) << 8) | (code >> CORE_BITS),
         );
         p += 1;
     }

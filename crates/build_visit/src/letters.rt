@@ -1,6 +1,8 @@
 // The keys that one core adds to those listed: those of its steps back.
 use build_chains_spec::Grow;
 use build_closure_spec::Shape;
+use codes::CODE_BITS;
+use codes::CODE_MASK;
 ghost use mathlib.Core.Path.{_≡_};
 ghost use Prim.Native.Nat.{_+_, _*_, _%_, _^_, _<_, _≤_};
 ghost use lib.Bits.{bitXor};
@@ -80,23 +82,14 @@ fn move_keys(
     let mut i = build_chains::chain_top(heads, step.earlier) as usize;
     while from <= i {
         let x = keys[i];
-        g = move_key(
-            keys,
-            heads,
-            last,
-            g.m,
-            x & 0x0000_ffff_ffff_ffff,
-            step,
-            parts,
-            levels,
-        );
+        g = move_key(keys, heads, last, g.m, x & CODE_MASK, step, parts, levels);
         if g.full {
             return g;
         }
         if i == 0 {
             return g;
         }
-        i = (x >> 48) as usize;
+        i = (x >> CODE_BITS) as usize;
     }
     g
 }

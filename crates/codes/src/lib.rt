@@ -11,18 +11,47 @@ ghost use Rattle.theory.specs.Run.{sourceOf, letterOf, targetOf};
 ghost use Rattle.codes.specs.Codes.{transitionOf};
 ghost use Rattle.codes.specs.Bytes.{wordAt};
 
+// ---- the fields of a code and of a transition
+
+// A core: the set in bits 0 to 7, the ranks above it. K stands above the core, k above K.
+pub const CORE_BITS: u64 = 40;
+
+pub const CORE_MASK: u64 = 0xff_ffff_ffff;
+
+pub const CLASSES_SHIFT: u64 = 44;
+// A code. Marks, new numbers, links and the number of a core stand above it while a table is made or compared.
+pub const CODE_BITS: u64 = 48;
+
+pub const CODE_MASK: u64 = 0x0000_ffff_ffff_ffff;
+// A transition: the target in bits 0 to 15, the letter above it, the source above the letter.
+pub const LETTER_SHIFT: u64 = 16;
+
+pub const SOURCE_SHIFT: u64 = 24;
+// Above a transition, while two tables are compared: the first number with the target's core, then the components that it spares.
+pub const MOVE_BITS: u64 = 40;
+
+pub const MOVE_MASK: u64 = 0xff_ffff_ffff;
+// 1 right above a core, a code, a transition, and the number of a core above a transition: by these a number is moved there.
+pub const ABOVE_CORE: u64 = 0x100_0000_0000;
+
+pub const ABOVE_CODE: u64 = 0x1_0000_0000_0000;
+
+pub const ABOVE_MOVE: u64 = 0x100_0000_0000;
+
+pub const ABOVE_MOVE_CORE: u64 = 0x100_0000_0000_0000;
+
 // The component number K of a code.
 pub fn component_of(code: u64) -> u8
     ensures { λ r. ⌜ r ≡ componentIn code ⌝ }
 {
-    ((code >> 40) & 15) as u8
+    ((code >> CORE_BITS) & 15) as u8
 }
 
 // The number k of classes that a code has left.
 pub fn classes_of(code: u64) -> u8
     ensures { λ r. ⌜ r ≡ classesIn code ⌝ }
 {
-    ((code >> 44) & 15) as u8
+    ((code >> CLASSES_SHIFT) & 15) as u8
 }
 
 // Whether a run may begin at a macrostate, but for its set: K is 0 and k is 0.
@@ -58,21 +87,21 @@ pub fn pack_transition(source: usize, letter: usize, target: usize) -> u64
     requires { ⌜ (source < 1099511627776) × (letter < 256) × (target < 65536) ⌝ }
     ensures { λ r. ⌜ r ≡ transitionOf source letter target ⌝ }
 {
-    ((source as u64) << 24) | ((letter as u64) << 16) | target as u64
+    ((source as u64) << SOURCE_SHIFT) | ((letter as u64) << LETTER_SHIFT) | target as u64
 }
 
 // The number that a transition comes from.
 pub fn source_of(transition: u64) -> usize
     ensures { λ r. ⌜ r ≡ sourceOf transition ⌝ }
 {
-    (transition >> 24) as usize
+    (transition >> SOURCE_SHIFT) as usize
 }
 
 // The letter of a transition.
 pub fn letter_of(transition: u64) -> usize
     ensures { λ r. ⌜ r ≡ letterOf transition ⌝ }
 {
-    ((transition >> 16) & 0xff) as usize
+    ((transition >> LETTER_SHIFT) & 0xff) as usize
 }
 
 // The number that a transition goes to.

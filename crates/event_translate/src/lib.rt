@@ -16,19 +16,19 @@ fn translate_read(s: usize, events: &[u8], log: &[u8], letters: &mut [u8]) -> Tr
     ensures { λ r. ⌜ Called s (now (events .entry)) (now (log .entry)) (now (letters .entry)) (now (letters .exit)) r ⌝ }
 {
     if is_faulty_table(s, events) {
-        return Translated::Refused(25);
+        return Translated::Refused(refusals::EVENT_LINE);
     }
     let kinds = masks_of(events, 0);
     let drives = masks_of(events, 2);
     if has_covered(events, &kinds, &drives) {
-        return Translated::Refused(26);
+        return Translated::Refused(refusals::COVERED_LINE);
     }
     if has_unknown(&kinds, &drives, log) {
-        return Translated::Refused(27);
+        return Translated::Refused(refusals::NO_LINE);
     }
     let n = log.len() / 2;
     if letters.len() < n {
-        return Translated::Refused(16);
+        return Translated::Refused(refusals::SLICE);
     }
     write_letters(events, &kinds, &drives, log, letters);
     Translated::Letters(n)

@@ -86,7 +86,7 @@ pub fn clauses_row(h: Head, counts: &[u8], clauses: &[u8]) -> u8
     ensures { λ r. ⌜ r ≡ firstRow (clauseRows (ruleOf h (now (counts .entry)) (now (clauses .entry)))) ⌝ }
 {
     if any_nested(h, counts, clauses) {
-        return 20;
+        return refusals::CLAUSE_INSIDE;
     }
     0
 }

@@ -118,10 +118,10 @@ pub fn names_row(names: &[u8]) -> u8
     ensures { λ r. ⌜ r ≡ firstRow (nameRows (now (names .entry))) ⌝ }
 {
     if any_outside(names) {
-        return 22;
+        return refusals::NAME_BYTE;
     }
     if repeats_name(names) {
-        return 23;
+        return refusals::EQUAL_NAMES;
     }
     0
 }
@@ -143,7 +143,7 @@ pub fn given_row(names: &[u8], s: usize) -> u8
     ensures { λ r. ⌜ r ≡ firstRow (givenRows s (now (names .entry))) ⌝ }
 {
     if !is_whole(names, s) {
-        return 21;
+        return refusals::NAMES;
     }
     names_row(names)
 }
@@ -154,7 +154,7 @@ pub fn preface_row(p: &[u8], s: usize) -> u8
     ensures { λ r. ⌜ r ≡ firstRow (prefaceRows s (now (p .entry))) ⌝ }
 {
     if !names_fit(p, s) {
-        return 21;
+        return refusals::NAMES;
     }
     names_row(names_in(p, s))
 }

@@ -66,7 +66,7 @@ pub fn components_row(h: Head, counts: &[u8], clauses: &[u8]) -> u8
     ensures { λ r. ⌜ r ≡ firstRow (componentRows (ruleOf h (now (counts .entry)) (now (clauses .entry)))) ⌝ }
 {
     if rule_components::is_mixed(h, counts, clauses) {
-        return 11;
+        return refusals::MIXED;
     }
     0
 }

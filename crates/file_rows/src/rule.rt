@@ -31,23 +31,23 @@ pub fn numbers_row(h: Head) -> u8
     let initial = h.initial;
     let accepting = h.accepting;
     if n < 1 {
-        return 3;
+        return refusals::STATES;
     }
     if 8 < n {
-        return 3;
+        return refusals::STATES;
     }
     if s < 1 {
-        return 4;
+        return refusals::LETTERS;
     }
     if 16 < s {
-        return 4;
+        return refusals::LETTERS;
     }
     let states = 1usize << n;
     if n <= initial {
-        return 5;
+        return refusals::INITIAL;
     }
     if states <= accepting {
-        return 6;
+        return refusals::ACCEPTING;
     }
     0
 }
@@ -58,13 +58,13 @@ pub fn lists_row(n: usize, counts: &[u8], clauses: &[u8]) -> u8
     ensures { λ r. ⌜ r ≡ firstRow (listRows n (now (counts .entry)) (now (clauses .entry))) ⌝ }
 {
     if any_from(counts, 9) {
-        return 8;
+        return refusals::COUNT;
     }
     if total(counts) != clauses.len() {
-        return 9;
+        return refusals::SUM;
     }
     if any_from(clauses, 1usize << n) {
-        return 10;
+        return refusals::CLAUSE;
     }
     0
 }

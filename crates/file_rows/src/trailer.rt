@@ -56,10 +56,10 @@ pub fn trailer_row(f: &[u8]) -> u8
     ensures { λ r. ⌜ r ≡ firstRow (trailerRows (now (f .entry))) ⌝ }
 {
     if f.len() < 8 {
-        return 1;
+        return refusals::SHORT_FILE;
     }
     if !tag_ends(f) {
-        return 2;
+        return refusals::NO_TAG;
     }
     let h = read_head(f);
     let first = numbers_row(h);
@@ -70,7 +70,7 @@ pub fn trailer_row(f: &[u8]) -> u8
     let n = h.n;
     let s = h.s;
     if f.len() - 8 < c + n * s {
-        return 7;
+        return refusals::CUT;
     }
     0
 }

@@ -99,7 +99,7 @@ fn write_tidied(h: Head, counts: &[u8], clauses: &[u8], names: &[u8], out: &mut 
     let at = preface_length(names);
     let length = at + kept + entries + 8;
     if out.len() < length {
-        return Tidied::Refused(16);
+        return Tidied::Refused(refusals::SLICE);
     }
     fill(h, &counts2[..entries], &clauses2[..kept], names, at, out);
     Tidied::Length(length)

@@ -20,7 +20,7 @@ fn rule_row(h: Head, counts: &[u8], clauses: &[u8]) -> u8
     let n = h.n;
     let s = h.s;
     if counts.len() != n * s {
-        return 7;
+        return refusals::CUT;
     }
     let second = file_rows::rule::lists_row(n, counts, clauses);
     if second != 0 {
@@ -48,7 +48,7 @@ pub fn write_head(h: Head, counts: &[u8], clauses: &[u8], names: &[u8], out: &mu
     }
     let at = preface_length(names);
     if out.len() < at + clauses.len() + counts.len() + 8 {
-        return Written::Refused(16);
+        return Written::Refused(refusals::SLICE);
     }
     fill(h, counts, clauses, names, at, out);
     Written::Length(at + clauses.len() + counts.len() + 8)

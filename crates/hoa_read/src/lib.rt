@@ -155,15 +155,15 @@ pub fn read_hoa(text: &[u8], flags: &mut [u8], transitions: &mut [u64]) -> HoaRe
 {
     let s = take_text(text);
     if s.end == 0 {
-        return HoaRead::Refused(19);
+        return HoaRead::Refused(refusals::NO_TABLE);
     }
     let n = s.macrostates;
     if flags.len() < n {
-        return HoaRead::Refused(16);
+        return HoaRead::Refused(refusals::SLICE);
     }
     let m = s.transitions;
     if transitions.len() < m {
-        return HoaRead::Refused(16);
+        return HoaRead::Refused(refusals::SLICE);
     }
     take_starts(text, s.starts, n, s.accepting, flags);
     take_blocks(text, s.blocks, s.propositions, n, transitions);

@@ -43,7 +43,7 @@ fn write_read(s: usize, initial: u32, codes: &[u8], moves: &[u8], text: &mut [u8
     }
     let b = propositions_of(s);
     if !fits(text.len(), s, b, initial, codes, moves) {
-        return Written::Refused(16);
+        return Written::Refused(refusals::SLICE);
     }
     Written::Length(put_text(text, b, initial, codes, moves))
 }

@@ -33,7 +33,7 @@ pub fn judge_read(
         return Verdict::Refused(row);
     }
     if masks.len() < lead.len() + cycle.len() {
-        return Verdict::Refused(16);
+        return Verdict::Refused(refusals::SLICE);
     }
     fill(h, counts, clauses, lead, cycle, masks);
     if contains(masks[0], h.initial as u32) {

@@ -88,10 +88,10 @@ pub fn judge_choices_read(
     }
     let places = lead.len() + cycle.len();
     if masks.len() < places {
-        return Verdict::Refused(16);
+        return Verdict::Refused(refusals::SLICE);
     }
     if choices.len() < places * h.n {
-        return Verdict::Refused(16);
+        return Verdict::Refused(refusals::SLICE);
     }
     fill_both(h, counts, clauses, lead, cycle, masks, choices);
     if contains(masks[0], h.initial as u32) {

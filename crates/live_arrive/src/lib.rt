@@ -1,4 +1,5 @@
 // An arrival in which row 15 is tried on the transitions while the set is stepped, so that they are read twice and not four times.
+use codes::CODE_BITS;
 use live_letters::number_at;
 use live_letters::put_byte;
 use live_letters::put_number;
@@ -35,7 +36,7 @@ fn codes_pass(codes: &[u8]) -> bool
     if n == 0 {
         return true;
     }
-    element(codes, n - 1) >> 48 == 0
+    element(codes, n - 1) >> CODE_BITS == 0
 }
 
 // The larger of two bytes.

@@ -115,7 +115,7 @@ fn call_read(
     let room = set.len();
     match try_quickly(call, h.s, codes, transitions, state, room) {
         Quick::Served => LiveAnswer::Live(count(codes, state, set)),
-        Quick::Refused => LiveAnswer::Refused(15),
+        Quick::Refused => LiveAnswer::Refused(refusals::TABLE),
         Quick::Untried => call_by_rows(h, call, codes, transitions, state, set),
     }
 }

@@ -18,7 +18,7 @@ fn letter_row(call: LiveCall, s: usize) -> u8
         LiveCall::Start => 0,
         LiveCall::Arrive(a) => {
             if s <= a as usize {
-                return 14;
+                return refusals::LETTER;
             }
             0
         }
@@ -33,10 +33,10 @@ fn return_row(m: u32, state: &[u8]) -> u8
     ensures { λ r. ⌜ r ≡ firstRow (logRows (Return m) (now (state .entry))) ⌝ }
 {
     if 15 < m {
-        return 32;
+        return refusals::MARK;
     }
     if !is_marked(state, m as usize) {
-        return 33;
+        return refusals::MARK_NOT_SET;
     }
     0
 }
@@ -49,19 +49,19 @@ fn log_row(call: LiveCall, state: &[u8]) -> u8
         LiveCall::Start => 0,
         LiveCall::Arrive(_) => {
             if 512 <= number_at(state, 0) {
-                return 30;
+                return refusals::LOG_FULL;
             }
             0
         }
         LiveCall::Withdraw => {
             if number_at(state, 0) == 0 {
-                return 31;
+                return refusals::LOG_EMPTY;
             }
             0
         }
         LiveCall::Mark(m) => {
             if 15 < m {
-                return 32;
+                return refusals::MARK;
             }
             0
         }
@@ -74,10 +74,10 @@ fn slice_row(n: usize, state: &[u8], room: usize) -> u8
     ensures { λ r. ⌜ r ≡ firstRow (sliceRows n (now (state .entry)) room) ⌝ }
 {
     if state.len() < 74290 {
-        return 16;
+        return refusals::SLICE;
     }
     if room < n {
-        return 16;
+        return refusals::SLICE;
     }
     0
 }

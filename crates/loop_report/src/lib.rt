@@ -36,7 +36,7 @@ fn search(h: Head, counts: &[u8], clauses: &[u8], out: &mut [u8]) -> Report
         return Report::Nothing;
     }
     if out.len() <= k {
-        return Report::Refused(16);
+        return Report::Refused(refusals::SLICE);
     }
     write_loop(&es, n, others_of(n, accepting, t), t, k, out);
     Report::States(k + 1)

@@ -89,13 +89,13 @@ pub fn judge_sheet_read(
 {
     let words = count_words(sheet);
     if 64 < words {
-        return SheetAnswer::Refused(24);
+        return SheetAnswer::Refused(refusals::WORDS);
     }
     if answers.len() < words {
-        return SheetAnswer::Refused(16);
+        return SheetAnswer::Refused(refusals::SLICE);
     }
     if masks.len() < 64 * words {
-        return SheetAnswer::Refused(16);
+        return SheetAnswer::Refused(refusals::SLICE);
     }
     let cycles = judge_words(h, counts, clauses, sheet, answers, masks);
     SheetAnswer::Judged(Totals { words, cycles })

@@ -42,15 +42,15 @@ pub fn word_fault(s: usize, sheet: &[u8], at: usize) -> u8
 {
     let end = sheet.len();
     if end - at < 2 {
-        return 13;
+        return refusals::LONG_WORD;
     }
     let lead = sheet[at] as usize;
     let cycle = sheet[at + 1] as usize;
     if end - at - 2 < lead + cycle {
         if cycle == 0 {
-            return 12;
+            return refusals::NO_CYCLE;
         }
-        return 13;
+        return refusals::LONG_WORD;
     }
     let first = at + 2;
     let middle = first + lead;

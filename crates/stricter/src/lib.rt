@@ -119,7 +119,7 @@ fn compare_tables(
     if lacks_room(pairs, word, scratch) {
         zero_rooms(acodes, atransitions);
         zero_rooms(bcodes, btransitions);
-        return Comparison::Refused(29);
+        return Comparison::Refused(refusals::PAIR_ROOM);
     }
     search_tables(
         a,
@@ -203,7 +203,7 @@ fn compare_files(
         (now (word .exit)) (now (scratch .exit))) ⌝ }
 {
     if l.head.s != m.head.s {
-        return Comparison::Refused(28);
+        return Comparison::Refused(refusals::OTHER_LETTERS);
     }
     match build::build_accepted(a, l, true, acodes, atransitions) {
         Built::Refused(row) => {

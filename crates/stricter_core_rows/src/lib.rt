@@ -1,4 +1,6 @@
 // The steps of a pair of cores, one of each of two tagged tables: whether a pair leads to one that has a mark.
+use codes::MOVE_BITS;
+use codes::SOURCE_SHIFT;
 use codes::letter_of;
 use slice_search::place_low;
 ghost use mathlib.Core.Path.{_≡_};
@@ -19,14 +21,14 @@ ghost use Rattle.stricter_core_rows.specs.Rows.{needed, Met};
 fn row_of(t: u64) -> usize
     ensures { λ r. ⌜ r ≡ rowOf t ⌝ }
 {
-    ((t >> 24) & 0xffff) as usize
+    ((t >> SOURCE_SHIFT) & 0xffff) as usize
 }
 
 // The number of its target's core.
 fn onto_of(t: u64) -> usize
     ensures { λ r. ⌜ r ≡ ontoOf t ⌝ }
 {
-    ((t >> 40) & 0xffff) as usize
+    ((t >> MOVE_BITS) & 0xffff) as usize
 }
 
 // What is asked of a step: it counts where it leads to a mark of 1 and spares component k, of B if `second`, else of A, or where it leads

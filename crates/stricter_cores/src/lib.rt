@@ -1,5 +1,6 @@
 // Rounds over the pairs of cores of two tagged tables: once pairs go out that lead to none that is in, then for each component of either
 // table those that cannot reach a step that spares it, until none goes out.
+use codes::CODE_BITS;
 use slice_zeros::next_between;
 use slice_zeros::next_set;
 use stricter_core_rows::Asked;
@@ -23,7 +24,7 @@ fn stands(acodes: &[u64], i: usize) -> bool
     requires { ⌜ i < length (now acodes) ⌝ }
     ensures { λ r. ⌜ r ≡ standsIn (now (acodes .entry)) i ⌝ }
 {
-    (acodes[i] >> 48) as usize == i
+    (acodes[i] >> CODE_BITS) as usize == i
 }
 
 // Marks the pair of core i, whose row is cut, and core j if it is in, not marked, and a step that spares the component asked for leads to

@@ -1,4 +1,5 @@
 // Sorts out the pairs of numbers of two tagged tables from which both can accept, by the pairs of their cores.
+use codes::CODE_BITS;
 use stricter_cores::narrow;
 use stricter_spread::place_cores;
 use stricter_spread::spread;
@@ -21,7 +22,7 @@ fn none_stands(codes: &[u64]) -> bool
 {
     let mut i = 0;
     while i < codes.len() {
-        if (codes[i] >> 48) as usize == i {
+        if (codes[i] >> CODE_BITS) as usize == i {
             return false;
         }
         i += 1;

@@ -1,4 +1,5 @@
 // Marks for the pairs of cores of two tagged tables, and from them marks for all pairs of numbers.
+use codes::CODE_BITS;
 ghost use mathlib.Core.Path.{_≡_};
 ghost use mathlib.Core.Bool.{false, cond};
 ghost use Prim.Native.Nat.{ℕ, _+_, _-_, _*_, _≤_, _<_};
@@ -14,7 +15,7 @@ ghost use Rattle.stricter_spread.specs.Rows.{placedAt, takenAt, Standing
 fn core_of(code: u64) -> usize
     ensures { λ r. ⌜ r ≡ coreNumber code ⌝ }
 {
-    (code >> 48) as usize
+    (code >> CODE_BITS) as usize
 }
 
 // 1 where a tagged code is that of the number i that stands for its core, else 0.

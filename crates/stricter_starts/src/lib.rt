@@ -1,5 +1,6 @@
 // Start pairs among the pairs of cores of two tagged tables. A run begins where K and k are 0, and of the numbers of a core that one is the
 // first.
+use codes::CODE_BITS;
 use codes::is_first;
 use codes::is_initial;
 use slice_zeros::next_set;
@@ -30,7 +31,7 @@ fn begins_here(codes: &[u64], i: usize, initial: u32) -> bool
     ensures { λ r. ⌜ r ≡ (standsIn (now (codes .entry)) i && begun (λ c. bit c initial) (getD (now (codes .entry)) i 0)) ⌝ }
 {
     let code = codes[i];
-    if (code >> 48) as usize != i {
+    if (code >> CODE_BITS) as usize != i {
         return false;
     }
     is_initial(code, initial)

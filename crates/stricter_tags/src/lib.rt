@@ -1,5 +1,7 @@
 // Tags put on a table and taken off again, and which of its numbers take part.
 use build_closure_spec::Shape;
+use codes::CODE_BITS;
+use codes::CODE_MASK;
 use trim_marks::mark_live;
 ghost use mathlib.Core.Path.{_≡_};
 ghost use mathlib.Core.Bool.{cond};
@@ -45,7 +47,7 @@ fn tag_table(
 fn is_marked(c: u64) -> u8
     ensures { λ r. ⌜ r ≡ one (ltb 0 (c / 2 ^ 48)) ⌝ }
 {
-    if c >> 48 == 0 {
+    if c >> CODE_BITS == 0 {
         return 0;
     }
     1
@@ -83,7 +85,7 @@ fn told(c: u64, live: u8, n: usize) -> u64
     ensures { λ r. ⌜ r ≡ cond (ltb 0 live) c (c % 2 ^ 48 + 2 ^ 48 * n) ⌝ }
 {
     if live == 0 {
-        return (c & 0xffff_ffff_ffff) + ((n as u64) << 48);
+        return (c & CODE_MASK) + ((n as u64) << CODE_BITS);
     }
     c
 }

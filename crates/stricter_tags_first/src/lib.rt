@@ -1,4 +1,8 @@
 // The number of its core above each code.
+use codes::ABOVE_CODE;
+use codes::ABOVE_CORE;
+use codes::CORE_BITS;
+use codes::CORE_MASK;
 use slice_search::place;
 ghost use mathlib.Core.Path.{_≡_};
 ghost use Prim.Native.Nat.{ℕ, _+_, _/_, _%_, _≤_, _<_};
@@ -13,15 +17,15 @@ fn first_of(codes: &[u64], i: usize, components: u64) -> usize
         × ((j : ℕ) → j < i → getD (now codes) j 0 / 1099511627776 % 16 < components) ⌝ }
     ensures { λ r. ⌜ r ≡ firstOf (take (i + 1) (now (codes .entry))) i ⌝ }
 {
-    let core = codes[i] & 0xff_ffff_ffff;
-    let top = codes[i] >> 40;
+    let core = codes[i] & CORE_MASK;
+    let top = codes[i] >> CORE_BITS;
     let mut h: u64 = 0;
     while h < top {
         if components <= (h & 15) {
             h += 1;
             continue;
         }
-        let key = core + h * 0x100_0000_0000;
+        let key = core + h * ABOVE_CORE;
         let p = place(codes, i, key);
         if codes[p] == key {
             return p;
@@ -42,6 +46,6 @@ pub fn tag_codes(codes: &mut [u64], components: u64)
     while 0 < i {
         i -= 1;
         let first = first_of(codes, i, components);
-        codes[i] += first as u64 * 0x1_0000_0000_0000;
+        codes[i] += first as u64 * ABOVE_CODE;
     }
 }

@@ -1,5 +1,8 @@
 // Tags of transitions: the number of the target's core, and the components that are spared.
 use build_closure_spec::Shape;
+use codes::ABOVE_MOVE;
+use codes::ABOVE_MOVE_CORE;
+use codes::CODE_BITS;
 use codes::letter_of;
 use codes::target_of;
 ghost use mathlib.Core.Path.{_≡_};
@@ -83,7 +86,7 @@ fn tag_move(t: u64, codes: &[u64], shape: Shape, opens: &[u8; 4096], parts: &[u8
 {
     let d = codes[target_of(t)];
     let spared = spared_over((d >> 8) & 0xffff_ffff, letter_of(t), shape, opens, parts);
-    t + (d >> 48) * 0x100_0000_0000 + spared * 0x100_0000_0000_0000
+    t + (d >> CODE_BITS) * ABOVE_MOVE + spared * ABOVE_MOVE_CORE
 }
 
 // All transitions with their tags.

@@ -45,7 +45,7 @@ pub fn judge_lent(
     let n = count(codes, codebytes);
     let used = n * (lead.len() + cycle.len());
     if scratch.len() < used {
-        return Start::Refused(16);
+        return Start::Refused(refusals::SLICE);
     }
     let m = search(
         h.initial as u32,

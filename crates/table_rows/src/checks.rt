@@ -1,4 +1,5 @@
 // What row 15 asks of the numbers of a lent table, test by test.
+use codes::CODE_BITS;
 use codes::letter_of;
 use codes::source_of;
 use codes::target_of;
@@ -37,7 +38,7 @@ pub fn has_high(words: &[u64], bytes: &[u8]) -> bool
     let n = count(words, bytes);
     let mut i = 0;
     while i < n {
-        if element(words, bytes, i) >> 48 != 0 {
+        if element(words, bytes, i) >> CODE_BITS != 0 {
             return true;
         }
         i += 1;

@@ -34,13 +34,13 @@ pub fn table_row(s: usize, codes: &[u64], codebytes: &[u8], moves: &[u64], moveb
         r ≡ tableRow s (inBoth (now (codes .entry)) (now (codebytes .entry))) (inBoth (now (moves .entry)) (now (movebytes .entry))) ⌝ }
 {
     if codebytes.len() % 8 != 0 {
-        return 15;
+        return refusals::TABLE;
     }
     if movebytes.len() % 8 != 0 {
-        return 15;
+        return refusals::TABLE;
     }
     if is_faulty(s, codes, codebytes, moves, movebytes) {
-        return 15;
+        return refusals::TABLE;
     }
     0
 }

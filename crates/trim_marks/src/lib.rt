@@ -1,5 +1,7 @@
 // Finds the macrostates of a table that matter. The mark of each stands in bits 48 to 63 of its code, which no code uses: 0 for one that
 // is out, 1 for one that is in, 2 for one that is in and accepting, and 2 more while a walk from it to an accepting one is known.
+use codes::CODE_BITS;
+use codes::CODE_MASK;
 use codes::is_accepting;
 use codes::source_of;
 use codes::target_of;
@@ -35,11 +37,11 @@ fn mark(codes: &mut [u64], x: usize, y: usize) -> bool
         × (r ≡ isNew x y (highs (now (codes .entry)))) ⌝ }
 {
     let c = codes[x];
-    let v = c >> 48;
+    let v = c >> CODE_BITS;
     if !is_free(v) {
         return false;
     }
-    if codes[y] >> 48 < 2 {
+    if codes[y] >> CODE_BITS < 2 {
         return false;
     }
     codes[x] = c + 0x0002_0000_0000_0000;
@@ -81,8 +83,8 @@ fn sweep_out(codes: &mut [u64], transitions: &[u64])
 fn settled_code(c: u64) -> u64
     ensures { λ r. ⌜ (r / 2 ^ 48 ≡ settled (c / 2 ^ 48)) × (r % 2 ^ 48 ≡ c % 2 ^ 48) ⌝ }
 {
-    if c >> 48 < 3 {
-        return c & 0x0000_ffff_ffff_ffff;
+    if c >> CODE_BITS < 3 {
+        return c & CODE_MASK;
     }
     c - 0x0002_0000_0000_0000
 }
@@ -91,7 +93,7 @@ fn settled_code(c: u64) -> u64
 fn goes_out(c: u64) -> bool
     ensures { λ r. ⌜ r ≡ goesOut (c / 2 ^ 48) ⌝ }
 {
-    c >> 48 == 2
+    c >> CODE_BITS == 2
 }
 
 // Takes out the numbers that are not marked, and the marks off the others; whether an accepting one went out.

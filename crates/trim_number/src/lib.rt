@@ -1,5 +1,7 @@
 // Gives the macrostates that are left their new numbers, in place: first in bits 48 to 63 of their codes, where their marks stood, then
 // in the transitions, and last by their places.
+use codes::CODE_BITS;
+use codes::CODE_MASK;
 use codes::letter_of;
 use codes::pack_transition;
 use codes::source_of;
@@ -25,7 +27,7 @@ pub fn count_left(codes: &[u64]) -> usize
     while i < codes.len() {
         let c = codes[i];
         i += 1;
-        if c >> 48 != 0 {
+        if c >> CODE_BITS != 0 {
             k += 1;
         }
     }
@@ -37,7 +39,7 @@ fn carrying(c: u64, k: u64) -> u64
     requires { ⌜ k < 65536 ⌝ }
     ensures { λ r. ⌜ (r / 2 ^ 48 ≡ k) × (r % 2 ^ 48 ≡ c % 2 ^ 48) ⌝ }
 {
-    (c & 0x0000_ffff_ffff_ffff) + (k << 48)
+    (c & CODE_MASK) + (k << CODE_BITS)
 }
 
 // Puts in place of each mark that is not 0 the code's new number and 1 more. Not all codes are left, so that 16 bits suffice.
@@ -52,7 +54,7 @@ pub fn number(codes: &mut [u64])
         let at = i;
         let c = codes[at];
         i += 1;
-        if c >> 48 != 0 {
+        if c >> CODE_BITS != 0 {
             k += 1;
             codes[at] = carrying(c, k);
         }
@@ -66,10 +68,10 @@ fn is_left(codes: &[u64], t: u64) -> bool
     requires { ⌜ (sourceOf t < length (now codes)) × (targetOf t < length (now codes)) ⌝ }
     ensures { λ r. ⌜ r ≡ isLeft (highs (now (codes .entry))) t ⌝ }
 {
-    if codes[source_of(t)] >> 48 == 0 {
+    if codes[source_of(t)] >> CODE_BITS == 0 {
         return false;
     }
-    codes[target_of(t)] >> 48 != 0
+    codes[target_of(t)] >> CODE_BITS != 0
 }
 
 // A transition by the new numbers of its ends.
@@ -79,8 +81,8 @@ fn rewritten_one(codes: &[u64], t: u64) -> u64
         × (isLeft (highs (now codes)) t ≡ true) ⌝ }
     ensures { λ r. ⌜ r ≡ rewrite (highs (now (codes .entry))) t ⌝ }
 {
-    let source = (codes[source_of(t)] >> 48) as usize - 1;
-    let target = (codes[target_of(t)] >> 48) as usize - 1;
+    let source = (codes[source_of(t)] >> CODE_BITS) as usize - 1;
+    let target = (codes[target_of(t)] >> CODE_BITS) as usize - 1;
     pack_transition(source, letter_of(t), target)
 }
 
@@ -110,7 +112,7 @@ pub fn rewrite_all(codes: &[u64], transitions: &mut [u64]) -> usize
 fn without_number(c: u64) -> u64
     ensures { λ r. ⌜ r ≡ c % 2 ^ 48 ⌝ }
 {
-    c & 0x0000_ffff_ffff_ffff
+    c & CODE_MASK
 }
 
 // Moves the codes that are left to the front, without what they carry, and zeros behind them; answers how many there are.
@@ -123,7 +125,7 @@ pub fn compact(codes: &mut [u64]) -> usize
     while i < codes.len() {
         let c = codes[i];
         i += 1;
-        if c >> 48 != 0 {
+        if c >> CODE_BITS != 0 {
             codes[w] = without_number(c);
             w += 1;
         }

@@ -12,13 +12,13 @@ pub fn length_row(lead: &[u8], cycle: &[u8]) -> u8
     ensures { λ r. ⌜ r ≡ lengthRow (now (lead .entry)) (now (cycle .entry)) ⌝ }
 {
     if cycle.len() == 0 {
-        return 12;
+        return refusals::NO_CYCLE;
     }
     if 32 < lead.len() {
-        return 13;
+        return refusals::LONG_WORD;
     }
     if 32 < cycle.len() {
-        return 13;
+        return refusals::LONG_WORD;
     }
     0
 }
@@ -32,10 +32,10 @@ pub fn word_row(s: usize, lead: &[u8], cycle: &[u8]) -> u8
         return row;
     }
     if any_from(lead, s) {
-        return 14;
+        return refusals::LETTER;
     }
     if any_from(cycle, s) {
-        return 14;
+        return refusals::LETTER;
     }
     0
 }

@@ -94,7 +94,7 @@ pub fn tidy_word(lead: &[u8], cycle: &[u8], out: &mut [u8]) -> TidyWord
     let p = cycle_length(cycle);
     let m = lead_length(lead, cycle, p);
     if out.len() < m + p {
-        return TidyWord::Refused(16);
+        return TidyWord::Refused(refusals::SLICE);
     }
     write_letters(lead, cycle, m + p, out);
     TidyWord::Spelling(Lengths { lead: m, cycle: p })
