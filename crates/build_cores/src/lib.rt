@@ -11,7 +11,7 @@ ghost use Rattle.build_cores.specs.Vectors.{rankAt, Within, nextOf};
 ghost use Rattle.build_cores.specs.Used.{used, classCount, gapless, sizesOf, capsOf};
 
 // A mask with each bit moved to the place of its nibble.
-pub fn spread(m: u8) -> u32
+pub fn nibbles_of(m: u8) -> u32
     ensures { λ r. ⌜ r ≡ num 16 8 (λ q. one (bit m q)) ⌝ }
 {
     let a = m as u32;
@@ -100,7 +100,7 @@ pub fn is_core(ranks: u64, parts: &[u8; 8], components: usize) -> bool
 pub fn sizes(part: u8) -> u32
     ensures { λ r. ⌜ r ≡ sizesOf part ⌝ }
 {
-    spread(part) * u8::count_ones(part)
+    nibbles_of(part) * u8::count_ones(part)
 }
 
 // The largest ranks: that of a state is the size of its component.

@@ -54,7 +54,7 @@ pub fn step_component(
         // The states x ^ prev have level j - 1 and are the next class, whose nibble is done: the lowest of the 1s goes, by a shift.
         ones = ones << 4;
         // They, and all states that come later, are one class higher than what came before.
-        ranks += build_cores::spread(goal ^ prev);
+        ranks += build_cores::nibbles_of(goal ^ prev);
         prev = x;
     }
     // The nibbles above the last class have gone up with it: each from 1 on holds one more than the largest level of so many classes.

@@ -45,7 +45,7 @@ fn span_of(parts: &[u8; 8], shape: Shape, x: u8) -> Span
         × (bitAnd x (openIn (capsOf (now parts) (shape .components))) ≡ x) ⌝ }
     ensures { λ r. ⌜ Spans (now (parts .entry)) (shape .components) x (r .base) (r .caps) ⌝ }
 {
-    let base = build_cores::spread(x) as u64;
+    let base = build_cores::nibbles_of(x) as u64;
     let those = open_parts(parts, x);
     let caps = build_cores::largest_ranks(&those, shape.components) - base;
     Span { base, caps }

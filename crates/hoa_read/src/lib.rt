@@ -5,7 +5,7 @@ use hoa_read_lines::take_numbered;
 use hoa_read_parts::take_blocks;
 use hoa_read_parts::take_starts;
 use hoa_read_spec::HoaRead;
-use hoa_read_spec::Sizes;
+use hoa_read_spec::TableSizes;
 ghost use Prim.Native.Nat.{_-_};
 ghost use mathlib.Core.Path.{_≡_};
 ghost use lib.ListN.{length, getD};
@@ -167,7 +167,7 @@ pub fn read_hoa(text: &[u8], flags: &mut [u8], transitions: &mut [u64]) -> HoaRe
     }
     take_starts(text, s.starts, n, s.accepting, flags);
     take_blocks(text, s.blocks, s.propositions, n, transitions);
-    HoaRead::Table(Sizes {
+    HoaRead::Table(TableSizes {
         macrostates: n,
         transitions: m,
     })

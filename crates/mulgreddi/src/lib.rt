@@ -1,6 +1,5 @@
 // The C interface: every public entry, its answer as three numbers. include/mulgreddi.h declares and documents it.
 pub mod choices;
-pub mod comparison;
 pub mod event;
 pub mod hoa;
 pub mod live;
@@ -8,6 +7,7 @@ pub mod loops;
 pub mod names;
 pub mod rejecting;
 pub mod sheet;
+pub mod stricter;
 pub mod tidy;
 pub mod trimmed;
 pub mod word;

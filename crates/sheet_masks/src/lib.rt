@@ -13,7 +13,7 @@ ghost use Rattle.judge_place.specs.Starts.{backOver};
 ghost use Rattle.sheet_masks.specs.Repeats.{repeated, spreadOf};
 
 // Writes the masks of a cycle, again and again, to the bytes from first to below end; zeros to those after.
-pub fn spread(cycle: &[u8], first: usize, end: usize, block: &mut [u8])
+pub fn repeat_cycle(cycle: &[u8], first: usize, end: usize, block: &mut [u8])
     requires { ⌜ (0 < length (now cycle)) × (first ≤ end) × (end ≤ length (now block)) ⌝ }
     ensures { λ _. ⌜ now (block .exit) ≡ spreadOf (now (cycle .entry)) first end (now (block .entry)) ⌝ }
 {
@@ -53,6 +53,6 @@ pub fn write_masks(
         (repeated (now (cycle .entry)) (places - length (now (lead .entry))) ++ replicate (length (now (block .entry)) - places) 0) ⌝ }
 {
     let first = lead.len();
-    spread(cycle, first, places, block);
+    repeat_cycle(cycle, first, places, block);
     fill_lead(h, counts, starts, clauses, lead, block);
 }

@@ -1,6 +1,6 @@
 // Sorts out the pairs of numbers of the tables of two rules, from their files. While it does, the free bits of both tables hold tags.
 use file_spec::Layout;
-use stricter_fixpoints::sort_cores;
+use stricter_fixpoints::mark_pairs;
 use stricter_tags::tag_live;
 use stricter_tags::untag;
 ghost use mathlib.Core.Path.{_≡_};
@@ -40,7 +40,7 @@ fn tag_file(file: &[u8], l: Layout, codes: &mut [u64], moves: &mut [u64], live: 
 }
 
 // Sorts out the pairs of two tagged tables, and takes the tags off.
-fn sort_tagged(
+fn mark_tagged(
     acodes: &mut [u64],
     amoves: &mut [u64],
     acount: usize,
@@ -59,7 +59,7 @@ fn sort_tagged(
     ensures { λ _. ⌜ (now (acodes .exit) ≡ plain (now (acodes .entry))) × (now (amoves .exit) ≡ untagged (now (amoves .entry))) ⌝ }
     ensures { λ _. ⌜ (now (bcodes .exit) ≡ plain (now (bcodes .entry))) × (now (bmoves .exit) ≡ untagged (now (bmoves .entry))) ⌝ }
 {
-    let start = sort_cores(
+    let start = mark_pairs(
         acodes,
         amoves,
         acount,
@@ -77,7 +77,7 @@ fn sort_tagged(
 
 // Sorts out the pairs of a number of A's table and one of the table of the words that B rejects: a start pair, and a mark for each pair, 0
 // where it is out; or the number of pairs where no start pair is in. The tables are as they were in the end.
-pub fn sort_files(
+pub fn mark_files(
     a: &[u8],
     l: Layout,
     acodes: &mut [u64],
@@ -102,7 +102,7 @@ pub fn sort_files(
     let bcount = tag_file(b, m, bcodes, bmoves, marks);
     let ainitial = l.head.initial as u32;
     let binitial = m.head.initial as u32;
-    sort_tagged(
+    mark_tagged(
         acodes,
         amoves,
         acount,

@@ -2,7 +2,7 @@
 use codes::CODE_BITS;
 use stricter_cores::narrow;
 use stricter_spread::place_cores;
-use stricter_spread::spread;
+use stricter_spread::spread_marks;
 use stricter_starts::first_start;
 ghost use mathlib.Core.Path.{_≡_};
 ghost use mathlib.Core.Bool.{true, false, not};
@@ -32,7 +32,7 @@ fn none_stands(codes: &[u64]) -> bool
 
 // Sorts out the pairs of cores of two tagged tables. Where a start pair is left, it gives each pair of numbers the mark of the pair of its
 // cores, and answers the first start pair; else the number of pairs.
-pub fn sort_cores(
+pub fn mark_pairs(
     acodes: &[u64],
     left: &[u64],
     acount: usize,
@@ -61,6 +61,6 @@ pub fn sort_cores(
     if marks.len() <= start {
         return start;
     }
-    spread(acodes, bcodes, marks);
+    spread_marks(acodes, bcodes, marks);
     start
 }

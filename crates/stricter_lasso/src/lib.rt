@@ -290,7 +290,7 @@ fn write_round(
 
 // A word that both tables accept, beginning at the start pair: its letters are written at the start of the word slice. Where the start
 // pair leads back to itself, it is that way for ever.
-pub fn find_word(
+pub fn shared_word(
     lcodes: &[u64],
     left: &[u64],
     rcodes: &[u64],

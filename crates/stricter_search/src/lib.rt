@@ -1,8 +1,8 @@
 // The search for a word that two tables accept: the pairs from which both can, a start pair among them, and the word.
 use file_spec::Layout;
 use slice_zeros::fill_with;
-use stricter_files::sort_files;
-use stricter_lasso::find_word;
+use stricter_files::mark_files;
+use stricter_lasso::shared_word;
 use stricter_spec::Found;
 ghost use mathlib.Core.Path.{_≡_};
 ghost use mathlib.Core.Bool.{not};
@@ -38,7 +38,7 @@ fn search_pairs(
     if marks.len() <= start {
         return Found::Nothing;
     }
-    find_word(acodes, amoves, bcodes, bmoves, start, word, marks)
+    shared_word(acodes, amoves, bcodes, bmoves, start, word, marks)
 }
 
 // The search on the tables of two files, with a mark for each pair.
@@ -62,7 +62,7 @@ fn search_files(
     ensures { λ _. ⌜ (now (acodes .exit) ≡ now (acodes .entry)) × (now (amoves .exit) ≡ now (amoves .entry)) ⌝ }
     ensures { λ _. ⌜ (now (bcodes .exit) ≡ now (bcodes .entry)) × (now (bmoves .exit) ≡ now (bmoves .entry)) ⌝ }
 {
-    let start = sort_files(a, l, acodes, amoves, b, m, bcodes, bmoves, marks);
+    let start = mark_files(a, l, acodes, amoves, b, m, bcodes, bmoves, marks);
     search_pairs(acodes, amoves, bcodes, bmoves, start, word, marks)
 }
 

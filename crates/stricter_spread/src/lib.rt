@@ -12,7 +12,7 @@ ghost use Rattle.stricter_tags_laws.specs.Fill.{Filled};
 ghost use Rattle.stricter_spread.specs.Rows.{placedAt, takenAt, Standing};
 
 // The number of a tagged code's core.
-fn core_of(code: u64) -> usize
+fn core_number(code: u64) -> usize
     ensures { λ r. ⌜ r ≡ coreNumber code ⌝ }
 {
     (code >> CODE_BITS) as usize
@@ -22,7 +22,7 @@ fn core_of(code: u64) -> usize
 fn standing(code: u64, i: usize) -> u8
     ensures { λ r. ⌜ r ≡ one (eqb (coreNumber code) i) ⌝ }
 {
-    if core_of(code) == i {
+    if core_number(code) == i {
         return 1;
     }
     0
@@ -101,7 +101,7 @@ fn spread_row(acodes: &[u64], bcodes: &[u64], i: usize, marks: &mut [u8])
         (i * length (now (bcodes .entry))) (i * length (now (bcodes .entry)) + length (now (bcodes .entry)))
         (now (marks .entry)) (now (marks .exit)) ⌝ }
 {
-    let core = core_of(acodes[i]);
+    let core = core_number(acodes[i]);
     if acodes.len() <= core {
         return;
     }
@@ -109,14 +109,14 @@ fn spread_row(acodes: &[u64], bcodes: &[u64], i: usize, marks: &mut [u8])
     let base = i * bcodes.len();
     let mut j = 0;
     while j < bcodes.len() {
-        let v = mark_of(marks, row, core_of(bcodes[j]), bcodes.len());
+        let v = mark_of(marks, row, core_number(bcodes[j]), bcodes.len());
         marks[base + j] = v;
         j += 1;
     }
 }
 
 // All pairs take the marks of the pairs of their cores.
-pub fn spread(acodes: &[u64], bcodes: &[u64], marks: &mut [u8])
+pub fn spread_marks(acodes: &[u64], bcodes: &[u64], marks: &mut [u8])
     requires { ⌜ (length (now marks) ≡ length (now acodes) * length (now bcodes))
         × (length (now acodes) ≤ 65536) × (length (now bcodes) ≤ 65536) × Standing (now acodes) × Standing (now bcodes)
         × OnlyCores (now acodes) (length (now bcodes)) (now marks) ⌝ }

@@ -27,7 +27,7 @@ fn is_start(code: u64, initial: u32, mark: u8) -> bool
 }
 
 // The lowest marked number where a run may begin, or the number of codes.
-fn first_start(codes: &[u64], codebytes: &[u8], initial: u32, marks: &[u8]) -> usize
+fn lowest_start(codes: &[u64], codebytes: &[u8], initial: u32, marks: &[u8]) -> usize
     requires { ⌜ (initial < 8) × (length (inBoth (now codes) (now codebytes) .numbers) ≤ length (now marks)) ⌝ }
     ensures { λ r. ⌜ Lowest (length (inBoth (now (codes .entry)) (now (codebytes .entry)) .numbers))
         (startsAt (λ c. bit c initial) (inBoth (now (codes .entry)) (now (codebytes .entry)) .numbers) (now (marks .entry))) r ⌝ }
@@ -62,5 +62,5 @@ pub fn search(
         (inBoth (now (moves .entry)) (now (movebytes .entry)) .numbers) (now (lead .entry)) (now (cycle .entry))) r ⌝ }
 {
     fill(codes, codebytes, moves, movebytes, lead, cycle, marks);
-    first_start(codes, codebytes, initial, marks)
+    lowest_start(codes, codebytes, initial, marks)
 }

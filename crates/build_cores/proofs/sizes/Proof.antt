@@ -10,8 +10,8 @@ use Rattle.build_cores.proofs.sizes.Statement.{statement}
 use Rattle.build_cores.proofs.sizes.Tie as tie
 
 -- the product
-product : (c : tie.After-spread) → c .spread .result * ones (c .before .args .part) ≡ sizesOf (c .before .args .part)
-product c = ap (λ (x : ℕ). x * ones (c .before .args .part)) (c .spread .ensures) ∙ sizes-are (c .before .args .part) (omega arith)
+product : (c : tie.After-nibbles-of) → c .nibbles-of .result * ones (c .before .args .part) ≡ sizesOf (c .before .args .part)
+product c = ap (λ (x : ℕ). x * ones (c .before .args .part)) (c .nibbles-of .ensures) ∙ sizes-are (c .before .args .part) (omega arith)
 
 mul-result : tie.Need-mul-result
 mul-result c = omega (arith, product c, sizes-low (c .before .args .part))

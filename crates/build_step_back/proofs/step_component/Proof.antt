@@ -92,7 +92,7 @@ unfolding upto goal
 add-ranks c =
     let start = c .before .before .before .before .before .before .before .before in
     let a = start .args in let l = c .before .before .before .before .before .loop in
-    rw (c .spread .ensures)
+    rw (c .nibbles-of .ensures)
     (omega (
       arith,
       ranks-fit (a .opens .now) (a .letter) (a .opened) (a .part) (a .low .now) (l .inv .0) (omega arith) (l .prev) (l .ones) (l .ranks) (l .levels) (l .j) (l .inv .2)
@@ -109,7 +109,7 @@ loop-again-2 c =
     let a = start .args in let l = c .before .before .before .before .before .loop in (
       l .inv .0,
       omega (arith, deep (c .before .before .before .before)),
-      rw (c .spread .ensures)
+      rw (c .nibbles-of .ensures)
           (on-new (a .opens .now) (a .letter) (a .opened) (a .part) (a .low .now) (l .inv .0) (omega arith) (l .prev) (l .ones) (l .ranks) (l .levels) (l .j) (l .inv .2)
           (more (c .before .before .before .before)) (c .before .if2 .left)),
     )

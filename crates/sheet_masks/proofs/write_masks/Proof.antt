@@ -10,15 +10,15 @@ use Rattle.sheet_masks.proofs.Repeats.{spread-length, spread-drop}
 use Rattle.sheet_masks.proofs.write_masks.Statement.{statement}
 use Rattle.sheet_masks.proofs.write_masks.Tie as tie
 
-spread-requires : tie.Need-spread-requires
-spread-requires c κs = let z = c .before .before .before .before .before .before .pre in (z .3, omega (arith, z .4), z .5)
+repeat-cycle-requires : tie.Need-repeat-cycle-requires
+repeat-cycle-requires c κs = let z = c .before .before .before .before .before .before .pre in (z .3, omega (arith, z .4), z .5)
 
 fill-lead-requires : tie.Need-fill-lead-requires
 fill-lead-requires c κs =
     let start = c .before .before .before .before .before .before .before .before .before .before in
     let a = start .args in
     let z = start .pre in
-    let s = c .before .before .before .spread in
+    let s = c .before .before .before .repeat-cycle in
     let order : length (a .lead .now) ≤ a .places = omega (arith, z .4) in
     let long : length (s .last .1 .1 .1 .0) ≡ length (a .block .now) = ap length (s .ensures) ∙ spread-length (a .cycle .now) (length (a .lead .now)) (a .places) (a .block .now) order (z .5) in
     (z .0, z .1, omega (arith, long, z .4, z .5), z .2)
@@ -31,8 +31,8 @@ returns c =
     let order : length (a .lead .now) ≤ a .places = omega (arith, z .4) in
     c .before .before .fill-lead .ensures
     ∙ ap (backOver (ruleOf (a .h) (a .counts .now) (a .clauses .now)) (a .lead .now))
-    (ap (drop (length (a .lead .now))) (c .before .before .before .before .before .before .spread .ensures)
+    (ap (drop (length (a .lead .now))) (c .before .before .before .before .before .before .repeat-cycle .ensures)
     ∙ spread-drop (a .cycle .now) (length (a .lead .now)) (a .places) (a .block .now) order (z .5))
 
 pub write-masks-spec : {M : Type 1} → statement M
-write-masks-spec = tie.close (tie.spec spread-requires fill-lead-requires (λ c. search needs) returns)
+write-masks-spec = tie.close (tie.spec repeat-cycle-requires fill-lead-requires (λ c. search needs) returns)

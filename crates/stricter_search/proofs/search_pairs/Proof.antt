@@ -8,8 +8,8 @@ use Rattle.stricter_search.proofs.search_pairs.Tie as tie
 returns : tie.Need-returns
 returns c = λ s t S. (refl, S .none (omega (arith, c .if1 .taken)))
 
-find-word-requires : tie.Need-find-word-requires
-find-word-requires c κs =
+shared-word-requires : tie.Need-shared-word-requires
+shared-word-requires c κs =
     let start = c .before .before .before .before .before .before .before .before .before in
     let p = start .pre in
     let (s, t, S) = p .2 in
@@ -18,7 +18,7 @@ find-word-requires c κs =
 returns-2 : tie.Need-returns-2
 returns-2 c =
     let at-if1 = c .before .before .before .before .before .before .before in
-    λ s t S. c .before .before .before .before .find-word .ensures s t (S .begins (omega (arith, at-if1 .if1 .left)))
+    λ s t S. c .before .before .before .before .shared-word .ensures s t (S .begins (omega (arith, at-if1 .if1 .left)))
 
 pub search-pairs-spec : {M : Type 1} → statement M
-search-pairs-spec = tie.close (tie.spec returns find-word-requires (λ c. search needs) (λ c. search needs) returns-2)
+search-pairs-spec = tie.close (tie.spec returns shared-word-requires (λ c. search needs) (λ c. search needs) returns-2)

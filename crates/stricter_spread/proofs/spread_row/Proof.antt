@@ -32,14 +32,14 @@ unfolding hasCore
 returns c =
     let start = c .before .before .before .before .before .before in
     let a = start .args in
-    let no : hasCore (a .acodes .now) (a .i) ≡ false = le-ltb (coreNumber (getD (a .acodes .now) (a .i) 0)) (length (a .acodes .now)) (omega (arith, c .before .core-of .ensures)) in
+    let no : hasCore (a .acodes .now) (a .i) ≡ false = le-ltb (coreNumber (getD (a .acodes .now) (a .i) 0)) (length (a .acodes .now)) (omega (arith, c .before .core-number .ensures)) in
     moved-out (a .acodes .now) (a .bcodes .now) (a .i) (a .marks .now) (start .pre .1 .2) no
 
 mul-row : tie.Need-mul-row Inv-loop μ-loop
 mul-row c =
     let start = c .before .before .before .before .before .before in
     let nb = length (start .args .bcodes .now) in
-    omega (arith, place-room nb (c .before .core-of .result) (length (start .args .acodes .now)) (omega arith), start .pre .0 .1)
+    omega (arith, place-room nb (c .before .core-number .result) (length (start .args .acodes .now)) (omega arith), start .pre .0 .1)
 
 mul-base : tie.Need-mul-base Inv-loop μ-loop
 mul-base c =
@@ -50,7 +50,7 @@ loop-holds : tie.Need-loop-holds Inv-loop μ-loop
 loop-holds c =
     let a = c .before .before .before .before .before .before .args in
     let base : ℕ = a .i * length (a .bcodes .now) in (
-      c .before .core-of .ensures,
+      c .before .core-number .ensures,
       omega arith,
       refl,
       refl,
@@ -63,7 +63,7 @@ mark-of-requires c κs =
     let at-loop = c .before .before .before .before in
     let start = at-loop .before .before .before .before .before .before .before in
     let l = at-loop .loop .inv in
-    omega (arith, place-room (length (start .args .bcodes .now)) (at-loop .before .before .core-of .result) (length (start .args .acodes .now)) (l .1), start .pre .0 .1, l .2, l .5 .long)
+    omega (arith, place-room (length (start .args .bcodes .now)) (at-loop .before .before .core-number .result) (length (start .args .acodes .now)) (l .1), start .pre .0 .1, l .2, l .5 .long)
 
 add-marks : tie.Need-add-marks Inv-loop μ-loop
 add-marks c =
@@ -108,7 +108,7 @@ loop-again c =
       rw (← add-assoc base (l .j) 1, l .inv .3)
           (moved-next (a .acodes .now) (a .bcodes .now) (start .pre .1 .0) (start .pre .1 .1) (a .i) (l .j) (start .pre .0 .0) (omega arith) has base (a .marks .now) (l .marks) _
           (omega arith) low (l .inv .5)
-          (c .mark-of .ensures ∙ ap₂ (λ (k r : ℕ). cond (ltb k nb) (getD (l .marks) (r * nb + k) 0) 0) (c .before .core-of2 .ensures) (l .inv .0))),
+          (c .mark-of .ensures ∙ ap₂ (λ (k r : ℕ). cond (ltb k nb) (getD (l .marks) (r * nb + k) 0) 0) (c .before .core-number2 .ensures) (l .inv .0))),
     )
 
 returns-2 : tie.Need-returns-2 Inv-loop μ-loop

@@ -10,8 +10,8 @@ use borrow.Author.Needs.{needs}
 use Rattle.table_starts.proofs.search.Statement.{statement}
 use Rattle.table_starts.proofs.search.Tie as tie
 
-first-start-requires : tie.Need-first-start-requires
-first-start-requires c κs =
+lowest-start-requires : tie.Need-lowest-start-requires
+lowest-start-requires c κs =
     let start = c .before .before .before .before .before .before .before .before .before .before .before .before in
     let a = start .args in
     let p = start .pre in
@@ -29,7 +29,7 @@ returns c =
     let start = c .before .before .before .before .before .before .before .before .before .before .before .before .before in
     let a = start .args in
     earliest (λ x. bit x (a .initial)) (inBoth (a .codes .now) (a .codebytes .now) .numbers) (inBoth (a .moves .now) (a .movebytes .now) .numbers) (a .lead .now) (a .cycle .now)
-    (c .before .before .before .before .fill .last .1 .1 .1 .1 .1 .1 .0) (c .before .before .before .before .fill .ensures) (c .first-start .result) (c .first-start .ensures)
+    (c .before .before .before .before .fill .last .1 .1 .1 .1 .1 .1 .0) (c .before .before .before .before .fill .ensures) (c .lowest-start .result) (c .lowest-start .ensures)
 
 pub search-spec : {M : Type 1} → statement M
-search-spec = tie.close (tie.spec (λ c κs. search needs) first-start-requires (λ c. search needs) returns)
+search-spec = tie.close (tie.spec (λ c κs. search needs) lowest-start-requires (λ c. search needs) returns)

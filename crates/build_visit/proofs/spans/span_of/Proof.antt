@@ -15,14 +15,14 @@ sub-caps c =
     omega (
       arith,
       base-le (p .0 .1) (a .x) (p .1) (c .before .before .open-parts .result) (c .before .before .open-parts .ensures),
-      c .before .before .before .spread .ensures,
+      c .before .before .before .nibbles-of .ensures,
       c .largest-ranks .ensures,
     )
 
 returns : tie.Need-returns
 returns c =
     let a = c .before .before .before .before .args in let p = c .before .before .before .before .pre in
-    rw (c .before .before .before .spread .ensures, c .largest-ranks .ensures)
+    rw (c .before .before .before .nibbles-of .ensures, c .largest-ranks .ensures)
     (span-of (p .0 .1) (a .x) (p .1) (c .before .before .open-parts .result) (c .before .before .open-parts .ensures))
 
 pub span-of-spec : {M : Type 1} → statement M

@@ -10,8 +10,8 @@ use Rattle.stricter_tags_laws.specs.Fill.{Filled}
 use Rattle.stricter_spread.specs.Rows.{takenAt}
 use Rattle.stricter_tags_laws.proofs.Fill.{filled-start}
 use Rattle.stricter_spread.proofs.Rows.{moved-row, moved-end, out-row, out-later}
-use Rattle.stricter_spread.proofs.spread.Statement.{statement}
-use Rattle.stricter_spread.proofs.spread.Tie as tie
+use Rattle.stricter_spread.proofs.spread_marks.Statement.{statement}
+use Rattle.stricter_spread.proofs.spread_marks.Tie as tie
 
 abbrev Inv-loop : tie.InvT-loop
 Inv-loop acodes bcodes marks₀ i₀ marks i = (i ≤ length acodes) × Filled (takenAt acodes bcodes marks₀) 0 (i * length bcodes) marks₀ marks
@@ -59,7 +59,7 @@ returns c =
     let e : at-loop .loop .i ≡ length (a .acodes .now) = omega (arith, at-loop .loop .inv .0) in
     moved-end (a .acodes .now) (a .bcodes .now) (a .marks .now) _ (rw e at (at-loop .loop .inv .1))
 
-pub spread-spec : {M : Type 1} → statement M
-spread-spec =
+pub spread-marks-spec : {M : Type 1} → statement M
+spread-marks-spec =
     tie.close (tie.spec
     Inv-loop μ-loop loop-holds spread-row-requires (λ c. search needs) (λ c. search needs) loop-again (λ c. c .before .loop .inv .1 .long) returns)

@@ -1,4 +1,4 @@
--- `sheet_masks::spread` meets its contract: the bytes before i are right; p is the place of the step i - first.
+-- `sheet_masks::repeat_cycle` meets its contract: the bytes before i are right; p is the place of the step i - first.
 use Prim.Native.Nat.{ℕ, _+_, _-_, _≤_, _<_}
 use mathlib.Core.Path.{_≡_, refl, sym, _∙_, ap}
 use mathlib.Core.List.{[]}
@@ -8,8 +8,8 @@ use borrow.Author.Needs.{needs}
 use Rattle.theory.specs.Word.{nextPlace, place}
 use Rattle.theory_laws.proofs.Places.{places-low}
 use Rattle.sheet_masks.proofs.Repeats.{Right, step-next, spread-front, spread-cycle, spread-zero, right-next, right-end, same-goal, right-again}
-use Rattle.sheet_masks.proofs.spread.Statement.{statement}
-use Rattle.sheet_masks.proofs.spread.Tie as tie
+use Rattle.sheet_masks.proofs.repeat_cycle.Statement.{statement}
+use Rattle.sheet_masks.proofs.repeat_cycle.Tie as tie
 
 abbrev Inv-loop : tie.InvT-loop
 Inv-loop cycle first end block₀ n i₀ p₀ block i p =
@@ -91,8 +91,8 @@ returns c =
     right-end (a .cycle .now) (a .first) (a .end) (f .block) (z .1) room (l .block) (l .i) (omega (arith, l .inv .2 .0)) (l .inv .2)
     ∙ same-goal (a .cycle .now) (a .first) (a .end) (a .block .now) (z .1) (z .2) (f .block) (f .i) (f .inv .0) (f .inv .4)
 
-pub spread-spec : {M : Type 1} → statement M
-spread-spec =
+pub repeat-cycle-spec : {M : Type 1} → statement M
+repeat-cycle-spec =
     tie.close (tie.spec
     Inv-loop μ-loop Inv-loop2 μ-loop2 loop-holds (λ c. omega arith) slice-write-block next-place-requires (λ c. omega arith) (λ c. omega arith) loop-again
     loop2-holds (λ c. omega arith) (λ c. omega arith) loop2-less loop2-again same-length returns)

@@ -1,4 +1,4 @@
--- `table_starts::first_start` meets its contract: no number before m is a start.
+-- `table_starts::lowest_start` meets its contract: no number before m is a start.
 use mathlib.Core.Path.{_≡_, sym, _∙_}
 use mathlib.Core.Bool.{false}
 use mathlib.Core.Logic.{by-cases}
@@ -10,10 +10,10 @@ use borrow.Author.Needs.{needs}
 use Rattle.sets.specs.Masks.{bit}
 use Rattle.table_lent.specs.Lent.{inBoth}
 use Rattle.table_starts.specs.Starts.{startsAt}
-use Rattle.table_starts.proofs.first_start.Statement.{statement}
-use Rattle.table_starts.proofs.first_start.Tie as tie
-use Rattle.table_starts.proofs.first_start.Reads as reads
-use Rattle.table_starts.proofs.first_start.Lts as lts
+use Rattle.table_starts.proofs.lowest_start.Statement.{statement}
+use Rattle.table_starts.proofs.lowest_start.Tie as tie
+use Rattle.table_starts.proofs.lowest_start.Reads as reads
+use Rattle.table_starts.proofs.lowest_start.Lts as lts
 use Rattle.table_lent.proofs.count.Reads as count-reads
 use Rattle.table_lent.proofs.element.Reads as element-reads
 use Rattle.table_starts.proofs.is_start.Reads as is-start-reads
@@ -69,8 +69,8 @@ returns-2 c =
     let m : l .m ≡ c .before .before .count .result = omega (arith, l .inv .0) in
     rw (sym m) (record { most = l .inv .0; none = l .inv .1; found = λ k. absurd (omega arith) })
 
-pub first-start-spec : {M : Type 1} → statement M
-first-start-spec =
+pub lowest-start-spec : {M : Type 1} → statement M
+lowest-start-spec =
     tie.close (tie.spec
     Inv-loop μ-loop (λ c κs. search needs) loop-holds element-requires shared-slice-read-is-start is-start-requires returns (λ c. search needs) loop-less
     loop-again returns-2)

@@ -8,8 +8,8 @@ use Rattle.stricter_cores_spec.specs.Steps.{CoreStep, SparedStep, standsIn}
 use Rattle.stricter_cores_spec.specs.Rounds.{Narrowed}
 use Rattle.stricter_cores_laws.proofs.Fitting.{fits-same, only-sub}
 use Rattle.stricter_fixpoints.proofs.Joined.{cores-low, only-cores, nothing-sorted}
-use Rattle.stricter_fixpoints.proofs.sort_cores.Statement.{statement}
-use Rattle.stricter_fixpoints.proofs.sort_cores.Tie as tie
+use Rattle.stricter_fixpoints.proofs.mark_pairs.Statement.{statement}
+use Rattle.stricter_fixpoints.proofs.mark_pairs.Tie as tie
 
 and-fl : (a b : Bool) → a ≡ false → (a && b) ≡ false
 and-fl a b e = rw e
@@ -86,8 +86,8 @@ returns-3 c =
       spread = λ l. absurd (omega (arith, c .if3 .taken));
     }
 
-spread-requires : tie.Need-spread-requires
-spread-requires c κs =
+spread-marks-requires : tie.Need-spread-marks-requires
+spread-marks-requires c κs =
     let at-place-cores = c .before .before .before .before .before .before .before .before .before .before in
     let start = at-place-cores .before .before .before .before .before .before .before .before .before .before .before in
     let a = start .args in
@@ -121,12 +121,12 @@ returns-4 c =
       narrowed = n;
       sound = N .ensures .1;
       first = c .before .before .before .before .before .first-start .ensures;
-      long = c .before .before .spread .ensures .long;
-      spread = λ l. c .before .before .spread .ensures;
+      long = c .before .before .spread-marks .ensures .long;
+      spread = λ l. c .before .before .spread-marks .ensures;
     }
 
-pub sort-cores-spec : {M : Type 1} → statement M
-sort-cores-spec =
+pub mark-pairs-spec : {M : Type 1} → statement M
+mark-pairs-spec =
     tie.close (tie.spec
     (λ c κs. search needs) returns (λ c κs. search needs) returns-2 (λ c κs. search needs) narrow-requires first-start-requires (λ c. search needs) returns-3
-    spread-requires (λ c. search needs) returns-4)
+    spread-marks-requires (λ c. search needs) returns-4)

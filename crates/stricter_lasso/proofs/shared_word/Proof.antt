@@ -13,8 +13,8 @@ use Rattle.stricter_laws.specs.Tests.{acceptsIn}
 use Rattle.stricter_forest.specs.Forest.{kindIn}
 use Rattle.stricter_forest.proofs.Words.{written}
 use Rattle.stricter_lasso.proofs.Turns.{sound-same, stays-at}
-use Rattle.stricter_lasso.proofs.find_word.Statement.{statement}
-use Rattle.stricter_lasso.proofs.find_word.Tie as tie
+use Rattle.stricter_lasso.proofs.shared_word.Statement.{statement}
+use Rattle.stricter_lasso.proofs.shared_word.Tie as tie
 
 write-round-requires : tie.Need-write-round-requires
 write-round-requires c κs =
@@ -66,7 +66,7 @@ returns-2 c =
     let z : at-write-round .write-round .result ≡ 0 = omega (arith, at-if1 .if1 .left) in
     λ startA startB begins. rw (R .none z) at (c .before .before .before .before .find-lasso .ensures startA startB begins)
 
-pub find-word-spec : {M : Type 1} → statement M
-find-word-spec =
+pub shared-word-spec : {M : Type 1} → statement M
+shared-word-spec =
     tie.close (tie.spec
     write-round-requires (λ c. search needs) (λ c. search needs) returns find-lasso-requires (λ c. search needs) (λ c. search needs) returns-2)

@@ -9,8 +9,8 @@ use Rattle.file_spec.specs.File.{ruleIn}
 use Rattle.stricter_cores_spec.specs.Tags.{plain}
 use Rattle.stricter_fixpoints.proofs.Tables.{few-components, rows-low, stands, fits, sorted, codes-again, moves-again}
 use Rattle.stricter_files.proofs.Files.{initial-low, no-pairs, room-A, room-B, file-table}
-use Rattle.stricter_files.proofs.sort_files.Statement.{statement}
-use Rattle.stricter_files.proofs.sort_files.Tie as tie
+use Rattle.stricter_files.proofs.mark_files.Statement.{statement}
+use Rattle.stricter_files.proofs.mark_files.Tie as tie
 
 returns : tie.Need-returns
 returns c =
@@ -47,8 +47,8 @@ cast-binitial c =
     .before .before .before .before .before .before .before .before in
     omega (arith, initial-low (start .pre .1))
 
-sort-tagged-requires : tie.Need-sort-tagged-requires
-sort-tagged-requires c κs =
+mark-tagged-requires : tie.Need-mark-tagged-requires
+mark-tagged-requires c κs =
     let at-tag-file2 = c .before .before .before .before .before .before .before .before .before .before .before .before .before in
     let at-tag-file = at-tag-file2 .before .before .before .before .before .before .before .before .before .before in
     let start = at-tag-file .before .before .before .before .before .before .before .before .before .before .before .before in
@@ -81,21 +81,21 @@ same-length c =
     let at-sort-tagged = c .before .before .before .before .before .before .before .before .before .before in
     let at-tag-file = at-sort-tagged .before .before .before .before .before .before .before .before .before .before .before .before .before .before .before .before .before .before .before .before
     .before .before .before .before in
-    at-sort-tagged .sort-tagged .kept .0 ∙ at-tag-file .tag-file .kept .1 .1 .0
+    at-sort-tagged .mark-tagged .kept .0 ∙ at-tag-file .tag-file .kept .1 .1 .0
 
 same-length-2 : tie.Need-same-length-2
 same-length-2 c =
     let at-sort-tagged = c .before .before .before .before .before .before .before .before .before .before in
     let at-tag-file = at-sort-tagged .before .before .before .before .before .before .before .before .before .before .before .before .before .before .before .before .before .before .before .before
     .before .before .before .before in
-    at-sort-tagged .sort-tagged .kept .1 .0 ∙ at-tag-file .tag-file .kept .1 .1 .1 .0
+    at-sort-tagged .mark-tagged .kept .1 .0 ∙ at-tag-file .tag-file .kept .1 .1 .1 .0
 
 same-length-5 : tie.Need-same-length-5
 same-length-5 c =
     let at-sort-tagged = c .before .before .before .before .before .before .before .before .before .before in
     let at-tag-file2 = at-sort-tagged .before .before .before .before .before .before .before .before .before .before .before .before .before .before in
     let at-tag-file = at-tag-file2 .before .before .before .before .before .before .before .before .before .before in
-    at-sort-tagged .sort-tagged .kept .1 .1 .1 .1 .1 .1 .1 .1 .0 ∙ at-tag-file2 .tag-file2 .kept .1 .1 .1 .1 .0 ∙ at-tag-file .tag-file .kept .1 .1 .1 .1 .0
+    at-sort-tagged .mark-tagged .kept .1 .1 .1 .1 .1 .1 .1 .1 .0 ∙ at-tag-file2 .tag-file2 .kept .1 .1 .1 .1 .0 ∙ at-tag-file .tag-file .kept .1 .1 .1 .1 .0
 
 returns-2 : tie.Need-returns-2
 returns-2 c =
@@ -115,7 +115,7 @@ returns-2 c =
     let B = file-table (p .1) (y .0) in
     let u = x .1 in
     let v = y .1 in
-    let d = at-sort-tagged .sort-tagged .ensures in (
+    let d = at-sort-tagged .mark-tagged .ensures in (
       sorted r q s t _ _ _ _ _ _ A B _ _ _ _ (u .0) (u .1) (v .0) (v .1) (a .l .head .initial) (a .m .head .initial)
           (initial-low (p .0)) (initial-low (p .1)) _ _ (same-length-5 c ∙ p .2) (d .0),
       (
@@ -124,8 +124,8 @@ returns-2 c =
       ),
     )
 
-pub sort-files-spec : {M : Type 1} → statement M
-sort-files-spec =
+pub mark-files-spec : {M : Type 1} → statement M
+mark-files-spec =
     tie.close (tie.spec
-    returns tag-file-requires tag-file-requires-2 cast-ainitial cast-binitial sort-tagged-requires same-length same-length-2 (λ c. search needs)
+    returns tag-file-requires tag-file-requires-2 cast-ainitial cast-binitial mark-tagged-requires same-length same-length-2 (λ c. search needs)
     (λ c. search needs) same-length-5 returns-2)
