@@ -1,4 +1,5 @@
-// The build: the reachable macrostates of a rule and the transitions between them, in two lent slices.
+// The build, which the library is for: it makes the unambiguous automaton of a rule, its reachable macrostates and the transitions between
+// them, as two ascending lists in two lent slices.
 use build_closure_spec::Shape;
 use build_lists::list_codes;
 use build_lists::list_transitions;

@@ -1,4 +1,5 @@
-// How the component and the classes left of a macrostate go on over one step.
+// How component K and classes left k of a macrostate go on over one step. By them acceptance is told: a run accepts if k is 0 again and
+// again, and then each component has its turn again and again.
 ghost use mathlib.Core.Path.{_≡_};
 ghost use Prim.Native.Nat.{_%_, _<_, _≤_};
 ghost use Rattle.build_breakpoint.specs.Onward.{nextIn, onwardIn};

@@ -1,4 +1,5 @@
-// A list of keys in a lent slice, with chains through it: the keys of a core stand in one chain.
+// Chains through a list of keys in a lent slice: the keys of a core stand in one chain. So whether a key is listed, and which keys a core
+// has, is found without a pass over the list.
 use build_chains_spec::Grow;
 use codes::CODE_BITS;
 use codes::CODE_MASK;

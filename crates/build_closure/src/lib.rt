@@ -1,3 +1,4 @@
-// The closure in the lent slice: rounds over the cores until nothing is added, then keys turned into codes.
+// The closure: finds the reachable macrostates of a rule in the lent slice, by rounds over the cores until none adds a key. It is full only
+// where there are more of them than room.
 pub mod reach;
 pub mod rounds;

@@ -1,4 +1,5 @@
-// The reachable macrostates of a rule in a lent slice: rounds over all cores, until one adds nothing.
+// The reachable macrostates of a rule in a lent slice: the first list of the build. They are found as keys, in which a core is one number,
+// and become codes in ascending order.
 use crate::rounds::close;
 use crate::rounds::firsts;
 use build_chains_spec::Grow;

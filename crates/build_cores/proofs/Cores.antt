@@ -223,7 +223,7 @@ module _ (A : Automaton) (parts : List ℕ) (P : Parts A parts) where
     pub core-visited : (i : ℕ) × (visited (capsOf parts (A .components)) i ≡ v)
     core-visited = all-visited (capsOf parts (A .components)) v caps-fit vector-within
 
-    -- the same for all numbers, where what is no state has no place in S and rank 0
+    -- it has the core's set and ranks at all numbers, if what is no state is not in S and has rank 0
     pub vector-set-all : ((q : ℕ) → A .n ≤ q → S q ≡ false) → setOf A v ≡ S
     vector-set-all h = fun-ext (λ q. by-cases (decLt q (A .n)) (λ l. vector-set q l) (λ l. set-beyond A v q (omega arith) ∙ sym (h q (omega arith))))
 

@@ -19,7 +19,7 @@ module _ (ranks part : ℕ) where
   unfoldable pub taken : Set
   taken j = someBelow 8 (λ q. bit part q && eqb (rankAt ranks q) j)
 
-  -- the same, and rank 0 in any case
+  -- j is 0, or some state of the component has rank j
   unfoldable pub used : Set
   used j = eqb j 0 || taken j
 

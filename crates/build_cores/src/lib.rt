@@ -1,4 +1,5 @@
-// Cores as vectors of eight ranks, four bits each: the set of a core follows from its ranks.
+// Cores as vectors of eight ranks, four bits each: the set of a core follows from its ranks, so all cores are gone through by counting
+// vectors up.
 ghost use mathlib.Core.Path.{_≡_};
 ghost use Prim.Native.Nat.{ℕ, _^_, _<_, _≤_};
 ghost use mathlib.Core.Bool.{_&&_};

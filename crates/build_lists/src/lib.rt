@@ -1,4 +1,4 @@
-// The two lists of the build, each in a lent slice with zeros after it.
+// The two lists of the build, each in a lent slice with zeros after it. A list tells whether it has room: the build answers 17 or 18 by it.
 use build_chains_spec::Grow;
 use build_closure_spec::Shape;
 ghost use mathlib.Core.Path.{_≡_};

@@ -1,4 +1,5 @@
-// The satisfaction table of a rule, on open states: which states are open in the set before a set, over each letter.
+// The table of open states of a rule: over each letter, which states are open in the set before a set. It is made once, so that a step back
+// looks states up and tries no clause.
 ghost use mathlib.Core.Path.{_≡_};
 ghost use Prim.Native.Nat.{_*_, _^_, _<_};
 ghost use Rattle.sets.specs.Tests.{one};
@@ -45,7 +46,8 @@ pub fn open_before(
     found ^ accepting
 }
 
-// The same for every letter and all open states: place letter × 256 + opened.
+// The table of open states: place letter × 256 + opened has the open states of the set before the set with the open states `opened`, over
+// that letter.
 pub fn open_table(h: Head, counts: &[u8], clauses: &[u8]) -> [u8; 4096]
     requires { ⌜ WellFormed (ruleOf h (now counts) (now clauses)) ⌝ }
     ensures { λ r. ⌜ Opens (automaton (ruleOf h (now (counts .entry)) (now (clauses .entry)))) (h .s) r ⌝ }

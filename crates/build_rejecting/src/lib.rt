@@ -1,5 +1,5 @@
-// The build of the words that a rule rejects: the macrostates reached from where the set lacks the initial state, and the transitions
-// between them, in two lent slices.
+// The build of the words that a rule rejects: macrostates and steps are those of the rule itself, and runs begin where the set lacks the
+// initial state. So no rule has to be complemented.
 use build::Built;
 ghost use mathlib.Core.Path.{_≡_};
 ghost use Rattle.build_rejecting_spec.specs.Entry.{RejectingBuilt};

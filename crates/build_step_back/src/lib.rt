@@ -1,5 +1,5 @@
-// The step back over one letter, in the order of Definition 7 of source 000: rejecting components (R1'), then accepting ones (R2').
-// What it leaves is the earlier core, and the levels of its classes.
+// The step back over one letter: a core has one earlier core, so the build goes back from each core. By Definition 7 of source 000 it takes
+// rejecting components (R1'), then accepting ones (R2'), and leaves the earlier core and the levels of its classes.
 ghost use mathlib.Core.Path.{_≡_};
 ghost use Prim.Native.Nat.{ℕ, _+_, _*_, _^_, _<_, _≤_};
 ghost use lib.ListN.{length, getD};
@@ -62,7 +62,7 @@ pub fn step_component(
     Step { ranks, levels }
 }
 
-// The same number.
+// A 32-bit number as one of 64 bits.
 fn wide(x: u32) -> u64
     ensures { λ r. ⌜ r ≡ x ⌝ }
 {

@@ -1,4 +1,5 @@
-// The transitions between listed keys, core by core. Each core is treated at its lowest place.
+// The transitions between listed keys, core by core: one step back over a letter serves all keys of a core. So each core is treated once,
+// at its lowest place.
 use crate::sources::emit_sources;
 use build_chains_spec::Grow;
 use build_closure_spec::Shape;

@@ -1,4 +1,5 @@
-// The transitions into the lent slice: chains through the codes, then core by core the steps back over each letter.
+// The transitions between the listed macrostates: the second list of the build. A step back from each core over each letter finds their
+// sources, and chains through the codes give the numbers.
 pub mod cores;
 pub mod sources;
 pub mod transitions;

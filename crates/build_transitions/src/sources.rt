@@ -1,4 +1,4 @@
-// The transitions over one letter into one core, from the keys of the core before it.
+// The transitions over one letter into one core: their sources are keys of the earlier core, so a walk along one chain meets all of them.
 use build_chains_spec::Grow;
 use build_visit::letters::CoreStep;
 use codes::CODE_BITS;

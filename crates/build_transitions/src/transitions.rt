@@ -1,4 +1,5 @@
-// The transitions between the listed codes, ascending. While they are found the codes are keys with chains through them.
+// The transitions between the listed codes, ascending. While they are found the codes are keys with chains through them, so that the number
+// of a macrostate is found along a chain.
 use crate::cores::emit;
 use build_chains_spec::Grow;
 use build_closure_spec::Shape;

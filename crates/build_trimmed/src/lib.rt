@@ -1,5 +1,5 @@
-// The trimmed build: the reachable macrostates of a rule that matter and the transitions between them, in two lent slices and no memory
-// beside them.
+// The trimmed build: a table with the same accepting runs, in which only the reachable macrostates that matter are left, in two lent slices
+// and no memory beside them.
 use build::Built;
 use build::Counts;
 use trim_marks::mark_live;

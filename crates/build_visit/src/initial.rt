@@ -1,4 +1,5 @@
-// The keys of the macrostates of one core where a run may begin.
+// The key of a core where a run may begin: with these the closure begins. The set holds the initial state there, or lacks it, so that one
+// closure serves the words accepted and the words rejected.
 use build_chains_spec::Grow;
 use build_closure_spec::Shape;
 ghost use mathlib.Core.Path.{_≡_};

@@ -1,4 +1,5 @@
-// The keys that one core adds to those listed: those of its steps back.
+// The keys that one core adds to those listed: a step back over each letter gives the earlier core, and the listed keys of that core go on
+// to those of this one.
 use build_chains_spec::Grow;
 use build_closure_spec::Shape;
 use codes::CODE_BITS;

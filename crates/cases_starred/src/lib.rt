@@ -1,1 +1,1 @@
-// The starred cases of 01 as theorems: definitions and proofs, no code.
+// The starred cases of 01 as theorems, so that a reader sees the definitions give what 01 says: definitions and proofs, no code.

@@ -1,4 +1,4 @@
-// A macrostate as a 64-bit number, and packed transitions.
+// A macrostate as a 64-bit number, and packed transitions: so a table is two lists of numbers, which can be lent, sorted and stored.
 ghost use mathlib.Core.Path.{_≡_};
 ghost use mathlib.Core.Bool.{_&&_};
 ghost use Prim.Native.Nat.{_+_, _≤_, _<_};

@@ -32,7 +32,7 @@ module _ (r : Rule) where
   unfoldable pub satisfied : ℕ → ℕ → ℕ → Bool
   satisfied a X Y = every (r .n) (λ q. not (bit X q) || satisfies (r .n) (bit Y) (entry r q a))
 
-  -- the same in the dual rule: the states outside Y do not satisfy the entry
+  -- all states of X have entries at the letter a that Y satisfies in the dual rule: the states outside Y do not satisfy them
   unfoldable pub dually : ℕ → ℕ → ℕ → Bool
   dually a X Y = every (r .n) (λ q. not (bit X q) || not (satisfies (r .n) (λ p. not (bit Y p)) (entry r q a)))
 

@@ -1,4 +1,5 @@
-// The log under an event table: events in no line, and the letters.
+// The log under an event table: whether an event is in no line (row 27), and else the letters. The lines of an event are the meet of two
+// masks, so it takes no pass over the table.
 ghost use mathlib.Core.Path.{_≡_};
 ghost use mathlib.Core.Bool.{false};
 ghost use mathlib.Core.List.{List, _++_};

@@ -1,4 +1,5 @@
-// Definitions of the event table, with worked tables and logs: which line holds an event, and the letters of a log.
+// What the translation of a log promises: which line of an event table holds an event, the rows that refuse, and the letters of a log.
+// Definitions, with worked tables and logs.
 
 // The answer: how many letters were written, or the number of the row that refuses.
 pub enum Translated {

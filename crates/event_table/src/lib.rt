@@ -1,4 +1,5 @@
-// The event table: its faults, the masks of its lines for each kind and each drive, and the lines that these show to be covered.
+// Rows 25 and 26: an event table with a line at fault, or with one that earlier lines cover. Masks of its lines for each kind and each
+// drive tell the first line of an event without a pass over the table.
 ghost use mathlib.Core.Path.{_≡_};
 ghost use mathlib.Core.List.{List};
 ghost use Prim.Native.Nat.{ℕ, _+_, _*_, _^_, _<_, _≤_};

@@ -1,4 +1,4 @@
-// The translation of a log into letters by an event table.
+// The translation of a log into letters by an event table: so a log of events can be held to a rule, which knows letters alone.
 use event_log::has_unknown;
 use event_log::write_letters;
 use event_spec::Translated;
@@ -11,7 +11,8 @@ ghost use mathlib.Core.Path.{_≡_};
 ghost use lib.ListN.{length};
 ghost use Rattle.event_spec.specs.Translation.{translatedOf, lettersAfter, Called};
 
-// The same under a rule over s letters that is read.
+// Writes the letter of each event of a log to the start of letters, for a rule over s letters that was read; how many. Refused by rows 25,
+// 26, 27 and 16, in this order, and letters is then unchanged.
 fn translate_read(s: usize, events: &[u8], log: &[u8], letters: &mut [u8]) -> Translated
     ensures { λ r. ⌜ Called s (now (events .entry)) (now (log .entry)) (now (letters .entry)) (now (letters .exit)) r ⌝ }
 {

@@ -1,4 +1,4 @@
-// Row 20: an entry with a clause that contains another of its clauses.
+// Row 20: an entry with a clause that contains another of its clauses. Such a clause adds nothing, but can glue components together.
 use rule_entries::Head;
 ghost use mathlib.Core.Path.{_≡_};
 ghost use Prim.Native.Nat.{_<_};

@@ -1,4 +1,5 @@
-// Names for letters in a preface, and the rows 21 to 23 that try them.
+// Names for letters, which a file may carry in its preface: where they stand, and the rows 21 to 23 that try them, so that names can be
+// printed and tell letters apart.
 ghost use mathlib.Core.Path.{_≡_};
 ghost use mathlib.Core.Bool.{false, _&&_, _||_, not};
 ghost use Prim.Native.Nat.{_+_, _-_, _*_, _≤_};

@@ -1,4 +1,5 @@
-// The reader of rule files, which tries the rows of the rule's group, and the preface.
+// The reader of rule files. It tries all rows of the rule's group in order, so that the code behind it may count on a rule that passes
+// every check; and it finds the preface.
 use file_rows::rule::lists_row;
 use file_rows::trailer::read_count;
 use file_rows::trailer::read_head;

@@ -1,4 +1,4 @@
-// The rows 3 to 6 and 8 to 10 that try a rule's numbers, counts and clauses.
+// The rows 3 to 6 and 8 to 10 that try a rule's numbers, counts and clauses. They ask nothing of a file, so that the writer tries them too.
 use rule_entries::Head;
 use slice_search::any_from;
 ghost use mathlib.Core.Path.{_≡_};

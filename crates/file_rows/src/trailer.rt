@@ -1,4 +1,4 @@
-// The trailer of a rule file, and the rows 1 to 7 that try it.
+// The trailer, which points back from the end of a rule file to all its parts, and the rows 1 to 7 that try it before another byte is read.
 use crate::rule::numbers_row;
 use rule_entries::Head;
 ghost use mathlib.Core.Path.{_≡_};

@@ -97,7 +97,7 @@ unfolding fileRow fileRows bodyRows layoutRows trailerRows numberRows listRows f
     countsOf anyOf sum someNested nested inside every mixed together reaches within leads named entry someBelow bit mask
 empty-20 = refl
 
--- the same clause in two entries, of two letters and of two states
+-- one clause may stand in several entries, of two letters and of two states
 pub entries-0 : fileRow (0x01 ∷ 0x01 ∷ 0x01 ∷ 0x01 ∷ 0x01 ∷ 0x01 ∷ 0x01 ∷ 0x01 ∷ 0x02 ∷ 0x02 ∷ 0x00 ∷ 0x00 ∷ 0x04 ∷ 0x00 ∷ 0x41 ∷ 0x57 ∷ []) ≡ 0
 unfolding fileRow fileRows bodyRows layoutRows trailerRows numberRows listRows formedRows clauseRows componentRows prefaceRows nameRows hasNames namesBefore repeatsName firstRow tagged clausesOf
     countsOf anyOf sum someNested nested inside every mixed together reaches within leads named entry someBelow bit mask

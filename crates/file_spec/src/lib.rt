@@ -1,4 +1,4 @@
-// The rule file: definitions and laws of its parts and of the rows that try them.
+// What a rule file is, and which row refuses what is none: definitions and laws of its parts and of the rows that try them.
 use rule_entries::Head;
 
 // Where a file's parts stand: its numbers, the place of its first clause, and how many clauses it has.

@@ -1,4 +1,5 @@
-// The tidy tool.
+// The tidy tool: writes the file of a rule without the clauses that contain others. Of a file that row 20 alone refuses it makes one that
+// is accepted.
 use file_rows::trailer::read_count;
 use file_rows::trailer::read_head;
 use file_tidy_spec::Tidied;

@@ -1,4 +1,4 @@
-// The bytes of a rule's file, laid out in a slice.
+// The bytes of a rule's file, laid out in a slice that has room for them: the writer and the tidy tool both end here.
 use file_names::NAMES_TAG;
 use file_rows::trailer::TAG;
 use rule_entries::Head;

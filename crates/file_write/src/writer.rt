@@ -1,4 +1,4 @@
-// The writer of rule files.
+// The writer of rule files. It tries rule, names and room before it writes a byte, so that a refusal leaves the slice as it was.
 use crate::layout::fill;
 use crate::layout::preface_length;
 use file_write_spec::Written;

@@ -1,4 +1,5 @@
-// How long the text of a table is: line by line, added up. Lines that are few are written into a small room, edge lines are counted.
+// How long the text of a table is, so that a slice that is too short is refused before a byte is written. Lines that are few are written
+// into a small room, edge lines are counted.
 use codes::is_accepting;
 use codes::is_initial;
 use codes::letter_of;

@@ -1,4 +1,5 @@
-// The lines of a table's text, written into a slice. Each function answers the place after what it wrote.
+// The lines of a table's text, written into a slice: the text is put together from them. Each function answers the place after what it
+// wrote, where the next line goes.
 ghost use mathlib.Core.Path.{_≡_};
 ghost use mathlib.Core.Bool.{cond};
 ghost use mathlib.Core.List.{[]};

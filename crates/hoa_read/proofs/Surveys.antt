@@ -152,7 +152,7 @@ module _ (text : List ℕ) (n b last starts blocks : ℕ) (H : HeadOf text n b l
       abbrev F : BlocksOf text blocks b n old accepting m q new
       F = B .found l
 
-      -- the same as in any table that has the text
+      -- any table that has the text has the accepting numbers and the transitions that were read
       same : (c : ℕ) (fs ts : List ℕ) → Shaped c fs ts → text ≡ automatonText c fs ts → Same b (F .moves) ts 0 (acceptingFirst accepting n) fs (drop q text) endLine
       same c fs ts P e =
           let k = body-part c fs ts P e in

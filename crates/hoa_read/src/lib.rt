@@ -1,4 +1,5 @@
-// The reader of a table's text. It goes over the text twice: once to see that it is a table's, and once to store flags and transitions.
+// The reader of a table's text. It goes over the text twice, so that a refusal leaves the slices as lent: once to see that it is a table's
+// and what room it takes, and once to store flags and transitions.
 use hoa_read_lines::take;
 use hoa_read_lines::take_ap;
 use hoa_read_lines::take_numbered;
@@ -23,7 +24,8 @@ struct Head {
     blocks: usize,
 }
 
-// The whole text: the same, how many macrostates are accepting, how many transitions there are, and where it ends, or 0.
+// The whole text: how many macrostates, propositions, accepting macrostates and transitions there are, where the start lines begin and
+// where the lines of the macrostates do, and where the text ends, or 0.
 struct Survey {
     macrostates: usize,
     propositions: usize,

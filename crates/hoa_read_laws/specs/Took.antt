@@ -16,7 +16,7 @@ pub record Took (text : List ℕ) (p : ℕ) (s : List ℕ) (r : ℕ) : Type 0 wh
   pub found : 0 < r → (r ≤ length text) × (drop p text ≡ s ++ drop r text)
   pub absent : r ≡ 0 → (rest : List ℕ) → drop p text ≡ s ++ rest → ⊥
 
--- the same for one of several texts, that of a number that may be
+-- from place p on the text begins with that of x, a number that may be, which ends before place r; r is 0 if it begins with that of no such number
 pub record TookOne (text : List ℕ) (p : ℕ) (May : ℕ → Type 0) (textOf : ℕ → List ℕ) (x r : ℕ) : Type 0 where
   pub found : 0 < r → May x × (r ≤ length text) × (drop p text ≡ textOf x ++ drop r text)
   pub absent : r ≡ 0 → (y : ℕ) → May y → (rest : List ℕ) → drop p text ≡ textOf y ++ rest → ⊥

@@ -1,5 +1,5 @@
-// The parts of a table's text, read from a slice; flags and transitions are stored as far as there is room for them. Place 0 says that
-// the text does not go on so.
+// The parts of a table's text, read from a slice. Flags and transitions are stored as far as there is room, so that one code serves the
+// pass that checks and the pass that stores. Place 0 says that the text does not go on so.
 use hoa_read_lines::Number;
 use hoa_read_lines::nothing;
 use hoa_read_lines::take_edge;

@@ -1,4 +1,5 @@
-// Numbers of a list that is lent in bytes, and the transitions of a macrostate.
+// A table that is lent in bytes, read for its text: a number of a list, and the transitions of a macrostate, which stand together since
+// transitions ascend.
 use codes::source_of;
 use codes::word_at;
 ghost use mathlib.Core.Path.{_≡_};

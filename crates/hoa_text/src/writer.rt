@@ -1,4 +1,4 @@
-// The text of a table, written into a slice. Each function answers the place after what it wrote.
+// The text of a table, put together from its lines in the order of the format. Each function answers the place after what it wrote.
 use crate::table::number_at;
 use crate::table::stretch_end;
 use codes::is_accepting;

@@ -1,4 +1,4 @@
-// The writer of a table's text in the Hanoi Omega-Automata format, version 1.
+// The writer of a table's text in the Hanoi Omega-Automata format, version 1, by which a built automaton goes to other tools.
 use file_read::read_rule;
 use file_spec::Read;
 use file_write_spec::Written;
@@ -29,7 +29,8 @@ fn fits(room: usize, s: usize, b: usize, initial: u32, codes: &[u8], moves: &[u8
     text_length(b, initial, codes, moves) <= room
 }
 
-// The same as write_hoa under a rule of s letters with this initial state.
+// Writes the text of a table to the start of text, for a rule of s letters with this initial state; its length. Refused by rows 15 and 16,
+// in this order, and text is then unchanged.
 fn write_read(s: usize, initial: u32, codes: &[u8], moves: &[u8], text: &mut [u8]) -> Written
     requires { ⌜ (s ≤ 16) × (initial < 8) ⌝ }
     ensures { λ r. ⌜ Called s initial (inBytes (now (codes .entry))) (inBytes (now (moves .entry)))

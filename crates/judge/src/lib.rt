@@ -1,4 +1,4 @@
-// The judge of words on a rule.
+// The judge of words on a rule: whether the rule accepts a word, told from the rule itself, without a build.
 use file_read::clauses_of;
 use file_read::counts_of;
 use file_read::read_rule;

@@ -1,4 +1,5 @@
-// The judge of words on a rule that shows which clause carried the verdict.
+// The judge of words on a rule that shows which clause carried the verdict of each state at each place, so that one can follow why a word
+// is accepted.
 use file_read::clauses_of;
 use file_read::counts_of;
 use file_read::read_rule;

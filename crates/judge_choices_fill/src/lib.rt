@@ -1,4 +1,5 @@
-// The choices of a word: accepting states at once, rejecting ones by rounds.
+// The choices of a word: those of accepting states at once, those of rejecting ones by rounds, since their clause has to lead nearer to
+// where the component is left.
 use judge_choices_place::Partition;
 use judge_choices_place::choose_each;
 use judge_choices_rounds::choose_rejecting;

@@ -136,7 +136,7 @@ module _ (r : Rule) (lead cycle masks : List ℕ) where
     still = λ p q l k c. rw (h p l);
   }
 
-  -- the same places, told otherwise
+  -- a round is one for any test of the places done that agrees with `done` on the places of the word
   pub round-ext : (near : List ℕ) (done done′ : Set) (old new after : List ℕ) (changed : ℕ) → ((p : ℕ) → p < L → done′ p ≡ done p)
       → Round r lead cycle masks near done old new after changed → Round r lead cycle masks near done′ old new after changed
   round-ext near done done′ old new after changed h R = record {

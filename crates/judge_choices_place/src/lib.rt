@@ -1,4 +1,4 @@
-// The states of one place, each tried against its entry.
+// The states of one place, each tried against its entry: the step that the choices of accepting and of rejecting states share.
 use rule_components::class_of;
 use rule_entries::Head;
 use rule_entries::Met;

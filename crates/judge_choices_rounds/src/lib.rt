@@ -1,4 +1,5 @@
-// The choices of the rejecting states, by rounds that count the distance.
+// The choices of the rejecting states. Within the component their clause has to lead to smaller distances, and rounds count these: round d
+// finds the states of distance d.
 use judge_choices_place::Partition;
 use judge_choices_place::choose_each;
 use set_masks::difference;

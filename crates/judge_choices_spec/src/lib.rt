@@ -1,1 +1,1 @@
-// Definitions of the clauses that carry a verdict, with worked rules.
+// What it means that a clause carries the verdict of a state at a place: definitions, with worked rules.

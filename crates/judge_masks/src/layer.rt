@@ -1,4 +1,4 @@
-// One layer of the masks of a cycle, solved in rounds.
+// One layer of the masks of a cycle, solved in rounds: components of one height do not lead to each other, so they are solved together.
 use judge_place::open_at;
 use rule_entries::Head;
 ghost use mathlib.Core.Path.{_≡_};

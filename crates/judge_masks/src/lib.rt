@@ -1,3 +1,3 @@
-// The truth masks of a word: one layer of the components of a cycle, then the whole word.
+// The truth masks of a word: from which states the rule accepts at each place. Every judge on a rule reads its answer off them.
 pub mod layer;
 pub mod word;

@@ -1,4 +1,5 @@
-// The states from which a rule accepts, at each place of a word.
+// The states from which a rule accepts, at each place of a word: fixed points on the cycle, from the lowest components up, then back over
+// the lead-in, where each place follows from the next.
 use crate::layer::solve_layer;
 use judge_place::at_height;
 use judge_place::met_by;
@@ -113,7 +114,7 @@ pub fn fill_word(
     fill_lead(h, counts, starts, clauses, lead, masks);
 }
 
-// The same, with the tables of the rule made for it.
+// The masks of a word, one a place, from the start of the slice on; the tables of the rule are made for it.
 pub fn fill(h: Head, counts: &[u8], clauses: &[u8], lead: &[u8], cycle: &[u8], masks: &mut [u8])
     requires { ⌜ Passing (ruleOf h (now counts) (now clauses))
         × WordOver (h .s) (now lead) (now cycle)

@@ -1,4 +1,5 @@
-// What one step knows of a state at a place of a word: whether its entry is satisfied by the masks of the place that follows.
+// What one step knows of a state at a place of a word: whether its entry is satisfied by the masks of the place that follows. The rounds of
+// the judge are made of such steps.
 use rule_entries::Head;
 use rule_entries::satisfied;
 use set_masks::difference;

@@ -1,4 +1,4 @@
-// Definitions and laws of the judge on a rule.
+// What the judge on a rule promises: what it refuses, answers and writes, and the laws that this is what plans say.
 
 // The answer: yes, no, or the number of the row that refuses.
 pub enum Verdict {

@@ -1,4 +1,4 @@
-// The listing program: a rule file on standard input, its listing on standard output.
+// The listing program, by which a built automaton can be read: a rule file on standard input, its listing on standard output.
 use libc::STDIN_FILENO;
 use libc::STDOUT_FILENO;
 use listing_text::LONGEST;

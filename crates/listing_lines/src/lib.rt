@@ -1,4 +1,4 @@
-// The lines of a listing, written into a slice.
+// The lines of a listing, by which a table can be read and compared as text: one with both counts, then one a name, macrostate, transition.
 ghost use mathlib.Core.Path.{_≡_};
 ghost use Prim.Native.Nat.{_+_, _≤_, _<_};
 ghost use lib.ListN.{length};

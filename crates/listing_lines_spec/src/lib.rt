@@ -1,1 +1,1 @@
-// The lines of a listing: definitions and laws.
+// How each line of a listing is written: definitions, with worked lines, and laws of lines one after the other.

@@ -1,4 +1,4 @@
-// The text of a rule file's listing.
+// The text of a rule file's listing: it builds the automaton in rooms of its own and writes its lines, all that the listing program needs.
 use build::Built;
 use file_spec::Read;
 ghost use mathlib.Core.Path.{_≡_};

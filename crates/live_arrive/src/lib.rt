@@ -141,7 +141,8 @@ pub fn arrive_quickly(
     Quick::Served
 }
 
-// The same for any call: none but an arrival is tried.
+// Any call, for a rule of s letters. An arrival is made where no row refuses, refused by 15 for its transitions, or not tried; no other
+// call is tried.
 pub fn try_quickly(
     call: LiveCall,
     s: usize,

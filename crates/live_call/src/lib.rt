@@ -1,4 +1,5 @@
-// The five calls that follow a log live: start, arrival, withdrawal, mark and return.
+// The five calls that follow a log live, so that after each letter it is known which macrostates the log leads to: start, arrival,
+// withdrawal, mark and return.
 use file_read::read_rule;
 use file_spec::Read;
 use live_arrive::Quick;
@@ -96,7 +97,8 @@ fn call_by_rows(
     LiveAnswer::Live(serve(call, h.initial as u32, codes, transitions, state, set))
 }
 
-// The same. An arrival is tried at once where no row but 15 for its transitions can refuse it.
+// The call for a rule that was read: refused by its rows, or made. An arrival is tried at once where no row but 15 for its transitions can
+// refuse it.
 fn call_read(
     h: Head,
     call: LiveCall,

@@ -1,4 +1,5 @@
-// The bytes of state before those of the set: numbers in two bytes, the letters held, and those of the marks.
+// The bytes of state before those of the set: numbers in two bytes, the letters held, and those of the marks. Letters are kept since a
+// withdrawal and a return work the set out afresh.
 ghost use mathlib.Core.Path.{_≡_};
 ghost use mathlib.Core.List.{_∷_, []};
 ghost use mathlib.Core.Logic.{_⊎_};

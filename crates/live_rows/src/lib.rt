@@ -1,4 +1,5 @@
-// The rows of the five calls, behind those of the rule: 14, 15, 30 to 33, 16.
+// The rows of the five calls, behind those of the rule: 14, 15, 30 to 33, 16. They are tried before state is written, so that a refused
+// call changes nothing.
 use live_letters::is_marked;
 use live_letters::number_at;
 use live_spec::LiveCall;

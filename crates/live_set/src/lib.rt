@@ -1,4 +1,5 @@
-// The macrostates of a table that letters lead to, a byte for each: 1 in the set, 0 not. The table is read in place, 8 bytes a number.
+// The set that a live log is followed for: the macrostates of a table that letters lead to, a byte for each, 1 in the set, 0 not. The table
+// is read in place, 8 bytes a number.
 use codes::is_initial;
 use codes::letter_of;
 use codes::source_of;
@@ -93,7 +94,7 @@ pub fn move_over(t: u64, letter: usize, set: &mut [u8])
     set[y] = 2 + set[y] % 2;
 }
 
-// The same for every transition.
+// Sets bit 1 of the target of every transition over the letter from a source in the set.
 fn sweep(letter: usize, transitions: &[u8], set: &mut [u8])
     requires { ⌜ Inside (length (now set)) (wordsIn (now transitions)) × ((y : ℕ) → getD (now set) y 0 ≤ 1) ⌝ }
     ensures { λ _. ⌜ Swept letter (wordsIn (now (transitions .entry))) (now (set .entry)) (now (set .exit)) ⌝ }

@@ -37,7 +37,7 @@ logRows (Mark m) state = check (ltb 15 m) 32 ∷ []
 -- "33, return to a mark not set since the start; .. 32 before 33"
 logRows (Return m) state = check (ltb 15 m) 32 ∷ (check (not (isMarked state m)) 33 ∷ [])
 
--- the same by the letters held and the marks: `logRows` is this of what a history left (live_laws/proofs/Refused: refused-by-log)
+-- 30 to 33 by the letters held and the marks: `logRows` is this of what a history left (live_laws/proofs/Refused: refused-by-log)
 unfoldable pub heldRows : LiveCall → Log → List Check
 heldRows Start g = []
 heldRows (Arrive a) g = check (leb 512 (length (g .letters))) 30 ∷ []

@@ -1,5 +1,5 @@
-// Following a log live: the letters and marks that a history leaves, the set worked out afresh, the bytes of state, and what each call
-// refuses, answers and leaves; no code but the types of a call and its answer.
+// What following a log live promises: the letters and marks that a history leaves, the set worked out afresh, the bytes of state, and what
+// each call refuses, answers and leaves; no code but the types of a call and its answer.
 
 // The five calls, with a letter or the number of a mark.
 pub enum LiveCall {

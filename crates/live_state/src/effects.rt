@@ -1,4 +1,5 @@
-// What each of the five calls makes of state.
+// What each of the five calls makes of state. An arrival steps the set; a step has no inverse, so a withdrawal and a return work the set
+// out afresh.
 use crate::set_part::begin;
 use crate::set_part::refresh;
 use crate::set_part::step;

@@ -1,4 +1,5 @@
-// The part of state that holds the set: the initial macrostates, one letter, and all letters held.
+// The part of state that holds the set: begun with the initial macrostates, stepped over one letter, or worked out afresh over all letters
+// held where some were taken back.
 use live_letters::number_at;
 use live_set::begin_set;
 use live_set::step_set;

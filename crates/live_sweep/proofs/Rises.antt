@@ -26,7 +26,7 @@ module _ (xs : List ℕ) where
   unfolding ascendsFrom
   turn x i l = rw (drop-next xs i l)
 
-  -- the same where the place is written otherwise
+  -- from place i on the numbers ascend from above x if the first is above x and the others ascend from above it; i may be written j, and j + 1 k
   turn-at : (x i j k : ℕ) → i ≡ j → j + 1 ≡ k → j < length xs → ascendsFrom x (drop i xs) ≡ ltb x (getD xs j 0) && ascendsFrom (getD xs j 0) (drop k xs)
   turn-at x i j k e f l = ap (λ (p : ℕ). ascendsFrom x (drop p xs)) e ∙ turn x j l ∙ ap (λ (p : ℕ). ltb x (getD xs j 0) && ascendsFrom (getD xs j 0) (drop p xs)) f
 

@@ -1,5 +1,5 @@
-// An arrival that tries row 15 on the transitions on the way: a pass for their order, and one for their ranges that steps the set. The
-// set's bytes are 0 or 1 before, so that what was swept can be taken back where the row refuses.
+// An arrival that tries row 15 on the way, so that the transitions are read twice: a pass for their order, and one for their ranges that
+// steps the set. The set's bytes are 0 or 1 before, so what was swept can be taken back.
 use codes::letter_of;
 use codes::source_of;
 use codes::target_of;
@@ -102,7 +102,7 @@ fn limit_of(s: usize, n: usize, letter: usize, l: usize) -> u32
     n as u32
 }
 
-// The same for every letter.
+// For every letter the least target that wants a closer look in a transition over it, where `letter` is the one that arrives.
 fn limits_of(s: usize, n: usize, letter: usize) -> [u32; 256]
     requires { ⌜ n ≤ 65536 ⌝ }
     ensures { λ r. ⌜ ((l : ℕ) → l < 256 → getD r l 0 ≡ limitOf s n letter l) ⌝ }

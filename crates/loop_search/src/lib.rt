@@ -1,4 +1,5 @@
-// The search for the shortest mixed loop of a rule.
+// The search for the shortest mixed loop of a rule: its start, then always the smallest state from which the rest can still be walked, so
+// that no step is taken back.
 use loop_ways::further_from;
 use loop_ways::others_of;
 use loop_ways::ways_to;

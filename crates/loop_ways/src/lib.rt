@@ -1,4 +1,5 @@
-// The masks of the search for a mixed loop: from which states walks of some length lead to a state.
+// The masks of the search for a mixed loop: from which states walks of some length lead to a state. They tell at each step which states
+// leave a way to the end.
 use loop_spec::Ways;
 use set_masks::contains;
 use set_masks::difference;

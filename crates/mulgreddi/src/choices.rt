@@ -1,4 +1,4 @@
-// The judge that shows the choice, for C.
+// The C entry of the judge that shows the choice, for callers who want to see why a word is accepted.
 use mulgreddi_answers::Answer;
 ghost use mathlib.Core.Path.{_≡_};
 ghost use Rattle.judge_spec.specs.declared.Verdict.{Verdict};

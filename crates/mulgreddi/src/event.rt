@@ -1,4 +1,4 @@
-// The C interface: the translation of a log.
+// The C entry of the translation of a log, by which a caller gets the letters of events.
 use mulgreddi_answers::Answer;
 ghost use mathlib.Core.Path.{_≡_};
 ghost use lib.ListN.{length};

@@ -1,4 +1,4 @@
-// The C interface: the text of a table for other tools.
+// The C entries of the text of a table, by which a table goes to other tools and comes back.
 use mulgreddi_answers::Answer;
 ghost use mathlib.Core.Path.{_≡_};
 ghost use lib.ListN.{length};

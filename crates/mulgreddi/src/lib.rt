@@ -1,4 +1,5 @@
-// The C interface: every public entry, its answer as three numbers. include/mulgreddi.h declares and documents it.
+// The C interface, by which programs in other languages call the library: every public entry, its answer as numbers. include/mulgreddi.h
+// declares and documents it.
 pub mod choices;
 pub mod event;
 pub mod hoa;

@@ -1,4 +1,5 @@
-// Following a log live, in the C interface: start, arrival, withdrawal, mark and return.
+// The C entries that follow a log live: start, arrival, withdrawal, mark and return. State is a slice of the caller, so several logs can be
+// followed side by side.
 use live_spec::LiveCall;
 use mulgreddi_answers::Answer;
 ghost use mathlib.Core.Path.{_≡_};

@@ -1,4 +1,4 @@
-// The report of a mixed loop.
+// The C entry of the report of a mixed loop, for a caller whose rule is refused by row 11.
 use mulgreddi_answers::Answer;
 ghost use mathlib.Core.Path.{_≡_};
 ghost use lib.ListN.{length, take};

@@ -1,4 +1,4 @@
-// The writer with names for letters.
+// The C entry of the writer with names for letters, for callers whose listings should show them.
 use mulgreddi_answers::Answer;
 ghost use mathlib.Core.Path.{_≡_};
 ghost use lib.ListN.{length};

@@ -1,4 +1,4 @@
-// The build of the words that a rule rejects, for C.
+// The C entry of the build of the words that a rule rejects, for callers who ask how a rule is broken.
 use mulgreddi_answers::Answer;
 ghost use mathlib.Core.Path.{_≡_};
 ghost use Rattle.build.specs.declared.Built.{Built};

@@ -1,4 +1,4 @@
-// The judge of a sheet of words, for C.
+// The C entry of the judge of a sheet, for callers with many words on one rule.
 use mulgreddi_answers::Answer;
 ghost use mathlib.Core.Path.{_≡_};
 ghost use Rattle.sheet_spec.specs.Computed.{SheetComputed};

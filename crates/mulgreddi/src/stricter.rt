@@ -1,4 +1,4 @@
-// The comparison of two rules, for C.
+// The C entry of the comparison of two rules. Its answer has eight numbers, since it tells a word and the sizes of two tables.
 use mulgreddi_answers_stricter::Numbers;
 ghost use mathlib.Core.Path.{_≡_};
 ghost use Rattle.stricter_entry_spec.specs.declared.Comparison.{Comparison};

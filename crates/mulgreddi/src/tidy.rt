@@ -1,4 +1,4 @@
-// The tidy tool.
+// The C entry of the tidy tool, for a caller whose rule is refused by row 20.
 use mulgreddi_answers::Answer;
 ghost use mathlib.Core.Path.{_≡_};
 ghost use Rattle.file_tidy_spec.specs.declared.Tidied.{Tidied};

@@ -1,4 +1,4 @@
-// The trimmed build in the C interface.
+// The C entry of the trimmed build, for callers who want the smaller table.
 use mulgreddi_answers::Answer;
 ghost use mathlib.Core.Path.{_≡_};
 ghost use Rattle.build.specs.declared.Built.{Built};

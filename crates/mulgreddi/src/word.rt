@@ -1,4 +1,4 @@
-// The tidy spelling of a word.
+// The C entry of the tidy spelling of a word, by which a caller can store each word in one way.
 use mulgreddi_answers::Answer;
 ghost use mathlib.Core.Path.{_≡_};
 ghost use lib.ListN.{length};

@@ -1,4 +1,5 @@
-// The three numbers of an answer of the C interface, and what they are for each case of an entry's answer (specs/Answers).
+// The three numbers of an answer of the C interface, which has no variants that carry values, and what they are for each case of an entry's
+// answer (specs/Answers).
 ghost use mathlib.Core.Path.{_≡_};
 ghost use Rattle.mulgreddi_answers.specs.Answers.{refusedAs, servedAs};
 

@@ -27,7 +27,7 @@ module _ (A : Automaton) where
     pub gapless : (q j : ℕ) → q < A .n → A .accepting q ≡ false → S q ≡ true → 1 ≤ j → j ≤ r q
         → (p : ℕ) × (p < A .n) × (A .component p ≡ A .component q) × (S p ≡ true) × (r p ≡ j)
 
-  -- The same as far as its accepting components go. 01: "its states outside S if it is accepting"
+  -- (S, r) is the core before (T, t) at letter a, as far as its accepting components go, with the levels l. 01: open states are "its states outside S if it is accepting"
   pub record EarlierAccepting (a : ℕ) (S : Set) (r : ℕ → ℕ) (T : Set) (t : ℕ → ℕ) (l : ℕ → ℕ) : Type 0 where
     pub exact : (q : ℕ) → q < A .n → A .accepting q ≡ true → S q ≡ satisfies (A .n) T (A .entry q a)
     -- the least j such that: "take the states outside both K and T's set, with those open states of rank at most j; the states left over

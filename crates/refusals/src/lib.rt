@@ -1,4 +1,4 @@
-// Tables of refusals: rows tried in order, the number of the first that applies.
+// Tables of refusals: rows tried in order, the number of the first that applies. Entries state by such tables what they refuse.
 
 // The rows by the names that include/mulgreddi.h gives them.
 // Row 1: file under 8 bytes.

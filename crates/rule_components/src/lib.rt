@@ -1,4 +1,5 @@
-// The components of a rule.
+// The components of a rule: the classes of states that lead to each other. Row 11 asks that none is mixed, and the build ranks the states
+// of each apart.
 use rule_entries::Head;
 use rule_reach::closures;
 ghost use mathlib.Core.Path.{_≡_};

@@ -132,6 +132,6 @@ unfolding satisfies
 satisfies-wide k n X l [] h = refl
 satisfies-wide k n X l (c ∷ cs) h = rw (inside-trim n k X c l (h c (List·Memᴰ·head refl)), satisfies-wide k n X l cs (λ x m. h x (List·Memᴰ·tail m)))
 
--- the same for an entry over n states
+-- in an entry over n states some clause is met exactly if the set satisfies the entry
 pub met-entry : (n s : ℕ) (cl : List ℕ) → n ≤ 8 → ((c : ℕ) → List·Memᴰ c cl → c < 2 ^ n) → isMet (metOf s cl) ≡ satisfies n (bit s) cl
 met-entry n s cl l h = met-satisfies s cl ∙ satisfies-wide 8 n (bit s) l cl h

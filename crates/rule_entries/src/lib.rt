@@ -1,5 +1,5 @@
-// The entries of a rule on lent slices: where an entry's clauses stand, the clause test,
-// and the look-up of an entry that tells the clause met.
+// The entries of a rule on lent slices: where the clauses of an entry stand, and the first of them that a set meets. Builds and judges ask
+// here whether a set satisfies an entry.
 ghost use mathlib.Core.Path.{_≡_};
 ghost use Prim.Native.Nat.{_≤_, _<_};
 ghost use lib.ListN.{length, take};

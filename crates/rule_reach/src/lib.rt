@@ -1,4 +1,4 @@
-// What the states of a rule lead to.
+// What the states of a rule lead to, in one step and in any number: components, and the order in which they are judged, come from it.
 use rule_entries::Head;
 ghost use mathlib.Core.Path.{_≡_};
 ghost use Prim.Native.Nat.{_<_};

@@ -1,4 +1,4 @@
-// Whether two rules agree in their entries: definitions and laws of sameness, and the entries compared.
+// Whether two rules agree in their entries. Only the clauses of each are tried on the other, taken as sets, in place of all sets of states.
 use rule_entries::Head;
 use rule_entries::Met;
 ghost use mathlib.Core.Path.{_≡_};

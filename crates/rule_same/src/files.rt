@@ -1,4 +1,4 @@
-// Sameness of rules.
+// Sameness of the rules of two files, as it is asked for: the rows of either file first, then numbers, entries and names.
 use crate::entries::SameRules;
 use crate::entries::same_entries;
 use check::same;

@@ -1,3 +1,3 @@
-// Sameness of rules: their entries and their names, then their files.
+// Sameness of rules, however their clauses are spelled: their entries and their names, then their files.
 pub mod entries;
 pub mod files;

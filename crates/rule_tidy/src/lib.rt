@@ -1,4 +1,4 @@
-// Tidying a rule: of each entry the clauses that stay.
+// Tidying a rule: of each entry the clauses that properly contain no other stay, each once. The entry is satisfied by the same sets.
 use rule_entries::Head;
 ghost use mathlib.Core.Path.{_≡_};
 ghost use Prim.Native.Nat.{_≤_, _<_};

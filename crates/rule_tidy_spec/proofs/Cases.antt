@@ -48,7 +48,7 @@ minimal-first = refl
 abbrev pub glued : Rule
 glued = record { n = 2; s = 1; initial = 0; accepting = 0; counts = 1 ∷ 2 ∷ []; clauses = 3 ∷ 1 ∷ 0 ∷ [] }
 
--- the same without that clause
+-- `glued` without the clause of state 1 that leads back to state 0
 abbrev pub split : Rule
 split = record { n = 2; s = 1; initial = 0; accepting = 0; counts = 1 ∷ 1 ∷ []; clauses = 3 ∷ 0 ∷ [] }
 

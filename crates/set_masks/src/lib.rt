@@ -1,4 +1,4 @@
-// Sets of states as masks: state q has weight 2 to the power q.
+// Sets of states as masks: state q has weight 2 to the power q. A rule has at most 8 states, so that a set is one byte.
 ghost use mathlib.Core.Path.{_≡_};
 ghost use Prim.Native.Nat.{_<_, _≤_};
 ghost use Rattle.sets.specs.Masks.{bit, members};

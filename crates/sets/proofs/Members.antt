@@ -61,7 +61,7 @@ unfolding membersFrom trailingZeros
 members-step zero i m p h = absurd (omega arith)
 members-step (suc n) i m p h = by-digit n i m (m % 2) refl p (λ q. members-step n (i + 1) (m / 2) q (shr-lt n 1 (rw add-one h)))
 
--- the same for masks of eight bits
+-- a mask of eight bits that is not empty: its least member, and the members of the mask without it
 pub members-cons : (m : ℕ) → 0 < m → m < 256 → members m ≡ trailingZeros 8 m ∷ members (bitAnd m (m - 1))
 members-cons m p h = members-step 8 0 m p h ∙ ap (λ (x : ℕ). x ∷ members (bitAnd m (m - 1))) (zero-add (trailingZeros 8 m))
 

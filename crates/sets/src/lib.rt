@@ -1,1 +1,2 @@
-// Sets of numbers as tests, masks and ascending lists: definitions and laws, no code.
+// Sets of numbers as tests, masks and ascending lists, since definitions speak of tests, and code of masks and lists: definitions and laws,
+// no code.

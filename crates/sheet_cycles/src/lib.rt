@@ -1,4 +1,4 @@
-// The cycles of a sheet that are known, each a part of the sheet, and the masks of each, filled once.
+// The cycles of a sheet that are known, each a part of the sheet. Words share cycles, so the masks of each are filled once.
 use check::same;
 use judge_masks::word::fill_cycle;
 use rule_entries::Head;

@@ -1,4 +1,4 @@
-// The judge of a sheet of words on a rule.
+// The judge of a sheet of words on a rule: each word is answered as if alone, and a cycle that words share is filled once.
 use file_read::clauses_of;
 use file_read::counts_of;
 use file_read::read_rule;
@@ -74,7 +74,8 @@ pub fn judge_words(
     cycles
 }
 
-// The same for any sheet: refused by rows 24 and 16, in this order, and both slices are then unchanged.
+// Judges the words of any sheet, for a rule that passes every check; how many words there are, and how many cycles were filled. Refused by
+// rows 24 and 16, in this order, and both slices are then unchanged.
 pub fn judge_sheet_read(
     h: Head,
     counts: &[u8],

@@ -1,4 +1,5 @@
-// The mask bytes of one word of a sheet, from the masks of its tidy cycle.
+// The mask bytes of one word of a sheet: behind its tidy lead-in a word is its tidy cycle over and over, so its masks are those of the
+// cycle, repeated.
 use judge_masks::word::fill_lead;
 use rule_entries::Head;
 use word_rows::next_place;

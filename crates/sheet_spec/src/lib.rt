@@ -1,4 +1,4 @@
-// Sheets of words: what is refused, answered and written; no code but the answer's type.
+// What the judge of a sheet promises: what is refused, answered and written; no code but the answer's type.
 
 // How many words a sheet has, and how many cycles were filled.
 pub struct Totals {

@@ -1,4 +1,4 @@
-// One word of a sheet, judged by the masks of its tidy cycle.
+// One word of a sheet, judged by the masks of its tidy cycle, which a word before it may have filled.
 use set_masks::contains;
 use sheet_cycles::Reachability;
 use sheet_cycles::Sought;

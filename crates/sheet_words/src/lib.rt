@@ -1,4 +1,4 @@
-// The words of a sheet: how many, where each begins, and the number of a faulty one.
+// The words of a sheet, found in its bytes: how many, where each begins, and the number of a faulty one, which does not refuse the others.
 use word_rows::word_row;
 ghost use mathlib.Core.Path.{_≡_};
 ghost use Prim.Native.Nat.{_<_};

@@ -1,4 +1,5 @@
-// Bytes, texts and decimal digits at a place of a slice. Each function answers the place after what it wrote.
+// Bytes, texts and decimal digits at a place of a slice, of which listings and texts for other tools are made. Each function answers the
+// place after what it wrote.
 ghost use mathlib.Core.Path.{_≡_};
 ghost use mathlib.Core.List.{_∷_, []};
 ghost use Prim.Native.Nat.{_+_, _≤_, _<_};

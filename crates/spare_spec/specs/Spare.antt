@@ -26,7 +26,7 @@ module _ (A : Automaton) where
   abbrev pub Spares : ℕ → Set → Set → (ℕ → ℕ) → ℕ → Type 0
   Spares a S T t K = NoLevel a S T t K (classesOf T t K) ⊎ (classesOf T t K ≡ 0)
 
-  -- the same, of codes: c is the code of the step's source, d of its target
+  -- The step over the letter a from the macrostate with the code c to that with the code d spares component K, by their cores.
   abbrev pub SparesIn : ℕ → ℕ → ℕ → ℕ → Type 0
   SparesIn a c d K = Spares a (setIn A c) (setIn A d) (rankIn A d) K
 

@@ -1,5 +1,5 @@
-// Rounds over the pairs of cores of two tagged tables: once pairs go out that lead to none that is in, then for each component of either
-// table those that cannot reach a step that spares it, until none goes out.
+// Leaves those pairs of cores of two tagged tables from which both can accept: once pairs go out that lead to none that is in, then for
+// each component of either table those that cannot reach a step that spares it, until none goes out.
 use codes::CODE_BITS;
 use slice_zeros::next_between;
 use slice_zeros::next_set;

@@ -1,5 +1,5 @@
-// A search through the pairs of numbers of two tables that are in, from one of them: each that is met gets a byte that tells the step by
-// which it was met (crate stricter_forest).
+// A search through the pairs of numbers of two tables that are in, from one of them. Each pair that is met gets a byte that tells the step
+// by which it was met, so that the way to it can be followed back.
 use codes::is_accepting;
 use codes::letter_of;
 use codes::source_of;

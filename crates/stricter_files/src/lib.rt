@@ -1,4 +1,5 @@
-// Sorts out the pairs of numbers of the tables of two rules, from their files. While it does, the free bits of both tables hold tags.
+// Sorts out the pairs of numbers of the tables of two rules, from their files: those from which both can accept are in. Meanwhile tags
+// stand in the free bits of both tables, so that they need no room of their own.
 use file_spec::Layout;
 use stricter_fixpoints::mark_pairs;
 use stricter_tags::tag_live;

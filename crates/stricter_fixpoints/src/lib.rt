@@ -1,4 +1,5 @@
-// Sorts out the pairs of numbers of two tagged tables from which both can accept, by the pairs of their cores.
+// Sorts out the pairs of numbers of two tagged tables from which both can accept. Acceptance is a matter of cores, so it is decided on the
+// pairs of their cores.
 use codes::CODE_BITS;
 use stricter_cores::narrow;
 use stricter_spread::place_cores;

@@ -1,5 +1,5 @@
-// A word that two tables accept, found in their pairs: a pair u that is accepting on the first side, a pair v that is accepting on the
-// second, and the letters of the ways from a start pair to u, from there to v, and back to u.
+// The word that a no of the comparison shows: two tables accept it. Its letters are those of a way from a start pair back to it, or of ways
+// to a pair u accepting on the first side, on to a pair v accepting on the second, and back to u.
 use codes::is_accepting;
 use codes::letter_of;
 use codes::source_of;

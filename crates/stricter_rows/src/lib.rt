@@ -1,4 +1,5 @@
-// The transitions of a number, letter by letter.
+// The transitions of a number, letter by letter: a step of a pair takes one letter on both sides, so those of one number are looked up by
+// the letter of the other.
 use slice_search::place_low;
 ghost use Prim.Native.Nat.{_+_, _<_};
 ghost use Rattle.sets.specs.Lists.{Ascending};

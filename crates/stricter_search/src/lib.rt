@@ -1,4 +1,5 @@
-// The search for a word that two tables accept: the pairs from which both can, a start pair among them, and the word.
+// The search for a word that two tables accept: the pairs from which both can, a start pair among them, and the word. If there is none,
+// every word that A accepts is accepted by B.
 use file_spec::Layout;
 use slice_zeros::fill_with;
 use stricter_files::mark_files;

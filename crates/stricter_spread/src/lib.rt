@@ -1,4 +1,5 @@
-// Marks for the pairs of cores of two tagged tables, and from them marks for all pairs of numbers.
+// Marks for the pairs of cores of two tagged tables, on which is decided what is in, and from them marks for all pairs of numbers, among
+// which the word is looked for.
 use codes::CODE_BITS;
 ghost use mathlib.Core.Path.{_≡_};
 ghost use mathlib.Core.Bool.{false, cond};

@@ -1,5 +1,5 @@
-// Start pairs among the pairs of cores of two tagged tables. A run begins where K and k are 0, and of the numbers of a core that one is the
-// first.
+// Start pairs, looked for among the pairs of cores of two tagged tables alone: a run begins where K and k are 0, and of the numbers of a
+// core that one is the first.
 use codes::CODE_BITS;
 use codes::is_first;
 use codes::is_initial;

@@ -1,4 +1,5 @@
-// Tags put on a table and taken off again, and which of its numbers take part.
+// Tags put on a table and taken off again: in free bits they tell cores and spared components, which rounds over pairs of cores go by.
+// Numbers from which no accepting run goes on get no core, and take no part.
 use build_closure_spec::Shape;
 use codes::CODE_BITS;
 use codes::CODE_MASK;

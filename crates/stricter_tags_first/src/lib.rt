@@ -1,4 +1,4 @@
-// The number of its core above each code.
+// The tag of a code: the first number with its core, which stands for the core, so that macrostates of one core are treated once.
 use codes::ABOVE_CODE;
 use codes::ABOVE_CORE;
 use codes::CORE_BITS;

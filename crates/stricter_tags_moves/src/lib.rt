@@ -1,4 +1,5 @@
-// Tags of transitions: the number of the target's core, and the components that are spared.
+// Tags of transitions: the number of the target's core, and the components that are spared. So one step back a transition serves all
+// rounds.
 use build_closure_spec::Shape;
 use codes::ABOVE_MOVE;
 use codes::ABOVE_MOVE_CORE;
@@ -53,7 +54,7 @@ fn spared_in(ranks: u64, parts: &[u8; 8], components: usize, levels: &[u64; 8]) 
     spared
 }
 
-// The same for a step over a letter into the core of these ranks.
+// The mask of the components that a step over the letter into the core of these ranks spares.
 fn spared_over(ranks: u64, letter: usize, shape: Shape, opens: &[u8; 4096], parts: &[u8; 8]) -> u64
     requires { ⌜ ((r : Rule) × RuleTables r (now opens) (now parts) shape) × Cored (now parts) (shape .components) ranks
         × (letter < shape .s) ⌝ }

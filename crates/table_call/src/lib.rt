@@ -1,4 +1,4 @@
-// The judge of words on a lent table, for a rule of s letters and its initial state.
+// The judge of words on a lent table, for a rule of s letters and its initial state: one code for tables in elements and tables in bytes.
 use rule_entries::Head;
 use slice_zeros::fill_with;
 use table_lent::count;

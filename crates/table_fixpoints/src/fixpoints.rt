@@ -1,4 +1,5 @@
-// Takes nodes out of the product of a table and a cycle: those without an endless walk, and those without a walk to an accepting node.
+// Takes nodes out of the product of a table and a cycle through which no accepting run goes: those without an endless walk, and those
+// without a walk to an accepting node.
 use crate::rounds::mark_place;
 use crate::rounds::mark_until_stable;
 use crate::rounds::place_before;

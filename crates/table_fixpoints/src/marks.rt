@@ -1,4 +1,4 @@
-// Marks the source of a transition whose target is accepting or marked.
+// Marks the source of a transition whose target is accepting or marked: so news of accepting nodes goes back from place to place.
 use codes::letter_of;
 use codes::source_of;
 use codes::target_of;
@@ -32,7 +32,8 @@ fn mark(marks: &mut [u8], x: usize, y: usize) -> bool
     v == 1
 }
 
-// The same for the ends of a transition, if it is one over the letter.
+// Marks the source of a transition over the letter if it is in and the target is accepting or marked; whether others may be marked for
+// that. The nodes of the source's place begin at `here`, those of the target's place at `there`.
 fn mark_over(t: u64, letter: usize, marks: &mut [u8], here: usize, there: usize) -> bool
     requires { ⌜ (here + sourceOf t < length (now marks)) × (there + targetOf t < length (now marks)) ⌝ }
     ensures { λ r. ⌜ (now (marks .exit) ≡ markedOver letter here there t (now (marks .entry)))
@@ -55,7 +56,8 @@ fn element_from(moves: &[u64], movebytes: &[u8], back: bool, m: usize, i: usize)
     element(moves, movebytes, i)
 }
 
-// The same for every transition, from the last to the first where `back`.
+// Marks the sources of transitions over the letter that are in and whose target is accepting or marked; whether others may be marked for
+// that. It tries the transitions one after the other, from the last to the first where `back`.
 pub fn mark_all(
     moves: &[u64],
     movebytes: &[u8],

@@ -1,4 +1,4 @@
-// Sweeps round the places of a cycle, until the nodes with a walk to an accepting one are marked.
+// Sweeps round the places of a cycle, until the nodes with a walk to an accepting one are marked. Only places that wait for news are swept.
 use crate::marks::mark_all;
 ghost use mathlib.Core.Path.{_≡_};
 ghost use Prim.Native.Nat.{ℕ, _≤_, _<_};

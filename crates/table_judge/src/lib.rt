@@ -1,4 +1,4 @@
-// The judge of words on a built table.
+// The judge of words on a built table: whether one of its accepting runs goes over a word. So a table built once answers for its rule.
 use file_read::read_rule;
 use file_spec::Read;
 use table_call::Start;
@@ -29,7 +29,9 @@ pub fn judge_table(
     }
 }
 
-// The same for a table in bytes, each code and transition as 8 bytes, low byte first.
+// Whether an accepting run of a table in bytes, each code and transition as 8 bytes, low byte first, over a word begins in an initial
+// macrostate, and the lowest number of one where it does. Refused by the rows of the rule, word, table and slices, in this order, and
+// scratch is then unchanged; else it is zero throughout.
 pub fn judge_table_bytes(
     file: &[u8],
     lead: &[u8],

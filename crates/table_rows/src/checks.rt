@@ -1,4 +1,4 @@
-// What row 15 asks of the numbers of a lent table, test by test.
+// What row 15 asks of the numbers of a lent table, test by test: both lists ascend, codes have no bit above 47, transitions stay in range.
 use codes::CODE_BITS;
 use codes::letter_of;
 use codes::source_of;

@@ -1,4 +1,4 @@
-// Row 15: a lent table is tried as a whole.
+// Row 15: a lent table is tried as a whole, so that each end of a transition is the number of a code.
 use crate::checks::has_astray;
 use crate::checks::has_high;
 use crate::checks::is_ascending;

@@ -1,5 +1,5 @@
-// The nodes of a table and a word from which an accepting run goes on: number m at place p is marked in byte p * n + m, n being the
-// number of codes.
+// The nodes of a table and a word from which an accepting run goes on, which decide what the judge on a table answers: number m at place p
+// is marked in byte p * n + m, n being the number of codes.
 use codes::is_accepting;
 use codes::letter_of;
 use codes::source_of;
@@ -44,7 +44,7 @@ fn flag_node(codes: &[u64], codebytes: &[u8], marks: &mut [u8], x: usize)
     marks[x] = flag_of(element(codes, codebytes, x % n));
 }
 
-// The same for every node.
+// Gives every node that is in the mark of its code.
 fn flag(codes: &[u64], codebytes: &[u8], marks: &mut [u8])
     requires { ⌜ ((d : ℕ) × (length (now marks) ≡ d * length (inBoth (now codes) (now codebytes) .numbers))) ⌝ }
     ensures { λ _. ⌜ Flagged (inBoth (now (codes .entry)) (now (codebytes .entry)) .numbers) (now (marks .entry)) (now (marks .exit)) ⌝ }
@@ -179,7 +179,7 @@ fn enter(t: u64, letter: usize, marks: &mut [u8], here: usize, there: usize)
     marks[here + source_of(t)] = 1;
 }
 
-// The same for every transition.
+// Marks the source of every transition over the letter whose target is marked.
 fn enter_all(
     moves: &[u64],
     movebytes: &[u8],

@@ -1,4 +1,5 @@
-// The lowest number where an accepting run over a word begins.
+// The lowest number where an accepting run over a word begins, by which the judge on a table answers: one of the initial numbers that are
+// marked at place 0.
 use codes::is_initial;
 use table_lent::count;
 use table_lent::element;

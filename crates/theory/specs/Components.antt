@@ -30,7 +30,7 @@ module _ (r : Rule) where
     pub there : LeadsTo q p
     pub back : LeadsTo p q
 
-  -- The same, computed: the mask of the states that q leads to in at most k steps. `LeadsTo` is this in n steps (theory_laws/proofs/Components: leads-to-iff).
+  -- Leads-to, computed: the mask of the states that q leads to in at most k steps. `LeadsTo` is this in n steps (theory_laws/proofs/Components: leads-to-iff).
   unfoldable pub within : ℕ → ℕ → ℕ
   unfolding mask bit someBelow leads
   within zero q = mask (r .n) (λ p. eqb q p)

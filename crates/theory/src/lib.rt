@@ -1,1 +1,2 @@
-// Alternating weak Büchi automata and the preorder construction: the definitions and what they give for the examples, no code.
+// Alternating weak Büchi automata and the preorder construction: the definitions in which every promise is stated, and what they give for
+// the examples; no code.

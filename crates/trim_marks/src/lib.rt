@@ -1,5 +1,5 @@
-// Finds the macrostates of a table that matter. The mark of each stands in bits 48 to 63 of its code, which no code uses: 0 for one that
-// is out, 1 for one that is in, 2 for one that is in and accepting, and 2 more while a walk from it to an accepting one is known.
+// Finds the macrostates that matter, which trimming keeps. The mark of each stands in bits 48 to 63 of its code, which no code uses: 0 for
+// one that is out, 1 for one that is in, 2 for one in and accepting, 2 more while a walk to an accepting one is known.
 use codes::CODE_BITS;
 use codes::CODE_MASK;
 use codes::is_accepting;

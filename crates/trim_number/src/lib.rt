@@ -1,5 +1,5 @@
-// Gives the macrostates that are left their new numbers, in place: first in bits 48 to 63 of their codes, where their marks stood, then
-// in the transitions, and last by their places.
+// Gives the macrostates that are left their new numbers with no memory beside the lists: first in bits 48 to 63 of their codes, where their
+// marks stood, then in the transitions, and last by their places.
 use codes::CODE_BITS;
 use codes::CODE_MASK;
 use codes::letter_of;

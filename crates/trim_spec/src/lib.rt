@@ -1,1 +1,2 @@
-// The macrostates of a built table that matter, and the table of these alone: definitions, and the tables of worked rules.
+// What the trimmed build promises: which macrostates of a built table matter, and the table of these alone. Definitions, and the tables of
+// worked rules.

@@ -1,4 +1,4 @@
-// Words: a lead-in and a cycle, one letter a byte.
+// Words, a lead-in and a cycle with one letter a byte: the rows 12 to 14, which letter stands at a place, and which place follows.
 use slice_search::any_from;
 ghost use mathlib.Core.Path.{_≡_};
 ghost use mathlib.Core.List.{List};

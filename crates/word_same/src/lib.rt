@@ -1,4 +1,4 @@
-// The sameness of words: whether they agree at every step.
+// The sameness of words: whether they agree at every step. As many steps as both have places together decide it.
 use word_rows::length_row;
 use word_rows::letter_at;
 use word_rows::next_place;

@@ -1,4 +1,4 @@
-// The tidy spelling of a word: the shortest cycle, then the shortest lead-in.
+// The tidy spelling of a word: the shortest cycle, then the shortest lead-in. A word has many spellings and one that is tidy.
 use word_rows::length_row;
 use word_rows::letter_at;
 use word_rows::next_place;
