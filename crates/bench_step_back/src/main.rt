@@ -1,5 +1,5 @@
 // Steps back over every letter from every core of the rule on standard input, again and again, so that a driver can time it.
-use build_closure_spec::Shape;
+use build_spec::Shape;
 use file_spec::Layout;
 use file_spec::Read;
 use libc::STDIN_FILENO;
@@ -11,8 +11,8 @@ ghost use Rattle.file_spec.specs.Reading.{readOf};
 ghost use Rattle.file_spec.specs.declared.Read.the-variants.{Accepted};
 ghost use Rattle.build_cores.specs.Vectors.{Within};
 ghost use Rattle.build_cores.specs.Used.{capsOf};
-ghost use Rattle.build_closure_spec.specs.Keys.{Cored};
-ghost use Rattle.build_closure_spec.specs.Tables.{RuleTables, Lowest};
+ghost use Rattle.build_spec.specs.Keys.{Cored};
+ghost use Rattle.build_spec.specs.Tables.{RuleTables, Lowest};
 
 // Rounds stop after this many steps, or after 1000 rounds.
 const ENOUGH: u64 = 1000000;
@@ -118,9 +118,9 @@ fn rounds(shape: Shape, opens: &[u8; 4096], parts: &[u8; 8]) -> Tally
 fn rule_rounds(file: &[u8], l: Layout) -> Tally
     requires { ⌜ readOf (now file) ≡ Accepted l ⌝ }
 {
-    let p = build_prepare::prepare(file, l, true);
+    let p = build_lists::prepare::prepare(file, l, true);
     let parts = p.parts;
-    let opens = build_prepare::file_opens(file, l);
+    let opens = build_lists::prepare::file_opens(file, l);
     rounds(p.shape, &opens, &parts)
 }
 

@@ -8,7 +8,7 @@ use lib.ListN.{length, take, replicate}
 use lib.Seq.{take-append-seam}
 use Rattle.theory.specs.Rule.{Rule}
 use Rattle.theory.specs.TableComputed.{macrostatesFrom}
-use Rattle.build_closure_spec.specs.Keys.{startOf}
+use Rattle.build_spec.specs.Keys.{startOf}
 use Rattle.build.specs.declared.Built.{Built}
 use Rattle.build.specs.declared.Built.the-variants.{Table, Refused}
 use Rattle.build.specs.Built.{roomRow, builtBy, roomAfter, sliceAfter}

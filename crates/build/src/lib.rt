@@ -1,8 +1,8 @@
 // The build, which the library is for: it makes the unambiguous automaton of a rule, its reachable macrostates and the transitions between
 // them, as two ascending lists in two lent slices.
-use build_closure_spec::Shape;
 use build_lists::list_codes;
 use build_lists::list_transitions;
+use build_spec::Shape;
 use file_spec::Layout;
 use file_spec::Read;
 ghost use mathlib.Core.Path.{_≡_};
@@ -11,8 +11,8 @@ ghost use Rattle.theory.specs.Rule.{Rule};
 ghost use Rattle.theory.specs.TableComputed.{macrostatesFrom, transitionsFrom};
 ghost use Rattle.file_spec.specs.Reading.{readOf};
 ghost use Rattle.file_spec.specs.declared.Read.the-variants.{Accepted};
-ghost use Rattle.build_closure_spec.specs.Keys.{startOf};
-ghost use Rattle.build_closure_spec.specs.Tables.{RuleTables};
+ghost use Rattle.build_spec.specs.Keys.{startOf};
+ghost use Rattle.build_spec.specs.Tables.{RuleTables};
 ghost use Rattle.build.specs.Built.{fileCodes, fileMoves};
 ghost use Rattle.build.specs.Entry.{TableBuilt};
 ghost use Rattle.build.specs.Filling.{Made, FileFilled};
@@ -79,9 +79,9 @@ pub fn build_accepted(
     ensures { λ b. ⌜ Made (fileCodes (λ r. startOf r holds) (now (file .entry))) (fileMoves (λ r. startOf r holds) (now (file .entry)))
         (now (codes .entry)) (now (transitions .entry)) b (now (codes .exit)) (now (transitions .exit)) ⌝ }
 {
-    let p = build_prepare::prepare(file, l, holds);
+    let p = build_lists::prepare::prepare(file, l, holds);
     let parts = p.parts;
-    let opens = build_prepare::file_opens(file, l);
+    let opens = build_lists::prepare::file_opens(file, l);
     build_table(p.shape, &opens, &parts, codes, transitions)
 }
 

@@ -1,14 +1,14 @@
 // Chains through a list of keys in a lent slice: the keys of a core stand in one chain. So whether a key is listed, and which keys a core
 // has, is found without a pass over the list.
-use build_chains_spec::Grow;
+use build_spec::Grow;
 use codes::CODE_BITS;
 use codes::CODE_MASK;
 ghost use mathlib.Core.Path.{_≡_};
 ghost use mathlib.Core.Bool.{true, false};
 ghost use Prim.Native.Nat.{_+_, _*_, _/_, _%_, _^_, _<_};
 ghost use lib.ListN.{length, getD, set};
-ghost use Rattle.build_chains_spec.specs.Chains.{bucketOf, Found, Before, Chained};
-ghost use Rattle.build_chains_spec.specs.Growth.{Grown};
+ghost use Rattle.build_spec.specs.Chains.{bucketOf, Found, Before, Chained};
+ghost use Rattle.build_spec.specs.Growth.{Grown};
 
 // The bucket of a core. Any number below 16,384 would do that is one for each core.
 pub fn bucket(core: u64) -> usize

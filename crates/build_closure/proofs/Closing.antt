@@ -8,10 +8,10 @@ use native.Mathlib.Omega.{arith}
 use native.Mathlib.Decide.{decLt}
 use lib.ListN.{length}
 use Rattle.slice_sort.proofs.Distinct.{longer}
-use Rattle.build_chains_spec.specs.Chains.{keyAt, Lists, Chained}
-use Rattle.build_chains_spec.specs.Growth.{Grown, After}
-use Rattle.build_chains_spec.proofs.Growth.{lists-kept, key-kept, all-in, all-kept}
-use Rattle.build_closure_spec.specs.Reached.{Reached, begins, leads}
+use Rattle.build_spec.specs.Chains.{keyAt, Lists, Chained}
+use Rattle.build_spec.specs.Growth.{Grown, After}
+use Rattle.build_spec.proofs.Growth.{lists-kept, key-kept, all-in, all-kept}
+use Rattle.build_spec.specs.Reached.{Reached, begins, leads}
 use Rattle.build_closure.specs.Closure.{keysOf, Gathered}
 use Rattle.build_closure.proofs.Gathering.{keys-long, lists-in, in-lists, keys-once}
 

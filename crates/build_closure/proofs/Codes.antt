@@ -7,7 +7,7 @@ use native.Mathlib.Nat.{mod-eq-of-lt}
 use native.Mathlib.Numerals.{add-one}
 use lib.ListN.{length, getD, drop, set}
 use lib.Bits.{bitAnd, bitOr, and-mask, or-shifted}
-use Rattle.build_closure_spec.specs.Keys.{codeOf}
+use Rattle.build_spec.specs.Keys.{codeOf}
 use Rattle.build_closure.specs.Closure.{keysOf}
 
 -- the first i elements as codes, the others as they were

@@ -7,8 +7,8 @@ use lib.ListN.{length, getD, take, length-map, List·getD-map}
 use lib.Seq.{length-take-le, getD-take}
 use Rattle.sets.proofs.Lists.{place-of, mem-at}
 use Rattle.slice_sort.specs.Order.{Distinct}
-use Rattle.build_chains_spec.specs.Chains.{keyAt, Lists}
-use Rattle.build_closure_spec.proofs.Distinct.{distinct-at}
+use Rattle.build_spec.specs.Chains.{keyAt, Lists}
+use Rattle.build_spec.proofs.Distinct.{distinct-at}
 use Rattle.build_closure.specs.Closure.{keysOf}
 
 module _ (m : ℕ) (ys : List ℕ) (fits : m ≤ length ys) where

@@ -18,10 +18,10 @@ use Rattle.theory_laws.proofs.Tables.{few-states, components-there, reachable-m
 use Rattle.slice_sort.specs.Order.{Distinct, Arranged, ArrangedFirst}
 use Rattle.slice_sort.proofs.Distinct.{rearranged-in, rearranged-out, arranged-asc}
 use Rattle.build_closure.specs.Closure.{keysOf, Gathered, Listed}
-use Rattle.build_closure_spec.specs.Keys.{keyOf, codeOf, KeyOf}
+use Rattle.build_spec.specs.Keys.{keyOf, codeOf, KeyOf}
 use Rattle.build_closure.proofs.Codes.{coded}
-use Rattle.build_closure_spec.proofs.Keys.{code-key}
-use Rattle.build_closure_spec.proofs.Distinct.{distinct-through}
+use Rattle.build_spec.proofs.Keys.{code-key}
+use Rattle.build_spec.proofs.Distinct.{distinct-through}
 use Rattle.build_closure.proofs.Gathering.{keys-long}
 use Rattle.build_step_back.proofs.Codes.{pair-low}
 

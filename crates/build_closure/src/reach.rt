@@ -2,8 +2,8 @@
 // and become codes in ascending order.
 use crate::rounds::close;
 use crate::rounds::firsts;
-use build_chains_spec::Grow;
-use build_closure_spec::Shape;
+use build_spec::Grow;
+use build_spec::Shape;
 use codes::CODE_MASK;
 use codes::CORE_BITS;
 ghost use mathlib.Core.Path.{_≡_};
@@ -14,8 +14,8 @@ ghost use Rattle.theory.specs.Rule.{Rule};
 ghost use Rattle.theory.specs.Automaton.{automaton};
 ghost use Rattle.theory.specs.Macrostate.{Reachable};
 ghost use Rattle.theory.specs.TableComputed.{macrostatesFrom};
-ghost use Rattle.build_closure_spec.specs.Keys.{codeOf, KeyOf, startOf};
-ghost use Rattle.build_closure_spec.specs.Tables.{RuleTables};
+ghost use Rattle.build_spec.specs.Keys.{codeOf, KeyOf, startOf};
+ghost use Rattle.build_spec.specs.Tables.{RuleTables};
 ghost use Rattle.build_closure.specs.Closure.{keysOf, Gathered, Listed};
 
 // The keys of the reachable macrostates, with links; full if they are more than the slice has room for.
@@ -63,6 +63,6 @@ pub fn reachable(codes: &mut [u64], shape: Shape, opens: &[u8; 4096], parts: &[u
         return g;
     }
     to_codes(codes, g.m);
-    slice_sort_bytes::sort_first(codes, g.m);
+    slice_sort::bytes::sort_first(codes, g.m);
     g
 }

@@ -1,16 +1,16 @@
 // Rounds over all cores until no key is new. Places are the clock: a round uses the keys that the round before added.
-use build_chains_spec::Grow;
-use build_closure_spec::Shape;
+use build_spec::Grow;
+use build_spec::Shape;
 ghost use mathlib.Core.Path.{_≡_};
 ghost use Prim.Native.Nat.{ℕ, _<_};
 ghost use Rattle.theory.specs.Rule.{Rule};
 ghost use Rattle.theory.specs.Automaton.{automaton};
 ghost use Rattle.build_cores.specs.Used.{capsOf};
-ghost use Rattle.build_chains_spec.specs.Chains.{Lists, Chained};
-ghost use Rattle.build_chains_spec.specs.Growth.{Grown, After};
-ghost use Rattle.build_closure_spec.specs.Keys.{KeyEdge, First};
-ghost use Rattle.build_closure_spec.specs.Reached.{ReachedKey, AllReached};
-ghost use Rattle.build_closure_spec.specs.Tables.{Shaped, RuleTables};
+ghost use Rattle.build_spec.specs.Chains.{Lists, Chained};
+ghost use Rattle.build_spec.specs.Growth.{Grown, After};
+ghost use Rattle.build_spec.specs.Keys.{KeyEdge, First};
+ghost use Rattle.build_spec.specs.Reached.{ReachedKey, AllReached};
+ghost use Rattle.build_spec.specs.Tables.{Shaped, RuleTables};
 ghost use Rattle.build_closure.specs.Closure.{Gathered};
 
 // ---- all cores

@@ -6,3 +6,5 @@ pub mod Vectors
 pub mod Sums
 pub mod Cores
 pub mod Rules
+pub mod Table
+pub mod Pairs

@@ -1,3 +1,5 @@
 pub mod Vectors
 pub mod Used
 pub mod Parts
+pub mod Opens
+pub mod Onward

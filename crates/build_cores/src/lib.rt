@@ -1,5 +1,8 @@
-// Cores as vectors of eight ranks, four bits each: the set of a core follows from its ranks, so all cores are gone through by counting
-// vectors up.
+// Cores as vectors of eight ranks, four bits each (the set of a core follows from its ranks); which states are open before a set; and how the component
+// and the classes left go on over one step.
+pub mod breakpoint;
+pub mod opens;
+
 ghost use mathlib.Core.Path.{_≡_};
 ghost use Prim.Native.Nat.{ℕ, _^_, _<_, _≤_};
 ghost use mathlib.Core.Bool.{_&&_};

@@ -1,11 +1,14 @@
-// The two lists of the build, each in a lent slice with zeros after it. A list tells whether it has room: the build answers 17 or 18 by it.
-use build_chains_spec::Grow;
-use build_closure_spec::Shape;
+// The tables of a rule by which the build and the comparison go, made once, and the two lists of the build, each in a lent slice with zeros after it. A list
+// tells whether it has room: the build answers 17 or 18 by it.
+pub mod prepare;
+
+use build_spec::Grow;
+use build_spec::Shape;
 ghost use mathlib.Core.Path.{_≡_};
 ghost use Rattle.theory.specs.Rule.{Rule};
 ghost use Rattle.theory.specs.TableComputed.{macrostatesFrom, transitionsFrom};
-ghost use Rattle.build_closure_spec.specs.Keys.{startOf};
-ghost use Rattle.build_closure_spec.specs.Tables.{RuleTables};
+ghost use Rattle.build_spec.specs.Keys.{startOf};
+ghost use Rattle.build_spec.specs.Tables.{RuleTables};
 ghost use Rattle.build_lists.specs.Room.{roomOf};
 ghost use Rattle.build_lists.specs.Lists.{Padded, Codes};
 

@@ -2,7 +2,7 @@
 // initial state. So no rule has to be complemented.
 use build::Built;
 ghost use mathlib.Core.Path.{_≡_};
-ghost use Rattle.build_rejecting_spec.specs.Entry.{RejectingBuilt};
+ghost use Rattle.build_rejecting.specs.Entry.{RejectingBuilt};
 
 // Writes the codes of the macrostates reached from where the set lacks the initial state and the transitions of a file's rule, both
 // ascending, at the start of the slices, and zeros after them; answers both counts. Rows and refusals are those of the build, 17 and 18

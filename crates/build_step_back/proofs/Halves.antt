@@ -26,7 +26,7 @@ use Rattle.build_cores.specs.Used.{capsOf}
 use Rattle.build_cores.specs.Parts.{Parts, setOf}
 use Rattle.build_cores.proofs.Sums.{sum-ext, sum-ranks}
 use Rattle.build_cores.proofs.Cores.{part-state, part-none}
-use Rattle.build_opens.specs.Opens.{Opens}
+use Rattle.build_cores.specs.Opens.{Opens}
 use Rattle.paper_spec.specs.Definition7.{MeetsR1, MeetsR2}
 use Rattle.paper_spec.specs.Halves.{EarlierRejecting, EarlierAccepting}
 use Rattle.paper_laws.proofs.Definition7.{rejecting-meets, accepting-meets}

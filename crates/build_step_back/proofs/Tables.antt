@@ -33,12 +33,12 @@ use Rattle.build_cores.proofs.Sums.{sum-ext, sum-ranks}
 use Rattle.build_cores.proofs.Gaps.{rank-low}
 use Rattle.build_cores.proofs.Cores.{open-rank, part-state, part-none, rank-eight, only-cores, classes-largest}
 use Rattle.build_step_back.specs.Step.{goal, level, class, levelDigits, Rising, Back, ranksIn}
-use Rattle.build_breakpoint.specs.Onward.{nextIn, onwardIn}
-use Rattle.build_opens.specs.Opens.{setFrom, openBefore, Opens}
+use Rattle.build_cores.specs.Onward.{nextIn, onwardIn}
+use Rattle.build_cores.specs.Opens.{setFrom, openBefore, Opens}
 use Rattle.build_step_back.specs.Earlier.{earlierSet, earlierLevel, earlierRank, backOf, levelLeft, allClasses, ontoOf}
 use Rattle.build_step_back.proofs.Codes.{earlier-set-beyond}
 use Rattle.build_step_back.proofs.Component.{level-low}
-use Rattle.build_breakpoint.proofs.Pairs.{next-lt, onward-turn, onward-stay}
+use Rattle.build_cores.proofs.Pairs.{next-lt, onward-turn, onward-stay}
 use Rattle.build_step_back.proofs.Theory.{Masks, rises, ranks-are, left-is}
 
 xor-off : (a b : Bool) → exclusive (exclusive a b) a ≡ b

@@ -25,7 +25,7 @@ use Rattle.sets.proofs.Bits.{bit-and, bit-or, bit-xor, bit-ext}
 use Rattle.theory_laws.proofs.Ranks.{settled-mono}
 use Rattle.sets.proofs.Digits.{num-ext}
 use Rattle.build_step_back.specs.Step.{goal, upto, level, Rising, valued, class, rankDigits}
-use Rattle.build_opens.specs.Opens.{setFrom, openBefore}
+use Rattle.build_cores.specs.Opens.{setFrom, openBefore}
 use Rattle.build_step_back.proofs.Masks.{arg-small}
 
 arg-bit : (o k l : Bool) → exclusive o (o && k) || (l && k) ≡ cond k l o

@@ -12,16 +12,16 @@ use Rattle.theory.specs.Rule.{Rule}
 use Rattle.theory.specs.TableComputed.{macrostatesFrom, transitionsFrom}
 use Rattle.theory_laws.proofs.Tables.{macrostates-ascending}
 use Rattle.slice_sort.specs.Order.{ArrangedFirst}
-use Rattle.build_chains_spec.specs.Chains.{keyAt}
-use Rattle.build_closure_spec.specs.Keys.{startOf, keyOf, codeOf}
-use Rattle.build_closure_spec.specs.Reached.{AllReached}
-use Rattle.build_closure_spec.specs.Tables.{RuleTables}
-use Rattle.build_closure_spec.specs.declared.Shape.{Shape}
-use Rattle.build_closure_spec.proofs.Keys.{code-key}
+use Rattle.build_spec.specs.Chains.{keyAt}
+use Rattle.build_spec.specs.Keys.{startOf, keyOf, codeOf}
+use Rattle.build_spec.specs.Reached.{AllReached}
+use Rattle.build_spec.specs.Tables.{RuleTables}
+use Rattle.build_spec.specs.declared.Shape.{Shape}
+use Rattle.build_spec.proofs.Keys.{code-key}
 use Rattle.build_closure.specs.Closure.{Listed}
 use Rattle.build_closure.proofs.Codes.{coded, coded-at, coded-long}
-use Rattle.build_transitions_spec.specs.Emission.{Emitted, Done}
-use Rattle.build_transitions_spec.proofs.Listing.{code-low, macrostate, all-reached, all-written, overfull}
+use Rattle.build_spec.specs.Emission.{Emitted, Done}
+use Rattle.build_spec.proofs.Listing.{code-low, macrostate, all-reached, all-written, overfull}
 
 -- keys has the keys of the codes, in their places
 abbrev pub KeysOf : List ℕ → List ℕ → Type 0

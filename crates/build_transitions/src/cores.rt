@@ -1,8 +1,8 @@
 // The transitions between listed keys, core by core: one step back over a letter serves all keys of a core. So each core is treated once,
 // at its lowest place.
 use crate::sources::emit_sources;
-use build_chains_spec::Grow;
-use build_closure_spec::Shape;
+use build_spec::Grow;
+use build_spec::Shape;
 use build_visit::letters::CoreStep;
 use build_visit::letters::LetterBack;
 use build_visit::letters::last_of;
@@ -13,11 +13,11 @@ ghost use Prim.Native.Nat.{_<_, _≤_};
 ghost use lib.ListN.{length};
 ghost use Rattle.theory.specs.Rule.{Rule};
 ghost use Rattle.theory.specs.Automaton.{automaton};
-ghost use Rattle.build_chains_spec.specs.Chains.{Chained};
-ghost use Rattle.build_closure_spec.specs.Keys.{Cored};
-ghost use Rattle.build_closure_spec.specs.Reached.{AllReached};
-ghost use Rattle.build_closure_spec.specs.Tables.{RuleTables, Lowest};
-ghost use Rattle.build_transitions_spec.specs.Emission.{Emitted, Over, Into, vectorAt, Done};
+ghost use Rattle.build_spec.specs.Chains.{Chained};
+ghost use Rattle.build_spec.specs.Keys.{Cored};
+ghost use Rattle.build_spec.specs.Reached.{AllReached};
+ghost use Rattle.build_spec.specs.Tables.{RuleTables, Lowest};
+ghost use Rattle.build_spec.specs.Emission.{Emitted, Over, Into, vectorAt, Done};
 
 // Writes the transitions over one letter into the core of these ranks. The letter is skipped where no key of the earlier set is listed.
 fn emit_letter(

@@ -1,15 +1,15 @@
 // The transitions over one letter into one core: their sources are keys of the earlier core, so a walk along one chain meets all of them.
-use build_chains_spec::Grow;
+use build_spec::Grow;
 use build_visit::letters::CoreStep;
 use codes::CODE_BITS;
 use codes::CODE_MASK;
 ghost use mathlib.Core.Path.{_≡_};
 ghost use Prim.Native.Nat.{_%_, _^_, _<_, _≤_};
 ghost use lib.ListN.{length};
-ghost use Rattle.build_breakpoint.specs.Onward.{onwardIn};
-ghost use Rattle.build_chains_spec.specs.Chains.{keyAt, Chained};
-ghost use Rattle.build_closure_spec.specs.Keys.{Paired};
-ghost use Rattle.build_transitions_spec.specs.Emission.{Emitted, Crossing, Crossings};
+ghost use Rattle.build_cores.specs.Onward.{onwardIn};
+ghost use Rattle.build_spec.specs.Chains.{keyAt, Chained};
+ghost use Rattle.build_spec.specs.Keys.{Paired};
+ghost use Rattle.build_spec.specs.Emission.{Emitted, Crossing, Crossings};
 
 // Writes the transition from place p, if its key is one of the earlier core and what it goes on to is listed; full if there is no room.
 fn emit_source(
@@ -39,7 +39,13 @@ fn emit_source(
     if key >> 8 != step.earlier {
         return Grow { m, full: false };
     }
-    let pair = build_breakpoint::onward(key & 0xff, step.ranks, parts, step.components, levels);
+    let pair = build_cores::breakpoint::onward(
+        key & 0xff,
+        step.ranks,
+        parts,
+        step.components,
+        levels,
+    );
     let t = build_chains::find(keys, heads, last, keys.len(), (step.core << 8) | pair);
     if keys.len() <= t {
         return Grow { m, full: false };

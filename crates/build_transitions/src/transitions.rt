@@ -1,8 +1,8 @@
 // The transitions between the listed codes, ascending. While they are found the codes are keys with chains through them, so that the number
 // of a macrostate is found along a chain.
 use crate::cores::emit;
-use build_chains_spec::Grow;
-use build_closure_spec::Shape;
+use build_spec::Grow;
+use build_spec::Shape;
 use codes::CORE_BITS;
 use codes::CORE_MASK;
 ghost use mathlib.Core.Path.{_≡_};
@@ -11,9 +11,9 @@ ghost use lib.ListN.{length, getD};
 ghost use Rattle.sets.specs.Lists.{Ascending};
 ghost use Rattle.theory.specs.Rule.{Rule};
 ghost use Rattle.theory.specs.TableComputed.{macrostatesFrom, transitionsFrom};
-ghost use Rattle.build_chains_spec.specs.Chains.{keyAt, Chained};
-ghost use Rattle.build_closure_spec.specs.Keys.{keyOf, startOf};
-ghost use Rattle.build_closure_spec.specs.Tables.{RuleTables};
+ghost use Rattle.build_spec.specs.Chains.{keyAt, Chained};
+ghost use Rattle.build_spec.specs.Keys.{keyOf, startOf};
+ghost use Rattle.build_spec.specs.Tables.{RuleTables};
 ghost use Rattle.build_closure.specs.Closure.{Listed};
 
 // Turns the codes into keys, each in its place, with chains through them.
@@ -65,6 +65,6 @@ pub fn transitions(
     if g.full {
         return g;
     }
-    slice_sort_bytes::sort_first(out, g.m);
+    slice_sort::bytes::sort_first(out, g.m);
     g
 }

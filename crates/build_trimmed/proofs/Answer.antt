@@ -31,14 +31,14 @@ use Rattle.build.proofs.ByLists.{codes-same, moves-same, row-same, filled-same}
 use Rattle.build.proofs.RoomRows.{room-few}
 use Rattle.trim_spec.specs.Matters.{ListsMattering, RunsSurvive}
 use Rattle.trim_spec.specs.Trimmed.{liveMarks, picked, isLeft, renumbered, trimmedCodes, trimmedTransitions}
-use Rattle.trim_laws.proofs.Mattering.{table-inside, narrow-at}
-use Rattle.trim_laws.proofs.Numbers.{picked-length, number-max}
-use Rattle.trim_laws.proofs.Renumbering.{renumbered-yes, renumbered-no, renumbered-are}
-use Rattle.trim_laws.proofs.Sweeping.{flags-length, live-solved}
-use Rattle.trim_laws.proofs.Trimmed.{trimmed-lists, trimmed-demand3, run-survives}
+use Rattle.theory_laws.proofs.Mattering.{table-inside, narrow-at}
+use Rattle.theory_laws.proofs.Numbers.{picked-length, number-max}
+use Rattle.theory_laws.proofs.Renumbering.{renumbered-yes, renumbered-no, renumbered-are}
+use Rattle.theory_laws.proofs.Sweeping.{flags-length, live-solved}
+use Rattle.theory_laws.proofs.Trimmed.{trimmed-lists, trimmed-demand3, run-survives}
 use Rattle.build_trimmed.specs.Trimming.{Trimmable, padded, Trimming}
-use Rattle.build_trimmed_spec.specs.Answers.{trimmedOf, trimmedCodesAfter, trimmedTransitionsAfter}
-use Rattle.build_trimmed_spec.specs.Entry.{TrimmedBuilt}
+use Rattle.build_trimmed.specs.Answers.{trimmedOf, trimmedCodesAfter, trimmedTransitionsAfter}
+use Rattle.build_trimmed.specs.Entry.{TrimmedBuilt}
 
 -- ---- by the first row that refuses
 

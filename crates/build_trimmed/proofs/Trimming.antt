@@ -7,9 +7,9 @@ use lib.ListN.{length, replicate}
 use Rattle.trim_spec.specs.Graph.{Inside}
 use Rattle.trim_spec.specs.Trimmed.{newNumber, liveMarks, picked, renumbered}
 use Rattle.trim_spec.specs.Tagged.{highs, lows, Numbered, compacted, rewritten}
-use Rattle.trim_laws.proofs.Numbers.{number-max}
-use Rattle.trim_laws.proofs.Rewriting.{same-live, picked-same, rewritten-is, renumbered-whole}
-use Rattle.trim_laws.proofs.Tagged.{highs-length, lows-length, compacted-is}
+use Rattle.theory_laws.proofs.Numbers.{number-max}
+use Rattle.theory_laws.proofs.Rewriting.{same-live, picked-same, rewritten-is, renumbered-whole}
+use Rattle.theory_laws.proofs.Tagged.{highs-length, lows-length, compacted-is}
 use Rattle.build_trimmed.specs.Trimming.{Trimmable, padded, Trimming}
 
 pub padded-all : (l : List ℕ) → l ≡ padded l (length l)

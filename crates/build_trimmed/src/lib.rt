@@ -2,14 +2,14 @@
 // and no memory beside them.
 use build::Built;
 use build::Counts;
-use trim_marks::mark_live;
-use trim_number::compact;
-use trim_number::count_left;
-use trim_number::number;
-use trim_number::rewrite_all;
+use trim::marks::mark_live;
+use trim::number::compact;
+use trim::number::count_left;
+use trim::number::number;
+use trim::number::rewrite_all;
 ghost use mathlib.Core.Path.{_≡_};
 ghost use Rattle.build_trimmed.specs.Trimming.{Trimmable, Trimming};
-ghost use Rattle.build_trimmed_spec.specs.Entry.{TrimmedBuilt};
+ghost use Rattle.build_trimmed.specs.Entry.{TrimmedBuilt};
 
 // Trims a table in place: what matters stays at the front of both slices, by new numbers, and zeros come behind.
 pub fn trim(codes: &mut [u64], transitions: &mut [u64]) -> Counts

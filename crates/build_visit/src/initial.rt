@@ -1,7 +1,7 @@
 // The key of a core where a run may begin: with these the closure begins. The set holds the initial state there, or lacks it, so that one
 // closure serves the words accepted and the words rejected.
-use build_chains_spec::Grow;
-use build_closure_spec::Shape;
+use build_spec::Grow;
+use build_spec::Shape;
 ghost use mathlib.Core.Path.{_≡_};
 ghost use mathlib.Core.Bool.{not, cond};
 ghost use Prim.Native.Nat.{_<_};
@@ -10,10 +10,10 @@ ghost use Rattle.sets.specs.Masks.{bit, exclusive};
 ghost use Rattle.theory.specs.Rule.{Rule};
 ghost use Rattle.build_cores.specs.Vectors.{rankAt, Within};
 ghost use Rattle.build_cores.specs.Used.{capsOf};
-ghost use Rattle.build_chains_spec.specs.Chains.{Chained};
-ghost use Rattle.build_chains_spec.specs.Growth.{Grown};
-ghost use Rattle.build_closure_spec.specs.Keys.{StartsAt};
-ghost use Rattle.build_closure_spec.specs.Tables.{Shaped};
+ghost use Rattle.build_spec.specs.Chains.{Chained};
+ghost use Rattle.build_spec.specs.Growth.{Grown};
+ghost use Rattle.build_spec.specs.Keys.{StartsAt};
+ghost use Rattle.build_spec.specs.Tables.{Shaped};
 
 // Whether the set of the core of these ranks holds state q.
 fn in_set(ranks: u64, accepting: u8, q: usize) -> bool

@@ -1,7 +1,7 @@
 // The keys that one core adds to those listed: a step back over each letter gives the earlier core, and the listed keys of that core go on
 // to those of this one.
-use build_chains_spec::Grow;
-use build_closure_spec::Shape;
+use build_spec::Grow;
+use build_spec::Shape;
 use codes::CODE_BITS;
 use codes::CODE_MASK;
 ghost use mathlib.Core.Path.{_≡_};
@@ -12,12 +12,12 @@ ghost use Rattle.theory.specs.Rule.{Rule};
 ghost use Rattle.theory.specs.Automaton.{automaton};
 ghost use Rattle.build_cores.specs.Vectors.{Within};
 ghost use Rattle.build_cores.specs.Used.{capsOf};
-ghost use Rattle.build_breakpoint.specs.Onward.{onwardIn};
-ghost use Rattle.build_chains_spec.specs.Chains.{Chained};
-ghost use Rattle.build_chains_spec.specs.Growth.{Grown, After};
-ghost use Rattle.build_closure_spec.specs.Keys.{Paired, Cored, Moved, LeadsOver, LeadsAt, Stepping};
-ghost use Rattle.build_closure_spec.specs.Reached.{ReachedKey, AllReached};
-ghost use Rattle.build_closure_spec.specs.Tables.{RuleTables, Lowest};
+ghost use Rattle.build_cores.specs.Onward.{onwardIn};
+ghost use Rattle.build_spec.specs.Chains.{Chained};
+ghost use Rattle.build_spec.specs.Growth.{Grown, After};
+ghost use Rattle.build_spec.specs.Keys.{Paired, Cored, Moved, LeadsOver, LeadsAt, Stepping};
+ghost use Rattle.build_spec.specs.Reached.{ReachedKey, AllReached};
+ghost use Rattle.build_spec.specs.Tables.{RuleTables, Lowest};
 
 // A step over a letter from the earlier core to the core of these ranks. Cores are given by their numbers.
 pub struct CoreStep {
@@ -51,7 +51,13 @@ fn move_key(
     if key >> 8 != step.earlier {
         return Grow { m: n, full: false };
     }
-    let pair = build_breakpoint::onward(key & 0xff, step.ranks, parts, step.components, levels);
+    let pair = build_cores::breakpoint::onward(
+        key & 0xff,
+        step.ranks,
+        parts,
+        step.components,
+        levels,
+    );
     build_chains::admit(keys, heads, last, n, (step.core << 8) | pair)
 }
 

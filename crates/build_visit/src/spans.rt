@@ -3,8 +3,8 @@ use crate::letters::last_of;
 use crate::letters::set_before;
 use crate::letters::visit;
 use crate::letters::wide;
-use build_chains_spec::Grow;
-use build_closure_spec::Shape;
+use build_spec::Grow;
+use build_spec::Shape;
 ghost use mathlib.Core.Path.{_≡_};
 ghost use mathlib.Core.Bool.{false};
 ghost use Prim.Native.Nat.{ℕ, _+_, _*_, _<_, _≤_};
@@ -13,12 +13,12 @@ ghost use lib.ListN.{getD};
 ghost use Rattle.theory.specs.Rule.{Rule};
 ghost use Rattle.theory.specs.Automaton.{automaton};
 ghost use Rattle.build_cores.specs.Used.{capsOf};
-ghost use Rattle.build_chains_spec.specs.Chains.{Chained};
-ghost use Rattle.build_chains_spec.specs.Growth.{Grown};
-ghost use Rattle.build_closure_spec.specs.Keys.{LeadsAt};
-ghost use Rattle.build_closure_spec.specs.Reached.{ReachedKey, AllReached};
-ghost use Rattle.build_closure_spec.specs.Sets.{openIn, Spans};
-ghost use Rattle.build_closure_spec.specs.Tables.{Shaped, RuleTables};
+ghost use Rattle.build_spec.specs.Chains.{Chained};
+ghost use Rattle.build_spec.specs.Growth.{Grown};
+ghost use Rattle.build_spec.specs.Keys.{LeadsAt};
+ghost use Rattle.build_spec.specs.Reached.{ReachedKey, AllReached};
+ghost use Rattle.build_spec.specs.Sets.{openIn, Spans};
+ghost use Rattle.build_spec.specs.Tables.{Shaped, RuleTables};
 
 // The open states of each component.
 fn open_parts(parts: &[u8; 8], x: u8) -> [u8; 8]

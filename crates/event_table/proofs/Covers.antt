@@ -17,7 +17,7 @@ use Rattle.sets.proofs.Masks.{mask-lt, bit-mask}
 use Rattle.sets.proofs.Bits.{ones-count}
 use Rattle.event_spec.specs.Events.{lineCount, lineByte, holds, covered}
 use Rattle.event_spec.specs.Translation.{hasCovered}
-use Rattle.event_laws.proofs.Lines.{bounds-of, uncovered, covered-iff}
+use Rattle.event_table.proofs.Lines.{bounds-of, uncovered, covered-iff}
 use Rattle.event_table.specs.Masks.{firstsOf, Masks}
 use Rattle.event_table.proofs.Meets.{meet, least-at, least-out}
 

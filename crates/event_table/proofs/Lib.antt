@@ -1,3 +1,7 @@
+pub mod Ranges
+pub mod Lines
+pub mod Rows
+pub mod Words
 pub mod Meets
 pub mod Covers
 pub mod Faults

@@ -19,7 +19,7 @@ use Rattle.sets.proofs.Bits.{bit-and, bit-none, mask-unique}
 use Rattle.sets.proofs.Members.{least-is}
 use Rattle.sets.proofs.Lists.{tabulate-at}
 use Rattle.event_spec.specs.Events.{lineCount, spans, holds}
-use Rattle.event_laws.proofs.Ranges.{first-is, none-before, first-found}
+use Rattle.event_table.proofs.Ranges.{first-is, none-before, first-found}
 use Rattle.event_table.specs.Masks.{masksOf, Masks}
 
 mask-and : (n : ℕ) (f g : Set) → bitAnd (mask n f) (mask n g) ≡ mask n (λ q. f q && g q)

@@ -1,6 +1,8 @@
-// The translation of a log into letters by an event table: so a log of events can be held to a rule, which knows letters alone.
-use event_log::has_unknown;
-use event_log::write_letters;
+// The translation of a log into letters by an event table: events in no line, and the letters.
+pub mod log;
+
+use crate::log::has_unknown;
+use crate::log::write_letters;
 use event_spec::Translated;
 use event_table::has_covered;
 use event_table::is_faulty_table;

@@ -1,1 +1,3 @@
 pub mod Cursor
+pub mod Took
+pub mod Parts

@@ -11,15 +11,15 @@ use lib.ListN.{length, getD, drop}
 use lib.Seq.{sets, sets-eq, ext-getD}
 use Rattle.sets.specs.Masks.{bit}
 use Rattle.hoa_spec.specs.Lines.{endLine}
-use Rattle.hoa_read_spec.specs.declared.HoaRead.the-variants.{Table}
-use Rattle.hoa_read_spec.specs.Reading.{Carries, NoTable, ReadBack, table}
-use Rattle.hoa_read_spec.specs.Shape.{flagsFrom, Marked}
-use Rattle.hoa_read_laws.proofs.Blocks.{blocks-left, moves-same}
-use Rattle.hoa_read_laws.proofs.Carried.{carried, carries}
-use Rattle.hoa_read_laws.proofs.Marks.{initial-bit, marked-length}
-use Rattle.hoa_read_laws.proofs.Once.{ap-no-start, end-no-edge}
-use Rattle.hoa_read_parts_laws.specs.Parts.{Started, acceptingFirst, BlocksOf, TookBlocks}
-use Rattle.hoa_read_parts_laws.proofs.Blocking.{first-length}
+use Rattle.hoa_spec.specs.declared.HoaRead.the-variants.{Table}
+use Rattle.hoa_spec.specs.Reading.{Carries, NoTable, ReadBack, table}
+use Rattle.hoa_spec.specs.Shape.{flagsFrom, Marked}
+use Rattle.hoa_laws.proofs.Blocks.{blocks-left, moves-same}
+use Rattle.hoa_laws.proofs.Carried.{carried, carries}
+use Rattle.hoa_laws.proofs.Marks.{initial-bit, marked-length}
+use Rattle.hoa_laws.proofs.Once.{ap-no-start, end-no-edge}
+use Rattle.hoa_laws.specs.Parts.{Started, acceptingFirst, BlocksOf, TookBlocks}
+use Rattle.hoa_laws.proofs.Blocking.{first-length}
 use Rattle.hoa_read.specs.Survey.{NoShape, Whole}
 
 pub no-shape : {text : List ℕ} → NoShape text → NoTable text

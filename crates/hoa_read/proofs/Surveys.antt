@@ -16,17 +16,17 @@ use Rattle.slice_text.specs.Decimal.{word}
 use Rattle.listing_lines_spec.specs.Lines.{newline, lines}
 use Rattle.hoa_spec.specs.Lines.{hoaLine, statesLine, apLine, acceptanceLines, endLine}
 use Rattle.hoa_spec.specs.Text.{startOf, blockOf, automatonText}
-use Rattle.hoa_read_spec.specs.Shape.{flagsFrom, Marked, Shaped}
-use Rattle.hoa_read_laws.specs.Took.{Ended, Took, TookOne}
-use Rattle.hoa_read_laws.proofs.Lines.{states-once, ap-once}
-use Rattle.hoa_read_laws.proofs.Starts.{start-yes, start-no}
-use Rattle.hoa_read_laws.proofs.Blocks.{Same, blocks-left, blocks-bits}
-use Rattle.hoa_read_laws.proofs.Marks.{flags-length, accepting-bit, initial-bit, marked-length, marked-bit}
-use Rattle.hoa_read_laws.proofs.Once.{ap-no-start, end-no-edge, text-parts, bodyText, lowText, highText}
-use Rattle.hoa_read_laws.proofs.Taking.{after}
-use Rattle.hoa_read_parts_laws.specs.Parts.{Starting, acceptingFirst, BlocksOf, TookBlocks}
-use Rattle.hoa_read_parts_laws.proofs.Starting.{bit-0, bit-1}
-use Rattle.hoa_read_parts_laws.proofs.Blocking.{first-length, first-bit}
+use Rattle.hoa_spec.specs.Shape.{flagsFrom, Marked, Shaped}
+use Rattle.hoa_laws.specs.Took.{Ended, Took, TookOne}
+use Rattle.hoa_laws.proofs.Lines.{states-once, ap-once}
+use Rattle.hoa_laws.proofs.Starts.{start-yes, start-no}
+use Rattle.hoa_laws.proofs.Blocks.{Same, blocks-left, blocks-bits}
+use Rattle.hoa_laws.proofs.Marks.{flags-length, accepting-bit, initial-bit, marked-length, marked-bit}
+use Rattle.hoa_laws.proofs.Once.{ap-no-start, end-no-edge, text-parts, bodyText, lowText, highText}
+use Rattle.hoa_laws.proofs.Taking.{after}
+use Rattle.hoa_laws.specs.Parts.{Starting, acceptingFirst, BlocksOf, TookBlocks}
+use Rattle.hoa_laws.proofs.Starting.{bit-0, bit-1}
+use Rattle.hoa_laws.proofs.Blocking.{first-length, first-bit}
 use Rattle.hoa_read.specs.Survey.{NoShape, HeadOf, TookHead, Surveyed}
 
 -- ---- the lines before those of the macrostates

@@ -6,8 +6,8 @@ use lib.ListN.{length, drop}
 use Rattle.listing_lines_spec.specs.Lines.{lines}
 use Rattle.hoa_spec.specs.Lines.{hoaLine, statesLine, apLine, acceptanceLines, endLine}
 use Rattle.hoa_spec.specs.Text.{startOf, blockOf, automatonText}
-use Rattle.hoa_read_spec.specs.Shape.{Shaped}
-use Rattle.hoa_read_parts_laws.specs.Parts.{Starting}
+use Rattle.hoa_spec.specs.Shape.{Shaped}
+use Rattle.hoa_laws.specs.Parts.{Starting}
 
 -- no flags and transitions of the shape have the text
 abbrev pub NoShape : List ℕ → Type 0

@@ -1,17 +1,17 @@
 // The reader of a table's text. It goes over the text twice, so that a refusal leaves the slices as lent: once to see that it is a table's
 // and what room it takes, and once to store flags and transitions.
-use hoa_read_lines::take;
-use hoa_read_lines::take_ap;
-use hoa_read_lines::take_numbered;
+use hoa_read_parts::lines::take;
+use hoa_read_parts::lines::take_ap;
+use hoa_read_parts::lines::take_numbered;
 use hoa_read_parts::take_blocks;
 use hoa_read_parts::take_starts;
-use hoa_read_spec::HoaRead;
-use hoa_read_spec::TableSizes;
+use hoa_spec::HoaRead;
+use hoa_spec::TableSizes;
 ghost use Prim.Native.Nat.{_-_};
 ghost use mathlib.Core.Path.{_≡_};
 ghost use lib.ListN.{length, getD};
-ghost use Rattle.hoa_read_spec.specs.Reading.{ReadBack};
-ghost use Rattle.hoa_read_laws.specs.Took.{Ended};
+ghost use Rattle.hoa_spec.specs.Reading.{ReadBack};
+ghost use Rattle.hoa_laws.specs.Took.{Ended};
 ghost use Rattle.hoa_read.specs.Survey.{TookHead, Surveyed};
 
 // The lines before those of the macrostates: how many macrostates and propositions there are, one more than the highest number with a

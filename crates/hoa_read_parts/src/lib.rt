@@ -1,18 +1,20 @@
-// The parts of a table's text, read from a slice. Flags and transitions are stored as far as there is room, so that one code serves the
-// pass that checks and the pass that stores. Place 0 says that the text does not go on so.
-use hoa_read_lines::Number;
-use hoa_read_lines::nothing;
-use hoa_read_lines::take_edge;
-use hoa_read_lines::take_start;
-use hoa_read_lines::take_state;
+// The lines of a table's text and its parts, read from a slice; flags and transitions are stored as far as there is room for them. Place 0 says that the
+// text does not go on so.
+pub mod lines;
+
+use crate::lines::Number;
+use crate::lines::nothing;
+use crate::lines::take_edge;
+use crate::lines::take_start;
+use crate::lines::take_state;
 ghost use Prim.Native.Nat.{_+_, _<_, _≤_};
 ghost use mathlib.Core.Path.{_≡_};
 ghost use mathlib.Core.Bool.{cond};
 ghost use lib.Dec.{ltb};
 ghost use lib.ListN.{length, set};
 ghost use Rattle.hoa_spec.specs.Lines.{stateLine};
-ghost use Rattle.hoa_read_laws.specs.Took.{Ended, TookOne};
-ghost use Rattle.hoa_read_parts_laws.specs.Parts.{Started, TookEdges, Onward, TookBlocks};
+ghost use Rattle.hoa_laws.specs.Took.{Ended, TookOne};
+ghost use Rattle.hoa_laws.specs.Parts.{Started, TookEdges, Onward, TookBlocks};
 
 // One more than the highest number with a start line, 0 if there is none, and the place after the start lines.
 pub struct Starts {

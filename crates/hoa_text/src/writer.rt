@@ -1,15 +1,15 @@
 // The text of a table, put together from its lines in the order of the format. Each function answers the place after what it wrote.
+use crate::lines::put_ap;
+use crate::lines::put_edge;
+use crate::lines::put_start;
+use crate::lines::put_state;
+use crate::lines::put_states;
 use crate::table::number_at;
 use crate::table::stretch_end;
 use codes::is_accepting;
 use codes::is_initial;
 use codes::letter_of;
 use codes::target_of;
-use hoa_lines::put_ap;
-use hoa_lines::put_edge;
-use hoa_lines::put_start;
-use hoa_lines::put_state;
-use hoa_lines::put_states;
 use slice_text::put;
 ghost use Prim.Native.Nat.{_+_, _-_, _<_, _≤_};
 ghost use mathlib.Core.List.{_++_};

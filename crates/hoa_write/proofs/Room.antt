@@ -17,7 +17,7 @@ use Rattle.hoa_spec.specs.Lines.{propositions}
 use Rattle.hoa_spec.specs.Text.{flagsOf, automatonText, textOf}
 use Rattle.hoa_laws.proofs.Flags.{flags-length}
 use Rattle.hoa_laws.proofs.Bound.{few-members, text-bound}
-use Rattle.hoa_lines.proofs.Propositions.{none-needed, one-needed, two-needed, three-needed, four-needed}
+use Rattle.hoa_text.proofs.Propositions.{none-needed, one-needed, two-needed, three-needed, four-needed}
 use Rattle.hoa_write.specs.Written.{lentText, bound}
 
 -- at most 16 letters need at most four propositions

@@ -2,8 +2,8 @@
 use file_read::read_rule;
 use file_spec::Read;
 use file_write_spec::Written;
-use hoa_length::text_length;
-use hoa_lines::propositions_of;
+use hoa_text::lengths::text_length;
+use hoa_text::lines::propositions_of;
 use hoa_text::writer::put_text;
 use table_rows::rows::table_row;
 ghost use mathlib.Core.Path.{_≡_};

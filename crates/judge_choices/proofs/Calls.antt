@@ -28,7 +28,7 @@ use Rattle.judge_spec.specs.declared.Verdict.the-variants.{Refused}
 use Rattle.judge_spec.specs.Judge.{sliceRows, verdict, holdsStart, after, Meant}
 use Rattle.judge_spec.proofs.Meaning.{meaning as masks-meaning}
 use Rattle.judge_choices_spec.specs.ChoicesComputed.{choiceAt, choicesBy, choicesOf, Written}
-use Rattle.judge_choices_laws.proofs.Meaning.{meaning as choices-meaning}
+use Rattle.judge_choices_place.proofs.Meaning.{meaning as choices-meaning}
 use Rattle.judge_choices.specs.Judge.{choiceRows, choicesCallRow, choicesRow, CalledChoices, JudgedChoices}
 
 module _ (r : Rule) (lead cycle : List ℕ) where

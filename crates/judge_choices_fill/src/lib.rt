@@ -3,7 +3,7 @@
 use judge_choices_place::Partition;
 use judge_choices_place::choose_each;
 use judge_choices_rounds::choose_rejecting;
-use slice_zeros::fill_with;
+use slice_search::bytes::fill_with;
 use word_rows::letter_at;
 use word_rows::next_place;
 ghost use mathlib.Core.Path.{_≡_};

@@ -7,7 +7,7 @@ use rule_entries::Head;
 use rule_entries::starts_of;
 use rule_reach::closures;
 use set_masks::full;
-use slice_zeros::fill_with;
+use slice_search::bytes::fill_with;
 ghost use mathlib.Core.Path.{_≡_};
 ghost use mathlib.Core.List.{_++_, []};
 ghost use Prim.Native.Nat.{ℕ, _+_, _≤_, _<_};

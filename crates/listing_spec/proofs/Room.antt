@@ -28,7 +28,7 @@ use Rattle.file_spec.specs.Rows.{trailerRows, layoutRows, bodyRows, nameRows, p
 use Rattle.file_spec.specs.RuleRows.{numberRows, listRows, clauseRows, componentRows, formedRows}
 use Rattle.refusals.proofs.Rows.{row-yes, row-no, first-left, first-right}
 use Rattle.file_read.proofs.FileRows.{file-numbered, accepted-rows, accepted-passing}
-use Rattle.build_transitions_spec.proofs.Listing.{code-low}
+use Rattle.build_spec.proofs.Listing.{code-low}
 use Rattle.build_lists.specs.Room.{codesRoom, transitionsRoom}
 use Rattle.build.specs.Built.{roomRows, builtBy, rowFrom, builtFrom, buildRow}
 use Rattle.slice_text.specs.Decimal.{word}

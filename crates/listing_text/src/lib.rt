@@ -1,4 +1,6 @@
-// The text of a rule file's listing: it builds the automaton in rooms of its own and writes its lines, all that the listing program needs.
+// The text of a rule file's listing, and its lines.
+pub mod lines;
+
 use build::Built;
 use file_spec::Read;
 ghost use mathlib.Core.Path.{_≡_};
@@ -48,11 +50,11 @@ fn put_listing(out: &mut [u8], file: &[u8]) -> usize
     let mut list = [0u64; 512];
     let mut transitions = [0u64; 4096];
     match build::build(file, &mut list, &mut transitions) {
-        Built::Refused(row) => listing_lines::put_refused(out, row),
+        Built::Refused(row) => crate::lines::put_refused(out, row),
         Built::Table(counts) => {
             let m = counts.macrostates;
             let t = counts.transitions;
-            listing_lines::put_table(
+            crate::lines::put_table(
                 out,
                 initial_of(file),
                 names_in(file),

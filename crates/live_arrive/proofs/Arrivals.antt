@@ -26,10 +26,10 @@ use Rattle.live_spec.specs.State.{setAt, stateLength, lettersAtByte, twoBytes, 
 use Rattle.live_spec.specs.Effects.{put, numbered, withSet, arrived}
 use Rattle.live_spec.specs.Rows.{arrivalRows, liveCallRow}
 use Rattle.live_spec.specs.Called.{effect}
-use Rattle.live_letters.proofs.Puts.{put-long, put-before, put-in, put-behind, put-ext, put-mid, put-back}
+use Rattle.live_set.proofs.Puts.{put-long, put-before, put-in, put-behind, put-ext, put-mid, put-back}
 use Rattle.live_state.proofs.Replays.{step-long, step-part}
 use Rattle.live_rows.proofs.Checks.{letter-known, log-free, long-enough, table-refuses, slice-answers}
-use Rattle.live_sweep.specs.Tried.{passes, Stepped}
+use Rattle.live_arrive.specs.Tried.{passes, Stepped}
 use Rattle.live_arrive.specs.declared.Quick.{Quick}
 use Rattle.live_arrive.specs.declared.Quick.the-variants.{Served, Refused, Untried}
 use Rattle.live_arrive.specs.Quickly.{Coded, Triable, PartStepped, Quickly}

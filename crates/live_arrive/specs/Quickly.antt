@@ -13,7 +13,7 @@ use Rattle.live_spec.specs.State.{setAt, setBytes, stateLength, numberIn}
 use Rattle.live_spec.specs.Effects.{withSet}
 use Rattle.live_spec.specs.Called.{effect}
 use Rattle.live_spec.specs.Rows.{liveCallRow}
-use Rattle.live_sweep.specs.Tried.{passes}
+use Rattle.live_arrive.specs.Tried.{passes}
 use Rattle.live_arrive.specs.declared.Quick.{Quick}
 use Rattle.live_arrive.specs.declared.Quick.the-variants.{Served, Refused, Untried}
 

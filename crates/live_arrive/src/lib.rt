@@ -1,12 +1,14 @@
 // An arrival in which row 15 is tried on the transitions while the set is stepped, so that they are read twice and not four times.
+pub mod sweep;
+
+use crate::sweep::element;
+use crate::sweep::is_ascending;
+use crate::sweep::step_tried;
 use codes::CODE_BITS;
-use live_letters::number_at;
-use live_letters::put_byte;
-use live_letters::put_number;
+use live_set::letters::number_at;
+use live_set::letters::put_byte;
+use live_set::letters::put_number;
 use live_spec::LiveCall;
-use live_sweep::element;
-use live_sweep::is_ascending;
-use live_sweep::step_tried;
 ghost use mathlib.Core.Path.{_≡_};
 ghost use mathlib.Core.Bool.{true};
 ghost use Prim.Native.Nat.{ℕ, _+_, _≤_, _<_};

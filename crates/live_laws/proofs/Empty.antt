@@ -25,8 +25,8 @@ use Rattle.theory_laws.proofs.Places.{letter-first, letter-behind}
 use Rattle.theory_laws.proofs.Tables.{few-states, components-there, reachable-macrostate, lists-reachable, goes-by, in-range}
 use Rattle.trim_spec.specs.Matters.{Matters, ListsMattering}
 use Rattle.trim_spec.specs.Trimmed.{trimmedCodes, trimmedTransitions}
-use Rattle.trim_laws.proofs.Empty.{matters-before, before-lead, before-cycle, accepted}
-use Rattle.trim_laws.proofs.Trimmed.{trimmed-lists, trimmed-demand3, trimmed-room}
+use Rattle.theory_laws.proofs.Empty.{matters-before, before-lead, before-cycle, accepted}
+use Rattle.theory_laws.proofs.Trimmed.{trimmed-lists, trimmed-demand3, trimmed-room}
 use Rattle.live_spec.specs.Reached.{Walks, here, step, ReachedOver, Accepted}
 use Rattle.live_spec.specs.Afresh.{isIn, afresh, membersOf}
 use Rattle.live_laws.proofs.Reached.{reached-iff}

@@ -1,7 +1,7 @@
 // The rows of the five calls, behind those of the rule: 14, 15, 30 to 33, 16. They are tried before state is written, so that a refused
 // call changes nothing.
-use live_letters::is_marked;
-use live_letters::number_at;
+use live_set::letters::is_marked;
+use live_set::letters::number_at;
 use live_spec::LiveCall;
 use table_rows::rows::table_row;
 ghost use mathlib.Core.Path.{_≡_};

@@ -17,7 +17,7 @@ use Rattle.sets.proofs.Lists.{tabulate-at, length-tabulate}
 use Rattle.live_spec.specs.Afresh.{isIn}
 use Rattle.live_spec.specs.State.{setAt, setBytes}
 use Rattle.live_spec.specs.Effects.{put, shown}
-use Rattle.live_letters.proofs.Puts.{put-ext}
+use Rattle.live_set.proofs.Puts.{put-ext}
 use Rattle.live_set.specs.Sweeps.{flagOf}
 
 one-low : (b : Bool) → one b ≤ 1

@@ -1,5 +1,7 @@
 // The set that a live log is followed for: the macrostates of a table that letters lead to, a byte for each, 1 in the set, 0 not. The table
 // is read in place, 8 bytes a number.
+pub mod letters;
+
 use codes::is_initial;
 use codes::letter_of;
 use codes::source_of;

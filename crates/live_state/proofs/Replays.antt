@@ -13,7 +13,7 @@ use Rattle.trim_spec.specs.Graph.{Inside}
 use Rattle.live_spec.specs.Afresh.{stepped, steppedOver, initialSet, afresh}
 use Rattle.live_spec.specs.State.{setAt, setBytes, lettersAtByte, numberAt, numberIn, lettersIn}
 use Rattle.live_spec.specs.Effects.{put, withSet, refreshed}
-use Rattle.live_letters.proofs.Puts.{put-long, put-before, put-in, put-over, put-back, put-mid, part-before, part-there, number-before}
+use Rattle.live_set.proofs.Puts.{put-long, put-before, put-in, put-over, put-back, put-mid, part-before, part-there, number-before}
 use Rattle.live_set.proofs.Sets.{step-ext}
 
 -- ---- a list of letters

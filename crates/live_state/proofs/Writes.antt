@@ -8,7 +8,7 @@ use lib.ListN.{length, take, drop}
 use Rattle.live_spec.specs.Afresh.{stepped}
 use Rattle.live_spec.specs.State.{setAt, stateLength, markNumberAt, markLettersAt, lettersAtByte, twoBytes, numberAt, numberIn, setBytes}
 use Rattle.live_spec.specs.Effects.{put, numbered, withSet, arrived, marked}
-use Rattle.live_letters.proofs.Puts.{put-long, drop-put}
+use Rattle.live_set.proofs.Puts.{put-long, drop-put}
 
 -- zeros at the start
 pub put-front : (k : ℕ) (part bytes : List ℕ) → length part ≡ k → part ++ drop k bytes ≡ put 0 part bytes

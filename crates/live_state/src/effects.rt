@@ -3,11 +3,11 @@
 use crate::set_part::begin;
 use crate::set_part::refresh;
 use crate::set_part::step;
-use live_letters::copy_letters;
-use live_letters::number_at;
-use live_letters::put_byte;
-use live_letters::put_number;
-use slice_zeros::fill_with;
+use live_set::letters::copy_letters;
+use live_set::letters::number_at;
+use live_set::letters::put_byte;
+use live_set::letters::put_number;
+use slice_search::bytes::fill_with;
 ghost use mathlib.Core.Path.{_≡_};
 ghost use mathlib.Core.List.{List};
 ghost use Prim.Native.Nat.{ℕ, _≤_, _<_};

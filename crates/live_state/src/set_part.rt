@@ -1,7 +1,7 @@
 // The part of state that holds the set: begun with the initial macrostates, stepped over one letter, or worked out afresh over all letters
 // held where some were taken back.
-use live_letters::number_at;
 use live_set::begin_set;
+use live_set::letters::number_at;
 use live_set::step_set;
 ghost use mathlib.Core.Path.{_≡_};
 ghost use Prim.Native.Nat.{_+_, _≤_, _<_};

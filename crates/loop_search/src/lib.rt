@@ -1,8 +1,9 @@
-// The search for the shortest mixed loop of a rule: its start, then always the smallest state from which the rest can still be walked, so
-// that no step is taken back.
-use loop_ways::further_from;
-use loop_ways::others_of;
-use loop_ways::ways_to;
+// The search for the shortest mixed loop of a rule: from which states walks of some length lead to a state, the start, and the loop.
+pub mod ways;
+
+use crate::ways::further_from;
+use crate::ways::others_of;
+use crate::ways::ways_to;
 use set_masks::contains;
 ghost use mathlib.Core.Path.{_≡_};
 ghost use mathlib.Core.Bool.{true, false, _&&_, _||_};

@@ -4,8 +4,8 @@ ghost use mathlib.Core.Path.{_≡_};
 ghost use lib.ListN.{length};
 ghost use Rattle.table_lent.specs.Lent.{inBytes};
 ghost use Rattle.hoa_write.specs.Written.{hoaWritten, hoaAfter};
-ghost use Rattle.hoa_read_spec.specs.declared.HoaRead.{HoaRead};
-ghost use Rattle.hoa_read_spec.specs.Reading.{ReadBack};
+ghost use Rattle.hoa_spec.specs.declared.HoaRead.{HoaRead};
+ghost use Rattle.hoa_spec.specs.Reading.{ReadBack};
 ghost use Rattle.mulgreddi_answers.specs.Answers.{hoaReadAnswer, writtenAnswer};
 
 // Writes the text of a table, codes and transitions in bytes, in the Hanoi Omega-Automata format to the start of text; its length.

@@ -2,7 +2,7 @@
 use mulgreddi_answers::Answer;
 ghost use mathlib.Core.Path.{_≡_};
 ghost use Rattle.build.specs.declared.Built.{Built};
-ghost use Rattle.build_rejecting_spec.specs.Entry.{RejectingBuilt};
+ghost use Rattle.build_rejecting.specs.Entry.{RejectingBuilt};
 ghost use Rattle.mulgreddi_answers.specs.Answers.{builtAnswer};
 
 // Builds the unambiguous automaton of the words that the rule of a file rejects: codes and transitions, both ascending, zeros after

@@ -2,7 +2,7 @@
 use mulgreddi_answers::Answer;
 ghost use mathlib.Core.Path.{_≡_};
 ghost use Rattle.build.specs.declared.Built.{Built};
-ghost use Rattle.build_trimmed_spec.specs.Entry.{TrimmedBuilt};
+ghost use Rattle.build_trimmed.specs.Entry.{TrimmedBuilt};
 ghost use Rattle.mulgreddi_answers.specs.Answers.{builtAnswer};
 
 // Builds the macrostates of a rule file that matter and the transitions between them, both ascending, zeros after them; both counts.

@@ -7,8 +7,8 @@ use Rattle.event_spec.specs.declared.Translated.{Translated}
 use Rattle.event_spec.specs.declared.Translated.the-variants as events
 use Rattle.file_tidy_spec.specs.declared.Tidied.{Tidied}
 use Rattle.file_tidy_spec.specs.declared.Tidied.the-variants as tidied
-use Rattle.hoa_read_spec.specs.declared.HoaRead.{HoaRead}
-use Rattle.hoa_read_spec.specs.declared.HoaRead.the-variants as hoa
+use Rattle.hoa_spec.specs.declared.HoaRead.{HoaRead}
+use Rattle.hoa_spec.specs.declared.HoaRead.the-variants as hoa
 use Rattle.judge_spec.specs.declared.Verdict.{Verdict}
 use Rattle.judge_spec.specs.declared.Verdict.the-variants as judge
 use Rattle.live_spec.specs.declared.LiveAnswer.{LiveAnswer}

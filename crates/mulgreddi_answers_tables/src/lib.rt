@@ -2,7 +2,7 @@
 // live logs.
 use build::Built;
 use event_spec::Translated;
-use hoa_read_spec::HoaRead;
+use hoa_spec::HoaRead;
 use live_spec::LiveAnswer;
 use mulgreddi_answers::Answer;
 use table_call::Start;

@@ -1,2 +1,4 @@
+pub mod Repeats
+pub mod Repeated
 pub mod Known
 pub mod Filled

@@ -7,7 +7,7 @@ use Rattle.theory.specs.Rule.{Rule}
 use Rattle.theory.specs.Truth.{truthMasks}
 use Rattle.sheet_spec.specs.Computed.{learn}
 use Rattle.sheet_cycles.specs.Known.{partAt, knownOf, Parts}
-use Rattle.sheet_cycles.specs.declared.Learned.{Learned}
+use Rattle.sheet_cycles.specs.declared.learning.Learned.{Learned}
 
 -- n parts of the sheet; the masks of part k stand from byte 32 * k on
 pub record Filled (r : Rule) (sheet from size filled : List ℕ) (n : ℕ) : Type 0 where

@@ -6,7 +6,7 @@ use file_spec::Read;
 use rule_entries::Head;
 use rule_entries::starts_of;
 use rule_reach::closures;
-use sheet_cycles::Reachability;
+use sheet_cycles::learning::Reachability;
 use sheet_spec::SheetAnswer;
 use sheet_spec::Totals;
 use sheet_word::WordAt;

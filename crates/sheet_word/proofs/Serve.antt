@@ -18,8 +18,8 @@ use Rattle.sheet_spec.specs.Computed.{masksBy}
 use Rattle.sheet_laws.proofs.Shared.{cycle-long, lead-long, lead-within, cycle-within, tidy-part, tidy-front, tidy-over}
 use Rattle.sheet_words.specs.Places.{leadAt, cycleAt, wordFrom}
 use Rattle.sheet_words.proofs.Places.{SoundAt, sound-at}
-use Rattle.sheet_masks.specs.Repeats.{repeated}
-use Rattle.sheet_masks.proofs.Repeated.{word-masks}
+use Rattle.sheet_cycles.specs.Repeats.{repeated}
+use Rattle.sheet_cycles.proofs.Repeated.{word-masks}
 use Rattle.sheet_word.specs.declared.TidyPart.{TidyPart}
 use Rattle.sheet_word.specs.Word.{TidyAt}
 

@@ -1,11 +1,11 @@
 // One word of a sheet, judged by the masks of its tidy cycle, which a word before it may have filled.
 use set_masks::contains;
-use sheet_cycles::Reachability;
-use sheet_cycles::Sought;
-use sheet_cycles::learn_cycle;
-use sheet_masks::write_masks;
+use sheet_cycles::learning::Reachability;
+use sheet_cycles::learning::Sought;
+use sheet_cycles::learning::learn_cycle;
+use sheet_cycles::masks::write_masks;
 use sheet_words::word_fault;
-use slice_zeros::fill_with;
+use slice_search::bytes::fill_with;
 use word_spelling::cycle_length;
 use word_spelling::lead_length;
 ghost use mathlib.Core.Path.{_≡_};

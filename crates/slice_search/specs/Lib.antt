@@ -1,3 +1,4 @@
 pub mod Places
 pub mod Same
 pub mod LowParts
+pub mod Zeros

@@ -2,3 +2,4 @@ pub mod Cases
 pub mod Decimal
 pub mod Puts
 pub mod Digits
+pub mod Pairs

@@ -1,5 +1,7 @@
-// Bytes, texts and decimal digits at a place of a slice, of which listings and texts for other tools are made. Each function answers the
-// place after what it wrote.
+// Texts at a place of a lent slice, of which listings and texts for other tools are made: bytes, texts and numbers in decimal digits. Each function
+// answers the place after what it wrote.
+pub mod decimals;
+
 ghost use mathlib.Core.Path.{_≡_};
 ghost use mathlib.Core.List.{_∷_, []};
 ghost use Prim.Native.Nat.{_+_, _≤_, _<_};

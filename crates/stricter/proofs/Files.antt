@@ -11,7 +11,7 @@ use Rattle.theory.specs.TableComputed.{macrostates, transitions}
 use Rattle.theory_laws.proofs.Tables.{lists-reachable}
 use Rattle.rejecting_spec.specs.Rejecting.{ListsRejecting}
 use Rattle.rejecting_spec.specs.RejectingComputed.{rejectingMacrostates, rejectingTransitions}
-use Rattle.rejecting_laws.proofs.Demand.{lists-rejecting}
+use Rattle.theory_laws.proofs.RejectingDemand.{lists-rejecting}
 use Rattle.file_spec.specs.File.{ruleIn}
 use Rattle.file_spec.specs.Rows.{fileRow, fileRows}
 use Rattle.file_read.proofs.FileRows.{file-numbered, accepted-passing}

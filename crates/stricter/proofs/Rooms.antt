@@ -23,7 +23,7 @@ use Rattle.file_spec.specs.declared.Layout.{Layout}
 use Rattle.file_spec.specs.declared.Read.the-variants.{Accepted}
 use Rattle.file_spec.specs.Reading.{readOf}
 use Rattle.file_read.proofs.Answer.{served}
-use Rattle.build_closure_spec.specs.Keys.{startOf}
+use Rattle.build_spec.specs.Keys.{startOf}
 use Rattle.build.specs.declared.Counts.{Counts}
 use Rattle.build.specs.declared.Built.the-variants.{Table, Refused}
 use Rattle.build.specs.Built.{roomRows, roomRow, builtBy, refusesRoom, roomAfter}
@@ -34,7 +34,7 @@ use Rattle.stricter_entry_spec.specs.declared.Comparison.{Comparison}
 use Rattle.stricter_entry_spec.specs.declared.Comparison.the-variants as answers
 use Rattle.stricter_entry_spec.specs.Rows.{Slices, slicesOf, tablesOf, alphabetRows, bothRoomRows, pairRows, rulesRows, rulesRow, zeroesRooms, scratchLeft}
 use Rattle.stricter_entry_spec.specs.Compared.{Told}
-use Rattle.stricter_files.specs.Lists.{FileLists}
+use Rattle.stricter_search.specs.Lists.{FileLists}
 use Rattle.stricter.specs.declared.Side.{Side}
 use Rattle.stricter.specs.Steps.{codesOf, movesOf, Ready, otherRow, pairRow, rowOf, ByRow}
 

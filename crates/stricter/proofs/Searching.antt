@@ -21,12 +21,12 @@ use Rattle.rejecting_spec.specs.RejectingComputed.{rejectingMacrostates, reject
 use Rattle.file_spec.specs.File.{ruleIn}
 use Rattle.file_spec.specs.declared.Layout.{Layout}
 use Rattle.file_read.proofs.Answer as reader
-use Rattle.build_closure_spec.specs.Keys.{startOf}
+use Rattle.build_spec.specs.Keys.{startOf}
 use Rattle.build.specs.declared.Counts.{Counts}
 use Rattle.build.specs.Built.{roomAfter}
 use Rattle.stricter_spec.specs.declared.Found.the-variants.{Nothing, Word}
 use Rattle.stricter_spec.specs.Search.{NoShared, Shared, Searched}
-use Rattle.stricter_rules_laws.proofs.Words.{none-shared, shared-against}
+use Rattle.stricter_laws.proofs.SharedWords.{none-shared, shared-against}
 use Rattle.stricter_entry_spec.specs.declared.Comparison.{Comparison}
 use Rattle.stricter_entry_spec.specs.declared.Comparison.the-variants.{Yes, No}
 use Rattle.stricter_entry_spec.specs.Rows.{Slices, slicesOf, tablesOf, pairs, pairRows, scratchLeft}

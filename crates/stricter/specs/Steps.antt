@@ -10,7 +10,7 @@ use Rattle.rejecting_spec.specs.RejectingComputed.{rejectingMacrostates, reject
 use Rattle.file_spec.specs.File.{ruleIn}
 use Rattle.file_spec.specs.Reading.{readOf}
 use Rattle.file_spec.specs.declared.Read.the-variants.{Accepted}
-use Rattle.build_closure_spec.specs.Keys.{startOf}
+use Rattle.build_spec.specs.Keys.{startOf}
 use Rattle.build.specs.Built.{roomRows, fileCodes, fileMoves}
 use Rattle.stricter_entry_spec.specs.declared.Comparison.{Comparison}
 use Rattle.stricter_entry_spec.specs.Rows.{Slices, tablesOf, pairRows, rulesRow}

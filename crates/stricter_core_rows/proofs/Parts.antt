@@ -9,7 +9,7 @@ use native.Mathlib.Decide.{decLt}
 use lib.ListN.{getD}
 use lib.Bits.{bitAnd}
 use Rattle.codes.proofs.Starts.{held, lacking}
-use Rattle.stricter_cores_spec.specs.Tags.{sparing}
+use Rattle.stricter_spec.specs.Tags.{sparing}
 use Rattle.stricter_core_rows.specs.Rows.{needed, Met}
 
 -- the digit that tells whether component k is spared

@@ -12,11 +12,11 @@ use Rattle.slice_search.specs.Places.{below}
 use Rattle.theory.specs.Run.{letterOf}
 use Rattle.stricter_laws.specs.Pairs.{RowCut}
 use Rattle.stricter_laws.proofs.Rows.{node-unique, cut-le, row-has, row-all, in-row}
-use Rattle.stricter_cores_spec.specs.Tags.{rowOf, ontoOf, sparing, untagged}
-use Rattle.stricter_cores_spec.specs.Steps.{CoreStep, SparedStep, CoresFit}
-use Rattle.stricter_cores_spec.specs.Rounds.{Leading}
+use Rattle.stricter_spec.specs.Tags.{rowOf, ontoOf, sparing, untagged}
+use Rattle.stricter_spec.specs.Steps.{CoreStep, SparedStep, CoresFit}
+use Rattle.stricter_spec.specs.Rounds.{Leading}
 use Rattle.stricter_core_rows.specs.Rows.{needed, Met}
-use Rattle.stricter_tags_laws.proofs.Tags.{untagged-long, untagged-at}
+use Rattle.stricter_laws.proofs.Tags.{untagged-long, untagged-at}
 use Rattle.stricter_core_rows.proofs.Parts.{one-more}
 
 -- ---- rows

@@ -4,7 +4,7 @@ use mathlib.Core.Bool.{Bool, true, false, cond}
 use mathlib.Core.List.{List}
 use Prim.Native.Nat.{ℕ, _+_, _*_, _≤_, _<_}
 use lib.ListN.{getD}
-use Rattle.stricter_cores_spec.specs.Tags.{ontoOf}
+use Rattle.stricter_spec.specs.Tags.{ontoOf}
 
 -- the mark that a step must find: 1 where it spares
 abbrev pub needed : ℕ → Bool → ℕ

@@ -10,9 +10,9 @@ ghost use Prim.Native.Nat.{ℕ, _+_, _*_, _≤_, _<_};
 ghost use lib.ListN.{length, getD};
 ghost use Rattle.theory.specs.Run.{letterOf};
 ghost use Rattle.stricter_laws.specs.Pairs.{RowCut};
-ghost use Rattle.stricter_cores_spec.specs.Tags.{rowOf, ontoOf, sparing, untagged};
-ghost use Rattle.stricter_cores_spec.specs.Steps.{CoreStep, SparedStep, CoresFit};
-ghost use Rattle.stricter_cores_spec.specs.Rounds.{Leading};
+ghost use Rattle.stricter_spec.specs.Tags.{rowOf, ontoOf, sparing, untagged};
+ghost use Rattle.stricter_spec.specs.Steps.{CoreStep, SparedStep, CoresFit};
+ghost use Rattle.stricter_spec.specs.Rounds.{Leading};
 ghost use Rattle.stricter_core_rows.specs.Rows.{needed, Met};
 
 // ---- tagged transitions

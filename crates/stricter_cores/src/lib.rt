@@ -1,21 +1,21 @@
 // Leaves those pairs of cores of two tagged tables from which both can accept: once pairs go out that lead to none that is in, then for
 // each component of either table those that cannot reach a step that spares it, until none goes out.
 use codes::CODE_BITS;
-use slice_zeros::next_between;
-use slice_zeros::next_set;
+use slice_search::bytes::next_between;
+use slice_search::bytes::next_set;
 use stricter_core_rows::Asked;
 use stricter_core_rows::leads;
-use stricter_rows::cut_low;
+use stricter_word::rows::cut_low;
 ghost use mathlib.Core.Path.{_≡_};
 ghost use mathlib.Core.Bool.{Bool, true, false, cond};
 ghost use mathlib.Core.List.{List·Memᴰ};
 ghost use Prim.Native.Nat.{ℕ, _+_, _*_, _≤_, _<_};
 ghost use lib.ListN.{length, getD};
 ghost use Rattle.stricter_laws.specs.Pairs.{RowCut};
-ghost use Rattle.stricter_cores_spec.specs.Tags.{rowOf, untagged};
-ghost use Rattle.stricter_cores_spec.specs.Steps.{CoreStep, SparedStep, CoresFit, standsIn, OnlyCores};
-ghost use Rattle.stricter_cores_spec.specs.Rounds.{Tried, Swept, Round, Narrowed, AllSound, Pass};
-ghost use Rattle.stricter_cores_laws.specs.Parts.{Ready, Begun, Settled, Side, Thinned};
+ghost use Rattle.stricter_spec.specs.Tags.{rowOf, untagged};
+ghost use Rattle.stricter_spec.specs.Steps.{CoreStep, SparedStep, CoresFit, standsIn, OnlyCores};
+ghost use Rattle.stricter_spec.specs.Rounds.{Tried, Swept, Round, Narrowed, AllSound, Pass};
+ghost use Rattle.stricter_laws.specs.Parts.{Ready, Begun, Settled, Side, Thinned};
 
 // ---- sweeps
 

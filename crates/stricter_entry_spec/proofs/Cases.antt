@@ -25,7 +25,7 @@ use Rattle.file_spec.specs.RuleRows.{numberRows, listRows, nested, someNested, 
 use Rattle.file_spec.specs.Names.{hasNames, namesBefore, repeatsName}
 use Rattle.build_lists.specs.Room.{roomOf}
 use Rattle.build.specs.Built.{roomRows, roomAfter}
-use Rattle.stricter_rules_spec.proofs.Cases.{against-F, not-stricter-F}
+use Rattle.stricter_spec.proofs.RulesCases.{against-F, not-stricter-F}
 use Rattle.stricter_entry_spec.specs.declared.BothCounts.{BothCounts}
 use Rattle.stricter_entry_spec.specs.declared.Comparison.the-variants.{Yes, No}
 use Rattle.stricter_entry_spec.specs.Rows.{Slices, slicesOf, tablesOf, pairs, alphabetRows, bothRoomRows, pairRows, rulesRows, stricterRow, zeroesRooms, scratchLeft}

@@ -11,7 +11,7 @@ use Rattle.file_spec.specs.Rows.{fileRow}
 use Rattle.rejecting_spec.specs.Rejecting.{ListsRejecting}
 use Rattle.rejecting_spec.specs.RejectingComputed.{rejectingMacrostates, rejectingTransitions}
 use Rattle.build.specs.Built.{roomAfter}
-use Rattle.stricter_rules_spec.specs.Rules.{Stricter, Against}
+use Rattle.stricter_spec.specs.Rules.{Stricter, Against}
 use Rattle.stricter_entry_spec.specs.declared.BothCounts.{BothCounts}
 use Rattle.stricter_entry_spec.specs.declared.Comparison.{Comparison}
 use Rattle.stricter_entry_spec.specs.declared.Comparison.the-variants.{Yes, No, Refused}

@@ -1,1 +1,2 @@
-// Laws of the search for a word that two tables accept: pairs of numbers, one of each table, as a graph.
+// Laws under the comparison of two rules: runs and the components that their cores spare, pairs of numbers and of cores, tags, searches and ways,
+// and what the words that two tables share say of the rules.

@@ -1,10 +1,11 @@
-// The search for a word that two tables accept: the pairs from which both can, a start pair among them, and the word. If there is none,
-// every word that A accepts is accepted by B.
+// The search for a word that two tables accept: the pairs from which both can, from the files of the rules, a start pair among them, and the word.
+pub mod files;
+
+use crate::files::mark_files;
 use file_spec::Layout;
-use slice_zeros::fill_with;
-use stricter_files::mark_files;
-use stricter_lasso::shared_word;
+use slice_search::bytes::fill_with;
 use stricter_spec::Found;
+use stricter_word::lasso::shared_word;
 ghost use mathlib.Core.Path.{_≡_};
 ghost use mathlib.Core.Bool.{not};
 ghost use Prim.Native.Nat.{_*_, _≤_};
@@ -14,8 +15,8 @@ ghost use Rattle.sets.specs.Tests.{Set};
 ghost use Rattle.theory.specs.Macrostate.{holdsInitial};
 ghost use Rattle.rejecting_spec.specs.Rejecting.{lacksInitial};
 ghost use Rattle.stricter_spec.specs.Search.{Searchable, Searched};
-ghost use Rattle.stricter_fixpoints.specs.Sorted.{Sorted};
-ghost use Rattle.stricter_files.specs.Lists.{FileLists};
+ghost use Rattle.stricter_marks.specs.Sorted.{Sorted};
+ghost use Rattle.stricter_search.specs.Lists.{FileLists};
 
 // ---- the search
 

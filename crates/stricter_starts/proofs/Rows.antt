@@ -8,11 +8,11 @@ use lib.ListN.{length, getD}
 use Rattle.sets.specs.Tests.{Set}
 use Rattle.sets.proofs.Bools.{and-l, and-r, and-i, clash}
 use Rattle.theory.specs.Macrostate.{begun}
-use Rattle.slice_zeros.specs.Zeros.{Zeros}
-use Rattle.slice_zeros.proofs.Zeros.{over-zeros, over-next}
+use Rattle.slice_search.specs.Zeros.{Zeros}
+use Rattle.slice_search.proofs.Eights.{over-zeros, over-next}
 use Rattle.stricter_laws.specs.Tests.{startsIn}
 use Rattle.stricter_laws.proofs.Sides.{starts-both}
-use Rattle.stricter_cores_spec.specs.Steps.{standsIn, OnlyCores}
+use Rattle.stricter_spec.specs.Steps.{standsIn, OnlyCores}
 use Rattle.stricter_starts.specs.Starts.{RowStart}
 
 module _ (ca cb : List ℕ) (s t : Set) (marks : List ℕ) (i : ℕ) where

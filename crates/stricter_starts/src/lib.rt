@@ -3,7 +3,7 @@
 use codes::CODE_BITS;
 use codes::is_first;
 use codes::is_initial;
-use slice_zeros::next_set;
+use slice_search::bytes::next_set;
 ghost use mathlib.Core.Path.{_≡_};
 ghost use mathlib.Core.Bool.{not, _&&_};
 ghost use Prim.Native.Nat.{_+_, _*_, _<_};
@@ -11,7 +11,7 @@ ghost use lib.ListN.{length, getD};
 ghost use Rattle.sets.specs.Masks.{bit};
 ghost use Rattle.theory.specs.Macrostate.{begun};
 ghost use Rattle.stricter_laws.specs.Tests.{startsIn};
-ghost use Rattle.stricter_cores_spec.specs.Steps.{standsIn, OnlyCores};
+ghost use Rattle.stricter_spec.specs.Steps.{standsIn, OnlyCores};
 ghost use Rattle.stricter_starts.specs.Starts.{RowStart, FirstStart};
 
 // Whether a run may begin at a code if its set lacks the initial state: K is 0 and k is 0.

@@ -13,11 +13,11 @@ use Rattle.sets.specs.Tests.{one}
 use Rattle.sets.proofs.Bools.{bif}
 use Rattle.trim_spec.specs.Trimmed.{isLive}
 use Rattle.trim_spec.specs.Tagged.{highs, lows}
-use Rattle.trim_laws.proofs.Tagged.{highs-at}
+use Rattle.theory_laws.proofs.Tagged.{highs-at}
 use Rattle.slice_search.specs.LowParts.{lowParts}
-use Rattle.stricter_cores_spec.specs.Tags.{firstOf, TaggedCodes, toldOf, ToldCodes}
-use Rattle.stricter_tags_laws.specs.Fill.{Filled}
-use Rattle.stricter_tags_laws.proofs.Fill.{filled-same}
+use Rattle.stricter_spec.specs.Tags.{firstOf, TaggedCodes, toldOf, ToldCodes}
+use Rattle.stricter_laws.specs.Fill.{Filled}
+use Rattle.stricter_laws.proofs.Fill.{filled-same}
 use Rattle.stricter_tags.specs.Buried.{Buried}
 
 pub low-lows : (xs : List ℕ) → lowParts (2 ^ 48) xs ≡ lows xs

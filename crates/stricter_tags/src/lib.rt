@@ -1,9 +1,9 @@
 // Tags put on a table and taken off again: in free bits they tell cores and spared components, which rounds over pairs of cores go by.
 // Numbers from which no accepting run goes on get no core, and take no part.
-use build_closure_spec::Shape;
+use build_spec::Shape;
 use codes::CODE_BITS;
 use codes::CODE_MASK;
-use trim_marks::mark_live;
+use trim::marks::mark_live;
 ghost use mathlib.Core.Path.{_≡_};
 ghost use mathlib.Core.Bool.{cond};
 ghost use Prim.Native.Nat.{ℕ, _+_, _*_, _/_, _%_, _^_, _≤_, _<_};
@@ -13,12 +13,12 @@ ghost use Rattle.sets.specs.Tests.{Set, one};
 ghost use Rattle.theory.specs.Automaton.{automaton};
 ghost use Rattle.theory.specs.Rule.{Rule};
 ghost use Rattle.theory.specs.TableComputed.{macrostatesFrom, transitionsFrom};
-ghost use Rattle.build_closure_spec.specs.Tables.{RuleTables};
+ghost use Rattle.build_spec.specs.Tables.{RuleTables};
 ghost use Rattle.trim_spec.specs.Graph.{Inside};
 ghost use Rattle.trim_spec.specs.Trimmed.{liveMarks, isLive};
 ghost use Rattle.slice_search.specs.LowParts.{lowParts};
-ghost use Rattle.stricter_cores_spec.specs.Tags.{TaggedCodes, TaggedMoves, ToldCodes, plain, untagged};
-ghost use Rattle.stricter_tags_laws.specs.Fill.{Filled};
+ghost use Rattle.stricter_spec.specs.Tags.{TaggedCodes, TaggedMoves, ToldCodes, plain, untagged};
+ghost use Rattle.stricter_laws.specs.Fill.{Filled};
 ghost use Rattle.stricter_tags.specs.Buried.{Buried};
 
 // ---- on

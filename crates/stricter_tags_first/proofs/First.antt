@@ -11,8 +11,8 @@ use Rattle.sets.specs.Lists.{Ascending}
 use Rattle.sets.proofs.Ascending.{asc-at, asc-from, asc-take-at}
 use Rattle.slice_search.specs.Places.{below}
 use Rattle.slice_search.proofs.Search.{before-place, from-place}
-use Rattle.stricter_cores_spec.specs.Tags.{coreIn, firstOf}
-use Rattle.stricter_tags_laws.proofs.First.{first-is}
+use Rattle.stricter_spec.specs.Tags.{coreIn, firstOf}
+use Rattle.stricter_laws.proofs.First.{first-is}
 
 -- ---- the codes up to a number
 

@@ -8,7 +8,7 @@ ghost use mathlib.Core.Path.{_≡_};
 ghost use Prim.Native.Nat.{ℕ, _+_, _/_, _%_, _≤_, _<_};
 ghost use lib.ListN.{length, getD, take};
 ghost use Rattle.sets.specs.Lists.{Ascending};
-ghost use Rattle.stricter_cores_spec.specs.Tags.{firstOf, TaggedCodes};
+ghost use Rattle.stricter_spec.specs.Tags.{firstOf, TaggedCodes};
 
 // The first number with the core of number i, in codes that have no tag up to i. Codes ascend, so those of one core stand in the order of
 // the pairs K + 16 k above it, and each pair below that of i is looked up.

@@ -22,17 +22,17 @@ use Rattle.build_step_back.specs.Earlier.{coreOf, levelLeft}
 use Rattle.build_step_back.specs.Step.{Back}
 use Rattle.build_step_back.proofs.Codes.{pair-component}
 use Rattle.build_step_back.proofs.Tables.{level-is}
-use Rattle.build_closure_spec.specs.Keys.{Cored}
-use Rattle.build_closure_spec.specs.Tables.{RuleTables, Lowest}
-use Rattle.build_closure_spec.specs.declared.Shape.{Shape}
-use Rattle.build_closure_spec.proofs.Link.{vector-cored, vector-core}
-use Rattle.build_closure_spec.proofs.Starting.{within-all}
+use Rattle.build_spec.specs.Keys.{Cored}
+use Rattle.build_spec.specs.Tables.{RuleTables, Lowest}
+use Rattle.build_spec.specs.declared.Shape.{Shape}
+use Rattle.build_spec.proofs.Link.{vector-cored, vector-core}
+use Rattle.build_spec.proofs.Starting.{within-all}
 use Rattle.spare_spec.specs.SpareComputed.{spares}
-use Rattle.stricter_cores_spec.specs.Tags.{firstOf, sparesAt, TaggedCodes, tagOf}
-use Rattle.stricter_rules_laws.proofs.Parents.{macrostate-at, letter-low, table-inside}
-use Rattle.spare_tables.proofs.Tables.{goes, codes-low, moves-low}
-use Rattle.stricter_tags_laws.proofs.First.{first-low}
-use Rattle.stricter_tags_laws.proofs.Tags.{core-number}
+use Rattle.stricter_spec.specs.Tags.{firstOf, sparesAt, TaggedCodes, tagOf}
+use Rattle.stricter_laws.proofs.OneParent.{macrostate-at, letter-low, table-inside}
+use Rattle.stricter_laws.proofs.CoreTables.{goes, codes-low, moves-low}
+use Rattle.stricter_laws.proofs.First.{first-low}
+use Rattle.stricter_laws.proofs.Tags.{core-number}
 use Rattle.stricter_tags_moves.specs.Spared.{sparedIn}
 use Rattle.stricter_tags_moves.proofs.Spared.{mask-is}
 

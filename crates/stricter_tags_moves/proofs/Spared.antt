@@ -36,7 +36,7 @@ use Rattle.build_step_back.specs.Earlier.{earlierSet, earlierLevel, earlierRank
 use Rattle.build_step_back.proofs.Codes.{earlier-rank-low}
 use Rattle.spare_spec.specs.SpareComputed.{spares}
 use Rattle.stricter_tags_moves.specs.Spared.{sparedBy, sparedIn}
-use Rattle.spare_laws.proofs.Steps.{classesAt, leftOf, spared-level, unspared-some, left-low, full-stays}
+use Rattle.stricter_laws.proofs.Steps.{classesAt, leftOf, spared-level, unspared-some, left-low, full-stays}
 
 pub spared-none : (classes left : ℕ) → classes ≡ 0 → sparedBy classes left ≡ true
 spared-none classes left e = ap (λ (b : Bool). b || ltb left classes) (eq-eqb classes 0 e)

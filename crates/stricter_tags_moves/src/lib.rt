@@ -1,6 +1,6 @@
 // Tags of transitions: the number of the target's core, and the components that are spared. So one step back a transition serves all
 // rounds.
-use build_closure_spec::Shape;
+use build_spec::Shape;
 use codes::ABOVE_MOVE;
 use codes::ABOVE_MOVE_CORE;
 use codes::CODE_BITS;
@@ -20,10 +20,10 @@ ghost use Rattle.theory.specs.Macrostate.{Macrostate, Goes};
 ghost use Rattle.theory.specs.Rule.{Rule};
 ghost use Rattle.theory.specs.TableComputed.{macrostatesFrom, transitionsFrom};
 ghost use Rattle.build_cores.specs.Parts.{vectorOf};
-ghost use Rattle.build_closure_spec.specs.Keys.{Cored};
-ghost use Rattle.build_closure_spec.specs.Tables.{RuleTables};
+ghost use Rattle.build_spec.specs.Keys.{Cored};
+ghost use Rattle.build_spec.specs.Tables.{RuleTables};
 ghost use Rattle.spare_spec.specs.SpareComputed.{spares};
-ghost use Rattle.stricter_cores_spec.specs.Tags.{TaggedCodes, tagOf, TaggedMoves};
+ghost use Rattle.stricter_spec.specs.Tags.{TaggedCodes, tagOf, TaggedMoves};
 ghost use Rattle.stricter_tags_moves.specs.Spared.{sparedBy, sparedIn};
 
 // 1 for a component that is spared: it has no class, or its largest level, in the highest nibble of levels, is below their number.

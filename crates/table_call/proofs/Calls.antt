@@ -7,7 +7,7 @@ use lib.ListN.{length, replicate}
 use Rattle.sets.specs.Tests.{Set}
 use Rattle.table_lent.specs.Lent.{Lent}
 use Rattle.table_call.specs.declared.Start.the-variants.{Yes, No, Refused}
-use Rattle.table_starts.specs.Starts.{Begins, Earliest}
+use Rattle.table_call.specs.Starts.{Begins, Earliest}
 use Rattle.table_call.specs.Calls.{callRow, scratchAfter, TableCalled}
 
 -- ---- examples

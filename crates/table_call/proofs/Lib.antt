@@ -1,2 +1,3 @@
+pub mod Lowest
 pub mod CallRows
 pub mod Calls

@@ -9,7 +9,7 @@ use Rattle.sets.specs.Tests.{Set}
 use Rattle.theory.specs.Word.{places}
 use Rattle.word_rows.specs.Words.{wordRows}
 use Rattle.table_lent.specs.Lent.{Lent, tableRows}
-use Rattle.table_starts.specs.Starts.{Begins}
+use Rattle.table_call.specs.Starts.{Begins}
 use Rattle.table_call.specs.declared.Start.{Start}
 use Rattle.table_call.specs.declared.Start.the-variants.{Yes, No, Refused}
 

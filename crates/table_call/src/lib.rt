@@ -1,9 +1,11 @@
-// The judge of words on a lent table, for a rule of s letters and its initial state: one code for tables in elements and tables in bytes.
+// The judge of words on a lent table, for a rule of s letters and its initial state: the lowest number where an accepting run begins.
+pub mod starts;
+
+use crate::starts::search;
 use rule_entries::Head;
-use slice_zeros::fill_with;
+use slice_search::bytes::fill_with;
 use table_lent::count;
 use table_rows::rows::table_row;
-use table_starts::search;
 use word_rows::word_row;
 ghost use Prim.Native.Nat.{_<_};
 ghost use Rattle.sets.specs.Masks.{bit};

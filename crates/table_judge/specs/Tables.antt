@@ -8,7 +8,7 @@ use Rattle.theory.specs.Macrostate.{holdsInitial}
 use Rattle.file_spec.specs.File.{ruleIn}
 use Rattle.file_spec.specs.Rows.{fileRows}
 use Rattle.table_lent.specs.Lent.{Lent}
-use Rattle.table_starts.specs.Starts.{Begins}
+use Rattle.table_call.specs.Starts.{Begins}
 use Rattle.table_call.specs.declared.Start.{Start}
 use Rattle.table_call.specs.Calls.{callRows, Answered, scratchAfter}
 

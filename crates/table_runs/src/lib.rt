@@ -4,7 +4,7 @@ use codes::is_accepting;
 use codes::letter_of;
 use codes::source_of;
 use codes::target_of;
-use slice_zeros::fill_with;
+use slice_search::bytes::fill_with;
 use table_fixpoints::fixpoints::prune;
 use table_fixpoints::fixpoints::solve_round;
 use table_lent::count;

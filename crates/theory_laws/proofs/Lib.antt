@@ -29,3 +29,16 @@ pub mod Demand
 pub mod DemandCases
 pub mod Truth
 pub mod TruthLaws
+pub mod Sweeping
+pub mod Numbers
+pub mod Folding
+pub mod Mattering
+pub mod Runs
+pub mod Empty
+pub mod Trimmed
+pub mod Renumbering
+pub mod Tagged
+pub mod Rewriting
+pub mod Ends
+pub mod Narrow
+pub mod RejectingDemand

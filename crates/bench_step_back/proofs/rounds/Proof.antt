@@ -1,7 +1,7 @@
 -- `bench_step_back::rounds` meets its contract: at most 1000 rounds.
 use Prim.Native.Nat.{_-_, _≤_}
 use native.Mathlib.Omega.{arith}
-use Rattle.build_closure_spec.proofs.Starting.{few}
+use Rattle.build_spec.proofs.Starting.{few}
 use borrow.Author.Needs.{needs}
 use Rattle.bench_step_back.proofs.rounds.Statement.{statement}
 use Rattle.bench_step_back.proofs.rounds.Tie as tie

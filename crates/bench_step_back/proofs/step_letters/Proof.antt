@@ -1,8 +1,8 @@
 -- `bench_step_back::step_letters` meets its contract: the table rises over each letter.
 use Prim.Native.Nat.{_-_, _≤_}
 use native.Mathlib.Omega.{arith}
-use Rattle.build_closure_spec.proofs.Starting.{few}
-use Rattle.build_closure_spec.proofs.Letters.{rises}
+use Rattle.build_spec.proofs.Starting.{few}
+use Rattle.build_spec.proofs.Letters.{rises}
 use borrow.Author.Needs.{needs}
 use Rattle.bench_step_back.proofs.step_letters.Statement.{statement}
 use Rattle.bench_step_back.proofs.step_letters.Tie as tie

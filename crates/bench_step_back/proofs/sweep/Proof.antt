@@ -4,8 +4,8 @@ use native.Mathlib.Omega.{arith}
 use Rattle.build_cores.specs.Vectors.{Within}
 use Rattle.build_cores.proofs.Next.{within-next}
 use Rattle.build_cores.proofs.Vectors.{within-zero, within-le}
-use Rattle.build_closure_spec.proofs.Starting.{caps-low}
-use Rattle.build_closure_spec.proofs.Walk.{walk-less}
+use Rattle.build_spec.proofs.Starting.{caps-low}
+use Rattle.build_spec.proofs.Walk.{walk-less}
 use borrow.Author.Needs.{needs}
 use Rattle.bench_step_back.proofs.sweep.Statement.{statement}
 use Rattle.bench_step_back.proofs.sweep.Tie as tie

@@ -1,7 +1,7 @@
 -- `bench_step_back::visit` meets its contract: what `step_letters` asks of a core.
 use mathlib.Core.Path.{sym, _∙_}
 use borrow.Author.Tests.{not-false}
-use Rattle.build_closure_spec.proofs.Starting.{few}
+use Rattle.build_spec.proofs.Starting.{few}
 use borrow.Author.Needs.{needs}
 use Rattle.bench_step_back.proofs.visit.Statement.{statement}
 use Rattle.bench_step_back.proofs.visit.Tie as tie

@@ -3,7 +3,7 @@ use borrow.Author.Needs.{needs}
 use Rattle.theory.specs.Macrostate.{holdsInitial}
 use Rattle.theory.specs.Plan.{AcceptsWord}
 use Rattle.theory_laws.proofs.Demand.{demand3}
-use Rattle.build_closure_spec.specs.Keys.{startOf}
+use Rattle.build_spec.specs.Keys.{startOf}
 use Rattle.build.proofs.Answer.{file-built}
 use Rattle.build.proofs.build.Statement.{statement}
 use Rattle.build.proofs.build.Tie as tie

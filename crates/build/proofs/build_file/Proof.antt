@@ -4,7 +4,7 @@ use Rattle.file_spec.specs.declared.Read.the-variants.{Refused}
 use Rattle.file_spec.specs.Reading.{readOf}
 use Rattle.file_read.proofs.Answer.{turned-away}
 use Rattle.build.proofs.Answer.{filled-refused, filled-served}
-use Rattle.build_closure_spec.specs.Keys.{startOf}
+use Rattle.build_spec.specs.Keys.{startOf}
 use borrow.Author.Needs.{needs}
 use Rattle.build.proofs.build_file.Statement.{statement}
 use Rattle.build.proofs.build_file.Tie as tie

@@ -2,7 +2,7 @@
 use mathlib.Core.Path.{_≡_}
 use native.Mathlib.Omega.{arith}
 use borrow.Author.Needs.{needs}
-use Rattle.build_chains_spec.proofs.Growth.{grown-none, grown-full, grown-put}
+use Rattle.build_spec.proofs.Growth.{grown-none, grown-full, grown-put}
 use Rattle.build_chains.proofs.admit.Statement.{statement}
 use Rattle.build_chains.proofs.admit.Tie as tie
 

@@ -1,7 +1,7 @@
 -- `build_chains::bucket` meets its contract.
 use mathlib.Core.Path.{refl}
 use borrow.Author.Needs.{needs}
-use Rattle.build_chains_spec.specs.Chains.{bucketOf}
+use Rattle.build_spec.specs.Chains.{bucketOf}
 use Rattle.build_chains.proofs.bucket.Statement.{statement}
 use Rattle.build_chains.proofs.bucket.Tie as tie
 

@@ -4,7 +4,7 @@ use mathlib.Core.Path.{ap}
 use native.Mathlib.Omega.{arith}
 use lib.ListN.{getD}
 use borrow.Author.Needs.{needs}
-use Rattle.build_chains_spec.proofs.Chains.{bucket-low}
+use Rattle.build_spec.proofs.Chains.{bucket-low}
 use Rattle.build_chains.proofs.chain_top.Statement.{statement}
 use Rattle.build_chains.proofs.chain_top.Tie as tie
 

@@ -5,8 +5,8 @@ use mathlib.Core.Bool.{true≢false, false≢true}
 use native.Mathlib.Omega.{arith}
 use lib.Bits.{bitAnd, and-mask}
 use lib.ListN.{getD}
-use Rattle.build_chains_spec.specs.Chains.{keyAt, bucketOf, bucketAt}
-use Rattle.build_chains_spec.proofs.Walks.{Walked, walk-from, walk-inside, walk-next, walk-end}
+use Rattle.build_spec.specs.Chains.{keyAt, bucketOf, bucketAt}
+use Rattle.build_spec.proofs.Walks.{Walked, walk-from, walk-inside, walk-next, walk-end}
 use Rattle.build_chains.proofs.core_before.Statement.{statement}
 use Rattle.build_chains.proofs.core_before.Tie as tie
 

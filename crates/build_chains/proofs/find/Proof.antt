@@ -5,9 +5,9 @@ use native.Mathlib.Omega.{arith}
 use lib.Bits.{and-mask}
 use lib.ListN.{getD}
 use borrow.Author.Needs.{needs}
-use Rattle.build_chains_spec.specs.Chains.{keyAt, bucketOf}
-use Rattle.build_chains_spec.proofs.Chains.{bucket-low}
-use Rattle.build_chains_spec.proofs.Walks.{Walked, walk-from, walk-inside, walk-next, walk-end}
+use Rattle.build_spec.specs.Chains.{keyAt, bucketOf}
+use Rattle.build_spec.proofs.Chains.{bucket-low}
+use Rattle.build_spec.proofs.Walks.{Walked, walk-from, walk-inside, walk-next, walk-end}
 use Rattle.build_chains.proofs.find.Statement.{statement}
 use Rattle.build_chains.proofs.find.Tie as tie
 

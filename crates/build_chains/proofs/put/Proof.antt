@@ -6,8 +6,8 @@ use native.Mathlib.Nat.{mod-eq-of-lt}
 use lib.ListN.{getD, set}
 use lib.Bits.{bitOr, and-mask, or-shifted}
 use borrow.Author.Needs.{needs}
-use Rattle.build_chains_spec.specs.Chains.{bucketOf}
-use Rattle.build_chains_spec.proofs.Chains.{bucket-low, head-low}
+use Rattle.build_spec.specs.Chains.{bucketOf}
+use Rattle.build_spec.proofs.Chains.{bucket-low, head-low}
 use Rattle.build_chains.proofs.put.Statement.{statement}
 use Rattle.build_chains.proofs.put.Tie as tie
 

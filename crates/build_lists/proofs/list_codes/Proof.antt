@@ -6,7 +6,7 @@ use mathlib.Core.List.{_++_}
 use lib.Seq.{length-take-le}
 use Rattle.theory.specs.TableComputed.{macrostatesFrom}
 use Rattle.slice_search.specs.Places.{zeroedFrom}
-use Rattle.build_closure_spec.specs.Keys.{startOf}
+use Rattle.build_spec.specs.Keys.{startOf}
 use Rattle.build_lists.proofs.Room.{room-fits, room-most}
 use Rattle.build_lists.proofs.Padding.{whole, fits-whole, padded-full, padded}
 use borrow.Author.Needs.{needs}

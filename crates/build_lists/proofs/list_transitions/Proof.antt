@@ -7,7 +7,7 @@ use lib.ListN.{take, drop, take-append-drop}
 use lib.Seq.{length-take-le}
 use Rattle.theory.specs.TableComputed.{transitionsFrom}
 use Rattle.slice_search.specs.Places.{zeroedFrom}
-use Rattle.build_closure_spec.specs.Keys.{startOf}
+use Rattle.build_spec.specs.Keys.{startOf}
 use Rattle.build_lists.proofs.Room.{room-fits}
 use Rattle.build_lists.proofs.Padding.{whole, fits-whole, padded-full, padded}
 use borrow.Author.Needs.{needs}

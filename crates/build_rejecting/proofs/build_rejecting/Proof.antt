@@ -1,8 +1,8 @@
 -- `build_rejecting` meets its contract: the start condition of `build_file` is that the set lacks the initial state.
 use borrow.Author.Needs.{needs}
 use Rattle.rejecting_spec.specs.Rejecting.{lacksInitial, RejectsWord}
-use Rattle.rejecting_laws.proofs.Demand.{rejecting-demand}
-use Rattle.build_closure_spec.specs.Keys.{startOf}
+use Rattle.theory_laws.proofs.RejectingDemand.{rejecting-demand}
+use Rattle.build_spec.specs.Keys.{startOf}
 use Rattle.build.proofs.Answer.{file-built}
 use Rattle.build_rejecting.proofs.build_rejecting.Statement.{statement}
 use Rattle.build_rejecting.proofs.build_rejecting.Tie as tie

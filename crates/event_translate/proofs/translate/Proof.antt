@@ -7,7 +7,7 @@ use Rattle.file_spec.specs.declared.Read.the-variants.{Accepted}
 use Rattle.file_spec.specs.Reading.{readOf}
 use Rattle.file_read.proofs.Answer.{served, turned-away}
 use Rattle.event_spec.specs.Translation.{Called}
-use Rattle.event_laws.proofs.Rows.{accepted, refused}
+use Rattle.event_table.proofs.Rows.{accepted, refused}
 use borrow.Author.Needs.{needs}
 use Rattle.event_translate.proofs.translate.Statement.{statement}
 use Rattle.event_translate.proofs.translate.Tie as tie

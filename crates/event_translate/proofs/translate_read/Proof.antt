@@ -7,9 +7,9 @@ use native.Mathlib.Omega.{arith}
 use lib.ListN.{length, drop}
 use Rattle.event_spec.specs.Events.{lettersOf}
 use Rattle.event_spec.specs.Translation.{faultyTable, hasCovered, hasUnknown}
-use Rattle.event_laws.proofs.Rows.{table-refuses, cover-refuses, log-refuses, slice-refuses, call-served, called-refused, called-served}
+use Rattle.event_table.proofs.Rows.{table-refuses, cover-refuses, log-refuses, slice-refuses, call-served, called-refused, called-served}
 use Rattle.event_table.specs.Masks.{Masks}
-use Rattle.event_log.proofs.Letters.{letters-length}
+use Rattle.event_translate.proofs.Letters.{letters-length}
 use Rattle.event_translate.proofs.Lines.{few-lines}
 use borrow.Author.Needs.{needs}
 use Rattle.event_translate.proofs.translate_read.Statement.{statement}

@@ -1,7 +1,7 @@
 -- `hoa_read::read_hoa` meets its contract.
 use mathlib.Core.Logic.{inl, inr}
 use native.Mathlib.Omega.{arith}
-use Rattle.hoa_read_spec.specs.Reading.{no-table, short}
+use Rattle.hoa_spec.specs.Reading.{no-table, short}
 use Rattle.hoa_read.proofs.Surveys.{text-ended}
 use Rattle.hoa_read.proofs.Stores.{no-shape, whole-carries, flags-stored, moves-stored, all-read}
 use borrow.Author.Needs.{needs}

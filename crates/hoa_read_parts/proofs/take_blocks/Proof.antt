@@ -5,8 +5,8 @@ use mathlib.Core.List.{List, [], _++_}
 use native.Mathlib.Omega.{arith}
 use lib.ListN.{length, length-append}
 use lib.Seq.{sets, length-sets}
-use Rattle.hoa_read_parts_laws.specs.Parts.{Blocking}
-use Rattle.hoa_read_parts_laws.proofs.Blocking.{blocking-none, blocks-some, blocks-no-state, state-later, blocks-no-edges, blocking-next, moves-stored, blocked}
+use Rattle.hoa_laws.specs.Parts.{Blocking}
+use Rattle.hoa_laws.proofs.Blocking.{blocking-none, blocks-some, blocks-no-state, state-later, blocks-no-edges, blocking-next, moves-stored, blocked}
 use Rattle.hoa_read_parts.proofs.take_blocks.Statement.{statement}
 use Rattle.hoa_read_parts.proofs.take_blocks.Tie as tie
 

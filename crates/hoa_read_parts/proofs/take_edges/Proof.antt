@@ -5,8 +5,8 @@ use mathlib.Core.List.{List, [], _∷_, _++_}
 use native.Mathlib.Omega.{arith}
 use lib.ListN.{length, length-append}
 use lib.Seq.{sets, length-sets}
-use Rattle.hoa_read_parts_laws.specs.Parts.{Edging}
-use Rattle.hoa_read_parts_laws.proofs.Edging.{edging-none, no-edge-end, no-edge-here, edges-some, edges-no-line, edges-no-order, edging-next, move-small, edge-later, move-stored}
+use Rattle.hoa_laws.specs.Parts.{Edging}
+use Rattle.hoa_laws.proofs.Edging.{edging-none, no-edge-end, no-edge-here, edges-some, edges-no-line, edges-no-order, edging-next, move-small, edge-later, move-stored}
 use borrow.Author.Needs.{needs}
 use Rattle.hoa_read_parts.proofs.take_edges.Statement.{statement}
 use Rattle.hoa_read_parts.proofs.take_edges.Tie as tie

@@ -1,6 +1,6 @@
 -- `hoa_read_parts::take_marked` meets its contract.
 use native.Mathlib.Omega.{arith}
-use Rattle.hoa_read_parts_laws.proofs.Blocking.{marked-none, marked-rejecting, marked-late, marked-accepting}
+use Rattle.hoa_laws.proofs.Blocking.{marked-none, marked-rejecting, marked-late, marked-accepting}
 use borrow.Author.Needs.{needs}
 use Rattle.hoa_read_parts.proofs.take_marked.Statement.{statement}
 use Rattle.hoa_read_parts.proofs.take_marked.Tie as tie

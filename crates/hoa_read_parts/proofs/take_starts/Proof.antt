@@ -5,9 +5,9 @@ use mathlib.Core.List.{List, [], _∷_, _++_}
 use native.Mathlib.Omega.{arith}
 use lib.ListN.{length}
 use lib.Seq.{sets, length-sets}
-use Rattle.hoa_read_spec.specs.Shape.{flagsFrom}
-use Rattle.hoa_read_parts_laws.specs.Parts.{Starting}
-use Rattle.hoa_read_parts_laws.proofs.Starting.{starting-none, starting-no, starting-yes, flag-stored, none-stored, started}
+use Rattle.hoa_spec.specs.Shape.{flagsFrom}
+use Rattle.hoa_laws.specs.Parts.{Starting}
+use Rattle.hoa_laws.proofs.Starting.{starting-none, starting-no, starting-yes, flag-stored, none-stored, started}
 use borrow.Author.Needs.{needs}
 use Rattle.hoa_read_parts.proofs.take_starts.Statement.{statement}
 use Rattle.hoa_read_parts.proofs.take_starts.Tie as tie

@@ -12,8 +12,8 @@ use Rattle.theory.specs.Word.{places, nextPlace, letterAt}
 use Rattle.rule_entries.specs.Entries.{ruleOf}
 use Rattle.rule_entries.proofs.Entries.{accepting-small}
 use Rattle.judge_choices_spec.specs.Rounds.{Started, Tried}
-use Rattle.judge_choices_laws.proofs.Filled.{started-none, started-step}
-use Rattle.judge_choices_laws.proofs.Places.{masks-long, masks-low, next-low, letters-fit, row-fits, row-few}
+use Rattle.judge_choices_place.proofs.Filled.{started-none, started-step}
+use Rattle.judge_choices_place.proofs.Places.{masks-long, masks-low, next-low, letters-fit, row-fits, row-few}
 use borrow.Author.Needs.{needs}
 use Rattle.judge_choices_fill.proofs.choose_accepting.Statement.{statement}
 use Rattle.judge_choices_fill.proofs.choose_accepting.Tie as tie

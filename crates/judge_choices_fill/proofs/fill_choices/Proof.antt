@@ -8,7 +8,7 @@ use Rattle.theory.specs.Truth.{truthMasks}
 use Rattle.theory.specs.Word.{places}
 use Rattle.rule_entries.specs.Entries.{ruleOf}
 use Rattle.judge_choices_spec.specs.Rounds.{Started, Ended}
-use Rattle.judge_choices_laws.proofs.Filled.{all-filled}
+use Rattle.judge_choices_place.proofs.Filled.{all-filled}
 use borrow.Author.Needs.{needs}
 use Rattle.judge_choices_fill.proofs.fill_choices.Statement.{statement}
 use Rattle.judge_choices_fill.proofs.fill_choices.Tie as tie

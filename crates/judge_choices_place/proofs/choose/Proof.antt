@@ -7,7 +7,7 @@ use Rattle.theory.specs.Rule.{entry}
 use Rattle.rule_entries.specs.Entries.{ruleOf}
 use Rattle.rule_entries.specs.Met.{isMet}
 use Rattle.judge_choices_spec.specs.Rounds.{putMet}
-use Rattle.judge_choices_laws.proofs.Tries.{entry-few, clause-listed}
+use Rattle.judge_choices_place.proofs.Tries.{entry-few, clause-listed}
 use borrow.Author.Needs.{needs}
 use Rattle.judge_choices_place.proofs.choose.Statement.{statement}
 use Rattle.judge_choices_place.proofs.choose.Tie as tie

@@ -23,7 +23,7 @@ use Rattle.rule_entries.proofs.Entries.{entry-states}
 use Rattle.judge_place.proofs.Walks.{least-member, walked, walk-yes, walk-no, walk-end}
 use Rattle.judge_choices_spec.specs.ChoicesComputed.{numberOf, aimOf}
 use Rattle.judge_choices_spec.specs.Rounds.{putMet, metNumber}
-use Rattle.judge_choices_laws.proofs.Tries.{aim-set, put-length, here-yes, here-no, others-on}
+use Rattle.judge_choices_place.proofs.Tries.{aim-set, put-length, here-yes, here-no, others-on}
 use borrow.Author.Needs.{needs}
 use Rattle.judge_choices_place.proofs.choose_each.Statement.{statement}
 use Rattle.judge_choices_place.proofs.choose_each.Tie as tie

@@ -10,8 +10,8 @@ use Rattle.theory.specs.Word.{places, nextPlace, letterAt}
 use Rattle.rule_entries.specs.Entries.{ruleOf}
 use Rattle.rule_entries.proofs.Entries.{accepting-small}
 use Rattle.judge_choices_spec.specs.Rounds.{Tried}
-use Rattle.judge_choices_laws.proofs.Places.{difference-low, masks-long, masks-low, next-low, letters-fit, row-fits, row-few}
-use Rattle.judge_choices_laws.proofs.Rounds.{place-of-tried}
+use Rattle.judge_choices_place.proofs.Places.{difference-low, masks-long, masks-low, next-low, letters-fit, row-fits, row-few}
+use Rattle.judge_choices_place.proofs.Rounds.{place-of-tried}
 use borrow.Author.Needs.{needs}
 use Rattle.judge_choices_rounds.proofs.choose_at.Statement.{statement}
 use Rattle.judge_choices_rounds.proofs.choose_at.Tie as tie

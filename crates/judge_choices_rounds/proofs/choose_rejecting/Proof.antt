@@ -10,8 +10,8 @@ use Rattle.theory.specs.Word.{places}
 use Rattle.rule_entries.specs.Entries.{ruleOf}
 use Rattle.judge_choices_spec.specs.ChoicesComputed.{nearAt}
 use Rattle.judge_choices_spec.specs.Rounds.{Round, Rounds}
-use Rattle.judge_choices_laws.proofs.Places.{all-low, all-in, bytes-few}
-use Rattle.judge_choices_laws.proofs.Rounds.{near-low, rounds-start, rounds-step, rounds-stop, rounds-end}
+use Rattle.judge_choices_place.proofs.Places.{all-low, all-in, bytes-few}
+use Rattle.judge_choices_place.proofs.Rounds.{near-low, rounds-start, rounds-step, rounds-stop, rounds-end}
 use Rattle.judge_choices_rounds.proofs.choose_rejecting.Statement.{statement}
 use Rattle.judge_choices_rounds.proofs.choose_rejecting.Tie as tie
 

@@ -1,5 +1,5 @@
 -- `judge_choices_rounds::mark` meets its contract.
-use Rattle.judge_choices_laws.proofs.Places.{mark-no, mark-yes}
+use Rattle.judge_choices_place.proofs.Places.{mark-no, mark-yes}
 use borrow.Author.Needs.{needs}
 use Rattle.judge_choices_rounds.proofs.mark.Statement.{statement}
 use Rattle.judge_choices_rounds.proofs.mark.Tie as tie

@@ -1,6 +1,6 @@
 -- `judge_choices_rounds::places_before` meets its contract.
 use native.Mathlib.Omega.{arith}
-use Rattle.judge_choices_laws.proofs.Places.{clear, before-lt, before-low, before-none, before-some}
+use Rattle.judge_choices_place.proofs.Places.{clear, before-lt, before-low, before-none, before-some}
 use borrow.Author.Needs.{needs}
 use Rattle.judge_choices_rounds.proofs.places_before.Statement.{statement}
 use Rattle.judge_choices_rounds.proofs.places_before.Tie as tie

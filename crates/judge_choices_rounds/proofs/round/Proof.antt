@@ -14,8 +14,8 @@ use Rattle.sets.proofs.Members.{least-lt}
 use Rattle.theory.specs.Word.{places}
 use Rattle.rule_entries.specs.Entries.{ruleOf}
 use Rattle.judge_choices_spec.specs.Rounds.{Round}
-use Rattle.judge_choices_laws.proofs.Places.{least-in, still-left, was-left, now-done, mark-lt}
-use Rattle.judge_choices_laws.proofs.Rounds.{round-start, round-step, round-ext}
+use Rattle.judge_choices_place.proofs.Places.{least-in, still-left, was-left, now-done, mark-lt}
+use Rattle.judge_choices_place.proofs.Rounds.{round-start, round-step, round-ext}
 use Rattle.judge_choices_rounds.proofs.round.Statement.{statement}
 use Rattle.judge_choices_rounds.proofs.round.Tie as tie
 

@@ -11,7 +11,7 @@ use Rattle.table_lent.proofs.Reading.{words-in-length}
 use Rattle.live_spec.specs.declared.LiveCall.the-variants.{Arrive}
 use Rattle.live_spec.specs.State.{lettersAtByte, twoBytes}
 use Rattle.live_spec.specs.Effects.{put}
-use Rattle.live_sweep.specs.Tried.{passes}
+use Rattle.live_arrive.specs.Tried.{passes}
 use Rattle.live_arrive.specs.Quickly.{Triable}
 use Rattle.live_arrive.proofs.Arrivals.{fifteen, no-row, made, quickly-untried, quickly-refused, quickly-served}
 use borrow.Author.Needs.{needs}

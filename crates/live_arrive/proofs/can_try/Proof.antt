@@ -4,7 +4,7 @@ use native.Mathlib.Omega.{arith}
 use borrow.Author.Tests.{not-false}
 use Rattle.table_lent.specs.Lent.{wordsIn}
 use Rattle.table_lent.proofs.Reading.{words-in-length}
-use Rattle.live_sweep.proofs.Turns.{true-false}
+use Rattle.live_arrive.proofs.Turns.{true-false}
 use borrow.Author.Needs.{needs}
 use Rattle.live_arrive.proofs.can_try.Statement.{statement}
 use Rattle.live_arrive.proofs.can_try.Tie as tie

@@ -8,7 +8,7 @@ use lib.ListN.{length, getD}
 use Rattle.slice_search.specs.Places.{ascends}
 use Rattle.table_lent.specs.Lent.{wordsIn}
 use Rattle.table_lent.proofs.Reading.{words-in-length}
-use Rattle.live_sweep.proofs.Turns.{true-false}
+use Rattle.live_arrive.proofs.Turns.{true-false}
 use Rattle.live_arrive.proofs.Arrivals.{coded-none, coded-last}
 use borrow.Author.Needs.{needs}
 use Rattle.live_arrive.proofs.codes_pass.Statement.{statement}

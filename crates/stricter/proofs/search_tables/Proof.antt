@@ -3,7 +3,7 @@ use mathlib.Core.Path.{sym, ap₂}
 use borrow.Author.Needs.{needs}
 use Prim.Native.Nat.{ℕ, _*_}
 use lib.Seq.{length-take-le}
-use Rattle.build_closure_spec.specs.Keys.{startOf}
+use Rattle.build_spec.specs.Keys.{startOf}
 use Rattle.stricter.proofs.Rooms.{codes-fit, moves-fit, held-lists}
 use Rattle.stricter.proofs.Searching.{told-yes, told-no, searched}
 use Rattle.stricter.proofs.search_tables.Statement.{statement}

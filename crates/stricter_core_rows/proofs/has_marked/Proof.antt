@@ -6,7 +6,7 @@ use native.Mathlib.Omega.{arith}
 use borrow.Author.Needs.{needs}
 use lib.ListN.{length, getD}
 use Rattle.sets.proofs.Lists.{mem-at}
-use Rattle.stricter_cores_spec.specs.Tags.{ontoOf, sparing}
+use Rattle.stricter_spec.specs.Tags.{ontoOf, sparing}
 use Rattle.stricter_core_rows.specs.Rows.{needed}
 use Rattle.stricter_core_rows.proofs.Parts.{one-more}
 use Rattle.stricter_core_rows.proofs.has_marked.Statement.{statement}

@@ -11,10 +11,10 @@ use Rattle.slice_search.specs.Places.{below}
 use Rattle.slice_search.proofs.Search.{below-le}
 use Rattle.theory.specs.Run.{letterOf}
 use Rattle.stricter_laws.specs.Pairs.{RowCut}
-use Rattle.stricter_cores_spec.specs.Tags.{rowOf, ontoOf, sparing, untagged}
-use Rattle.stricter_cores_spec.specs.Steps.{CoreStep, SparedStep}
-use Rattle.stricter_cores_spec.specs.Rounds.{Leading}
-use Rattle.stricter_tags_laws.proofs.Tags.{untagged-long}
+use Rattle.stricter_spec.specs.Tags.{rowOf, ontoOf, sparing, untagged}
+use Rattle.stricter_spec.specs.Steps.{CoreStep, SparedStep}
+use Rattle.stricter_spec.specs.Rounds.{Leading}
+use Rattle.stricter_laws.proofs.Tags.{untagged-long}
 use Rattle.stricter_core_rows.specs.Rows.{needed, Met}
 use Rattle.stricter_core_rows.proofs.Parts.{met-at}
 use Rattle.stricter_core_rows.proofs.Steps.{Missed, MetBy, missed-next, met-leading, missed-leading}

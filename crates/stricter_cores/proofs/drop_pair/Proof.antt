@@ -4,10 +4,10 @@ use Prim.Native.Nat.{_+_, _*_}
 use native.Mathlib.Omega.{arith}
 use borrow.Author.Needs.{needs}
 use Rattle.stricter_laws.proofs.Rows.{cut-le}
-use Rattle.stricter_cores_spec.specs.Tags.{untagged}
-use Rattle.stricter_cores_spec.specs.Steps.{CoreStep, SparedStep}
-use Rattle.stricter_tags_laws.proofs.Tags.{untagged-long}
-use Rattle.stricter_cores_laws.proofs.Ends.{thinned-start, thinned-one}
+use Rattle.stricter_spec.specs.Tags.{untagged}
+use Rattle.stricter_spec.specs.Steps.{CoreStep, SparedStep}
+use Rattle.stricter_laws.proofs.Tags.{untagged-long}
+use Rattle.stricter_laws.proofs.Ends.{thinned-start, thinned-one}
 use Rattle.stricter_cores.proofs.drop_pair.Statement.{statement}
 use Rattle.stricter_cores.proofs.drop_pair.Tie as tie
 

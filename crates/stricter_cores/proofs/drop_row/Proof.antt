@@ -4,10 +4,10 @@ use Prim.Native.Nat.{_+_, _-_, _*_, _≤_}
 use native.Mathlib.Omega.{arith}
 use borrow.Author.Needs.{needs}
 use lib.ListN.{length}
-use Rattle.stricter_cores_spec.specs.Steps.{CoreStep}
-use Rattle.stricter_cores_laws.specs.Parts.{Thinned}
-use Rattle.stricter_cores_laws.proofs.Fitting.{ready-same}
-use Rattle.stricter_cores_laws.proofs.Ends.{thinned-start, thinned-then}
+use Rattle.stricter_spec.specs.Steps.{CoreStep}
+use Rattle.stricter_laws.specs.Parts.{Thinned}
+use Rattle.stricter_laws.proofs.Fitting.{ready-same}
+use Rattle.stricter_laws.proofs.Ends.{thinned-start, thinned-then}
 use Rattle.stricter_cores.proofs.drop_row.Statement.{statement}
 use Rattle.stricter_cores.proofs.drop_row.Tie as tie
 

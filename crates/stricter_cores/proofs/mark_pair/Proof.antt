@@ -7,11 +7,11 @@ use borrow.Author.Needs.{needs}
 use lib.ListN.{getD}
 use Rattle.sets.proofs.Bools.{not-t, not-f}
 use Rattle.stricter_laws.proofs.Rows.{cut-le}
-use Rattle.stricter_cores_spec.specs.Tags.{untagged}
-use Rattle.stricter_cores_spec.specs.Steps.{CoreStep, SparedStep}
-use Rattle.stricter_cores_spec.specs.Rounds.{Leading}
-use Rattle.stricter_tags_laws.proofs.Tags.{untagged-long}
-use Rattle.stricter_cores_laws.proofs.Tries.{tried-stays, tried-marks}
+use Rattle.stricter_spec.specs.Tags.{untagged}
+use Rattle.stricter_spec.specs.Steps.{CoreStep, SparedStep}
+use Rattle.stricter_spec.specs.Rounds.{Leading}
+use Rattle.stricter_laws.proofs.Tags.{untagged-long}
+use Rattle.stricter_laws.proofs.Tries.{tried-stays, tried-marks}
 use Rattle.stricter_cores.proofs.mark_pair.Statement.{statement}
 use Rattle.stricter_cores.proofs.mark_pair.Tie as tie
 

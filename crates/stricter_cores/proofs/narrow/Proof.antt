@@ -2,11 +2,11 @@
 use mathlib.Core.Bool.{cond}
 use borrow.Author.Needs.{needs}
 use lib.ListN.{length}
-use Rattle.stricter_cores_spec.specs.Steps.{CoreStep, SparedStep}
-use Rattle.stricter_cores_spec.specs.Rounds.{Narrowed}
-use Rattle.stricter_cores_laws.proofs.Fitting.{fits-same, only-sub}
-use Rattle.stricter_cores_laws.proofs.Ends.{ends-narrowed}
-use Rattle.stricter_cores_laws.proofs.Turns.{narrowed-then}
+use Rattle.stricter_spec.specs.Steps.{CoreStep, SparedStep}
+use Rattle.stricter_spec.specs.Rounds.{Narrowed}
+use Rattle.stricter_laws.proofs.Fitting.{fits-same, only-sub}
+use Rattle.stricter_laws.proofs.Ends.{ends-narrowed}
+use Rattle.stricter_laws.proofs.Turns.{narrowed-then}
 use Rattle.stricter_cores.proofs.narrow.Statement.{statement}
 use Rattle.stricter_cores.proofs.narrow.Tie as tie
 

@@ -5,9 +5,9 @@ use native.Mathlib.Omega.{arith}
 use borrow.Author.Needs.{needs}
 use lib.ListN.{length}
 use Rattle.sets.proofs.Bools.{or-l}
-use Rattle.stricter_cores_spec.specs.Steps.{CoreStep, SparedStep}
-use Rattle.stricter_cores_laws.proofs.Fitting.{ready-same, only-sub}
-use Rattle.stricter_cores_laws.proofs.Turns.{pass-of}
+use Rattle.stricter_spec.specs.Steps.{CoreStep, SparedStep}
+use Rattle.stricter_laws.proofs.Fitting.{ready-same, only-sub}
+use Rattle.stricter_laws.proofs.Turns.{pass-of}
 use Rattle.stricter_cores.proofs.pass.Statement.{statement}
 use Rattle.stricter_cores.proofs.pass.Tie as tie
 

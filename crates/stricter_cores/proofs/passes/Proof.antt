@@ -2,10 +2,10 @@
 use mathlib.Core.Bool.{cond}
 use lib.ListN.{length}
 use Rattle.sets.specs.Lists.{sum}
-use Rattle.stricter_cores_spec.specs.Steps.{CoreStep, SparedStep}
-use Rattle.stricter_cores_spec.specs.Rounds.{Narrowed}
-use Rattle.stricter_cores_laws.proofs.Fitting.{ready-same, only-sub}
-use Rattle.stricter_cores_laws.proofs.Turns.{narrowed-start, narrowed-then}
+use Rattle.stricter_spec.specs.Steps.{CoreStep, SparedStep}
+use Rattle.stricter_spec.specs.Rounds.{Narrowed}
+use Rattle.stricter_laws.proofs.Fitting.{ready-same, only-sub}
+use Rattle.stricter_laws.proofs.Turns.{narrowed-start, narrowed-then}
 use Rattle.stricter_cores.proofs.passes.Statement.{statement}
 use Rattle.stricter_cores.proofs.passes.Tie as tie
 

@@ -3,11 +3,11 @@ use mathlib.Core.Path.{_≡_, sym, subst, _∙_}
 use Prim.Native.Nat.{ℕ, _*_}
 use borrow.Author.Needs.{needs}
 use lib.ListN.{length}
-use Rattle.stricter_cores_spec.specs.Steps.{CoreStep, SparedStep}
-use Rattle.stricter_cores_laws.specs.Parts.{Settled}
-use Rattle.stricter_cores_laws.proofs.Fitting.{only-sub}
-use Rattle.stricter_cores_laws.proofs.Tries.{marking-sub}
-use Rattle.stricter_cores_laws.proofs.Settling.{round-of}
+use Rattle.stricter_spec.specs.Steps.{CoreStep, SparedStep}
+use Rattle.stricter_laws.specs.Parts.{Settled}
+use Rattle.stricter_laws.proofs.Fitting.{only-sub}
+use Rattle.stricter_laws.proofs.Tries.{marking-sub}
+use Rattle.stricter_laws.proofs.Settling.{round-of}
 use Rattle.stricter_cores.proofs.round.Statement.{statement}
 use Rattle.stricter_cores.proofs.round.Tie as tie
 

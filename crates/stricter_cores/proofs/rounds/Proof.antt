@@ -6,11 +6,11 @@ use native.Mathlib.Omega.{arith}
 use borrow.Author.Needs.{needs}
 use lib.ListN.{length}
 use Rattle.table_fixpoints_spec.proofs.Loops.{or-now, or-before}
-use Rattle.stricter_cores_spec.specs.Steps.{CoreStep, SparedStep}
-use Rattle.stricter_cores_spec.specs.Rounds.{Narrowed}
-use Rattle.stricter_cores_laws.specs.Parts.{Side}
-use Rattle.stricter_cores_laws.proofs.Fitting.{ready-same, only-sub}
-use Rattle.stricter_cores_laws.proofs.Turns.{side-start, side-next}
+use Rattle.stricter_spec.specs.Steps.{CoreStep, SparedStep}
+use Rattle.stricter_spec.specs.Rounds.{Narrowed}
+use Rattle.stricter_laws.specs.Parts.{Side}
+use Rattle.stricter_laws.proofs.Fitting.{ready-same, only-sub}
+use Rattle.stricter_laws.proofs.Turns.{side-start, side-next}
 use Rattle.stricter_cores.proofs.rounds.Statement.{statement}
 use Rattle.stricter_cores.proofs.rounds.Tie as tie
 

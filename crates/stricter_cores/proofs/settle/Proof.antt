@@ -8,9 +8,9 @@ use native.Mathlib.Numerals.{add-one}
 use borrow.Author.Needs.{needs}
 use lib.ListN.{length}
 use Rattle.table_fixpoints_spec.proofs.Loops.{or-now, or-before}
-use Rattle.stricter_cores_laws.specs.Parts.{Settled}
-use Rattle.stricter_cores_laws.proofs.Fitting.{only-sub}
-use Rattle.stricter_cores_laws.proofs.Settling.{settled-start, settled-then, settled-sub}
+use Rattle.stricter_laws.specs.Parts.{Settled}
+use Rattle.stricter_laws.proofs.Fitting.{only-sub}
+use Rattle.stricter_laws.proofs.Settling.{settled-start, settled-then, settled-sub}
 use Rattle.stricter_cores.proofs.settle.Statement.{statement}
 use Rattle.stricter_cores.proofs.settle.Tie as tie
 

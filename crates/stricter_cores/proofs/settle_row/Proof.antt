@@ -8,9 +8,9 @@ use borrow.Author.Needs.{needs}
 use lib.ListN.{length}
 use Rattle.sets.proofs.Bools.{not-t}
 use Rattle.table_fixpoints_spec.proofs.Places.{place-room}
-use Rattle.stricter_cores_laws.specs.Parts.{Settled}
-use Rattle.stricter_cores_laws.proofs.Fitting.{row-out}
-use Rattle.stricter_cores_laws.proofs.Settling.{settled-out, settled-start, settled-zeros, settled-next}
+use Rattle.stricter_laws.specs.Parts.{Settled}
+use Rattle.stricter_laws.proofs.Fitting.{row-out}
+use Rattle.stricter_laws.proofs.Settling.{settled-out, settled-start, settled-zeros, settled-next}
 use Rattle.stricter_cores.proofs.settle_row.Statement.{statement}
 use Rattle.stricter_cores.proofs.settle_row.Tie as tie
 

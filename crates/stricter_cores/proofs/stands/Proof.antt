@@ -1,7 +1,7 @@
 -- `stands` meets its contract.
 use mathlib.Core.Path.{refl}
 use borrow.Author.Needs.{needs}
-use Rattle.stricter_cores_spec.specs.Steps.{standsIn}
+use Rattle.stricter_spec.specs.Steps.{standsIn}
 use Rattle.stricter_cores.proofs.stands.Statement.{statement}
 use Rattle.stricter_cores.proofs.stands.Tie as tie
 

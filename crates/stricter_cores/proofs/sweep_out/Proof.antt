@@ -4,10 +4,10 @@ use Prim.Native.Nat.{_*_, _-_}
 use native.Mathlib.Omega.{arith}
 use lib.ListN.{length}
 use Rattle.sets.specs.Lists.{sum}
-use Rattle.stricter_cores_spec.specs.Steps.{CoreStep, SparedStep}
-use Rattle.stricter_cores_spec.specs.Rounds.{Marking}
-use Rattle.stricter_cores_laws.proofs.Fitting.{ready-same}
-use Rattle.stricter_cores_laws.proofs.Tries.{marking-start, marking-sum, swept-end}
+use Rattle.stricter_spec.specs.Steps.{CoreStep, SparedStep}
+use Rattle.stricter_spec.specs.Rounds.{Marking}
+use Rattle.stricter_laws.proofs.Fitting.{ready-same}
+use Rattle.stricter_laws.proofs.Tries.{marking-start, marking-sum, swept-end}
 use Rattle.stricter_cores.proofs.sweep_out.Statement.{statement}
 use Rattle.stricter_cores.proofs.sweep_out.Tie as tie
 

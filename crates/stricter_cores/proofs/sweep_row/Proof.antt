@@ -6,10 +6,10 @@ use native.Mathlib.Omega.{arith}
 use borrow.Author.Needs.{needs}
 use lib.ListN.{length}
 use Rattle.table_fixpoints_spec.proofs.Loops.{or-now, or-before}
-use Rattle.stricter_cores_spec.specs.Steps.{CoreStep, SparedStep}
-use Rattle.stricter_cores_spec.specs.Rounds.{Tried}
-use Rattle.stricter_cores_laws.proofs.Fitting.{ready-same}
-use Rattle.stricter_cores_laws.proofs.Tries.{tried-none, tried-zeros, tried-turn}
+use Rattle.stricter_spec.specs.Steps.{CoreStep, SparedStep}
+use Rattle.stricter_spec.specs.Rounds.{Tried}
+use Rattle.stricter_laws.proofs.Fitting.{ready-same}
+use Rattle.stricter_laws.proofs.Tries.{tried-none, tried-zeros, tried-turn}
 use Rattle.stricter_cores.proofs.sweep_row.Statement.{statement}
 use Rattle.stricter_cores.proofs.sweep_row.Tie as tie
 

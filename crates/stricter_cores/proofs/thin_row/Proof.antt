@@ -5,8 +5,8 @@ use native.Mathlib.Omega.{arith}
 use borrow.Author.Needs.{needs}
 use lib.ListN.{length}
 use Rattle.table_fixpoints_spec.proofs.Places.{place-room}
-use Rattle.stricter_cores_spec.specs.Steps.{CoreStep}
-use Rattle.stricter_cores_laws.proofs.Ends.{thinned-start}
+use Rattle.stricter_spec.specs.Steps.{CoreStep}
+use Rattle.stricter_laws.proofs.Ends.{thinned-start}
 use Rattle.stricter_cores.proofs.thin_row.Statement.{statement}
 use Rattle.stricter_cores.proofs.thin_row.Tie as tie
 

@@ -7,9 +7,9 @@ use borrow.Author.Needs.{needs}
 use lib.ListN.{length}
 use Rattle.sets.proofs.Bools.{not-t}
 use Rattle.table_fixpoints_spec.proofs.Places.{place-room}
-use Rattle.stricter_cores_spec.specs.Steps.{CoreStep, SparedStep}
-use Rattle.stricter_cores_laws.proofs.Fitting.{row-out}
-use Rattle.stricter_cores_laws.proofs.Tries.{tried-none, tried-then}
+use Rattle.stricter_spec.specs.Steps.{CoreStep, SparedStep}
+use Rattle.stricter_laws.proofs.Fitting.{row-out}
+use Rattle.stricter_laws.proofs.Tries.{tried-none, tried-then}
 use Rattle.stricter_cores.proofs.visit_row.Statement.{statement}
 use Rattle.stricter_cores.proofs.visit_row.Tie as tie
 

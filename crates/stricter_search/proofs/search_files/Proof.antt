@@ -2,7 +2,7 @@
 use mathlib.Core.Bool.{not}
 use borrow.Author.Needs.{needs}
 use Rattle.sets.specs.Masks.{bit}
-use Rattle.stricter_search.proofs.Files.{file-searchable}
+use Rattle.stricter_search.proofs.Searched.{file-searchable}
 use Rattle.stricter_search.proofs.search_files.Statement.{statement}
 use Rattle.stricter_search.proofs.search_files.Tie as tie
 

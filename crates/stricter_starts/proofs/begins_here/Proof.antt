@@ -7,8 +7,8 @@ use borrow.Author.Tests.{eq-eqb, ne-eqb}
 use lib.ListN.{getD}
 use Rattle.sets.specs.Masks.{bit}
 use Rattle.theory.specs.Macrostate.{begun}
-use Rattle.stricter_cores_spec.specs.Tags.{coreNumber}
-use Rattle.stricter_cores_spec.specs.Steps.{standsIn}
+use Rattle.stricter_spec.specs.Tags.{coreNumber}
+use Rattle.stricter_spec.specs.Steps.{standsIn}
 use Rattle.stricter_starts.proofs.begins_here.Statement.{statement}
 use Rattle.stricter_starts.proofs.begins_here.Tie as tie
 

@@ -10,7 +10,7 @@ use Rattle.sets.specs.Masks.{bit}
 use Rattle.sets.proofs.Bools.{and-r, not-t, not-f}
 use Rattle.theory.specs.Macrostate.{begun}
 use Rattle.table_fixpoints_spec.proofs.Places.{place-room}
-use Rattle.stricter_cores_spec.specs.Steps.{standsIn}
+use Rattle.stricter_spec.specs.Steps.{standsIn}
 use Rattle.stricter_starts.proofs.Rows.{NoneUp, none-zeros, none-next, no-start, found, ended}
 use Rattle.stricter_starts.proofs.start_in_row.Statement.{statement}
 use Rattle.stricter_starts.proofs.start_in_row.Tie as tie

@@ -7,8 +7,8 @@ use native.Mathlib.Omega.{arith}
 use borrow.Author.Needs.{needs, scaled-fits}
 use lib.Dec.{ltb}
 use lib.ListN.{length, getD}
-use Rattle.stricter_tags_laws.specs.Fill.{Filled}
-use Rattle.stricter_tags_laws.proofs.Fill.{filled-start, filled-next}
+use Rattle.stricter_laws.specs.Fill.{Filled}
+use Rattle.stricter_laws.proofs.Fill.{filled-start, filled-next}
 use Rattle.stricter_tags.proofs.Live.{given, all-stay, some-go}
 use Rattle.stricter_tags.proofs.bury.Statement.{statement}
 use Rattle.stricter_tags.proofs.bury.Tie as tie

@@ -6,8 +6,8 @@ use borrow.Author.Needs.{needs}
 use lib.Dec.{ltb}
 use lib.ListN.{length, getD}
 use Rattle.sets.specs.Tests.{one}
-use Rattle.stricter_tags_laws.specs.Fill.{Filled}
-use Rattle.stricter_tags_laws.proofs.Fill.{filled-start, filled-next}
+use Rattle.stricter_laws.specs.Fill.{Filled}
+use Rattle.stricter_laws.proofs.Fill.{filled-start, filled-next}
 use Rattle.stricter_tags.proofs.note_marks.Statement.{statement}
 use Rattle.stricter_tags.proofs.note_marks.Tie as tie
 

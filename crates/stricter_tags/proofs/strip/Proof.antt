@@ -10,8 +10,8 @@ use lib.Pow.{pow-pos}
 use lib.Seq.{ext-getD}
 use Rattle.sets.proofs.Bits.{shl-one}
 use Rattle.slice_search.specs.LowParts.{lowParts}
-use Rattle.stricter_tags_laws.specs.Fill.{Filled}
-use Rattle.stricter_tags_laws.proofs.Fill.{filled-start, filled-next}
+use Rattle.stricter_laws.specs.Fill.{Filled}
+use Rattle.stricter_laws.proofs.Fill.{filled-start, filled-next}
 use Rattle.slice_search.proofs.LowParts.{low-at, low-long}
 use Rattle.stricter_tags.proofs.strip.Statement.{statement}
 use Rattle.stricter_tags.proofs.strip.Tie as tie

@@ -4,9 +4,9 @@ use native.Mathlib.Omega.{arith}
 use borrow.Author.Needs.{needs}
 use Rattle.theory.specs.Automaton.{automaton}
 use Rattle.trim_spec.specs.Trimmed.{liveMarks}
-use Rattle.stricter_rules_laws.proofs.Parents.{table-inside}
-use Rattle.spare_tables.proofs.Tables.{codes-low}
-use Rattle.stricter_cores_spec.specs.Tags.{TaggedCodes, TaggedMoves}
+use Rattle.stricter_laws.proofs.OneParent.{table-inside}
+use Rattle.stricter_laws.proofs.CoreTables.{codes-low}
+use Rattle.stricter_spec.specs.Tags.{TaggedCodes, TaggedMoves}
 use Rattle.stricter_tags.proofs.Live.{low-all, told-codes}
 use Rattle.stricter_tags.proofs.tag_live.Statement.{statement}
 use Rattle.stricter_tags.proofs.tag_live.Tie as tie

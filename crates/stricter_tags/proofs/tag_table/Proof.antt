@@ -2,7 +2,7 @@
 use native.Mathlib.Omega.{arith}
 use borrow.Author.Needs.{needs}
 use Rattle.theory_laws.proofs.Tables.{macrostates-ascending}
-use Rattle.spare_tables.proofs.Tables.{codes-low}
+use Rattle.stricter_laws.proofs.CoreTables.{codes-low}
 use Rattle.stricter_tags_moves.proofs.Moves.{code-known}
 use Rattle.stricter_tags.proofs.tag_table.Statement.{statement}
 use Rattle.stricter_tags.proofs.tag_table.Tie as tie

@@ -8,7 +8,7 @@ use lib.ListN.{length, getD, take}
 use lib.Seq.{length-take-le}
 use Rattle.slice_search.specs.Places.{below}
 use Rattle.slice_search.proofs.Search.{below-le}
-use Rattle.stricter_cores_spec.specs.Tags.{coreIn}
+use Rattle.stricter_spec.specs.Tags.{coreIn}
 use Rattle.stricter_tags_first.proofs.First.{None, front-asc, hit, miss, skip, last}
 use Rattle.stricter_tags_first.proofs.first_of.Statement.{statement}
 use Rattle.stricter_tags_first.proofs.first_of.Tie as tie

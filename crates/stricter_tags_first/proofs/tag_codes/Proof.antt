@@ -6,10 +6,10 @@ use borrow.Author.Needs.{scaled-fits}
 use mathlib.Core.Logic.{inl}
 use mathlib.Core.List.{List}
 use lib.ListN.{length, getD, take}
-use Rattle.stricter_cores_spec.specs.Tags.{firstOf}
-use Rattle.stricter_tags_laws.specs.Fill.{Filled}
-use Rattle.stricter_tags_laws.proofs.Fill.{filled-start, filled-before}
-use Rattle.stricter_tags_laws.proofs.First.{first-low, first-take}
+use Rattle.stricter_spec.specs.Tags.{firstOf}
+use Rattle.stricter_laws.specs.Fill.{Filled}
+use Rattle.stricter_laws.proofs.Fill.{filled-start, filled-before}
+use Rattle.stricter_laws.proofs.First.{first-low, first-take}
 use Rattle.stricter_tags_first.proofs.First.{front-same, asc-take}
 use Rattle.stricter_tags_first.proofs.tag_codes.Statement.{statement}
 use Rattle.stricter_tags_first.proofs.tag_codes.Tie as tie

@@ -3,8 +3,8 @@ use mathlib.Core.Path.{_∙_}
 use native.Mathlib.Omega.{arith}
 use borrow.Author.Needs.{needs}
 use Rattle.sets.specs.Masks.{mask}
-use Rattle.build_closure_spec.proofs.Letters.{rises}
-use Rattle.build_closure_spec.proofs.Starting.{few}
+use Rattle.build_spec.proofs.Letters.{rises}
+use Rattle.build_spec.proofs.Starting.{few}
 use Rattle.stricter_tags_moves.specs.Spared.{sparedIn}
 use Rattle.stricter_tags_moves.proofs.Moves.{over-is}
 use Rattle.stricter_tags_moves.proofs.Spared.{mask-small}

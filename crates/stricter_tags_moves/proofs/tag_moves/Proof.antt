@@ -11,10 +11,10 @@ use Rattle.sets.proofs.Lists.{mem-at}
 use Rattle.theory.specs.Automaton.{Automaton, automaton}
 use Rattle.theory.specs.Rule.{Rule}
 use Rattle.theory.specs.TableComputed.{macrostatesFrom, transitionsFrom}
-use Rattle.build_closure_spec.specs.Tables.{RuleTables}
-use Rattle.stricter_cores_spec.specs.Tags.{TaggedCodes, tagOf}
-use Rattle.stricter_tags_laws.specs.Fill.{Filled}
-use Rattle.stricter_tags_laws.proofs.Fill.{filled-start, filled-next}
+use Rattle.build_spec.specs.Tables.{RuleTables}
+use Rattle.stricter_spec.specs.Tags.{TaggedCodes, tagOf}
+use Rattle.stricter_laws.specs.Fill.{Filled}
+use Rattle.stricter_laws.proofs.Fill.{filled-start, filled-next}
 use Rattle.stricter_tags_moves.proofs.tag_moves.Statement.{statement}
 use Rattle.stricter_tags_moves.proofs.tag_moves.Tie as tie
 

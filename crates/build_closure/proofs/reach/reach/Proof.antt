@@ -3,12 +3,12 @@ use mathlib.Core.Path.{refl}
 use native.Mathlib.Omega.{arith}
 use borrow.Author.Needs.{needs}
 use Rattle.theory.specs.Rule.{Rule}
-use Rattle.build_chains_spec.proofs.Chains.{chained-none}
-use Rattle.build_chains_spec.proofs.Growth.{all-in}
-use Rattle.build_closure_spec.specs.Reached.{begins, ReachedKey, AllReached}
-use Rattle.build_closure_spec.specs.Tables.{RuleTables}
-use Rattle.build_closure_spec.proofs.Starting.{few}
-use Rattle.build_closure_spec.proofs.Link.{reached-in, reached-out}
+use Rattle.build_spec.proofs.Chains.{chained-none}
+use Rattle.build_spec.proofs.Growth.{all-in}
+use Rattle.build_spec.specs.Reached.{begins, ReachedKey, AllReached}
+use Rattle.build_spec.specs.Tables.{RuleTables}
+use Rattle.build_spec.proofs.Starting.{few}
+use Rattle.build_spec.proofs.Link.{reached-in, reached-out}
 use Rattle.build_closure.proofs.Closing.{gathered-full}
 use Rattle.build_closure.proofs.Listing.{gathered-as}
 use Rattle.build_closure.proofs.reach.reach.Statement.{statement}

@@ -2,7 +2,7 @@
 use mathlib.Core.Path.{_∙_}
 use native.Mathlib.Omega.{arith}
 use borrow.Author.Needs.{needs}
-use Rattle.build_closure_spec.specs.Keys.{startOf}
+use Rattle.build_spec.specs.Keys.{startOf}
 use Rattle.build_closure.proofs.Listing.{listed-full, listed-all}
 use Rattle.build_closure.proofs.reach.reachable.Statement.{statement}
 use Rattle.build_closure.proofs.reach.reachable.Tie as tie

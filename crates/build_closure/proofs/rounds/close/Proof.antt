@@ -5,11 +5,11 @@ use native.Mathlib.Omega.{arith}
 use lib.ListN.{length}
 use Rattle.theory.specs.Rule.{Rule}
 use Rattle.theory.specs.Automaton.{automaton}
-use Rattle.build_chains_spec.specs.Chains.{Lists, Chained}
-use Rattle.build_chains_spec.proofs.Growth.{all-kept}
-use Rattle.build_closure_spec.specs.Keys.{KeyEdge, First}
-use Rattle.build_closure_spec.specs.Reached.{AllReached}
-use Rattle.build_closure_spec.specs.Tables.{RuleTables}
+use Rattle.build_spec.specs.Chains.{Lists, Chained}
+use Rattle.build_spec.proofs.Growth.{all-kept}
+use Rattle.build_spec.specs.Keys.{KeyEdge, First}
+use Rattle.build_spec.specs.Reached.{AllReached}
+use Rattle.build_spec.specs.Tables.{RuleTables}
 use Rattle.build_closure.proofs.Closing.{Closing, gathered-full, close-next, close-end}
 use Rattle.build_closure.proofs.rounds.close.Statement.{statement}
 use Rattle.build_closure.proofs.rounds.close.Tie as tie

@@ -7,12 +7,12 @@ use Rattle.theory.specs.Rule.{Rule}
 use Rattle.build_cores.specs.Vectors.{Within}
 use Rattle.build_cores.proofs.Next.{within-next}
 use Rattle.build_cores.proofs.Vectors.{within-zero, within-le}
-use Rattle.build_chains_spec.specs.Growth.{Grown}
-use Rattle.build_chains_spec.proofs.Growth.{Upto, grown-as, upto-start, upto-full}
-use Rattle.build_closure_spec.specs.Keys.{StartsAt, First}
-use Rattle.build_closure_spec.specs.Tables.{Shaped}
-use Rattle.build_closure_spec.proofs.Starting.{caps-low}
-use Rattle.build_closure_spec.proofs.Walk.{walk-less, walk-next, walk-end}
+use Rattle.build_spec.specs.Growth.{Grown}
+use Rattle.build_spec.proofs.Growth.{Upto, grown-as, upto-start, upto-full}
+use Rattle.build_spec.specs.Keys.{StartsAt, First}
+use Rattle.build_spec.specs.Tables.{Shaped}
+use Rattle.build_spec.proofs.Starting.{caps-low}
+use Rattle.build_spec.proofs.Walk.{walk-less, walk-next, walk-end}
 use Rattle.build_closure.proofs.rounds.firsts.Statement.{statement}
 use Rattle.build_closure.proofs.rounds.firsts.Tie as tie
 

@@ -12,15 +12,15 @@ use Rattle.theory.specs.Rule.{Rule}
 use Rattle.theory.specs.Automaton.{automaton}
 use Rattle.build_cores.specs.Vectors.{rankAt}
 use Rattle.build_cores.specs.Used.{capsOf}
-use Rattle.build_chains_spec.specs.Growth.{Grown}
-use Rattle.build_chains_spec.proofs.Growth.{Upto, grown-as, all-kept, after-kept, upto-start, upto-next, upto-full}
-use Rattle.build_closure_spec.specs.declared.Shape.{Shape}
-use Rattle.build_closure_spec.specs.Keys.{Leads, LeadsAt}
-use Rattle.build_closure_spec.specs.Reached.{ReachedKey, AllReached}
-use Rattle.build_closure_spec.specs.Sets.{openIn}
-use Rattle.build_closure_spec.specs.Tables.{RuleTables}
-use Rattle.build_closure_spec.proofs.Letters.{edges-out}
-use Rattle.build_closure_spec.proofs.Sets.{open-lowest, open-within}
+use Rattle.build_spec.specs.Growth.{Grown}
+use Rattle.build_spec.proofs.Growth.{Upto, grown-as, all-kept, after-kept, upto-start, upto-next, upto-full}
+use Rattle.build_spec.specs.declared.Shape.{Shape}
+use Rattle.build_spec.specs.Keys.{Leads, LeadsAt}
+use Rattle.build_spec.specs.Reached.{ReachedKey, AllReached}
+use Rattle.build_spec.specs.Sets.{openIn}
+use Rattle.build_spec.specs.Tables.{RuleTables}
+use Rattle.build_spec.proofs.Letters.{edges-out}
+use Rattle.build_spec.proofs.Sets.{open-lowest, open-within}
 use Rattle.build_closure.proofs.rounds.round.Statement.{statement}
 use Rattle.build_closure.proofs.rounds.round.Tie as tie
 

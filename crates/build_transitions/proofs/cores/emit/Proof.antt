@@ -7,11 +7,11 @@ use lib.ListN.{length}
 use borrow.Author.Needs.{needs}
 use Rattle.theory.specs.Rule.{Rule}
 use Rattle.theory.specs.Automaton.{automaton}
-use Rattle.build_closure_spec.specs.Reached.{AllReached}
-use Rattle.build_closure_spec.specs.Tables.{RuleTables}
-use Rattle.build_transitions_spec.specs.Emission.{Emitted, Done}
-use Rattle.build_transitions_spec.proofs.Emission.{emitted-start, emitted-skip, emitted-next, emitted-over}
-use Rattle.build_transitions_spec.proofs.Cores.{fresh}
+use Rattle.build_spec.specs.Reached.{AllReached}
+use Rattle.build_spec.specs.Tables.{RuleTables}
+use Rattle.build_spec.specs.Emission.{Emitted, Done}
+use Rattle.build_spec.proofs.Emission.{emitted-start, emitted-skip, emitted-next, emitted-over}
+use Rattle.build_spec.proofs.Cores.{fresh}
 use Rattle.build_transitions.proofs.cores.emit.Statement.{statement}
 use Rattle.build_transitions.proofs.cores.emit.Tie as tie
 

@@ -8,12 +8,12 @@ use lib.ListN.{length, getD}
 use borrow.Author.Needs.{needs}
 use Rattle.theory.specs.Rule.{Rule}
 use Rattle.theory.specs.Automaton.{automaton}
-use Rattle.build_chains_spec.specs.Chains.{keyAt}
-use Rattle.build_closure_spec.specs.Reached.{AllReached}
-use Rattle.build_closure_spec.specs.Tables.{RuleTables}
-use Rattle.build_transitions_spec.specs.Emission.{Emitted, Into}
-use Rattle.build_transitions_spec.proofs.Emission.{emitted-start, emitted-next, emitted-over}
-use Rattle.build_transitions_spec.proofs.Cores.{letters-apart, key-cored}
+use Rattle.build_spec.specs.Chains.{keyAt}
+use Rattle.build_spec.specs.Reached.{AllReached}
+use Rattle.build_spec.specs.Tables.{RuleTables}
+use Rattle.build_spec.specs.Emission.{Emitted, Into}
+use Rattle.build_spec.proofs.Emission.{emitted-start, emitted-next, emitted-over}
+use Rattle.build_spec.proofs.Cores.{letters-apart, key-cored}
 use Rattle.build_transitions.proofs.cores.emit_core.Statement.{statement}
 use Rattle.build_transitions.proofs.cores.emit_core.Tie as tie
 

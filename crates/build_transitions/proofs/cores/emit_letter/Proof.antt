@@ -4,11 +4,11 @@ use native.Mathlib.Omega.{arith}
 use lib.ListN.{getD}
 use lib.Bits.{bitXor}
 use borrow.Author.Needs.{needs}
-use Rattle.build_chains_spec.specs.Chains.{keyAt}
-use Rattle.build_closure_spec.proofs.Link.{key-paired}
-use Rattle.build_closure_spec.proofs.Starting.{few}
-use Rattle.build_closure_spec.proofs.Letters.{stepping-fits, leads-in, leads-out, nothing-new}
-use Rattle.build_transitions_spec.proofs.Emission.{emitted-none, emitted-as}
+use Rattle.build_spec.specs.Chains.{keyAt}
+use Rattle.build_spec.proofs.Link.{key-paired}
+use Rattle.build_spec.proofs.Starting.{few}
+use Rattle.build_spec.proofs.Letters.{stepping-fits, leads-in, leads-out, nothing-new}
+use Rattle.build_spec.proofs.Emission.{emitted-none, emitted-as}
 use Rattle.build_transitions.proofs.cores.emit_letter.Statement.{statement}
 use Rattle.build_transitions.proofs.cores.emit_letter.Tie as tie
 

@@ -6,12 +6,12 @@ use lib.Bits.{and-mask}
 use lib.ListN.{length}
 use borrow.Author.Needs.{needs}
 use Rattle.codes.specs.Codes.{transitionOf}
-use Rattle.build_breakpoint.specs.Onward.{onwardIn}
-use Rattle.build_chains_spec.specs.Chains.{keyAt, Found}
-use Rattle.build_closure_spec.proofs.Moves.{key-onward}
-use Rattle.build_transitions_spec.specs.Emission.{Crossing}
-use Rattle.build_transitions_spec.proofs.Emission.{emitted-none, emitted-full, emitted-put}
-use Rattle.build_transitions_spec.proofs.Sources.{crossed}
+use Rattle.build_cores.specs.Onward.{onwardIn}
+use Rattle.build_spec.specs.Chains.{keyAt, Found}
+use Rattle.build_spec.proofs.Moves.{key-onward}
+use Rattle.build_spec.specs.Emission.{Crossing}
+use Rattle.build_spec.proofs.Emission.{emitted-none, emitted-full, emitted-put}
+use Rattle.build_spec.proofs.Sources.{crossed}
 use Rattle.build_transitions.proofs.sources.emit_source.Statement.{statement}
 use Rattle.build_transitions.proofs.sources.emit_source.Tie as tie
 

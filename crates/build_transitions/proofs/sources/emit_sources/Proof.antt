@@ -4,9 +4,9 @@ use native.Mathlib.Omega.{arith}
 use lib.ListN.{length, getD}
 use lib.Bits.{and-mask}
 use borrow.Author.Needs.{needs}
-use Rattle.build_breakpoint.specs.Onward.{onwardIn}
-use Rattle.build_chains_spec.proofs.Walks.{ahead-inside, ahead-less}
-use Rattle.build_transitions_spec.proofs.Sources.{Turn, turn-start, turn-full, turn-end, turn-next}
+use Rattle.build_cores.specs.Onward.{onwardIn}
+use Rattle.build_spec.proofs.Walks.{ahead-inside, ahead-less}
+use Rattle.build_spec.proofs.Sources.{Turn, turn-start, turn-full, turn-end, turn-next}
 use Rattle.build_transitions.proofs.sources.emit_sources.Statement.{statement}
 use Rattle.build_transitions.proofs.sources.emit_sources.Tie as tie
 

@@ -4,7 +4,7 @@ use mathlib.Core.Path.{_≡_}
 use native.Mathlib.Omega.{arith}
 use lib.ListN.{length, getD}
 use borrow.Author.Needs.{needs}
-use Rattle.build_transitions_spec.proofs.Chaining.{Chaining, key-read, key-low, chaining-start, chaining-next}
+use Rattle.build_spec.proofs.Chaining.{Chaining, key-read, key-low, chaining-start, chaining-next}
 use Rattle.build_transitions.proofs.transitions.chain.Statement.{statement}
 use Rattle.build_transitions.proofs.transitions.chain.Tie as tie
 

@@ -2,7 +2,7 @@
 use mathlib.Core.Path.{refl}
 use native.Mathlib.Omega.{arith}
 use borrow.Author.Needs.{needs}
-use Rattle.build_chains_spec.proofs.Chains.{chained-none}
+use Rattle.build_spec.proofs.Chains.{chained-none}
 use Rattle.build_transitions.proofs.Filling.{restored, ready, reached, filled-full, filled}
 use Rattle.build_transitions.proofs.transitions.transitions.Statement.{statement}
 use Rattle.build_transitions.proofs.transitions.transitions.Tie as tie

@@ -2,7 +2,7 @@
 use mathlib.Core.Path.{ap, _∙_}
 use mathlib.Core.Bool.{not}
 use borrow.Author.Needs.{needs}
-use Rattle.build_closure_spec.proofs.Starting.{in-set-ranked, in-set-closed}
+use Rattle.build_spec.proofs.Starting.{in-set-ranked, in-set-closed}
 use Rattle.build_visit.proofs.initial.in_set.Statement.{statement}
 use Rattle.build_visit.proofs.initial.in_set.Tie as tie
 

@@ -3,8 +3,8 @@ use mathlib.Core.Path.{sym, _∙_}
 use borrow.Author.Tests.{not-true, not-false}
 use borrow.Author.Needs.{needs}
 use Rattle.sets.proofs.Bools.{clash}
-use Rattle.build_chains_spec.proofs.Growth.{grown-none, grown-as}
-use Rattle.build_closure_spec.proofs.Starting.{few, initial-low, vector-low, start-is, first-is, first-low}
+use Rattle.build_spec.proofs.Growth.{grown-none, grown-as}
+use Rattle.build_spec.proofs.Starting.{few, initial-low, vector-low, start-is, first-is, first-low}
 use Rattle.build_visit.proofs.initial.visit_first.Statement.{statement}
 use Rattle.build_visit.proofs.initial.visit_first.Tie as tie
 

@@ -3,8 +3,8 @@ use mathlib.Core.Path.{sym, _∙_}
 use native.Mathlib.Omega.{arith}
 use lib.Bits.{and-mask}
 use borrow.Author.Needs.{needs}
-use Rattle.build_chains_spec.proofs.Growth.{grown-none, grown-as}
-use Rattle.build_closure_spec.proofs.Moves.{key-onward}
+use Rattle.build_spec.proofs.Growth.{grown-none, grown-as}
+use Rattle.build_spec.proofs.Moves.{key-onward}
 use Rattle.build_visit.proofs.letters.move_key.Statement.{statement}
 use Rattle.build_visit.proofs.letters.move_key.Tie as tie
 

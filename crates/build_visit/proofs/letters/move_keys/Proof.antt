@@ -2,9 +2,9 @@
 use mathlib.Core.Path.{_∙_}
 use native.Mathlib.Omega.{arith}
 use borrow.Author.Needs.{needs}
-use Rattle.build_breakpoint.specs.Onward.{onwardIn}
-use Rattle.build_chains_spec.proofs.Walks.{walk-inside}
-use Rattle.build_closure_spec.proofs.Moves.{Turn, turn-start, turn-paired, turn-less, turn-stop, turn-full, turn-end, turn-next}
+use Rattle.build_cores.specs.Onward.{onwardIn}
+use Rattle.build_spec.proofs.Walks.{walk-inside}
+use Rattle.build_spec.proofs.Moves.{Turn, turn-start, turn-paired, turn-less, turn-stop, turn-full, turn-end, turn-next}
 use Rattle.build_visit.proofs.letters.move_keys.Statement.{statement}
 use Rattle.build_visit.proofs.letters.move_keys.Tie as tie
 

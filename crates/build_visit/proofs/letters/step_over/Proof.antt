@@ -1,8 +1,8 @@
 -- `build_visit::letters::step_over` meets its contract.
 use native.Mathlib.Omega.{arith}
 use borrow.Author.Needs.{needs}
-use Rattle.build_closure_spec.proofs.Starting.{few, vector-low}
-use Rattle.build_closure_spec.proofs.Letters.{rises, ranks-fit, stepping}
+use Rattle.build_spec.proofs.Starting.{few, vector-low}
+use Rattle.build_spec.proofs.Letters.{rises, ranks-fit, stepping}
 use Rattle.build_visit.proofs.letters.step_over.Statement.{statement}
 use Rattle.build_visit.proofs.letters.step_over.Tie as tie
 

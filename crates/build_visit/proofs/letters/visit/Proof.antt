@@ -9,13 +9,13 @@ use borrow.Author.Needs.{needs}
 use Rattle.sets.proofs.Bools.{clash}
 use Rattle.theory.specs.Rule.{Rule}
 use Rattle.theory.specs.Automaton.{automaton}
-use Rattle.build_chains_spec.specs.Growth.{Grown, After}
-use Rattle.build_chains_spec.proofs.Growth.{Upto, grown-none, grown-as, all-kept, after-kept, upto-start, upto-next, upto-full}
-use Rattle.build_closure_spec.specs.Keys.{LeadsOver}
-use Rattle.build_closure_spec.specs.Reached.{ReachedKey, AllReached}
-use Rattle.build_closure_spec.specs.Tables.{RuleTables}
-use Rattle.build_closure_spec.proofs.Starting.{few}
-use Rattle.build_closure_spec.proofs.Letters.{letters-out}
+use Rattle.build_spec.specs.Growth.{Grown, After}
+use Rattle.build_spec.proofs.Growth.{Upto, grown-none, grown-as, all-kept, after-kept, upto-start, upto-next, upto-full}
+use Rattle.build_spec.specs.Keys.{LeadsOver}
+use Rattle.build_spec.specs.Reached.{ReachedKey, AllReached}
+use Rattle.build_spec.specs.Tables.{RuleTables}
+use Rattle.build_spec.proofs.Starting.{few}
+use Rattle.build_spec.proofs.Letters.{letters-out}
 use Rattle.build_visit.proofs.letters.visit.Statement.{statement}
 use Rattle.build_visit.proofs.letters.visit.Tie as tie
 

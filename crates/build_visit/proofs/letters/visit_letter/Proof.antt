@@ -4,10 +4,10 @@ use native.Mathlib.Omega.{arith}
 use lib.ListN.{getD}
 use lib.Bits.{bitXor}
 use borrow.Author.Needs.{needs}
-use Rattle.build_chains_spec.proofs.Growth.{grown-none, grown-as}
-use Rattle.build_closure_spec.proofs.Link.{key-paired}
-use Rattle.build_closure_spec.proofs.Starting.{few}
-use Rattle.build_closure_spec.proofs.Letters.{stepping-fits, leads-in, leads-out, nothing-new, led}
+use Rattle.build_spec.proofs.Growth.{grown-none, grown-as}
+use Rattle.build_spec.proofs.Link.{key-paired}
+use Rattle.build_spec.proofs.Starting.{few}
+use Rattle.build_spec.proofs.Letters.{stepping-fits, leads-in, leads-out, nothing-new, led}
 use Rattle.build_visit.proofs.letters.visit_letter.Statement.{statement}
 use Rattle.build_visit.proofs.letters.visit_letter.Tie as tie
 

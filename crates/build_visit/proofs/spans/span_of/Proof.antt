@@ -1,8 +1,8 @@
 -- `build_visit::spans::span_of` meets its contract.
 use native.Mathlib.Omega.{arith}
 use borrow.Author.Needs.{needs}
-use Rattle.build_closure_spec.proofs.Sets.{base-le, span-of}
-use Rattle.build_closure_spec.proofs.Starting.{few}
+use Rattle.build_spec.proofs.Sets.{base-le, span-of}
+use Rattle.build_spec.proofs.Starting.{few}
 use Rattle.build_visit.proofs.spans.span_of.Statement.{statement}
 use Rattle.build_visit.proofs.spans.span_of.Tie as tie
 

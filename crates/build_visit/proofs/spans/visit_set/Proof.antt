@@ -12,14 +12,14 @@ use Rattle.theory.specs.Automaton.{automaton}
 use Rattle.build_cores.specs.Vectors.{Within}
 use Rattle.build_cores.proofs.Next.{within-next}
 use Rattle.build_cores.proofs.Vectors.{within-zero, within-le, within-lt}
-use Rattle.build_chains_spec.specs.Growth.{Grown}
-use Rattle.build_chains_spec.proofs.Growth.{Upto, grown-none, grown-as, all-kept, after-kept, upto-start, upto-full}
-use Rattle.build_closure_spec.specs.declared.Shape.{Shape}
-use Rattle.build_closure_spec.specs.Keys.{Leads, LeadsAt}
-use Rattle.build_closure_spec.specs.Reached.{ReachedKey, AllReached}
-use Rattle.build_closure_spec.specs.Tables.{RuleTables}
-use Rattle.build_closure_spec.proofs.Sets.{open-and, nothing-fresh}
-use Rattle.build_closure_spec.proofs.Walk.{walk-less, walk-next, walk-end}
+use Rattle.build_spec.specs.Growth.{Grown}
+use Rattle.build_spec.proofs.Growth.{Upto, grown-none, grown-as, all-kept, after-kept, upto-start, upto-full}
+use Rattle.build_spec.specs.declared.Shape.{Shape}
+use Rattle.build_spec.specs.Keys.{Leads, LeadsAt}
+use Rattle.build_spec.specs.Reached.{ReachedKey, AllReached}
+use Rattle.build_spec.specs.Tables.{RuleTables}
+use Rattle.build_spec.proofs.Sets.{open-and, nothing-fresh}
+use Rattle.build_spec.proofs.Walk.{walk-less, walk-next, walk-end}
 use Rattle.build_visit.proofs.spans.visit_set.Statement.{statement}
 use Rattle.build_visit.proofs.spans.visit_set.Tie as tie
 

@@ -9,7 +9,7 @@ use Rattle.table_lent.specs.Lent.{wordsIn}
 use Rattle.table_lent.proofs.Reading.{words-in-length}
 use Rattle.live_spec.specs.State.{setAt}
 use Rattle.live_spec.specs.Effects.{put, withSet}
-use Rattle.live_letters.proofs.Puts.{put-mid}
+use Rattle.live_set.proofs.Puts.{put-mid}
 use Rattle.live_state.proofs.Replays.{initial-long}
 use borrow.Author.Needs.{needs}
 use Rattle.live_state.proofs.set_part.begin.Statement.{statement}

@@ -8,7 +8,7 @@ use lib.Seq.{length-take-le}
 use Rattle.table_lent.specs.Lent.{wordsIn}
 use Rattle.live_spec.specs.State.{setAt}
 use Rattle.live_spec.specs.Effects.{put, withSet}
-use Rattle.live_letters.proofs.Puts.{put-mid}
+use Rattle.live_set.proofs.Puts.{put-mid}
 use Rattle.live_state.proofs.Replays.{step-part, step-long}
 use borrow.Author.Needs.{needs}
 use Rattle.live_state.proofs.set_part.step.Statement.{statement}

@@ -1,0 +1,13 @@
+pub mod ListedTables
+pub mod Joined
+pub mod BuiltTables
+pub mod TrimmedTables
+pub mod Spellings
+pub mod Served
+pub mod Round
+pub mod Verdicts
+pub mod Words
+pub mod Tables
+pub mod Logs
+pub mod Rules
+pub mod Compared

@@ -1,4 +1,0 @@
-pub mod Keys
-pub mod Reached
-pub mod Tables
-pub mod Sets

@@ -1,0 +1,86 @@
+-- `build_cores::opens::open_before` meets its contract.
+use Prim.Native.Nat.{ℕ, _+_, _-_, _*_, _^_, _<_, _≤_}
+use mathlib.Core.Path.{_≡_, ap, ap₂, _∙_}
+use mathlib.Core.Bool.{Bool}
+use native.Mathlib.Omega.{arith}
+use lib.Bits.{bitXor}
+use Rattle.sets.specs.Tests.{one}
+use Rattle.sets.specs.Masks.{bit, mask}
+use Rattle.theory.specs.Rule.{entry, satisfies}
+use Rattle.rule_entries.specs.Entries.{ruleOf}
+use Rattle.rule_entries.proofs.Entries.{accepting-small}
+use Rattle.build_cores.proofs.Table.{metBy, mask-start, mask-more, mask-fits, place-is}
+use Rattle.build_cores.proofs.opens.open_before.Statement.{statement}
+use Rattle.build_cores.proofs.opens.open_before.Tie as tie
+
+abbrev Inv-loop : tie.InvT-loop
+Inv-loop h counts starts clauses letter opened accepting set found₀ q₀ found q = (q ≤ h .n) × (found ≡ mask q (metBy (ruleOf h counts clauses) letter opened))
+
+abbrev μ-loop : tie.MeasureT-loop
+μ-loop h counts starts clauses letter opened accepting set found₀ q₀ found q = h .n - q
+
+cast-accepting : tie.Need-cast-accepting Inv-loop μ-loop
+cast-accepting c =
+    let a = c .before .before .before .args in
+    omega (arith, accepting-small (ruleOf (a .h) (a .counts .now) (a .clauses .now)) (c .before .before .before .pre .0))
+
+loop-holds : tie.Need-loop-holds Inv-loop μ-loop
+loop-holds c = let a = c .before .before .before .args in (omega arith, mask-start (metBy (ruleOf (a .h) (a .counts .now) (a .clauses .now)) (a .letter) (a .opened)))
+
+satisfied-requires : tie.Need-satisfied-requires Inv-loop μ-loop
+satisfied-requires c κs = let p = c .before .before .before .before .before .before .pre in (p .0, p .1, c .if1 .taken, p .2)
+
+marked-requires : tie.Need-marked-requires Inv-loop μ-loop
+marked-requires c κs =
+    let start = c .before .before .before .before .before .before .before in
+    omega (arith, c .before .if1 .taken, start .pre .0 .few-states)
+
+abbrev start-of-after-marked : tie.After-marked Inv-loop μ-loop → tie.Start Inv-loop μ-loop
+start-of-after-marked c = c .before .before .before .before .before .before .before .before
+
+-- one state more
+more : (c : tie.After-marked Inv-loop μ-loop) → c .before .before .before .before .loop .found + c .marked .result
+    ≡ mask (c .before .before .before .before .loop .q + 1) (metBy (ruleOf (start-of-after-marked c .args .h) (start-of-after-marked c .args .counts .now)
+    (start-of-after-marked c .args .clauses .now)) (start-of-after-marked c .args .letter) (start-of-after-marked c .args .opened))
+more c =
+    let a = start-of-after-marked c .args in
+    let l = c .before .before .before .before .loop in
+    let f = metBy (ruleOf (a .h) (a .counts .now) (a .clauses .now)) (a .letter) (a .opened) in
+    let fact : c .before .satisfied .result ≡ satisfies (a .h .n) (bit (bitXor (a .opened) (a .h .accepting))) (entry (ruleOf (a .h) (a .counts .now) (a .clauses .now)) (l .q) (a .letter)) =
+    c .before .satisfied .ensures in
+    ap₂ (λ (x y : ℕ). x + y) (l .inv .1) (c .marked .ensures ∙ ap (λ (b : Bool). one b * 2 ^ l .q) fact) ∙ mask-more (l .q) f
+
+fits : (c : tie.After-marked Inv-loop μ-loop) → mask (c .before .before .before .before .loop .q + 1)
+    (metBy (ruleOf (start-of-after-marked c .args .h) (start-of-after-marked c .args .counts .now) (start-of-after-marked c .args .clauses .now)) (start-of-after-marked c .args .letter)
+    (start-of-after-marked c .args .opened)) < 256
+fits c =
+    let a = start-of-after-marked c .args in
+    mask-fits (c .before .before .before .before .loop .q) (metBy (ruleOf (a .h) (a .counts .now) (a .clauses .now)) (a .letter) (a .opened))
+    (omega (arith, c .before .before .if1 .taken, start-of-after-marked c .pre .0 .few-states))
+
+add-found : tie.Need-add-found Inv-loop μ-loop
+add-found c = omega (arith, more c, fits c)
+
+add-q : tie.Need-add-q Inv-loop μ-loop
+add-q c =
+    let start = c .before .before .before .before .before .before .before .before in
+    omega (arith, c .before .before .if1 .taken, start .pre .0 .few-states)
+
+loop-less : tie.Need-loop-less Inv-loop μ-loop
+loop-less c = omega (arith, c .before .before .if1 .taken)
+
+loop-again : tie.Need-loop-again Inv-loop μ-loop
+loop-again c = (omega (arith, c .before .before .if1 .taken), more c)
+
+returns : tie.Need-returns Inv-loop μ-loop
+returns c =
+    let a = c .before .before .before .before .before .before .args in let l = c .before .before .loop in
+    let e : l .q ≡ a .h .n = omega (arith, l .inv .0, c .if1 .left) in
+    let r = ruleOf (a .h) (a .counts .now) (a .clauses .now) in
+    ap (λ (x : ℕ). bitXor x (a .h .accepting)) (l .inv .1 ∙ ap (λ (n : ℕ). mask n (metBy r (a .letter) (a .opened))) e)
+    ∙ place-is r (c .before .before .before .before .before .before .pre .0) (a .letter) (a .opened)
+
+pub open-before-spec : {M : Type 1} → statement M
+open-before-spec =
+    tie.close (tie.spec
+    Inv-loop μ-loop cast-accepting loop-holds satisfied-requires marked-requires add-found add-q loop-less loop-again returns)

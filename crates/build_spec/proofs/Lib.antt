@@ -1,0 +1,16 @@
+pub mod Chains
+pub mod Growth
+pub mod Walks
+pub mod Keys
+pub mod Link
+pub mod Starting
+pub mod Letters
+pub mod Moves
+pub mod Distinct
+pub mod Sets
+pub mod Walk
+pub mod Emission
+pub mod Sources
+pub mod Cores
+pub mod Chaining
+pub mod Listing

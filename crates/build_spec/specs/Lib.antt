@@ -1,0 +1,7 @@
+pub mod Chains
+pub mod Growth
+pub mod Keys
+pub mod Reached
+pub mod Tables
+pub mod Sets
+pub mod Emission

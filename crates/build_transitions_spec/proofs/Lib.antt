@@ -1,5 +1,0 @@
-pub mod Emission
-pub mod Sources
-pub mod Cores
-pub mod Chaining
-pub mod Listing

@@ -1,1 +1,0 @@
-// Definitions and laws of the transitions between listed codes.

@@ -1,1 +1,0 @@
-// What the trimmed build answers, with rule D as the worked example.

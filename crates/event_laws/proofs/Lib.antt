@@ -1,4 +1,0 @@
-pub mod Ranges
-pub mod Lines
-pub mod Rows
-pub mod Words

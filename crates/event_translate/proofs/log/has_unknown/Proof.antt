@@ -1,0 +1,78 @@
+-- `event_translate::log::has_unknown` meets its contract.
+use Prim.Native.Nat.{ℕ, _+_, _-_, _*_, _≤_, _<_}
+use mathlib.Core.Path.{_≡_, refl, sym, _∙_}
+use mathlib.Core.Bool.{false, not}
+use mathlib.Core.List.{List}
+use native.Mathlib.Omega.{arith}
+use Rattle.sets.specs.Tests.{someBelow}
+use Rattle.event_spec.specs.Events.{eventCount, kindAt, driveAt, known}
+use Rattle.event_table.specs.Masks.{Masks}
+use Rattle.event_translate.proofs.Letters.{in-none, in-some, unknown-here, known-next, known-all}
+use borrow.Author.Needs.{needs}
+use Rattle.event_translate.proofs.log.has_unknown.Statement.{statement}
+use Rattle.event_translate.proofs.log.has_unknown.Tie as tie
+
+abbrev Inv-loop : tie.InvT-loop
+Inv-loop kinds drives log n k₀ k =
+    (k ≤ eventCount log) × ((t : List ℕ) → Masks t kinds drives → someBelow k (λ z. not (known t log z)) ≡ false)
+
+abbrev μ-loop : tie.MeasureT-loop
+μ-loop kinds drives log n k₀ k = eventCount log - k
+
+loop-holds : tie.Need-loop-holds Inv-loop μ-loop
+unfolding someBelow
+loop-holds c = (omega arith, λ t m. refl)
+
+mul-lines-of : tie.Need-mul-lines-of Inv-loop μ-loop
+mul-lines-of c = omega (arith, c .loop-test .taken)
+
+shared-slice-read-lines-of : tie.Need-shared-slice-read-lines-of Inv-loop μ-loop
+shared-slice-read-lines-of c = omega (arith, c .before .loop-test .taken)
+
+mul-lines-of-2 : tie.Need-mul-lines-of-2 Inv-loop μ-loop
+mul-lines-of-2 c = omega (arith, c .before .loop-test .taken)
+
+add-lines-of : tie.Need-add-lines-of Inv-loop μ-loop
+add-lines-of c = omega (arith, c .before .loop-test .taken)
+
+shared-slice-read-lines-of-2 : tie.Need-shared-slice-read-lines-of-2 Inv-loop μ-loop
+shared-slice-read-lines-of-2 c = omega (arith, c .before .before .loop-test .taken)
+
+returns : tie.Need-returns Inv-loop μ-loop
+returns c =
+    let start = c .before .before .before .before .before .before .before in
+    λ t m.
+    let a = start .args in
+    let l = c .before .before .before .before .before .loop in
+    let byte = c .before .before .shared-slice-known3 .given in
+    sym (unknown-here t (a .log .now) (l .k) (c .before .before .before .before .loop-test .taken)
+    (in-none t (a .kinds .now) (a .drives .now) (a .log .now) m (l .k) (byte (2 * l .k) .fits) (byte (2 * l .k + 1) .fits) (sym (c .before .lines-of .ensures) ∙ c .if1 .taken)))
+
+add-k : tie.Need-add-k Inv-loop μ-loop
+add-k c = omega (arith, c .before .before .before .before .loop-test .taken)
+
+loop-less : tie.Need-loop-less Inv-loop μ-loop
+loop-less c = omega (arith, c .before .before .before .before .loop-test .taken)
+
+loop-again : tie.Need-loop-again Inv-loop μ-loop
+loop-again c =
+    let start = c .before .before .before .before .before .before .before in
+    let a = start .args in
+    let l = c .before .before .before .before .before .loop in
+    let byte = c .before .before .shared-slice-known3 .given in (
+      omega (arith, c .before .before .before .before .loop-test .taken),
+      λ t m. known-next t (a .log .now) (l .k) (l .inv .1 t m)
+          (in-some t (a .kinds .now) (a .drives .now) (a .log .now) m (l .k) (byte (2 * l .k) .fits) (byte (2 * l .k + 1) .fits) (λ z. c .if1 .left (c .before .lines-of .ensures ∙ z))),
+    )
+
+returns-2 : tie.Need-returns-2 Inv-loop μ-loop
+returns-2 c = λ t m.
+    let a = c .before .before .before .args in
+    let l = c .before .loop in
+    sym (known-all t (a .log .now) (l .k) (omega (arith, l .inv .0, c .loop-test .left)) (l .inv .1 t m))
+
+pub has-unknown-spec : {M : Type 1} → statement M
+has-unknown-spec =
+    tie.close (tie.spec
+    Inv-loop μ-loop loop-holds mul-lines-of shared-slice-read-lines-of mul-lines-of-2 add-lines-of shared-slice-read-lines-of-2 (λ c κs. search needs) returns
+    add-k loop-less loop-again returns-2)

@@ -1,1 +1,0 @@
-// A built table through the text for other tools and back.

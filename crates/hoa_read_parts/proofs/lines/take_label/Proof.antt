@@ -1,0 +1,107 @@
+-- `hoa_read_parts::lines::take_label` meets its contract: the literals of the first i propositions were read.
+use Prim.Native.Nat.{_+_, _-_, _≤_}
+use native.Mathlib.Omega.{arith}
+use Rattle.hoa_laws.proofs.Labels.{Labelled, label-none, label-no-first, labelled-first, label-no-sign, label-no-literal, labelled-next, label-done, letter-small}
+use borrow.Author.Needs.{needs}
+use Rattle.hoa_read_parts.proofs.lines.take_label.Statement.{statement}
+use Rattle.hoa_read_parts.proofs.lines.take_label.Tie as tie
+
+abbrev Inv-loop : tie.InvT-loop
+Inv-loop text p b letter₀ end₀ i₀ letter end i = (i ≤ b) × Labelled text p i letter end
+
+abbrev μ-loop : tie.MeasureT-loop
+μ-loop text p b letter₀ end₀ i₀ letter end i = b - i
+
+take-byte-requires : tie.Need-take-byte-requires Inv-loop μ-loop
+take-byte-requires c κs = (c .before .before .pre .0, omega arith)
+
+returns : tie.Need-returns Inv-loop μ-loop
+returns c =
+    let a = c .before .before .before .args in
+    let A = c .take-byte in
+    (label-none (a .text .now) (a .p) (A .result) (A .ensures .0) (a .b) (c .before .if1 .taken), λ l. A .ensures .1 (omega arith) l)
+
+take-literal-requires : tie.Need-take-literal-requires Inv-loop μ-loop
+take-literal-requires c κs = (c .before .before .pre .0, omega arith, omega arith)
+
+returns-2 : tie.Need-returns-2 Inv-loop μ-loop
+returns-2 c =
+    let a = c .before .before .before .before .before .args in
+    let L = c .before .before .take-literal in (
+      label-no-first (a .text .now) (a .p) (a .b) (omega arith) (omega arith) (L .result .value) (L .result .end) (L .ensures .0) (c .before .if2 .taken) (c .nothing .ensures .1),
+      λ l. absurd (omega (arith, c .nothing .ensures .1)),
+    )
+
+loop-holds : tie.Need-loop-holds Inv-loop μ-loop
+loop-holds c =
+    let a = c .before .before .before .before .args in
+    let L = c .before .take-literal in (
+      omega arith,
+      labelled-first (a .text .now) (a .p) (a .b) (omega arith) (omega arith) (L .result .value) (L .result .end) (L .ensures .0) (omega arith) (L .ensures .1 (omega arith)),
+    )
+
+take-byte-requires-2 : tie.Need-take-byte-requires-2 Inv-loop μ-loop
+take-byte-requires-2 c κs = (c .before .before .before .before .before .before .pre .0, c .before .loop .inv .1 .within)
+
+returns-3 : tie.Need-returns-3 Inv-loop μ-loop
+returns-3 c =
+    let start = c .before .before .before .before .before .before .before .before .before in
+    let a = start .args in
+    let l = c .before .before .before .before .loop in
+    let A = c .before .before .take-byte2 in (
+      label-no-sign (a .text .now) (a .p) (a .b) (omega arith) (l .i) (l .letter) (l .end) (l .inv .1) (omega arith) (A .result) (A .ensures .0) (c .before .if3 .taken) (c .nothing2 .ensures .1),
+      λ l. absurd (omega (arith, c .nothing2 .ensures .1)),
+    )
+
+take-literal-requires-2 : tie.Need-take-literal-requires-2 Inv-loop μ-loop
+take-literal-requires-2 c κs =
+    let start = c .before .before .before .before .before .before .before .before in
+    (start .pre .0, c .before .take-byte2 .ensures .1 (omega arith) (omega arith), omega arith)
+
+returns-4 : tie.Need-returns-4 Inv-loop μ-loop
+returns-4 c =
+    let start = c .before .before .before .before .before .before .before .before .before .before .before in
+    let a = start .args in
+    let l = c .before .before .before .before .before .before .loop in
+    let A = c .before .before .before .before .take-byte2 in
+    let L = c .before .before .take-literal2 in (
+      label-no-literal (a .text .now) (a .p) (a .b) (omega arith) (l .i) (l .letter) (l .end) (l .inv .1) (omega arith) (A .result) (A .ensures .0) (omega arith)
+          (L .result .value) (L .result .end) (L .ensures .0) (c .before .if4 .taken) (c .nothing3 .ensures .1),
+      λ l. absurd (omega (arith, c .nothing3 .ensures .1)),
+    )
+
+abbrev start-of-after-struct-known : tie.After-struct-known Inv-loop μ-loop → tie.Start Inv-loop μ-loop
+start-of-after-struct-known c = c .before .before .before .before .before .before .before .before .before .before .before
+
+-- one literal more
+next : (c : tie.After-struct-known Inv-loop μ-loop) → let l = c .before .before .before .before .before .before .loop in let L = c .before .before .take-literal2 .result in
+    Labelled (start-of-after-struct-known c .args .text .now) (start-of-after-struct-known c .args .p) (l .i + 1) (l .letter + L .value) (L .end)
+next c =
+    let a = start-of-after-struct-known c .args in
+    let l = c .before .before .before .before .before .before .loop in
+    let A = c .before .before .before .before .take-byte2 in
+    let L = c .before .before .take-literal2 in
+    labelled-next (a .text .now) (a .p) (a .b) (omega arith) (l .i) (l .letter) (l .end) (l .inv .1) (omega arith) (A .result) (A .ensures .0) (omega arith)
+    (L .result .value) (L .result .end) (L .ensures .0) (omega arith) (L .ensures .1 (omega arith))
+
+add-letter : tie.Need-add-letter Inv-loop μ-loop
+add-letter c = let I = next c in omega (
+  arith,
+  letter-small (c .before .before .before .before .before .before .loop .i + 1)
+      (c .before .before .before .before .before .before .loop .letter + c .before .before .take-literal2 .result .value) (omega arith) (I .small),
+)
+
+loop-again : tie.Need-loop-again Inv-loop μ-loop
+loop-again c = (omega arith, next c)
+
+returns-5 : tie.Need-returns-5 Inv-loop μ-loop
+returns-5 c =
+    let a = c .before .before .before .before .before .before .args in
+    let l = c .before .loop in
+    (label-done (a .text .now) (a .p) (a .b) (omega arith) (l .i) (l .letter) (l .end) (l .inv .1) (omega arith), λ z. l .inv .1 .within)
+
+pub take-label-spec : {M : Type 1} → statement M
+take-label-spec =
+    tie.close (tie.spec
+    Inv-loop μ-loop take-byte-requires returns take-literal-requires (λ c κs. search needs) returns-2 loop-holds take-byte-requires-2 (λ c κs. search needs)
+    returns-3 take-literal-requires-2 (λ c κs. search needs) returns-4 add-letter (λ c. omega arith) (λ c. omega arith) loop-again returns-5)

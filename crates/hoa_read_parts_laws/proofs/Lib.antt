@@ -1,4 +1,0 @@
-pub mod Lists
-pub mod Starting
-pub mod Edging
-pub mod Blocking

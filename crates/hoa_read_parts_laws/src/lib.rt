@@ -1,1 +1,0 @@
-// What is read of a table's text, part by part.

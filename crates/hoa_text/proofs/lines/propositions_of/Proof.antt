@@ -1,0 +1,23 @@
+-- `hoa_text::lines::propositions_of` meets its contract.
+use native.Mathlib.Omega.{arith}
+use Rattle.hoa_text.proofs.Propositions.{none-needed, one-needed, two-needed, three-needed, four-needed}
+use Rattle.hoa_text.proofs.lines.propositions_of.Statement.{statement}
+use Rattle.hoa_text.proofs.lines.propositions_of.Tie as tie
+
+returns : tie.Need-returns
+returns c = (none-needed (c .before .args .s) (c .if1 .taken), omega arith)
+
+returns-2 : tie.Need-returns-2
+returns-2 c = (one-needed (c .before .before .args .s) (omega arith) (c .if2 .taken), omega arith)
+
+returns-3 : tie.Need-returns-3
+returns-3 c = (two-needed (c .before .before .before .args .s) (omega arith) (c .if3 .taken), omega arith)
+
+returns-4 : tie.Need-returns-4
+returns-4 c = (three-needed (c .before .before .before .before .args .s) (omega arith) (c .if4 .taken), omega arith)
+
+returns-5 : tie.Need-returns-5
+returns-5 c = (four-needed (c .before .before .before .before .args .s) (omega arith) (c .before .before .before .before .pre), omega arith)
+
+pub propositions-of-spec : {M : Type 1} → statement M
+propositions-of-spec = tie.close (tie.spec returns returns-2 returns-3 returns-4 returns-5)

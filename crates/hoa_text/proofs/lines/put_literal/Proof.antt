@@ -1,0 +1,37 @@
+-- `hoa_text::lines::put_literal` meets its contract: the proposition, or `!` and it.
+use mathlib.Core.Path.{_≡_, ap}
+use native.Mathlib.Omega.{arith}
+use borrow.Author.Needs.{needs}
+use lib.ListN.{length}
+use Rattle.slice_text.proofs.Puts.{put-as, put-then}
+use Rattle.hoa_text.proofs.Labels.{set-literal, unset-literal}
+use Rattle.hoa_text.proofs.lines.put_literal.Statement.{statement}
+use Rattle.hoa_text.proofs.lines.put_literal.Tie as tie
+
+put-byte-requires : tie.Need-put-byte-requires
+put-byte-requires c κs = let a = c .before .before .before .args in omega (arith, ap length (set-literal (a .letter) (a .i) (c .before .if1 .taken)))
+
+returns : tie.Need-returns
+returns c = let a = c .before .before .before .before .before .before .args in
+    put-as (set-literal (a .letter) (a .i) (c .before .before .before .before .if1 .taken)) (c .before .before .put-byte .ensures)
+
+put-byte-requires-2 : tie.Need-put-byte-requires-2
+put-byte-requires-2 c κs = let a = c .before .before .before .args in omega (arith, ap length (unset-literal (a .letter) (a .i) (c .before .if1 .left)))
+
+put-byte-requires-3 : tie.Need-put-byte-requires-3
+put-byte-requires-3 c κs =
+    let start = c .before .before .before .before .before .before .before in
+    let a = start .args in omega (arith, ap length (unset-literal (a .letter) (a .i) (c .before .before .before .before .before .if1 .left)))
+
+returns-2 : tie.Need-returns-2
+returns-2 c =
+    let at-if1 = c .before .before .before .before .before .before .before .before in
+    let start = at-if1 .before .before in
+    let a = start .args in
+    put-as (unset-literal (a .letter) (a .i) (at-if1 .if1 .left)) (put-then (c .before .before .before .before .before .before .put-byte2 .ensures) (c .before .before .put-byte3 .ensures))
+
+pub put-literal-spec : {M : Type 1} → statement M
+put-literal-spec =
+    tie.close (tie.spec
+    (λ c. search needs) (λ c. search needs) (λ c. search needs) put-byte-requires (λ c. search needs) returns put-byte-requires-2 put-byte-requires-3
+    (λ c. search needs) returns-2)

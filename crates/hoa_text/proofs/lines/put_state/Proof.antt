@@ -1,0 +1,62 @@
+-- `hoa_text::lines::put_state` meets its contract: its words one after the other.
+use mathlib.Core.Path.{_≡_, ap}
+use mathlib.Core.Bool.{Bool, true, false}
+use native.Mathlib.Omega.{arith}
+use borrow.Author.Needs.{needs}
+use Prim.Native.Nat.{ℕ}
+use lib.ListN.{length}
+use Rattle.hoa_spec.specs.Lines.{acceptanceMark, stateLine}
+use Rattle.hoa_laws.proofs.Lengths.{state-length}
+use Rattle.slice_text.proofs.Puts.{put-as, put-then}
+use Rattle.hoa_text.proofs.lines.put_state.Statement.{statement}
+use Rattle.hoa_text.proofs.lines.put_state.Tie as tie
+
+-- the line of an accepting macrostate, or of another
+line-is : (accepting value : Bool) (number : ℕ) → accepting ≡ value → stateLine number accepting ≡ stateLine number value
+line-is accepting value number e = ap (stateLine number) e
+
+put-requires : tie.Need-put-requires
+put-requires c κs = let a = c .before .before .before .args in omega (arith, state-length (a .number) (a .accepting))
+
+put-number-requires : tie.Need-put-number-requires
+put-number-requires c κs =
+    let start = c .before .before .before .before .before .before .before in
+    let a = start .args in omega (arith, state-length (a .number) (a .accepting))
+
+put-requires-2 : tie.Need-put-requires-2
+put-requires-2 c κs =
+    let start = c .before .before .before .before .before .before .before .before .before .before .before .before .before in
+    let a = start .args in
+    omega (arith, state-length (a .number) true, ap length (line-is (a .accepting) true (a .number) (c .before .before .if1 .taken)))
+
+returns : tie.Need-returns
+unfolding stateLine
+returns c =
+    let at-put-number = c .before .before .before .before .before .before .before .before in
+    let at-put = at-put-number .before .before .before .before in
+    let start = at-put .before .before .before .before in
+    let a = start .args in
+    put-as (line-is (a .accepting) true (a .number) (c .before .before .before .before .before .if1 .taken))
+    (put-then (at-put .put .ensures) (put-then (at-put-number .put-number .ensures) (c .before .before .put2 .ensures)))
+
+put-byte-requires : tie.Need-put-byte-requires
+put-byte-requires c κs =
+    let start = c .before .before .before .before .before .before .before .before .before .before .before .before in
+    let a = start .args in
+    omega (arith, state-length (a .number) false, ap length (line-is (a .accepting) false (a .number) (c .before .if1 .left)))
+
+returns-2 : tie.Need-returns-2
+unfolding stateLine
+returns-2 c =
+    let at-put-number = c .before .before .before .before .before .before .before in
+    let at-put = at-put-number .before .before .before .before in
+    let start = at-put .before .before .before .before in
+    let a = start .args in
+    put-as (line-is (a .accepting) false (a .number) (c .before .before .before .before .if1 .left))
+    (put-then (at-put .put .ensures) (put-then (at-put-number .put-number .ensures) (c .before .before .put-byte .ensures)))
+
+pub put-state-spec : {M : Type 1} → statement M
+put-state-spec =
+    tie.close (tie.spec
+    (λ c. search needs) put-requires put-number-requires (λ c. search needs) put-requires-2 (λ c. search needs) returns put-byte-requires (λ c. search needs)
+    returns-2)

@@ -1,6 +1,0 @@
-pub mod Leaving
-pub mod Meaning
-pub mod Tries
-pub mod Rounds
-pub mod Places
-pub mod Filled

@@ -1,4 +1,0 @@
-pub mod ListedTables
-pub mod Joined
-pub mod BuiltTables
-pub mod TrimmedTables

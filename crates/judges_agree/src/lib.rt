@@ -1,1 +1,0 @@
-// The build and both judges together: theorems on built tables, no code.

@@ -1,1 +1,0 @@
-// Both judges and the spellings of a word: theorems, no code.

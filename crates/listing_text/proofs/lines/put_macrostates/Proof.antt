@@ -1,0 +1,75 @@
+-- `listing_text::lines::put_macrostates` meets its contract: the lines of the first i codes are written.
+use Prim.Native.Nat.{_≤_, _-_}
+use mathlib.Core.Path.{_≡_, ap₂}
+use mathlib.Core.Bool.{Bool}
+use native.Mathlib.Omega.{arith}
+use borrow.Author.Needs.{needs, scaled-fits}
+use lib.ListN.{length, take, getD}
+use Rattle.listing_lines_spec.specs.Lines.{initialAt, mLine, macrostateLine, macrostateLines}
+use Rattle.slice_text.specs.Put.{Put}
+use Rattle.slice_text.proofs.Puts.{put-length}
+use Rattle.listing_lines_spec.proofs.Lines.{room-line, put-line, put-no-lines, put-lines}
+use Rattle.listing_text.proofs.lines.put_macrostates.Statement.{statement}
+use Rattle.listing_text.proofs.lines.put_macrostates.Tie as tie
+
+abbrev Inv-loop : tie.InvT-loop
+Inv-loop out₀ at list initial end₀ i₀ out end i = (i ≤ length list) × Put out₀ at (macrostateLines (initialAt initial) (take i list)) out end
+
+abbrev μ-loop : tie.MeasureT-loop
+μ-loop out₀ at list initial end₀ i₀ out end i = length list - i
+
+loop-holds : tie.Need-loop-holds Inv-loop μ-loop
+loop-holds c =
+    let a = c .before .before .args in
+    (omega arith, put-no-lines (macrostateLine (initialAt (a .initial))) (a .list .now) (a .out .now) (a .at) (c .before .before .pre .1))
+
+mul-code : tie.Need-mul-code Inv-loop μ-loop
+mul-code c =
+    let s = c .before .before .before .before in
+    scaled-fits _ (length (s .args .list .now)) 8 (omega arith) (s .good .1 .1 .0 .1)
+
+is-initial-requires : tie.Need-is-initial-requires Inv-loop μ-loop
+is-initial-requires c κs = c .before .before .before .before .before .pre .0
+
+abbrev start-of-after-is-accepting : tie.After-is-accepting Inv-loop μ-loop → tie.Start Inv-loop μ-loop
+start-of-after-is-accepting c = c .before .before .before .before .before .before .before
+
+-- the line that is written
+text-is : (c : tie.After-is-accepting Inv-loop μ-loop) → let a = start-of-after-is-accepting c .args in let i = c .before .before .before .before .loop .i in
+    mLine i (getD (a .list .now) i 0) (c .before .is-initial .result) (c .is-accepting .result) ≡ macrostateLine (initialAt (a .initial)) i (getD (a .list .now) i 0)
+text-is c =
+    let a = start-of-after-is-accepting c .args in let i = c .before .before .before .before .loop .i in
+    ap₂ (λ (p q : Bool). mLine i (getD (a .list .now) i 0) p q) (c .before .is-initial .ensures) (c .is-accepting .ensures)
+
+put-macrostate-requires : tie.Need-put-macrostate-requires Inv-loop μ-loop
+put-macrostate-requires c κs =
+    let start = c .before .before .before .before .before .before .before .before in
+    let a = start .args in
+    let l = c .before .before .before .before .before .loop in
+    room-line (macrostateLine (initialAt (a .initial))) (a .list .now) (l .i) (omega arith) (l .inv .1) _ (text-is (c .before)) (start .pre .1)
+
+loop-again : tie.Need-loop-again Inv-loop μ-loop
+loop-again c =
+    let at-loop = c .before .before .before .before .before .before .before .before in
+    let start = at-loop .before .before .before in
+    let a = start .args in
+    let l = at-loop .loop in (
+      omega arith,
+      put-line (macrostateLine (initialAt (a .initial))) (a .list .now) (l .i) (omega arith) (l .inv .1) _ (text-is (c .before .before .before .before))
+          (c .before .before .put-macrostate .ensures),
+    )
+
+same-length : tie.Need-same-length Inv-loop μ-loop
+same-length c = put-length (c .before .loop .inv .1)
+
+returns : tie.Need-returns Inv-loop μ-loop
+returns c =
+    let a = c .before .before .before .before .args in
+    let l = c .before .loop in
+    put-lines (macrostateLine (initialAt (a .initial))) (a .list .now) (l .i) (omega arith) (l .inv .1)
+
+pub put-macrostates-spec : {M : Type 1} → statement M
+put-macrostates-spec =
+    tie.close (tie.spec
+    Inv-loop μ-loop loop-holds mul-code (λ c. omega arith) is-initial-requires (λ c κs. search needs) put-macrostate-requires (λ c. omega arith)
+    (λ c. omega arith) loop-again same-length returns)

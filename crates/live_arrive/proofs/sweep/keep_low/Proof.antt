@@ -1,0 +1,33 @@
+-- `live_arrive::sweep::keep_low` meets its contract.
+use mathlib.Core.Path.{refl}
+use Prim.Native.Nat.{_-_, _%_, _≤_}
+use native.Mathlib.Omega.{arith}
+use lib.ListN.{length}
+use Rattle.live_set.proofs.Sets.{Through, through-start, through-next, through-end}
+use Rattle.live_arrive.proofs.sweep.keep_low.Statement.{statement}
+use Rattle.live_arrive.proofs.sweep.keep_low.Tie as tie
+
+abbrev Inv-loop : tie.InvT-loop
+Inv-loop set₀ i₀ set i = (i ≤ length set₀) × Through (λ v. v % 2) set₀ set i
+
+abbrev μ-loop : tie.MeasureT-loop
+μ-loop set₀ i₀ set i = length set₀ - i
+
+loop-holds : tie.Need-loop-holds Inv-loop μ-loop
+loop-holds c = (omega arith, through-start (λ v. v % 2) (c .args .set .now))
+
+loop-again : tie.Need-loop-again Inv-loop μ-loop
+loop-again c =
+    let l = c .before .before .loop in
+    (omega arith, through-next (λ v. v % 2) (c .before .before .before .args .set .now) (l .set) (l .i) _ (omega arith) refl (l .inv .1))
+
+returns : tie.Need-returns Inv-loop μ-loop
+returns c =
+    let l = c .before .loop in
+    through-end (λ v. v % 2) (c .before .before .args .set .now) (l .set) (l .i) (omega arith) (l .inv .1)
+
+pub keep-low-spec : {M : Type 1} → statement M
+keep-low-spec =
+    tie.close (tie.spec
+    Inv-loop μ-loop loop-holds (λ c. omega arith) (λ c. omega arith) (λ c. omega arith) (λ c. omega arith) loop-again (λ c. c .before .loop .inv .1 .long)
+    returns)

@@ -1,0 +1,48 @@
+-- `live_arrive::sweep::limits_of` meets its contract.
+use mathlib.Core.Path.{_≡_, refl, _∙_}
+use Prim.Native.Nat.{ℕ, _-_, _≤_, _<_}
+use native.Mathlib.Omega.{arith}
+use lib.ListN.{length, getD, length-set}
+use Rattle.sets.proofs.Walks.{put-next}
+use Rattle.live_arrive.specs.Tried.{limitOf}
+use Rattle.live_arrive.proofs.sweep.limits_of.Statement.{statement}
+use Rattle.live_arrive.proofs.sweep.limits_of.Tie as tie
+
+abbrev Inv-loop : tie.InvT-loop
+Inv-loop s n letter limits₀ l₀ limits l =
+    (l ≤ 256) × (length limits ≡ 256) × ((z : ℕ) → z < l → getD limits z 0 ≡ limitOf s n letter z)
+
+abbrev μ-loop : tie.MeasureT-loop
+μ-loop s n letter limits₀ l₀ limits l = 256 - l
+
+loop-holds : tie.Need-loop-holds Inv-loop μ-loop
+loop-holds c = (omega arith, refl, λ z k. absurd (omega arith))
+
+mul-limits : tie.Need-mul-limits Inv-loop μ-loop
+mul-limits c = omega (arith, c .before .loop-test .taken)
+
+array-write-limits : tie.Need-array-write-limits Inv-loop μ-loop
+array-write-limits c = omega (arith, c .before .loop-test .taken)
+
+add-l : tie.Need-add-l Inv-loop μ-loop
+add-l c = omega (arith, c .before .loop-test .taken)
+
+loop-less : tie.Need-loop-less Inv-loop μ-loop
+loop-less c = omega (arith, c .before .loop-test .taken)
+
+loop-again : tie.Need-loop-again Inv-loop μ-loop
+loop-again c =
+    let a = c .before .before .before .args in
+    let l = c .before .before .loop in (
+      omega (arith, c .before .loop-test .taken),
+      length-set (l .limits) (l .l) (c .limit-of .result) ∙ l .inv .1,
+      put-next (λ z. limitOf (a .s) (a .n) (a .letter) z) (l .limits) (l .l) (c .limit-of .result) (omega (arith, l .inv .1, c .before .loop-test .taken)) (c .limit-of .ensures) (l .inv .2),
+    )
+
+returns : tie.Need-returns Inv-loop μ-loop
+returns c = let l = c .before .loop in λ z k. l .inv .2 z (omega (arith, l .inv .0, c .loop-test .left))
+
+pub limits-of-spec : {M : Type 1} → statement M
+limits-of-spec =
+    tie.close (tie.spec
+    Inv-loop μ-loop loop-holds (λ c κs. c .before .before .pre) mul-limits array-write-limits add-l loop-less loop-again returns)

@@ -1,1 +1,0 @@
-// The laws of the automaton of the words that a rule rejects.

@@ -1,0 +1,38 @@
+-- `sheet_cycles::masks::write_masks` meets its contract: the cycle's masks are spread, then the lead-in's put in front.
+use Prim.Native.Nat.{_≤_, _<_}
+use mathlib.Core.Path.{_≡_, ap, _∙_}
+use native.Mathlib.Omega.{arith}
+use lib.ListN.{length, drop}
+use borrow.Author.Needs.{needs}
+use Rattle.rule_entries.specs.Entries.{ruleOf}
+use Rattle.judge_place.specs.Starts.{backOver}
+use Rattle.sheet_cycles.proofs.Repeats.{spread-length, spread-drop}
+use Rattle.sheet_cycles.proofs.masks.write_masks.Statement.{statement}
+use Rattle.sheet_cycles.proofs.masks.write_masks.Tie as tie
+
+repeat-cycle-requires : tie.Need-repeat-cycle-requires
+repeat-cycle-requires c κs = let z = c .before .before .before .before .before .before .pre in (z .3, omega (arith, z .4), z .5)
+
+fill-lead-requires : tie.Need-fill-lead-requires
+fill-lead-requires c κs =
+    let start = c .before .before .before .before .before .before .before .before .before .before in
+    let a = start .args in
+    let z = start .pre in
+    let s = c .before .before .before .repeat-cycle in
+    let order : length (a .lead .now) ≤ a .places = omega (arith, z .4) in
+    let long : length (s .last .1 .1 .1 .0) ≡ length (a .block .now) = ap length (s .ensures) ∙ spread-length (a .cycle .now) (length (a .lead .now)) (a .places) (a .block .now) order (z .5) in
+    (z .0, z .1, omega (arith, long, z .4, z .5), z .2)
+
+returns : tie.Need-returns
+returns c =
+    let start = c .before .before .before .before .before .before .before .before .before .before .before .before .before in
+    let a = start .args in
+    let z = start .pre in
+    let order : length (a .lead .now) ≤ a .places = omega (arith, z .4) in
+    c .before .before .fill-lead .ensures
+    ∙ ap (backOver (ruleOf (a .h) (a .counts .now) (a .clauses .now)) (a .lead .now))
+    (ap (drop (length (a .lead .now))) (c .before .before .before .before .before .before .repeat-cycle .ensures)
+    ∙ spread-drop (a .cycle .now) (length (a .lead .now)) (a .places) (a .block .now) order (z .5))
+
+pub write-masks-spec : {M : Type 1} → statement M
+write-masks-spec = tie.close (tie.spec repeat-cycle-requires fill-lead-requires (λ c. search needs) returns)

@@ -1,0 +1,28 @@
+-- `skip_words` meets its contract.
+use Prim.Native.Nat.{_-_, _≤_}
+use native.Mathlib.Omega.{arith}
+use borrow.Author.Needs.{needs}
+use Rattle.slice_search.specs.Zeros.{Zeros}
+use Rattle.slice_search.proofs.Eights.{zeros-none, zeros-word}
+use Rattle.slice_search.proofs.bytes.skip_words.Statement.{statement}
+use Rattle.slice_search.proofs.bytes.skip_words.Tie as tie
+
+abbrev Inv-loop : tie.InvT-loop
+Inv-loop xs from to i₀ i = Zeros xs from i × (i ≤ to)
+
+abbrev μ-loop : tie.MeasureT-loop
+μ-loop xs from to i₀ i = to - i
+
+loop-holds : tie.Need-loop-holds Inv-loop μ-loop
+loop-holds c = (zeros-none _ _, c .before .pre .0)
+
+loop-again : tie.Need-loop-again Inv-loop μ-loop
+loop-again c =
+    let l = c .before .before .before .loop in
+    (zeros-word _ _ (l .i) (l .inv .0) (omega (arith, c .if1 .left, c .before .word-at .ensures)), omega (arith, l .inv .1, c .before .before .loop-test .taken))
+
+pub skip-words-spec : {M : Type 1} → statement M
+skip-words-spec =
+    tie.close (tie.spec
+    Inv-loop μ-loop loop-holds (λ c. search needs) (λ c κs. search needs) (λ c. c .before .before .before .loop .inv) (λ c. search needs) (λ c. search needs)
+    loop-again (λ c. c .before .loop .inv))

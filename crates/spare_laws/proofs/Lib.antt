@@ -1,4 +1,0 @@
-pub mod Steps
-pub mod Again
-pub mod Along
-pub mod Alive

@@ -1,4 +1,0 @@
-pub mod Tags
-pub mod Tables
-pub mod Steps
-pub mod Rounds

@@ -1,4 +1,0 @@
-pub mod Table
-pub mod Reach
-pub mod Lifts
-pub mod Alive

@@ -1,0 +1,4 @@
+pub mod Rows
+pub mod Joined
+pub mod Starts
+pub mod Tables

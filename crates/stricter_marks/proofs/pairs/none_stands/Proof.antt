@@ -1,0 +1,46 @@
+-- `none_stands` meets its contract.
+use mathlib.Core.Path.{_≡_, sym, subst}
+use mathlib.Core.Logic.{by-cases}
+use mathlib.Core.Bool.{false, false≢true}
+use Prim.Native.Nat.{ℕ, _-_, _≤_, _<_}
+use native.Mathlib.Omega.{arith}
+use native.Mathlib.Decide.{ℕ-discrete}
+use borrow.Author.Needs.{needs}
+use borrow.Author.Tests.{ne-eqb}
+use lib.ListN.{length, getD}
+use Rattle.stricter_spec.specs.Tags.{coreNumber}
+use Rattle.stricter_spec.specs.Steps.{standsIn}
+use Rattle.stricter_marks.proofs.pairs.none_stands.Statement.{statement}
+use Rattle.stricter_marks.proofs.pairs.none_stands.Tie as tie
+
+abbrev Inv-loop : tie.InvT-loop
+Inv-loop codes i₀ i = (i ≤ length codes) × ((j : ℕ) → j < i → standsIn codes j ≡ false)
+
+abbrev μ-loop : tie.MeasureT-loop
+μ-loop codes i₀ i = length codes - i
+
+loop-holds : tie.Need-loop-holds Inv-loop μ-loop
+loop-holds c = (omega arith, λ j l. absurd (omega arith))
+
+returns : tie.Need-returns Inv-loop μ-loop
+returns c = λ e. absurd (false≢true e)
+
+loop-again : tie.Need-loop-again Inv-loop μ-loop
+unfolding standsIn
+loop-again c =
+    let l = c .before .before .before .loop in
+    let codes = c .before .before .before .before .args .codes .now in
+    let here : standsIn codes (l .i) ≡ false = ne-eqb (coreNumber (getD codes (l .i) 0)) (l .i) (λ e. omega (arith, c .if1 .left, e)) in (
+      omega (arith, c .before .before .loop-test .taken),
+      λ j h. by-cases (ℕ-discrete j (l .i))
+          (λ e. subst (λ (n : ℕ). standsIn codes n ≡ false) (sym e) here)
+          (λ n. l .inv .1 j (omega arith)),
+    )
+
+returns-2 : tie.Need-returns-2 Inv-loop μ-loop
+returns-2 c = let l = c .before .loop in λ e j h. l .inv .1 j (omega (arith, c .loop-test .left))
+
+pub none-stands-spec : {M : Type 1} → statement M
+none-stands-spec =
+    tie.close (tie.spec
+    Inv-loop μ-loop loop-holds (λ c. search needs) (λ c. search needs) returns (λ c. search needs) (λ c. search needs) loop-again returns-2)

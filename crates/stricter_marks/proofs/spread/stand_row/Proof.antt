@@ -1,0 +1,51 @@
+-- `stand_row` meets its contract.
+use mathlib.Core.Path.{_≡_, _∙_}
+use Prim.Native.Nat.{ℕ, _+_, _-_, _≤_, _<_}
+use native.Mathlib.Omega.{arith}
+use native.Mathlib.Nat.{add-zero, add-assoc}
+use borrow.Author.Needs.{needs}
+use lib.ListN.{length}
+use Rattle.sets.specs.Tests.{one}
+use Rattle.stricter_spec.specs.Steps.{standsIn}
+use Rattle.stricter_laws.specs.Fill.{Filled}
+use Rattle.stricter_laws.proofs.Fill.{filled-start, filled-next}
+use Rattle.stricter_marks.proofs.Rows.{stand-value}
+use Rattle.stricter_marks.proofs.spread.stand_row.Statement.{statement}
+use Rattle.stricter_marks.proofs.spread.stand_row.Tie as tie
+
+abbrev Inv-loop : tie.InvT-loop
+Inv-loop bcodes base marks₀ j₀ marks j = (j ≤ length bcodes) × Filled (λ x. one (standsIn bcodes (x - base))) base (base + j) marks₀ marks
+
+abbrev μ-loop : tie.MeasureT-loop
+μ-loop bcodes base marks₀ j₀ marks j = length bcodes - j
+
+loop-holds : tie.Need-loop-holds Inv-loop μ-loop
+loop-holds c =
+    let b : ℕ = c .before .before .args .base in
+    (omega arith, rw (add-zero b) (filled-start (λ x. one (standsIn (c .before .before .args .bcodes .now) (x - b))) b (c .before .before .args .marks .now)))
+
+add-marks : tie.Need-add-marks Inv-loop μ-loop
+add-marks c = omega (arith, c .before .before .before .loop .inv .1 .long)
+
+slice-write-marks : tie.Need-slice-write-marks Inv-loop μ-loop
+slice-write-marks c = omega (arith, c .before .before .before .loop .inv .1 .long)
+
+loop-again : tie.Need-loop-again Inv-loop μ-loop
+loop-again c =
+    let l = c .before .before .before .loop in
+    let a = c .before .before .before .before .before .before .args in
+    let b : ℕ = a .base in
+    let low : b + l .j < length (l .marks) = omega (arith, l .inv .1 .long) in (
+      omega arith,
+      rw (← add-assoc b (l .j) 1) (filled-next (λ x. one (standsIn (a .bcodes .now) (x - b))) b (b + l .j) (a .marks .now) (l .marks) _ (omega arith) low (l .inv .1)
+          (c .standing .ensures ∙ stand-value (a .bcodes .now) b (l .j))),
+    )
+
+returns : tie.Need-returns Inv-loop μ-loop
+returns c = let e : c .before .loop .j ≡ length (c .before .before .before .before .args .bcodes .now) = omega (arith, c .before .loop .inv .0) in rw e at (c .before .loop .inv .1)
+
+pub stand-row-spec : {M : Type 1} → statement M
+stand-row-spec =
+    tie.close (tie.spec
+    Inv-loop μ-loop loop-holds (λ c. search needs) (λ c. search needs) (λ c κs. search needs) add-marks slice-write-marks (λ c. search needs)
+    (λ c. search needs) loop-again (λ c. c .before .loop .inv .1 .long) returns)

@@ -1,3 +1,0 @@
-pub mod Parents
-pub mod Lassos
-pub mod Words

@@ -1,1 +1,0 @@
-// When a rule is stricter than another, with worked words.

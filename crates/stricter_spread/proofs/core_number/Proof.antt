@@ -1,7 +1,0 @@
--- `core_of` meets its contract.
-use mathlib.Core.Path.{refl}
-use Rattle.stricter_spread.proofs.core_number.Statement.{statement}
-use Rattle.stricter_spread.proofs.core_number.Tie as tie
-
-pub core-number-spec : {M : Type 1} → statement M
-core-number-spec = tie.close (tie.spec (λ c. refl))

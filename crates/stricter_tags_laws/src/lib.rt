@@ -1,1 +1,0 @@
-// Tags taken off again, and what they show: laws, no code.

@@ -1,0 +1,56 @@
+-- `exhaust` meets its contract: each pass but the last tries a pair.
+use mathlib.Core.Path.{sym, _∙_}
+use Prim.Native.Nat.{_*_, _-_}
+use native.Mathlib.Omega.{arith}
+use lib.ListN.{length}
+use Rattle.sets.specs.Lists.{sum}
+use Rattle.stricter_laws.specs.Pairs.{PairStep}
+use Rattle.stricter_laws.proofs.Rows.{fits-same}
+use Rattle.stricter_laws.specs.Forest.{kindIn}
+use Rattle.stricter_laws.proofs.Passes.{Passing, passing-start, passing-next, exhausted, sum-bytes}
+use Rattle.stricter_word.proofs.explore.exhaust.Statement.{statement}
+use Rattle.stricter_word.proofs.explore.exhaust.Tie as tie
+
+abbrev Inv-loop : tie.InvT-loop
+Inv-loop lcodes left rcodes right marks₀ marks = Passing (PairStep (length rcodes) left right) (kindIn lcodes rcodes) marks₀ marks
+
+abbrev μ-loop : tie.MeasureT-loop
+μ-loop lcodes left rcodes right marks₀ marks = 256 * length marks₀ - sum marks
+
+loop-holds : tie.Need-loop-holds Inv-loop μ-loop
+loop-holds c =
+    let a = c .before .before .before .before .before .args in
+    passing-start (PairStep (length (a .rcodes .now)) (a .left .now) (a .right .now)) (kindIn (a .lcodes .now) (a .rcodes .now)) (a .marks .now)
+
+visit-all-requires : tie.Need-visit-all-requires Inv-loop μ-loop
+visit-all-requires c κs =
+    let start = c .before .before .before .before .before .before .before in
+    let a = start .args in
+    fits-same (length (a .lcodes .now)) (length (a .rcodes .now)) _ _ (a .marks .now) (c .before .loop .marks) (c .before .loop .inv .long) (start .pre)
+
+loop-less : tie.Need-loop-less Inv-loop μ-loop
+loop-less c =
+    let grown = c .before .before .before .visit-all .ensures .grown (c .if1 .taken) in
+    let most = sum-bytes (c .before .before .before .visit-all .last .1 .1 .1 .1 .0) (λ i. omega (arith, c .before .slice-known2 .given i)) in
+    omega (arith, c .before .before .before .visit-all .ensures .long, c .before .before .before .before .before .loop .inv .long)
+
+loop-again : tie.Need-loop-again Inv-loop μ-loop
+loop-again c =
+    let start = c .before .before .before .before .before .before .before .before .before .before .before in
+    let a = start .args in
+    passing-next (PairStep (length (a .rcodes .now)) (a .left .now) (a .right .now)) (kindIn (a .lcodes .now) (a .rcodes .now))
+    (a .marks .now) (c .before .before .before .before .before .loop .marks) _ 0 _ _ (c .before .before .before .before .before .loop .inv) (c .before .before .before .visit-all .ensures)
+
+same-length : tie.Need-same-length Inv-loop μ-loop
+same-length c = c .before .before .before .visit-all .ensures .long ∙ c .before .before .before .before .before .loop .inv .long
+
+returns : tie.Need-returns Inv-loop μ-loop
+returns c =
+    let at-loop = c .before .before .before .before .before in
+    let start = at-loop .before .before .before .before .before .before in
+    let a = start .args in
+    exhausted (PairStep (length (a .rcodes .now)) (a .left .now) (a .right .now)) (kindIn (a .lcodes .now) (a .rcodes .now))
+    (a .marks .now) (at-loop .loop .marks) _ (at-loop .loop .inv) (rw (sym (at-loop .loop .inv .long), sym (c .if1 .left)) (c .before .before .before .visit-all .ensures))
+
+pub exhaust-spec : {M : Type 1} → statement M
+exhaust-spec = tie.close (tie.spec Inv-loop μ-loop loop-holds visit-all-requires loop-less loop-again same-length returns)

@@ -1,0 +1,119 @@
+-- `visit_row` meets its contract.
+use mathlib.Core.Path.{_≡_, _∙_}
+use mathlib.Core.Bool.{Bool, true, false}
+use Prim.Native.Nat.{_+_, _-_, _*_, _≤_, _<_}
+use native.Mathlib.Omega.{arith}
+use lib.ListN.{length}
+use Rattle.stricter_laws.specs.Pairs.{PairStep}
+use Rattle.stricter_laws.proofs.Rows.{fits-same}
+use Rattle.stricter_laws.specs.Forest.{kindIn, Waits, Passed}
+use Rattle.stricter_laws.proofs.Pairs.{step-lettered, kind-low, row-end}
+use Rattle.stricter_laws.proofs.Passes.{passed-start, passed-turn}
+use Rattle.stricter_word.proofs.explore.visit_row.Statement.{statement}
+use Rattle.stricter_word.proofs.explore.visit_row.Tie as tie
+
+abbrev Inv-loop : tie.InvT-loop
+Inv-loop lcodes left cuts rcodes right i j marks₀ row end k₀ marks k =
+    (k < length rcodes) × Waits marks (i * length rcodes + k)
+    × ((b : Bool) × Passed (PairStep (length rcodes) left right) (kindIn lcodes rcodes) (i * length rcodes + j) (i * length rcodes + k) marks₀ marks b)
+
+abbrev μ-loop : tie.MeasureT-loop
+μ-loop lcodes left cuts rcodes right i j marks₀ row end k₀ marks k = length rcodes - k
+
+-- the row ends within the marks
+ends : (c : tie.Start Inv-loop μ-loop) → c .args .i * length (c .args .rcodes .now) + length (c .args .rcodes .now) ≤ length (c .args .marks .now)
+ends c = row-end (length (c .args .lcodes .now)) (length (c .args .rcodes .now)) (c .args .i) _ _ (c .args .marks .now) (c .pre .0) (c .pre .2) (omega (arith, c .pre .3))
+
+mul-row : tie.Need-mul-row Inv-loop μ-loop
+mul-row c = let h = ends (c .before .before .before .before .before) in omega arith
+
+add-end : tie.Need-add-end Inv-loop μ-loop
+add-end c = let h = ends (c .before .before .before .before .before) in omega arith
+
+loop-holds : tie.Need-loop-holds Inv-loop μ-loop
+loop-holds c =
+    let a = c .before .before .before .before .before .args in
+    let p = c .before .before .before .before .before .pre in (
+      p .3,
+      p .4,
+      (
+        false,
+        passed-start (PairStep (length (a .rcodes .now)) (a .left .now) (a .right .now)) (kindIn (a .lcodes .now) (a .rcodes .now))
+            (step-lettered _ _ _ _ (p .0 .paired)) (kind-low _ _) (a .i * length (a .rcodes .now) + a .j) (a .marks .now),
+      ),
+    )
+
+visit-requires : tie.Need-visit-requires Inv-loop μ-loop
+visit-requires c κs =
+    let start = c .before .before .before .before .before .before .before in
+    let a = start .args in
+    let p = start .pre in
+    let l = c .before .loop in
+    (fits-same (length (a .lcodes .now)) (length (a .rcodes .now)) _ _ (a .marks .now) (l .marks) (l .inv .2 .1 .long) (p .0), p .1, p .2, l .inv .0, l .inv .1)
+
+add-next-waiting : tie.Need-add-next-waiting Inv-loop μ-loop
+add-next-waiting c =
+    let earlier = c .before .before .before .before .before .before .before .before .before .before .before in
+    let h = ends (earlier) in omega (arith, c .before .before .before .before .before .loop .inv .0)
+
+add-next-waiting-2 : tie.Need-add-next-waiting-2 Inv-loop μ-loop
+add-next-waiting-2 c =
+    let earlier = c .before .before .before .before .before .before .before .before .before .before .before in
+    let h = ends (earlier) in omega (arith, c .before .before .before .before .before .loop .inv .0)
+
+next-waiting-requires : tie.Need-next-waiting-requires Inv-loop μ-loop
+next-waiting-requires c κs =
+    let earlier = c .before .before .before .before .before .before .before .before .before .before .before in
+    let h = ends (earlier) in let l = c .before .before .before .before .before .loop in
+    (omega (arith, l .inv .0), omega (arith, c .before .before .before .visit .ensures .long, l .inv .2 .1 .long))
+
+same-length : tie.Need-same-length Inv-loop μ-loop
+same-length c =
+    let at-loop = c .before .before .before .before .before .before .before in
+    c .before .before .before .before .before .visit .ensures .long ∙ at-loop .loop .inv .2 .1 .long
+
+-- one turn
+turn : (c : tie.After-next-waiting Inv-loop μ-loop) → Passed (PairStep (length (c .before .before .before .before .before .before .before .before .before .before .before .before .args .rcodes .now))
+    (c .before .before .before .before .before .before .before .before .before .before .before .before .args .left .now)
+    (c .before .before .before .before .before .before .before .before .before .before .before .before .args .right .now))
+    (kindIn (c .before .before .before .before .before .before .before .before .before .before .before .before .args .lcodes .now)
+    (c .before .before .before .before .before .before .before .before .before .before .before .before .args .rcodes .now))
+    (c .before .before .before .before .before .before .before .before .before .before .before .before .args .i * length
+    (c .before .before .before .before .before .before .before .before .before .before .before .before .args .rcodes .now) + c .before .before .before .before .before .before .before .before
+    .before .before .before .before .args .j) (c .next-waiting .result) (c .before .before .before .before .before .before .before .before .before .before .before .before .args .marks .now)
+    (c .before .before .before .before .visit .last .1 .1 .1 .1 .1 .1 .1 .0) true
+turn c =
+    let start = c .before .before .before .before .before .before .before .before .before .before .before .before in
+    let a = start .args in
+    let l = c .before .before .before .before .before .before .loop in
+    let row = a .i * length (a .rcodes .now) in
+    passed-turn (PairStep (length (a .rcodes .now)) (a .left .now) (a .right .now)) (kindIn (a .lcodes .now) (a .rcodes .now))
+    (step-lettered _ _ _ _ (start .pre .0 .paired)) (kind-low _ _) (row + a .j) (row + l .k) (row + l .k + 1) _ (a .marks .now) (l .marks) _ (l .inv .2 .0)
+    (l .inv .2 .1) (c .before .before .before .before .visit .ensures) (c .next-waiting .ensures .none)
+
+returns : tie.Need-returns Inv-loop μ-loop
+returns c = rw (c .if1 .taken) at (turn (c .before))
+
+sub-k : tie.Need-sub-k Inv-loop μ-loop
+sub-k c = omega (arith, c .before .next-waiting .ensures .ordered)
+
+loop-less : tie.Need-loop-less Inv-loop μ-loop
+loop-less c =
+    let at-loop = c .before .before .before .before .before .before .before in
+    omega (arith, c .before .next-waiting .ensures .ordered, at-loop .loop .inv .0)
+
+loop-again : tie.Need-loop-again Inv-loop μ-loop
+loop-again c =
+    let start = c .before .before .before .before .before .before .before .before .before .before .before .before .before in
+    let a = start .args in
+    let n = c .before .next-waiting .ensures in
+    let w = n .found (omega (arith, n .within, c .if1 .left)) in
+    let row = a .i * length (a .rcodes .now) in
+    let e : row + (c .before .next-waiting .result - row) ≡ c .before .next-waiting .result = omega (arith, n .ordered) in
+    (omega (arith, n .within, n .ordered, c .if1 .left), rw e (record { big = w .0; small = w .1 }), (true, rw e (turn (c .before))))
+
+pub visit-row-spec : {M : Type 1} → statement M
+visit-row-spec =
+    tie.close (tie.spec
+    Inv-loop μ-loop mul-row add-end loop-holds visit-requires add-next-waiting add-next-waiting-2 next-waiting-requires same-length returns sub-k loop-less
+    loop-again)

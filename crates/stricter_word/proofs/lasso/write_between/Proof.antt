@@ -1,0 +1,56 @@
+-- `write_between` meets its contract.
+use mathlib.Core.Path.{_∙_}
+use native.Mathlib.Omega.{arith}
+use borrow.Author.Needs.{needs}
+use lib.ListN.{length}
+use Rattle.stricter_laws.specs.Pairs.{PairStep}
+use Rattle.stricter_laws.specs.Forest.{kindIn}
+use Rattle.stricter_laws.proofs.Expand.{searchable-paired}
+use Rattle.stricter_laws.proofs.Pairs.{step-lettered, kind-low}
+use Rattle.stricter_laws.proofs.Reach.{explored-meets}
+use Rattle.stricter_laws.proofs.Routes.{back-some}
+use Rattle.stricter_word.proofs.Turns.{searchable-fits}
+use Rattle.stricter_word.proofs.lasso.write_between.Statement.{statement}
+use Rattle.stricter_word.proofs.lasso.write_between.Tie as tie
+
+explore-requires : tie.Need-explore-requires
+explore-requires c κs =
+    let start = c .before .before .before .before .before .before .before in
+    let a = start .args in
+    let p = start .pre .0 in
+    (searchable-fits (a .lcodes .now) (a .left .now) (a .rcodes .now) (a .right .now) (a .marks .now) (p .0) (p .1) (p .2), p .3)
+
+way-length-requires : tie.Need-way-length-requires
+way-length-requires c κs =
+    let start = c .before .before .before .before .before .before .before .before .before .before .before in
+    let a = start .args in
+    let p = start .pre .0 in
+    let e = c .before .before .before .explore .ensures in (
+      (p .0, p .1, e .same .long ∙ p .2),
+      e .back (a .to) (explored-meets (PairStep (length (a .rcodes .now)) (a .left .now) (a .right .now)) (kindIn (a .lcodes .now) (a .rcodes .now)) (a .from) (a .marks .now) _ e (start .pre .1)),
+    )
+
+write-way-requires : tie.Need-write-way-requires
+write-way-requires c κs =
+    let start = c .before .before .before .before .before .before .before .before .before .before .before .before .before .before in
+    let p = start .pre .0 in
+    let e = c .before .before .before .before .before .before .explore .ensures in
+    ((p .0, p .1, e .same .long ∙ p .2, omega (arith, p .4, c .before .before .way-length .ensures .0, e .same .long)), c .before .before .way-length .ensures .1)
+
+returns : tie.Need-returns
+returns c =
+    let at-explore = c .before .before .before .before .before .before .before .before .before in
+    let start = at-explore .before .before .before .before .before .before .before .before in
+    let a = start .args in
+    let p = start .pre .0 in
+    let e = at-explore .explore .ensures in
+    record {
+      same = e .same;
+      written = c .before .before .write-way .ensures;
+      some = back-some (PairStep (length (a .rcodes .now)) (a .left .now) (a .right .now)) (kindIn (a .lcodes .now) (a .rcodes .now))
+          (step-lettered _ _ _ _ (searchable-paired _ _ _ _ (p .0) (p .1))) (kind-low _ _) (a .from) _ (c .before .before .before .before .before .way-length .ensures .1);
+      short = omega (arith, c .before .before .before .before .before .way-length .ensures .0, e .same .long);
+    }
+
+pub write-between-spec : {M : Type 1} → statement M
+write-between-spec = tie.close (tie.spec explore-requires way-length-requires write-way-requires (λ c. search needs) (λ c. search needs) returns)

@@ -1,0 +1,56 @@
+-- `flag` meets its contract.
+use mathlib.Core.Path.{_≡_, ap, _∙_}
+use Prim.Native.Nat.{_-_, _≤_}
+use native.Mathlib.Omega.{arith}
+use borrow.Author.Needs.{needs, scaled-fits}
+use lib.ListN.{length, getD}
+use Rattle.theory_laws.proofs.Tagged.{FlaggedTo, none-flagged, flag-next, all-flagged}
+use Rattle.trim.proofs.marks.flag.Statement.{statement}
+use Rattle.trim.proofs.marks.flag.Tie as tie
+
+abbrev Inv-loop : tie.InvT-loop
+Inv-loop codes₀ i₀ codes i = (i ≤ length codes₀) × FlaggedTo codes₀ i codes
+
+abbrev μ-loop : tie.MeasureT-loop
+μ-loop codes₀ i₀ codes i = length codes₀ - i
+
+loop-holds : tie.Need-loop-holds Inv-loop μ-loop
+loop-holds c = (omega arith, none-flagged _ (c .before .pre))
+
+-- the slice keeps its length
+long : (c : tie.At-loop Inv-loop μ-loop) → length (c .loop .codes) ≡ length (c .before .before .args .codes .now)
+long c = c .loop .inv .1 .long
+
+mul-flagged : tie.Need-mul-flagged Inv-loop μ-loop
+mul-flagged c = scaled-fits _ (length (c .before .before .before .args .codes .now)) 8 (omega (arith, long (c .before))) (c .before .before .before .good .0 .1)
+
+flagged-requires : tie.Need-flagged-requires Inv-loop μ-loop
+flagged-requires c κs =
+    let l = c .before .before .loop in
+    let e : getD (l .codes) (l .i) 0 ≡ getD (c .before .before .before .before .args .codes .now) (l .i) 0 = l .inv .1 .rest (l .i) (omega arith) in
+    omega (arith, c .before .before .before .before .pre (l .i))
+
+mul-codes : tie.Need-mul-codes Inv-loop μ-loop
+mul-codes c = scaled-fits _ (length (c .before .before .before .before .before .args .codes .now)) 8 (omega (arith, long (c .before .before .before)))
+    (c .before .before .before .before .before .good .0 .1)
+
+loop-less : tie.Need-loop-less Inv-loop μ-loop
+loop-less c = omega (arith, long (c .before .before .before))
+
+loop-again : tie.Need-loop-again Inv-loop μ-loop
+loop-again c =
+    let a = c .before .before .before .before .before .args in
+    let l = c .before .before .before .loop in
+    (omega (arith, long (c .before .before .before)), rw (c .flagged .ensures) (flag-next (a .codes .now) (c .before .before .before .before .before .pre) (l .i) (l .codes) (omega arith) (l .inv .1)))
+
+same-length : tie.Need-same-length Inv-loop μ-loop
+same-length c = long (c .before)
+
+returns : tie.Need-returns Inv-loop μ-loop
+returns c = let l = c .before .loop in all-flagged (c .before .before .before .args .codes .now) (c .before .before .before .pre) (l .i) (l .codes) (omega (arith, long (c .before))) (l .inv .1)
+
+pub flag-spec : {M : Type 1} → statement M
+flag-spec =
+    tie.close (tie.spec
+    Inv-loop μ-loop loop-holds mul-flagged (λ c. omega arith) flagged-requires mul-codes (λ c. omega arith) (λ c. omega arith) loop-less loop-again same-length
+    returns)

@@ -1,0 +1,32 @@
+-- `mark_live` meets its contract: what is left is one thing, and the definition leaves it.
+use mathlib.Core.Path.{_≡_, sym, ap, _∙_}
+use mathlib.Core.List.{List}
+use Prim.Native.Nat.{ℕ, _≤_}
+use lib.ListN.{getD}
+use borrow.Author.Needs.{needs}
+use Rattle.graph_walks.specs.Walks.{Solved}
+use Rattle.graph_walks.proofs.Unique.{solved-unique}
+use Rattle.trim_spec.specs.Graph.{Step}
+use Rattle.trim_spec.specs.Trimmed.{flags}
+use Rattle.trim_spec.specs.Tagged.{highs}
+use Rattle.theory_laws.proofs.Sweeping.{flags-low, live-solved}
+use Rattle.trim.proofs.marks.mark_live.Statement.{statement}
+use Rattle.trim.proofs.marks.mark_live.Tie as tie
+
+solve-requires : tie.Need-solve-requires
+solve-requires c κs =
+    let start = c .before .before .before .before .before .before .before in
+    let a = start .args in
+    (rw (c .before .before .before .flag .kept .0) (start .pre .0), λ x. rw (c .before .before .before .flag .ensures .0) (flags-low (a .codes .now) x))
+
+returns : tie.Need-returns
+returns c =
+    let start = c .before .before .before .before .before .before .before .before .before .before in
+    let a = start .args in
+    let f = c .before .before .before .before .before .before .flag .ensures in
+    let s = c .before .before .solve .ensures in
+    let S : Solved (Step (a .transitions .now)) (flags (a .codes .now)) (highs (c .before .before .solve .last .0)) = rw (f .0) at (s .0) in
+    (solved-unique (Step (a .transitions .now)) (flags (a .codes .now)) _ _ S (live-solved (a .codes .now) (a .transitions .now)), s .1 ∙ f .1)
+
+pub mark-live-spec : {M : Type 1} → statement M
+mark-live-spec = tie.close (tie.spec (λ c κs. search needs) solve-requires (λ c. search needs) returns)

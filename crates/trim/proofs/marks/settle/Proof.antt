@@ -1,0 +1,83 @@
+-- `settle` meets its contract.
+use mathlib.Core.Path.{_≡_, refl, sym, ap, _∙_}
+use mathlib.Core.Logic.{inl, inr}
+use mathlib.Core.Bool.{true, false, true≢false}
+use Prim.Native.Nat.{_-_, _/_, _^_, _≤_}
+use native.Mathlib.Omega.{arith}
+use borrow.Author.Needs.{needs, scaled-fits}
+use lib.ListN.{length, getD, length-set}
+use Rattle.graph_walks.specs.Marks.{settled, goesOut}
+use Rattle.graph_walks.specs.Rounds.{Settling}
+use Rattle.graph_walks.proofs.Rounds.{settling-start, settling-next}
+use Rattle.trim_spec.specs.Tagged.{highs, lows}
+use Rattle.theory_laws.proofs.Tagged.{highs-at, highs-length, carried}
+use Rattle.trim.proofs.marks.settle.Statement.{statement}
+use Rattle.trim.proofs.marks.settle.Tie as tie
+
+abbrev Inv-loop : tie.InvT-loop
+Inv-loop codes₀ changed₀ i₀ codes changed i =
+    (i ≤ length codes₀) × (length codes ≡ length codes₀) × Settling 0 i (highs codes₀) (highs codes) changed × (lows codes ≡ lows codes₀)
+
+abbrev μ-loop : tie.MeasureT-loop
+μ-loop codes₀ changed₀ i₀ codes changed i = length codes₀ - i
+
+loop-holds : tie.Need-loop-holds Inv-loop μ-loop
+loop-holds c = (omega arith, refl, settling-start 0 _, refl)
+
+mul-c : tie.Need-mul-c Inv-loop μ-loop
+mul-c c = scaled-fits _ (length (c .before .before .before .args .codes .now)) 8 (omega (arith, c .before .loop .inv .1)) (c .before .before .before .good .0 .1)
+
+mul-codes : tie.Need-mul-codes Inv-loop μ-loop
+mul-codes c = scaled-fits _ (length (c .before .before .before .before .before .args .codes .now)) 8 (omega (arith, c .before .before .before .loop .inv .1))
+    (c .before .before .before .before .before .good .0 .1)
+
+loop-less : tie.Need-loop-less Inv-loop μ-loop
+loop-less c = omega (arith, c .before .before .before .before .before .loop .inv .1)
+
+loop-again : tie.Need-loop-again Inv-loop μ-loop
+loop-again c =
+    let start = c .before .before .before .before .before .before .before in
+    let a = start .args in
+    let l = c .before .before .before .before .before .loop in
+    let e = highs-at (l .codes) (l .i) in
+    let told : goesOut (getD (highs (l .codes)) (l .i) 0) ≡ true = ap goesOut e ∙ sym (c .before .goes-out .ensures) ∙ c .if1 .taken in
+    let s = c .before .before .settled-code .ensures in
+    let k = carried (l .codes) (l .i) (c .before .before .settled-code .result) (settled (getD (highs (l .codes)) (l .i) 0)) (s .0 ∙ ap settled (sym e)) (s .1) in
+    let fits = highs-length (l .codes) in (
+      omega (arith, l .inv .1),
+      length-set (l .codes) (l .i) _ ∙ l .inv .1,
+      rw (k .0) (settling-next 0 (highs (a .codes .now)) (l .i) (highs (l .codes)) (l .changed) (l .inv .2) (omega arith) (omega arith) true (λ e. inr told) (λ e. absurd (true≢false e))),
+      k .1 ∙ l .inv .3,
+    )
+
+loop-less-2 : tie.Need-loop-less-2 Inv-loop μ-loop
+loop-less-2 c = omega (arith, c .before .before .before .before .before .loop .inv .1)
+
+loop-again-2 : tie.Need-loop-again-2 Inv-loop μ-loop
+loop-again-2 c =
+    let start = c .before .before .before .before .before .before .before in
+    let a = start .args in
+    let l = c .before .before .before .before .before .loop in
+    let e = highs-at (l .codes) (l .i) in
+    let told : goesOut (getD (highs (l .codes)) (l .i) 0) ≡ false = ap goesOut e ∙ sym (c .before .goes-out .ensures) ∙ c .if1 .left in
+    let s = c .before .before .settled-code .ensures in
+    let k = carried (l .codes) (l .i) (c .before .before .settled-code .result) (settled (getD (highs (l .codes)) (l .i) 0)) (s .0 ∙ ap settled (sym e)) (s .1) in
+    let fits = highs-length (l .codes) in (
+      omega (arith, l .inv .1),
+      length-set (l .codes) (l .i) _ ∙ l .inv .1,
+      rw (k .0) (settling-next 0 (highs (a .codes .now)) (l .i) (highs (l .codes)) (l .changed) (l .inv .2) (omega arith) (omega arith) (l .changed) (λ e. inl e) (λ e. (e, told))),
+      k .1 ∙ l .inv .3,
+    )
+
+returns : tie.Need-returns Inv-loop μ-loop
+returns c =
+    let a = c .before .before .before .args in
+    let l = c .before .loop in
+    let e : l .i ≡ length (highs (a .codes .now)) = omega (arith, l .inv .1, highs-length (a .codes .now)) in
+    (rw e at (l .inv .2), l .inv .3)
+
+pub settle-spec : {M : Type 1} → statement M
+settle-spec =
+    tie.close (tie.spec
+    Inv-loop μ-loop loop-holds mul-c (λ c. omega arith) (λ c κs. search needs) mul-codes (λ c. omega arith) (λ c. omega arith) (λ c κs. search needs) loop-less
+    loop-again loop-less-2 loop-again-2 (λ c. c .before .loop .inv .1) returns)

@@ -1,0 +1,88 @@
+-- `sweep` meets its contract.
+use mathlib.Core.Path.{_≡_, refl, ap₂, _∙_}
+use Prim.Native.Nat.{ℕ, _+_, _-_, _≤_}
+use lib.Dec.{ltb}
+use borrow.Author.Tests.{lt-ltb}
+use native.Mathlib.Omega.{arith}
+use borrow.Author.Needs.{needs}
+use lib.ListN.{length, getD}
+use Rattle.sets.proofs.Lists.{mem-at}
+use Rattle.theory.specs.Run.{sourceOf, targetOf}
+use Rattle.graph_walks.specs.Marks.{marked, isNew}
+use Rattle.trim_spec.specs.Tagged.{highs, lows}
+use Rattle.graph_walks.proofs.Loops.{or-now, or-before, PassedTo, passed-none, passed-next, passed-all}
+use Rattle.theory_laws.proofs.Sweeping.{pass-swept}
+use Rattle.theory_laws.proofs.Tagged.{highs-long}
+use Rattle.trim.proofs.marks.sweep.Statement.{statement}
+use Rattle.trim.proofs.marks.sweep.Tie as tie
+
+abbrev Inv-loop : tie.InvT-loop
+Inv-loop codes₀ transitions news₀ i₀ codes news i = (i ≤ length transitions) × PassedTo pass-swept transitions (highs codes₀) (highs codes) (ltb 0 news) i × (lows codes ≡ lows codes₀) × (news ≤ i)
+
+abbrev μ-loop : tie.MeasureT-loop
+μ-loop codes₀ transitions news₀ i₀ codes news i = length transitions - i
+
+loop-holds : tie.Need-loop-holds Inv-loop μ-loop
+loop-holds c = (omega arith, passed-none pass-swept _ _, refl, omega arith)
+
+mark-requires : tie.Need-mark-requires Inv-loop μ-loop
+mark-requires c κs =
+    let start = c .before .before .before .before .before .before .before .before in
+    let a = start .args in
+    let l = c .before .before .before .before .before .loop in
+    let ts = a .transitions .now in
+    let t = getD ts (l .i) 0 in
+    let m = mem-at ts (l .i) (omega arith) in
+    let long : length (l .codes) ≡ length (a .codes .now) = highs-long _ _ (l .inv .1 .long) in
+    let source : c .before .source-of .result ≡ sourceOf t = c .before .source-of .ensures in
+    let target : c .target-of .result ≡ targetOf t = c .target-of .ensures in
+    (omega (arith, start .pre .sources t m), omega (arith, start .pre .targets t m))
+
+loop-again : tie.Need-loop-again Inv-loop μ-loop
+loop-again c =
+    let at-loop = c .before .before .before .before .before .before .before .before .before in
+    let start = at-loop .before .before .before in
+    let a = start .args in
+    let l = at-loop .loop in
+    let t = getD (a .transitions .now) (l .i) 0 in
+    let source : c .before .before .before .before .before .source-of .result ≡ sourceOf t = c .before .before .before .before .before .source-of .ensures in
+    let target : c .before .before .before .before .target-of .result ≡ targetOf t = c .before .before .before .before .target-of .ensures in
+    let o = c .before .before .before .mark .ensures in (
+      omega arith,
+      passed-next pass-swept (a .transitions .now) (highs (a .codes .now)) (highs (l .codes)) _ (ltb 0 (l .news)) _ (ltb 0 (l .news + 1)) (l .i) t (omega arith) (l .inv .1) refl
+          (o .0 ∙ ap₂ (λ (x y : ℕ). marked x y (highs (l .codes))) source target) (o .2 ∙ ap₂ (λ (x y : ℕ). isNew x y (highs (l .codes))) source target)
+          (lt-ltb 0 (l .news + 1) (omega arith) ∙ or-now (ltb 0 (l .news)) _ (c .if1 .taken)),
+      o .1 ∙ l .inv .2,
+      omega arith,
+    )
+
+loop-again-2 : tie.Need-loop-again-2 Inv-loop μ-loop
+loop-again-2 c =
+    let at-loop = c .before .before .before .before .before .before .before .before .before in
+    let start = at-loop .before .before .before in
+    let a = start .args in
+    let l = at-loop .loop in
+    let t = getD (a .transitions .now) (l .i) 0 in
+    let source : c .before .before .before .before .before .source-of .result ≡ sourceOf t = c .before .before .before .before .before .source-of .ensures in
+    let target : c .before .before .before .before .target-of .result ≡ targetOf t = c .before .before .before .before .target-of .ensures in
+    let o = c .before .before .before .mark .ensures in (
+      omega arith,
+      passed-next pass-swept (a .transitions .now) (highs (a .codes .now)) (highs (l .codes)) _ (ltb 0 (l .news)) _ (ltb 0 (l .news)) (l .i) t (omega arith) (l .inv .1) refl
+          (o .0 ∙ ap₂ (λ (x y : ℕ). marked x y (highs (l .codes))) source target) (o .2 ∙ ap₂ (λ (x y : ℕ). isNew x y (highs (l .codes))) source target)
+          (or-before (ltb 0 (l .news)) _ (c .if1 .left)),
+      o .1 ∙ l .inv .2,
+      omega arith,
+    )
+
+returns : tie.Need-returns Inv-loop μ-loop
+returns c =
+    let a = c .before .before .before .before .args in
+    let l = c .before .loop in
+    let (marks, news) = passed-all pass-swept (a .transitions .now) (highs (a .codes .now)) (highs (l .codes)) (ltb 0 (l .news)) (l .i) (omega arith) (l .inv .1) in
+    (marks, l .inv .2, news)
+
+pub sweep-spec : {M : Type 1} → statement M
+sweep-spec =
+    tie.close (tie.spec
+    Inv-loop μ-loop loop-holds (λ c. search needs) (λ c. search needs) (λ c. search needs) (λ c κs. search needs) (λ c κs. search needs) mark-requires
+    (λ c. search needs) (λ c. omega arith) loop-again (λ c. omega arith) loop-again-2 (λ c. highs-long _ _ (c .before .loop .inv .1 .long)) returns)

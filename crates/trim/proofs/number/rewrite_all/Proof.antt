@@ -1,0 +1,113 @@
+-- `rewrite_all` meets its contract.
+use mathlib.Core.Path.{_≡_, refl, sym, ap, _∙_}
+use mathlib.Core.Bool.{true, false}
+use Prim.Native.Nat.{_-_, _<_}
+use native.Mathlib.Omega.{arith}
+use borrow.Author.Needs.{needs, scaled-fits}
+use lib.ListN.{length, getD, drop}
+use Rattle.sets.proofs.Lists.{mem-at}
+use Rattle.theory.specs.Run.{sourceOf, targetOf}
+use Rattle.trim_spec.specs.Trimmed.{isLeft}
+use Rattle.trim_spec.specs.Tagged.{highs, rewrite, rewritten}
+use Rattle.theory_laws.proofs.Ends.{rewritten-yes, rewritten-no, rewritten-none}
+use Rattle.trim.proofs.Compacting.{Compacting, compact-start, compact-at, compact-keep, compact-skip, compact-count, compact-end}
+use Rattle.trim.proofs.number.rewrite_all.Statement.{statement}
+use Rattle.trim.proofs.number.rewrite_all.Tie as tie
+
+abbrev Inv-loop : tie.InvT-loop
+Inv-loop codes transitions₀ w₀ i₀ transitions w i = Compacting (rewritten (highs codes)) transitions₀ transitions w i
+
+abbrev μ-loop : tie.MeasureT-loop
+μ-loop codes transitions₀ w₀ i₀ transitions w i = length transitions₀ - i
+
+loop-holds : tie.Need-loop-holds Inv-loop μ-loop
+loop-holds c = compact-start _ _
+
+mul-t : tie.Need-mul-t Inv-loop μ-loop
+mul-t c = scaled-fits _ (length (c .before .before .before .before .args .transitions .now)) 8 (omega (arith, c .before .loop .inv .long)) (c .before .before .before .before .good .1 .0 .1)
+
+is-left-requires : tie.Need-is-left-requires Inv-loop μ-loop
+is-left-requires c κs =
+    let a = c .before .before .before .before .before .args in
+    let l = c .before .before .loop in
+    let ts = a .transitions .now in
+    let inside : l .i < length ts = omega (arith, l .inv .long) in
+    let e = compact-at _ ts (l .transitions) (l .w) (l .i) inside (l .inv) in
+    let m = mem-at ts (l .i) inside in
+    (rw e (c .before .before .before .before .before .pre .sources (getD ts (l .i) 0) m), rw e (c .before .before .before .before .before .pre .targets (getD ts (l .i) 0) m))
+
+rewritten-one-requires : tie.Need-rewritten-one-requires Inv-loop μ-loop
+rewritten-one-requires c κs =
+    let start = c .before .before .before .before .before .before .before in
+    let a = start .args in
+    let l = c .before .before .before .before .loop in
+    let ts = a .transitions .now in
+    let inside : l .i < length ts = omega (arith, l .inv .long) in
+    let e = compact-at _ ts (l .transitions) (l .w) (l .i) inside (l .inv) in
+    let m = mem-at ts (l .i) inside in
+    (rw e (start .pre .sources (getD ts (l .i) 0) m), rw e (start .pre .targets (getD ts (l .i) 0) m), sym (c .before .is-left .ensures) ∙ c .if1 .taken)
+
+mul-transitions : tie.Need-mul-transitions Inv-loop μ-loop
+mul-transitions c =
+    let start = c .before .before .before .before .before .before .before .before in
+    let v = c .before .before .before .before .before .loop .inv in scaled-fits _ (length (start .args .transitions .now)) 8 (omega (arith, v .long, v .behind)) (start .good .1 .0 .1)
+
+slice-write-transitions : tie.Need-slice-write-transitions Inv-loop μ-loop
+slice-write-transitions c = omega (arith, c .before .before .before .before .before .loop .inv .behind)
+
+add-w : tie.Need-add-w Inv-loop μ-loop
+add-w c = omega (arith, c .before .before .before .before .before .loop .inv .behind)
+
+loop-less : tie.Need-loop-less Inv-loop μ-loop
+loop-less c = omega (arith, c .before .before .before .before .before .loop .inv .long)
+
+loop-again : tie.Need-loop-again Inv-loop μ-loop
+loop-again c =
+    let start = c .before .before .before .before .before .before .before .before in
+    let a = start .args in
+    let l = c .before .before .before .before .before .loop in
+    let ts = a .transitions .now in
+    let tags = highs (a .codes .now) in
+    let inside : l .i < length ts = omega (arith, l .inv .long) in
+    let e = compact-at _ ts (l .transitions) (l .w) (l .i) inside (l .inv) in
+    let left : isLeft tags (getD ts (l .i) 0) ≡ true = ap (isLeft tags) (sym e) ∙ sym (c .before .before .is-left .ensures) ∙ c .before .if1 .taken in
+    let v : c .rewritten-one .result ≡ rewrite tags (getD ts (l .i) 0) = c .rewritten-one .ensures ∙ ap (rewrite tags) e in
+    rw v (compact-keep _ ts (l .transitions) (l .w) (l .i) inside (l .inv) _ (rewritten-yes tags _ _ left))
+
+loop-less-2 : tie.Need-loop-less-2 Inv-loop μ-loop
+loop-less-2 c = omega (arith, c .before .before .before .before .loop .inv .long)
+
+loop-again-2 : tie.Need-loop-again-2 Inv-loop μ-loop
+loop-again-2 c =
+    let start = c .before .before .before .before .before .before .before in
+    let a = start .args in
+    let l = c .before .before .before .before .loop in
+    let ts = a .transitions .now in
+    let tags = highs (a .codes .now) in
+    let inside : l .i < length ts = omega (arith, l .inv .long) in
+    let e = compact-at _ ts (l .transitions) (l .w) (l .i) inside (l .inv) in
+    let out : isLeft tags (getD ts (l .i) 0) ≡ false = ap (isLeft tags) (sym e) ∙ sym (c .before .is-left .ensures) ∙ c .if1 .left in
+    compact-skip _ ts (l .transitions) (l .w) (l .i) inside (l .inv) (rewritten-no tags _ _ out)
+
+zero-from-requires : tie.Need-zero-from-requires Inv-loop μ-loop
+zero-from-requires c κs = let v = c .before .before .loop .inv in omega (arith, v .long, v .behind, v .inside)
+
+same-length : tie.Need-same-length Inv-loop μ-loop
+same-length c = c .before .before .zero-from .kept .0 ∙ c .before .before .before .before .before .loop .inv .long
+
+returns : tie.Need-returns Inv-loop μ-loop
+returns c =
+    let start = c .before .before .before .before .before .before .before .before in
+    let a = start .args in
+    let l = c .before .before .before .before .before .loop in
+    let ts = a .transitions .now in
+    let tags = highs (a .codes .now) in (
+      compact-count (rewritten tags) ts (l .transitions) (l .w) (l .i) (omega (arith, l .inv .long)) (rewritten-none tags) (l .inv),
+      c .before .before .zero-from .ensures ∙ compact-end (rewritten tags) ts (l .transitions) (l .w) (l .i) (omega (arith, l .inv .long)) (rewritten-none tags) (l .inv),
+    )
+
+pub rewrite-all-spec : {M : Type 1} → statement M
+rewrite-all-spec =
+    tie.close (tie.spec
+    Inv-loop μ-loop loop-holds mul-t (λ c. omega arith) (λ c. omega arith) is-left-requires rewritten-one-requires mul-transitions slice-write-transitions add-w
+    loop-less loop-again loop-less-2 loop-again-2 zero-from-requires same-length returns)
