@@ -14,7 +14,8 @@ use Rattle.file_spec.specs.Rows.{fileRows}
 use Rattle.word_rows.specs.Words.{wordRows}
 use Rattle.judge_spec.specs.declared.Verdict.{Verdict}
 use Rattle.judge_spec.specs.Judge.{sliceRows, verdict, holdsStart, after, Meant}
-use Rattle.judge_choices_spec.specs.ChoicesComputed.{choicesOf, Written}
+use Rattle.judge_choices_spec.specs.ChoicesComputed.{choicesOf}
+use Rattle.judge_choices_spec.specs.Choice.{Written}
 use Rattle.judge_choices.specs.Judge.{choiceRows, choicesRow, JudgedChoices}
 use Rattle.sheet_spec.specs.Words.{wordsOf}
 use Rattle.sheet_spec.specs.Sheet.{sheetRows, sheetRow}

@@ -33,8 +33,8 @@ unfoldable computed : ℕ
 unfolding rowFrom builtFrom codesAfterFrom transitionsAfterFrom roomAfter builtBy roomRows roomOf fileRows bodyRows formedRows clauseRows someNested nested prefaceRows nameRows hasNames namesBefore
     repeatsName layoutRows trailerRows numberRows listRows componentRows firstRow tagged clausesOf countsOf mixed isAccepting macrostatesFrom transitionsFrom transitionsOf codesFrom cores candidates
     digitals tabulate flat keep among anyOf insertAscending sorted reachedIn reached wellCoded pack fields mask num goes before onward begun automaton setIn rankIn componentIn classesIn every
-    satisfies inside bit rankOf levelOf settledUpTo settled rejectingSettled acceptingSettled mix isOpen taken someBelow count first largest openOf nextComponent isCore component components isSmallest smallest
-    together reaches within leads named entry sum
+    satisfies inside bit rankOf levelOf settledUpTo settled rejectingSettled acceptingSettled mix isOpen taken someBelow count first largest openOf nextComponent isCore component components
+    isSmallest smallest together reaches within leads named entry sum
 computed = 0
 
 -- E rejects the words with some letter 1

@@ -35,7 +35,7 @@ startOf r holds c = cond holds (bit c (r .initial)) (not (bit c (r .initial)))
 abbrev pub Paired : ℕ → List ℕ → ℕ → Type 0
 Paired components xs n = (p : ℕ) → p < n → keyAt xs p % 16 < components
 
--- v is one of the vectors that are visited, and passes the test: the vector of a core (vector-cored and code-macrostate of build_closure_spec/proofs/Link)
+-- v is one of the vectors that are visited, and passes the test: the vector of a core (vector-cored and code-macrostate of build_spec/proofs/Link)
 pub record Cored (parts : List ℕ) (components v : ℕ) : Type 0 where
   pub within : Within 8 v (capsOf parts components)
   pub passes : every components (λ c. gapless v (getD parts c 0)) ≡ true

@@ -1,5 +1,5 @@
-// Under the build: chains through a list of keys, macrostates as keys (core * 256 + K + 16 k, the core being bits 0 to 39 of the code), and the
-// transitions between listed codes. Definitions and laws.
+// Under the build: chains through a list of keys, macrostates as keys (core * 256 + K + 16 k, the core being bits 0 to 39 of the code), and
+// the transitions between listed codes. Definitions and laws.
 
 // The number of members after an addition, and whether it found no room.
 pub struct Grow {

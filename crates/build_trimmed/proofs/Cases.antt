@@ -36,8 +36,8 @@ unfoldable computed : ℕ
 unfolding trimmedOf trimmedCodes trimmedTransitions flagOf flags swept isNewIn sweptOut settledAll solvedIn liveMarks picked isDue marked isNew goesOut marks.settled builtBy rowFrom roomRows roomOf
     fileRows bodyRows formedRows clauseRows someNested nested prefaceRows nameRows hasNames namesBefore repeatsName layoutRows trailerRows numberRows listRows componentRows firstRow tagged clausesOf
     countsOf mixed isAccepting macrostatesFrom transitionsFrom transitionsOf codesFrom cores candidates digitals tabulate flat keep among anyOf insertAscending sorted reachedIn reached wellCoded pack
-    fields mask num goes before onward begun automaton setIn rankIn componentIn classesIn every satisfies inside bit rankOf levelOf settledUpTo settled rejectingSettled acceptingSettled mix isOpen taken
-    someBelow count first largest openOf nextComponent isCore component components isSmallest smallest together reaches within leads named entry sum
+    fields mask num goes before onward begun automaton setIn rankIn componentIn classesIn every satisfies inside bit rankOf levelOf settledUpTo settled rejectingSettled acceptingSettled mix isOpen
+    taken someBelow count first largest openOf nextComponent isCore component components isSmallest smallest together reaches within leads named entry sum
 computed = 0
 
 -- "Rule D shrinks from 13 and 26 to 6 and 12."

@@ -45,8 +45,8 @@ rows = 0
 unfoldable computed : ℕ
 unfolding truthMasks solvedBelow roundsAt layer heightOf nextPlace letterAt place isAccepting macrostatesFrom transitionsFrom transitionsOf codesFrom cores candidates digitals tabulate flat keep
     among anyOf insertAscending sorted reachedIn reached wellCoded pack fields mask num goes before onward begun automaton setIn rankIn componentIn classesIn every satisfies inside bit rankOf levelOf
-    settledUpTo settled rejectingSettled acceptingSettled mix isOpen taken someBelow count first largest openOf nextComponent isCore component components isSmallest smallest together reaches within leads named
-    entry sum
+    settledUpTo settled rejectingSettled acceptingSettled mix isOpen taken someBelow count first largest openOf nextComponent isCore component components isSmallest smallest together reaches within
+    leads named entry sum
 computed = 0
 
 unfoldable checks : ℕ

@@ -17,8 +17,8 @@ use Rattle.file_spec.specs.Reading.{answer, readOf, unrefused, prefaceOf
 
 -- what an evaluation unfolds
 unfoldable computed : ℕ
-unfolding readOf answer prefaceOf unrefused fileRow fileRows bodyRows layoutRows trailerRows numberRows listRows formedRows clauseRows componentRows prefaceRows nameRows hasNames namesBefore repeatsName
-    firstRow tagged clausesOf countsOf anyOf sum someNested nested inside every mixed together reaches within leads named entry someBelow bit mask
+unfolding readOf answer prefaceOf unrefused fileRow fileRows bodyRows layoutRows trailerRows numberRows listRows formedRows clauseRows componentRows prefaceRows nameRows hasNames namesBefore
+    repeatsName firstRow tagged clausesOf countsOf anyOf sum someNested nested inside every mixed together reaches within leads named entry someBelow bit mask
 computed = 0
 
 -- rule Z behind three bytes and the name of its letter

@@ -39,14 +39,15 @@ tidied-accepted = refl
 -- eleven bytes are too few, and stay as they were
 pub short-16 : (tidiedOf (loose 0) 11 ≡ Refused 16) × (sliceTidied (loose 0) (7 ∷ 7 ∷ 7 ∷ 7 ∷ 7 ∷ 7 ∷ 7 ∷ 7 ∷ 7 ∷ 7 ∷ 8 ∷ []) ≡ 7 ∷ 7 ∷ 7 ∷ 7 ∷ 7 ∷ 7 ∷ 7 ∷ 7 ∷ 7 ∷ 7 ∷ 8 ∷ [])
 unfolding tidiedOf answer sliceTidied after tidyRow tidyRows sliceRows layoutRows trailerRows numberRows listRows componentRows firstRow tagged clausesOf countsOf bodyOf trailerOf tidyRule tidyCounts
-    tidyClauses tidyEntry tidyFrom drops properlyContains anyOf sum inside every mixed together reaches within leads named entry someBelow bit mask prefaceRows nameRows hasNames namesBefore repeatsName
-    prefaceFrom
+    tidyClauses tidyEntry tidyFrom drops properlyContains anyOf sum inside every mixed together reaches within leads named entry someBelow bit mask prefaceRows nameRows hasNames namesBefore
+    repeatsName prefaceFrom
 short-16 = (refl, refl)
 
 -- with state 0 accepting, the clause 01 makes a mixed component: 11, though the tidied rule has none, and before 16
 pub stands-11 : (tidiedOf (loose 1) 14 ≡ Refused 11) × (tidyRow (loose 1) 0 ≡ 11)
 unfolding tidiedOf answer tidyRow tidyRows sliceRows layoutRows trailerRows numberRows listRows componentRows firstRow tagged clausesOf countsOf bodyOf trailerOf tidyRule tidyCounts tidyClauses
-    tidyEntry tidyFrom drops properlyContains anyOf sum inside every mixed together reaches within leads named entry someBelow bit mask prefaceRows nameRows hasNames namesBefore repeatsName prefaceFrom
+    tidyEntry tidyFrom drops properlyContains anyOf sum inside every mixed together reaches within leads named entry someBelow bit mask prefaceRows nameRows hasNames namesBefore repeatsName
+    prefaceFrom
 stands-11 = (refl, refl)
 
 -- the rule of `loose 0` after one byte and the name of its letter, which begins with x
@@ -58,8 +59,8 @@ pub tidies-named : (tidiedOf (lettered 0x47) 23 ≡ Length 22)
     × (sliceTidied (lettered 0x47) (7 ∷ 7 ∷ 7 ∷ 7 ∷ 7 ∷ 7 ∷ 7 ∷ 7 ∷ 7 ∷ 7 ∷ 7 ∷ 7 ∷ 7 ∷ 7 ∷ 7 ∷ 7 ∷ 7 ∷ 7 ∷ 7 ∷ 7 ∷ 7 ∷ 7 ∷ 8 ∷ [])
     ≡ 0x47 ∷ 0x4f ∷ 0x20 ∷ 0x20 ∷ 0x20 ∷ 0x20 ∷ 0x20 ∷ 0x20 ∷ 0x4e ∷ 0x4d ∷ 0x03 ∷ 0x00 ∷ 0x01 ∷ 0x01 ∷ 0x02 ∷ 0x01 ∷ 0x00 ∷ 0x00 ∷ 0x02 ∷ 0x00 ∷ 0x41 ∷ 0x57 ∷ 8 ∷ [])
 unfolding tidiedOf answer sliceTidied after tidyRow tidyRows sliceRows layoutRows trailerRows numberRows listRows componentRows firstRow tagged clausesOf countsOf bodyOf trailerOf tidyRule tidyCounts
-    tidyClauses tidyEntry tidyFrom drops properlyContains anyOf sum inside every mixed together reaches within leads named entry someBelow bit mask prefaceRows nameRows hasNames namesBefore repeatsName
-    prefaceFrom
+    tidyClauses tidyEntry tidyFrom drops properlyContains anyOf sum inside every mixed together reaches within leads named entry someBelow bit mask prefaceRows nameRows hasNames namesBefore
+    repeatsName prefaceFrom
 tidies-named = (refl, refl)
 
 -- 1F in the name: 22, before 16; too few bytes before 4E 4D: 21

@@ -1,5 +1,5 @@
-// The lines of a table's text and its parts, read from a slice; flags and transitions are stored as far as there is room for them. Place 0 says that the
-// text does not go on so.
+// The lines of a table's text and its parts, read from a slice; flags and transitions are stored as far as there is room for them. Place 0
+// says that the text does not go on so.
 pub mod lines;
 
 use crate::lines::Number;

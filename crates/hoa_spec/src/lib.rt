@@ -1,5 +1,5 @@
-// The text of a table in the Hanoi Omega-Automata format, version 1, and its reading: what is written, refused, answered and stored. Definitions,
-// and the type of the reader's answer.
+// The text of a table in the Hanoi Omega-Automata format, version 1, and its reading: what is written, refused, answered and stored.
+// Definitions, and the type of the reader's answer.
 
 // How many macrostates and transitions the table has.
 pub struct TableSizes {

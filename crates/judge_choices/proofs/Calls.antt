@@ -27,7 +27,8 @@ use Rattle.judge_spec.specs.declared.Verdict.{Verdict}
 use Rattle.judge_spec.specs.declared.Verdict.the-variants.{Refused}
 use Rattle.judge_spec.specs.Judge.{sliceRows, verdict, holdsStart, after, Meant}
 use Rattle.judge_spec.proofs.Meaning.{meaning as masks-meaning}
-use Rattle.judge_choices_spec.specs.ChoicesComputed.{choiceAt, choicesBy, choicesOf, Written}
+use Rattle.judge_choices_spec.specs.ChoicesComputed.{choiceAt, choicesBy, choicesOf}
+use Rattle.judge_choices_spec.specs.Choice.{Written}
 use Rattle.judge_choices_place.proofs.Meaning.{meaning as choices-meaning}
 use Rattle.judge_choices.specs.Judge.{choiceRows, choicesCallRow, choicesRow, CalledChoices, JudgedChoices}
 

@@ -13,7 +13,8 @@ use Rattle.file_spec.specs.Rows.{fileRows}
 use Rattle.word_rows.specs.Words.{wordRows}
 use Rattle.judge_spec.specs.declared.Verdict.{Verdict}
 use Rattle.judge_spec.specs.Judge.{sliceRows, verdict, holdsStart, after, Meant}
-use Rattle.judge_choices_spec.specs.ChoicesComputed.{choicesOf, Written}
+use Rattle.judge_choices_spec.specs.ChoicesComputed.{choicesOf}
+use Rattle.judge_choices_spec.specs.Choice.{Written}
 
 -- row 16, of the second slice of k bytes: "result or scratch slice too short", with a byte a pair
 unfoldable pub choiceRows : Rule → List ℕ → List ℕ → ℕ → List Check

@@ -39,8 +39,8 @@ use Rattle.rule_entries.specs.declared.Met.the-variants.{Clause}
 use Rattle.rule_entries.specs.Met.{metOf}
 use Rattle.rule_entries.proofs.Clauses.{Met-at, met-first, satisfies-wide}
 use Rattle.rule_entries.proofs.Entries.{entry-states}
-use Rattle.judge_choices_spec.specs.Choice.{Choice}
-use Rattle.judge_choices_spec.specs.ChoicesComputed.{noChoice, numberOf, aimOf, nearer, nearAt, distanceAt, aimAt, choiceAt, choicesBy, choicesOf, planOf, Written}
+use Rattle.judge_choices_spec.specs.ChoicesComputed.{noChoice, numberOf, aimOf, nearer, nearAt, distanceAt, aimAt, choiceAt, choicesBy, choicesOf}
+use Rattle.judge_choices_spec.specs.Choice.{Choice, planOf, Written}
 use Rattle.judge_choices_spec.specs.Rounds.{metNumber}
 use Rattle.judge_choices_place.proofs.Leaving.{plan-of, inside-suits, suits-inside}
 

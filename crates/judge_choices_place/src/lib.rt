@@ -1,5 +1,5 @@
-// The laws of the choices of a word, and the states of one place, each tried against its entry: the step that the choices of accepting and of rejecting
-// states share.
+// The laws of the choices of a word, and the states of one place, each tried against its entry: the step that the choices of accepting and
+// of rejecting states share.
 use rule_components::class_of;
 use rule_entries::Head;
 use rule_entries::Met;

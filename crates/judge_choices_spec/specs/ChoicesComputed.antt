@@ -1,8 +1,7 @@
--- The choices of a word, computed. judge_choices_laws/proofs/Meaning proves them to be those by plans, so what stands here has not to be believed.
-use mathlib.Core.Path.{_≡_}
+-- The choices of a word, computed. judge_choices_place/proofs/Meaning proves them to be those by plans, so what stands here has not to be believed.
 use mathlib.Core.Bool.{_&&_, not, cond}
 use mathlib.Core.List.{List}
-use Prim.Native.Nat.{ℕ, zero, suc, _+_, _-_, _*_, _/_, _%_, _<_}
+use Prim.Native.Nat.{ℕ, zero, suc, _+_, _-_, _*_, _/_, _%_}
 use lib.ListN.{getD}
 use Rattle.sets.specs.Tests.{first}
 use Rattle.sets.specs.Masks.{bit, mask}
@@ -10,13 +9,11 @@ use Rattle.sets.specs.Lists.{tabulate}
 use Rattle.theory.specs.Rule.{Rule, entry, satisfies}
 use Rattle.theory.specs.Automaton.{automaton}
 use Rattle.theory.specs.Core.{mix}
-use Rattle.theory.specs.Plan.{AcceptsFrom}
 use Rattle.theory.specs.Word.{places, nextPlace, letterAt}
 use Rattle.theory.specs.Truth.{truthMasks}
 use Rattle.rule_entries.specs.declared.Met.{Met}
 use Rattle.rule_entries.specs.declared.Met.the-variants.{Clause, Nothing}
 use Rattle.rule_entries.specs.Met.{metOf}
-use Rattle.judge_choices_spec.specs.Choice.{Choice}
 
 -- 02: "False pairs get 255."
 abbrev pub noChoice : ℕ
@@ -67,18 +64,3 @@ module _ (r : Rule) (lead cycle masks : List ℕ) where
 -- the choices of a word
 abbrev pub choicesOf : Rule → List ℕ → List ℕ → List ℕ
 choicesOf r lead cycle = choicesBy r lead cycle (truthMasks r lead cycle)
-
--- the plan that a slice of choices writes down
-abbrev pub planOf : Rule → List ℕ → List ℕ → List ℕ → ℕ → ℕ → ℕ
-planOf r lead cycle choices q p = getD (entry r q (letterAt lead cycle p)) (getD choices (p * r .n + q) 0) 0
-
--- what choices mean, by plans
-pub record Written (r : Rule) (lead cycle choices : List ℕ) : Type 0 where
-  -- 02: "The judge writes for each true pair a clause number, 0 for the entry's first, at byte place × n + state"
-  pub true-pairs : (q p : ℕ) → q < r .n → p < places lead cycle → AcceptsFrom r lead cycle q p
-      → Choice (automaton r) (nextPlace lead cycle) (letterAt lead cycle) q p (getD choices (p * r .n + q) 0)
-  -- 02: "False pairs get 255."
-  pub false-pairs : (q p : ℕ) → q < r .n → p < places lead cycle → (AcceptsFrom r lead cycle q p → ⊥) → getD choices (p * r .n + q) 0 ≡ 255
-  -- 02: "The written choices must form an accepting plan from every true pair."
-  pub plan : (q p : ℕ) → q < r .n → p < places lead cycle → AcceptsFrom r lead cycle q p
-      → (P : AcceptsFrom r lead cycle q p) × (P .pick ≡ planOf r lead cycle choices)

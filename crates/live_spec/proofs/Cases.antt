@@ -45,8 +45,8 @@ codes-F = trimmed.codes-F
 
 moves-F : transitionsOf (automaton F) 2 codesF ≡ movesF
 unfolding isAccepting transitionsOf tabulate flat keep among anyOf insertAscending sorted wellCoded pack fields mask num goes before onward automaton code.setIn code.rankIn componentIn classesIn
-    every satisfies inside bit rankOf levelOf settledUpTo settled rejectingSettled acceptingSettled mix isOpen taken someBelow count first largest openOf nextComponent isCore component components isSmallest
-    smallest together reaches within leads named entry sum
+    every satisfies inside bit rankOf levelOf settledUpTo settled rejectingSettled acceptingSettled mix isOpen taken someBelow count first largest openOf nextComponent isCore component components
+    isSmallest smallest together reaches within leads named entry sum
 moves-F = refl
 
 pub transitions-F : trimmedTransitions F ≡ movesF

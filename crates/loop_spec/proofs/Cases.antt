@@ -15,8 +15,8 @@ use Rattle.loop_spec.specs.Search.{othersOf, sources, stepBack, ways, ro
 
 -- what an evaluation unfolds
 unfoldable pub computed : ℕ
-unfolding loopOf loopBy further begins route ways stepBack sources othersOf isMixedLoop passesBoth isClosedWalk atMost allBelow along table tabulate someBelow first bit mask leads named entry sum anyOf
-    allOf
+unfolding loopOf loopBy further begins route ways stepBack sources othersOf isMixedLoop passesBoth isClosedWalk atMost allBelow along table tabulate someBelow first bit mask leads named entry sum
+    anyOf allOf
 computed = 0
 
 -- the rule with the mask of its accepting states, and for each state the mask of the states that it leads to

@@ -16,8 +16,8 @@ use Rattle.loop_spec.specs.Reported.{sliceRows, formedRows, reportRow, a
 
 -- what an evaluation unfolds
 unfoldable computed : ℕ
-unfolding reportOf sliceAfter answer after reportRow formedRows sliceRows firstRow layoutRows trailerRows numberRows listRows clauseRows componentRows mixed together reaches within leads named entry someBelow bit mask
-    someNested nested inside every tagged clausesOf countsOf
+unfolding reportOf sliceAfter answer after reportRow formedRows sliceRows firstRow layoutRows trailerRows numberRows listRows clauseRows componentRows mixed together reaches within leads named entry
+    someBelow bit mask someNested nested inside every tagged clausesOf countsOf
     searched
 computed = 0
 

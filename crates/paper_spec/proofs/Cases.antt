@@ -20,8 +20,8 @@ use Rattle.paper_spec.specs.Examples.{DualD}
 
 -- what an evaluation unfolds
 unfoldable computed : ℕ
-unfolding mask every satisfies inside bit someBelow count first component components isSmallest smallest parts.together reaches within leads named entry sum automaton satisfiesDual inC lowerR1 witnessR1
-    lowerR2 witnessR2 bothHalves rejectingSettled acceptingSettled mix
+unfolding mask every satisfies inside bit someBelow count first component components isSmallest smallest parts.together reaches within leads named entry sum automaton satisfiesDual inC lowerR1
+    witnessR1 lowerR2 witnessR2 bothHalves rejectingSettled acceptingSettled mix
 computed = 0
 
 -- ---- the dual entry

@@ -23,8 +23,8 @@ use Rattle.rejecting_spec.specs.RejectingComputed.{rejectingMacrostates,
 -- what an evaluation unfolds
 unfoldable computed : ℕ
 unfolding isAccepting macrostatesFrom transitionsFrom transitionsOf codesFrom cores candidates digitals tabulate flat keep among anyOf insertAscending sorted reachedIn reached wellCoded pack fields
-    mask num goes before onward begun automaton setIn rankIn componentIn classesIn every satisfies inside bit rankOf levelOf settledUpTo settled rejectingSettled acceptingSettled mix isOpen taken someBelow count
-    first largest openOf nextComponent isCore component components isSmallest smallest together reaches within leads named entry sum
+    mask num goes before onward begun automaton setIn rankIn componentIn classesIn every satisfies inside bit rankOf levelOf settledUpTo settled rejectingSettled acceptingSettled mix isOpen taken
+    someBelow count first largest openOf nextComponent isCore component components isSmallest smallest together reaches within leads named entry sum
 computed = 0
 
 -- a run begins where the set lacks the initial state, and nowhere else

@@ -1,4 +1,4 @@
--- The lists of the automaton of the words that a rule rejects, computed: what they hold is `ListsRejecting` (lists-rejecting, rejecting_laws/proofs/Demand).
+-- The lists of the automaton of the words that a rule rejects, computed: what they hold is `ListsRejecting` (lists-rejecting, theory_laws/proofs/RejectingDemand).
 use mathlib.Core.List.{List}
 use Prim.Native.Nat.{ℕ}
 use Rattle.theory.specs.Rule.{Rule}

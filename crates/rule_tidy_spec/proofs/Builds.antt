@@ -18,12 +18,12 @@ use Rattle.rule_tidy_spec.proofs.Cases.{glued, split}
 
 pub macrostates-glued : macrostates glued ≡ 257 ∷ 4355 ∷ 4611 ∷ 8451 ∷ 17592186048771 ∷ 35184372093443 ∷ 35184372097283 ∷ []
 unfolding macrostatesFrom codesFrom cores candidates digitals tabulate flat keep among anyOf insertAscending sorted reachedIn reached wellCoded pack fields mask num goes before onward begun automaton
-    setIn rankIn componentIn classesIn every satisfies inside bit rankOf levelOf settledUpTo settled rejectingSettled acceptingSettled mix isOpen taken someBelow count first largest openOf nextComponent isCore
-    component components isSmallest smallest together reaches within leads named entry sum
+    setIn rankIn componentIn classesIn every satisfies inside bit rankOf levelOf settledUpTo settled rejectingSettled acceptingSettled mix isOpen taken someBelow count first largest openOf
+    nextComponent isCore component components isSmallest smallest together reaches within leads named entry sum
 macrostates-glued = refl
 
 pub macrostates-split : macrostates split ≡ 257 ∷ 4355 ∷ 1099511632131 ∷ 17592186048771 ∷ 18691697676547 ∷ []
 unfolding macrostatesFrom codesFrom cores candidates digitals tabulate flat keep among anyOf insertAscending sorted reachedIn reached wellCoded pack fields mask num goes before onward begun automaton
-    setIn rankIn componentIn classesIn every satisfies inside bit rankOf levelOf settledUpTo settled rejectingSettled acceptingSettled mix isOpen taken someBelow count first largest openOf nextComponent isCore
-    component components isSmallest smallest together reaches within leads named entry sum
+    setIn rankIn componentIn classesIn every satisfies inside bit rankOf levelOf settledUpTo settled rejectingSettled acceptingSettled mix isOpen taken someBelow count first largest openOf
+    nextComponent isCore component components isSmallest smallest together reaches within leads named entry sum
 macrostates-split = refl

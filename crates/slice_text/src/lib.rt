@@ -1,5 +1,5 @@
-// Texts at a place of a lent slice, of which listings and texts for other tools are made: bytes, texts and numbers in decimal digits. Each function
-// answers the place after what it wrote.
+// Texts at a place of a lent slice, of which listings and texts for other tools are made: bytes, texts and numbers in decimal digits. Each
+// function answers the place after what it wrote.
 pub mod decimals;
 
 ghost use mathlib.Core.Path.{_≡_};

@@ -20,8 +20,8 @@ use Rattle.spare_spec.specs.SpareComputed.{hasLevel, spares}
 
 -- what an evaluation unfolds
 unfoldable computed : ℕ
-unfolding hasLevel spares goes before onward automaton setIn rankIn componentIn classesIn every satisfies inside bit mask rankOf levelOf settledUpTo settled rejectingSettled acceptingSettled mix isOpen
-    taken someBelow count first largest openOf nextComponent component components isSmallest smallest together reaches within leads named entry sum
+unfolding hasLevel spares goes before onward automaton setIn rankIn componentIn classesIn every satisfies inside bit mask rankOf levelOf settledUpTo settled rejectingSettled acceptingSettled mix
+    isOpen taken someBelow count first largest openOf nextComponent component components isSmallest smallest together reaches within leads named entry sum
 computed = 0
 
 -- ---- F, some time letter 1: the state waits over letter 0

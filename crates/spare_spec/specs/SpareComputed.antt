@@ -1,4 +1,4 @@
--- Whether a step spares a component, computed: equal to `SparesIn` by spares-iff (spare_laws/proofs/Steps).
+-- Whether a step spares a component, computed: equal to `SparesIn` by spares-iff (stricter_laws/proofs/Steps).
 use mathlib.Core.Bool.{Bool, _&&_, _||_, not}
 use Prim.Native.Nat.{ℕ}
 use lib.Dec.{eqb}

@@ -49,8 +49,8 @@ unfoldable computed : ℕ
 unfolding stricterRow rulesRows alphabetRows bothRoomRows pairRows pairs roomAfter scratchLeft sizesOf roomRows roomOf fileRows bodyRows formedRows clauseRows someNested nested prefaceRows nameRows
     hasNames namesBefore repeatsName layoutRows trailerRows numberRows listRows componentRows firstRow tagged clausesOf countsOf mixed isAccepting macrostatesFrom transitionsFrom transitionsOf
     codesFrom cores candidates digitals tabulate flat keep among anyOf insertAscending sorted reachedIn reached wellCoded pack fields mask num goes before onward begun automaton setIn rankIn
-    componentIn classesIn every satisfies inside bit rankOf levelOf settledUpTo settled rejectingSettled acceptingSettled mix isOpen taken someBelow count first largest openOf nextComponent isCore component
-    components isSmallest smallest together reaches within leads named entry sum
+    componentIn classesIn every satisfies inside bit rankOf levelOf settledUpTo settled rejectingSettled acceptingSettled mix isOpen taken someBelow count first largest openOf nextComponent isCore
+    component components isSmallest smallest together reaches within leads named entry sum
 computed = 0
 
 -- ---- the rows: F's own table has 3 macrostates and 7 transitions, that of the words that E rejects has 3 and 7, so P is 9

@@ -1,4 +1,5 @@
-// The search for a word that two tables accept: the pairs from which both can, from the files of the rules, a start pair among them, and the word.
+// The search for a word that two tables accept: the pairs from which both can, from the files of the rules, a start pair among them, and
+// the word.
 pub mod files;
 
 use crate::files::mark_files;

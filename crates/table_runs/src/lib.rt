@@ -17,7 +17,8 @@ ghost use lib.ListN.{length, getD};
 ghost use Rattle.theory.specs.Run.{sourceOf, targetOf};
 ghost use Rattle.table_lent.specs.Lent.{inBoth};
 ghost use Rattle.table_fixpoints_spec.specs.Product.{NodeEdge, Fits};
-ghost use Rattle.table_runs.specs.Tracks.{TrackFrom, Tracked, WordReady, flagOf, flaggedAt, Flagged, raised, Raised, Begun, Thinned, Found, enteredBy, enteredAll, Entered};
+ghost use Rattle.table_runs.specs.Tracks.{TrackFrom, Tracked, WordReady, flagOf, flaggedAt, Flagged, raised, Raised, Begun, Thinned};
+ghost use Rattle.table_runs.specs.Tracks.{Found, enteredBy, enteredAll, Entered};
 
 // ---- the cycle
 
@@ -91,7 +92,8 @@ fn thin(
     requires { ⌜ Fits (length (inBoth (now codes) (now codebytes) .numbers)) (now cycle) (inBoth (now moves) (now movebytes) .numbers)
         (now marks) × Begun round (inBoth (now codes) (now codebytes) .numbers) (now marks) ⌝ }
     ensures { λ _. ⌜ Thinned (NodeEdge (length (inBoth (now (codes .entry)) (now (codebytes .entry)) .numbers)) (now (cycle .entry))
-        (inBoth (now (moves .entry)) (now (movebytes .entry)) .numbers)) (inBoth (now (codes .entry)) (now (codebytes .entry)) .numbers) (now (marks .entry))
+        (inBoth (now (moves .entry)) (now (movebytes .entry)) .numbers)) (inBoth (now (codes .entry)) (now (codebytes .entry)) .numbers)
+        (now (marks .entry))
         (now (marks .exit)) ⌝ }
 {
     if round == 1 {
@@ -129,7 +131,8 @@ fn solve(
     requires { ⌜ Fits (length (inBoth (now codes) (now codebytes) .numbers)) (now cycle) (inBoth (now moves) (now movebytes) .numbers)
         (now marks) × ((x : ℕ) → (getD (now marks) x 0 ≡ 0) ⊎ (getD (now marks) x 0 ≡ 2)) ⌝ }
     ensures { λ _. ⌜ Found (NodeEdge (length (inBoth (now (codes .entry)) (now (codebytes .entry)) .numbers)) (now (cycle .entry))
-        (inBoth (now (moves .entry)) (now (movebytes .entry)) .numbers)) (inBoth (now (codes .entry)) (now (codebytes .entry)) .numbers) (now (marks .entry))
+        (inBoth (now (moves .entry)) (now (movebytes .entry)) .numbers)) (inBoth (now (codes .entry)) (now (codebytes .entry)) .numbers)
+        (now (marks .entry))
         (now (marks .exit)) ⌝ }
 {
     let n = count(codes, codebytes);

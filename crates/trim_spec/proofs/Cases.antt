@@ -26,8 +26,8 @@ use Rattle.trim_spec.specs.Trimmed.{renumber, renumbered}
 -- what an evaluation of the lists of a rule unfolds
 unfoldable computed : ℕ
 unfolding isAccepting macrostatesFrom transitionsFrom transitionsOf codesFrom cores candidates digitals tabulate flat keep among anyOf insertAscending sorted reachedIn reached wellCoded pack fields
-    mask num goes before onward begun automaton setIn rankIn componentIn classesIn every satisfies inside bit rankOf levelOf settledUpTo settled rejectingSettled acceptingSettled mix isOpen taken someBelow count
-    first largest openOf nextComponent isCore component components isSmallest smallest together reaches within leads named entry sum
+    mask num goes before onward begun automaton setIn rankIn componentIn classesIn every satisfies inside bit rankOf levelOf settledUpTo settled rejectingSettled acceptingSettled mix isOpen taken
+    someBelow count first largest openOf nextComponent isCore component components isSmallest smallest together reaches within leads named entry sum
 computed = 0
 
 -- and of the marks of a table

@@ -1,4 +1,4 @@
--- The lists of the trimmed table, computed. That the codes are those of the reachable macrostates that matter, by runs, is `trimmed-lists` (trim_laws/proofs/Trimmed).
+-- The lists of the trimmed table, computed. That the codes are those of the reachable macrostates that matter, by runs, is `trimmed-lists` (theory_laws/proofs/Trimmed).
 use mathlib.Core.Bool.{Bool, true, false, _&&_, _||_, cond}
 use mathlib.Core.List.{List, [], _∷_}
 use Prim.Native.Nat.{ℕ, zero, suc, _+_, _*_}
@@ -49,7 +49,7 @@ solvedIn (suc d) ts ms =
     let out = sweptOut (suc (4 * length ms)) ts ms in
     elim (anyOf out goesOut) [ true ↦ solvedIn d ts (settledAll out) | false ↦ settledAll out ]
 
--- the marks that are left: of the numbers that matter (trim_laws/proofs/Mattering: matters-iff)
+-- the marks that are left: of the numbers that matter (theory_laws/proofs/Mattering: matters-iff)
 unfoldable pub liveMarks : List ℕ → List ℕ → List ℕ
 liveMarks codes ts = let ms = flags codes in solvedIn (suc (sum ms)) ts ms
 
@@ -85,7 +85,7 @@ isLeft ms t = isLive ms (sourceOf t) && isLive ms (targetOf t)
 unfoldable pub renumber : List ℕ → ℕ → ℕ
 renumber ms t = newNumber ms (sourceOf t) * 16777216 + letterOf t * 65536 + newNumber ms (targetOf t)
 
--- those whose ends are left, by their new numbers: `trimmedTransitions` (trim_laws/proofs/Renumbering: renumbered-are)
+-- those whose ends are left, by their new numbers: `trimmedTransitions` (theory_laws/proofs/Renumbering: renumbered-are)
 unfoldable pub renumbered : List ℕ → List ℕ → List ℕ
 renumbered ms [] = []
 renumbered ms (t ∷ ts) = elim (isLeft ms t) [ true ↦ renumber ms t ∷ renumbered ms ts | false ↦ renumbered ms ts ]

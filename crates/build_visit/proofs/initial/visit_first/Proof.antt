@@ -28,7 +28,9 @@ core-of-requires c κs = let p = c .before .before .before .before .before .befo
 admit-requires : tie.Need-admit-requires
 admit-requires c κs =
     let start = c .before .before .before .before .before .before .before .before .before .before in
-    let p = start .pre in let low = c .before .before .before .before .lowest in (p .1, first-low (p .0 .1) (start .args .ranks) (p .2) (low .result) (low .ensures) (c .before .before .before .core-of .ensures))
+    let p = start .pre in
+    let low = c .before .before .before .before .lowest in
+    (p .1, first-low (p .0 .1) (start .args .ranks) (p .2) (low .result) (low .ensures) (c .before .before .before .core-of .ensures))
 
 returns-3 : tie.Need-returns-3
 returns-3 c =
