@@ -39,7 +39,7 @@ module _ (table log old new : List ℕ) (v : Translated) where
 
 module _ (c : LiveCall) (codes transitions : Lent) (state set state′ set′ : List ℕ) (v : LiveAnswer) where
   abbrev liveRest : Rule → List Check
-  liveRest r = live.callRows c (r .s) codes transitions state (length set)
+  liveRest r = live.liveCallRows c (r .s) codes transitions state (length set)
 
   abbrev LiveBy : ℕ → Rule → Type 0
   LiveBy k r =

@@ -75,7 +75,7 @@ module _ (codes transitions : Lent) (old new : List ℕ) (v : Written) where
   Wrote f = (v ≡ hoa.hoaWritten f codes transitions (length old)) × (new ≡ hoa.hoaAfter f codes transitions old)
 
   abbrev wroteRest : Rule → List Check
-  wroteRest r = hoa.callRows (r .s) (r .initial) codes transitions (length old)
+  wroteRest r = hoa.textRows (r .s) (r .initial) codes transitions (length old)
 
   abbrev WroteBy : ℕ → Rule → Type 0
   WroteBy k r = (v ≡ answer k (hoa.lentText (r .s) (r .initial) codes transitions)) × (new ≡ after k (hoa.lentText (r .s) (r .initial) codes transitions) old)

@@ -8,7 +8,7 @@ pub mod loops;
 pub mod names;
 pub mod rejecting;
 pub mod sheet;
-pub mod stricter;
+pub mod stricter_than;
 pub mod tidy;
 pub mod trimmed;
 pub mod word;
