@@ -35,7 +35,7 @@ END {
     print "The map: " count " crates by subject, in the order of the data, from a file to an answer in C. `tools/crates.sh` writes this page from tools/subjects.txt and the head comment of each crate."
     print ""
     print "A name begins with its subject. One that ends in `_spec` has the definitions under the code of that subject, with worked examples. Its laws stand in a crate `_laws` where there is one:"
-    print "each must-fail edit proves its crate again, and an edit of a definition should fail at an example. In a crate, specs/ has definitions and contracts, src/ the code, proofs/ the laws and"
+    print "each must-fail edit proves its crate again, and an edit of a definition should fail at an example. In a crate, specs/NAME.antt has definitions and contracts, src/NAME.rt the code (lib.rt first), proofs/ the laws and"
     print "a folder for each function, must-fail/ the wrong versions. docs/PROOF.md has the list of files that a reader must believe, docs/HOW.md tells how each thing goes."
     for (i = 1; i <= titles; i++) if (rows[i] != "") {
         print "\n## " title[i] "\n\n" told[i] "\n\n| crate | what it has |\n|---|---|"

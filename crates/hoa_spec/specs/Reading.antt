@@ -29,7 +29,7 @@ NoTable text = (flags transitions : List ℕ) → Carries text flags transitions
 
 -- the answer, and both slices after the call: 19 "before slice lengths", then 16; "a call fills lent slices from their start
 -- and leaves the rest as lent, and refusals from 19 on change no lent slice"; 16 changes none either.
--- A text carries one table at most (hoa_read_laws: carried-once), so it is answered in one way.
+-- A text carries one table at most (hoa_laws: carried-once), so it is answered in one way.
 pub data ReadBack (text flags transitions : List ℕ) : HoaRead → List ℕ → List ℕ → Type 0 where
   no-table : NoTable text → ReadBack text flags transitions (Refused 19) flags transitions
   short : {fs ts : List ℕ} → Carries text fs ts → (length flags < length fs) ⊎ (length transitions < length ts)

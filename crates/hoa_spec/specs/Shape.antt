@@ -1,4 +1,4 @@
--- Which flags and transitions a text can carry, told with no code and no rule (hoa_read_laws: carried, carries).
+-- Which flags and transitions a text can carry, told with no code and no rule (hoa_laws: carried, carries).
 use mathlib.Core.Path.{_≡_}
 use mathlib.Core.Bool.{cond}
 use mathlib.Core.List.{List, [], _∷_, List·Memᴰ}
