@@ -38,6 +38,16 @@ EXAMPLES := $(patsubst examples/%.c,$(BUILD)/%,$(wildcard examples/*.c))
 # checks that `rt` runs side by side: it waits for all of a group before it starts the next, so more than there are cores
 export RT_JOBS ?= 4
 
+# what a check lays out for itself stands in memory, where there is room for it (tools/scratch.sh), but for a TMPDIR that the caller has set
+ifndef TMPDIR
+export MULGREDDI_SCRATCH := $(shell tools/scratch.sh $(CURDIR))
+ifneq ($(MULGREDDI_SCRATCH),)
+export TMPDIR := $(MULGREDDI_SCRATCH)
+endif
+endif
+# a check that was killed leaves what it laid out
+EMPTY_SCRATCH := $(if $(MULGREDDI_SCRATCH),rm -rf $(MULGREDDI_SCRATCH)/rattle-*)
+
 # one `rt` at a time; of the gate's steps that run side by side only one calls it
 ifndef BESIDE
 .NOTPARALLEL:
@@ -251,6 +261,7 @@ quick:
 prove-all:
 	@mkdir -p $(BUILD)/log
 	@rm -f $(LIB) $(PROGRAM)
+	@$(EMPTY_SCRATCH)
 	rt ci 2>&1 | tee $(BUILD)/log/ci
 
 # The closing line of `rt ci` is printed once more at the very end, where every step has passed: a failure before it leaves make's own line.
@@ -264,3 +275,4 @@ test:
 
 clean:
 	rm -rf $(BUILD) target
+	@$(EMPTY_SCRATCH)
