@@ -234,8 +234,7 @@ module _ (text : List ℕ) (p b n i accepting : ℕ) (moves : List ℕ) (r : ℕ
         pub blocking-next : Blocking text p b n (i + 1) x (moves ++ E .found j .edges) q
         blocking-next =
             let F = E .found j in
-            let us = F .edges in
-            let R = F .read in
+            let us = F .edges in let R = F .read in
             let t = T .found g in
             let w = first-more accepting i x (B .first) (t .0) in
             let few : x ≤ i + 1 = let f = B .first in ⊎-elim (λ e. omega arith) (λ e. let s = e .0 in omega arith) (t .0) in

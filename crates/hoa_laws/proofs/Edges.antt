@@ -53,8 +53,7 @@ edges-left b i (t ∷ ts) (u ∷ us) qs rest F G n e =
     let r = moves-once b i t u (F .source t (List·Memᴰ·head refl)) (G .source u (List·Memᴰ·head refl)) (F .letter t (List·Memᴰ·head refl)) (G .letter u (List·Memᴰ·head refl))
     (sym (edges-cons b t ts qs) ∙ e ∙ edges-cons b u us rest) in
     let ih = edges-left b i ts us qs rest (from-tail F) (from-tail G) n (r .1) in
-    let h = r .0 in
-    let k = ih .1 in
+    let h = r .0 in let k = ih .1 in
     (ih .0, cc, ih .2)
 
 pub edges-once : (b i : ℕ) (ts us qs rest : List ℕ) → From b i ts → From b i us → NoEdge qs → NoEdge rest → lines (edgeOf b) 0 ts ++ qs ≡ lines (edgeOf b) 0 us ++ rest

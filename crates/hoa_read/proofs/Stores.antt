@@ -87,9 +87,7 @@ module _ (text : List ℕ) (n b accepting m starts blocks : ℕ) (W : Whole text
 
     moves-again : again .moves ≡ W .moves
     moves-again =
-        let R = again .read in
-        let P = W .shaped in
-        let c = W .macrostates in
+        let R = again .read in let P = W .shaped in let c = W .macrostates in
         let w = first-length accepting′ n (R .first) in
         let s = blocks-left b (again .moves) (W .moves) (R .letter) (λ t i. P .ranges t i .letter) 0 (acceptingFirst accepting′ n) (W .flags) (drop r text) endLine
         (omega arith) (λ z. R .next (omega arith)) end-no-edge (sym (R .is) ∙ W .body) in

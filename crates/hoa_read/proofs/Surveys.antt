@@ -166,9 +166,7 @@ module _ (text : List ℕ) (n b last starts blocks : ℕ) (H : HeadOf text n b l
       pub survey-rejecting : accepting < last → NoShape text
       survey-rejecting g c fs ts P e =
           let k = body-part c fs ts P e in
-          let R = F .read in
-          let S = H .read in
-          let M = P .marked in
+          let R = F .read in let S = H .read in let M = P .marked in
           let j = last - 1 in
           let hi = S .high in
           let jn : j < n = omega arith in
@@ -208,8 +206,7 @@ module _ (text : List ℕ) (n b last starts blocks : ℕ) (H : HeadOf text n b l
 
           pub survey-done : last ≤ accepting → r ≡ length text → 0 < blocks → Surveyed text n b accepting m starts blocks r
           survey-done high e some =
-              let R = F .read in
-              let S = H .read in
+              let R = F .read in let S = H .read in
               let f = E .found g in
               let flags = flagsFrom accepting 0 (H .initial) in
               let len : length flags ≡ length (H .initial) = flags-length accepting 0 (H .initial) in

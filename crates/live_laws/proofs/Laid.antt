@@ -41,9 +41,7 @@ module _ (number flags numbers letters marks set rest : List ℕ) (L : Long numb
       → put (18 + at) v (laid number flags numbers letters marks set rest) ≡ laid number flags (put at v numbers) letters marks set rest
   unfolding laid
   put-numbers at v h =
-      let e = L .number-long in
-      let f = L .flags-long in
-      let g = L .numbers-long in
+      let e = L .number-long in let f = L .flags-long in let g = L .numbers-long in
       put-behind (18 + at) (16 + at) v number (flags ++ (numbers ++ (letters ++ (marks ++ (set ++ rest))))) (omega (arith, e))
       ∙ ap (λ (x : List ℕ). number ++ x)
       (put-behind (16 + at) at v flags (numbers ++ (letters ++ (marks ++ (set ++ rest)))) (omega (arith, f))
@@ -53,10 +51,7 @@ module _ (number flags numbers letters marks set rest : List ℕ) (L : Long numb
       → put (50 + at) v (laid number flags numbers letters marks set rest) ≡ laid number flags numbers (put at v letters) marks set rest
   unfolding laid
   put-letters at v h =
-      let e = L .number-long in
-      let f = L .flags-long in
-      let g = L .numbers-long in
-      let i = L .letters-long in
+      let e = L .number-long in let f = L .flags-long in let g = L .numbers-long in let i = L .letters-long in
       put-behind (50 + at) (48 + at) v number (flags ++ (numbers ++ (letters ++ (marks ++ (set ++ rest))))) (omega (arith, e))
       ∙ ap (λ (x : List ℕ). number ++ x)
       (put-behind (48 + at) (32 + at) v flags (numbers ++ (letters ++ (marks ++ (set ++ rest)))) (omega (arith, f))
@@ -68,10 +63,7 @@ module _ (number flags numbers letters marks set rest : List ℕ) (L : Long numb
       → put (562 + at) v (laid number flags numbers letters marks set rest) ≡ laid number flags numbers letters (put at v marks) set rest
   unfolding laid
   put-marks at v h =
-      let e = L .number-long in
-      let f = L .flags-long in
-      let g = L .numbers-long in
-      let i = L .letters-long in
+      let e = L .number-long in let f = L .flags-long in let g = L .numbers-long in let i = L .letters-long in
       let j = L .marks-long in
       put-behind (562 + at) (560 + at) v number (flags ++ (numbers ++ (letters ++ (marks ++ (set ++ rest))))) (omega (arith, e))
       ∙ ap (λ (x : List ℕ). number ++ x)
@@ -86,10 +78,7 @@ module _ (number flags numbers letters marks set rest : List ℕ) (L : Long numb
   set-behind : (v : List ℕ) → put setAt v (laid number flags numbers letters marks set rest) ≡ number ++ (flags ++ (numbers ++ (letters ++ (marks ++ put 0 v (set ++ rest)))))
   unfolding laid
   set-behind v =
-      let e = L .number-long in
-      let f = L .flags-long in
-      let g = L .numbers-long in
-      let i = L .letters-long in
+      let e = L .number-long in let f = L .flags-long in let g = L .numbers-long in let i = L .letters-long in
       let j = L .marks-long in
       put-behind 8754 8752 v number (flags ++ (numbers ++ (letters ++ (marks ++ (set ++ rest))))) (omega (arith, e))
       ∙ ap (λ (x : List ℕ). number ++ x)
@@ -112,9 +101,7 @@ module _ (number flags numbers letters marks set rest : List ℕ) (L : Long numb
   behind : (at : ℕ) → drop (50 + at) (laid number flags numbers letters marks set rest) ≡ drop at (letters ++ (marks ++ (set ++ rest)))
   unfolding laid
   behind at =
-      let e = L .number-long in
-      let f = L .flags-long in
-      let g = L .numbers-long in
+      let e = L .number-long in let f = L .flags-long in let g = L .numbers-long in
       drop-behind (50 + at) (48 + at) number (flags ++ (numbers ++ (letters ++ (marks ++ (set ++ rest))))) (omega (arith, e))
       ∙ drop-behind (48 + at) (32 + at) flags (numbers ++ (letters ++ (marks ++ (set ++ rest)))) (omega (arith, f))
       ∙ drop-behind (32 + at) at numbers (letters ++ (marks ++ (set ++ rest))) (omega (arith, g))
@@ -130,9 +117,7 @@ module _ (number flags numbers letters marks set rest : List ℕ) (L : Long numb
   pub read-numbers : (at : ℕ) → at + 2 ≤ 32 → numberAt (laid number flags numbers letters marks set rest) (18 + at) ≡ numberAt numbers at
   unfolding laid
   read-numbers at h =
-      let e = L .number-long in
-      let f = L .flags-long in
-      let g = L .numbers-long in
+      let e = L .number-long in let f = L .flags-long in let g = L .numbers-long in
       number-read (laid number flags numbers letters marks set rest) (18 + at)
       ∙ ap (λ (x : List ℕ). numberAt (take 2 x) 0)
       (drop-behind (18 + at) (16 + at) number (flags ++ (numbers ++ (letters ++ (marks ++ (set ++ rest))))) (omega (arith, e))
@@ -145,8 +130,7 @@ module _ (number flags numbers letters marks set rest : List ℕ) (L : Long numb
 
   pub read-marks : (at k : ℕ) → at + k ≤ 8192 → take k (drop (562 + at) (laid number flags numbers letters marks set rest)) ≡ take k (drop at marks)
   read-marks at k h =
-      let e = L .letters-long in
-      let f = L .marks-long in
+      let e = L .letters-long in let f = L .marks-long in
       ap (take k)
       (ap (λ (i : ℕ). drop i (laid number flags numbers letters marks set rest)) (let i : 562 + at ≡ 50 + (512 + at) = omega arith in i)
       ∙ behind (512 + at)
@@ -155,8 +139,7 @@ module _ (number flags numbers letters marks set rest : List ℕ) (L : Long numb
 
   pub read-set : drop setAt (laid number flags numbers letters marks set rest) ≡ set ++ rest
   read-set =
-      let e = L .letters-long in
-      let f = L .marks-long in
+      let e = L .letters-long in let f = L .marks-long in
       behind 8704
       ∙ drop-behind 8704 8192 letters (marks ++ (set ++ rest)) (omega (arith, e))
       ∙ drop-behind 8192 0 marks (set ++ rest) (omega (arith, f))
@@ -164,8 +147,7 @@ module _ (number flags numbers letters marks set rest : List ℕ) (L : Long numb
   pub read-flag : (m : ℕ) → m < 16 → getD (laid number flags numbers letters marks set rest) (2 + m) 0 ≡ getD flags m 0
   unfolding laid
   read-flag m h =
-      let e = L .number-long in
-      let f = L .flags-long in
+      let e = L .number-long in let f = L .flags-long in
       ap (λ (k : ℕ). getD (laid number flags numbers letters marks set rest) (k + m) 0) (sym e)
       ∙ getD-append-add number (flags ++ (numbers ++ (letters ++ (marks ++ (set ++ rest))))) m 0
       ∙ List·getD-append flags (numbers ++ (letters ++ (marks ++ (set ++ rest)))) 0 m (omega (arith, f, h))

@@ -189,10 +189,7 @@ module _ (r : Rule) where
     where
       of : Twice ws → Shorter ws
       of t =
-          let hs = t .before in
-          let x = t .state in
-          let bs = t .between in
-          let cs = t .after in
+          let hs = t .before in let x = t .state in let bs = t .between in let cs = t .after in
           let m = rw (t .whole) at e in
           let c = cut hs x bs cs (mixed-closed (hs ++ (x ∷ (bs ++ (x ∷ cs)))) m) in
           let l = ap length (t .whole) ∙ length-append hs (x ∷ (bs ++ (x ∷ cs))) in

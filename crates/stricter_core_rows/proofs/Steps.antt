@@ -99,8 +99,7 @@ module _ (nb : ℕ) (left right marks : List ℕ) (second : Bool) (k other : ℕ
         -- a step has not the mark it needs
         low-step : (y : ℕ) (e : CoreStep nb left right (i * nb + j) y) → getD marks y 0 < needed other (sparing (cond second (e .of-B) (e .of-A)) k)
         low-step y e =
-            let t = e .of-A in
-            let u = e .of-B in
+            let t = e .of-A in let u = e .of-B in
             let d = node-unique {nb = nb} {i = i} {j = j} {k = rowOf t} {l = rowOf u} j-low (rows u (e .listed-B)) (e .source) in
             let a = place-of left t (e .listed-A) in
             let b = place-of right u (e .listed-B) in

@@ -122,8 +122,7 @@ module _ (A : Automaton) (H : Layered A) (w c : ℕ → ℕ) (R : Steps A w c) w
       (λ g.
       let a = classes-size A (c (i + d)) (R .macrostate (i + d) .core) (K i) in
       let b : k (i + d) ≤ classes (i + d) (K i) = rw (g .stays) at (g .within) in
-      let n = g .nonzero in
-      let e = g .grown in
+      let n = g .nonzero in let e = g .grown in
       absurd (omega arith))
       (walk d i (i + d) refl v)
 

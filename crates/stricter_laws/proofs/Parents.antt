@@ -44,8 +44,7 @@ module _ (ca ma cb mb : List ℕ) (size : ℕ) (p : Paired (length cb) ma mb siz
       → (x a : ℕ) → PairStep (length cb) ma mb x a y → v ≡ 64 + 4 * a + kindIn ca cb x → i * length cb + j ≡ x
   unfolding kindIn
   parent-far f g x a s e =
-      let t = s .of-A in
-      let u = s .of-B in
+      let t = s .of-A in let u = s .of-B in
       let low = p .sources u (s .listed-B) in
       let under = p .targets u (s .listed-B) in
       let small = step-lettered (length cb) ma mb size p x a y s in

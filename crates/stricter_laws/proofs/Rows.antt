@@ -106,8 +106,7 @@ module _ (nb : ℕ) (ma mb : List ℕ) (size : ℕ) (paired : Paired nb ma mb si
     -- all steps of the pair are among them when the row of j ends at k
     pub step-walked : (k : ℕ) → below (j * 16777216) mb ≤ k → (k < length mb → sourceOf (getD mb k 0) ≡ j → ⊥) → (y : ℕ) → PairEdge nb ma mb (i * nb + j) y → Walked nb ma mb j cuts k y
     step-walked k from end y (a, s) =
-        let t = s .of-A in
-        let u = s .of-B in
+        let t = s .of-A in let u = s .of-B in
         let e = node-unique {nb = nb} {i = i} {j = j} {k = sourceOf t} {l = sourceOf u} j-low (paired .sources u (s .listed-B)) (s .source) in
         let p = place-of mb u (s .listed-B) in
         let o = place-of ma t (s .listed-A) in

@@ -212,13 +212,9 @@ open-1 = refl
 
 pub ranks-separate : Core (automaton I) (setIn (automaton I) 8450) (rankIn (automaton I) 8450) → ⊥
 ranks-separate C =
-    let n = states-I in
-    let r = rank-1 in
+    let n = states-I in let r = rank-1 in
     let g = C .gapless 1 1 (omega arith) open-1 (omega arith) (omega arith) in
-    let same = g .2 in
-    let rank = g .4 in
-    let below = g .1 in
-    let one = component-1 in
+    let same = g .2 in let rank = g .4 in let below = g .1 in let one = component-1 in
     by-cases (ℕ-discrete (g .0) 0)
     (λ z. let zero-comp = ap ((automaton I) .component) z ∙ component-0 in absurd (omega arith))
     (λ z. let p : g .0 ≡ 1 = omega arith in let two = ap (rankIn (automaton I) 8450) p ∙ rank-1 in absurd (omega arith))

@@ -12,14 +12,11 @@ Inv-loop shape opens parts caps tally₀ i₀ tally i = i ≤ 1000
 abbrev μ-loop : tie.MeasureT-loop
 μ-loop shape opens parts caps tally₀ i₀ tally i = 1000 - i
 
-largest-ranks-requires : tie.Need-largest-ranks-requires Inv-loop μ-loop
-largest-ranks-requires c κs = let p = c .pre in few (p .1 .shaped)
-
 sweep-requires : tie.Need-sweep-requires Inv-loop μ-loop
 sweep-requires c κs = (c .before .before .before .pre, c .before .before .largest-ranks .ensures)
 
 pub rounds-spec : {M : Type 1} → statement M
 rounds-spec =
     tie.close (tie.spec
-    Inv-loop μ-loop largest-ranks-requires (λ c. omega arith) sweep-requires (λ c. search needs) (λ c. search needs) (λ c. search needs) (λ c. search needs)
-    (λ c. search needs))
+    Inv-loop μ-loop (λ c κs. let p = c .pre in few (p .1 .shaped)) (λ c. omega arith) sweep-requires (λ c. search needs) (λ c. search needs)
+    (λ c. search needs) (λ c. search needs) (λ c. search needs))

@@ -19,9 +19,6 @@ abbrev μ-loop : tie.MeasureT-loop
 loop-holds : tie.Need-loop-holds Inv-loop μ-loop
 loop-holds c = let a = c .args in let p = c .pre in within-zero (a .caps) (rw (p .1) (caps-low (p .0 .1 .shaped)))
 
-visit-requires : tie.Need-visit-requires Inv-loop μ-loop
-visit-requires c κs = let p = c .before .pre in (p .0, rw (p .1) at (c .loop .inv))
-
 next-ranks-requires : tie.Need-next-ranks-requires Inv-loop μ-loop
 next-ranks-requires c κs =
     let a = c .before .before .before .args in let p = c .before .before .before .pre in let l = c .before .before .loop in
@@ -38,4 +35,7 @@ loop-again c =
     rw (c .next-ranks .ensures) (within-next 8 (l .t) (a .caps) (l .inv) (c .before .if1 .left))
 
 pub sweep-spec : {M : Type 1} → statement M
-sweep-spec = tie.close (tie.spec Inv-loop μ-loop loop-holds visit-requires (λ c. search needs) next-ranks-requires loop-less loop-again)
+sweep-spec =
+    tie.close (tie.spec
+    Inv-loop μ-loop loop-holds (λ c κs. let p = c .before .pre in (p .0, rw (p .1) at (c .loop .inv))) (λ c. search needs) next-ranks-requires
+    loop-less loop-again)

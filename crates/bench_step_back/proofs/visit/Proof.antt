@@ -6,13 +6,12 @@ use borrow.Author.Needs.{needs}
 use Rattle.bench_step_back.proofs.visit.Statement.{statement}
 use Rattle.bench_step_back.proofs.visit.Tie as tie
 
-is-core-requires : tie.Need-is-core-requires
-is-core-requires c κs = let p = c .pre in few (p .0 .1 .shaped)
-
 step-letters-requires : tie.Need-step-letters-requires
 step-letters-requires c κs =
     let p = c .before .before .before .before .pre in
     (p .0, record { within = p .1; passes = sym (c .before .before .before .is-core .ensures) ∙ not-false _ (c .before .before .if1 .left) }, c .before .lowest .ensures)
 
 pub visit-spec : {M : Type 1} → statement M
-visit-spec = tie.close (tie.spec is-core-requires (λ c. search needs) (λ c κs. search needs) step-letters-requires (λ c. search needs))
+visit-spec =
+    tie.close (tie.spec
+    (λ c κs. let p = c .pre in few (p .0 .1 .shaped)) (λ c. search needs) (λ c κs. search needs) step-letters-requires (λ c. search needs))

@@ -12,8 +12,7 @@ returns : tie.Need-returns
 unfolding startOf
 returns c =
     let start = c .before .before .before .before .before .before .before .before .before .before in
-    let a = start .args in
-    let b = c .before .before .before .before .build-file in
+    let a = start .args in let b = c .before .before .before .before .build-file in
     file-built holdsInitial AcceptsWord demand3 (a .file .now) (a .codes .now) (a .transitions .now) (b .result) _ _ (b .ensures)
 
 pub build-spec : {M : Type 1} → statement M

@@ -16,8 +16,7 @@ build-accepted-requires c κs =
 
 returns : tie.Need-returns
 returns c =
-    let start = c .before .before .before .before .before .before .before in
-    let a = start .args in
+    let start = c .before .before .before .before .before .before .before in let a = start .args in
     let k = c .before .row .given .0 .0 in
     let e : readOf (a .file .now) ≡ Refused k = sym (c .before .before .before .read-rule .ensures) ∙ c .before .row .given .1 in
     filled-refused (λ r. startOf r (a .holds)) (a .file .now) (a .codes .now) (a .transitions .now) k (turned-away (a .file .now) k e)
@@ -25,10 +24,8 @@ returns c =
 returns-2 : tie.Need-returns-2
 returns-2 c =
     let at-build-accepted = c .before .before .before .before in
-    let at-l = at-build-accepted .before .before .before .before in
-    let at-read-rule = at-l .before .before in
-    let start = at-read-rule .before .before .before .before in
-    let a = start .args in
+    let at-l = at-build-accepted .before .before .before .before in let at-read-rule = at-l .before .before in
+    let start = at-read-rule .before .before .before .before in let a = start .args in
     let b = at-build-accepted .build-accepted in
     filled-served (λ r. startOf r (a .holds)) (a .file .now) (at-l .l .given .0 .0) (sym (at-read-rule .read-rule .ensures) ∙ at-l .l .given .1) (a .codes .now) (a .transitions .now) (b .result) _ _
     (b .ensures)

@@ -10,10 +10,8 @@ use Rattle.build.proofs.build_table.Tie as tie
 returns : tie.Need-returns
 returns c =
     let at-if1 = c .before .before .before .before .before .before .before .before in
-    let at-list-codes = at-if1 .before .before .before in
-    let start = at-list-codes .before .before .before .before in
-    let a = start .args in
-    let g = at-list-codes .list-codes in
+    let at-list-codes = at-if1 .before .before .before in let start = at-list-codes .before .before .before .before in
+    let a = start .args in let g = at-list-codes .list-codes in
     λ r T.
     made-17 (macrostatesFrom r (startOf r (a .shape .holds))) (transitionsFrom r (startOf r (a .shape .holds))) (a .codes .now) (a .out .now) (g .last .0)
     (c .before .before .before .before .before .before .zero-all .last .0) (c .before .before .zero-all2 .last .0) (g .result .m) (g .result .full) (at-if1 .if1 .taken) (g .ensures r T)
@@ -21,22 +19,17 @@ returns c =
 
 list-transitions-requires : tie.Need-list-transitions-requires
 list-transitions-requires c κs =
-    let start = c .before .before .before .before .before .before .before .before .before in
-    let a = start .args in
-    let p = start .pre in
-    let g = c .before .before .before .before .before .list-codes in
+    let start = c .before .before .before .before .before .before .before .before .before in let a = start .args in
+    let p = start .pre in let g = c .before .before .before .before .before .list-codes in
     (p .0, p .1, codes-listed (p .0) (a .shape .holds) (a .codes .now) (g .last .0) (g .result .m) (g .result .full) (c .before .before .if1 .left) (g .ensures (p .0) (p .1)))
 
 returns-2 : tie.Need-returns-2
 returns-2 c =
     let at-if2 = c .before .before .before .before .before .before .before .before in
     let at-list-transitions = at-if2 .before .before .before .before .before in
-    let at-if1 = at-list-transitions .before .before .before in
-    let at-list-codes = at-if1 .before .before .before in
-    let start = at-list-codes .before .before .before .before in
-    let a = start .args in
-    let g = at-list-codes .list-codes in
-    let e = at-list-transitions .list-transitions in
+    let at-if1 = at-list-transitions .before .before .before in let at-list-codes = at-if1 .before .before .before in
+    let start = at-list-codes .before .before .before .before in let a = start .args in
+    let g = at-list-codes .list-codes in let e = at-list-transitions .list-transitions in
     λ r T.
     let C = codes-listed r (a .shape .holds) (a .codes .now) (g .last .0) (g .result .m) (g .result .full) (at-if1 .if1 .left) (g .ensures r T) in
     made-18 (macrostatesFrom r (startOf r (a .shape .holds))) (transitionsFrom r (startOf r (a .shape .holds))) (a .codes .now) (a .out .now) (g .last .0) (e .last .0)
@@ -47,10 +40,8 @@ returns-2 c =
 returns-3 : tie.Need-returns-3
 returns-3 c =
     let at-if1 = c .before .before .before .before .before .before .before .before in
-    let at-list-codes = at-if1 .before .before .before in
-    let start = at-list-codes .before .before .before .before in
-    let a = start .args in
-    let g = at-list-codes .list-codes in
+    let at-list-codes = at-if1 .before .before .before in let start = at-list-codes .before .before .before .before in
+    let a = start .args in let g = at-list-codes .list-codes in
     let e = c .before .before .before .before .before .list-transitions in
     λ r T.
     let C = codes-listed r (a .shape .holds) (a .codes .now) (g .last .0) (g .result .m) (g .result .full) (at-if1 .if1 .left) (g .ensures r T) in

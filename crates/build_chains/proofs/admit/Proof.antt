@@ -28,8 +28,7 @@ add-t6 c =
 
 returns-3 : tie.Need-returns-3
 returns-3 c =
-    let at-if1 = c .before .before .before .before .before .before .before in
-    let at-find = at-if1 .before in
+    let at-if1 = c .before .before .before .before .before .before .before in let at-find = at-if1 .before in
     let start = at-find .before .before .before .before .before in
     let p = start .pre in let e = c .before .before .put .ensures in
     rw (e .0, e .1, e .2) (grown-put (p .0) (start .args .key) (at-find .find .ensures .none (at-if1 .if1 .left))

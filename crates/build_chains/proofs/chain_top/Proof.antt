@@ -11,11 +11,8 @@ use Rattle.build_chains.proofs.chain_top.Tie as tie
 known : (c : tie.After-bucket) → c .bucket .result < 16384
 known c = rw (c .bucket .ensures) (bucket-low (c .before .args .core))
 
-mul-result : tie.Need-mul-result
-mul-result c = omega (arith, known c)
-
 returns : tie.Need-returns
 returns c = ap (λ (b : ℕ). getD (c .before .before .args .heads .now) b 0) (c .before .bucket .ensures)
 
 pub chain-top-spec : {M : Type 1} → statement M
-chain-top-spec = tie.close (tie.spec (λ c κs. search needs) mul-result known returns)
+chain-top-spec = tie.close (tie.spec (λ c κs. search needs) (λ c. omega (arith, known c)) known returns)

@@ -19,12 +19,6 @@ abbrev μ-loop : tie.MeasureT-loop
 returns : tie.Need-returns Inv-loop μ-loop
 returns c = (λ t. absurd (false≢true t), λ t h. omega (arith, h .1, c .if1 .taken))
 
-mul-own : tie.Need-mul-own Inv-loop μ-loop
-mul-own c = let p = c .before .pre in omega (arith, p .1, p .0 .fits, p .0 .few)
-
-shared-slice-read-own : tie.Need-shared-slice-read-own Inv-loop μ-loop
-shared-slice-read-own c = let p = c .before .before .pre in omega (arith, p .1, p .0 .fits)
-
 loop-holds : tie.Need-loop-holds Inv-loop μ-loop
 loop-holds c =
     let a = c .before .before .args in let p = c .before .before .pre in let some : 0 < a .j = omega (arith, c .before .if1 .left) in
@@ -71,4 +65,6 @@ loop-again c =
 pub core-before-spec : {M : Type 1} → statement M
 core-before-spec =
     tie.close (tie.spec
-    Inv-loop μ-loop returns mul-own shared-slice-read-own loop-holds mul-x shared-slice-read-x returns-2 returns-3 loop-less loop-again)
+    Inv-loop μ-loop returns (λ c. let p = c .before .pre in omega (arith, p .1, p .0 .fits, p .0 .few))
+    (λ c. let p = c .before .before .pre in omega (arith, p .1, p .0 .fits)) loop-holds mul-x shared-slice-read-x returns-2 returns-3 loop-less
+    loop-again)

@@ -20,9 +20,6 @@ abbrev μ-loop : tie.MeasureT-loop
 returns : tie.Need-returns Inv-loop μ-loop
 returns c = record { hit = λ l. absurd (omega arith); none = λ l h. omega (arith, h .1, c .if1 .taken) }
 
-chain-top-requires : tie.Need-chain-top-requires Inv-loop μ-loop
-chain-top-requires c κs = let p = c .before .before .pre in omega (arith, p .1)
-
 loop-holds : tie.Need-loop-holds Inv-loop μ-loop
 loop-holds c =
     let a = c .before .before .before .args in let p = c .before .before .before .pre in
@@ -67,4 +64,5 @@ loop-again c =
 pub find-spec : {M : Type 1} → statement M
 find-spec =
     tie.close (tie.spec
-    Inv-loop μ-loop returns chain-top-requires (λ c. search needs) loop-holds mul-x shared-slice-read-x returns-2 returns-3 loop-less loop-again)
+    Inv-loop μ-loop returns (λ c κs. let p = c .before .before .pre in omega (arith, p .1)) (λ c. search needs) loop-holds mul-x shared-slice-read-x
+    returns-2 returns-3 loop-less loop-again)

@@ -14,38 +14,8 @@ use Rattle.build_chains.proofs.put.Tie as tie
 known : (c : tie.After-bucket) → c .bucket .result < 16384
 known c = rw (c .bucket .ensures) (bucket-low (c .before .before .args .key / 256))
 
-mul-keys : tie.Need-mul-keys
-mul-keys c = omega (arith, known c)
-
-element-copy-out-keys : tie.Need-element-copy-out-keys
-element-copy-out-keys c = known c
-
 head : (c : tie.After-keys) → getD (c .before .before .before .args .heads .now) (c .before .bucket .result) 0 < 65536
 head c = head-low (c .before .before .before .pre .0) (c .before .bucket .result) (known (c .before))
-
-cast-keys : tie.Need-cast-keys
-cast-keys c = omega (arith, head c)
-
-cast-heads : tie.Need-cast-heads
-cast-heads c = let p = c .before .before .before .pre in omega (arith, p .0 .few)
-
-mul-heads : tie.Need-mul-heads
-mul-heads c = omega (arith, known (c .before))
-
-element-write-heads : tie.Need-element-write-heads
-element-write-heads c = known (c .before)
-
-cast-last : tie.Need-cast-last
-cast-last c = let p = c .before .before .before .pre in omega (arith, p .0 .few)
-
-add-last : tie.Need-add-last
-add-last c = let p = c .before .before .before .pre in omega (arith, p .0 .few)
-
-mul-last : tie.Need-mul-last
-mul-last c = omega (arith, and-mask (c .before .before .before .args .key / 256) 8)
-
-element-write-last : tie.Need-element-write-last
-element-write-last c = omega (arith, and-mask (c .before .before .before .args .key / 256) 8)
 
 returns : tie.Need-returns
 returns c =
@@ -59,5 +29,9 @@ returns c =
 pub put-spec : {M : Type 1} → statement M
 put-spec =
     tie.close (tie.spec
-    (λ c κs. search needs) mul-keys element-copy-out-keys cast-keys (λ c. search needs) (λ c. search needs) cast-heads mul-heads element-write-heads cast-last
-    add-last mul-last element-write-last (λ c. search needs) returns)
+    (λ c κs. search needs) (λ c. omega (arith, known c)) (λ c. known c) (λ c. omega (arith, head c)) (λ c. search needs) (λ c. search needs)
+    (λ c. let p = c .before .before .before .pre in omega (arith, p .0 .few)) (λ c. omega (arith, known (c .before))) (λ c. known (c .before))
+    (λ c. let p = c .before .before .before .pre in omega (arith, p .0 .few))
+    (λ c. let p = c .before .before .before .pre in omega (arith, p .0 .few))
+    (λ c. omega (arith, and-mask (c .before .before .before .args .key / 256) 8))
+    (λ c. omega (arith, and-mask (c .before .before .before .args .key / 256) 8)) (λ c. search needs) returns)

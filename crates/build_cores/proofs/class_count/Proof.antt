@@ -13,11 +13,5 @@ use Rattle.build_cores.proofs.class_count.Tie as tie
 ones-of : (c : tie.After-used-ranks) → ones (c .used-ranks .result) ≡ classCount (c .before .args .ranks) (c .before .args .part) + 1
 ones-of c = ap ones (c .used-ranks .ensures) ∙ ones-classes (c .before .args .ranks) (c .before .args .part)
 
-sub-result : tie.Need-sub-result
-sub-result c = let e = ones-of c in omega arith
-
-returns : tie.Need-returns
-returns c = let e = ones-of c in omega arith
-
 pub class-count-spec : {M : Type 1} → statement M
-class-count-spec = tie.close (tie.spec (λ c κs. search needs) sub-result returns)
+class-count-spec = tie.close (tie.spec (λ c κs. search needs) (λ c. let e = ones-of c in omega arith) (λ c. let e = ones-of c in omega arith))

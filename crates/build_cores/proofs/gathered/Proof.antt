@@ -12,9 +12,6 @@ Inv-loop at low₀ j₀ low j = (0 < j) × Gathered at low j
 abbrev μ-loop : tie.MeasureT-loop
 μ-loop at low₀ j₀ low j = 16 - j
 
-loop-holds : tie.Need-loop-holds Inv-loop μ-loop
-loop-holds c = (omega arith, gather-start (c .args .at .now))
-
 loop-again : tie.Need-loop-again Inv-loop μ-loop
 loop-again c = let l = c .before .before .loop in (omega arith, gather (c .before .before .before .args .at .now) (l .low) (l .j) (omega arith) (omega arith) (l .inv .1))
 
@@ -24,5 +21,5 @@ returns c = let l = c .before .loop in λ n f j k. l .inv .1 .is n f j (omega ar
 pub gathered-spec : {M : Type 1} → statement M
 gathered-spec =
     tie.close (tie.spec
-    Inv-loop μ-loop loop-holds (λ c. search needs) (λ c. search needs) (λ c. search needs) (λ c. search needs) (λ c. search needs) (λ c. search needs)
-    loop-again returns)
+    Inv-loop μ-loop (λ c. (omega arith, gather-start (c .args .at .now))) (λ c. search needs) (λ c. search needs) (λ c. search needs)
+    (λ c. search needs) (λ c. search needs) (λ c. search needs) loop-again returns)

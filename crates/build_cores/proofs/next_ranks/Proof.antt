@@ -18,9 +18,6 @@ abbrev μ-loop : tie.MeasureT-loop
 loop-holds : tie.Need-loop-holds Inv-loop μ-loop
 loop-holds c = (omega arith, (8, record { left = omega arith; within = c .pre .2; other = c .pre .3; same = omega arith; low = omega arith; high = omega arith }))
 
-add-shift : tie.Need-add-shift Inv-loop μ-loop
-add-shift c = omega (arith, c .before .loop .inv .1 .1 .left)
-
 loop-less : tie.Need-loop-less Inv-loop μ-loop
 loop-less c = let l = c .before .loop in omega (arith, some-left _ _ _ _ _ _ (l .inv .1 .1))
 
@@ -30,12 +27,6 @@ loop-again c =
     let e : l .w % 16 ≡ l .c % 16 = sym (and-mask (l .w) 4) ∙ c .loop-test .taken ∙ and-mask (l .c) 4 in
     (omega (arith, l .inv .0), carry _ _ _ _ _ _ (l .inv .1 .1) e)
 
-add-result : tie.Need-add-result Inv-loop μ-loop
-add-result c = let l = c .before .loop in omega (arith, l .inv .0)
-
-shl-result : tie.Need-shl-result Inv-loop μ-loop
-shl-result c = omega (arith, c .before .loop .inv .1 .1 .left)
-
 returns : tie.Need-returns Inv-loop μ-loop
 returns c =
     let l = c .before .loop in let p = c .before .before .pre in
@@ -43,4 +34,7 @@ returns c =
     ∙ sym (end _ _ _ _ _ _ (l .inv .1 .1) (λ e. c .loop-test .left (and-mask (l .w) 4 ∙ e ∙ sym (and-mask (l .c) 4))))
 
 pub next-ranks-spec : {M : Type 1} → statement M
-next-ranks-spec = tie.close (tie.spec Inv-loop μ-loop loop-holds add-shift loop-less loop-again add-result (λ c. search needs) shl-result returns)
+next-ranks-spec =
+    tie.close (tie.spec
+    Inv-loop μ-loop loop-holds (λ c. omega (arith, c .before .loop .inv .1 .1 .left)) loop-less loop-again
+    (λ c. let l = c .before .loop in omega (arith, l .inv .0)) (λ c. search needs) (λ c. omega (arith, c .before .loop .inv .1 .1 .left)) returns)

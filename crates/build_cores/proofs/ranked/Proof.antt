@@ -17,9 +17,6 @@ Inv-loop ranks at₀ q₀ at q = Placed (λ p. ranks / 2 ^ (4 * p) % 16) at q
 abbrev μ-loop : tie.MeasureT-loop
 μ-loop ranks at₀ q₀ at q = 8 - q
 
-loop-holds : tie.Need-loop-holds Inv-loop μ-loop
-loop-holds c = put-start (λ p. c .args .ranks / 2 ^ (4 * p) % 16)
-
 array-read-at : tie.Need-array-read-at Inv-loop μ-loop
 array-read-at c = rw (and-mask (c .before .before .args .ranks / 2 ^ (4 * c .before .loop .q)) 4) (omega arith)
 
@@ -40,5 +37,5 @@ returns c =
 pub ranked-spec : {M : Type 1} → statement M
 ranked-spec =
     tie.close (tie.spec
-    Inv-loop μ-loop loop-holds (λ c. search needs) (λ c. search needs) (λ c. search needs) (λ c. search needs) (λ c. search needs) array-read-at array-write-at
-    (λ c. search needs) (λ c. search needs) loop-again returns)
+    Inv-loop μ-loop (λ c. put-start (λ p. c .args .ranks / 2 ^ (4 * p) % 16)) (λ c. search needs) (λ c. search needs) (λ c. search needs)
+    (λ c. search needs) (λ c. search needs) array-read-at array-write-at (λ c. search needs) (λ c. search needs) loop-again returns)

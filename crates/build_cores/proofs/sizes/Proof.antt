@@ -13,11 +13,5 @@ use Rattle.build_cores.proofs.sizes.Tie as tie
 product : (c : tie.After-nibbles-of) → c .nibbles-of .result * ones (c .before .args .part) ≡ sizesOf (c .before .args .part)
 product c = ap (λ (x : ℕ). x * ones (c .before .args .part)) (c .nibbles-of .ensures) ∙ sizes-are (c .before .args .part) (omega arith)
 
-mul-result : tie.Need-mul-result
-mul-result c = omega (arith, product c, sizes-low (c .before .args .part))
-
-returns : tie.Need-returns
-returns c = product c
-
 pub sizes-spec : {M : Type 1} → statement M
-sizes-spec = tie.close (tie.spec (λ c κs. search needs) mul-result returns)
+sizes-spec = tie.close (tie.spec (λ c κs. search needs) (λ c. omega (arith, product c, sizes-low (c .before .args .part))) (λ c. product c))

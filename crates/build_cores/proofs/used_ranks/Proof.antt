@@ -23,15 +23,6 @@ loop-holds c = (omega arith, walk-start (c .args .ranks) (c .args .part) (omega 
 below : (c : tie.In-loop Inv-loop μ-loop) → trailingZeros 8 (c .before .loop .left) < 8
 below c = least-lt 8 (c .before .loop .left) (omega arith) (omega arith)
 
-mul-found : tie.Need-mul-found Inv-loop μ-loop
-mul-found c = omega (arith, below c)
-
-cast-found : tie.Need-cast-found Inv-loop μ-loop
-cast-found c = omega (arith, below c)
-
-shr-found : tie.Need-shr-found Inv-loop μ-loop
-shr-found c = omega (arith, below c)
-
 cast-found-2 : tie.Need-cast-found-2 Inv-loop μ-loop
 cast-found-2 c = rw (and-mask (c .before .before .args .ranks / 2 ^ (4 * trailingZeros 8 (c .before .loop .left))) 4) (omega arith)
 
@@ -57,4 +48,5 @@ returns c = let l = c .before .loop in walk-end (c .before .before .args .ranks)
 pub used-ranks-spec : {M : Type 1} → statement M
 used-ranks-spec =
     tie.close (tie.spec
-    Inv-loop μ-loop loop-holds mul-found cast-found shr-found cast-found-2 shl-found (λ c. omega arith) loop-less loop-again returns)
+    Inv-loop μ-loop loop-holds (λ c. omega (arith, below c)) (λ c. omega (arith, below c)) (λ c. omega (arith, below c)) cast-found-2 shl-found
+    (λ c. omega arith) loop-less loop-again returns)

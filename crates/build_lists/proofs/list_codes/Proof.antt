@@ -13,9 +13,6 @@ use borrow.Author.Needs.{needs}
 use Rattle.build_lists.proofs.list_codes.Statement.{statement}
 use Rattle.build_lists.proofs.list_codes.Tie as tie
 
-slice-relend-prefix-reachable : tie.Need-slice-relend-prefix-reachable
-slice-relend-prefix-reachable c = room-fits _ _ _ (c .room-of .ensures)
-
 slice-aggregate-reachable : tie.Need-slice-aggregate-reachable
 slice-aggregate-reachable c =
     let xs = c .before .before .before .args .codes .now in
@@ -23,14 +20,12 @@ slice-aggregate-reachable c =
 
 reachable-requires : tie.Need-reachable-requires
 reachable-requires c κs =
-    let xs = c .before .before .before .args .codes .now in
-    let room = c .before .room-of in
+    let xs = c .before .before .before .args .codes .now in let room = c .before .room-of in
     (c .before .before .before .pre, omega (arith, length-take-le (room .result) xs (room-fits _ _ _ (room .ensures)), room-most _ _ _ (room .ensures)))
 
 returns : tie.Need-returns
 returns c =
-    let start = c .before .before .before .before .before .before .before in
-    let a = start .args in
+    let start = c .before .before .before .before .before .before .before in let a = start .args in
     let g = c .before .before .before .reachable in
     λ r T.
     padded-full _ (c .before .before .before .before .before .room-of .result) (a .codes .now) (g .last .0) (c .before .before .before .before .before .room-of .ensures) (g .ensures r T .long)
@@ -38,8 +33,7 @@ returns c =
 
 zero-from-requires : tie.Need-zero-from-requires
 zero-from-requires c κs =
-    let start = c .before .before .before .before .before .before .before .before in
-    let xs = start .args .codes .now in
+    let start = c .before .before .before .before .before .before .before .before in let xs = start .args .codes .now in
     let g = c .before .before .before .before .reachable in
     let room = c .before .before .before .before .before .before .room-of in
     let L = g .ensures (start .pre .0) (start .pre .1) in
@@ -51,11 +45,8 @@ zero-from-requires c κs =
 returns-2 : tie.Need-returns-2
 returns-2 c =
     let at-reachable = c .before .before .before .before .before .before .before in
-    let at-room-of = at-reachable .before .before in
-    let start = at-room-of .before .before in
-    let a = start .args in
-    let g = at-reachable .reachable in
-    let room = at-room-of .room-of in
+    let at-room-of = at-reachable .before .before in let start = at-room-of .before .before in let a = start .args in
+    let g = at-reachable .reachable in let room = at-room-of .room-of in
     let zeros : c .before .before .zero-from .last .0 ≡ zeroedFrom (g .result .m) (g .last .0 ++ drop (room .result) (a .codes .now)) = c .before .before .zero-from .ensures in
     λ r T.
     let L = g .ensures r T in
@@ -65,5 +56,5 @@ returns-2 c =
 pub list-codes-spec : {M : Type 1} → statement M
 list-codes-spec =
     tie.close (tie.spec
-    (λ c κs. search needs) slice-relend-prefix-reachable slice-aggregate-reachable reachable-requires (λ c. search needs) returns zero-from-requires
-    (λ c. search needs) returns-2)
+    (λ c κs. search needs) (λ c. room-fits _ _ _ (c .room-of .ensures)) slice-aggregate-reachable reachable-requires (λ c. search needs) returns
+    zero-from-requires (λ c. search needs) returns-2)

@@ -14,9 +14,6 @@ use borrow.Author.Needs.{needs}
 use Rattle.build_lists.proofs.list_transitions.Statement.{statement}
 use Rattle.build_lists.proofs.list_transitions.Tie as tie
 
-slice-relend-prefix-transitions : tie.Need-slice-relend-prefix-transitions
-slice-relend-prefix-transitions c = room-fits _ _ _ (c .room-of .ensures)
-
 slice-aggregate-transitions : tie.Need-slice-aggregate-transitions
 slice-aggregate-transitions c = sym (length-take-le (c .before .room-of .result) (c .before .before .before .before .args .out .now) (room-fits _ _ _ (c .before .room-of .ensures)))
 
@@ -57,8 +54,7 @@ zero-from-requires c κs =
 returns-2 : tie.Need-returns-2
 returns-2 c =
     let at-transitions = c .before .before .before .before .before .before .before .before .before in
-    let at-room-of = at-transitions .before .before .before in
-    let start = at-room-of .before .before .before in
+    let at-room-of = at-transitions .before .before .before in let start = at-room-of .before .before .before in
     let a = start .args in let g = at-transitions .transitions in let room = at-room-of .room-of in
     let zeros : c .before .before .zero-from .last .0 ≡ zeroedFrom (g .result .m) (g .last .0 ++ drop (room .result) (a .out .now)) = c .before .before .zero-from .ensures in (
       kept (a .n) (a .codes .now) (g .last .1 .0) (g .ensures .0),
@@ -71,5 +67,5 @@ returns-2 c =
 pub list-transitions-spec : {M : Type 1} → statement M
 list-transitions-spec =
     tie.close (tie.spec
-    (λ c κs. search needs) slice-relend-prefix-transitions slice-aggregate-transitions (λ c. search needs) slice-aggregate-transitions-2 transitions-requires
-    (λ c. search needs) (λ c. search needs) returns zero-from-requires (λ c. search needs) (λ c. search needs) returns-2)
+    (λ c κs. search needs) (λ c. room-fits _ _ _ (c .room-of .ensures)) slice-aggregate-transitions (λ c. search needs) slice-aggregate-transitions-2
+    transitions-requires (λ c. search needs) (λ c. search needs) returns zero-from-requires (λ c. search needs) (λ c. search needs) returns-2)

@@ -10,11 +10,8 @@ use Rattle.build_step_back.proofs.core_of.Tie as tie
 small : (c : tie.Start) → bitXor (c .args .opened) (c .args .accepting) < 256
 small c = xor-lt 8 (c .args .opened) (c .args .accepting) (omega arith) (omega arith)
 
-cast-result : tie.Need-cast-result
-cast-result c = omega (arith, small c)
-
 returns : tie.Need-returns
 returns c = put-byte (c .args .ranks) (bitXor (c .args .opened) (c .args .accepting)) (omega arith) (small c)
 
 pub core-of-spec : {M : Type 1} → statement M
-core-of-spec = tie.close (tie.spec cast-result returns)
+core-of-spec = tie.close (tie.spec (λ c. omega (arith, small c)) returns)

@@ -44,9 +44,6 @@ deep c =
     let a = c .before .before .before .before .args in let l = c .before .loop in
     deep-in (a .opens .now) (a .letter) (a .opened) (a .part) (a .low .now) (l .inv .0) (omega arith) (l .prev) (l .ones) (l .ranks) (l .levels) (l .j) (l .inv .2) (more c)
 
-element-copy-out-x : tie.Need-element-copy-out-x Inv-loop μ-loop
-element-copy-out-x c = omega (arith, deep c)
-
 small : (c : tie.After-x Inv-loop μ-loop) → _<_ (bitOr (bitXor (c .before .before .before .before .before .args .opened)
     (bitAnd (c .before .before .before .before .before .args .opened) (c .before .before .before .before .before .args .part)))
     (bitAnd (getD (c .before .before .before .before .before .args .low .now) (c .before .before .loop .j) 0) (c .before .before .before .before .before .args .part))) 256
@@ -58,12 +55,6 @@ cast-x c =
     let a = c .before .before .before .before .before .args in
     omega (arith, and-le-r (getD (a .low .now) (c .before .before .loop .j) 0) (a .part))
 
-add-x : tie.Need-add-x Inv-loop μ-loop
-add-x c = omega (arith, small c)
-
-element-copy-out-x-2 : tie.Need-element-copy-out-x-2 Inv-loop μ-loop
-element-copy-out-x-2 c = omega (arith, small c, c .before .before .loop .inv .0 .letters)
-
 add-levels : tie.Need-add-levels Inv-loop μ-loop
 add-levels c =
     let a = c .before .before .before .before .before .before .args in let l = c .before .before .before .loop in
@@ -72,9 +63,6 @@ add-levels c =
       levels-fit (a .opens .now) (a .letter) (a .opened) (a .part) (a .low .now) (l .inv .0) (omega arith) (l .prev) (l .ones) (l .ranks) (l .levels) (l .j) (l .inv .2)
           (more (c .before .before)),
     )
-
-loop-less : tie.Need-loop-less Inv-loop μ-loop
-loop-less c = omega (arith, deep (c .before .before .before))
 
 loop-again : tie.Need-loop-again Inv-loop μ-loop
 unfolding upto
@@ -98,9 +86,6 @@ add-ranks c =
       ranks-fit (a .opens .now) (a .letter) (a .opened) (a .part) (a .low .now) (l .inv .0) (omega arith) (l .prev) (l .ones) (l .ranks) (l .levels) (l .j) (l .inv .2)
           (more (c .before .before .before .before)) (c .before .if2 .left),
     ))
-
-loop-less-2 : tie.Need-loop-less-2 Inv-loop μ-loop
-loop-less-2 c = omega (arith, deep (c .before .before .before .before))
 
 loop-again-2 : tie.Need-loop-again-2 Inv-loop μ-loop
 unfolding upto goal
@@ -129,5 +114,7 @@ returns-2 c =
 pub step-component-spec : {M : Type 1} → statement M
 step-component-spec =
     tie.close (tie.spec
-    Inv-loop μ-loop (λ c. search needs) cast-outside (λ c. search needs) (λ c. search needs) returns loop-holds element-copy-out-x cast-x add-x
-    element-copy-out-x-2 add-levels (λ c. omega arith) loop-less loop-again (λ c κs. search needs) add-ranks loop-less-2 loop-again-2 sub-levels returns-2)
+    Inv-loop μ-loop (λ c. search needs) cast-outside (λ c. search needs) (λ c. search needs) returns loop-holds (λ c. omega (arith, deep c)) cast-x
+    (λ c. omega (arith, small c)) (λ c. omega (arith, small c, c .before .before .loop .inv .0 .letters)) add-levels (λ c. omega arith)
+    (λ c. omega (arith, deep (c .before .before .before))) loop-again (λ c κs. search needs) add-ranks
+    (λ c. omega (arith, deep (c .before .before .before .before))) loop-again-2 sub-levels returns-2)

@@ -38,9 +38,6 @@ step-component-requires c κs = c .before .before .before .before .pre .1 (c .be
 add-ranks : tie.Need-add-ranks Inv-loop μ-loop
 add-ranks c = omega (arith, c .before .before .before .before .before .loop .inv .1 .bound)
 
-element-write-levels : tie.Need-element-write-levels Inv-loop μ-loop
-element-write-levels c = omega (arith, c .before .before .before .before .before .loop .inv .2)
-
 loop-again-2 : tie.Need-loop-again-2 Inv-loop μ-loop
 loop-again-2 c =
     let a = c .before .before .before .before .before .before .args in let l = c .before .before .before .before .before .loop in let s = c .before .step-component in
@@ -59,5 +56,6 @@ returns c =
 pub step-kind-spec : {M : Type 1} → statement M
 step-kind-spec =
     tie.close (tie.spec
-    Inv-loop μ-loop loop-holds (λ c. search needs) (λ c. omega arith) (λ c. omega arith) loop-again step-component-requires (λ c κs. search needs) add-ranks
-    (λ c. search needs) element-write-levels (λ c. omega arith) (λ c. omega arith) loop-again-2 returns)
+    Inv-loop μ-loop loop-holds (λ c. search needs) (λ c. omega arith) (λ c. omega arith) loop-again step-component-requires (λ c κs. search needs)
+    add-ranks (λ c. search needs) (λ c. omega (arith, c .before .before .before .before .before .loop .inv .2)) (λ c. omega arith) (λ c. omega arith)
+    loop-again-2 returns)

@@ -16,16 +16,14 @@ use Rattle.build_trimmed.proofs.build_trimmed.Tie as tie
 slice-relend-prefix-trim : tie.Need-slice-relend-prefix-trim
 slice-relend-prefix-trim c =
     let at-build = c .before .before .before .before .before .before .before in
-    let start = at-build .before .before .before .before .before .before in
-    let a = start .args in
+    let start = at-build .before .before .before .before .before .before in let a = start .args in
     let b = at-build .build in
     codes-room (a .file .now) (a .codes .now) (a .transitions .now) _ _ (b .ensures .codes-after) (b .ensures .moves-after) _ (sym (c .before .n .given .1) ∙ b .ensures .answer)
 
 slice-aggregate-trim : tie.Need-slice-aggregate-trim
 slice-aggregate-trim c =
     let at-build = c .before .before .before .before .before .before .before .before in
-    let start = at-build .before .before .before .before .before .before in
-    let a = start .args in
+    let start = at-build .before .before .before .before .before .before in let a = start .args in
     let b = at-build .build in
     sym (length-take-le _ _ (codes-room (a .file .now) (a .codes .now) (a .transitions .now) _ _ (b .ensures .codes-after) (b .ensures .moves-after) _
     (sym (c .before .before .n .given .1) ∙ b .ensures .answer)))
@@ -33,16 +31,14 @@ slice-aggregate-trim c =
 slice-relend-prefix-trim-2 : tie.Need-slice-relend-prefix-trim-2
 slice-relend-prefix-trim-2 c =
     let at-build = c .before .before .before .before .before .before .before .before in
-    let start = at-build .before .before .before .before .before .before in
-    let a = start .args in
+    let start = at-build .before .before .before .before .before .before in let a = start .args in
     let b = at-build .build in
     moves-room (a .file .now) (a .codes .now) (a .transitions .now) _ _ (b .ensures .codes-after) (b .ensures .moves-after) _ (sym (c .before .before .n .given .1) ∙ b .ensures .answer)
 
 slice-aggregate-trim-2 : tie.Need-slice-aggregate-trim-2
 slice-aggregate-trim-2 c =
     let at-build = c .before .before .before .before .before .before .before .before .before in
-    let start = at-build .before .before .before .before .before .before in
-    let a = start .args in
+    let start = at-build .before .before .before .before .before .before in let a = start .args in
     let b = at-build .build in
     sym (length-take-le _ _ (moves-room (a .file .now) (a .codes .now) (a .transitions .now) _ _ (b .ensures .codes-after) (b .ensures .moves-after) _
     (sym (c .before .before .before .n .given .1) ∙ b .ensures .answer)))
@@ -50,8 +46,7 @@ slice-aggregate-trim-2 c =
 trim-requires : tie.Need-trim-requires
 trim-requires c κs =
     let at-build = c .before .before .before .before .before .before .before .before .before in
-    let start = at-build .before .before .before .before .before .before in
-    let a = start .args in
+    let start = at-build .before .before .before .before .before .before in let a = start .args in
     let b = at-build .build in
     let t : Table (c .before .before .before .n .given .0 .0) ≡ builtOf (a .file .now) (length (a .codes .now)) (length (a .transitions .now)) =
     sym (c .before .before .before .n .given .1) ∙ b .ensures .answer in
@@ -62,10 +57,8 @@ trim-requires c κs =
 returns : tie.Need-returns
 returns c =
     let at-build = c .before .before .before .before .before .before .before in
-    let start = at-build .before .before .before .before .before .before in
-    let a = start .args in
-    let b = at-build .build in
-    let k = c .before .row .given .0 .0 in
+    let start = at-build .before .before .before .before .before .before in let a = start .args in
+    let b = at-build .build in let k = c .before .row .given .0 .0 in
     let e : Refused k ≡ builtOf (a .file .now) (length (a .codes .now)) (length (a .transitions .now)) = sym (c .before .row .given .1) ∙ b .ensures .answer in
     contract (a .file .now) (a .codes .now) (a .transitions .now) (Refused k) _ _
     (refused-answer (a .file .now) (a .codes .now) (a .transitions .now) _ _ (b .ensures .codes-after) (b .ensures .moves-after) k e)
@@ -74,21 +67,16 @@ returns c =
 
 returns-2 : tie.Need-returns-2
 returns-2 c =
-    let at-trim = c .before .before .before .before in
-    let at-n = at-trim .before .before .before .before in
+    let at-trim = c .before .before .before .before in let at-n = at-trim .before .before .before .before in
     let at-build = at-n .before .before .before .before .before .before in
-    let start = at-build .before .before .before .before .before .before in
-    let a = start .args in
-    let b = at-build .build in
-    let f = a .file .now in
-    let n = at-n .n .given .0 .0 in
+    let start = at-build .before .before .before .before .before .before in let a = start .args in
+    let b = at-build .build in let f = a .file .now in let n = at-n .n .given .0 .0 in
     let t : Table n ≡ builtOf f (length (a .codes .now)) (length (a .transitions .now)) = sym (at-n .n .given .1) ∙ b .ensures .answer in
     let x = codes-front f (a .codes .now) (a .transitions .now) _ _ (b .ensures .codes-after) (b .ensures .moves-after) n t in
     let y = moves-front f (a .codes .now) (a .transitions .now) _ _ (b .ensures .codes-after) (b .ensures .moves-after) n t in
     let m = at-trim .trim .result in
     let T : Trimming (macrostates (ruleIn f)) (transitions (ruleIn f)) m (at-trim .trim .last .0) (at-trim .trim .last .1 .0) = rw (x, y) at (at-trim .trim .ensures) in
-    let p = b .kept .1 .0 in
-    let q = b .kept .1 .1 .0 in
+    let p = b .kept .1 .0 in let q = b .kept .1 .1 .0 in
     contract f (a .codes .now) (a .transitions .now) (Table m) _ _
     (table-answer f (a .codes .now) (a .transitions .now) _ _ (b .ensures .codes-after) (b .ensures .moves-after) n t m _ _ T p q)
     (codes-left f (a .codes .now) (a .transitions .now) _ _ (b .ensures .codes-after) (b .ensures .moves-after) n t m _ _ T p q)

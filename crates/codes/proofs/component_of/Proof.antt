@@ -6,12 +6,9 @@ use Rattle.theory.specs.Code.{componentIn}
 use Rattle.codes.proofs.component_of.Statement.{statement}
 use Rattle.codes.proofs.component_of.Tie as tie
 
-cast-result : tie.Need-cast-result
-cast-result c = fits-mask (c .args .code / 2 ^ 40) 4 tt
-
 returns : tie.Need-returns
 unfolding componentIn
 returns c = and-mask (c .args .code / 2 ^ 40) 4
 
 pub component-of-spec : {M : Type 1} → statement M
-component-of-spec = tie.close (tie.spec cast-result returns)
+component-of-spec = tie.close (tie.spec (λ c. fits-mask (c .args .code / 2 ^ 40) 4 tt) returns)

@@ -4,8 +4,5 @@ use lib.Bits.{and-mask}
 use Rattle.codes.proofs.letter_of.Statement.{statement}
 use Rattle.codes.proofs.letter_of.Tie as tie
 
-returns : tie.Need-returns
-returns c = and-mask (c .args .transition / 2 ^ 16) 8
-
 pub letter-of-spec : {M : Type 1} → statement M
-letter-of-spec = tie.close (tie.spec returns)
+letter-of-spec = tie.close (tie.spec (λ c. and-mask (c .args .transition / 2 ^ 16) 8))

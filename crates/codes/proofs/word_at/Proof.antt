@@ -23,8 +23,7 @@ cast-r c = omega (arith, c .shared-slice-known .given (c .before .before .before
 
 loop-again : tie.Need-loop-again Inv-loop μ-loop
 loop-again c =
-    let a = c .before .before .before .args in
-    let l = c .before .before .loop in
+    let a = c .before .before .before .args in let l = c .before .before .loop in
     let t = byte-turn (λ j. getD (a .bytes .now) (a .i + j) 0) (l .k) (l .r) (omega arith) (l .inv .0) (omega (arith, c .shared-slice-known .given (a .i + (l .k - 1)))) (l .inv .1) (l .inv .2) in
     (omega arith, t .0, t .1)
 

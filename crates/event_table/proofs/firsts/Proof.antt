@@ -37,8 +37,7 @@ loop-again c =
 
 returns : tie.Need-returns Inv-loop μ-loop
 returns c =
-    let a = c .before .before .args in
-    let l = c .before .loop in
+    let a = c .before .before .args in let l = c .before .loop in
     let e : l .x ≡ 256 = omega (arith, l .inv .0, c .loop-test .left) in
     l .inv .1 ∙ ap (λ (n : ℕ). mask 64 (λ j. someBelow n (λ z. someBelow 256 (λ y. eqb (trailingZeros 64 (bitAnd (getD (a .kinds .now) z 0) (getD (a .drives .now) y 0))) j)))) e
 

@@ -33,8 +33,7 @@ loop-again c =
 
 returns : tie.Need-returns Inv-loop μ-loop
 returns c =
-    let a = c .before .before .args in
-    let l = c .before .loop in
+    let a = c .before .before .args in let l = c .before .loop in
     let e : l .y ≡ 256 = omega (arith, l .inv .0, c .loop-test .left) in
     l .inv .1 ∙ ap (λ (n : ℕ). mask 64 (λ j. someBelow n (λ z. eqb (trailingZeros 64 (bitAnd (a .lines) (getD (a .drives .now) z 0))) j))) e
 

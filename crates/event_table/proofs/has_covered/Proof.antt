@@ -10,9 +10,6 @@ use borrow.Author.Needs.{needs}
 use Rattle.event_table.proofs.has_covered.Statement.{statement}
 use Rattle.event_table.proofs.has_covered.Tie as tie
 
-cast-result : tie.Need-cast-result
-cast-result c = omega (arith, ones-le 64 (c .firsts .result) (omega arith))
-
 returns : tie.Need-returns
 returns c =
     let a = c .before .before .args in
@@ -20,4 +17,4 @@ returns c =
     ∙ covered-is (a .events .now) (a .kinds .now) (a .drives .now) (λ i. c .before .shared-slice-known .given i .fits) (c .before .before .pre)
 
 pub has-covered-spec : {M : Type 1} → statement M
-has-covered-spec = tie.close (tie.spec (λ c κs. search needs) cast-result returns)
+has-covered-spec = tie.close (tie.spec (λ c κs. search needs) (λ c. omega (arith, ones-le 64 (c .firsts .result) (omega arith))) returns)

@@ -29,32 +29,24 @@ loop-holds c = (omega arith, refl)
 
 returns-3 : tie.Need-returns-3 Inv-loop μ-loop
 returns-3 c =
-    let start = c .before .before .before .before .before .before .before in
-    let a = start .args in
+    let start = c .before .before .before .before .before .before .before in let a = start .args in
     let l = c .before .before .before .loop in
     sym (table-line (a .s) (a .events .now) (l .j) (c .before .before .loop-test .taken) (sym (c .before .is-faulty .ensures) ∙ c .if3 .taken))
 
-add-j : tie.Need-add-j Inv-loop μ-loop
-add-j c = omega (arith, c .before .before .loop-test .taken)
-
-loop-less : tie.Need-loop-less Inv-loop μ-loop
-loop-less c = omega (arith, c .before .before .loop-test .taken)
-
 loop-again : tie.Need-loop-again Inv-loop μ-loop
 loop-again c =
-    let start = c .before .before .before .before .before .before .before in
-    let a = start .args in
+    let start = c .before .before .before .before .before .before .before in let a = start .args in
     let l = c .before .before .before .loop in
     (omega (arith, c .before .before .loop-test .taken), some-next (l .j) (faulty (a .s) (a .events .now)) (l .inv .1) (sym (c .before .is-faulty .ensures) ∙ c .if3 .left))
 
 returns-4 : tie.Need-returns-4 Inv-loop μ-loop
 returns-4 c =
-    let a = c .before .before .before .before .before .args in
-    let l = c .before .loop in
+    let a = c .before .before .before .before .before .args in let l = c .before .loop in
     let e : lineCount (a .events .now) ≡ l .j = omega (arith, l .inv .0, c .loop-test .left) in
     sym (table-sound (a .s) (a .events .now) (c .before .before .before .if1 .left) (c .before .before .if2 .left) (ap (λ k. someBelow k (faulty (a .s) (a .events .now))) e ∙ l .inv .1))
 
 pub is-faulty-table-spec : {M : Type 1} → statement M
 is-faulty-table-spec =
     tie.close (tie.spec
-    Inv-loop μ-loop returns returns-2 loop-holds (λ c κs. c .loop-test .taken) returns-3 add-j loop-less loop-again returns-4)
+    Inv-loop μ-loop returns returns-2 loop-holds (λ c κs. c .loop-test .taken) returns-3 (λ c. omega (arith, c .before .before .loop-test .taken))
+    (λ c. omega (arith, c .before .before .loop-test .taken)) loop-again returns-4)

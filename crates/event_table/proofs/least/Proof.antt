@@ -7,21 +7,14 @@ use Rattle.event_table.proofs.Turns.{least-empty, least-mask}
 use Rattle.event_table.proofs.least.Statement.{statement}
 use Rattle.event_table.proofs.least.Tie as tie
 
-returns : tie.Need-returns
-returns c = least-empty (c .before .args .m) (c .if1 .taken)
-
 -- a line of a mask that is not empty
 below : (c : tie.Else1) → trailingZeros 64 (c .before .args .m) < 64
 below c = least-lt 64 (c .before .args .m) (omega (arith, c .if1 .left)) (omega arith)
-
-cast-result : tie.Need-cast-result
-cast-result c = omega (arith, below c)
-
-shl-result : tie.Need-shl-result
-shl-result c = omega (arith, below c)
 
 returns-2 : tie.Need-returns-2
 returns-2 c = least-mask (c .before .args .m) (omega (arith, c .if1 .left)) (omega arith)
 
 pub least-spec : {M : Type 1} → statement M
-least-spec = tie.close (tie.spec returns cast-result shl-result returns-2)
+least-spec =
+    tie.close (tie.spec
+    (λ c. least-empty (c .before .args .m) (c .if1 .taken)) (λ c. omega (arith, below c)) (λ c. omega (arith, below c)) returns-2)

@@ -15,8 +15,5 @@ returns c =
     let a = c .before .args in
     shl-one 64 (a .j) (c .before .pre) ∙ sym (one-mul (2 ^ a .j)) ∙ ap (λ (b : Bool). one b * 2 ^ a .j) (sym (c .if1 .taken))
 
-returns-2 : tie.Need-returns-2
-returns-2 c = rw (c .if1 .left) (omega arith)
-
 pub marked-spec : {M : Type 1} → statement M
-marked-spec = tie.close (tie.spec (λ c. search needs) returns returns-2)
+marked-spec = tie.close (tie.spec (λ c. search needs) returns (λ c. rw (c .if1 .left) (omega arith)))

@@ -17,24 +17,6 @@ Inv-loop events i masks₀ x₀ masks x =
 abbrev μ-loop : tie.MeasureT-loop
 μ-loop events i masks₀ x₀ masks x = 256 - x
 
-loop-holds : tie.Need-loop-holds Inv-loop μ-loop
-loop-holds c = (omega arith, refl, λ z l. absurd (omega arith))
-
-cast-spanning : tie.Need-cast-spanning Inv-loop μ-loop
-cast-spanning c = omega (arith, c .loop-test .taken)
-
-mul-masks : tie.Need-mul-masks Inv-loop μ-loop
-mul-masks c = omega (arith, c .before .loop-test .taken)
-
-array-write-masks : tie.Need-array-write-masks Inv-loop μ-loop
-array-write-masks c = omega (arith, c .before .loop-test .taken)
-
-add-x : tie.Need-add-x Inv-loop μ-loop
-add-x c = omega (arith, c .before .loop-test .taken)
-
-loop-less : tie.Need-loop-less Inv-loop μ-loop
-loop-less c = omega (arith, c .before .loop-test .taken)
-
 loop-again : tie.Need-loop-again Inv-loop μ-loop
 loop-again c =
     let a = c .before .before .before .before .args in
@@ -47,11 +29,12 @@ loop-again c =
 
 returns : tie.Need-returns Inv-loop μ-loop
 returns c =
-    let a = c .before .before .before .args in
-    let l = c .before .loop in
+    let a = c .before .before .before .args in let l = c .before .loop in
     masks-whole (a .events .now) (a .i) (l .masks) (l .inv .1) (λ z k. l .inv .2 z (omega (arith, l .inv .0, c .loop-test .left)))
 
 pub masks-of-spec : {M : Type 1} → statement M
 masks-of-spec =
     tie.close (tie.spec
-    Inv-loop μ-loop loop-holds cast-spanning (λ c κs. c .before .before .before .pre) mul-masks array-write-masks add-x loop-less loop-again returns)
+    Inv-loop μ-loop (λ c. (omega arith, refl, λ z l. absurd (omega arith))) (λ c. omega (arith, c .loop-test .taken))
+    (λ c κs. c .before .before .before .pre) (λ c. omega (arith, c .before .loop-test .taken)) (λ c. omega (arith, c .before .loop-test .taken))
+    (λ c. omega (arith, c .before .loop-test .taken)) (λ c. omega (arith, c .before .loop-test .taken)) loop-again returns)

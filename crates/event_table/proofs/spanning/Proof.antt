@@ -19,9 +19,6 @@ abbrev μ-loop : tie.MeasureT-loop
 loop-holds : tie.Need-loop-holds Inv-loop μ-loop
 loop-holds c = let a = c .before .args in (omega arith, mask-start (spans (a .events .now) (a .i) (a .x)))
 
-is-spanned-requires : tie.Need-is-spanned-requires Inv-loop μ-loop
-is-spanned-requires c κs = (c .before .before .before .pre .0, c .loop-test .taken)
-
 marked-requires : tie.Need-marked-requires Inv-loop μ-loop
 marked-requires c κs = omega (arith, c .before .loop-test .taken, c .before .before .before .before .pre .1)
 
@@ -29,31 +26,23 @@ marked-requires c κs = omega (arith, c .before .loop-test .taken, c .before .be
 more : (c : tie.After-marked Inv-loop μ-loop) → let a = c .before .before .before .before .before .args in let l = c .before .before .before .loop in
     l .lines + c .marked .result ≡ mask (l .j + 1) (spans (a .events .now) (a .i) (a .x))
 more c =
-    let a = c .before .before .before .before .before .args in
-    let l = c .before .before .before .loop in
+    let a = c .before .before .before .before .before .args in let l = c .before .before .before .loop in
     ap₂ (λ (u v : ℕ). u + v) (l .inv .1) (c .marked .ensures ∙ ap (λ (b : Bool). one b * 2 ^ l .j) (c .before .is-spanned .ensures)) ∙ mask-more (l .j) (spans (a .events .now) (a .i) (a .x))
 
 add-lines : tie.Need-add-lines Inv-loop μ-loop
 add-lines c =
-    let a = c .before .before .before .before .before .args in
-    let l = c .before .before .before .loop in
+    let a = c .before .before .before .before .before .args in let l = c .before .before .before .loop in
     omega (arith, more c, mask-fits (l .j) (spans (a .events .now) (a .i) (a .x)) (omega (arith, c .before .before .loop-test .taken, c .before .before .before .before .before .pre .1)))
-
-add-j : tie.Need-add-j Inv-loop μ-loop
-add-j c = omega (arith, c .before .before .loop-test .taken)
-
-loop-less : tie.Need-loop-less Inv-loop μ-loop
-loop-less c = omega (arith, c .before .before .loop-test .taken)
-
-loop-again : tie.Need-loop-again Inv-loop μ-loop
-loop-again c = (omega (arith, c .before .before .loop-test .taken), more c)
 
 returns : tie.Need-returns Inv-loop μ-loop
 returns c =
-    let a = c .before .before .before .args in
-    let l = c .before .loop in
+    let a = c .before .before .before .args in let l = c .before .loop in
     let e : l .j ≡ lineCount (a .events .now) = omega (arith, l .inv .0, c .loop-test .left) in
     l .inv .1 ∙ ap (λ (k : ℕ). mask k (spans (a .events .now) (a .i) (a .x))) e
 
 pub spanning-spec : {M : Type 1} → statement M
-spanning-spec = tie.close (tie.spec Inv-loop μ-loop loop-holds is-spanned-requires marked-requires add-lines add-j loop-less loop-again returns)
+spanning-spec =
+    tie.close (tie.spec
+    Inv-loop μ-loop loop-holds (λ c κs. (c .before .before .before .pre .0, c .loop-test .taken)) marked-requires add-lines
+    (λ c. omega (arith, c .before .before .loop-test .taken)) (λ c. omega (arith, c .before .before .loop-test .taken))
+    (λ c. (omega (arith, c .before .before .loop-test .taken), more c)) returns)

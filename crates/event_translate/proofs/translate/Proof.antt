@@ -15,8 +15,7 @@ use Rattle.event_translate.proofs.translate.Tie as tie
 returns : tie.Need-returns
 returns c =
     let at-read-rule = c .before .before .before .before .before .before .before .before in
-    let start = at-read-rule .before .before .before .before .before in
-    let a = start .args in
+    let start = at-read-rule .before .before .before .before .before in let a = start .args in
     let l = c .before .before .before .before .before .before .l .given .0 .0 in
     let read : readOf (a .file .now) ≡ Accepted l = sym (at-read-rule .read-rule .ensures) ∙ c .before .before .before .before .before .before .l .given .1 in
     let v = served (a .file .now) l read in
@@ -26,8 +25,7 @@ returns c =
 
 returns-2 : tie.Need-returns-2
 returns-2 c =
-    let start = c .before .before .before .before .before .before .before .before in
-    let a = start .args in
+    let start = c .before .before .before .before .before .before .before .before in let a = start .args in
     let k = c .before .k .given .0 .0 in
     let t = turned-away (a .file .now) k (sym (c .before .before .before .read-rule .ensures) ∙ c .before .k .given .1) in
     refused (a .file .now) (a .events .now) (a .log .now) k (a .letters .now) (λ e. t .1 (t .0 ∙ e)) (sym (t .0))

@@ -46,9 +46,6 @@ masks c = record {
   of-drives = c .masks-of2 .ensures;
 }
 
-has-covered-requires : tie.Need-has-covered-requires
-has-covered-requires c κs = masks (c .before .before)
-
 returns-2 : tie.Need-returns-2
 returns-2 c =
     let start = c .before .before .before .before .before .before .before .before .before .before .before in
@@ -66,8 +63,7 @@ uncovered c = sym (c .before .has-covered .ensures) ∙ c .if2 .left
 returns-3 : tie.Need-returns-3
 returns-3 c =
     let earlier = c .before .before .before .before .before .before .before .before in
-    let earlier-2 = earlier .before .before in
-    let start = earlier-2 .before .before .before .before .before in
+    let earlier-2 = earlier .before .before in let start = earlier-2 .before .before .before .before .before in
     let a = start .args in
     called-refused (a .s) (a .events .now) (a .log .now) (a .letters .now) 26
     (log-refuses (a .s) (a .events .now) (a .log .now) (length (a .letters .now)) (sound (earlier-2)) (uncovered (c .before .before .before .before))
@@ -85,8 +81,7 @@ known c =
 returns-4 : tie.Need-returns-4
 returns-4 c =
     let earlier = c .before .before .before .before .before .before .before .before .before .before .before in
-    let start = earlier .before .before .before .before .before in
-    let a = start .args in
+    let start = earlier .before .before .before .before .before in let a = start .args in
     called-refused (a .s) (a .events .now) (a .log .now) (a .letters .now) 15
     (slice-refuses (a .s) (a .events .now) (a .log .now) (length (a .letters .now)) (sound (earlier)) (uncovered (c .before .before .before .before .before)) (known (c .before)) (c .if4 .taken))
 
@@ -100,8 +95,7 @@ returns-5 c =
     let earlier = c .before .before .before .before .before .before .before in
     let earlier-2 = earlier .before .before .before .before in
     let earlier-3 = earlier-2 .before .before .before .before .before .before in
-    let start = earlier-3 .before .before .before .before .before in
-    let a = start .args in
+    let start = earlier-3 .before .before .before .before .before in let a = start .args in
     let w = c .before .before .write-letters in
     called-served (a .s) (a .events .now) (a .log .now) (a .letters .now)
     (call-served (a .s) (a .events .now) (a .log .now) (length (a .letters .now)) (sound (earlier-3)) (uncovered (earlier-2)) (known (earlier))
@@ -112,5 +106,5 @@ returns-5 c =
 pub translate-read-spec : {M : Type 1} → statement M
 translate-read-spec =
     tie.close (tie.spec
-    (λ c κs. search needs) returns masks-of-requires masks-of-requires-2 has-covered-requires returns-2 (λ c κs. search needs) returns-3 returns-4
-    write-letters-requires (λ c. search needs) returns-5)
+    (λ c κs. search needs) returns masks-of-requires masks-of-requires-2 (λ c κs. masks (c .before .before)) returns-2 (λ c κs. search needs)
+    returns-3 returns-4 write-letters-requires (λ c. search needs) returns-5)

@@ -21,22 +21,17 @@ loop-holds : tie.Need-loop-holds Inv-loop μ-loop
 unfolding someBelow
 loop-holds c = (omega arith, refl)
 
-nested-state-requires : tie.Need-nested-state-requires Inv-loop μ-loop
-nested-state-requires c κs = (c .before .before .before .before .before .pre, c .if1 .taken)
-
 returns : tie.Need-returns Inv-loop μ-loop
 unfolding someNested
 returns c =
-    let start = c .before .before .before .before .before .before .before in
-    let a = start .args in
+    let start = c .before .before .before .before .before .before .before in let a = start .args in
     let l = c .before .before .before .before .loop in
     some-stop (a .h .n) (λ p. someBelow (a .h .s) (λ b. nested (a .h .n) (entry (ruleOf (a .h) (a .counts .now) (a .clauses .now)) p b))) (l .q) (c .before .before .if1 .taken)
     (sym (c .before .nested-state .ensures) ∙ c .if2 .taken)
 
 loop-again : tie.Need-loop-again Inv-loop μ-loop
 loop-again c =
-    let start = c .before .before .before .before .before .before .before in
-    let a = start .args in
+    let start = c .before .before .before .before .before .before .before in let a = start .args in
     let l = c .before .before .before .before .loop in (
       omega arith,
       some-next (l .q) (λ p. someBelow (a .h .s) (λ b. nested (a .h .n) (entry (ruleOf (a .h) (a .counts .now) (a .clauses .now)) p b))) (l .inv .1)
@@ -46,9 +41,11 @@ loop-again c =
 returns-2 : tie.Need-returns-2 Inv-loop μ-loop
 unfolding someNested
 returns-2 c =
-    let a = c .before .before .before .before .before .args in
-    let l = c .before .before .loop in
+    let a = c .before .before .before .before .before .args in let l = c .before .before .loop in
     some-end (l .q) (a .h .n) (λ p. someBelow (a .h .s) (λ b. nested (a .h .n) (entry (ruleOf (a .h) (a .counts .now) (a .clauses .now)) p b))) (omega arith) (l .inv .1)
 
 pub any-nested-spec : {M : Type 1} → statement M
-any-nested-spec = tie.close (tie.spec Inv-loop μ-loop loop-holds nested-state-requires returns (λ c. omega arith) (λ c. omega arith) loop-again returns-2)
+any-nested-spec =
+    tie.close (tie.spec
+    Inv-loop μ-loop loop-holds (λ c κs. (c .before .before .before .before .before .pre, c .if1 .taken)) returns (λ c. omega arith) (λ c. omega arith)
+    loop-again returns-2)

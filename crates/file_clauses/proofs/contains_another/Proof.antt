@@ -20,26 +20,22 @@ loop-holds : tie.Need-loop-holds Inv-loop μ-loop
 unfolding someBelow
 loop-holds c = (omega arith, refl)
 
-contains-at-requires : tie.Need-contains-at-requires Inv-loop μ-loop
-contains-at-requires c κs = (omega arith, omega arith)
-
 returns : tie.Need-returns Inv-loop μ-loop
 returns c =
-    let a = c .before .before .before .before .before .args in
-    let l = c .before .before .before .loop in
+    let a = c .before .before .before .before .before .args in let l = c .before .before .before .loop in
     some-stop (length (a .clauses .now)) (λ k. containsAt 8 (a .clauses .now) (a .i) k) (l .j) (omega arith) (sym (c .before .contains-at .ensures) ∙ c .if1 .taken)
 
 loop-again : tie.Need-loop-again Inv-loop μ-loop
 loop-again c =
-    let a = c .before .before .before .before .before .args in
-    let l = c .before .before .before .loop in
+    let a = c .before .before .before .before .before .args in let l = c .before .before .before .loop in
     (omega arith, some-next (l .j) (λ k. containsAt 8 (a .clauses .now) (a .i) k) (l .inv .1) (sym (c .before .contains-at .ensures) ∙ c .if1 .left))
 
 returns-2 : tie.Need-returns-2 Inv-loop μ-loop
 returns-2 c =
-    let a = c .before .before .before .args in
-    let l = c .before .loop in
+    let a = c .before .before .before .args in let l = c .before .loop in
     some-end (l .j) (length (a .clauses .now)) (λ k. containsAt 8 (a .clauses .now) (a .i) k) (omega arith) (l .inv .1)
 
 pub contains-another-spec : {M : Type 1} → statement M
-contains-another-spec = tie.close (tie.spec Inv-loop μ-loop loop-holds contains-at-requires returns (λ c. omega arith) (λ c. omega arith) loop-again returns-2)
+contains-another-spec =
+    tie.close (tie.spec
+    Inv-loop μ-loop loop-holds (λ c κs. (omega arith, omega arith)) returns (λ c. omega arith) (λ c. omega arith) loop-again returns-2)

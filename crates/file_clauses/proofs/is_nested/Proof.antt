@@ -23,22 +23,19 @@ loop-holds c = (omega arith, refl)
 returns : tie.Need-returns Inv-loop μ-loop
 unfolding nested
 returns c =
-    let a = c .before .before .before .before .before .args in
-    let l = c .before .before .before .loop in
+    let a = c .before .before .before .before .before .args in let l = c .before .before .before .loop in
     some-stop (length (a .clauses .now)) (λ k. someBelow (length (a .clauses .now)) (λ j. containsAt 8 (a .clauses .now) k j)) (l .i) (omega arith)
     (sym (c .before .contains-another .ensures) ∙ c .if1 .taken)
 
 loop-again : tie.Need-loop-again Inv-loop μ-loop
 loop-again c =
-    let a = c .before .before .before .before .before .args in
-    let l = c .before .before .before .loop in
+    let a = c .before .before .before .before .before .args in let l = c .before .before .before .loop in
     (omega arith, some-next (l .i) (λ k. someBelow (length (a .clauses .now)) (λ j. containsAt 8 (a .clauses .now) k j)) (l .inv .1) (sym (c .before .contains-another .ensures) ∙ c .if1 .left))
 
 returns-2 : tie.Need-returns-2 Inv-loop μ-loop
 unfolding nested
 returns-2 c =
-    let a = c .before .before .before .args in
-    let l = c .before .loop in
+    let a = c .before .before .before .args in let l = c .before .loop in
     some-end (l .i) (length (a .clauses .now)) (λ k. someBelow (length (a .clauses .now)) (λ j. containsAt 8 (a .clauses .now) k j)) (omega arith) (l .inv .1)
 
 pub is-nested-spec : {M : Type 1} → statement M

@@ -16,13 +16,9 @@ Inv-loop names i₀ i = (i ≤ length names) × (anyOf names (outside 0x20 0x7E)
 abbrev μ-loop : tie.MeasureT-loop
 μ-loop names i₀ i = length names - i
 
-loop-holds : tie.Need-loop-holds Inv-loop μ-loop
-loop-holds c = (omega arith, refl)
-
 returns : tie.Need-returns Inv-loop μ-loop
 returns c =
-    let names = c .before .before .before .before .args .names .now in
-    let l = c .before .before .before .loop in
+    let names = c .before .before .before .before .args .names .now in let l = c .before .before .before .loop in
     sym (l .inv .1 ∙ any-stop (outside 0x20 0x7E) names (l .i) (omega arith) (byte-low (getD names (l .i) 0) (omega arith)))
 
 returns-2 : tie.Need-returns-2 Inv-loop μ-loop
@@ -41,11 +37,11 @@ loop-again c =
 
 returns-3 : tie.Need-returns-3 Inv-loop μ-loop
 returns-3 c =
-    let names = c .before .before .args .names .now in
-    let l = c .before .loop in
+    let names = c .before .before .args .names .now in let l = c .before .loop in
     sym (l .inv .1 ∙ any-end (outside 0x20 0x7E) names (l .i) (omega arith))
 
 pub any-outside-spec : {M : Type 1} → statement M
 any-outside-spec =
     tie.close (tie.spec
-    Inv-loop μ-loop loop-holds (λ c. omega arith) returns (λ c. omega arith) returns-2 (λ c. omega arith) (λ c. omega arith) loop-again returns-3)
+    Inv-loop μ-loop (λ c. (omega arith, refl)) (λ c. omega arith) returns (λ c. omega arith) returns-2 (λ c. omega arith) (λ c. omega arith)
+    loop-again returns-3)

@@ -8,9 +8,6 @@ use Rattle.file_names.proofs.Tests.{few-bytes, first-differs, last-deci
 use Rattle.file_names.proofs.has_names.Statement.{statement}
 use Rattle.file_names.proofs.has_names.Tie as tie
 
-returns : tie.Need-returns
-returns c = few-bytes (c .before .args .p .now) (omega arith)
-
 returns-2 : tie.Need-returns-2
 returns-2 c =
     let p = c .before .before .before .args .p .now in
@@ -28,4 +25,5 @@ returns-3 c =
 pub has-names-spec : {M : Type 1} → statement M
 has-names-spec =
     tie.close (tie.spec
-    returns (λ c. search needs) (λ c. search needs) returns-2 (λ c. search needs) (λ c. search needs) (λ c. search needs) returns-3)
+    (λ c. few-bytes (c .before .args .p .now) (omega arith)) (λ c. search needs) (λ c. search needs) returns-2 (λ c. search needs) (λ c. search needs)
+    (λ c. search needs) returns-3)

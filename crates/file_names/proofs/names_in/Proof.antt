@@ -27,13 +27,9 @@ room c = let a = c .before .before .before .args in names-room (a .s) (a .p .now
 sub-end : tie.Need-sub-end
 sub-end c = let a = c .before .before .before .args in names-long (a .s) (a .p .now) (there c)
 
-sub-result : tie.Need-sub-result
-sub-result c = room c
-
 returns-2 : tie.Need-returns-2
 returns-2 c =
-    let a = c .before .before .before .before .args in
-    let p = a .p .now in
+    let a = c .before .before .before .before .args in let p = a .p .now in
     let m = length p - 2 in
     let k : m - (m - 8 * a .s) ≡ 8 * a .s = omega (arith, room (c .before)) in
     rw k (sym (names-there (a .s) p (there (c .before))))
@@ -41,5 +37,5 @@ returns-2 c =
 pub names-in-spec : {M : Type 1} → statement M
 names-in-spec =
     tie.close (tie.spec
-    (λ c κs. search needs) (λ c. search needs) returns sub-end (λ c. search needs) sub-result (λ c. search needs) (λ c. search needs) (λ c. search needs)
-    returns-2)
+    (λ c κs. search needs) (λ c. search needs) returns sub-end (λ c. search needs) (λ c. room c) (λ c. search needs) (λ c. search needs)
+    (λ c. search needs) returns-2)

@@ -23,13 +23,12 @@ kept c =
     let a = c .before .before .before .args in
     not-t (cutOff (a .s) (a .p .now)) (sym (c .before .names-fit .ensures) ∙ not-false _ (c .if1 .left))
 
-names-in-requires : tie.Need-names-in-requires
-names-in-requires c κs = (c .before .before .before .pre, kept c)
-
 returns-2 : tie.Need-returns-2
 returns-2 c =
     let a = c .before .before .before .before .before .args in
     c .names-row .ensures ∙ ap (λ (names : List ℕ). firstRow (nameRows names)) (c .before .names-in .ensures) ∙ sym (past-21 (a .s) (a .p .now) (kept (c .before .before)))
 
 pub preface-row-spec : {M : Type 1} → statement M
-preface-row-spec = tie.close (tie.spec (λ c κs. search needs) returns names-in-requires (λ c κs. search needs) returns-2)
+preface-row-spec =
+    tie.close (tie.spec
+    (λ c κs. search needs) returns (λ c κs. (c .before .before .before .pre, kept c)) (λ c κs. search needs) returns-2)

@@ -19,26 +19,22 @@ loop-holds : tie.Need-loop-holds Inv-loop μ-loop
 unfolding someBelow
 loop-holds c = (omega arith, refl)
 
-same-name-requires : tie.Need-same-name-requires Inv-loop μ-loop
-same-name-requires c κs = (omega arith, omega arith)
-
 returns : tie.Need-returns Inv-loop μ-loop
 returns c =
-    let a = c .before .before .before .before .before .args in
-    let l = c .before .before .before .loop in
+    let a = c .before .before .before .before .before .args in let l = c .before .before .before .loop in
     some-stop (a .b) (λ k. sameName (a .names .now) k (a .b)) (l .a) (omega arith) (sym (c .before .same-name .ensures) ∙ c .if1 .taken)
 
 loop-again : tie.Need-loop-again Inv-loop μ-loop
 loop-again c =
-    let a = c .before .before .before .before .before .args in
-    let l = c .before .before .before .loop in
+    let a = c .before .before .before .before .before .args in let l = c .before .before .before .loop in
     (omega arith, some-next (l .a) (λ k. sameName (a .names .now) k (a .b)) (l .inv .1) (sym (c .before .same-name .ensures) ∙ c .if1 .left))
 
 returns-2 : tie.Need-returns-2 Inv-loop μ-loop
 returns-2 c =
-    let a = c .before .before .before .args in
-    let l = c .before .loop in
+    let a = c .before .before .before .args in let l = c .before .loop in
     some-end (l .a) (a .b) (λ k. sameName (a .names .now) k (a .b)) (omega arith) (l .inv .1)
 
 pub repeats-earlier-spec : {M : Type 1} → statement M
-repeats-earlier-spec = tie.close (tie.spec Inv-loop μ-loop loop-holds same-name-requires returns (λ c. omega arith) (λ c. omega arith) loop-again returns-2)
+repeats-earlier-spec =
+    tie.close (tie.spec
+    Inv-loop μ-loop loop-holds (λ c κs. (omega arith, omega arith)) returns (λ c. omega arith) (λ c. omega arith) loop-again returns-2)

@@ -23,20 +23,17 @@ loop-holds c = (omega arith, refl)
 
 returns : tie.Need-returns Inv-loop μ-loop
 returns c =
-    let a = c .before .before .before .before .before .args in
-    let l = c .before .before .before .before .loop in
+    let a = c .before .before .before .before .before .args in let l = c .before .before .before .before .loop in
     sym (every-stop 8 (λ k. eqb (getD (a .names .now) (8 * a .a + k) 0) (getD (a .names .now) (8 * a .b + k) 0)) (l .i) (omega arith) (ne-eqb _ _ (c .if1 .taken)))
 
 loop-again : tie.Need-loop-again Inv-loop μ-loop
 loop-again c =
-    let a = c .before .before .before .before .before .args in
-    let l = c .before .before .before .before .loop in
+    let a = c .before .before .before .before .before .args in let l = c .before .before .before .before .loop in
     (omega arith, every-next (l .i) (λ k. eqb (getD (a .names .now) (8 * a .a + k) 0) (getD (a .names .now) (8 * a .b + k) 0)) (l .inv .1) (eq-eqb _ _ (c .if1 .left)))
 
 returns-2 : tie.Need-returns-2 Inv-loop μ-loop
 returns-2 c =
-    let a = c .before .before .args in
-    let l = c .before .loop in
+    let a = c .before .before .args in let l = c .before .loop in
     let e : l .i ≡ 8 = omega arith in
     sym (ap (λ (x : ℕ). every x (λ k. eqb (getD (a .names .now) (8 * a .a + k) 0) (getD (a .names .now) (8 * a .b + k) 0))) (sym e) ∙ l .inv .1)
 

@@ -27,31 +27,12 @@ bounds c = rw (c .pre .1) (omega (arith, known c))
 
 returns : tie.Need-returns
 returns c =
-    let f = c .before .before .before .args .f .now in
-    let r = c .before .lists-at in
+    let f = c .before .before .before .args .f .now in let r = c .before .lists-at in
     rows-body f (r .result) (c .if1 .taken) (rows-layout f (r .result) (c .if1 .taken) (r .ensures))
 
 -- no row of the layout refuses
 pass : (c : tie.Else1) → firstRow (layoutRows (start-of c .args .f .now)) ≡ 0
 pass c = sym (c .before .lists-at .ensures) ∙ c .if1 .left
-
-sub-end : tie.Need-sub-end
-sub-end c = known (start-of (c .before)) .long
-
-add-formed-row : tie.Need-add-formed-row
-add-formed-row c = omega (arith, bounds (start-of (c .before)))
-
-sub-formed-row : tie.Need-sub-formed-row
-sub-formed-row c = omega (arith, bounds (start-of (c .before)))
-
-part-formed-row-start : tie.Need-part-formed-row-start
-part-formed-row-start c = omega (arith, bounds (start-of (c .before)))
-
-add-formed-row-2 : tie.Need-add-formed-row-2
-add-formed-row-2 c = omega (arith, bounds (start-of (c .before .before)))
-
-part-formed-row-end-2 : tie.Need-part-formed-row-end-2
-part-formed-row-end-2 c = omega (arith, bounds (start-of (c .before .before)))
 
 formed-row-requires : tie.Need-formed-row-requires
 formed-row-requires c κs =
@@ -92,5 +73,8 @@ returns-3 c =
 pub laid-row-spec : {M : Type 1} → statement M
 laid-row-spec =
     tie.close (tie.spec
-    (λ c κs. search needs) returns sub-end add-formed-row sub-formed-row part-formed-row-start (λ c. search needs) add-formed-row-2 (λ c. search needs) (λ c. search needs)
-    part-formed-row-end-2 formed-row-requires returns-2 slice-aggregate-preface-row preface-row-requires returns-3)
+    (λ c κs. search needs) returns (λ c. known (start-of (c .before)) .long) (λ c. omega (arith, bounds (start-of (c .before))))
+    (λ c. omega (arith, bounds (start-of (c .before)))) (λ c. omega (arith, bounds (start-of (c .before)))) (λ c. search needs)
+    (λ c. omega (arith, bounds (start-of (c .before .before)))) (λ c. search needs) (λ c. search needs)
+    (λ c. omega (arith, bounds (start-of (c .before .before)))) formed-row-requires returns-2 slice-aggregate-preface-row preface-row-requires
+    returns-3)

@@ -17,8 +17,7 @@ pass c = sym (c .before .trailer-row .ensures) ∙ c .if1 .left
 lay-out-requires : tie.Need-lay-out-requires
 lay-out-requires c κs = let p = placed (c .before .before .before .args .f .now) (pass c) in (p .long, p .fits)
 
-lists-at-requires : tie.Need-lists-at-requires
-lists-at-requires c κs = (pass (c .before), c .lay-out .ensures)
-
 pub layout-row-spec : {M : Type 1} → statement M
-layout-row-spec = tie.close (tie.spec (λ c κs. search needs) returns lay-out-requires lists-at-requires (λ c. search needs))
+layout-row-spec =
+    tie.close (tie.spec
+    (λ c κs. search needs) returns lay-out-requires (λ c κs. (pass (c .before), c .lay-out .ensures)) (λ c. search needs))

@@ -20,24 +20,6 @@ known c = placed (c .args .f .now) (c .pre .0)
 bounds : (c : tie.Start) → c .args .l .at + c .args .l .clauses ≤ length (c .args .f .now) - 8
 bounds c = rw (c .pre .1) (omega (arith, known c))
 
-sub-end : tie.Need-sub-end
-sub-end c = known (c .before .before) .long
-
-add-lists-row : tie.Need-add-lists-row
-add-lists-row c = omega (arith, bounds (c .before .before))
-
-sub-lists-row : tie.Need-sub-lists-row
-sub-lists-row c = omega (arith, bounds (c .before .before))
-
-part-lists-row-start : tie.Need-part-lists-row-start
-part-lists-row-start c = omega (arith, bounds (c .before .before))
-
-add-lists-row-2 : tie.Need-add-lists-row-2
-add-lists-row-2 c = omega (arith, bounds (c .before .before .before))
-
-part-lists-row-end-2 : tie.Need-part-lists-row-end-2
-part-lists-row-end-2 c = omega (arith, bounds (c .before .before .before))
-
 lists-row-requires : tie.Need-lists-row-requires
 lists-row-requires c κs =
     let start = c .before .before .before .before in
@@ -56,5 +38,6 @@ returns c =
 pub lists-at-spec : {M : Type 1} → statement M
 lists-at-spec =
     tie.close (tie.spec
-    sub-end add-lists-row sub-lists-row part-lists-row-start (λ c. search needs) add-lists-row-2 (λ c. search needs) (λ c. search needs) part-lists-row-end-2
-    lists-row-requires returns)
+    (λ c. known (c .before .before) .long) (λ c. omega (arith, bounds (c .before .before))) (λ c. omega (arith, bounds (c .before .before)))
+    (λ c. omega (arith, bounds (c .before .before))) (λ c. search needs) (λ c. omega (arith, bounds (c .before .before .before))) (λ c. search needs)
+    (λ c. search needs) (λ c. omega (arith, bounds (c .before .before .before))) lists-row-requires returns)

@@ -20,17 +20,11 @@ known c = let a = c .before .args in served (a .f .now) (a .l) (c .before .pre)
 room : (c : tie.Else1) → c .before .args .l .names + 2 ≤ c .before .args .l .at
 room c = known c .names-inside (some-names c)
 
-sub-end : tie.Need-sub-end
-sub-end c = omega (arith, room (c .before))
-
-sub-start : tie.Need-sub-start
-sub-start c = omega (arith, room (c .before))
-
-part-result-end : tie.Need-part-result-end
-part-result-end c = omega (arith, room (c .before), known (c .before) .bounds)
-
 returns-2 : tie.Need-returns-2
 returns-2 c = let a = c .before .before .before .args in names-there (a .f .now) (a .l) (c .before .before .before .pre) (some-names (c .before .before))
 
 pub names-of-spec : {M : Type 1} → statement M
-names-of-spec = tie.close (tie.spec (λ c. search needs) returns sub-end sub-start (λ c. search needs) (λ c. search needs) part-result-end returns-2)
+names-of-spec =
+    tie.close (tie.spec
+    (λ c. search needs) returns (λ c. omega (arith, room (c .before))) (λ c. omega (arith, room (c .before))) (λ c. search needs) (λ c. search needs)
+    (λ c. omega (arith, room (c .before), known (c .before) .bounds)) returns-2)

@@ -14,8 +14,7 @@ use Rattle.file_read.proofs.read_rule.Tie as tie
 
 returns : tie.Need-returns
 returns c =
-    let f = c .before .before .before .args .f .now in
-    let k = c .before .trailer-row .result in
+    let f = c .before .before .before .args .f .now in let k = c .before .trailer-row .result in
     let n = c .if1 .taken in
     refused f k n (rows-body f k n (rows-layout f k n (rows-trailer f k n (c .before .trailer-row .ensures))))
 
@@ -26,12 +25,6 @@ pass c = sym (c .before .trailer-row .ensures) ∙ c .if1 .left
 -- so the parts are in their places
 known : (c : tie.Else1) → Placed (c .before .before .before .args .f .now)
 known c = placed (c .before .before .before .args .f .now) (pass c)
-
-lay-out-requires : tie.Need-lay-out-requires
-lay-out-requires c κs = (known c .long, known c .fits)
-
-laid-row-requires : tie.Need-laid-row-requires
-laid-row-requires c κs = (pass (c .before), c .lay-out .ensures)
 
 returns-2 : tie.Need-returns-2
 returns-2 c = refused (c .before .before .before .before .before .before .args .f .now) (c .before .laid-row .result) (c .if2 .taken) (c .before .laid-row .ensures)
@@ -49,8 +42,7 @@ slice-aggregate-names-in c = simp length-take (omega (arith, bound (c .before .b
 
 names-in-requires : tie.Need-names-in-requires
 names-in-requires c κs =
-    let l = c .before .before .before .before in
-    let f = l .before .before .before .before .args .f .now in
+    let l = c .before .before .before .before in let f = l .before .before .before .before .args .f .now in
     rw (l .lay-out .ensures) (known (l .before) .ranges .few-letters, names-kept f (accepted-rows f (none (c .before .before)) .1))
 
 returns-3 : tie.Need-returns-3
@@ -59,4 +51,7 @@ returns-3 c =
     rw (c .names-in .ensures, l .lay-out .ensures) (accepted (l .before .before .before .before .args .f .now) (none (c .before .before .before)))
 
 pub read-rule-spec : {M : Type 1} → statement M
-read-rule-spec = tie.close (tie.spec (λ c κs. search needs) returns lay-out-requires laid-row-requires returns-2 slice-aggregate-names-in names-in-requires returns-3)
+read-rule-spec =
+    tie.close (tie.spec
+    (λ c κs. search needs) returns (λ c κs. (known c .long, known c .fits)) (λ c κs. (pass (c .before), c .lay-out .ensures)) returns-2
+    slice-aggregate-names-in names-in-requires returns-3)

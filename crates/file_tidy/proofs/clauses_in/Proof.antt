@@ -5,18 +5,6 @@ use Rattle.file_spec.proofs.FileParts.{clauses-part}
 use Rattle.file_tidy.proofs.clauses_in.Statement.{statement}
 use Rattle.file_tidy.proofs.clauses_in.Tie as tie
 
-mul-at : tie.Need-mul-at
-mul-at c = rw (c .before .read-head .ensures) (omega arith)
-
-add-at : tie.Need-add-at
-add-at c = rw (c .before .read-head .ensures) (omega arith)
-
-sub-at-2 : tie.Need-sub-at-2
-sub-at-2 c = rw (c .before .read-head .ensures) (omega arith)
-
-part-result-end : tie.Need-part-result-end
-part-result-end c = rw (c .before .read-head .ensures) (omega arith)
-
 returns : tie.Need-returns
 returns c =
     rw (c .before .before .read-head .ensures, c .before .read-count .ensures .0)
@@ -25,5 +13,6 @@ returns c =
 pub clauses-in-spec : {M : Type 1} → statement M
 clauses-in-spec =
     tie.close (tie.spec
-    (λ c κs. search needs) (λ c κs. search needs) (λ c. omega arith) mul-at add-at sub-at-2 (λ c. search needs) (λ c. search needs) (λ c. search needs)
-    part-result-end returns)
+    (λ c κs. search needs) (λ c κs. search needs) (λ c. omega arith) (λ c. rw (c .before .read-head .ensures) (omega arith))
+    (λ c. rw (c .before .read-head .ensures) (omega arith)) (λ c. rw (c .before .read-head .ensures) (omega arith)) (λ c. search needs)
+    (λ c. search needs) (λ c. search needs) (λ c. rw (c .before .read-head .ensures) (omega arith)) returns)

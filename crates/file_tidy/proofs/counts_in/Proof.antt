@@ -5,12 +5,6 @@ use Rattle.file_tidy.proofs.Parts.{counts-end}
 use Rattle.file_tidy.proofs.counts_in.Statement.{statement}
 use Rattle.file_tidy.proofs.counts_in.Tie as tie
 
-mul-at : tie.Need-mul-at
-mul-at c = rw (c .read-head .ensures) (omega arith)
-
-sub-at : tie.Need-sub-at
-sub-at c = rw (c .read-head .ensures) (omega arith)
-
 returns : tie.Need-returns
 returns c =
     rw (c .before .read-head .ensures) (counts-end (c .before .before .before .args .f .now) (c .before .before .before .pre .1))
@@ -18,4 +12,5 @@ returns c =
 pub counts-in-spec : {M : Type 1} → statement M
 counts-in-spec =
     tie.close (tie.spec
-    (λ c κs. search needs) (λ c. omega arith) mul-at sub-at (λ c. search needs) (λ c. search needs) (λ c. search needs) returns)
+    (λ c κs. search needs) (λ c. omega arith) (λ c. rw (c .read-head .ensures) (omega arith)) (λ c. rw (c .read-head .ensures) (omega arith))
+    (λ c. search needs) (λ c. search needs) (λ c. search needs) returns)

@@ -15,20 +15,16 @@ use Rattle.file_tidy.proofs.names_of.Tie as tie
 known : (f : List ℕ) → firstRow (tidyRows f) ≡ 0 → Placed f
 known f e = laid-out f (tidy-laid f e)
 
-read-head-requires : tie.Need-read-head-requires
-read-head-requires c κs = known (c .before .args .f .now) (c .before .pre) .long
-
 part-before-requires : tie.Need-part-before-requires
 part-before-requires c κs = let p = known (c .before .before .args .f .now) (c .before .before .pre) in (p .long, p .fits)
 
 names-in-requires : tie.Need-names-in-requires
 names-in-requires c κs =
-    let f = c .before .before .before .args .f .now in
-    let e = c .before .before .before .pre in
+    let f = c .before .before .before .args .f .now in let e = c .before .before .before .pre in
     rw (c .before .read-head .ensures, c .part-before .ensures) (known f e .ranges .few-letters, fit-21 (trailer f 1) (partBefore f) (tidy-preface f e))
 
 returns : tie.Need-returns
 returns c = rw (c .before .before .read-head .ensures, c .before .part-before .ensures) at (c .names-in .ensures)
 
 pub names-of-spec : {M : Type 1} → statement M
-names-of-spec = tie.close (tie.spec read-head-requires part-before-requires names-in-requires returns)
+names-of-spec = tie.close (tie.spec (λ c κs. known (c .before .args .f .now) (c .before .pre) .long) part-before-requires names-in-requires returns)

@@ -11,8 +11,5 @@ slice-aggregate-result c =
     let l : c .before .lay-out .result .at ≤ length (c .before .before .before .args .f .now) = rw (c .before .lay-out .ensures) (omega arith) in
     simp length-take (omega arith)
 
-returns : tie.Need-returns
-returns c = rw (c .before .lay-out .ensures)
-
 pub part-before-spec : {M : Type 1} → statement M
-part-before-spec = tie.close (tie.spec (λ c κs. search needs) slice-aggregate-result returns)
+part-before-spec = tie.close (tie.spec (λ c κs. search needs) slice-aggregate-result (λ c. rw (c .before .lay-out .ensures)))

@@ -22,15 +22,6 @@ pass c = sym (c .before .layout-row .ensures) ∙ c .if1 .left
 known : (c : tie.Else1) → Placed (c .before .before .before .args .f .now)
 known c = laid-out (c .before .before .before .args .f .now) (pass c)
 
-read-head-requires : tie.Need-read-head-requires
-read-head-requires c κs = known c .long
-
-counts-in-requires : tie.Need-counts-in-requires
-counts-in-requires c κs = (known (c .before) .long, known (c .before) .fits)
-
-clauses-in-requires : tie.Need-clauses-in-requires
-clauses-in-requires c κs = (known (c .before .before) .long, known (c .before .before) .fits)
-
 components-row-requires : tie.Need-components-row-requires
 components-row-requires c κs =
     rw (c .before .before .read-head .ensures, c .before .counts-in .ensures, c .clauses-in .ensures)
@@ -57,8 +48,7 @@ preface-row-requires c κs = rw (c .before .before .before .before .before .read
 returns-3 : tie.Need-returns-3
 returns-3 c =
     let earlier = c .before .before .before .before .before .before .before in
-    let start = earlier .before .before .before in
-    let f = start .args .f .now in
+    let start = earlier .before .before .before in let f = start .args .f .now in
     let e : c .preface-row .result ≡ firstRow (prefaceRows (trailer f 1) (partBefore f)) =
     rw (c .before .before .before .before .before .before .read-head .ensures, c .before .part-before .ensures) at (c .preface-row .ensures) in
     e ∙ sym (past-components f (pass (earlier)) (sym (middle (c .before .before .before)) ∙ c .before .before .if2 .left))
@@ -66,5 +56,6 @@ returns-3 c =
 pub rule-row-spec : {M : Type 1} → statement M
 rule-row-spec =
     tie.close (tie.spec
-    (λ c κs. search needs) returns read-head-requires counts-in-requires clauses-in-requires components-row-requires returns-2 part-before-requires
+    (λ c κs. search needs) returns (λ c κs. known c .long) (λ c κs. (known (c .before) .long, known (c .before) .fits))
+    (λ c κs. (known (c .before .before) .long, known (c .before .before) .fits)) components-row-requires returns-2 part-before-requires
     preface-row-requires returns-3)

@@ -24,18 +24,6 @@ pass c = sym (c .before .rule-row .ensures) ∙ c .if1 .left
 known : (c : tie.Else1) → Placed (c .before .before .before .before .args .file .now)
 known c = let f = c .before .before .before .before .args .file .now in laid-out f (tidy-laid f (pass c))
 
-read-head-requires : tie.Need-read-head-requires
-read-head-requires c κs = known c .long
-
-counts-in-requires : tie.Need-counts-in-requires
-counts-in-requires c κs = (known (c .before) .long, known (c .before) .fits)
-
-clauses-in-requires : tie.Need-clauses-in-requires
-clauses-in-requires c κs = (known (c .before .before) .long, known (c .before .before) .fits)
-
-names-of-requires : tie.Need-names-of-requires
-names-of-requires c κs = pass (c .before .before .before)
-
 write-tidied-requires : tie.Need-write-tidied-requires
 write-tidied-requires c κs =
     let start = c .before .before .before .before .before .before .before .before .before in
@@ -48,9 +36,7 @@ write-tidied-requires c κs =
 returns-2 : tie.Need-returns-2
 returns-2 c =
     let at-read-head = c .before .before .before .before .before .before .before in
-    let earlier = at-read-head .before in
-    let start = earlier .before .before .before .before in
-    let a = start .args in
+    let earlier = at-read-head .before in let start = earlier .before .before .before .before in let a = start .args in
     let w = rw (
       at-read-head .read-head .ensures,
       c .before .before .before .before .before .before .counts-in .ensures,
@@ -63,5 +49,6 @@ returns-2 c =
 pub tidy-spec : {M : Type 1} → statement M
 tidy-spec =
     tie.close (tie.spec
-    (λ c κs. search needs) returns read-head-requires counts-in-requires clauses-in-requires names-of-requires write-tidied-requires (λ c. search needs)
-    returns-2)
+    (λ c κs. search needs) returns (λ c κs. known c .long) (λ c κs. (known (c .before) .long, known (c .before) .fits))
+    (λ c κs. (known (c .before .before) .long, known (c .before .before) .fits)) (λ c κs. pass (c .before .before .before)) write-tidied-requires
+    (λ c. search needs) returns-2)

@@ -53,15 +53,6 @@ small c =
     let k = known (c .before .before .before) in
     (omega (arith, c .preface-length .ensures, preface-most (a .names .now), start-of-after-preface-length c .pre .1), k .few-entries, k .few-clauses)
 
-add-length : tie.Need-add-length
-add-length c = omega (arith, small c)
-
-add-length-2 : tie.Need-add-length-2
-add-length-2 c = omega (arith, small c)
-
-add-length-3 : tie.Need-add-length-3
-add-length-3 c = omega (arith, small c)
-
 returns : tie.Need-returns
 returns c =
     let start = c .before .before .before .before .before .before .before .before .before .before .before in
@@ -70,14 +61,8 @@ returns c =
     let lacks : length (a .out .now) < length file = omega (arith, known (c .before .before .before .before) .long (a .names .now), c .before .preface-length .ensures, c .if1 .taken) in
     short file (a .out .now) lacks
 
-array-share-prefix-counts2 : tie.Need-array-share-prefix-counts2
-array-share-prefix-counts2 c = known (c .before .before .before .before) .counts-room
-
 slice-aggregate-fill : tie.Need-slice-aggregate-fill
 slice-aggregate-fill c = sym (length-take-le _ _ (known (c .before .before .before .before .before) .counts-room))
-
-array-share-prefix-clauses2 : tie.Need-array-share-prefix-clauses2
-array-share-prefix-clauses2 c = known (c .before .before .before .before .before) .clauses-room
 
 slice-aggregate-fill-2 : tie.Need-slice-aggregate-fill-2
 slice-aggregate-fill-2 c = sym (length-take-le _ _ (known (c .before .before .before .before .before .before) .clauses-room))
@@ -85,8 +70,7 @@ slice-aggregate-fill-2 c = sym (length-take-le _ _ (known (c .before .before .be
 fill-requires : tie.Need-fill-requires
 fill-requires c κs =
     let at-tidy-rule = c .before .before .before .before .before .before .before in
-    let start = at-tidy-rule .before .before .before .before .before .before .before in
-    let a = start .args in
+    let start = at-tidy-rule .before .before .before .before .before .before .before in let a = start .args in
     let k = known (at-tidy-rule) in
     let t = at-tidy-rule .tidy-rule in
     let x = length-take-le (t .result) (t .last .1 .1 .1 .1 .0) (k .clauses-room) in
@@ -100,8 +84,7 @@ returns-2 : tie.Need-returns-2
 returns-2 c =
     let at-preface-length = c .before .before .before .before .before .before .before in
     let at-tidy-rule = at-preface-length .before .before .before in
-    let start = at-tidy-rule .before .before .before .before .before .before .before in
-    let a = start .args in
+    let start = at-tidy-rule .before .before .before .before .before .before .before in let a = start .args in
     let k = known (at-tidy-rule) in
     let file = prefaceFrom (a .names .now) ++ bodyOf (tidyRule (ruleOf (a .h) (a .counts .now) (a .clauses .now))) in
     let p = at-preface-length .preface-length in
@@ -113,5 +96,6 @@ returns-2 c =
 pub write-tidied-spec : {M : Type 1} → statement M
 write-tidied-spec =
     tie.close (tie.spec
-    (λ c. search needs) (λ c. search needs) tidy-rule-requires preface-length-requires add-length add-length-2 add-length-3 returns array-share-prefix-counts2
-    slice-aggregate-fill array-share-prefix-clauses2 slice-aggregate-fill-2 fill-requires (λ c. search needs) returns-2)
+    (λ c. search needs) (λ c. search needs) tidy-rule-requires preface-length-requires (λ c. omega (arith, small c)) (λ c. omega (arith, small c))
+    (λ c. omega (arith, small c)) returns (λ c. known (c .before .before .before .before) .counts-room) slice-aggregate-fill
+    (λ c. known (c .before .before .before .before .before) .clauses-room) slice-aggregate-fill-2 fill-requires (λ c. search needs) returns-2)

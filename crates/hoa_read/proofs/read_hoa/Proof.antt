@@ -35,8 +35,7 @@ returns-4 c =
     let a = c .before .before .before .before .before .before .before .before .before .before .before .before .before .before .before .before .args in
     let r = c .before .before .before .before .before .before .before .before .before .before .before .before .take-text .result in
     let W = c .before .before .before .before .before .before .before .before .before .before .before .before .take-text .ensures .found (omega arith) in
-    let S = c .before .before .before .before .before .before .take-starts in
-    let B = c .before .before .take-blocks in
+    let S = c .before .before .before .before .before .before .take-starts in let B = c .before .before .take-blocks in
     all-read (a .text .now) (r .macrostates) (r .propositions) (r .accepting) (r .transitions) (r .starts) (r .blocks) W (a .flags .now) (a .transitions .now) (omega arith) (omega arith)
     (flags-stored (a .text .now) (r .macrostates) (r .propositions) (r .accepting) (r .transitions) (r .starts) (r .blocks) W (a .flags .now) (S .result .last) (S .result .end) _ (S .ensures)
     (omega arith))

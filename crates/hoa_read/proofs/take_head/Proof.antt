@@ -7,8 +7,7 @@ use Rattle.hoa_read.proofs.take_head.Tie as tie
 
 returns : tie.Need-returns
 returns c =
-    let t = c .before .before .before .before .before .args .text .now in
-    let A = c .before .before .take in
+    let t = c .before .before .before .before .before .args .text .now in let A = c .before .before .take in
     no-head t (c .no-head .ensures) (head-no-name t (A .result) (A .ensures) (c .before .if1 .taken))
 
 take-numbered-requires : tie.Need-take-numbered-requires
@@ -16,10 +15,8 @@ take-numbered-requires c κs = (c .before .before .before .before .before .pre, 
 
 returns-2 : tie.Need-returns-2
 returns-2 c =
-    let start = c .before .before .before .before .before .before .before .before in
-    let t = start .args .text .now in
-    let A = c .before .before .before .before .before .take in
-    let N = c .before .before .take-numbered in
+    let start = c .before .before .before .before .before .before .before .before in let t = start .args .text .now in
+    let A = c .before .before .before .before .before .take in let N = c .before .before .take-numbered in
     no-head t (c .no-head2 .ensures) (head-no-states t (A .result) (A .ensures) (omega (arith, c .before .before .before .before .if1 .left)) (N .result .value) (N .result .end) (N .ensures)
     (c .before .if2 .taken))
 
@@ -28,19 +25,12 @@ take-starts-requires c κs =
     let start = c .before .before .before .before .before .before .before .before in
     let f = c .before .before .take-numbered .ensures .found (omega arith) in (start .pre, f .1, f .0)
 
-take-ap-requires : tie.Need-take-ap-requires
-take-ap-requires c κs = c .before .take-starts .ensures .read .within
-
 returns-3 : tie.Need-returns-3
 returns-3 c =
     let at-take-numbered = c .before .before .before .before .before .before .before in
-    let at-if1 = at-take-numbered .before .before in
-    let at-take = at-if1 .before in
-    let start = at-take .before .before .before in
-    let t = start .args .text .now in
-    let A = at-take .take in
-    let N = at-take-numbered .take-numbered in
-    let S = c .before .before .before .before .take-starts in
+    let at-if1 = at-take-numbered .before .before in let at-take = at-if1 .before in
+    let start = at-take .before .before .before in let t = start .args .text .now in let A = at-take .take in
+    let N = at-take-numbered .take-numbered in let S = c .before .before .before .before .take-starts in
     let B = c .before .before .take-ap in
     no-head t (c .no-head3 .ensures) (head-no-ap t (A .result) (A .ensures) (omega (arith, at-if1 .if1 .left)) (N .result .value) (N .result .end) (N .ensures)
     (omega (arith, c .before .before .before .before .before .before .if2 .left)) (S .ensures .starts) (S .result .last) (S .result .end) (S .ensures .read) (B .result .value) (B .result .end)
@@ -51,15 +41,10 @@ take-requires-2 c κs = (c .before .before .take-ap .ensures .found (omega arith
 
 returns-4 : tie.Need-returns-4
 returns-4 c =
-    let at-if2 = c .before .before .before .before .before .before .before in
-    let at-take-numbered = at-if2 .before in
-    let at-if1 = at-take-numbered .before .before in
-    let at-take = at-if1 .before in
-    let start = at-take .before .before .before in
-    let t = start .args .text .now in
-    let A = at-take .take in
-    let N = at-take-numbered .take-numbered in
-    let S = c .before .before .before .before .before .take-starts in
+    let at-if2 = c .before .before .before .before .before .before .before in let at-take-numbered = at-if2 .before in
+    let at-if1 = at-take-numbered .before .before in let at-take = at-if1 .before in
+    let start = at-take .before .before .before in let t = start .args .text .now in let A = at-take .take in
+    let N = at-take-numbered .take-numbered in let S = c .before .before .before .before .before .take-starts in
     let B = c .before .before .before .take-ap in
     head-read t (A .result) (A .ensures) (omega (arith, at-if1 .if1 .left)) (N .result .value) (N .result .end) (N .ensures) (omega (arith, at-if2 .if2 .left)) (S .ensures .starts) (S .result .last)
     (S .result .end) (S .ensures .read) (B .result .value) (B .result .end) (B .ensures) (omega (arith, c .before .before .if3 .left)) (c .take2 .result) (c .take2 .ensures)
@@ -67,5 +52,6 @@ returns-4 c =
 pub take-head-spec : {M : Type 1} → statement M
 take-head-spec =
     tie.close (tie.spec
-    (λ c. search needs) (λ c κs. omega arith) (λ c κs. search needs) returns (λ c. search needs) take-numbered-requires (λ c κs. search needs) returns-2
-    (λ c. search needs) take-starts-requires take-ap-requires (λ c κs. search needs) returns-3 (λ c. search needs) take-requires-2 returns-4)
+    (λ c. search needs) (λ c κs. omega arith) (λ c κs. search needs) returns (λ c. search needs) take-numbered-requires (λ c κs. search needs)
+    returns-2 (λ c. search needs) take-starts-requires (λ c κs. c .before .take-starts .ensures .read .within) (λ c κs. search needs) returns-3
+    (λ c. search needs) take-requires-2 returns-4)

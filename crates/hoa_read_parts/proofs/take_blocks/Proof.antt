@@ -26,23 +26,19 @@ take-marked-requires c κs = let I = c .before .loop .inv in (c .before .before 
 
 same-length : tie.Need-same-length Inv-loop μ-loop
 same-length c =
-    let a = c .before .before .before .before .before .before .args in
-    let l = c .before .before .before .loop in
+    let a = c .before .before .before .before .before .before .args in let l = c .before .before .before .loop in
     ap length (l .inv .6) ∙ length-sets (a .transitions .now) 0 (l .inv .3)
 
 returns : tie.Need-returns Inv-loop μ-loop
 returns c =
-    let a = c .before .before .before .before .before .before .args in
-    let l = c .before .before .before .loop in
+    let a = c .before .before .before .before .before .before .args in let l = c .before .before .before .loop in
     let T = c .before .take-marked in
     blocks-no-state (a .text .now) (a .p) (a .b) (a .n) (l .i) (l .accepting) (l .inv .3) (l .end) (l .inv .4) (omega arith) (T .result .value) (T .result .end) (T .ensures) (c .if1 .taken) refl
 
 take-edges-requires : tie.Need-take-edges-requires Inv-loop μ-loop
 take-edges-requires c κs =
-    let start = c .before .before .before .before .before .before .before in
-    let a = start .args in
-    let l = c .before .before .before .before .loop in
-    let T = c .before .before .take-marked in
+    let start = c .before .before .before .before .before .before .before in let a = start .args in
+    let l = c .before .before .before .before .loop in let T = c .before .before .take-marked in
     let f = T .ensures .found (omega arith) in
     let s = state-later (a .text .now) (a .p) (a .b) (a .n) (l .i) (l .accepting) (l .inv .3) (l .end) (l .inv .4) (omega arith) (T .result .value) (T .result .end) (T .ensures) (omega arith) in
     (start .pre .0, omega arith, f .1, omega arith, omega arith, omega arith, omega arith)
@@ -50,9 +46,7 @@ take-edges-requires c κs =
 same-length-2 : tie.Need-same-length-2 Inv-loop μ-loop
 same-length-2 c =
     let at-loop = c .before .before .before .before .before .before .before .before in
-    let start = at-loop .before .before .before in
-    let a = start .args in
-    let l = at-loop .loop in
+    let start = at-loop .before .before .before in let a = start .args in let l = at-loop .loop in
     let T = c .before .before .before .before .before .before .take-marked in
     let E = c .before .before .before .take-edges in
     E .kept .1 .1 .1 .1 .1 .0 ∙ ap length (l .inv .6) ∙ length-sets (a .transitions .now) 0 (l .inv .3)
@@ -86,14 +80,12 @@ loop-again c =
 
 same-length-3 : tie.Need-same-length-3 Inv-loop μ-loop
 same-length-3 c =
-    let a = c .before .before .before .before .args in
-    let l = c .before .loop in
+    let a = c .before .before .before .before .args in let l = c .before .loop in
     ap length (l .inv .6) ∙ length-sets (a .transitions .now) 0 (l .inv .3)
 
 returns-3 : tie.Need-returns-3 Inv-loop μ-loop
 returns-3 c =
-    let a = c .before .before .before .before .args in
-    let l = c .before .loop in
+    let a = c .before .before .before .before .args in let l = c .before .loop in
     blocks-some (omega arith)
     (blocked (a .text .now) (a .p) (a .b) (a .n) (a .transitions .now) (l .i) (l .accepting) (l .inv .3) (l .count) (l .end) (omega arith) (l .inv .4) (l .inv .5) (l .inv .6))
 

@@ -24,14 +24,12 @@ loop-holds c = let a = c .before .before .args in (omega arith, omega arith, [],
 
 same-length : tie.Need-same-length Inv-loop μ-loop
 same-length c =
-    let a = c .before .before .before .before .before .before .args in
-    let l = c .before .before .before .loop in
+    let a = c .before .before .before .before .before .before .args in let l = c .before .before .before .loop in
     ap length (l .inv .5) ∙ length-sets (a .transitions .now) (a .m) (l .inv .2)
 
 returns : tie.Need-returns Inv-loop μ-loop
 returns c =
-    let a = c .before .before .before .before .before .before .args in
-    let l = c .before .before .before .loop in
+    let a = c .before .before .before .before .before .before .args in let l = c .before .before .before .loop in
     edges-some (omega arith) record {
       edges = l .inv .2;
       low = l .low;
@@ -47,43 +45,35 @@ take-edge-requires c κs = (c .before .before .before .before .before .before .p
 
 same-length-2 : tie.Need-same-length-2 Inv-loop μ-loop
 same-length-2 c =
-    let start = c .before .before .before .before .before .before .before .before in
-    let a = start .args in
+    let start = c .before .before .before .before .before .before .before .before in let a = start .args in
     let l = c .before .before .before .before .before .loop in
     ap length (l .inv .5) ∙ length-sets (a .transitions .now) (a .m) (l .inv .2)
 
 returns-2 : tie.Need-returns-2 Inv-loop μ-loop
 returns-2 c =
-    let start = c .before .before .before .before .before .before .before .before in
-    let a = start .args in
-    let l = c .before .before .before .before .before .loop in
-    let T = c .before .take-edge in
+    let start = c .before .before .before .before .before .before .before .before in let a = start .args in
+    let l = c .before .before .before .before .before .loop in let T = c .before .take-edge in
     edges-no-line (a .text .now) (a .p) (a .b) (a .n) (a .i) (l .inv .2) (l .low) (l .end) (l .inv .3) (omega arith) (c .before .before .if1 .left) (T .result .value) (T .result .end) (T .ensures)
     (c .if2 .taken) refl
 
 same-length-3 : tie.Need-same-length-3 Inv-loop μ-loop
 same-length-3 c =
-    let start = c .before .before .before .before .before .before .before .before .before in
-    let a = start .args in
+    let start = c .before .before .before .before .before .before .before .before .before in let a = start .args in
     let l = c .before .before .before .before .before .before .loop in
     ap length (l .inv .5) ∙ length-sets (a .transitions .now) (a .m) (l .inv .2)
 
 returns-3 : tie.Need-returns-3 Inv-loop μ-loop
 returns-3 c =
-    let start = c .before .before .before .before .before .before .before .before .before in
-    let a = start .args in
-    let l = c .before .before .before .before .before .before .loop in
-    let T = c .before .before .take-edge in
+    let start = c .before .before .before .before .before .before .before .before .before in let a = start .args in
+    let l = c .before .before .before .before .before .before .loop in let T = c .before .before .take-edge in
     edges-no-order (a .text .now) (a .p) (a .b) (a .n) (a .i) (l .inv .2) (l .low) (l .end) (l .inv .3) (omega arith) (c .before .before .before .if1 .left) (T .result .value) (T .result .end)
     (T .ensures) (omega arith) (c .if3 .taken) refl
 
 add-low : tie.Need-add-low Inv-loop μ-loop
 add-low c =
     let at-if1 = c .before .before .before .before .before .before .before in
-    let at-loop = at-if1 .before .before .before in
-    let start = at-loop .before .before .before in
-    let a = start .args in
-    let l = at-loop .loop in
+    let at-loop = at-if1 .before .before .before in let start = at-loop .before .before .before in
+    let a = start .args in let l = at-loop .loop in
     let T = c .before .before .before .before .before .before .take-edge in
     omega (
       arith,
@@ -107,16 +97,11 @@ later-now c =
       T .ensures .found (omega arith) .1,
     )
 
-loop-less : tie.Need-loop-less Inv-loop μ-loop
-loop-less c = omega (arith, later-now c)
-
 loop-again : tie.Need-loop-again Inv-loop μ-loop
 loop-again c =
     let at-if1 = c .before .before .before .before .before .before .before in
-    let at-loop = at-if1 .before .before .before in
-    let start = at-loop .before .before .before in
-    let a = start .args in
-    let l = at-loop .loop in
+    let at-loop = at-if1 .before .before .before in let start = at-loop .before .before .before in
+    let a = start .args in let l = at-loop .loop in
     let T = c .before .before .before .before .before .before .take-edge in (
       omega (arith, later-now c),
       omega (arith, later-now c),
@@ -129,14 +114,12 @@ loop-again c =
 
 same-length-4 : tie.Need-same-length-4 Inv-loop μ-loop
 same-length-4 c =
-    let a = c .before .before .before .before .args in
-    let l = c .before .loop in
+    let a = c .before .before .before .before .args in let l = c .before .loop in
     ap length (l .inv .5) ∙ length-sets (a .transitions .now) (a .m) (l .inv .2)
 
 returns-4 : tie.Need-returns-4 Inv-loop μ-loop
 returns-4 c =
-    let a = c .before .before .before .before .args in
-    let l = c .before .loop in
+    let a = c .before .before .before .before .args in let l = c .before .loop in
     edges-some (omega arith) record {
       edges = l .inv .2;
       low = l .low;
@@ -150,5 +133,5 @@ returns-4 c =
 pub take-edges-spec : {M : Type 1} → statement M
 take-edges-spec =
     tie.close (tie.spec
-    Inv-loop μ-loop loop-holds (λ c. omega arith) same-length returns take-edge-requires same-length-2 returns-2 same-length-3 returns-3 (λ c κs. search needs)
-    (λ c. omega arith) add-low loop-less loop-again same-length-4 returns-4)
+    Inv-loop μ-loop loop-holds (λ c. omega arith) same-length returns take-edge-requires same-length-2 returns-2 same-length-3 returns-3
+    (λ c κs. search needs) (λ c. omega arith) add-low (λ c. omega (arith, later-now c)) loop-again same-length-4 returns-4)

@@ -5,9 +5,6 @@ use borrow.Author.Needs.{needs}
 use Rattle.hoa_read_parts.proofs.take_marked.Statement.{statement}
 use Rattle.hoa_read_parts.proofs.take_marked.Tie as tie
 
-take-state-requires : tie.Need-take-state-requires
-take-state-requires c κs = (c .before .pre .0, omega arith, omega arith)
-
 returns : tie.Need-returns
 returns c = let a = c .before .before .before .before .args in let S = c .before .before .take-state in
     marked-none (a .text .now) (a .p) (a .i) (a .accepting) (omega arith) (S .result .value) (S .result .end) (S .ensures) (c .before .if1 .taken) (c .nothing .ensures .1)
@@ -30,4 +27,5 @@ returns-4 c = let a = c .before .before .before .before .before .before .args in
 pub take-marked-spec : {M : Type 1} → statement M
 take-marked-spec =
     tie.close (tie.spec
-    take-state-requires (λ c κs. search needs) returns returns-2 (λ c κs. search needs) returns-3 (λ c. omega arith) returns-4)
+    (λ c κs. (c .before .pre .0, omega arith, omega arith)) (λ c κs. search needs) returns returns-2 (λ c κs. search needs) returns-3
+    (λ c. omega arith) returns-4)

@@ -27,9 +27,7 @@ take-start-requires c κs = let I = c .before .loop .inv in (c .before .before .
 loop-again : tie.Need-loop-again Inv-loop μ-loop
 loop-again c =
     let at-loop = c .before .before .before .before .before .before .before .before in
-    let start = at-loop .before .before .before in
-    let a = start .args in
-    let l = at-loop .loop in
+    let start = at-loop .before .before .before in let a = start .args in let l = at-loop .loop in
     let T = c .before .before .before .before .before .before .take-start in
     let F = c .before .before .before .before .flag-of in (
       omega arith,
@@ -41,9 +39,7 @@ loop-again c =
 loop-again-2 : tie.Need-loop-again-2 Inv-loop μ-loop
 loop-again-2 c =
     let at-loop = c .before .before .before .before .before .before .before .before in
-    let start = at-loop .before .before .before in
-    let a = start .args in
-    let l = at-loop .loop in
+    let start = at-loop .before .before .before in let a = start .args in let l = at-loop .loop in
     let T = c .before .before .before .before .before .before .take-start in
     let F = c .before .before .before .before .flag-of2 in (
       omega arith,
@@ -57,8 +53,7 @@ same-length c = let a = c .before .before .before .before .args in let l = c .be
 
 returns : tie.Need-returns Inv-loop μ-loop
 returns c =
-    let a = c .before .before .before .before .args in
-    let l = c .before .loop in
+    let a = c .before .before .before .before .args in let l = c .before .loop in
     started (a .text .now) (a .p) (a .n) (a .accepting) (a .flags .now) (l .i) (l .inv .1) (l .last) (l .end) (omega arith) (l .inv .2) (l .inv .3)
 
 pub take-starts-spec : {M : Type 1} → statement M

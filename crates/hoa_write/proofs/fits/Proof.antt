@@ -33,8 +33,7 @@ add-if1-2 c = let a = c .before .before .args in let n = counts (a .s) (a .codes
 
 returns : tie.Need-returns
 returns c =
-    let a = c .before .before .before .args in
-    let p = c .before .before .before .pre in
+    let a = c .before .before .before .args in let p = c .before .before .before .pre in
     let room : length (automatonText (a .b) (flagsOf (initialAt (a .initial)) (wordsIn (a .codes .now))) (wordsIn (a .moves .now))) ≤ a .room =
     omega (
       arith,
@@ -47,8 +46,7 @@ returns c =
 
 text-length-requires : tie.Need-text-length-requires
 text-length-requires c κs =
-    let a = c .before .before .before .args in
-    let p = c .before .before .before .pre in
+    let a = c .before .before .before .args in let p = c .before .before .before .pre in
     (p .0, p .1, p .2 .few, moves-few (a .s) (wordsIn (a .codes .now)) (wordsIn (a .moves .now)) (p .2), p .2 .source)
 
 returns-2 : tie.Need-returns-2

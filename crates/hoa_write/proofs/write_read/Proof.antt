@@ -23,8 +23,7 @@ row-is c = let a = c .before .before .before .before .before .before .args in rw
 
 returns : tie.Need-returns
 returns c =
-    let start = c .before .before .before .before .before .before .before in
-    let a = start .args in
+    let start = c .before .before .before .before .before .before .before in let a = start .args in
     called-refused (a .s) (a .initial) (inBytes (a .codes .now)) (inBytes (a .moves .now)) (a .text .now) (c .before .table-row .result) (c .if1 .taken)
     (table-refuses (a .s) (a .initial) (inBytes (a .codes .now)) (inBytes (a .moves .now)) (length (a .text .now)) (c .before .table-row .result) (c .if1 .taken) (row-is (c .before)))
 
@@ -42,8 +41,7 @@ propositions-of-requires c κs =
 
 fits-requires : tie.Need-fits-requires
 fits-requires c κs =
-    let start = c .before .before .before .before .before .before .before .before in
-    let a = start .args in
+    let start = c .before .before .before .before .before .before .before .before in let a = start .args in
     (c .propositions-of .ensures .1, start .pre .1, bytes-passed (a .s) (a .codes .now) (a .moves .now) (passes (c .before)))
 
 abbrev start-of-after-propositions-of : tie.After-propositions-of → tie.Start
@@ -85,8 +83,7 @@ put-text-requires c κs =
 returns-3 : tie.Need-returns-3
 returns-3 c =
     let earlier = c .before .before .before .before .before .before .before in
-    let start = earlier .before .before .before .before .before .before .before in
-    let a = start .args in
+    let start = earlier .before .before .before .before .before .before .before in let a = start .args in
     let P = put-first (c .before .before .put-text .ensures) in
     let e = text (c .before .before .before .before .before .before) in
     let room : length (lentText (a .s) (a .initial) (inBytes (a .codes .now)) (inBytes (a .moves .now))) ≤ length (a .text .now) = rw e (fitting (c .before .before .before .before)) in

@@ -16,31 +16,27 @@ use Rattle.judge.proofs.judge_read.Tie as tie
 
 returns : tie.Need-returns
 returns c =
-    let start = c .before .before .before .before .before .before .before in
-    let a = start .args in
+    let start = c .before .before .before .before .before .before .before in let a = start .args in
     called-refused (ruleOf (a .h) (a .counts .now) (a .clauses .now)) (a .lead .now) (a .cycle .now) (a .masks .now) (c .before .word-row .result) (c .if1 .taken)
     (word-refuses (ruleOf (a .h) (a .counts .now) (a .clauses .now)) (a .lead .now) (a .cycle .now) (length (a .masks .now)) (c .before .word-row .result) (c .if1 .taken)
     (c .before .word-row .ensures))
 
 returns-2 : tie.Need-returns-2
 returns-2 c =
-    let start = c .before .before .before .before .before .before .before .before in
-    let a = start .args in
+    let start = c .before .before .before .before .before .before .before .before in let a = start .args in
     called-refused (ruleOf (a .h) (a .counts .now) (a .clauses .now)) (a .lead .now) (a .cycle .now) (a .masks .now) 16 (λ e. omega arith)
     (slice-refuses (ruleOf (a .h) (a .counts .now) (a .clauses .now)) (a .lead .now) (a .cycle .now) (length (a .masks .now)) (sym (c .before .before .word-row .ensures) ∙ c .before .if1 .left)
     (c .if2 .taken))
 
 fill-requires : tie.Need-fill-requires
 fill-requires c κs =
-    let start = c .before .before .before .before .before .before .before .before .before in
-    let a = start .args in
+    let start = c .before .before .before .before .before .before .before .before .before in let a = start .args in
     (start .pre, word-over (a .h .s) (a .lead .now) (a .cycle .now) (sym (c .before .before .before .word-row .ensures) ∙ c .before .before .if1 .left), c .before .if2 .left)
 
 slice-read-contains : tie.Need-slice-read-contains
 slice-read-contains c =
     let at-word-row = c .before .before .before .before .before .before .before in
-    let start = at-word-row .before .before .before .before .before .before in
-    let a = start .args in
+    let start = at-word-row .before .before .before .before .before .before in let a = start .args in
     let w = word-over (a .h .s) (a .lead .now) (a .cycle .now) (sym (at-word-row .word-row .ensures) ∙ c .before .before .before .before .before .before .if1 .left) in
     omega (
       arith,
@@ -57,8 +53,7 @@ served : (c : tie.After-contains) (t : Bool) → let a = start-of-after-contains
     bit (getD (f .last .1 .1 .1 .1 .1 .0) 0 0) (a .h .initial) ≡ t → JudgeCalled (ruleOf (a .h) (a .counts .now) (a .clauses .now)) (a .lead .now) (a .cycle .now) (a .masks .now)
     (f .last .1 .1 .1 .1 .1 .0) (verdict 0 t)
 served c t e =
-    let at-if2 = c .before .before .before .before .before .before .before in
-    let at-if1 = at-if2 .before in
+    let at-if2 = c .before .before .before .before .before .before .before in let at-if1 = at-if2 .before in
     let at-word-row = at-if1 .before in
     let a = start-of-after-contains c .args in
     let r = ruleOf (a .h) (a .counts .now) (a .clauses .now) in

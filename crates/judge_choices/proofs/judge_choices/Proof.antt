@@ -15,12 +15,6 @@ start-of-after-h c = c .before .before .before .before .before .before .before .
 read : (c : tie.After-h) → readOf (start-of-after-h c .args .file .now) ≡ Accepted (c .before .before .l .given .0 .0)
 read c = sym (c .before .before .before .before .read-rule .ensures) ∙ c .before .before .l .given .1
 
-counts-of-requires : tie.Need-counts-of-requires
-counts-of-requires c κs = read c
-
-clauses-of-requires : tie.Need-clauses-of-requires
-clauses-of-requires c κs = read (c .before)
-
 judge-choices-read-requires : tie.Need-judge-choices-read-requires
 judge-choices-read-requires c κs =
     let start = c .before .before .before .before .before .before .before .before .before .before .before .before .before .before in
@@ -30,21 +24,17 @@ judge-choices-read-requires c κs =
 returns : tie.Need-returns
 returns c =
     let at-clauses-of = c .before .before .before .before .before .before .before in
-    let at-counts-of = at-clauses-of .before in
-    let earlier = at-counts-of .before in
+    let at-counts-of = at-clauses-of .before in let earlier = at-counts-of .before in
     let at-l = earlier .before .before in
-    let start = at-l .before .before .before .before .before .before .before .before in
-    let a = start .args in
-    let l = at-l .l .given .0 .0 in
-    let j = c .before .before .before .before .judge-choices-read in
+    let start = at-l .before .before .before .before .before .before .before .before in let a = start .args in
+    let l = at-l .l .given .0 .0 in let j = c .before .before .before .before .judge-choices-read in
     judged-called (a .file .now) (a .lead .now) (a .cycle .now) (a .masks .now) (j .last .1 .1 .1 .1 .1 .0) (a .choices .now) (j .last .1 .1 .1 .1 .1 .1 .0) (j .result)
     (served (a .file .now) l (read (earlier)) .row)
     (rw (lent-rule (a .file .now) l (read (earlier)) _ _ (at-counts-of .counts-of .ensures) (at-clauses-of .clauses-of .ensures)) at (j .ensures))
 
 returns-2 : tie.Need-returns-2
 returns-2 c =
-    let start = c .before .before .before .before .before .before .before .before .before in
-    let a = start .args in
+    let start = c .before .before .before .before .before .before .before .before .before in let a = start .args in
     let k = c .before .k .given .0 .0 in
     let t = turned-away (a .file .now) k (sym (c .before .before .before .read-rule .ensures) ∙ c .before .k .given .1) in
     judged-refused (a .file .now) (a .lead .now) (a .cycle .now) (a .masks .now) (a .masks .now) (a .choices .now) (a .choices .now) k (λ e. t .1 (t .0 ∙ e)) (sym (t .0))
@@ -52,5 +42,5 @@ returns-2 c =
 pub judge-choices-spec : {M : Type 1} → statement M
 judge-choices-spec =
     tie.close (tie.spec
-    (λ c κs. search needs) (λ c. search needs) counts-of-requires clauses-of-requires judge-choices-read-requires (λ c. search needs) (λ c. search needs)
-    (λ c. search needs) returns returns-2)
+    (λ c κs. search needs) (λ c. search needs) (λ c κs. read c) (λ c κs. read (c .before)) judge-choices-read-requires (λ c. search needs)
+    (λ c. search needs) (λ c. search needs) returns returns-2)

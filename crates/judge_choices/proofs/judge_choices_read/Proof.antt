@@ -17,16 +17,14 @@ use Rattle.judge_choices.proofs.judge_choices_read.Tie as tie
 
 returns : tie.Need-returns
 returns c =
-    let start = c .before .before .before .before .before .before .before .before in
-    let a = start .args in
+    let start = c .before .before .before .before .before .before .before .before in let a = start .args in
     let r = ruleOf (a .h) (a .counts .now) (a .clauses .now) in
     called-refused r (a .lead .now) (a .cycle .now) (a .masks .now) (a .choices .now) (c .before .word-row .result) (c .if1 .taken)
     (word-refuses r (a .lead .now) (a .cycle .now) (length (a .masks .now)) (length (a .choices .now)) (c .before .word-row .result) (c .if1 .taken) (c .before .word-row .ensures))
 
 returns-2 : tie.Need-returns-2
 returns-2 c =
-    let start = c .before .before .before .before .before .before .before .before .before in
-    let a = start .args in
+    let start = c .before .before .before .before .before .before .before .before .before in let a = start .args in
     let r = ruleOf (a .h) (a .counts .now) (a .clauses .now) in
     called-refused r (a .lead .now) (a .cycle .now) (a .masks .now) (a .choices .now) 16 (λ e. omega arith)
     (masks-refuse r (a .lead .now) (a .cycle .now) (length (a .masks .now)) (length (a .choices .now)) (sym (c .before .before .word-row .ensures) ∙ c .before .if1 .left) (c .if2 .taken))
@@ -62,8 +60,7 @@ slice-read-contains : tie.Need-slice-read-contains
 slice-read-contains c =
     let at-if1 = c .before .before .before .before .before .before .before .before .before .before .before in
     let at-word-row = at-if1 .before in
-    let start = at-word-row .before .before .before .before .before .before .before in
-    let a = start .args in
+    let start = at-word-row .before .before .before .before .before .before .before in let a = start .args in
     let w = word-over (a .h .s) (a .lead .now) (a .cycle .now) (sym (at-word-row .word-row .ensures) ∙ at-if1 .if1 .left) in
     omega (
       arith,
@@ -81,10 +78,8 @@ served : (c : tie.After-contains) (t : Bool) → let a = start-of-after-contains
     (f .last .1 .1 .1 .1 .1 .0) (a .choices .now) (f .last .1 .1 .1 .1 .1 .1 .0) (verdict 0 t)
 served c t e =
     let at-fill-both = c .before .before .before .before .before .before .before in
-    let at-if3 = at-fill-both .before .before .before in
-    let at-if2 = at-if3 .before .before in
-    let at-if1 = at-if2 .before in
-    let at-word-row = at-if1 .before in
+    let at-if3 = at-fill-both .before .before .before in let at-if2 = at-if3 .before .before in
+    let at-if1 = at-if2 .before in let at-word-row = at-if1 .before in
     let a = start-of-after-contains c .args in
     let r = ruleOf (a .h) (a .counts .now) (a .clauses .now) in
     let f = at-fill-both .fill-both in

@@ -37,8 +37,7 @@ add-end c =
 
 loop-holds : tie.Need-loop-holds Inv-loop μ-loop
 loop-holds c =
-    let start = c .before .before .before .before .before .before .before .before in
-    let a = start .args in
+    let start = c .before .before .before .before .before .before .before .before in let a = start .args in
     let p = start .pre in
     (omega arith, started-none (ruleOf (a .rule .head) (a .counts .now) (a .clauses .now)) (p .0 .passing) (a .lead .now) (a .cycle .now) (p .0 .word) (a .choices .now))
 
@@ -81,9 +80,7 @@ choose-each-requires : tie.Need-choose-each-requires Inv-loop μ-loop
 choose-each-requires c κs =
     let at-loop = c .before .before .before .before .before .before .before in
     let start = at-loop .before .before .before .before .before .before .before .before .before in
-    let a = start .args in
-    let p = start .pre in
-    let l = at-loop .loop in
+    let a = start .args in let p = start .pre in let l = at-loop .loop in
     let t = c .before .before .before .before .before .before .loop-test .taken in
     let w = p .0 .passing .formed in (
       w,
@@ -110,12 +107,9 @@ loop-less c =
 loop-again : tie.Need-loop-again Inv-loop μ-loop
 loop-again c =
     let earlier = c .before .before .before .before .before .before .before .before in
-    let at-loop-test = earlier .before in
-    let at-loop = at-loop-test .before in
+    let at-loop-test = earlier .before in let at-loop = at-loop-test .before in
     let start = at-loop .before .before .before .before .before .before .before .before .before in
-    let l = at-loop .loop in
-    let a = start .args in
-    let p = start .pre in
+    let l = at-loop .loop in let a = start .args in let p = start .pre in
     let r = ruleOf (a .rule .head) (a .counts .now) (a .clauses .now) in
     let f = c .before .before .choose-each in
     let T = truthMasks r (a .lead .now) (a .cycle .now) in
@@ -131,8 +125,7 @@ loop-again c =
 returns : tie.Need-returns Inv-loop μ-loop
 returns c =
     let start = c .before .before .before .before .before .before .before .before .before .before in
-    let l = c .before .loop in
-    let a = start .args in
+    let l = c .before .loop in let a = start .args in
     let e : l .p ≡ places (a .lead .now) (a .cycle .now) = omega (arith, l .inv .0, c .loop-test .left) in
     rw (start .pre .0 .truths) (rw e at (l .inv .1))
 

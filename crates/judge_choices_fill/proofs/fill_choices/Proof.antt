@@ -26,8 +26,7 @@ returns : tie.Need-returns
 returns c =
     let at-fill-with = c .before .before .before .before .before .before .before .before .before .before in
     let start = at-fill-with .before .before .before .before .before .before .before .before .before .before in
-    let a = start .args in
-    let p = start .pre in
+    let a = start .args in let p = start .pre in
     let r = ruleOf (a .rule .head) (a .counts .now) (a .clauses .now) in
     let end = places (a .lead .now) (a .cycle .now) * a .rule .head .n in
     let f = at-fill-with .fill-with in

@@ -14,8 +14,7 @@ use Rattle.judge_choices_place.proofs.choose.Tie as tie
 
 cast-choices : tie.Need-cast-choices
 cast-choices c =
-    let start = c .before .before .before .before .before .before .before in
-    let a = start .args in
+    let start = c .before .before .before .before .before .before .before in let a = start .args in
     let p = start .pre in
     let r = ruleOf (a .h) (a .counts .now) (a .clauses .now) in
     let l = clause-listed (a .set) (entry r (a .q) (a .a)) (c .before .j .given .0 .0) (sym (c .before .before .before .met-at .ensures) ∙ c .before .j .given .1) in

@@ -56,12 +56,6 @@ below c =
     bit-below (start-of c .args .rule .head .n) (c .before .loop .left) _ (lt-of-le-of-lt (c .before .loop .inv .0) (start-of c .pre .6))
     (least-member (c .before .loop .left) (omega arith) (few c))
 
-cast-q : tie.Need-cast-q Inv-loop μ-loop
-cast-q c = omega (arith, below c, start-of c .pre .0 .few-states)
-
-array-read-class : tie.Need-array-read-class Inv-loop μ-loop
-array-read-class c = omega (arith, below c, start-of c .pre .0 .few-states)
-
 add-choose : tie.Need-add-choose Inv-loop μ-loop
 add-choose c =
     let start = start-of (c .before .before) in
@@ -91,13 +85,10 @@ loop-less c =
 
 loop-again : tie.Need-loop-again Inv-loop μ-loop
 loop-again c =
-    let at-choose = c .before .before .before in
-    let earlier = at-choose .before .before .before in
+    let at-choose = c .before .before .before in let earlier = at-choose .before .before .before in
     let at-loop = earlier .before in
     let start = start-of earlier in
-    let l = at-loop .loop in
-    let a = start .args in
-    let p = start .pre in
+    let l = at-loop .loop in let a = start .args in let p = start .pre in
     let r = ruleOf (a .rule .head) (a .counts .now) (a .clauses .now) in
     let f : Set = λ x. satisfies (a .rule .head .n) (bit (aimOf r (a .all) (a .near) x)) (entry r x (a .a)) in
     let q = trailingZeros 8 (l .left) in
@@ -135,8 +126,7 @@ loop-again c =
 
 returns : tie.Need-returns Inv-loop μ-loop
 returns c =
-    let l = c .before .loop in
-    let start = c .before .before .before .before .before .before .before in
+    let l = c .before .loop in let start = c .before .before .before .before .before .before .before in
     let a = start .args in
     let r = ruleOf (a .rule .head) (a .counts .now) (a .clauses .now) in
     let f : Set = λ x. satisfies (a .rule .head .n) (bit (aimOf r (a .all) (a .near) x)) (entry r x (a .a)) in
@@ -152,5 +142,6 @@ returns c =
 pub choose-each-spec : {M : Type 1} → statement M
 choose-each-spec =
     tie.close (tie.spec
-    Inv-loop μ-loop loop-holds cast-q array-read-class (λ c κs. search needs) add-choose choose-requires cast-found shl-found (λ c. omega arith) loop-less
-    loop-again (λ c. c .before .loop .inv .3) returns)
+    Inv-loop μ-loop loop-holds (λ c. omega (arith, below c, start-of c .pre .0 .few-states))
+    (λ c. omega (arith, below c, start-of c .pre .0 .few-states)) (λ c κs. search needs) add-choose choose-requires cast-found shl-found
+    (λ c. omega arith) loop-less loop-again (λ c. c .before .loop .inv .3) returns)

@@ -22,9 +22,6 @@ Inv-loop h counts clauses reach classes₀ q₀ classes q =
 abbrev μ-loop : tie.MeasureT-loop
 μ-loop h counts clauses reach classes₀ q₀ classes q = h .n - q
 
-loop-holds : tie.Need-loop-holds Inv-loop μ-loop
-loop-holds c = (refl, omega arith, λ p l. absurd (omega arith))
-
 class-of-requires : tie.Need-class-of-requires Inv-loop μ-loop
 class-of-requires c κs = let w = c .before .before .before .before .before .pre .0 .few-states in (w, omega (arith, w, c .if1 .taken))
 
@@ -34,13 +31,9 @@ array-write-classes c = omega (arith, c .before .before .before .before .before 
 add-q : tie.Need-add-q Inv-loop μ-loop
 add-q c = omega (arith, c .before .before .before .before .before .before .pre .0 .few-states, c .before .if1 .taken)
 
-loop-less : tie.Need-loop-less Inv-loop μ-loop
-loop-less c = omega (arith, c .before .if1 .taken)
-
 loop-again : tie.Need-loop-again Inv-loop μ-loop
 loop-again c =
-    let l = c .before .before .before .loop in
-    let a = c .before .before .before .before .before .before .args in
+    let l = c .before .before .before .loop in let a = c .before .before .before .before .before .before .args in
     let w = c .before .before .before .before .before .before .pre in
     let r = ruleOf (a .h) (a .counts .now) (a .clauses .now) in
     let t = c .before .if1 .taken in
@@ -50,8 +43,8 @@ loop-again c =
       put-next (λ p. mask (a .h .n) (λ x. eqb (component r x) (component r p))) (l .classes) (l .q) (c .class-of .result) (omega (arith, w .0 .few-states, l .inv .0)) v (l .inv .2),
     )
 
-returns : tie.Need-returns Inv-loop μ-loop
-returns c = record { at = λ q l. c .before .before .loop .inv .2 q (omega arith) }
-
 pub classes-of-spec : {M : Type 1} → statement M
-classes-of-spec = tie.close (tie.spec Inv-loop μ-loop loop-holds class-of-requires array-write-classes add-q loop-less loop-again returns)
+classes-of-spec =
+    tie.close (tie.spec
+    Inv-loop μ-loop (λ c. (refl, omega arith, λ p l. absurd (omega arith))) class-of-requires array-write-classes add-q
+    (λ c. omega (arith, c .before .if1 .taken)) loop-again (λ c. record { at = λ q l. c .before .before .loop .inv .2 q (omega arith) }))

@@ -58,11 +58,8 @@ choose-each-requires : tie.Need-choose-each-requires
 choose-each-requires c κs =
     let at-difference = c .before .before .before .before .before .before .before in
     let at-next-place = at-difference .before .before .before in
-    let start = at-next-place .before .before .before .before .before .before .before .before in
-    let a = start .args in
-    let p = start .pre in
-    let w = p .0 .passing .formed in
-    let n = a .rule .head .n in
+    let start = at-next-place .before .before .before .before .before .before .before .before in let a = start .args in
+    let p = start .pre in let w = p .0 .passing .formed in let n = a .rule .head .n in
     let low : at-difference .difference .result < 2 ^ a .rule .head .n = rw (at-difference .difference .ensures)
     (difference-low n (getD (a .masks .now) (a .p) 0) (a .rule .head .accepting) (w .few-states) (masks-low _ _ _ _ _ _ (p .0) (a .p))) in (
       w,
@@ -78,11 +75,9 @@ choose-each-requires c κs =
 returns : tie.Need-returns
 returns c =
     let at-difference2 = c .before .before .before .before .before in
-    let at-letter-at = at-difference2 .before .before .before .before in
-    let at-difference = at-letter-at .before in
+    let at-letter-at = at-difference2 .before .before .before .before in let at-difference = at-letter-at .before in
     let earlier = at-difference .before .before .before in
-    let start = earlier .before .before .before .before .before .before .before .before in
-    let a = start .args in
+    let start = earlier .before .before .before .before .before .before .before .before in let a = start .args in
     let p = start .pre in
     let r = ruleOf (a .rule .head) (a .counts .now) (a .clauses .now) in
     let w = p .0 .passing .formed in

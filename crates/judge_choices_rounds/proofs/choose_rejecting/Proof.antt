@@ -50,15 +50,10 @@ mul-if1 c =
     let start = c .before .before .before .before .before .before .before .before .before in
     omega (arith, bytes-few _ _ _ _ _ _ (start .pre .0))
 
-same-length : tie.Need-same-length Inv-loop μ-loop
-same-length c = c .before .before .before .loop .inv .2 .long
-
 returns : tie.Need-returns Inv-loop μ-loop
 returns c =
     let start = c .before .before .before .before .before .before .before .before .before .before .before in
-    let l = c .before .before .before .loop in
-    let a = start .args in
-    let p = start .pre in
+    let l = c .before .before .before .loop in let a = start .args in let p = start .pre in
     let r = ruleOf (a .rule .head) (a .counts .now) (a .clauses .now) in
     let R : Rounds r (a .lead .now) (a .cycle .now) (truthMasks r (a .lead .now) (a .cycle .now)) (l .d) (l .near) 0 (a .choices .now) (l .choices) = rw (c .if2 .taken) at (l .inv .2) in
     rw (p .0 .truths)
@@ -68,9 +63,7 @@ returns c =
 round-requires : tie.Need-round-requires Inv-loop μ-loop
 round-requires c κs =
     let start = c .before .before .before .before .before .before .before .before .before .before .before .before .before in
-    let l = c .before .before .before .before .before .loop in
-    let a = start .args in
-    let p = start .pre in
+    let l = c .before .before .before .before .before .loop in let a = start .args in let p = start .pre in
     let r = ruleOf (a .rule .head) (a .counts .now) (a .clauses .now) in (
       p .0,
       λ k m. rw (l .inv .2 .within k m) (near-low r (p .0 .passing) (a .lead .now) (a .cycle .now) (p .0 .word) (l .d) k),
@@ -98,12 +91,9 @@ loop-less c =
 
 loop-again : tie.Need-loop-again Inv-loop μ-loop
 loop-again c =
-    let at-if1 = c .before .before .before .before .before .before .before in
-    let at-loop = at-if1 .before .before in
-    let start = at-loop .before .before .before .before .before .before .before .before in
-    let l = at-loop .loop in
-    let a = start .args in
-    let p = start .pre in
+    let at-if1 = c .before .before .before .before .before .before .before in let at-loop = at-if1 .before .before in
+    let start = at-loop .before .before .before .before .before .before .before .before in let l = at-loop .loop in
+    let a = start .args in let p = start .pre in
     let r = ruleOf (a .rule .head) (a .counts .now) (a .clauses .now) in
     let f = c .before .before .before .round in
     let S : Round r (a .lead .now) (a .cycle .now) (truthMasks r (a .lead .now) (a .cycle .now)) (l .near) (bit (l .work)) (l .choices) (f .last .1 .1 .1 .1 .1 .1 .1 .1 .0)
@@ -119,9 +109,7 @@ loop-again c =
 returns-2 : tie.Need-returns-2 Inv-loop μ-loop
 returns-2 c =
     let start = c .before .before .before .before .before .before .before .before .before .before in
-    let l = c .before .before .loop in
-    let a = start .args in
-    let p = start .pre in
+    let l = c .before .before .loop in let a = start .args in let p = start .pre in
     let r = ruleOf (a .rule .head) (a .counts .now) (a .clauses .now) in
     let e : l .d ≡ places (a .lead .now) (a .cycle .now) * a .rule .head .n = omega (arith, l .inv .1, c .if1 .left) in
     rw (p .0 .truths)
@@ -131,5 +119,5 @@ returns-2 c =
 pub choose-rejecting-spec : {M : Type 1} → statement M
 choose-rejecting-spec =
     tie.close (tie.spec
-    Inv-loop μ-loop add-end sub-work shr-work loop-holds mul-if1 same-length returns round-requires places-before-requires add-d loop-less loop-again
-    (λ c. c .before .before .loop .inv .2 .long) returns-2)
+    Inv-loop μ-loop add-end sub-work shr-work loop-holds mul-if1 (λ c. c .before .before .before .loop .inv .2 .long) returns round-requires
+    places-before-requires add-d loop-less loop-again (λ c. c .before .before .loop .inv .2 .long) returns-2)

@@ -66,23 +66,11 @@ low c =
     let start = c .before .before .before .before .before .before .before .before .before in
     omega (arith, below c, start .pre .0 .few-places)
 
-cast-p : tie.Need-cast-p Inv-loop μ-loop
-cast-p c = omega (arith, low c)
-
 choose-at-requires : tie.Need-choose-at-requires Inv-loop μ-loop
 choose-at-requires c κs =
     let start = c .before .before .before .before .before .before .before .before .before .before .before in
     let p = start .pre in
     (p .0, p .1, omega (arith, p .2, c .before .before .before .loop .inv .3 .long), below (c .before .before))
-
-array-read-near : tie.Need-array-read-near Inv-loop μ-loop
-array-read-near c = low (c .before .before .before .before .before)
-
-element-write-near : tie.Need-element-write-near Inv-loop μ-loop
-element-write-near c = low (c .before .before .before .before .before)
-
-mark-requires : tie.Need-mark-requires Inv-loop μ-loop
-mark-requires c κs = low (c .before .before .before .before .before)
 
 loop-less : tie.Need-loop-less Inv-loop μ-loop
 loop-less c =
@@ -91,12 +79,9 @@ loop-less c =
 
 loop-again : tie.Need-loop-again Inv-loop μ-loop
 loop-again c =
-    let at-choose-at = c .before .before .before in
-    let at-loop = at-choose-at .before .before .before .before in
-    let start = at-loop .before .before .before .before .before .before .before .before in
-    let l = at-loop .loop in
-    let a = start .args in
-    let p = start .pre in
+    let at-choose-at = c .before .before .before in let at-loop = at-choose-at .before .before .before .before in
+    let start = at-loop .before .before .before .before .before .before .before .before in let l = at-loop .loop in
+    let a = start .args in let p = start .pre in
     let r = ruleOf (a .rule .head) (a .counts .now) (a .clauses .now) in
     let x = trailingZeros 64 (l .left) in
     let pos : 0 < l .left = omega arith in
@@ -116,8 +101,7 @@ loop-again c =
 
 returns : tie.Need-returns Inv-loop μ-loop
 returns c =
-    let start = c .before .before .before .before .before .before .before .before .before in
-    let l = c .before .loop in
+    let start = c .before .before .before .before .before .before .before .before .before in let l = c .before .loop in
     let a = start .args in
     let e : l .left ≡ 0 = omega arith in (
       round-ext (ruleOf (a .rule .head) (a .counts .now) (a .clauses .now)) (a .lead .now) (a .cycle .now) (a .masks .now) (a .near .now) (λ y. bit (a .work) y && not (bit (l .left) y))
@@ -128,5 +112,6 @@ returns c =
 pub round-spec : {M : Type 1} → statement M
 round-spec =
     tie.close (tie.spec
-    Inv-loop μ-loop loop-holds cast-p choose-at-requires array-read-near element-write-near mark-requires (λ c. omega arith) loop-less loop-again
-    (λ c. c .before .loop .inv .3 .long) returns)
+    Inv-loop μ-loop loop-holds (λ c. omega (arith, low c)) choose-at-requires (λ c. low (c .before .before .before .before .before))
+    (λ c. low (c .before .before .before .before .before)) (λ c κs. low (c .before .before .before .before .before)) (λ c. omega arith) loop-less
+    loop-again (λ c. c .before .loop .inv .3 .long) returns)

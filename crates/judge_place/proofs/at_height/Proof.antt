@@ -25,8 +25,7 @@ loop-holds c = (omega arith, refl)
 
 loop-again : tie.Need-loop-again Inv-loop μ-loop
 loop-again c =
-    let l = c .before .before .before .loop in
-    let a = c .before .before .before .before .args in
+    let l = c .before .before .before .loop in let a = c .before .before .before .before .args in
     let f : Set = λ t. eqb (ones (getD (a .reach .now) t 0)) (a .height) in (
       omega arith,
       ⊎-elim

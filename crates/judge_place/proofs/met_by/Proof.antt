@@ -27,18 +27,12 @@ Inv-loop h counts starts clauses a set states met₀ left₀ met left =
 abbrev μ-loop : tie.MeasureT-loop
 μ-loop h counts starts clauses a set states met₀ left₀ met left = left
 
-loop-holds : tie.Need-loop-holds Inv-loop μ-loop
-loop-holds c = (omega arith, omega arith, λ q. rw (bit-none q))
-
 -- the states left are among eight, and the least of them is one
 few : (c : tie.In-loop Inv-loop μ-loop) → c .before .loop .left < 256
 few c = omega (arith, c .before .before .before .before .fits .states)
 
 below : (c : tie.In-loop Inv-loop μ-loop) → trailingZeros 8 (c .before .loop .left) < 8
 below c = least-lt 8 (c .before .loop .left) (omega arith) (few c)
-
-cast-q : tie.Need-cast-q Inv-loop μ-loop
-cast-q c = omega (arith, below c)
 
 satisfied-requires : tie.Need-satisfied-requires Inv-loop μ-loop
 satisfied-requires c κs =
@@ -50,19 +44,12 @@ satisfied-requires c κs =
       p .2,
     )
 
-cast-met : tie.Need-cast-met Inv-loop μ-loop
-cast-met c = omega (arith, below (c .before .before))
-
-shl-met : tie.Need-shl-met Inv-loop μ-loop
-shl-met c = below (c .before .before)
-
 loop-less : tie.Need-loop-less Inv-loop μ-loop
 loop-less c = omega (arith, and-le-r (c .before .before .before .loop .left) (c .before .before .before .loop .left - 1))
 
 loop-again : tie.Need-loop-again Inv-loop μ-loop
 loop-again c =
-    let l = c .before .before .before .loop in
-    let a = c .before .before .before .before .before .before .args in
+    let l = c .before .before .before .loop in let a = c .before .before .before .before .before .before .args in
     let f : Set = λ p. satisfies (a .h .n) (bit (a .set)) (entry (ruleOf (a .h) (a .counts .now) (a .clauses .now)) p (a .a)) in
     let pos : 0 < l .left = omega arith in
     let small = few (c .before .before) in
@@ -83,11 +70,13 @@ loop-again c =
 returns : tie.Need-returns Inv-loop μ-loop
 unfolding metBy
 returns c =
-    let l = c .before .loop in
-    let a = c .before .before .before .before .args in
+    let l = c .before .loop in let a = c .before .before .before .before .args in
     let f : Set = λ p. satisfies (a .h .n) (bit (a .set)) (entry (ruleOf (a .h) (a .counts .now) (a .clauses .now)) p (a .a)) in
     let e : l .left ≡ 0 = omega arith in
     mask-unique 8 (l .met) (λ q. bit (a .states) q && f q) (l .inv .1) (λ q k. sym (walk-end f (l .met) q) ∙ (rw e at (l .inv .2 q)))
 
 pub met-by-spec : {M : Type 1} → statement M
-met-by-spec = tie.close (tie.spec Inv-loop μ-loop loop-holds cast-q satisfied-requires cast-met shl-met (λ c. omega arith) loop-less loop-again returns)
+met-by-spec =
+    tie.close (tie.spec
+    Inv-loop μ-loop (λ c. (omega arith, omega arith, λ q. rw (bit-none q))) (λ c. omega (arith, below c)) satisfied-requires
+    (λ c. omega (arith, below (c .before .before))) (λ c. below (c .before .before)) (λ c. omega arith) loop-less loop-again returns)

@@ -41,15 +41,13 @@ cast-met-by c =
 slice-read-met-by : tie.Need-slice-read-met-by
 slice-read-met-by c =
     let start = c .before .before .before .before .before .before .before .before .before .before in
-    let a = start .args in
-    let z = start .pre in
+    let a = start .args in let z = start .pre in
     omega (arith, next (c .before .before .before .before), next-place-low [] (a .cycle .now) (z .0 .word .repeats) (a .p) (omega (arith, z .3)), z .2)
 
 met-by-requires : tie.Need-met-by-requires
 met-by-requires c κs =
     let start = c .before .before .before .before .before .before .before .before .before .before in
-    let a = start .args in
-    let z = start .pre in
+    let a = start .args in let z = start .pre in
     let r = ruleOf (a .h) (a .counts .now) (a .clauses .now) in (
       z .0 .passing .formed,
       z .0 .beginnings,
@@ -61,12 +59,9 @@ returns : tie.Need-returns
 unfolding letterAt
 returns c =
     let start = c .before .before .before .before .before .before .before .before .before .before .before in
-    let a = start .args in
-    let z = start .pre in
+    let a = start .args in let z = start .pre in
     let r = ruleOf (a .h) (a .counts .now) (a .clauses .now) in
-    let cy = a .cycle .now in
-    let ms = a .masks .now in
-    let d = c .before .before .before .difference in
+    let cy = a .cycle .now in let ms = a .masks .now in let d = c .before .before .before .difference in
     let n = next (c .before .before .before .before .before) in
     let w = z .0 .passing .formed in
     let tried : c .met-by .result ≡ metBy r (getD cy (a .p) 0) (getD ms (c .before .before .before .before .before .if1 .k) 0) (d .result) = c .met-by .ensures in

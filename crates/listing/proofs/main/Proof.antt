@@ -5,11 +5,8 @@ use lib.Seq.{length-take-le}
 use Rattle.listing.proofs.main.Statement.{statement}
 use Rattle.listing.proofs.main.Tie as tie
 
-slice-aggregate-write-all : tie.Need-slice-aggregate-write-all
-slice-aggregate-write-all c = sym (length-take-le _ _ (c .before .listing2 .ensures .1 .1 .0))
-
 pub main-spec : {M : Type 1} → statement M
 main-spec =
     tie.close (tie.spec
     (λ c. search needs) (λ c κs. search needs) (λ c. search needs) (λ c. search needs) (λ c κs. search needs) (λ c. c .listing2 .ensures .1 .1 .0)
-    slice-aggregate-write-all (λ c κs. search needs) (λ c. search needs))
+    (λ c. sym (length-take-le _ _ (c .before .listing2 .ensures .1 .1 .0))) (λ c κs. search needs) (λ c. search needs))

@@ -20,9 +20,6 @@ initial-is c = ap (λ (l : Layout). l .head .initial) (accepted c .layout)
 small : (c : tie.After-l) → c .l .given .0 .0 .head .initial < 8
 small c = let F = accepted c .passing .formed in omega (arith, initial-is c, F .initial-state, F .few-states)
 
-cast-result : tie.Need-cast-result
-cast-result c = omega (arith, small (c .before .before .before))
-
 returns : tie.Need-returns
 returns c =
     let k = c .enum-told .given .0 .0 in
@@ -33,4 +30,6 @@ returns-2 : tie.Need-returns-2
 returns-2 c = (small (c .before .before .before), λ e. initial-is (c .before .before .before))
 
 pub initial-of-spec : {M : Type 1} → statement M
-initial-of-spec = tie.close (tie.spec (λ c κs. search needs) (λ c. search needs) (λ c. search needs) cast-result returns returns-2)
+initial-of-spec =
+    tie.close (tie.spec
+    (λ c κs. search needs) (λ c. search needs) (λ c. search needs) (λ c. omega (arith, small (c .before .before .before))) returns returns-2)

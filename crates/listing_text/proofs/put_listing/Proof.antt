@@ -39,8 +39,7 @@ start-of-after-row c = c .before .before .before .before .before .before .before
 refusal : (c : tie.After-row) → listingOf (start-of-after-row c .args .file .now) ≡ refusedLine (c .row .given .0 .0)
 refusal c =
     let at-if1 = c .before .before .before .before .before .before .before in
-    let earlier = at-if1 .before .before .before in
-    let s = earlier in
+    let earlier = at-if1 .before .before .before in let s = earlier in
     refused-text (s .args .file .now) (at-if1 .if1 .left) (c .row .given .0 .0) (sym (answer (c .before .before .before .before)) ∙ c .row .given .1)
 
 put-refused-requires : tie.Need-put-refused-requires
@@ -69,14 +68,8 @@ moves-held c =
     moves-fit (start .args .file .now) (at-if1 .if1 .left) (c .counts .given .0 .0) (built c)
     _ _ refl (c .before .before .before .before .build .ensures .moves-after)
 
-array-share-prefix-list : tie.Need-array-share-prefix-list
-array-share-prefix-list c = codes-held (c .before .before .before .before)
-
 slice-aggregate-put-table : tie.Need-slice-aggregate-put-table
 slice-aggregate-put-table c = sym (length-take-le _ _ (codes-held (c .before .before .before .before .before)))
-
-array-share-prefix-transitions : tie.Need-array-share-prefix-transitions
-array-share-prefix-transitions c = moves-held (c .before .before .before .before .before)
 
 slice-aggregate-put-table-2 : tie.Need-slice-aggregate-put-table-2
 slice-aggregate-put-table-2 c =
@@ -91,8 +84,7 @@ table : (c : tie.After-names-in) → let n = c .before .before .before .before .
     (take (n .transitions) (B .last .1 .1 .0))
 table c =
     let at-build = c .before .before .before .before .before .before .before .before in
-    let at-if1 = at-build .before .before .before in
-    let n = c .before .before .before .before .counts .given .0 .0 in
+    let at-if1 = at-build .before .before .before in let n = c .before .before .before .before .counts .given .0 .0 in
     let B = at-build .build in
     table-text (start-of-after-names-in c .args .file .now) (at-if1 .if1 .left) n (built (c .before .before .before .before))
     _ _ _ _ refl (B .ensures .codes-after) refl (B .ensures .moves-after) (c .before .initial-of .result) (c .before .initial-of .ensures .1) (c .names-in .result .now) (c .names-in .ensures)
@@ -114,5 +106,6 @@ pub put-listing-spec : {M : Type 1} → statement M
 put-listing-spec =
     tie.close (tie.spec
     (λ c. search needs) put-requires (λ c. search needs) returns (λ c. search needs) (λ c. search needs) (λ c κs. search needs) (λ c. search needs)
-    put-refused-requires (λ c. search needs) (λ c κs. search needs) (λ c κs. search needs) array-share-prefix-list slice-aggregate-put-table
-    array-share-prefix-transitions slice-aggregate-put-table-2 put-table-requires (λ c. search needs) returns-2 (λ c. search needs) returns-3)
+    put-refused-requires (λ c. search needs) (λ c κs. search needs) (λ c κs. search needs) (λ c. codes-held (c .before .before .before .before))
+    slice-aggregate-put-table (λ c. moves-held (c .before .before .before .before .before)) slice-aggregate-put-table-2 put-table-requires
+    (λ c. search needs) returns-2 (λ c. search needs) returns-3)

@@ -31,8 +31,7 @@ returns c =
 
 step-part-requires : tie.Need-step-part-requires
 step-part-requires c κs =
-    let start = c .before .before .before .before .before .before .before .before .before in
-    let a = start .args in
+    let start = c .before .before .before .before .before .before .before .before .before in let a = start .args in
     let t = tried (c .before .before .before) in
     let w = words-in-length (a .codes .now) in
     (t .known, omega (arith, t .few), omega (arith, t .few, t .long), λ y l. t .flags y (omega arith))
@@ -40,8 +39,7 @@ step-part-requires c κs =
 returns-2 : tie.Need-returns-2
 returns-2 c =
     let earlier = c .before .before .before .before .before .before .before in
-    let start = earlier .before .before .before .before .before .before in
-    let a = start .args in
+    let start = earlier .before .before .before .before .before .before in let a = start .args in
     let t = tried (earlier) in
     let d = c .before .before .before .step-part .ensures in
     let no = not-true (c .before .before .before .step-part .result) (c .if2 .taken) in
@@ -76,18 +74,15 @@ cast-put-byte c =
 put-byte-requires : tie.Need-put-byte-requires
 put-byte-requires c κs =
     let at-step-part = c .before .before .before .before .before .before .before .before in
-    let at-number-at = at-step-part .before .before in
-    let earlier = at-number-at .before .before in
+    let at-number-at = at-step-part .before .before in let earlier = at-number-at .before .before in
     let t = tried (earlier) in
     omega (arith, t .free, t .long, at-number-at .number-at .ensures, at-step-part .step-part .kept .1 .1 .1 .1 .0, c .before .before .before .put-number .kept .0)
 
 returns-3 : tie.Need-returns-3
 returns-3 c =
     let at-if2 = c .before .before .before .before .before .before .before .before in
-    let at-step-part = at-if2 .before .before .before in
-    let at-number-at = at-step-part .before .before in
-    let earlier = at-number-at .before .before in
-    let start = earlier .before .before .before .before .before .before in
+    let at-step-part = at-if2 .before .before .before in let at-number-at = at-step-part .before .before in
+    let earlier = at-number-at .before .before in let start = earlier .before .before .before .before .before .before in
     let a = start .args in
     let t = tried (earlier) in
     let d = at-step-part .step-part .ensures in

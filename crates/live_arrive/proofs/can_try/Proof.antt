@@ -9,30 +9,6 @@ use borrow.Author.Needs.{needs}
 use Rattle.live_arrive.proofs.can_try.Statement.{statement}
 use Rattle.live_arrive.proofs.can_try.Tie as tie
 
-returns : tie.Need-returns
-returns c = λ e. absurd (true-false (sym e))
-
-returns-2 : tie.Need-returns-2
-returns-2 c = λ e. absurd (true-false (sym e))
-
-returns-3 : tie.Need-returns-3
-returns-3 c = λ e. absurd (true-false (sym e))
-
-returns-4 : tie.Need-returns-4
-returns-4 c = λ e. absurd (true-false (sym e))
-
-returns-5 : tie.Need-returns-5
-returns-5 c = λ e. absurd (true-false (sym e))
-
-returns-6 : tie.Need-returns-6
-returns-6 c = λ e. absurd (true-false (sym e))
-
-returns-7 : tie.Need-returns-7
-returns-7 c = λ e. absurd (true-false (sym e))
-
-returns-8 : tie.Need-returns-8
-returns-8 c = λ e. absurd (true-false (sym e))
-
 returns-9 : tie.Need-returns-9
 returns-9 c =
     let start = c .before .before .before .before .before .before .before .before .before .before .before .before .before .before in
@@ -54,4 +30,6 @@ returns-9 c =
 pub can-try-spec : {M : Type 1} → statement M
 can-try-spec =
     tie.close (tie.spec
-    returns (λ c κs. search needs) returns-2 returns-3 returns-4 returns-5 returns-6 returns-7 (λ c κs. search needs) returns-8 (λ c κs. search needs) returns-9)
+    (λ c e. absurd (true-false (sym e))) (λ c κs. search needs) (λ c e. absurd (true-false (sym e))) (λ c e. absurd (true-false (sym e)))
+    (λ c e. absurd (true-false (sym e))) (λ c e. absurd (true-false (sym e))) (λ c e. absurd (true-false (sym e)))
+    (λ c e. absurd (true-false (sym e))) (λ c κs. search needs) (λ c e. absurd (true-false (sym e))) (λ c κs. search needs) returns-9)

@@ -18,9 +18,6 @@ use Rattle.live_arrive.proofs.codes_pass.Tie as tie
 rises : (c : tie.Else1) → ascends (wordsIn (c .before .before .before .args .codes .now)) ≡ true
 rises c = sym (c .before .is-ascending .ensures) ∙ not-false (c .before .is-ascending .result) (c .if1 .left)
 
-returns : tie.Need-returns
-returns c = λ e. absurd (true-false (sym e))
-
 returns-2 : tie.Need-returns-2
 returns-2 c =
     let bytes = c .before .before .before .before .args .codes .now in
@@ -38,4 +35,6 @@ returns-3 c =
     λ e. coded-last cs (rises (c .before .before)) (omega arith) (ap (λ (x : ℕ). x / 2 ^ 48) (sym last) ∙ eqb-true (c .element .result / 2 ^ 48) 0 e)
 
 pub codes-pass-spec : {M : Type 1} → statement M
-codes-pass-spec = tie.close (tie.spec (λ c κs. search needs) returns returns-2 (λ c. search needs) element-requires returns-3)
+codes-pass-spec =
+    tie.close (tie.spec
+    (λ c κs. search needs) (λ c e. absurd (true-false (sym e))) returns-2 (λ c. search needs) element-requires returns-3)

@@ -16,13 +16,9 @@ Inv-loop n state most₀ i₀ most i = (i ≤ n) × ((j : ℕ) → j < i → get
 abbrev μ-loop : tie.MeasureT-loop
 μ-loop n state most₀ i₀ most i = n - i
 
-loop-holds : tie.Need-loop-holds Inv-loop μ-loop
-loop-holds c = (omega arith, λ j l. absurd (omega arith))
-
 loop-again : tie.Need-loop-again Inv-loop μ-loop
 loop-again c =
-    let l = c .before .before .before .loop in
-    let e = c .larger .ensures in
+    let l = c .before .before .before .loop in let e = c .larger .ensures in
     (omega arith, λ j k. by-cases (ℕ-discrete j (l .i)) (λ x. rw x (e .1)) (λ x. omega (arith, l .inv .1 j (omega arith), e .0)))
 
 returns : tie.Need-returns Inv-loop μ-loop
@@ -33,4 +29,5 @@ returns c =
 pub has-flags-spec : {M : Type 1} → statement M
 has-flags-spec =
     tie.close (tie.spec
-    Inv-loop μ-loop loop-holds (λ c. omega arith) (λ c. omega arith) (λ c κs. search needs) (λ c. omega arith) (λ c. omega arith) loop-again returns)
+    Inv-loop μ-loop (λ c. (omega arith, λ j l. absurd (omega arith))) (λ c. omega arith) (λ c. omega arith) (λ c κs. search needs) (λ c. omega arith)
+    (λ c. omega arith) loop-again returns)

@@ -13,8 +13,7 @@ use Rattle.live_arrive.proofs.step_part.Tie as tie
 
 step-tried-requires : tie.Need-step-tried-requires
 step-tried-requires c κs =
-    let a = c .before .before .before .args in
-    let pre = c .before .before .before .pre in
+    let a = c .before .before .before .args in let pre = c .before .before .before .pre in
     let same : setAt + a .n - setAt ≡ a .n = omega arith in
     let long : length (take (setAt + a .n - setAt) (drop setAt (a .state .now))) ≡ a .n =
     length-take-le (setAt + a .n - setAt) (drop setAt (a .state .now)) (omega (arith, length-drop setAt (a .state .now))) ∙ same in

@@ -12,8 +12,7 @@ use Rattle.live_call.proofs.call_by_rows.Tie as tie
 
 returns : tie.Need-returns
 returns c =
-    let start = c .before .before .before .before .before .before .before in
-    let a = start .args in
+    let start = c .before .before .before .before .before .before .before in let a = start .args in
     subst (λ (k : ℕ). CalledBy k (a .call) (a .h .initial) (wordsIn (a .codes .now)) (wordsIn (a .transitions .now)) (a .state .now) (a .set .now) (a .state .now) (a .set .now)
     (Refused (c .before .call-row .result))) (c .before .call-row .ensures)
     (refused-by (c .before .call-row .result) (a .call) (a .h .initial) (wordsIn (a .codes .now)) (wordsIn (a .transitions .now)) (a .state .now) (a .set .now) (c .if1 .taken))
@@ -32,8 +31,7 @@ serve-requires c κs =
 returns-2 : tie.Need-returns-2
 returns-2 c =
     let at-if1 = c .before .before .before .before .before .before .before .before in
-    let at-call-row = at-if1 .before in
-    let start = at-call-row .before .before .before .before .before .before in
+    let at-call-row = at-if1 .before in let start = at-call-row .before .before .before .before .before .before in
     let a = start .args in
     served-by _ (a .call) (a .h .initial) (wordsIn (a .codes .now)) (wordsIn (a .transitions .now)) (a .state .now) (a .set .now) _ _ (c .before .before .before .before .serve .result)
     (sym (at-call-row .call-row .ensures) ∙ at-if1 .if1 .left) (c .before .before .before .before .serve .ensures)

@@ -27,10 +27,8 @@ count-requires c κs =
 returns : tie.Need-returns
 returns c =
     let at-try-quickly = c .before .before .before .before .before .before .before .before .before in
-    let start = at-try-quickly .before .before .before .before .before .before in
-    let a = start .args in
-    let t = at-try-quickly .try-quickly in
-    let told = c .before .before .before .before .before .enum-told .given .1 in
+    let start = at-try-quickly .before .before .before .before .before .before in let a = start .args in
+    let t = at-try-quickly .try-quickly in let told = c .before .before .before .before .before .enum-told .given .1 in
     served-by _ (a .call) (a .h .initial) (wordsIn (a .codes .now)) (wordsIn (a .transitions .now)) (a .state .now) (a .set .now) (t .last .1 .1 .1 .1 .0) (c .before .before .count .last .1 .1 .0)
     (c .before .before .count .result) (t .ensures .served told)
     (subst (λ (left : List ℕ). Counted (length (wordsIn (a .codes .now))) left (a .set .now) (t .last .1 .1 .1 .1 .0) (c .before .before .count .last .1 .1 .0) (c .before .before .count .result))
@@ -39,8 +37,7 @@ returns c =
 returns-2 : tie.Need-returns-2
 returns-2 c =
     let start = c .before .before .before .before .before .before .before .before .before .before in
-    let a = start .args in
-    let t = c .before .before .before .before .try-quickly in
+    let a = start .args in let t = c .before .before .before .before .try-quickly in
     let told = c .enum-told2 .given .1 in
     subst (λ (k : ℕ). CalledBy k (a .call) (a .h .initial) (wordsIn (a .codes .now)) (wordsIn (a .transitions .now)) (a .state .now) (a .set .now) (t .last .1 .1 .1 .1 .0) (a .set .now) (Refused 15))
     (sym (t .ensures .refused told))
@@ -53,10 +50,8 @@ returns-3 c =
     let at-call-by-rows = c .before .before .before .before in
     let at-enum-told3 = at-call-by-rows .before .before .before in
     let at-try-quickly = at-enum-told3 .before .before .before .before in
-    let start = at-try-quickly .before .before .before .before .before .before in
-    let a = start .args in
-    let t = at-try-quickly .try-quickly in
-    let told = at-enum-told3 .enum-told3 .given .1 in
+    let start = at-try-quickly .before .before .before .before .before .before in let a = start .args in
+    let t = at-try-quickly .try-quickly in let told = at-enum-told3 .enum-told3 .given .1 in
     subst (λ (state : List ℕ). CalledBy (liveCallRow (a .call) (a .h .s) (inBytes (a .codes .now)) (inBytes (a .transitions .now)) state (length (a .set .now))) (a .call) (a .h .initial)
     (wordsIn (a .codes .now)) (wordsIn (a .transitions .now)) state (a .set .now)
     (at-call-by-rows .call-by-rows .last .1 .1 .1 .1 .0) (at-call-by-rows .call-by-rows .last .1 .1 .1 .1 .1 .0) (at-call-by-rows .call-by-rows .result)) (t .ensures .untried told)

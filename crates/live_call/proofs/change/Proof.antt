@@ -14,8 +14,7 @@ cast-arrive c =
 
 arrive-requires : tie.Need-arrive-requires
 arrive-requires c κs =
-    let start = c .before .before .before .before .before .before .before in
-    let a = start .args in
+    let start = c .before .before .before .before .before .before .before in let a = start .args in
     (start .pre .1, arrive-callable (a .call) (a .state .now) _ (c .before .before .call .given .1) (start .pre .2) .1)
 
 withdraw-requires : tie.Need-withdraw-requires
@@ -28,20 +27,17 @@ withdraw-requires c κs =
 
 mark-requires : tie.Need-mark-requires
 mark-requires c κs =
-    let start = c .before .before .before .before .before .before .before in
-    let a = start .args in
+    let start = c .before .before .before .before .before .before .before in let a = start .args in
     (mark-callable (a .call) (a .state .now) _ (c .before .before .call2 .given .1) (start .pre .2), start .pre .1 .long)
 
 return-to-requires : tie.Need-return-to-requires
 return-to-requires c κs =
-    let start = c .before .before .before .before .before .before .before in
-    let a = start .args in
+    let start = c .before .before .before .before .before .before .before in let a = start .args in
     (return-callable (a .call) (a .state .now) _ (c .before .before .call3 .given .1) (start .pre .2), start .pre .0, start .pre .1)
 
 returns : tie.Need-returns
 returns c =
-    let start = c .before .before .before .before .before .before .before .before .before in
-    let a = start .args in
+    let start = c .before .before .before .before .before .before .before .before .before in let a = start .args in
     start-effect (a .call) (a .state .now) (a .initial) (wordsIn (a .codes .now)) (wordsIn (a .transitions .now)) _ (c .before .before .before .before .enum-told .given .1)
     (c .before .before .start .ensures (wordsIn (a .transitions .now)))
 
@@ -54,8 +50,7 @@ returns-2 c =
 
 returns-3 : tie.Need-returns-3
 returns-3 c =
-    let start = c .before .before .before .before .before .before .before .before .before in
-    let a = start .args in
+    let start = c .before .before .before .before .before .before .before .before .before in let a = start .args in
     withdraw-effect (a .call) (a .state .now) (a .initial) (wordsIn (a .codes .now)) (wordsIn (a .transitions .now)) _ (c .before .before .before .before .enum-told2 .given .1)
     (c .before .before .withdraw .ensures)
 

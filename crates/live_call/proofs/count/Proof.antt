@@ -17,8 +17,7 @@ show-set-requires c κs =
 
 returns : tie.Need-returns
 returns c =
-    let start = c .before .before .before .before .before .before .before .before in
-    let a = start .args in
+    let start = c .before .before .before .before .before .before .before .before in let a = start .args in
     let e = c .before .before .before .show-set .ensures in
     counted (length (wordsIn (a .codes .now))) (length (a .codes .now) / 8) (a .state .now) (a .set .now) (a .state .now) _ _ _ (sym (words-in-length (a .codes .now))) refl (e .0) (e .1)
     (c .number-at .ensures)

@@ -12,8 +12,7 @@ use Rattle.live_call.proofs.serve.Tie as tie
 returns : tie.Need-returns
 returns c =
     let at-change = c .before .before .before .before .before .before .before in
-    let start = at-change .before .before .before .before .before .before in
-    let a = start .args in
+    let start = at-change .before .before .before .before .before .before in let a = start .args in
     subst (λ (left : List ℕ). Counted (length (wordsIn (a .codes .now))) left (a .set .now) (at-change .change .last .1 .1 .1 .1 .0) (c .before .before .count .last .1 .1 .0)
     (c .before .before .count .result))
     (at-change .change .ensures) (c .before .before .count .ensures)

@@ -17,8 +17,7 @@ returns c =
 
 returns-2 : tie.Need-returns-2
 returns-2 c =
-    let start = c .before .before .before .before .before .before .before .before in
-    let a = start .args in
+    let start = c .before .before .before .before .before .before .before .before in let a = start .args in
     table-refuses (a .call) (a .s) (inBytes (a .codes .now)) (inBytes (a .transitions .now)) (a .state .now) (a .room)
     (sym (c .before .before .before .before .letter-row .ensures) ∙ c .before .before .before .if1 .left) _ (c .if2 .taken)
     (rw (both-bytes (a .codes .now), both-bytes (a .transitions .now)) at (c .before .table-row .ensures))
@@ -36,8 +35,7 @@ returns-4 : tie.Need-returns-4
 unfolding inBytes
 returns-4 c =
     let at-letter-row = c .before .before .before .before .before .before .before in
-    let start = at-letter-row .before .before .before .before in
-    let a = start .args in
+    let start = at-letter-row .before .before .before .before in let a = start .args in
     slice-answers (a .call) (a .s) (inBytes (a .codes .now)) (inBytes (a .transitions .now)) (a .state .now) (a .room)
     (sym (at-letter-row .letter-row .ensures) ∙ c .before .before .before .before .before .before .if1 .left)
     (sym (rw (both-bytes (a .codes .now), both-bytes (a .transitions .now)) at (c .before .before .before .before .table-row .ensures)) ∙ c .before .before .before .if2 .left)

@@ -20,22 +20,15 @@ Inv-loop initial codes set₀ i₀ set i =
 abbrev μ-loop : tie.MeasureT-loop
 μ-loop initial codes set₀ i₀ set i = length set₀ - i
 
-loop-holds : tie.Need-loop-holds Inv-loop μ-loop
-loop-holds c = (refl, omega arith, λ j l. absurd (omega arith))
-
 mul-word-at : tie.Need-mul-word-at Inv-loop μ-loop
 mul-word-at c = omega (arith, words-in-length (c .before .before .before .before .args .codes .now))
 
 word-at-requires : tie.Need-word-at-requires Inv-loop μ-loop
 word-at-requires c κs = omega (arith, words-in-length (c .before .before .before .before .args .codes .now))
 
-first-byte-requires : tie.Need-first-byte-requires Inv-loop μ-loop
-first-byte-requires c κs = c .before .before .before .before .before .pre .0
-
 loop-again : tie.Need-loop-again Inv-loop μ-loop
 loop-again c =
-    let a = c .before .before .before .before .before .before .args in
-    let l = c .before .before .before .loop in
+    let a = c .before .before .before .before .before .before .args in let l = c .before .before .before .loop in
     let code : c .before .word-at .result ≡ getD (wordsIn (a .codes .now)) (l .i) 0 =
     c .before .word-at .ensures ∙ sym (words-in-at (a .codes .now) (l .i) (omega (arith, words-in-length (a .codes .now)))) in (
       length-set (l .set) (l .i) _ ∙ l .inv .0,
@@ -46,13 +39,13 @@ loop-again c =
 
 returns : tie.Need-returns Inv-loop μ-loop
 returns c =
-    let a = c .before .before .before .before .args in
-    let l = c .before .loop in
+    let a = c .before .before .before .before .args in let l = c .before .loop in
     initial-end (a .initial) (wordsIn (a .codes .now)) (l .set) (l .inv .0 ∙ c .before .before .before .before .pre .1)
     (λ j k. l .inv .2 j (omega (arith, l .inv .0, c .before .before .before .before .pre .1)))
 
 pub begin-set-spec : {M : Type 1} → statement M
 begin-set-spec =
     tie.close (tie.spec
-    Inv-loop μ-loop loop-holds mul-word-at word-at-requires first-byte-requires (λ c. omega arith) (λ c. omega arith) (λ c. omega arith) loop-again
+    Inv-loop μ-loop (λ c. (refl, omega arith, λ j l. absurd (omega arith))) mul-word-at word-at-requires
+    (λ c κs. c .before .before .before .before .before .pre .0) (λ c. omega arith) (λ c. omega arith) (λ c. omega arith) loop-again
     (λ c. c .before .loop .inv .0) returns)

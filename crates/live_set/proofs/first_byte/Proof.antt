@@ -5,11 +5,8 @@ use Rattle.sets.specs.Tests.{one}
 use Rattle.live_set.proofs.first_byte.Statement.{statement}
 use Rattle.live_set.proofs.first_byte.Tie as tie
 
-returns : tie.Need-returns
-returns c = ap one (sym (c .if1 .taken) ∙ c .before .is-initial .ensures)
-
-returns-2 : tie.Need-returns-2
-returns-2 c = ap one (sym (c .if1 .left) ∙ c .before .is-initial .ensures)
-
 pub first-byte-spec : {M : Type 1} → statement M
-first-byte-spec = tie.close (tie.spec (λ c κs. search needs) returns returns-2)
+first-byte-spec =
+    tie.close (tie.spec
+    (λ c κs. search needs) (λ c. ap one (sym (c .if1 .taken) ∙ c .before .is-initial .ensures))
+    (λ c. ap one (sym (c .if1 .left) ∙ c .before .is-initial .ensures)))

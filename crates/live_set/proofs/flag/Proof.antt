@@ -6,11 +6,7 @@ use Rattle.sets.specs.Tests.{one}
 use Rattle.live_set.proofs.flag.Statement.{statement}
 use Rattle.live_set.proofs.flag.Tie as tie
 
-returns : tie.Need-returns
-returns c = ap one (sym (le-ltb 0 (c .before .args .v) (omega arith)))
-
-returns-2 : tie.Need-returns-2
-returns-2 c = ap one (sym (lt-ltb 0 (c .before .args .v) (omega arith)))
-
 pub flag-spec : {M : Type 1} → statement M
-flag-spec = tie.close (tie.spec returns returns-2)
+flag-spec =
+    tie.close (tie.spec
+    (λ c. ap one (sym (le-ltb 0 (c .before .args .v) (omega arith)))) (λ c. ap one (sym (lt-ltb 0 (c .before .args .v) (omega arith)))))

@@ -14,9 +14,6 @@ Inv-loop set₀ i₀ set i = (i ≤ length set₀) × Through flagOf set₀ set 
 abbrev μ-loop : tie.MeasureT-loop
 μ-loop set₀ i₀ set i = length set₀ - i
 
-loop-holds : tie.Need-loop-holds Inv-loop μ-loop
-loop-holds c = (omega arith, through-start flagOf (c .before .args .set .now))
-
 loop-again : tie.Need-loop-again Inv-loop μ-loop
 loop-again c =
     let l = c .before .before .before .loop in
@@ -30,5 +27,5 @@ returns c =
 pub flag-all-spec : {M : Type 1} → statement M
 flag-all-spec =
     tie.close (tie.spec
-    Inv-loop μ-loop loop-holds (λ c. omega arith) (λ c κs. search needs) (λ c. omega arith) (λ c. omega arith) (λ c. omega arith) loop-again
-    (λ c. c .before .loop .inv .1 .long) returns)
+    Inv-loop μ-loop (λ c. (omega arith, through-start flagOf (c .before .args .set .now))) (λ c. omega arith) (λ c κs. search needs)
+    (λ c. omega arith) (λ c. omega arith) (λ c. omega arith) loop-again (λ c. c .before .loop .inv .1 .long) returns)

@@ -13,9 +13,6 @@ Inv-loop set₀ i₀ set i = (i ≤ length set₀) × Through (λ v. v / 2) set�
 abbrev μ-loop : tie.MeasureT-loop
 μ-loop set₀ i₀ set i = length set₀ - i
 
-loop-holds : tie.Need-loop-holds Inv-loop μ-loop
-loop-holds c = (omega arith, through-start (λ v. v / 2) (c .args .set .now))
-
 loop-again : tie.Need-loop-again Inv-loop μ-loop
 loop-again c =
     let l = c .before .before .loop in
@@ -29,5 +26,5 @@ returns c =
 pub halve-all-spec : {M : Type 1} → statement M
 halve-all-spec =
     tie.close (tie.spec
-    Inv-loop μ-loop loop-holds (λ c. omega arith) (λ c. omega arith) (λ c. omega arith) (λ c. omega arith) loop-again (λ c. c .before .loop .inv .1 .long)
-    returns)
+    Inv-loop μ-loop (λ c. (omega arith, through-start (λ v. v / 2) (c .args .set .now))) (λ c. omega arith) (λ c. omega arith) (λ c. omega arith)
+    (λ c. omega arith) loop-again (λ c. c .before .loop .inv .1 .long) returns)

@@ -24,8 +24,7 @@ returns-2 c =
 
 returns-3 : tie.Need-returns-3
 returns-3 c =
-    let start = c .before .before .before .before .before .before .before .before in
-    let a = start .args in
+    let start = c .before .before .before .before .before .before .before .before in let a = start .args in
     let same : letterOf (a .t) ≡ a .letter = omega arith in
     let some : getD (a .set .now) (sourceOf (a .t)) 0 % 2 ≡ 0 → ⊥ = λ z. c .before .before .if2 .left (rw (c .before .before .before .before .source-of .ensures) z) in
     rw (c .before .target-of .ensures) (moved-yes (a .letter) (a .t) (a .set .now) same some)

@@ -23,16 +23,14 @@ loop-holds c =
 
 loop-again : tie.Need-loop-again Inv-loop μ-loop
 loop-again c =
-    let a = c .before .before .before .before .before .before .args in
-    let l = c .before .before .before .loop in
+    let a = c .before .before .before .before .before .before .args in let l = c .before .before .before .loop in
     let e = c .flag .ensures ∙ shown-at (a .state .now) (l .i) in
     (omega arith, showing-next (isIn (setBytes (a .state .now))) (a .set .now) (l .set) (l .members) (l .i) (c .flag .result) (omega arith) e (l .inv .1))
 
 returns : tie.Need-returns Inv-loop μ-loop
 unfolding shown membersOf
 returns c =
-    let a = c .before .before .before .before .args in
-    let l = c .before .loop in
+    let a = c .before .before .before .before .args in let l = c .before .loop in
     let all : l .i ≡ a .n = omega arith in
     let s = rw all at (l .inv .1) in
     (showing-end (isIn (setBytes (a .state .now))) (a .set .now) (l .set) (l .members) (a .n) (c .before .before .before .before .pre .1) s, s .counted)

@@ -13,8 +13,7 @@ use Rattle.live_set.proofs.step_set.Tie as tie
 
 sweep-requires : tie.Need-sweep-requires
 sweep-requires c κs =
-    let start = c .before .before .before .before .before .before .before in
-    let a = start .args in
+    let start = c .before .before .before .before .before .before .before in let a = start .args in
     let ts = wordsIn (a .transitions .now) in
     let long : length (map flagOf (a .set .now)) ≡ length (a .set .now) = length-map (a .set .now) flagOf in
     rw (c .before .before .before .flag-all .ensures)
@@ -23,8 +22,7 @@ sweep-requires c κs =
 returns : tie.Need-returns
 returns c =
     let at-flag-all = c .before .before .before .before .before .before .before .before .before .before in
-    let start = at-flag-all .before .before .before .before in
-    let a = start .args in
+    let start = at-flag-all .before .before .before .before in let a = start .args in
     let ts = wordsIn (a .transitions .now) in
     let swept = rw (at-flag-all .flag-all .ensures) at (c .before .before .before .before .before .before .sweep .ensures) in
     c .before .before .halve-all .ensures ∙ arrived (a .letter) ts (a .set .now) _ swept

@@ -30,8 +30,7 @@ at c =
 move-over-requires : tie.Need-move-over-requires Inv-loop μ-loop
 move-over-requires c κs =
     let a = c .before .before .before .before .before .before .args in
-    let inside = c .before .before .before .before .before .before .pre .0 in
-    let l = c .before .before .before .loop in
+    let inside = c .before .before .before .before .before .before .pre .0 in let l = c .before .before .before .loop in
     let ts = wordsIn (a .transitions .now) in
     let m = mem-at ts (l .i) (omega (arith, words-in-length (a .transitions .now))) in
     let long : length (l .set) ≡ length (a .set .now) = l .inv .1 .long in
@@ -40,10 +39,8 @@ move-over-requires c κs =
 
 loop-again : tie.Need-loop-again Inv-loop μ-loop
 loop-again c =
-    let start = c .before .before .before .before .before .before .before .before .before in
-    let a = start .args in
-    let pre = start .pre in
-    let l = c .before .before .before .before .before .before .loop in
+    let start = c .before .before .before .before .before .before .before .before .before in let a = start .args in
+    let pre = start .pre in let l = c .before .before .before .before .before .before .loop in
     let ts = wordsIn (a .transitions .now) in
     let inside : l .i < length ts = omega (arith, words-in-length (a .transitions .now)) in
     let m = mem-at ts (l .i) inside in
@@ -53,8 +50,7 @@ loop-again c =
 
 returns : tie.Need-returns Inv-loop μ-loop
 returns c =
-    let a = c .before .before .before .before .args in
-    let l = c .before .loop in
+    let a = c .before .before .before .before .args in let l = c .before .loop in
     let ts = wordsIn (a .transitions .now) in
     swept-end (a .letter) ts (a .set .now) (c .before .before .before .before .pre .1) (l .set) (l .i) (omega (arith, words-in-length (a .transitions .now))) (l .inv .1)
 

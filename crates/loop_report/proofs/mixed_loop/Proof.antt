@@ -30,30 +30,9 @@ pass c = sym (c .before .layout-row .ensures) ∙ c .if1 .left
 known : (c : tie.Else1) → Placed (c .before .before .before .before .args .file .now)
 known c = let f = c .before .before .before .before .args .file .now in placed f (laid f (pass c) .0)
 
-lay-out-requires : tie.Need-lay-out-requires
-lay-out-requires c κs = (known c .long, known c .fits)
-
 -- the counts end where the trailer begins
 bounds : (c : tie.After-lay-out) → c .lay-out .result .at + c .lay-out .result .clauses ≤ length (c .before .before .before .before .before .args .file .now) - 8
 bounds c = rw (c .lay-out .ensures) (omega (arith, known (c .before)))
-
-sub-end : tie.Need-sub-end
-sub-end c = known (c .before .before) .long
-
-add-report : tie.Need-add-report
-add-report c = omega (arith, bounds (c .before))
-
-sub-report : tie.Need-sub-report
-sub-report c = omega (arith, bounds (c .before))
-
-part-report-start : tie.Need-part-report-start
-part-report-start c = omega (arith, bounds (c .before))
-
-add-report-2 : tie.Need-add-report-2
-add-report-2 c = omega (arith, bounds (c .before .before))
-
-part-report-end-2 : tie.Need-part-report-end-2
-part-report-end-2 c = omega (arith, bounds (c .before .before))
 
 report-requires : tie.Need-report-requires
 report-requires c κs =
@@ -64,13 +43,9 @@ report-requires c κs =
 
 returns-2 : tie.Need-returns-2
 returns-2 c =
-    let at-lay-out = c .before .before .before .before .before .before .before in
-    let earlier = at-lay-out .before in
-    let start = earlier .before .before .before .before in
-    let a = start .args in
-    let f = a .file .now in
-    let old = a .out .now in
-    let q = earlier in
+    let at-lay-out = c .before .before .before .before .before .before .before in let earlier = at-lay-out .before in
+    let start = earlier .before .before .before .before in let a = start .args in let f = a .file .now in
+    let old = a .out .now in let q = earlier in
     let p = known q in
     let w = rw (at-lay-out .lay-out .ensures, counts-part f (p .fits), clauses-part f (p .fits)) at (c .before .before .report .ensures) in
     let e = passed f old _ (c .before .before .report .result) (pass q) (w .0) (w .1) in
@@ -79,5 +54,7 @@ returns-2 c =
 pub mixed-loop-spec : {M : Type 1} → statement M
 mixed-loop-spec =
     tie.close (tie.spec
-    (λ c κs. search needs) returns lay-out-requires sub-end add-report sub-report part-report-start (λ c. search needs) add-report-2 (λ c. search needs)
-    (λ c. search needs) part-report-end-2 report-requires (λ c. search needs) returns-2)
+    (λ c κs. search needs) returns (λ c κs. (known c .long, known c .fits)) (λ c. known (c .before .before) .long)
+    (λ c. omega (arith, bounds (c .before))) (λ c. omega (arith, bounds (c .before))) (λ c. omega (arith, bounds (c .before))) (λ c. search needs)
+    (λ c. omega (arith, bounds (c .before .before))) (λ c. search needs) (λ c. search needs) (λ c. omega (arith, bounds (c .before .before)))
+    report-requires (λ c. search needs) returns-2)

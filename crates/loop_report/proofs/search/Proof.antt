@@ -65,10 +65,8 @@ write-loop-requires c κs =
 
 returns-3 : tie.Need-returns-3
 returns-3 c =
-    let at-if1 = c .before .before .before .before .before .before .before in
-    let earlier = at-if1 .before in
-    let p = earlier in
-    let s = p .start-of .result in
+    let at-if1 = c .before .before .before .before .before .before .before in let earlier = at-if1 .before in
+    let p = earlier in let s = p .start-of .result in
     let l : s .further < rule p .n = omega (arith, at-if1 .if1 .left) in
     let w = rw (p .before .before .before .successor-table .ensures, c .before .before .before .before .others-of .ensures) at (c .before .before .write-loop .ensures) in
     let k = found-length (rule p) s (begun p) l in

@@ -21,8 +21,7 @@ cast-result c = omega (
 
 returns : tie.Need-returns
 returns c =
-    let a = c .before .before .before .before .args in
-    let w = c .before .before .before .before .pre in
+    let a = c .before .before .before .before .args in let w = c .before .before .before .before .pre in
     let v = c .before .before .before .ways-to in
     let x = getD (a .es .now) (a .q) 0 in
     let m = ways (a .n) (a .es .now) (bit (a .others)) (a .t) (a .k) .any in
@@ -38,8 +37,7 @@ cast-result-2 c = omega (
 
 returns-2 : tie.Need-returns-2
 returns-2 c =
-    let a = c .before .before .before .before .args in
-    let w = c .before .before .before .before .pre in
+    let a = c .before .before .before .before .args in let w = c .before .before .before .before .pre in
     let v = c .before .before .before .ways-to in
     let x = getD (a .es .now) (a .q) 0 in
     let m = ways (a .n) (a .es .now) (bit (a .others)) (a .t) (a .k) .mixed in

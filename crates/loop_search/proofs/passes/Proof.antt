@@ -3,8 +3,7 @@ use borrow.Author.Needs.{needs}
 use Rattle.loop_search.proofs.passes.Statement.{statement}
 use Rattle.loop_search.proofs.passes.Tie as tie
 
-returns-2 : tie.Need-returns-2
-returns-2 c = rw (c .before .if1 .left) (c .contains .ensures)
-
 pub passes-spec : {M : Type 1} → statement M
-passes-spec = tie.close (tie.spec (λ c. search needs) (λ c. search needs) (λ c κs. search needs) returns-2)
+passes-spec =
+    tie.close (tie.spec
+    (λ c. search needs) (λ c. search needs) (λ c κs. search needs) (λ c. rw (c .before .if1 .left) (c .contains .ensures)))

@@ -19,16 +19,11 @@ loop-holds c = let a = c .args in (omega arith, least-none (a .n) (from (a .n) (
 others-of-requires : tie.Need-others-of-requires Inv-loop μ-loop
 others-of-requires c κs = (c .before .before .pre .0, c .loop-test .taken, c .before .before .pre .1)
 
-further-from-requires : tie.Need-further-from-requires Inv-loop μ-loop
-further-from-requires c κs = (c .before .before .before .pre .0, c .before .loop-test .taken)
-
 loop-again : tie.Need-loop-again Inv-loop μ-loop
 loop-again c =
-    let a = c .before .before .before .before .before .args in
-    let l = c .before .before .before .before .loop in
+    let a = c .before .before .before .before .before .args in let l = c .before .before .before .before .loop in
     let g = from (a .n) (a .es .now) (a .accepting) in
-    let v = c .before .further-from .result in
-    let o = c .before .before .others-of in
+    let v = c .before .further-from .result in let o = c .before .before .others-of in
     let e : v ≡ g (l .t) = c .before .further-from .ensures ∙ from-is (a .n) (a .es .now) (a .accepting) (o .result) (l .t) (o .ensures) in (
       omega arith,
       ⊎-elim
@@ -39,12 +34,12 @@ loop-again c =
 
 returns : tie.Need-returns Inv-loop μ-loop
 returns c =
-    let a = c .before .before .args in
-    let l = c .before .loop in
+    let a = c .before .before .args in let l = c .before .loop in
     let e : l .t ≡ a .n = omega arith in
     begun (a .n) (a .es .now) (a .accepting) (l .at) (l .further) (rw e at (l .inv .1))
 
 pub start-of-spec : {M : Type 1} → statement M
 start-of-spec =
     tie.close (tie.spec
-    Inv-loop μ-loop loop-holds others-of-requires further-from-requires (λ c. omega arith) (λ c. omega arith) loop-again returns)
+    Inv-loop μ-loop loop-holds others-of-requires (λ c κs. (c .before .before .before .pre .0, c .before .loop-test .taken)) (λ c. omega arith)
+    (λ c. omega arith) loop-again returns)

@@ -15,8 +15,7 @@ abbrev μ-loop : tie.MeasureT-loop
 
 loop-holds : tie.Need-loop-holds Inv-loop μ-loop
 loop-holds c =
-    let a = c .before .args in
-    let w = c .before .pre in
+    let a = c .before .args in let w = c .before .pre in
     (w .0 .1, w .0 .2, written-none (a .n) (a .es .now) (a .others) (a .t) (w .0 .1) (a .k) (a .out .now) (w .0 .2) (w .1))
 
 cast-out : tie.Need-cast-out Inv-loop μ-loop
@@ -24,8 +23,7 @@ cast-out c = omega (arith, c .before .loop .inv .2 .state, c .before .before .be
 
 slice-write-out : tie.Need-slice-write-out Inv-loop μ-loop
 slice-write-out c =
-    let a = c .before .before .before .args in
-    let l = c .before .loop in
+    let a = c .before .before .before .args in let l = c .before .loop in
     omega (arith, written-length (a .n) (a .es .now) (a .others) (a .t) (l .inv .0) (a .k) (a .out .now) (l .inv .1) (l .i) (l .out) (l .q) (l .passed) (l .inv .2))
 
 passes-requires : tie.Need-passes-requires Inv-loop μ-loop
@@ -33,16 +31,14 @@ passes-requires c κs = omega (arith, c .before .loop .inv .2 .state, c .before 
 
 next-state-requires : tie.Need-next-state-requires Inv-loop μ-loop
 next-state-requires c κs =
-    let a = c .before .before .before .before .args in
-    let w = c .before .before .before .before .pre in
+    let a = c .before .before .before .before .args in let w = c .before .before .before .before .pre in
     let l = c .before .before .loop in
     let f = may-follow (a .n) (a .es .now) (a .others) (a .t) (l .inv .0) (a .k) (a .out .now) (l .inv .1) (l .i) (l .out) (l .q) (l .passed) (c .before .loop-test .taken) (l .inv .2) in
     ((w .0 .0, w .0 .1, omega (arith, l .inv .2 .state, w .0 .0)), rw (c .passes .ensures) f)
 
 loop-again : tie.Need-loop-again Inv-loop μ-loop
 loop-again c =
-    let a = c .before .before .before .before .before .args in
-    let l = c .before .before .before .loop in
+    let a = c .before .before .before .before .before .args in let l = c .before .before .before .loop in
     let w = written-next (a .n) (a .es .now) (a .others) (a .t) (l .inv .0) (a .k) (a .out .now) (l .inv .1) (l .i) (l .out) (l .q) (c .next-state .result) (l .passed) (c .before .passes .result)
     (c .before .before .loop-test .taken) (l .inv .2) (c .before .passes .ensures) (c .next-state .ensures) in
     (l .inv .0, l .inv .1, w)
@@ -52,20 +48,17 @@ cast-out-2 c = omega (arith, c .before .loop .inv .2 .state, c .before .before .
 
 slice-write-out-2 : tie.Need-slice-write-out-2 Inv-loop μ-loop
 slice-write-out-2 c =
-    let a = c .before .before .before .args in
-    let l = c .before .loop in
+    let a = c .before .before .before .args in let l = c .before .loop in
     omega (arith, written-length (a .n) (a .es .now) (a .others) (a .t) (l .inv .0) (a .k) (a .out .now) (l .inv .1) (l .i) (l .out) (l .q) (l .passed) (l .inv .2))
 
 same-length : tie.Need-same-length Inv-loop μ-loop
 same-length c =
-    let a = c .before .before .before .args in
-    let l = c .before .loop in
+    let a = c .before .before .before .args in let l = c .before .loop in
     simp length-set (written-length (a .n) (a .es .now) (a .others) (a .t) (l .inv .0) (a .k) (a .out .now) (l .inv .1) (l .i) (l .out) (l .q) (l .passed) (l .inv .2))
 
 returns : tie.Need-returns Inv-loop μ-loop
 returns c =
-    let a = c .before .before .before .args in
-    let l = c .before .loop in
+    let a = c .before .before .before .args in let l = c .before .loop in
     let e : l .i ≡ a .k = omega (arith, l .inv .2 .far) in
     written-all (a .n) (a .es .now) (a .others) (a .t) (l .inv .0) (a .k) (a .out .now) (l .inv .1) (l .i) (l .out) (l .q) (l .passed) e (l .inv .2)
 

@@ -22,10 +22,8 @@ loop-holds c = (omega arith, refl)
 
 loop-again : tie.Need-loop-again Inv-loop μ-loop
 loop-again c =
-    let l = c .before .before .before .loop in
-    let es = c .before .before .before .before .args .reach .now in
-    let q = c .before .before .before .before .args .q in
-    let p = l .p in
+    let l = c .before .before .before .loop in let es = c .before .before .before .before .args .reach .now in
+    let q = c .before .before .before .before .args .q in let p = l .p in
     let f : ℕ → Bool = λ t. bit (getD es q 0) t && bit (getD es t 0) q in (
       omega arith,
       rw (l .inv .1) (put-bit p _ f (omega arith) (omega (arith, both-bits (getD es q 0) (getD es p 0) p q))),

@@ -36,11 +36,9 @@ class-of-requires c κs =
 returns : tie.Need-returns Inv-loop μ-loop
 returns c =
     let at-closures = c .before .before .before .before .before .before .before in
-    let start = at-closures .before .before .before in
-    let a = start .args in
+    let start = at-closures .before .before .before in let a = start .args in
     let r = ruleOf (a .h) (a .counts .now) (a .clauses .now) in
-    let w = start .pre in
-    let l = c .before .before .before .before .before .loop in
+    let w = start .pre in let l = c .before .before .before .before .before .loop in
     let k = c .before .before .class-of in
     let e : k .result ≡ classBy (closuresOf r) (a .h .n) (l .q) = k .ensures ∙ ap (λ (t : List ℕ). classBy t (a .h .n) (l .q)) (at-closures .closures .ensures) in
     sym (both-here r (w .few-states) (a .h .accepting) refl (l .q) (k .result) (c .before .both-kinds .result) (c .before .before .before .before .loop-test .taken) e (c .before .both-kinds .ensures)
@@ -49,10 +47,8 @@ returns c =
 loop-again : tie.Need-loop-again Inv-loop μ-loop
 loop-again c =
     let at-closures = c .before .before .before .before .before .before .before in
-    let start = at-closures .before .before .before in
-    let a = start .args in
-    let l = c .before .before .before .before .before .loop in
-    let k = c .before .before .class-of in
+    let start = at-closures .before .before .before in let a = start .args in
+    let l = c .before .before .before .before .before .loop in let k = c .before .before .class-of in
     let t = at-closures .closures .result in (
       omega arith,
       both-next t (a .h .n) (a .h .accepting) (l .q) (k .result) (c .before .both-kinds .result) (l .inv .1) (k .ensures) (c .before .both-kinds .ensures) (c .if1 .left),
@@ -62,8 +58,7 @@ returns-2 : tie.Need-returns-2 Inv-loop μ-loop
 returns-2 c =
     let a = c .before .before .before .before .before .before .args in
     let r = ruleOf (a .h) (a .counts .now) (a .clauses .now) in
-    let w = c .before .before .before .before .before .before .pre in
-    let l = c .before .loop in
+    let w = c .before .before .before .before .before .before .pre in let l = c .before .loop in
     let e : l .q ≡ a .h .n = omega arith in
     sym (sym (mixed-by r (w .few-states) (a .h .accepting) refl)
     ∙ ap (λ (t : List ℕ). someBelow (a .h .n) (bothBy t (a .h .n) (a .h .accepting))) (sym (c .before .before .before .closures .ensures))

@@ -33,31 +33,22 @@ class-of-requires c κs =
     let start = c .before .before .before .before .before .before .before in
     let w = start .pre .few-states in (omega arith, omega arith)
 
-cast-if2 : tie.Need-cast-if2 Inv-loop μ-loop
-cast-if2 c = omega (arith, trailing-le 8 (c .class-of .result))
-
 array-write-masks : tie.Need-array-write-masks Inv-loop μ-loop
 array-write-masks c =
     let start = c .before .before .before .before .before .before .before .before .before in
-    let l = c .before .before .before .before .before .loop in
-    let a = start .args in
-    let w = start .pre in
+    let l = c .before .before .before .before .before .loop in let a = start .args in let w = start .pre in
     omega (arith, count-few (ruleOf (a .h) (a .counts .now) (a .clauses .now)) (w .few-states) (l .q), w .few-states)
 
 add-count : tie.Need-add-count Inv-loop μ-loop
 add-count c =
     let start = c .before .before .before .before .before .before .before .before .before in
-    let l = c .before .before .before .before .before .loop in
-    let a = start .args in
-    let w = start .pre in
+    let l = c .before .before .before .before .before .loop in let a = start .args in let w = start .pre in
     omega (arith, count-few (ruleOf (a .h) (a .counts .now) (a .clauses .now)) (w .few-states) (l .q), w .few-states)
 
 loop-again : tie.Need-loop-again Inv-loop μ-loop
 loop-again c =
     let start = c .before .before .before .before .before .before .before .before .before in
-    let l = c .before .before .before .before .before .loop in
-    let a = start .args in
-    let w = start .pre in
+    let l = c .before .before .before .before .before .loop in let a = start .args in let w = start .pre in
     let r = ruleOf (a .h) (a .counts .now) (a .clauses .now) in
     let e : c .before .class-of .result ≡ classBy (closuresOf r) (a .h .n) (l .q) =
     c .before .class-of .ensures ∙ ap (λ (t : List ℕ). classBy t (a .h .n) (l .q)) (c .before .before .before .before .before .before .closures .ensures) in
@@ -72,8 +63,7 @@ loop-again c =
 
 returns : tie.Need-returns Inv-loop μ-loop
 returns c =
-    let l = c .before .before .loop in
-    let a = c .before .before .before .before .before .before .args in
+    let l = c .before .before .loop in let a = c .before .before .before .before .before .before .args in
     let w = c .before .before .before .before .before .before .pre in
     let r = ruleOf (a .h) (a .counts .now) (a .clauses .now) in
     let e : l .q ≡ a .h .n = omega arith in
@@ -82,5 +72,5 @@ returns c =
 pub split-spec : {M : Type 1} → statement M
 split-spec =
     tie.close (tie.spec
-    Inv-loop μ-loop (λ c κs. c .before .before .pre) loop-holds class-of-requires cast-if2 array-write-masks add-count (λ c. omega arith) (λ c. omega arith)
-    loop-again returns)
+    Inv-loop μ-loop (λ c κs. c .before .before .pre) loop-holds class-of-requires (λ c. omega (arith, trailing-le 8 (c .class-of .result)))
+    array-write-masks add-count (λ c. omega arith) (λ c. omega arith) loop-again returns)

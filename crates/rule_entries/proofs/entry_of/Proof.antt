@@ -14,33 +14,22 @@ use Rattle.rule_entries.proofs.entry_of.Tie as tie
 number : (c : tie.After-struct-known) → c .before .before .before .args .q * c .before .before .before .args .h .s + c .before .before .before .args .a < length
     (c .before .before .before .args .counts .now)
 number c =
-    let a = c .before .before .before .args in
-    let p = c .before .before .before .pre in
+    let a = c .before .before .before .args in let p = c .before .before .before .pre in
     entry-number (ruleOf (a .h) (a .counts .now) (a .clauses .now)) (p .0) (a .q) (a .a) (p .1) (p .2)
 
 few : (c : tie.After-struct-known) → length (c .before .before .before .args .counts .now) ≤ 128
 few c = let a = c .before .before .before .args in entries-few (ruleOf (a .h) (a .counts .now) (a .clauses .now)) (c .before .before .before .pre .0)
 
-mul-i : tie.Need-mul-i
-mul-i c = omega (arith, number c, few c)
-
 add-i : tie.Need-add-i
 add-i c = omega (arith, number c, few c, c .before .before .before .pre .0 .few-states)
-
-clauses-before-requires : tie.Need-clauses-before-requires
-clauses-before-requires c κs = (omega (arith, number c), omega (arith, number c, few c))
 
 -- its clauses are among the rule's
 fits : (c : tie.After-shared-slice-known3) → c .before .clauses-before .result + getD (c .before .before .before .before .before .args .counts .now)
     (c .before .before .before .before .before .args .q * c .before .before .before .before .before .args .h .s + c .before .before .before .before .before .args .a) 0 ≤ length
     (c .before .before .before .before .before .args .clauses .now)
 fits c =
-    let a = c .before .before .before .before .before .args in
-    let p = c .before .before .before .before .before .pre in
+    let a = c .before .before .before .before .before .args in let p = c .before .before .before .before .before .pre in
     rw (c .before .clauses-before .ensures) (entry-fits (ruleOf (a .h) (a .counts .now) (a .clauses .now)) (p .0) (a .q) (a .a) (p .1) (p .2))
-
-shared-slice-read-end : tie.Need-shared-slice-read-end
-shared-slice-read-end c = number (c .before .before)
 
 cast-end : tie.Need-cast-end
 cast-end c = omega (
@@ -51,9 +40,6 @@ cast-end c = omega (
 
 add-end : tie.Need-add-end
 add-end c = let h = fits c in let k = c .before .before .before .before .before .good in omega arith
-
-part-result-end : tie.Need-part-result-end
-part-result-end c = let h = fits c in search needs
 
 returns : tie.Need-returns
 returns c =
@@ -67,4 +53,5 @@ returns c =
 pub entry-of-spec : {M : Type 1} → statement M
 entry-of-spec =
     tie.close (tie.spec
-    mul-i add-i clauses-before-requires shared-slice-read-end cast-end add-end (λ c. search needs) (λ c. search needs) part-result-end returns)
+    (λ c. omega (arith, number c, few c)) add-i (λ c κs. (omega (arith, number c), omega (arith, number c, few c))) (λ c. number (c .before .before))
+    cast-end add-end (λ c. search needs) (λ c. search needs) (λ c. let h = fits c in search needs) returns)

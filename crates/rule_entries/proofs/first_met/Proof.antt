@@ -25,9 +25,6 @@ Inv-clauses set clauses j₀ j = (j ≤ length clauses) × (metFrom set clauses 
 abbrev μ-clauses : tie.MeasureT-clauses
 μ-clauses set clauses j₀ j = length clauses - j
 
-clauses-holds : tie.Need-clauses-holds Inv-loop μ-loop Inv-clauses μ-clauses
-clauses-holds c = (omega arith, refl)
-
 loop-holds : tie.Need-loop-holds Inv-loop μ-loop Inv-clauses μ-clauses
 loop-holds c = (refl, omega (arith, c .shared-slice-known .given (c .before .before .clauses .j)), refl)
 
@@ -35,18 +32,11 @@ loop-holds c = (refl, omega (arith, c .shared-slice-known .given (c .before .bef
 below : (c : tie.In-loop Inv-loop μ-loop Inv-clauses μ-clauses) → trailingZeros 8 (c .before .loop .left) < 8
 below c = least-lt 8 (c .before .loop .left) (omega arith) (omega arith)
 
-cast-if2 : tie.Need-cast-if2 Inv-loop μ-loop Inv-clauses μ-clauses
-cast-if2 c = omega (arith, below c)
-
-shr-if2 : tie.Need-shr-if2 Inv-loop μ-loop Inv-clauses μ-clauses
-shr-if2 c = below c
-
 clauses-again : tie.Need-clauses-again Inv-loop μ-loop Inv-clauses μ-clauses
 clauses-again c =
     let s = c .before .before .before .before .before .before .args .set in
     let cl = c .before .before .before .before .before .before .args .clauses .now in
-    let l = c .before .before .loop .left in
-    let j = c .before .before .before .before .before .clauses .j in
+    let l = c .before .before .loop .left in let j = c .before .before .before .before .before .clauses .j in
     let gone : inside 8 (bit s) (getD cl j 0) ≡ false = c .before .before .loop .inv .2 ∙ missing s l (omega arith) (omega arith) (c .if2 .taken) in (
       omega arith,
       rw (c .before .before .loop .inv .0) (c .before .before .before .before .before .clauses .inv .1 ∙ met-next s cl j (omega arith) gone),
@@ -66,8 +56,7 @@ loop-again c =
 
 returns : tie.Need-returns Inv-loop μ-loop Inv-clauses μ-clauses
 returns c =
-    let s = c .before .before .args .set in
-    let cl = c .before .before .args .clauses .now in
+    let s = c .before .before .args .set in let cl = c .before .before .args .clauses .now in
     sym (c .before .clauses .inv .1 ∙ met-none s cl (c .before .clauses .j) (c .if1 .taken))
 
 returns-2 : tie.Need-returns-2 Inv-loop μ-loop Inv-clauses μ-clauses
@@ -81,5 +70,5 @@ returns-2 c =
 pub first-met-spec : {M : Type 1} → statement M
 first-met-spec =
     tie.close (tie.spec
-    Inv-loop μ-loop Inv-clauses μ-clauses clauses-holds (λ c. omega arith) loop-holds cast-if2 shr-if2 (λ c. omega arith) (λ c. omega arith) clauses-again
-    (λ c. omega arith) loop-less loop-again returns returns-2)
+    Inv-loop μ-loop Inv-clauses μ-clauses (λ c. (omega arith, refl)) (λ c. omega arith) loop-holds (λ c. omega (arith, below c)) (λ c. below c)
+    (λ c. omega arith) (λ c. omega arith) clauses-again (λ c. omega arith) loop-less loop-again returns returns-2)

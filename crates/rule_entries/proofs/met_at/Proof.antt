@@ -22,8 +22,7 @@ At = lts.After-struct-known (first-met-reads.Asked, first-met-reads.Learnt) read
 -- the entry's number is one of an entry
 number : (c : At) → c .before .before .before .args .q * c .before .before .before .args .h .s + c .before .before .before .args .a < 128
 number c =
-    let a = c .before .before .before .args in
-    let p = c .before .before .before .pre in
+    let a = c .before .before .before .args in let p = c .before .before .before .pre in
     let r = ruleOf (a .h) (a .counts .now) (a .clauses .now) in
     let k = entry-number r (p .0) (a .q) (a .a) (p .2) (p .3) in
     let f = entries-few r (p .0) in
@@ -31,34 +30,17 @@ number c =
 
 listed : (c : At) → c .before .before .before .args .q * c .before .before .before .args .h .s + c .before .before .before .args .a < length (c .before .before .before .args .counts .now)
 listed c =
-    let a = c .before .before .before .args in
-    let p = c .before .before .before .pre in
+    let a = c .before .before .before .args in let p = c .before .before .before .pre in
     entry-number (ruleOf (a .h) (a .counts .now) (a .clauses .now)) (p .0) (a .q) (a .a) (p .2) (p .3)
 
 -- its clauses are among the rule's
 fits : (c : At) → let a = c .before .before .before .args in getD (a .starts .now) (a .q * a .h .s + a .a) 0 + getD (a .counts .now) (a .q * a .h .s + a .a) 0 ≤ length (a .clauses .now)
 fits c =
-    let a = c .before .before .before .args in
-    let p = c .before .before .before .pre in
+    let a = c .before .before .before .args in let p = c .before .before .before .pre in
     rw (p .1 .at (a .q * a .h .s + a .a) (listed c)) (entry-fits (ruleOf (a .h) (a .counts .now) (a .clauses .now)) (p .0) (a .q) (a .a) (p .2) (p .3))
-
-mul-i : tie.Need-mul-i
-mul-i c = omega (arith, number c)
-
-add-i : tie.Need-add-i
-add-i c = omega (arith, number c)
-
-mul-start : tie.Need-mul-start
-mul-start c = omega (arith, number c)
-
-element-copy-out-start : tie.Need-element-copy-out-start
-element-copy-out-start c = number c
 
 cast-start : tie.Need-cast-start
 cast-start c = omega (arith, fits (c .before), c .before .before .before .before .good)
-
-shared-slice-read-end : tie.Need-shared-slice-read-end
-shared-slice-read-end c = listed (c .before .before)
 
 cast-end : tie.Need-cast-end
 cast-end c = let a = c .before .before .before .before .before .args in omega (arith, c .shared-slice-known3 .given (a .q * a .h .s + a .a))
@@ -66,13 +48,9 @@ cast-end c = let a = c .before .before .before .before .before .args in omega (a
 add-end : tie.Need-add-end
 add-end c = omega (arith, fits (c .before .before), c .before .before .before .before .before .good)
 
-part-first-met-end : tie.Need-part-first-met-end
-part-first-met-end c = let h = fits (c .before .before) in search needs
-
 returns : tie.Need-returns
 returns c =
-    let start = c .before .before .before .before .before .before .before in
-    let a = start .args in
+    let start = c .before .before .before .before .before .before .before in let a = start .args in
     let r = ruleOf (a .h) (a .counts .now) (a .clauses .now) in
     let p = start .pre in
     let i = a .q * a .h .s + a .a in
@@ -85,5 +63,6 @@ returns c =
 pub met-at-spec : {M : Type 1} → statement M
 met-at-spec =
     tie.close (tie.spec
-    mul-i add-i mul-start element-copy-out-start cast-start shared-slice-read-end cast-end add-end (λ c. search needs) (λ c. search needs) part-first-met-end
+    (λ c. omega (arith, number c)) (λ c. omega (arith, number c)) (λ c. omega (arith, number c)) (λ c. number c) cast-start
+    (λ c. listed (c .before .before)) cast-end add-end (λ c. search needs) (λ c. search needs) (λ c. let h = fits (c .before .before) in search needs)
     (λ c κs. search needs) returns)

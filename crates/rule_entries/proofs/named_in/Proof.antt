@@ -18,9 +18,6 @@ Inv-loop clauses found₀ j₀ found j = (j ≤ length clauses) × (found < 256)
 abbrev μ-loop : tie.MeasureT-loop
 μ-loop clauses found₀ j₀ found j = length clauses - j
 
-loop-holds : tie.Need-loop-holds Inv-loop μ-loop
-loop-holds c = (omega arith, omega arith, λ p. rw (bit-none p))
-
 loop-again : tie.Need-loop-again Inv-loop μ-loop
 loop-again c =
     let l = c .before .before .loop in
@@ -32,9 +29,11 @@ loop-again c =
 
 returns : tie.Need-returns Inv-loop μ-loop
 returns c =
-    let l = c .before .loop in
-    let cl = c .before .before .args .clauses .now in
+    let l = c .before .loop in let cl = c .before .before .args .clauses .now in
     mask-of 8 8 (l .found) (named cl) (omega arith) (l .inv .1) (λ q k. sym (named-all cl (l .j) (l .found) q (omega arith)) ∙ l .inv .2 q) (λ q k m. absurd (omega arith))
 
 pub named-in-spec : {M : Type 1} → statement M
-named-in-spec = tie.close (tie.spec Inv-loop μ-loop loop-holds (λ c. omega arith) (λ c. omega arith) (λ c. omega arith) loop-again returns)
+named-in-spec =
+    tie.close (tie.spec
+    Inv-loop μ-loop (λ c. (omega arith, omega arith, λ p. rw (bit-none p))) (λ c. omega arith) (λ c. omega arith) (λ c. omega arith) loop-again
+    returns)

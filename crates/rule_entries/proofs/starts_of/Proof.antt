@@ -27,8 +27,7 @@ add-total c = omega (arith, c .shared-slice-known .given (c .before .before .loo
 
 loop-again : tie.Need-loop-again Inv-loop μ-loop
 loop-again c =
-    let l = c .before .before .loop in
-    let xs = c .before .before .before .args .counts .now in
+    let l = c .before .before .loop in let xs = c .before .before .before .args .counts .now in
     let k = c .before .loop-test .taken in (
       length-set (l .starts) (l .i) (l .total) ∙ l .inv .0,
       omega arith,
@@ -37,11 +36,8 @@ loop-again c =
       put-next (λ j. sum (take j xs)) (l .starts) (l .i) (l .total) (omega arith) (l .inv .2) (l .inv .4),
     )
 
-returns : tie.Need-returns Inv-loop μ-loop
-returns c = record { at = λ i l. c .before .loop .inv .4 i (omega arith) }
-
 pub starts-of-spec : {M : Type 1} → statement M
 starts-of-spec =
     tie.close (tie.spec
-    Inv-loop μ-loop loop-holds (λ c. omega arith) (λ c. omega arith) (λ c. omega arith) cast-total add-total (λ c. omega arith) (λ c. omega arith) loop-again
-    returns)
+    Inv-loop μ-loop loop-holds (λ c. omega arith) (λ c. omega arith) (λ c. omega arith) cast-total add-total (λ c. omega arith) (λ c. omega arith)
+    loop-again (λ c. record { at = λ i l. c .before .loop .inv .4 i (omega arith) }))

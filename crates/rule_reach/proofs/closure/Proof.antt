@@ -30,21 +30,18 @@ loop-holds c =
 
 returns : tie.Need-returns Inv-loop μ-loop
 returns c =
-    let es = c .before .before .before .args .es .now in
-    let l = c .before .before .loop in
+    let es = c .before .before .before .args .es .now in let l = c .before .before .loop in
     let stable : bitOr (l .found) (c .before .union-over .result) ≡ l .found = omega (arith, c .if1 .taken) in
     record { holds = l .inv .1; closed = round-closed es (l .found) (c .before .union-over .result) (c .before .union-over .ensures) stable; least = l .inv .2 }
 
 loop-less : tie.Need-loop-less Inv-loop μ-loop
 loop-less c =
-    let l = c .before .before .loop in
-    let u = c .before .union-over .result in
+    let l = c .before .before .loop in let u = c .before .union-over .result in
     omega (arith, or-ge (l .found) u, or-lt 8 (l .found) u (l .inv .0) (c .before .union-over .ok), c .if1 .left)
 
 loop-again : tie.Need-loop-again Inv-loop μ-loop
 loop-again c =
-    let es = c .before .before .before .args .es .now in
-    let l = c .before .before .loop in
+    let es = c .before .before .before .args .es .now in let l = c .before .before .loop in
     let u = c .before .union-over .result in
     let e = c .before .union-over .ensures in (
       or-lt 8 (l .found) u (l .inv .0) (c .before .union-over .ok),

@@ -17,9 +17,6 @@ Inv-loop h counts clauses es table₀ q₀ table q = (q ≤ h .n) × (es ≡ suc
 abbrev μ-loop : tie.MeasureT-loop
 μ-loop h counts clauses es table₀ q₀ table q = h .n - q
 
-loop-holds : tie.Need-loop-holds Inv-loop μ-loop
-loop-holds c = (omega arith, c .successor-table .ensures, table-none _)
-
 closure-requires : tie.Need-closure-requires Inv-loop μ-loop
 closure-requires c κs =
     let start = c .before .before .before .before .before .before .before in
@@ -33,8 +30,7 @@ array-write-table c =
 loop-again : tie.Need-loop-again Inv-loop μ-loop
 loop-again c =
     let start = c .before .before .before .before .before .before .before .before in
-    let l = c .before .before .before .before .loop in
-    let a = start .args in
+    let l = c .before .before .before .before .loop in let a = start .args in
     let r = ruleOf (a .h) (a .counts .now) (a .clauses .now) in
     let w = start .pre in
     let least : LeastClosed (successorsOf r) (l .q) (c .closure .result) = rw (sym (l .inv .1)) (c .closure .ensures) in
@@ -46,12 +42,12 @@ loop-again c =
 
 returns : tie.Need-returns Inv-loop μ-loop
 returns c =
-    let l = c .before .before .loop in
-    let a = c .before .before .before .before .before .before .args in
+    let l = c .before .before .loop in let a = c .before .before .before .before .before .before .args in
     let e : l .q ≡ a .h .n = omega arith in
     l .inv .2 ∙ ap (λ (x : ℕ). tableOf x (λ p. mask (a .h .n) (reaches (ruleOf (a .h) (a .counts .now) (a .clauses .now)) p))) e
 
 pub closures-spec : {M : Type 1} → statement M
 closures-spec =
     tie.close (tie.spec
-    Inv-loop μ-loop (λ c κs. c .before .before .pre) loop-holds closure-requires array-write-table (λ c. omega arith) (λ c. omega arith) loop-again returns)
+    Inv-loop μ-loop (λ c κs. c .before .before .pre) (λ c. (omega arith, c .successor-table .ensures, table-none _)) closure-requires
+    array-write-table (λ c. omega arith) (λ c. omega arith) loop-again returns)

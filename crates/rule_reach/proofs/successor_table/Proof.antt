@@ -16,19 +16,12 @@ Inv-loop h counts clauses table₀ q₀ table q = (q ≤ h .n) × (table ≡ tab
 abbrev μ-loop : tie.MeasureT-loop
 μ-loop h counts clauses table₀ q₀ table q = h .n - q
 
-loop-holds : tie.Need-loop-holds Inv-loop μ-loop
-loop-holds c = (omega arith, table-none _)
-
-successors-requires : tie.Need-successors-requires Inv-loop μ-loop
-successors-requires c κs = (c .before .before .before .before .before .pre, c .if1 .taken)
-
 array-write-table : tie.Need-array-write-table Inv-loop μ-loop
 array-write-table c = omega (arith, c .before .before .before .before .before .before .pre .few-states)
 
 loop-again : tie.Need-loop-again Inv-loop μ-loop
 loop-again c =
-    let l = c .before .before .before .loop in
-    let a = c .before .before .before .before .before .before .args in
+    let l = c .before .before .before .loop in let a = c .before .before .before .before .before .before .args in
     let w = c .before .before .before .before .before .before .pre in (
       omega arith,
       rw (l .inv .1) (table-set (l .q) (λ p. mask (a .h .n) (leads (ruleOf (a .h) (a .counts .now) (a .clauses .now)) p)) (c .successors .result) (omega (arith, w .few-states))
@@ -37,12 +30,12 @@ loop-again c =
 
 returns : tie.Need-returns Inv-loop μ-loop
 returns c =
-    let l = c .before .before .loop in
-    let a = c .before .before .before .before .before .args in
+    let l = c .before .before .loop in let a = c .before .before .before .before .before .args in
     let e : l .q ≡ a .h .n = omega arith in
     l .inv .1 ∙ ap (λ (x : ℕ). tableOf x (λ p. mask (a .h .n) (leads (ruleOf (a .h) (a .counts .now) (a .clauses .now)) p))) e
 
 pub successor-table-spec : {M : Type 1} → statement M
 successor-table-spec =
     tie.close (tie.spec
-    Inv-loop μ-loop loop-holds successors-requires array-write-table (λ c. omega arith) (λ c. omega arith) loop-again returns)
+    Inv-loop μ-loop (λ c. (omega arith, table-none _)) (λ c κs. (c .before .before .before .before .before .pre, c .if1 .taken)) array-write-table
+    (λ c. omega arith) (λ c. omega arith) loop-again returns)

@@ -31,8 +31,7 @@ entry-of-requires c κs = (c .before .before .before .before .before .pre .0, c 
 loop-again : tie.Need-loop-again Inv-loop μ-loop
 loop-again c =
     let start = c .before .before .before .before .before .before .before in
-    let l = c .before .before .before .before .loop in
-    let a = start .args in
+    let l = c .before .before .before .before .loop in let a = start .args in
     let r = ruleOf (a .h) (a .counts .now) (a .clauses .now) in
     let e : c .named-in .result ≡ mask 8 (named (entry r (a .q) (l .a))) = c .named-in .ensures ∙ ap (λ (x : List ℕ). mask 8 (named x)) (c .before .entry-of .ensures) in (
       omega arith,
@@ -43,8 +42,7 @@ loop-again c =
 returns : tie.Need-returns Inv-loop μ-loop
 unfolding leads
 returns c =
-    let l = c .before .before .loop in
-    let a = c .before .before .before .before .before .args in
+    let l = c .before .before .loop in let a = c .before .before .before .before .before .args in
     let r = ruleOf (a .h) (a .counts .now) (a .clauses .now) in
     let w = c .before .before .before .before .before .pre in
     let e : l .a ≡ a .h .s = omega arith in

@@ -17,9 +17,6 @@ Inv-loop c clauses properly j₀ j = (j ≤ length clauses) × (anyOf clauses (c
 abbrev μ-loop : tie.MeasureT-loop
 μ-loop c clauses properly j₀ j = length clauses - j
 
-loop-holds : tie.Need-loop-holds Inv-loop μ-loop
-loop-holds c = (omega arith, refl)
-
 returns : tie.Need-returns Inv-loop μ-loop
 returns c =
     let a = c .before .before .before .before .before .before .args in
@@ -36,11 +33,11 @@ loop-again c =
 
 returns-2 : tie.Need-returns-2 Inv-loop μ-loop
 returns-2 c =
-    let a = c .before .before .before .args in
-    let l = c .before .loop in
+    let a = c .before .before .before .args in let l = c .before .loop in
     sym (l .inv .1 ∙ any-end (containing (a .properly) (a .c)) (a .clauses .now) (l .j) (c .loop-test .left))
 
 pub contains-any-spec : {M : Type 1} → statement M
 contains-any-spec =
     tie.close (tie.spec
-    Inv-loop μ-loop loop-holds (λ c. omega arith) (λ c κs. search needs) returns (λ c. omega arith) (λ c. omega arith) loop-again returns-2)
+    Inv-loop μ-loop (λ c. (omega arith, refl)) (λ c. omega arith) (λ c κs. search needs) returns (λ c. omega arith) (λ c. omega arith) loop-again
+    returns-2)

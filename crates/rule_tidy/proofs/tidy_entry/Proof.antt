@@ -22,8 +22,7 @@ loop-holds c = (omega arith, omega arith, refl, refl, refl)
 
 loop-again : tie.Need-loop-again Inv-loop μ-loop
 loop-again c =
-    let start = c .before .before .before .before .before .before .before .before .before in
-    let a = start .args in
+    let start = c .before .before .before .before .before .before .before .before .before in let a = start .args in
     let l = c .before .before .before .before .before .before .loop in
     let K = c .before .before .keep .ensures in (
       omega arith,
@@ -36,8 +35,7 @@ loop-again c =
 
 returns : tie.Need-returns Inv-loop μ-loop
 returns c =
-    let a = c .before .before .before .before .args in
-    let l = c .before .loop in
+    let a = c .before .before .before .before .args in let l = c .before .loop in
     filled-by (tidyEntry 8 (a .clauses .now)) (l .out) (a .out .now) (l .k) (omega arith)
     (sym (tidy-end (a .clauses .now) (take (l .k) (l .out)) (l .i) (omega arith)) ∙ l .inv .4) (l .inv .3)
 

@@ -26,12 +26,6 @@ room c l =
 cast-next : tie.Need-cast-next Inv-loop μ-loop
 cast-next c = omega (arith, c .shared-slice-known3 .given (c .before .before .loop .i))
 
-add-next : tie.Need-add-next Inv-loop μ-loop
-add-next c = omega (arith, room (c .before .before) (c .before .loop-test .taken))
-
-part-tidy-entry-end : tie.Need-part-tidy-entry-end Inv-loop μ-loop
-part-tidy-entry-end c = room (c .before .before) (c .before .loop-test .taken)
-
 sub-tidy-entry-2 : tie.Need-sub-tidy-entry-2 Inv-loop μ-loop
 sub-tidy-entry-2 c = omega (arith, room (c .before .before .before) (c .before .before .loop-test .taken), c .before .before .before .loop .inv .fewer, c .before .before .before .loop .inv .broad)
 
@@ -55,9 +49,7 @@ tidy-entry-requires c κs =
 cast-counts2 : tie.Need-cast-counts2 Inv-loop μ-loop
 cast-counts2 c =
     let at-loop = c .before .before .before .before .before .before .before in
-    let start = at-loop .before .before .before .before .before in
-    let a = start .args in
-    let l = at-loop .loop in
+    let start = at-loop .before .before .before .before .before in let a = start .args in let l = at-loop .loop in
     omega (
       arith,
       kept-few (l .from) (getD (a .counts .now) (l .i) 0) (c .before .before .tidy-entry .result) (a .clauses .now) (c .before .before .tidy-entry .ensures .0),
@@ -72,9 +64,7 @@ slice-write-counts2 c =
 add-to : tie.Need-add-to Inv-loop μ-loop
 add-to c =
     let at-loop = c .before .before .before .before .before .before .before in
-    let start = at-loop .before .before .before .before .before in
-    let a = start .args in
-    let l = at-loop .loop in
+    let start = at-loop .before .before .before .before .before in let a = start .args in let l = at-loop .loop in
     omega (
       arith,
       kept-few (l .from) (getD (a .counts .now) (l .i) 0) (c .before .before .tidy-entry .result) (a .clauses .now) (c .before .before .tidy-entry .ensures .0),
@@ -85,11 +75,8 @@ add-to c =
 loop-again : tie.Need-loop-again Inv-loop μ-loop
 loop-again c =
     let at-loop = c .before .before .before .before .before .before .before in
-    let start = at-loop .before .before .before .before .before in
-    let a = start .args in
-    let p = start .pre in
-    let l = at-loop .loop in
-    let t = c .before .before .tidy-entry in
+    let start = at-loop .before .before .before .before .before in let a = start .args in let p = start .pre in
+    let l = at-loop .loop in let t = c .before .before .tidy-entry in
     let r = room (at-loop) (c .before .before .before .before .before .before .loop-test .taken) in
     passed-entry (a .counts .now) (a .clauses .now) (a .counts2 .now) (a .clauses2 .now) (l .counts2) (l .clauses2) (l .from) (l .to) (l .i) (l .inv)
     (c .before .before .before .before .before .before .loop-test .taken) (omega (arith, r, p .2, l .inv .broad)) (omega (arith, p .1, l .inv .long)) (t .result) (t .last .1 .0) (t .ensures .0)
@@ -98,8 +85,7 @@ loop-again c =
 returns : tie.Need-returns Inv-loop μ-loop
 returns c =
     let a = c .before .before .before .before .before .before .args in
-    let p = c .before .before .before .before .before .before .pre in
-    let l = c .before .loop in
+    let p = c .before .before .before .before .before .before .pre in let l = c .before .loop in
     let f : l .from ≤ length (a .clauses .now) = omega (arith, l .inv .taken, part-sum (a .counts .now) (l .i), p .0) in
     passed-all (a .counts .now) (a .clauses .now) (a .counts2 .now) (a .clauses2 .now) (l .counts2) (l .clauses2) (l .from) (l .to) (l .i) (l .inv)
     (c .loop-test .left) (omega (arith, f, p .2, l .inv .broad)) (omega (arith, p .1, l .inv .long))
@@ -107,6 +93,7 @@ returns c =
 pub tidy-lists-spec : {M : Type 1} → statement M
 tidy-lists-spec =
     tie.close (tie.spec
-    Inv-loop μ-loop loop-holds (λ c. omega arith) cast-next add-next (λ c. omega arith) (λ c. search needs) part-tidy-entry-end sub-tidy-entry-2
-    part-tidy-entry-start-2 (λ c. search needs) tidy-entry-requires cast-counts2 slice-write-counts2 add-to (λ c. omega arith) (λ c. omega arith) loop-again
+    Inv-loop μ-loop loop-holds (λ c. omega arith) cast-next (λ c. omega (arith, room (c .before .before) (c .before .loop-test .taken)))
+    (λ c. omega arith) (λ c. search needs) (λ c. room (c .before .before) (c .before .loop-test .taken)) sub-tidy-entry-2 part-tidy-entry-start-2
+    (λ c. search needs) tidy-entry-requires cast-counts2 slice-write-counts2 add-to (λ c. omega arith) (λ c. omega arith) loop-again
     (λ c. c .before .loop .inv .long) (λ c. c .before .loop .inv .broad) returns)

@@ -14,9 +14,7 @@ returns : tie.Need-returns
 unfolding tidyRule
 returns c =
     let start = c .before .before .before .before .before .before .before .before .before .before .before in
-    let a = start .args in
-    let w = start .pre .0 in
-    let t = c .before .before .before .before .tidy-lists .ensures in
+    let a = start .args in let w = start .pre .0 in let t = c .before .before .before .before .tidy-lists .ensures in
     let e = counts-eight (a .h .n) (w .few-states) (a .counts .now) (a .clauses .now) (w .clause-states) in
     let f = clauses-eight (a .h .n) (w .few-states) (a .counts .now) (a .clauses .now) (w .clause-states) in (
       t .0 ∙ ap length f,

@@ -4,8 +4,5 @@ use Rattle.set_masks.proofs.Sets.{contains-is}
 use Rattle.set_masks.proofs.contains.Statement.{statement}
 use Rattle.set_masks.proofs.contains.Tie as tie
 
-returns : tie.Need-returns
-returns c = contains-is (c .args .m) (c .args .q)
-
 pub contains-spec : {M : Type 1} → statement M
-contains-spec = tie.close (tie.spec (λ c. search needs) (λ c. search needs) returns)
+contains-spec = tie.close (tie.spec (λ c. search needs) (λ c. search needs) (λ c. contains-is (c .args .m) (c .args .q)))

@@ -5,14 +5,8 @@ use Rattle.set_masks.proofs.Sets.{full-is, full-fits, full-pos}
 use Rattle.set_masks.proofs.full.Statement.{statement}
 use Rattle.set_masks.proofs.full.Tie as tie
 
-sub-result : tie.Need-sub-result
-sub-result c = omega (arith, full-pos (c .args .n) (c .pre))
-
-cast-result : tie.Need-cast-result
-cast-result c = omega (arith, full-fits (c .args .n) (c .pre))
-
-returns : tie.Need-returns
-returns c = full-is (c .args .n) (c .pre)
-
 pub full-spec : {M : Type 1} → statement M
-full-spec = tie.close (tie.spec (λ c. search needs) sub-result cast-result returns)
+full-spec =
+    tie.close (tie.spec
+    (λ c. search needs) (λ c. omega (arith, full-pos (c .args .n) (c .pre))) (λ c. omega (arith, full-fits (c .args .n) (c .pre)))
+    (λ c. full-is (c .args .n) (c .pre)))

@@ -14,18 +14,9 @@ Inv-loop m es r₀ left₀ r left = (left < 256) × Joined es m r left
 abbrev μ-loop : tie.MeasureT-loop
 μ-loop m es r₀ left₀ r left = left
 
-loop-holds : tie.Need-loop-holds Inv-loop μ-loop
-loop-holds c = (omega arith, start (c .args .es .now) (c .args .m))
-
 -- the least state of what is left is a state
 below : (c : tie.In-loop Inv-loop μ-loop) → trailingZeros 8 (c .before .loop .left) < 8
 below c = least-lt 8 (c .before .loop .left) (omega arith) (omega arith)
-
-cast-q : tie.Need-cast-q Inv-loop μ-loop
-cast-q c = omega (arith, below c)
-
-element-copy-out-r : tie.Need-element-copy-out-r Inv-loop μ-loop
-element-copy-out-r c = omega (arith, below c)
 
 loop-less : tie.Need-loop-less Inv-loop μ-loop
 loop-less c = omega (arith, and-le-r (c .before .before .loop .left) (c .before .before .loop .left - 1))
@@ -44,4 +35,7 @@ returns c =
     done (c .before .before .args .es .now) (c .before .before .args .m) (l .r) (l .left) (c .loop-test .left) (l .inv .1)
 
 pub union-over-spec : {M : Type 1} → statement M
-union-over-spec = tie.close (tie.spec Inv-loop μ-loop loop-holds cast-q element-copy-out-r (λ c. omega arith) loop-less loop-again returns)
+union-over-spec =
+    tie.close (tie.spec
+    Inv-loop μ-loop (λ c. (omega arith, start (c .args .es .now) (c .args .m))) (λ c. omega (arith, below c)) (λ c. omega (arith, below c))
+    (λ c. omega arith) loop-less loop-again returns)

@@ -17,9 +17,6 @@ returns-2 c =
     let e = c .before .before .count-words .ensures in
     called-refused 16 (λ e. omega arith) (answers-short _ _ _ (omega (arith, c .before .if1 .left, e)) (omega (arith, c .if2 .taken, e)))
 
-mul-if3 : tie.Need-mul-if3
-mul-if3 c = omega (arith, c .before .if1 .left)
-
 returns-3 : tie.Need-returns-3
 returns-3 c =
     let e = c .before .before .before .count-words .ensures in
@@ -42,4 +39,5 @@ returns-4 c =
 pub judge-sheet-read-spec : {M : Type 1} → statement M
 judge-sheet-read-spec =
     tie.close (tie.spec
-    (λ c κs. search needs) returns returns-2 mul-if3 returns-3 judge-words-requires (λ c. search needs) (λ c. search needs) returns-4)
+    (λ c κs. search needs) returns returns-2 (λ c. omega (arith, c .before .if1 .left)) returns-3 judge-words-requires (λ c. search needs)
+    (λ c. search needs) returns-4)

@@ -22,21 +22,12 @@ starts-of-requires : tie.Need-starts-of-requires Inv-loop μ-loop
 starts-of-requires c κs = let start = c .before .before .before .before .before in
     entries-few (ruleOf (start .args .h) (start .args .counts .now) (start .args .clauses .now)) (start .pre .0 .formed)
 
-loop-holds : tie.Need-loop-holds Inv-loop μ-loop
-loop-holds c = done-start refl refl refl
-
 abbrev start-of : tie.In-loop Inv-loop μ-loop → tie.Start Inv-loop μ-loop
 start-of c = c .before .before .before .before .before .before .before .before .before
 
 -- there is room for one more word
 more : (c : tie.In-loop Inv-loop μ-loop) → c .before .loop .i < length (wordsOf (start-of c .args .sheet .now))
 more c = words-more (c .before .loop .inv) (c .loop-test .taken)
-
-mul-begin : tie.Need-mul-begin Inv-loop μ-loop
-mul-begin c = omega (arith, more c, start-of c .pre .1)
-
-add-end : tie.Need-add-end Inv-loop μ-loop
-add-end c = omega (arith, more c, start-of c .pre .1)
 
 slice-aggregate-judge-word : tie.Need-slice-aggregate-judge-word Inv-loop μ-loop
 slice-aggregate-judge-word c = omega (arith, c .before .before .before .loop .inv .held .parts .froms)
@@ -79,24 +70,18 @@ next-word-requires c κs =
 abbrev turn-of : tie.After-next-word Inv-loop μ-loop → tie.In-loop Inv-loop μ-loop
 turn-of c = c .before .before .before .before .before .before .before .before .before .before .before .before
 
-add-i : tie.Need-add-i Inv-loop μ-loop
-add-i c = omega (arith, more (turn-of c), start-of (turn-of c) .pre .1)
-
-loop-less : tie.Need-loop-less Inv-loop μ-loop
-loop-less c = omega (arith, c .next-word .ensures, turn-of c .loop-test .taken)
-
 loop-again : tie.Need-loop-again Inv-loop μ-loop
 loop-again c =
     let t = turn-of c in
     let z = start-of t .pre in
     done-next (t .before .loop .inv) (t .loop-test .taken) (c .next-word .ensures) (c .before .before .before .before .before .before .judge-word .ensures) (z .2) (z .3)
 
-returns : tie.Need-returns Inv-loop μ-loop
-returns c = done-end (c .before .loop .inv) (omega (arith, c .loop-test .left))
-
 pub judge-words-spec : {M : Type 1} → statement M
 judge-words-spec =
     tie.close (tie.spec
-    Inv-loop μ-loop starts-of-requires (λ c κs. search needs) loop-holds mul-begin add-end slice-aggregate-judge-word slice-aggregate-judge-word-2
-    slice-aggregate-judge-word-3 (λ c. omega arith) (λ c. omega arith) part-judge-word-end judge-word-requires slice-write-answers next-word-requires add-i
-    loop-less loop-again (λ c. c .before .loop .inv .answered .long) (λ c. c .before .loop .inv .masked .long) returns)
+    Inv-loop μ-loop starts-of-requires (λ c κs. search needs) (λ c. done-start refl refl refl) (λ c. omega (arith, more c, start-of c .pre .1))
+    (λ c. omega (arith, more c, start-of c .pre .1)) slice-aggregate-judge-word slice-aggregate-judge-word-2 slice-aggregate-judge-word-3
+    (λ c. omega arith) (λ c. omega arith) part-judge-word-end judge-word-requires slice-write-answers next-word-requires
+    (λ c. omega (arith, more (turn-of c), start-of (turn-of c) .pre .1)) (λ c. omega (arith, c .next-word .ensures, turn-of c .loop-test .taken))
+    loop-again (λ c. c .before .loop .inv .answered .long) (λ c. c .before .loop .inv .masked .long)
+    (λ c. done-end (c .before .loop .inv) (omega (arith, c .loop-test .left))))

@@ -37,26 +37,13 @@ tidy-at-requires c κs =
 
 learn-cycle-requires : tie.Need-learn-cycle-requires
 learn-cycle-requires c κs =
-    let t = c .before .before .before in
-    let T = t .tidy-at .ensures in
+    let t = c .before .before .before in let T = t .tidy-at .ensures in
     let z = start-of t .pre .0 in
     (record { passing = z .passing; beginnings = z .beginnings; word = part-over T (over (start-of t)) }, z .closed, z .cycles, z .room, T .short, T .within)
 
 -- the masks of the cycle are a part of those filled
 room : (c : tie.After-struct-known) → let l = learnt-of c .learn-cycle in 32 * l .result .number + 32 ≤ 2048
 room c = omega (arith, learnt-of c .learn-cycle .ensures, start-of (tidy-of (learnt-of c)) .pre .0 .room)
-
-mul-start : tie.Need-mul-start
-mul-start c = omega (arith, room c)
-
-add-end : tie.Need-add-end
-add-end c = omega (arith, room c, tidy-of (learnt-of c) .tidy-at .ensures .short)
-
-part-write-masks-start : tie.Need-part-write-masks-start
-part-write-masks-start c = tidy-of (learnt-of c) .tidy-at .ensures .order
-
-part-write-masks-end : tie.Need-part-write-masks-end
-part-write-masks-end c = omega (arith, tidy-of (learnt-of c) .tidy-at .ensures .within)
 
 part-write-masks-end-2 : tie.Need-part-write-masks-end-2
 part-write-masks-end-2 c =
@@ -87,10 +74,8 @@ returns c =
     let a = start-of t .args in
     let z = start-of t .pre in
     let r = ruleOf (a .rule .head) (a .counts .now) (a .clauses .now) in
-    let L = l .learn-cycle .ensures in
-    let k = l .learn-cycle .result .number in
-    let filled = l .learn-cycle .last .1 .1 .1 .1 .1 .1 .1 .1 .0 in
-    let p = t .tidy-at .result .size in
+    let L = l .learn-cycle .ensures in let k = l .learn-cycle .result .number in
+    let filled = l .learn-cycle .last .1 .1 .1 .1 .1 .1 .1 .1 .0 in let p = t .tidy-at .result .size in
     let long : 32 * k + p - 32 * k ≡ p = omega arith in
     let masks : take (32 * k + p - 32 * k) (drop (32 * k) filled) ≡ truthMasks r [] (take p (drop (t .tidy-at .result .begin) (a .sheet .now)))
     = ap (λ (x : ℕ). take x (drop (32 * k) filled)) (long ∙ sym (part-long T W)) ∙ L .masks in
@@ -100,5 +85,7 @@ returns c =
 pub serve-word-spec : {M : Type 1} → statement M
 serve-word-spec =
     tie.close (tie.spec
-    tidy-at-requires learn-cycle-requires mul-start add-end (λ c. omega arith) part-write-masks-start part-write-masks-end (λ c. omega arith) (λ c. omega arith)
-    part-write-masks-end-2 write-masks-requires (λ c. search needs) (λ c. search needs) (λ c. search needs) (λ c. search needs) returns)
+    tidy-at-requires learn-cycle-requires (λ c. omega (arith, room c)) (λ c. omega (arith, room c, tidy-of (learnt-of c) .tidy-at .ensures .short))
+    (λ c. omega arith) (λ c. tidy-of (learnt-of c) .tidy-at .ensures .order) (λ c. omega (arith, tidy-of (learnt-of c) .tidy-at .ensures .within))
+    (λ c. omega arith) (λ c. omega arith) part-write-masks-end-2 write-masks-requires (λ c. search needs) (λ c. search needs) (λ c. search needs)
+    (λ c. search needs) returns)

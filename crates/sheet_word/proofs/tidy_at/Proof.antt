@@ -18,26 +18,11 @@ sound c = sound-at (c .args .sheet .now) (c .args .at) (c .pre .1 .0) (c .pre .0
 cast-middle : tie.Need-cast-middle
 cast-middle c = omega (arith, c .shared-slice-known2 .given (c .before .before .args .at))
 
-add-middle : tie.Need-add-middle
-add-middle c = omega (arith, sound (c .before .before))
-
-shared-slice-read-last : tie.Need-shared-slice-read-last
-shared-slice-read-last c = sound (c .before .before .before) .two
-
 cast-last : tie.Need-cast-last
 cast-last c = omega (arith, c .shared-slice-known3 .given (c .before .before .before .args .at + 1))
 
-add-last-2 : tie.Need-add-last-2
-add-last-2 c = omega (arith, sound (c .before .before .before))
-
-part-cycle-length-end : tie.Need-part-cycle-length-end
-part-cycle-length-end c = omega (arith, sound (c .before .before .before))
-
 cycle-length-requires : tie.Need-cycle-length-requires
 cycle-length-requires c κs = simp (length-take, length-drop) (omega (arith, sound (c .before .before .before .before)))
-
-part-lead-length-end : tie.Need-part-lead-length-end
-part-lead-length-end c = omega (arith, sound (c .before .before .before .before .before))
 
 part-lead-length-end-2 : tie.Need-part-lead-length-end-2
 part-lead-length-end-2 c = omega (arith, sound (c .before .before .before .before .before .before))
@@ -53,12 +38,11 @@ lead-length-requires c κs =
 returns : tie.Need-returns
 returns c = tidy-there (sound (c .before .before .before .before .before .before .before .before)) (c .before .before .before .cycle-length .ensures) (c .lead-length .ensures)
 
-add-begin : tie.Need-add-begin
-add-begin c = omega (arith, returns c .within)
-
 pub tidy-at-spec : {M : Type 1} → statement M
 tidy-at-spec =
     tie.close (tie.spec
-    (λ c. search needs) (λ c. search needs) cast-middle add-middle (λ c. search needs) shared-slice-read-last cast-last add-last-2 (λ c. omega arith) (λ c. omega arith)
-    part-cycle-length-end cycle-length-requires (λ c. omega arith) (λ c. omega arith) part-lead-length-end (λ c. omega arith) (λ c. omega arith) part-lead-length-end-2
-    lead-length-requires add-begin (λ c. omega arith) returns)
+    (λ c. search needs) (λ c. search needs) cast-middle (λ c. omega (arith, sound (c .before .before))) (λ c. search needs)
+    (λ c. sound (c .before .before .before) .two) cast-last (λ c. omega (arith, sound (c .before .before .before))) (λ c. omega arith)
+    (λ c. omega arith) (λ c. omega (arith, sound (c .before .before .before))) cycle-length-requires (λ c. omega arith) (λ c. omega arith)
+    (λ c. omega (arith, sound (c .before .before .before .before .before))) (λ c. omega arith) (λ c. omega arith) part-lead-length-end-2
+    lead-length-requires (λ c. omega (arith, returns c .within)) (λ c. omega arith) returns)

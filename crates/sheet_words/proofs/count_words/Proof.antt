@@ -13,13 +13,9 @@ Inv-loop sheet n₀ at₀ n at = (n ≤ at) × (at ≤ length sheet) × CountedT
 abbrev μ-loop : tie.MeasureT-loop
 μ-loop sheet n₀ at₀ n at = length sheet - at
 
-loop-holds : tie.Need-loop-holds Inv-loop μ-loop
-loop-holds c = (omega arith, omega arith, omega arith)
-
 loop-again : tie.Need-loop-again Inv-loop μ-loop
 loop-again c =
-    let l = c .before .before .loop in
-    let e = c .next-word .ensures in
+    let l = c .before .before .loop in let e = c .next-word .ensures in
     (omega (arith, e), e .within, counted-next (c .before .before .before .before .args .sheet .now) (l .at) (c .next-word .result) (l .n) e (l .inv .2))
 
 returns : tie.Need-returns Inv-loop μ-loop
@@ -28,4 +24,6 @@ returns c =
     counted-end (c .before .before .before .args .sheet .now) (l .at) (l .n) (omega arith) (l .inv .2)
 
 pub count-words-spec : {M : Type 1} → statement M
-count-words-spec = tie.close (tie.spec Inv-loop μ-loop loop-holds (λ c κs. omega arith) (λ c. omega arith) (λ c. omega arith) loop-again returns)
+count-words-spec =
+    tie.close (tie.spec
+    Inv-loop μ-loop (λ c. (omega arith, omega arith, omega arith)) (λ c κs. omega arith) (λ c. omega arith) (λ c. omega arith) loop-again returns)

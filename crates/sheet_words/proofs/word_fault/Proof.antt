@@ -38,8 +38,7 @@ returns-3 c =
 
 returns-4 : tie.Need-returns-4
 returns-4 c =
-    let start = c .before .before .before .before .before .before .before .before in
-    let a = start .args in
+    let start = c .before .before .before .before .before .before .before .before in let a = start .args in
     let h : a .at + 2 + (leadAt (a .sheet .now) (a .at) + cycleAt (a .sheet .now) (a .at)) ≤ length (a .sheet .now) = omega (arith, c .before .before .before .if2) in
     let two : a .at + 1 < length (a .sheet .now) = omega arith in
     let lead : a .at + 2 + leadAt (a .sheet .now) (a .at) - (a .at + 2) ≡ leadAt (a .sheet .now) (a .at) = omega arith in

@@ -42,8 +42,7 @@ put-decimal-same-length t c = search needs
 put-decimal-returns : (t : ℕ) → put-decimal-lts.Need-returns (digit-of.Asked, digit-of.Learnt, put-byte.Asked, put-byte.Learnt, put-decimal-below t, put-decimal.Post)
     (put-decimal-at t) put-decimal.Post
 put-decimal-returns t c =
-    let earlier = c .before .before .before .before .before .before .before in
-    let s = earlier in
+    let earlier = c .before .before .before .before .before .before .before in let s = earlier in
     put-digit (s .args .x) (c .before .before .before .before .before .if1 .taken) (c .before .before .before .digit-of .ensures) (c .before .before .put-byte .ensures)
 
 put-decimal-put-decimal-requires : (t : ℕ) → put-decimal-lts.Need-put-decimal-requires (digit-of.Asked, digit-of.Learnt, put-byte.Asked, put-byte.Learnt, put-decimal-below t, put-decimal.Post)
@@ -60,8 +59,7 @@ put-decimal-digit-of-requires-2 t c κs = omega arith
 put-decimal-put-byte-requires-2 : (t : ℕ) → put-decimal-lts.Need-put-byte-requires-2 (digit-of.Asked, digit-of.Learnt, put-byte.Asked, put-byte.Learnt, put-decimal-below t, put-decimal.Post)
     (put-decimal-at t) put-decimal.Post
 put-decimal-put-byte-requires-2 t c κs =
-    let earlier = c .before .before .before .before .before .before .before .before in
-    let s = earlier in
+    let earlier = c .before .before .before .before .before .before .before .before in let s = earlier in
     let P = c .before .before .before .before .put-decimal .ensures in
     let h = room-more (s .args .x) (c .before .before .before .before .before .before .if1 .left) (s .args .at) (s .pre .1) in
     omega (arith, P .ends, put-length P)
@@ -74,9 +72,7 @@ put-decimal-returns-2 : (t : ℕ) → put-decimal-lts.Need-returns-2 (digit-of.A
     (put-decimal-at t) put-decimal.Post
 put-decimal-returns-2 t c =
     let at-put-decimal = c .before .before .before .before .before .before .before in
-    let at-if1 = at-put-decimal .before .before in
-    let earlier = at-if1 .before .before in
-    let s = earlier in
+    let at-if1 = at-put-decimal .before .before in let earlier = at-if1 .before .before in let s = earlier in
     let last : c .before .before .before .digit-of2 .result ≡ digit (s .args .x % 10) = omega (arith, c .before .before .before .digit-of2 .ensures) in
     put-digits (s .args .x) (at-if1 .if1 .left) last (at-put-decimal .put-decimal .ensures) (c .before .before .put-byte2 .ensures)
 

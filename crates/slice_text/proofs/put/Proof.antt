@@ -24,27 +24,19 @@ long c =
     let a = c .before .args in
     ap length (c .loop .inv .1) ∙ length-paste (a .out .now) (a .at) (a .text .now) (c .loop .i) (omega arith) (c .loop .inv .0)
 
-slice-write-out : tie.Need-slice-write-out Inv-loop μ-loop
-slice-write-out c = omega (arith, long (c .before .before))
-
 loop-again : tie.Need-loop-again Inv-loop μ-loop
 loop-again c =
-    let a = c .before .before .before .args in
-    let l = c .before .before .loop in
+    let a = c .before .before .before .args in let l = c .before .before .loop in
     (omega arith, rw (l .inv .1, add-one) (paste-suc (a .out .now) (a .at) (a .text .now) (l .i) 0 (omega arith) (omega arith)))
-
-same-length : tie.Need-same-length Inv-loop μ-loop
-same-length c = long (c .before)
 
 returns : tie.Need-returns Inv-loop μ-loop
 returns c =
-    let a = c .before .before .args in
-    let l = c .before .loop in
+    let a = c .before .before .args in let l = c .before .loop in
     let e : l .i ≡ length (a .text .now) = omega arith in
     put-copy (a .out .now) (a .at) (a .text .now) (l .out) (c .before .before .pre) (l .inv .1 ∙ rw e)
 
 pub put-spec : {M : Type 1} → statement M
 put-spec =
     tie.close (tie.spec
-    Inv-loop μ-loop loop-holds (λ c. omega arith) (λ c. omega arith) slice-write-out (λ c. omega arith) (λ c. omega arith) loop-again (λ c. omega arith)
-    same-length returns)
+    Inv-loop μ-loop loop-holds (λ c. omega arith) (λ c. omega arith) (λ c. omega (arith, long (c .before .before))) (λ c. omega arith)
+    (λ c. omega arith) loop-again (λ c. omega arith) (λ c. long (c .before)) returns)

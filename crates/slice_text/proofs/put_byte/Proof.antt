@@ -4,8 +4,7 @@ use Rattle.slice_text.proofs.Puts.{put-one}
 use Rattle.slice_text.proofs.put_byte.Statement.{statement}
 use Rattle.slice_text.proofs.put_byte.Tie as tie
 
-returns : tie.Need-returns
-returns c = put-one (c .args .out .now) (c .args .at) (c .args .byte) (c .pre)
-
 pub put-byte-spec : {M : Type 1} → statement M
-put-byte-spec = tie.close (tie.spec (λ c. search needs) (λ c. search needs) (λ c. search needs) returns)
+put-byte-spec =
+    tie.close (tie.spec
+    (λ c. search needs) (λ c. search needs) (λ c. search needs) (λ c. put-one (c .args .out .now) (c .args .at) (c .args .byte) (c .pre)))

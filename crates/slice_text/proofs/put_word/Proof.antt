@@ -7,9 +7,6 @@ use Rattle.slice_text.proofs.Puts.{put-then}
 use Rattle.slice_text.proofs.put_word.Statement.{statement}
 use Rattle.slice_text.proofs.put_word.Tie as tie
 
-put-byte-requires : tie.Need-put-byte-requires
-put-byte-requires c κs = let a = c .before .before .args in omega (arith, word-length (a .x))
-
 put-decimal-requires : tie.Need-put-decimal-requires
 put-decimal-requires c κs =
     let a = c .before .before .before .before .before .before .args in
@@ -21,4 +18,6 @@ returns c =
     put-then (c .before .before .before .before .before .before .put-byte .ensures) (c .before .before .put-decimal .ensures)
 
 pub put-word-spec : {M : Type 1} → statement M
-put-word-spec = tie.close (tie.spec put-byte-requires put-decimal-requires (λ c. search needs) returns)
+put-word-spec =
+    tie.close (tie.spec
+    (λ c κs. let a = c .before .before .args in omega (arith, word-length (a .x))) put-decimal-requires (λ c. search needs) returns)

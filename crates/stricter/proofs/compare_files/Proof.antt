@@ -10,8 +10,7 @@ use Rattle.stricter.proofs.compare_files.Tie as tie
 returns : tie.Need-returns
 returns c =
     let start = c .before .before .before .before .before .before .before .before .before .before .before in
-    let a = start .args in
-    let p = start .pre in
+    let a = start .args in let p = start .pre in
     let lent = slicesOf (a .acodes .now) (a .atransitions .now) (a .bcodes .now) (a .btransitions .now) (a .word .now) (a .scratch .now) in
     different (a .a .now) (a .b .now) lent (λ e. c .if1 .taken (file-letters (a .a .now) (p .0) ∙ e ∙ sym (file-letters (a .b .now) (p .1))))
 
@@ -21,8 +20,7 @@ compare-other-requires c κs =
     let at-build = at-n .before .before .before .before .before .before in
     let at-if1 = at-build .before .before .before in
     let start = at-if1 .before .before .before .before .before .before .before .before .before .before .before in
-    let a = start .args in
-    let p = start .pre in
+    let a = start .args in let p = start .pre in
     let f = at-build .build-accepted in (
       made-ready (a .a .now) true (p .0) (rw (at-n .n .given .1) at (f .ensures)) (f .kept .1 .1 .1 .0) (f .kept .1 .1 .1 .1 .0),
       p .1,
@@ -35,9 +33,7 @@ returns-2 c =
     let at-build = at-row .before .before .before .before .before .before in
     let at-if1 = at-build .before .before .before in
     let start = at-if1 .before .before .before .before .before .before .before .before .before .before .before in
-    let a = start .args in
-    let p = start .pre in
-    let z = c .before .before .before .before .zero-rooms .ensures in
+    let a = start .args in let p = start .pre in let z = c .before .before .before .before .zero-rooms .ensures in
     let lent = slicesOf (a .acodes .now) (a .atransitions .now) (a .bcodes .now) (a .btransitions .now) (a .word .now) (a .scratch .now) in
     let E = made-refused (rw (at-row .row .given .1) at (at-build .build-accepted .ensures)) in
     let same = sym (file-letters (a .a .now) (p .0)) ∙ at-if1 .if1 .left ∙ file-letters (a .b .now) (p .1) in
@@ -50,10 +46,7 @@ returns-3 c =
     let at-build = at-n .before .before .before .before .before .before in
     let at-if1 = at-build .before .before .before in
     let start = at-if1 .before .before .before .before .before .before .before .before .before .before .before in
-    let a = start .args in
-    let p = start .pre in
-    let f = at-build .build-accepted in
-    let e = f .kept .1 .1 .1 .0 in
+    let a = start .args in let p = start .pre in let f = at-build .build-accepted in let e = f .kept .1 .1 .1 .0 in
     let d = f .kept .1 .1 .1 .1 .0 in
     let lent = slicesOf (a .acodes .now) (a .atransitions .now) (a .bcodes .now) (a .btransitions .now) (a .word .now) (a .scratch .now) in
     let same = sym (file-letters (a .a .now) (p .0)) ∙ at-if1 .if1 .left ∙ file-letters (a .b .now) (p .1) in

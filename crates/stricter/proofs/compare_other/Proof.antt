@@ -12,8 +12,7 @@ compare-tables-requires c κs =
     let at-m = c .before .before .before .before .before .before .before in
     let at-build = at-m .before .before .before .before .before .before in
     let start = at-build .before .before .before .before .before .before .before .before .before .before .before in
-    let p = start .pre in
-    let f = at-build .build-accepted in
+    let p = start .pre in let f = at-build .build-accepted in
     (p .0, made-ready (start .args .b .now) false (p .1) (rw (at-m .m .given .1) at (f .ensures)) (f .kept .1 .1 .1 .0) (f .kept .1 .1 .1 .1 .0), p .2)
 
 returns : tie.Need-returns
@@ -21,8 +20,7 @@ returns c =
     let at-row = c .before .before .before .before .before .before .before .before in
     let at-build = at-row .before .before .before .before .before .before in
     let start = at-build .before .before .before .before .before .before .before .before .before .before .before in
-    let a = start .args in
-    let z = c .before .before .before .before .zero-rooms .ensures in
+    let a = start .args in let z = c .before .before .before .before .zero-rooms .ensures in
     let lent = slicesOf (a .acodes .now) (a .atransitions .now) (a .bcodes .now) (a .btransitions .now) (a .word .now) (a .scratch .now) in
     let E = made-refused (rw (at-row .row .given .1) at (at-build .build-accepted .ensures)) in
     refused-zero (other-refused (a .a .now) (a .b .now) lent E) (E .some) (E .zeroes) (z .0) (z .1) (E .codes-zero) (E .moves-zero) refl refl
@@ -33,9 +31,7 @@ returns-2 c =
     let at-m = at-compare .before .before .before .before .before .before .before .before in
     let at-build = at-m .before .before .before .before .before .before in
     let start = at-build .before .before .before .before .before .before .before .before .before .before .before in
-    let a = start .args in
-    let f = at-build .build-accepted in
-    let e = f .kept .1 .1 .1 .0 in
+    let a = start .args in let f = at-build .build-accepted in let e = f .kept .1 .1 .1 .0 in
     let d = f .kept .1 .1 .1 .1 .0 in
     let lent = slicesOf (a .acodes .now) (a .atransitions .now) (a .bcodes .now) (a .btransitions .now) (a .word .now) (a .scratch .now) in
     let row = made-row (a .b .now) false (start .pre .1) (rw (at-m .m .given .1) at (f .ensures)) e d in

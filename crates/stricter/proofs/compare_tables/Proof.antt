@@ -24,9 +24,7 @@ returns c =
     let at-zero-rooms = c .before .before .before .before .before .before .before .before .before .before .before in
     let at-if1 = at-zero-rooms .before .before .before in
     let start = at-if1 .before .before .before .before .before .before .before .before .before .before .before .before .before .before in
-    let a = start .args in
-    let p = start .pre in
-    let z = at-zero-rooms .zero-rooms .ensures in
+    let a = start .args in let p = start .pre in let z = at-zero-rooms .zero-rooms .ensures in
     let v = c .before .before .before .before .zero-rooms2 .ensures in
     let lent = slicesOf (a .acodes .now) (a .atransitions .now) (a .bcodes .now) (a .btransitions .now) (a .word .now) (a .scratch .now) in
     refused-zero (pair-short (p .0) (p .1) lent (at-if1 .before .lacks-room .ensures) (at-if1 .if1 .taken)) (λ e. omega arith) refl (z .0) (z .1) (v .0) (v .1) refl refl
@@ -35,8 +33,7 @@ search-tables-requires : tie.Need-search-tables-requires
 search-tables-requires c κs =
     let at-if1 = c .before .before .before .before .before .before in
     let start = at-if1 .before .before .before .before .before .before .before .before .before .before .before .before .before .before in
-    let a = start .args in
-    let p = start .pre in
+    let a = start .args in let p = start .pre in
     let lent = slicesOf (a .acodes .now) (a .atransitions .now) (a .bcodes .now) (a .btransitions .now) (a .word .now) (a .scratch .now) in
     let h = roomy (p .0) (p .1) lent (at-if1 .before .lacks-room .ensures) (at-if1 .if1 .left) in
     (p .0, p .1, p .2, h .0, h .1)
@@ -46,8 +43,7 @@ returns-2 c =
     let at-search-tables = c .before .before .before .before .before .before .before .before .before .before .before .before in
     let at-if1 = at-search-tables .before .before .before .before .before .before .before in
     let start = at-if1 .before .before .before .before .before .before .before .before .before .before .before .before .before .before in
-    let a = start .args in
-    let p = start .pre in
+    let a = start .args in let p = start .pre in
     let lent = slicesOf (a .acodes .now) (a .atransitions .now) (a .bcodes .now) (a .btransitions .now) (a .word .now) (a .scratch .now) in
     by-row (pair-room (p .0) (p .1) lent (at-if1 .before .lacks-room .ensures) (at-if1 .if1 .left)) (at-search-tables .search-tables .ensures)
 

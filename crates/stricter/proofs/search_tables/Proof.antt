@@ -53,8 +53,7 @@ search-requires : tie.Need-search-requires
 unfolding startOf
 search-requires c κs =
     let start = c .before .before .before .before .before .before .before .before .before .before .before .before .before .before .before .before in
-    let a = start .args in
-    let p = start .pre in
+    let a = start .args in let p = start .pre in
     let n = length-take-le (a .x .counts .macrostates) (a .acodes .now) (codes-fit (p .0)) in
     let m = length-take-le (a .y .counts .macrostates) (a .bcodes .now) (codes-fit (p .1)) in
     let e = ap₂ (λ (i j : ℕ). i * j) n m in
@@ -64,18 +63,14 @@ returns : tie.Need-returns
 returns c =
     let at-search = c .before .before .before .before .before .before .before .before .before .before .before .before .before .before in
     let start = at-search .before .before .before .before .before .before .before .before .before .before .before .before .before .before .before .before .before in
-    let p = start .pre in
-    let s = at-search .search .ensures in
-    let e = s .1 in
+    let p = start .pre in let s = at-search .search .ensures in let e = s .1 in
     searched (p .0) (p .1) (told-yes (p .0) (p .1) (p .2) (rw (c .enum-told .given .1) at (s .0))) (e .0 .0) (e .0 .1) (e .1 .0 .0) (e .1 .0 .1) (e .1 .1)
 
 returns-2 : tie.Need-returns-2
 returns-2 c =
     let at-search = c .before .before .before .before .before .before .before .before .before .before .before .before .before .before .before in
     let start = at-search .before .before .before .before .before .before .before .before .before .before .before .before .before .before .before .before .before in
-    let p = start .pre in
-    let s = at-search .search .ensures in
-    let e = s .1 in
+    let p = start .pre in let s = at-search .search .ensures in let e = s .1 in
     searched (p .0) (p .1) (told-no (p .0) (p .1) (p .2) (rw (c .before .lead .given .1) at (s .0))) (e .0 .0) (e .0 .1) (e .1 .0 .0) (e .1 .0 .1) (e .1 .1)
 
 pub search-tables-spec : {M : Type 1} → statement M

@@ -38,8 +38,7 @@ add-y c =
 
 shared-slice-read-if1 : tie.Need-shared-slice-read-if1 Inv-loop μ-loop
 shared-slice-read-if1 c =
-    let after-onto = c .before .before .before in
-    let at-loop = after-onto .before .before .before in
+    let after-onto = c .before .before .before in let at-loop = after-onto .before .before .before in
     node-low at-loop (after-onto .onto-of2 .result) (at-loop .before .onto-of .result) (after-onto .onto-of2 .ensures) (at-loop .before .onto-of .ensures) (omega arith)
 
 -- the mark that the code reads, and the one it asks for, in the contract's words

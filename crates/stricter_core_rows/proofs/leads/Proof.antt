@@ -56,8 +56,7 @@ module _ (at-loop : tie.At-loop Inv-loop μ-loop) where
   -- the row of j has ended
   ended : (at-loop .loop .p < length (start .args .right .now) → rowOf u ≡ start .args .j → ⊥) → Found Bool.false
   ended end i h cut =
-      let a = start .args in
-      let p = start .pre in
+      let a = start .args in let p = start .pre in
       missed-leading (a .nb) (a .left .now) (a .right .now) (a .marks .now) (a .ask .second) (a .ask .k) (a .ask .other) (a .cuts .now)
       (p .0 .0 .0) (p .0 .0 .1) (a .j) (p .0 .1) i cut (p .1 .1) (at-loop .loop .p) (at-loop .loop .inv .0) end (at-loop .loop .inv .2) (p .0 .3)
 
@@ -82,8 +81,7 @@ returns c = ended (c .before .before .before .before) (λ h e. omega (arith, c .
 
 has-marked-requires : tie.Need-has-marked-requires Inv-loop μ-loop
 has-marked-requires c κs =
-    let earlier = c .before .before .before .before .before .before .before in
-    let at-loop = earlier in
+    let earlier = c .before .before .before .before .before .before .before in let at-loop = earlier in
     let p = start at-loop .pre in
     let m = mem-at (start at-loop .args .right .now) (at-loop .loop .p) (omega arith) in
     let fit = p .0 .0 .1 in
@@ -113,12 +111,10 @@ loop-again c =
           (by-letter at-loop _ _ (after-letter .letter-of .ensures) (c .before .has-marked .ensures) .no (c .if2 .left)) (at-loop .loop .inv .2),
     )
 
-returns-3 : tie.Need-returns-3 Inv-loop μ-loop
-returns-3 c = ended (c .before) (λ h. absurd (omega arith))
-
 pub leads-spec : {M : Type 1} → statement M
 leads-spec =
     tie.close (tie.spec
-    Inv-loop μ-loop (λ c. search needs) (λ c κs. ((40, refl), c .before .before .before .pre .0 .0 .1 .ascend-B)) loop-holds (λ c. search needs) (λ c. search needs)
-    (λ c κs. search needs) returns (λ c κs. search needs) (λ c. search needs) element-copy-out-has-marked (λ c. search needs) (λ c. search needs)
-    element-copy-out-has-marked-2 has-marked-requires returns-2 (λ c. search needs) (λ c. search needs) loop-again returns-3)
+    Inv-loop μ-loop (λ c. search needs) (λ c κs. ((40, refl), c .before .before .before .pre .0 .0 .1 .ascend-B)) loop-holds (λ c. search needs)
+    (λ c. search needs) (λ c κs. search needs) returns (λ c κs. search needs) (λ c. search needs) element-copy-out-has-marked (λ c. search needs)
+    (λ c. search needs) element-copy-out-has-marked-2 has-marked-requires returns-2 (λ c. search needs) (λ c. search needs) loop-again
+    (λ c. ended (c .before) (λ h. absurd (omega arith))))

@@ -4,8 +4,5 @@ use lib.Bits.{and-mask}
 use Rattle.stricter_core_rows.proofs.onto_of.Statement.{statement}
 use Rattle.stricter_core_rows.proofs.onto_of.Tie as tie
 
-returns : tie.Need-returns
-returns c = and-mask (c .args .t / 2 ^ 40) 16
-
 pub onto-of-spec : {M : Type 1} → statement M
-onto-of-spec = tie.close (tie.spec returns)
+onto-of-spec = tie.close (tie.spec (λ c. and-mask (c .args .t / 2 ^ 40) 16))

@@ -13,8 +13,7 @@ use Rattle.stricter_cores.proofs.drop_pair.Tie as tie
 
 leads-requires : tie.Need-leads-requires
 leads-requires c κs =
-    let a = c .before .before .before .before .args in
-    let p = c .before .before .before .before .pre in
+    let a = c .before .before .before .before .args in let p = c .before .before .before .before .pre in
     let r = p .0 .1 in (
       ((p .0 .0, r .fits), p .3, omega arith, omega arith),
       (λ b l. omega (arith, cut-le (untagged (a .left .now)) (r .fits .ascend-A) (a .i) (a .cuts .now) (p .1) b l, untagged-long (a .left .now)), r .rows),

@@ -20,15 +20,13 @@ abbrev μ-loop : tie.MeasureT-loop
 
 loop-holds : tie.Need-loop-holds Inv-loop μ-loop
 loop-holds c =
-    let a = c .before .before .before .args in
-    let p = c .before .before .before .pre in
+    let a = c .before .before .before .args in let p = c .before .before .before .pre in
     (refl, refl, p .3, p .4, thinned-start (CoreStep (a .nb) (a .left .now) (a .right .now)) (a .marks .now))
 
 drop-pair-requires : tie.Need-drop-pair-requires Inv-loop μ-loop
 drop-pair-requires c κs =
     let a = c .before .before .before .before .before .before .args in
-    let p = c .before .before .before .before .before .before .pre in
-    let l = c .before .before .loop in
+    let p = c .before .before .before .before .before .before .pre in let l = c .before .before .loop in
     let long : length (l .marks) ≡ length (a .marks .now) = l .inv .4 .long in (
       (p .0 .0, ready-same (p .0 .0) (a .nb) _ _ (a .marks .now) (l .marks) long (p .0 .1)),
       p .1,
@@ -43,15 +41,10 @@ next-set-requires c κs =
     let l = c .before .before .before .before .before .before .loop in
     (omega arith, omega (arith, l .inv .1, c .before .before .before .drop-pair .ensures .long ∙ l .inv .4 .long, start .pre .5))
 
-loop-less : tie.Need-loop-less Inv-loop μ-loop
-loop-less c = omega (arith, c .next-set .ensures .before .ordered)
-
 loop-again : tie.Need-loop-again Inv-loop μ-loop
 loop-again c =
     let at-loop = c .before .before .before .before .before .before .before in
-    let start = at-loop .before .before .before .before in
-    let a = start .args in
-    let l = at-loop .loop in
+    let start = at-loop .before .before .before .before in let a = start .args in let l = at-loop .loop in
     let s = c .next-set .ensures in (
       l .inv .0,
       l .inv .1,
@@ -63,5 +56,5 @@ loop-again c =
 pub drop-row-spec : {M : Type 1} → statement M
 drop-row-spec =
     tie.close (tie.spec
-    Inv-loop μ-loop (λ c. search needs) (λ c. search needs) loop-holds (λ c. search needs) drop-pair-requires (λ c. search needs) next-set-requires loop-less
-    loop-again (λ c. c .before .loop .inv .4 .long) (λ c. c .before .loop .inv .4))
+    Inv-loop μ-loop (λ c. search needs) (λ c. search needs) loop-holds (λ c. search needs) drop-pair-requires (λ c. search needs) next-set-requires
+    (λ c. omega (arith, c .next-set .ensures .before .ordered)) loop-again (λ c. c .before .loop .inv .4 .long) (λ c. c .before .loop .inv .4))

@@ -46,8 +46,7 @@ module _ (c : tie.After-leads) where
 
 returns-2 : tie.Need-returns-2
 returns-2 c =
-    let start = c .before .before .before .before .before .before .before .before in
-    let a = start .args in
+    let start = c .before .before .before .before .before .before .before .before in let a = start .args in
     tried-stays (CoreStep (a .nb) (a .left .now) (a .right .now)) (SparedStep (a .nb) (a .left .now) (a .right .now) (a .ask .second) (a .ask .k)) (a .i * a .nb + a .j) (a .marks .now)
     (λ h. told (c .before) .no (not-t _ (c .if2 .taken)))
 

@@ -16,8 +16,7 @@ rounds-requires c κs = let p = c .before .before .before .before .before .pre i
 
 rounds-requires-2 : tie.Need-rounds-requires-2
 rounds-requires-2 c κs =
-    let start = c .before .before .before .before .before .before .before .before .before in
-    let a = start .args in
+    let start = c .before .before .before .before .before .before .before .before .before in let a = start .args in
     let p = start .pre in
     let n = c .before .before .before .rounds .ensures (λ s. cond s (a .bcount) (a .acount)) (omega arith) .narrowed in (
       ready-same (length (a .acodes .now)) (a .nb) _ _ (a .marks .now) _ (n .long) (p .0),
@@ -28,10 +27,8 @@ rounds-requires-2 c κs =
 
 returns : tie.Need-returns
 returns c =
-    let at-rounds2 = c .before .before .before in
-    let at-rounds = at-rounds2 .before .before .before .before in
-    let start = at-rounds .before .before .before .before .before .before in
-    let a = start .args in
+    let at-rounds2 = c .before .before .before in let at-rounds = at-rounds2 .before .before .before .before in
+    let start = at-rounds .before .before .before .before .before .before in let a = start .args in
     pass-of (CoreStep (a .nb) (a .left .now) (a .right .now)) (SparedStep (a .nb) (a .left .now) (a .right .now)) (λ s. cond s (a .bcount) (a .acount)) (a .marks .now) _ _ (at-rounds .rounds .result)
     (at-rounds2 .rounds2 .result) true
     (at-rounds .rounds .ensures (λ s. cond s (a .bcount) (a .acount)) (omega arith)) (at-rounds2 .rounds2 .ensures (λ s. cond s (a .bcount) (a .acount)) (omega arith))
@@ -39,10 +36,8 @@ returns c =
 
 returns-2 : tie.Need-returns-2
 returns-2 c =
-    let at-rounds2 = c .before .before .before in
-    let at-rounds = at-rounds2 .before .before .before .before in
-    let start = at-rounds .before .before .before .before .before .before in
-    let a = start .args in
+    let at-rounds2 = c .before .before .before in let at-rounds = at-rounds2 .before .before .before .before in
+    let start = at-rounds .before .before .before .before .before .before in let a = start .args in
     let e : at-rounds2 .rounds2 .result ≡ (at-rounds .rounds .result || at-rounds2 .rounds2 .result) = rw (c .if1 .left) in
     pass-of (CoreStep (a .nb) (a .left .now) (a .right .now)) (SparedStep (a .nb) (a .left .now) (a .right .now)) (λ s. cond s (a .bcount) (a .acount)) (a .marks .now) _ _ (at-rounds .rounds .result)
     (at-rounds2 .rounds2 .result) (at-rounds2 .rounds2 .result)

@@ -34,9 +34,6 @@ pass-requires c κs =
       p .4,
     )
 
-loop-less : tie.Need-loop-less Inv-loop μ-loop
-loop-less c = c .before .before .before .pass .ensures .less (c .if1 .taken)
-
 abbrev start-of-after-pass : tie.After-pass Inv-loop μ-loop → tie.Start Inv-loop μ-loop
 start-of-after-pass c = c .before .before .before .before .before .before .before
 
@@ -50,14 +47,11 @@ more c =
     (c .before .before .loop .marks) _
     (c .before .before .loop .inv) (c .pass .ensures .narrowed)
 
-loop-again : tie.Need-loop-again Inv-loop μ-loop
-loop-again c = more (c .before .before .before)
-
-same-length : tie.Need-same-length Inv-loop μ-loop
-same-length c = more (c .before .before .before) .long
-
 returns : tie.Need-returns Inv-loop μ-loop
 returns c = (more (c .before .before .before), c .before .before .before .pass .ensures .sound (c .if1 .left))
 
 pub passes-spec : {M : Type 1} → statement M
-passes-spec = tie.close (tie.spec Inv-loop μ-loop loop-holds pass-requires loop-less loop-again same-length returns)
+passes-spec =
+    tie.close (tie.spec
+    Inv-loop μ-loop loop-holds pass-requires (λ c. c .before .before .before .pass .ensures .less (c .if1 .taken))
+    (λ c. more (c .before .before .before)) (λ c. more (c .before .before .before) .long) returns)

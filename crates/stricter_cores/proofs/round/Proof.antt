@@ -13,8 +13,7 @@ use Rattle.stricter_cores.proofs.round.Tie as tie
 
 settle-requires : tie.Need-settle-requires
 settle-requires c κs =
-    let start = c .before .before .before .before .before .before .before .before .before in
-    let a = start .args in
+    let start = c .before .before .before .before .before .before .before .before .before in let a = start .args in
     let p = start .pre in
     let m = c .before .before .before .sweep-out .ensures .marking in (
       m .long ∙ p .0 .fits .marked,
@@ -25,10 +24,8 @@ settle-requires c κs =
 returns : tie.Need-returns
 returns c =
     let at-sweep-out = c .before .before .before .before .before .before in
-    let start = at-sweep-out .before .before .before .before .before .before in
-    let a = start .args in
-    let p = start .pre in
-    let w = at-sweep-out .sweep-out .ensures in
+    let start = at-sweep-out .before .before .before .before .before .before in let a = start .args in
+    let p = start .pre in let w = at-sweep-out .sweep-out .ensures in
     let e : length (a .acodes .now) * a .nb ≡ length (at-sweep-out .sweep-out .last .1 .1 .1 .1 .1 .0) = sym (w .marking .long ∙ p .0 .fits .marked) in
     round-of (CoreStep (a .nb) (a .left .now) (a .right .now)) (SparedStep (a .nb) (a .left .now) (a .right .now) (a .ask .second) (a .ask .k)) (a .marks .now)
     (at-sweep-out .sweep-out .last .1 .1 .1 .1 .1 .0) _ _ (p .2) w

@@ -34,10 +34,8 @@ cast-c c = omega (arith, c .before .before .before .before .before .before .pre 
 
 round-requires : tie.Need-round-requires Inv-loop μ-loop
 round-requires c κs =
-    let start = c .before .before .before .before .before .before .before in
-    let a = start .args in
-    let p = start .pre in
-    let l = c .before .before .loop in
+    let start = c .before .before .before .before .before .before .before in let a = start .args in
+    let p = start .pre in let l = c .before .before .loop in
     let n : Narrowed (CoreStep (a .nb) (a .left .now) (a .right .now)) (SparedStep (a .nb) (a .left .now) (a .right .now)) (λ s. a .count) (a .marks .now) (l .marks) =
     l .inv .1 (λ s. a .count) (omega arith) .narrowed in (
       ready-same (length (a .acodes .now)) (a .nb) _ _ (a .marks .now) (l .marks) (n .long) (p .0),

@@ -51,15 +51,10 @@ loop-holds c =
 next-set-requires : tie.Need-next-set-requires Inv-loop μ-loop
 next-set-requires c κs = let l = c .before .before .loop in (omega arith, omega (arith, l .inv .3, l .inv .4 .long))
 
-same-length : tie.Need-same-length Inv-loop μ-loop
-same-length c = c .before .before .before .before .loop .inv .4 .long
-
 returns-2 : tie.Need-returns-2 Inv-loop μ-loop
 returns-2 c =
     let start = c .before .before .before .before .before .before .before .before .before in
-    let l = c .before .before .before .before .loop in
-    let a = start .args in
-    let s = c .before .next-set .ensures in
+    let l = c .before .before .before .before .loop in let a = start .args in let s = c .before .next-set .ensures in
     let e : c .before .next-set .result ≡ a .i * a .nb + a .nb = omega (arith, l .inv .0) in
     rw e at (settled-zeros (a .i * a .nb) (l .x) (c .before .next-set .result) (a .marks .now) (l .marks) (l .changed) (l .inv .4) (l .inv .1) (s .before .ordered) (s .before .zeros))
 
@@ -79,23 +74,13 @@ reached c =
     let s = c .before .next-set .ensures in
     settled-zeros (a .i * a .nb) (l .x) (c .before .next-set .result) (a .marks .now) (l .marks) (l .changed) (l .inv .4) (l .inv .1) (s .before .ordered) (s .before .zeros)
 
-slice-read-v : tie.Need-slice-read-v Inv-loop μ-loop
-slice-read-v c = room (c .before)
-
-slice-write-marks : tie.Need-slice-write-marks Inv-loop μ-loop
-slice-write-marks c = room (c .before)
-
-add-x : tie.Need-add-x Inv-loop μ-loop
-add-x c = omega (arith, room (c .before))
-
 loop-less : tie.Need-loop-less Inv-loop μ-loop
 loop-less c = omega (arith, c .before .before .before .next-set .ensures .before .ordered)
 
 loop-again : tie.Need-loop-again Inv-loop μ-loop
 loop-again c =
     let start = c .before .before .before .before .before .before .before .before .before .before .before in
-    let a = start .args in
-    let l = c .before .before .before .before .before .before .loop in
+    let a = start .args in let l = c .before .before .before .before .before .before .loop in
     let s = c .before .before .before .next-set .ensures in
     let y = c .before .before .before .next-set .result in (
       l .inv .0,
@@ -112,8 +97,7 @@ loop-less-2 c = omega (arith, c .before .before .before .next-set .ensures .befo
 loop-again-2 : tie.Need-loop-again-2 Inv-loop μ-loop
 loop-again-2 c =
     let start = c .before .before .before .before .before .before .before .before .before .before .before in
-    let a = start .args in
-    let l = c .before .before .before .before .before .before .loop in
+    let a = start .args in let l = c .before .before .before .before .before .before .loop in
     let s = c .before .before .before .next-set .ensures in
     let y = c .before .before .before .next-set .result in (
       l .inv .0,
@@ -126,13 +110,13 @@ loop-again-2 c =
 
 returns-3 : tie.Need-returns-3 Inv-loop μ-loop
 returns-3 c =
-    let l = c .before .loop in
-    let a = c .before .before .before .before .before .before .args in
+    let l = c .before .loop in let a = c .before .before .before .before .before .before .args in
     let e : l .x ≡ a .i * a .nb + a .nb = omega (arith, l .inv .0, l .inv .2) in
     rw e at (l .inv .4)
 
 pub settle-row-spec : {M : Type 1} → statement M
 settle-row-spec =
     tie.close (tie.spec
-    Inv-loop μ-loop (λ c κs. search needs) returns mul-x add-to loop-holds next-set-requires same-length returns-2 slice-read-v slice-write-marks add-x
-    loop-less loop-again loop-less-2 loop-again-2 (λ c. c .before .loop .inv .4 .long) returns-3)
+    Inv-loop μ-loop (λ c κs. search needs) returns mul-x add-to loop-holds next-set-requires
+    (λ c. c .before .before .before .before .loop .inv .4 .long) returns-2 (λ c. room (c .before)) (λ c. room (c .before))
+    (λ c. omega (arith, room (c .before))) loop-less loop-again loop-less-2 loop-again-2 (λ c. c .before .loop .inv .4 .long) returns-3)

@@ -32,8 +32,7 @@ loop-holds c =
 
 visit-row-requires : tie.Need-visit-row-requires Inv-loop μ-loop
 visit-row-requires c κs =
-    let start = c .before .before .before .before .before .before .before in
-    let a = start .args in
+    let start = c .before .before .before .before .before .before .before in let a = start .args in
     let p = start .pre in
     let l = c .before .before .loop in (
       ready-same (length (a .acodes .now)) (a .nb) _ _ (a .marks .now) (l .marks) (l .inv .1 .long) (p .0),
@@ -48,8 +47,7 @@ visit-row-requires c κs =
 loop-again : tie.Need-loop-again Inv-loop μ-loop
 loop-again c =
     let start = c .before .before .before .before .before .before .before .before .before .before .before in
-    let a = start .args in
-    let l = c .before .before .before .before .before .before .loop in
+    let a = start .args in let l = c .before .before .before .before .before .before .loop in
     let step = tried-then (CoreStep (a .nb) (a .left .now) (a .right .now)) (SparedStep (a .nb) (a .left .now) (a .right .now) (a .ask .second) (a .ask .k)) 0 (l .i * a .nb) (l .i * a .nb + a .nb)
     (a .marks .now) (l .marks) _ (l .changed) _ true (l .inv .1) (c .before .before .before .visit-row .ensures) (or-now (l .changed) _ (c .if1 .taken)) in
     (omega arith, rw (add-one (l .i), suc-mul (l .i) (a .nb)) step)
@@ -57,8 +55,7 @@ loop-again c =
 loop-again-2 : tie.Need-loop-again-2 Inv-loop μ-loop
 loop-again-2 c =
     let start = c .before .before .before .before .before .before .before .before .before .before .before in
-    let a = start .args in
-    let l = c .before .before .before .before .before .before .loop in
+    let a = start .args in let l = c .before .before .before .before .before .before .loop in
     let step = tried-then (CoreStep (a .nb) (a .left .now) (a .right .now)) (SparedStep (a .nb) (a .left .now) (a .right .now) (a .ask .second) (a .ask .k)) 0 (l .i * a .nb) (l .i * a .nb + a .nb)
     (a .marks .now) (l .marks) _ (l .changed) _ (l .changed) (l .inv .1) (c .before .before .before .visit-row .ensures) (or-before (l .changed) _ (c .if1 .left)) in
     (omega arith, rw (add-one (l .i), suc-mul (l .i) (a .nb)) step)

@@ -36,13 +36,9 @@ loop-holds c =
 next-set-requires : tie.Need-next-set-requires Inv-loop μ-loop
 next-set-requires c κs = let l = c .before .before .loop in (omega arith, omega (arith, l .inv .1, l .inv .4 .long, c .before .before .before .before .before .before .pre .7))
 
-same-length : tie.Need-same-length Inv-loop μ-loop
-same-length c = c .before .before .before .before .loop .inv .4 .long
-
 returns : tie.Need-returns Inv-loop μ-loop
 returns c =
-    let start = c .before .before .before .before .before .before .before .before in
-    let a = start .args in
+    let start = c .before .before .before .before .before .before .before .before in let a = start .args in
     let l = c .before .before .before .before .loop in
     let e : c .before .next-set .result ≡ a .i * a .nb + a .nb = omega (arith, l .inv .1) in
     rw e at (tried-zeros (CoreStep (a .nb) (a .left .now) (a .right .now)) (SparedStep (a .nb) (a .left .now) (a .right .now) (a .ask .second) (a .ask .k)) (a .from) (l .x)
@@ -50,10 +46,8 @@ returns c =
 
 mark-pair-requires : tie.Need-mark-pair-requires Inv-loop μ-loop
 mark-pair-requires c κs =
-    let start = c .before .before .before .before .before .before .before .before .before in
-    let a = start .args in
-    let p = start .pre in
-    let l = c .before .before .before .before .before .loop in
+    let start = c .before .before .before .before .before .before .before .before .before in let a = start .args in
+    let p = start .pre in let l = c .before .before .before .before .before .loop in
     let s = c .before .before .next-set .ensures in
     let long : length (l .marks) ≡ length (a .marks .now) = l .inv .4 .long in (
       (p .0 .0, ready-same (p .0 .0) (a .nb) _ _ (a .marks .now) (l .marks) long (p .0 .1)),
@@ -71,9 +65,7 @@ loop-less c = omega (arith, c .before .before .before .before .before .before .n
 loop-again : tie.Need-loop-again Inv-loop μ-loop
 loop-again c =
     let at-loop = c .before .before .before .before .before .before .before .before .before in
-    let start = at-loop .before .before .before .before in
-    let a = start .args in
-    let l = at-loop .loop in
+    let start = at-loop .before .before .before .before in let a = start .args in let l = at-loop .loop in
     let s = c .before .before .before .before .before .before .next-set .ensures in
     let y = c .before .before .before .before .before .before .next-set .result in
     let e : a .i * a .nb + (y - a .i * a .nb) ≡ y = omega (arith, l .inv .0, l .inv .2, s .before .ordered) in (
@@ -92,9 +84,7 @@ loop-less-2 c = omega (arith, c .before .before .before .before .before .before 
 loop-again-2 : tie.Need-loop-again-2 Inv-loop μ-loop
 loop-again-2 c =
     let at-loop = c .before .before .before .before .before .before .before .before .before in
-    let start = at-loop .before .before .before .before in
-    let a = start .args in
-    let l = at-loop .loop in
+    let start = at-loop .before .before .before .before in let a = start .args in let l = at-loop .loop in
     let s = c .before .before .before .before .before .before .next-set .ensures in
     let y = c .before .before .before .before .before .before .next-set .result in
     let e : a .i * a .nb + (y - a .i * a .nb) ≡ y = omega (arith, l .inv .0, l .inv .2, s .before .ordered) in (
@@ -109,13 +99,13 @@ loop-again-2 c =
 
 returns-2 : tie.Need-returns-2 Inv-loop μ-loop
 returns-2 c =
-    let a = c .before .before .before .before .before .args in
-    let l = c .before .loop in
+    let a = c .before .before .before .before .before .args in let l = c .before .loop in
     let e : l .x ≡ a .i * a .nb + a .nb = omega (arith, l .inv .1, l .inv .3) in
     rw e at (l .inv .4)
 
 pub sweep-row-spec : {M : Type 1} → statement M
 sweep-row-spec =
     tie.close (tie.spec
-    Inv-loop μ-loop (λ c. search needs) (λ c. search needs) loop-holds next-set-requires same-length returns (λ c. search needs) (λ c. search needs)
-    mark-pair-requires loop-less loop-again loop-less-2 loop-again-2 (λ c. c .before .loop .inv .4 .long) returns-2)
+    Inv-loop μ-loop (λ c. search needs) (λ c. search needs) loop-holds next-set-requires (λ c. c .before .before .before .before .loop .inv .4 .long)
+    returns (λ c. search needs) (λ c. search needs) mark-pair-requires loop-less loop-again loop-less-2 loop-again-2
+    (λ c. c .before .loop .inv .4 .long) returns-2)

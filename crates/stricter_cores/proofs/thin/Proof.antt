@@ -21,16 +21,14 @@ loop-holds c = let a = c .before .before .before .before .args in thinned-start 
 
 thin-row-requires : tie.Need-thin-row-requires Inv-loop μ-loop
 thin-row-requires c κs =
-    let start = c .before .before .before .before .before .before .before in
-    let a = start .args in
+    let start = c .before .before .before .before .before .before .before in let a = start .args in
     let l = c .before .before .loop in
     (ready-same (length (a .acodes .now)) (a .nb) _ _ (a .marks .now) (l .marks) (l .inv .long) (start .pre), omega arith)
 
 loop-again : tie.Need-loop-again Inv-loop μ-loop
 loop-again c =
     let start = c .before .before .before .before .before .before .before .before .before .before in
-    let a = start .args in
-    let l = c .before .before .before .before .before .loop in
+    let a = start .args in let l = c .before .before .before .before .before .loop in
     thinned-then (CoreStep (a .nb) (a .left .now) (a .right .now)) (a .marks .now) (l .marks) _ (l .inv) (c .before .before .thin-row .ensures)
 
 pub thin-spec : {M : Type 1} → statement M

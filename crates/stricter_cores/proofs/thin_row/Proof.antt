@@ -20,15 +20,6 @@ room c =
     let a = c .before .before .before .before .before .before .args in
     rw (c .before .before .before .before .before .before .pre .0 .fits .marked) (place-room (a .nb) (a .i) (length (a .acodes .now)) (c .before .before .before .before .before .before .pre .1))
 
-mul-row : tie.Need-mul-row
-mul-row c = omega (arith, room c)
-
-add-end : tie.Need-add-end
-add-end c = omega (arith, room c)
-
-next-set-requires : tie.Need-next-set-requires
-next-set-requires c κs = (omega arith, room (c .before))
-
 returns-2 : tie.Need-returns-2
 returns-2 c =
     let start = c .before .before .before .before .before .before .before .before .before in
@@ -42,8 +33,7 @@ cut-low-requires c κs =
 drop-row-requires : tie.Need-drop-row-requires
 drop-row-requires c κs =
     let start = c .before .before .before .before .before .before .before .before .before .before .before .before in
-    let a = start .args in
-    let p = start .pre in
+    let a = start .args in let p = start .pre in
     let s = c .before .before .before .before .next-set .ensures in (
       (length (a .acodes .now), p .0),
       c .before .before .cut-low .ensures,
@@ -56,5 +46,5 @@ drop-row-requires c κs =
 pub thin-row-spec : {M : Type 1} → statement M
 thin-row-spec =
     tie.close (tie.spec
-    (λ c κs. search needs) returns mul-row add-end next-set-requires (λ c. search needs) returns-2 cut-low-requires drop-row-requires (λ c. search needs)
-    (λ c. search needs))
+    (λ c κs. search needs) returns (λ c. omega (arith, room c)) (λ c. omega (arith, room c)) (λ c κs. (omega arith, room (c .before)))
+    (λ c. search needs) returns-2 cut-low-requires drop-row-requires (λ c. search needs) (λ c. search needs))

@@ -27,19 +27,9 @@ room c =
     let a = c .before .before .before .before .before .before .args in
     rw (c .before .before .before .before .before .before .pre .0 .fits .marked) (place-room (a .nb) (a .i) (length (a .acodes .now)) (c .before .before .before .before .before .before .pre .2))
 
-mul-row : tie.Need-mul-row
-mul-row c = omega (arith, room c)
-
-add-end : tie.Need-add-end
-add-end c = omega (arith, room c)
-
-next-between-requires : tie.Need-next-between-requires
-next-between-requires c κs = (omega arith, room (c .before), omega arith)
-
 returns-2 : tie.Need-returns-2
 returns-2 c =
-    let start = c .before .before .before .before .before .before .before .before .before in
-    let a = start .args in
+    let start = c .before .before .before .before .before .before .before .before .before in let a = start .args in
     tried-none (CoreStep (a .nb) (a .left .now) (a .right .now)) (SparedStep (a .nb) (a .left .now) (a .right .now) (a .ask .second) (a .ask .k)) (a .i * a .nb) (a .i * a .nb + a .nb) (a .marks .now)
     (λ x f t h. let l = c .before .next-between .ensures .none x f (omega arith) (omega arith) in omega arith)
 
@@ -51,8 +41,7 @@ cut-low-requires c κs =
 sweep-row-requires : tie.Need-sweep-row-requires
 sweep-row-requires c κs =
     let start = c .before .before .before .before .before .before .before .before .before .before .before .before in
-    let a = start .args in
-    let p = start .pre in
+    let a = start .args in let p = start .pre in
     let w = c .before .before .before .before .next-between .ensures in (
       (length (a .acodes .now), p .0),
       c .before .before .cut-low .ensures,
@@ -68,8 +57,7 @@ returns-3 : tie.Need-returns-3
 returns-3 c =
     let at-next-between = c .before .before .before .before .before .before .before in
     let start = at-next-between .before .before .before .before .before .before .before .before in
-    let a = start .args in
-    let w = at-next-between .next-between in
+    let a = start .args in let w = at-next-between .next-between in
     tried-then (CoreStep (a .nb) (a .left .now) (a .right .now)) (SparedStep (a .nb) (a .left .now) (a .right .now) (a .ask .second) (a .ask .k)) (a .i * a .nb) (w .result) (a .i * a .nb + a .nb)
     (a .marks .now) (a .marks .now) _ false _ _
     (tried-none (CoreStep (a .nb) (a .left .now) (a .right .now)) (SparedStep (a .nb) (a .left .now) (a .right .now) (a .ask .second) (a .ask .k)) (a .i * a .nb) (w .result) (a .marks .now)
@@ -79,5 +67,5 @@ returns-3 c =
 pub visit-row-spec : {M : Type 1} → statement M
 visit-row-spec =
     tie.close (tie.spec
-    (λ c κs. search needs) returns mul-row add-end next-between-requires (λ c. search needs) returns-2 cut-low-requires sweep-row-requires (λ c. search needs)
-    returns-3)
+    (λ c κs. search needs) returns (λ c. omega (arith, room c)) (λ c. omega (arith, room c)) (λ c κs. (omega arith, room (c .before), omega arith))
+    (λ c. search needs) returns-2 cut-low-requires sweep-row-requires (λ c. search needs) returns-3)

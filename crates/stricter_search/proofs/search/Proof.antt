@@ -16,8 +16,7 @@ slice-aggregate-search-files c =
 search-files-requires : tie.Need-search-files-requires
 search-files-requires c κs =
     let start = c .before .before .before .before .before .before .before .before .before .before .before .before .before .before in
-    let a = start .args in
-    let p = start .pre in
+    let a = start .args in let p = start .pre in
     (p .0, p .1, length-take-le (length (a .acodes .now) * length (a .bcodes .now)) (a .scratch .now) (p .2), p .3)
 
 same-length-6 : tie.Need-same-length-6
@@ -26,8 +25,7 @@ same-length-6 c = search needs
 returns : tie.Need-returns
 returns c =
     let at-search-files = c .before .before .before .before .before .before .before .before .before .before .before .before .before .before .before .before in
-    let e = c .before .before .fill-with .ensures in
-    let s = at-search-files .search-files .ensures in
+    let e = c .before .before .fill-with .ensures in let s = at-search-files .search-files .ensures in
     let places = sym (simp length-replicate at (ap length e)) ∙ same-length-6 c in
     (s .0, (s .1 .0, (s .1 .1, e ∙ ap (λ (n : ℕ). replicate n 0) places)))
 

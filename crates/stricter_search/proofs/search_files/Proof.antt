@@ -10,9 +10,7 @@ search-pairs-requires : tie.Need-search-pairs-requires
 search-pairs-requires c κs =
     let at-sort-files = c .before .before .before .before .before .before .before .before .before .before .before .before .before .before .before .before in
     let start = at-sort-files .before .before .before .before .before .before .before .before .before .before .before .before .before .before in
-    let a = start .args in
-    let p = start .pre in
-    let s = at-sort-files .mark-files .ensures in
+    let a = start .args in let p = start .pre in let s = at-sort-files .mark-files .ensures in
     rw (s .1 .0 .0, s .1 .0 .1, s .1 .1 .0, s .1 .1 .1) (
       file-searchable (p .0),
       file-searchable (p .1),
@@ -24,8 +22,7 @@ returns : tie.Need-returns
 returns c =
     let at-sort-files = c .before .before .before .before .before .before .before .before .before .before .before .before .before .before .before .before .before .before .before .before .before in
     let start = at-sort-files .before .before .before .before .before .before .before .before .before .before .before .before .before .before in
-    let a = start .args in
-    let s = at-sort-files .mark-files .ensures in
+    let a = start .args in let s = at-sort-files .mark-files .ensures in
     let q = rw (s .1 .0 .0, s .1 .0 .1, s .1 .1 .0, s .1 .1 .1) at (c .before .before .before .before .search-pairs .ensures) in
     (q (λ x. bit x (a .l .head .initial)) (λ x. not (bit x (a .m .head .initial))) (s .0), (s .1 .0, s .1 .1))
 

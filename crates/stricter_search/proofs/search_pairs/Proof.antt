@@ -5,13 +5,9 @@ use borrow.Author.Needs.{needs}
 use Rattle.stricter_search.proofs.search_pairs.Statement.{statement}
 use Rattle.stricter_search.proofs.search_pairs.Tie as tie
 
-returns : tie.Need-returns
-returns c = λ s t S. (refl, S .none (omega (arith, c .if1 .taken)))
-
 shared-word-requires : tie.Need-shared-word-requires
 shared-word-requires c κs =
-    let start = c .before .before .before .before .before .before .before .before .before in
-    let p = start .pre in
+    let start = c .before .before .before .before .before .before .before .before .before in let p = start .pre in
     let (s, t, S) = p .2 in
     (p .0, p .1, S .long, p .3, S .inside (omega (arith, c .before .before .if1 .left)), S .sound (omega (arith, c .before .before .if1 .left)))
 
@@ -21,4 +17,6 @@ returns-2 c =
     λ s t S. c .before .before .before .before .shared-word .ensures s t (S .begins (omega (arith, at-if1 .if1 .left)))
 
 pub search-pairs-spec : {M : Type 1} → statement M
-search-pairs-spec = tie.close (tie.spec returns shared-word-requires (λ c. search needs) (λ c. search needs) returns-2)
+search-pairs-spec =
+    tie.close (tie.spec
+    (λ c s t S. (refl, S .none (omega (arith, c .if1 .taken)))) shared-word-requires (λ c. search needs) (λ c. search needs) returns-2)

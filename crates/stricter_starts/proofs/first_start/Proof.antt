@@ -48,8 +48,7 @@ start-in-row-requires c κs =
 returns : tie.Need-returns Inv-loop μ-loop
 returns c =
     let earlier = c .before .before .before .before .before .before .before in
-    let s = c .before .start-in-row .ensures in
-    let l = c .before .before .before .loop in
+    let s = c .before .start-in-row .ensures in let l = c .before .before .before .loop in
     let r = room (earlier) (l .i) (c .before .before .loop-test .taken) in
     record {
       within = omega (arith, r);
@@ -60,8 +59,7 @@ returns c =
 
 loop-again : tie.Need-loop-again Inv-loop μ-loop
 loop-again c =
-    let start = c .before .before .before .before .before .before .before in
-    let s = c .before .start-in-row .ensures in
+    let start = c .before .before .before .before .before .before .before in let s = c .before .start-in-row .ensures in
     let l = c .before .before .before .loop in
     let a = start .args in (
       omega (arith, c .before .before .loop-test .taken),
@@ -74,8 +72,7 @@ loop-again c =
 
 returns-2 : tie.Need-returns-2 Inv-loop μ-loop
 returns-2 c =
-    let l = c .before .loop in
-    let s = c .before .before .before .before .before in
+    let l = c .before .loop in let s = c .before .before .before .before .before in
     let e : l .i ≡ length (s .args .acodes .now) = omega (arith, l .inv .0, c .loop-test .left) in
     record {
       within = omega arith;

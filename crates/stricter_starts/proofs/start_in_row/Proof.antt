@@ -28,25 +28,15 @@ abbrev μ-loop : tie.MeasureT-loop
 room : (c : tie.Start Inv-loop μ-loop) → c .args .i * length (c .args .bcodes .now) + length (c .args .bcodes .now) ≤ length (c .args .marks .now)
 room c = rw (c .pre .0) (place-room (length (c .args .bcodes .now)) (c .args .i) (length (c .args .acodes .now)) (c .pre .2))
 
-mul-row : tie.Need-mul-row Inv-loop μ-loop
-mul-row c = omega (arith, room (c .before .before .before))
-
-add-end : tie.Need-add-end Inv-loop μ-loop
-add-end c = omega (arith, room (c .before .before .before))
-
 returns : tie.Need-returns Inv-loop μ-loop
 returns c =
     let a = c .before .before .before .before .before .args in
     no-start (a .acodes .now) (a .bcodes .now) (λ x. bit x (a .ainitial)) (λ x. not (bit x (a .binitial))) (a .marks .now) (a .i)
     (c .before .before .before .before .before .pre .1) (sym (c .before .begins-here .ensures) ∙ not-t _ (c .if1 .taken))
 
-next-set-requires : tie.Need-next-set-requires Inv-loop μ-loop
-next-set-requires c κs = (omega arith, room (c .before .before .before .before .before))
-
 loop-holds : tie.Need-loop-holds Inv-loop μ-loop
 loop-holds c =
-    let s = c .before .before .before .before .before .before in
-    let a = s .args in
+    let s = c .before .before .before .before .before .before in let a = s .args in
     let n = c .next-set .ensures in (
       refl,
       refl,
@@ -58,17 +48,10 @@ loop-holds c =
       none-zeros (a .acodes .now) (a .bcodes .now) (λ x. bit x (a .ainitial)) (λ x. not (bit x (a .binitial))) (a .marks .now) (a .i) _ (n .before),
     )
 
-sub-begins-lacking : tie.Need-sub-begins-lacking Inv-loop μ-loop
-sub-begins-lacking c = omega (arith, c .before .loop .inv .3)
-
-shared-slice-read-begins-lacking : tie.Need-shared-slice-read-begins-lacking Inv-loop μ-loop
-shared-slice-read-begins-lacking c = let l = c .before .before .loop in omega (arith, l .inv .0, l .inv .1)
-
 returns-2 : tie.Need-returns-2 Inv-loop μ-loop
 returns-2 c =
     let start = c .before .before .before .before .before .before .before .before .before .before .before in
-    let l = c .before .before .before .before .loop in
-    let a = start .args in
+    let l = c .before .before .before .before .loop in let a = start .args in
     found (a .acodes .now) (a .bcodes .now) (λ x. bit x (a .ainitial)) (λ x. not (bit x (a .binitial))) (a .marks .now) (a .i) (l .x)
     (omega (arith, l .inv .0)) (omega (arith, l .inv .1)) (l .inv .5 (c .before .before .before .loop-test .taken)) (l .inv .6)
     (sym (c .before .begins-lacking .ensures) ∙ c .if2 .taken)
@@ -79,8 +62,7 @@ loop-less c = omega (arith, c .next-set2 .ensures .before .ordered, c .before .b
 loop-again : tie.Need-loop-again Inv-loop μ-loop
 loop-again c =
     let start = c .before .before .before .before .before .before .before .before .before .before .before .before in
-    let l = c .before .before .before .before .before .loop in
-    let a = start .args in
+    let l = c .before .before .before .before .before .loop in let a = start .args in
     let n = c .next-set2 .ensures in (
       l .inv .0,
       l .inv .1,
@@ -96,8 +78,7 @@ loop-again c =
 
 returns-3 : tie.Need-returns-3 Inv-loop μ-loop
 returns-3 c =
-    let start = c .before .before .before .before .before .before .before .before in
-    let l = c .before .loop in
+    let start = c .before .before .before .before .before .before .before .before in let l = c .before .loop in
     let a = start .args in
     ended (a .acodes .now) (a .bcodes .now) (λ x. bit x (a .ainitial)) (λ x. not (bit x (a .binitial))) (a .marks .now) (a .i) (l .x)
     (omega (arith, l .inv .1, l .inv .4)) (l .inv .7)
@@ -105,5 +86,7 @@ returns-3 c =
 pub start-in-row-spec : {M : Type 1} → statement M
 start-in-row-spec =
     tie.close (tie.spec
-    Inv-loop μ-loop mul-row add-end (λ c κs. search needs) returns next-set-requires loop-holds sub-begins-lacking (λ c. search needs)
-    shared-slice-read-begins-lacking (λ c κs. search needs) returns-2 (λ c. search needs) (λ c κs. search needs) loop-less loop-again returns-3)
+    Inv-loop μ-loop (λ c. omega (arith, room (c .before .before .before))) (λ c. omega (arith, room (c .before .before .before)))
+    (λ c κs. search needs) returns (λ c κs. (omega arith, room (c .before .before .before .before .before))) loop-holds
+    (λ c. omega (arith, c .before .loop .inv .3)) (λ c. search needs) (λ c. let l = c .before .before .loop in omega (arith, l .inv .0, l .inv .1))
+    (λ c κs. search needs) returns-2 (λ c. search needs) (λ c κs. search needs) loop-less loop-again returns-3)

@@ -39,9 +39,7 @@ slice-write-codes c = let l = c .before .before .before .before .loop in omega (
 loop-again : tie.Need-loop-again Inv-loop μ-loop
 loop-again c =
     let start = c .before .before .before .before .before .before .before .before in
-    let l = c .before .before .before .before .loop in
-    let a = start .args in
-    let h = l .inv .3 in
+    let l = c .before .before .before .before .loop in let a = start .args in let h = l .inv .3 in
     let k : l .i < length (l .codes) = omega (arith, h .long, l .inv .0) in (
       l .inv .0,
       l .inv .1,
@@ -52,8 +50,7 @@ loop-again c =
 
 returns-2 : tie.Need-returns-2 Inv-loop μ-loop
 returns-2 c =
-    let l = c .before .loop in
-    let a = c .before .before .before .before .before .args in
+    let l = c .before .loop in let a = c .before .before .before .before .before .args in
     let e : l .i ≡ length (a .codes .now) = omega (arith, l .inv .0) in
     some-go (a .codes .now) (a .live .now) (l .codes) (omega (arith, l .inv .0)) (rw e at (l .inv .3))
 

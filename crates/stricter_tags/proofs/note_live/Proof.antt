@@ -10,10 +10,8 @@ use Rattle.stricter_tags.proofs.note_live.Tie as tie
 returns : tie.Need-returns
 returns c =
     let at-mark-live = c .before .before .before .before .before .before .before .before .before .before .before in
-    let start = at-mark-live .before .before .before .before .before in
-    let a = start .args in
-    let m = at-mark-live .mark-live in
-    let n = c .before .before .before .before .before .before .note-marks in
+    let start = at-mark-live .before .before .before .before .before in let a = start .args in
+    let m = at-mark-live .mark-live in let n = c .before .before .before .before .before .before .note-marks in
     let s = c .before .before .strip in
     (s .ensures ∙ low-lows _ ∙ m .ensures .1, noted _ (liveMarks (a .codes .now) (a .moves .now)) _ _ _ (m .ensures .0) (m .kept .0) (n .ensures))
 

@@ -27,8 +27,7 @@ slice-write-live c =
 
 loop-again : tie.Need-loop-again Inv-loop μ-loop
 loop-again c =
-    let at-loop = c .before .before .before in
-    let start = at-loop .before .before .before in
+    let at-loop = c .before .before .before in let start = at-loop .before .before .before in
     let l = at-loop .loop in (
       omega arith,
       filled-next (λ k. one (ltb 0 (getD (start .args .codes .now) k 0 / 2 ^ 48))) 0 (l .i) (start .args .live .now) (l .live) _ (omega arith)

@@ -48,9 +48,7 @@ loop-again c =
 
 returns : tie.Need-returns Inv-loop μ-loop
 returns c =
-    let l = c .before .loop in
-    let a = c .before .before .args in
-    let F = l .inv .2 in
+    let l = c .before .loop in let a = c .before .before .args in let F = l .inv .2 in
     ext-getD 0 (l .list) (lowParts (2 ^ a .bits) (a .list .now)) (F .long ∙ sym (low-long (2 ^ a .bits) (a .list .now)))
     (λ k h. F .inside k (omega arith) (omega (arith, F .long)) ∙ sym (low-at (2 ^ a .bits) (pow-pos (a .bits)) (a .list .now) k))
 

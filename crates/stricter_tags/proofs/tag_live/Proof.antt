@@ -31,11 +31,8 @@ returns : tie.Need-returns
 returns c =
     let at-tag-table = c .before .before .before .before .before .before .before .before .before in
     let at-note-live = at-tag-table .before .before .before .before .before .before .before in
-    let start-2 = at-note-live .before .before .before .before .before .before .before in
-    let a = start-2 .args in
-    let n = at-note-live .note-live in
-    let t = at-tag-table .tag-table in
-    let b = c .before .before .bury in
+    let start-2 = at-note-live .before .before .before .before .before .before .before in let a = start-2 .args in
+    let n = at-note-live .note-live in let t = at-tag-table .tag-table in let b = c .before .before .bury in
     λ r start T few e f.
     let (X, Y) = t .ensures r start T (omega (arith, n .kept .0)) (n .ensures .0 ∙ e) f in
     let U : TaggedCodes (a .codes .now) _ = rw (n .ensures .0) at X in

@@ -28,8 +28,7 @@ tag-moves-requires c κs =
 
 returns : tie.Need-returns
 returns c =
-    let at-tag-codes = c .before .before .before .before .before .before .before in
-    let t = at-tag-codes .tag-codes in
+    let at-tag-codes = c .before .before .before .before .before .before .before in let t = at-tag-codes .tag-codes in
     λ r start T few e f. (t .ensures, rw e (c .before .before .tag-moves .ensures r start T (omega (arith, t .kept .0)) (rw e at (t .ensures)) f))
 
 pub tag-table-spec : {M : Type 1} → statement M

@@ -19,9 +19,6 @@ Inv-loop codes i components core top h₀ h = (h ≤ getD codes i 0 / 1099511627
 abbrev μ-loop : tie.MeasureT-loop
 μ-loop codes i components core top h₀ h = getD codes i 0 / 1099511627776 - h
 
-loop-holds : tie.Need-loop-holds Inv-loop μ-loop
-loop-holds c = (omega arith, λ j l e. omega arith)
-
 -- the code of i fits
 fits : (c : tie.At-loop Inv-loop μ-loop) → getD (c .before .before .before .before .args .codes .now) (c .before .before .before .before .args .i) 0 < 2 ^ 64
 fits c = omega (arith, c .before .shared-slice-known3 .given (c .before .before .before .before .args .i))
@@ -29,18 +26,11 @@ fits c = omega (arith, c .before .shared-slice-known3 .given (c .before .before 
 low : (x h : ℕ) → bitAnd x 1099511627775 + h * 1099511627776 ≡ coreIn x + h * 1099511627776
 low x h = ap (λ (y : ℕ). y + h * 1099511627776) (and-mask x 40)
 
-add-h : tie.Need-add-h Inv-loop μ-loop
-add-h c = omega (arith, fits (c .before .before))
-
 loop-again : tie.Need-loop-again Inv-loop μ-loop
 loop-again c =
     let a = c .before .before .before .before .before .before .args in
-    let p = c .before .before .before .before .before .before .pre in
-    let l = c .before .before .loop in
+    let p = c .before .before .before .before .before .before .pre in let l = c .before .before .loop in
     (omega arith, skip (a .codes .now) (a .i) (p .0) (p .1) (l .h) (l .inv .1) (a .components) (p .2) (omega (arith, and-mask (l .h) 4, c .if1 .taken)))
-
-mul-key : tie.Need-mul-key Inv-loop μ-loop
-mul-key c = omega (arith, fits (c .before .before))
 
 add-key : tie.Need-add-key Inv-loop μ-loop
 add-key c =
@@ -66,29 +56,19 @@ near c =
 
 mul-if2 : tie.Need-mul-if2 Inv-loop μ-loop
 mul-if2 c =
-    let start = c .before .before .before .before .before .before .before in
-    let a = start .args in
+    let start = c .before .before .before .before .before .before .before in let a = start .args in
     scaled-fits _ (length (a .codes .now)) 8 (omega (arith, near c)) (start .good .0 .1)
-
-shared-slice-read-if2 : tie.Need-shared-slice-read-if2 Inv-loop μ-loop
-shared-slice-read-if2 c = omega (arith, near (c .before))
 
 returns : tie.Need-returns Inv-loop μ-loop
 returns c =
-    let start = c .before .before .before .before .before .before .before .before .before in
-    let a = start .args in
-    let p = start .pre in
-    let l = c .before .before .before .before .before .loop in
+    let start = c .before .before .before .before .before .before .before .before .before in let a = start .args in
+    let p = start .pre in let l = c .before .before .before .before .before .loop in
     hit (a .codes .now) (a .i) (p .0) (p .1) (l .h) (l .inv .1) (c .before .before .place .result) (near (c .before .before))
     (c .if2 .taken ∙ low (getD (a .codes .now) (a .i) 0) (l .h))
 
-add-h-2 : tie.Need-add-h-2 Inv-loop μ-loop
-add-h-2 c = omega (arith, fits (c .before .before .before .before .before))
-
 loop-again-2 : tie.Need-loop-again-2 Inv-loop μ-loop
 loop-again-2 c =
-    let start = c .before .before .before .before .before .before .before .before .before in
-    let a = start .args in
+    let start = c .before .before .before .before .before .before .before .before .before in let a = start .args in
     let p = start .pre in
     let l = c .before .before .before .before .before .loop in (
       omega arith,
@@ -99,13 +79,14 @@ loop-again-2 c =
 
 returns-2 : tie.Need-returns-2 Inv-loop μ-loop
 returns-2 c =
-    let a = c .before .before .before .before .before .args in
-    let p = c .before .before .before .before .before .pre in
+    let a = c .before .before .before .before .before .args in let p = c .before .before .before .before .before .pre in
     let l = c .before .loop in
     last (a .codes .now) (a .i) (p .0) (p .1) (l .h) (l .inv .1) (omega arith)
 
 pub first-of-spec : {M : Type 1} → statement M
 first-of-spec =
     tie.close (tie.spec
-    Inv-loop μ-loop (λ c. search needs) (λ c. search needs) (λ c. search needs) (λ c. search needs) loop-holds add-h (λ c. omega arith) loop-again mul-key
-    add-key place-requires mul-if2 shared-slice-read-if2 returns add-h-2 (λ c. omega arith) loop-again-2 returns-2)
+    Inv-loop μ-loop (λ c. search needs) (λ c. search needs) (λ c. search needs) (λ c. search needs) (λ c. (omega arith, λ j l e. omega arith))
+    (λ c. omega (arith, fits (c .before .before))) (λ c. omega arith) loop-again (λ c. omega (arith, fits (c .before .before))) add-key place-requires
+    mul-if2 (λ c. omega (arith, near (c .before))) returns (λ c. omega (arith, fits (c .before .before .before .before .before))) (λ c. omega arith)
+    loop-again-2 returns-2)

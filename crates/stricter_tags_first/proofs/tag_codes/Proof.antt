@@ -35,8 +35,7 @@ front c =
 
 first-of-requires : tie.Need-first-of-requires Inv-loop μ-loop
 first-of-requires c κs =
-    let a = c .before .before .before .before .args in
-    let p = c .before .before .before .before .pre in
+    let a = c .before .before .before .before .args in let p = c .before .before .before .before .pre in
     let l = c .before .before .loop in (
       omega (arith, l .inv .1 .long),
       rw (front (c .before)) (asc-take (a .codes .now) (l .i - 1 + 1) (omega arith) (p .1)),
@@ -46,35 +45,23 @@ first-of-requires c κs =
 -- what was found
 found : (c : tie.After-first-of Inv-loop μ-loop) → c .first-of .result ≡ firstOf (c .before .before .before .before .before .args .codes .now) (c .before .before .before .loop .i - 1)
 found c =
-    let a = c .before .before .before .before .before .args in
-    let l = c .before .before .before .loop in
+    let a = c .before .before .before .before .before .args in let l = c .before .before .before .loop in
     c .first-of .ensures ∙ ap (λ (xs : List ℕ). firstOf xs (l .i - 1)) (front (c .before .before)) ∙ first-take (a .codes .now) (l .i - 1) (omega arith)
 
 low : (c : tie.After-first-of Inv-loop μ-loop) → c .first-of .result < 65536
 low c =
-    let a = c .before .before .before .before .before .args in
-    let l = c .before .before .before .loop in
+    let a = c .before .before .before .before .before .args in let l = c .before .before .before .loop in
     let b = first-low (a .codes .now) (l .i - 1) in
     omega (arith, found c, c .before .before .before .before .before .pre .0)
-
-mul-codes : tie.Need-mul-codes Inv-loop μ-loop
-mul-codes c = omega (arith, low c)
 
 mul-codes-2 : tie.Need-mul-codes-2 Inv-loop μ-loop
 mul-codes-2 c = scaled-fits _ (length (c .before .before .before .before .before .args .codes .now)) 8 (omega (arith, c .before .before .before .loop .inv .1 .long))
     (c .before .before .before .before .before .good .0 .1)
 
-slice-read-codes : tie.Need-slice-read-codes Inv-loop μ-loop
-slice-read-codes c = omega (arith, c .before .before .before .before .loop .inv .1 .long)
-
 add-codes : tie.Need-add-codes Inv-loop μ-loop
 add-codes c =
-    let p = c .before .before .before .before .before .before .pre in
-    let l = c .before .before .before .before .loop in
+    let p = c .before .before .before .before .before .before .pre in let l = c .before .before .before .before .loop in
     omega (arith, low (c .before), l .inv .1 .outside (l .i - 1) (inl (omega arith)), p .2 (l .i - 1) (omega arith) .0)
-
-slice-write-codes : tie.Need-slice-write-codes Inv-loop μ-loop
-slice-write-codes c = omega (arith, c .before .before .before .before .loop .inv .1 .long)
 
 loop-again : tie.Need-loop-again Inv-loop μ-loop
 loop-again c =
@@ -94,5 +81,7 @@ returns c =
 pub tag-codes-spec : {M : Type 1} → statement M
 tag-codes-spec =
     tie.close (tie.spec
-    Inv-loop μ-loop loop-holds (λ c. omega arith) first-of-requires mul-codes mul-codes-2 slice-read-codes add-codes slice-write-codes (λ c. omega arith)
-    loop-again (λ c. c .before .loop .inv .1 .long) returns)
+    Inv-loop μ-loop loop-holds (λ c. omega arith) first-of-requires (λ c. omega (arith, low c)) mul-codes-2
+    (λ c. omega (arith, c .before .before .before .before .loop .inv .1 .long)) add-codes
+    (λ c. omega (arith, c .before .before .before .before .loop .inv .1 .long)) (λ c. omega arith) loop-again (λ c. c .before .loop .inv .1 .long)
+    returns)

@@ -38,18 +38,14 @@ add-spared c =
     let l = c .before .before .before .before .before .loop in
     omega (arith, put c, mask-small (l .k + 1) (sparedIn (a .ranks) (a .parts .now) (a .levels .now)) (omega arith))
 
-loop-again : tie.Need-loop-again Inv-loop μ-loop
-loop-again c = (omega arith, put c)
-
 returns : tie.Need-returns Inv-loop μ-loop
 returns c =
-    let a = c .before .before .args in
-    let l = c .before .loop in
+    let a = c .before .before .args in let l = c .before .loop in
     let e : l .k ≡ a .components = omega arith in
     l .inv .1 ∙ ap (λ (n : ℕ). mask n (sparedIn (a .ranks) (a .parts .now) (a .levels .now))) e
 
 pub spared-in-spec : {M : Type 1} → statement M
 spared-in-spec =
     tie.close (tie.spec
-    Inv-loop μ-loop loop-holds (λ c. search needs) (λ c κs. search needs) (λ c. search needs) (λ c. search needs) (λ c. search needs) (λ c κs. search needs)
-    (λ c. search needs) add-spared (λ c. search needs) (λ c. search needs) loop-again returns)
+    Inv-loop μ-loop loop-holds (λ c. search needs) (λ c κs. search needs) (λ c. search needs) (λ c. search needs) (λ c. search needs)
+    (λ c κs. search needs) (λ c. search needs) add-spared (λ c. search needs) (λ c. search needs) (λ c. (omega arith, put c)) returns)

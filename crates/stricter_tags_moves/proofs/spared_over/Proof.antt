@@ -13,8 +13,7 @@ use Rattle.stricter_tags_moves.proofs.spared_over.Tie as tie
 
 step-back-requires : tie.Need-step-back-requires
 step-back-requires c κs =
-    let a = c .before .before .args in
-    let p = c .before .before .pre in
+    let a = c .before .before .args in let p = c .before .before .pre in
     let e = p .0 in (
       few (e .1 .shaped),
       rises (e .1) (a .letter) (p .2) (p .1) (c .before .lowest .result) (c .before .lowest .ensures),
@@ -29,8 +28,7 @@ spared-in-requires c κs =
 returns : tie.Need-returns
 returns c =
     let a = c .before .before .before .before .before .before .args in
-    let p = c .before .before .before .before .before .before .pre in
-    let e = p .0 in
+    let p = c .before .before .before .before .before .before .pre in let e = p .0 in
     let b = c .before .before .before .step-back in
     let low = c .before .before .before .before .before .lowest in (
       omega (arith, c .spared-in .ensures, mask-small (a .shape .components) (sparedIn (a .ranks) (a .parts .now) (b .result .levels)) (few (e .1 .shaped))),

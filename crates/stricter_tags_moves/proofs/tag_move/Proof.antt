@@ -48,22 +48,9 @@ low c =
     let (r, start, T, few, C, m) = c .before .before .before .before .before .pre in
     move-low r (a .opens .now) (a .parts .now) (a .shape) T start (a .codes .now) few C (a .t) m
 
-mul-result : tie.Need-mul-result
-mul-result c = omega (arith, top c)
-
-add-result : tie.Need-add-result
-add-result c = omega (arith, top c, low c)
-
-mul-result-2 : tie.Need-mul-result-2
-mul-result-2 c = omega (arith, c .spared-over .ensures .0)
-
-add-result-2 : tie.Need-add-result-2
-add-result-2 c = omega (arith, top c, low c, c .spared-over .ensures .0)
-
 returns : tie.Need-returns
 returns c =
-    let a = c .before .before .before .before .before .args in
-    let t = c .before .before .before .target-of in
+    let a = c .before .before .before .before .before .args in let t = c .before .before .before .target-of in
     let s = c .spared-over in
     λ r start T few C m.
     let N = target r (a .opens .now) (a .parts .now) (a .shape) T start (a .codes .now) few C (a .t) m in
@@ -81,5 +68,6 @@ returns c =
 pub tag-move-spec : {M : Type 1} → statement M
 tag-move-spec =
     tie.close (tie.spec
-    (λ c κs. search needs) (λ c. search needs) shared-slice-read-d (λ c κs. search needs) spared-over-requires mul-result add-result mul-result-2 add-result-2
+    (λ c κs. search needs) (λ c. search needs) shared-slice-read-d (λ c κs. search needs) spared-over-requires (λ c. omega (arith, top c))
+    (λ c. omega (arith, top c, low c)) (λ c. omega (arith, c .spared-over .ensures .0)) (λ c. omega (arith, top c, low c, c .spared-over .ensures .0))
     returns)

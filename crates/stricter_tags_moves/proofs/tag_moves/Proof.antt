@@ -55,16 +55,9 @@ mul-moves : tie.Need-mul-moves Inv-loop μ-loop
 mul-moves c = scaled-fits _ (length (c .before .before .before .before .before .before .args .moves .now)) 8 (omega (arith, c .before .before .before .loop .inv .1))
     (c .before .before .before .before .before .before .good .0 .1)
 
-add-i : tie.Need-add-i Inv-loop μ-loop
-add-i c = omega (arith, c .before .before .before .loop .inv .1)
-
-loop-less : tie.Need-loop-less Inv-loop μ-loop
-loop-less c = omega (arith, c .before .before .before .loop .inv .1)
-
 loop-again : tie.Need-loop-again Inv-loop μ-loop
 loop-again c =
-    let a = c .before .before .before .before .before .before .args in
-    let l = c .before .before .before .loop in
+    let a = c .before .before .before .before .before .before .args in let l = c .before .before .before .loop in
     let same : getD (l .moves) (l .i) 0 ≡ getD (a .moves .now) (l .i) 0 = l .inv .2 (l .i) (omega arith) in (
       omega (arith, l .inv .1),
       length-set (l .moves) (l .i) _ ∙ l .inv .1,
@@ -84,5 +77,6 @@ returns c =
 pub tag-moves-spec : {M : Type 1} → statement M
 tag-moves-spec =
     tie.close (tie.spec
-    Inv-loop μ-loop loop-holds mul-tag-move (λ c. omega arith) tag-move-requires mul-moves (λ c. omega arith) add-i loop-less loop-again
+    Inv-loop μ-loop loop-holds mul-tag-move (λ c. omega arith) tag-move-requires mul-moves (λ c. omega arith)
+    (λ c. omega (arith, c .before .before .before .loop .inv .1)) (λ c. omega (arith, c .before .before .before .loop .inv .1)) loop-again
     (λ c. c .before .loop .inv .1) returns)

@@ -11,18 +11,14 @@ use Rattle.table_judge.proofs.judge_table_bytes.Tie as tie
 judge-lent-requires : tie.Need-judge-lent-requires
 judge-lent-requires c κs =
     let start = c .before .before .before .before .before .before .before .before .before .before .before .before .before in
-    let f = start .args .file .now in
-    let l = c .before .before .before .before .l .given .0 .0 in
+    let f = start .args .file .now in let l = c .before .before .before .before .l .given .0 .0 in
     initial-low f l (served f l (sym (c .before .before .before .before .before .before .read-rule .ensures) ∙ c .before .before .before .before .l .given .1))
 
 returns : tie.Need-returns
 returns c =
-    let at-l = c .before .before .before .before .before .before .before in
-    let at-read-rule = at-l .before .before in
-    let start = at-read-rule .before .before .before .before .before .before .before in
-    let a = start .args in
-    let l = at-l .l .given .0 .0 in
-    let j = c .before .before .judge-lent in
+    let at-l = c .before .before .before .before .before .before .before in let at-read-rule = at-l .before .before in
+    let start = at-read-rule .before .before .before .before .before .before .before in let a = start .args in
+    let l = at-l .l .given .0 .0 in let j = c .before .before .judge-lent in
     judged-called (a .file .now) (a .lead .now) (a .cycle .now) (inBytes (a .codes .now)) (inBytes (a .transitions .now)) (a .scratch .now) l (j .last .1 .1 .1 .1 .1 .1 .1 .0) (j .result)
     (served (a .file .now) l (sym (at-read-rule .read-rule .ensures) ∙ at-l .l .given .1))
     (rw (both-bytes (a .codes .now), both-bytes (a .transitions .now)) at (j .ensures))
@@ -30,8 +26,7 @@ returns c =
 returns-2 : tie.Need-returns-2
 returns-2 c =
     let start = c .before .before .before .before .before .before .before .before .before .before in
-    let a = start .args in
-    let k = c .before .k .given .0 .0 in
+    let a = start .args in let k = c .before .k .given .0 .0 in
     let t = turned-away (a .file .now) k (sym (c .before .before .before .read-rule .ensures) ∙ c .before .k .given .1) in
     judged-refused (a .file .now) (a .lead .now) (a .cycle .now) (inBytes (a .codes .now)) (inBytes (a .transitions .now)) (a .scratch .now) k (λ e. t .1 (t .0 ∙ e)) (sym (t .0))
 

@@ -5,8 +5,5 @@ use Rattle.table_lent.proofs.Reading.{both-length}
 use Rattle.table_lent.proofs.count.Statement.{statement}
 use Rattle.table_lent.proofs.count.Tie as tie
 
-returns : tie.Need-returns
-returns c = omega (arith, both-length (c .args .words .now) (c .args .bytes .now))
-
 pub count-spec : {M : Type 1} → statement M
-count-spec = tie.close (tie.spec (λ c. search needs) returns)
+count-spec = tie.close (tie.spec (λ c. search needs) (λ c. omega (arith, both-length (c .args .words .now) (c .args .bytes .now))))

@@ -21,8 +21,7 @@ returns-2 c =
 
 returns-3 : tie.Need-returns-3
 returns-3 c =
-    let start = c .before .before .before .before .before .before .before in
-    let a = start .args in
+    let start = c .before .before .before .before .before .before .before in let a = start .args in
     let over : letterOf (a .t) ≡ a .letter = omega (arith, c .before .before .before .before .before .letter-of .ensures, c .before .before .before .before .if1 .left) in
     rw (c .source-of .ensures)
     (sym (by-marked (a .letter) (a .here) (a .there) (a .t) (a .marks .now) over (rw (sym (c .before .before .before .target-of .ensures)) (omega (arith, c .before .if2 .left)))))

@@ -18,17 +18,10 @@ Inv-loop moves movebytes letter marks₀ here there m i₀ marks i = (i ≤ leng
 abbrev μ-loop : tie.MeasureT-loop
 μ-loop moves movebytes letter marks₀ here there m i₀ marks i = length (inBoth moves movebytes .numbers) - i
 
-loop-holds : tie.Need-loop-holds Inv-loop μ-loop
-loop-holds c = (omega arith, refl, refl)
-
-element-requires : tie.Need-element-requires Inv-loop μ-loop
-element-requires c κs = omega (arith, c .before .before .count .ensures)
-
 enter-requires : tie.Need-enter-requires Inv-loop μ-loop
 enter-requires c κs =
     let start = c .before .before .before .before .before .before .before .before in
-    let l = c .before .before .before .loop in
-    let a = start .args in
+    let l = c .before .before .before .loop in let a = start .args in
     let k = inBoth (a .moves .now) (a .movebytes .now) .numbers in
     let h = start .pre (getD k (l .i) 0) (mem-at k (l .i) (omega (arith, c .before .before .before .before .count .ensures))) in
     rw (c .before .element .ensures, l .inv .1) h
@@ -42,8 +35,7 @@ loop-again : tie.Need-loop-again Inv-loop μ-loop
 loop-again c =
     let at-count = c .before .before .before .before .before .before .before in
     let start = at-count .before .before .before .before in
-    let l = c .before .before .before .before .before .before .loop in
-    let a = start .args in
+    let l = c .before .before .before .before .before .before .loop in let a = start .args in
     let k = inBoth (a .moves .now) (a .movebytes .now) .numbers in
     let e = c .before .before .enter .ensures ∙ ap (λ (t : ℕ). enteredBy (a .letter) (a .here) (a .there) t (l .marks)) (c .before .before .before .before .element .ensures) in (
       omega (arith, at-count .count .ensures),
@@ -54,12 +46,11 @@ loop-again c =
 
 returns : tie.Need-returns Inv-loop μ-loop
 returns c =
-    let l = c .before .loop in
-    let a = c .before .before .before .before .before .before .args in
+    let l = c .before .loop in let a = c .before .before .before .before .before .before .args in
     sym (l .inv .2 ∙ all-end (a .letter) (a .here) (a .there) (inBoth (a .moves .now) (a .movebytes .now) .numbers) (l .marks) (l .i) (omega (arith, c .before .before .count .ensures)))
 
 pub enter-all-spec : {M : Type 1} → statement M
 enter-all-spec =
     tie.close (tie.spec
-    Inv-loop μ-loop (λ c κs. search needs) loop-holds element-requires enter-requires (λ c. search needs) loop-less loop-again (λ c. c .before .loop .inv .1)
-    returns)
+    Inv-loop μ-loop (λ c κs. search needs) (λ c. (omega arith, refl, refl)) (λ c κs. omega (arith, c .before .before .count .ensures)) enter-requires
+    (λ c. search needs) loop-less loop-again (λ c. c .before .loop .inv .1) returns)

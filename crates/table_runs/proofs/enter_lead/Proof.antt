@@ -38,18 +38,14 @@ add-enter-all c =
 enter-all-requires : tie.Need-enter-all-requires Inv-loop μ-loop
 enter-all-requires c κs =
     let start = c .before .before .before .before .before .before .before .before in
-    let l = c .before .before .before .loop in
-    let a = start .args in
-    let p = start .pre in
+    let l = c .before .before .before .loop in let a = start .args in let p = start .pre in
     let e : suc (l .p - 1) ≡ l .p = omega arith in
     within (a .n) (a .lead .now) (inBoth (a .moves .now) (a .movebytes .now) .numbers) (a .marks .now) (p .0) (p .1) (l .p - 1) (l .marks) (omega arith) (rw e (l .inv .1))
 
 loop-again : tie.Need-loop-again Inv-loop μ-loop
 loop-again c =
     let start = c .before .before .before .before .before .before .before .before .before .before .before in
-    let l = c .before .before .before .before .before .before .loop in
-    let a = start .args in
-    let p = start .pre in
+    let l = c .before .before .before .before .before .before .loop in let a = start .args in let p = start .pre in
     let e : suc (l .p - 1) ≡ l .p = omega arith in (
       omega arith,
       rw (c .before .before .enter-all .ensures) (turn (a .n) (a .lead .now) (inBoth (a .moves .now) (a .movebytes .now) .numbers) (a .marks .now) (p .0) (p .1) (l .p - 1) (l .marks)
@@ -58,8 +54,7 @@ loop-again c =
 
 returns : tie.Need-returns Inv-loop μ-loop
 returns c =
-    let l = c .before .loop in
-    let a = c .before .before .before .before .before .before .args in
+    let l = c .before .loop in let a = c .before .before .before .before .before .before .args in
     let e : l .p ≡ 0 = omega arith in
     all-done (a .n) (a .lead .now) (inBoth (a .moves .now) (a .movebytes .now) .numbers) (a .marks .now) (l .marks) (rw e at (l .inv .1))
 

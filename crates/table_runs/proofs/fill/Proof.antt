@@ -41,11 +41,8 @@ part-fill-cycle-start c =
 fill-cycle-requires : tie.Need-fill-cycle-requires
 fill-cycle-requires c κs =
     let at-count = c .before .before .before .before .before in
-    let start = at-count .before .before .before .before .before .before .before .before in
-    let a = start .args in
-    let p = start .pre in
-    let w = c .before .before .before .fill-with in
-    let n = at-count .count .result in
+    let start = at-count .before .before .before .before .before .before .before .before in let a = start .args in
+    let p = start .pre in let w = c .before .before .before .fill-with in let n = at-count .count .result in
     let h = parts-sum (length (start .args .lead .now)) (length (start .args .cycle .now)) (length (inBoth (start .args .codes .now) (start .args .codebytes .now) .numbers)) (at-count .count .result)
     (length (start .args .marks .now)) (at-count .count .ensures) (start .pre .marked) in
     let e : length (take (length (w .last .0) - length (a .lead .now) * n) (drop (length (a .lead .now) * n) (w .last .0))) ≡ length (a .cycle .now) * n =
@@ -56,11 +53,8 @@ enter-lead-requires : tie.Need-enter-lead-requires
 enter-lead-requires c κs =
     let at-fill-with = c .before .before .before .before .before .before .before in
     let at-count = at-fill-with .before .before in
-    let start = at-count .before .before .before .before .before .before .before .before in
-    let a = start .args in
-    let p = start .pre in
-    let w = at-fill-with .fill-with in
-    let f = c .before .before .before .fill-cycle in
+    let start = at-count .before .before .before .before .before .before .before .before in let a = start .args in
+    let p = start .pre in let w = at-fill-with .fill-with in let f = c .before .before .before .fill-cycle in
     let n = at-count .count .result in
     let h = parts-sum (length (start .args .lead .now)) (length (start .args .cycle .now)) (length (inBoth (start .args .codes .now) (start .args .codebytes .now) .numbers)) (at-count .count .result)
     (length (start .args .marks .now)) (at-count .count .ensures) (start .pre .marked) in
@@ -78,12 +72,9 @@ returns : tie.Need-returns
 returns c =
     let at-fill-with = c .before .before .before .before .before .before .before .before .before .before in
     let at-count = at-fill-with .before .before in
-    let start = at-count .before .before .before .before .before .before .before .before in
-    let a = start .args in
-    let p = start .pre in
-    let w = at-fill-with .fill-with in
-    let f = c .before .before .before .before .before .before .fill-cycle in
-    let n = at-count .count .result in
+    let start = at-count .before .before .before .before .before .before .before .before in let a = start .args in
+    let p = start .pre in let w = at-fill-with .fill-with in
+    let f = c .before .before .before .before .before .before .fill-cycle in let n = at-count .count .result in
     let h = parts-sum (length (start .args .lead .now)) (length (start .args .cycle .now)) (length (inBoth (start .args .codes .now) (start .args .codebytes .now) .numbers)) (at-count .count .result)
     (length (start .args .marks .now)) (at-count .count .ensures) (start .pre .marked) in
     let at : ℕ = length (a .lead .now) * n in

@@ -10,16 +10,13 @@ use Rattle.table_runs.proofs.fill_cycle.Tie as tie
 solve-requires : tie.Need-solve-requires
 solve-requires c κs =
     let start = c .before .before .before .before .before .before .before .before .before .before .before in
-    let a = start .args in
-    let w = c .before .before .before .fill-with in
+    let a = start .args in let w = c .before .before .before .fill-with in
     (fits-long _ _ _ _ _ (w .kept .0) (start .pre), rw (w .ensures) (all-two (length (a .marks .now))))
 
 returns : tie.Need-returns
 returns c =
     let start = c .before .before .before .before .before .before .before .before .before .before .before .before .before .before in
-    let a = start .args in
-    let q = start .pre in
-    let w = c .before .before .before .before .before .before .fill-with in
+    let a = start .args in let q = start .pre in let w = c .before .before .before .before .before .before .fill-with in
     let s = c .before .before .solve in
     solution (inBoth (a .codes .now) (a .codebytes .now) .numbers) (inBoth (a .moves .now) (a .movebytes .now) .numbers) (a .cycle .now)
     (q .repeats) (q .sources) (q .targets) (w .last .0) (s .last .1 .1 .1 .1 .1 .0)

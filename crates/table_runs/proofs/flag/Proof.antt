@@ -23,8 +23,7 @@ loop-holds c = (
 
 flag-node-requires : tie.Need-flag-node-requires Inv-loop μ-loop
 flag-node-requires c κs =
-    let l = c .before .before .loop in
-    let a = c .before .before .before .before .before .before .args in
+    let l = c .before .before .loop in let a = c .before .before .before .before .before .before .args in
     let p = c .before .before .before .before .before .before .pre in
     (omega arith, some-codes (p .0) (length (inBoth (a .codes .now) (a .codebytes .now) .numbers)) (l .x) (length (a .marks .now)) (p .1) (omega (arith, l .inv .1 .long)))
 

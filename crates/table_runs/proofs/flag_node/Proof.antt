@@ -17,14 +17,12 @@ returns c = let a = c .before .before .before .before .before .args in sym (flag
 
 element-requires : tie.Need-element-requires
 element-requires c κs =
-    let e = c .count .ensures in
-    let h = c .before .before .before .before .before .before .pre .1 in
+    let e = c .count .ensures in let h = c .before .before .before .before .before .before .pre .1 in
     rw (sym e) (mod-lt (c .before .before .before .before .before .before .args .x) (omega arith))
 
 returns-2 : tie.Need-returns-2
 returns-2 c =
-    let start = c .before .before .before .before .before .before .before .before in
-    let a = start .args in
+    let start = c .before .before .before .before .before .before .before .before in let a = start .args in
     let k = inBoth (a .codes .now) (a .codebytes .now) .numbers in
     sym (flagged-in k (a .marks .now) (a .x) (c .before .before .before .if1 .left)
     ∙ ap (λ (v : ℕ). set (a .marks .now) (a .x) v) (sym (c .flag-of .ensures ∙ ap flagOf (c .before .element .ensures ∙ ap (λ (n : ℕ). getD k (a .x % n) 0) (c .before .before .count .ensures)))))

@@ -13,12 +13,6 @@ Inv-loop marks₀ x₀ marks x = (x ≤ length marks₀) × RaisedTo marks₀ x 
 abbrev μ-loop : tie.MeasureT-loop
 μ-loop marks₀ x₀ marks x = length marks₀ - x
 
-loop-holds : tie.Need-loop-holds Inv-loop μ-loop
-loop-holds c = (omega arith, none-raised (c .before .args .marks .now))
-
-loop-less : tie.Need-loop-less Inv-loop μ-loop
-loop-less c = omega (arith, c .before .before .before .loop .inv .1 .long)
-
 loop-again : tie.Need-loop-again Inv-loop μ-loop
 loop-again c =
     let l = c .before .before .before .loop in
@@ -30,5 +24,5 @@ returns c = all-raised _ (c .before .loop .x) (c .before .loop .marks) (omega ar
 pub raise-spec : {M : Type 1} → statement M
 raise-spec =
     tie.close (tie.spec
-    Inv-loop μ-loop loop-holds (λ c. search needs) (λ c κs. search needs) (λ c. search needs) (λ c. search needs) loop-less loop-again
-    (λ c. c .before .loop .inv .1 .long) returns)
+    Inv-loop μ-loop (λ c. (omega arith, none-raised (c .before .args .marks .now))) (λ c. search needs) (λ c κs. search needs) (λ c. search needs)
+    (λ c. search needs) (λ c. omega (arith, c .before .before .before .loop .inv .1 .long)) loop-again (λ c. c .before .loop .inv .1 .long) returns)

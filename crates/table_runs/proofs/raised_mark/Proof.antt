@@ -8,8 +8,5 @@ use Rattle.table_runs.proofs.raised_mark.Tie as tie
 returns : tie.Need-returns
 returns c = let v = c .before .args .v in let out : v ≡ 0 = omega arith in raised-out v out
 
-returns-2 : tie.Need-returns-2
-returns-2 c = raised-in (c .before .args .v) (c .if1 .left)
-
 pub raised-mark-spec : {M : Type 1} → statement M
-raised-mark-spec = tie.close (tie.spec returns returns-2)
+raised-mark-spec = tie.close (tie.spec returns (λ c. raised-in (c .before .args .v) (c .if1 .left)))

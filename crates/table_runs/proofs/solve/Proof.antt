@@ -19,13 +19,9 @@ Inv-loop codes codebytes moves movebytes cycle marks₀ n round₀ marks round =
 abbrev μ-loop : tie.MeasureT-loop
 μ-loop codes codebytes moves movebytes cycle marks₀ n round₀ marks round = sum marks
 
-loop-holds : tie.Need-loop-holds Inv-loop μ-loop
-loop-holds c = going-start _ _ _
-
 thin-requires : tie.Need-thin-requires Inv-loop μ-loop
 thin-requires c κs =
-    let start = c .before .before .before .before .before .before .before .before .before in
-    let pre = start .pre in
+    let start = c .before .before .before .before .before .before .before .before .before in let pre = start .pre in
     let g = c .before .loop .inv in
     (fits-long _ _ _ _ _ (going-long _ _ _ _ _ g) (pre .0), going-begun _ _ _ _ _ (pre .1) g)
 
@@ -39,19 +35,15 @@ solve-round-requires c κs =
 
 same-length : tie.Need-same-length Inv-loop μ-loop
 same-length c =
-    let at-thin = c .before .before .before .before .before .before .before in
-    let at-loop = at-thin .before .before in
+    let at-thin = c .before .before .before .before .before .before .before in let at-loop = at-thin .before .before in
     let g = at-loop .loop .inv in
     let t = going-thinned _ _ _ _ _ _ g (at-thin .thin .ensures) in
     c .before .before .before .solve-round .ensures .long ∙ t .long
 
 returns : tie.Need-returns Inv-loop μ-loop
 returns c =
-    let at-thin = c .before .before .before .before .before .before .before in
-    let at-loop = at-thin .before .before in
-    let at-count = at-loop .before in
-    let n = at-count .count .ensures in
-    let g = at-loop .loop .inv in
+    let at-thin = c .before .before .before .before .before .before .before in let at-loop = at-thin .before .before in
+    let at-count = at-loop .before in let n = at-count .count .ensures in let g = at-loop .loop .inv in
     let t = going-thinned _ _ _ _ _ _ g (at-thin .thin .ensures) in
     let s = c .before .before .before .solve-round in
     let none = not-true (s .result) (c .if1 .taken) in
@@ -62,10 +54,8 @@ loop-less : tie.Need-loop-less Inv-loop μ-loop
 loop-less c =
     let at-thin = c .before .before .before .before .before .before .before .before in
     let at-loop = at-thin .before .before in
-    let start = at-loop .before .before .before .before .before .before .before .before in
-    let two = start .pre .1 in
-    let l = at-loop .loop in
-    let s = c .before .before .before .before .solve-round in
+    let start = at-loop .before .before .before .before .before .before .before .before in let two = start .pre .1 in
+    let l = at-loop .loop in let s = c .before .before .before .before .solve-round in
     let some = not-false (s .result) (c .before .if1 .left) in
     let sum = thinned-sum _ _ (l .round) _ _ (going-begun _ _ _ _ _ two (l .inv)) (at-thin .thin .ensures) in
     omega (arith, s .ensures .less some, sum)
@@ -73,9 +63,7 @@ loop-less c =
 loop-again : tie.Need-loop-again Inv-loop μ-loop
 loop-again c =
     let at-thin = c .before .before .before .before .before .before .before .before in
-    let at-loop = at-thin .before .before in
-    let at-count = at-loop .before in
-    let n = at-count .count .ensures in
+    let at-loop = at-thin .before .before in let at-count = at-loop .before in let n = at-count .count .ensures in
     let g = at-loop .loop .inv in
     let t = going-thinned _ _ _ _ _ _ g (at-thin .thin .ensures) in
     let r = c .before .before .before .before .solve-round .ensures in
@@ -84,4 +72,5 @@ loop-again c =
 pub solve-spec : {M : Type 1} → statement M
 solve-spec =
     tie.close (tie.spec
-    Inv-loop μ-loop (λ c κs. search needs) loop-holds thin-requires solve-round-requires same-length returns (λ c κs. search needs) loop-less loop-again)
+    Inv-loop μ-loop (λ c κs. search needs) (λ c. going-start _ _ _) thin-requires solve-round-requires same-length returns (λ c κs. search needs)
+    loop-less loop-again)

@@ -11,15 +11,13 @@ use Rattle.table_runs.proofs.thin.Tie as tie
 
 returns : tie.Need-returns
 returns c =
-    let start = c .before .before .before .before .before .before .before in
-    let a = start .args in
+    let start = c .before .before .before .before .before .before .before in let a = start .args in
     let begun = start .pre .1 in
     thinned-none _ (inBoth (a .codes .now) (a .codebytes .now) .numbers) (a .round) (a .marks .now) (λ e. absurd (omega arith)) begun
 
 returns-2 : tie.Need-returns-2
 returns-2 c =
-    let start = c .before .before .before .before .before .before .before .before in
-    let a = start .args in
+    let start = c .before .before .before .before .before .before .before .before in let a = start .args in
     let begun = start .pre .1 in
     thinned-none _ (inBoth (a .codes .now) (a .codebytes .now) .numbers) (a .round) (a .marks .now) (λ e. absurd (omega arith)) begun
 
@@ -34,18 +32,14 @@ flag-requires : tie.Need-flag-requires
 flag-requires c κs =
     let at-raise = c .before .before .before .before .before .before .before in
     let start = at-raise .before .before .before .before .before .before .before .before .before .before .before in
-    let a = start .args in
-    let fits = start .pre .0 in
-    let r = at-raise .raise .ensures in
+    let a = start .args in let fits = start .pre .0 in let r = at-raise .raise .ensures in
     let p = c .before .before .before .prune .ensures in
     (length (a .cycle .now), p .long ∙ r .long ∙ fits .marked)
 
 returns-3 : tie.Need-returns-3
 returns-3 c =
     let at-raise = c .before .before .before .before .before .before .before .before .before .before in
-    let at-count = at-raise .before .before in
-    let n = at-count .count .ensures in
-    let r = at-raise .raise .ensures in
+    let at-count = at-raise .before .before in let n = at-count .count .ensures in let r = at-raise .raise .ensures in
     let p = c .before .before .before .before .before .before .prune .ensures in
     thinned _ _ _ _ _ _ r (rw n at p) (c .before .before .flag .ensures)
 

@@ -9,8 +9,7 @@ use Rattle.word_rows.proofs.word_row.Tie as tie
 
 returns : tie.Need-returns
 returns c =
-    let a = c .before .before .before .before .args in
-    let row = c .before .length-row in
+    let a = c .before .before .before .before .args in let row = c .before .length-row in
     sym (word-lengths (a .s) (a .lead .now) (a .cycle .now) (row .result) (omega arith) (sym (row .ensures)))
 
 returns-2 : tie.Need-returns-2
@@ -21,15 +20,13 @@ returns-2 c =
 
 returns-3 : tie.Need-returns-3
 returns-3 c =
-    let start = c .before .before .before .before .before .before .before .before in
-    let a = start .args in
+    let start = c .before .before .before .before .before .before .before .before in let a = start .args in
     let none : lengthRow (a .lead .now) (a .cycle .now) ≡ 0 = sym (c .before .before .before .before .before .length-row .ensures) ∙ c .before .before .before .before .if1 .left in
     sym (cycle-letter (a .s) (a .lead .now) (a .cycle .now) none (sym (c .before .any-from2 .ensures) ∙ c .if3 .taken))
 
 returns-4 : tie.Need-returns-4
 returns-4 c =
-    let start = c .before .before .before .before .before .before .before .before in
-    let a = start .args in
+    let start = c .before .before .before .before .before .before .before .before in let a = start .args in
     let none : lengthRow (a .lead .now) (a .cycle .now) ≡ 0 = sym (c .before .before .before .before .before .length-row .ensures) ∙ c .before .before .before .before .if1 .left in
     sym (no-word-row (a .s) (a .lead .now) (a .cycle .now) none (sym (c .before .before .before .any-from .ensures) ∙ c .before .before .if2 .left)
     (sym (c .before .any-from2 .ensures) ∙ c .if3 .left))

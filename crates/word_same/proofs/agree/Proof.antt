@@ -35,16 +35,9 @@ loop-holds : tie.Need-loop-holds Inv-loop μ-loop
 unfolding every place
 loop-holds c = (omega arith, refl, refl, refl)
 
-letter-at-requires : tie.Need-letter-at-requires Inv-loop μ-loop
-letter-at-requires c κs = low c .0
-
-letter-at-requires-2 : tie.Need-letter-at-requires-2 Inv-loop μ-loop
-letter-at-requires-2 c κs = low (c .before) .1
-
 returns : tie.Need-returns Inv-loop μ-loop
 returns c =
-    let start = c .before .before .before .before .before .before .before .before .before in
-    let a = start .args in
+    let start = c .before .before .before .before .before .before .before .before .before in let a = start .args in
     let l = c .before .before .before .before .loop in
     let n : letterAt (a .lead1 .now) (a .cycle1 .now) (l .p) ≡ letterAt (a .lead2 .now) (a .cycle2 .now) (l .q) → ⊥
     = λ e. c .if1 .taken (c .before .before .letter-at .ensures ∙ e ∙ sym (c .before .letter-at2 .ensures)) in
@@ -63,8 +56,7 @@ next-place-requires-2 c κs =
 loop-again : tie.Need-loop-again Inv-loop μ-loop
 loop-again c =
     let start = c .before .before .before .before .before .before .before .before .before .before .before in
-    let a = start .args in
-    let l = c .before .before .before .before .before .before .loop in
+    let a = start .args in let l = c .before .before .before .before .before .before .loop in
     let e : letterAt (a .lead1 .now) (a .cycle1 .now) (l .p) ≡ letterAt (a .lead2 .now) (a .cycle2 .now) (l .q)
     = sym (c .before .before .before .before .letter-at .ensures) ∙ c .before .before .if1 .left ∙ c .before .before .before .letter-at2 .ensures in (
       omega arith,
@@ -75,12 +67,11 @@ loop-again c =
 
 returns-2 : tie.Need-returns-2 Inv-loop μ-loop
 returns-2 c =
-    let a = c .before .before .before .before .before .before .args in
-    let l = c .before .loop in
+    let a = c .before .before .before .before .before .before .args in let l = c .before .loop in
     sym (steps-end (a .lead1 .now) (a .cycle1 .now) (a .lead2 .now) (a .cycle2 .now) (l .i) (omega arith) (l .inv .3))
 
 pub agree-spec : {M : Type 1} → statement M
 agree-spec =
     tie.close (tie.spec
-    Inv-loop μ-loop (λ c. omega arith) (λ c. omega arith) (λ c. omega arith) loop-holds letter-at-requires letter-at-requires-2 returns next-place-requires
-    next-place-requires-2 (λ c. omega arith) (λ c. omega arith) loop-again returns-2)
+    Inv-loop μ-loop (λ c. omega arith) (λ c. omega arith) (λ c. omega arith) loop-holds (λ c κs. low c .0) (λ c κs. low (c .before) .1) returns
+    next-place-requires next-place-requires-2 (λ c. omega arith) (λ c. omega arith) loop-again returns-2)

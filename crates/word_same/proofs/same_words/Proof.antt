@@ -12,14 +12,12 @@ use Rattle.word_same.proofs.same_words.Tie as tie
 
 returns : tie.Need-returns
 returns c =
-    let a = c .before .before .before .before .before .before .args in
-    let row = c .before .length-row in
+    let a = c .before .before .before .before .before .before .args in let row = c .before .length-row in
     first-refused (a .lead1 .now) (a .cycle1 .now) (a .lead2 .now) (a .cycle2 .now) (row .result) (omega arith) (row .ensures)
 
 returns-2 : tie.Need-returns-2
 returns-2 c =
-    let start = c .before .before .before .before .before .before .before .before in
-    let a = start .args in
+    let start = c .before .before .before .before .before .before .before .before in let a = start .args in
     let row = c .before .length-row2 in
     let one : lengthRow (a .lead1 .now) (a .cycle1 .now) ≡ 0 = sym (c .before .before .before .length-row .ensures) ∙ c .before .before .if1 .left in
     second-refused (a .lead1 .now) (a .cycle1 .now) (a .lead2 .now) (a .cycle2 .now) (row .result) one (omega arith) (row .ensures)
@@ -34,8 +32,7 @@ passed c = (sym (c .before .before .before .length-row .ensures) ∙ c .before .
 
 agree-requires : tie.Need-agree-requires
 agree-requires c κs =
-    let start = c .before .before .before .before .before .before .before .before in
-    let a = start .args in
+    let start = c .before .before .before .before .before .before .before .before in let a = start .args in
     let s = short-of (a .lead1 .now) (a .cycle1 .now) (passed c .0) in
     let t = short-of (a .lead2 .now) (a .cycle2 .now) (passed c .1) in
     ((s .repeats, t .repeats), omega (arith, s, t))

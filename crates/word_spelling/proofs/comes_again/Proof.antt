@@ -33,8 +33,7 @@ returns c =
 
 loop-again : tie.Need-loop-again Inv-loop μ-loop
 loop-again c =
-    let start = c .before .before .before .before .before .before .before in
-    let a = start .args in
+    let start = c .before .before .before .before .before .before .before in let a = start .args in
     let l = c .before .before .before .before .before .loop in
     let h : 0 < length (a .cycle .now) = omega arith in
     let low : nextPlace [] (a .cycle .now) (l .later) < length (a .cycle .now) = omega (arith, next-place-low [] (a .cycle .now) h (l .later) (omega arith)) in
@@ -47,8 +46,7 @@ loop-again c =
 
 returns-2 : tie.Need-returns-2 Inv-loop μ-loop
 returns-2 c =
-    let a = c .before .before .before .args in
-    let l = c .before .loop in
+    let a = c .before .before .before .args in let l = c .before .loop in
     let h : 0 < length (a .cycle .now) = omega (arith, c .before .before .before .pre) in
     sym (again-end (a .cycle .now) h (a .d) (l .j) (omega arith) (l .inv .3))
 

@@ -22,20 +22,17 @@ loop-holds c = (omega arith, c .before .pre, none-first (c .before .args .cycle 
 
 returns : tie.Need-returns Inv-loop μ-loop
 returns c =
-    let v = c .before .before .before .before .before .args .cycle .now in
-    let l = c .before .before .before .loop in
+    let v = c .before .before .before .before .before .args .cycle .now in let l = c .before .before .before .loop in
     sym (found v (l .d) (omega arith) (sym (c .before .comes-again .ensures) ∙ c .if1 .taken) (l .inv .2))
 
 loop-again : tie.Need-loop-again Inv-loop μ-loop
 loop-again c =
-    let v = c .before .before .before .before .before .args .cycle .now in
-    let l = c .before .before .before .loop in
+    let v = c .before .before .before .before .before .args .cycle .now in let l = c .before .before .before .loop in
     (omega arith, omega arith, none-next v (l .d) (omega arith) (sym (c .before .comes-again .ensures) ∙ c .if1 .left) (l .inv .2))
 
 returns-2 : tie.Need-returns-2 Inv-loop μ-loop
 returns-2 c =
-    let v = c .before .before .before .args .cycle .now in
-    let l = c .before .loop in
+    let v = c .before .before .before .args .cycle .now in let l = c .before .loop in
     let e : l .d ≡ length v = omega arith in
     sym (found v (l .d) (omega arith) (rw e (own-again v (c .before .before .before .pre))) (l .inv .2))
 

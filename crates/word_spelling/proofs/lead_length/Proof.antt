@@ -15,14 +15,9 @@ Inv-loop lead cycle p m₀ m = (m ≤ length lead) × (shortened (letters lead c
 abbrev μ-loop : tie.MeasureT-loop
 μ-loop lead cycle p m₀ m = m
 
-loop-holds : tie.Need-loop-holds Inv-loop μ-loop
-loop-holds c = (omega arith, refl)
-
 returns : tie.Need-returns Inv-loop μ-loop
 returns c =
-    let earlier = c .before .before .before .before .before .before .before in
-    let s = earlier in
-    let a = s .args in
+    let earlier = c .before .before .before .before .before .before .before in let s = earlier in let a = s .args in
     let l = c .before .before .before .before .loop in
     let fits : l .m - 1 + a .p < places (a .lead .now) (a .cycle .now) = omega arith in
     let n : letterAt (a .lead .now) (a .cycle .now) (l .m - 1) ≡ letterAt (a .lead .now) (a .cycle .now) (l .m - 1 + a .p) → ⊥
@@ -31,9 +26,7 @@ returns c =
 
 loop-again : tie.Need-loop-again Inv-loop μ-loop
 loop-again c =
-    let earlier = c .before .before .before .before .before .before .before in
-    let s = earlier in
-    let a = s .args in
+    let earlier = c .before .before .before .before .before .before .before in let s = earlier in let a = s .args in
     let l = c .before .before .before .before .loop in
     let fits : l .m - 1 + a .p < places (a .lead .now) (a .cycle .now) = omega arith in
     let e : letterAt (a .lead .now) (a .cycle .now) (l .m - 1) ≡ letterAt (a .lead .now) (a .cycle .now) (l .m - 1 + a .p)
@@ -43,13 +36,12 @@ loop-again c =
 returns-2 : tie.Need-returns-2 Inv-loop μ-loop
 unfolding shortened
 returns-2 c =
-    let s = c .before .before .before .before in
-    let l = c .before .loop in
+    let s = c .before .before .before .before in let l = c .before .loop in
     let e : l .m ≡ 0 = omega arith in
     e ∙ sym (l .inv .1 ∙ ap (shortened (letters (s .args .lead .now) (s .args .cycle .now)) (s .args .p)) e)
 
 pub lead-length-spec : {M : Type 1} → statement M
 lead-length-spec =
     tie.close (tie.spec
-    Inv-loop μ-loop loop-holds (λ c. omega arith) (λ c κs. omega arith) (λ c. omega arith) (λ c. omega arith) (λ c κs. omega arith) returns (λ c. omega arith)
-    (λ c. omega arith) loop-again returns-2)
+    Inv-loop μ-loop (λ c. (omega arith, refl)) (λ c. omega arith) (λ c κs. omega arith) (λ c. omega arith) (λ c. omega arith) (λ c κs. omega arith)
+    returns (λ c. omega arith) (λ c. omega arith) loop-again returns-2)

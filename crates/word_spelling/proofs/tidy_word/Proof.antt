@@ -13,8 +13,7 @@ use Rattle.word_spelling.proofs.tidy_word.Tie as tie
 
 returns : tie.Need-returns
 returns c =
-    let a = c .before .before .before .before .before .args in
-    let row = c .before .length-row in
+    let a = c .before .before .before .before .before .args in let row = c .before .length-row in
     word-refused (a .lead .now) (a .cycle .now) (a .out .now) (row .result) (omega arith) (row .ensures)
 
 cycle-length-requires : tie.Need-cycle-length-requires
@@ -39,19 +38,12 @@ lengths c =
     found (a .lead .now) (a .cycle .now) (c .lead-length .result) (c .before .cycle-length .result)
     (sym (c .before .before .before .length-row .ensures) ∙ c .before .before .if1 .left) (c .before .cycle-length .ensures) (c .lead-length .ensures)
 
-add-if2 : tie.Need-add-if2
-add-if2 c = let f = lengths c in omega (arith, f)
-
 returns-2 : tie.Need-returns-2
 returns-2 c =
-    let start = c .before .before .before .before .before .before .before .before in
-    let a = start .args in
+    let start = c .before .before .before .before .before .before .before .before in let a = start .args in
     let f = lengths (c .before) in
     let short : length (a .out .now) < leadLength (a .lead .now) (a .cycle .now) + cycleLength (a .cycle .now) = omega (arith, f, c .if2) in
     slice-refused (a .lead .now) (a .cycle .now) (a .out .now) (f .passed) short
-
-add-write-letters : tie.Need-add-write-letters
-add-write-letters c = let f = lengths (c .before) in omega (arith, f)
 
 write-letters-requires : tie.Need-write-letters-requires
 write-letters-requires c κs = let f = lengths (c .before .before) in (omega (arith, f), omega (arith, c .before .if2))
@@ -66,5 +58,5 @@ returns-3 c =
 pub tidy-word-spec : {M : Type 1} → statement M
 tidy-word-spec =
     tie.close (tie.spec
-    (λ c κs. search needs) returns cycle-length-requires lead-length-requires add-if2 returns-2 add-write-letters write-letters-requires (λ c. search needs)
-    returns-3)
+    (λ c κs. search needs) returns cycle-length-requires lead-length-requires (λ c. let f = lengths c in omega (arith, f)) returns-2
+    (λ c. let f = lengths (c .before) in omega (arith, f)) write-letters-requires (λ c. search needs) returns-3)

@@ -15,15 +15,10 @@ Inv-loop lead cycle n out₀ i₀ out i = (i ≤ n) × (out ≡ take i (lead ++ 
 abbrev μ-loop : tie.MeasureT-loop
 μ-loop lead cycle n out₀ i₀ out i = n - i
 
-loop-holds : tie.Need-loop-holds Inv-loop μ-loop
-loop-holds c = (omega arith, refl, refl)
-
 loop-again : tie.Need-loop-again Inv-loop μ-loop
 unfolding letterAt
 loop-again c =
-    let s = c .before .before .before .before .before .before in
-    let a = s .args in
-    let l = c .before .before .loop in
+    let s = c .before .before .before .before .before .before in let a = s .args in let l = c .before .before .loop in
     let word = a .lead .now ++ a .cycle .now in
     let long : l .i < length word = omega (arith, length-append (a .lead .now) (a .cycle .now)) in
     let room : l .i < length (a .out .now) = omega arith in
@@ -31,12 +26,12 @@ loop-again c =
 
 returns : tie.Need-returns Inv-loop μ-loop
 returns c =
-    let a = c .before .before .before .before .before .args in
-    let l = c .before .loop in
+    let a = c .before .before .before .before .before .args in let l = c .before .loop in
     let e : l .i ≡ a .n = omega arith in
     l .inv .1 ∙ ap (λ (n : ℕ). take n (a .lead .now ++ a .cycle .now) ++ drop n (a .out .now)) e
 
 pub write-letters-spec : {M : Type 1} → statement M
 write-letters-spec =
     tie.close (tie.spec
-    Inv-loop μ-loop loop-holds (λ c κs. omega arith) (λ c. omega arith) (λ c. omega arith) (λ c. omega arith) loop-again (λ c. c .before .loop .inv .2) returns)
+    Inv-loop μ-loop (λ c. (omega arith, refl, refl)) (λ c κs. omega arith) (λ c. omega arith) (λ c. omega arith) (λ c. omega arith) loop-again
+    (λ c. c .before .loop .inv .2) returns)

@@ -14,9 +14,6 @@ use Rattle.build_closure.proofs.Listing.{gathered-as}
 use Rattle.build_closure.proofs.reach.reach.Statement.{statement}
 use Rattle.build_closure.proofs.reach.reach.Tie as tie
 
-largest-ranks-requires : tie.Need-largest-ranks-requires
-largest-ranks-requires c κs = let p = c .before .pre in few (p .0 .1 .shaped)
-
 firsts-requires : tie.Need-firsts-requires
 firsts-requires c κs = let p = c .before .before .before .before .before .pre in ((p .0 .0, p .0 .1 .shaped), chained-none (p .1) refl refl, c .before .before .before .largest-ranks .ensures)
 
@@ -44,4 +41,6 @@ returns-2 c =
     (c .before .before .close .ensures r T (all at-firsts r T) (λ y f. G .whole (c .before .before .before .before .before .before .if1 .left) y f))
 
 pub reach-spec : {M : Type 1} → statement M
-reach-spec = tie.close (tie.spec largest-ranks-requires firsts-requires (λ c. search needs) returns close-requires (λ c. search needs) returns-2)
+reach-spec =
+    tie.close (tie.spec
+    (λ c κs. let p = c .before .pre in few (p .0 .1 .shaped)) firsts-requires (λ c. search needs) returns close-requires (λ c. search needs) returns-2)

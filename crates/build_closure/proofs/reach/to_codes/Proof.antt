@@ -14,9 +14,6 @@ Inv-loop keys₀ n i₀ keys i = (i ≤ n) × (length keys ≡ length keys₀) �
 abbrev μ-loop : tie.MeasureT-loop
 μ-loop keys₀ n i₀ keys i = n - i
 
-loop-holds : tie.Need-loop-holds Inv-loop μ-loop
-loop-holds c = (omega arith, refl, refl)
-
 loop-again : tie.Need-loop-again Inv-loop μ-loop
 loop-again c =
     let a = c .before .before .before .args in let p = c .before .before .before .pre in let l = c .before .before .loop in
@@ -29,5 +26,5 @@ returns c =
 pub to-codes-spec : {M : Type 1} → statement M
 to-codes-spec =
     tie.close (tie.spec
-    Inv-loop μ-loop loop-holds (λ c. search needs) (λ c. search needs) (λ c. search needs) (λ c. search needs) (λ c. search needs) (λ c. search needs)
-    loop-again (λ c. search needs) returns)
+    Inv-loop μ-loop (λ c. (omega arith, refl, refl)) (λ c. search needs) (λ c. search needs) (λ c. search needs) (λ c. search needs)
+    (λ c. search needs) (λ c. search needs) loop-again (λ c. search needs) returns)

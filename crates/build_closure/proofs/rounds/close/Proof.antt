@@ -50,8 +50,7 @@ returns c =
 loop-less : tie.Need-loop-less Inv-loop μ-loop
 loop-less c =
     let at-loop-test = c .before .before .before .before .before .before .before in
-    let at-loop = at-loop-test .before in
-    let start = at-loop .before .before in
+    let at-loop = at-loop-test .before in let start = at-loop .before .before in
     let p = start .pre in let l = at-loop .loop in let G = c .before .before .before .round .ensures (p .0 .0) (p .0 .1) (l .inv .3 (p .0 .0) (p .0 .1) (p .0 .2)) in
     omega (arith, at-loop-test .loop-test .taken, l .inv .0 .fits, l .inv .2, G .more)
 

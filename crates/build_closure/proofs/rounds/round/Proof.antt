@@ -40,9 +40,6 @@ abbrev μ-loop : tie.MeasureT-loop
 all-is : (c : tie.After-lowest Inv-loop μ-loop) → getD (c .lowest .result) 15 0 ≡ openIn (capsOf (c .before .before .args .parts .now) (c .before .before .args .shape .components))
 all-is c = let p = c .before .before .pre in open-lowest (p .0 .1 .shaped) (c .before .before .args .caps) (c .lowest .result) (c .lowest .ensures) ∙ ap openIn (p .3)
 
-loop-holds : tie.Need-loop-holds Inv-loop μ-loop
-loop-holds c = (omega arith, refl, λ r T R. upto-start (c .before .before .pre .1))
-
 visit-set-requires : tie.Need-visit-set-requires Inv-loop μ-loop
 visit-set-requires c κs =
     let p = c .before .before .before .before .before .before .pre in let e = p .0 in let i = c .before .before .before .loop .inv .2 (e .0) (e .1) (e .2) in
@@ -80,8 +77,7 @@ returns-2 c =
 add-x : tie.Need-add-x Inv-loop μ-loop
 add-x c =
     let at-loop = c .before .before .before .before .before .before .before .before in
-    let at-lowest = at-loop .before in
-    let a = at-lowest .before .before .args in
+    let at-lowest = at-loop .before in let a = at-lowest .before .before .args in
     omega (arith, at-loop .loop .inv .0, c .if2 .left, all-is at-lowest, mask-lt 8 (λ q. ltb 0 (rankAt (capsOf (a .parts .now) (a .shape .components)) q)))
 
 loop-less : tie.Need-loop-less Inv-loop μ-loop
@@ -103,5 +99,5 @@ loop-again c =
 pub round-spec : {M : Type 1} → statement M
 round-spec =
     tie.close (tie.spec
-    Inv-loop μ-loop (λ c κs. search needs) (λ c. search needs) loop-holds visit-set-requires same-length returns same-length-2 returns-2 add-x loop-less
-    loop-again)
+    Inv-loop μ-loop (λ c κs. search needs) (λ c. search needs) (λ c. (omega arith, refl, λ r T R. upto-start (c .before .before .pre .1)))
+    visit-set-requires same-length returns same-length-2 returns-2 add-x loop-less loop-again)

@@ -5,11 +5,7 @@ use borrow.Author.Needs.{needs}
 use Rattle.build_cores.proofs.breakpoint.next_component.Statement.{statement}
 use Rattle.build_cores.proofs.breakpoint.next_component.Tie as tie
 
-returns : tie.Need-returns
-returns c = sym (next-last _ _ (c .if1 .taken))
-
-returns-2 : tie.Need-returns-2
-returns-2 c = sym (next-more _ _ (c .if1 .left))
-
 pub next-component-spec : {M : Type 1} → statement M
-next-component-spec = tie.close (tie.spec (λ c. search needs) returns (λ c. search needs) returns-2)
+next-component-spec =
+    tie.close (tie.spec
+    (λ c. search needs) (λ c. sym (next-last _ _ (c .if1 .taken))) (λ c. search needs) (λ c. sym (next-more _ _ (c .if1 .left))))

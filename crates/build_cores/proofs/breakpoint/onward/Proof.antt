@@ -11,9 +11,6 @@ use borrow.Author.Needs.{needs}
 use Rattle.build_cores.proofs.breakpoint.onward.Statement.{statement}
 use Rattle.build_cores.proofs.breakpoint.onward.Tie as tie
 
-next-component-requires : tie.Need-next-component-requires
-next-component-requires c κs = omega (arith, c .before .pre, and-mask (c .before .args .pair) 4)
-
 -- the component that follows
 next : (c : tie.After-next-component) → c .next-component .result ≡ nextIn (c .before .before .args .components) (c .before .before .args .pair % 16)
 next c =
@@ -37,12 +34,6 @@ returns c =
     ∙ sym (onward-turn (a .ranks) (a .parts .now) (a .components) (a .levels .now) (a .pair) (c .before .before .before .if1 .taken)
     ∙ ap₂ (λ (x y : ℕ). x + 16 * y) (sym e) (ap (λ (x : ℕ). classCount (a .ranks) (getD (a .parts .now) x 0)) (sym e) ∙ sym fact))
 
-mul-result : tie.Need-mul-result
-mul-result c = omega (arith, and-mask (c .before .args .pair) 4)
-
-element-copy-out-result : tie.Need-element-copy-out-result
-element-copy-out-result c = omega (arith, c .before .pre, and-mask (c .before .args .pair) 4)
-
 returns-2 : tie.Need-returns-2
 returns-2 c =
     let a = c .before .before .args in let low = and-mask (a .pair) 4 in
@@ -57,5 +48,6 @@ returns-2 c =
 pub onward-spec : {M : Type 1} → statement M
 onward-spec =
     tie.close (tie.spec
-    (λ c. search needs) next-component-requires element-copy-out-class-count (λ c κs. search needs) (λ c. search needs) returns mul-result
-    element-copy-out-result (λ c. search needs) (λ c. search needs) (λ c. search needs) returns-2)
+    (λ c. search needs) (λ c κs. omega (arith, c .before .pre, and-mask (c .before .args .pair) 4)) element-copy-out-class-count
+    (λ c κs. search needs) (λ c. search needs) returns (λ c. omega (arith, and-mask (c .before .args .pair) 4))
+    (λ c. omega (arith, c .before .pre, and-mask (c .before .args .pair) 4)) (λ c. search needs) (λ c. search needs) (λ c. search needs) returns-2)

@@ -12,8 +12,5 @@ use Rattle.build_cores.proofs.opens.marked.Tie as tie
 returns : tie.Need-returns
 returns c = shifted (c .before .args .q) (omega arith) ∙ ap (λ (b : Bool). one b * 2 ^ c .before .args .q) (sym (c .if1 .taken))
 
-returns-2 : tie.Need-returns-2
-returns-2 c = rw (c .if1 .left) (omega arith)
-
 pub marked-spec : {M : Type 1} → statement M
-marked-spec = tie.close (tie.spec (λ c. search needs) (λ c. search needs) returns returns-2)
+marked-spec = tie.close (tie.spec (λ c. search needs) (λ c. search needs) returns (λ c. rw (c .if1 .left) (omega arith)))

@@ -58,19 +58,10 @@ fits c =
     mask-fits (c .before .before .before .before .loop .q) (metBy (ruleOf (a .h) (a .counts .now) (a .clauses .now)) (a .letter) (a .opened))
     (omega (arith, c .before .before .if1 .taken, start-of-after-marked c .pre .0 .few-states))
 
-add-found : tie.Need-add-found Inv-loop μ-loop
-add-found c = omega (arith, more c, fits c)
-
 add-q : tie.Need-add-q Inv-loop μ-loop
 add-q c =
     let start = c .before .before .before .before .before .before .before .before in
     omega (arith, c .before .before .if1 .taken, start .pre .0 .few-states)
-
-loop-less : tie.Need-loop-less Inv-loop μ-loop
-loop-less c = omega (arith, c .before .before .if1 .taken)
-
-loop-again : tie.Need-loop-again Inv-loop μ-loop
-loop-again c = (omega (arith, c .before .before .if1 .taken), more c)
 
 returns : tie.Need-returns Inv-loop μ-loop
 returns c =
@@ -83,4 +74,5 @@ returns c =
 pub open-before-spec : {M : Type 1} → statement M
 open-before-spec =
     tie.close (tie.spec
-    Inv-loop μ-loop cast-accepting loop-holds satisfied-requires marked-requires add-found add-q loop-less loop-again returns)
+    Inv-loop μ-loop cast-accepting loop-holds satisfied-requires marked-requires (λ c. omega (arith, more c, fits c)) add-q
+    (λ c. omega (arith, c .before .before .if1 .taken)) (λ c. (omega (arith, c .before .before .if1 .taken), more c)) returns)

@@ -20,9 +20,6 @@ starts-of-requires c κs =
     let a = c .before .before .args in
     entries-few (ruleOf (a .h) (a .counts .now) (a .clauses .now)) (c .before .before .pre)
 
-mul-end : tie.Need-mul-end Inv-loop μ-loop
-mul-end c = omega (arith, c .before .before .before .before .pre .few-letters)
-
 loop-holds : tie.Need-loop-holds Inv-loop μ-loop
 loop-holds c = let a = c .before .before .before .before .args in (omega arith, filled-start (automaton (ruleOf (a .h) (a .counts .now) (a .clauses .now))) _ refl)
 
@@ -40,9 +37,6 @@ add-i : tie.Need-add-i Inv-loop μ-loop
 add-i c =
     let start = c .before .before .before .before .before .before .before .before in
     omega (arith, c .before .before .loop-test .taken, start .pre .few-letters)
-
-loop-less : tie.Need-loop-less Inv-loop μ-loop
-loop-less c = omega (arith, c .before .before .loop-test .taken)
 
 loop-again : tie.Need-loop-again Inv-loop μ-loop
 loop-again c =
@@ -62,4 +56,5 @@ returns c =
 pub open-table-spec : {M : Type 1} → statement M
 open-table-spec =
     tie.close (tie.spec
-    Inv-loop μ-loop starts-of-requires mul-end loop-holds (λ c. omega arith) open-before-requires array-write-opens add-i loop-less loop-again returns)
+    Inv-loop μ-loop starts-of-requires (λ c. omega (arith, c .before .before .before .before .pre .few-letters)) loop-holds (λ c. omega arith)
+    open-before-requires array-write-opens add-i (λ c. omega (arith, c .before .before .loop-test .taken)) loop-again returns)

@@ -13,14 +13,12 @@ split-requires c κs =
 
 cast-t10 : tie.Need-cast-t10
 cast-t10 c =
-    let at-clauses-of = c .before .before .before in
-    let start = at-clauses-of .before .before .before .before in
+    let at-clauses-of = c .before .before .before in let start = at-clauses-of .before .before .before .before in
     omega (arith, file-accepting (start .args .file .now) (start .args .l) (start .pre) _ _ (at-clauses-of .before .counts-of .ensures) (at-clauses-of .clauses-of .ensures))
 
 returns : tie.Need-returns
 returns c =
-    let at-split = c .before .before in
-    let at-clauses-of = at-split .before in
+    let at-split = c .before .before in let at-clauses-of = at-split .before in
     let start = at-clauses-of .before .before .before .before in (
       file-shape (start .args .file .now) (start .args .l) (start .pre) _ _ (at-clauses-of .before .counts-of .ensures) (at-clauses-of .clauses-of .ensures)
           (at-split .split .result) (at-split .split .ensures) (start .args .holds),

@@ -25,9 +25,6 @@ Inv-loop out₀ m keys heads last j shape opens parts ranks low g₀ a₀ out g 
 abbrev μ-loop : tie.MeasureT-loop
 μ-loop out₀ m keys heads last j shape opens parts ranks low g₀ a₀ out g a = shape .s - a
 
-mul-ranks : tie.Need-mul-ranks Inv-loop μ-loop
-mul-ranks c = let p = c .before .before .pre in omega (arith, p .2, p .1 .few)
-
 -- the ranks of an element
 ranks-of : (x : ℕ) → bitAnd x 281474976710655 / 2 ^ 16 ≡ x % 2 ^ 48 / 256 / 256
 ranks-of x = ap (λ (y : ℕ). y / 2 ^ 16) (and-mask x 48) ∙ (let e : x % 2 ^ 48 / 2 ^ 16 ≡ x % 2 ^ 48 / 256 / 256 = omega arith in e)
@@ -87,5 +84,5 @@ returns-2 c =
 pub emit-core-spec : {M : Type 1} → statement M
 emit-core-spec =
     tie.close (tie.spec
-    Inv-loop μ-loop mul-ranks (λ c. search needs) (λ c κs. search needs) loop-holds emit-letter-requires same-length
-    returns (λ c. search needs) (λ c. search needs) loop-again (λ c. c .before .before .loop .inv .2) returns-2)
+    Inv-loop μ-loop (λ c. let p = c .before .before .pre in omega (arith, p .2, p .1 .few)) (λ c. search needs) (λ c κs. search needs) loop-holds
+    emit-letter-requires same-length returns (λ c. search needs) (λ c. search needs) loop-again (λ c. c .before .before .loop .inv .2) returns-2)

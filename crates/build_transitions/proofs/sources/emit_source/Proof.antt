@@ -43,8 +43,7 @@ returns-2 c =
 
 returns-3 : tie.Need-returns-3
 returns-3 c =
-    let at-find = c .before .before in
-    let start = at-find .before .before .before .before .before .before .before in
+    let at-find = c .before .before in let start = at-find .before .before .before .before .before .before .before in
     let a = start .args in let p = start .pre in let t = at-find .find .result in let there : t < length (a .keys .now) = omega (arith, c .before .if2 .left) in
     emitted-full (transitionOf (a .p) (a .step .letter) t)
     (t, there, record { from = sym (ap (λ (x : ℕ). x / 2 ^ 8) (p .2)) ∙ at-find .before .before .before .if1 .left; to = place at-find .hit there }, refl) (omega (arith, c .if3 .taken, p .7))

@@ -14,9 +14,6 @@ Inv-loop codes₀ heads₀ last₀ p₀ codes heads last p = (p ≤ length codes
 abbrev μ-loop : tie.MeasureT-loop
 μ-loop codes₀ heads₀ last₀ p₀ codes heads last p = length codes₀ - p
 
-loop-holds : tie.Need-loop-holds Inv-loop μ-loop
-loop-holds c = (omega arith, chaining-start (c .before .pre .0))
-
 put-requires : tie.Need-put-requires Inv-loop μ-loop
 put-requires c κs =
     let start = c .before .before .before .before .before .before .before in
@@ -37,8 +34,7 @@ loop-less c =
 loop-again : tie.Need-loop-again Inv-loop μ-loop
 loop-again c =
     let at-loop-test = c .before .before .before .before .before .before .before in
-    let at-loop = at-loop-test .before in
-    let start = at-loop .before .before in
+    let at-loop = at-loop-test .before in let start = at-loop .before .before in
     let a = start .args in let p = start .pre in let l = at-loop .loop in let e = c .before .before .put .ensures in let inside : l .p < length (a .codes .now) =
     omega (arith, at-loop-test .loop-test .taken, l .inv .1 .long) in (
       omega arith,
@@ -55,5 +51,5 @@ returns c =
 pub chain-spec : {M : Type 1} → statement M
 chain-spec =
     tie.close (tie.spec
-    Inv-loop μ-loop loop-holds (λ c. search needs) (λ c. search needs) put-requires (λ c. search needs) loop-less loop-again
-    (λ c. c .before .loop .inv .1 .long) returns)
+    Inv-loop μ-loop (λ c. (omega arith, chaining-start (c .before .pre .0))) (λ c. search needs) (λ c. search needs) put-requires (λ c. search needs)
+    loop-less loop-again (λ c. c .before .loop .inv .1 .long) returns)

@@ -5,11 +5,7 @@ use borrow.Author.Needs.{needs}
 use Rattle.build_visit.proofs.initial.begins.Statement.{statement}
 use Rattle.build_visit.proofs.initial.begins.Tie as tie
 
-returns : tie.Need-returns
-returns c = rw (c .if1 .taken) (c .before .in-set .ensures)
-
-returns-2 : tie.Need-returns-2
-returns-2 c = rw (c .if1 .left) (ap not (c .before .in-set .ensures))
-
 pub begins-spec : {M : Type 1} → statement M
-begins-spec = tie.close (tie.spec (λ c κs. search needs) returns returns-2)
+begins-spec =
+    tie.close (tie.spec
+    (λ c κs. search needs) (λ c. rw (c .if1 .taken) (c .before .in-set .ensures)) (λ c. rw (c .if1 .left) (ap not (c .before .in-set .ensures))))

@@ -59,11 +59,9 @@ loop-again c =
     let at-loop = c .before .before .before .before .before .before .before .before .before .before in
     turn-next (at-loop .loop .inv) (c .before .before .before .before .move-key .ensures) (c .before .if1 .left) (at-loop .before .before .before .before .pre .0) (c .if2 .left)
 
-returns-3 : tie.Need-returns-3 Inv-loop μ-loop
-returns-3 c = turn-stop (c .before .loop .inv) (omega (arith, c .loop-test .left))
-
 pub move-keys-spec : {M : Type 1} → statement M
 move-keys-spec =
     tie.close (tie.spec
     Inv-loop μ-loop (λ c κs. search needs) (λ c. search needs) loop-holds mul-x slice-read-x move-key-requires same-length returns same-length-2
-    returns-2 loop-less loop-again (λ c. c .before .loop .inv .grown .long) returns-3)
+    returns-2 loop-less loop-again (λ c. c .before .loop .inv .grown .long)
+    (λ c. turn-stop (c .before .loop .inv) (omega (arith, c .loop-test .left))))

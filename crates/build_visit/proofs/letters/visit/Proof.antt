@@ -28,9 +28,6 @@ Inv-loop keys₀ heads₀ last₀ n from ranks shape opens parts g₀ low a₀ k
 abbrev μ-loop : tie.MeasureT-loop
 μ-loop keys₀ heads₀ last₀ n from ranks shape opens parts g₀ low a₀ keys heads last g a = shape .s - a
 
-is-core-requires : tie.Need-is-core-requires Inv-loop μ-loop
-is-core-requires c κs = few (c .before .pre .0 .1 .shaped)
-
 returns : tie.Need-returns Inv-loop μ-loop
 returns c = λ r T R. grown-none (c .before .before .before .pre .1) (λ y f. absurd (clash (f .0 .passes) (sym (c .before .is-core .ensures) ∙ not-true _ (c .if1 .taken))))
 
@@ -82,5 +79,5 @@ returns-3 c =
 pub visit-spec : {M : Type 1} → statement M
 visit-spec =
     tie.close (tie.spec
-    Inv-loop μ-loop is-core-requires returns (λ c κs. search needs) loop-holds visit-letter-requires same-length returns-2
+    Inv-loop μ-loop (λ c κs. few (c .before .pre .0 .1 .shaped)) returns (λ c κs. search needs) loop-holds visit-letter-requires same-length returns-2
     (λ c. search needs) (λ c. search needs) loop-again (λ c. c .before .before .loop .inv .2) returns-3)

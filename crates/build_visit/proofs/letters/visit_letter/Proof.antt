@@ -36,8 +36,7 @@ move-keys-requires c κs =
 returns-2 : tie.Need-returns-2
 returns-2 c =
     let at-step-over = c .before .before .before .before .before .before .before .before in
-    let start = at-step-over .before .before .before .before .before .before .before .before in
-    let p = start .pre in
+    let start = at-step-over .before .before .before .before .before .before .before .before in let p = start .pre in
     λ r T R. let S = at-step-over .step-over .ensures r T in
     grown-as (c .before .before .move-keys .ensures) (λ t y h. (h .0, h .1, h .2, leads-out S (key-paired (T .shaped) (R (h .0) (h .2))) (h .3)))
     (λ y h. led (start .args .shape) (p .5) (p .3) (R (h .0) (h .2)) (leads-in S (key-paired (T .shaped) (R (h .0) (h .2))) (h .3)))

@@ -17,18 +17,6 @@ Inv-loop opens last from x shape a₀ a = (a ≤ shape .s) × ((b : ℕ) → b <
 abbrev μ-loop : tie.MeasureT-loop
 μ-loop opens last from x shape a₀ a = shape .s - a
 
-loop-holds : tie.Need-loop-holds Inv-loop μ-loop
-loop-holds c = (omega arith, λ b h. absurd (omega arith))
-
-set-before-requires : tie.Need-set-before-requires Inv-loop μ-loop
-set-before-requires c κs = omega (arith, c .if1 .taken, c .before .before .before .pre)
-
-returns : tie.Need-returns Inv-loop μ-loop
-returns c = λ t. absurd (true≢false t)
-
-loop-less : tie.Need-loop-less Inv-loop μ-loop
-loop-less c = omega (arith, c .before .before .before .before .if1 .taken)
-
 loop-again : tie.Need-loop-again Inv-loop μ-loop
 loop-again c =
     let start = c .before .before .before .before .before .before .before in
@@ -44,4 +32,6 @@ returns-2 c = λ t b h. c .before .before .loop .inv .1 b (omega (arith, c .if1 
 pub is-fresh-spec : {M : Type 1} → statement M
 is-fresh-spec =
     tie.close (tie.spec
-    Inv-loop μ-loop loop-holds set-before-requires (λ c κs. search needs) (λ c κs. search needs) returns (λ c. search needs) loop-less loop-again returns-2)
+    Inv-loop μ-loop (λ c. (omega arith, λ b h. absurd (omega arith))) (λ c κs. omega (arith, c .if1 .taken, c .before .before .before .pre))
+    (λ c κs. search needs) (λ c κs. search needs) (λ c t. absurd (true≢false t)) (λ c. search needs)
+    (λ c. omega (arith, c .before .before .before .before .if1 .taken)) loop-again returns-2)

@@ -15,9 +15,6 @@ Inv-loop parts x those₀ c₀ those c = (c ≤ 8) × (length those ≡ 8) × ((
 abbrev μ-loop : tie.MeasureT-loop
 μ-loop parts x those₀ c₀ those c = 8 - c
 
-loop-holds : tie.Need-loop-holds Inv-loop μ-loop
-loop-holds c = (omega arith, refl, λ q h. absurd (omega arith))
-
 loop-again : tie.Need-loop-again Inv-loop μ-loop
 loop-again c =
     let a = c .before .before .before .args in let l = c .before .before .loop in (
@@ -27,10 +24,8 @@ loop-again c =
           (l .inv .2),
     )
 
-returns : tie.Need-returns Inv-loop μ-loop
-returns c = λ q h. c .before .loop .inv .2 q (omega (arith, c .loop-test .left))
-
 pub open-parts-spec : {M : Type 1} → statement M
 open-parts-spec =
     tie.close (tie.spec
-    Inv-loop μ-loop loop-holds (λ c. search needs) (λ c. search needs) (λ c. search needs) (λ c. search needs) loop-again returns)
+    Inv-loop μ-loop (λ c. (omega arith, refl, λ q h. absurd (omega arith))) (λ c. search needs) (λ c. search needs) (λ c. search needs)
+    (λ c. search needs) loop-again (λ c q h. c .before .loop .inv .2 q (omega (arith, c .loop-test .left))))

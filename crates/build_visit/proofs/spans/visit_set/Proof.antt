@@ -85,8 +85,7 @@ same-length-2 c =
 returns-4 : tie.Need-returns-4 Inv-loop μ-loop
 returns-4 c =
     let at-loop = c .before .before .before .before .before .before .before .before in
-    let at-span-of = at-loop .before in
-    let start = at-span-of .before .before .before .before .before .before in
+    let at-span-of = at-loop .before in let start = at-span-of .before .before .before .before .before .before in
     let a = start .args in let l = at-loop .loop in let s = at-span-of .span-of in
     λ r T R. let i = l .inv .2 r T R in
     grown-as (walk-end (s .result .caps) (λ v y h. h .0) (l .inv .0) i (l .inv .1) (c .before .before .before .before .visit .ensures r T (all-kept i R))

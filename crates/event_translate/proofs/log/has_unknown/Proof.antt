@@ -23,41 +23,18 @@ loop-holds : tie.Need-loop-holds Inv-loop μ-loop
 unfolding someBelow
 loop-holds c = (omega arith, λ t m. refl)
 
-mul-lines-of : tie.Need-mul-lines-of Inv-loop μ-loop
-mul-lines-of c = omega (arith, c .loop-test .taken)
-
-shared-slice-read-lines-of : tie.Need-shared-slice-read-lines-of Inv-loop μ-loop
-shared-slice-read-lines-of c = omega (arith, c .before .loop-test .taken)
-
-mul-lines-of-2 : tie.Need-mul-lines-of-2 Inv-loop μ-loop
-mul-lines-of-2 c = omega (arith, c .before .loop-test .taken)
-
-add-lines-of : tie.Need-add-lines-of Inv-loop μ-loop
-add-lines-of c = omega (arith, c .before .loop-test .taken)
-
-shared-slice-read-lines-of-2 : tie.Need-shared-slice-read-lines-of-2 Inv-loop μ-loop
-shared-slice-read-lines-of-2 c = omega (arith, c .before .before .loop-test .taken)
-
 returns : tie.Need-returns Inv-loop μ-loop
 returns c =
     let start = c .before .before .before .before .before .before .before in
     λ t m.
-    let a = start .args in
-    let l = c .before .before .before .before .before .loop in
+    let a = start .args in let l = c .before .before .before .before .before .loop in
     let byte = c .before .before .shared-slice-known3 .given in
     sym (unknown-here t (a .log .now) (l .k) (c .before .before .before .before .loop-test .taken)
     (in-none t (a .kinds .now) (a .drives .now) (a .log .now) m (l .k) (byte (2 * l .k) .fits) (byte (2 * l .k + 1) .fits) (sym (c .before .lines-of .ensures) ∙ c .if1 .taken)))
 
-add-k : tie.Need-add-k Inv-loop μ-loop
-add-k c = omega (arith, c .before .before .before .before .loop-test .taken)
-
-loop-less : tie.Need-loop-less Inv-loop μ-loop
-loop-less c = omega (arith, c .before .before .before .before .loop-test .taken)
-
 loop-again : tie.Need-loop-again Inv-loop μ-loop
 loop-again c =
-    let start = c .before .before .before .before .before .before .before in
-    let a = start .args in
+    let start = c .before .before .before .before .before .before .before in let a = start .args in
     let l = c .before .before .before .before .before .loop in
     let byte = c .before .before .shared-slice-known3 .given in (
       omega (arith, c .before .before .before .before .loop-test .taken),
@@ -67,12 +44,14 @@ loop-again c =
 
 returns-2 : tie.Need-returns-2 Inv-loop μ-loop
 returns-2 c = λ t m.
-    let a = c .before .before .before .args in
-    let l = c .before .loop in
+    let a = c .before .before .before .args in let l = c .before .loop in
     sym (known-all t (a .log .now) (l .k) (omega (arith, l .inv .0, c .loop-test .left)) (l .inv .1 t m))
 
 pub has-unknown-spec : {M : Type 1} → statement M
 has-unknown-spec =
     tie.close (tie.spec
-    Inv-loop μ-loop loop-holds mul-lines-of shared-slice-read-lines-of mul-lines-of-2 add-lines-of shared-slice-read-lines-of-2 (λ c κs. search needs) returns
-    add-k loop-less loop-again returns-2)
+    Inv-loop μ-loop loop-holds (λ c. omega (arith, c .loop-test .taken)) (λ c. omega (arith, c .before .loop-test .taken))
+    (λ c. omega (arith, c .before .loop-test .taken)) (λ c. omega (arith, c .before .loop-test .taken))
+    (λ c. omega (arith, c .before .before .loop-test .taken)) (λ c κs. search needs) returns
+    (λ c. omega (arith, c .before .before .before .before .loop-test .taken))
+    (λ c. omega (arith, c .before .before .before .before .loop-test .taken)) loop-again returns-2)

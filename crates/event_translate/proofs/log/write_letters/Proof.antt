@@ -19,80 +19,37 @@ Inv-loop events kinds drives log letters₀ n k₀ letters k =
 abbrev μ-loop : tie.MeasureT-loop
 μ-loop events kinds drives log letters₀ n k₀ letters k = eventCount log - k
 
-loop-holds : tie.Need-loop-holds Inv-loop μ-loop
-loop-holds c = (omega arith, refl)
-
-mul-lines-of : tie.Need-mul-lines-of Inv-loop μ-loop
-mul-lines-of c = omega (arith, c .loop-test .taken)
-
-shared-slice-read-lines-of : tie.Need-shared-slice-read-lines-of Inv-loop μ-loop
-shared-slice-read-lines-of c = omega (arith, c .before .loop-test .taken)
-
-mul-lines-of-2 : tie.Need-mul-lines-of-2 Inv-loop μ-loop
-mul-lines-of-2 c = omega (arith, c .before .loop-test .taken)
-
-add-lines-of : tie.Need-add-lines-of Inv-loop μ-loop
-add-lines-of c = omega (arith, c .before .loop-test .taken)
-
-shared-slice-read-lines-of-2 : tie.Need-shared-slice-read-lines-of-2 Inv-loop μ-loop
-shared-slice-read-lines-of-2 c = omega (arith, c .before .before .loop-test .taken)
-
 -- some line holds the event
 held : (c : tie.After-lines-of Inv-loop μ-loop) → let a = c .before .before .before .before .before .before .before .before .args in
     known (a .events .now) (a .log .now) (c .before .before .before .before .loop .k) ≡ true
 held c =
-    let earlier = c .before .before .before .before .before .before .before .before in
-    let s = earlier in
+    let earlier = c .before .before .before .before .before .before .before .before in let s = earlier in
     known-at (s .args .events .now) (s .args .log .now) (c .before .before .before .before .loop .k) (s .pre .1) (c .before .before .before .loop-test .taken)
 
 -- and the least of them is a line
 line : (c : tie.After-lines-of Inv-loop μ-loop) → trailingZeros 64 (c .lines-of .result) < lineCount (c .before .before .before .before .before .before .before .before .args .events .now)
 line c =
-    let earlier = c .before .before .before .before .before .before .before .before in
-    let s = earlier in
-    let a = s .args in
-    let k = c .before .before .before .before .loop .k in
+    let earlier = c .before .before .before .before .before .before .before .before in let s = earlier in
+    let a = s .args in let k = c .before .before .before .before .loop .k in
     let byte = c .before .shared-slice-known4 .given in
     rw (c .lines-of .ensures) (least-below (a .events .now) (a .kinds .now) (a .drives .now) (a .log .now) (s .pre .0) k (byte (2 * k) .fits) (byte (2 * k + 1) .fits) (held c))
-
-cast-line : tie.Need-cast-line Inv-loop μ-loop
-cast-line c = omega (arith, line c)
-
-mul-letters : tie.Need-mul-letters Inv-loop μ-loop
-mul-letters c = omega (arith, line c)
-
-add-letters : tie.Need-add-letters Inv-loop μ-loop
-add-letters c = omega (arith, line c)
-
-shared-slice-read-letters : tie.Need-shared-slice-read-letters Inv-loop μ-loop
-shared-slice-read-letters c = omega (arith, line (c .before))
 
 -- the slice keeps its length
 long : (c : tie.At-loop Inv-loop μ-loop) → let s = c .before .before .before .before in length (c .loop .letters) ≡ length (s .args .letters .now)
 long c =
-    let s = c .before .before .before .before in
-    let l = c .loop in
+    let s = c .before .before .before .before in let l = c .loop in
     ap length (l .inv .1) ∙ put-length (lettersOf (s .args .events .now) (s .args .log .now)) (s .args .letters .now) (l .k)
     (omega (arith, letters-length (s .args .events .now) (s .args .log .now), l .inv .0)) (omega (arith, s .pre .2, l .inv .0))
 
 slice-write-letters : tie.Need-slice-write-letters Inv-loop μ-loop
 slice-write-letters c =
-    let earlier = c .before .before .before .before .before .before .before .before .before in
-    let s = earlier in
+    let earlier = c .before .before .before .before .before .before .before .before .before in let s = earlier in
     omega (arith, long (c .before .before .before .before .before), s .pre .2, c .before .before .before .before .loop-test .taken)
-
-add-k : tie.Need-add-k Inv-loop μ-loop
-add-k c = omega (arith, c .before .before .before .before .loop-test .taken)
-
-loop-less : tie.Need-loop-less Inv-loop μ-loop
-loop-less c = omega (arith, c .before .before .before .before .loop-test .taken)
 
 loop-again : tie.Need-loop-again Inv-loop μ-loop
 loop-again c =
-    let earlier = c .before .before .before .before .before .before .before .before .before in
-    let s = earlier in
-    let a = s .args in
-    let l = c .before .before .before .before .before .loop in
+    let earlier = c .before .before .before .before .before .before .before .before .before in let s = earlier in
+    let a = s .args in let l = c .before .before .before .before .before .loop in
     let taken = c .before .before .before .before .loop-test .taken in
     let byte = c .before .before .shared-slice-known4 .given in
     let new = lettersOf (a .events .now) (a .log .now) in
@@ -105,13 +62,9 @@ loop-again c =
           ∙ put-letter new (a .letters .now) (l .k) (omega (arith, letters-length (a .events .now) (a .log .now), taken)) (omega (arith, s .pre .2, taken)),
     )
 
-same-length : tie.Need-same-length Inv-loop μ-loop
-same-length c = long (c .before)
-
 returns : tie.Need-returns Inv-loop μ-loop
 returns c =
-    let a = c .before .before .before .before .before .args in
-    let l = c .before .loop in
+    let a = c .before .before .before .before .before .args in let l = c .before .loop in
     let e : eventCount (a .log .now) ≡ l .k = omega (arith, l .inv .0, c .loop-test .left) in
     l .inv .1 ∙ put-all (lettersOf (a .events .now) (a .log .now)) (a .letters .now) (l .k) (letters-length (a .events .now) (a .log .now) ∙ e)
     ∙ ap (λ (n : ℕ). lettersOf (a .events .now) (a .log .now) ++ drop n (a .letters .now)) (sym e)
@@ -119,5 +72,9 @@ returns c =
 pub write-letters-spec : {M : Type 1} → statement M
 write-letters-spec =
     tie.close (tie.spec
-    Inv-loop μ-loop loop-holds mul-lines-of shared-slice-read-lines-of mul-lines-of-2 add-lines-of shared-slice-read-lines-of-2 (λ c κs. search needs) cast-line
-    mul-letters add-letters shared-slice-read-letters slice-write-letters add-k loop-less loop-again same-length returns)
+    Inv-loop μ-loop (λ c. (omega arith, refl)) (λ c. omega (arith, c .loop-test .taken)) (λ c. omega (arith, c .before .loop-test .taken))
+    (λ c. omega (arith, c .before .loop-test .taken)) (λ c. omega (arith, c .before .loop-test .taken))
+    (λ c. omega (arith, c .before .before .loop-test .taken)) (λ c κs. search needs) (λ c. omega (arith, line c)) (λ c. omega (arith, line c))
+    (λ c. omega (arith, line c)) (λ c. omega (arith, line (c .before))) slice-write-letters
+    (λ c. omega (arith, c .before .before .before .before .loop-test .taken))
+    (λ c. omega (arith, c .before .before .before .before .loop-test .taken)) loop-again (λ c. long (c .before)) returns)

@@ -29,8 +29,7 @@ returns-2 c =
 
 returns-3 : tie.Need-returns-3
 returns-3 c =
-    let start = c .before .before .before .before .before .before .before .before in
-    let a = start .args in
+    let start = c .before .before .before .before .before .before .before .before in let a = start .args in
     let adds : sum (a .counts .now) ≡ length (a .clauses .now) = omega arith in
     let over : anyOf (a .clauses .now) (leb (2 ^ a .n)) ≡ true =
     rw (shl-one 64 (a .n) (omega arith)) at (sym (c .before .any-from2 .ensures) ∙ c .if3 .taken) in
@@ -38,8 +37,7 @@ returns-3 c =
 
 returns-4 : tie.Need-returns-4
 returns-4 c =
-    let start = c .before .before .before .before .before .before .before .before in
-    let a = start .args in
+    let start = c .before .before .before .before .before .before .before .before in let a = start .args in
     let adds : sum (a .counts .now) ≡ length (a .clauses .now) = omega arith in
     let within : anyOf (a .clauses .now) (leb (2 ^ a .n)) ≡ false =
     rw (shl-one 64 (a .n) (omega arith)) at (sym (c .before .any-from2 .ensures) ∙ c .if3 .left) in

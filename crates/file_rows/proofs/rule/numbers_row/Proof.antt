@@ -6,12 +6,6 @@ use Rattle.sets.proofs.Bits.{shl-one}
 use Rattle.file_rows.proofs.rule.numbers_row.Statement.{statement}
 use Rattle.file_rows.proofs.rule.numbers_row.Tie as tie
 
-returns : tie.Need-returns
-returns c = under-3 (c .before .args .h) (omega arith)
-
-returns-2 : tie.Need-returns-2
-returns-2 c = over-3 (c .before .before .args .h) (omega arith) (omega arith)
-
 returns-3 : tie.Need-returns-3
 returns-3 c = under-4 (c .before .before .before .args .h) (omega arith) (omega arith) (omega arith)
 
@@ -32,4 +26,7 @@ returns-7 c =
     pass-6 h (omega arith) (omega arith) (omega arith) (omega arith) (omega arith) (omega (arith, shl-one 64 (h .n) (omega arith)))
 
 pub numbers-row-spec : {M : Type 1} → statement M
-numbers-row-spec = tie.close (tie.spec returns returns-2 returns-3 returns-4 (λ c. search needs) returns-5 returns-6 returns-7)
+numbers-row-spec =
+    tie.close (tie.spec
+    (λ c. under-3 (c .before .args .h) (omega arith)) (λ c. over-3 (c .before .before .args .h) (omega arith) (omega arith)) returns-3 returns-4
+    (λ c. search needs) returns-5 returns-6 returns-7)

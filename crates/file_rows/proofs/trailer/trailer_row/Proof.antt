@@ -14,9 +14,6 @@ use Rattle.file_spec.proofs.TrailerRows.{row-1, row-2, row-numbers, row-7, pass
 use Rattle.file_rows.proofs.trailer.trailer_row.Statement.{statement}
 use Rattle.file_rows.proofs.trailer.trailer_row.Tie as tie
 
-returns : tie.Need-returns
-returns c = row-1 (c .before .before .args .f .now) (omega arith)
-
 returns-2 : tie.Need-returns-2
 returns-2 c =
     let f = c .before .before .before .before .args .f .now in
@@ -32,8 +29,7 @@ numbers-are c = c .numbers-row .ensures ∙ ap (λ h. firstRow (numberRows h)) (
 
 returns-3 : tie.Need-returns-3
 returns-3 c =
-    let start = c .before .before .before .before .before .before .before in
-    let f = start .args .f .now in
+    let start = c .before .before .before .before .before .before .before in let f = start .args .f .now in
     row-numbers f (omega arith) (tag-is (c .before .before .before)) (c .before .numbers-row .result) (c .if3 .taken) (numbers-are (c .before))
 
 abbrev start-of-else3 : tie.Else3 → tie.Start
@@ -70,5 +66,5 @@ returns-5 c =
 pub trailer-row-spec : {M : Type 1} → statement M
 trailer-row-spec =
     tie.close (tie.spec
-    returns (λ c κs. search needs) returns-2 (λ c κs. search needs) (λ c κs. search needs) returns-3 (λ c κs. search needs) (λ c. search needs) mul-if4 add-if4
-    returns-4 returns-5)
+    (λ c. row-1 (c .before .before .args .f .now) (omega arith)) (λ c κs. search needs) returns-2 (λ c κs. search needs) (λ c κs. search needs)
+    returns-3 (λ c κs. search needs) (λ c. search needs) mul-if4 add-if4 returns-4 returns-5)

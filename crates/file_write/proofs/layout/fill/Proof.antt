@@ -14,8 +14,7 @@ use Rattle.file_write.proofs.layout.fill.Tie as tie
 returns : tie.Need-returns
 returns c =
     let start = c .before .before .before .before .before .before .before .before .before .before .before .before in
-    let a = start .args in
-    let p = start .pre in
+    let a = start .args in let p = start .pre in
     let f = bodyOf (ruleOf (a .h) (a .counts .now) (a .clauses .now)) in
     c .before .before .fill-rule .ensures
     ∙ rw (c .before .before .before .before .before .before .fill-names .ensures)

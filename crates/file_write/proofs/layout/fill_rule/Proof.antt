@@ -30,8 +30,7 @@ returns : tie.Need-returns
 unfolding bodyOf trailerOf
 returns c =
     let at-put2 = c .before .before .before .before .before .before .before in
-    let at-put = at-put2 .before .before .before .before in
-    let earlier = at-put .before .before in
+    let at-put = at-put2 .before .before .before .before in let earlier = at-put .before .before in
     let start = earlier .before .before .before .before .before .before .before .before .before in
     let a = start .args in
     put-paste (c .before .before .put3 .ensures)

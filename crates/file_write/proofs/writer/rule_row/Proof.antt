@@ -41,8 +41,7 @@ lists-row-requires c κs =
 
 returns-3 : tie.Need-returns-3
 returns-3 c =
-    let start = c .before .before .before .before .before .before .before in
-    let a = start .args in
+    let start = c .before .before .before .before .before .before .before in let a = start .args in
     by-lists (a .h) (a .counts .now) (a .clauses .now) (pass (c .before .before .before)) (entries-are (c .before .before)) (c .before .lists-row .result) (c .if3 .taken)
     (c .before .lists-row .ensures)
 
@@ -55,14 +54,12 @@ listed c = sym (c .before .lists-row .ensures) ∙ c .if3 .left
 
 formed-row-requires : tie.Need-formed-row-requires
 formed-row-requires c κs =
-    let start = c .before .before .before .before .before .before .before in
-    let a = start .args in
+    let start = c .before .before .before .before .before .before .before in let a = start .args in
     formed (a .h) (a .counts .now) (a .clauses .now) (pass (c .before .before .before)) (entries-are (c .before .before)) (listed c)
 
 returns-4 : tie.Need-returns-4
 returns-4 c =
-    let start = c .before .before .before .before .before .before .before .before in
-    let a = start .args in
+    let start = c .before .before .before .before .before .before .before .before in let a = start .args in
     c .formed-row .ensures ∙ sym (by-formed (a .h) (a .counts .now) (a .clauses .now) (pass (c .before .before .before .before)) (entries-are (c .before .before .before)) (listed (c .before)))
 
 pub rule-row-spec : {M : Type 1} → statement M

@@ -25,13 +25,9 @@ pass c = sym (c .before .rule-row .ensures) ∙ c .if1 .left
 letters : (c : tie.Else1) → c .before .before .before .before .before .before .args .h .s ≤ 16
 letters c = let a = c .before .before .before .before .before .before .args in rule-passing (a .h) (a .counts .now) (a .clauses .now) (pass c) .formed .few-letters
 
-given-row-requires : tie.Need-given-row-requires
-given-row-requires c κs = letters c
-
 returns-2 : tie.Need-returns-2
 returns-2 c =
-    let start = c .before .before .before .before .before .before .before .before in
-    let a = start .args in
+    let start = c .before .before .before .before .before .before .before .before in let a = start .args in
     by-names (a .h) (a .counts .now) (a .clauses .now) (a .names .now) (a .out .now) (pass (c .before .before)) (c .before .given-row .result) (c .if2 .taken) (c .before .given-row .ensures)
 
 abbrev start-of-else2 : tie.Else2 → tie.Start
@@ -43,9 +39,6 @@ named c = sym (c .before .given-row .ensures) ∙ c .if2 .left
 
 few-names : (c : tie.Else2) → length (start-of-else2 c .args .names .now) ≤ 128
 few-names c = let a = start-of-else2 c .args in names-few (a .h .s) (a .names .now) (letters (c .before .before)) (named c)
-
-preface-length-requires : tie.Need-preface-length-requires
-preface-length-requires c κs = few-names c
 
 abbrev start-of-after-preface-length : tie.After-preface-length → tie.Start
 start-of-after-preface-length c = c .before .before .before .before .before .before .before .before .before
@@ -59,15 +52,6 @@ short c =
       in-bytes (a .h) (a .counts .now) (a .clauses .now) p .count,
       few-counts (a .h) (a .counts .now) (a .clauses .now) p,
     )
-
-add-if3 : tie.Need-add-if3
-add-if3 c = omega (arith, short c)
-
-add-if3-2 : tie.Need-add-if3-2
-add-if3-2 c = omega (arith, short c)
-
-add-if3-3 : tie.Need-add-if3-3
-add-if3-3 c = omega (arith, short c)
 
 returns-3 : tie.Need-returns-3
 returns-3 c =
@@ -87,8 +71,7 @@ fill-requires c κs =
 returns-4 : tie.Need-returns-4
 returns-4 c =
     let earlier = c .before .before .before .before .before .before .before .before in
-    let start = earlier .before .before .before .before .before .before in
-    let a = start .args in
+    let start = earlier .before .before .before .before .before .before in let a = start .args in
     let e = c .before .before .before .before .before .preface-length .ensures in
     let room : length (prefaceFrom (a .names .now)) + length (a .clauses .now) + length (a .counts .now) + 8 ≤ length (a .out .now) = omega (arith, e, c .before .before .before .before .if3 .left) in
     let d = done (a .h) (a .counts .now) (a .clauses .now) (a .names .now) (a .out .now) (pass (earlier)) (named (c .before .before .before .before .before .before)) room in
@@ -97,5 +80,5 @@ returns-4 c =
 pub write-head-spec : {M : Type 1} → statement M
 write-head-spec =
     tie.close (tie.spec
-    (λ c κs. search needs) returns given-row-requires returns-2 preface-length-requires add-if3 add-if3-2 add-if3-3 returns-3 fill-requires (λ c. search needs)
-    (λ c. search needs) (λ c. search needs) (λ c. search needs) returns-4)
+    (λ c κs. search needs) returns (λ c κs. letters c) returns-2 (λ c κs. few-names c) (λ c. omega (arith, short c)) (λ c. omega (arith, short c))
+    (λ c. omega (arith, short c)) returns-3 fill-requires (λ c. search needs) (λ c. search needs) (λ c. search needs) (λ c. search needs) returns-4)

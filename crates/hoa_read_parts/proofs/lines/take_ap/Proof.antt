@@ -25,17 +25,11 @@ returns-4 c =
 
 returns-5 : tie.Need-returns-5
 returns-5 c =
-    let at-if2 = c .before .before .before .before .before .before .before .before in
-    let at-take2 = at-if2 .before in
-    let at-if1 = at-take2 .before .before in
-    let at-take = at-if1 .before in
-    let start = at-take .before .before .before in
-    let a = start .args in
-    let P = at-take .take in
-    let Q = at-take2 .take2 in
-    let R = c .before .before .before .before .before .before .take3 in
-    let S = c .before .before .before .take4 in
-    let T = c .take5 in
+    let at-if2 = c .before .before .before .before .before .before .before .before in let at-take2 = at-if2 .before in
+    let at-if1 = at-take2 .before .before in let at-take = at-if1 .before in
+    let start = at-take .before .before .before in let a = start .args in let P = at-take .take in
+    let Q = at-take2 .take2 in let R = c .before .before .before .before .before .before .take3 in
+    let S = c .before .before .before .take4 in let T = c .take5 in
     ap-last (a .text .now) (a .p) (P .result) (Q .result) (R .result) (S .result) (T .result) ap-0 ap-1 ap-2 ap-3 ap-4
     (P .ensures) (at-if1 .if1 .left) (Q .ensures) (at-if2 .if2 .left) (R .ensures) (c .before .before .before .before .before .if3 .left) (S .ensures) (c .before .before .if4 .left) (T .ensures)
 

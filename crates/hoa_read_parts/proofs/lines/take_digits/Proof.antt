@@ -16,9 +16,6 @@ Inv-loop text p v x₀ q₀ x q = (p ≤ q) × (q < length text) × (x ≤ 65536
 abbrev μ-loop : tie.MeasureT-loop
 μ-loop text p v x₀ q₀ x q = length text - q
 
-loop-holds : tie.Need-loop-holds Inv-loop μ-loop
-loop-holds c = (omega arith, omega arith, omega arith, refl)
-
 returns : tie.Need-returns Inv-loop μ-loop
 returns c = let a = c .before .before .before .before .args in let l = c .before .before .loop in
     digits-stop (a .text .now) (a .p) (a .v) (l .x) (l .q) (l .inv .3) (omega arith) (omega arith) (omega arith) (c .if1 .taken)
@@ -53,5 +50,6 @@ loop-again c =
 pub take-digits-spec : {M : Type 1} → statement M
 take-digits-spec =
     tie.close (tie.spec
-    Inv-loop μ-loop loop-holds (λ c. omega arith) returns (λ c κs. search needs) returns-2 (λ c κs. search needs) returns-3 (λ c. omega arith)
-    (λ c. omega arith) (λ c. omega arith) (λ c κs. search needs) returns-4 (λ c. omega arith) (λ c. omega arith) loop-again)
+    Inv-loop μ-loop (λ c. (omega arith, omega arith, omega arith, refl)) (λ c. omega arith) returns (λ c κs. search needs) returns-2
+    (λ c κs. search needs) returns-3 (λ c. omega arith) (λ c. omega arith) (λ c. omega arith) (λ c κs. search needs) returns-4 (λ c. omega arith)
+    (λ c. omega arith) loop-again)

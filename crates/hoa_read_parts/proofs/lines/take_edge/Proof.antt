@@ -7,13 +7,9 @@ use borrow.Author.Needs.{needs}
 use Rattle.hoa_read_parts.proofs.lines.take_edge.Statement.{statement}
 use Rattle.hoa_read_parts.proofs.lines.take_edge.Tie as tie
 
-take-byte-requires : tie.Need-take-byte-requires
-take-byte-requires c κs = (c .before .pre .0, omega arith)
-
 returns : tie.Need-returns
 returns c =
-    let a = c .before .before .before .before .args in
-    let A = c .before .before .take-byte in
+    let a = c .before .before .before .before .args in let A = c .before .before .take-byte in
     edge-no-head (a .text .now) (a .p) (a .b) (a .n) (a .i) (omega arith) (omega arith) (A .result) (A .ensures .0) (c .before .if1 .taken) (c .nothing .ensures .1)
 
 take-label-requires : tie.Need-take-label-requires
@@ -22,8 +18,7 @@ take-label-requires c κs = (c .before .before .before .pre .0, c .before .take-
 returns-2 : tie.Need-returns-2
 returns-2 c =
     let a = c .before .before .before .before .before .before .args in
-    let A = c .before .before .before .before .take-byte in
-    let L = c .before .before .take-label in
+    let A = c .before .before .before .before .take-byte in let L = c .before .before .take-label in
     edge-no-label (a .text .now) (a .p) (a .b) (a .n) (a .i) (omega arith) (omega arith) (A .result) (A .ensures .0) (omega arith) (L .result .value) (L .result .end) (L .ensures .0)
     (c .before .if2 .taken) (c .nothing2 .ensures .1)
 
@@ -34,8 +29,7 @@ returns-3 : tie.Need-returns-3
 returns-3 c =
     let a = c .before .before .before .before .before .before .before .before .before .args in
     let A = c .before .before .before .before .before .before .before .take-byte in
-    let L = c .before .before .before .before .before .take-label in
-    let W = c .before .before .before .take-target in
+    let L = c .before .before .before .before .before .take-label in let W = c .before .before .before .take-target in
     edge-far (a .text .now) (a .p) (a .b) (a .n) (a .i) (omega arith) (omega arith) (A .result) (A .ensures .0) (omega arith) (L .result .value) (L .result .end) (L .ensures .0) (omega arith)
     (W .result .value) (W .result .end) (W .ensures) (c .before .if3 .taken) (c .nothing3 .ensures .1)
 
@@ -43,15 +37,6 @@ small : (c : tie.Else3) → c .before .before .before .before .take-label .resul
 small c =
     let start = c .before .before .before .before .before .before .before .before in
     let L = c .before .before .before .before .take-label in letter-small (start .args .b) (L .result .value) (omega arith) (L .ensures .0 .found (omega arith) .0)
-
-mul-t12 : tie.Need-mul-t12
-mul-t12 c = omega (arith, small (c .before))
-
-add-t13 : tie.Need-add-t13
-add-t13 c = omega (arith, small (c .before))
-
-add-t14 : tie.Need-add-t14
-add-t14 c = omega (arith, small (c .before .before))
 
 returns-4 : tie.Need-returns-4
 returns-4 c =
@@ -65,5 +50,6 @@ returns-4 c =
 pub take-edge-spec : {M : Type 1} → statement M
 take-edge-spec =
     tie.close (tie.spec
-    take-byte-requires (λ c κs. search needs) returns take-label-requires (λ c κs. search needs) returns-2 take-target-requires (λ c κs. search needs) returns-3
-    (λ c. omega arith) mul-t12 add-t13 add-t14 returns-4)
+    (λ c κs. (c .before .pre .0, omega arith)) (λ c κs. search needs) returns take-label-requires (λ c κs. search needs) returns-2
+    take-target-requires (λ c κs. search needs) returns-3 (λ c. omega arith) (λ c. omega (arith, small (c .before)))
+    (λ c. omega (arith, small (c .before))) (λ c. omega (arith, small (c .before .before))) returns-4)

@@ -12,17 +12,10 @@ Inv-loop text p b letter₀ end₀ i₀ letter end i = (i ≤ b) × Labelled tex
 abbrev μ-loop : tie.MeasureT-loop
 μ-loop text p b letter₀ end₀ i₀ letter end i = b - i
 
-take-byte-requires : tie.Need-take-byte-requires Inv-loop μ-loop
-take-byte-requires c κs = (c .before .before .pre .0, omega arith)
-
 returns : tie.Need-returns Inv-loop μ-loop
 returns c =
-    let a = c .before .before .before .args in
-    let A = c .take-byte in
+    let a = c .before .before .before .args in let A = c .take-byte in
     (label-none (a .text .now) (a .p) (A .result) (A .ensures .0) (a .b) (c .before .if1 .taken), λ l. A .ensures .1 (omega arith) l)
-
-take-literal-requires : tie.Need-take-literal-requires Inv-loop μ-loop
-take-literal-requires c κs = (c .before .before .pre .0, omega arith, omega arith)
 
 returns-2 : tie.Need-returns-2 Inv-loop μ-loop
 returns-2 c =
@@ -45,8 +38,7 @@ take-byte-requires-2 c κs = (c .before .before .before .before .before .before 
 
 returns-3 : tie.Need-returns-3 Inv-loop μ-loop
 returns-3 c =
-    let start = c .before .before .before .before .before .before .before .before .before in
-    let a = start .args in
+    let start = c .before .before .before .before .before .before .before .before .before in let a = start .args in
     let l = c .before .before .before .before .loop in
     let A = c .before .before .take-byte2 in (
       label-no-sign (a .text .now) (a .p) (a .b) (omega arith) (l .i) (l .letter) (l .end) (l .inv .1) (omega arith) (A .result) (A .ensures .0) (c .before .if3 .taken) (c .nothing2 .ensures .1),
@@ -61,8 +53,7 @@ take-literal-requires-2 c κs =
 returns-4 : tie.Need-returns-4 Inv-loop μ-loop
 returns-4 c =
     let start = c .before .before .before .before .before .before .before .before .before .before .before in
-    let a = start .args in
-    let l = c .before .before .before .before .before .before .loop in
+    let a = start .args in let l = c .before .before .before .before .before .before .loop in
     let A = c .before .before .before .before .take-byte2 in
     let L = c .before .before .take-literal2 in (
       label-no-literal (a .text .now) (a .p) (a .b) (omega arith) (l .i) (l .letter) (l .end) (l .inv .1) (omega arith) (A .result) (A .ensures .0) (omega arith)
@@ -79,8 +70,7 @@ next : (c : tie.After-struct-known Inv-loop μ-loop) → let l = c .before .befo
 next c =
     let a = start-of-after-struct-known c .args in
     let l = c .before .before .before .before .before .before .loop in
-    let A = c .before .before .before .before .take-byte2 in
-    let L = c .before .before .take-literal2 in
+    let A = c .before .before .before .before .take-byte2 in let L = c .before .before .take-literal2 in
     labelled-next (a .text .now) (a .p) (a .b) (omega arith) (l .i) (l .letter) (l .end) (l .inv .1) (omega arith) (A .result) (A .ensures .0) (omega arith)
     (L .result .value) (L .result .end) (L .ensures .0) (omega arith) (L .ensures .1 (omega arith))
 
@@ -91,17 +81,14 @@ add-letter c = let I = next c in omega (
       (c .before .before .before .before .before .before .loop .letter + c .before .before .take-literal2 .result .value) (omega arith) (I .small),
 )
 
-loop-again : tie.Need-loop-again Inv-loop μ-loop
-loop-again c = (omega arith, next c)
-
 returns-5 : tie.Need-returns-5 Inv-loop μ-loop
 returns-5 c =
-    let a = c .before .before .before .before .before .before .args in
-    let l = c .before .loop in
+    let a = c .before .before .before .before .before .before .args in let l = c .before .loop in
     (label-done (a .text .now) (a .p) (a .b) (omega arith) (l .i) (l .letter) (l .end) (l .inv .1) (omega arith), λ z. l .inv .1 .within)
 
 pub take-label-spec : {M : Type 1} → statement M
 take-label-spec =
     tie.close (tie.spec
-    Inv-loop μ-loop take-byte-requires returns take-literal-requires (λ c κs. search needs) returns-2 loop-holds take-byte-requires-2 (λ c κs. search needs)
-    returns-3 take-literal-requires-2 (λ c κs. search needs) returns-4 add-letter (λ c. omega arith) (λ c. omega arith) loop-again returns-5)
+    Inv-loop μ-loop (λ c κs. (c .before .before .pre .0, omega arith)) returns (λ c κs. (c .before .before .pre .0, omega arith, omega arith))
+    (λ c κs. search needs) returns-2 loop-holds take-byte-requires-2 (λ c κs. search needs) returns-3 take-literal-requires-2 (λ c κs. search needs)
+    returns-4 add-letter (λ c. omega arith) (λ c. omega arith) (λ c. (omega arith, next c)) returns-5)

@@ -14,17 +14,10 @@ shifted (suc (suc zero)) h = refl
 shifted (suc (suc (suc zero))) h = refl
 shifted (suc (suc (suc (suc i)))) h = absurd (omega arith)
 
-take-byte-requires : tie.Need-take-byte-requires
-take-byte-requires c κs = (c .before .pre .0, omega arith)
-
 returns : tie.Need-returns
 returns c =
-    let a = c .before .before .before .args in
-    let A = c .before .take-byte in
+    let a = c .before .before .before .args in let A = c .before .take-byte in
     (literal-plain (a .text .now) (a .p) (a .i) (A .result) (A .ensures .0) (omega arith) (shifted (a .i) (omega arith)), λ l. A .ensures .1 (omega arith) l)
-
-take-byte-requires-2 : tie.Need-take-byte-requires-2
-take-byte-requires-2 c κs = (c .before .before .before .pre .0, omega arith)
 
 returns-2 : tie.Need-returns-2
 returns-2 c =
@@ -41,8 +34,7 @@ take-byte-requires-3 c κs = (c .before .before .before .before .before .pre .0,
 returns-3 : tie.Need-returns-3
 returns-3 c =
     let a = c .before .before .before .before .before .before .args in
-    let A = c .before .before .before .before .take-byte in
-    let B = c .before .before .take-byte2 in
+    let A = c .before .before .before .before .take-byte in let B = c .before .before .take-byte2 in
     let D = c .take-byte3 in (
       literal-negated (a .text .now) (a .p) (a .i) (A .result) (A .ensures .0) (c .before .before .before .if1 .left) (B .result) (B .ensures .0) (omega arith) (D .result) (D .ensures .0),
       λ l. D .ensures .1 (omega arith) l,
@@ -51,5 +43,5 @@ returns-3 c =
 pub take-literal-spec : {M : Type 1} → statement M
 take-literal-spec =
     tie.close (tie.spec
-    (λ c. omega arith) (λ c. omega arith) take-byte-requires (λ c. omega arith) returns take-byte-requires-2 (λ c κs. search needs) returns-2
-    take-byte-requires-3 returns-3)
+    (λ c. omega arith) (λ c. omega arith) (λ c κs. (c .before .pre .0, omega arith)) (λ c. omega arith) returns
+    (λ c κs. (c .before .before .before .pre .0, omega arith)) (λ c κs. search needs) returns-2 take-byte-requires-3 returns-3)

@@ -5,9 +5,6 @@ use borrow.Author.Needs.{needs}
 use Rattle.hoa_read_parts.proofs.lines.take_start.Statement.{statement}
 use Rattle.hoa_read_parts.proofs.lines.take_start.Tie as tie
 
-take-numbered-requires : tie.Need-take-numbered-requires
-take-numbered-requires c κs = (c .before .before .pre .0, omega arith, omega arith)
-
 returns : tie.Need-returns
 returns c = let a = c .before .before .before .before .before .args in let N = c .before .before .take-numbered in
     start-other (a .text .now) (a .p) (a .i) (N .result .value) (N .result .end) (omega arith) (N .ensures) (c .if1 .taken)
@@ -17,4 +14,4 @@ returns-2 c = let a = c .before .before .before .before .before .args in let N =
     start-same (a .text .now) (a .p) (a .i) (N .result .value) (N .result .end) (omega arith) (N .ensures) (c .if1 .left)
 
 pub take-start-spec : {M : Type 1} → statement M
-take-start-spec = tie.close (tie.spec (λ c. search needs) take-numbered-requires returns returns-2)
+take-start-spec = tie.close (tie.spec (λ c. search needs) (λ c κs. (c .before .before .pre .0, omega arith, omega arith)) returns returns-2)

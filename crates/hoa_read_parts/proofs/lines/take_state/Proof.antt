@@ -8,33 +8,24 @@ use Rattle.hoa_read_parts.proofs.lines.take_state.Tie as tie
 
 returns : tie.Need-returns
 returns c =
-    let a = c .before .before .before .before .before .args in
-    let T = c .before .before .take in
+    let a = c .before .before .before .before .before .args in let T = c .before .before .take in
     state-no-head (a .text .now) (a .p) (a .i) (omega arith) (T .result) (T .ensures) (c .before .if1 .taken) (c .nothing .ensures .1)
 
 returns-2 : tie.Need-returns-2
 returns-2 c =
-    let a = c .before .before .before .before .before .before .args in
-    let T = c .before .before .before .take in
+    let a = c .before .before .before .before .before .before .args in let T = c .before .before .before .take in
     state-cut (a .text .now) (a .p) (a .i) (omega arith) (T .result) (T .ensures) (omega arith) (c .before .if2 .taken) (c .nothing2 .ensures .1)
-
-take-word-requires : tie.Need-take-word-requires
-take-word-requires c κs = (c .before .before .before .before .before .pre .0, omega arith)
 
 returns-3 : tie.Need-returns-3
 returns-3 c =
-    let start = c .before .before .before .before .before .before .before .before in
-    let a = start .args in
-    let T = c .before .before .before .before .before .take in
-    let W = c .before .before .take-word in
+    let start = c .before .before .before .before .before .before .before .before in let a = start .args in
+    let T = c .before .before .before .before .before .take in let W = c .before .before .take-word in
     state-no-number (a .text .now) (a .p) (a .i) (omega arith) (T .result) (T .ensures) (omega arith) (W .result .value) (W .result .end) (W .ensures) (c .before .if3 .taken) (c .nothing3 .ensures .1)
 
 returns-4 : tie.Need-returns-4
 returns-4 c =
     let at-take = c .before .before .before .before .before .before .before in
-    let start = at-take .before .before .before in
-    let a = start .args in
-    let T = at-take .take in
+    let start = at-take .before .before .before in let a = start .args in let T = at-take .take in
     let W = c .before .before .before .before .take-word in
     state-other (a .text .now) (a .p) (a .i) (omega arith) (T .result) (T .ensures) (omega arith) (W .result .value) (W .result .end) (W .ensures) (omega arith) (c .before .if4 .taken)
     (c .nothing4 .ensures .1)
@@ -45,11 +36,8 @@ take-requires-2 c κs = (c .before .before .before .before .take-word .ensures .
 returns-5 : tie.Need-returns-5
 returns-5 c =
     let at-take = c .before .before .before .before .before .before .before .before .before in
-    let start = at-take .before .before .before in
-    let a = start .args in
-    let T = at-take .take in
-    let W = c .before .before .before .before .before .before .take-word in
-    let K = c .before .take2 in
+    let start = at-take .before .before .before in let a = start .args in let T = at-take .take in
+    let W = c .before .before .before .before .before .before .take-word in let K = c .before .take2 in
     state-accepting (a .text .now) (a .p) (a .i) (omega arith) (T .result) (T .ensures) (omega arith) (W .result .value) (W .result .end) (W .ensures) (omega arith)
     (c .before .before .before .if4 .left) (K .result) (K .ensures) (omega arith)
 
@@ -63,13 +51,13 @@ returns-6 : tie.Need-returns-6
 returns-6 c =
     let a = c .before .before .before .before .before .before .before .before .before .before .before .before .before .args in
     let T = c .before .before .before .before .before .before .before .before .before .before .take in
-    let W = c .before .before .before .before .before .before .before .take-word in
-    let K = c .before .before .take2 in
+    let W = c .before .before .before .before .before .before .before .take-word in let K = c .before .before .take2 in
     state-rejecting (a .text .now) (a .p) (a .i) (omega arith) (T .result) (T .ensures) (omega arith) (W .result .value) (W .result .end) (W .ensures) (omega arith)
     (c .before .before .before .before .if4 .left) (K .result) (K .ensures) (c .before .if5 .left) (c .take-byte .result) (c .take-byte .ensures .0)
 
 pub take-state-spec : {M : Type 1} → statement M
 take-state-spec =
     tie.close (tie.spec
-    (λ c. search needs) (λ c κs. omega arith) (λ c κs. search needs) returns (λ c κs. search needs) returns-2 take-word-requires (λ c κs. search needs)
-    returns-3 (λ c κs. search needs) returns-4 (λ c. search needs) take-requires-2 returns-5 take-byte-requires returns-6)
+    (λ c. search needs) (λ c κs. omega arith) (λ c κs. search needs) returns (λ c κs. search needs) returns-2
+    (λ c κs. (c .before .before .before .before .before .pre .0, omega arith)) (λ c κs. search needs) returns-3 (λ c κs. search needs) returns-4
+    (λ c. search needs) take-requires-2 returns-5 take-byte-requires returns-6)

@@ -7,9 +7,6 @@ use borrow.Author.Needs.{needs}
 use Rattle.hoa_read_parts.proofs.lines.take_target.Statement.{statement}
 use Rattle.hoa_read_parts.proofs.lines.take_target.Tie as tie
 
-take-byte-requires : tie.Need-take-byte-requires
-take-byte-requires c κs = (c .before .pre .0, omega arith)
-
 returns : tie.Need-returns
 returns c = let a = c .before .before .before .before .args in let T = c .before .before .take-byte in
     numbered-no-head (a .text .now) (a .p) (93 ∷ []) (T .result) (T .ensures .0) (c .before .if1 .taken) (c .nothing .ensures .1)
@@ -20,8 +17,7 @@ take-word-requires c κs = (c .before .before .before .pre .0, c .before .take-b
 returns-2 : tie.Need-returns-2
 returns-2 c =
     let a = c .before .before .before .before .before .before .args in
-    let T = c .before .before .before .before .take-byte in
-    let W = c .before .before .take-word in
+    let T = c .before .before .before .before .take-byte in let W = c .before .before .take-word in
     numbered-no-number (a .text .now) (a .p) (93 ∷ []) (T .result) (T .ensures .0) (omega arith) (W .result .value) (W .result .end) (W .ensures) (c .before .if2 .taken) (c .nothing2 .ensures .1)
 
 take-byte-requires-2 : tie.Need-take-byte-requires-2
@@ -32,12 +28,12 @@ take-byte-requires-2 c κs =
 returns-3 : tie.Need-returns-3
 returns-3 c =
     let a = c .before .before .before .before .before .before .args in
-    let T = c .before .before .before .before .take-byte in
-    let W = c .before .before .take-word in
+    let T = c .before .before .before .before .take-byte in let W = c .before .before .take-word in
     numbered (a .text .now) (a .p) (93 ∷ []) (T .result) (T .ensures .0) (omega arith) (W .result .value) (W .result .end) (W .ensures) (omega arith) (c .take-byte2 .result)
     (c .take-byte2 .ensures .0)
 
 pub take-target-spec : {M : Type 1} → statement M
 take-target-spec =
     tie.close (tie.spec
-    take-byte-requires (λ c κs. search needs) returns take-word-requires (λ c κs. search needs) returns-2 take-byte-requires-2 returns-3)
+    (λ c κs. (c .before .pre .0, omega arith)) (λ c κs. search needs) returns take-word-requires (λ c κs. search needs) returns-2 take-byte-requires-2
+    returns-3)

@@ -12,15 +12,9 @@ use Rattle.hoa_read_parts.proofs.lines.take_word.Tie as tie
 inside : (c : tie.Else1) → c .before .take-byte .result < length (c .before .before .before .args .text .now)
 inside c = c .before .take-byte .ensures .1 (omega arith) (omega arith)
 
-take-byte-requires : tie.Need-take-byte-requires
-take-byte-requires c κs = (c .before .pre .0, omega arith)
-
 returns : tie.Need-returns
 returns c = let a = c .before .before .before .before .args in let T = c .before .before .take-byte in
     word-no-blank (a .text .now) (a .p) (T .result) (T .ensures .0) (c .before .if1 .taken) (c .nothing .ensures .1)
-
-shared-slice-read-c : tie.Need-shared-slice-read-c
-shared-slice-read-c c = inside (c .before)
 
 returns-2 : tie.Need-returns-2
 returns-2 c =
@@ -30,13 +24,9 @@ returns-2 c =
 
 returns-3 : tie.Need-returns-3
 returns-3 c =
-    let start = c .before .before .before .before .before .before .before in
-    let a = start .args in
+    let start = c .before .before .before .before .before .before .before in let a = start .args in
     let T = c .before .before .before .before .before .take-byte in
     word-no-digit (a .text .now) (a .p) (T .result) (T .ensures .0) (omega arith) (inside (c .before .before .before .before)) (inr (c .before .if3 .taken)) (c .nothing3 .ensures .1)
-
-add-take-digits : tie.Need-add-take-digits
-add-take-digits c = omega (arith, inside (c .before .before .before))
 
 take-digits-requires : tie.Need-take-digits-requires
 take-digits-requires c κs =
@@ -49,8 +39,7 @@ take-digits-requires c κs =
 
 returns-4 : tie.Need-returns-4
 returns-4 c =
-    let start = c .before .before .before .before .before .before .before in
-    let a = start .args in
+    let start = c .before .before .before .before .before .before .before in let a = start .args in
     let T = c .before .before .before .before .before .take-byte in
     word-digits (a .text .now) (a .p) (T .result) (T .ensures .0) (omega arith) (inside (c .before .before .before .before)) (c .before .before .if2 .left) (c .before .if3 .left)
     (c .take-digits .ensures)
@@ -58,5 +47,5 @@ returns-4 c =
 pub take-word-spec : {M : Type 1} → statement M
 take-word-spec =
     tie.close (tie.spec
-    take-byte-requires (λ c κs. search needs) returns shared-slice-read-c (λ c κs. search needs) returns-2 (λ c κs. search needs) returns-3 add-take-digits
-    (λ c. omega arith) take-digits-requires returns-4)
+    (λ c κs. (c .before .pre .0, omega arith)) (λ c κs. search needs) returns (λ c. inside (c .before)) (λ c κs. search needs) returns-2
+    (λ c κs. search needs) returns-3 (λ c. omega (arith, inside (c .before .before .before))) (λ c. omega arith) take-digits-requires returns-4)

@@ -9,15 +9,8 @@ use Rattle.hoa_text.proofs.lengths.edge_length.Tie as tie
 -- neither is long
 short : (c : tie.After-word-length) → c .before .label-length .result + c .word-length .result ≤ 17
 short c =
-    let a = c .before .before .args in
-    let p = c .before .before .pre in
+    let a = c .before .before .args in let p = c .before .before .pre in
     omega (arith, c .before .label-length .ensures, c .word-length .ensures, label-length (a .b) (a .letter) (p .0), word-short (a .target) (p .1))
-
-add-result : tie.Need-add-result
-add-result c = omega (arith, short c)
-
-add-result-2 : tie.Need-add-result-2
-add-result-2 c = omega (arith, short c)
 
 returns : tie.Need-returns
 returns c =
@@ -25,4 +18,6 @@ returns c =
     omega (arith, c .before .label-length .ensures, c .word-length .ensures, edge-length (a .b) (a .letter) (a .target))
 
 pub edge-length-spec : {M : Type 1} → statement M
-edge-length-spec = tie.close (tie.spec (λ c κs. search needs) (λ c κs. search needs) add-result add-result-2 returns)
+edge-length-spec =
+    tie.close (tie.spec
+    (λ c κs. search needs) (λ c κs. search needs) (λ c. omega (arith, short c)) (λ c. omega (arith, short c)) returns)

@@ -43,8 +43,7 @@ add-total c =
 
 loop-again : tie.Need-loop-again Inv-loop μ-loop
 loop-again c =
-    let start = c .before .before .before .before .before .before .before in
-    let a = start .args in
+    let start = c .before .before .before .before .before .before .before in let a = start .args in
     let l = c .before .before .before .before .before .loop in
     let among : l .i < length (wordsIn (a .moves .now)) = omega (arith, words-in-length (a .moves .now)) in
     let t = c .before .before .before .number-at .ensures in
@@ -55,8 +54,7 @@ loop-again c =
 
 returns : tie.Need-returns Inv-loop μ-loop
 returns c =
-    let a = c .before .before .before .args in
-    let l = c .before .loop in
+    let a = c .before .before .before .args in let l = c .before .loop in
     sum-all (edgeOf (a .b)) (wordsIn (a .moves .now)) (l .i) (l .total) (omega (arith, c .loop-test .left, words-in-length (a .moves .now))) (l .inv .1)
 
 pub edges-length-spec : {M : Type 1} → statement M

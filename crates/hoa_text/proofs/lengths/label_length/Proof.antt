@@ -21,22 +21,15 @@ abbrev μ-loop : tie.MeasureT-loop
 returns : tie.Need-returns Inv-loop μ-loop
 returns c = sym (ap length (label-none (c .before .args .letter) (c .before .args .b) (c .if1 .taken)))
 
-sub-total : tie.Need-sub-total Inv-loop μ-loop
-sub-total c = omega (arith, and-mask (c .before .args .letter) 1)
-
 loop-holds : tie.Need-loop-holds Inv-loop μ-loop
 loop-holds c = (omega arith, omega (arith, c .if1 .left), omega (arith, first-counts (c .before .args .letter)))
-
-shr-total : tie.Need-shr-total Inv-loop μ-loop
-shr-total c = omega (arith, c .before .before .before .pre)
 
 sub-total-2 : tie.Need-sub-total-2 Inv-loop μ-loop
 sub-total-2 c = omega (arith, and-mask (c .before .before .before .args .letter / 2 ^ c .before .loop .i) 1)
 
 add-total : tie.Need-add-total Inv-loop μ-loop
 add-total c =
-    let a = c .before .before .before .args in
-    let l = c .before .loop in
+    let a = c .before .before .before .args in let l = c .before .loop in
     omega (arith, l .inv .2, label-length (l .i) (a .letter) (omega (arith, c .loop-test .taken, c .before .before .before .pre)))
 
 loop-again : tie.Need-loop-again Inv-loop μ-loop
@@ -46,12 +39,12 @@ loop-again c =
 
 returns-2 : tie.Need-returns-2 Inv-loop μ-loop
 returns-2 c =
-    let a = c .before .before .before .args in
-    let l = c .before .loop in
+    let a = c .before .before .before .args in let l = c .before .loop in
     let e : l .i ≡ a .b = omega (arith, c .loop-test .left, l .inv .1) in
     l .inv .2 ∙ ap (λ (k : ℕ). length (label k (a .letter))) e
 
 pub label-length-spec : {M : Type 1} → statement M
 label-length-spec =
     tie.close (tie.spec
-    Inv-loop μ-loop returns sub-total loop-holds shr-total sub-total-2 add-total (λ c. omega arith) (λ c. omega arith) loop-again returns-2)
+    Inv-loop μ-loop returns (λ c. omega (arith, and-mask (c .before .args .letter) 1)) loop-holds (λ c. omega (arith, c .before .before .before .pre))
+    sub-total-2 add-total (λ c. omega arith) (λ c. omega arith) loop-again returns-2)

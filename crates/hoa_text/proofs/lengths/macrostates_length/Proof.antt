@@ -38,15 +38,9 @@ loop-holds c =
 number-at-requires : tie.Need-number-at-requires Inv-loop μ-loop
 number-at-requires c κs = omega (arith, words-in-length (c .before .before .before .args .codes .now))
 
-is-initial-requires : tie.Need-is-initial-requires Inv-loop μ-loop
-is-initial-requires c κs = c .before .before .before .before .pre .0
-
 -- a number is small
 small : (c : tie.In-loop Inv-loop μ-loop) → c .before .loop .i ≤ 65536
 small c = omega (arith, c .loop-test .taken, c .before .before .before .pre .1, words-in-length (c .before .before .before .args .codes .now))
-
-start-length-requires : tie.Need-start-length-requires Inv-loop μ-loop
-start-length-requires c κs = small (c .before .before .before)
 
 add-starts : tie.Need-add-starts Inv-loop μ-loop
 add-starts c = omega (
@@ -56,9 +50,6 @@ add-starts c = omega (
       (small (c .before .before .before .before)),
   small (c .before .before .before .before),
 )
-
-state-length-requires : tie.Need-state-length-requires Inv-loop μ-loop
-state-length-requires c κs = small (c .before .before .before .before)
 
 add-states : tie.Need-add-states Inv-loop μ-loop
 add-states c = omega (
@@ -71,11 +62,8 @@ add-states c = omega (
 
 loop-again : tie.Need-loop-again Inv-loop μ-loop
 loop-again c =
-    let at-is-initial = c .before .before .before in
-    let at-loop-test = at-is-initial .before .before in
-    let start-2 = at-loop-test .before .before .before in
-    let a = start-2 .args in
-    let l = at-loop-test .before .loop in
+    let at-is-initial = c .before .before .before in let at-loop-test = at-is-initial .before .before in
+    let start-2 = at-loop-test .before .before .before in let a = start-2 .args in let l = at-loop-test .before .loop in
     let initial = initialAt (a .initial) in
     let flags = flagsOf initial (wordsIn (a .codes .now)) in
     let low = at-loop-test .loop-test .taken in
@@ -97,8 +85,7 @@ add-result c = omega (arith, c .before .before .before .pre .1, words-in-length 
 
 returns : tie.Need-returns Inv-loop μ-loop
 returns c =
-    let a = c .before .before .before .args in
-    let l = c .before .loop in
+    let a = c .before .before .before .args in let l = c .before .loop in
     let initial = initialAt (a .initial) in
     let flags = flagsOf initial (wordsIn (a .codes .now)) in
     let all : length flags ≤ l .i = omega (arith, c .loop-test .left, flags-count initial (a .codes .now)) in
@@ -107,5 +94,6 @@ returns c =
 pub macrostates-length-spec : {M : Type 1} → statement M
 macrostates-length-spec =
     tie.close (tie.spec
-    Inv-loop μ-loop loop-holds number-at-requires is-initial-requires (λ c κs. search needs) start-length-requires add-starts state-length-requires add-states
-    (λ c. omega arith) (λ c. omega arith) loop-again add-result returns)
+    Inv-loop μ-loop loop-holds number-at-requires (λ c κs. c .before .before .before .before .pre .0) (λ c κs. search needs)
+    (λ c κs. small (c .before .before .before)) add-starts (λ c κs. small (c .before .before .before .before)) add-states (λ c. omega arith)
+    (λ c. omega arith) loop-again add-result returns)

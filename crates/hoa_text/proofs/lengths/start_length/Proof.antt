@@ -10,8 +10,5 @@ use Rattle.hoa_text.proofs.lengths.start_length.Tie as tie
 put-start-requires : tie.Need-put-start-requires
 put-start-requires c κs = let a = c .before .args in omega (arith, start-room (a .initial) (a .number) (c .before .pre))
 
-returns : tie.Need-returns
-returns c = c .before .put-start .ensures .ends ∙ zero-add _
-
 pub start-length-spec : {M : Type 1} → statement M
-start-length-spec = tie.close (tie.spec (λ c. search needs) put-start-requires returns)
+start-length-spec = tie.close (tie.spec (λ c. search needs) put-start-requires (λ c. c .before .put-start .ensures .ends ∙ zero-add _))

@@ -10,8 +10,5 @@ use Rattle.hoa_text.proofs.lengths.state_length.Tie as tie
 put-state-requires : tie.Need-put-state-requires
 put-state-requires c κs = let a = c .before .args in omega (arith, state-short (a .number) (a .accepting) (c .before .pre))
 
-returns : tie.Need-returns
-returns c = c .before .put-state .ensures .ends ∙ zero-add _
-
 pub state-length-spec : {M : Type 1} → statement M
-state-length-spec = tie.close (tie.spec (λ c. search needs) put-state-requires returns)
+state-length-spec = tie.close (tie.spec (λ c. search needs) put-state-requires (λ c. c .before .put-state .ensures .ends ∙ zero-add _))

@@ -55,8 +55,7 @@ bounds : (c : tie.After-edges-length) → (c .before .before .before .before .be
     × (c .before .macrostates-length .result ≤ 30 * 65536) × (c .edges-length .result ≤ 20 * 1099511627776)
 bounds c =
     let start = c .before .before .before .before .before .before .before .before .before .before in
-    let a = start .args in
-    let p = start .pre in
+    let a = start .args in let p = start .pre in
     let n = length (a .codes .now) / 8 in
     let flags = flagsOf (initialAt (a .initial)) (wordsIn (a .codes .now)) in
     let ts = wordsIn (a .moves .now) in
@@ -66,18 +65,6 @@ bounds c =
       omega (arith, c .before .macrostates-length .ensures, starts-bound (a .b) flags ts (p .0) count (from c), states-bound (a .b) flags ts (p .0) count (from c), count),
       omega (arith, c .edges-length .ensures, edges-bound (a .b) flags ts (p .0) count (from c), p .3),
     )
-
-add-result : tie.Need-add-result
-add-result c = omega (arith, bounds c .0, bounds c .1)
-
-add-result-2 : tie.Need-add-result-2
-add-result-2 c = omega (arith, bounds c .0, bounds c .1, bounds c .2)
-
-add-result-3 : tie.Need-add-result-3
-add-result-3 c = omega (arith, bounds c .0, bounds c .1, bounds c .2, bounds c .3)
-
-add-result-4 : tie.Need-add-result-4
-add-result-4 c = omega (arith, bounds c .0, bounds c .1, bounds c .2, bounds c .3)
 
 returns : tie.Need-returns
 returns c =
@@ -98,5 +85,7 @@ returns c =
 pub text-length-spec : {M : Type 1} → statement M
 text-length-spec =
     tie.close (tie.spec
-    (λ c. search needs) put-states-requires (λ c. search needs) put-ap-requires macrostates-length-requires edges-length-requires add-result add-result-2
-    add-result-3 add-result-4 returns)
+    (λ c. search needs) put-states-requires (λ c. search needs) put-ap-requires macrostates-length-requires edges-length-requires
+    (λ c. omega (arith, bounds c .0, bounds c .1)) (λ c. omega (arith, bounds c .0, bounds c .1, bounds c .2))
+    (λ c. omega (arith, bounds c .0, bounds c .1, bounds c .2, bounds c .3)) (λ c. omega (arith, bounds c .0, bounds c .1, bounds c .2, bounds c .3))
+    returns)

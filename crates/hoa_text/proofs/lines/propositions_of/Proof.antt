@@ -4,9 +4,6 @@ use Rattle.hoa_text.proofs.Propositions.{none-needed, one-needed, two-n
 use Rattle.hoa_text.proofs.lines.propositions_of.Statement.{statement}
 use Rattle.hoa_text.proofs.lines.propositions_of.Tie as tie
 
-returns : tie.Need-returns
-returns c = (none-needed (c .before .args .s) (c .if1 .taken), omega arith)
-
 returns-2 : tie.Need-returns-2
 returns-2 c = (one-needed (c .before .before .args .s) (omega arith) (c .if2 .taken), omega arith)
 
@@ -20,4 +17,6 @@ returns-5 : tie.Need-returns-5
 returns-5 c = (four-needed (c .before .before .before .before .args .s) (omega arith) (c .before .before .before .before .pre), omega arith)
 
 pub propositions-of-spec : {M : Type 1} → statement M
-propositions-of-spec = tie.close (tie.spec returns returns-2 returns-3 returns-4 returns-5)
+propositions-of-spec =
+    tie.close (tie.spec
+    (λ c. (none-needed (c .before .args .s) (c .if1 .taken), omega arith)) returns-2 returns-3 returns-4 returns-5)

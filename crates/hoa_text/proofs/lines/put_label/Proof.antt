@@ -32,9 +32,6 @@ put-literal-requires c κs =
     let a = c .before .before .before .args in
     (omega arith, omega (arith, label-grows (a .letter) 1 (a .b) (omega arith) (omega arith), ap length (label-one (a .letter))))
 
-loop-holds : tie.Need-loop-holds Inv-loop μ-loop
-loop-holds c = (omega arith, omega arith, λ d a P. P)
-
 abbrev start-of-at-loop : tie.At-loop Inv-loop μ-loop → tie.Start Inv-loop μ-loop
 start-of-at-loop c = c .before .before .before .before .before .before .before
 
@@ -44,8 +41,7 @@ so-far c = let a = start-of-at-loop c .args in c .loop .inv .2 (a .out .now) (a 
 
 put-byte-requires-2 : tie.Need-put-byte-requires-2 Inv-loop μ-loop
 put-byte-requires-2 c κs =
-    let start = c .before .before .before .before .before .before .before .before .before in
-    let a = start .args in
+    let start = c .before .before .before .before .before .before .before .before .before in let a = start .args in
     let l = c .before .before .loop in
     let P = so-far (c .before .before) in
     omega (arith, P .ends, put-length P, next-length (a .letter) (l .i) (a .b) (l .inv .0) (omega arith))
@@ -53,8 +49,7 @@ put-byte-requires-2 c κs =
 put-literal-requires-2 : tie.Need-put-literal-requires-2 Inv-loop μ-loop
 put-literal-requires-2 c κs =
     let start = c .before .before .before .before .before .before .before .before .before .before .before .before .before in
-    let a = start .args in
-    let l = c .before .before .before .before .before .before .loop in
+    let a = start .args in let l = c .before .before .before .before .before .before .loop in
     let P = so-far (c .before .before .before .before .before .before) in
     let Q = c .before .before .before .put-byte2 .ensures in
     (omega arith, omega (arith, P .ends, put-length P, Q .ends, put-length Q, next-length (a .letter) (l .i) (a .b) (l .inv .0) (omega arith)))
@@ -70,18 +65,14 @@ loop-again c =
           (c .before .before .put-literal2 .ensures),
     )
 
-same-length-2 : tie.Need-same-length-2 Inv-loop μ-loop
-same-length-2 c = put-length (so-far (c .before))
-
 returns-2 : tie.Need-returns-2 Inv-loop μ-loop
 returns-2 c =
-    let start = c .before .before .before .before .before .before .before .before in
-    let a = start .args in
+    let start = c .before .before .before .before .before .before .before .before in let a = start .args in
     let e : a .b ≡ c .before .loop .i = omega (arith, c .loop-test .left) in
     put-as (ap (λ (k : ℕ). label k (a .letter)) e) (so-far (c .before))
 
 pub put-label-spec : {M : Type 1} → statement M
 put-label-spec =
     tie.close (tie.spec
-    Inv-loop μ-loop put-byte-requires (λ c. search needs) returns put-literal-requires loop-holds put-byte-requires-2 put-literal-requires-2 (λ c. omega arith)
-    (λ c. omega arith) loop-again same-length-2 returns-2)
+    Inv-loop μ-loop put-byte-requires (λ c. search needs) returns put-literal-requires (λ c. (omega arith, omega arith, λ d a P. P))
+    put-byte-requires-2 put-literal-requires-2 (λ c. omega arith) (λ c. omega arith) loop-again (λ c. put-length (so-far (c .before))) returns-2)

@@ -26,8 +26,7 @@ put-byte-requires-3 c κs =
 returns-2 : tie.Need-returns-2
 returns-2 c =
     let at-if1 = c .before .before .before .before .before .before .before .before in
-    let start = at-if1 .before .before in
-    let a = start .args in
+    let start = at-if1 .before .before in let a = start .args in
     put-as (unset-literal (a .letter) (a .i) (at-if1 .if1 .left)) (put-then (c .before .before .before .before .before .before .put-byte2 .ensures) (c .before .before .put-byte3 .ensures))
 
 pub put-literal-spec : {M : Type 1} → statement M

@@ -29,24 +29,20 @@ put-requires c κs =
 
 put-number-requires : tie.Need-put-number-requires
 put-number-requires c κs =
-    let start = c .before .before .before .before .before .before .before .before in
-    let a = start .args in
+    let start = c .before .before .before .before .before .before .before .before in let a = start .args in
     omega (arith, start-length (a .number), ap length (line-is (a .initial) true (a .number) (not-false (a .initial) (c .before .before .before .before .before .before .if1 .left))))
 
 put-byte-requires : tie.Need-put-byte-requires
 put-byte-requires c κs =
     let at-if1 = c .before .before .before .before .before .before .before .before .before .before in
-    let start = at-if1 .before .before in
-    let a = start .args in
+    let start = at-if1 .before .before in let a = start .args in
     omega (arith, start-length (a .number), ap length (line-is (a .initial) true (a .number) (not-false (a .initial) (at-if1 .if1 .left))))
 
 returns-2 : tie.Need-returns-2
 unfolding startLine
 returns-2 c =
     let at-put = c .before .before .before .before .before .before .before .before .before .before in
-    let at-if1 = at-put .before .before .before in
-    let start = at-if1 .before .before in
-    let a = start .args in
+    let at-if1 = at-put .before .before .before in let start = at-if1 .before .before in let a = start .args in
     put-as (line-is (a .initial) true (a .number) (not-false (a .initial) (at-if1 .if1 .left)))
     (put-then (at-put .put .ensures) (put-then (c .before .before .before .before .before .before .put-number .ensures) (c .before .before .put-byte .ensures)))
 

@@ -33,8 +33,7 @@ returns : tie.Need-returns
 unfolding stateLine
 returns c =
     let at-put-number = c .before .before .before .before .before .before .before .before in
-    let at-put = at-put-number .before .before .before .before in
-    let start = at-put .before .before .before .before in
+    let at-put = at-put-number .before .before .before .before in let start = at-put .before .before .before .before in
     let a = start .args in
     put-as (line-is (a .accepting) true (a .number) (c .before .before .before .before .before .if1 .taken))
     (put-then (at-put .put .ensures) (put-then (at-put-number .put-number .ensures) (c .before .before .put2 .ensures)))
@@ -49,8 +48,7 @@ returns-2 : tie.Need-returns-2
 unfolding stateLine
 returns-2 c =
     let at-put-number = c .before .before .before .before .before .before .before in
-    let at-put = at-put-number .before .before .before .before in
-    let start = at-put .before .before .before .before in
+    let at-put = at-put-number .before .before .before .before in let start = at-put .before .before .before .before in
     let a = start .args in
     put-as (line-is (a .accepting) false (a .number) (c .before .before .before .before .if1 .left))
     (put-then (at-put .put .ensures) (put-then (at-put-number .put-number .ensures) (c .before .before .put-byte .ensures)))

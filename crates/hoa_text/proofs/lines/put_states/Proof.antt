@@ -7,9 +7,6 @@ use Rattle.slice_text.proofs.Puts.{put-then}
 use Rattle.hoa_text.proofs.lines.put_states.Statement.{statement}
 use Rattle.hoa_text.proofs.lines.put_states.Tie as tie
 
-put-requires : tie.Need-put-requires
-put-requires c κs = omega (arith, states-length (c .before .before .before .args .states))
-
 put-number-requires : tie.Need-put-number-requires
 put-number-requires c κs =
     let start = c .before .before .before .before .before .before .before in
@@ -27,4 +24,7 @@ returns c =
     put-then (at-put .put .ensures) (put-then (c .before .before .before .before .before .before .put-number .ensures) (c .before .before .put-byte .ensures))
 
 pub put-states-spec : {M : Type 1} → statement M
-put-states-spec = tie.close (tie.spec (λ c. search needs) put-requires put-number-requires put-byte-requires (λ c. search needs) returns)
+put-states-spec =
+    tie.close (tie.spec
+    (λ c. search needs) (λ c κs. omega (arith, states-length (c .before .before .before .args .states))) put-number-requires put-byte-requires
+    (λ c. search needs) returns)

@@ -39,9 +39,6 @@ loop-holds c =
 number-at-requires : tie.Need-number-at-requires Inv-loop μ-loop
 number-at-requires c κs = omega (arith, words-in-length (c .before .before .before .before .before .args .codes .now))
 
-stretch-end-requires : tie.Need-stretch-end-requires Inv-loop μ-loop
-stretch-end-requires c κs = c .before .before .before .loop .inv .1 .within
-
 abbrev start-of-after-stretch-end : tie.After-stretch-end Inv-loop μ-loop → tie.Start Inv-loop μ-loop
 start-of-after-stretch-end c = c .before .before .before .before .before .before .before .before
 
@@ -58,8 +55,7 @@ text-is c =
 
 put-block-requires : tie.Need-put-block-requires Inv-loop μ-loop
 put-block-requires c κs =
-    let start = c .before .before .before .before .before .before .before .before .before in
-    let a = start .args in
+    let start = c .before .before .before .before .before .before .before .before .before in let a = start .args in
     let l = c .before .before .before .before .before .loop in
     let R = c .before .stretch-end .ensures in (
       start .pre .0,
@@ -73,8 +69,7 @@ loop-again : tie.Need-loop-again Inv-loop μ-loop
 loop-again c =
     let at-stretch-end = c .before .before .before .before in
     let at-loop = at-stretch-end .before .before .before .before in
-    let start = at-loop .before .before .before .before in
-    let a = start .args in
+    let start = at-loop .before .before .before .before in let a = start .args in
     let l = at-loop .loop in (
       omega arith,
       cursor-next (wordsIn (a .moves .now)) (start .pre .1) (l .i) (l .j) (at-stretch-end .stretch-end .result) (l .inv .1) (at-stretch-end .stretch-end .ensures),
@@ -82,18 +77,14 @@ loop-again c =
           (l .inv .2) _ (text-is (at-stretch-end)) (c .before .before .put-block .ensures),
     )
 
-same-length : tie.Need-same-length Inv-loop μ-loop
-same-length c = put-length (c .before .loop .inv .2)
-
 returns : tie.Need-returns Inv-loop μ-loop
 returns c =
-    let a = c .before .before .before .before .before .args in
-    let l = c .before .loop in
+    let a = c .before .before .before .before .before .args in let l = c .before .loop in
     put-lines (blockOf (a .b) (wordsIn (a .moves .now))) (flagsOf (initialAt (a .initial)) (wordsIn (a .codes .now))) (l .i)
     (omega (arith, c .loop-test .left, flags-count (initialAt (a .initial)) (a .codes .now))) (l .inv .2)
 
 pub put-blocks-spec : {M : Type 1} → statement M
 put-blocks-spec =
     tie.close (tie.spec
-    Inv-loop μ-loop loop-holds number-at-requires (λ c κs. search needs) stretch-end-requires put-block-requires (λ c. omega arith) (λ c. omega arith)
-    loop-again same-length returns)
+    Inv-loop μ-loop loop-holds number-at-requires (λ c κs. search needs) (λ c κs. c .before .before .before .loop .inv .1 .within) put-block-requires
+    (λ c. omega arith) (λ c. omega arith) loop-again (λ c. put-length (c .before .loop .inv .2)) returns)

@@ -39,9 +39,6 @@ loop-holds c =
           (put-no-lines (edgeOf (a .b)) (part (a .moves .now) (a .j) (a .k)) (a .out .now) (a .at) (p .3)),
     )
 
-number-at-requires : tie.Need-number-at-requires Inv-loop μ-loop
-number-at-requires c κs = omega (arith, c .before .before .before .before .pre .2)
-
 abbrev start-of-after-target-of : tie.After-target-of Inv-loop μ-loop → tie.Start Inv-loop μ-loop
 start-of-after-target-of c = c .before .before .before .before .before .before .before
 
@@ -59,25 +56,19 @@ text-is c =
 -- it is one of the part
 listed : (c : tie.In-loop Inv-loop μ-loop) → let a = c .before .before .before .before .args in c .before .loop .i - a .j < length (part (a .moves .now) (a .j) (a .k))
 listed c =
-    let a = c .before .before .before .before .args in
-    let p = c .before .before .before .before .pre in
+    let a = c .before .before .before .before .args in let p = c .before .before .before .before .pre in
     omega (arith, c .loop-test .taken, c .before .loop .inv .0, part-length (wordsIn (a .moves .now)) (a .j) (a .k) (p .1) (p .2))
 
 put-edge-requires : tie.Need-put-edge-requires Inv-loop μ-loop
 put-edge-requires c κs =
-    let start = c .before .before .before .before .before .before .before .before in
-    let a = start .args in
-    let l = c .before .before .before .before .before .loop in
-    let p = start .pre in
+    let start = c .before .before .before .before .before .before .before .before in let a = start .args in
+    let l = c .before .before .before .before .before .loop in let p = start .pre in
     (p .0, room-line (edgeOf (a .b)) (part (a .moves .now) (a .j) (a .k)) (l .i - a .j) (listed (c .before .before .before .before)) (l .inv .2) _ (text-is (c .before)) (p .3))
 
 loop-again : tie.Need-loop-again Inv-loop μ-loop
 loop-again c =
-    let earlier = c .before .before .before .before .before .before .before in
-    let at-loop = earlier .before in
-    let start = at-loop .before .before .before in
-    let a = start .args in
-    let l = at-loop .loop in
+    let earlier = c .before .before .before .before .before .before .before in let at-loop = earlier .before in
+    let start = at-loop .before .before .before in let a = start .args in let l = at-loop .loop in
     let next : l .i + 1 - a .j ≡ l .i - a .j + 1 = omega (arith, l .inv .0) in (
       omega arith,
       omega arith,
@@ -86,18 +77,14 @@ loop-again c =
           (c .before .before .put-edge .ensures)),
     )
 
-same-length : tie.Need-same-length Inv-loop μ-loop
-same-length c = put-length (c .before .loop .inv .2)
-
 returns : tie.Need-returns Inv-loop μ-loop
 returns c =
-    let a = c .before .before .before .before .args in
-    let l = c .before .loop in
+    let a = c .before .before .before .before .args in let l = c .before .loop in
     let p = c .before .before .before .before .pre in
     put-lines (edgeOf (a .b)) (part (a .moves .now) (a .j) (a .k)) (l .i - a .j) (omega (arith, c .loop-test .left, part-length (wordsIn (a .moves .now)) (a .j) (a .k) (p .1) (p .2))) (l .inv .2)
 
 pub put-edges-spec : {M : Type 1} → statement M
 put-edges-spec =
     tie.close (tie.spec
-    Inv-loop μ-loop loop-holds number-at-requires (λ c κs. search needs) (λ c κs. search needs) put-edge-requires (λ c. omega arith) (λ c. omega arith)
-    loop-again same-length returns)
+    Inv-loop μ-loop loop-holds (λ c κs. omega (arith, c .before .before .before .before .pre .2)) (λ c κs. search needs) (λ c κs. search needs)
+    put-edge-requires (λ c. omega arith) (λ c. omega arith) loop-again (λ c. put-length (c .before .loop .inv .2)) returns)

@@ -33,9 +33,6 @@ loop-holds c =
 number-at-requires : tie.Need-number-at-requires Inv-loop μ-loop
 number-at-requires c κs = omega (arith, words-in-length (c .before .before .before .before .args .codes .now))
 
-is-initial-requires : tie.Need-is-initial-requires Inv-loop μ-loop
-is-initial-requires c κs = c .before .before .before .before .before .pre .0
-
 -- the line that is written
 text-is : (c : tie.After-is-initial Inv-loop μ-loop) → let a = c .before .before .before .before .before .before .args in let i = c .before .before .before .loop .i in
     cond (c .is-initial .result) (startLine i) [] ≡ startOf i (getD (flagsOf (initialAt (a .initial)) (wordsIn (a .codes .now))) i 0)
@@ -46,8 +43,7 @@ text-is c =
 
 put-start-requires : tie.Need-put-start-requires Inv-loop μ-loop
 put-start-requires c κs =
-    let start = c .before .before .before .before .before .before .before in
-    let a = start .args in
+    let start = c .before .before .before .before .before .before .before in let a = start .args in
     let l = c .before .before .before .before .loop in
     room-line startOf (flagsOf (initialAt (a .initial)) (wordsIn (a .codes .now))) (l .i) (omega (arith, flags-count (initialAt (a .initial)) (a .codes .now))) (l .inv .1) _ (text-is (c .before))
     (start .pre .1)
@@ -55,24 +51,20 @@ put-start-requires c κs =
 loop-again : tie.Need-loop-again Inv-loop μ-loop
 loop-again c =
     let at-loop = c .before .before .before .before .before .before .before in
-    let start = at-loop .before .before .before in
-    let a = start .args in
+    let start = at-loop .before .before .before in let a = start .args in
     let l = at-loop .loop in (
       omega arith,
       put-line startOf (flagsOf (initialAt (a .initial)) (wordsIn (a .codes .now))) (l .i) (omega (arith, flags-count (initialAt (a .initial)) (a .codes .now))) (l .inv .1) _
           (text-is (c .before .before .before .before)) (c .before .before .put-start .ensures),
     )
 
-same-length : tie.Need-same-length Inv-loop μ-loop
-same-length c = put-length (c .before .loop .inv .1)
-
 returns : tie.Need-returns Inv-loop μ-loop
 returns c =
-    let a = c .before .before .before .before .args in
-    let l = c .before .loop in
+    let a = c .before .before .before .before .args in let l = c .before .loop in
     put-lines startOf (flagsOf (initialAt (a .initial)) (wordsIn (a .codes .now))) (l .i) (omega (arith, c .loop-test .left, flags-count (initialAt (a .initial)) (a .codes .now))) (l .inv .1)
 
 pub put-starts-spec : {M : Type 1} → statement M
 put-starts-spec =
     tie.close (tie.spec
-    Inv-loop μ-loop loop-holds number-at-requires is-initial-requires put-start-requires (λ c. omega arith) (λ c. omega arith) loop-again same-length returns)
+    Inv-loop μ-loop loop-holds number-at-requires (λ c κs. c .before .before .before .before .before .pre .0) put-start-requires (λ c. omega arith)
+    (λ c. omega arith) loop-again (λ c. put-length (c .before .loop .inv .1)) returns)

@@ -101,8 +101,7 @@ returns c =
     let at-put-starts = at-put-ap .before .before .before .before in
     let at-put-states = at-put-starts .before .before .before .before in
     let at-put = at-put-states .before .before .before .before in
-    let start = at-put .before .before .before .before .before .before in
-    let a = start .args in
+    let start = at-put .before .before .before .before .before .before in let a = start .args in
     put-then (at-put .put .ensures)
     (put-then (put-as (states-is (initialAt (a .initial)) (a .codes .now)) (at-put-states .put-states .ensures))
     (put-then (at-put-starts .put-starts .ensures)

@@ -20,9 +20,6 @@ Inv-loop h counts starts clauses cycle layer masks₀ changed₀ p₀ masks chan
 abbrev μ-loop : tie.MeasureT-loop
 μ-loop h counts starts clauses cycle layer masks₀ changed₀ p₀ masks changed p = p
 
-loop-holds : tie.Need-loop-holds Inv-loop μ-loop
-loop-holds c = (omega arith, λ i. c .slice-known .given i .fits, walk-start _ _ _ _)
-
 open-at-requires : tie.Need-open-at-requires Inv-loop μ-loop
 open-at-requires c κs =
     let start = c .before .before .before .before .before .before .before in
@@ -31,9 +28,7 @@ open-at-requires c κs =
 loop-again : tie.Need-loop-again Inv-loop μ-loop
 loop-again c =
     let start = c .before .before .before .before .before .before .before .before .before .before .before in
-    let a = start .args in
-    let z = start .pre in
-    let l = c .before .before .before .before .before .before .loop in
+    let a = start .args in let z = start .pre in let l = c .before .before .before .before .before .before .loop in
     let r = ruleOf (a .h) (a .counts .now) (a .clauses .now) in
     let v = opened r (a .cycle .now) (a .layer) (l .masks) (l .p - 1) in
     let o = getD (l .masks) (l .p - 1) 0 in
@@ -50,9 +45,7 @@ loop-again c =
 loop-again-2 : tie.Need-loop-again-2 Inv-loop μ-loop
 loop-again-2 c =
     let start = c .before .before .before .before .before .before .before .before .before .before .before in
-    let a = start .args in
-    let z = start .pre in
-    let l = c .before .before .before .before .before .before .loop in
+    let a = start .args in let z = start .pre in let l = c .before .before .before .before .before .before .loop in
     let r = ruleOf (a .h) (a .counts .now) (a .clauses .now) in
     let v = opened r (a .cycle .now) (a .layer) (l .masks) (l .p - 1) in
     let o = getD (l .masks) (l .p - 1) 0 in
@@ -75,5 +68,5 @@ returns c =
 pub round-spec : {M : Type 1} → statement M
 round-spec =
     tie.close (tie.spec
-    Inv-loop μ-loop loop-holds (λ c. omega arith) open-at-requires (λ c. omega arith) loop-again (λ c. omega arith) loop-again-2
-    (λ c. c .before .loop .inv .2 .long) returns)
+    Inv-loop μ-loop (λ c. (omega arith, λ i. c .slice-known .given i .fits, walk-start _ _ _ _)) (λ c. omega arith) open-at-requires
+    (λ c. omega arith) loop-again (λ c. omega arith) loop-again-2 (λ c. c .before .loop .inv .2 .long) returns)

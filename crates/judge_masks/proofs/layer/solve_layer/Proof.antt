@@ -15,17 +15,13 @@ Inv-loop h counts starts clauses cycle layer masks₀ masks = Rounds (ruleOf h c
 abbrev μ-loop : tie.MeasureT-loop
 μ-loop h counts starts clauses cycle layer masks₀ masks = 255 * length masks₀ - extent (ruleOf h counts clauses) cycle layer masks
 
-loop-holds : tie.Need-loop-holds Inv-loop μ-loop
-loop-holds c = record { long = refl; part = λ h e k. k }
-
 round-requires : tie.Need-round-requires Inv-loop μ-loop
 round-requires c κs = let z = c .before .before .before .before .before .before .pre in (z .0, z .1, c .before .loop .inv .long ∙ z .2)
 
 loop-less : tie.Need-loop-less Inv-loop μ-loop
 loop-less c =
     let start = c .before .before .before .before .before .before .before .before .before .before in
-    let a = start .args in
-    let p = c .before .before .before .round .ensures in
+    let a = start .args in let p = c .before .before .before .round .ensures in
     omega (
       arith,
       p .grown (c .if1 .taken),
@@ -43,8 +39,7 @@ same-length c = c .before .before .before .round .ensures .long ∙ c .before .b
 returns : tie.Need-returns Inv-loop μ-loop
 returns c =
     let start = c .before .before .before .before .before .before .before .before .before .before in
-    let a = start .args in
-    let z = start .pre in
+    let a = start .args in let z = start .pre in
     let r = ruleOf (a .h) (a .counts .now) (a .clauses .now) in
     let p = c .before .before .before .round .ensures in
     let t = c .before .before .before .round .last .1 .1 .1 .1 .1 .1 .0 in
@@ -53,4 +48,6 @@ returns c =
     (λ j l. ap (λ (x : ℕ). opened r (a .cycle .now) x t j) (sym e) ∙ p .still (c .if1 .left) j l)
 
 pub solve-layer-spec : {M : Type 1} → statement M
-solve-layer-spec = tie.close (tie.spec Inv-loop μ-loop loop-holds round-requires loop-less loop-again same-length returns)
+solve-layer-spec =
+    tie.close (tie.spec
+    Inv-loop μ-loop (λ c. record { long = refl; part = λ h e k. k }) round-requires loop-less loop-again same-length returns)

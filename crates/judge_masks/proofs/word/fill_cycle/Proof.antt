@@ -30,8 +30,7 @@ cast-top c =
 
 loop-holds : tie.Need-loop-holds Inv-loop μ-loop
 loop-holds c =
-    let start = c .before .before .before .before .before .before .before .before .before in
-    let a = start .args in
+    let start = c .before .before .before .before .before .before .before .before .before in let a = start .args in
     let z = start .pre in
     let closed : c .before .before .fill-with .last .0 ≡ replicate (length (a .masks .now)) (a .h .accepting) = c .before .before .fill-with .ensures in (
       omega arith,
@@ -58,9 +57,7 @@ add-height c =
 loop-again : tie.Need-loop-again Inv-loop μ-loop
 loop-again c =
     let start = c .before .before .before .before .before .before .before .before .before .before .before .before .before .before .before .before in
-    let a = start .args in
-    let z = start .pre in
-    let l = c .before .before .before .before .before .before .loop in
+    let a = start .args in let z = start .pre in let l = c .before .before .before .before .before .before .loop in
     let r = ruleOf (a .h) (a .counts .now) (a .clauses .now) in (
       omega arith,
       c .before .before .solve-layer .ensures (l .height) (c .before .before .before .before .at-height .ensures
@@ -75,8 +72,7 @@ same-length c =
 returns : tie.Need-returns Inv-loop μ-loop
 returns c =
     let start = c .before .before .before .before .before .before .before .before .before .before .before in
-    let a = start .args in
-    let l = c .before .loop in
+    let a = start .args in let l = c .before .loop in
     let e : l .height ≡ a .h .n + 1 = omega arith in
     part-end (ruleOf (a .h) (a .counts .now) (a .clauses .now)) (start .pre .0 .passing) (a .cycle .now) (l .masks) (rw e at (l .inv .1))
 

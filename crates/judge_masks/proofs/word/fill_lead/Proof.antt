@@ -22,9 +22,6 @@ abbrev μ-loop : tie.MeasureT-loop
 cast-full : tie.Need-cast-full Inv-loop μ-loop
 cast-full c = omega (arith, c .before .before .before .before .before .pre .0 .few-states)
 
-full-requires : tie.Need-full-requires Inv-loop μ-loop
-full-requires c κs = c .before .before .before .before .before .pre .0 .few-states
-
 loop-holds : tie.Need-loop-holds Inv-loop μ-loop
 loop-holds c = let a = c .before .before .before .before .before .before .args in
     (c .full .ensures, omega arith, refl, back-start (ruleOf (a .h) (a .counts .now) (a .clauses .now)) (a .lead .now) (a .masks .now))
@@ -51,9 +48,7 @@ slice-write-masks c =
 loop-again : tie.Need-loop-again Inv-loop μ-loop
 loop-again c =
     let start = c .before .before .before .before .before .before .before .before .before .before .before in
-    let a = start .args in
-    let z = start .pre in
-    let l = c .before .before .before .before .loop in
+    let a = start .args in let z = start .pre in let l = c .before .before .before .before .loop in
     let r = ruleOf (a .h) (a .counts .now) (a .clauses .now) in
     let one : l .i - 1 + 1 ≡ l .i = omega arith in
     let v : c .met-by .result ≡ mask (r .n) (λ q. satisfies (r .n) (bit (getD (l .masks) (l .i - 1 + 1) 0)) (entry r q (getD (a .lead .now) (l .i - 1) 0)))
@@ -74,5 +69,6 @@ returns c =
 pub fill-lead-spec : {M : Type 1} → statement M
 fill-lead-spec =
     tie.close (tie.spec
-    Inv-loop μ-loop cast-full full-requires loop-holds (λ c. omega arith) (λ c. omega arith) cast-met-by (λ c. omega arith) slice-read-met-by met-by-requires
-    slice-write-masks (λ c. omega arith) loop-again (λ c. c .before .loop .inv .2) returns)
+    Inv-loop μ-loop cast-full (λ c κs. c .before .before .before .before .before .pre .0 .few-states) loop-holds (λ c. omega arith) (λ c. omega arith)
+    cast-met-by (λ c. omega arith) slice-read-met-by met-by-requires slice-write-masks (λ c. omega arith) loop-again (λ c. c .before .loop .inv .2)
+    returns)

@@ -26,8 +26,7 @@ fill-cycle-requires c κs =
 fill-lead-requires : tie.Need-fill-lead-requires
 fill-lead-requires c κs =
     let start = c .before .before .before .before .before .before .before .before .before .before in
-    let a = start .args in
-    let z = start .pre in
+    let a = start .args in let z = start .pre in
     let r = ruleOf (a .h) (a .counts .now) (a .clauses .now) in
     let f = c .before .before .before .fill-cycle in
     let long : length (f .last .1 .1 .1 .1 .1 .1 .0) ≡ length (a .cycle .now) = ap length (f .ensures) ∙ truth-length r [] (a .cycle .now) ∙ zero-add (length (a .cycle .now)) in (
@@ -40,8 +39,7 @@ fill-lead-requires c κs =
 returns : tie.Need-returns
 returns c =
     let start = c .before .before .before .before .before .before .before .before .before .before .before .before .before in
-    let a = start .args in
-    let z = start .pre in
+    let a = start .args in let z = start .pre in
     let r = ruleOf (a .h) (a .counts .now) (a .clauses .now) in
     let f = c .before .before .before .before .before .before .fill-cycle in
     let rest = drop (length (a .lead .now) + length (a .cycle .now)) (a .masks .now) in

@@ -14,8 +14,7 @@ put-requires c κs =
 
 put-word-requires : tie.Need-put-word-requires
 put-word-requires c κs =
-    let start = c .before .before .before .before .before .before .before in
-    let a = start .args in
+    let start = c .before .before .before .before .before .before .before in let a = start .args in
     omega (arith, built-length (a .macrostates) (a .transitions))
 
 put-word-requires-2 : tie.Need-put-word-requires-2

@@ -28,9 +28,6 @@ mul-code c =
     let s = c .before .before .before .before in
     scaled-fits _ (length (s .args .list .now)) 8 (omega arith) (s .good .1 .1 .0 .1)
 
-is-initial-requires : tie.Need-is-initial-requires Inv-loop μ-loop
-is-initial-requires c κs = c .before .before .before .before .before .pre .0
-
 abbrev start-of-after-is-accepting : tie.After-is-accepting Inv-loop μ-loop → tie.Start Inv-loop μ-loop
 start-of-after-is-accepting c = c .before .before .before .before .before .before .before
 
@@ -43,33 +40,27 @@ text-is c =
 
 put-macrostate-requires : tie.Need-put-macrostate-requires Inv-loop μ-loop
 put-macrostate-requires c κs =
-    let start = c .before .before .before .before .before .before .before .before in
-    let a = start .args in
+    let start = c .before .before .before .before .before .before .before .before in let a = start .args in
     let l = c .before .before .before .before .before .loop in
     room-line (macrostateLine (initialAt (a .initial))) (a .list .now) (l .i) (omega arith) (l .inv .1) _ (text-is (c .before)) (start .pre .1)
 
 loop-again : tie.Need-loop-again Inv-loop μ-loop
 loop-again c =
     let at-loop = c .before .before .before .before .before .before .before .before in
-    let start = at-loop .before .before .before in
-    let a = start .args in
+    let start = at-loop .before .before .before in let a = start .args in
     let l = at-loop .loop in (
       omega arith,
       put-line (macrostateLine (initialAt (a .initial))) (a .list .now) (l .i) (omega arith) (l .inv .1) _ (text-is (c .before .before .before .before))
           (c .before .before .put-macrostate .ensures),
     )
 
-same-length : tie.Need-same-length Inv-loop μ-loop
-same-length c = put-length (c .before .loop .inv .1)
-
 returns : tie.Need-returns Inv-loop μ-loop
 returns c =
-    let a = c .before .before .before .before .args in
-    let l = c .before .loop in
+    let a = c .before .before .before .before .args in let l = c .before .loop in
     put-lines (macrostateLine (initialAt (a .initial))) (a .list .now) (l .i) (omega arith) (l .inv .1)
 
 pub put-macrostates-spec : {M : Type 1} → statement M
 put-macrostates-spec =
     tie.close (tie.spec
-    Inv-loop μ-loop loop-holds mul-code (λ c. omega arith) is-initial-requires (λ c κs. search needs) put-macrostate-requires (λ c. omega arith)
-    (λ c. omega arith) loop-again same-length returns)
+    Inv-loop μ-loop loop-holds mul-code (λ c. omega arith) (λ c κs. c .before .before .before .before .before .pre .0) (λ c κs. search needs)
+    put-macrostate-requires (λ c. omega arith) (λ c. omega arith) loop-again (λ c. put-length (c .before .loop .inv .1)) returns)

@@ -33,8 +33,7 @@ text-is names i = let e : 8 * i + 8 - 8 * i ≡ 8 = omega arith in ap (λ (k : �
 
 put-name-requires : tie.Need-put-name-requires Inv-loop μ-loop
 put-name-requires c κs =
-    let s = c .before .before .before .before .before .before in
-    let names = s .args .names .now in
+    let s = c .before .before .before .before .before .before in let names = s .args .names .now in
     let l = c .before .before .before .loop in
     room-line (nameLine names) (lettersOf names) (l .i) (listed names (l .i) (c .before .before .loop-test .taken)) (l .inv .1) _ (text-is names (l .i)) (s .pre)
 
@@ -48,17 +47,13 @@ loop-again c =
           (c .before .before .put-name .ensures),
     )
 
-same-length : tie.Need-same-length Inv-loop μ-loop
-same-length c = put-length (c .before .loop .inv .1)
-
 returns : tie.Need-returns Inv-loop μ-loop
 returns c =
-    let names = c .before .before .before .before .args .names .now in
-    let l = c .before .loop in
+    let names = c .before .before .before .before .args .names .now in let l = c .before .loop in
     put-lines (nameLine names) (lettersOf names) (l .i) (omega (arith, c .loop-test .left, length-tabulate (length names / 8) (λ a. a) 0)) (l .inv .1)
 
 pub put-names-spec : {M : Type 1} → statement M
 put-names-spec =
     tie.close (tie.spec
     Inv-loop μ-loop loop-holds (λ c. omega arith) (λ c. omega arith) (λ c. omega arith) (λ c. omega arith) (λ c. omega arith) put-name-requires
-    (λ c. omega arith) (λ c. omega arith) loop-again same-length returns)
+    (λ c. omega arith) (λ c. omega arith) loop-again (λ c. put-length (c .before .loop .inv .1)) returns)

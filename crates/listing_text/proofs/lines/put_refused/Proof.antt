@@ -12,8 +12,7 @@ put-requires c κs = let a = c .before .before .before .args in omega (arith, re
 
 put-word-requires : tie.Need-put-word-requires
 put-word-requires c κs =
-    let start = c .before .before .before .before .before .before .before in
-    let a = start .args in
+    let start = c .before .before .before .before .before .before .before in let a = start .args in
     omega (arith, refused-length (a .row))
 
 put-byte-requires : tie.Need-put-byte-requires

@@ -14,8 +14,7 @@ put-built-requires c κs =
 
 put-names-requires : tie.Need-put-names-requires
 put-names-requires c κs =
-    let start = c .before .before .before .before .before .before .before .before .before in
-    let a = start .args in
+    let start = c .before .before .before .before .before .before .before .before .before in let a = start .args in
     omega (arith, table-length (initialAt (a .initial)) (a .names .now) (a .list .now) (a .transitions .now))
 
 put-macrostates-requires : tie.Need-put-macrostates-requires

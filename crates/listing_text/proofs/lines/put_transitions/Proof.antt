@@ -41,30 +41,23 @@ text-is c =
 
 put-transition-requires : tie.Need-put-transition-requires Inv-loop μ-loop
 put-transition-requires c κs =
-    let start = c .before .before .before .before .before .before .before .before .before in
-    let a = start .args in
+    let start = c .before .before .before .before .before .before .before .before .before in let a = start .args in
     let l = c .before .before .before .before .before .before .loop in
     room-line transitionLine (a .list .now) (l .i) (omega arith) (l .inv .1) _ (text-is (c .before)) (start .pre)
 
 loop-again : tie.Need-loop-again Inv-loop μ-loop
 loop-again c =
     let at-loop = c .before .before .before .before .before .before .before .before .before in
-    let start = at-loop .before .before .before in
-    let a = start .args in
-    let l = at-loop .loop in
+    let start = at-loop .before .before .before in let a = start .args in let l = at-loop .loop in
     (omega arith, put-line transitionLine (a .list .now) (l .i) (omega arith) (l .inv .1) _ (text-is (c .before .before .before .before)) (c .before .before .put-transition .ensures))
-
-same-length : tie.Need-same-length Inv-loop μ-loop
-same-length c = put-length (c .before .loop .inv .1)
 
 returns : tie.Need-returns Inv-loop μ-loop
 returns c =
-    let a = c .before .before .before .before .args in
-    let l = c .before .loop in
+    let a = c .before .before .before .before .args in let l = c .before .loop in
     put-lines transitionLine (a .list .now) (l .i) (omega arith) (l .inv .1)
 
 pub put-transitions-spec : {M : Type 1} → statement M
 put-transitions-spec =
     tie.close (tie.spec
     Inv-loop μ-loop loop-holds mul-t (λ c. omega arith) (λ c κs. search needs) (λ c κs. search needs) (λ c κs. search needs) put-transition-requires
-    (λ c. omega arith) (λ c. omega arith) loop-again same-length returns)
+    (λ c. omega arith) (λ c. omega arith) loop-again (λ c. put-length (c .before .loop .inv .1)) returns)

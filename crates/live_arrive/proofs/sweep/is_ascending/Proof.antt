@@ -26,9 +26,6 @@ abbrev μ-loop2 : tie.MeasureT-loop2
 returns : tie.Need-returns Inv-loop μ-loop Inv-loop2 μ-loop2
 returns c = rises-none (wordsIn (c .before .before .args .bytes .now)) (omega (arith, words-in-length (c .before .before .args .bytes .now)))
 
-element-requires : tie.Need-element-requires Inv-loop μ-loop Inv-loop2 μ-loop2
-element-requires c κs = omega (arith, words-in-length (c .before .before .args .bytes .now))
-
 loop-holds : tie.Need-loop-holds Inv-loop μ-loop Inv-loop2 μ-loop2
 loop-holds c =
     let bytes = c .before .before .before .args .bytes .now in
@@ -39,10 +36,8 @@ rise-four-requires c κs = omega (arith, words-in-length (c .before .before .bef
 
 returns-2 : tie.Need-returns-2 Inv-loop μ-loop Inv-loop2 μ-loop2
 returns-2 c =
-    let start = c .before .before .before .before .before .before .before in
-    let bytes = start .args .bytes .now in
-    let l = c .before .before .before .loop in
-    let r = c .before .rise-four .result in
+    let start = c .before .before .before .before .before .before .before in let bytes = start .args .bytes .now in
+    let l = c .before .before .before .loop in let r = c .before .rise-four .result in
     falls-four (wordsIn bytes) (l .last) (l .i) (omega (arith, words-in-length bytes)) (sym (c .before .rise-four .ensures) ∙ not-true r (c .if2 .taken)) (l .inv .1)
 
 element-requires-2 : tie.Need-element-requires-2 Inv-loop μ-loop Inv-loop2 μ-loop2
@@ -53,8 +48,7 @@ element-requires-2 c κs =
 loop-again : tie.Need-loop-again Inv-loop μ-loop Inv-loop2 μ-loop2
 loop-again c =
     let start = c .before .before .before .before .before .before .before .before in
-    let bytes = start .args .bytes .now in
-    let l = c .before .before .before .before .loop in
+    let bytes = start .args .bytes .now in let l = c .before .before .before .before .loop in
     let r = c .before .before .rise-four .result in (
       omega arith,
       rw (c .element2 .ensures) (rises-four (wordsIn bytes) (l .last) (l .i) (omega (arith, words-in-length bytes))
@@ -69,8 +63,7 @@ element-requires-3 c κs =
 returns-3 : tie.Need-returns-3 Inv-loop μ-loop Inv-loop2 μ-loop2
 returns-3 c =
     let start = c .before .before .before .before .before .before .before .before .before in
-    let bytes = start .args .bytes .now in
-    let l = c .before .before .before .loop2 in
+    let bytes = start .args .bytes .now in let l = c .before .before .before .loop2 in
     falls-one (wordsIn bytes) (l .last) (l .i) (omega (arith, words-in-length bytes)) (omega (arith, c .if3 .taken, c .before .element3 .ensures)) (l .inv .1)
 
 loop2-again : tie.Need-loop2-again Inv-loop μ-loop Inv-loop2 μ-loop2
@@ -85,14 +78,13 @@ loop2-again c =
 
 returns-4 : tie.Need-returns-4 Inv-loop μ-loop Inv-loop2 μ-loop2
 returns-4 c =
-    let start = c .before .before .before .before .before .before .before in
-    let bytes = start .args .bytes .now in
+    let start = c .before .before .before .before .before .before .before in let bytes = start .args .bytes .now in
     let l = c .before .loop2 in
     rises-end (wordsIn bytes) (l .last) (l .i) (omega (arith, words-in-length bytes)) (l .inv .1)
 
 pub is-ascending-spec : {M : Type 1} → statement M
 is-ascending-spec =
     tie.close (tie.spec
-    Inv-loop μ-loop Inv-loop2 μ-loop2 returns element-requires loop-holds (λ c. omega arith) rise-four-requires returns-2 (λ c. omega arith) element-requires-2
-    (λ c. omega arith) (λ c. omega arith) loop-again (λ c. c .before .loop .inv) element-requires-3 returns-3 (λ c. omega arith) (λ c. omega arith) loop2-again
-    returns-4)
+    Inv-loop μ-loop Inv-loop2 μ-loop2 returns (λ c κs. omega (arith, words-in-length (c .before .before .args .bytes .now))) loop-holds
+    (λ c. omega arith) rise-four-requires returns-2 (λ c. omega arith) element-requires-2 (λ c. omega arith) (λ c. omega arith) loop-again
+    (λ c. c .before .loop .inv) element-requires-3 returns-3 (λ c. omega arith) (λ c. omega arith) loop2-again returns-4)

@@ -15,21 +15,6 @@ Inv-loop s n letter limits₀ l₀ limits l =
 abbrev μ-loop : tie.MeasureT-loop
 μ-loop s n letter limits₀ l₀ limits l = 256 - l
 
-loop-holds : tie.Need-loop-holds Inv-loop μ-loop
-loop-holds c = (omega arith, refl, λ z k. absurd (omega arith))
-
-mul-limits : tie.Need-mul-limits Inv-loop μ-loop
-mul-limits c = omega (arith, c .before .loop-test .taken)
-
-array-write-limits : tie.Need-array-write-limits Inv-loop μ-loop
-array-write-limits c = omega (arith, c .before .loop-test .taken)
-
-add-l : tie.Need-add-l Inv-loop μ-loop
-add-l c = omega (arith, c .before .loop-test .taken)
-
-loop-less : tie.Need-loop-less Inv-loop μ-loop
-loop-less c = omega (arith, c .before .loop-test .taken)
-
 loop-again : tie.Need-loop-again Inv-loop μ-loop
 loop-again c =
     let a = c .before .before .before .args in
@@ -45,4 +30,6 @@ returns c = let l = c .before .loop in λ z k. l .inv .2 z (omega (arith, l .inv
 pub limits-of-spec : {M : Type 1} → statement M
 limits-of-spec =
     tie.close (tie.spec
-    Inv-loop μ-loop loop-holds (λ c κs. c .before .before .pre) mul-limits array-write-limits add-l loop-less loop-again returns)
+    Inv-loop μ-loop (λ c. (omega arith, refl, λ z k. absurd (omega arith))) (λ c κs. c .before .before .pre)
+    (λ c. omega (arith, c .before .loop-test .taken)) (λ c. omega (arith, c .before .loop-test .taken))
+    (λ c. omega (arith, c .before .loop-test .taken)) (λ c. omega (arith, c .before .loop-test .taken)) loop-again returns)

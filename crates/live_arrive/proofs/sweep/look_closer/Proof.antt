@@ -23,8 +23,7 @@ returns-2 c =
 
 returns-3 : tie.Need-returns-3
 returns-3 c =
-    let start = c .before .before .before .before .before .before .before .before .before in
-    let a = start .args in
+    let start = c .before .before .before .before .before .before .before .before .before in let a = start .args in
     let same : letterOf (a .t) ≡ a .letter = omega arith in
     let target : targetOf (a .t) < length (a .set .now) = omega arith in
     λ s b l. told-yes s (a .letter) (a .t) (a .set .now) _ b same (start .pre) target (c .before .before .move-over .ensures)

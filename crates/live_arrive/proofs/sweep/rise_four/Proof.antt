@@ -30,8 +30,7 @@ add-element-2 c = omega (arith, words-in-length (c .before .before .before .befo
 
 returns-3 : tie.Need-returns-3
 returns-3 c =
-    let start = c .before .before .before .before .before .before .before in
-    let a = start .args in
+    let start = c .before .before .before .before .before .before .before in let a = start .args in
     let first = c .before .before .before .before .before .element .ensures in
     let second = c .before .before .before .element2 .ensures in
     four-third (a .last) (wordsIn (a .bytes .now)) (a .i) (omega (arith, first)) (omega (arith, first, second)) (omega (arith, second, c .before .element3 .ensures))
@@ -43,8 +42,7 @@ add-element-3 c =
 
 returns-4 : tie.Need-returns-4
 returns-4 c =
-    let start = c .before .before .before .before .before .before .before .before in
-    let a = start .args in
+    let start = c .before .before .before .before .before .before .before .before in let a = start .args in
     let first = c .before .before .before .before .before .before .element .ensures in
     let second = c .before .before .before .before .element2 .ensures in
     let third = c .before .before .element3 .ensures in

@@ -21,9 +21,6 @@ returns c =
     let falls = sym (c .before .is-ascending .ensures) ∙ not-true (c .before .is-ascending .result) (c .if1 .taken) in
     stepped-not (a .s) (a .letter) ts (a .set .now) (passes-not (length (a .set .now)) (a .s) ts falls)
 
-ends-below-requires : tie.Need-ends-below-requires
-ends-below-requires c κs = rises c
-
 returns-2 : tie.Need-returns-2
 returns-2 c =
     let a = c .before .before .before .before .before .before .args in
@@ -33,16 +30,14 @@ returns-2 c =
 
 sweep-tried-requires : tie.Need-sweep-tried-requires
 sweep-tried-requires c κs =
-    let start = c .before .before .before .before .before .before .before in
-    let pre = start .pre in
+    let start = c .before .before .before .before .before .before .before in let pre = start .pre in
     (pre .0, pre .1, pre .2, c .before .before .ends-below .ensures .yes (not-false (c .before .before .ends-below .result) (c .before .if2 .left)))
 
 returns-3 : tie.Need-returns-3
 returns-3 c =
     let at-sweep-tried = c .before .before .before .before .before .before .before in
     let earlier = at-sweep-tried .before .before .before .before in
-    let start = earlier .before .before .before .before in
-    let a = start .args in
+    let start = earlier .before .before .before .before in let a = start .args in
     let ts = wordsIn (a .transitions .now) in
     let e = at-sweep-tried .sweep-tried .ensures in
     record {
@@ -56,8 +51,7 @@ returns-4 : tie.Need-returns-4
 returns-4 c =
     let at-sweep-tried = c .before .before .before .before .before .before .before in
     let earlier = at-sweep-tried .before .before .before .before in
-    let start = earlier .before .before .before .before in
-    let a = start .args in
+    let start = earlier .before .before .before .before in let a = start .args in
     let ts = wordsIn (a .transitions .now) in
     let e = at-sweep-tried .sweep-tried .ensures in
     record {
@@ -69,5 +63,5 @@ returns-4 c =
 pub step-tried-spec : {M : Type 1} → statement M
 step-tried-spec =
     tie.close (tie.spec
-    (λ c κs. search needs) returns ends-below-requires returns-2 sweep-tried-requires (λ c κs. search needs) (λ c. search needs) returns-3
+    (λ c κs. search needs) returns (λ c κs. rises c) returns-2 sweep-tried-requires (λ c κs. search needs) (λ c. search needs) returns-3
     (λ c κs. search needs) (λ c. search needs) returns-4)

@@ -18,8 +18,7 @@ returns c =
 
 returns-2 : tie.Need-returns-2
 returns-2 c =
-    let start = c .before .before .before .before .before .before .before in
-    let a = start .args in
+    let start = c .before .before .before .before .before .before .before in let a = start .args in
     λ s b e.
     let closer : limitOf s (length (a .set .now)) (a .letter) (letterOf (a .t)) ≤ targetOf (a .t) = omega arith in
     c .before .before .look-closer .ensures s b closer

@@ -23,8 +23,7 @@ abbrev μ-loop : tie.MeasureT-loop
 -- its source is in range
 source : (c : tie.After-element Inv-loop μ-loop) → sourceOf (c .element .result) < length (c .before .before .loop .set)
 source c =
-    let a = c .before .before .before .before .before .before .args in
-    let l = c .before .before .loop in
+    let a = c .before .before .before .before .before .before .args in let l = c .before .before .loop in
     let ts = wordsIn (a .transitions .now) in
     let m = mem-at ts (l .i) (omega (arith, words-in-length (a .transitions .now))) in
     rw (c .element .ensures) (omega (arith, c .before .before .before .before .before .before .pre .3 (getD ts (l .i) 0) m, l .inv .1 .swept .long))
@@ -34,10 +33,8 @@ told : (c : tie.After-sweep-one Inv-loop μ-loop)
     → Told (c .before .before .before .before .before .before .before .before .before .args .s) (c .before .before .before .before .before .before .before .before .before .args .letter)
     (c .before .before .before .element .result) (c .before .before .before .before .before .loop .set) (c .sweep-one .last .1 .1 .1 .0) (c .sweep-one .result)
 told c =
-    let start = c .before .before .before .before .before .before .before .before .before in
-    let a = start .args in
-    let l = c .before .before .before .before .before .loop in
-    let x = c .before .before .letter-of .result in
+    let start = c .before .before .before .before .before .before .before .before .before in let a = start .args in
+    let l = c .before .before .before .before .before .loop in let x = c .before .before .letter-of .result in
     let e : x ≡ letterOf (c .before .before .before .element .result) = c .before .before .letter-of .ensures in
     let limit = c .before .before .before .before .before .before .limits-of .ensures x (omega arith) ∙ ap₂ (λ (k y : ℕ). limitOf (a .s) k (a .letter) y) (sym (l .inv .1 .swept .long)) e in
     c .sweep-one .ensures (a .s) (start .pre .0) limit
@@ -50,15 +47,6 @@ loop-holds c =
 element-requires : tie.Need-element-requires Inv-loop μ-loop
 element-requires c κs = omega (arith, words-in-length (c .before .before .before .before .before .args .transitions .now))
 
-mul-sweep-one : tie.Need-mul-sweep-one Inv-loop μ-loop
-mul-sweep-one c = omega (arith, c .letter-of .ensures)
-
-array-read-sweep-one : tie.Need-array-read-sweep-one Inv-loop μ-loop
-array-read-sweep-one c = omega (arith, c .letter-of .ensures)
-
-sweep-one-requires : tie.Need-sweep-one-requires Inv-loop μ-loop
-sweep-one-requires c κs = source (c .before .before)
-
 same-length : tie.Need-same-length Inv-loop μ-loop
 same-length c =
     let at-loop = c .before .before .before .before .before .before .before .before in
@@ -67,9 +55,7 @@ same-length c =
 returns : tie.Need-returns Inv-loop μ-loop
 returns c =
     let at-loop = c .before .before .before .before .before .before .before .before in
-    let start = at-loop .before .before .before .before in
-    let a = start .args in
-    let l = at-loop .loop in
+    let start = at-loop .before .before .before .before in let a = start .args in let l = at-loop .loop in
     let ts = wordsIn (a .transitions .now) in
     let inside : l .i < length ts = omega (arith, words-in-length (a .transitions .now)) in
     let none = not-true (c .before .before .before .sweep-one .result) (c .if1 .taken) in
@@ -79,11 +65,8 @@ returns c =
 
 loop-again : tie.Need-loop-again Inv-loop μ-loop
 loop-again c =
-    let at-element = c .before .before .before .before .before .before in
-    let at-loop = at-element .before .before in
-    let start = at-loop .before .before .before .before in
-    let a = start .args in
-    let l = at-loop .loop in
+    let at-element = c .before .before .before .before .before .before in let at-loop = at-element .before .before in
+    let start = at-loop .before .before .before .before in let a = start .args in let l = at-loop .loop in
     let ts = wordsIn (a .transitions .now) in
     let inside : l .i < length ts = omega (arith, words-in-length (a .transitions .now)) in
     let some = not-false (c .before .before .before .sweep-one .result) (c .if1 .left) in (
@@ -94,13 +77,13 @@ loop-again c =
 
 returns-2 : tie.Need-returns-2 Inv-loop μ-loop
 returns-2 c =
-    let a = c .before .before .before .before .before .args in
-    let l = c .before .loop in
+    let a = c .before .before .before .before .before .args in let l = c .before .loop in
     let ts = wordsIn (a .transitions .now) in
     turn-end (a .s) (a .letter) ts (a .set .now) (c .before .before .before .before .before .pre .2) (l .set) (l .i) (omega (arith, words-in-length (a .transitions .now))) (l .inv .1)
 
 pub sweep-tried-spec : {M : Type 1} → statement M
 sweep-tried-spec =
     tie.close (tie.spec
-    Inv-loop μ-loop (λ c κs. c .before .before .pre .1) loop-holds element-requires (λ c κs. search needs) mul-sweep-one array-read-sweep-one sweep-one-requires
-    same-length returns (λ c. omega arith) (λ c. omega arith) loop-again (λ c. c .before .loop .inv .1 .swept .long) returns-2)
+    Inv-loop μ-loop (λ c κs. c .before .before .pre .1) loop-holds element-requires (λ c κs. search needs) (λ c. omega (arith, c .letter-of .ensures))
+    (λ c. omega (arith, c .letter-of .ensures)) (λ c κs. source (c .before .before)) same-length returns (λ c. omega arith) (λ c. omega arith)
+    loop-again (λ c. c .before .loop .inv .1 .swept .long) returns-2)

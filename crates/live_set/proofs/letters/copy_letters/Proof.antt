@@ -14,28 +14,20 @@ abbrev μ-loop : tie.MeasureT-loop
 loop-holds : tie.Need-loop-holds Inv-loop μ-loop
 loop-holds c = (omega arith, let p = c .pre in copied-start 512 (c .args .from) (c .args .to) (c .args .state .now) (p .0) (p .1) (p .2))
 
-slice-read-state : tie.Need-slice-read-state Inv-loop μ-loop
-slice-read-state c = omega (arith, c .before .before .loop .inv .1 .long)
-
-slice-write-state : tie.Need-slice-write-state Inv-loop μ-loop
-slice-write-state c = omega (arith, c .before .before .loop .inv .1 .long)
-
 loop-again : tie.Need-loop-again Inv-loop μ-loop
 loop-again c =
-    let a = c .before .before .before .args in
-    let p = c .before .before .before .pre in
+    let a = c .before .before .before .args in let p = c .before .before .before .pre in
     let l = c .before .before .loop in
     (omega arith, copied-next 512 (a .from) (a .to) (a .state .now) (p .0) (p .1) (p .2) (l .state) (l .i) (omega arith) (l .inv .1))
 
 returns : tie.Need-returns Inv-loop μ-loop
 returns c =
-    let a = c .before .before .args in
-    let p = c .before .before .pre in
-    let l = c .before .loop in
+    let a = c .before .before .args in let p = c .before .before .pre in let l = c .before .loop in
     copied-end 512 (a .from) (a .to) (a .state .now) (p .0) (p .1) (p .2) (l .state) (l .i) (omega arith) (l .inv .1)
 
 pub copy-letters-spec : {M : Type 1} → statement M
 copy-letters-spec =
     tie.close (tie.spec
-    Inv-loop μ-loop loop-holds (λ c. omega arith) slice-read-state (λ c. omega arith) slice-write-state (λ c. omega arith) (λ c. omega arith) loop-again
-    (λ c. c .before .loop .inv .1 .long) returns)
+    Inv-loop μ-loop loop-holds (λ c. omega arith) (λ c. omega (arith, c .before .before .loop .inv .1 .long)) (λ c. omega arith)
+    (λ c. omega (arith, c .before .before .loop .inv .1 .long)) (λ c. omega arith) (λ c. omega arith) loop-again (λ c. c .before .loop .inv .1 .long)
+    returns)

@@ -4,8 +4,5 @@ use borrow.Author.Needs.{needs}
 use Rattle.live_set.proofs.letters.put_byte.Statement.{statement}
 use Rattle.live_set.proofs.letters.put_byte.Tie as tie
 
-returns : tie.Need-returns
-returns c = put-set (c .args .at) (c .args .v) (c .args .state .now) (c .pre)
-
 pub put-byte-spec : {M : Type 1} → statement M
-put-byte-spec = tie.close (tie.spec (λ c. search needs) (λ c. search needs) returns)
+put-byte-spec = tie.close (tie.spec (λ c. search needs) (λ c. search needs) (λ c. put-set (c .args .at) (c .args .v) (c .args .state .now) (c .pre)))

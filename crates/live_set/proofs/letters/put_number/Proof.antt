@@ -8,9 +8,6 @@ use borrow.Author.Needs.{needs}
 use Rattle.live_set.proofs.letters.put_number.Statement.{statement}
 use Rattle.live_set.proofs.letters.put_number.Tie as tie
 
-slice-write-state-2 : tie.Need-slice-write-state-2
-slice-write-state-2 c = simp length-set (omega arith)
-
 returns : tie.Need-returns
 unfolding twoBytes
 returns c = let a = c .args in put-two (a .at) (a .n % 256) (a .n / 256) (a .state .now) (c .pre .1)
@@ -18,4 +15,4 @@ returns c = let a = c .args in put-two (a .at) (a .n % 256) (a .n / 256) (a .sta
 pub put-number-spec : {M : Type 1} → statement M
 put-number-spec =
     tie.close (tie.spec
-    (λ c. search needs) (λ c. search needs) (λ c. search needs) (λ c. search needs) slice-write-state-2 (λ c. search needs) returns)
+    (λ c. search needs) (λ c. search needs) (λ c. search needs) (λ c. search needs) (λ c. simp length-set (omega arith)) (λ c. search needs) returns)

@@ -15,26 +15,21 @@ use Rattle.live_state.proofs.effects.mark.Tie as tie
 
 put-number-requires : tie.Need-put-number-requires
 put-number-requires c κs =
-    let start = c .before .before .before .before .before .before .before .before in
-    let a = start .args in
+    let start = c .before .before .before .before .before .before .before .before in let a = start .args in
     (omega (arith, number-low (a .state .now), c .before .before .before .before .before .number-at .ensures), omega (arith, start .pre .1, c .before .before .before .put-byte .kept .0))
 
 copy-letters-requires : tie.Need-copy-letters-requires
 copy-letters-requires c κs =
     let at-put-byte = c .before .before .before .before .before .before .before in
-    let start = at-put-byte .before .before .before .before .before in
-    let pre = start .pre in
-    let first = at-put-byte .put-byte .kept .0 in
-    let second = c .before .before .before .put-number .kept .0 in
+    let start = at-put-byte .before .before .before .before .before in let pre = start .pre in
+    let first = at-put-byte .put-byte .kept .0 in let second = c .before .before .before .put-number .kept .0 in
     (omega (arith, pre .1, first, second), omega (arith, pre .0, pre .1, first, second), inl (omega arith))
 
 returns : tie.Need-returns
 returns c =
     let at-put-byte = c .before .before .before .before .before .before .before .before .before .before in
-    let at-number-at = at-put-byte .before .before in
-    let start = at-number-at .before .before .before in
-    let a = start .args in
-    let pre = start .pre in
+    let at-number-at = at-put-byte .before .before in let start = at-number-at .before .before .before in
+    let a = start .args in let pre = start .pre in
     let written =
     c .before .before .before .before .before .before .put-number .ensures
     ∙ ap₂ (λ (k : ℕ) (s : List ℕ). put (markNumberAt (a .m)) (twoBytes k) s) (at-number-at .number-at .ensures) (at-put-byte .put-byte .ensures) in

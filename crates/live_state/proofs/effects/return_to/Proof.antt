@@ -22,15 +22,13 @@ put-number-requires c κs =
 copy-letters-requires : tie.Need-copy-letters-requires
 copy-letters-requires c κs =
     let start = c .before .before .before .before .before .before .before .before .before .before in
-    let pre = start .pre in
-    let first = c .before .before .before .put-number .kept .0 in
+    let pre = start .pre in let first = c .before .before .before .put-number .kept .0 in
     (omega (arith, pre .0, pre .2 .long, first), omega (arith, pre .2 .long, first), inr (omega arith))
 
 refresh-requires : tie.Need-refresh-requires
 refresh-requires c κs =
     let at-put-number = c .before .before .before .before .before .before .before in
-    let start = at-put-number .before .before .before .before .before .before .before in
-    let pre = start .pre in
+    let start = at-put-number .before .before .before .before .before .before .before in let pre = start .pre in
     (pre .1, record { few = pre .2 .few; inside = pre .2 .inside; long = omega (arith, pre .2 .long, c .before .before .before .copy-letters .kept .0, at-put-number .put-number .kept .0) })
 
 returns : tie.Need-returns
@@ -38,9 +36,7 @@ unfolding returned numbered
 returns c =
     let at-put-number = c .before .before .before .before .before .before .before .before .before .before in
     let at-number-at = at-put-number .before .before in
-    let start = at-number-at .before .before .before .before .before in
-    let a = start .args in
-    let pre = start .pre in
+    let start = at-number-at .before .before .before .before .before in let a = start .args in let pre = start .pre in
     let number = at-put-number .put-number .ensures ∙ ap (λ (k : ℕ). put 0 (twoBytes k) (a .state .now)) (at-number-at .number-at .ensures) in
     let written =
     c .before .before .before .before .before .before .copy-letters .ensures

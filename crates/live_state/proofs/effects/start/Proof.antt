@@ -20,8 +20,7 @@ returns : tie.Need-returns
 unfolding started
 returns c =
     let start = c .before .before .before .before .before .before .before .before .before .before in
-    let a = start .args in
-    let state = a .state .now in
+    let a = start .args in let state = a .state .now in
     let long = length-take-le stateLength state (start .pre .2) in
     let zeros = c .before .before .before .before .before .before .fill-with .ensures ∙ ap (λ (n : ℕ). replicate n 0) long in
     let cleared = put-front stateLength _ state (ap (λ (s : List ℕ). length s) zeros ∙ length-replicate {A = ℕ} stateLength 0) ∙ ap (λ (s : List ℕ). put 0 s state) zeros in

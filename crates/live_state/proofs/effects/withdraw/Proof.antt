@@ -29,8 +29,7 @@ put-byte-requires c κs =
 refresh-requires : tie.Need-refresh-requires
 refresh-requires c κs =
     let at-put-number = c .before .before .before .before .before .before .before in
-    let start = at-put-number .before .before .before .before .before .before .before in
-    let pre = start .pre in
+    let start = at-put-number .before .before .before .before .before .before .before in let pre = start .pre in
     (pre .0, record { few = pre .1 .few; inside = pre .1 .inside; long = omega (arith, pre .1 .long, c .before .before .before .put-byte .kept .0, at-put-number .put-number .kept .0) })
 
 returns : tie.Need-returns
@@ -38,8 +37,7 @@ unfolding withdrawn numbered
 returns c =
     let at-put-number = c .before .before .before .before .before .before .before .before .before .before in
     let at-number-at = at-put-number .before .before in
-    let start = at-number-at .before .before .before .before .before in
-    let a = start .args in
+    let start = at-number-at .before .before .before .before .before in let a = start .args in
     let n = ap (λ (k : ℕ). k - 1) (at-number-at .number-at .ensures) in
     let written =
     c .before .before .before .before .before .before .put-byte .ensures

@@ -15,9 +15,6 @@ use borrow.Author.Needs.{needs}
 use Rattle.live_state.proofs.set_part.begin.Statement.{statement}
 use Rattle.live_state.proofs.set_part.begin.Tie as tie
 
-part-begin-set-end : tie.Need-part-begin-set-end
-part-begin-set-end c = omega (arith, words-in-length (c .before .before .args .codes .now))
-
 begin-set-requires : tie.Need-begin-set-requires
 begin-set-requires c κs =
     let a = c .before .before .before .args in
@@ -37,4 +34,7 @@ returns c =
     put-mid setAt _ _ (a .state .now) (long ∙ same) ∙ ap (λ (s : List ℕ). put setAt s (a .state .now)) e
 
 pub begin-spec : {M : Type 1} → statement M
-begin-spec = tie.close (tie.spec (λ c. search needs) (λ c. search needs) (λ c. search needs) part-begin-set-end begin-set-requires (λ c. search needs) returns)
+begin-spec =
+    tie.close (tie.spec
+    (λ c. search needs) (λ c. search needs) (λ c. search needs) (λ c. omega (arith, words-in-length (c .before .before .args .codes .now)))
+    begin-set-requires (λ c. search needs) returns)

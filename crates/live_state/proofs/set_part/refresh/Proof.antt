@@ -16,8 +16,7 @@ use Rattle.live_state.proofs.set_part.refresh.Tie as tie
 
 replay-requires : tie.Need-replay-requires
 replay-requires c κs =
-    let start = c .before .before .before .before .before .before .before .before in
-    let a = start .args in
+    let start = c .before .before .before .before .before .before .before .before in let a = start .args in
     let pre = start .pre .1 in
     let codes = wordsIn (a .codes .now) in
     let w = words-in-length (a .codes .now) in
@@ -28,8 +27,7 @@ replay-requires c κs =
 returns : tie.Need-returns
 returns c =
     let start = c .before .before .before .before .before .before .before .before .before .before .before in
-    let a = start .args in
-    let pre = start .pre .1 in
+    let a = start .args in let pre = start .pre .1 in
     let codes = wordsIn (a .codes .now) in
     let ts = wordsIn (a .transitions .now) in
     let n = length (a .codes .now) / 8 in

@@ -33,16 +33,13 @@ slice-read-letter c =
 
 step-requires : tie.Need-step-requires Inv-loop μ-loop
 step-requires c κs =
-    let start = c .before .before .before .before .before .before .before .before in
-    let pre = start .pre in
+    let start = c .before .before .before .before .before .before .before .before in let pre = start .pre in
     (pre .0, omega (arith, pre .1, c .before .before .before .loop .inv .1))
 
 loop-again : tie.Need-loop-again Inv-loop μ-loop
 loop-again c =
     let at-number-at = c .before .before .before .before .before .before .before in
-    let start = at-number-at .before .before .before .before in
-    let a = start .args in
-    let pre = start .pre in
+    let start = at-number-at .before .before .before .before in let a = start .args in let pre = start .pre in
     let l = c .before .before .before .before .before .before .loop in
     let ts = wordsIn (a .transitions .now) in
     let more : l .i < numberIn (a .state .now) = omega (arith, at-number-at .number-at .ensures) in
@@ -57,8 +54,7 @@ loop-again c =
 returns : tie.Need-returns Inv-loop μ-loop
 returns c =
     let a = c .before .before .before .before .before .before .args in
-    let pre = c .before .before .before .before .before .before .pre in
-    let l = c .before .loop in
+    let pre = c .before .before .before .before .before .before .pre in let l = c .before .loop in
     let all : numberIn (a .state .now) ≤ l .i = omega (arith, c .before .before .number-at .ensures) in
     l .inv .2 ∙ replay-end (a .n) (wordsIn (a .transitions .now)) (a .state .now) (pre .1) (l .i) all
 

@@ -28,16 +28,13 @@ loop-holds c =
 
 step-back-requires : tie.Need-step-back-requires Inv-loop μ-loop
 step-back-requires c κs =
-    let a = c .before .before .args in
-    let w = c .before .before .pre in
-    let l = c .before .loop in
+    let a = c .before .before .args in let w = c .before .before .pre in let l = c .before .loop in
     let b = ways-lt (a .n) (a .es .now) (a .others) (a .t) (l .k) (w .1) in
     (w .0, rw (l .inv .1) (b .0), rw (l .inv .1) (b .1))
 
 returns : tie.Need-returns Inv-loop μ-loop
 returns c =
-    let a = c .before .before .before .before .before .args in
-    let l = c .before .before .before .before .loop in
+    let a = c .before .before .before .before .before .args in let l = c .before .before .before .before .loop in
     let v = c .before .before .step-back in
     let w = ways-next (a .n) (a .es .now) (a .others) (a .t) (l .k) (v .result) (l .w) (l .inv .1) (v .ensures) in
     let e = mixed-at (a .n) (a .es .now) (a .others) (a .t) (l .k) (v .result) (c .before .contains .result) w (c .before .contains .ensures) ∙ c .if1 .taken in
@@ -45,8 +42,7 @@ returns c =
 
 loop-again : tie.Need-loop-again Inv-loop μ-loop
 loop-again c =
-    let a = c .before .before .before .before .before .args in
-    let l = c .before .before .before .before .loop in
+    let a = c .before .before .before .before .before .args in let l = c .before .before .before .before .loop in
     let v = c .before .before .step-back in
     let w = ways-next (a .n) (a .es .now) (a .others) (a .t) (l .k) (v .result) (l .w) (l .inv .1) (v .ensures) in
     let e = mixed-at (a .n) (a .es .now) (a .others) (a .t) (l .k) (v .result) (c .before .contains .result) w (c .before .contains .ensures) ∙ c .if1 .left in
@@ -54,8 +50,7 @@ loop-again c =
 
 returns-2 : tie.Need-returns-2 Inv-loop μ-loop
 returns-2 c =
-    let a = c .before .before .args in
-    let l = c .before .loop in
+    let a = c .before .before .args in let l = c .before .loop in
     let e : l .k ≡ a .n = omega arith in
     sym (rw (e, first-end (a .n) (mixed (a .n) (a .es .now) (a .others) (a .t))) at (l .inv .2))
 

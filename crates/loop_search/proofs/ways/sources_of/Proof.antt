@@ -25,8 +25,7 @@ loop-holds c = (omega arith, refl)
 
 loop-again : tie.Need-loop-again Inv-loop μ-loop
 loop-again c =
-    let l = c .before .before .before .loop in
-    let a = c .before .before .before .before .args in
+    let l = c .before .before .before .loop in let a = c .before .before .before .before .args in
     let w = c .before .before .before .before .pre in
     let e = c .meets .ensures ∙ ap one (meets-below (a .n) (getD (a .es .now) (l .q) 0) (a .set) (w .0) (w .1)) in (
       omega arith,

@@ -31,8 +31,7 @@ same-state-requires c κs =
 returns : tie.Need-returns Inv-loop μ-loop
 unfolding sameEntries
 returns c =
-    let start = c .before .before .before .before .before .before .before .before .before in
-    let a = start .args in
+    let start = c .before .before .before .before .before .before .before .before .before in let a = start .args in
     let r = ruleOf (a .h) (a .counts .now) (a .clauses .now) in
     let t = ruleOf (a .h) (a .counts2 .now) (a .clauses2 .now) in
     sym (every-stop (a .h .n) (λ p. every (a .h .s) (λ b. sameEntry (a .h .n) (entry r p b) (entry t p b))) (c .before .before .before .before .loop .q) (c .before .before .if1 .taken)
@@ -40,8 +39,7 @@ returns c =
 
 loop-again : tie.Need-loop-again Inv-loop μ-loop
 loop-again c =
-    let start = c .before .before .before .before .before .before .before .before .before in
-    let a = start .args in
+    let start = c .before .before .before .before .before .before .before .before .before in let a = start .args in
     let l = c .before .before .before .before .loop in
     let r = ruleOf (a .h) (a .counts .now) (a .clauses .now) in
     let t = ruleOf (a .h) (a .counts2 .now) (a .clauses2 .now) in
@@ -50,8 +48,7 @@ loop-again c =
 returns-2 : tie.Need-returns-2 Inv-loop μ-loop
 unfolding sameEntries
 returns-2 c =
-    let start = c .before .before .before .before .before .before .before in
-    let a = start .args in
+    let start = c .before .before .before .before .before .before .before in let a = start .args in
     let l = c .before .before .loop in
     let r = ruleOf (a .h) (a .counts .now) (a .clauses .now) in
     let t = ruleOf (a .h) (a .counts2 .now) (a .clauses2 .now) in

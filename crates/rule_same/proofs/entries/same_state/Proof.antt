@@ -50,8 +50,7 @@ told c =
 returns : tie.Need-returns Inv-loop μ-loop
 returns c =
     let start = c .before .before .before .before .before .before .before .before .before .before .before in
-    let a = start .args in
-    let k = c .before .before .before .before .before .before .loop .a in
+    let a = start .args in let k = c .before .before .before .before .before .before .loop .a in
     let r = ruleOf (a .h) (a .counts .now) (a .clauses .now) in
     let t = ruleOf (a .h) (a .counts2 .now) (a .clauses2 .now) in
     sym (every-stop (a .h .s) (λ b. sameEntry (a .h .n) (entry r (a .q) b) (entry t (a .q) b)) k (c .before .before .before .before .if1 .taken) (sym (told (c .before)) ∙ not-t _ (c .if2 .taken)))
@@ -59,16 +58,14 @@ returns c =
 loop-again : tie.Need-loop-again Inv-loop μ-loop
 loop-again c =
     let start = c .before .before .before .before .before .before .before .before .before .before .before in
-    let a = start .args in
-    let l = c .before .before .before .before .before .before .loop in
+    let a = start .args in let l = c .before .before .before .before .before .before .loop in
     let r = ruleOf (a .h) (a .counts .now) (a .clauses .now) in
     let t = ruleOf (a .h) (a .counts2 .now) (a .clauses2 .now) in
     (omega arith, every-next (l .a) (λ b. sameEntry (a .h .n) (entry r (a .q) b) (entry t (a .q) b)) (l .inv .1) (sym (told (c .before)) ∙ not-f _ (c .if2 .left)))
 
 returns-2 : tie.Need-returns-2 Inv-loop μ-loop
 returns-2 c =
-    let start = c .before .before .before .before .before .before .before in
-    let a = start .args in
+    let start = c .before .before .before .before .before .before .before in let a = start .args in
     let l = c .before .before .loop in
     let e : l .a ≡ a .h .s = omega arith in
     sym (ap (λ (x : ℕ). every x (λ b. sameEntry (a .h .n) (entry (ruleOf (a .h) (a .counts .now) (a .clauses .now)) (a .q) b) (entry (ruleOf (a .h) (a .counts2 .now) (a .clauses2 .now)) (a .q) b)))

@@ -16,8 +16,7 @@ returns c =
 same-entries-requires : tie.Need-same-entries-requires
 same-entries-requires c κs =
     let start = c .before .before .before .before .before .before .before .before .before .before in
-    let a = start .args in
-    let p = start .pre in
+    let a = start .args in let p = start .pre in
     both-formed (a .first .now) (a .second .now) (a .l) (a .m) (p .0) (p .1)
     (sym (c .before .before .before .before .before .same-numbers .ensures) ∙ not-f _ (c .before .before .before .before .if1 .left))
     (c .before .before .before .counts-of .ensures) (c .before .before .clauses-of .ensures) (c .before .counts-of2 .ensures) (c .clauses-of2 .ensures)

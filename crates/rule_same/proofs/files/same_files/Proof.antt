@@ -13,8 +13,7 @@ returns c =
 
 returns-2 : tie.Need-returns-2
 returns-2 c =
-    let start = c .before .before .before .before .before .before .before in
-    let a = start .args in
+    let start = c .before .before .before .before .before .before .before in let a = start .args in
     c .same-bodies .ensures
     ∙ names-agree (a .first .now) (a .second .now) (c .before .before .before .before .names-of .ensures) (c .before .before .before .names-of2 .ensures) (c .before .before .same .ensures)
     (not-f _ (c .before .if1 .left))

@@ -5,9 +5,6 @@ use Rattle.rule_same.proofs.Same.{differ-n, differ-s, differ-initial, d
 use Rattle.rule_same.proofs.files.same_numbers.Statement.{statement}
 use Rattle.rule_same.proofs.files.same_numbers.Tie as tie
 
-returns : tie.Need-returns
-returns c = let a = c .before .args in differ-n (a .g) (a .h) (c .if1 .taken)
-
 returns-2 : tie.Need-returns-2
 returns-2 c = let a = c .before .before .args in differ-s (a .g) (a .h) (c .before .if1 .left) (c .if2 .taken)
 
@@ -27,4 +24,6 @@ returns-5 c =
     agree-all (a .g) (a .h) (c .before .before .before .if1 .left) (c .before .before .if2 .left) (c .before .if3 .left) same
 
 pub same-numbers-spec : {M : Type 1} → statement M
-same-numbers-spec = tie.close (tie.spec returns returns-2 returns-3 returns-4 returns-5)
+same-numbers-spec =
+    tie.close (tie.spec
+    (λ c. let a = c .before .args in differ-n (a .g) (a .h) (c .if1 .taken)) returns-2 returns-3 returns-4 returns-5)

@@ -22,8 +22,7 @@ returns c =
 returns-2 : tie.Need-returns-2
 returns-2 c =
     let at-read-rule = c .before .before .before .before .before .before .before in
-    let start = at-read-rule .before .before .before in
-    let a = start .args in
+    let start = at-read-rule .before .before .before in let a = start .args in
     let l = c .before .before .before .before .before .l .given .0 .0 in
     let p : readOf (a .first .now) ≡ Accepted l = sym (at-read-rule .read-rule .ensures) ∙ c .before .before .before .before .before .l .given .1 in
     let e : readOf (a .second .now) ≡ Refused (c .before .second-row .given .0 .0) = sym (c .before .before .before .read-rule2 .ensures) ∙ c .before .second-row .given .1 in
@@ -32,8 +31,7 @@ returns-2 c =
 returns-3 : tie.Need-returns-3
 returns-3 c =
     let at-read-rule = c .before .before .before .before .before .before .before .before in
-    let start = at-read-rule .before .before .before in
-    let a = start .args in
+    let start = at-read-rule .before .before .before in let a = start .args in
     let l = c .before .before .before .before .before .before .l .given .0 .0 in
     let m = c .before .before .m .given .0 .0 in
     let p : readOf (a .first .now) ≡ Accepted l = sym (at-read-rule .read-rule .ensures) ∙ c .before .before .before .before .before .before .l .given .1 in

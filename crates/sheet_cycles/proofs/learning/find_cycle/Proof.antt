@@ -50,8 +50,7 @@ part-same-end c =
 returns : tie.Need-returns Inv-loop μ-loop
 returns c =
     let start = c .before .before .before .before .before .before .before .before .before .before .before in
-    let a = start .args in
-    let k = c .before .before .before .before .before .before .loop .k in
+    let a = start .args in let k = c .before .before .before .before .before .before .loop .k in
     let s = getD (a .from .now) k 0 in
     let q : s + getD (a .size .now) k 0 - s ≡ getD (a .size .now) k 0 = omega arith in
     let e : partAt (a .sheet .now) (a .from .now) (a .size .now) k ≡ a .cycle .now = ap (λ (x : ℕ). take x (drop s (a .sheet .now))) (sym q) ∙ c .before .same .ensures .0 (c .if1 .taken) in
@@ -60,8 +59,7 @@ returns c =
 loop-again : tie.Need-loop-again Inv-loop μ-loop
 loop-again c =
     let start = c .before .before .before .before .before .before .before .before .before .before .before in
-    let a = start .args in
-    let k = c .before .before .before .before .before .before .loop .k in
+    let a = start .args in let k = c .before .before .before .before .before .before .loop .k in
     let s = getD (a .from .now) k 0 in
     let q : s + getD (a .size .now) k 0 - s ≡ getD (a .size .now) k 0 = omega arith in
     let e : partAt (a .sheet .now) (a .from .now) (a .size .now) k ≡ a .cycle .now → ⊥
@@ -70,8 +68,7 @@ loop-again c =
 
 returns-2 : tie.Need-returns-2 Inv-loop μ-loop
 returns-2 c =
-    let a = c .before .before .before .before .before .before .args in
-    let l = c .before .loop in
+    let a = c .before .before .before .before .before .before .args in let l = c .before .loop in
     found-none (a .sheet .now) (a .from .now) (a .size .now) (a .cycle .now) (a .n) (l .k) (omega arith) (l .inv .1)
 
 pub find-cycle-spec : {M : Type 1} → statement M

@@ -42,8 +42,7 @@ found c =
 returns : tie.Need-returns
 returns c =
     let start = c .before .before .before .before .before .before .before .before .before .before .before .before .before in
-    let a = start .args in
-    let z = start .pre in
+    let a = start .args in let z = start .pre in
     let long : length (take (a .sought .size) (drop (a .sought .begin) (a .sheet .now))) ≡ a .sought .size = simp (length-take, length-drop) (omega (arith, z .5)) in
     learnt-known (a .sought .begin) (a .sought .size) (z .2) (c .before .find-cycle .result) (c .if1 .taken) long (found (c .before))
 
@@ -70,8 +69,7 @@ part-fill-cycle-end-2 c =
 fill-cycle-requires : tie.Need-fill-cycle-requires
 fill-cycle-requires c κs =
     let start = c .before .before .before .before .before .before .before .before .before .before .before .before .before .before .before .before in
-    let a = start .args in
-    let z = start .pre in
+    let a = start .args in let z = start .pre in
     let q : a .sought .begin + a .sought .size - a .sought .begin ≡ a .sought .size = omega arith in
     (rw q (z .0), z .1, simp (length-take, length-drop) (omega (arith, z .2 .room, z .3, z .4, z .5)))
 
@@ -103,12 +101,10 @@ add-cycles c =
 returns-2 : tie.Need-returns-2
 returns-2 c =
     let start = c .before .before .before .before .before .before .before .before .before .before .before .before .before .before .before .before .before .before .before in
-    let a = start .args in
-    let z = start .pre in
+    let a = start .args in let z = start .pre in
     let r = ruleOf (a .rule .head) (a .counts .now) (a .clauses .now) in
     let cycle = take (a .sought .size) (drop (a .sought .begin) (a .sheet .now)) in
-    let f = c .before .before .fill-cycle in
-    let m = f .last .1 .1 .1 .1 .1 .1 .0 in
+    let f = c .before .before .fill-cycle in let m = f .last .1 .1 .1 .1 .1 .1 .0 in
     let q : a .sought .begin + a .sought .size - a .sought .begin ≡ a .sought .size = omega arith in
     let long : length cycle ≡ a .sought .size = simp (length-take, length-drop) (omega (arith, z .5)) in
     let right : m ≡ truthMasks r [] cycle = f .ensures ∙ ap (λ (n : ℕ). truthMasks r [] (take n (drop (a .sought .begin) (a .sheet .now)))) q in

@@ -27,22 +27,17 @@ abbrev μ-loop2 : tie.MeasureT-loop2
 loop-holds : tie.Need-loop-holds Inv-loop μ-loop Inv-loop2 μ-loop2
 unfolding place
 loop-holds c =
-    let a = c .before .before .args in
-    let z = c .before .before .pre in
+    let a = c .before .before .args in let z = c .before .before .pre in
     let none : a .first - a .first ≡ 0 = omega arith in
     (omega arith, z .1, z .0, sym (ap (place (nextPlace [] (a .cycle .now))) none), (refl, spread-front (a .cycle .now) (a .first) (a .end) (a .block .now) (z .1) (z .2)))
 
 slice-write-block : tie.Need-slice-write-block Inv-loop μ-loop Inv-loop2 μ-loop2
 slice-write-block c = omega (arith, c .before .before .loop .inv .4 .0, c .before .before .before .before .before .pre .2)
 
-next-place-requires : tie.Need-next-place-requires Inv-loop μ-loop Inv-loop2 μ-loop2
-next-place-requires c κs = (omega arith, omega arith)
-
 loop-again : tie.Need-loop-again Inv-loop μ-loop Inv-loop2 μ-loop2
 loop-again c =
     let a = c .before .before .before .before .before .before .args in
-    let z = c .before .before .before .before .before .before .pre in
-    let l = c .before .before .before .loop in
+    let z = c .before .before .before .before .before .before .pre in let l = c .before .before .before .loop in
     let v = a .cycle .now in
     let next : c .next-place .result ≡ place (nextPlace [] v) (l .i + 1 - a .first) =
     step-next v (a .first) (l .i) (l .p) (c .next-place .result) (l .inv .0) (l .inv .3) (c .next-place .ensures [] v refl refl) in
@@ -57,19 +52,14 @@ loop-again c =
 
 loop2-holds : tie.Need-loop2-holds Inv-loop μ-loop Inv-loop2 μ-loop2
 loop2-holds c =
-    let a = c .before .before .before .before .args in
-    let z = c .before .before .before .before .pre in
+    let a = c .before .before .before .before .args in let z = c .before .before .before .before .pre in
     let l = c .before .loop in
     (omega arith, omega (arith, z .2, l .inv .4 .0), right-again (a .cycle .now) (a .first) (a .end) (a .block .now) (z .1) (z .2) (l .block) (l .i) (l .inv .0) (l .inv .4))
-
-loop2-less : tie.Need-loop2-less Inv-loop μ-loop Inv-loop2 μ-loop2
-loop2-less c = omega (arith, c .before .loop2 .inv .2 .0)
 
 loop2-again : tie.Need-loop2-again Inv-loop μ-loop Inv-loop2 μ-loop2
 loop2-again c =
     let a = c .before .before .before .before .before .before .args in
-    let z = c .before .before .before .before .before .before .pre in
-    let l = c .before .loop2 in
+    let z = c .before .before .before .before .before .before .pre in let l = c .before .loop2 in
     let b = c .before .before .before .loop .block in
     let room : a .end ≤ length b = omega (arith, z .2, c .before .before .before .loop .inv .4 .0) in (
       omega arith,
@@ -84,8 +74,7 @@ same-length c = c .before .loop2 .inv .2 .0 ∙ c .before .before .before .loop 
 returns : tie.Need-returns Inv-loop μ-loop Inv-loop2 μ-loop2
 returns c =
     let a = c .before .before .before .before .before .before .args in
-    let z = c .before .before .before .before .before .before .pre in
-    let l = c .before .loop2 in
+    let z = c .before .before .before .before .before .before .pre in let l = c .before .loop2 in
     let f = c .before .before .before .loop in
     let room : a .end ≤ length (f .block) = omega (arith, z .2, f .inv .4 .0) in
     right-end (a .cycle .now) (a .first) (a .end) (f .block) (z .1) room (l .block) (l .i) (omega (arith, l .inv .2 .0)) (l .inv .2)
@@ -94,5 +83,6 @@ returns c =
 pub repeat-cycle-spec : {M : Type 1} → statement M
 repeat-cycle-spec =
     tie.close (tie.spec
-    Inv-loop μ-loop Inv-loop2 μ-loop2 loop-holds (λ c. omega arith) slice-write-block next-place-requires (λ c. omega arith) (λ c. omega arith) loop-again
-    loop2-holds (λ c. omega arith) (λ c. omega arith) loop2-less loop2-again same-length returns)
+    Inv-loop μ-loop Inv-loop2 μ-loop2 loop-holds (λ c. omega arith) slice-write-block (λ c κs. (omega arith, omega arith)) (λ c. omega arith)
+    (λ c. omega arith) loop-again loop2-holds (λ c. omega arith) (λ c. omega arith) (λ c. omega (arith, c .before .loop2 .inv .2 .0)) loop2-again
+    same-length returns)

@@ -16,9 +16,7 @@ repeat-cycle-requires c κs = let z = c .before .before .before .before .before 
 fill-lead-requires : tie.Need-fill-lead-requires
 fill-lead-requires c κs =
     let start = c .before .before .before .before .before .before .before .before .before .before in
-    let a = start .args in
-    let z = start .pre in
-    let s = c .before .before .before .repeat-cycle in
+    let a = start .args in let z = start .pre in let s = c .before .before .before .repeat-cycle in
     let order : length (a .lead .now) ≤ a .places = omega (arith, z .4) in
     let long : length (s .last .1 .1 .1 .0) ≡ length (a .block .now) = ap length (s .ensures) ∙ spread-length (a .cycle .now) (length (a .lead .now)) (a .places) (a .block .now) order (z .5) in
     (z .0, z .1, omega (arith, long, z .4, z .5), z .2)
@@ -26,8 +24,7 @@ fill-lead-requires c κs =
 returns : tie.Need-returns
 returns c =
     let start = c .before .before .before .before .before .before .before .before .before .before .before .before .before in
-    let a = start .args in
-    let z = start .pre in
+    let a = start .args in let z = start .pre in
     let order : length (a .lead .now) ≤ a .places = omega (arith, z .4) in
     c .before .before .fill-lead .ensures
     ∙ ap (backOver (ruleOf (a .h) (a .counts .now) (a .clauses .now)) (a .lead .now))

@@ -14,9 +14,6 @@ Inv-loop xs₀ v i₀ xs i = (length xs ≡ length xs₀) × (i ≤ length xs₀
 abbrev μ-loop : tie.MeasureT-loop
 μ-loop xs₀ v i₀ xs i = length xs₀ - i
 
-loop-holds : tie.Need-loop-holds Inv-loop μ-loop
-loop-holds c = (refl, omega arith, λ j l. absurd (omega arith))
-
 loop-again : tie.Need-loop-again Inv-loop μ-loop
 loop-again c =
     let l = c .before .loop in
@@ -28,4 +25,5 @@ returns c = let l = c .before .loop in filled (l .xs) _ (λ j k. l .inv .2 j (om
 pub fill-with-spec : {M : Type 1} → statement M
 fill-with-spec =
     tie.close (tie.spec
-    Inv-loop μ-loop loop-holds (λ c. omega arith) (λ c. omega arith) (λ c. omega arith) loop-again (λ c. c .before .loop .inv .0) returns)
+    Inv-loop μ-loop (λ c. (refl, omega arith, λ j l. absurd (omega arith))) (λ c. omega arith) (λ c. omega arith) (λ c. omega arith) loop-again
+    (λ c. c .before .loop .inv .0) returns)

@@ -8,8 +8,5 @@ use Rattle.slice_search.proofs.bytes.is_between.Tie as tie
 returns : tie.Need-returns
 returns c = (λ e. absurd (false≢true e), λ e l. absurd (omega (arith, c .if1 .taken)))
 
-returns-2 : tie.Need-returns-2
-returns-2 c = (λ e. (c .if1 .left, ltb-true _ _ e), λ e l. ltb-false _ _ e)
-
 pub is-between-spec : {M : Type 1} → statement M
-is-between-spec = tie.close (tie.spec returns returns-2)
+is-between-spec = tie.close (tie.spec returns (λ c. (λ e. (c .if1 .left, ltb-true _ _ e), λ e l. ltb-false _ _ e)))

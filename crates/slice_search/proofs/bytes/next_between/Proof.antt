@@ -20,8 +20,7 @@ abbrev μ-loop : tie.MeasureT-loop
 
 loop-holds : tie.Need-loop-holds Inv-loop μ-loop
 loop-holds c =
-    let s = c .before .before in
-    let n = c .next-set .ensures in
+    let s = c .before .before in let n = c .next-set .ensures in
     (n .before .ordered, n .within, over-zeros (s .args .xs .now) (Other (s .args .low) (s .args .high) (s .args .xs .now)) (λ y e l. absurd (omega (arith, s .pre .2))) _ _ (n .before))
 
 returns : tie.Need-returns Inv-loop μ-loop

@@ -13,9 +13,6 @@ Inv-loop xs from to i₀ i = Zeros xs from i × (i ≤ to)
 abbrev μ-loop : tie.MeasureT-loop
 μ-loop xs from to i₀ i = to - i
 
-loop-holds : tie.Need-loop-holds Inv-loop μ-loop
-loop-holds c = (zeros-none _ _, c .before .pre .0)
-
 loop-again : tie.Need-loop-again Inv-loop μ-loop
 loop-again c =
     let l = c .before .before .before .loop in
@@ -24,5 +21,5 @@ loop-again c =
 pub skip-words-spec : {M : Type 1} → statement M
 skip-words-spec =
     tie.close (tie.spec
-    Inv-loop μ-loop loop-holds (λ c. search needs) (λ c κs. search needs) (λ c. c .before .before .before .loop .inv) (λ c. search needs) (λ c. search needs)
-    loop-again (λ c. c .before .loop .inv))
+    Inv-loop μ-loop (λ c. (zeros-none _ _, c .before .pre .0)) (λ c. search needs) (λ c κs. search needs) (λ c. c .before .before .before .loop .inv)
+    (λ c. search needs) (λ c. search needs) loop-again (λ c. c .before .loop .inv))

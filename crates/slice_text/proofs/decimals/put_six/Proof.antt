@@ -17,15 +17,13 @@ put-pair-requires c κs =
 put-pair-requires-2 : tie.Need-put-pair-requires-2
 put-pair-requires-2 c κs =
     let at-put-two = c .before .before .before .before .before .before .before in
-    let at-if1 = at-put-two .before .before in
-    let start = at-if1 .before .before in
+    let at-if1 = at-put-two .before .before in let start = at-if1 .before .before in
     omega (arith, c .before .before .before .put-pair .ensures .ends, at-put-two .put-two .ensures .ends, start .pre .1, pairs-length (start .args .x) (at-if1 .if1 .left))
 
 returns-2 : tie.Need-returns-2
 returns-2 c =
     let at-put-two = c .before .before .before .before .before .before .before .before .before .before in
-    let at-if1 = at-put-two .before .before in
-    let start = at-if1 .before .before in
+    let at-if1 = at-put-two .before .before in let start = at-if1 .before .before in
     put-as (pairs-last (start .args .x) (at-if1 .if1 .left)) (put-then (at-put-two .put-two .ensures)
     (put-then (c .before .before .before .before .before .before .put-pair .ensures) (c .before .before .put-pair2 .ensures)))
 

@@ -19,16 +19,14 @@ and-fr a b e = rw e (and-false a)
 
 returns : tie.Need-returns
 returns c =
-    let start = c .before .before .before .before .before .before .before in
-    let a = start .args in
+    let start = c .before .before .before .before .before .before .before in let a = start .args in
     let h = c .before .none-stands .ensures (c .if1 .taken) in
     nothing-sorted (a .acodes .now) (a .left .now) (a .acount) (a .bcodes .now) (a .right .now) (a .bcount) _ (a .marks .now) (start .pre .0 .0 .marked)
     (λ i j k l. and-fl (standsIn (a .acodes .now) i) (standsIn (a .bcodes .now) j) (h i k))
 
 returns-2 : tie.Need-returns-2
 returns-2 c =
-    let start = c .before .before .before .before .before .before .before .before .before in
-    let a = start .args in
+    let start = c .before .before .before .before .before .before .before .before .before in let a = start .args in
     let h = c .before .none-stands2 .ensures (c .if2 .taken) in
     nothing-sorted (a .acodes .now) (a .left .now) (a .acount) (a .bcodes .now) (a .right .now) (a .bcount) _ (a .marks .now) (start .pre .0 .0 .marked)
     (λ i j k l. and-fr (standsIn (a .acodes .now) i) (standsIn (a .bcodes .now) j) (h j l))
@@ -36,8 +34,7 @@ returns-2 c =
 narrow-requires : tie.Need-narrow-requires
 narrow-requires c κs =
     let start = c .before .before .before .before .before .before .before .before .before .before .before .before .before .before in
-    let a = start .args in
-    let p = start .pre in
+    let a = start .args in let p = start .pre in
     let I = c .before .before .before .place-cores .ensures in (
       (
         fits-same _ _ (a .left .now) (a .right .now) (a .marks .now) _ (I .long ∙ sym (p .0 .0 .marked)) (p .0 .0),
@@ -53,11 +50,8 @@ first-start-requires : tie.Need-first-start-requires
 first-start-requires c κs =
     let at-place-cores = c .before .before .before .before .before .before .before in
     let start = at-place-cores .before .before .before .before .before .before .before .before .before .before .before in
-    let a = start .args in
-    let p = start .pre in
-    let n = c .before .before .before .narrow in
-    let i = at-place-cores .place-cores in
-    let N = n .ensures .0 in
+    let a = start .args in let p = start .pre in let n = c .before .before .before .narrow in
+    let i = at-place-cores .place-cores in let N = n .ensures .0 in
     let I = i .ensures in (
       N .long ∙ I .long,
       only-sub (a .acodes .now) (length (a .bcodes .now)) (i .last .1 .1 .0) (n .last .1 .1 .1 .1 .1 .1 .0) (N .sub)
@@ -70,8 +64,7 @@ returns-3 : tie.Need-returns-3
 returns-3 c =
     let at-place-cores = c .before .before .before .before .before .before .before .before .before in
     let start = at-place-cores .before .before .before .before .before .before .before .before .before .before .before in
-    let a = start .args in
-    let N = c .before .before .before .before .before .narrow in
+    let a = start .args in let N = c .before .before .before .before .before .narrow in
     let I = at-place-cores .place-cores in
     let n : Narrowed (CoreStep (length (a .bcodes .now)) (a .left .now) (a .right .now)) (SparedStep (length (a .bcodes .now)) (a .left .now) (a .right .now)) (λ s. cond s (a .bcount) (a .acount))
     (I .last .1 .1 .0) (N .last .1 .1 .1 .1 .1 .1 .0) = N .ensures .0 in
@@ -90,11 +83,8 @@ spread-marks-requires : tie.Need-spread-marks-requires
 spread-marks-requires c κs =
     let at-place-cores = c .before .before .before .before .before .before .before .before .before .before in
     let start = at-place-cores .before .before .before .before .before .before .before .before .before .before .before in
-    let a = start .args in
-    let p = start .pre in
-    let n = c .before .before .before .before .before .before .narrow in
-    let i = at-place-cores .place-cores in
-    let N = n .ensures .0 in
+    let a = start .args in let p = start .pre in let n = c .before .before .before .before .before .before .narrow in
+    let i = at-place-cores .place-cores in let N = n .ensures .0 in
     let I = i .ensures in (
       N .long ∙ I .long,
       p .0 .0 .few-A,
@@ -109,9 +99,7 @@ returns-4 c =
     let at-narrow = c .before .before .before .before .before .before .before .before .before in
     let at-place-cores = at-narrow .before .before .before .before in
     let start = at-place-cores .before .before .before .before .before .before .before .before .before .before .before in
-    let a = start .args in
-    let N = at-narrow .narrow in
-    let I = at-place-cores .place-cores in
+    let a = start .args in let N = at-narrow .narrow in let I = at-place-cores .place-cores in
     let n : Narrowed (CoreStep (length (a .bcodes .now)) (a .left .now) (a .right .now)) (SparedStep (length (a .bcodes .now)) (a .left .now) (a .right .now)) (λ s. cond s (a .bcount) (a .acount))
     (I .last .1 .1 .0) (N .last .1 .1 .1 .1 .1 .1 .0) = N .ensures .0 in
     record {

@@ -19,17 +19,10 @@ Inv-loop codes i₀ i = (i ≤ length codes) × ((j : ℕ) → j < i → standsI
 abbrev μ-loop : tie.MeasureT-loop
 μ-loop codes i₀ i = length codes - i
 
-loop-holds : tie.Need-loop-holds Inv-loop μ-loop
-loop-holds c = (omega arith, λ j l. absurd (omega arith))
-
-returns : tie.Need-returns Inv-loop μ-loop
-returns c = λ e. absurd (false≢true e)
-
 loop-again : tie.Need-loop-again Inv-loop μ-loop
 unfolding standsIn
 loop-again c =
-    let l = c .before .before .before .loop in
-    let codes = c .before .before .before .before .args .codes .now in
+    let l = c .before .before .before .loop in let codes = c .before .before .before .before .args .codes .now in
     let here : standsIn codes (l .i) ≡ false = ne-eqb (coreNumber (getD codes (l .i) 0)) (l .i) (λ e. omega (arith, c .if1 .left, e)) in (
       omega (arith, c .before .before .loop-test .taken),
       λ j h. by-cases (ℕ-discrete j (l .i))
@@ -43,4 +36,5 @@ returns-2 c = let l = c .before .loop in λ e j h. l .inv .1 j (omega (arith, c 
 pub none-stands-spec : {M : Type 1} → statement M
 none-stands-spec =
     tie.close (tie.spec
-    Inv-loop μ-loop loop-holds (λ c. search needs) (λ c. search needs) returns (λ c. search needs) (λ c. search needs) loop-again returns-2)
+    Inv-loop μ-loop (λ c. (omega arith, λ j l. absurd (omega arith))) (λ c. search needs) (λ c. search needs) (λ c e. absurd (false≢true e))
+    (λ c. search needs) (λ c. search needs) loop-again returns-2)

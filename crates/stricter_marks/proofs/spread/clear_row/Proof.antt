@@ -19,12 +19,6 @@ abbrev μ-loop : tie.MeasureT-loop
 loop-holds : tie.Need-loop-holds Inv-loop μ-loop
 loop-holds c = (omega arith, rw (add-zero (c .args .base)) (filled-start (λ _. 0) (c .args .base) (c .args .marks .now)))
 
-add-marks : tie.Need-add-marks Inv-loop μ-loop
-add-marks c = omega (arith, c .before .loop .inv .1 .long)
-
-slice-write-marks : tie.Need-slice-write-marks Inv-loop μ-loop
-slice-write-marks c = omega (arith, c .before .loop .inv .1 .long)
-
 loop-again : tie.Need-loop-again Inv-loop μ-loop
 loop-again c =
     let l = c .before .loop in
@@ -38,4 +32,5 @@ returns c = let e : c .before .loop .j ≡ c .before .before .args .n = omega (a
 pub clear-row-spec : {M : Type 1} → statement M
 clear-row-spec =
     tie.close (tie.spec
-    Inv-loop μ-loop loop-holds add-marks slice-write-marks (λ c. search needs) (λ c. search needs) loop-again (λ c. c .before .loop .inv .1 .long) returns)
+    Inv-loop μ-loop loop-holds (λ c. omega (arith, c .before .loop .inv .1 .long)) (λ c. omega (arith, c .before .loop .inv .1 .long))
+    (λ c. search needs) (λ c. search needs) loop-again (λ c. c .before .loop .inv .1 .long) returns)

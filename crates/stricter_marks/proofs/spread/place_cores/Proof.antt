@@ -29,8 +29,7 @@ place-row-requires c κs = (omega arith, c .before .before .loop .inv .1 .long �
 
 loop-again : tie.Need-loop-again Inv-loop μ-loop
 loop-again c =
-    let start = c .before .before .before .before .before .before .before .before .before in
-    let a = start .args in
+    let start = c .before .before .before .before .before .before .before .before .before in let a = start .args in
     let l = c .before .before .before .before .before .loop in (
       omega arith,
       rw (add-one (l .i), suc-mul (l .i) (length (a .bcodes .now)))

@@ -26,9 +26,7 @@ loop-holds c =
 
 spread-row-requires : tie.Need-spread-row-requires Inv-loop μ-loop
 spread-row-requires c κs =
-    let at-loop = c .before .before in
-    let start = at-loop .before .before .before .before in
-    let a = start .args in
+    let at-loop = c .before .before in let start = at-loop .before .before .before .before in let a = start .args in
     let p = start .pre in
     let l = at-loop .loop in (
       (omega arith, l .inv .1 .long ∙ p .0),
@@ -42,8 +40,7 @@ spread-row-requires c κs =
 
 loop-again : tie.Need-loop-again Inv-loop μ-loop
 loop-again c =
-    let at-loop = c .before .before .before .before .before in
-    let start = at-loop .before .before .before .before in
+    let at-loop = c .before .before .before .before .before in let start = at-loop .before .before .before .before in
     let a = start .args in
     let l = at-loop .loop in (
       omega arith,
@@ -54,8 +51,7 @@ loop-again c =
 
 returns : tie.Need-returns Inv-loop μ-loop
 returns c =
-    let at-loop = c .before in
-    let a = at-loop .before .before .before .before .args in
+    let at-loop = c .before in let a = at-loop .before .before .before .before .args in
     let e : at-loop .loop .i ≡ length (a .acodes .now) = omega (arith, at-loop .loop .inv .0) in
     moved-end (a .acodes .now) (a .bcodes .now) (a .marks .now) _ (rw e at (at-loop .loop .inv .1))
 

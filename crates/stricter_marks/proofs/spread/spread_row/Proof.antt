@@ -30,8 +30,7 @@ abbrev μ-loop : tie.MeasureT-loop
 returns : tie.Need-returns Inv-loop μ-loop
 unfolding hasCore
 returns c =
-    let start = c .before .before .before .before .before .before in
-    let a = start .args in
+    let start = c .before .before .before .before .before .before in let a = start .args in
     let no : hasCore (a .acodes .now) (a .i) ≡ false = le-ltb (coreNumber (getD (a .acodes .now) (a .i) 0)) (length (a .acodes .now)) (omega (arith, c .before .core-number .ensures)) in
     moved-out (a .acodes .now) (a .bcodes .now) (a .i) (a .marks .now) (start .pre .1 .2) no
 
@@ -61,8 +60,7 @@ loop-holds c =
 mark-of-requires : tie.Need-mark-of-requires Inv-loop μ-loop
 mark-of-requires c κs =
     let at-loop = c .before .before .before .before in
-    let start = at-loop .before .before .before .before .before .before .before in
-    let l = at-loop .loop .inv in
+    let start = at-loop .before .before .before .before .before .before .before in let l = at-loop .loop .inv in
     omega (arith, place-room (length (start .args .bcodes .now)) (at-loop .before .before .core-number .result) (length (start .args .acodes .now)) (l .1), start .pre .0 .1, l .2, l .5 .long)
 
 add-marks : tie.Need-add-marks Inv-loop μ-loop
@@ -93,8 +91,7 @@ loop-again : tie.Need-loop-again Inv-loop μ-loop
 unfolding hasCore
 loop-again c =
     let at-loop = c .before .before .before .before .before in
-    let start = at-loop .before .before .before .before .before .before .before in
-    let a = start .args in
+    let start = at-loop .before .before .before .before .before .before .before in let a = start .args in
     let nb = length (a .bcodes .now) in
     let base : ℕ = a .i * nb in
     let l = at-loop .loop in

@@ -24,16 +24,9 @@ loop-holds c =
     let b : ℕ = c .before .before .args .base in
     (omega arith, rw (add-zero b) (filled-start (λ x. one (standsIn (c .before .before .args .bcodes .now) (x - b))) b (c .before .before .args .marks .now)))
 
-add-marks : tie.Need-add-marks Inv-loop μ-loop
-add-marks c = omega (arith, c .before .before .before .loop .inv .1 .long)
-
-slice-write-marks : tie.Need-slice-write-marks Inv-loop μ-loop
-slice-write-marks c = omega (arith, c .before .before .before .loop .inv .1 .long)
-
 loop-again : tie.Need-loop-again Inv-loop μ-loop
 loop-again c =
-    let l = c .before .before .before .loop in
-    let a = c .before .before .before .before .before .before .args in
+    let l = c .before .before .before .loop in let a = c .before .before .before .before .before .before .args in
     let b : ℕ = a .base in
     let low : b + l .j < length (l .marks) = omega (arith, l .inv .1 .long) in (
       omega arith,
@@ -47,5 +40,6 @@ returns c = let e : c .before .loop .j ≡ length (c .before .before .before .be
 pub stand-row-spec : {M : Type 1} → statement M
 stand-row-spec =
     tie.close (tie.spec
-    Inv-loop μ-loop loop-holds (λ c. search needs) (λ c. search needs) (λ c κs. search needs) add-marks slice-write-marks (λ c. search needs)
-    (λ c. search needs) loop-again (λ c. c .before .loop .inv .1 .long) returns)
+    Inv-loop μ-loop loop-holds (λ c. search needs) (λ c. search needs) (λ c κs. search needs)
+    (λ c. omega (arith, c .before .before .before .loop .inv .1 .long)) (λ c. omega (arith, c .before .before .before .loop .inv .1 .long))
+    (λ c. search needs) (λ c. search needs) loop-again (λ c. c .before .loop .inv .1 .long) returns)

@@ -14,23 +14,20 @@ use Rattle.stricter_search.proofs.files.mark_files.Tie as tie
 
 returns : tie.Need-returns
 returns c =
-    let start = c .before .before .before .before .before .before .before .before in
-    let a = start .args in
+    let start = c .before .before .before .before .before .before .before .before in let a = start .args in
     (no-pairs (a .acodes .now) (a .amoves .now) _ (a .bcodes .now) (a .bmoves .now) _ (a .marks .now) (start .pre .2) (c .if1 .taken), ((refl, refl), (refl, refl)))
 
 tag-file-requires : tie.Need-tag-file-requires
 tag-file-requires c κs =
     let start = c .before .before .before .before .before .before .before .before .before .before .before in
-    let a = start .args in
-    let p = start .pre in
+    let a = start .args in let p = start .pre in
     ((holdsInitial, p .0), room-A (length (a .acodes .now)) (length (a .bcodes .now)) _ (p .2) (c .before .before .before .if1 .left))
 
 tag-file-requires-2 : tie.Need-tag-file-requires-2
 tag-file-requires-2 c κs =
     let at-tag-file = c .before .before .before .before .before .before .before .before .before in
     let at-if1 = at-tag-file .before .before .before .before in
-    let start = at-if1 .before .before .before .before .before .before .before .before in
-    let a = start .args in
+    let start = at-if1 .before .before .before .before .before .before .before .before in let a = start .args in
     let p = start .pre in
     let h = room-B (length (a .acodes .now)) (length (a .bcodes .now)) (length (a .marks .now)) (p .2) (at-if1 .if1 .left) in
     ((lacksInitial, p .1), omega (arith, h, at-tag-file .tag-file .kept .1 .1 .1 .1 .0))
@@ -52,9 +49,7 @@ mark-tagged-requires c κs =
     let at-tag-file2 = c .before .before .before .before .before .before .before .before .before .before .before .before .before in
     let at-tag-file = at-tag-file2 .before .before .before .before .before .before .before .before .before .before in
     let start = at-tag-file .before .before .before .before .before .before .before .before .before .before .before .before in
-    let a = start .args in
-    let p = start .pre in
-    let x = at-tag-file .tag-file .ensures in
+    let a = start .args in let p = start .pre in let x = at-tag-file .tag-file .ensures in
     let y = at-tag-file2 .tag-file2 .ensures in
     let r = ruleIn (a .a .now) in
     let q = ruleIn (a .b .now) in
@@ -103,9 +98,7 @@ returns-2 c =
     let at-tag-file2 = at-sort-tagged .before .before .before .before .before .before .before .before .before .before .before .before .before .before in
     let at-tag-file = at-tag-file2 .before .before .before .before .before .before .before .before .before .before in
     let start = at-tag-file .before .before .before .before .before .before .before .before .before .before .before .before in
-    let a = start .args in
-    let p = start .pre in
-    let x = at-tag-file .tag-file .ensures in
+    let a = start .args in let p = start .pre in let x = at-tag-file .tag-file .ensures in
     let y = at-tag-file2 .tag-file2 .ensures in
     let r = ruleIn (a .a .now) in
     let q = ruleIn (a .b .now) in
@@ -113,8 +106,7 @@ returns-2 c =
     let t = lacksInitial q in
     let A = file-table (p .0) (x .0) in
     let B = file-table (p .1) (y .0) in
-    let u = x .1 in
-    let v = y .1 in
+    let u = x .1 in let v = y .1 in
     let d = at-sort-tagged .mark-tagged .ensures in (
       sorted r q s t _ _ _ _ _ _ A B _ _ _ _ (u .0) (u .1) (v .0) (v .1) (a .l .head .initial) (a .m .head .initial)
           (initial-low (p .0)) (initial-low (p .1)) _ _ (same-length-5 c ∙ p .2) (d .0),

@@ -6,8 +6,7 @@ use Rattle.stricter_search.proofs.files.mark_tagged.Tie as tie
 returns : tie.Need-returns
 returns c =
     let at-untag = c .before .before .before .before .before .before .before .before .before .before .before in
-    let at-sort-cores = at-untag .before .before .before .before .before in
-    let d = at-untag .untag .ensures in
+    let at-sort-cores = at-untag .before .before .before .before .before in let d = at-untag .untag .ensures in
     let f = c .before .before .before .before .untag2 .ensures in
     (at-sort-cores .mark-pairs .ensures, ((d .0, d .1), (f .0, f .1)))
 

@@ -8,8 +8,7 @@ use Rattle.stricter_search.proofs.files.tag_file.Tie as tie
 
 tag-live-requires : tie.Need-tag-live-requires
 tag-live-requires c κs =
-    let at-opens = c .before .before .before .before .before .before in
-    let at-prepare = at-opens .before .before in
+    let at-opens = c .before .before .before .before .before .before in let at-prepare = at-opens .before .before in
     let start = at-prepare .before .before .before .before .before in
     let (begins, lists) = start .pre .0 in
     let r = ruleIn (start .args .file .now) in
@@ -20,8 +19,7 @@ returns : tie.Need-returns
 returns c =
     let at-tag-live = c .before .before .before .before .before .before in
     let at-opens = at-tag-live .before .before .before .before .before .before .before in
-    let at-prepare = at-opens .before .before in
-    let start = at-prepare .before .before .before .before .before in
+    let at-prepare = at-opens .before .before in let start = at-prepare .before .before .before .before .before in
     let (begins, lists) = start .pre .0 in
     let r = ruleIn (start .args .file .now) in
     let T = file-table lists refl in

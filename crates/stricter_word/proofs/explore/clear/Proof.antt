@@ -25,8 +25,7 @@ loop-less c = omega (arith, c .next-set2 .ensures .before .ordered, c .before .b
 
 loop-again : tie.Need-loop-again Inv-loop μ-loop
 loop-again c =
-    let l = c .before .before .before .loop in
-    let n = c .next-set2 .ensures in
+    let l = c .before .before .before .loop in let n = c .next-set2 .ensures in
     let m = clearing-over (l .x + 1) _ _ _ (n .before .ordered) (n .before .zeros) (clearing-set (l .x) _ (l .marks) (l .inv .1 (c .before .before .loop-test .taken)) (l .inv .2)) in
     (m .long, n .set, m)
 

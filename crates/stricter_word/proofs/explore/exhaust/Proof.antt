@@ -24,8 +24,7 @@ loop-holds c =
 
 visit-all-requires : tie.Need-visit-all-requires Inv-loop μ-loop
 visit-all-requires c κs =
-    let start = c .before .before .before .before .before .before .before in
-    let a = start .args in
+    let start = c .before .before .before .before .before .before .before in let a = start .args in
     fits-same (length (a .lcodes .now)) (length (a .rcodes .now)) _ _ (a .marks .now) (c .before .loop .marks) (c .before .loop .inv .long) (start .pre)
 
 loop-less : tie.Need-loop-less Inv-loop μ-loop
@@ -47,8 +46,7 @@ same-length c = c .before .before .before .visit-all .ensures .long ∙ c .befor
 returns : tie.Need-returns Inv-loop μ-loop
 returns c =
     let at-loop = c .before .before .before .before .before in
-    let start = at-loop .before .before .before .before .before .before in
-    let a = start .args in
+    let start = at-loop .before .before .before .before .before .before in let a = start .args in
     exhausted (PairStep (length (a .rcodes .now)) (a .left .now) (a .right .now)) (kindIn (a .lcodes .now) (a .rcodes .now))
     (a .marks .now) (at-loop .loop .marks) _ (at-loop .loop .inv) (rw (sym (at-loop .loop .inv .long), sym (c .if1 .left)) (c .before .before .before .visit-all .ensures))
 

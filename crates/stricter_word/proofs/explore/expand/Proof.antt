@@ -38,13 +38,9 @@ loop-holds c =
           (a .base) (c .place .result) (a .marks .now) e,
     )
 
-same-length : tie.Need-same-length Inv-loop μ-loop
-same-length c = c .before .before .before .before .loop .inv .2
-
 returns : tie.Need-returns Inv-loop μ-loop
 returns c =
-    let start = c .before .before .before .before .before .before .before .before .before in
-    let a = start .args in
+    let start = c .before .before .before .before .before .before .before .before .before in let a = start .args in
     let l = c .before .before .before .before .loop in
     let other : sourceOf (getD (a .right .now) (l .k) 0) ≡ a .j → ⊥ = λ e. omega (arith, c .before .source-of .ensures) in
     λ i cut. expand-end (a .nb) (a .left .now) (a .right .now) _ (start .pre .0 .0) (a .j) (start .pre .0 .1) i (a .cuts .now) cut (a .base) (a .marks .now) (l .marks) (l .k) (l .inv .0) (λ h. other)
@@ -59,27 +55,6 @@ low c =
     let h = start .pre .0 .0 .lettered _ (mem-at (a .right .now) (c .before .before .before .before .before .loop .k) (omega arith)) in
     rw e h
 
-mul-meet : tie.Need-mul-meet Inv-loop μ-loop
-mul-meet c = let h = low c in omega arith
-
-element-copy-out-meet : tie.Need-element-copy-out-meet Inv-loop μ-loop
-element-copy-out-meet c = let h = low c in omega arith
-
-add-meet : tie.Need-add-meet Inv-loop μ-loop
-add-meet c = let h = low (c .before) in omega arith
-
-mul-meet-2 : tie.Need-mul-meet-2 Inv-loop μ-loop
-mul-meet-2 c = let h = low (c .before) in omega arith
-
-element-copy-out-meet-2 : tie.Need-element-copy-out-meet-2 Inv-loop μ-loop
-element-copy-out-meet-2 c = let h = low (c .before) in omega arith
-
-cast-meet : tie.Need-cast-meet Inv-loop μ-loop
-cast-meet c = let h = low (c .before .before .before) in omega arith
-
-mul-meet-3 : tie.Need-mul-meet-3 Inv-loop μ-loop
-mul-meet-3 c = let h = low (c .before .before .before) in omega arith
-
 add-meet-2 : tie.Need-add-meet-2 Inv-loop μ-loop
 add-meet-2 c =
     let start = c .before .before .before .before .before .before .before .before .before .before .before .before .before in
@@ -88,8 +63,7 @@ add-meet-2 c =
 meet-requires : tie.Need-meet-requires Inv-loop μ-loop
 meet-requires c κs =
     let at-loop = c .before .before .before .before .before .before .before .before .before in
-    let start = at-loop .before .before .before .before .before in
-    let a = start .args in
+    let start = at-loop .before .before .before .before .before in let a = start .args in
     let u = getD (a .right .now) (at-loop .loop .k) 0 in
     let m = mem-at (a .right .now) (at-loop .loop .k) (omega arith) in
     let q : c .before .target-of .result ≡ targetOf u = c .before .target-of .ensures in
@@ -102,11 +76,8 @@ meet-requires c κs =
 loop-again : tie.Need-loop-again Inv-loop μ-loop
 loop-again c =
     let at-letter-of = c .before .before .before .before .before .before .before in
-    let at-source-of = at-letter-of .before .before in
-    let at-loop = at-source-of .before .before .before in
-    let start = at-loop .before .before .before .before .before in
-    let a = start .args in
-    let l = at-loop .loop in
+    let at-source-of = at-letter-of .before .before in let at-loop = at-source-of .before .before .before in
+    let start = at-loop .before .before .before .before .before in let a = start .args in let l = at-loop .loop in
     let s : sourceOf (getD (a .right .now) (l .k) 0) ≡ a .j = omega (arith, at-source-of .source-of .ensures) in (
       omega (arith, l .inv .0),
       omega arith,
@@ -118,14 +89,16 @@ loop-again c =
 
 returns-2 : tie.Need-returns-2 Inv-loop μ-loop
 returns-2 c =
-    let a = c .before .before .before .before .before .before .args in
-    let l = c .before .loop in
+    let a = c .before .before .before .before .before .before .args in let l = c .before .loop in
     λ i cut. expand-end (a .nb) (a .left .now) (a .right .now) _ (c .before .before .before .before .before .before .pre .0 .0) (a .j) (c .before .before .before .before .before .before .pre .0 .1) i
     (a .cuts .now) cut (a .base) (a .marks .now) (l .marks) (l .k) (l .inv .0) (λ h. absurd (omega arith)) (l .inv .3 i cut)
 
 pub expand-spec : {M : Type 1} → statement M
 expand-spec =
     tie.close (tie.spec
-    Inv-loop μ-loop (λ c. search needs) place-requires loop-holds (λ c. search needs) (λ c. search needs) (λ c κs. search needs) same-length returns
-    (λ c κs. search needs) mul-meet element-copy-out-meet add-meet mul-meet-2 element-copy-out-meet-2 (λ c κs. search needs) cast-meet mul-meet-3 add-meet-2
-    meet-requires (λ c. search needs) (λ c. search needs) loop-again (λ c. c .before .loop .inv .2) returns-2)
+    Inv-loop μ-loop (λ c. search needs) place-requires loop-holds (λ c. search needs) (λ c. search needs) (λ c κs. search needs)
+    (λ c. c .before .before .before .before .loop .inv .2) returns (λ c κs. search needs) (λ c. let h = low c in omega arith)
+    (λ c. let h = low c in omega arith) (λ c. let h = low (c .before) in omega arith) (λ c. let h = low (c .before) in omega arith)
+    (λ c. let h = low (c .before) in omega arith) (λ c κs. search needs) (λ c. let h = low (c .before .before .before) in omega arith)
+    (λ c. let h = low (c .before .before .before) in omega arith) add-meet-2 meet-requires (λ c. search needs) (λ c. search needs) loop-again
+    (λ c. c .before .loop .inv .2) returns-2)

@@ -34,8 +34,7 @@ rem-expand c =
 expand-requires : tie.Need-expand-requires
 expand-requires c κs =
     let start = c .before .before .before .before .before .before .before .before .before .before .before .before in
-    let a = start .args in
-    let f = start .pre .0 in
+    let a = start .args in let f = start .pre .0 in
     let p = own (start) in (
       (rw (c .before .before .before .before .before .clear .ensures .long ∙ f .marked) (f .paired), p .second, (let h = p .second in omega (arith, f .few-B)), omega arith, omega arith),
       cut-le (a .left .now) (f .paired .ascend-A) (a .origin / length (a .rcodes .now)) (c .before .before .cut-row .result) (c .before .before .cut-row .ensures),
@@ -44,8 +43,7 @@ expand-requires c κs =
 exhaust-requires : tie.Need-exhaust-requires
 exhaust-requires c κs =
     let at-clear = c .before .before .before .before .before .before .before .before .before in
-    let start = at-clear .before .before .before .before .before .before .before in
-    let a = start .args in
+    let start = at-clear .before .before .before .before .before .before .before in let a = start .args in
     fits-same (length (a .lcodes .now)) (length (a .rcodes .now)) _ _ (a .marks .now) _
     (c .before .before .before .expand .ensures (a .origin / length (a .rcodes .now)) (c .before .before .before .before .before .before .cut-row .ensures) .long ∙ at-clear .clear .ensures .long)
     (start .pre .0)
@@ -54,8 +52,7 @@ same-length : tie.Need-same-length
 same-length c =
     let at-cut-row = c .before .before .before .before .before .before .before .before .before in
     let at-clear = at-cut-row .before .before .before in
-    let start = at-clear .before .before .before .before .before .before .before in
-    let a = start .args in
+    let start = at-clear .before .before .before .before .before .before .before in let a = start .args in
     c .before .before .exhaust .ensures .long ∙ c .before .before .before .before .before .before .expand .ensures (a .origin / length (a .rcodes .now)) (at-cut-row .cut-row .ensures) .long
     ∙ at-clear .clear .ensures .long
 
@@ -63,8 +60,7 @@ returns : tie.Need-returns
 returns c =
     let at-cut-row = c .before .before .before .before .before .before .before .before .before in
     let at-clear = at-cut-row .before .before .before in
-    let start = at-clear .before .before .before .before .before .before .before in
-    let a = start .args in
+    let start = at-clear .before .before .before .before .before .before .before in let a = start .args in
     let nb = length (a .rcodes .now) in
     let x = a .origin / nb * nb + a .origin % nb in
     let e : x ≡ a .origin = own (start) .whole in

@@ -35,12 +35,6 @@ at-low c =
     let e : c .target-of .result ≡ targetOf (getD (c .before .before .before .before .before .before .args .moves .now) (c .before .before .before .loop .c) 0) = c .target-of .ensures in
     rw e (node-low (c .before .before .before) (omega arith))
 
-mul-y : tie.Need-mul-y Inv-loop μ-loop
-mul-y c = let h = at-low c in omega arith
-
-add-y : tie.Need-add-y Inv-loop μ-loop
-add-y c = let h = at-low c in omega arith
-
 slice-read-if1 : tie.Need-slice-read-if1 Inv-loop μ-loop
 slice-read-if1 c = let h = at-low (c .before) in omega (arith, c .before .before .before .before .loop .inv .1)
 
@@ -49,8 +43,7 @@ slice-write-marks c = let h = at-low (c .before .before) in omega (arith, c .bef
 
 loop-again : tie.Need-loop-again Inv-loop μ-loop
 loop-again c =
-    let start = c .before .before .before .before .before .before .before .before in
-    let a = start .args in
+    let start = c .before .before .before .before .before .before .before .before in let a = start .args in
     let l = c .before .before .before .before .before .loop in
     let e : c .before .before .target-of .result ≡ targetOf (getD (a .moves .now) (l .c) 0) = c .before .before .target-of .ensures in
     let n = meet-set (a .nb) (a .moves .now) (a .from) (l .c) (a .q) (a .byte) (start .pre .1) (a .marks .now) (l .marks) (l .inv .3)
@@ -59,8 +52,7 @@ loop-again c =
 
 loop-again-2 : tie.Need-loop-again-2 Inv-loop μ-loop
 loop-again-2 c =
-    let start = c .before .before .before .before .before .before .before .before in
-    let a = start .args in
+    let start = c .before .before .before .before .before .before .before .before in let a = start .args in
     let l = c .before .before .before .before .before .loop in
     let e : c .before .before .target-of .result ≡ targetOf (getD (a .moves .now) (l .c) 0) = c .before .before .target-of .ensures in
     let n = meet-stay (a .nb) (a .moves .now) (a .from) (l .c) (a .q) (a .byte) (start .pre .1) (a .marks .now) (l .marks) (l .inv .3)
@@ -78,5 +70,6 @@ returns c =
 pub meet-spec : {M : Type 1} → statement M
 meet-spec =
     tie.close (tie.spec
-    Inv-loop μ-loop loop-holds (λ c. search needs) (λ c. search needs) (λ c κs. search needs) mul-y add-y (λ c. search needs) slice-read-if1 slice-write-marks
-    (λ c. search needs) loop-again (λ c. search needs) loop-again-2 (λ c. c .before .loop .inv .1) returns)
+    Inv-loop μ-loop loop-holds (λ c. search needs) (λ c. search needs) (λ c κs. search needs) (λ c. let h = at-low c in omega arith)
+    (λ c. let h = at-low c in omega arith) (λ c. search needs) slice-read-if1 slice-write-marks (λ c. search needs) loop-again (λ c. search needs)
+    loop-again-2 (λ c. c .before .loop .inv .1) returns)

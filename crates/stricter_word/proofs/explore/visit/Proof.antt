@@ -16,12 +16,6 @@ use Rattle.stricter_word.proofs.explore.visit.Tie as tie
 low : (c : tie.Start) → c .args .i * length (c .args .rcodes .now) + c .args .j < length (c .args .marks .now)
 low c = pair-low (length (c .args .lcodes .now)) (length (c .args .rcodes .now)) (c .args .i) (c .args .j) _ _ (c .args .marks .now) (c .pre .0) (c .pre .2) (c .pre .3)
 
-mul-x : tie.Need-mul-x
-mul-x c = let h = low (c .before .before .before .before .before) in omega arith
-
-add-x : tie.Need-add-x
-add-x c = let h = low (c .before .before .before .before .before) in omega arith
-
 slice-read-v : tie.Need-slice-read-v
 slice-read-v c = let h = low (c .before .before .before .before .before .before) in omega arith
 
@@ -42,8 +36,7 @@ add-expand c =
 expand-requires : tie.Need-expand-requires
 expand-requires c κs =
     let start = c .before .before .before .before .before .before .before .before .before .before in
-    let a = start .args in
-    let f = start .pre .0 in
+    let a = start .args in let f = start .pre .0 in
     let e = kind-is (c .before) in
     let h = kind-low (a .lcodes .now) (a .rcodes .now) (a .i * length (a .rcodes .now) + a .j) in (
       (rw (f .marked) (f .paired), start .pre .3, omega (arith, start .pre .3, f .few-B), omega arith, omega arith),
@@ -67,5 +60,7 @@ returns c =
 pub visit-spec : {M : Type 1} → statement M
 visit-spec =
     tie.close (tie.spec
-    mul-x add-x slice-read-v (λ c. search needs) (λ c. search needs) (λ c. search needs) (λ c. search needs) (λ c κs. search needs) add-expand expand-requires
-    (λ c. search needs) slice-write-marks (λ c. search needs) returns)
+    (λ c. let h = low (c .before .before .before .before .before) in omega arith)
+    (λ c. let h = low (c .before .before .before .before .before) in omega arith) slice-read-v (λ c. search needs) (λ c. search needs)
+    (λ c. search needs) (λ c. search needs) (λ c κs. search needs) add-expand expand-requires (λ c. search needs) slice-write-marks
+    (λ c. search needs) returns)

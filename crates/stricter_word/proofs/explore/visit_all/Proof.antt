@@ -21,8 +21,7 @@ abbrev μ-loop : tie.MeasureT-loop
 
 loop-holds : tie.Need-loop-holds Inv-loop μ-loop
 loop-holds c =
-    let start = c .before .before .before .before .before .before .before in
-    let a = start .args in
+    let start = c .before .before .before .before .before .before .before in let a = start .args in
     let n = c .next-waiting .ensures in (
       n .within,
       (λ h. let w = n .found h in record { big = w .0; small = w .1 }),
@@ -46,22 +45,15 @@ ends : (c : tie.In-loop Inv-loop μ-loop) → c .before .loop .x / length (start
     (start-of-in-loop c .args .rcodes .now) ≤ length (start-of-in-loop c .args .marks .now)
 ends c = let a = start-of-in-loop c .args in row-end (length (a .lcodes .now)) (length (a .rcodes .now)) _ _ _ (a .marks .now) (start-of-in-loop c .pre) (numbers c .first) (numbers c .some)
 
-div-i : tie.Need-div-i Inv-loop μ-loop
-div-i c = omega (arith, numbers c .some)
-
 cut-row-requires : tie.Need-cut-row-requires Inv-loop μ-loop
 cut-row-requires c κs =
     let start = c .before .before .before .before .before .before .before .before .before in
     (start .pre .paired .ascend-A, omega (arith, numbers c .first, start .pre .few-A))
 
-rem-visit-row : tie.Need-rem-visit-row Inv-loop μ-loop
-rem-visit-row c = omega (arith, numbers (c .before .before) .some)
-
 visit-row-requires : tie.Need-visit-row-requires Inv-loop μ-loop
 visit-row-requires c κs =
     let start = c .before .before .before .before .before .before .before .before .before .before .before .before in
-    let a = start .args in
-    let l = c .before .before .before .before .loop in
+    let a = start .args in let l = c .before .before .before .before .loop in
     let n = numbers (c .before .before .before) in (
       fits-same (length (a .lcodes .now)) (length (a .rcodes .now)) _ _ (a .marks .now) (l .marks) (l .inv .2 .long) (start .pre),
       c .before .before .cut-row .ensures,
@@ -82,8 +74,7 @@ add-next-waiting c =
 
 next-waiting-requires-2 : tie.Need-next-waiting-requires-2 Inv-loop μ-loop
 next-waiting-requires-2 c κs =
-    let earlier = c .before .before .before .before .before .before .before in
-    let at-loop = earlier .before in
+    let earlier = c .before .before .before .before .before .before .before in let at-loop = earlier .before in
     let h = ends (earlier) in (omega (arith, c .before .before .before .visit-row .ensures .long, at-loop .loop .inv .2 .long), omega arith)
 
 loop-less : tie.Need-loop-less Inv-loop μ-loop
@@ -93,12 +84,9 @@ loop-less c =
 
 loop-again : tie.Need-loop-again Inv-loop μ-loop
 loop-again c =
-    let earlier = c .before .before .before .before .before .before .before .before in
-    let at-loop = earlier .before in
-    let start = at-loop .before .before .before .before .before .before .before .before in
-    let a = start .args in
-    let l = at-loop .loop in
-    let n = c .next-waiting2 .ensures in
+    let earlier = c .before .before .before .before .before .before .before .before in let at-loop = earlier .before in
+    let start = at-loop .before .before .before .before .before .before .before .before in let a = start .args in
+    let l = at-loop .loop in let n = c .next-waiting2 .ensures in
     let nb = length (a .rcodes .now) in
     let long : _ ≡ length (a .marks .now) = c .before .before .before .before .visit-row .ensures .long ∙ l .inv .2 .long in (
       omega (arith, n .within, long),
@@ -109,13 +97,13 @@ loop-again c =
 
 returns : tie.Need-returns Inv-loop μ-loop
 returns c =
-    let start = c .before .before .before .before .before .before .before .before .before in
-    let l = c .before .loop in
+    let start = c .before .before .before .before .before .before .before .before .before in let l = c .before .loop in
     let e : l .x ≡ length (start .args .marks .now) = omega (arith, l .inv .0, l .inv .2 .long, c .loop-test .left) in
     rw e at (l .inv .2)
 
 pub visit-all-spec : {M : Type 1} → statement M
 visit-all-spec =
     tie.close (tie.spec
-    Inv-loop μ-loop (λ c κs. search needs) loop-holds div-i cut-row-requires rem-visit-row visit-row-requires mul-next-waiting add-next-waiting
-    next-waiting-requires-2 loop-less loop-again (λ c. c .before .loop .inv .2 .long) returns)
+    Inv-loop μ-loop (λ c κs. search needs) loop-holds (λ c. omega (arith, numbers c .some)) cut-row-requires
+    (λ c. omega (arith, numbers (c .before .before) .some)) visit-row-requires mul-next-waiting add-next-waiting next-waiting-requires-2 loop-less
+    loop-again (λ c. c .before .loop .inv .2 .long) returns)

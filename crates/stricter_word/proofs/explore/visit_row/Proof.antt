@@ -45,10 +45,8 @@ loop-holds c =
 
 visit-requires : tie.Need-visit-requires Inv-loop μ-loop
 visit-requires c κs =
-    let start = c .before .before .before .before .before .before .before in
-    let a = start .args in
-    let p = start .pre in
-    let l = c .before .loop in
+    let start = c .before .before .before .before .before .before .before in let a = start .args in
+    let p = start .pre in let l = c .before .loop in
     (fits-same (length (a .lcodes .now)) (length (a .rcodes .now)) _ _ (a .marks .now) (l .marks) (l .inv .2 .1 .long) (p .0), p .1, p .2, l .inv .0, l .inv .1)
 
 add-next-waiting : tie.Need-add-next-waiting Inv-loop μ-loop
@@ -84,18 +82,11 @@ turn : (c : tie.After-next-waiting Inv-loop μ-loop) → Passed (PairStep (lengt
     (c .before .before .before .before .visit .last .1 .1 .1 .1 .1 .1 .1 .0) true
 turn c =
     let start = c .before .before .before .before .before .before .before .before .before .before .before .before in
-    let a = start .args in
-    let l = c .before .before .before .before .before .before .loop in
+    let a = start .args in let l = c .before .before .before .before .before .before .loop in
     let row = a .i * length (a .rcodes .now) in
     passed-turn (PairStep (length (a .rcodes .now)) (a .left .now) (a .right .now)) (kindIn (a .lcodes .now) (a .rcodes .now))
     (step-lettered _ _ _ _ (start .pre .0 .paired)) (kind-low _ _) (row + a .j) (row + l .k) (row + l .k + 1) _ (a .marks .now) (l .marks) _ (l .inv .2 .0)
     (l .inv .2 .1) (c .before .before .before .before .visit .ensures) (c .next-waiting .ensures .none)
-
-returns : tie.Need-returns Inv-loop μ-loop
-returns c = rw (c .if1 .taken) at (turn (c .before))
-
-sub-k : tie.Need-sub-k Inv-loop μ-loop
-sub-k c = omega (arith, c .before .next-waiting .ensures .ordered)
 
 loop-less : tie.Need-loop-less Inv-loop μ-loop
 loop-less c =
@@ -105,8 +96,7 @@ loop-less c =
 loop-again : tie.Need-loop-again Inv-loop μ-loop
 loop-again c =
     let start = c .before .before .before .before .before .before .before .before .before .before .before .before .before in
-    let a = start .args in
-    let n = c .before .next-waiting .ensures in
+    let a = start .args in let n = c .before .next-waiting .ensures in
     let w = n .found (omega (arith, n .within, c .if1 .left)) in
     let row = a .i * length (a .rcodes .now) in
     let e : row + (c .before .next-waiting .result - row) ≡ c .before .next-waiting .result = omega (arith, n .ordered) in
@@ -115,5 +105,5 @@ loop-again c =
 pub visit-row-spec : {M : Type 1} → statement M
 visit-row-spec =
     tie.close (tie.spec
-    Inv-loop μ-loop mul-row add-end loop-holds visit-requires add-next-waiting add-next-waiting-2 next-waiting-requires same-length returns sub-k loop-less
-    loop-again)
+    Inv-loop μ-loop mul-row add-end loop-holds visit-requires add-next-waiting add-next-waiting-2 next-waiting-requires same-length
+    (λ c. rw (c .if1 .taken) at (turn (c .before))) (λ c. omega (arith, c .before .next-waiting .ensures .ordered)) loop-less loop-again)

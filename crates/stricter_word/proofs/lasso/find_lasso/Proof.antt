@@ -17,10 +17,8 @@ use Rattle.stricter_word.proofs.lasso.find_lasso.Tie as tie
 write-between-requires : tie.Need-write-between-requires
 write-between-requires c κs =
     let at-find-turn = c .before .before .before .before in
-    let start = at-find-turn .before .before .before .before .before .before .before .before in
-    let a = start .args in
-    let p = start .pre in
-    let t = at-find-turn .find-turn .ensures in
+    let start = at-find-turn .before .before .before .before .before .before .before .before in let a = start .args in
+    let p = start .pre in let t = at-find-turn .find-turn .ensures in
     let ask = ask-there (PairStep (length (a .rcodes .now)) (a .left .now) (a .right .now)) (acceptsIn (a .lcodes .now) (a .rcodes .now) false) (acceptsIn (a .lcodes .now) (a .rcodes .now) true)
     (a .start) (at-find-turn .find-turn .result .u) (at-find-turn .find-turn .result .v) (a .marks .now) _ (t .1) (t .0) (p .4) in
     ((p .0, p .1, t .0 .long ∙ p .2, ask .0, omega (arith, t .0 .long, p .2, p .3)), ask .1)
@@ -28,10 +26,8 @@ write-between-requires c κs =
 write-between-requires-2 : tie.Need-write-between-requires-2
 write-between-requires-2 c κs =
     let at-find-turn = c .before .before .before .before .before .before .before .before .before .before .before in
-    let start = at-find-turn .before .before .before .before .before .before .before .before in
-    let a = start .args in
-    let p = start .pre in
-    let t = at-find-turn .find-turn .ensures in
+    let start = at-find-turn .before .before .before .before .before .before .before .before in let a = start .args in
+    let p = start .pre in let t = at-find-turn .find-turn .ensures in
     let w = c .before .before .before .before .before .before .write-between .ensures in
     let same = same-then (a .marks .now) _ _ (t .0) (w .same) in
     let long = route-length _ _ _ 0 (c .before .before .before .before .before .before .write-between .result) (a .word .now) _ (omega (arith, t .0 .long, p .2, p .3, w .short)) (w .written) in
@@ -43,8 +39,7 @@ add-write-between : tie.Need-add-write-between
 add-write-between c =
     let at-write-between = c .before .before .before .before .before .before .before .before .before .before .before .before in
     let at-find-turn = at-write-between .before .before .before .before .before in
-    let start = at-find-turn .before .before .before .before .before .before .before .before in
-    let p = start .pre in
+    let start = at-find-turn .before .before .before .before .before .before .before .before in let p = start .pre in
     let w = at-write-between .write-between .ensures in
     let few = mul-le-mul-right (length (start .args .rcodes .now)) (p .0 .few) in
     omega (arith, at-find-turn .find-turn .ensures .0 .long, p .2, p .1 .few, w .short, w .same .long, c .before .before .before .before .before .write-between2 .ensures .short)
@@ -53,10 +48,8 @@ write-between-requires-3 : tie.Need-write-between-requires-3
 write-between-requires-3 c κs =
     let at-write-between = c .before .before .before .before .before .before .before .before .before .before .before .before .before in
     let at-find-turn = at-write-between .before .before .before .before .before in
-    let start = at-find-turn .before .before .before .before .before .before .before .before in
-    let a = start .args in
-    let p = start .pre in
-    let t = at-find-turn .find-turn .ensures in
+    let start = at-find-turn .before .before .before .before .before .before .before .before in let a = start .args in
+    let p = start .pre in let t = at-find-turn .find-turn .ensures in
     let w = at-write-between .write-between .ensures in
     let o = c .before .before .before .before .before .before .write-between2 .ensures in
     let same = same-then (a .marks .now) _ _ (same-then (a .marks .now) _ _ (t .0) (w .same)) (o .same) in
@@ -72,10 +65,8 @@ add-t26 c =
     let at-write-between2 = c .before .before .before .before .before .before .before .before .before .before .before in
     let at-write-between = at-write-between2 .before .before .before .before .before .before .before in
     let at-find-turn = at-write-between .before .before .before .before .before in
-    let start = at-find-turn .before .before .before .before .before .before .before .before in
-    let p = start .pre in
-    let w = at-write-between .write-between .ensures in
-    let o = at-write-between2 .write-between2 .ensures in
+    let start = at-find-turn .before .before .before .before .before .before .before .before in let p = start .pre in
+    let w = at-write-between .write-between .ensures in let o = at-write-between2 .write-between2 .ensures in
     let few = mul-le-mul-right (length (start .args .rcodes .now)) (p .0 .few) in
     omega (arith, at-find-turn .find-turn .ensures .0 .long, p .2, p .1 .few, w .short, w .same .long, o .short, o .same .long, c .before .before .before .before .write-between3 .ensures .short)
 
@@ -84,12 +75,9 @@ returns c =
     let at-write-between2 = c .before .before .before .before .before .before .before .before .before .before .before in
     let at-write-between = at-write-between2 .before .before .before .before .before .before .before in
     let at-find-turn = at-write-between .before .before .before .before .before in
-    let start = at-find-turn .before .before .before .before .before .before .before .before in
-    let a = start .args in
-    let p = start .pre in
-    let t = at-find-turn .find-turn .ensures in
-    let w = at-write-between .write-between .ensures in
-    let o = at-write-between2 .write-between2 .ensures in
+    let start = at-find-turn .before .before .before .before .before .before .before .before in let a = start .args in
+    let p = start .pre in let t = at-find-turn .find-turn .ensures in
+    let w = at-write-between .write-between .ensures in let o = at-write-between2 .write-between2 .ensures in
     let b = c .before .before .before .before .write-between3 .ensures in
     let place = has-place (a .marks .now) (a .start) (p .4) in
     λ startA startB begins.

@@ -29,8 +29,7 @@ explore-requires c κs =
 lowest-requires : tie.Need-lowest-requires Inv-loop μ-loop
 lowest-requires c κs =
     let start = c .before .before .before .before .before .before .before .before .before .before in
-    let a = start .args in
-    let p = start .pre in
+    let a = start .args in let p = start .pre in
     let e = c .before .before .before .explore .ensures in (
       e .same .long ∙ p .2,
       meets-p (PairStep (length (a .rcodes .now)) (a .left .now) (a .right .now)) (kindIn (a .lcodes .now) (a .rcodes .now)) (acceptsIn (a .lcodes .now) (a .rcodes .now) false)
@@ -56,18 +55,14 @@ long c = c .loop .inv .same .long ∙ c .before .before .before .before .before 
 explore-requires-2 : tie.Need-explore-requires-2 Inv-loop μ-loop
 explore-requires-2 c κs =
     let start = c .before .before .before .before .before .before .before .before .before .before .before .before .before in
-    let a = start .args in
-    let p = start .pre in
-    let l = c .before .loop in
+    let a = start .args in let p = start .pre in let l = c .before .loop in
     (searchable-fits (a .lcodes .now) (a .left .now) (a .rcodes .now) (a .right .now) (l .marks) (p .0) (p .1) (long (c .before)), met-place (l .marks) (l .u) (l .inv .here))
 
 lowest-requires-2 : tie.Need-lowest-requires-2 Inv-loop μ-loop
 lowest-requires-2 c κs =
     let at-explore = c .before .before .before .before .before .before .before .before .before .before in
-    let start = at-explore .before .before .before .before .before .before .before in
-    let a = start .args in
-    let p = start .pre in
-    let l = c .before .before .before .before .before .loop in
+    let start = at-explore .before .before .before .before .before .before .before in let a = start .args in
+    let p = start .pre in let l = c .before .before .before .before .before .loop in
     let e = c .before .before .before .explore2 .ensures in
     let s = PairStep (length (a .rcodes .now)) (a .left .now) (a .right .now) in
     let one = acceptsIn (a .lcodes .now) (a .rcodes .now) false in
@@ -82,8 +77,7 @@ explore-requires-3 : tie.Need-explore-requires-3 Inv-loop μ-loop
 explore-requires-3 c κs =
     let earlier = c .before .before .before .before .before .before .before in
     let start = earlier .before .before .before .before .before .before .before .before .before .before .before .before in
-    let a = start .args in
-    let p = start .pre in
+    let a = start .args in let p = start .pre in
     let e = c .before .before .before .before .before .explore2 .ensures in (
       searchable-fits (a .lcodes .now) (a .left .now) (a .rcodes .now) (a .right .now) _ (p .0) (p .1) (e .same .long ∙ long (earlier)),
       met-place (c .before .before .before .before .before .explore2 .last .1 .1 .1 .1 .1 .0) (c .before .lowest2 .result) (c .before .lowest2 .ensures .0),
@@ -92,26 +86,22 @@ explore-requires-3 c κs =
 slice-read-if1 : tie.Need-slice-read-if1 Inv-loop μ-loop
 slice-read-if1 c =
     let at-explore2 = c .before .before .before .before .before .before .before .before .before in
-    let at-loop = at-explore2 .before .before in
-    let l = at-loop .loop in
+    let at-loop = at-explore2 .before .before in let l = at-loop .loop in
     let here = met-place (l .marks) (l .u) (l .inv .here) in
     omega (arith, c .before .before .before .explore3 .ensures .same .long, at-explore2 .explore2 .ensures .same .long)
 
 same-length : tie.Need-same-length Inv-loop μ-loop
 same-length c =
     let at-explore2 = c .before .before .before .before .before .before .before .before .before .before in
-    let at-loop = at-explore2 .before .before in
-    let at-explore = at-loop .before .before .before .before .before in
+    let at-loop = at-explore2 .before .before in let at-explore = at-loop .before .before .before .before .before in
     c .before .before .before .before .explore3 .ensures .same .long ∙ at-explore2 .explore2 .ensures .same .long ∙ at-loop .loop .inv .same .long ∙ at-explore .explore .ensures .same .long
 
 returns : tie.Need-returns Inv-loop μ-loop
 returns c =
     let at-lowest2 = c .before .before .before .before .before .before in
-    let at-explore2 = at-lowest2 .before .before .before .before in
-    let at-loop = at-explore2 .before .before in
+    let at-explore2 = at-lowest2 .before .before .before .before in let at-loop = at-explore2 .before .before in
     let at-explore = at-loop .before .before .before .before .before in
-    let start = at-explore .before .before .before .before .before .before .before in
-    let a = start .args in
+    let start = at-explore .before .before .before .before .before .before .before in let a = start .args in
     let l = at-loop .loop in
     let s = PairStep (length (a .rcodes .now)) (a .left .now) (a .right .now) in
     let one = acceptsIn (a .lcodes .now) (a .rcodes .now) false in
@@ -128,14 +118,10 @@ returns c =
 lowest-requires-3 : tie.Need-lowest-requires-3 Inv-loop μ-loop
 lowest-requires-3 c κs =
     let at-lowest2 = c .before .before .before .before .before .before .before in
-    let at-explore2 = at-lowest2 .before .before .before .before in
-    let at-loop = at-explore2 .before .before in
+    let at-explore2 = at-lowest2 .before .before .before .before in let at-loop = at-explore2 .before .before in
     let at-explore = at-loop .before .before .before .before .before in
-    let start = at-explore .before .before .before .before .before .before .before in
-    let a = start .args in
-    let p = start .pre in
-    let l = at-loop .loop in
-    let e = at-explore2 .explore2 .ensures in
+    let start = at-explore .before .before .before .before .before .before .before in let a = start .args in
+    let p = start .pre in let l = at-loop .loop in let e = at-explore2 .explore2 .ensures in
     let f = c .before .before .before .before .before .explore3 .ensures in
     let s = PairStep (length (a .rcodes .now)) (a .left .now) (a .right .now) in
     let one = acceptsIn (a .lcodes .now) (a .rcodes .now) false in
@@ -150,11 +136,9 @@ lowest-requires-3 c κs =
 loop-less : tie.Need-loop-less Inv-loop μ-loop
 loop-less c =
     let at-lowest2 = c .before .before .before .before .before .before .before .before in
-    let at-explore2 = at-lowest2 .before .before .before .before in
-    let at-loop = at-explore2 .before .before in
+    let at-explore2 = at-lowest2 .before .before .before .before in let at-loop = at-explore2 .before .before in
     let start = at-loop .before .before .before .before .before .before .before .before .before .before .before .before in
-    let a = start .args in
-    let l = at-loop .loop in
+    let a = start .args in let l = at-loop .loop in
     turn-fewer (PairStep (length (a .rcodes .now)) (a .left .now) (a .right .now)) (kindIn (a .lcodes .now) (a .rcodes .now)) (acceptsIn (a .lcodes .now) (a .rcodes .now) false)
     (acceptsIn (a .lcodes .now) (a .rcodes .now) true) (a .start)
     _ (l .marks) (l .u) (l .inv) _ (at-explore2 .explore2 .ensures) (at-lowest2 .lowest2 .result) (at-lowest2 .lowest2 .ensures .0) _
@@ -163,11 +147,9 @@ loop-less c =
 loop-again : tie.Need-loop-again Inv-loop μ-loop
 loop-again c =
     let at-lowest2 = c .before .before .before .before .before .before .before .before in
-    let at-explore2 = at-lowest2 .before .before .before .before in
-    let at-loop = at-explore2 .before .before in
+    let at-explore2 = at-lowest2 .before .before .before .before in let at-loop = at-explore2 .before .before in
     let start = at-loop .before .before .before .before .before .before .before .before .before .before .before .before in
-    let a = start .args in
-    let l = at-loop .loop in
+    let a = start .args in let l = at-loop .loop in
     turn-next (PairStep (length (a .rcodes .now)) (a .left .now) (a .right .now)) (kindIn (a .lcodes .now) (a .rcodes .now)) (acceptsIn (a .lcodes .now) (a .rcodes .now) false)
     (acceptsIn (a .lcodes .now) (a .rcodes .now) true) (a .start)
     _ (l .marks) (l .u) (l .inv) _ (at-explore2 .explore2 .ensures) (at-lowest2 .lowest2 .result) (at-lowest2 .lowest2 .ensures .0) _

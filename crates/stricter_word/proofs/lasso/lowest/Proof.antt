@@ -27,14 +27,12 @@ abbrev μ-loop : tie.MeasureT-loop
 
 loop-holds : tie.Need-loop-holds Inv-loop μ-loop
 loop-holds c =
-    let a = c .before .before .before .before .args in
-    let n = c .next-set .ensures in
+    let a = c .before .before .before .before .args in let n = c .next-set .ensures in
     (n .within, over-zeros (a .marks .now) (Lacks (a .lcodes .now) (a .rcodes .now) (a .second) (a .marks .now)) (λ y e l. absurd (omega arith)) 0 _ (n .before))
 
 returns : tie.Need-returns Inv-loop μ-loop
 returns c =
-    let start = c .before .before .before .before .before .before .before .before in
-    let a = start .args in
+    let start = c .before .before .before .before .before .before .before .before in let a = start .args in
     let x = c .before .before .before .loop .x in
     let e : ltb 1 (getD (a .marks .now) x 0) && acceptsIn (a .lcodes .now) (a .rcodes .now) (a .second) x ≡ true = sym (c .before .serves .ensures) ∙ c .if1 .taken in
     (ltb-true 1 _ (and-l _ _ e), and-r (ltb 1 (getD (a .marks .now) x 0)) _ e)
@@ -44,8 +42,7 @@ loop-less c = omega (arith, c .next-set2 .ensures .before .ordered, c .before .b
 
 loop-again : tie.Need-loop-again Inv-loop μ-loop
 loop-again c =
-    let start = c .before .before .before .before .before .before .before .before .before in
-    let a = start .args in
+    let start = c .before .before .before .before .before .before .before .before .before in let a = start .args in
     let l = c .before .before .before .before .loop in
     let n = c .next-set2 .ensures in (
       n .within,

@@ -10,9 +10,6 @@ use Rattle.stricter_laws.proofs.Parents.{parent-far}
 use Rattle.stricter_word.proofs.lasso.parent.Statement.{statement}
 use Rattle.stricter_word.proofs.lasso.parent.Tie as tie
 
-returns : tie.Need-returns
-returns c = record { near = λ l. refl; far = λ x a s e. absurd (omega arith) }
-
 -- the two numbers of y
 own : (c : tie.Start) → Parts (length (c .args .lcodes .now)) (length (c .args .rcodes .now)) (c .args .y)
 own c = parts _ _ (c .args .y) (c .pre .2)
@@ -37,8 +34,7 @@ add-result c =
 
 returns-2 : tie.Need-returns-2
 returns-2 c =
-    let start = c .before .before .before .before .before .before .before in
-    let a = start .args in
+    let start = c .before .before .before .before .before .before .before in let a = start .args in
     record {
       near = λ l. absurd (omega arith);
       far = parent-far (a .lcodes .now) (a .left .now) (a .rcodes .now) (a .right .now) _ (searchable-paired _ _ _ _ (start .pre .0) (start .pre .1)) (a .y) (a .v) _ _
@@ -48,4 +44,5 @@ returns-2 c =
 pub parent-spec : {M : Type 1} → statement M
 parent-spec =
     tie.close (tie.spec
-    returns (λ c. search needs) div-source-for (λ c κs. search needs) rem-source-for (λ c κs. search needs) mul-result add-result returns-2)
+    (λ c. record { near = λ l. refl; far = λ x a s e. absurd (omega arith) }) (λ c. search needs) div-source-for (λ c κs. search needs) rem-source-for
+    (λ c κs. search needs) mul-result add-result returns-2)

@@ -18,19 +18,15 @@ use Rattle.stricter_word.proofs.lasso.shared_word.Tie as tie
 
 write-round-requires : tie.Need-write-round-requires
 write-round-requires c κs =
-    let start = c .before .before .before .before .before .before .before .before in
-    let a = start .args in
+    let start = c .before .before .before .before .before .before .before .before in let a = start .args in
     let p = start .pre in
     (p .0, p .1, p .2, has-place (a .marks .now) (a .start) (p .4), omega (arith, p .2, p .3))
 
 returns : tie.Need-returns
 returns c =
     let start = c .before .before .before .before .before .before .before .before .before .before .before .before .before .before in
-    let a = start .args in
-    let p = start .pre in
-    let r = c .before .before .before .before .before .write-round in
-    let R = r .ensures in
-    let l = c .if1 .taken in
+    let a = start .args in let p = start .pre in let r = c .before .before .before .before .before .write-round in
+    let R = r .ensures in let l = c .if1 .taken in
     let s = PairStep (length (a .rcodes .now)) (a .left .now) (a .right .now) in
     let place = has-place (a .marks .now) (a .start) (p .4) in
     λ startA startB begins.
@@ -45,9 +41,7 @@ find-lasso-requires : tie.Need-find-lasso-requires
 find-lasso-requires c κs =
     let at-write-round = c .before .before .before .before .before .before .before in
     let start = at-write-round .before .before .before .before .before .before .before .before .before in
-    let a = start .args in
-    let p = start .pre in
-    let R = at-write-round .write-round .ensures in
+    let a = start .args in let p = start .pre in let R = at-write-round .write-round .ensures in
     let z : at-write-round .write-round .result ≡ 0 = omega (arith, c .before .before .if1 .left) in (
       p .0,
       p .1,

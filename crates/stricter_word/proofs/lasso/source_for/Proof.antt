@@ -20,22 +20,17 @@ Inv-loop codes moves letter target accepting k₀ k =
 abbrev μ-loop : tie.MeasureT-loop
 μ-loop codes moves letter target accepting k₀ k = length moves - k
 
-loop-holds : tie.Need-loop-holds Inv-loop μ-loop
-loop-holds c = (omega arith, λ p l e f g. omega arith)
-
 suits-requires : tie.Need-suits-requires Inv-loop μ-loop
 suits-requires c κs = c .before .before .before .before .before .pre .inside .sources _
     (mem-at (c .before .before .before .before .before .args .moves .now) (c .before .before .loop .k) (omega arith))
 
 returns : tie.Need-returns Inv-loop μ-loop
 returns c =
-    let start = c .before .before .before .before .before .before .before .before in
-    let a = start .args in
+    let start = c .before .before .before .before .before .before .before .before in let a = start .args in
     let k = c .before .before .before .before .before .loop .k in
     let u = getD (a .moves .now) k 0 in
     let m = mem-at (a .moves .now) k (omega arith) in
-    let s = c .before .before .suits .ensures in
-    let yes = c .before .if1 .taken in
+    let s = c .before .before .suits .ensures in let yes = c .before .if1 .taken in
     let e : c .source-of .result ≡ sourceOf u = c .source-of .ensures in
     record {
       low = omega (arith, start .pre .inside .sources u m, start .pre .few);
@@ -44,8 +39,7 @@ returns c =
 
 loop-again : tie.Need-loop-again Inv-loop μ-loop
 loop-again c =
-    let start = c .before .before .before .before .before .before .before in
-    let a = start .args in
+    let start = c .before .before .before .before .before .before .before in let a = start .args in
     let k = c .before .before .before .before .loop .k in (
       omega arith,
       λ p l e f g. by-cases (decLt p k) (λ h. c .before .before .before .before .loop .inv .1 p h e f g)
@@ -68,5 +62,5 @@ returns-2 c =
 pub source-for-spec : {M : Type 1} → statement M
 source-for-spec =
     tie.close (tie.spec
-    Inv-loop μ-loop loop-holds (λ c. search needs) (λ c. search needs) suits-requires (λ c κs. search needs) returns (λ c. search needs) (λ c. search needs)
-    loop-again returns-2)
+    Inv-loop μ-loop (λ c. (omega arith, λ p l e f g. omega arith)) (λ c. search needs) (λ c. search needs) suits-requires (λ c κs. search needs)
+    returns (λ c. search needs) (λ c. search needs) loop-again returns-2)

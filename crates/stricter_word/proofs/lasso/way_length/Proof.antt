@@ -31,12 +31,6 @@ low c =
     let h = back-met (PairStep (length (a .rcodes .now)) (a .left .now) (a .right .now)) (kindIn (a .lcodes .now) (a .rcodes .now)) (a .origin) (a .marks .now) (c .loop .inv .5) in
     has-place (a .marks .now) (c .loop .x) (omega arith)
 
-shared-slice-read-if1 : tie.Need-shared-slice-read-if1 Inv-loop μ-loop
-shared-slice-read-if1 c = low (c .before)
-
-shared-slice-read-parent : tie.Need-shared-slice-read-parent Inv-loop μ-loop
-shared-slice-read-parent c = low (c .before .before .before)
-
 parent-requires : tie.Need-parent-requires Inv-loop μ-loop
 parent-requires c κs =
     let start = c .before .before .before .before .before .before .before .before .before in
@@ -64,12 +58,6 @@ more c =
     (step-lettered _ _ _ _ (searchable-paired _ _ _ _ (start-of-after-parent c .pre .0 .0) (start-of-after-parent c .pre .0 .1))) (kind-low _ _) (a .origin) (a .marks .now) b in
     omega (arith, c .before .before .before .before .loop .inv .2, c .before .before .before .before .loop .inv .3)
 
-add-k : tie.Need-add-k Inv-loop μ-loop
-add-k c = let h = more c in omega arith
-
-loop-less : tie.Need-loop-less Inv-loop μ-loop
-loop-less c = let h = more c in omega arith
-
 loop-again : tie.Need-loop-again Inv-loop μ-loop
 loop-again c =
     let (e, f, b) = back c in (
@@ -83,8 +71,7 @@ loop-again c =
 
 returns : tie.Need-returns Inv-loop μ-loop
 returns c =
-    let start = c .before .before .before .before .before .before .before .before in
-    let a = start .args in
+    let start = c .before .before .before .before .before .before .before .before in let a = start .args in
     let i = c .before .before .loop .inv in
     let d = back-near (PairStep (length (a .rcodes .now)) (a .left .now) (a .right .now)) (kindIn (a .lcodes .now) (a .rcodes .now))
     (step-lettered _ _ _ _ (searchable-paired _ _ _ _ (start .pre .0 .0) (start .pre .0 .1))) (kind-low _ _) (a .origin) (a .marks .now) (i .5) (omega arith) in
@@ -94,4 +81,5 @@ returns c =
 pub way-length-spec : {M : Type 1} → statement M
 way-length-spec =
     tie.close (tie.spec
-    Inv-loop μ-loop loop-holds shared-slice-read-if1 shared-slice-read-parent parent-requires add-k loop-less loop-again returns)
+    Inv-loop μ-loop loop-holds (λ c. low (c .before)) (λ c. low (c .before .before .before)) parent-requires (λ c. let h = more c in omega arith)
+    (λ c. let h = more c in omega arith) loop-again returns)

@@ -15,16 +15,14 @@ use Rattle.stricter_word.proofs.lasso.write_between.Tie as tie
 
 explore-requires : tie.Need-explore-requires
 explore-requires c κs =
-    let start = c .before .before .before .before .before .before .before in
-    let a = start .args in
+    let start = c .before .before .before .before .before .before .before in let a = start .args in
     let p = start .pre .0 in
     (searchable-fits (a .lcodes .now) (a .left .now) (a .rcodes .now) (a .right .now) (a .marks .now) (p .0) (p .1) (p .2), p .3)
 
 way-length-requires : tie.Need-way-length-requires
 way-length-requires c κs =
     let start = c .before .before .before .before .before .before .before .before .before .before .before in
-    let a = start .args in
-    let p = start .pre .0 in
+    let a = start .args in let p = start .pre .0 in
     let e = c .before .before .before .explore .ensures in (
       (p .0, p .1, e .same .long ∙ p .2),
       e .back (a .to) (explored-meets (PairStep (length (a .rcodes .now)) (a .left .now) (a .right .now)) (kindIn (a .lcodes .now) (a .rcodes .now)) (a .from) (a .marks .now) _ e (start .pre .1)),
@@ -33,17 +31,14 @@ way-length-requires c κs =
 write-way-requires : tie.Need-write-way-requires
 write-way-requires c κs =
     let start = c .before .before .before .before .before .before .before .before .before .before .before .before .before .before in
-    let p = start .pre .0 in
-    let e = c .before .before .before .before .before .before .explore .ensures in
+    let p = start .pre .0 in let e = c .before .before .before .before .before .before .explore .ensures in
     ((p .0, p .1, e .same .long ∙ p .2, omega (arith, p .4, c .before .before .way-length .ensures .0, e .same .long)), c .before .before .way-length .ensures .1)
 
 returns : tie.Need-returns
 returns c =
     let at-explore = c .before .before .before .before .before .before .before .before .before in
-    let start = at-explore .before .before .before .before .before .before .before .before in
-    let a = start .args in
-    let p = start .pre .0 in
-    let e = at-explore .explore .ensures in
+    let start = at-explore .before .before .before .before .before .before .before .before in let a = start .args in
+    let p = start .pre .0 in let e = at-explore .explore .ensures in
     record {
       same = e .same;
       written = c .before .before .write-way .ensures;

@@ -20,16 +20,14 @@ use Rattle.stricter_word.proofs.lasso.write_round.Tie as tie
 
 explore-requires : tie.Need-explore-requires
 explore-requires c κs =
-    let start = c .before .before .before .before .before .before .before in
-    let a = start .args in
+    let start = c .before .before .before .before .before .before .before in let a = start .args in
     let p = start .pre in
     (searchable-fits (a .lcodes .now) (a .left .now) (a .rcodes .now) (a .right .now) (a .marks .now) (p .0) (p .1) (p .2), p .3)
 
 serves-requires : tie.Need-serves-requires
 serves-requires c κs =
     let start = c .before .before .before .before .before .before .before .before .before .before .before in
-    let p = start .pre in
-    let e = c .before .before .before .explore .ensures in
+    let p = start .pre in let e = c .before .before .before .explore .ensures in
     (e .same .long ∙ p .2, omega (arith, p .3, e .same .long))
 
 returns : tie.Need-returns
@@ -44,15 +42,13 @@ returns c =
 serves-requires-2 : tie.Need-serves-requires-2
 serves-requires-2 c κs =
     let start = c .before .before .before .before .before .before .before .before .before .before .before .before .before .before in
-    let p = start .pre in
-    let e = c .before .before .before .before .before .before .explore .ensures in
+    let p = start .pre in let e = c .before .before .before .before .before .before .explore .ensures in
     (e .same .long ∙ p .2, omega (arith, p .3, e .same .long))
 
 returns-2 : tie.Need-returns-2
 returns-2 c =
     let at-explore = c .before .before .before .before .before .before .before .before in
-    let start = at-explore .before .before .before .before .before .before .before .before in
-    let a = start .args in
+    let start = at-explore .before .before .before .before .before .before .before .before in let a = start .args in
     let s = PairStep (length (a .rcodes .now)) (a .left .now) (a .right .now) in
     let one = acceptsIn (a .lcodes .now) (a .rcodes .now) false in
     let two = acceptsIn (a .lcodes .now) (a .rcodes .now) true in
@@ -68,11 +64,8 @@ passed-by v b r e t = and-r (ltb 1 v) b (sym e ∙ t)
 way-length-requires : tie.Need-way-length-requires
 way-length-requires c κs =
     let at-explore = c .before .before .before .before .before .before .before .before .before in
-    let start = at-explore .before .before .before .before .before .before .before .before in
-    let a = start .args in
-    let p = start .pre in
-    let x = at-explore .explore in
-    let e = x .ensures in
+    let start = at-explore .before .before .before .before .before .before .before .before in let a = start .args in
+    let p = start .pre in let x = at-explore .explore in let e = x .ensures in
     let s = PairStep (length (a .rcodes .now)) (a .left .now) (a .right .now) in
     let one = acceptsIn (a .lcodes .now) (a .rcodes .now) false in
     let two = acceptsIn (a .lcodes .now) (a .rcodes .now) true in (
@@ -84,23 +77,17 @@ way-length-requires c κs =
 write-way-requires : tie.Need-write-way-requires
 write-way-requires c κs =
     let at-explore = c .before .before .before .before .before .before .before .before .before .before .before .before in
-    let start = at-explore .before .before .before .before .before .before .before .before in
-    let p = start .pre in
-    let e = at-explore .explore .ensures in
-    let w = c .before .before .way-length .ensures in
+    let start = at-explore .before .before .before .before .before .before .before .before in let p = start .pre in
+    let e = at-explore .explore .ensures in let w = c .before .before .way-length .ensures in
     ((p .0, p .1, e .same .long ∙ p .2, omega (arith, p .4, w .0, e .same .long)), w .1)
 
 returns-3 : tie.Need-returns-3
 returns-3 c =
-    let at-if2 = c .before .before .before .before .before .before .before in
-    let at-serves2 = at-if2 .before in
-    let at-if1 = at-serves2 .before .before in
-    let at-serves = at-if1 .before in
+    let at-if2 = c .before .before .before .before .before .before .before in let at-serves2 = at-if2 .before in
+    let at-if1 = at-serves2 .before .before in let at-serves = at-if1 .before in
     let at-explore = at-serves .before .before .before .before in
-    let start = at-explore .before .before .before .before .before .before .before .before in
-    let a = start .args in
-    let x = at-explore .explore in
-    let e = x .ensures in
+    let start = at-explore .before .before .before .before .before .before .before .before in let a = start .args in
+    let x = at-explore .explore in let e = x .ensures in
     let w = c .before .before .before .before .before .way-length .ensures in
     let s = PairStep (length (a .rcodes .now)) (a .left .now) (a .right .now) in
     let one = acceptsIn (a .lcodes .now) (a .rcodes .now) false in

@@ -51,9 +51,6 @@ low c =
     let h = back-met (PairStep (length (a .rcodes .now)) (a .left .now) (a .right .now)) (kindIn (a .lcodes .now) (a .rcodes .now)) (a .origin) (a .marks .now) (met c) in
     has-place (a .marks .now) (c .before .loop .x) (omega arith)
 
-shared-slice-read-v : tie.Need-shared-slice-read-v Inv-loop μ-loop
-shared-slice-read-v c = low (c .before)
-
 add-word : tie.Need-add-word Inv-loop μ-loop
 add-word c =
     let start = c .before .before .before .before .before .before .before .before .before in
@@ -72,8 +69,7 @@ parent-requires c κs =
 loop-again : tie.Need-loop-again Inv-loop μ-loop
 loop-again c =
     let start = c .before .before .before .before .before .before .before .before .before .before in
-    let a = start .args in
-    let l = c .before .before .before .loop in
+    let a = start .args in let l = c .before .before .before .loop in
     let s = PairStep (length (a .rcodes .now)) (a .left .now) (a .right .now) in
     let e : l .k ≡ (l .k - 1) + 1 = omega arith in
     let b = back-parent s (kindIn (a .lcodes .now) (a .rcodes .now))
@@ -88,8 +84,7 @@ loop-again c =
 
 returns : tie.Need-returns Inv-loop μ-loop
 returns c =
-    let start = c .before .before .before .before .before .before .before .before in
-    let a = start .args in
+    let start = c .before .before .before .before .before .before .before .before in let a = start .args in
     let l = c .before .loop in
     let s = PairStep (length (a .rcodes .now)) (a .left .now) (a .right .now) in
     let none : l .k ≡ 0 = omega arith in
@@ -101,5 +96,5 @@ returns c =
 pub write-way-spec : {M : Type 1} → statement M
 write-way-spec =
     tie.close (tie.spec
-    Inv-loop μ-loop loop-holds (λ c. search needs) shared-slice-read-v add-word slice-write-word parent-requires (λ c. search needs) loop-again
+    Inv-loop μ-loop loop-holds (λ c. search needs) (λ c. low (c .before)) add-word slice-write-word parent-requires (λ c. search needs) loop-again
     (λ c. c .before .loop .inv .1) returns)

@@ -9,11 +9,7 @@ use Rattle.stricter_word.proofs.rows.cut_row.Tie as tie
 all-bits : (c : tie.After-shared-slice-known) → lowParts 18446744073709551616 (c .before .args .moves .now) ≡ c .before .args .moves .now
 all-bits c = low-same 18446744073709551616 (omega arith) (c .before .args .moves .now) (λ i l. omega (arith, c .shared-slice-known .given i))
 
-cut-low-requires : tie.Need-cut-low-requires
-cut-low-requires c κs = ((64, refl), rw (all-bits c) (c .before .pre .0), c .before .pre .1)
-
-returns : tie.Need-returns
-returns c = rw (all-bits (c .before)) at (c .cut-low .ensures)
-
 pub cut-row-spec : {M : Type 1} → statement M
-cut-row-spec = tie.close (tie.spec cut-low-requires returns)
+cut-row-spec =
+    tie.close (tie.spec
+    (λ c κs. ((64, refl), rw (all-bits c) (c .before .pre .0), c .before .pre .1)) (λ c. rw (all-bits (c .before)) at (c .cut-low .ensures)))

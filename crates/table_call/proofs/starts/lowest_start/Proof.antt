@@ -24,12 +24,6 @@ Inv-loop codes codebytes initial marks n m₀ m = (m ≤ length (inBoth codes co
 abbrev μ-loop : tie.MeasureT-loop
 μ-loop codes codebytes initial marks n m₀ m = length (inBoth codes codebytes .numbers) - m
 
-loop-holds : tie.Need-loop-holds Inv-loop μ-loop
-loop-holds c = (omega arith, λ l k. absurd (omega arith))
-
-element-requires : tie.Need-element-requires Inv-loop μ-loop
-element-requires c κs = omega (arith, c .before .before .count .ensures)
-
 shared-slice-read-is-start : tie.Need-shared-slice-read-is-start Inv-loop μ-loop
 shared-slice-read-is-start c =
     let start = c .before .before .before .before .before .before .before .before in
@@ -64,13 +58,13 @@ loop-again c =
 
 returns-2 : tie.Need-returns-2 Inv-loop μ-loop
 returns-2 c =
-    let l = c .before .loop in
-    let e = c .before .before .count .ensures in
+    let l = c .before .loop in let e = c .before .before .count .ensures in
     let m : l .m ≡ c .before .before .count .result = omega (arith, l .inv .0) in
     rw (sym m) (record { most = l .inv .0; none = l .inv .1; found = λ k. absurd (omega arith) })
 
 pub lowest-start-spec : {M : Type 1} → statement M
 lowest-start-spec =
     tie.close (tie.spec
-    Inv-loop μ-loop (λ c κs. search needs) loop-holds element-requires shared-slice-read-is-start is-start-requires returns (λ c. search needs) loop-less
+    Inv-loop μ-loop (λ c κs. search needs) (λ c. (omega arith, λ l k. absurd (omega arith)))
+    (λ c κs. omega (arith, c .before .before .count .ensures)) shared-slice-read-is-start is-start-requires returns (λ c. search needs) loop-less
     loop-again returns-2)

@@ -13,8 +13,7 @@ use Rattle.table_call.proofs.starts.search.Tie as tie
 lowest-start-requires : tie.Need-lowest-start-requires
 lowest-start-requires c κs =
     let start = c .before .before .before .before .before .before .before .before .before .before .before .before in
-    let a = start .args in
-    let p = start .pre in
+    let a = start .args in let p = start .pre in
     let n = length (inBoth (a .codes .now) (a .codebytes .now) .numbers) in (
       p .0,
       omega (

@@ -29,22 +29,19 @@ prune-place-requires c κs =
     let v = c .before .before .before .loop .inv in
     (fits-long _ _ _ _ _ (v .1 .long) (start .pre .0), v .2, rw (c .before .place-before .ensures) (before-low _ _ (v .0)))
 
-waiting-after-requires : tie.Need-waiting-after-requires Inv-loop μ-loop
-waiting-after-requires c κs = c .before .before .before .before .before .loop-test .taken
-
 loop-less : tie.Need-loop-less Inv-loop μ-loop
 loop-less c = prune-less _ _ _ _ _ _ (c .before .before .before .prune-place .ensures)
     (rw (c .waiting-after .ensures) (left-after _ _ (c .before .before .before .before .before .before .loop-test .taken)))
 
 loop-again : tie.Need-loop-again Inv-loop μ-loop
 loop-again c =
-    let at-loop = c .before .before .before .before .before .before .before in
-    let v = at-loop .loop .inv in
+    let at-loop = c .before .before .before .before .before .before .before in let v = at-loop .loop .inv in
     let e = c .before .before .before .prune-place .ensures in
     (rw (c .before .before .before .before .before .place-before .ensures) (before-low _ _ (v .0)), pruned-then _ _ _ _ (v .1) (e .pruned), e .even)
 
 pub prune-spec : {M : Type 1} → statement M
 prune-spec =
     tie.close (tie.spec
-    Inv-loop μ-loop loop-holds (λ c κs. c .before .loop .inv .0) prune-place-requires waiting-after-requires loop-less loop-again
-    (λ c. c .before .loop .inv .1 .long) (λ c. c .before .loop .inv .1))
+    Inv-loop μ-loop loop-holds (λ c κs. c .before .loop .inv .0) prune-place-requires
+    (λ c κs. c .before .before .before .before .before .loop-test .taken) loop-less loop-again (λ c. c .before .loop .inv .1 .long)
+    (λ c. c .before .loop .inv .1))

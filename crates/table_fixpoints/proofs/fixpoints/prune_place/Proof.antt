@@ -23,15 +23,6 @@ room c =
     let pre = start-of-after-settle-arg c .pre in
     omega (arith, place-room (a .n) (a .p) (length (a .cycle .now)) (pre .2), pre .0 .marked)
 
-mul-settle : tie.Need-mul-settle
-mul-settle c = omega (arith, room c)
-
-mul-settle-2 : tie.Need-mul-settle-2
-mul-settle-2 c = omega (arith, room c)
-
-add-settle : tie.Need-add-settle
-add-settle c = omega (arith, room c)
-
 settle-requires : tie.Need-settle-requires
 settle-requires c κs =
     let long = at-long _ _ _ _ _ _ (c .before .before .before .mark-place .ensures .0) in
@@ -40,12 +31,14 @@ settle-requires c κs =
 returns : tie.Need-returns
 returns c =
     let start = c .before .before .before .before .before .before .before .before .before .before .before .before in
-    let a = start .args in
-    let pre = start .pre in
+    let a = start .args in let pre = start .pre in
     let ts = inBoth (a .moves .now) (a .movebytes .now) .numbers in
     let mid : c .before .before .before .before .before .before .mark-place .last .1 .1 .1 .1 .1 .0 ≡ markedAt (a .n) (a .cycle .now) ts (a .p) (a .marks .now) =
     c .before .before .before .before .before .before .mark-place .ensures .0 in
     prune-at (a .n) (a .cycle .now) ts (a .marks .now) _ (a .p) _ (pre .0) (pre .1) (pre .2) (rw mid at (c .before .before .settle .ensures))
 
 pub prune-place-spec : {M : Type 1} → statement M
-prune-place-spec = tie.close (tie.spec (λ c κs. search needs) mul-settle mul-settle-2 add-settle settle-requires (λ c. search needs) returns)
+prune-place-spec =
+    tie.close (tie.spec
+    (λ c κs. search needs) (λ c. omega (arith, room c)) (λ c. omega (arith, room c)) (λ c. omega (arith, room c)) settle-requires (λ c. search needs)
+    returns)

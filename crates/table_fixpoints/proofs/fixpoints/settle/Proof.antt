@@ -18,18 +18,10 @@ Inv-loop marks₀ from to changed₀ i₀ marks changed i = (from ≤ i) × (i �
 abbrev μ-loop : tie.MeasureT-loop
 μ-loop marks₀ from to changed₀ i₀ marks changed i = to - i
 
-loop-holds : tie.Need-loop-holds Inv-loop μ-loop
-loop-holds c = (omega arith, omega arith, settling-start _ _)
-
-slice-read-v : tie.Need-slice-read-v Inv-loop μ-loop
-slice-read-v c = omega (arith, c .before .before .loop .inv .2 .long)
-
 loop-again : tie.Need-loop-again Inv-loop μ-loop
 loop-again c =
-    let start = c .before .before .before .before .before .before .before in
-    let a = start .args in
-    let l = c .before .before .before .before .before .loop in
-    let s = l .inv .2 in
+    let start = c .before .before .before .before .before .before .before in let a = start .args in
+    let l = c .before .before .before .before .before .loop in let s = l .inv .2 in
     let v = getD (l .marks) (l .i) 0 in
     let told : goesOut v ≡ true = sym (c .before .goes-out .ensures) ∙ c .if1 .taken in
     let mark : c .before .before .settled-mark .result ≡ settled v = c .before .before .settled-mark .ensures in (
@@ -40,10 +32,8 @@ loop-again c =
 
 loop-again-2 : tie.Need-loop-again-2 Inv-loop μ-loop
 loop-again-2 c =
-    let start = c .before .before .before .before .before .before .before in
-    let a = start .args in
-    let l = c .before .before .before .before .before .loop in
-    let s = l .inv .2 in
+    let start = c .before .before .before .before .before .before .before in let a = start .args in
+    let l = c .before .before .before .before .before .loop in let s = l .inv .2 in
     let v = getD (l .marks) (l .i) 0 in
     let told : goesOut v ≡ false = sym (c .before .goes-out .ensures) ∙ c .if1 .left in
     let mark : c .before .before .settled-mark .result ≡ settled v = c .before .before .settled-mark .ensures in (
@@ -54,13 +44,13 @@ loop-again-2 c =
 
 returns : tie.Need-returns Inv-loop μ-loop
 returns c =
-    let a = c .before .before .before .args in
-    let l = c .before .loop in
+    let a = c .before .before .before .args in let l = c .before .loop in
     let e : l .i ≡ a .to = omega arith in
     rw e at (l .inv .2)
 
 pub settle-spec : {M : Type 1} → statement M
 settle-spec =
     tie.close (tie.spec
-    Inv-loop μ-loop loop-holds slice-read-v (λ c κs. search needs) (λ c. omega arith) (λ c. omega arith) (λ c κs. search needs) (λ c. omega arith) loop-again
-    (λ c. omega arith) loop-again-2 (λ c. c .before .loop .inv .2 .long) returns)
+    Inv-loop μ-loop (λ c. (omega arith, omega arith, settling-start _ _)) (λ c. omega (arith, c .before .before .loop .inv .2 .long))
+    (λ c κs. search needs) (λ c. omega arith) (λ c. omega arith) (λ c κs. search needs) (λ c. omega arith) loop-again (λ c. omega arith) loop-again-2
+    (λ c. c .before .loop .inv .2 .long) returns)

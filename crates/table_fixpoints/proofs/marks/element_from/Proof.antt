@@ -7,8 +7,7 @@ use Rattle.table_fixpoints.proofs.marks.element_from.Tie as tie
 
 returns : tie.Need-returns
 returns c =
-    let a = c .before .before .before .before .args in
-    let pre = c .before .before .before .before .pre in
+    let a = c .before .before .before .before .args in let pre = c .before .before .before .before .pre in
     from-end (a .back) (inBoth (a .moves .now) (a .movebytes .now) .numbers) (a .m) (a .i) _ (pre .0) (pre .1) (c .before .if1 .taken) (c .element .ensures)
 
 returns-2 : tie.Need-returns-2

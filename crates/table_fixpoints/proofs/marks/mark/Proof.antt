@@ -18,8 +18,7 @@ returns-3 c = let a = c .before .before .before .before .before .args in mark-no
 
 returns-4 : tie.Need-returns-4
 returns-4 c =
-    let a = c .before .before .before .before .before .args in
-    let ms = a .marks .now in
+    let a = c .before .before .before .before .before .args in let ms = a .marks .now in
     let known : 1 < getD ms (a .y) 0 = omega arith in
     let member : 0 < getD ms (a .x) 0 = omega arith in
     let free : getD ms (a .x) 0 < 3 = omega arith in

@@ -21,16 +21,9 @@ Inv-loop moves movebytes back letter marks₀ here there m changed₀ i₀ marks
 abbrev μ-loop : tie.MeasureT-loop
 μ-loop moves movebytes back letter marks₀ here there m changed₀ i₀ marks changed i = m - i
 
-loop-holds : tie.Need-loop-holds Inv-loop μ-loop
-loop-holds c = (omega arith, passed-none (pass-over _ _ _) _ _)
-
-element-from-requires : tie.Need-element-from-requires Inv-loop μ-loop
-element-from-requires c κs = (c .before .before .count .ensures, omega arith)
-
 mark-over-requires : tie.Need-mark-over-requires Inv-loop μ-loop
 mark-over-requires c κs =
-    let start = c .before .before .before .before .before .before .before .before in
-    let a = start .args in
+    let start = c .before .before .before .before .before .before .before .before in let a = start .args in
     let l = c .before .before .before .loop in
     let ts = inBoth (a .moves .now) (a .movebytes .now) .numbers in
     let us = ordered (a .back) ts in
@@ -43,9 +36,7 @@ mark-over-requires c κs =
 loop-again : tie.Need-loop-again Inv-loop μ-loop
 loop-again c =
     let at-loop = c .before .before .before .before .before .before .before in
-    let start = at-loop .before .before .before .before .before in
-    let a = start .args in
-    let l = at-loop .loop in
+    let start = at-loop .before .before .before .before .before in let a = start .args in let l = at-loop .loop in
     let o = c .before .before .before .mark-over .ensures in
     let long = ordered-long (a .back) (inBoth (a .moves .now) (a .movebytes .now) .numbers) in (
       omega arith,
@@ -56,9 +47,7 @@ loop-again c =
 loop-again-2 : tie.Need-loop-again-2 Inv-loop μ-loop
 loop-again-2 c =
     let at-loop = c .before .before .before .before .before .before .before in
-    let start = at-loop .before .before .before .before .before in
-    let a = start .args in
-    let l = at-loop .loop in
+    let start = at-loop .before .before .before .before .before in let a = start .args in let l = at-loop .loop in
     let o = c .before .before .before .mark-over .ensures in
     let long = ordered-long (a .back) (inBoth (a .moves .now) (a .movebytes .now) .numbers) in (
       omega arith,
@@ -68,8 +57,7 @@ loop-again-2 c =
 
 returns : tie.Need-returns Inv-loop μ-loop
 returns c =
-    let a = c .before .before .before .before .before .before .args in
-    let l = c .before .loop in
+    let a = c .before .before .before .before .before .before .args in let l = c .before .loop in
     let ts = inBoth (a .moves .now) (a .movebytes .now) .numbers in
     let long = ordered-long (a .back) ts in
     passed-all (pass-over (a .letter) (a .here) (a .there)) (ordered (a .back) ts) (a .marks .now) (l .marks) (l .changed) (l .i) (omega arith) (l .inv .1)
@@ -77,5 +65,6 @@ returns c =
 pub mark-all-spec : {M : Type 1} → statement M
 mark-all-spec =
     tie.close (tie.spec
-    Inv-loop μ-loop (λ c κs. search needs) loop-holds element-from-requires (λ c. omega arith) mark-over-requires (λ c. omega arith) loop-again
-    (λ c. omega arith) loop-again-2 (λ c. c .before .loop .inv .1 .long) returns)
+    Inv-loop μ-loop (λ c κs. search needs) (λ c. (omega arith, passed-none (pass-over _ _ _) _ _))
+    (λ c κs. (c .before .before .count .ensures, omega arith)) (λ c. omega arith) mark-over-requires (λ c. omega arith) loop-again (λ c. omega arith)
+    loop-again-2 (λ c. c .before .loop .inv .1 .long) returns)

@@ -15,8 +15,7 @@ returns c =
 
 returns-2 : tie.Need-returns-2
 returns-2 c =
-    let start = c .before .before .before .before .before .before .before .before .before in
-    let a = start .args in
+    let start = c .before .before .before .before .before .before .before .before .before in let a = start .args in
     let e = c .before .before .mark .ensures in
     let source : c .before .before .before .before .source-of .result ≡ sourceOf (a .t) = c .before .before .before .before .source-of .ensures in
     let target : c .before .before .before .target-of .result ≡ targetOf (a .t) = c .before .before .before .target-of .ensures in

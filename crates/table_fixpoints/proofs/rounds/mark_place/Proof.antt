@@ -15,14 +15,12 @@ use Rattle.table_fixpoints.proofs.rounds.mark_place.Tie as tie
 
 mul-here : tie.Need-mul-here
 mul-here c =
-    let a = c .before .before .before .before .args in
-    let pre = c .before .before .before .before .pre in
+    let a = c .before .before .before .before .args in let pre = c .before .before .before .before .pre in
     omega (arith, place-room (a .n) (a .p) (length (a .cycle .now)) (pre .1), pre .0 .marked)
 
 add-there : tie.Need-add-there
 add-there c =
-    let a = c .before .before .before .before .args in
-    let pre = c .before .before .before .before .pre in
+    let a = c .before .before .before .before .args in let pre = c .before .before .before .before .pre in
     omega (arith, place-room (a .n) (a .p) (length (a .cycle .now)) (pre .1), pre .0 .marked)
 
 cast-mark-all : tie.Need-cast-mark-all
@@ -40,8 +38,7 @@ follows c =
 
 mark-all-requires : tie.Need-mark-all-requires
 mark-all-requires c κs =
-    let start = c .before .before .before .before .before .before .before in
-    let a = start .args in
+    let start = c .before .before .before .before .before .before .before in let a = start .args in
     let pre = start .pre in
     λ t m. let q = ends-fit (a .n) (a .cycle .now) (inBoth (a .moves .now) (a .movebytes .now) .numbers) (a .marks .now) (a .p) (pre .0) (pre .1) t m in
     (q .0, rw (follows (c .before .before)) (q .1))

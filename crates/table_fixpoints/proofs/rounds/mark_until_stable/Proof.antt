@@ -25,9 +25,6 @@ mark-place-requires c κs =
     let v = c .before .before .before .loop .inv in
     (fits-long _ _ _ _ _ (v .marking .long) (start .pre .0), rw (c .before .place-before .ensures) (before-low _ _ (v .inside)))
 
-waiting-after-requires : tie.Need-waiting-after-requires Inv-loop μ-loop
-waiting-after-requires c κs = c .before .before .before .before .before .loop-test .taken
-
 -- how many places wait then
 left : (c : tie.After-waiting-after Inv-loop μ-loop) → Left (c .before .before .before .mark-place .result) (c .before .before .before .before .before .before .before .loop .waiting)
     (c .waiting-after .result)
@@ -41,8 +38,7 @@ swept : (c : tie.After-waiting-after Inv-loop μ-loop) → Around (start-of-afte
     (inBoth (start-of-after-waiting-after c .args .moves .now) (start-of-after-waiting-after c .args .movebytes .now) .numbers) (start-of-after-waiting-after c .args .marks .now)
     (c .before .before .before .mark-place .last .1 .1 .1 .1 .1 .0) (c .before .before .before .before .before .place-before .result) (c .waiting-after .result)
 swept c =
-    let at-loop = c .before .before .before .before .before .before .before in
-    let l = at-loop .loop in
+    let at-loop = c .before .before .before .before .before .before .before in let l = at-loop .loop in
     let m = c .before .before .before .mark-place .ensures in
     around-next _ _ _ _ (l .marks) _ (l .back) _ (l .p) _ (l .waiting) _ (fits-long _ _ _ _ _ (l .inv .marking .long) (start-of-after-waiting-after c .pre .0)) (l .inv)
     (c .before .before .before .before .before .place-before .ensures) (m .0) (m .1) (left c)
@@ -50,13 +46,9 @@ swept c =
 loop-less : tie.Need-loop-less Inv-loop μ-loop
 loop-less c =
     let at-loop = c .before .before .before .before .before .before .before in
-    let start = at-loop .before .before .before .before .before in
-    let l = at-loop .loop in
+    let start = at-loop .before .before .before .before .before in let l = at-loop .loop in
     let m = c .before .before .before .mark-place .ensures in
     around-less _ _ _ _ (l .marks) _ (l .back) _ _ _ (l .waiting) _ (start .pre .1) (swept c) (m .0) (m .1) (left c)
-
-loop-again : tie.Need-loop-again Inv-loop μ-loop
-loop-again c = swept c
 
 returns : tie.Need-returns Inv-loop μ-loop
 returns c =
@@ -67,5 +59,5 @@ returns c =
 pub mark-until-stable-spec : {M : Type 1} → statement M
 mark-until-stable-spec =
     tie.close (tie.spec
-    Inv-loop μ-loop loop-holds (λ c κs. c .before .loop .inv .inside) mark-place-requires waiting-after-requires loop-less loop-again
-    (λ c. c .before .loop .inv .marking .long) returns)
+    Inv-loop μ-loop loop-holds (λ c κs. c .before .loop .inv .inside) mark-place-requires
+    (λ c κs. c .before .before .before .before .before .loop-test .taken) loop-less (λ c. swept c) (λ c. c .before .loop .inv .marking .long) returns)

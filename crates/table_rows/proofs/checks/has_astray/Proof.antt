@@ -18,8 +18,7 @@ abbrev μ-loop : tie.MeasureT-loop
 
 returns : tie.Need-returns Inv-loop μ-loop
 returns c =
-    let start = c .before .before .before .before .before .before .before .before in
-    let a = start .args in
+    let start = c .before .before .before .before .before .before .before .before in let a = start .args in
     let xs = inBoth (a .words .now) (a .bytes .now) .numbers in
     let l = c .before .before .before .before .loop in
     let f = isAstray (a .n) (a .s) in
@@ -27,8 +26,7 @@ returns c =
 
 loop-again : tie.Need-loop-again Inv-loop μ-loop
 loop-again c =
-    let start = c .before .before .before .before .before .before .before .before in
-    let a = start .args in
+    let start = c .before .before .before .before .before .before .before .before in let a = start .args in
     let xs = inBoth (a .words .now) (a .bytes .now) .numbers in
     let l = c .before .before .before .before .loop in
     let f = isAstray (a .n) (a .s) in

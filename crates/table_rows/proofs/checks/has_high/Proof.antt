@@ -19,21 +19,17 @@ abbrev μ-loop : tie.MeasureT-loop
 
 returns : tie.Need-returns Inv-loop μ-loop
 returns c =
-    let start = c .before .before .before .before .before .before .before in
-    let a = start .args in
+    let start = c .before .before .before .before .before .before .before in let a = start .args in
     let xs = inBoth (a .words .now) (a .bytes .now) .numbers in
-    let l = c .before .before .before .loop in
-    let x = c .before .element .result in
+    let l = c .before .before .before .loop in let x = c .before .element .result in
     let above : 2 ^ 48 ≤ x = omega arith in
     sym (l .inv ∙ any-stop isHigh xs (l .i) (omega arith) (ap isHigh (sym (c .before .element .ensures)) ∙ high x above))
 
 loop-again : tie.Need-loop-again Inv-loop μ-loop
 loop-again c =
-    let start = c .before .before .before .before .before .before .before in
-    let a = start .args in
+    let start = c .before .before .before .before .before .before .before in let a = start .args in
     let xs = inBoth (a .words .now) (a .bytes .now) .numbers in
-    let l = c .before .before .before .loop in
-    let x = c .before .element .result in
+    let l = c .before .before .before .loop in let x = c .before .element .result in
     let below : x < 2 ^ 48 = omega arith in
     l .inv ∙ any-next isHigh xs (l .i) (omega arith) (ap isHigh (sym (c .before .element .ensures)) ∙ not-high x below)
 

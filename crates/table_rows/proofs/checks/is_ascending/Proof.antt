@@ -34,8 +34,7 @@ loop-holds c =
 
 returns-2 : tie.Need-returns-2 Inv-loop μ-loop
 returns-2 c =
-    let start = c .before .before .before .before .before .before .before .before .before in
-    let a = start .args in
+    let start = c .before .before .before .before .before .before .before .before .before in let a = start .args in
     let l = c .before .before .before .loop in
     let xs = inBoth (a .words .now) (a .bytes .now) .numbers in
     let n = c .before .before .before .before .before .before .count .result in
@@ -43,19 +42,16 @@ returns-2 c =
 
 loop-again : tie.Need-loop-again Inv-loop μ-loop
 loop-again c =
-    let start = c .before .before .before .before .before .before .before .before .before in
-    let a = start .args in
+    let start = c .before .before .before .before .before .before .before .before .before in let a = start .args in
     let l = c .before .before .before .loop in
     let xs = inBoth (a .words .now) (a .bytes .now) .numbers in
-    let n = c .before .before .before .before .before .before .count .result in
-    let x = c .before .element2 .result in
+    let n = c .before .before .before .before .before .before .count .result in let x = c .before .element2 .result in
     let above : l .last < x = omega arith in
     (omega arith, rw (c .before .element2 .ensures) (ascends-on xs n (omega arith) (l .last) (l .i) (omega arith) (omega (arith, above)) (l .inv .1)))
 
 returns-3 : tie.Need-returns-3 Inv-loop μ-loop
 returns-3 c =
-    let start = c .before .before .before .before .before .before .before in
-    let a = start .args in
+    let start = c .before .before .before .before .before .before .before in let a = start .args in
     let l = c .before .loop in
     let xs = inBoth (a .words .now) (a .bytes .now) .numbers in
     let n = c .before .before .before .before .count .result in

@@ -23,8 +23,7 @@ returns c =
 
 returns-2 : tie.Need-returns-2
 returns-2 c =
-    let start = c .before .before .before .before .before .before .before .before in
-    let a = start .args in
+    let start = c .before .before .before .before .before .before .before .before in let a = start .args in
     let codes = inBoth (a .codes .now) (a .codebytes .now) .numbers in
     let transitions = inBoth (a .moves .now) (a .movebytes .now) .numbers in
     faulty (a .s) codes transitions (λ p. clash (p .codes-ascend) (sym (c .before .is-ascending .ensures) ∙ not-true _ (c .if2 .taken)))
@@ -48,8 +47,7 @@ returns-4 c =
 returns-5 : tie.Need-returns-5
 returns-5 c =
     let at-count = c .before .before .before .before .before .before .before .before in
-    let start = at-count .before .before .before .before .before in
-    let a = start .args in
+    let start = at-count .before .before .before .before .before in let a = start .args in
     let codes = inBoth (a .codes .now) (a .codebytes .now) .numbers in
     let transitions = inBoth (a .moves .now) (a .movebytes .now) .numbers in
     let few : length codes ≤ 65536 = omega arith in

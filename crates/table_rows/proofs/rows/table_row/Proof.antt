@@ -25,16 +25,14 @@ returns-2 c =
 
 returns-3 : tie.Need-returns-3
 returns-3 c =
-    let start = c .before .before .before .before .before .before .before .before in
-    let a = start .args in
+    let start = c .before .before .before .before .before .before .before .before in let a = start .args in
     let codes = inBoth (a .codes .now) (a .codebytes .now) in
     let transitions = inBoth (a .moves .now) (a .movebytes .now) in
     faulty-refused (a .s) codes transitions (c .before .is-faulty .ensures) (c .if3 .taken)
 
 returns-4 : tie.Need-returns-4
 returns-4 c =
-    let start = c .before .before .before .before .before .before .before .before in
-    let a = start .args in
+    let start = c .before .before .before .before .before .before .before .before in let a = start .args in
     let codes = inBoth (a .codes .now) (a .codebytes .now) in
     let transitions = inBoth (a .moves .now) (a .movebytes .now) in
     let codes-whole : length (a .codebytes .now) % 8 ≡ 0 = omega arith in

@@ -14,9 +14,6 @@ Inv-loop codes₀ i₀ codes i = (i ≤ length codes₀) × FlaggedTo codes₀ i
 abbrev μ-loop : tie.MeasureT-loop
 μ-loop codes₀ i₀ codes i = length codes₀ - i
 
-loop-holds : tie.Need-loop-holds Inv-loop μ-loop
-loop-holds c = (omega arith, none-flagged _ (c .before .pre))
-
 -- the slice keeps its length
 long : (c : tie.At-loop Inv-loop μ-loop) → length (c .loop .codes) ≡ length (c .before .before .args .codes .now)
 long c = c .loop .inv .1 .long
@@ -34,17 +31,10 @@ mul-codes : tie.Need-mul-codes Inv-loop μ-loop
 mul-codes c = scaled-fits _ (length (c .before .before .before .before .before .args .codes .now)) 8 (omega (arith, long (c .before .before .before)))
     (c .before .before .before .before .before .good .0 .1)
 
-loop-less : tie.Need-loop-less Inv-loop μ-loop
-loop-less c = omega (arith, long (c .before .before .before))
-
 loop-again : tie.Need-loop-again Inv-loop μ-loop
 loop-again c =
-    let a = c .before .before .before .before .before .args in
-    let l = c .before .before .before .loop in
+    let a = c .before .before .before .before .before .args in let l = c .before .before .before .loop in
     (omega (arith, long (c .before .before .before)), rw (c .flagged .ensures) (flag-next (a .codes .now) (c .before .before .before .before .before .pre) (l .i) (l .codes) (omega arith) (l .inv .1)))
-
-same-length : tie.Need-same-length Inv-loop μ-loop
-same-length c = long (c .before)
 
 returns : tie.Need-returns Inv-loop μ-loop
 returns c = let l = c .before .loop in all-flagged (c .before .before .before .args .codes .now) (c .before .before .before .pre) (l .i) (l .codes) (omega (arith, long (c .before))) (l .inv .1)
@@ -52,5 +42,5 @@ returns c = let l = c .before .loop in all-flagged (c .before .before .before .a
 pub flag-spec : {M : Type 1} → statement M
 flag-spec =
     tie.close (tie.spec
-    Inv-loop μ-loop loop-holds mul-flagged (λ c. omega arith) flagged-requires mul-codes (λ c. omega arith) (λ c. omega arith) loop-less loop-again same-length
-    returns)
+    Inv-loop μ-loop (λ c. (omega arith, none-flagged _ (c .before .pre))) mul-flagged (λ c. omega arith) flagged-requires mul-codes (λ c. omega arith)
+    (λ c. omega arith) (λ c. omega (arith, long (c .before .before .before))) loop-again (λ c. long (c .before)) returns)

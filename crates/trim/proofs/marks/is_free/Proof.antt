@@ -22,8 +22,5 @@ two v n =
     (λ l. rw (ne-eqb v 2 d, le-ltb 0 v (omega arith)))
     (λ l. rw (ne-eqb v 2 d, le-ltb v 3 (omega arith)) (sym (and-false (ltb 0 v)))))
 
-returns-2 : tie.Need-returns-2
-returns-2 c = two (c .before .args .v) (c .if1 .left)
-
 pub is-free-spec : {M : Type 1} → statement M
-is-free-spec = tie.close (tie.spec returns returns-2)
+is-free-spec = tie.close (tie.spec returns (λ c. two (c .before .args .v) (c .if1 .left)))

@@ -45,8 +45,7 @@ add-codes c =
 
 returns-3 : tie.Need-returns-3
 returns-3 c =
-    let a = c .before .before .before .before .before .before .args in
-    let xs = a .codes .now in
+    let a = c .before .before .before .before .before .before .args in let xs = a .codes .now in
     let ms = highs xs in
     let e = highs-at xs (a .x) in
     let f = highs-at xs (a .y) in

@@ -21,9 +21,6 @@ Inv-loop codes₀ changed₀ i₀ codes changed i =
 abbrev μ-loop : tie.MeasureT-loop
 μ-loop codes₀ changed₀ i₀ codes changed i = length codes₀ - i
 
-loop-holds : tie.Need-loop-holds Inv-loop μ-loop
-loop-holds c = (omega arith, refl, settling-start 0 _, refl)
-
 mul-c : tie.Need-mul-c Inv-loop μ-loop
 mul-c c = scaled-fits _ (length (c .before .before .before .args .codes .now)) 8 (omega (arith, c .before .loop .inv .1)) (c .before .before .before .good .0 .1)
 
@@ -31,13 +28,9 @@ mul-codes : tie.Need-mul-codes Inv-loop μ-loop
 mul-codes c = scaled-fits _ (length (c .before .before .before .before .before .args .codes .now)) 8 (omega (arith, c .before .before .before .loop .inv .1))
     (c .before .before .before .before .before .good .0 .1)
 
-loop-less : tie.Need-loop-less Inv-loop μ-loop
-loop-less c = omega (arith, c .before .before .before .before .before .loop .inv .1)
-
 loop-again : tie.Need-loop-again Inv-loop μ-loop
 loop-again c =
-    let start = c .before .before .before .before .before .before .before in
-    let a = start .args in
+    let start = c .before .before .before .before .before .before .before in let a = start .args in
     let l = c .before .before .before .before .before .loop in
     let e = highs-at (l .codes) (l .i) in
     let told : goesOut (getD (highs (l .codes)) (l .i) 0) ≡ true = ap goesOut e ∙ sym (c .before .goes-out .ensures) ∙ c .if1 .taken in
@@ -50,13 +43,9 @@ loop-again c =
       k .1 ∙ l .inv .3,
     )
 
-loop-less-2 : tie.Need-loop-less-2 Inv-loop μ-loop
-loop-less-2 c = omega (arith, c .before .before .before .before .before .loop .inv .1)
-
 loop-again-2 : tie.Need-loop-again-2 Inv-loop μ-loop
 loop-again-2 c =
-    let start = c .before .before .before .before .before .before .before in
-    let a = start .args in
+    let start = c .before .before .before .before .before .before .before in let a = start .args in
     let l = c .before .before .before .before .before .loop in
     let e = highs-at (l .codes) (l .i) in
     let told : goesOut (getD (highs (l .codes)) (l .i) 0) ≡ false = ap goesOut e ∙ sym (c .before .goes-out .ensures) ∙ c .if1 .left in
@@ -71,13 +60,13 @@ loop-again-2 c =
 
 returns : tie.Need-returns Inv-loop μ-loop
 returns c =
-    let a = c .before .before .before .args in
-    let l = c .before .loop in
+    let a = c .before .before .before .args in let l = c .before .loop in
     let e : l .i ≡ length (highs (a .codes .now)) = omega (arith, l .inv .1, highs-length (a .codes .now)) in
     (rw e at (l .inv .2), l .inv .3)
 
 pub settle-spec : {M : Type 1} → statement M
 settle-spec =
     tie.close (tie.spec
-    Inv-loop μ-loop loop-holds mul-c (λ c. omega arith) (λ c κs. search needs) mul-codes (λ c. omega arith) (λ c. omega arith) (λ c κs. search needs) loop-less
-    loop-again loop-less-2 loop-again-2 (λ c. c .before .loop .inv .1) returns)
+    Inv-loop μ-loop (λ c. (omega arith, refl, settling-start 0 _, refl)) mul-c (λ c. omega arith) (λ c κs. search needs) mul-codes (λ c. omega arith)
+    (λ c. omega arith) (λ c κs. search needs) (λ c. omega (arith, c .before .before .before .before .before .loop .inv .1)) loop-again
+    (λ c. omega (arith, c .before .before .before .before .before .loop .inv .1)) loop-again-2 (λ c. c .before .loop .inv .1) returns)

@@ -15,9 +15,6 @@ Inv-loop codes₀ transitions codes = (length codes ≡ length codes₀) × Kept
 abbrev μ-loop : tie.MeasureT-loop
 μ-loop codes₀ transitions codes = sum (highs codes)
 
-loop-holds : tie.Need-loop-holds Inv-loop μ-loop
-loop-holds c = (refl, kept-start _ _, refl)
-
 solve-round-requires : tie.Need-solve-round-requires Inv-loop μ-loop
 solve-round-requires c κs = let v = c .before .loop .inv in (rw (v .0) (c .before .before .before .before .pre .0), kept-low _ _ _ (c .before .before .before .before .pre .1) (v .1))
 
@@ -40,4 +37,4 @@ returns c =
     (solved _ _ _ _ (v .1) (rw (c .if1 .left) at (e .0)), e .1 ∙ v .2)
 
 pub solve-spec : {M : Type 1} → statement M
-solve-spec = tie.close (tie.spec Inv-loop μ-loop loop-holds solve-round-requires loop-less loop-again same-length returns)
+solve-spec = tie.close (tie.spec Inv-loop μ-loop (λ c. (refl, kept-start _ _, refl)) solve-round-requires loop-less loop-again same-length returns)

@@ -22,15 +22,10 @@ Inv-loop codes₀ transitions news₀ i₀ codes news i = (i ≤ length transiti
 abbrev μ-loop : tie.MeasureT-loop
 μ-loop codes₀ transitions news₀ i₀ codes news i = length transitions - i
 
-loop-holds : tie.Need-loop-holds Inv-loop μ-loop
-loop-holds c = (omega arith, passed-none pass-swept _ _, refl, omega arith)
-
 mark-requires : tie.Need-mark-requires Inv-loop μ-loop
 mark-requires c κs =
-    let start = c .before .before .before .before .before .before .before .before in
-    let a = start .args in
-    let l = c .before .before .before .before .before .loop in
-    let ts = a .transitions .now in
+    let start = c .before .before .before .before .before .before .before .before in let a = start .args in
+    let l = c .before .before .before .before .before .loop in let ts = a .transitions .now in
     let t = getD ts (l .i) 0 in
     let m = mem-at ts (l .i) (omega arith) in
     let long : length (l .codes) ≡ length (a .codes .now) = highs-long _ _ (l .inv .1 .long) in
@@ -41,9 +36,7 @@ mark-requires c κs =
 loop-again : tie.Need-loop-again Inv-loop μ-loop
 loop-again c =
     let at-loop = c .before .before .before .before .before .before .before .before .before in
-    let start = at-loop .before .before .before in
-    let a = start .args in
-    let l = at-loop .loop in
+    let start = at-loop .before .before .before in let a = start .args in let l = at-loop .loop in
     let t = getD (a .transitions .now) (l .i) 0 in
     let source : c .before .before .before .before .before .source-of .result ≡ sourceOf t = c .before .before .before .before .before .source-of .ensures in
     let target : c .before .before .before .before .target-of .result ≡ targetOf t = c .before .before .before .before .target-of .ensures in
@@ -59,9 +52,7 @@ loop-again c =
 loop-again-2 : tie.Need-loop-again-2 Inv-loop μ-loop
 loop-again-2 c =
     let at-loop = c .before .before .before .before .before .before .before .before .before in
-    let start = at-loop .before .before .before in
-    let a = start .args in
-    let l = at-loop .loop in
+    let start = at-loop .before .before .before in let a = start .args in let l = at-loop .loop in
     let t = getD (a .transitions .now) (l .i) 0 in
     let source : c .before .before .before .before .before .source-of .result ≡ sourceOf t = c .before .before .before .before .before .source-of .ensures in
     let target : c .before .before .before .before .target-of .result ≡ targetOf t = c .before .before .before .before .target-of .ensures in
@@ -76,13 +67,13 @@ loop-again-2 c =
 
 returns : tie.Need-returns Inv-loop μ-loop
 returns c =
-    let a = c .before .before .before .before .args in
-    let l = c .before .loop in
+    let a = c .before .before .before .before .args in let l = c .before .loop in
     let (marks, news) = passed-all pass-swept (a .transitions .now) (highs (a .codes .now)) (highs (l .codes)) (ltb 0 (l .news)) (l .i) (omega arith) (l .inv .1) in
     (marks, l .inv .2, news)
 
 pub sweep-spec : {M : Type 1} → statement M
 sweep-spec =
     tie.close (tie.spec
-    Inv-loop μ-loop loop-holds (λ c. search needs) (λ c. search needs) (λ c. search needs) (λ c κs. search needs) (λ c κs. search needs) mark-requires
-    (λ c. search needs) (λ c. omega arith) loop-again (λ c. omega arith) loop-again-2 (λ c. highs-long _ _ (c .before .loop .inv .1 .long)) returns)
+    Inv-loop μ-loop (λ c. (omega arith, passed-none pass-swept _ _, refl, omega arith)) (λ c. search needs) (λ c. search needs) (λ c. search needs)
+    (λ c κs. search needs) (λ c κs. search needs) mark-requires (λ c. search needs) (λ c. omega arith) loop-again (λ c. omega arith) loop-again-2
+    (λ c. highs-long _ _ (c .before .loop .inv .1 .long)) returns)

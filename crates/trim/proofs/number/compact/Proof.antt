@@ -17,24 +17,12 @@ Inv-loop codes₀ w₀ i₀ codes w i = Compacting compacted codes₀ codes w i
 abbrev μ-loop : tie.MeasureT-loop
 μ-loop codes₀ w₀ i₀ codes w i = length codes₀ - i
 
-loop-holds : tie.Need-loop-holds Inv-loop μ-loop
-loop-holds c = compact-start _ _
-
 mul-c : tie.Need-mul-c Inv-loop μ-loop
 mul-c c = scaled-fits _ (length (c .before .before .before .args .codes .now)) 8 (omega (arith, c .before .loop .inv .long)) (c .before .before .before .good .0 .1)
 
 mul-codes : tie.Need-mul-codes Inv-loop μ-loop
 mul-codes c = let v = c .before .before .before .before .loop .inv in scaled-fits _ (length (c .before .before .before .before .before .before .args .codes .now)) 8
     (omega (arith, v .long, v .behind)) (c .before .before .before .before .before .before .good .0 .1)
-
-slice-write-codes : tie.Need-slice-write-codes Inv-loop μ-loop
-slice-write-codes c = omega (arith, c .before .before .before .before .loop .inv .behind)
-
-add-w : tie.Need-add-w Inv-loop μ-loop
-add-w c = omega (arith, c .before .before .before .before .loop .inv .behind)
-
-loop-less : tie.Need-loop-less Inv-loop μ-loop
-loop-less c = omega (arith, c .before .before .before .before .loop .inv .long)
 
 loop-again : tie.Need-loop-again Inv-loop μ-loop
 loop-again c =
@@ -46,13 +34,9 @@ loop-again c =
     let v : c .without-number .result ≡ getD xs (l .i) 0 % 2 ^ 48 = c .without-number .ensures ∙ ap (λ (x : ℕ). x % 2 ^ 48) e in
     rw v (compact-keep _ xs (l .codes) (l .w) (l .i) inside (l .inv) _ (compacted-in _ _ left))
 
-loop-less-2 : tie.Need-loop-less-2 Inv-loop μ-loop
-loop-less-2 c = omega (arith, c .before .before .before .loop .inv .long)
-
 loop-again-2 : tie.Need-loop-again-2 Inv-loop μ-loop
 loop-again-2 c =
-    let l = c .before .before .before .loop in
-    let xs = c .before .before .before .before .before .args .codes .now in
+    let l = c .before .before .before .loop in let xs = c .before .before .before .before .before .args .codes .now in
     let inside : l .i < length xs = omega (arith, l .inv .long) in
     let e = compact-at _ xs (l .codes) (l .w) (l .i) inside (l .inv) in
     let out : getD xs (l .i) 0 / 2 ^ 48 ≡ 0 = omega arith in
@@ -76,5 +60,8 @@ returns c =
 pub compact-spec : {M : Type 1} → statement M
 compact-spec =
     tie.close (tie.spec
-    Inv-loop μ-loop loop-holds mul-c (λ c. omega arith) (λ c. omega arith) (λ c κs. search needs) mul-codes slice-write-codes add-w loop-less loop-again
-    loop-less-2 loop-again-2 zero-from-requires same-length returns)
+    Inv-loop μ-loop (λ c. compact-start _ _) mul-c (λ c. omega arith) (λ c. omega arith) (λ c κs. search needs) mul-codes
+    (λ c. omega (arith, c .before .before .before .before .loop .inv .behind))
+    (λ c. omega (arith, c .before .before .before .before .loop .inv .behind))
+    (λ c. omega (arith, c .before .before .before .before .loop .inv .long)) loop-again
+    (λ c. omega (arith, c .before .before .before .loop .inv .long)) loop-again-2 zero-from-requires same-length returns)

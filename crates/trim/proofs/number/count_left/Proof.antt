@@ -18,24 +18,19 @@ Inv-loop codes k₀ i₀ k i = (i ≤ length codes) × (k ≡ newNumber (highs c
 abbrev μ-loop : tie.MeasureT-loop
 μ-loop codes k₀ i₀ k i = length codes - i
 
-loop-holds : tie.Need-loop-holds Inv-loop μ-loop
-loop-holds c = (omega arith, sym (number-start _))
-
 add-k : tie.Need-add-k Inv-loop μ-loop
 add-k c = let l = c .before .before .before .loop in omega (arith, l .inv .1, number-max (highs (c .before .before .before .before .args .codes .now)) (l .i))
 
 loop-again : tie.Need-loop-again Inv-loop μ-loop
 loop-again c =
-    let l = c .before .before .before .loop in
-    let xs = c .before .before .before .before .args .codes .now in
+    let l = c .before .before .before .loop in let xs = c .before .before .before .before .args .codes .now in
     let h = highs-at xs (l .i) in
     let left : 0 < getD (highs xs) (l .i) 0 = omega arith in
     (omega arith, ap (λ (x : ℕ). x + 1) (l .inv .1) ∙ sym (number-yes (highs xs) (l .i) left))
 
 loop-again-2 : tie.Need-loop-again-2 Inv-loop μ-loop
 loop-again-2 c =
-    let l = c .before .before .before .loop in
-    let xs = c .before .before .before .before .args .codes .now in
+    let l = c .before .before .before .loop in let xs = c .before .before .before .before .args .codes .now in
     let h = highs-at xs (l .i) in
     let out : getD (highs xs) (l .i) 0 ≡ 0 = omega arith in
     (omega arith, l .inv .1 ∙ sym (number-no (highs xs) (l .i) out))
@@ -49,5 +44,5 @@ returns c =
 pub count-left-spec : {M : Type 1} → statement M
 count-left-spec =
     tie.close (tie.spec
-    Inv-loop μ-loop loop-holds (λ c. search needs) (λ c. search needs) (λ c. search needs) add-k (λ c. omega arith) loop-again (λ c. omega arith) loop-again-2
-    returns)
+    Inv-loop μ-loop (λ c. (omega arith, sym (number-start _))) (λ c. search needs) (λ c. search needs) (λ c. search needs) add-k (λ c. omega arith)
+    loop-again (λ c. omega arith) loop-again-2 returns)

@@ -14,9 +14,6 @@ Inv-loop codes₀ k₀ i₀ codes k i = NumberedTo codes₀ codes k i
 abbrev μ-loop : tie.MeasureT-loop
 μ-loop codes₀ k₀ i₀ codes k i = length codes₀ - i
 
-loop-holds : tie.Need-loop-holds Inv-loop μ-loop
-loop-holds c = none-numbered _
-
 mul-c : tie.Need-mul-c Inv-loop μ-loop
 mul-c c = scaled-fits _ (length (c .before .before .before .args .codes .now)) 8 (omega (arith, c .before .loop .inv .long)) (c .before .before .before .good .0 .1)
 
@@ -40,18 +37,11 @@ mul-codes : tie.Need-mul-codes Inv-loop μ-loop
 mul-codes c = scaled-fits _ (length (c .before .before .before .before .before .before .args .codes .now)) 8 (omega (arith, c .before .before .before .before .loop .inv .long))
     (c .before .before .before .before .before .before .good .0 .1)
 
-loop-less : tie.Need-loop-less Inv-loop μ-loop
-loop-less c = omega (arith, c .before .before .before .before .loop .inv .long)
-
 loop-again : tie.Need-loop-again Inv-loop μ-loop
 loop-again c =
-    let l = c .before .before .before .before .loop in
-    let v = c .carrying .ensures in
+    let l = c .before .before .before .before .loop in let v = c .carrying .ensures in
     let left : 0 < getD (l .codes) (l .i) 0 / 2 ^ 48 = omega arith in
     number-put (c .before .before .before .before .before .before .args .codes .now) (l .codes) (l .k) (l .i) (omega (arith, l .inv .long)) (l .inv) _ left (v .0) (v .1)
-
-loop-less-2 : tie.Need-loop-less-2 Inv-loop μ-loop
-loop-less-2 c = omega (arith, c .before .before .before .loop .inv .long)
 
 loop-again-2 : tie.Need-loop-again-2 Inv-loop μ-loop
 loop-again-2 c =
@@ -65,5 +55,6 @@ returns c = let l = c .before .loop in all-numbered (c .before .before .before .
 pub number-spec : {M : Type 1} → statement M
 number-spec =
     tie.close (tie.spec
-    Inv-loop μ-loop loop-holds mul-c (λ c. omega arith) (λ c. omega arith) add-k carrying-requires mul-codes (λ c. omega arith) loop-less loop-again loop-less-2
-    loop-again-2 (λ c. c .before .loop .inv .long) returns)
+    Inv-loop μ-loop (λ c. none-numbered _) mul-c (λ c. omega arith) (λ c. omega arith) add-k carrying-requires mul-codes (λ c. omega arith)
+    (λ c. omega (arith, c .before .before .before .before .loop .inv .long)) loop-again
+    (λ c. omega (arith, c .before .before .before .loop .inv .long)) loop-again-2 (λ c. c .before .loop .inv .long) returns)

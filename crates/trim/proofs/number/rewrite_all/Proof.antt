@@ -20,16 +20,12 @@ Inv-loop codes transitions₀ w₀ i₀ transitions w i = Compacting (rewritten 
 abbrev μ-loop : tie.MeasureT-loop
 μ-loop codes transitions₀ w₀ i₀ transitions w i = length transitions₀ - i
 
-loop-holds : tie.Need-loop-holds Inv-loop μ-loop
-loop-holds c = compact-start _ _
-
 mul-t : tie.Need-mul-t Inv-loop μ-loop
 mul-t c = scaled-fits _ (length (c .before .before .before .before .args .transitions .now)) 8 (omega (arith, c .before .loop .inv .long)) (c .before .before .before .before .good .1 .0 .1)
 
 is-left-requires : tie.Need-is-left-requires Inv-loop μ-loop
 is-left-requires c κs =
-    let a = c .before .before .before .before .before .args in
-    let l = c .before .before .loop in
+    let a = c .before .before .before .before .before .args in let l = c .before .before .loop in
     let ts = a .transitions .now in
     let inside : l .i < length ts = omega (arith, l .inv .long) in
     let e = compact-at _ ts (l .transitions) (l .w) (l .i) inside (l .inv) in
@@ -38,10 +34,8 @@ is-left-requires c κs =
 
 rewritten-one-requires : tie.Need-rewritten-one-requires Inv-loop μ-loop
 rewritten-one-requires c κs =
-    let start = c .before .before .before .before .before .before .before in
-    let a = start .args in
-    let l = c .before .before .before .before .loop in
-    let ts = a .transitions .now in
+    let start = c .before .before .before .before .before .before .before in let a = start .args in
+    let l = c .before .before .before .before .loop in let ts = a .transitions .now in
     let inside : l .i < length ts = omega (arith, l .inv .long) in
     let e = compact-at _ ts (l .transitions) (l .w) (l .i) inside (l .inv) in
     let m = mem-at ts (l .i) inside in
@@ -63,10 +57,8 @@ loop-less c = omega (arith, c .before .before .before .before .before .loop .inv
 
 loop-again : tie.Need-loop-again Inv-loop μ-loop
 loop-again c =
-    let start = c .before .before .before .before .before .before .before .before in
-    let a = start .args in
-    let l = c .before .before .before .before .before .loop in
-    let ts = a .transitions .now in
+    let start = c .before .before .before .before .before .before .before .before in let a = start .args in
+    let l = c .before .before .before .before .before .loop in let ts = a .transitions .now in
     let tags = highs (a .codes .now) in
     let inside : l .i < length ts = omega (arith, l .inv .long) in
     let e = compact-at _ ts (l .transitions) (l .w) (l .i) inside (l .inv) in
@@ -74,15 +66,10 @@ loop-again c =
     let v : c .rewritten-one .result ≡ rewrite tags (getD ts (l .i) 0) = c .rewritten-one .ensures ∙ ap (rewrite tags) e in
     rw v (compact-keep _ ts (l .transitions) (l .w) (l .i) inside (l .inv) _ (rewritten-yes tags _ _ left))
 
-loop-less-2 : tie.Need-loop-less-2 Inv-loop μ-loop
-loop-less-2 c = omega (arith, c .before .before .before .before .loop .inv .long)
-
 loop-again-2 : tie.Need-loop-again-2 Inv-loop μ-loop
 loop-again-2 c =
-    let start = c .before .before .before .before .before .before .before in
-    let a = start .args in
-    let l = c .before .before .before .before .loop in
-    let ts = a .transitions .now in
+    let start = c .before .before .before .before .before .before .before in let a = start .args in
+    let l = c .before .before .before .before .loop in let ts = a .transitions .now in
     let tags = highs (a .codes .now) in
     let inside : l .i < length ts = omega (arith, l .inv .long) in
     let e = compact-at _ ts (l .transitions) (l .w) (l .i) inside (l .inv) in
@@ -97,10 +84,8 @@ same-length c = c .before .before .zero-from .kept .0 ∙ c .before .before .bef
 
 returns : tie.Need-returns Inv-loop μ-loop
 returns c =
-    let start = c .before .before .before .before .before .before .before .before in
-    let a = start .args in
-    let l = c .before .before .before .before .before .loop in
-    let ts = a .transitions .now in
+    let start = c .before .before .before .before .before .before .before .before in let a = start .args in
+    let l = c .before .before .before .before .before .loop in let ts = a .transitions .now in
     let tags = highs (a .codes .now) in (
       compact-count (rewritten tags) ts (l .transitions) (l .w) (l .i) (omega (arith, l .inv .long)) (rewritten-none tags) (l .inv),
       c .before .before .zero-from .ensures ∙ compact-end (rewritten tags) ts (l .transitions) (l .w) (l .i) (omega (arith, l .inv .long)) (rewritten-none tags) (l .inv),
@@ -109,5 +94,6 @@ returns c =
 pub rewrite-all-spec : {M : Type 1} → statement M
 rewrite-all-spec =
     tie.close (tie.spec
-    Inv-loop μ-loop loop-holds mul-t (λ c. omega arith) (λ c. omega arith) is-left-requires rewritten-one-requires mul-transitions slice-write-transitions add-w
-    loop-less loop-again loop-less-2 loop-again-2 zero-from-requires same-length returns)
+    Inv-loop μ-loop (λ c. compact-start _ _) mul-t (λ c. omega arith) (λ c. omega arith) is-left-requires rewritten-one-requires mul-transitions
+    slice-write-transitions add-w loop-less loop-again (λ c. omega (arith, c .before .before .before .before .loop .inv .long)) loop-again-2
+    zero-from-requires same-length returns)

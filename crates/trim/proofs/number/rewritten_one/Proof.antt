@@ -33,8 +33,7 @@ pack-transition-requires c κs =
 
 returns : tie.Need-returns
 returns c =
-    let start = c .before .before .before .before .before .before .before in
-    let a = start .args in
+    let start = c .before .before .before .before .before .before .before in let a = start .args in
     rw (c .pack-transition .ensures, c .before .letter-of .ensures, c .before .before .before .target-of .ensures, c .before .before .before .before .before .source-of .ensures)
     (sym (rewrite-is (a .codes .now) (a .t)))
 
