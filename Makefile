@@ -48,7 +48,7 @@ endif
 # a check that was killed leaves what it laid out
 EMPTY_SCRATCH := $(if $(MULGREDDI_SCRATCH),rm -rf $(MULGREDDI_SCRATCH)/rattle-*)
 
-# one `rt` at a time; of the gate's steps that run side by side only one calls it
+# one `rt` at a time; the gate's last steps run side by side, since none of them calls it
 ifndef BESIDE
 .NOTPARALLEL:
 endif
@@ -269,8 +269,7 @@ test:
 	$(MAKE) quick
 	$(MAKE) prove-all
 	$(MAKE) lib $(PROGRAM)
-	$(MAKE) compare
-	$(MAKE) listings tables examples check-tool
+	$(MAKE) --jobs=2 --output-sync=target BESIDE=1 compare listings tables examples check-tool
 	@tail -n 1 $(BUILD)/log/ci | grep -x '[0-9]* passed, 0 failed'
 
 clean:
