@@ -47,15 +47,14 @@ next-place-requires c κs =
     (c .loop-test .taken, omega (arith, start .pre .0 .few-places))
 
 -- the place that follows is one
-next-is : (c : tie.After-next-place Inv-loop μ-loop) → c .next-place .result
-    ≡ nextPlace (c .before .before .before .before .before .before .before .before .before .before .before .args .lead .now)
-    (c .before .before .before .before .before .before .before .before .before .before .before .args .cycle .now) (c .before .before .loop .p)
+next-is : (c : tie.After-next-place Inv-loop μ-loop) → let a = c .before .before .before .before .before .before .before .before .before .before .before .args in
+    c .next-place .result ≡ nextPlace (a .lead .now) (a .cycle .now) (c .before .before .loop .p)
 next-is c =
     let start = c .before .before .before .before .before .before .before .before .before .before .before in
     c .next-place .ensures (start .args .lead .now) (start .args .cycle .now) refl refl
 
-follows : (c : tie.After-next-place Inv-loop μ-loop) → c .next-place .result < places (c .before .before .before .before .before .before .before .before .before .before .before .args .lead .now)
-    (c .before .before .before .before .before .before .before .before .before .before .before .args .cycle .now)
+follows : (c : tie.After-next-place Inv-loop μ-loop) → let a = c .before .before .before .before .before .before .before .before .before .before .before .args in
+    c .next-place .result < places (a .lead .now) (a .cycle .now)
 follows c =
     let start = c .before .before .before .before .before .before .before .before .before .before .before in
     rw (next-is c) (next-low _ _ _ _ _ _ (start .pre .0) (c .before .before .loop .p) (c .before .loop-test .taken))

@@ -27,14 +27,12 @@ cast-difference c =
     let a = start .args in omega (arith, accepting-small (ruleOf (a .rule .head) (a .counts .now) (a .clauses .now)) (start .pre .0 .passing .formed))
 
 -- the place that follows is one
-next-is : (c : tie.After-next-place) → c .next-place .result ≡ nextPlace (c .before .before .before .before .before .before .before .before .args .lead .now)
-    (c .before .before .before .before .before .before .before .before .args .cycle .now) (c .before .before .before .before .before .before .before .before .args .p)
+next-is : (c : tie.After-next-place) → let a = c .before .before .before .before .before .before .before .before .args in c .next-place .result ≡ nextPlace (a .lead .now) (a .cycle .now) (a .p)
 next-is c =
     let start = c .before .before .before .before .before .before .before .before in
     c .next-place .ensures (start .args .lead .now) (start .args .cycle .now) refl refl
 
-follows : (c : tie.After-next-place) → c .next-place .result < places (c .before .before .before .before .before .before .before .before .args .lead .now)
-    (c .before .before .before .before .before .before .before .before .args .cycle .now)
+follows : (c : tie.After-next-place) → let a = c .before .before .before .before .before .before .before .before .args in c .next-place .result < places (a .lead .now) (a .cycle .now)
 follows c =
     let start = c .before .before .before .before .before .before .before .before in
     rw (next-is c) (next-low _ _ _ _ _ _ (start .pre .0) (start .args .p) (start .pre .3))

@@ -31,12 +31,11 @@ sub-work : tie.Need-sub-work Inv-loop μ-loop
 sub-work c = omega (arith, c .before .before .before .before .before .before .before .pre .0 .few-places)
 
 shr-work : tie.Need-shr-work Inv-loop μ-loop
-shr-work c = omega (arith, c .before .before .before .before .before .before .before .pre .0 .few-places, c .before .before .before .before .before .before .before .pre .0 .word .repeats)
+shr-work c = let p = c .before .before .before .before .before .before .before .pre .0 in omega (arith, p .few-places, p .word .repeats)
 
 loop-holds : tie.Need-loop-holds Inv-loop μ-loop
 loop-holds c =
-    let a = c .before .before .before .before .before .before .before .args in
-    let p = c .before .before .before .before .before .before .before .pre in
+    let start = c .before .before .before .before .before .before .before in let a = start .args in let p = start .pre in
     let end = places (a .lead .now) (a .cycle .now) in
     let some : 0 < end = omega (arith, p .0 .word .repeats) in (
       refl,

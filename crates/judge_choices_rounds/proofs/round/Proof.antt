@@ -31,8 +31,7 @@ abbrev μ-loop : tie.MeasureT-loop
 
 loop-holds : tie.Need-loop-holds Inv-loop μ-loop
 loop-holds c =
-    let a = c .before .before .before .before .before .before .before .args in
-    let p = c .before .before .before .before .before .before .before .pre in (
+    let start = c .before .before .before .before .before .before .before in let a = start .args in let p = start .pre in (
       p .4,
       omega arith,
       λ x t. t,

@@ -71,41 +71,39 @@ returns-4 : tie.Need-returns-4
 returns-4 c =
     let a = c .before .before .before .before .before .before .before .before .before .before .before .before .before .before .before .before .before .before .before .before .before .before
     .before .args in
-    let used = ap (λ (n : ℕ). n * places (a .lead .now) (a .cycle .now)) (c .before .before .before .before .before .before .before .before .before .before .before .count .ensures) in
-    let room : length (inBoth (a .codes .now) (a .codebytes .now) .numbers) * places (a .lead .now) (a .cycle .now) ≤ length (a .scratch .now) =
-    omega (arith, used, c .before .before .before .before .before .before .before .before .before .before .if3 .left) in
-    let low : c .before .before .before .before .before .before .before .search .result < length (inBoth (a .codes .now) (a .codebytes .now) .numbers) =
-    omega (arith, c .before .before .before .before .before .before .before .before .before .before .before .count .ensures, c .if4 .taken) in
-    let e = call-served (a .h .s) (a .lead .now) (a .cycle .now) (inBoth (a .codes .now) (a .codebytes .now)) (inBoth (a .moves .now) (a .movebytes .now)) (length (a .scratch .now))
-    (sym (c .before .before .before .before .before .before .before .before .before .before .before .before .before .before .before .word-row .ensures)
-    ∙ c .before .before .before .before .before .before .before .before .before .before .before .before .before .before .if1 .left)
-    (sym (c .before .before .before .before .before .before .before .before .before .before .before .before .before .table-row .ensures)
-    ∙ c .before .before .before .before .before .before .before .before .before .before .before .before .if2 .left) room in
     let f = c .before .before .before .fill-with in
     let k : length (f .last .0) ≡ length (a .scratch .now) = search needs in
+    let at-search = c .before .before .before .before .before .before .before in let at-if3 = at-search .before .before .before in let at-count = at-if3 .before in let at-if2 = at-count .before in
+    let at-table = at-if2 .before in let at-if1 = at-table .before in let at-word = at-if1 .before in
+    let used = ap (λ (n : ℕ). n * places (a .lead .now) (a .cycle .now)) (at-count .count .ensures) in
+    let room : length (inBoth (a .codes .now) (a .codebytes .now) .numbers) * places (a .lead .now) (a .cycle .now) ≤ length (a .scratch .now) =
+    omega (arith, used, at-if3 .if3 .left) in
+    let low : at-search .search .result < length (inBoth (a .codes .now) (a .codebytes .now) .numbers) =
+    omega (arith, at-count .count .ensures, c .if4 .taken) in
+    let e = call-served (a .h .s) (a .lead .now) (a .cycle .now) (inBoth (a .codes .now) (a .codebytes .now)) (inBoth (a .moves .now) (a .movebytes .now)) (length (a .scratch .now))
+    (sym (at-word .word-row .ensures) ∙ at-if1 .if1 .left) (sym (at-table .table-row .ensures) ∙ at-if2 .if2 .left) room in
     rw (f .ensures ∙ ap (λ (n : ℕ). replicate n 0) (sym (f .kept .0) ∙ k))
     (called-yes (a .h .s) (λ x. bit x (a .h .initial)) (a .lead .now) (a .cycle .now) (inBoth (a .codes .now) (a .codebytes .now)) (inBoth (a .moves .now) (a .movebytes .now)) (a .scratch .now) e
-    (c .before .before .before .before .before .before .before .search .result) low (c .before .before .before .before .before .before .before .search .ensures))
+    (at-search .search .result) low (at-search .search .ensures))
 
 returns-5 : tie.Need-returns-5
 returns-5 c =
     let a = c .before .before .before .before .before .before .before .before .before .before .before .before .before .before .before .before .before .before .before .before .before .before
     .before .args in
-    let used = ap (λ (n : ℕ). n * places (a .lead .now) (a .cycle .now)) (c .before .before .before .before .before .before .before .before .before .before .before .count .ensures) in
-    let room : length (inBoth (a .codes .now) (a .codebytes .now) .numbers) * places (a .lead .now) (a .cycle .now) ≤ length (a .scratch .now) =
-    omega (arith, used, c .before .before .before .before .before .before .before .before .before .before .if3 .left) in
-    let high : length (inBoth (a .codes .now) (a .codebytes .now) .numbers) ≤ c .before .before .before .before .before .before .before .search .result =
-    omega (arith, c .before .before .before .before .before .before .before .before .before .before .before .count .ensures, c .if4 .left) in
-    let e = call-served (a .h .s) (a .lead .now) (a .cycle .now) (inBoth (a .codes .now) (a .codebytes .now)) (inBoth (a .moves .now) (a .movebytes .now)) (length (a .scratch .now))
-    (sym (c .before .before .before .before .before .before .before .before .before .before .before .before .before .before .before .word-row .ensures)
-    ∙ c .before .before .before .before .before .before .before .before .before .before .before .before .before .before .if1 .left)
-    (sym (c .before .before .before .before .before .before .before .before .before .before .before .before .before .table-row .ensures)
-    ∙ c .before .before .before .before .before .before .before .before .before .before .before .before .if2 .left) room in
     let f = c .before .before .before .fill-with in
     let k : length (f .last .0) ≡ length (a .scratch .now) = search needs in
+    let at-search = c .before .before .before .before .before .before .before in let at-if3 = at-search .before .before .before in let at-count = at-if3 .before in let at-if2 = at-count .before in
+    let at-table = at-if2 .before in let at-if1 = at-table .before in let at-word = at-if1 .before in
+    let used = ap (λ (n : ℕ). n * places (a .lead .now) (a .cycle .now)) (at-count .count .ensures) in
+    let room : length (inBoth (a .codes .now) (a .codebytes .now) .numbers) * places (a .lead .now) (a .cycle .now) ≤ length (a .scratch .now) =
+    omega (arith, used, at-if3 .if3 .left) in
+    let high : length (inBoth (a .codes .now) (a .codebytes .now) .numbers) ≤ at-search .search .result =
+    omega (arith, at-count .count .ensures, c .if4 .left) in
+    let e = call-served (a .h .s) (a .lead .now) (a .cycle .now) (inBoth (a .codes .now) (a .codebytes .now)) (inBoth (a .moves .now) (a .movebytes .now)) (length (a .scratch .now))
+    (sym (at-word .word-row .ensures) ∙ at-if1 .if1 .left) (sym (at-table .table-row .ensures) ∙ at-if2 .if2 .left) room in
     rw (f .ensures ∙ ap (λ (n : ℕ). replicate n 0) (sym (f .kept .0) ∙ k))
     (called-no (a .h .s) (λ x. bit x (a .h .initial)) (a .lead .now) (a .cycle .now) (inBoth (a .codes .now) (a .codebytes .now)) (inBoth (a .moves .now) (a .movebytes .now)) (a .scratch .now) e
-    (c .before .before .before .before .before .before .before .search .result) high (c .before .before .before .before .before .before .before .search .ensures))
+    (at-search .search .result) high (at-search .search .ensures))
 
 pub judge-lent-spec : {M : Type 1} → statement M
 judge-lent-spec =

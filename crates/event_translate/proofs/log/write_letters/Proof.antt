@@ -23,13 +23,13 @@ abbrev μ-loop : tie.MeasureT-loop
 held : (c : tie.After-lines-of Inv-loop μ-loop) → let a = c .before .before .before .before .before .before .before .before .args in
     known (a .events .now) (a .log .now) (c .before .before .before .before .loop .k) ≡ true
 held c =
-    let earlier = c .before .before .before .before .before .before .before .before in let s = earlier in
+    let s = c .before .before .before .before .before .before .before .before in
     known-at (s .args .events .now) (s .args .log .now) (c .before .before .before .before .loop .k) (s .pre .1) (c .before .before .before .loop-test .taken)
 
 -- and the least of them is a line
 line : (c : tie.After-lines-of Inv-loop μ-loop) → trailingZeros 64 (c .lines-of .result) < lineCount (c .before .before .before .before .before .before .before .before .args .events .now)
 line c =
-    let earlier = c .before .before .before .before .before .before .before .before in let s = earlier in
+    let s = c .before .before .before .before .before .before .before .before in
     let a = s .args in let k = c .before .before .before .before .loop .k in
     let byte = c .before .shared-slice-known4 .given in
     rw (c .lines-of .ensures) (least-below (a .events .now) (a .kinds .now) (a .drives .now) (a .log .now) (s .pre .0) k (byte (2 * k) .fits) (byte (2 * k + 1) .fits) (held c))

@@ -30,7 +30,7 @@ source c =
 
 -- what is told of it
 told : (c : tie.After-sweep-one Inv-loop μ-loop)
-    → Told (c .before .before .before .before .before .before .before .before .before .args .s) (c .before .before .before .before .before .before .before .before .before .args .letter)
+    → let a = c .before .before .before .before .before .before .before .before .before .args in Told (a .s) (a .letter)
     (c .before .before .before .element .result) (c .before .before .before .before .before .loop .set) (c .sweep-one .last .1 .1 .1 .0) (c .sweep-one .result)
 told c =
     let start = c .before .before .before .before .before .before .before .before .before in let a = start .args in

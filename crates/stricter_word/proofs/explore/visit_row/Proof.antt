@@ -71,15 +71,9 @@ same-length c =
     c .before .before .before .before .before .visit .ensures .long ∙ at-loop .loop .inv .2 .1 .long
 
 -- one turn
-turn : (c : tie.After-next-waiting Inv-loop μ-loop) → Passed (PairStep (length (c .before .before .before .before .before .before .before .before .before .before .before .before .args .rcodes .now))
-    (c .before .before .before .before .before .before .before .before .before .before .before .before .args .left .now)
-    (c .before .before .before .before .before .before .before .before .before .before .before .before .args .right .now))
-    (kindIn (c .before .before .before .before .before .before .before .before .before .before .before .before .args .lcodes .now)
-    (c .before .before .before .before .before .before .before .before .before .before .before .before .args .rcodes .now))
-    (c .before .before .before .before .before .before .before .before .before .before .before .before .args .i * length
-    (c .before .before .before .before .before .before .before .before .before .before .before .before .args .rcodes .now) + c .before .before .before .before .before .before .before .before
-    .before .before .before .before .args .j) (c .next-waiting .result) (c .before .before .before .before .before .before .before .before .before .before .before .before .args .marks .now)
-    (c .before .before .before .before .visit .last .1 .1 .1 .1 .1 .1 .1 .0) true
+turn : (c : tie.After-next-waiting Inv-loop μ-loop) → let a = c .before .before .before .before .before .before .before .before .before .before .before .before .args in
+    Passed (PairStep (length (a .rcodes .now)) (a .left .now) (a .right .now)) (kindIn (a .lcodes .now) (a .rcodes .now)) (a .i * length (a .rcodes .now) + a .j) (c .next-waiting .result)
+    (a .marks .now) (c .before .before .before .before .visit .last .1 .1 .1 .1 .1 .1 .1 .0) true
 turn c =
     let start = c .before .before .before .before .before .before .before .before .before .before .before .before in
     let a = start .args in let l = c .before .before .before .before .before .before .loop in

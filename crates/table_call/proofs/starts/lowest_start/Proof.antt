@@ -36,10 +36,8 @@ is-start-requires c κs =
 
 -- the test of a number is that of its code and mark
 tested : (c : lts.After-is-start (count-reads.Asked, count-reads.Learnt, element-reads.Asked, element-reads.Learnt, is-start-reads.Asked, is-start-reads.Learnt) reads.Pre reads.Post Inv-loop μ-loop)
-    → startsAt (λ x. bit x (c .before .before .before .before .before .before .before .before .before .args .initial))
-    (inBoth (c .before .before .before .before .before .before .before .before .before .args .codes .now)
-    (c .before .before .before .before .before .before .before .before .before .args .codebytes .now) .numbers)
-    (c .before .before .before .before .before .before .before .before .before .args .marks .now) (c .before .before .before .before .loop .m) ≡ c .is-start .result
+    → let a = c .before .before .before .before .before .before .before .before .before .args in
+    startsAt (λ x. bit x (a .initial)) (inBoth (a .codes .now) (a .codebytes .now) .numbers) (a .marks .now) (c .before .before .before .before .loop .m) ≡ c .is-start .result
 unfolding startsAt
 tested c = rw (sym (c .before .before .element .ensures)) (sym (c .is-start .ensures))
 
