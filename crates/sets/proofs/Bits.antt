@@ -22,32 +22,23 @@ use Rattle.sets.proofs.Masks.{above, mask-lt, bit-mask}
 
 -- ---- the digits of two masks together
 
+-- a digit is 0 or 1
+pub one-digit : (P : ℕ → Type 0) → P 0 → P 1 → (x : ℕ) → x < 2 → P x
+one-digit P a b zero h = a
+one-digit P a b (suc zero) h = b
+one-digit P a b (suc (suc x)) h = absurd (omega arith)
+
+two-digits : (P : ℕ → ℕ → Type 0) → P 0 0 → P 0 1 → P 1 0 → P 1 1 → (x y : ℕ) → x < 2 → y < 2 → P x y
+two-digits P a b c d x y h k = one-digit (λ z. P z y) (one-digit (P 0) a b y k) (one-digit (P 1) c d y k) x h
+
 two-and : (x y : ℕ) → x < 2 → y < 2 → eqb (min x y) 1 ≡ eqb x 1 && eqb y 1
-two-and zero zero a b = refl
-two-and zero (suc zero) a b = refl
-two-and (suc zero) zero a b = refl
-two-and (suc zero) (suc zero) a b = refl
-two-and (suc (suc x)) y a b = absurd (omega arith)
-two-and zero (suc (suc y)) a b = absurd (omega arith)
-two-and (suc zero) (suc (suc y)) a b = absurd (omega arith)
+two-and = two-digits (λ x y. eqb (min x y) 1 ≡ eqb x 1 && eqb y 1) refl refl refl refl
 
 two-or : (x y : ℕ) → x < 2 → y < 2 → eqb (max x y) 1 ≡ eqb x 1 || eqb y 1
-two-or zero zero a b = refl
-two-or zero (suc zero) a b = refl
-two-or (suc zero) zero a b = refl
-two-or (suc zero) (suc zero) a b = refl
-two-or (suc (suc x)) y a b = absurd (omega arith)
-two-or zero (suc (suc y)) a b = absurd (omega arith)
-two-or (suc zero) (suc (suc y)) a b = absurd (omega arith)
+two-or = two-digits (λ x y. eqb (max x y) 1 ≡ eqb x 1 || eqb y 1) refl refl refl refl
 
 two-xor : (x y : ℕ) → x < 2 → y < 2 → eqb (differ x y) 1 ≡ exclusive (eqb x 1) (eqb y 1)
-two-xor zero zero a b = refl
-two-xor zero (suc zero) a b = refl
-two-xor (suc zero) zero a b = refl
-two-xor (suc zero) (suc zero) a b = refl
-two-xor (suc (suc x)) y a b = absurd (omega arith)
-two-xor zero (suc (suc y)) a b = absurd (omega arith)
-two-xor (suc zero) (suc (suc y)) a b = absurd (omega arith)
+two-xor = two-digits (λ x y. eqb (differ x y) 1 ≡ exclusive (eqb x 1) (eqb y 1)) refl refl refl refl
 
 two-same : (x y : ℕ) → x < 2 → y < 2 → eqb x 1 ≡ eqb y 1 → x ≡ y
 two-same x y a b e =
@@ -56,11 +47,7 @@ two-same x y a b e =
     (λ t. omega (arith, eqb-false x 1 t, eqb-false y 1 (sym e ∙ t)))
 
 differ-lt : (x y : ℕ) → x < 2 → y < 2 → differ x y < 2
-differ-lt zero y a b = b
-differ-lt (suc zero) zero a b = a
-differ-lt (suc zero) (suc zero) a b = omega arith
-differ-lt (suc (suc x)) y a b = absurd (omega arith)
-differ-lt (suc zero) (suc (suc y)) a b = absurd (omega arith)
+differ-lt = two-digits (λ x y. differ x y < 2) (omega arith) (omega arith) (omega arith) (omega arith)
 
 pub digit-and : (a b q : ℕ) → bitAnd a b / 2 ^ q % 2 ≡ min (a / 2 ^ q % 2) (b / 2 ^ q % 2)
 digit-and a b q = rw and-shr (omega (arith, and-step (a / 2 ^ q) (b / 2 ^ q)))
@@ -232,9 +219,7 @@ bit-or-assoc a b c = bit-ext-all (bitOr (bitOr a b) c) (bitOr a (bitOr b c)) (or
 
 one-count : (x : ℕ) → x < 2 → ones x ≡ one (eqb (x % 2) 1)
 unfolding ones onesIn
-one-count zero h = refl
-one-count (suc zero) h = refl
-one-count (suc (suc x)) h = absurd (omega arith)
+one-count = one-digit (λ x. ones x ≡ one (eqb (x % 2) 1)) refl refl
 
 -- the digits set in a mask of n digits are its members
 pub ones-count : (n m : ℕ) → m < 2 ^ n → ones m ≡ count n (bit m)

@@ -9,6 +9,12 @@ use lib.Arith.{digits-div, digits-lt, mod-mul}
 use lib.Pow.{pow-add}
 use Rattle.sets.specs.Digits.{num}
 
+-- what no step from n on changes
+pub stays-from : {T : Type 0} (f : ℕ → T) (n m : ℕ) → n ≤ m → ((p : ℕ) → n ≤ p → p < m → f (suc p) ≡ f p) → f m ≡ f n
+stays-from f n zero l h = let e : n ≡ 0 = omega arith in rw e
+stays-from f n (suc m) l h =
+    by-cases (ℕ-discrete n (suc m)) (λ e. rw e) (λ e. h m (omega arith) (omega arith) ∙ stays-from f n m (omega arith) (λ p a b. h p a (omega arith)))
+
 spot : (x y c s t z : ℕ) → (x * z + s) + (y * z + t) * c ≡ (x + y * c) * z + (s + t * c)
 spot x y c s t z = omega arith
 
@@ -30,11 +36,7 @@ num-low b (suc m) f = ap₂ (λ (x y : ℕ). f (suc m) * x + y) (pow-suc b m) (n
 -- digits from n on that are 0
 pub num-trim : (b m n : ℕ) (f : ℕ → ℕ) → n ≤ m → ((j : ℕ) → n ≤ j → j < m → f j ≡ 0) → num b m f ≡ num b n f
 unfolding num
-num-trim b zero n f l h = let e : n ≡ 0 = omega arith in rw e
-num-trim b (suc m) n f l h =
-    by-cases (ℕ-discrete n (suc m))
-    (λ e. rw e)
-    (λ e. let ih = num-trim b m n f (omega arith) (λ j x y. h j x (omega arith)) in let z : f m * b ^ m ≡ 0 * b ^ m = rw (h m (omega arith) (omega arith)) in omega arith)
+num-trim b m n f l h = stays-from (λ k. num b k f) n m l (λ p x y. let z : f p * b ^ p ≡ 0 * b ^ p = rw (h p x y) in omega arith)
 
 -- four bits are one hexadecimal digit
 pub pow16 : (q : ℕ) → 2 ^ (4 * q) ≡ 16 ^ q

@@ -21,7 +21,4 @@ module _ (M : ℕ) (f : ℕ → Set) (up : (d x : ℕ) → x < M → f d x ≡ t
       (rest d)
 
   pub still : (x : ℕ) → x < M → f M x ≡ f (suc M) x
-  still x l =
-      ⊎-elim (λ s. s x l)
-      (λ k. let m = count-max M (f (suc M)) in count-same M (f M) (f (suc M)) (up M) (omega arith) x l)
-      (rest M)
+  still x l = ⊎-elim (λ s. s x l) (λ k. let m = count-max M (f (suc M)) in count-same M (f M) (f (suc M)) (up M) (omega arith) x l) (rest M)

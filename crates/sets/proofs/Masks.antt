@@ -4,7 +4,7 @@ use mathlib.Core.Logic.{by-cases}
 use mathlib.Core.Bool.{Bool, true, false}
 use Prim.Native.Nat.{ℕ, zero, suc, _+_, _*_, _/_, _%_, _^_, _≤_, _<_}
 use native.Mathlib.Omega.{arith}
-use native.Mathlib.Decide.{decLt, ℕ-discrete}
+use native.Mathlib.Decide.{decLt}
 use native.Mathlib.Nat.{mod-eq-of-lt, pow-suc}
 use lib.Dec.{eqb}
 use lib.Arith.{digits-div}
@@ -14,7 +14,7 @@ use native.Mathlib.Numerals.{add-one}
 use Rattle.sets.specs.Tests.{Set, one}
 use Rattle.sets.specs.Masks.{bit, mask}
 use Rattle.sets.proofs.Bools.{bif}
-use Rattle.sets.proofs.Digits.{digit-above}
+use Rattle.sets.proofs.Digits.{digit-above, stays-from}
 
 one-lt : (b : Bool) → one b < 2
 one-lt true = omega arith
@@ -51,11 +51,7 @@ mask-ext (suc n) f g h = rw (h n (omega arith), mask-ext n f g (λ q l. h q (ome
 -- numbers from n on that are no members
 pub mask-trim : (m n : ℕ) (f : Set) → n ≤ m → ((j : ℕ) → n ≤ j → j < m → f j ≡ false) → mask m f ≡ mask n f
 unfolding mask
-mask-trim zero n f l h = let e : n ≡ 0 = omega arith in rw e
-mask-trim (suc m) n f l h =
-    by-cases (ℕ-discrete n (suc m))
-    (λ e. rw e)
-    (λ e. let ih = mask-trim m n f (omega arith) (λ j x y. h j x (omega arith)) in let z : one (f m) * 2 ^ m ≡ 0 * 2 ^ m = rw (h m (omega arith) (omega arith)) in omega arith)
+mask-trim m n f l h = stays-from (λ k. mask k f) n m l (λ p x y. let z : one (f p) * 2 ^ p ≡ 0 * 2 ^ p = rw (h p x y) in omega arith)
 
 -- the empty set
 pub mask-none : (n : ℕ) (f : Set) → ((q : ℕ) → q < n → f q ≡ false) → mask n f ≡ 0

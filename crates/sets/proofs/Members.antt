@@ -19,7 +19,7 @@ use Rattle.sets.specs.Masks.{bit, inside, prepend, membersFrom, members}
 use Rattle.sets.specs.Lists.{allOf}
 use Rattle.sets.proofs.Bools.{bif, and-l, and-r, and-i, or-tf, or-l, or-r, iff}
 use Rattle.sets.proofs.Tests.{every-at, every-all, every-trim, first-yes, first-no}
-use Rattle.sets.proofs.Bits.{bit-zero, bit-half, bit-high}
+use Rattle.sets.proofs.Bits.{bit-zero, bit-half, bit-high, one-digit}
 
 -- ---- dropping the least member
 
@@ -141,9 +141,7 @@ members-out m q k =
 -- ---- how many
 
 prepend-length : (d i : ℕ) (r : List ℕ) → d < 2 → length (prepend d i r) ≡ d + length r
-prepend-length zero i r h = sym (zero-add (length r))
-prepend-length (suc zero) i r h = omega arith
-prepend-length (suc (suc d)) i r h = absurd (omega arith)
+prepend-length d i r = one-digit (λ d. length (prepend d i r) ≡ d + length r) (omega arith) (omega arith) d
 
 members-ones : (n i m : ℕ) → m < 2 ^ n → length (membersFrom n i m) ≡ ones m
 unfolding membersFrom ones onesIn
@@ -204,8 +202,8 @@ rest-bit (suc n) m q p h = rest-digit n m q (m % 2) refl p (λ x k. rest-bit n (
 
 pub all-of-at : (ys : List ℕ) (f : Set) → allOf ys f ≡ true → (x : ℕ) → List·Memᴰ x ys → f x ≡ true
 unfolding allOf
-all-of-at [] f e x m = absurd (List·Memᴰ·not-nil m)
-all-of-at (y ∷ ys) f e x m = ⊎-elim (λ p. ap f p ∙ and-l (f y) (allOf ys f) e) (λ k. all-of-at ys f (and-r (f y) (allOf ys f) e) x k) (List·Memᴰ·cases-cons m)
+all-of-at (y ∷ ys) f e x (List·Memᴰ·head p) = ap f p ∙ and-l (f y) (allOf ys f) e
+all-of-at (y ∷ ys) f e x (List·Memᴰ·tail k) = all-of-at ys f (and-r (f y) (allOf ys f) e) x k
 
 pub all-of-all : (ys : List ℕ) (f : Set) → ((x : ℕ) → List·Memᴰ x ys → f x ≡ true) → allOf ys f ≡ true
 unfolding allOf

@@ -11,6 +11,7 @@ use borrow.Author.Tests.{leb-true, le-leb, lt-leb, lt-ltb}
 use native.Mathlib.Numerals.{add-one}
 use Rattle.sets.specs.Tests.{Set, every, someBelow, count, one, first, largest}
 use Rattle.sets.proofs.Bools.{bif, clash, and-l, and-r, and-i, and-fl, or-cases}
+use Rattle.sets.proofs.Digits.{stays-from}
 
 -- `every`, read at a number
 pub every-at : (n : ℕ) (f : Set) → every n f ≡ true → (q : ℕ) → q < n → f q ≡ true
@@ -30,10 +31,7 @@ every-all (suc n) f h = and-i (every-all n f (λ q l. h q (omega arith))) (h n (
 pub every-not : (n : ℕ) (f : Set) → every n f ≡ false → (q : ℕ) × (q < n) × (f q ≡ false)
 unfolding every
 every-not zero f e = absurd (true≢false e)
-every-not (suc n) f e =
-    bif (f n)
-    (λ t. let r = every-not n f (and-fl (every n f) (f n) e t) in (r .0, omega arith, r .2))
-    (λ t. (n, omega arith, t))
+every-not (suc n) f e = bif (f n) (λ t. let r = every-not n f (and-fl (every n f) (f n) e t) in (r .0, omega arith, r .2)) (λ t. (n, omega arith, t))
 
 pub every-ext : (n : ℕ) (f g : Set) → ((q : ℕ) → q < n → f q ≡ g q) → every n f ≡ every n g
 unfolding every
@@ -225,34 +223,18 @@ first-ext (suc k) a f g h =
 
 pub every-trim : (m n : ℕ) (f : Set) → n ≤ m → ((p : ℕ) → n ≤ p → p < m → f p ≡ true) → every m f ≡ every n f
 unfolding every
-every-trim zero n f l h = let e : n ≡ 0 = omega arith in rw e
-every-trim (suc m) n f l h =
-    by-cases (ℕ-discrete n (suc m))
-    (λ e. rw e)
-    (λ e. rw (h m (omega arith) (omega arith)) (and-true (every m f)) ∙ every-trim m n f (omega arith) (λ p a b. h p a (omega arith)))
+every-trim m n f l h = stays-from (λ k. every k f) n m l (λ p a b. rw (h p a b) (and-true (every p f)))
 
 pub some-trim : (m n : ℕ) (f : Set) → n ≤ m → ((p : ℕ) → n ≤ p → p < m → f p ≡ false) → someBelow m f ≡ someBelow n f
 unfolding someBelow
-some-trim zero n f l h = let e : n ≡ 0 = omega arith in rw e
-some-trim (suc m) n f l h =
-    by-cases (ℕ-discrete n (suc m))
-    (λ e. rw e)
-    (λ e. rw (h m (omega arith) (omega arith)) (or-false (someBelow m f)) ∙ some-trim m n f (omega arith) (λ p a b. h p a (omega arith)))
+some-trim m n f l h = stays-from (λ k. someBelow k f) n m l (λ p a b. rw (h p a b) (or-false (someBelow p f)))
 
 pub count-trim : (m n : ℕ) (f : Set) → n ≤ m → ((p : ℕ) → n ≤ p → p < m → f p ≡ false) → count m f ≡ count n f
 unfolding count
-count-trim zero n f l h = let e : n ≡ 0 = omega arith in rw e
-count-trim (suc m) n f l h =
-    by-cases (ℕ-discrete n (suc m))
-    (λ e. rw e)
-    (λ e. let ih = count-trim m n f (omega arith) (λ p a b. h p a (omega arith)) in let z : one (f m) ≡ 0 = rw (h m (omega arith) (omega arith)) in omega arith)
+count-trim m n f l h = stays-from (λ k. count k f) n m l (λ p a b. let z : one (f p) ≡ 0 = rw (h p a b) in omega arith)
 
 pub largest-trim : (m n : ℕ) (f : Set) (g : ℕ → ℕ) → n ≤ m → ((p : ℕ) → n ≤ p → p < m → f p ≡ false) → largest m f g ≡ largest n f g
-largest-trim zero n f g l h = let e : n ≡ 0 = omega arith in rw e
-largest-trim (suc m) n f g l h =
-    by-cases (ℕ-discrete n (suc m))
-    (λ e. rw e)
-    (λ e. largest-no m f g (h m (omega arith) (omega arith)) ∙ largest-trim m n f g (omega arith) (λ p a b. h p a (omega arith)))
+largest-trim m n f g l h = stays-from (λ k. largest k f g) n m l (λ p a b. largest-no p f g (h p a b))
 
 -- the largest value is that of some number
 pub largest-hit : (n : ℕ) (f : Set) (g : ℕ → ℕ) → 0 < largest n f g → (q : ℕ) × (q < n) × (f q ≡ true) × (g q ≡ largest n f g)
