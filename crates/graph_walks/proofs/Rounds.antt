@@ -170,10 +170,7 @@ module _ (E : ℕ → ℕ → Type 0) (b : List ℕ) where
       omega (arith, m .long)
 
   pub stable : (ms new : List ℕ) → Marking E b ms → Marking E b new → Round E ms new false → Stable E b new
-  stable ms new m k r = record {
-    marking = k;
-    closed = λ x y e h l. r .closed x y e (r .still refl y h) (omega (arith, marking-more ms m x));
-  }
+  stable ms new m k r = record { marking = k; closed = λ x y e h l. r .closed x y e (r .still refl y h) (omega (arith, marking-more ms m x)) }
 
 -- ---- solving
 
@@ -199,9 +196,7 @@ module _ (E : ℕ → ℕ → Type 0) (b ms new : List ℕ) (changed : Bool) (lo
   stays = back-stays E b ms new 0 (length ms) changed low m s out
 
   keeps : (z : ℕ → ℕ) → Walk E z → ((i : ℕ) → 0 < getD b (z i) 0) → ((i : ℕ) → (j : ℕ) × (i < j) × (1 < getD b (z j) 0)) → (i : ℕ) → 0 < getD new (z i) 0
-  keeps z w h a i =
-      let (j, l, c) = a i in
-      stays (z i) (back-along z w h (j - suc i) i j (omega arith) (omega (arith, marking-more E b ms m (z j))))
+  keeps z w h a i = let (j, l, c) = a i in stays (z i) (back-along z w h (j - suc i) i j (omega arith) (omega (arith, marking-more E b ms m (z j))))
 
   -- a node that is in is marked if a walk leads from it to an accepting one
   toward-marked : {x : ℕ} → 0 < getD b x 0 → Toward E b x → 2 < getD ms x 0

@@ -11,16 +11,11 @@ use Rattle.sets.specs.Lists.{sum}
 
 -- what holds at place p of a new mark, and elsewhere of the old ones
 pub split-set : (Q : ℕ → ℕ → Type 0) (ms : List ℕ) (p v : ℕ) → p < length ms → Q p v → ((j : ℕ) → (j ≡ p → ⊥) → Q j (getD ms j 0)) → (j : ℕ) → Q j (getD (set ms p v) j 0)
-split-set Q ms p v l a b j =
-    by-cases (ℕ-discrete j p)
-    (λ e. rw (e, getD-set-same ms p v 0 l) a)
-    (λ e. rw (getD-set-other ms p j v 0 e) (b j e))
+split-set Q ms p v l a b j = by-cases (ℕ-discrete j p) (λ e. rw (e, getD-set-same ms p v 0 l) a) (λ e. rw (getD-set-other ms p j v 0 e) (b j e))
 
 -- there is a mark where one is not 0
 pub has-place : (ms : List ℕ) (x : ℕ) → 0 < getD ms x 0 → x < length ms
-has-place ms x h =
-    by-cases (decLt x (length ms)) (λ l. l)
-    (λ l. let e = List·getD-eq-default ms 0 {n = x} (omega arith) in absurd (omega arith))
+has-place ms x h = by-cases (decLt x (length ms)) (λ l. l) (λ l. let e = List·getD-eq-default ms 0 {n = x} (omega arith) in absurd (omega arith))
 
 pub sum-set : (ms : List ℕ) (p v : ℕ) → p < length ms → sum (set ms p v) + getD ms p 0 ≡ sum ms + v
 unfolding sum

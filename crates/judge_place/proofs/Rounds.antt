@@ -30,10 +30,7 @@ use Rattle.judge_place.specs.Rounds.{layerOf, openIn, opens, opened, Par
 
 -- what holds at place p of a new mask, and elsewhere of the old ones
 pub split-set : (Q : ℕ → ℕ → Type 0) (ms : List ℕ) (p v : ℕ) → p < length ms → Q p v → ((j : ℕ) → Q j (getD ms j 0)) → (j : ℕ) → Q j (getD (set ms p v) j 0)
-split-set Q ms p v l a b j =
-    by-cases (ℕ-discrete j p)
-    (λ e. rw (e, getD-set-same ms p v 0 l) a)
-    (λ e. rw (getD-set-other ms p j v 0 e) (b j))
+split-set Q ms p v l a b j = by-cases (ℕ-discrete j p) (λ e. rw (e, getD-set-same ms p v 0 l) a) (λ e. rw (getD-set-other ms p j v 0 e) (b j))
 
 -- a state of one side, and of the other
 xor-self : (a : Bool) → exclusive a a ≡ false

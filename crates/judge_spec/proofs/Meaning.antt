@@ -79,11 +79,7 @@ module _ (f lead cycle old new : List ℕ) where
   judged-refused (suc k) n e =
       let j : judgeRow f lead cycle (length old) ≡ suc k = sym (file-refuses f lead cycle (length old) (suc k) n e) in
       let kept : old ≡ after (suc k) (truthMasks (ruleIn f) lead cycle) old = refl in
-      record {
-        answer = rw j;
-        written = rw j kept;
-        meant = λ z. absurd (let x : suc k ≡ 0 = sym j ∙ z in omega arith);
-      }
+      record { answer = rw j; written = rw j kept; meant = λ z. absurd (let x : suc k ≡ 0 = sym j ∙ z in omega arith) }
 
   -- a file that is accepted
   pub judged-called : (v : Verdict) → fileRow f ≡ 0 → JudgeCalled (ruleIn f) lead cycle old new v → Judged f lead cycle old new v
@@ -114,7 +110,4 @@ module _ (r : Rule) (lead cycle old : List ℕ) where
       let first : getD new 0 0 ≡ getD (truthMasks r lead cycle) 0 0
       = ap (λ (x : List ℕ). getD x 0 0) w ∙ List·getD-append (truthMasks r lead cycle) (drop (places lead cycle) old) 0 0 (let x = truth-length r lead cycle in omega arith) in
       let held : holdsStart r lead cycle ≡ b = ap (λ (x : ℕ). bit x (r .initial)) (sym first) ∙ t in
-      record {
-        answer = rw (j, held);
-        written = rw j (w ∙ ap (λ (n : ℕ). truthMasks r lead cycle ++ drop n old) (sym (truth-length r lead cycle)));
-      }
+      record { answer = rw (j, held); written = rw j (w ∙ ap (λ (n : ℕ). truthMasks r lead cycle ++ drop n old) (sym (truth-length r lead cycle))) }

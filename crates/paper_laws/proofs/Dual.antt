@@ -42,11 +42,6 @@ module _ (A : Automaton) (a : ℕ) (T S : Set) where
 
   pub local-iff : LocallyConsistent A a T S ↔ ((q : ℕ) → q < A .n → S q ≡ satisfies (A .n) T (A .entry q a))
   local-iff = (
-    λ L q m. bif (S q)
-        (λ o. o ∙ sym (L .L2 q m o))
-        (λ o. o ∙ sym (not-t (satisfies (A .n) T (A .entry q a)) (sym (outside q) ∙ L .L3 q m o))),
-    λ e. record {
-      L2 = λ q m o. sym (e q m) ∙ o;
-      L3 = λ q m o. outside q ∙ ap not (sym (e q m) ∙ o);
-    },
+    λ L q m. bif (S q) (λ o. o ∙ sym (L .L2 q m o)) (λ o. o ∙ sym (not-t (satisfies (A .n) T (A .entry q a)) (sym (outside q) ∙ L .L3 q m o))),
+    λ e. record { L2 = λ q m o. sym (e q m) ∙ o; L3 = λ q m o. outside q ∙ ap not (sym (e q m) ∙ o) },
   )

@@ -98,7 +98,4 @@ module _ (A : Automaton) (H : Layered A) (B : ℕ) (w : ℕ → ℕ) (S : ℕ �
 
   pub certified : Certified A suc w S
   unfolding Clear
-  certified = record {
-    exact = run .backed .exact;
-    finite = λ i q l o. let c = clear i (A .component q) (H .few q l) in (c .0, c .1 q l refl o);
-  }
+  certified = record { exact = run .backed .exact; finite = λ i q l o. let c = clear i (A .component q) (H .few q l) in (c .0, c .1 q l refl o) }

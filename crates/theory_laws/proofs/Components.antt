@@ -212,8 +212,7 @@ module _ (R : Rule) where
   pub unmixed-iff : (mixed R ≡ false) ↔ ((q p : ℕ) → q < R .n → p < R .n → Together R q p → bit (R .accepting) q ≡ bit (R .accepting) p)
   unfolding mixed
   unmixed-iff = (
-    λ e q p l m x. let t = together-iff q p l m .1 x in
-        iff _ _ (one-sided q p l m e t) (one-sided p q m l e (together-sym q p t)),
+    λ e q p l m x. let t = together-iff q p l m .1 x in iff _ _ (one-sided q p l m e t) (one-sided p q m l e (together-sym q p t)),
     λ h. some-none (R .n) _ (λ q l. some-none (R .n) _ (λ p m. bif (together R q p)
         (λ t. bif (bit (R .accepting) q) (λ a. rw (t, a, sym (h q p l m (together-iff q p l m .0 t)) ∙ a)) (λ a. rw (t, a)))
         (λ t. rw t))),

@@ -232,10 +232,7 @@ module _ (A : Automaton) where
       level = level-least A H a S T e t B bound;
       ordered = λ q p m n c o u.
           let x = f q m in let y = f p n in
-          let z = rank-ordered S (λ p. levelOf A B T t p (A .entry p a)) q p m n c o u in (
-            λ h. z .0 (rw (x, y) at h),
-            λ h. rw (x, y) (z .1 h),
-          );
+          let z = rank-ordered S (λ p. levelOf A B T t p (A .entry p a)) q p m n c o u in (λ h. z .0 (rw (x, y) at h), λ h. rw (x, y) (z .1 h));
       core = core-ext S S (rankOf A S (λ p. levelOf A B T t p (A .entry p a))) r (λ q m. refl) (λ q m. sym (f q m)) (rank-core S (λ p. levelOf A B T t p (A .entry p a)));
     }
 

@@ -88,10 +88,7 @@ unfolding plan automaton nextPlace
 reached q p here = (refl, inl refl)
 reached q p (on {q = s} {p = x} r y R l b e) = (
   omega arith,
-  ⊎-elim
-      (λ z. inr (e ∙ ap (nextPlace lead zeros) z))
-      (λ z. clash (sym (ap (λ (i : ℕ). bit (plan s i) q) z) ∙ b) (bit-none q))
-      (reached s x R .1),
+  ⊎-elim (λ z. inr (e ∙ ap (nextPlace lead zeros) z)) (λ z. clash (sym (ap (λ (i : ℕ). bit (plan s i) q) z) ∙ b) (bit-none q)) (reached s x R .1),
 )
 
 picks : (q p : ℕ) → q ≡ 0 → (p ≡ 0) ⊎ (p ≡ 1) → List·Memᴰ (plan q p) (entry F q (letterAt lead zeros p))
@@ -147,10 +144,7 @@ loop (suc i) = follow (loop i)
 loops : (i : ℕ) → (loop i ≡ 4) ⊎ ((loop i ≡ 11) ⊎ (loop i ≡ 9))
 unfolding loop follow
 loops zero = inl refl
-loops (suc i) =
-    ⊎-elim (λ e. inr (inl (ap follow e)))
-    (λ k. ⊎-elim (λ e. inr (inr (ap follow e))) (λ e. inl (ap follow e)) k)
-    (loops i)
+loops (suc i) = ⊎-elim (λ e. inr (inl (ap follow e))) (λ k. ⊎-elim (λ e. inr (inr (ap follow e))) (λ e. inl (ap follow e)) k) (loops i)
 
 pub word-9 : WordOver 2 [] zeros
 word-9 = word-6

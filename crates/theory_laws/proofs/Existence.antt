@@ -132,8 +132,7 @@ module _ (A : Automaton) (H : Layered A) (B : ℕ) (room : A .n ≤ B) (w : ℕ 
 
   after-stay : (i : ℕ) (x : Work) → (x .left ≡ 0 → ⊥) → after i x ≡ record {
     component = x .component;
-    left =
-        largest (A .n) (λ q. openOf A (S i) (x .component) q && leb (rk i q) (x .left)) (levAt A B w S rk i);
+    left = largest (A .n) (λ q. openOf A (S i) (x .component) q && leb (rk i q) (x .left)) (levAt A B w S rk i);
   }
   unfolding after
   after-stay i x e = rw (ne-eqb (x .left) 0 e)

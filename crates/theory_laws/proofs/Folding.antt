@@ -58,10 +58,7 @@ module _ (a : ℕ → ℕ) (i j : ℕ) (later : i < j) where
 
   -- the node after a step
   pub at-next : (z : ℕ → ℕ) → z i ≡ z j → (k : ℕ) → z (suc (at k)) ≡ z (at (suc k))
-  at-next z same k =
-      by-cases (ℕ-discrete (suc (at k)) j)
-      (λ e. ap z e ∙ sym same ∙ ap z (sym (at-last k e)))
-      (λ n. ap z (sym (at-other k n)))
+  at-next z same k = by-cases (ℕ-discrete (suc (at k)) j) (λ e. ap z e ∙ sym same ∙ ap z (sym (at-last k e))) (λ n. ap z (sym (at-other k n)))
 
   -- step i is folded onto again and again
   back-in : (d k : ℕ) → at k + suc d ≡ j → (n : ℕ) × (k < n) × (at n ≡ i)

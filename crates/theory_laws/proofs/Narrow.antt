@@ -29,9 +29,7 @@ module _ (A : Automaton) (c : ℕ) where
 
   field-small : (j : ℕ) → fields (rankIn A c) (componentIn c) (classesIn c) j < 16
   unfolding fields
-  field-small j =
-      bif (ltb j 8) (λ e. rw e (rank-small j))
-      (λ e. bif (eqb j 8) (λ f. rw (e, f) component-small) (λ f. rw (e, f) classes-small))
+  field-small j = bif (ltb j 8) (λ e. rw e (rank-small j)) (λ e. bif (eqb j 8) (λ f. rw (e, f) component-small) (λ f. rw (e, f) classes-small))
 
   packed-small : pack (setIn A c) (rankIn A c) (componentIn c) (classesIn c) < 2 ^ 48
   unfolding pack

@@ -96,9 +96,7 @@ module _ (ms cs : List ℕ) (same : length ms ≡ length cs) where
   -- each new number is that of one member
   pub picked-from : (j : ℕ) → j < length (picked ms cs) → (i : ℕ) × (i < length cs) × (0 < getD ms i 0) × (newNumber ms i ≡ j)
   unfolding newNumber
-  picked-from j l =
-      let r = count-hit (length cs) (isLive ms) j (rw (picked-length ms cs same) at l) in
-      (r .0, r .1, live-is ms (r .0) (r .2), r .3)
+  picked-from j l = let r = count-hit (length cs) (isLive ms) j (rw (picked-length ms cs same) at l) in (r .0, r .1, live-is ms (r .0) (r .2), r .3)
 
   pub picked-out : (c : ℕ) → List·Memᴰ c (picked ms cs) → (i : ℕ) × (i < length cs) × (0 < getD ms i 0) × (getD cs i 0 ≡ c)
   picked-out c m =

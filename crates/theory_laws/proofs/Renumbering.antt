@@ -178,8 +178,7 @@ module _ (r : Rule) (P : Passing r) (codes ts : List ℕ) (L : ListsReachable r 
         letter-known = T .letter-known;
         target-listed = hy;
         packed = refl;
-        steps =
-            rw (p, q) at (T .steps);
+        steps = rw (p, q) at (T .steps);
       } in
       let k = taken-apart r P L room u U in
       let m = renumbered-in live ts u (L .transitions-are u .1 U) (ends-left live u (rw (k .source) a) (rw (k .target) b)) in

@@ -66,9 +66,7 @@ module _ (old : List ℕ) where
       inside = omega arith;
       long = n .long;
       counted = n .counted ∙ sym (number-no (highs old) i (here ∙ z));
-      done = λ j h. by-cases (ℕ-discrete j i)
-          (λ e. rw e (highs-at xs i ∙ z ∙ sym (tag-no (highs old) i (here ∙ z))))
-          (λ e. n .done j (omega arith));
+      done = λ j h. by-cases (ℕ-discrete j i) (λ e. rw e (highs-at xs i ∙ z ∙ sym (tag-no (highs old) i (here ∙ z)))) (λ e. n .done j (omega arith));
       rest = λ j h. n .rest j (omega arith);
       codes = n .codes;
     }

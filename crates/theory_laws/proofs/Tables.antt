@@ -125,10 +125,7 @@ module _ (A : Automaton) (H : Layered A) (small : A .n ≤ 8) (filled : 0 < A .c
   macro c m h = record { coded = cored c m .0; core = core-iff A (setIn A c) (rankIn A c) .0 (cored c m .1); component = h }
 
   pub goes-component : (c a d : ℕ) → Goes A c a d → componentIn c < A .components → componentIn d < A .components
-  goes-component c a d G h =
-      by-cases (ℕ-discrete (classesIn c) 0)
-      (λ z. rw (G .next z) (next-low A (componentIn c) h))
-      (λ z. rw (G .stays z) h)
+  goes-component c a d G h = by-cases (ℕ-discrete (classesIn c) 0) (λ z. rw (G .next z) (next-low A (componentIn c) h)) (λ z. rw (G .stays z) h)
 
   step-of : (c d : ℕ) → Reachable A s start c → List·Memᴰ d (cores A) → edge c d ≡ true → Reachable A s start d
   unfolding edge

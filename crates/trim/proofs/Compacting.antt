@@ -28,8 +28,7 @@ module _ (F : List ℕ → List ℕ) (old : List ℕ) where
         ap (λ (k : ℕ). getD cur k 0) (sym (add-zero i)) ∙ sym (getD-drop i cur 0 0) ∙ ap (λ (k : List ℕ). getD k 0 0) (c .rest) ∙ getD-drop i old 0 0 ∙ ap (λ (k : ℕ). getD old k 0) (add-zero i)
 
     tail-same : (xs ys : List ℕ) → drop i xs ≡ drop i ys → i < length xs → i < length ys → drop (i + 1) xs ≡ drop (i + 1) ys
-    tail-same xs ys e a b =
-        ap (drop 1) (sym (drop-next xs i a) ∙ e ∙ drop-next ys i b)
+    tail-same xs ys e a b = ap (drop 1) (sym (drop-next xs i a) ∙ e ∙ drop-next ys i b)
 
     pub compact-skip : F (getD old i 0 ∷ drop (i + 1) old) ≡ F (drop (i + 1) old) → Compacting cur w (i + 1)
     compact-skip e = record {

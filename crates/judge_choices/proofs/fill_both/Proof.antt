@@ -49,8 +49,7 @@ fill-choices-requires c κs =
         components = at-classes-of .classes-of .ensures;
         word = p .1;
         few-places = p .2;
-        truths =
-            front (c .before .before .before .before .before);
+        truths = front (c .before .before .before .before .before);
       },
       p .4,
     )

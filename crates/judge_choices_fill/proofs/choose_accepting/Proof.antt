@@ -31,9 +31,7 @@ cast-accepting c =
     let a = start .args in omega (arith, accepting-small (ruleOf (a .rule .head) (a .counts .now) (a .clauses .now)) (start .pre .0 .passing .formed))
 
 add-end : tie.Need-add-end Inv-loop μ-loop
-add-end c =
-    let start = c .before .before .before .before .before .before .before .before in
-    omega (arith, start .pre .0 .few-places)
+add-end c = let start = c .before .before .before .before .before .before .before .before in omega (arith, start .pre .0 .few-places)
 
 loop-holds : tie.Need-loop-holds Inv-loop μ-loop
 loop-holds c =

@@ -22,15 +22,11 @@ cast-choices c =
 
 returns : tie.Need-returns
 unfolding isMet putMet
-returns c =
-    let e = sym (c .before .before .before .met-at .ensures) ∙ c .before .j .given .1 in
-    rw e search needs
+returns c = let e = sym (c .before .before .before .met-at .ensures) ∙ c .before .j .given .1 in rw e search needs
 
 returns-2 : tie.Need-returns-2
 unfolding isMet putMet
-returns-2 c =
-    let e = sym (c .before .before .met-at .ensures) ∙ c .enum-told .given .1 in
-    rw e search needs
+returns-2 c = let e = sym (c .before .before .met-at .ensures) ∙ c .enum-told .given .1 in rw e search needs
 
 pub choose-spec : {M : Type 1} → statement M
 choose-spec =

@@ -57,9 +57,7 @@ below c =
     (least-member (c .before .loop .left) (omega arith) (few c))
 
 add-choose : tie.Need-add-choose Inv-loop μ-loop
-add-choose c =
-    let start = start-of (c .before .before) in
-    omega (arith, below (c .before .before), start .pre .7, start .good)
+add-choose c = let start = start-of (c .before .before) in omega (arith, below (c .before .before), start .pre .7, start .good)
 
 choose-requires : tie.Need-choose-requires Inv-loop μ-loop
 choose-requires c κs =
@@ -108,10 +106,7 @@ loop-again c =
     let room : a .base + a .rule .head .n ≤ length (l .choices) = omega (arith, p .7, l .inv .3) in
     let number : ℕ → ℕ = metNumber r (a .a) (a .all) (a .near) in (
       omega (arith, and-le-r (l .left) (l .left - 1)),
-      ⊎-elim
-          (λ w. rw (w .1, one) (or-lt (a .rule .head .n) (l .found) (2 ^ q) (l .inv .1) (pow-lt k)))
-          (λ w. rw (w .1) (l .inv .1))
-          (c .if1 .came),
+      ⊎-elim (λ w. rw (w .1, one) (or-lt (a .rule .head .n) (l .found) (2 ^ q) (l .inv .1) (pow-lt k))) (λ w. rw (w .1) (l .inv .1)) (c .if1 .came),
       λ x. ⊎-elim
           (λ w. rw (w .1, one) (walk-yes f (l .found) (l .left) pos small (sym test ∙ w .0 .taken) x) ∙ l .inv .2 x)
           (λ w. rw (w .1) (walk-no f (l .found) (l .left) pos small (sym test ∙ w .0 .left) x) ∙ l .inv .2 x)

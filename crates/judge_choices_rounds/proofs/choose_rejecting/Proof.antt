@@ -84,9 +84,7 @@ add-d c =
     omega (arith, bytes-few _ _ _ _ _ _ (start .pre .0), at-if1 .if1 .taken)
 
 loop-less : tie.Need-loop-less Inv-loop μ-loop
-loop-less c =
-    let at-if1 = c .before .before .before .before .before .before .before in
-    omega (arith, at-if1 .if1 .taken)
+loop-less c = let at-if1 = c .before .before .before .before .before .before .before in omega (arith, at-if1 .if1 .taken)
 
 loop-again : tie.Need-loop-again Inv-loop μ-loop
 loop-again c =

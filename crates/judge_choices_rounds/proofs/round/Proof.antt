@@ -61,9 +61,7 @@ below c = bit-below (places (start-of-in-loop c .args .lead .now) (start-of-in-l
     (least-in 64 (c .before .loop .left) (omega arith) (few c))
 
 low : (c : tie.In-loop Inv-loop μ-loop) → trailingZeros 64 (c .before .loop .left) < 64
-low c =
-    let start = c .before .before .before .before .before .before .before .before .before in
-    omega (arith, below c, start .pre .0 .few-places)
+low c = let start = c .before .before .before .before .before .before .before .before .before in omega (arith, below c, start .pre .0 .few-places)
 
 choose-at-requires : tie.Need-choose-at-requires Inv-loop μ-loop
 choose-at-requires c κs =

@@ -30,9 +30,7 @@ cast-met-by : tie.Need-cast-met-by Inv-loop μ-loop
 cast-met-by c = omega (arith, c .shared-slice-known4 .given (c .before .before .loop .i - 1))
 
 slice-read-met-by : tie.Need-slice-read-met-by Inv-loop μ-loop
-slice-read-met-by c =
-    let start = c .before .before .before .before .before .before .before .before .before .before in
-    omega (arith, start .pre .2)
+slice-read-met-by c = let start = c .before .before .before .before .before .before .before .before .before .before in omega (arith, start .pre .2)
 
 met-by-requires : tie.Need-met-by-requires Inv-loop μ-loop
 met-by-requires c κs =

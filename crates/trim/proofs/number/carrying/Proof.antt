@@ -7,9 +7,7 @@ use Rattle.trim.proofs.number.carrying.Statement.{statement}
 use Rattle.trim.proofs.number.carrying.Tie as tie
 
 add-result : tie.Need-add-result
-add-result c =
-    let low : bitAnd (c .args .c) 281474976710655 ≡ c .args .c % 2 ^ 48 = and-mask (c .args .c) 48 in
-    omega (arith, c .pre)
+add-result c = let low : bitAnd (c .args .c) 281474976710655 ≡ c .args .c % 2 ^ 48 = and-mask (c .args .c) 48 in omega (arith, c .pre)
 
 returns : tie.Need-returns
 returns c =
