@@ -115,9 +115,8 @@ module _ (A : Automaton) (H : Layered A) (L : ℕ) (nx w : ℕ → ℕ) (stays :
       pub leaves-in-time : Left A nx w pick q p (delta p q)
       leaves-in-time x y c e =
           let h = along (delta p q) x y c in
-          let k = h .nearer-by e in
           let z = δ-pos A H L nx w stays S exact N near y x (h .good .below) (rejecting-open x y (h .good) (H .pure x q (h .good .below) (g .below) e ∙ a)) in
-          omega arith
+          omega (arith, h .nearer-by e)
 
     unfoldable pub plan-of : (q p : ℕ) → True q p → Accepts A nx w q p
     plan-of q p g = record {
@@ -136,10 +135,7 @@ module _ (A : Automaton) (H : Layered A) (L : ℕ) (nx w : ℕ → ℕ) (stays :
     }
 
     one-distance : (q p : ℕ) → True q p → A .accepting q ≡ false → (d : ℕ) → Distance A nx w q p d → d ≡ delta p q
-    one-distance q p g a d v =
-        let x = v .least (delta p q) (distance q p g a .leaves) in
-        let y = distance q p g a .least d (v .leaves) in
-        omega arith
+    one-distance q p g a d v = omega (arith, distance q p g a .least d (v .leaves), v .least (delta p q) (distance q p g a .leaves))
 
     -- a clause will do exactly if it is inside what the choice aims at
     module _ (q p : ℕ) (g : True q p) (c : ℕ) where
@@ -200,9 +196,7 @@ module _ (A : Automaton) (H : Layered A) (L : ℕ) (nx w : ℕ → ℕ) (stays :
           (λ s. let e = eqb-true _ _ s in
           let n = v .nearer a r l b e in
           let a′ = H .pure r q l (g .below) e ∙ a in
-          let x = one-distance q p g a (n .here) (n .from-here) in
           let y = one-distance r (nx p) (good-at r l t) a′ (n .there) (n .from-there) in
-          let z = n .smaller in
           aim-in a r s ∙ sym (δ-leb A H L nx w stays S exact N near (nx p) r l (rejecting-open r (nx p) (good-at r l t) a′) (delta p q - 1))
-          ∙ le-leb (delta (nx p) r) (delta p q - 1) (omega arith))
+          ∙ le-leb (delta (nx p) r) (delta p q - 1) (omega (arith, n .smaller, one-distance q p g a (n .here) (n .from-here))))
           (λ s. aim-out a r s ∙ t)))

@@ -140,8 +140,7 @@ module _ (r : Rule) (P : Passing r) (lead cycle : List ℕ) (W : WordOver (r .s)
   near-true zero p q l e = clash e (bit-none q)
   near-true (suc d) p q l e =
       let x = sym (bit-mask (r .n) _ q l) ∙ e in
-      let y = and-r (bit (getD T p 0) q) _ x in
-      (and-l (bit (getD T p 0) q) _ x, not-t (bit (r .accepting) q) (and-l (not (bit (r .accepting) q)) _ y))
+      (and-l (bit (getD T p 0) q) _ x, not-t (bit (r .accepting) q) (and-l (not (bit (r .accepting) q)) _ (and-r (bit (getD T p 0) q) _ x)))
 
   true-pair : (q p : ℕ) → p < L → q < r .n → bit (getD T p 0) q ≡ true → True q p
   unfolding automaton
@@ -169,9 +168,8 @@ module _ (r : Rule) (P : Passing r) (lead cycle : List ℕ) (W : WordOver (r .s)
   choice-now d p q l k e t =
       let x = near-true (suc d) p q k t in
       let g = true-pair q p l k (x .0) in
-      let h = leb-false (delta p q) d (distance-leb p q g (x .1) d ∙ e) in
       let i = leb-true (delta p q) (suc d) (distance-leb p q g (x .1) (suc d) ∙ t) in
-      let n : delta p q - 1 ≡ d = omega arith in
+      let n : delta p q - 1 ≡ d = omega (arith, leb-false (delta p q) d (distance-leb p q g (x .1) d ∙ e)) in
       rw (x .0, x .1, distance-is p q g (x .1), n)
 
   -- that of an accepting state needs no distance

@@ -67,10 +67,9 @@ aim-set r few all near q class h k e =
 pub entry-few : (r : Rule) → WellFormed r → (q a : ℕ) → q < r .n → a < r .s → length (entry r q a) ≤ 8
 entry-few r w q a l m =
     let i = q * r .s + a in
-    let c = w .few-clauses _ (mem-at (r .counts) i (entry-number r w q a l m)) in
     let e : length (entry r q a) ≡ length (take (getD (r .counts) i 0) (drop (sum (take i (r .counts))) (r .clauses))) = ap length (entry-part r w q a l m) in
     let k = length-take (getD (r .counts) i 0) (drop (sum (take i (r .counts))) (r .clauses)) in
-    omega arith
+    omega (arith, w .few-clauses _ (mem-at (r .counts) i (entry-number r w q a l m)))
 
 pub clause-listed : (s : ℕ) (cl : List ℕ) (j : ℕ) → metOf s cl ≡ Clause j → j < length cl
 unfolding isMet numberOf

@@ -214,9 +214,8 @@ module _ (r : Rule) (cycle : List ℕ) (layer : ℕ) where
     -- a mask that changes grows
     pub grows : p < length ms → (new ≡ getD ms p 0 → ⊥) → extent r cycle layer ms < extent r cycle layer (set ms p new)
     grows l n =
-        let a = extent-set ms p new l in
         let b = weight-le in
-        by-cases (ℕ-discrete (weight (getD ms p 0)) (weight new)) (λ e. absurd (n (weight-same e))) (λ e. omega arith)
+        by-cases (ℕ-discrete (weight (getD ms p 0)) (weight new)) (λ e. absurd (n (weight-same e))) (λ e. omega (arith, extent-set ms p new l))
 
 -- ---- one round: places p and on are passed
 

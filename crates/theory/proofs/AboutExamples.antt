@@ -141,9 +141,7 @@ k-falls-not = refl
 -- ---- the same of the definitions
 
 level-is : (f : Set) (j l : ℕ) → f j ≡ true → ((i : ℕ) → i < j → f i ≡ false) → Least f l → l ≡ j
-level-is f j l t none L =
-    let h = L .least j t in
-    by-cases (ℕ-discrete l j) (λ e. e) (λ e. absurd (true≢false (sym (L .holds) ∙ none l (omega arith))))
+level-is f j l t none L = by-cases (ℕ-discrete l j) (λ e. e) (λ e. absurd (true≢false (sym (L .holds) ∙ none l (omega (arith, L .least j t)))))
 
 below-two : (f : Set) → f 0 ≡ false → f 1 ≡ false → (i : ℕ) → i < 2 → f i ≡ false
 below-two f x y zero l = x
@@ -156,16 +154,14 @@ unfolding computed
 k-not-less G =
     let x : G .level 0 ≡ 2 = level-is _ 2 (G .level 0) refl (below-two _ refl refl) (G .earlier .level 0 (omega arith) refl) in
     let y : G .level 1 ≡ 0 = level-is _ 0 (G .level 1) refl (λ i l. absurd (omega arith)) (G .earlier .level 1 (omega arith) refl) in
-    let h = G .left (λ e. absurd (omega arith)) in
-    absurd (omega arith)
+    absurd (omega (arith, G .left (λ e. absurd (omega arith))))
 
 -- and from 4611 with k = 1 to 4611 it does not stay 1: all of the class that is left is discharged
 pub k-not-free : Goes (automaton D) 17592186049027 0 17592186049027 → ⊥
 unfolding computed
 k-not-free G =
     let y : G .level 1 ≡ 0 = level-is _ 0 (G .level 1) refl (λ i l. absurd (omega arith)) (G .earlier .level 1 (omega arith) refl) in
-    let h = G .left (λ e. absurd (omega arith)) in
-    absurd (omega arith)
+    absurd (omega (arith, G .left (λ e. absurd (omega arith))))
 
 -- in F the empty set is not before itself over letter 1: it would have to hold state 0
 pub membership-exact : Goes (automaton F) 0 1 0 → ⊥
@@ -186,8 +182,7 @@ pub no-gap : Core (automaton F) (setIn (automaton F) 513) (rankIn (automaton F) 
 unfolding computed
 no-gap C =
     let g = C .gapless 0 1 (omega arith) refl (omega arith) (omega arith) in
-    let e = sym (at-zero (rankIn (automaton F) 513) (g .0) (g .1)) ∙ g .4 in
-    absurd (omega arith)
+    absurd (omega (arith, sym (at-zero (rankIn (automaton F) 513) (g .0) (g .1)) ∙ g .4))
 
 -- ranks 1 and 2 in two components of I are not numbered separately
 component-0 : (automaton I) .component 0 ≡ 0

@@ -63,9 +63,8 @@ values zero m g l = none (suc m)
     none zero = refl
     none (suc M) = let ih = none M in omega arith
 values (suc n) m g l =
-    let ih = values n m g l in
     let x = insertAscending (suc m) (l n) (λ j. someBelow n (λ p. g p && eqb (l p) j)) (g n) in
-    x ∙ ap₂ _+_ ih (ap (λ (b : Bool). one (g n && (b && not (someBelow n (λ p. g p && eqb (l p) (l n)))))) (leb·suc-suc (l n) m))
+    x ∙ ap₂ _+_ (values n m g l) (ap (λ (b : Bool). one (g n && (b && not (someBelow n (λ p. g p && eqb (l p) (l n)))))) (leb·suc-suc (l n) m))
 
 module _ (A : Automaton) (S : Set) where
   -- an open state of component K

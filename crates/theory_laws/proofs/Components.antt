@@ -2,7 +2,7 @@
 use mathlib.Core.Path.{_≡_, refl, sym, _∙_, ap, ap₂}
 use mathlib.Core.Logic.{_⊎_, inl, inr, ⊎-elim, by-cases, _↔_}
 use mathlib.Core.Bool.{Bool, true, false, _&&_, _||_, cond}
-use mathlib.Core.List.{List, [], _∷_, List·Memᴰ, List·Memᴰ·cases-cons, List·Memᴰ·not-nil}
+use mathlib.Core.List.{List, [], _∷_, List·Memᴰ, List·Memᴰ·head, List·Memᴰ·tail, List·Memᴰ·not-nil}
 use Prim.Native.Nat.{ℕ, zero, suc, _*_, _^_, _≤_, _<_}
 use native.Mathlib.Omega.{arith}
 use native.Mathlib.Decide.{decLt}
@@ -23,9 +23,8 @@ use Rattle.theory.specs.Components.{named, leads, LeadsTo, here, step, Together
 
 named-at : (cs : List ℕ) (c q : ℕ) → List·Memᴰ c cs → bit c q ≡ true → named cs q ≡ true
 unfolding named
-named-at [] c q m b = absurd (List·Memᴰ·not-nil m)
-named-at (d ∷ cs) c q m b =
-    ⊎-elim (λ e. or-l (bit d q) (named cs q) (ap (λ (x : ℕ). bit x q) (sym e) ∙ b)) (λ k. or-r (bit d q) (named cs q) (named-at cs c q k b)) (List·Memᴰ·cases-cons m)
+named-at (d ∷ cs) c q (List·Memᴰ·head e) b = or-l (bit d q) (named cs q) (ap (λ (x : ℕ). bit x q) (sym e) ∙ b)
+named-at (d ∷ cs) c q (List·Memᴰ·tail k) b = or-r (bit d q) (named cs q) (named-at cs c q k b)
 
 module _ (R : Rule) where
   pub within-0 : (q p : ℕ) → p < R .n → bit (within R zero q) p ≡ eqb q p

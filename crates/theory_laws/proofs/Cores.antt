@@ -42,8 +42,7 @@ module _ (A : Automaton) where
     closed = λ q l o. sym (f q l) ∙ C .closed q l (open-ext S S′ q (e q l) ∙ o);
     ranked = λ q l o. let h = C .ranked q l (open-ext S S′ q (e q l) ∙ o) in let k = f q l in omega arith;
     gapless = λ q j l o a b.
-        let k = f q l in
-        let g = C .gapless q j l (open-ext S S′ q (e q l) ∙ o) a (omega arith) in
+        let g = C .gapless q j l (open-ext S S′ q (e q l) ∙ o) a (omega (arith, f q l)) in
         (g .0, g .1, g .2, sym (open-ext S S′ (g .0) (e (g .0) (g .1))) ∙ g .3, sym (f (g .0) (g .1)) ∙ g .4);
   }
 
@@ -85,9 +84,7 @@ module _ (A : Automaton) where
 
     pub rank-open-pos : (q : ℕ) → q < A .n → isOpen A S q ≡ true → 1 ≤ rankOf A S l q
     unfolding count
-    rank-open-pos q m o =
-        let e = rank-open-is A S l q o in
-        let y : one (taken A S l (A .component q) (l q)) ≡ 1 = rw (taken-own A S l q m o) in omega arith
+    rank-open-pos q m o = let y : one (taken A S l (A .component q) (l q)) ≡ 1 = rw (taken-own A S l q m o) in omega (arith, rank-open-is A S l q o)
 
     gap-of : (q j : ℕ) → isOpen A S q ≡ true → 1 ≤ j → j ≤ rankOf A S l q → Held q j
     gap-of q zero o a b = absurd (omega arith)

@@ -73,11 +73,10 @@ module _ (r : Rule) (P : Passing r) where
     -- a word over which an initial macrostate goes on for ever is accepted
     pub accepted : (d : ℕ) → begun (holdsInitial r) d ≡ true → Macrostate (automaton r) d → (K : Matters r d) → AcceptsWord r (K .lead) (K .cycle)
     accepted d e M K =
-        let w = letters (K .lead) (K .cycle) in
         let first : Reachable (automaton r) (r .s) (holdsInitial r) (K .run 0) = rw (K .begins) (begins M e) in
         let known = letters-low (r .s) (K .lead) (K .cycle) (K .word) in
         let G = K .goes-on in
-        let N = numbered r P L room w (K .run) first known (G .macrostate) (G .steps) in
+        let N = numbered r P L room (letters (K .lead) (K .cycle)) (K .run) first known (G .macrostate) (G .steps) in
         D .exact (K .lead) (K .cycle) (K .word) .1 (N .number, numbered-run N (G .again) (holdsInitial r) (ap (begun (holdsInitial r)) (K .begins) ∙ e))
 
     -- a rule with a macrostate that matters accepts a word

@@ -85,21 +85,18 @@ module _ (A : Automaton) (H : Layered A) (B : ℕ) (room : A .n ≤ B) (w : ℕ 
   lev-is : (i q : ℕ) → q < A .n → isOpen A (S i) q ≡ true → (d : ℕ) → δ i q ≡ suc d → levAt A B w S rk i q ≡ upto (suc i) (A .component q) d
   lev-is i q l o zero e =
       let a = leb-true (levAt A B w S rk i q) (upto (suc i) (A .component q) 0) (star i q l o 0 ∙ le-leb (δ i q) 1 (omega arith)) in
-      let z = upto-0 (suc i) (A .component q) in
-      omega arith
+      omega (arith, upto-0 (suc i) (A .component q))
   lev-is i q l o (suc d) e =
       let a = leb-true (levAt A B w S rk i q) (upto (suc i) (A .component q) (suc d)) (star i q l o (suc d) ∙ le-leb (δ i q) (suc (suc d)) (omega arith)) in
       let b = leb-false (levAt A B w S rk i q) (upto (suc i) (A .component q) d) (star i q l o d ∙ lt-leb (δ i q) (suc d) (omega arith)) in
-      let c = upto-suc (suc i) (A .component q) d in
-      omega arith
+      omega (arith, upto-suc (suc i) (A .component q) d)
 
   -- so levels order the states as distances do
   alike : (i p q : ℕ) → p < A .n → q < A .n → A .component p ≡ A .component q → isOpen A (S i) p ≡ true → isOpen A (S i) q ≡ true
       → leb (δ i p) (δ i q) ≡ leb (levAt A B w S rk i p) (levAt A B w S rk i q)
   alike i p q m l c t o =
-      let h = δ-pos i q l o in
       let d = δ i q - 1 in
-      let e : δ i q ≡ suc d = omega arith in
+      let e : δ i q ≡ suc d = omega (arith, δ-pos i q l o) in
       ap (leb (δ i p)) e ∙ sym (star i p m t d) ∙ ap (λ (K : ℕ). leb (levAt A B w S rk i p) (upto (suc i) K d)) c ∙ ap (leb (levAt A B w S rk i p)) (sym (lev-is i q l o d e))
 
   pub backed : Backed A B w S rk

@@ -52,8 +52,7 @@ module _ (A : Automaton) (L : ℕ) (nx w : ℕ → ℕ) (stays : (p : ℕ) → p
   flat-det : (d : ℕ) → ((x : ℕ) → x < L * A .n → flat d x ≡ flat (suc d) x) → (x : ℕ) → x < L * A .n → flat (suc d) x ≡ flat (suc (suc d)) x
   unfolding flat rounds
   flat-det d h x l =
-      let k = pos x l in
-      let b = stays (x / A .n) (div-lt-iff-lt-mul k .1 l) in
+      let b = stays (x / A .n) (div-lt-iff-lt-mul (pos x l) .1 l) in
       settled-ext A _ _ _ (x % A .n) _ (λ r m s. sym (flat-at d (nx (x / A .n)) r m) ∙ h (nx (x / A .n) * A .n + r) (digits-lt b m) ∙ flat-at (suc d) (nx (x / A .n)) r m)
 
   -- after L * n rounds nothing changes

@@ -17,7 +17,7 @@ use Rattle.theory.specs.Table.{Transition, Listed, ListsFrom}
 use Rattle.theory.specs.TableComputed.{macrostatesFrom}
 use Rattle.theory_laws.proofs.Goes.{goes-iff}
 use Rattle.theory_laws.proofs.Layers.{layered}
-use Rattle.theory_laws.proofs.Tables.{below, reachable-iff, macrostates-ascending}
+use Rattle.theory_laws.proofs.Tables.{below, transition-by, reachable-iff, macrostates-ascending}
 
 -- ---- lists of one kind are the same
 
@@ -54,16 +54,8 @@ module _ (A : Automaton) (H : Layered A) (s : ℕ) (codes : List ℕ) where
       let a = flat-out _ _ t (x .2) in
       let y = flat-out _ _ t (a .2) in
       let k = keep-out _ (numbers (length codes)) (y .0) (y .1) in
-      record {
-        source = x .0;
-        letter = a .0;
-        target = y .0;
-        source-listed = below (length codes) (x .0) (x .1);
-        letter-known = below s (a .0) (a .1);
-        target-listed = below (length codes) (y .0) (k .0);
-        packed = List·Memᴰ·eq-of-singleton (y .2);
-        steps = goes-iff A H (code (x .0)) (a .0) (code (y .0)) .0 (k .1);
-      }
+      transition-by (x .0) (a .0) (y .0) (below (length codes) (x .0) (x .1)) (below s (a .0) (a .1)) (below (length codes) (y .0) (k .0)) (List·Memᴰ·eq-of-singleton (y .2))
+      (goes-iff A H (code (x .0)) (a .0) (code (y .0)) .0 (k .1))
 
   moves-in : (t : ℕ) → Transition A s codes t → List·Memᴰ t moves
   moves-in t T =

@@ -110,9 +110,8 @@ module _ (r : Rule) (P : Passing r) (codes ts : List ℕ) (L : ListsReachable r 
     matters-live m l M =
         let w = letters (M .lead) (M .cycle) in
         let first : Reachable A (r .s) (holdsInitial r) (M .run 0) = rw (M .begins) (reachable-at m l) in
-        let known = letters-low (r .s) (M .lead) (M .cycle) (M .word) in
         let G = M .goes-on in
-        let N = numbered r P L room w (M .run) first known (G .macrostate) (G .steps) in
+        let N = numbered r P L room w (M .run) first (letters-low (r .s) (M .lead) (M .cycle) (M .word)) (G .macrostate) (G .steps) in
         let e : N .number 0 ≡ m = asc-inj codes (L .codes-ascend) (N .number 0) m (N .low 0) l (N .same 0 ∙ M .begins) in
         rw e at (run-live w (N .number) (N .low) (N .moves) (numbered-again N (G .again)) 0)
 

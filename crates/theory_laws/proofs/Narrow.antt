@@ -35,8 +35,7 @@ module _ (A : Automaton) (c : ℕ) where
   unfolding pack
   packed-small =
       let a = num-lt 16 (omega arith) 10 (fields (rankIn A c) (componentIn c) (classesIn c)) (λ j l. field-small j) in
-      let b = mask-lt 8 (setIn A c) in
-      omega arith
+      omega (arith, mask-lt 8 (setIn A c))
 
   pub narrow : Macrostate A c → c < 2 ^ 48
   unfolding wellCoded

@@ -117,10 +117,9 @@ module _ (ms cs : List ℕ) (same : length ms ≡ length cs) where
       asc-from (picked ms cs)
       (λ i j l h. let p = picked-from i (omega arith) in let q = picked-from j h in
       let b : p .0 < q .0 = number-order (p .0) (q .0) (omega (arith, p .3, q .3, l)) in
-      let less = asc-at cs a (p .0) (q .0) b (q .1) in
       let e : getD (picked ms cs) i 0 ≡ getD cs (p .0) 0 = ap (λ (k : ℕ). getD (picked ms cs) k 0) (sym (p .3)) ∙ picked-at ms cs (p .0) (p .1) (p .2) in
       let f : getD (picked ms cs) j 0 ≡ getD cs (q .0) 0 = ap (λ (k : ℕ). getD (picked ms cs) k 0) (sym (q .3)) ∙ picked-at ms cs (q .0) (q .1) (q .2) in
-      omega arith)
+      omega (arith, asc-at cs a (p .0) (q .0) b (q .1)))
 
 pub number-max : (ms : List ℕ) (i : ℕ) → newNumber ms i ≤ i
 unfolding newNumber

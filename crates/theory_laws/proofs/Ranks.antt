@@ -28,8 +28,7 @@ Agree a b c = (j : ℕ) → j ≤ c → leb a j ≡ leb b j
 agree-eq : (a b c : ℕ) → Agree a b c → a ≤ c → a ≡ b
 agree-eq a b c g h =
     let x = leb-true b a (sym (g a h) ∙ le-leb a a (omega arith)) in
-    let y = leb-true a b (g b (omega arith) ∙ le-leb b b (omega arith)) in
-    omega arith
+    omega (arith, leb-true a b (g b (omega arith) ∙ le-leb b b (omega arith)))
 
 agree-eqb : (a b c : ℕ) → Agree a b c → (j : ℕ) → j ≤ c → eqb a j ≡ eqb b j
 agree-eqb a b c g j h =

@@ -18,7 +18,7 @@ use Rattle.theory.specs.Run.{sourceOf, letterOf, targetOf, Leads}
 use Rattle.theory.specs.Table.{Transition, ListsReachable}
 use Rattle.theory.specs.TableComputed.{transitionsOf}
 use Rattle.theory_laws.proofs.Layers.{layered}
-use Rattle.theory_laws.proofs.Tables.{letters-fit, steps-ascending, steps-iff, taken-apart}
+use Rattle.theory_laws.proofs.Tables.{letters-fit, steps-ascending, steps-iff, transition-by, taken-apart}
 use Rattle.graph_walks.specs.Walks.{Solved}
 use Rattle.trim_spec.specs.Graph.{Step}
 use Rattle.trim_spec.specs.Trimmed.{flags, isLive, newNumber, picked, isLeft, renumber, renumbered}
@@ -110,21 +110,15 @@ unfolding renumbered
 renumbered-out ms [] v m = absurd (List·Memᴰ·not-nil m)
 renumbered-out ms (t ∷ ts) v m =
     bif (isLeft ms t)
-    (λ f. ⊎-elim
-    (λ e. (t, List·Memᴰ·head refl, f, e))
-    (λ k. let (u, l, g, e) = renumbered-out ms ts v k in (u, List·Memᴰ·tail l, g, e))
+    (λ f. ⊎-elim (λ e. (t, List·Memᴰ·head refl, f, e)) (λ k. let (u, l, g, e) = renumbered-out ms ts v k in (u, List·Memᴰ·tail l, g, e))
     (List·Memᴰ·cases-cons (rw (renumbered-yes ms t ts f) at m)))
     (λ f. let (u, l, g, e) = renumbered-out ms ts v (rw (renumbered-no ms t ts f) at m) in (u, List·Memᴰ·tail l, g, e))
 
 renumbered-in : (ms ts : List ℕ) (t : ℕ) → List·Memᴰ t ts → isLeft ms t ≡ true → List·Memᴰ (renumber ms t) (renumbered ms ts)
 unfolding renumbered
-renumbered-in ms [] t m f = absurd (List·Memᴰ·not-nil m)
-renumbered-in ms (u ∷ us) t m f =
-    ⊎-elim
-    (λ e. rw (renumbered-yes ms u us (ap (isLeft ms) (sym e) ∙ f)) (List·Memᴰ·head (ap (renumber ms) e)))
-    (λ k. let i = renumbered-in ms us t k f in
-    bif (isLeft ms u) (λ g. rw (renumbered-yes ms u us g) (List·Memᴰ·tail i)) (λ g. rw (renumbered-no ms u us g) i))
-    (List·Memᴰ·cases-cons m)
+renumbered-in ms (u ∷ us) t (List·Memᴰ·head e) f = rw (renumbered-yes ms u us (ap (isLeft ms) (sym e) ∙ f)) (List·Memᴰ·head (ap (renumber ms) e))
+renumbered-in ms (u ∷ us) t (List·Memᴰ·tail k) f =
+    let i = renumbered-in ms us t k f in bif (isLeft ms u) (λ g. rw (renumbered-yes ms u us g) (List·Memᴰ·tail i)) (λ g. rw (renumbered-no ms u us g) i)
 
 -- ---- of a table
 
@@ -152,16 +146,9 @@ module _ (r : Rule) (P : Passing r) (codes ts : List ℕ) (L : ListsReachable r 
       let ends = left-ends live t e in
       let a : 0 < getD live (T .source) 0 = rw (k .source) at (ends .0) in
       let b : 0 < getD live (T .target) 0 = rw (k .target) at (ends .1) in
-      record {
-        source = newNumber live (T .source);
-        letter = T .letter;
-        target = newNumber live (T .target);
-        source-listed = number-low live codes long (T .source) (T .source-listed) a;
-        letter-known = T .letter-known;
-        target-listed = number-low live codes long (T .target) (T .target-listed) b;
-        packed = renumber-leads t (T .source) (T .letter) (T .target) k;
-        steps = rw (picked-at live codes (T .source) (T .source-listed) a, picked-at live codes (T .target) (T .target-listed) b) (T .steps);
-      }
+      transition-by (newNumber live (T .source)) (T .letter) (newNumber live (T .target)) (number-low live codes long (T .source) (T .source-listed) a) (T .letter-known)
+      (number-low live codes long (T .target) (T .target-listed) b) (renumber-leads t (T .source) (T .letter) (T .target) k)
+      (rw (picked-at live codes (T .source) (T .source-listed) a, picked-at live codes (T .target) (T .target-listed) b) (T .steps))
 
   back : (v : ℕ) → Transition A (r .s) kept v → List·Memᴰ v (renumbered live ts)
   back v T =
@@ -170,16 +157,7 @@ module _ (r : Rule) (P : Passing r) (codes ts : List ℕ) (L : ListsReachable r 
       let u = x * 16777216 + T .letter * 65536 + y in
       let p : getD kept (T .source) 0 ≡ getD codes x 0 = ap (λ (k : ℕ). getD kept k 0) (sym e) ∙ picked-at live codes x hx a in
       let q : getD kept (T .target) 0 ≡ getD codes y 0 = ap (λ (k : ℕ). getD kept k 0) (sym f) ∙ picked-at live codes y hy b in
-      let U : Transition A (r .s) codes u = record {
-        source = x;
-        letter = T .letter;
-        target = y;
-        source-listed = hx;
-        letter-known = T .letter-known;
-        target-listed = hy;
-        packed = refl;
-        steps = rw (p, q) at (T .steps);
-      } in
+      let U : Transition A (r .s) codes u = transition-by x (T .letter) y hx (T .letter-known) hy refl (rw (p, q) at (T .steps)) in
       let k = taken-apart r P L room u U in
       let m = renumbered-in live ts u (L .transitions-are u .1 U) (ends-left live u (rw (k .source) a) (rw (k .target) b)) in
       let g : renumber live u ≡ v = renumber-leads u x (T .letter) y k ∙ rw (e, f) (sym (T .packed)) in

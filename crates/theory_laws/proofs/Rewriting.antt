@@ -89,8 +89,7 @@ module _ (old : List ℕ) where
     pub number-room : 0 < getD xs i 0 / 2 ^ 48 → newNumber (highs old) (length old) < 65536 → k + 1 < 65536
     number-room p few =
         let y = number-yes (highs old) i (rw here p) in
-        let u = number-up (highs old) (i + 1) (length old) (omega arith) in
-        omega (arith, n .counted)
+        omega (arith, number-up (highs old) (i + 1) (length old) (omega arith), n .counted)
 
   pub all-numbered : (xs : List ℕ) (k i : ℕ) → length old ≤ i → NumberedTo xs k i → Numbered (highs old) (highs xs) × (lows xs ≡ lows old)
   all-numbered xs k i l n = (

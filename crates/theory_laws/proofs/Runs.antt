@@ -15,7 +15,7 @@ use Rattle.theory.specs.Run.{Leads, AcceptingRun}
 use Rattle.theory.specs.Table.{Transition, ListsReachable}
 use Rattle.theory.specs.TableComputed.{transitionsOf}
 use Rattle.theory_laws.proofs.Layers.{layered}
-use Rattle.theory_laws.proofs.Tables.{letters-fit, steps-ascending, steps-iff, transition-leads, goes-by}
+use Rattle.theory_laws.proofs.Tables.{letters-fit, steps-ascending, steps-iff, transition-by, transition-leads, taken-apart, goes-by}
 use Rattle.graph_walks.specs.Walks.{Solved}
 use Rattle.trim_spec.specs.Matters.{ListsMattering}
 use Rattle.trim_spec.specs.Graph.{Step}
@@ -90,7 +90,7 @@ module _ (r : Rule) (P : Passing r) (codes ts : List ℕ) (L : ListsReachable r 
       run = record {
         within = low;
         begins = ap (begun (holdsInitial r)) (sym (same 0)) ∙ R .run .begins;
-        moves = λ i. let (t, m, l) = R .run .moves i in by-whole i t (kept-are .transitions-are t .0 m) l;
+        moves = λ i. let (t, m, l) = R .run .moves i in by-whole i t m l;
       };
       again = λ i. let (j, l, e) = R .again i in (j, l, ap isAccepting (sym (same j)) ∙ e);
     },
@@ -109,24 +109,12 @@ module _ (r : Rule) (P : Passing r) (codes ts : List ℕ) (L : ListsReachable r 
       same : (i : ℕ) → getD kept (y i) 0 ≡ getD codes (old i) 0
       same i = ap (λ (k : ℕ). getD kept k 0) (sym (spot i .3)) ∙ picked-at live codes (old i) (spot i .1) (spot i .2)
 
-      by-whole : (i t : ℕ) → Transition A (r .s) kept t → Leads t (y i) (w i) (y (suc i)) → (u : ℕ) × List·Memᴰ u ts × Leads u (old i) (w i) (old (suc i))
-      by-whole i t T l =
-          let k = transition-leads A (r .s) kept (layered r P) (letters-fit r P) kept-room t T in
-          let e : T .source ≡ y i = sym (k .source) ∙ l .source in
-          let f : T .letter ≡ w i = sym (k .letter) ∙ l .letter in
-          let g : T .target ≡ y (suc i) = sym (k .target) ∙ l .target in
-          let steps : Goes A (getD kept (y i) 0) (w i) (getD kept (y (suc i)) 0) = rw (e, f, g) at (T .steps) in
-          let U : Transition A (r .s) codes (old i * 16777216 + w i * 65536 + old (suc i)) = record {
-            source = old i;
-            letter = w i;
-            target = old (suc i);
-            source-listed = low i;
-            letter-known = rw f at (T .letter-known);
-            target-listed = low (suc i);
-            packed = refl;
-            steps = rw (same i, same (suc i)) at steps;
-          } in
-          (old i * 16777216 + w i * 65536 + old (suc i), L .transitions-are _ .1 U, transition-leads A (r .s) codes (layered r P) (letters-fit r P) room _ U)
+      by-whole : (i t : ℕ) → List·Memᴰ t (transitionsOf A (r .s) kept) → Leads t (y i) (w i) (y (suc i)) → (u : ℕ) × List·Memᴰ u ts × Leads u (old i) (w i) (old (suc i))
+      by-whole i t m l =
+          let g = goes-by r P kept-are kept-room t (y i) (w i) (y (suc i)) m l in
+          let U : Transition A (r .s) codes (old i * 16777216 + w i * 65536 + old (suc i))
+          = transition-by (old i) (w i) (old (suc i)) (low i) (g .1) (low (suc i)) refl (rw (same i, same (suc i)) at (g .0)) in
+          (old i * 16777216 + w i * 65536 + old (suc i), L .transitions-are _ .1 U, taken-apart r P L room _ U)
 
   -- ---- demand 3
 

@@ -110,9 +110,8 @@ module _ (A : Automaton) (H : Layered A) (L : ℕ) (nx w : ℕ → ℕ) (stays :
 
   grow : (Vis : Set) (q p : ℕ) → Out q p → Vis (p * A .n + q) ≡ false → count (L * A .n) (λ j. Vis j || eqb (p * A .n + q) j) ≡ count (L * A .n) Vis + 1
   grow Vis q p o t =
-      let x = insert-t (L * A .n) (p * A .n + q) Vis in
       let z : one (ltb (p * A .n + q) (L * A .n) && not (Vis (p * A .n + q))) ≡ 1 = rw (lt-ltb (p * A .n + q) (L * A .n) (digits-lt (o .place) (o .below)), t) in
-      omega arith
+      omega (arith, insert-t (L * A .n) (p * A .n + q) Vis)
 
   -- a rejecting state outside comes lower, or back
   rej-hunt : (h : ℕ) → ((q p : ℕ) → H .height q < h → Out q p → ⊥) → (f : ℕ) (Vis : Set) (q p : ℕ) → L * A .n ≤ f + count (L * A .n) Vis → H .height q < suc h → Out q p → A .accepting q ≡ false →

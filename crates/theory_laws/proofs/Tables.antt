@@ -56,6 +56,11 @@ module _ (x a y : ℕ) (ha : a < 256) (hy : y < 65536) where
       let e : x * 16777216 + a * 65536 + y ≡ x * 16777216 + (a * 65536 + y) = omega arith in
       ap (λ (n : ℕ). n / 16777216) e ∙ digits-div x h
 
+-- the step from x over a to y, packed as t
+abbrev pub transition-by : {A : Automaton} {s : ℕ} {codes : List ℕ} {t : ℕ} (x a y : ℕ) → x < length codes → a < s → y < length codes → t ≡ x * 16777216 + a * 65536 + y
+    → Goes A (getD codes x 0) a (getD codes y 0) → Transition A s codes t
+transition-by x a y i j k e G = record { source = x; letter = a; target = y; source-listed = i; letter-known = j; target-listed = k; packed = e; steps = G }
+
 pub begun-start : (start : Set) (c : ℕ) → begun start c ≡ true → start c ≡ true
 unfolding begun
 begun-start start c e = and-l (start c) (eqb (componentIn c) 0 && eqb (classesIn c) 0) e
@@ -175,16 +180,7 @@ module _ (A : Automaton) (s : ℕ) (codes : List ℕ) where
     packed-out x a y ha hy m = goes-iff A H (code x) a (code y) .0 (sym (steps-there-is x a y (omega arith) (omega arith)) ∙ keep-out steps-there _ _ (sorted-out _ _ m) .1)
 
     made-of : (t x a y : ℕ) → x < length codes → a < s → y < length codes → t ≡ x * 16777216 + a * 65536 + y → List·Memᴰ t (transitionsOf A s codes) → Transition A s codes t
-    made-of t x a y hx ha hy e m = record {
-      source = x;
-      letter = a;
-      target = y;
-      source-listed = hx;
-      letter-known = ha;
-      target-listed = hy;
-      packed = e;
-      steps = packed-out x a y ha hy (rw e at m);
-    }
+    made-of t x a y hx ha hy e m = transition-by x a y hx ha hy e (packed-out x a y ha hy (rw e at m))
 
     transition-out : (t : ℕ) → List·Memᴰ t (transitionsOf A s codes) → Transition A s codes t
     unfolding transitionsOf
@@ -316,16 +312,7 @@ module _ (r : Rule) (P : Passing r) {start : Set} {codes ts : List ℕ} (L : Lis
     spot i = place-of codes (c i) (L .codes-are (c i) .1 (reach i))
 
     transition-at : (i : ℕ) → Transition (automaton r) (r .s) codes (spot i .0 * 16777216 + w i * 65536 + spot (suc i) .0)
-    transition-at i = record {
-      source = spot i .0;
-      letter = w i;
-      target = spot (suc i) .0;
-      source-listed = spot i .1;
-      letter-known = known i;
-      target-listed = spot (suc i) .1;
-      packed = refl;
-      steps = rw (spot i .2, spot (suc i) .2) (steps i);
-    }
+    transition-at i = transition-by (spot i .0) (w i) (spot (suc i) .0) (spot i .1) (known i) (spot (suc i) .1) refl (rw (spot i .2, spot (suc i) .2) (steps i))
 
     pub numbered : NumberedRun codes ts w c
     unfolding transition-at

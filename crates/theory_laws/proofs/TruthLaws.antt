@@ -71,14 +71,13 @@ module _ (r : Rule) (P : Passing r) (lead cycle : List ℕ) (repeats : 0 < lengt
   pub sound-step : (p q : ℕ) → p < L → q < r .n → heightOf r q ≡ h → isOpen A (now p) q ≡ true → isOpen A (T p) q ≡ true
   unfolding automaton
   sound-step p q l k e o =
-      let z = next-place-low lead cycle repeats p l in
       let f = A .accepting q in
       let es = entry r q (letter p) in
       open-kind A f (T p) q refl ∙ ap (exclusive f) (truth-exact r P lead cycle repeats p q l k) ∙ sym (meets-open f (r .n) (T (next p)) es)
       ∙ meets-mono f (r .n) (openIn f (M (next p))) (openIn f (T (next p))) es
       (λ c x m i b v. ⊎-elim
       (λ s. let a = heights r P .pure x q i k (s .0) in
-      sym (open-kind A f (T (next p)) x a) ∙ sound (next p) x z i (s .1) (open-kind A f (M (next p)) x a ∙ v))
+      sym (open-kind A f (T (next p)) x a) ∙ sound (next p) x (next-place-low lead cycle repeats p l) i (s .1) (open-kind A f (M (next p)) x a ∙ v))
       (λ u. ap (exclusive f) (sym u) ∙ v) (lower p q l k e c x m i b))
       (meets-open f (r .n) (M (next p)) es ∙ sym (open-kind A f (now p) q refl) ∙ o)
 
@@ -210,9 +209,7 @@ module _ (r : Rule) (P : Passing r) (a : ℕ) (lead cycle : List ℕ) (repeats :
   -- the mask in front holds the states whose entry at the letter the next mask satisfies
   pub truth-cons : truthMasks r (a ∷ lead) cycle ≡ mask (r .n) (λ q. satisfies (r .n) (bit (getD (truthMasks r lead cycle) 0 0)) (entry r q a)) ∷ truthMasks r lead cycle
   truth-cons =
-      let h = truth-length r (a ∷ lead) cycle in
-      let k = truth-length r lead cycle in
-      ext-getD 0 _ _ (omega arith) at
+      ext-getD 0 _ _ (omega (arith, truth-length r lead cycle, truth-length r (a ∷ lead) cycle)) at
     where
       at : (i : ℕ) → i < length (truthMasks r (a ∷ lead) cycle) → getD (truthMasks r (a ∷ lead) cycle) i 0
           ≡ getD (mask (r .n) (λ q. satisfies (r .n) (bit (getD (truthMasks r lead cycle) 0 0)) (entry r q a)) ∷ truthMasks r lead cycle) i 0

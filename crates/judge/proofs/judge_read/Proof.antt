@@ -54,14 +54,12 @@ served : (c : tie.After-contains) (t : Bool) → let a = start-of-after-contains
     (f .last .1 .1 .1 .1 .1 .0) (verdict 0 t)
 served c t e =
     let at-if2 = c .before .before .before .before .before .before .before in let at-if1 = at-if2 .before in
-    let at-word-row = at-if1 .before in
     let a = start-of-after-contains c .args in
     let r = ruleOf (a .h) (a .counts .now) (a .clauses .now) in
     let f = c .before .before .before .before .before .fill in
-    let row = sym (at-word-row .word-row .ensures) ∙ at-if1 .if1 .left in
-    let w = word-over (a .h .s) (a .lead .now) (a .cycle .now) row in
+    let row = sym ((at-if1 .before) .word-row .ensures) ∙ at-if1 .if1 .left in
     called-served r (a .lead .now) (a .cycle .now) (a .masks .now) (call-served r (a .lead .now) (a .cycle .now) (length (a .masks .now)) row (at-if2 .if2 .left))
-    (f .last .1 .1 .1 .1 .1 .0) (f .ensures) (w .repeats) t e
+    (f .last .1 .1 .1 .1 .1 .0) (f .ensures) ((word-over (a .h .s) (a .lead .now) (a .cycle .now) row) .repeats) t e
 
 returns-3 : tie.Need-returns-3
 returns-3 c = served (c .before) true (sym (c .before .contains .ensures) ∙ c .if3 .taken)

@@ -41,8 +41,7 @@ fill-choices-requires : tie.Need-fill-choices-requires
 fill-choices-requires c κs =
     let at-classes-of = c .before .before .before .before .before .before .before .before .before in
     let at-starts-of = at-classes-of .before .before .before in
-    let start = at-starts-of .before .before .before .before .before .before .before in
-    let p = start .pre in (
+    let p = (at-starts-of .before .before .before .before .before .before .before) .pre in (
       record {
         passing = p .0;
         beginnings = at-starts-of .starts-of .ensures;

@@ -85,9 +85,8 @@ returns c =
     = λ q l. let k : q < 8 = omega (arith, w .few-states) in
     ap (λ (m : ℕ). bit m q) (at-difference2 .difference2 .ensures) ∙ bit-mask 8 _ q k
     ∙ ap (λ (b : Bool). b && not (bit near q)) (ap (λ (m : ℕ). bit m q) (at-difference .difference .ensures) ∙ bit-mask 8 _ q k) in
-    let t = c .before .before .choose-each .ensures in
     place-of-tried r (a .lead .now) (a .cycle .now) (a .masks .now) (a .near .now) (a .p) (at-difference2 .difference2 .result) _ _ _ states
-    (rw (at-letter-at .letter-at .ensures, next-is (earlier)) at t)
+    (rw (at-letter-at .letter-at .ensures, next-is (earlier)) at (c .before .before .choose-each .ensures))
 
 pub choose-at-spec : {M : Type 1} → statement M
 choose-at-spec =

@@ -46,8 +46,7 @@ at-height-requires c κs =
 solve-layer-requires : tie.Need-solve-layer-requires Inv-loop μ-loop
 solve-layer-requires c κs =
     let start = c .before .before .before .before .before .before .before .before .before .before .before .before .before in
-    let z = start .pre in
-    (z .0, rw (c .before .at-height .ensures) (mask-lt _ _), c .before .before .before .loop .inv .1 .long)
+    ((start .pre) .0, rw (c .before .at-height .ensures) (mask-lt _ _), c .before .before .before .loop .inv .1 .long)
 
 add-height : tie.Need-add-height Inv-loop μ-loop
 add-height c =

@@ -38,8 +38,7 @@ loop-again-2 : tie.Need-loop-again-2 Inv-loop μ-loop
 loop-again-2 c =
     let l = c .before .before .before .loop in let xs = c .before .before .before .before .before .args .codes .now in
     let inside : l .i < length xs = omega (arith, l .inv .long) in
-    let e = compact-at _ xs (l .codes) (l .w) (l .i) inside (l .inv) in
-    let out : getD xs (l .i) 0 / 2 ^ 48 ≡ 0 = omega arith in
+    let out : getD xs (l .i) 0 / 2 ^ 48 ≡ 0 = omega (arith, compact-at _ xs (l .codes) (l .w) (l .i) inside (l .inv)) in
     compact-skip _ xs (l .codes) (l .w) (l .i) inside (l .inv) (compacted-not _ _ out)
 
 zero-from-requires : tie.Need-zero-from-requires Inv-loop μ-loop
