@@ -176,17 +176,11 @@ bit-full n q =
 
 -- ---- subsets
 
-same-and : (a b : Bool) → a && b ≡ a → a ≡ true → b ≡ true
-same-and a b e t = and-r a b (e ∙ t)
-
-and-same : (a b : Bool) → (a ≡ true → b ≡ true) → a && b ≡ a
-and-same a b h = bif a (λ t. rw t (h t)) (λ t. rw t)
-
 -- a is a part of b exactly if the conjunction takes nothing from a
 pub subset-and : (k a b : ℕ) → a < 2 ^ k → ((q : ℕ) → q < k → bit a q ≡ true → bit b q ≡ true) ↔ (bitAnd a b ≡ a)
 subset-and k a b h = (
-  λ s. bit-ext k (bitAnd a b) a (omega (arith, and-le-l a b)) h (λ q l. bit-and a b q ∙ and-same (bit a q) (bit b q) (s q l)),
-  λ e q l t. same-and (bit a q) (bit b q) (sym (bit-and a b q) ∙ ap (λ (x : ℕ). bit x q) e) t,
+  λ s. bit-ext k (bitAnd a b) a (omega (arith, and-le-l a b)) h (λ q l. bit-and a b q ∙ bif (bit a q) (λ t. rw t (s q l t)) (λ t. rw t)),
+  λ e q l t. and-r (bit a q) (bit b q) (sym (bit-and a b q) ∙ ap (λ (x : ℕ). bit x q) e ∙ t),
 )
 
 -- a part of a mask is at most the mask

@@ -15,23 +15,17 @@ stays-from f n zero l h = let e : n ≡ 0 = omega arith in rw e
 stays-from f n (suc m) l h =
     by-cases (ℕ-discrete n (suc m)) (λ e. rw e) (λ e. h m (omega arith) (omega arith) ∙ stays-from f n m (omega arith) (λ p a b. h p a (omega arith)))
 
-spot : (x y c s t z : ℕ) → (x * z + s) + (y * z + t) * c ≡ (x + y * c) * z + (s + t * c)
-spot x y c s t z = omega arith
-
 -- digits added place by place
 pub num-add : (b m : ℕ) (f g : ℕ → ℕ) (c : ℕ) → num b m f + num b m g * c ≡ num b m (λ q. f q + g q * c)
 unfolding num
 num-add b zero f g c = omega arith
-num-add b (suc m) f g c = spot (f m) (g m) c (num b m f) (num b m g) (b ^ m) ∙ ap (λ (x : ℕ). (f m + g m * c) * b ^ m + x) (num-add b m f g c)
-
-low-spot : (x y s b t : ℕ) → x * (y * b) + (s * b + t) ≡ (x * y + s) * b + t
-low-spot x y s b t = omega arith
+num-add b (suc m) f g c = let ih = num-add b m f g c in omega arith
 
 -- the lowest digit apart
 pub num-low : (b m : ℕ) (f : ℕ → ℕ) → num b (suc m) f ≡ num b m (λ j. f (suc j)) * b + f 0
 unfolding num
 num-low b zero f = let e : b ^ 0 ≡ 1 = pow-zero b in rw e (omega arith)
-num-low b (suc m) f = ap₂ (λ (x y : ℕ). f (suc m) * x + y) (pow-suc b m) (num-low b m f) ∙ low-spot (f (suc m)) (b ^ m) (num b m (λ j. f (suc j))) b (f 0)
+num-low b (suc m) f = ap₂ (λ (x y : ℕ). f (suc m) * x + y) (pow-suc b m) (num-low b m f) ∙ omega arith
 
 -- digits from n on that are 0
 pub num-trim : (b m n : ℕ) (f : ℕ → ℕ) → n ≤ m → ((j : ℕ) → n ≤ j → j < m → f j ≡ 0) → num b m f ≡ num b n f

@@ -2,7 +2,7 @@
 use mathlib.Core.Path.{_≡_, refl, sym, _∙_, ap, ap₂}
 use mathlib.Core.Logic.{_⊎_, inl, inr, ⊎-elim, by-cases, _↔_}
 use mathlib.Core.Bool.{Bool, true, false, _&&_, _||_, cond}
-use mathlib.Core.List.{List, [], _∷_, List·Memᴰ, List·Memᴰ·head, List·Memᴰ·tail, List·Memᴰ·not-nil}
+use mathlib.Core.List.{List, _∷_, List·Memᴰ, List·Memᴰ·head, List·Memᴰ·tail, List·Memᴰ·not-nil}
 use Prim.Native.Nat.{ℕ, zero, suc, _*_, _^_, _≤_, _<_}
 use native.Mathlib.Omega.{arith}
 use native.Mathlib.Decide.{decLt}
@@ -132,16 +132,12 @@ module _ (R : Rule) where
 
   -- ---- the states of q's clauses
 
-  no-letter : (q a : ℕ) → ltb a (R .s) ≡ false → entry R q a ≡ []
-  unfolding entry
-  no-letter q a e = rw e
-
   pub clause-leads : (q a c p : ℕ) → List·Memᴰ c (entry R q a) → bit c p ≡ true → leads R q p ≡ true
-  unfolding leads
+  unfolding leads entry
   clause-leads q a c p m b =
       bif (ltb a (R .s))
       (λ t. some-at (R .s) _ a (ltb-true a (R .s) t) (named-at (entry R q a) c p m b))
-      (λ t. absurd (List·Memᴰ·not-nil {a = c} (rw (no-letter q a t) at m)))
+      (λ t. absurd (List·Memᴰ·not-nil {a = c} (rw t at m)))
 
   pub same-heights : (p q : ℕ) → p < R .n → q < R .n → together R p q ≡ true → count (R .n) (reaches R p) ≡ count (R .n) (reaches R q)
   unfolding together

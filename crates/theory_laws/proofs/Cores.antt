@@ -157,11 +157,9 @@ module _ (A : Automaton) where
         let e = eqb-true (r (g .0)) j (and-r (isOpen A S (g .0)) _ u) in
         let h = largest-ge (A .n) (openOf A S K) r (g .0) (g .1) (and-i (and-l (eqb (A .component (g .0)) K) _ (g .2)) (and-l (isOpen A S (g .0)) _ u)) in omega arith
 
-    taken-under : (K j q : ℕ) → q < A .n → openOf A S K q ≡ true → 1 ≤ j → j ≤ r q → taken A S r K j ≡ true
-    taken-under K j q m t a b = rw (open-component A S K q t) at (rank-taken q j m (open-state A S K q t) a b)
-
     taken-all : (K j : ℕ) → 1 ≤ j → j ≤ largest (A .n) (openOf A S K) r → taken A S r K j ≡ true
-    taken-all K j a b = let x = largest-hit (A .n) (openOf A S K) r (omega arith) in taken-under K j (x .0) (x .1) (x .2) a (omega (arith, x .3))
+    taken-all K j a b =
+        let (q, m, t, e) = largest-hit (A .n) (openOf A S K) r (omega arith) in rw (open-component A S K q t) at (rank-taken q j m (open-state A S K q t) a (omega arith))
 
     -- the largest rank of component K is at most n
     pub classes-max : (K : ℕ) → largest (A .n) (openOf A S K) r ≤ A .n

@@ -49,14 +49,11 @@ module _ (r : Rule) (P : Passing r) where
   unfolding automaton
   few-components = let h = few-in-all r P in omega arith
 
-  states-fit : (automaton r) .n ≤ 15
-  states-fit = let h = few-states r P in omega arith
-
   -- over a word with a cycle there is one
   pub word-run : (lead cycle : List ℕ) → 0 < length cycle → (c : ℕ → ℕ) × WordRun r lead cycle c
   unfolding automaton
   word-run lead cycle h =
-      let t = truthful (automaton r) (layered r P) 15 states-fit (places lead cycle) (nextPlace lead cycle) (letterAt lead cycle) (next-place-low lead cycle h) (omega arith) in
+      let t = truthful (automaton r) (layered r P) 15 (omega (arith, few-states r P)) (places lead cycle) (nextPlace lead cycle) (letterAt lead cycle) (next-place-low lead cycle h) (omega arith) in
       of-truth t
     where
       of-truth : Truthful (automaton r) 15 (nextPlace lead cycle) (letterAt lead cycle) → (c : ℕ → ℕ) × WordRun r lead cycle c

@@ -169,9 +169,7 @@ steps-on x (inr (inl z)) = (184549385, listed 24 184549385 (omega arith) (rw tra
 steps-on x (inr (inr z)) = (150994948, listed 20 150994948 (omega arith) (rw transitions-D), rw z (record { source = refl; letter = refl; target = refl }))
 
 below-13 : (x : ℕ) → (x ≡ 4) ⊎ ((x ≡ 11) ⊎ (x ≡ 9)) → x < 13
-below-13 x (inl z) = omega arith
-below-13 x (inr (inl z)) = omega arith
-below-13 x (inr (inr z)) = omega arith
+below-13 x h = ⊎-elim (λ z. omega arith) (λ k. ⊎-elim (λ z. omega arith) (λ z. omega arith) k) h
 
 returns : (i : ℕ) → (loop i ≡ 4) ⊎ ((loop i ≡ 11) ⊎ (loop i ≡ 9)) → (j : ℕ) × (i < j) × (loop j ≡ 4)
 unfolding loop follow

@@ -9,7 +9,7 @@ use native.Mathlib.Decide.{ℕ-discrete}
 use lib.Dec.{eqb, leb}
 use borrow.Author.Tests.{leb-true, leb-false, le-leb, lt-leb, eq-eqb, ne-eqb}
 use Rattle.sets.specs.Tests.{Set, count, one, first, largest}
-use Rattle.sets.proofs.Bools.{bif, clash, and-l, and-r}
+use Rattle.sets.proofs.Bools.{bif, and-l, and-r}
 use Rattle.sets.proofs.Tests.{first-leb, count-le, some-none, largest-le}
 use Rattle.theory.specs.Automaton.{Automaton}
 use Rattle.theory.specs.Layered.{Layered}
@@ -19,7 +19,7 @@ use Rattle.theory.specs.Rule.{satisfies}
 use Rattle.theory_laws.proofs.Certified.{discharged, Backed, Run}
 use Rattle.theory_laws.proofs.Classes.{open-component, open-state, rank-max, rank-order, rank-upto}
 use Rattle.theory_laws.proofs.Distance.{discharged-le}
-use Rattle.theory_laws.proofs.Pursuit.{discharged-open, open-kind}
+use Rattle.theory_laws.proofs.Pursuit.{open-kind, discharged-shut}
 use Rattle.theory_laws.proofs.Ranks.{levAt, lev-test}
 use Rattle.theory_laws.proofs.Settled.{settled-ext}
 
@@ -62,14 +62,11 @@ module _ (A : Automaton) (H : Layered A) (B : ℕ) (room : A .n ≤ B) (w : ℕ 
       (λ t. let x : one (taken A (S i) (δ i) K (suc d)) ≡ 0 = rw t in omega arith)
 
   -- levels against distances
-  discharged-shut : (i d q : ℕ) → isOpen A (S i) q ≡ false → discharged A suc w S i d q ≡ false
-  discharged-shut i d q o = bif (discharged A suc w S i d q) (λ t. clash (discharged-open A suc w S i d q t) o) (λ t. t)
-
   star : (i q : ℕ) → q < A .n → isOpen A (S i) q ≡ true → (d : ℕ) → leb (levAt A B w S rk i q) (upto (suc i) (A .component q) d) ≡ leb (δ i q) (suc d)
   unfolding discharged settledUpTo rk
   star i q l o d =
       lev-test A H B w S exact rk rk-bound i q l o (upto (suc i) (A .component q) d)
-      ∙ settled-ext A _ _ (discharged A suc w S (suc i) d) q _ (λ p m s. bif (isOpen A (S (suc i)) p) (λ t. inside p m s t) (λ t. rw t (sym (discharged-shut (suc i) d p t))))
+      ∙ settled-ext A _ _ (discharged A suc w S (suc i) d) q _ (λ p m s. bif (isOpen A (S (suc i)) p) (λ t. inside p m s t) (λ t. rw t (sym (discharged-shut A suc w S (suc i) d p t))))
       ∙ sym (ap (λ (b : Bool). b && settled A (S (suc i)) (discharged A suc w S (suc i) d) q (A .entry q (w i))) o)
       ∙ sym (δ-leb i q l o (suc d))
     where
@@ -135,19 +132,9 @@ module _ (A : Automaton) (H : Layered A) (B : ℕ) (room : A .n ≤ B) (w : ℕ 
   after-stay i x e = rw (ne-eqb (x .left) 0 e)
 
   -- distances, ranks and levels against one another
-  lev-low : (i q e : ℕ) → q < A .n → isOpen A (S i) q ≡ true → δ i q ≤ suc e → levAt A B w S rk i q ≤ upto (suc i) (A .component q) e
-  lev-low i q e l o h = leb-true _ _ (star i q l o e ∙ le-leb (δ i q) (suc e) h)
-
-  rk-low : (i q e : ℕ) → q < A .n → isOpen A (S i) q ≡ true → δ i q ≤ e → rk i q ≤ upto i (A .component q) e
+  lev-low : (i q e : ℕ) → q < A .n → isOpen A (S i) q ≡ true → rk i q ≤ upto i (A .component q) (suc e) → levAt A B w S rk i q ≤ upto (suc i) (A .component q) e
   unfolding rk
-  rk-low i q e l o h = leb-true _ _ (rank-upto A (S i) (δ i) q l o e ∙ le-leb (δ i q) e h)
-
-  δ-low : (i q e : ℕ) → q < A .n → isOpen A (S i) q ≡ true → rk i q ≤ upto i (A .component q) e → δ i q ≤ e
-  unfolding rk
-  δ-low i q e l o h = leb-true _ _ (sym (rank-upto A (S i) (δ i) q l o e) ∙ le-leb (rk i q) (upto i (A .component q) e) h)
-
-  δ-max : (i q : ℕ) → q < A .n → isOpen A (S i) q ≡ true → δ i q ≤ N
-  δ-max i q l o = leb-true _ _ (δ-leb i q l o N ∙ near i q l o)
+  lev-low i q e l o h = leb-true _ _ (star i q l o e ∙ sym (rank-upto A (S i) (δ i) q l o (suc e)) ∙ le-leb (rk i q) (upto i (A .component q) (suc e)) h)
 
   -- what is left after a step at the same component
   stay-low : (i e : ℕ) (x : Work) → x .left ≤ upto i (x .component) (suc e)
@@ -158,13 +145,12 @@ module _ (A : Automaton) (H : Layered A) (B : ℕ) (room : A .n ≤ B) (w : ℕ 
       let c = open-component A (S i) (x .component) q a in
       let o = open-state A (S i) (x .component) q a in
       let b = leb-true (rk i q) (x .left) (and-r (openOf A (S i) (x .component) q) _ t) in
-      rw c at (lev-low i q e l o (δ-low i q (suc e) l o (rw c (le-trans b h)))))
+      rw c at (lev-low i q e l o (rw c (le-trans b h))))
 
   turn-low : (i C : ℕ) → largest (A .n) (openOf A (S i) C) (rk i) ≤ upto i C N
-  turn-low i C = largest-le (A .n) _ _ _ (λ q l t. let o = open-state A (S i) C q t in rw (open-component A (S i) C q t) at (rk-low i q N l o (δ-max i q l o)))
-
-  upto-up : (i C e : ℕ) → upto i C e ≤ upto i C (suc e)
-  upto-up i C e = count-le (suc e) (suc (suc e)) _ (omega arith)
+  unfolding rk
+  turn-low i C = largest-le (A .n) _ _ _ (λ q l t. let o = open-state A (S i) C q t in
+      rw (open-component A (S i) C q t) at (leb-true (rk i q) (upto i (A .component q) N) (rank-upto A (S i) (δ i) q l o N ∙ δ-leb i q l o N ∙ near i q l o)))
 
   low : (i : ℕ) → (work i) .left ≤ upto i ((work i) .component) N
   unfolding work
@@ -172,7 +158,7 @@ module _ (A : Automaton) (H : Layered A) (B : ℕ) (room : A .n ≤ B) (w : ℕ 
   low (suc i) =
       by-cases (ℕ-discrete ((work i) .left) 0)
       (λ z. rw (after-turn i (work i) z) (turn-low (suc i) (nextComponent A ((work i) .component))))
-      (λ z. rw (after-stay i (work i) z) (stay-low i N (work i) (le-trans (low i) (upto-up i ((work i) .component) N))))
+      (λ z. rw (after-stay i (work i) z) (stay-low i N (work i) (le-trans (low i) (count-le (suc N) (suc (suc N)) _ (omega arith)))))
 
   zero-in : (e i : ℕ) → (work i) .left ≤ upto i ((work i) .component) e → (j : ℕ) × (i ≤ j) × ((work j) .left ≡ 0)
   unfolding work

@@ -3,33 +3,20 @@ use mathlib.Core.Path.{_≡_}
 use mathlib.Core.Bool.{true}
 use Prim.Native.Nat.{ℕ, _+_, _*_, _/_, _%_, _^_, _<_}
 use native.Mathlib.Omega.{arith}
-use lib.Dec.{eqb, ltb}
 use borrow.Author.Tests.{eqb-true}
 use Rattle.sets.specs.Digits.{num}
 use Rattle.sets.specs.Masks.{mask}
-use Rattle.sets.proofs.Bools.{bif}
 use Rattle.sets.proofs.Digits.{num-lt}
 use Rattle.sets.proofs.Masks.{mask-lt}
 use Rattle.theory.specs.Automaton.{Automaton}
 use Rattle.theory.specs.Code.{fields, pack, componentIn, classesIn, setIn, rankIn, wellCoded}
 use Rattle.theory.specs.Macrostate.{Macrostate}
+use Rattle.theory_laws.proofs.Goes.{rank-small, component-small, classes-small}
+use Rattle.theory_laws.proofs.Packing.{fields-small}
 
 module _ (A : Automaton) (c : ℕ) where
-  rank-small : (q : ℕ) → rankIn A c q < 16
-  unfolding rankIn
-  rank-small q = bif (ltb q (A .n)) (λ e. rw e (omega arith)) (λ e. rw e (omega arith))
-
-  component-small : componentIn c < 16
-  unfolding componentIn
-  component-small = omega arith
-
-  classes-small : classesIn c < 16
-  unfolding classesIn
-  classes-small = omega arith
-
   field-small : (j : ℕ) → fields (rankIn A c) (componentIn c) (classesIn c) j < 16
-  unfolding fields
-  field-small j = bif (ltb j 8) (λ e. rw e (rank-small j)) (λ e. bif (eqb j 8) (λ f. rw (e, f) component-small) (λ f. rw (e, f) classes-small))
+  field-small = fields-small (rankIn A c) (componentIn c) (classesIn c) (λ q. omega (arith, rank-small A c q)) (component-small c) (classes-small c)
 
   packed-small : pack (setIn A c) (rankIn A c) (componentIn c) (classesIn c) < 2 ^ 48
   unfolding pack

@@ -28,15 +28,15 @@ use Rattle.theory_laws.proofs.Breakpoint.{comp-below}
 use Rattle.theory_laws.proofs.Certified.{Run}
 use Rattle.theory_laws.proofs.Goes.{is-goes, goes-iff}
 
+pub fields-small : (r : ℕ → ℕ) (K k : ℕ) → ((q : ℕ) → r q < 16) → K < 16 → k < 16 → (j : ℕ) → fields r K k j < 16
+unfolding fields
+fields-small r K k a b c j = bif (ltb j 8) (λ t. rw t (a j)) (λ t. rw t (bif (eqb j 8) (λ u. rw u b) (λ u. rw u c)))
+
 module _ (A : Automaton) (small : A .n ≤ 8) (S : Set) (r : ℕ → ℕ) (K k : ℕ)
     (trim-S : (q : ℕ) → A .n ≤ q → S q ≡ false) (trim-r : (q : ℕ) → A .n ≤ q → r q ≡ 0)
     (r-small : (q : ℕ) → r q < 16) (K-small : K < 16) (k-small : k < 16) where
   abbrev c : ℕ
   c = pack S r K k
-
-  fields-small : (j : ℕ) → j < 10 → fields r K k j < 16
-  unfolding fields
-  fields-small j l = bif (ltb j 8) (λ t. rw t (r-small j)) (λ t. rw t (bif (eqb j 8) (λ u. rw u K-small) (λ u. rw u k-small)))
 
   high : c / 2 ^ 8 ≡ num 16 10 (fields r K k)
   unfolding pack
@@ -45,7 +45,7 @@ module _ (A : Automaton) (small : A .n ≤ 8) (S : Set) (r : ℕ → ℕ) (K k :
   hex : (j : ℕ) → j < 10 → c / 2 ^ (8 + 4 * j) % 16 ≡ fields r K k j
   hex j l =
       ap (λ (x : ℕ). x % 16) (sym (shr-shr c 8 (4 * j)) ∙ ap (λ (x : ℕ). x / 2 ^ (4 * j)) high ∙ ap (λ (x : ℕ). num 16 10 (fields r K k) / x) (pow16 j))
-      ∙ digit-num 16 (omega arith) 10 (fields r K k) fields-small j l
+      ∙ digit-num 16 (omega arith) 10 (fields r K k) (λ j l. fields-small r K k r-small K-small k-small j) j l
 
   pub set-is : setIn A c ≡ S
   unfolding setIn pack bit

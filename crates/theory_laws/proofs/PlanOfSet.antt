@@ -1,7 +1,7 @@
 -- A state of the solved sets named a plan.
-use mathlib.Core.Path.{_≡_, sym, _∙_, ap}
+use mathlib.Core.Path.{_≡_, sym, _∙_, refl}
 use mathlib.Core.Logic.{_⊎_, inl, inr, ⊎-elim}
-use mathlib.Core.Bool.{true, false, _||_, not, cond, false≢true}
+use mathlib.Core.Bool.{true, false, cond, false≢true}
 use mathlib.Core.List.{List, [], _∷_, List·Memᴰ, List·Memᴰ·head, List·Memᴰ·tail}
 use Prim.Native.Nat.{ℕ, suc, _-_, _<_}
 use native.Mathlib.Omega.{arith}
@@ -9,8 +9,8 @@ use lib.Dec.{eqb, leb}
 use borrow.Author.Tests.{leb-true, leb-false, le-leb, eqb-true, eq-eqb}
 use Rattle.sets.specs.Masks.{bit, inside}
 use Rattle.sets.specs.Tests.{Set, first}
-use Rattle.sets.proofs.Bools.{bif, or-rt, or-tf}
-use Rattle.sets.proofs.Tests.{every-at, first-leb}
+use Rattle.sets.proofs.Bools.{bif, or-rt}
+use Rattle.sets.proofs.Tests.{first-leb}
 use Rattle.theory.specs.Automaton.{Automaton}
 use Rattle.theory.specs.Layered.{Layered}
 use Rattle.theory.specs.Core.{isOpen, mix}
@@ -19,33 +19,20 @@ use Rattle.theory.specs.Rule.{satisfies}
 use Rattle.theory_laws.proofs.Certified.{discharged}
 use Rattle.theory_laws.proofs.Distance.{discharged-le}
 use Rattle.theory_laws.proofs.Pursuit.{open-kind, mix-in, mix-out, settled-kind, discharged-open, discharged-settled}
+use Rattle.sets.proofs.Members.{inside-at}
 
 -- the first clause inside X
 unfoldable pub choose : ℕ → Set → List ℕ → ℕ
 choose n X [] = 0
 choose n X (c ∷ cs) = elim (inside n X c) [ true ↦ c | false ↦ choose n X cs ]
 
-choose-yes : (n : ℕ) (X : Set) (c : ℕ) (cs : List ℕ) → inside n X c ≡ true → choose n X (c ∷ cs) ≡ c
-unfolding choose
-choose-yes n X c cs e = rw (e, choose)
-
-choose-no : (n : ℕ) (X : Set) (c : ℕ) (cs : List ℕ) → inside n X c ≡ false → choose n X (c ∷ cs) ≡ choose n X cs
-unfolding choose
-choose-no n X c cs e = rw (e, choose)
-
 chosen : (n : ℕ) (X : Set) (cs : List ℕ) → satisfies n X cs ≡ true → List·Memᴰ (choose n X cs) cs × (inside n X (choose n X cs) ≡ true)
-unfolding satisfies
+unfolding satisfies choose
 chosen n X [] e = absurd (false≢true e)
 chosen n X (c ∷ cs) e =
     bif (inside n X c)
-    (λ t. let y = choose-yes n X c cs t in (List·Memᴰ·head y, ap (inside n X) y ∙ t))
-    (λ t. let r = chosen n X cs (or-rt (inside n X c) (satisfies n X cs) e t) in let y = choose-no n X c cs t in
-    rw y (List·Memᴰ·tail (r .0), r .1))
-
--- its members are in X
-member : (n : ℕ) (X : Set) (cs : List ℕ) → satisfies n X cs ≡ true → (q : ℕ) → q < n → bit (choose n X cs) q ≡ true → X q ≡ true
-unfolding inside
-member n X cs e q l b = or-tf (bit (choose n X cs) q) (X q) (every-at n (λ p. not (bit (choose n X cs) p) || X p) (chosen n X cs e .1) q l) b
+    (λ t. rw (t, choose) (List·Memᴰ·head refl, t))
+    (λ t. let r = chosen n X cs (or-rt (inside n X c) (satisfies n X cs) e t) in rw (t, choose) (List·Memᴰ·tail (r .0), r .1))
 
 module _ (A : Automaton) (H : Layered A) (L : ℕ) (nx w : ℕ → ℕ) (stays : (p : ℕ) → p < L → nx p < L) (S : ℕ → Set)
     (exact : (p q : ℕ) → p < L → q < A .n → S p q ≡ satisfies (A .n) (S (nx p)) (A .entry q (w p)))
@@ -167,7 +154,7 @@ module _ (A : Automaton) (H : Layered A) (L : ℕ) (nx w : ℕ → ℕ) (stays :
   unfolding pick
   picked = record {
     listed = λ q p g. chosen (A .n) (aim q p) (A .entry q (w p)) (aim-sat q p g) .0;
-    within = λ q p r g l b. member (A .n) (aim q p) (A .entry q (w p)) (aim-sat q p g) r l b;
+    within = λ q p r g l b. inside-at (A .n) (aim q p) _ (chosen (A .n) (aim q p) (A .entry q (w p)) (aim-sat q p g) .1) r l b;
   }
 
   pub accepted : (q p : ℕ) → q < A .n → p < L → S p q ≡ true → Accepts A nx w q p

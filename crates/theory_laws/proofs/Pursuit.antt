@@ -9,7 +9,7 @@ use lib.Dec.{eqb}
 use borrow.Author.Tests.{eqb-true, eqb-false}
 use Rattle.sets.specs.Tests.{Set}
 use Rattle.sets.specs.Masks.{exclusive}
-use Rattle.sets.proofs.Bools.{bif, and-l, and-r, not-t, not-f, xor-twice}
+use Rattle.sets.proofs.Bools.{bif, and-l, and-r, not-t, not-f, xor-twice, clash}
 use Rattle.theory.specs.Automaton.{Automaton}
 use Rattle.theory.specs.Layered.{Layered}
 use Rattle.theory.specs.Core.{isOpen, mix, acceptingSettled, rejectingSettled, settled}
@@ -48,6 +48,9 @@ module _ (A : Automaton) where
     unfolding discharged
     discharged-open i zero q e = absurd (false≢true e)
     discharged-open i (suc d) q e = and-l (isOpen A (S i) q) _ e
+
+    pub discharged-shut : (i d q : ℕ) → isOpen A (S i) q ≡ false → discharged A nx w S i d q ≡ false
+    discharged-shut i d q o = bif (discharged A nx w S i d q) (λ t. clash (discharged-open i d q t) o) (λ t. t)
 
     pub discharged-settled : (i d q : ℕ) → discharged A nx w S i (suc d) q ≡ true → settled A (S (nx i)) (discharged A nx w S (nx i) d) q (A .entry q (w i)) ≡ true
     unfolding discharged

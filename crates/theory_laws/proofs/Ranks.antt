@@ -9,7 +9,7 @@ use native.Mathlib.Nat.{le-trans, le-of-eq, lt-of-le-of-lt}
 use lib.Dec.{eqb, leb}
 use borrow.Author.Tests.{leb-true, leb-false, le-leb, lt-leb, eqb-true, eqb-false, eq-eqb}
 use Rattle.sets.specs.Tests.{Set, count}
-use Rattle.sets.proofs.Bools.{bif, clash, and-i}
+use Rattle.sets.proofs.Bools.{bif, and-i}
 use Rattle.sets.proofs.Tests.{some-ext, some-at, count-ext, count-le, count-lt}
 use Rattle.theory.specs.Automaton.{Automaton}
 use Rattle.theory.specs.Layered.{Layered}
@@ -17,7 +17,7 @@ use Rattle.theory.specs.Core.{isOpen, settled, settledUpTo}
 use Rattle.theory.specs.CoreComputed.{levelOf, taken, rankOf}
 use Rattle.theory.specs.Rule.{satisfies}
 use Rattle.theory_laws.proofs.Certified.{discharged, Certified, Backed}
-use Rattle.theory_laws.proofs.Pursuit.{discharged-open}
+use Rattle.theory_laws.proofs.Pursuit.{discharged-shut}
 use Rattle.theory_laws.proofs.Levels.{open-settled, level-test}
 pub use Rattle.theory_laws.proofs.Settled.{settled-ext, settled-mono}
 
@@ -133,11 +133,8 @@ module _ (A : Automaton) (H : Layered A) (B : ℕ) (w : ℕ → ℕ) (S : ℕ �
           ap (λ (b : Bool). b && settled A (S (suc i)) (discharged A suc w S (suc i) d) q (A .entry q (w i))) o
           ∙ settled-ext A _ _ _ q _ (λ p m s. bif (isOpen A (S (suc i)) p)
           (λ t. u .reach p m (s ∙ k) t ∙ sym (ap (λ (b : Bool). b && leb (r1 (suc i) p) (u .c)) t))
-          (λ t. shut p t ∙ sym (ap (λ (b : Bool). b && leb (r1 (suc i) p) (u .c)) t)))
+          (λ t. discharged-shut A suc w S (suc i) d p t ∙ sym (ap (λ (b : Bool). b && leb (r1 (suc i) p) (u .c)) t)))
           ∙ sym (lev-test r1 b1 i q l o (u .c))
-        where
-          shut : (p : ℕ) → isOpen A (S (suc i)) p ≡ false → discharged A suc w S (suc i) d p ≡ false
-          shut p t = bif (discharged A suc w S (suc i) d p) (λ e. clash (discharged-open A suc w S (suc i) d p e) t) (λ e. e)
 
       leb1 : (q : ℕ) → q < A .n → A .component q ≡ K → isOpen A (S i) q ≡ true
           → leb (r1 i q) (count (suc (u .c)) (taken A (S i) (levAt A B w S r1 i) K)) ≡ leb (levAt A B w S r1 i q) (u .c)

@@ -58,9 +58,6 @@ module _ (ms : List ℕ) (t : ℕ) where
 
 -- ---- the order stays
 
-number-keeps : (ms : List ℕ) (x y : ℕ) → x ≡ y → newNumber ms x ≡ newNumber ms y
-number-keeps ms x y e = ap (newNumber ms) e
-
 module _ (ms : List ℕ) (t u : ℕ) (less : t < u) (left : isLeft ms t ≡ true) where
   target-small : (v : ℕ) → newNumber ms (targetOf v) < 65536
   target-small v = let l = number-max ms (targetOf v) in let k : targetOf v < 65536 = omega arith in omega arith
@@ -75,7 +72,7 @@ module _ (ms : List ℕ) (t u : ℕ) (less : t < u) (left : isLeft ms t ≡ true
       (λ a. let n = number-less ms (sourceOf t) (sourceOf u) a (left-ends ms t left .0) in
       omega (arith, n, target-small t, letter-small t))
       (λ a. let e : sourceOf t ≡ sourceOf u = omega arith in
-      let n = number-keeps ms (sourceOf t) (sourceOf u) e in
+      let n = ap (newNumber ms) e in
       by-cases (decLt (letterOf t) (letterOf u))
       (λ b. omega (arith, n, b, target-small t))
       (λ b. let f : letterOf t ≡ letterOf u = omega arith in

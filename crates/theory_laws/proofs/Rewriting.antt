@@ -124,31 +124,23 @@ module _ (ms tags : List ℕ) (N : Numbered ms tags) where
   same-number t e =
       rw (number-of (sourceOf t) (and-l (isLive ms (sourceOf t)) (isLive ms (targetOf t)) e), number-of (targetOf t) (and-r (isLive ms (sourceOf t)) (isLive ms (targetOf t)) e)) refl
 
-  rewritten-one : (t : ℕ) (ts : List ℕ) → rewritten tags ts ≡ renumbered ms ts → rewritten tags (t ∷ ts) ≡ renumbered ms (t ∷ ts)
-  unfolding rewritten renumbered
-  rewritten-one t ts ih =
-      bif (isLeft ms t)
-      (λ e. let f = same-left t ∙ e in rw (e, f, rewritten, renumbered) (ap₂ (λ (x : ℕ) (l : List ℕ). x ∷ l) (same-number t e) ih))
-      (λ e. let f = same-left t ∙ e in rw (e, f, rewritten, renumbered) ih)
-
   pub rewritten-is : (ts : List ℕ) → rewritten tags ts ≡ renumbered ms ts
   unfolding rewritten renumbered
   rewritten-is [] = refl
-  rewritten-is (t ∷ ts) = rewritten-one t ts (rewritten-is ts)
-
-live-tail : (m n : ℕ) (ms ns : List ℕ) → ((i : ℕ) → isLive (n ∷ ns) i ≡ isLive (m ∷ ms) i) → (i : ℕ) → isLive ns i ≡ isLive ms i
-unfolding isLive
-live-tail m n ms ns h i = h (suc i)
+  rewritten-is (t ∷ ts) =
+      bif (isLeft ms t)
+      (λ e. let f = same-left t ∙ e in rw (e, f, rewritten, renumbered) (ap₂ (λ (x : ℕ) (l : List ℕ). x ∷ l) (same-number t e) (rewritten-is ts)))
+      (λ e. let f = same-left t ∙ e in rw (e, f, rewritten, renumbered) (rewritten-is ts))
 
 -- what is picked depends on which marks are 0 alone
 pub picked-same : (ms ns cs : List ℕ) → ((i : ℕ) → isLive ns i ≡ isLive ms i) → length ns ≡ length ms → picked ns cs ≡ picked ms cs
-unfolding picked
+unfolding picked isLive
 picked-same [] [] cs h e = refl
 picked-same [] (n ∷ ns) cs h e = absurd (omega arith)
 picked-same (m ∷ ms) [] cs h e = absurd (omega arith)
 picked-same (m ∷ ms) (n ∷ ns) [] h e = refl
 picked-same (m ∷ ms) (n ∷ ns) (c ∷ cs) h e =
-    let ih = picked-same ms ns cs (live-tail m n ms ns h) (omega arith) in
+    let ih = picked-same ms ns cs (λ i. h (suc i)) (omega arith) in
     by-cases (decLt 0 m)
     (λ l. picked-in n ns c cs (live-is (n ∷ ns) 0 (h 0 ∙ live-yes (m ∷ ms) 0 l)) ∙ ap (λ (k : List ℕ). c ∷ k) ih ∙ sym (picked-in m ms c cs l))
     (λ l. let z : m ≡ 0 = omega arith in

@@ -2,7 +2,7 @@
 use mathlib.Core.Path.{_≡_, refl, sym, _∙_, ap, subst₂}
 use mathlib.Core.Logic.{_⊎_, ⊎-elim}
 use mathlib.Core.Bool.{true, false, _&&_, _||_, not, false≢true}
-use mathlib.Core.List.{List, [], _∷_, List·Memᴰ, List·Memᴰ·cases-cons, List·Memᴰ·not-nil}
+use mathlib.Core.List.{List, _∷_, List·Memᴰ, List·Memᴰ·head, List·Memᴰ·tail}
 use Prim.Native.Nat.{ℕ, zero, suc, _+_, _*_, _/_, _%_, _≤_, _<_}
 use native.Mathlib.Omega.{arith}
 use lib.Dec.{eqb, ltb}
@@ -24,12 +24,8 @@ use Rattle.theory_laws.proofs.Pursuit.{open-kind, mix-in, mix-out, sett
 -- a listed clause named a member outside a set that does not satisfy the entry
 out : (n : ℕ) (Y : Set) (c : ℕ) (cs : List ℕ) → List·Memᴰ c cs → satisfies n Y cs ≡ false → inside n Y c ≡ false
 unfolding satisfies
-out n Y c [] m e = absurd (List·Memᴰ·not-nil m)
-out n Y c (d ∷ cs) m e =
-    ⊎-elim
-    (λ x. rw x (or-fl (inside n Y d) (satisfies n Y cs) e))
-    (λ k. out n Y c cs k (or-fr (inside n Y d) (satisfies n Y cs) e))
-    (List·Memᴰ·cases-cons m)
+out n Y c (d ∷ cs) (List·Memᴰ·head x) e = rw x (or-fl (inside n Y d) (satisfies n Y cs) e)
+out n Y c (d ∷ cs) (List·Memᴰ·tail k) e = out n Y c cs k (or-fr (inside n Y d) (satisfies n Y cs) e)
 
 miss : (n : ℕ) (Y : Set) (cs : List ℕ) (c : ℕ) → List·Memᴰ c cs → satisfies n Y cs ≡ false → (r : ℕ) × (r < n) × (bit c r ≡ true) × (Y r ≡ false)
 unfolding inside

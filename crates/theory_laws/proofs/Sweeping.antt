@@ -62,21 +62,14 @@ marking-in b ts =
 
 -- ---- sweeps until nothing is new
 
-out-new : (d : ℕ) (ts ms : List ℕ) → isNewIn ts ms ≡ true → sweptOut (suc d) ts ms ≡ sweptOut d ts (swept ts ms)
-unfolding sweptOut
-out-new d ts ms e = rw (e, sweptOut)
-
-out-end : (d : ℕ) (ts ms : List ℕ) → isNewIn ts ms ≡ false → sweptOut (suc d) ts ms ≡ swept ts ms
-unfolding sweptOut
-out-end d ts ms e = rw (e, sweptOut)
-
 module _ (ts b : List ℕ) (low : (x : ℕ) → getD b x 0 ≤ 2) where
   stable-from : (d : ℕ) (ms : List ℕ) → Marking (Step ts) b ms → 4 * length b < d + sum ms → Stable (Step ts) b (sweptOut d ts ms)
+  unfolding sweptOut
   stable-from zero ms m l = absurd (omega (arith, marking-sum (Step ts) b ms low m))
   stable-from (suc d) ms m l =
       bif (isNewIn ts ms)
-      (λ t. rw (out-new d ts ms t) (stable-from d (swept ts ms) (marking-in b ts ms m) (omega (arith, l, round-in ts ms .grown t))))
-      (λ t. rw (out-end d ts ms t) (stable (Step ts) b ms (swept ts ms) m (marking-in b ts ms m) (rw t at (round-in ts ms))))
+      (λ t. rw (t, sweptOut) (stable-from d (swept ts ms) (marking-in b ts ms m) (omega (arith, l, round-in ts ms .grown t))))
+      (λ t. rw (t, sweptOut) (stable (Step ts) b ms (swept ts ms) m (marking-in b ts ms m) (rw t at (round-in ts ms))))
 
   stable-out : Stable (Step ts) b (sweptOut (suc (4 * length b)) ts b)
   stable-out = stable-from (suc (4 * length b)) b (marking-start (Step ts) b) (omega arith)
@@ -106,24 +99,17 @@ settling-all ms = record {
 
 -- ---- rounds until no accepting one goes out
 
-in-more : (d : ℕ) (ts ms : List ℕ) → anyOf (sweptOut (suc (4 * length ms)) ts ms) goesOut ≡ true → solvedIn (suc d) ts ms ≡ solvedIn d ts (settledAll (sweptOut (suc (4 * length ms)) ts ms))
-unfolding solvedIn
-in-more d ts ms e = rw (e, solvedIn)
-
-in-end : (d : ℕ) (ts ms : List ℕ) → anyOf (sweptOut (suc (4 * length ms)) ts ms) goesOut ≡ false → solvedIn (suc d) ts ms ≡ settledAll (sweptOut (suc (4 * length ms)) ts ms)
-unfolding solvedIn
-in-end d ts ms e = rw (e, solvedIn)
-
 module _ (ts old : List ℕ) (low : (x : ℕ) → getD old x 0 ≤ 2) where
   solved-from : (d : ℕ) (ms : List ℕ) → Kept (Step ts) old ms → sum ms < d → Solved (Step ts) old (solvedIn d ts ms)
+  unfolding solvedIn
   solved-from zero ms k l = absurd (omega arith)
   solved-from (suc d) ms k l =
       let small = kept-low (Step ts) old ms low k in
       let out = sweptOut (suc (4 * length ms)) ts ms in
       let round : SolveRound (Step ts) ms (settledAll out) (anyOf out goesOut) = solve-round (Step ts) ms out (settledAll out) (anyOf out goesOut) small (stable-out ts ms small) (settling-all out) in
       bif (anyOf out goesOut)
-      (λ t. rw (in-more d ts ms t) (solved-from d (settledAll out) (kept-then (Step ts) old ms (settledAll out) (anyOf out goesOut) k round) (omega (arith, l, round .less t))))
-      (λ t. rw (in-end d ts ms t) (solved (Step ts) old ms (settledAll out) k (rw t at round)))
+      (λ t. rw (t, solvedIn) (solved-from d (settledAll out) (kept-then (Step ts) old ms (settledAll out) (anyOf out goesOut) k round) (omega (arith, l, round .less t))))
+      (λ t. rw (t, solvedIn) (solved (Step ts) old ms (settledAll out) k (rw t at round)))
 
 -- ---- the marks of a table
 
