@@ -1,7 +1,7 @@
 -- Laws of the rounds that count the distance.
 use mathlib.Core.Path.{_≡_, refl, sym, _∙_, ap}
 use mathlib.Core.Logic.{_⊎_, inl, inr, ⊎-elim, by-cases}
-use mathlib.Core.Bool.{Bool, true, false, _&&_, _||_, not, cond, or-false, or-true, and-false, true≢false, false≢true}
+use mathlib.Core.Bool.{Bool, true, false, _&&_, _||_, not, cond, or-false, or-true, and-false, true≢false, false≢true, and-comm, and-assoc}
 use mathlib.Core.List.{List}
 use Prim.Native.Nat.{ℕ, zero, suc, _+_, _-_, _*_, _/_, _%_, _^_, _≤_, _<_}
 use native.Mathlib.Omega.{arith}
@@ -16,7 +16,7 @@ use lib.Seq.{getD-set-same, getD-set-other}
 use borrow.Author.Tests.{eq-eqb, ne-eqb, leb-true, leb-false, le-leb, eqb-true}
 use Rattle.sets.specs.Tests.{Set}
 use Rattle.sets.specs.Masks.{bit, mask}
-use Rattle.sets.proofs.Bools.{bif, clash, and-l, and-r, and-i, not-t, not-f, or-fl, or-fr, iff}
+use Rattle.sets.proofs.Bools.{bif, clash, and-l, and-r, and-i, not-t, not-f, or-fl, or-fr, iff, and-fl}
 use Rattle.sets.proofs.Bits.{bit-and, bit-or, bit-none, bit-ext}
 use Rattle.sets.proofs.Masks.{bit-mask, mask-lt, mask-ext}
 use Rattle.theory.specs.Rule.{Rule, entry, satisfies}
@@ -27,7 +27,7 @@ use Rattle.theory.specs.Truth.{truthMasks}
 use Rattle.theory_laws.proofs.Places.{next-place-low}
 use Rattle.rule_entries.specs.Met.{metOf}
 use Rattle.judge_choices_spec.specs.ChoicesComputed.{numberOf, aimOf, nearer, nearAt, distanceAt, aimAt, choiceAt}
-use Rattle.judge_choices_spec.specs.Rounds.{metNumber, roundNumber, fresh, Tried, Place, Round, Rounds, Ended}
+use Rattle.judge_choices_spec.specs.Rounds.{roundNumber, fresh, Tried, Place, Round, Rounds, Ended}
 use Rattle.judge_choices_place.proofs.Meaning.{near-grows, choice-now, near-all}
 
 -- of Booleans
@@ -65,12 +65,7 @@ module _ (r : Rule) (lead cycle masks : List ℕ) where
       }
     where
       turned : (a b c d : Bool) → (((a && not b) && not c) && d) ≡ (not c && (a && (not b && d)))
-      turned true true true d = refl
-      turned true true false d = refl
-      turned true false true d = refl
-      turned true false false d = refl
-      turned false b true d = refl
-      turned false b false d = refl
+      turned a b c d = rw (and-comm (a && not b) (not c), and-assoc (not c) (a && not b) d, and-assoc a (not b) d)
 
   -- the index of a pair tells the place
   pub apart : (p x q : ℕ) → q < r .n → (x ≡ p → ⊥) → (x * r .n + q < p * r .n) ⊎ (p * r .n + r .n ≤ x * r .n + q)
@@ -187,11 +182,7 @@ module _ (r : Rule) (P : Passing r) (lead cycle : List ℕ) (W : WordOver (r .s)
 
     -- outside work nothing is
     none-new : (p q : ℕ) → p < L r lead cycle T → bit work p ≡ false → (not (bit (near-of d p) q) && bit (near-of (suc d) p) q) ≡ false
-    none-new p q l e = rw (R .quiet p l e) (contrary (bit (near-of d p) q))
-      where
-        contrary : (b : Bool) → (not b && b) ≡ false
-        contrary true = refl
-        contrary false = refl
+    none-new p q l e = rw (R .quiet p l e) (bif (bit (near-of d p) q) (λ t. rw t) (λ t. rw t))
 
     done-is : (p q : ℕ) → p < L r lead cycle T → q < r .n → (bit work p && fresh r lead cycle T near p q) ≡ (not (bit (near-of d p) q) && bit (near-of (suc d) p) q)
     done-is p q l k = bif (bit work p) (λ t. rw t (fresh-is p q l k)) (λ t. rw t (sym (none-new p q l t)))
@@ -205,18 +196,12 @@ module _ (r : Rule) (P : Passing r) (lead cycle : List ℕ) (W : WordOver (r .s)
     still-next : (p : ℕ) → p < L r lead cycle T → bit changed p ≡ false → near-of (suc d) p ≡ near-of d p
     still-next p l c =
         bit-ext (r .n) _ _ (near-low (suc d) p) (near-low d p)
-        (λ q k. same (bit (near-of (suc d) p) q) (bit (near-of d p) q) (near-grows r P lead cycle W d p q l k) (sym (done-is p q l k) ∙ S .still p q l k c))
-      where
-        same : (a b : Bool) → (b ≡ true → a ≡ true) → (not b && a) ≡ false → a ≡ b
-        same a true h e = h refl
-        same a false h e = e
-
-    number-is : (p q : ℕ) → p < L r lead cycle T → roundNumber r lead cycle T near p q ≡ metNumber r (letterAt lead cycle p) (getD T (nextPlace lead cycle p) 0) (near-of d (nextPlace lead cycle p)) q
-    number-is p q l = rw (R .within (nextPlace lead cycle p) (low p l))
+        (λ q k. iff _ _ (λ t. not-f (bit (near-of d p) q) (and-fl (not (bit (near-of d p) q)) (bit (near-of (suc d) p) q) (sym (done-is p q l k) ∙ S .still p q l k c) t))
+        (near-grows r P lead cycle W d p q l k))
 
     at-is : (p q : ℕ) → p < L r lead cycle T → q < r .n → getD new (p * r .n + q) 0 ≡ cond (bit (near-of (suc d) p) q) (choiceAt r lead cycle T p q) (getD old (p * r .n + q) 0)
     at-is p q l k =
-        S .at p q l k ∙ rw (done-is p q l k, R .at p q l k, number-is p q l)
+        S .at p q l k ∙ rw (done-is p q l k, R .at p q l k, R .within (nextPlace lead cycle p) (low p l))
         (bif (bit (near-of d p) q)
         (λ t. rw (t, near-grows r P lead cycle W d p q l k t))
         (λ t. bif (bit (near-of (suc d) p) q)

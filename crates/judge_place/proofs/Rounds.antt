@@ -1,5 +1,5 @@
 -- The laws of rounds: what opening a state keeps, that something grows, and that the masks are right when nothing is left to open.
-use mathlib.Core.Path.{_≡_, refl, sym, _∙_, ap}
+use mathlib.Core.Path.{_≡_, refl, sym, _∙_, ap, subst}
 use mathlib.Core.Logic.{by-cases}
 use mathlib.Core.Bool.{Bool, true, false, _&&_, not, cond, true≢false, false≢true, Bool·not-not}
 use mathlib.Core.List.{List, [], _∷_}
@@ -193,9 +193,6 @@ module _ (r : Rule) (cycle : List ℕ) (layer : ℕ) where
         (λ t. let e : bit new q ≡ not (bit (r .accepting) q) = new-at q l ∙ rw t in ap (exclusive (bit (r .accepting) q)) e ∙ xor-other (bit (r .accepting) q))
         (λ t. let e : bit new q ≡ bit (getD ms p 0) q = new-at q l ∙ rw t in ap (exclusive (bit (r .accepting) q)) e ∙ o)
 
-    new-out : (q : ℕ) → q < 8 → bit layer q ≡ false → bit new q ≡ bit (getD ms p 0) q
-    new-out q l t = new-at q l ∙ rw t
-
     weight-le : weight (getD ms p 0) ≤ weight new
     weight-le =
         subset-le 8 _ _ (mask-lt 8 _)
@@ -209,7 +206,7 @@ module _ (r : Rule) (cycle : List ℕ) (layer : ℕ) where
         (λ t. let x : (bit layer q && openIn r (getD ms p 0) q) ≡ (bit layer q && openIn r new q)
         = sym (bit-mask 8 (λ t. bit layer t && openIn r (getD ms p 0) t) q l) ∙ ap (λ (m : ℕ). bit m q) e ∙ bit-mask 8 (λ t. bit layer t && openIn r new t) q l in
         sym (xor-back (bit (r .accepting) q) (bit (getD ms p 0) q) (bit new q) (rw t at x)))
-        (λ t. new-out q l t))
+        (λ t. new-at q l ∙ rw t))
 
     -- a mask that changes grows
     pub grows : p < length ms → (new ≡ getD ms p 0 → ⊥) → extent r cycle layer ms < extent r cycle layer (set ms p new)
@@ -244,11 +241,7 @@ module _ (r : Rule) (cycle : List ℕ) (layer : ℕ) (old : List ℕ) where
     room = omega (arith, w .long)
 
     parted : (h : ℕ) → layer ≡ layerOf r h → Part r cycle h old → Part r cycle h (set ms p (opened r cycle layer ms p))
-    parted h e k =
-        ap-part h (sym e) (part-opened r P cycle repeats h ms p l (w .part h e k))
-      where
-        ap-part : (h : ℕ) {a b : ℕ} → a ≡ b → Part r cycle h (set ms p (opened r cycle a ms p)) → Part r cycle h (set ms p (opened r cycle b ms p))
-        ap-part h e k = rw (sym e) k
+    parted h e k = subst (λ (a : ℕ). Part r cycle h (set ms p (opened r cycle a ms p))) (sym e) (part-opened r P cycle repeats h ms p l (w .part h e k))
 
     -- the mask at p changed
     pub walk-changed : (opened r cycle layer ms p ≡ getD ms p 0 → ⊥) → Walk r cycle layer old (set ms p (opened r cycle layer ms p)) true p
