@@ -163,52 +163,30 @@ longer (suc (suc (suc zero))) = 3
 longer (suc (suc (suc (suc zero)))) = 2
 longer (suc (suc (suc (suc (suc i))))) = longer i
 
-shorter-below : (i : ℕ) → inside 4 (bit (rejectingIn G 15)) (shorter i) ≡ true
+shorter-steps : (i : ℕ) → Consistent G (at (shorter i)) × FreeStep G 1 (at (shorter i)) (at (shorter (suc i)))
 unfolding inside every bit mask rejectingIn
-shorter-below zero = refl
-shorter-below (suc zero) = refl
-shorter-below (suc (suc zero)) = refl
-shorter-below (suc (suc (suc zero))) = refl
-shorter-below (suc (suc (suc (suc i)))) = shorter-below i
-
-longer-below : (i : ℕ) → inside 4 (bit (rejectingIn G 15)) (longer i) ≡ true
-unfolding inside every bit mask rejectingIn
-longer-below zero = refl
-longer-below (suc zero) = refl
-longer-below (suc (suc zero)) = refl
-longer-below (suc (suc (suc zero))) = refl
-longer-below (suc (suc (suc (suc zero)))) = refl
-longer-below (suc (suc (suc (suc (suc i))))) = longer-below i
-
-shorter-steps : (i : ℕ) → FreeStep G 1 (at (shorter i)) (at (shorter (suc i)))
-shorter-steps zero = reset
-shorter-steps (suc zero) = all-to-qs
-shorter-steps (suc (suc zero)) = qs-to-s
-shorter-steps (suc (suc (suc zero))) = s-to-none
+shorter-steps zero = (consistent-at 0 refl, reset)
+shorter-steps (suc zero) = (consistent-at 7 refl, all-to-qs)
+shorter-steps (suc (suc zero)) = (consistent-at 3 refl, qs-to-s)
+shorter-steps (suc (suc (suc zero))) = (consistent-at 2 refl, s-to-none)
 shorter-steps (suc (suc (suc (suc i)))) = shorter-steps i
 
-longer-steps : (i : ℕ) → FreeStep G 1 (at (longer i)) (at (longer (suc i)))
-longer-steps zero = reset
-longer-steps (suc zero) = all-to-qt
-longer-steps (suc (suc zero)) = qt-to-qs
-longer-steps (suc (suc (suc zero))) = qs-to-s
-longer-steps (suc (suc (suc (suc zero)))) = s-to-none
+longer-steps : (i : ℕ) → Consistent G (at (longer i)) × FreeStep G 1 (at (longer i)) (at (longer (suc i)))
+unfolding inside every bit mask rejectingIn
+longer-steps zero = (consistent-at 0 refl, reset)
+longer-steps (suc zero) = (consistent-at 7 refl, all-to-qt)
+longer-steps (suc (suc zero)) = (consistent-at 5 refl, qt-to-qs)
+longer-steps (suc (suc (suc zero))) = (consistent-at 3 refl, qs-to-s)
+longer-steps (suc (suc (suc (suc zero)))) = (consistent-at 2 refl, s-to-none)
 longer-steps (suc (suc (suc (suc (suc i))))) = longer-steps i
 
 shorter-again : (i : ℕ) → (j : ℕ) × (i < j) × (shorter j ≡ 0)
 shorter-again zero = (4, omega arith, refl)
-shorter-again (suc zero) = (4, omega arith, refl)
-shorter-again (suc (suc zero)) = (4, omega arith, refl)
-shorter-again (suc (suc (suc zero))) = (4, omega arith, refl)
-shorter-again (suc (suc (suc (suc i)))) = let (j, l, e) = shorter-again i in (suc (suc (suc (suc j))), omega arith, e)
+shorter-again (suc i) = let (j, l, e) = shorter-again i in (suc (suc (suc (suc j))), omega arith, e)
 
 longer-again : (i : ℕ) → (j : ℕ) × (i < j) × (longer j ≡ 0)
 longer-again zero = (5, omega arith, refl)
-longer-again (suc zero) = (5, omega arith, refl)
-longer-again (suc (suc zero)) = (5, omega arith, refl)
-longer-again (suc (suc (suc zero))) = (5, omega arith, refl)
-longer-again (suc (suc (suc (suc zero)))) = (5, omega arith, refl)
-longer-again (suc (suc (suc (suc (suc i))))) = let (j, l, e) = longer-again i in (suc (suc (suc (suc (suc j)))), omega arith, e)
+longer-again (suc i) = let (j, l, e) = longer-again i in (suc (suc (suc (suc (suc j)))), omega arith, e)
 
 abbrev bees : ℕ → ℕ
 bees i = 1
@@ -219,17 +197,17 @@ initial-q = refl
 
 pub shorter-accepts : FreeRun G bees (λ i. at (shorter i))
 shorter-accepts = record {
-  consistent = λ i. consistent-at (shorter i) (shorter-below i);
+  consistent = λ i. shorter-steps i .0;
   begins = initial-q;
-  steps = shorter-steps;
+  steps = λ i. shorter-steps i .1;
   again = λ i. let (j, l, e) = shorter-again i in (j, l, e, refl);
 }
 
 pub longer-accepts : FreeRun G bees (λ i. at (longer i))
 longer-accepts = record {
-  consistent = λ i. consistent-at (longer i) (longer-below i);
+  consistent = λ i. longer-steps i .0;
   begins = initial-q;
-  steps = longer-steps;
+  steps = λ i. longer-steps i .1;
   again = λ i. let (j, l, e) = longer-again i in (j, l, e, refl);
 }
 

@@ -1,7 +1,7 @@
 -- The accepting states' choices, place by place, and all choices together.
 use mathlib.Core.Path.{_≡_, refl, sym, _∙_, ap}
 use mathlib.Core.Logic.{_⊎_, inl, inr, by-cases}
-use mathlib.Core.Bool.{Bool, true, false, _&&_, not, cond}
+use mathlib.Core.Bool.{_&&_, not, cond, and-true}
 use mathlib.Core.List.{List, _++_}
 use Prim.Native.Nat.{ℕ, suc, _+_, _-_, _*_, _/_, _%_, _≤_, _<_}
 use native.Mathlib.Omega.{arith}
@@ -48,12 +48,7 @@ module _ (r : Rule) (P : Passing r) (lead cycle : List ℕ) (W : WordOver (r .s)
         let s : satisfies (r .n) (bit (aimOf r t t q)) (entry r q (letterAt lead cycle k)) ≡ bit (getD T k 0) q
         = satisfies-ext (r .n) _ _ (λ x i. aim-bit r t t q x i ∙ mix-same r P lead cycle W q (bit t) x) (entry r q (letterAt lead cycle k))
         ∙ sym (truth-exact r P lead cycle (W .repeats) k q l j) in
-        F .those q ∙ rw (which q j, s) (both (bit (getD T k 0) q) (bit (r .accepting) q))
-      where
-        both : (a b : Bool) → ((a && b) && a) ≡ (a && b)
-        both true true = refl
-        both true false = refl
-        both false b = refl
+        F .those q ∙ rw (which q j, s) (bif (bit (getD T k 0) q) (λ v. rw v (and-true (bit (r .accepting) q))) (λ v. rw v))
 
     here : (q : ℕ) → q < r .n → getD new (k * r .n + q) 0 ≡ cond (bit (getD T k 0) q && bit (r .accepting) q) (choiceAt r lead cycle T k q) (getD old (k * r .n + q) 0)
     here q j =
@@ -104,14 +99,11 @@ module _ (r : Rule) (P : Passing r) (lead cycle : List ℕ) (W : WordOver (r .s)
         size : length (choicesOf r lead cycle) ≡ L * r .n
         size = length-tabulate (L * r .n) (λ i. choiceAt r lead cycle T (i / r .n) (i % r .n)) 0
 
-        pos : 0 < r .n
-        pos = P .formed .some-state
-
         at : (i : ℕ) → i < length zs → getD zs i 0 ≡ getD (choicesOf r lead cycle ++ drop (L * r .n) old) i 0
         at i l =
             by-cases (decLt i (L * r .n))
             (λ k. let e : i / r .n * r .n + i % r .n ≡ i = div-add-mod' i (r .n) in
-            ap (λ (x : ℕ). getD zs x 0) (sym e) ∙ byte (i / r .n) (i % r .n) (div-lt-iff-lt-mul pos .1 k) (mod-lt i pos)
+            ap (λ (x : ℕ). getD zs x 0) (sym e) ∙ byte (i / r .n) (i % r .n) (div-lt-iff-lt-mul (P .formed .some-state) .1 k) (mod-lt i (P .formed .some-state))
             ∙ sym (List·getD-append (choicesOf r lead cycle) (drop (L * r .n) old) 0 i (omega (arith, size)) ∙ tabulate-at (L * r .n) _ 0 i k ∙ rw (zero-add i)))
             (λ k. E .rest i (omega arith) ∙ S .rest i (omega arith) ∙ ap (λ (ys : List ℕ). getD ys i 0) clear
             ∙ past (replicate (L * r .n) 255) i (length-replicate {A = ℕ} (L * r .n) 255) (omega arith) ∙ sym (past (choicesOf r lead cycle) i size (omega arith)))

@@ -2,12 +2,12 @@
 use mathlib.Core.Path.{_≡_, refl, sym, _∙_, ap}
 use mathlib.Core.Logic.{_⊎_, ⊎-elim}
 use mathlib.Core.Bool.{true, false, cond}
-use mathlib.Core.List.{List, [], _∷_, List·Memᴰ, List·Memᴰ·not-nil, List·Memᴰ·cases-cons}
+use mathlib.Core.List.{List, _∷_, List·Memᴰ, List·Memᴰ·head, List·Memᴰ·tail}
 use Prim.Native.Nat.{ℕ, zero, suc, _+_, _-_, _≤_, _<_}
 use native.Mathlib.Omega.{arith}
 use lib.Dec.{eqb, leb}
 use lib.ListN.{length, getD}
-use borrow.Author.Tests.{leb-true, le-leb, eqb-true, eqb-false, eq-eqb}
+use borrow.Author.Tests.{leb-true, le-leb, eqb-true, eqb-false}
 use Rattle.sets.specs.Tests.{Set}
 use Rattle.sets.specs.Masks.{bit, inside}
 use Rattle.sets.proofs.Bools.{bif, and-i, or-l, or-r, clash}
@@ -19,8 +19,8 @@ use Rattle.theory.specs.Plan.{Reach, Accepts}
 use Rattle.theory.specs.Plan.Reach.{here, on}
 use Rattle.theory.specs.Rule.{satisfies}
 use Rattle.theory_laws.proofs.Certified.{discharged}
-use Rattle.theory_laws.proofs.Pursuit.{open-kind, mix-in, mix-out, settled-kind, discharged-open}
-use Rattle.theory_laws.proofs.PlanOfSet.{δ, δ-leb, δ-pos, aim, Good, Aimed, nearer, good-on, lower, aimed-valid, aimed-fair}
+use Rattle.theory_laws.proofs.Pursuit.{open-kind, mix-in, mix-out, settled-kind}
+use Rattle.theory_laws.proofs.PlanOfSet.{δ, δ-leb, δ-pos, aim, Good, Aimed, nearer, good-on, lower, aimed-valid, aimed-fair, aim-nearer, aim-true}
 use Rattle.judge_choices_spec.specs.Distance as dist
 use Rattle.judge_choices_spec.specs.Distance.{After, Left, Leaves, Distance, Nearer}
 use Rattle.judge_choices_spec.specs.Choice.{Suits}
@@ -28,12 +28,8 @@ use Rattle.judge_choices_spec.specs.Choice.{Suits}
 -- a clause of an entry inside a set satisfies it
 pub satisfies-in : (n : ℕ) (X : Set) (cs : List ℕ) (c : ℕ) → List·Memᴰ c cs → inside n X c ≡ true → satisfies n X cs ≡ true
 unfolding satisfies
-satisfies-in n X [] c m e = absurd (List·Memᴰ·not-nil m)
-satisfies-in n X (d ∷ cs) c m e =
-    ⊎-elim
-    (λ x. or-l (inside n X d) (satisfies n X cs) (ap (inside n X) (sym x) ∙ e))
-    (λ k. or-r (inside n X d) (satisfies n X cs) (satisfies-in n X cs c k e))
-    (List·Memᴰ·cases-cons m)
+satisfies-in n X (d ∷ cs) c (List·Memᴰ·head x) e = or-l (inside n X d) (satisfies n X cs) (ap (inside n X) (sym x) ∙ e)
+satisfies-in n X (d ∷ cs) c (List·Memᴰ·tail k) e = or-r (inside n X d) (satisfies n X cs) (satisfies-in n X cs c k e)
 
 module _ (A : Automaton) (nx w : ℕ → ℕ) where
   -- ---- a plan, begun one step later
@@ -145,39 +141,11 @@ module _ (A : Automaton) (H : Layered A) (L : ℕ) (nx w : ℕ → ℕ) (stays :
       good-at : (r : ℕ) → r < A .n → S (nx p) r ≡ true → True r (nx p)
       good-at r l t = record { below = l; place = stays p (g .place); true-in = t }
 
-      aim-acc : A .accepting q ≡ true → (r : ℕ) → aims r ≡ S (nx p) r
-      unfolding aim
-      aim-acc a r = rw a
-
-      aim-out : A .accepting q ≡ false → (r : ℕ) → eqb (A .component r) (A .component q) ≡ false → aims r ≡ S (nx p) r
-      unfolding aim
-      aim-out a r t = rw a (mix-out A q _ _ r t)
-
-      aim-in : A .accepting q ≡ false → (r : ℕ) → eqb (A .component r) (A .component q) ≡ true → aims r ≡ discharged A nx w S (nx p) (delta p q - 1) r
-      unfolding aim
-      aim-in a r t = rw a (mix-in A q _ _ r t)
-
-      nearer-in : A .accepting q ≡ false → (r : ℕ) → r < A .n → (e : A .component r ≡ A .component q) → aims r ≡ true → (S (nx p) r ≡ true) × (delta (nx p) r < delta p q)
-      nearer-in a r l e t =
-          let v = sym (aim-in a r (eq-eqb _ _ e)) ∙ t in
-          let o = discharged-open A nx w S (nx p) (delta p q - 1) r v in
-          let h = leb-true (delta (nx p) r) (delta p q - 1) (δ-leb A H L nx w stays S exact N near (nx p) r l o (delta p q - 1) ∙ v) in
-          let k = δ-pos A H L nx w stays S exact N near p q (g .below) (rejecting-open q p g a) in
-          (sym (open-kind A false (S (nx p)) r (H .pure r q l (g .below) e ∙ a)) ∙ o, omega arith)
-
-      aim-true : (r : ℕ) → r < A .n → aims r ≡ true → S (nx p) r ≡ true
-      aim-true r l t =
-          bif (A .accepting q)
-          (λ a. sym (aim-acc a r) ∙ t)
-          (λ a. bif (eqb (A .component r) (A .component q))
-          (λ v. nearer-in a r l (eqb-true _ _ v) t .0)
-          (λ v. sym (aim-out a r v) ∙ t))
-
       pub inside-suits : inside (A .n) aims c ≡ true → Suits A nx w q p c
       inside-suits e = record {
-        truths = λ r l b. plan-of r (nx p) (good-at r l (aim-true r l (inside-at (A .n) aims c e r l b)));
+        truths = λ r l b. plan-of r (nx p) (good-at r l (aim-true A H L nx w stays S exact N near q p r g l (inside-at (A .n) aims c e r l b)));
         nearer = λ a r l b s.
-            let n = nearer-in a r l s (inside-at (A .n) aims c e r l b) in
+            let n = aim-nearer A H L nx w stays S exact N near q p r g l (inside-at (A .n) aims c e r l b) a s in
             record {
               here = delta p q;
               there = delta (nx p) r;
@@ -188,15 +156,16 @@ module _ (A : Automaton) (H : Layered A) (L : ℕ) (nx w : ℕ → ℕ) (stays :
       }
 
       pub suits-inside : Suits A nx w q p c → inside (A .n) aims c ≡ true
+      unfolding aim
       suits-inside v = inside-all (A .n) aims c (λ r l b.
           let t = sound r (nx p) l (stays p (g .place)) (v .truths r l b) in
           bif (A .accepting q)
-          (λ a. aim-acc a r ∙ t)
+          (λ a. rw (a, aim) t)
           (λ a. bif (eqb (A .component r) (A .component q))
           (λ s. let e = eqb-true _ _ s in
           let n = v .nearer a r l b e in
           let a′ = H .pure r q l (g .below) e ∙ a in
           let y = one-distance r (nx p) (good-at r l t) a′ (n .there) (n .from-there) in
-          aim-in a r s ∙ sym (δ-leb A H L nx w stays S exact N near (nx p) r l (rejecting-open r (nx p) (good-at r l t) a′) (delta p q - 1))
-          ∙ le-leb (delta (nx p) r) (delta p q - 1) (omega (arith, n .smaller, one-distance q p g a (n .here) (n .from-here))))
-          (λ s. aim-out a r s ∙ t)))
+          rw (a, aim) (mix-in A q _ _ r s ∙ sym (δ-leb A H L nx w stays S exact N near (nx p) r l (rejecting-open r (nx p) (good-at r l t) a′) (delta p q - 1))
+          ∙ le-leb (delta (nx p) r) (delta p q - 1) (omega (arith, n .smaller, one-distance q p g a (n .here) (n .from-here)))))
+          (λ s. rw (a, aim) (mix-out A q _ _ r s ∙ t))))

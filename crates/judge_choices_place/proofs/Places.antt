@@ -12,9 +12,9 @@ use lib.Count.{trailingZeros}
 use lib.Dec.{eqb}
 use lib.ListN.{length, getD}
 use lib.Pow.{pow-lt, shr-lt, shr-shr}
-use borrow.Author.Tests.{eq-eqb, ne-eqb, eqb-false, lt-ltb}
+use borrow.Author.Tests.{eq-eqb, ne-eqb, eqb-false, lt-ltb, eqb-true}
 use Rattle.sets.specs.Masks.{bit, mask}
-use Rattle.sets.proofs.Bools.{and-l, or-fl, or-fr}
+use Rattle.sets.proofs.Bools.{and-l, or-fl, or-fr, iff}
 use Rattle.sets.proofs.Bits.{bit-or, bit-half, bit-high, bit-shl-one, shl-one, bit-ext-all, bit-full}
 use Rattle.sets.proofs.Masks.{mask-lt, mask-trim}
 use Rattle.sets.proofs.Members.{members-step, members-from-out, rest-bit}
@@ -32,10 +32,13 @@ use Rattle.judge_choices_place.proofs.Meaning.{letter-low}
 pub mark-no : (changed found p x : ℕ) → found ≡ 0 → bit changed x ≡ (bit changed x || (eqb x p && not (eqb found 0)))
 mark-no changed found p x e = rw (e, and-false (eqb x p)) (sym (or-false (bit changed x)))
 
+marked : (changed found p x : ℕ) → (found ≡ 0 → ⊥) → bit (bitOr changed (2 ^ p)) x ≡ (bit changed x || (eqb x p && not (eqb found 0)))
+marked changed found p x n =
+    rw (bit-or changed (2 ^ p) x, bit-shl-one p x, ne-eqb found 0 n, and-true (eqb x p))
+    (ap (λ (b : Bool). bit changed x || b) (iff _ _ (λ t. eq-eqb x p (sym (eqb-true p x t))) (λ t. eq-eqb p x (sym (eqb-true x p t)))))
+
 pub mark-yes : (changed found p x : ℕ) → (found ≡ 0 → ⊥) → p < 64 → bit (bitOr changed (1 * 2 ^ p % 2 ^ 64)) x ≡ (bit changed x || (eqb x p && not (eqb found 0)))
-mark-yes changed found p x n l =
-    rw (shl-one 64 p l, bit-or changed (2 ^ p) x, bit-shl-one p x, ne-eqb found 0 n, and-true (eqb x p))
-    (ap (λ (b : Bool). bit changed x || b) (by-cases (ℕ-discrete p x) (λ e. eq-eqb p x e ∙ sym (eq-eqb x p (sym e))) (λ e. ne-eqb p x e ∙ sym (ne-eqb x p (λ y. e (sym y))))))
+mark-yes changed found p x n l = rw (shl-one 64 p l) (marked changed found p x n)
 
 -- ---- the places before those that changed
 
@@ -108,12 +111,7 @@ pub mark-lt : (n changed changed′ p found : ℕ) → p < n → changed < 2 ^ n
 mark-lt n changed changed′ p found l h m =
     by-cases (ℕ-discrete found 0)
     (λ e. rw (bit-ext-all changed′ changed (λ x. m x ∙ sym (mark-no changed found p x e))) h)
-    (λ e. rw (bit-ext-all changed′ (bitOr changed (2 ^ p)) (λ x. m x ∙ sym (marked x e))) (or-lt n changed (2 ^ p) h (pow-lt l)))
-  where
-    marked : (x : ℕ) → (found ≡ 0 → ⊥) → bit (bitOr changed (2 ^ p)) x ≡ (bit changed x || (eqb x p && not (eqb found 0)))
-    marked x e =
-        rw (bit-or changed (2 ^ p) x, bit-shl-one p x, ne-eqb found 0 e, and-true (eqb x p))
-        (ap (λ (b : Bool). bit changed x || b) (by-cases (ℕ-discrete p x) (λ e. eq-eqb p x e ∙ sym (eq-eqb x p (sym e))) (λ e. ne-eqb p x e ∙ sym (ne-eqb x p (λ y. e (sym y))))))
+    (λ e. rw (bit-ext-all changed′ (bitOr changed (2 ^ p)) (λ x. m x ∙ sym (marked changed found p x e))) (or-lt n changed (2 ^ p) h (pow-lt l)))
 
 -- ---- sets of states
 

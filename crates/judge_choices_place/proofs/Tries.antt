@@ -1,7 +1,7 @@
 -- Laws of the states tried at one place.
 use mathlib.Core.Path.{_≡_, refl, sym, _∙_, ap}
 use mathlib.Core.Logic.{_⊎_, ⊎-elim, by-cases}
-use mathlib.Core.Bool.{Bool, true, false, _&&_, _||_, not, cond, or-false, or-true, false≢true, true≢false}
+use mathlib.Core.Bool.{Bool, true, false, _&&_, _||_, not, cond, or-false, or-true, false≢true, true≢false, and-true, and-false}
 use mathlib.Core.List.{List, List·Memᴰ}
 use Prim.Native.Nat.{ℕ, zero, suc, _+_, _*_, _^_, _≤_, _<_}
 use native.Mathlib.Omega.{arith}
@@ -37,17 +37,7 @@ use Rattle.judge_choices_spec.specs.Rounds.{putMet, metNumber}
 -- ---- the set that a state's clause has to meet
 
 either : (a c d : Bool) → ((a && not c) || (d && c)) ≡ cond c d a
-either true true true = refl
-either true true false = refl
-either true false true = refl
-either true false false = refl
-either false true true = refl
-either false true false = refl
-either false false true = refl
-either false false false = refl
-
-none : (c : Bool) → ((false && not c) || (false && c)) ≡ false
-none c = refl
+either a c d = bif c (λ t. rw (t, and-false a, and-true d)) (λ t. rw (t, and-true a, and-false d, or-false a))
 
 pub aim-set : (r : Rule) → r .n ≤ 8 → (all near q class : ℕ) → all < 2 ^ r .n → near < 2 ^ r .n → class ≡ mask (r .n) (λ x. eqb (component r x) (component r q))
     → bitOr (differenceOf all class) (bitAnd near class) ≡ aimOf r all near q
@@ -60,7 +50,7 @@ aim-set r few all near q class h k e =
     (or-lt 8 (differenceOf all class) (bitAnd near class) (mask-lt 8 _) (and-lt 8 near class (lt-of-lt-of-le k (pow-mono few)) wide))
     (λ x l. part x (omega arith) ∙ either (bit all x) (bit class x) (bit near x)
     ∙ ap (λ (b : Bool). cond b (bit near x) (bit all x)) (ap (λ (m : ℕ). bit m x) e ∙ bit-mask (r .n) _ x l))
-    (λ x l m. part x m ∙ rw (bit-high (r .n) all x h l, bit-high (r .n) near x k l) (none (bit class x)))
+    (λ x l m. part x m ∙ rw (bit-high (r .n) all x h l, bit-high (r .n) near x k l))
 
 -- ---- the number of a clause fits a byte
 

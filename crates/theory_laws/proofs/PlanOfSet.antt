@@ -70,39 +70,36 @@ module _ (A : Automaton) (H : Layered A) (L : ℕ) (nx w : ℕ → ℕ) (stays :
       let t : discharged A nx w S p (suc (δ p q - 1)) q ≡ true = rw x (sym (δ-leb p q (g .below) o (δ p q)) ∙ le-leb (δ p q) (δ p q) (omega arith)) in
       rw a (sym (settled-kind A false (S (nx p)) _ q _ a) ∙ discharged-settled A nx w S p (δ p q - 1) q t))
 
+  -- what is aimed at is true, and in the component of a rejecting state nearer
+  module _ (q p r : ℕ) (g : Good q p) (l : r < A .n) (h : aim q p r ≡ true) where
+    pub aim-nearer : A .accepting q ≡ false → A .component r ≡ A .component q → (S (nx p) r ≡ true) × (δ (nx p) r < δ p q)
+    unfolding aim
+    aim-nearer a c =
+        let t : discharged A nx w S (nx p) (δ p q - 1) r ≡ true = sym (mix-in A q _ _ r (eq-eqb _ _ c)) ∙ (rw (a, aim) at h) in
+        let o = discharged-open A nx w S (nx p) (δ p q - 1) r t in
+        let near-by = leb-true (δ (nx p) r) (δ p q - 1) (δ-leb (nx p) r l o (δ p q - 1) ∙ t) in
+        let k = δ-pos p q (g .below) (open-kind A false (S p) q a ∙ g .true-in) in
+        (sym (open-kind A false (S (nx p)) r (H .pure r q l (g .below) c ∙ a)) ∙ o, omega arith)
+
+    pub aim-true : S (nx p) r ≡ true
+    unfolding aim
+    aim-true =
+        bif (A .accepting q) (λ a. rw (a, aim) at h)
+        (λ a. bif (eqb (A .component r) (A .component q)) (λ c. aim-nearer a (eqb-true _ _ c) .0) (λ c. sym (mix-out A q _ _ r c) ∙ (rw (a, aim) at h)))
+
   -- the clause of each true pair is one of its entry and inside what it is chosen from
   pub record Aimed (pick : ℕ → ℕ → ℕ) : Type 0 where
     pub listed : (q p : ℕ) → Good q p → List·Memᴰ (pick q p) (A .entry q (w p))
     pub within : (q p r : ℕ) → Good q p → r < A .n → bit (pick q p) r ≡ true → aim q p r ≡ true
 
   module _ (pick : ℕ → ℕ → ℕ) (P : Aimed pick) where
-    aim-rej : (q p r : ℕ) → Good q p → r < A .n → bit (pick q p) r ≡ true → A .accepting q ≡ false → mix A q (S (nx p)) (discharged A nx w S (nx p) (δ p q - 1)) r ≡ true
-    unfolding aim
-    aim-rej q p r g l b a = rw (a, aim) at (P .within q p r g l b)
-
     -- in the component of a rejecting state the plan stays true and comes nearer
     pub nearer : (q p r : ℕ) → Good q p → r < A .n → bit (pick q p) r ≡ true → A .accepting q ≡ false → A .component r ≡ A .component q → (S (nx p) r ≡ true) × (δ (nx p) r < δ p q)
-    nearer q p r g l b a c =
-        let t : discharged A nx w S (nx p) (δ p q - 1) r ≡ true = sym (mix-in A q _ _ r (eq-eqb _ _ c)) ∙ aim-rej q p r g l b a in
-        let o = discharged-open A nx w S (nx p) (δ p q - 1) r t in
-        let h = leb-true (δ (nx p) r) (δ p q - 1) (δ-leb (nx p) r l o (δ p q - 1) ∙ t) in
-        let k = δ-pos p q (g .below) (open-kind A false (S p) q a ∙ g .true-in) in
-        (sym (open-kind A false (S (nx p)) r (H .pure r q l (g .below) c ∙ a)) ∙ o, omega arith)
+    nearer q p r g l b = aim-nearer q p r g l (P .within q p r g l b)
 
     -- a step of the plan
     pub good-on : (q p r : ℕ) → Good q p → r < A .n → bit (pick q p) r ≡ true → Good r (nx p)
-    unfolding aim
-    good-on q p r g l b =
-        record {
-          below = l;
-          place = stays p (g .place);
-          true-in =
-              bif (A .accepting q)
-              (λ a. rw (a, aim) at (P .within q p r g l b))
-              (λ a. bif (eqb (A .component r) (A .component q))
-              (λ c. nearer q p r g l b a (eqb-true _ _ c) .0)
-              (λ c. sym (mix-out A q _ _ r c) ∙ aim-rej q p r g l b a));
-        }
+    good-on q p r g l b = record { below = l; place = stays p (g .place); true-in = aim-true q p r g l (P .within q p r g l b) }
 
     -- no higher
     pub lower : (q p r : ℕ) → Good q p → r < A .n → bit (pick q p) r ≡ true → (A .component r ≡ A .component q) ⊎ (H .height r < H .height q)
