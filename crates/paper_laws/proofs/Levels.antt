@@ -1,16 +1,16 @@
 -- One level is below another exactly if some class of the later core comes between: R1' and R2' are the order by levels.
 use mathlib.Core.Path.{_≡_, refl, sym, _∙_, ap}
 use mathlib.Core.Logic.{_↔_, by-cases}
-use mathlib.Core.Bool.{Bool, true, false, _&&_, _||_, not, cond}
+use mathlib.Core.Bool.{Bool, true, false, _&&_, _||_, not, cond, and-true, and-false, or-true, or-false}
 use mathlib.Core.List.{List}
 use Prim.Native.Nat.{ℕ, suc, _-_, _<_}
 use native.Mathlib.Omega.{arith}
-use native.Mathlib.Decide.{decLt, decLe}
+use native.Mathlib.Decide.{decLt}
 use lib.Dec.{eqb, leb, ltb}
-use borrow.Author.Tests.{eqb-true, eq-eqb, lt-ltb, le-ltb, le-leb, lt-leb}
+use borrow.Author.Tests.{eqb-true, eq-eqb, lt-ltb, le-leb, leb-true, ltb-true}
 use Rattle.sets.specs.Tests.{Set, someBelow, largest}
 use Rattle.sets.specs.Masks.{exclusive}
-use Rattle.sets.proofs.Bools.{bif, clash, and-l, and-r, and-i, not-t}
+use Rattle.sets.proofs.Bools.{bif, clash, and-l, and-r, and-i, not-t, iff}
 use Rattle.sets.proofs.Tests.{some-get, some-at, largest-hit}
 use Rattle.theory.specs.Automaton.{Automaton}
 use Rattle.theory.specs.Layered.{Layered}
@@ -26,24 +26,14 @@ use Rattle.paper_laws.proofs.Halves.{test-kind}
 use Rattle.paper_laws.proofs.Dual.{dual-is}
 
 below-suc : (x k : ℕ) → ltb x (suc k) ≡ leb x k
-below-suc x k = by-cases (decLe x k)
-    (λ h. lt-ltb x (suc k) (omega arith) ∙ sym (le-leb x k h))
-    (λ h. le-ltb x (suc k) (omega arith) ∙ sym (lt-leb x k (omega arith)))
+below-suc x k = iff _ _ (λ t. le-leb x k (omega (arith, ltb-true x (suc k) t))) (λ t. lt-ltb x (suc k) (omega (arith, leb-true x k t)))
 
 -- the sets of R1' and R2', by whether a state is in C
 lower-in : (c b x : Bool) → ((c && b) && x) || (b && not c) ≡ cond c (b && x) b
-lower-in true true true = refl
-lower-in true true false = refl
-lower-in true false x = refl
-lower-in false true x = refl
-lower-in false false x = refl
+lower-in c b x = bif c (λ t. rw (t, and-false b, or-false (b && x))) (λ t. rw (t, and-true b))
 
 lower-out : (c b x : Bool) → ((c && not b) && x) || not (b || c) ≡ cond c (not b && x) (not b)
-lower-out true true x = refl
-lower-out true false true = refl
-lower-out true false false = refl
-lower-out false true x = refl
-lower-out false false x = refl
+lower-out c b x = bif c (λ t. rw (t, or-true b, or-false (not b && x))) (λ t. rw (t, or-false b))
 
 -- the right-hand side of R1', or of R2' where the kind k is accepting
 abbrev pub witnessOf : Automaton → ℕ → Set → (ℕ → ℕ) → Bool → ℕ → ℕ → Bool

@@ -56,8 +56,7 @@ mask-trim m n f l h = stays-from (λ k. mask k f) n m l (λ p x y. let z : one (
 -- the empty set
 pub mask-none : (n : ℕ) (f : Set) → ((q : ℕ) → q < n → f q ≡ false) → mask n f ≡ 0
 unfolding mask
-mask-none zero f h = refl
-mask-none (suc n) f h = let ih = mask-none n f (λ q l. h q (omega arith)) in let z : one (f n) * 2 ^ n ≡ 0 * 2 ^ n = rw (h n (omega arith)) in omega arith
+mask-none n f h = mask-trim n 0 f (omega arith) (λ j a b. h j b)
 
 -- one more state of the mask of a test
 pub put-bit : (p d : ℕ) (f : Set) → p < 8 → d ≡ one (f p) → bitOr (mask p f) (d * 2 ^ p % 2 ^ 8) ≡ mask (p + 1) f

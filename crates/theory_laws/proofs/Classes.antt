@@ -1,15 +1,15 @@
 -- Ranks depend on the order of the levels alone, and there are no more of them than states.
 use mathlib.Core.Path.{_≡_, refl, sym, _∙_, ap, ap₂}
 use mathlib.Core.Logic.{by-cases}
-use mathlib.Core.Bool.{Bool, true, false, _&&_, _||_, not, cond, or-false, or-true, and-false, and-assoc}
+use mathlib.Core.Bool.{Bool, true, false, _&&_, _||_, not, cond, or-false, or-true, and-assoc}
 use Prim.Native.Nat.{ℕ, zero, suc, _+_, _≤_, _<_}
 use native.Mathlib.Omega.{arith}
 use native.Mathlib.Decide.{decLe, decLt, ℕ-discrete}
 use lib.Dec.{eqb, leb, ltb, leb·suc-suc}
-use borrow.Author.Tests.{le-leb, lt-leb, eqb-true, eq-eqb, ne-eqb, lt-ltb, le-ltb}
+use borrow.Author.Tests.{le-leb, lt-leb, eqb-true, eq-eqb, ne-eqb, lt-ltb, le-ltb, leb-true}
 use Rattle.sets.specs.Tests.{Set, someBelow, count, one}
-use Rattle.sets.proofs.Bools.{bif, and-l, and-r, and-i}
-use Rattle.sets.proofs.Tests.{count-ext, some-ext, some-at, count-le, count-lt, count-max, count-sub}
+use Rattle.sets.proofs.Bools.{bif, and-l, and-r, and-i, iff}
+use Rattle.sets.proofs.Tests.{count-ext, some-ext, some-at, count-le, count-lt, count-max, count-sub, count-trim}
 use Rattle.theory.specs.Automaton.{Automaton}
 use Rattle.theory.specs.Core.{isOpen, openOf}
 use Rattle.theory.specs.CoreComputed.{taken, rankOf}
@@ -23,11 +23,8 @@ ltb-suc a M n = by-cases (decLt a M) (λ h. lt-ltb a (suc M) (omega arith) ∙ s
 
 eqb-leb : (a b : ℕ) → eqb a b ≡ leb a b && leb b a
 eqb-leb a b =
-    by-cases (ℕ-discrete a b)
-    (λ e. eq-eqb a b e ∙ sym (and-i (le-leb a b (omega arith)) (le-leb b a (omega arith))))
-    (λ e. ne-eqb a b e ∙ by-cases (decLe a b)
-    (λ h. sym (rw (lt-leb b a (omega arith), and-false (leb a b))))
-    (λ h. sym (rw (lt-leb a b (omega arith)))))
+    iff _ _ (λ t. let e = eqb-true a b t in and-i (le-leb a b (omega arith)) (le-leb b a (omega arith)))
+    (λ t. eq-eqb a b (omega (arith, leb-true a b (and-l (leb a b) (leb b a) t), leb-true b a (and-r (leb a b) (leb b a) t))))
 
 -- one more value
 pub insert-t : (M a : ℕ) (f : Set) → count M (λ j. f j || eqb a j) ≡ count M f + one (ltb a M && not (f a))
@@ -57,11 +54,7 @@ firsts g l m p = g p && (leb (l p) m && not (someBelow p (λ r. g r && eqb (l r)
 
 values : (n m : ℕ) (g : Set) (l : ℕ → ℕ) → count (suc m) (λ j. someBelow n (λ p. g p && eqb (l p) j)) ≡ count n (firsts g l m)
 unfolding someBelow count firsts
-values zero m g l = none (suc m)
-  where
-    none : (M : ℕ) → count M (λ j. false) ≡ 0
-    none zero = refl
-    none (suc M) = let ih = none M in omega arith
+values zero m g l = count-trim (suc m) 0 (λ j. false) (omega arith) (λ p a b. refl)
 values (suc n) m g l =
     let x = insertAscending (suc m) (l n) (λ j. someBelow n (λ p. g p && eqb (l p) j)) (g n) in
     x ∙ ap₂ _+_ (values n m g l) (ap (λ (b : Bool). one (g n && (b && not (someBelow n (λ p. g p && eqb (l p) (l n)))))) (leb·suc-suc (l n) m))
