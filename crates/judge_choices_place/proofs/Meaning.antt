@@ -131,8 +131,7 @@ module _ (r : Rule) (P : Passing r) (lead cycle : List ℕ) (W : WordOver (r .s)
       = λ d. first-leb (L * r .n) (λ i. bit (nearAt r lead cycle T i p) q)
       (λ i j h v. let k = leb-true (delta p q) i (same i ∙ v) in sym (same j) ∙ le-leb (delta p q) j (omega arith)) all d ∙ sym (same d) in
       let x = leb-true (delta p q) (distanceAt r lead cycle T p q) (sym (e (distanceAt r lead cycle T p q)) ∙ le-leb (distanceAt r lead cycle T p q) (distanceAt r lead cycle T p q) (omega arith)) in
-      let y = leb-true (distanceAt r lead cycle T p q) (delta p q) (e (delta p q) ∙ le-leb (delta p q) (delta p q) (omega arith)) in
-      omega arith
+      omega (arith, leb-true (distanceAt r lead cycle T p q) (delta p q) (e (delta p q) ∙ le-leb (delta p q) (delta p q) (omega arith)))
 
   -- a state that is near is true and rejecting
   near-true : (d p q : ℕ) → q < r .n → bit (nearAt r lead cycle T d p) q ≡ true → (bit (getD T p 0) q ≡ true) × (bit (r .accepting) q ≡ false)

@@ -1,7 +1,7 @@
 -- The laws of rounds: what opening a state keeps, that something grows, and that the masks are right when nothing is left to open.
 use mathlib.Core.Path.{_≡_, refl, sym, _∙_, ap, subst}
 use mathlib.Core.Logic.{by-cases}
-use mathlib.Core.Bool.{Bool, true, false, _&&_, not, cond, true≢false, false≢true, Bool·not-not}
+use mathlib.Core.Bool.{Bool, true, false, _&&_, not, cond, true≢false, false≢true, Bool·not-not, _||_}
 use mathlib.Core.List.{List, [], _∷_}
 use Prim.Native.Nat.{ℕ, zero, suc, _+_, _*_, _^_, _≤_, _<_}
 use native.Mathlib.Omega.{arith}
@@ -10,10 +10,10 @@ use native.Mathlib.Decide.{ℕ-discrete}
 use lib.Dec.{eqb}
 use lib.ListN.{length, getD, set, replicate, length-set, length-replicate, getD-replicate}
 use lib.Seq.{getD-set-same, getD-set-other, set-getD, ext-getD}
-use borrow.Author.Tests.{eq-eqb, ne-eqb}
+use borrow.Author.Tests.{eq-eqb, ne-eqb, eqb-true, eqb-false}
 use Rattle.sets.specs.Tests.{Set}
 use Rattle.sets.specs.Masks.{bit, mask, exclusive}
-use Rattle.sets.proofs.Bools.{bif, and-l, and-r, and-i}
+use Rattle.sets.proofs.Bools.{bif, and-l, and-r, and-i, not-t, not-f}
 use Rattle.sets.proofs.Masks.{mask-lt, bit-mask, mask-trim}
 use Rattle.sets.proofs.Bits.{bit-high, bit-ext, subset-le}
 use Rattle.sets.proofs.Tests.{count-lt, count-max}
@@ -268,6 +268,11 @@ module _ (r : Rule) (cycle : List ℕ) (layer : ℕ) (old : List ℕ) where
           most = w .most;
           grown = w .grown;
         })
+
+    -- either way
+    pub walk-next : (b : Bool) → not (eqb (opened r cycle layer ms p) (getD ms p 0)) ≡ b → Walk r cycle layer old (set ms p (opened r cycle layer ms p)) (b || changed) p
+    walk-next true t = walk-changed (eqb-false _ _ (not-t _ t))
+    walk-next false t = walk-same (eqb-true _ _ (not-f _ t))
 
   pub walk-end : (ms : List ℕ) (changed : Bool) → Walk r cycle layer old ms changed 0 → Round r cycle layer old ms changed
   walk-end ms changed w = record { long = w .long; part = w .part; still = λ e j l. w .still e j (omega arith) l; grown = w .grown }

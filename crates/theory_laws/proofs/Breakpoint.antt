@@ -13,7 +13,7 @@ use Rattle.sets.proofs.Bools.{and-l, and-r, and-i}
 use Rattle.sets.proofs.Tests.{largest-ge}
 use Rattle.theory.specs.Automaton.{Automaton}
 use Rattle.theory.specs.Layered.{Layered}
-use Rattle.theory.specs.Core.{isOpen, settled, settledUpTo, openOf}
+use Rattle.theory.specs.Core.{isOpen, settledUpTo, openOf}
 use Rattle.theory_laws.proofs.Certified.{discharged, Certified, Run}
 use Rattle.theory_laws.proofs.Cores.{next-low}
 use Rattle.theory_laws.proofs.Ranks.{settled-open, levAt, lev-test, rank-pos}
@@ -25,14 +25,10 @@ module _ (A : Automaton) (H : Layered A) (B : ℕ) (w : ℕ → ℕ) (S : ℕ �
   Clear : ℕ → ℕ → ℕ → Type 0
   Clear i d C = (q : ℕ) → q < A .n → A .component q ≡ C → isOpen A (S i) q ≡ true → discharged A suc w S i d q ≡ true
 
-  discharged-intro : (i d q : ℕ) → isOpen A (S i) q ≡ true → settled A (S (suc i)) (discharged A suc w S (suc i) d) q (A .entry q (w i)) ≡ true → discharged A suc w S i (suc d) q ≡ true
-  unfolding discharged
-  discharged-intro i d q o t = and-i o t
-
   -- one step earlier
   earlier : (i d C : ℕ) → Clear (suc i) d C → Clear i (suc d) C
-  unfolding Clear
-  earlier i d C h q l c o = discharged-intro i d q o (settled-mono A _ (isOpen A (S (suc i))) _ q _ (λ p m s t. h p m (s ∙ c) t) (settled-open A H B w S (run .backed .exact) i q l o))
+  unfolding Clear discharged
+  earlier i d C h q l c o = and-i o (settled-mono A _ (isOpen A (S (suc i))) _ q _ (λ p m s t. h p m (s ∙ c) t) (settled-open A H B w S (run .backed .exact) i q l o))
 
   far-earlier : (t i d C : ℕ) → Clear (i + t) d C → (e : ℕ) × Clear i e C
   far-earlier zero i d C h = (d, rw add-zero at h)
@@ -50,13 +46,13 @@ module _ (A : Automaton) (H : Layered A) (B : ℕ) (w : ℕ → ℕ) (S : ℕ �
   left-0 i z q l c o h = let p = rank-pos A H B w S (run .backed .exact) r (run .backed .bound) (run .backed .ranked) i q l o in absurd (omega arith)
 
   left-suc : (i d : ℕ) → (k i ≡ 0 → ⊥) → Left (suc i) d → Left i (suc d)
-  unfolding Left settledUpTo openOf
+  unfolding Left settledUpTo openOf discharged
   left-suc i d nz f q l c o h =
       let low = largest-ge (A .n) (λ q. openOf A (S i) (K i) q && leb (r i q) (k i)) (levAt A B w S r i) q l (and-i (and-i (eq-eqb _ _ c) o) (le-leb _ _ h)) in
       let e = run .stay-k i nz in
       let pass : settledUpTo A (S (suc i)) (r (suc i)) q (A .entry q (w i)) (k (suc i)) ≡ true
       = sym (lev-test A H B w S (run .backed .exact) r (run .backed .bound) i q l o (k (suc i))) ∙ le-leb (levAt A B w S r i q) (k (suc i)) (omega arith) in
-      discharged-intro i d q o (settled-mono A _ _ _ q _
+      and-i o (settled-mono A _ _ _ q _
       (λ p m s t. f p m (s ∙ c ∙ sym (run .stay-K i nz)) (and-l (isOpen A (S (suc i)) p) _ t) (leb-true _ _ (and-r (isOpen A (S (suc i)) p) _ t))) pass)
 
   left-go : (t i : ℕ) → k (i + t) ≡ 0 → (d : ℕ) × Left i d

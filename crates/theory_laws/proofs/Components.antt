@@ -97,9 +97,8 @@ module _ (R : Rule) where
 
   pub smallest-of-together : (p q : ℕ) → p < R .n → q < R .n → together R p q ≡ true → smallest R p ≡ smallest R q
   smallest-of-together p q l m e =
-      let a = smallest-le p (smallest R q) (together-trans p q (smallest R q) l m (smallest-lt q m) e (smallest-together q m)) in
       let b = smallest-le q (smallest R p) (together-trans q p (smallest R p) m l (smallest-lt p l) (together-sym p q e) (smallest-together p l)) in
-      omega arith
+      omega (arith, smallest-le p (smallest R q) (together-trans p q (smallest R q) l m (smallest-lt q m) e (smallest-together q m)))
 
   pub smallest-is : (q : ℕ) → q < R .n → isSmallest R (smallest R q) ≡ true
   unfolding isSmallest

@@ -143,9 +143,8 @@ module _ (A : Automaton) (H : Layered A) (B : ℕ) (room : A .n ≤ B) (w : ℕ 
       largest-le (A .n) _ _ _ (λ q l t.
       let a = and-l (openOf A (S i) (x .component) q) _ t in
       let c = open-component A (S i) (x .component) q a in
-      let o = open-state A (S i) (x .component) q a in
       let b = leb-true (rk i q) (x .left) (and-r (openOf A (S i) (x .component) q) _ t) in
-      rw c at (lev-low i q e l o (rw c (le-trans b h))))
+      rw c at (lev-low i q e l (open-state A (S i) (x .component) q a) (rw c (le-trans b h))))
 
   turn-low : (i C : ℕ) → largest (A .n) (openOf A (S i) C) (rk i) ≤ upto i C N
   unfolding rk

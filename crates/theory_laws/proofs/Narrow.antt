@@ -21,8 +21,7 @@ module _ (A : Automaton) (c : ℕ) where
   packed-small : pack (setIn A c) (rankIn A c) (componentIn c) (classesIn c) < 2 ^ 48
   unfolding pack
   packed-small =
-      let a = num-lt 16 (omega arith) 10 (fields (rankIn A c) (componentIn c) (classesIn c)) (λ j l. field-small j) in
-      omega (arith, mask-lt 8 (setIn A c))
+      omega (arith, num-lt 16 (omega arith) 10 (fields (rankIn A c) (componentIn c) (classesIn c)) (λ j l. field-small j), mask-lt 8 (setIn A c))
 
   pub narrow : Macrostate A c → c < 2 ^ 48
   unfolding wellCoded

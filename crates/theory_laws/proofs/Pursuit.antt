@@ -119,13 +119,10 @@ module _ (A : Automaton) (H : Layered A) (nx w : ℕ → ℕ) (S1 S2 : ℕ → S
         how = ⊎-elim (λ same. absurd (eqb-false (A .component p) (A .component q) c same)) inl (H .down q (w i) (x .clause) p (g .below) (x .below) (x .listed) (x .member));
       })
 
-  no-gap-0 : (i q : ℕ) → Gap i 0 q → ⊥
-  unfolding discharged
-  no-gap-0 i q g = false≢true (g .near)
-
   -- the chase: heights below h are done, then by distance
   nearer : (h : ℕ) → ((d i q : ℕ) → H .height q < h → Gap i d q → ⊥) → (d i q : ℕ) → H .height q < suc h → Gap i d q → ⊥
-  nearer h ih zero i q l g = no-gap-0 i q g
+  unfolding discharged
+  nearer h ih zero i q l g = false≢true (g .near)
   nearer h ih (suc d) i q l g =
       let x = step i d q g in
       ⊎-elim

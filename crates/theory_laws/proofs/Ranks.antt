@@ -1,16 +1,16 @@
 -- The ranks of a certified sequence are fixed by its sets.
 use mathlib.Core.Path.{_≡_, refl, sym, _∙_, ap}
 use mathlib.Core.Logic.{by-cases}
-use mathlib.Core.Bool.{Bool, true, false, _&&_, cond}
+use mathlib.Core.Bool.{Bool, true, false, _&&_}
 use Prim.Native.Nat.{ℕ, zero, suc, _≤_, _<_}
 use native.Mathlib.Omega.{arith}
 use native.Mathlib.Decide.{decLe}
-use native.Mathlib.Nat.{le-trans, le-of-eq, lt-of-le-of-lt}
+use native.Mathlib.Nat.{lt-of-le-of-lt}
 use lib.Dec.{eqb, leb}
 use borrow.Author.Tests.{leb-true, leb-false, le-leb, lt-leb, eqb-true, eqb-false, eq-eqb}
 use Rattle.sets.specs.Tests.{Set, count}
-use Rattle.sets.proofs.Bools.{bif, and-i}
-use Rattle.sets.proofs.Tests.{some-ext, some-at, count-ext, count-le, count-lt}
+use Rattle.sets.proofs.Bools.{bif}
+use Rattle.sets.proofs.Tests.{some-ext, count-ext}
 use Rattle.theory.specs.Automaton.{Automaton}
 use Rattle.theory.specs.Layered.{Layered}
 use Rattle.theory.specs.Core.{isOpen, settled, settledUpTo}
@@ -19,6 +19,8 @@ use Rattle.theory.specs.Rule.{satisfies}
 use Rattle.theory_laws.proofs.Certified.{discharged, Certified, Backed}
 use Rattle.theory_laws.proofs.Pursuit.{discharged-shut}
 use Rattle.theory_laws.proofs.Levels.{open-settled, level-test}
+use Rattle.theory_laws.proofs.Classes.{rank-open-is, rank-upto}
+use Rattle.theory_laws.proofs.Cores.{rank-open-pos, rank-shut-is}
 pub use Rattle.theory_laws.proofs.Settled.{settled-ext, settled-mono}
 
 -- two numbers that no test up to c tells apart
@@ -57,33 +59,19 @@ module _ (A : Automaton) (H : Layered A) (B : ℕ) (w : ℕ → ℕ) (S : ℕ �
 
     -- a state's rank, read as a count
     module _ (ranked : (i q : ℕ) → q < A .n → r i q ≡ rankOf A (S i) (levAt A B w S r i) q) where
-      pub taken-self : (i q : ℕ) → q < A .n → isOpen A (S i) q ≡ true → taken A (S i) (levAt A B w S r i) (A .component q) (levAt A B w S r i q) ≡ true
-      unfolding taken
-      taken-self i q l o = some-at (A .n) _ q l (and-i (eq-eqb (A .component q) _ refl) (and-i o (eq-eqb (levAt A B w S r i q) _ refl)))
-
       pub rank-open : (i q : ℕ) → q < A .n → isOpen A (S i) q ≡ true → r i q ≡ count (suc (levAt A B w S r i q)) (taken A (S i) (levAt A B w S r i) (A .component q))
-      unfolding rankOf
-      rank-open i q l o = ranked i q l ∙ ap (λ (b : Bool). cond b (count (suc (levAt A B w S r i q)) (taken A (S i) (levAt A B w S r i) (A .component q))) 0) o
+      rank-open i q l o = ranked i q l ∙ rank-open-is A (S i) (levAt A B w S r i) q o
 
       pub rank-pos : (i q : ℕ) → q < A .n → isOpen A (S i) q ≡ true → 0 < r i q
-      rank-pos i q l o =
-          let e = rank-open i q l o in
-          let k = count-lt (levAt A B w S r i q) (suc (levAt A B w S r i q)) (taken A (S i) (levAt A B w S r i) (A .component q)) (omega arith) (taken-self i q l o) in
-          omega arith
+      rank-pos i q l o = omega (arith, ranked i q l, rank-open-pos A (S i) (levAt A B w S r i) q l o)
 
       pub rank-shut : (i q : ℕ) → q < A .n → isOpen A (S i) q ≡ false → r i q ≡ 0
-      unfolding rankOf
-      rank-shut i q l o = ranked i q l ∙ ap (λ (b : Bool). cond b (count (suc (levAt A B w S r i q)) (taken A (S i) (levAt A B w S r i) (A .component q))) 0) o
+      rank-shut i q l o = ranked i q l ∙ rank-shut-is A (S i) (levAt A B w S r i) q o
 
       -- the rank is at most the count of levels up to c exactly if the level is at most c
       pub rank-leb : (i q : ℕ) → q < A .n → isOpen A (S i) q ≡ true → (c : ℕ) → leb (r i q) (count (suc c) (taken A (S i) (levAt A B w S r i) (A .component q))) ≡ leb (levAt A B w S r i q) c
       rank-leb i q l o c =
-          let e = rank-open i q l o in
-          by-cases (decLe (levAt A B w S r i q) c)
-          (λ h. le-leb _ _ (le-trans (le-of-eq e) (count-le (suc (levAt A B w S r i q)) (suc c) _ (omega arith))) ∙ sym (le-leb _ c h))
-          (λ h. let k = count-lt (levAt A B w S r i q) (suc (levAt A B w S r i q)) (taken A (S i) (levAt A B w S r i) (A .component q)) (omega arith) (taken-self i q l o) in
-          let m = count-le (suc c) (levAt A B w S r i q) (taken A (S i) (levAt A B w S r i) (A .component q)) (omega arith) in
-          lt-leb (r i q) (count (suc c) (taken A (S i) (levAt A B w S r i) (A .component q))) (omega arith) ∙ sym (lt-leb (levAt A B w S r i q) c (omega arith)))
+          ap (λ (x : ℕ). leb x (count (suc c) (taken A (S i) (levAt A B w S r i) (A .component q)))) (ranked i q l) ∙ rank-upto A (S i) (levAt A B w S r i) q l o c
 
   -- two ways to rank the same sets
   module _ (fin : (i q : ℕ) → q < A .n → isOpen A (S i) q ≡ true → (d : ℕ) × (discharged A suc w S i d q ≡ true))

@@ -156,9 +156,8 @@ module _ (r : Rule) (P : Passing r) (codes ts : List ℕ) (L : ListsReachable r 
       let q : getD kept (T .target) 0 ≡ getD codes y 0 = ap (λ (k : ℕ). getD kept k 0) (sym f) ∙ picked-at live codes y hy b in
       let U : Transition A (r .s) codes u = transition-by x (T .letter) y hx (T .letter-known) hy refl (rw (p, q) at (T .steps)) in
       let k = taken-apart r P L room u U in
-      let m = renumbered-in live ts u (L .transitions-are u .1 U) (ends-left live u (rw (k .source) a) (rw (k .target) b)) in
       let g : renumber live u ≡ v = renumber-leads u x (T .letter) y k ∙ rw (e, f) (sym (T .packed)) in
-      rw g at m
+      rw g at (renumbered-in live ts u (L .transitions-are u .1 U) (ends-left live u (rw (k .source) a) (rw (k .target) b)))
 
   pub renumbered-are : renumbered live ts ≡ transitionsOf A (r .s) kept
   renumbered-are =

@@ -15,7 +15,7 @@ use Rattle.theory.specs.Run.{Leads, AcceptingRun}
 use Rattle.theory.specs.Table.{Transition, ListsReachable}
 use Rattle.theory.specs.TableComputed.{transitionsOf}
 use Rattle.theory_laws.proofs.Layers.{layered}
-use Rattle.theory_laws.proofs.Tables.{letters-fit, steps-ascending, steps-iff, transition-by, transition-leads, taken-apart, goes-by}
+use Rattle.theory_laws.proofs.Tables.{letters-fit, steps-ascending, steps-iff, transition-by, taken-apart, goes-by}
 use Rattle.graph_walks.specs.Walks.{Solved}
 use Rattle.trim_spec.specs.Matters.{ListsMattering}
 use Rattle.trim_spec.specs.Graph.{Step}
@@ -57,9 +57,8 @@ module _ (r : Rule) (P : Passing r) (codes ts : List ℕ) (L : ListsReachable r 
   step-in : (x a y : ℕ) → x < length kept → y < length kept → a < r .s → Goes A (getD kept x 0) a (getD kept y 0)
       → (t : ℕ) × List·Memᴰ t (transitionsOf A (r .s) kept) × Leads t x a y
   step-in x a y hx hy ha g =
-      let T : Transition A (r .s) kept (x * 16777216 + a * 65536 + y) =
-      record { source = x; letter = a; target = y; source-listed = hx; letter-known = ha; target-listed = hy; packed = refl; steps = g } in
-      (x * 16777216 + a * 65536 + y, steps-iff A (r .s) kept (layered r P) (letters-fit r P) kept-room _ .1 T, transition-leads A (r .s) kept (layered r P) (letters-fit r P) kept-room _ T)
+      let T : Transition A (r .s) kept (x * 16777216 + a * 65536 + y) = transition-by x a y hx ha hy refl g in
+      (x * 16777216 + a * 65536 + y, kept-are .transitions-are _ .1 T, taken-apart r P kept-are kept-room _ T)
 
   -- "The one accepting run of each word must survive in the smaller table": an accepting run of the whole table, over any letters, is one of this table, renumbered
   pub survives : (w x : ℕ → ℕ) → AcceptingRun codes ts (holdsInitial r) w x

@@ -61,14 +61,9 @@ served c t e =
     called-served r (a .lead .now) (a .cycle .now) (a .masks .now) (call-served r (a .lead .now) (a .cycle .now) (length (a .masks .now)) row (at-if2 .if2 .left))
     (f .last .1 .1 .1 .1 .1 .0) (f .ensures) ((word-over (a .h .s) (a .lead .now) (a .cycle .now) row) .repeats) t e
 
-returns-3 : tie.Need-returns-3
-returns-3 c = served (c .before) true (sym (c .before .contains .ensures) ∙ c .if3 .taken)
-
-returns-4 : tie.Need-returns-4
-returns-4 c = served (c .before) false (sym (c .before .contains .ensures) ∙ c .if3 .left)
-
 pub judge-read-spec : {M : Type 1} → statement M
 judge-read-spec =
     tie.close (tie.spec
     (λ c κs. search needs) returns (λ c. search needs) returns-2 fill-requires slice-read-contains (λ c. search needs) (λ c κs. search needs)
-    (λ c. search needs) returns-3 (λ c. search needs) returns-4)
+    (λ c. search needs) (λ c. served (c .before) true (sym (c .before .contains .ensures) ∙ c .if3 .taken)) (λ c. search needs)
+    (λ c. served (c .before) false (sym (c .before .contains .ensures) ∙ c .if3 .left)))

@@ -37,8 +37,7 @@ mul-if3 c =
 
 returns-3 : tie.Need-returns-3
 returns-3 c =
-    let start = c .before .before .before .before .before .before .before .before .before .before .before in
-    let a = start .args in
+    let a = c .before .before .before .before .before .before .before .before .before .before .before .args in
     let r = ruleOf (a .h) (a .counts .now) (a .clauses .now) in
     called-refused r (a .lead .now) (a .cycle .now) (a .masks .now) (a .choices .now) 16 (λ e. omega arith)
     (choices-refuse r (a .lead .now) (a .cycle .now) (length (a .masks .now)) (length (a .choices .now))
@@ -89,14 +88,9 @@ served c t e =
     (call-served r (a .lead .now) (a .cycle .now) (length (a .masks .now)) (length (a .choices .now)) row (at-if2 .if2 .left) (at-if3 .if3 .left))
     (f .last .1 .1 .1 .1 .1 .0) (f .last .1 .1 .1 .1 .1 .1 .0) (f .ensures .0) (f .ensures .1) (w .repeats) t e
 
-returns-4 : tie.Need-returns-4
-returns-4 c = served (c .before) true (sym (c .before .contains .ensures) ∙ c .if4 .taken)
-
-returns-5 : tie.Need-returns-5
-returns-5 c = served (c .before) false (sym (c .before .contains .ensures) ∙ c .if4 .left)
-
 pub judge-choices-read-spec : {M : Type 1} → statement M
 judge-choices-read-spec =
     tie.close (tie.spec
     (λ c κs. search needs) returns (λ c. search needs) returns-2 mul-if3 returns-3 fill-both-requires slice-read-contains (λ c. search needs)
-    (λ c κs. search needs) (λ c. search needs) (λ c. search needs) returns-4 (λ c. search needs) (λ c. search needs) returns-5)
+    (λ c κs. search needs) (λ c. search needs) (λ c. search needs) (λ c. served (c .before) true (sym (c .before .contains .ensures) ∙ c .if4 .taken))
+    (λ c. search needs) (λ c. search needs) (λ c. served (c .before) false (sym (c .before .contains .ensures) ∙ c .if4 .left)))

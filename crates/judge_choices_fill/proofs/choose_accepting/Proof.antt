@@ -41,8 +41,7 @@ loop-holds c =
 
 next-place-requires : tie.Need-next-place-requires Inv-loop μ-loop
 next-place-requires c κs =
-    let start = c .before .before .before .before .before .before .before .before .before .before in
-    (c .loop-test .taken, omega (arith, start .pre .0 .few-places))
+    (c .loop-test .taken, omega (arith, c .before .before .before .before .before .before .before .before .before .before .pre .0 .few-places))
 
 -- the place that follows is one
 next-is : (c : tie.After-next-place Inv-loop μ-loop) → let a = c .before .before .before .before .before .before .before .before .before .before .before .args in
@@ -97,9 +96,7 @@ add-p c =
     omega (arith, at-loop-test .loop-test .taken, start .pre .0 .few-places)
 
 loop-less : tie.Need-loop-less Inv-loop μ-loop
-loop-less c =
-    let at-loop-test = c .before .before .before .before .before .before .before .before .before in
-    omega (arith, at-loop-test .loop-test .taken)
+loop-less c = omega (arith, c .before .before .before .before .before .before .before .before .before .loop-test .taken)
 
 loop-again : tie.Need-loop-again Inv-loop μ-loop
 loop-again c =

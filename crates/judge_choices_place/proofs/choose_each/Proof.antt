@@ -84,9 +84,8 @@ loop-less c =
 loop-again : tie.Need-loop-again Inv-loop μ-loop
 loop-again c =
     let at-choose = c .before .before .before in let earlier = at-choose .before .before .before in
-    let at-loop = earlier .before in
     let start = start-of earlier in
-    let l = at-loop .loop in let a = start .args in let p = start .pre in
+    let l = earlier .before .loop in let a = start .args in let p = start .pre in
     let r = ruleOf (a .rule .head) (a .counts .now) (a .clauses .now) in
     let f : Set = λ x. satisfies (a .rule .head .n) (bit (aimOf r (a .all) (a .near) x)) (entry r x (a .a)) in
     let q = trailingZeros 8 (l .left) in

@@ -18,8 +18,7 @@ use Rattle.judge_choices_rounds.proofs.choose_at.Tie as tie
 
 shared-slice-read-difference : tie.Need-shared-slice-read-difference
 shared-slice-read-difference c =
-    let start = c .before .before .before .before .before .before .before .before .before in
-    let p = start .pre in omega (arith, masks-long _ _ _ _ _ _ (p .0), p .3)
+    let p = c .before .before .before .before .before .before .before .before .before .pre in omega (arith, masks-long _ _ _ _ _ _ (p .0), p .3)
 
 cast-difference : tie.Need-cast-difference
 cast-difference c =
@@ -76,9 +75,8 @@ returns c =
     let at-letter-at = at-difference2 .before .before .before .before in let at-difference = at-letter-at .before in
     let earlier = at-difference .before .before .before in
     let start = earlier .before .before .before .before .before .before .before .before in let a = start .args in
-    let p = start .pre in
     let r = ruleOf (a .rule .head) (a .counts .now) (a .clauses .now) in
-    let w = p .0 .passing .formed in
+    let w = start .pre .0 .passing .formed in
     let all = getD (a .masks .now) (a .p) 0 in
     let near = getD (a .near .now) (a .p) 0 in
     let states : (q : ℕ) → q < a .rule .head .n → bit (at-difference2 .difference2 .result) q ≡ ((bit all q && not (bit (a .rule .head .accepting) q)) && not (bit near q))

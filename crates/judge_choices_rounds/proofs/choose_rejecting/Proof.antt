@@ -24,12 +24,6 @@ Inv-loop rule counts starts clauses lead cycle masks choices₀ h at end near₀
 abbrev μ-loop : tie.MeasureT-loop
 μ-loop rule counts starts clauses lead cycle masks choices₀ h at end near₀ work₀ d₀ choices near work d = places lead cycle * rule .head .n - d
 
-add-end : tie.Need-add-end Inv-loop μ-loop
-add-end c = omega (arith, c .before .before .before .before .before .before .before .pre .0 .few-places)
-
-sub-work : tie.Need-sub-work Inv-loop μ-loop
-sub-work c = omega (arith, c .before .before .before .before .before .before .before .pre .0 .few-places)
-
 shr-work : tie.Need-shr-work Inv-loop μ-loop
 shr-work c = let p = c .before .before .before .before .before .before .before .pre .0 in omega (arith, p .few-places, p .word .repeats)
 
@@ -45,9 +39,7 @@ loop-holds c =
     )
 
 mul-if1 : tie.Need-mul-if1 Inv-loop μ-loop
-mul-if1 c =
-    let start = c .before .before .before .before .before .before .before .before .before in
-    omega (arith, bytes-few _ _ _ _ _ _ (start .pre .0))
+mul-if1 c = omega (arith, bytes-few _ _ _ _ _ _ (c .before .before .before .before .before .before .before .before .before .pre .0))
 
 returns : tie.Need-returns Inv-loop μ-loop
 returns c =
@@ -116,5 +108,7 @@ returns-2 c =
 pub choose-rejecting-spec : {M : Type 1} → statement M
 choose-rejecting-spec =
     tie.close (tie.spec
-    Inv-loop μ-loop add-end sub-work shr-work loop-holds mul-if1 (λ c. c .before .before .before .loop .inv .2 .long) returns round-requires
-    places-before-requires add-d loop-less loop-again (λ c. c .before .before .loop .inv .2 .long) returns-2)
+    Inv-loop μ-loop (λ c. omega (arith, c .before .before .before .before .before .before .before .pre .0 .few-places))
+    (λ c. omega (arith, c .before .before .before .before .before .before .before .pre .0 .few-places)) shr-work loop-holds mul-if1
+    (λ c. c .before .before .before .loop .inv .2 .long) returns round-requires places-before-requires add-d loop-less loop-again
+    (λ c. c .before .before .loop .inv .2 .long) returns-2)

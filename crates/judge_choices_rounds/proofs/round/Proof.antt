@@ -52,9 +52,7 @@ small : (c : tie.In-loop Inv-loop μ-loop) → c .before .loop .left < 2 ^ place
 small c = lt-of-le-of-lt (c .before .loop .inv .1) (start-of-in-loop c .pre .3)
 
 few : (c : tie.In-loop Inv-loop μ-loop) → c .before .loop .left < 2 ^ 64
-few c =
-    let start = c .before .before .before .before .before .before .before .before .before in
-    lt-of-lt-of-le (small c) (pow-mono (start .pre .0 .few-places))
+few c = lt-of-lt-of-le (small c) (pow-mono (c .before .before .before .before .before .before .before .before .before .pre .0 .few-places))
 
 below : (c : tie.In-loop Inv-loop μ-loop) → trailingZeros 64 (c .before .loop .left) < places (start-of-in-loop c .args .lead .now) (start-of-in-loop c .args .cycle .now)
 below c = bit-below (places (start-of-in-loop c .args .lead .now) (start-of-in-loop c .args .cycle .now)) (c .before .loop .left) _ (small c)
@@ -65,8 +63,7 @@ low c = let start = c .before .before .before .before .before .before .before .b
 
 choose-at-requires : tie.Need-choose-at-requires Inv-loop μ-loop
 choose-at-requires c κs =
-    let start = c .before .before .before .before .before .before .before .before .before .before .before in
-    let p = start .pre in
+    let p = c .before .before .before .before .before .before .before .before .before .before .before .pre in
     (p .0, p .1, omega (arith, p .2, c .before .before .before .loop .inv .3 .long), below (c .before .before))
 
 loop-less : tie.Need-loop-less Inv-loop μ-loop

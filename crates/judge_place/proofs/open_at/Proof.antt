@@ -34,9 +34,7 @@ next c =
     (c .if1 .came)
 
 cast-met-by : tie.Need-cast-met-by
-cast-met-by c =
-    let start = c .before .before .before .before .before .before .before .before .before in
-    omega (arith, c .shared-slice-known4 .given (start .args .p))
+cast-met-by c = omega (arith, c .shared-slice-known4 .given (c .before .before .before .before .before .before .before .before .before .args .p))
 
 slice-read-met-by : tie.Need-slice-read-met-by
 slice-read-met-by c =

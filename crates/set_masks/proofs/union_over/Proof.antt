@@ -18,15 +18,11 @@ abbrev μ-loop : tie.MeasureT-loop
 below : (c : tie.In-loop Inv-loop μ-loop) → trailingZeros 8 (c .before .loop .left) < 8
 below c = least-lt 8 (c .before .loop .left) (omega arith) (omega arith)
 
-loop-less : tie.Need-loop-less Inv-loop μ-loop
-loop-less c = omega (arith, and-le-r (c .before .before .loop .left) (c .before .before .loop .left - 1))
-
 loop-again : tie.Need-loop-again Inv-loop μ-loop
 loop-again c =
-    let es = c .before .before .before .args .es .now in
     let l = c .before .before .loop in (
       omega (arith, and-le-r (l .left) (l .left - 1)),
-      turn es (c .before .before .before .args .m) (l .r) (l .left) (omega arith) (omega arith) (l .inv .1),
+      turn (c .before .before .before .args .es .now) (c .before .before .before .args .m) (l .r) (l .left) (omega arith) (omega arith) (l .inv .1),
     )
 
 returns : tie.Need-returns Inv-loop μ-loop
@@ -38,4 +34,4 @@ pub union-over-spec : {M : Type 1} → statement M
 union-over-spec =
     tie.close (tie.spec
     Inv-loop μ-loop (λ c. (omega arith, start (c .args .es .now) (c .args .m))) (λ c. omega (arith, below c)) (λ c. omega (arith, below c))
-    (λ c. omega arith) loop-less loop-again returns)
+    (λ c. omega arith) (λ c. omega (arith, and-le-r (c .before .before .loop .left) (c .before .before .loop .left - 1))) loop-again returns)

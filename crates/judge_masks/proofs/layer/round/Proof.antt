@@ -1,15 +1,11 @@
 -- `judge_masks::layer::round` meets its contract: a walk over the places from the last on.
 use Prim.Native.Nat.{ℕ, _+_, _-_, _<_, _≤_}
 use mathlib.Core.Path.{_≡_, sym, _∙_}
-use mathlib.Core.Bool.{true, false, not}
-use lib.Dec.{eqb}
-use Rattle.judge_place.specs.Rounds.{opened}
+use mathlib.Core.Bool.{true, false, Bool, _||_}
 use native.Mathlib.Omega.{arith}
 use lib.ListN.{length, getD}
-use borrow.Author.Tests.{eqb-true, eqb-false}
-use Rattle.sets.proofs.Bools.{not-t, not-f}
 use Rattle.rule_entries.specs.Entries.{ruleOf}
-use Rattle.judge_place.proofs.Rounds.{Walk, walk-start, walk-changed, walk-same, walk-end}
+use Rattle.judge_place.proofs.Rounds.{Walk, walk-start, walk-next, walk-end}
 use Rattle.judge_masks.proofs.layer.round.Statement.{statement}
 use Rattle.judge_masks.proofs.layer.round.Tie as tie
 
@@ -25,38 +21,22 @@ open-at-requires c κs =
     let start = c .before .before .before .before .before .before .before in
     let z = start .pre in (z .0, z .1, c .before .before .loop .inv .2 .long ∙ z .2, omega arith)
 
-loop-again : tie.Need-loop-again Inv-loop μ-loop
-loop-again c =
-    let start = c .before .before .before .before .before .before .before .before .before .before .before in
-    let a = start .args in let z = start .pre in let l = c .before .before .before .before .before .before .loop in
+-- one place more, by whether its mask changed
+again : (c : tie.After-slice-known2 Inv-loop μ-loop) (b : Bool) → c .before .before .open-at .result ≡ b → let a = c .before .before .before .before .before .before .before .before .before .before .args in
+    let l = c .before .before .before .before .before .loop in
+    Inv-loop (a .h) (a .counts .now) (a .starts .now) (a .clauses .now) (a .cycle .now) (a .layer) (a .masks .now) false (length (a .cycle .now))
+    (c .before .before .open-at .last .1 .1 .1 .1 .1 .1 .0) (b || l .changed) (l .p - 1)
+again c b t =
+    let start = c .before .before .before .before .before .before .before .before .before .before in
+    let a = start .args in let z = start .pre in let l = c .before .before .before .before .before .loop in
     let r = ruleOf (a .h) (a .counts .now) (a .clauses .now) in
-    let v = opened r (a .cycle .now) (a .layer) (l .masks) (l .p - 1) in
-    let o = getD (l .masks) (l .p - 1) 0 in
-    let e = c .before .before .before .open-at .ensures in
-    let told : not (eqb v o) ≡ true = sym (e .1) ∙ c .if1 .taken in
+    let e = c .before .before .open-at .ensures in
     let one : l .p - 1 + 1 ≡ l .p = omega arith in
     let w : Walk r (a .cycle .now) (a .layer) (a .masks .now) (l .masks) (l .changed) (l .p - 1 + 1) = rw one (l .inv .2) in (
       omega arith,
-      λ i. c .before .slice-known2 .given i .fits,
-      rw (e .0) (walk-changed r (a .cycle .now) (a .layer) (a .masks .now) (z .0 .passing) (z .0 .word .repeats) (l .masks) (l .changed) (l .p - 1) w (z .2) (omega arith) (l .inv .1 (l .p - 1))
-          (eqb-false v o (not-t (eqb v o) told))),
-    )
-
-loop-again-2 : tie.Need-loop-again-2 Inv-loop μ-loop
-loop-again-2 c =
-    let start = c .before .before .before .before .before .before .before .before .before .before .before in
-    let a = start .args in let z = start .pre in let l = c .before .before .before .before .before .before .loop in
-    let r = ruleOf (a .h) (a .counts .now) (a .clauses .now) in
-    let v = opened r (a .cycle .now) (a .layer) (l .masks) (l .p - 1) in
-    let o = getD (l .masks) (l .p - 1) 0 in
-    let e = c .before .before .before .open-at .ensures in
-    let told : not (eqb v o) ≡ false = sym (e .1) ∙ c .if1 .left in
-    let one : l .p - 1 + 1 ≡ l .p = omega arith in
-    let w : Walk r (a .cycle .now) (a .layer) (a .masks .now) (l .masks) (l .changed) (l .p - 1 + 1) = rw one (l .inv .2) in (
-      omega arith,
-      λ i. c .before .slice-known2 .given i .fits,
-      rw (e .0) (walk-same r (a .cycle .now) (a .layer) (a .masks .now) (z .0 .passing) (z .0 .word .repeats) (l .masks) (l .changed) (l .p - 1) w (z .2) (omega arith) (l .inv .1 (l .p - 1))
-          (eqb-true v o (not-f (eqb v o) told))),
+      λ i. c .slice-known2 .given i .fits,
+      rw (e .0) (walk-next r (a .cycle .now) (a .layer) (a .masks .now) (z .0 .passing) (z .0 .word .repeats) (l .masks) (l .changed) (l .p - 1) w (z .2) (omega arith) (l .inv .1 (l .p - 1)) b
+          (sym (e .1) ∙ t)),
     )
 
 returns : tie.Need-returns Inv-loop μ-loop
@@ -69,4 +49,4 @@ pub round-spec : {M : Type 1} → statement M
 round-spec =
     tie.close (tie.spec
     Inv-loop μ-loop (λ c. (omega arith, λ i. c .slice-known .given i .fits, walk-start _ _ _ _)) (λ c. omega arith) open-at-requires
-    (λ c. omega arith) loop-again (λ c. omega arith) loop-again-2 (λ c. c .before .loop .inv .2 .long) returns)
+    (λ c. omega arith) (λ c. again (c .before) true (c .if1 .taken)) (λ c. omega arith) (λ c. again (c .before) false (c .if1 .left)) (λ c. c .before .loop .inv .2 .long) returns)

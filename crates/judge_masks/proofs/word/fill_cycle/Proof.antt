@@ -24,9 +24,7 @@ cast-fill-with : tie.Need-cast-fill-with Inv-loop μ-loop
 cast-fill-with c = let w = c .before .before .before .before .before .before .pre .0 .passing .formed in omega (arith, accepting-small _ w)
 
 cast-top : tie.Need-cast-top Inv-loop μ-loop
-cast-top c =
-    let start = c .before .before .before .before .before .before .before .before .before in
-    omega (arith, start .pre .0 .passing .formed .few-states)
+cast-top c = omega (arith, c .before .before .before .before .before .before .before .before .before .pre .0 .passing .formed .few-states)
 
 loop-holds : tie.Need-loop-holds Inv-loop μ-loop
 loop-holds c =
@@ -40,13 +38,12 @@ loop-holds c =
 
 at-height-requires : tie.Need-at-height-requires Inv-loop μ-loop
 at-height-requires c κs =
-    let start = c .before .before .before .before .before .before .before .before .before .before .before in
-    start .pre .0 .passing .formed .few-states
+    c .before .before .before .before .before .before .before .before .before .before .before .pre .0 .passing .formed .few-states
 
 solve-layer-requires : tie.Need-solve-layer-requires Inv-loop μ-loop
 solve-layer-requires c κs =
     let start = c .before .before .before .before .before .before .before .before .before .before .before .before .before in
-    ((start .pre) .0, rw (c .before .at-height .ensures) (mask-lt _ _), c .before .before .before .loop .inv .1 .long)
+    (start .pre .0, rw (c .before .at-height .ensures) (mask-lt _ _), c .before .before .before .loop .inv .1 .long)
 
 add-height : tie.Need-add-height Inv-loop μ-loop
 add-height c =
@@ -65,8 +62,7 @@ loop-again c =
 
 same-length : tie.Need-same-length Inv-loop μ-loop
 same-length c =
-    let start = c .before .before .before .before .before .before .before .before .before .before .before in
-    c .before .loop .inv .1 .long ∙ sym (start .pre .2)
+    c .before .loop .inv .1 .long ∙ sym (c .before .before .before .before .before .before .before .before .before .before .before .pre .2)
 
 returns : tie.Need-returns Inv-loop μ-loop
 returns c =

@@ -19,29 +19,20 @@ Inv-loop h counts starts clauses lead masks₀ all i₀ masks i =
 abbrev μ-loop : tie.MeasureT-loop
 μ-loop h counts starts clauses lead masks₀ all i₀ masks i = i
 
-cast-full : tie.Need-cast-full Inv-loop μ-loop
-cast-full c = omega (arith, c .before .before .before .before .before .pre .0 .few-states)
-
 loop-holds : tie.Need-loop-holds Inv-loop μ-loop
 loop-holds c = let a = c .before .before .before .before .before .before .args in
     (c .full .ensures, omega arith, refl, back-start (ruleOf (a .h) (a .counts .now) (a .clauses .now)) (a .lead .now) (a .masks .now))
-
-cast-met-by : tie.Need-cast-met-by Inv-loop μ-loop
-cast-met-by c = omega (arith, c .shared-slice-known4 .given (c .before .before .loop .i - 1))
 
 slice-read-met-by : tie.Need-slice-read-met-by Inv-loop μ-loop
 slice-read-met-by c = let start = c .before .before .before .before .before .before .before .before .before .before in omega (arith, start .pre .2)
 
 met-by-requires : tie.Need-met-by-requires Inv-loop μ-loop
 met-by-requires c κs =
-    let start = c .before .before .before .before .before .before .before .before .before .before in
-    let z = start .pre in
+    let z = c .before .before .before .before .before .before .before .before .before .before .pre in
     (z .0, z .1, z .3 (c .before .before .before .loop .i - 1) (omega arith), rw (c .before .before .before .loop .inv .0) (full-lt _ (z .0 .few-states)))
 
 slice-write-masks : tie.Need-slice-write-masks Inv-loop μ-loop
-slice-write-masks c =
-    let start = c .before .before .before .before .before .before .before .before .before .before .before in
-    omega (arith, start .pre .2)
+slice-write-masks c = omega (arith, c .before .before .before .before .before .before .before .before .before .before .before .pre .2)
 
 loop-again : tie.Need-loop-again Inv-loop μ-loop
 loop-again c =
@@ -67,6 +58,7 @@ returns c =
 pub fill-lead-spec : {M : Type 1} → statement M
 fill-lead-spec =
     tie.close (tie.spec
-    Inv-loop μ-loop cast-full (λ c κs. c .before .before .before .before .before .pre .0 .few-states) loop-holds (λ c. omega arith) (λ c. omega arith)
-    cast-met-by (λ c. omega arith) slice-read-met-by met-by-requires slice-write-masks (λ c. omega arith) loop-again (λ c. c .before .loop .inv .2)
-    returns)
+    Inv-loop μ-loop (λ c. omega (arith, c .before .before .before .before .before .pre .0 .few-states))
+    (λ c κs. c .before .before .before .before .before .pre .0 .few-states) loop-holds (λ c. omega arith) (λ c. omega arith)
+    (λ c. omega (arith, c .shared-slice-known4 .given (c .before .before .loop .i - 1))) (λ c. omega arith) slice-read-met-by met-by-requires
+    slice-write-masks (λ c. omega arith) loop-again (λ c. c .before .loop .inv .2) returns)

@@ -41,17 +41,10 @@ loop-again-2 c =
     let out : getD xs (l .i) 0 / 2 ^ 48 ≡ 0 = omega (arith, compact-at _ xs (l .codes) (l .w) (l .i) inside (l .inv)) in
     compact-skip _ xs (l .codes) (l .w) (l .i) inside (l .inv) (compacted-not _ _ out)
 
-zero-from-requires : tie.Need-zero-from-requires Inv-loop μ-loop
-zero-from-requires c κs = let v = c .before .before .loop .inv in omega (arith, v .long, v .behind, v .inside)
-
-same-length : tie.Need-same-length Inv-loop μ-loop
-same-length c = c .before .before .zero-from .kept .0 ∙ c .before .before .before .before .before .loop .inv .long
-
 returns : tie.Need-returns Inv-loop μ-loop
 returns c =
-    let start = c .before .before .before .before .before .before .before in
     let l = c .before .before .before .before .before .loop in
-    let xs = start .args .codes .now in (
+    let xs = c .before .before .before .before .before .before .before .args .codes .now in (
       compact-count compacted xs (l .codes) (l .w) (l .i) (omega (arith, l .inv .long)) compacted-none (l .inv),
       c .before .before .zero-from .ensures ∙ compact-end compacted xs (l .codes) (l .w) (l .i) (omega (arith, l .inv .long)) compacted-none (l .inv),
     )
@@ -63,4 +56,6 @@ compact-spec =
     (λ c. omega (arith, c .before .before .before .before .loop .inv .behind))
     (λ c. omega (arith, c .before .before .before .before .loop .inv .behind))
     (λ c. omega (arith, c .before .before .before .before .loop .inv .long)) loop-again
-    (λ c. omega (arith, c .before .before .before .loop .inv .long)) loop-again-2 zero-from-requires same-length returns)
+    (λ c. omega (arith, c .before .before .before .loop .inv .long)) loop-again-2
+    (λ c κs. let v = c .before .before .loop .inv in omega (arith, v .long, v .behind, v .inside))
+    (λ c. c .before .before .zero-from .kept .0 ∙ c .before .before .before .before .before .loop .inv .long) returns)

@@ -46,15 +46,6 @@ mul-transitions c =
     let start = c .before .before .before .before .before .before .before .before in
     let v = c .before .before .before .before .before .loop .inv in scaled-fits _ (length (start .args .transitions .now)) 8 (omega (arith, v .long, v .behind)) (start .good .1 .0 .1)
 
-slice-write-transitions : tie.Need-slice-write-transitions Inv-loop μ-loop
-slice-write-transitions c = omega (arith, c .before .before .before .before .before .loop .inv .behind)
-
-add-w : tie.Need-add-w Inv-loop μ-loop
-add-w c = omega (arith, c .before .before .before .before .before .loop .inv .behind)
-
-loop-less : tie.Need-loop-less Inv-loop μ-loop
-loop-less c = omega (arith, c .before .before .before .before .before .loop .inv .long)
-
 loop-again : tie.Need-loop-again Inv-loop μ-loop
 loop-again c =
     let start = c .before .before .before .before .before .before .before .before in let a = start .args in
@@ -76,12 +67,6 @@ loop-again-2 c =
     let out : isLeft tags (getD ts (l .i) 0) ≡ false = ap (isLeft tags) (sym e) ∙ sym (c .before .is-left .ensures) ∙ c .if1 .left in
     compact-skip _ ts (l .transitions) (l .w) (l .i) inside (l .inv) (rewritten-no tags _ _ out)
 
-zero-from-requires : tie.Need-zero-from-requires Inv-loop μ-loop
-zero-from-requires c κs = let v = c .before .before .loop .inv in omega (arith, v .long, v .behind, v .inside)
-
-same-length : tie.Need-same-length Inv-loop μ-loop
-same-length c = c .before .before .zero-from .kept .0 ∙ c .before .before .before .before .before .loop .inv .long
-
 returns : tie.Need-returns Inv-loop μ-loop
 returns c =
     let start = c .before .before .before .before .before .before .before .before in let a = start .args in
@@ -95,5 +80,9 @@ pub rewrite-all-spec : {M : Type 1} → statement M
 rewrite-all-spec =
     tie.close (tie.spec
     Inv-loop μ-loop (λ c. compact-start _ _) mul-t (λ c. omega arith) (λ c. omega arith) is-left-requires rewritten-one-requires mul-transitions
-    slice-write-transitions add-w loop-less loop-again (λ c. omega (arith, c .before .before .before .before .loop .inv .long)) loop-again-2
-    zero-from-requires same-length returns)
+    (λ c. omega (arith, c .before .before .before .before .before .loop .inv .behind))
+    (λ c. omega (arith, c .before .before .before .before .before .loop .inv .behind))
+    (λ c. omega (arith, c .before .before .before .before .before .loop .inv .long)) loop-again
+    (λ c. omega (arith, c .before .before .before .before .loop .inv .long)) loop-again-2
+    (λ c κs. let v = c .before .before .loop .inv in omega (arith, v .long, v .behind, v .inside))
+    (λ c. c .before .before .zero-from .kept .0 ∙ c .before .before .before .before .before .loop .inv .long) returns)
