@@ -1,7 +1,7 @@
 -- Laws of the rounds that count the distance.
 use mathlib.Core.Path.{_≡_, refl, sym, _∙_, ap}
 use mathlib.Core.Logic.{_⊎_, inl, inr, ⊎-elim, by-cases}
-use mathlib.Core.Bool.{Bool, true, false, _&&_, _||_, not, cond, or-false, or-true, and-false, true≢false, false≢true, and-comm, and-assoc}
+use mathlib.Core.Bool.{Bool, true, false, _&&_, _||_, not, cond, or-false, or-true, and-false, true≢false, false≢true, and-comm, and-assoc, not-and-self}
 use mathlib.Core.List.{List}
 use Prim.Native.Nat.{ℕ, zero, suc, _+_, _-_, _*_, _/_, _%_, _^_, _≤_, _<_}
 use native.Mathlib.Omega.{arith}
@@ -182,7 +182,7 @@ module _ (r : Rule) (P : Passing r) (lead cycle : List ℕ) (W : WordOver (r .s)
 
     -- outside work nothing is
     none-new : (p q : ℕ) → p < L r lead cycle T → bit work p ≡ false → (not (bit (near-of d p) q) && bit (near-of (suc d) p) q) ≡ false
-    none-new p q l e = rw (R .quiet p l e) (bif (bit (near-of d p) q) (λ t. rw t) (λ t. rw t))
+    none-new p q l e = rw (R .quiet p l e) (not-and-self (bit (near-of d p) q))
 
     done-is : (p q : ℕ) → p < L r lead cycle T → q < r .n → (bit work p && fresh r lead cycle T near p q) ≡ (not (bit (near-of d p) q) && bit (near-of (suc d) p) q)
     done-is p q l k = bif (bit work p) (λ t. rw t (fresh-is p q l k)) (λ t. rw t (sym (none-new p q l t)))

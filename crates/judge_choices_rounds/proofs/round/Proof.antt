@@ -1,7 +1,7 @@
 -- `judge_choices_rounds::round` meets its contract: a round at the places that are no longer left.
 use Prim.Native.Nat.{ℕ, _+_, _-_, _*_, _^_, _≤_, _<_}
-use mathlib.Core.Path.{_≡_, refl, sym, _∙_, ap}
-use mathlib.Core.Bool.{Bool, true, false, _&&_, _||_, not, and-true}
+use mathlib.Core.Path.{_≡_, sym, _∙_, ap}
+use mathlib.Core.Bool.{true, _&&_, _||_, not, and-true, and-not-self}
 use native.Mathlib.Omega.{arith}
 use native.Mathlib.Nat.{lt-of-le-of-lt, lt-of-lt-of-le}
 use lib.Bits.{bitAnd, and-le-r}
@@ -37,12 +37,8 @@ loop-holds c =
       λ x t. t,
       (round-start (ruleOf (a .rule .head) (a .counts .now) (a .clauses .now)) (a .lead .now) (a .cycle .now) (a .masks .now) (a .near .now) (λ x. bit (a .work) x && not (bit (a .work) x))
           (a .choices .now)
-          (λ x l. contrary (bit (a .work) x)) (p .1)),
+          (λ x l. and-not-self (bit (a .work) x)) (p .1)),
     )
-  where
-    contrary : (b : Bool) → (b && not b) ≡ false
-    contrary true = refl
-    contrary false = refl
 
 abbrev start-of-in-loop : tie.In-loop Inv-loop μ-loop → tie.Start Inv-loop μ-loop
 start-of-in-loop c = c .before .before .before .before .before .before .before .before .before

@@ -22,8 +22,8 @@ open-at-requires c κs =
     let z = start .pre in (z .0, z .1, c .before .before .loop .inv .2 .long ∙ z .2, omega arith)
 
 -- one place more, by whether its mask changed
-again : (c : tie.After-slice-known2 Inv-loop μ-loop) (b : Bool) → c .before .before .open-at .result ≡ b → let a = c .before .before .before .before .before .before .before .before .before .before .args in
-    let l = c .before .before .before .before .before .loop in
+again : (c : tie.After-slice-known2 Inv-loop μ-loop) (b : Bool) → c .before .before .open-at .result ≡ b →
+    let a = c .before .before .before .before .before .before .before .before .before .before .args in let l = c .before .before .before .before .before .loop in
     Inv-loop (a .h) (a .counts .now) (a .starts .now) (a .clauses .now) (a .cycle .now) (a .layer) (a .masks .now) false (length (a .cycle .now))
     (c .before .before .open-at .last .1 .1 .1 .1 .1 .1 .0) (b || l .changed) (l .p - 1)
 again c b t =

@@ -15,6 +15,7 @@ use Rattle.theory_laws.proofs.Sweeping.{pass-swept}
 use Rattle.theory_laws.proofs.Tagged.{highs-long}
 use Rattle.trim.proofs.marks.sweep.Statement.{statement}
 use Rattle.trim.proofs.marks.sweep.Tie as tie
+use mathlib.Core.Bool.{_||_}
 
 abbrev Inv-loop : tie.InvT-loop
 Inv-loop codes₀ transitions news₀ i₀ codes news i = (i ≤ length transitions) × PassedTo pass-swept transitions (highs codes₀) (highs codes) (ltb 0 news) i × (lows codes ≡ lows codes₀) × (news ≤ i)
@@ -33,37 +34,31 @@ mark-requires c κs =
     let target : c .target-of .result ≡ targetOf t = c .target-of .ensures in
     (omega (arith, start .pre .sources t m), omega (arith, start .pre .targets t m))
 
+-- one transition more: `news` counts those that brought something new
+again : (c : tie.After-mark Inv-loop μ-loop) (news : ℕ) → let at-loop = c .before .before .before .before .before .before in let a = at-loop .before .before .before .args in let l = at-loop .loop in
+    news ≤ l .i + 1 → ltb 0 news ≡ (ltb 0 (l .news) || c .mark .result) → Inv-loop (a .codes .now) (a .transitions .now) 0 0 (c .mark .last .0) news (l .i + 1)
+again c news few told =
+    let at-loop = c .before .before .before .before .before .before in let a = at-loop .before .before .before .args in let l = at-loop .loop in
+    let t = getD (a .transitions .now) (l .i) 0 in
+    let source : c .before .before .source-of .result ≡ sourceOf t = c .before .before .source-of .ensures in
+    let target : c .before .target-of .result ≡ targetOf t = c .before .target-of .ensures in
+    let o = c .mark .ensures in (
+      omega arith,
+      passed-next pass-swept (a .transitions .now) (highs (a .codes .now)) (highs (l .codes)) _ (ltb 0 (l .news)) _ (ltb 0 news) (l .i) t (omega arith) (l .inv .1) refl
+          (o .0 ∙ ap₂ (λ (x y : ℕ). marked x y (highs (l .codes))) source target) (o .2 ∙ ap₂ (λ (x y : ℕ). isNew x y (highs (l .codes))) source target) told,
+      o .1 ∙ l .inv .2,
+      few,
+    )
+
 loop-again : tie.Need-loop-again Inv-loop μ-loop
 loop-again c =
-    let at-loop = c .before .before .before .before .before .before .before .before .before in
-    let start = at-loop .before .before .before in let a = start .args in let l = at-loop .loop in
-    let t = getD (a .transitions .now) (l .i) 0 in
-    let source : c .before .before .before .before .before .source-of .result ≡ sourceOf t = c .before .before .before .before .before .source-of .ensures in
-    let target : c .before .before .before .before .target-of .result ≡ targetOf t = c .before .before .before .before .target-of .ensures in
-    let o = c .before .before .before .mark .ensures in (
-      omega arith,
-      passed-next pass-swept (a .transitions .now) (highs (a .codes .now)) (highs (l .codes)) _ (ltb 0 (l .news)) _ (ltb 0 (l .news + 1)) (l .i) t (omega arith) (l .inv .1) refl
-          (o .0 ∙ ap₂ (λ (x y : ℕ). marked x y (highs (l .codes))) source target) (o .2 ∙ ap₂ (λ (x y : ℕ). isNew x y (highs (l .codes))) source target)
-          (lt-ltb 0 (l .news + 1) (omega arith) ∙ or-now (ltb 0 (l .news)) _ (c .if1 .taken)),
-      o .1 ∙ l .inv .2,
-      omega arith,
-    )
+    let l = c .before .before .before .before .before .before .before .before .before .loop in
+    again (c .before .before .before) (l .news + 1) (omega arith) (lt-ltb 0 (l .news + 1) (omega arith) ∙ or-now (ltb 0 (l .news)) _ (c .if1 .taken))
 
 loop-again-2 : tie.Need-loop-again-2 Inv-loop μ-loop
 loop-again-2 c =
-    let at-loop = c .before .before .before .before .before .before .before .before .before in
-    let start = at-loop .before .before .before in let a = start .args in let l = at-loop .loop in
-    let t = getD (a .transitions .now) (l .i) 0 in
-    let source : c .before .before .before .before .before .source-of .result ≡ sourceOf t = c .before .before .before .before .before .source-of .ensures in
-    let target : c .before .before .before .before .target-of .result ≡ targetOf t = c .before .before .before .before .target-of .ensures in
-    let o = c .before .before .before .mark .ensures in (
-      omega arith,
-      passed-next pass-swept (a .transitions .now) (highs (a .codes .now)) (highs (l .codes)) _ (ltb 0 (l .news)) _ (ltb 0 (l .news)) (l .i) t (omega arith) (l .inv .1) refl
-          (o .0 ∙ ap₂ (λ (x y : ℕ). marked x y (highs (l .codes))) source target) (o .2 ∙ ap₂ (λ (x y : ℕ). isNew x y (highs (l .codes))) source target)
-          (or-before (ltb 0 (l .news)) _ (c .if1 .left)),
-      o .1 ∙ l .inv .2,
-      omega arith,
-    )
+    let l = c .before .before .before .before .before .before .before .before .before .loop in
+    again (c .before .before .before) (l .news) (omega arith) (or-before (ltb 0 (l .news)) _ (c .if1 .left))
 
 returns : tie.Need-returns Inv-loop μ-loop
 returns c =
