@@ -64,17 +64,8 @@ choose-requires c κs =
     let start = start-of (c .before .before) in
     let p = start .pre in (p .0, p .1, below (c .before .before), p .3, omega (arith, below (c .before .before), p .7, c .before .before .before .loop .inv .3))
 
-cast-found : tie.Need-cast-found Inv-loop μ-loop
-cast-found c =
-    let earlier = c .before .before .before .before .before .before in
-    let start = start-of earlier in
-    omega (arith, below (earlier), start .pre .0 .few-states)
-
-shl-found : tie.Need-shl-found Inv-loop μ-loop
-shl-found c =
-    let earlier = c .before .before .before .before .before .before in
-    let start = start-of earlier in
-    omega (arith, below (earlier), start .pre .0 .few-states)
+low : (c : tie.In-loop Inv-loop μ-loop) → trailingZeros 8 (c .before .loop .left) < 8
+low c = omega (arith, below c, start-of c .pre .0 .few-states)
 
 loop-less : tie.Need-loop-less Inv-loop μ-loop
 loop-less c =
@@ -92,8 +83,7 @@ loop-again c =
     let k = below (earlier) in
     let pos : 0 < l .left = omega arith in
     let small = few (earlier) in
-    let e : q < 8 = omega (arith, k, p .0 .few-states) in
-    let one : 1 * 2 ^ q % 2 ^ 8 ≡ 2 ^ q = shl-one 8 q e in
+    let one : 1 * 2 ^ q % 2 ^ 8 ≡ 2 ^ q = shl-one 8 q (low earlier) in
     let class = getD (a .rule .classes) q 0 in
     let aims : bitOr (at-choose .before .before .difference .result) (bitAnd (a .near) class) ≡ aimOf r (a .all) (a .near) q
     = ap (λ (x : ℕ). bitOr x (bitAnd (a .near) class)) (at-choose .before .before .difference .ensures) ∙ aim-set r (p .0 .few-states) (a .all) (a .near) q class (p .4) (p .5) (p .2 .at q k) in
@@ -136,6 +126,6 @@ returns c =
 pub choose-each-spec : {M : Type 1} → statement M
 choose-each-spec =
     tie.close (tie.spec
-    Inv-loop μ-loop loop-holds (λ c. omega (arith, below c, start-of c .pre .0 .few-states))
-    (λ c. omega (arith, below c, start-of c .pre .0 .few-states)) (λ c κs. search needs) add-choose choose-requires cast-found shl-found
+    Inv-loop μ-loop loop-holds (λ c. omega (arith, low c)) (λ c. omega (arith, low c)) (λ c κs. search needs) add-choose choose-requires
+    (λ c. omega (arith, low (c .before .before .before .before .before .before))) (λ c. omega (arith, low (c .before .before .before .before .before .before)))
     (λ c. omega arith) loop-less loop-again (λ c. c .before .loop .inv .3) returns)

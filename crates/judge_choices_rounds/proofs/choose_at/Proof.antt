@@ -25,26 +25,21 @@ cast-difference c =
     let start = c .before .before .before .before .before .before .before .before .before .before in
     let a = start .args in omega (arith, accepting-small (ruleOf (a .rule .head) (a .counts .now) (a .clauses .now)) (start .pre .0 .passing .formed))
 
--- the place that follows is one
-next-is : (c : tie.After-next-place) → let a = c .before .before .before .before .before .before .before .before .args in c .next-place .result ≡ nextPlace (a .lead .now) (a .cycle .now) (a .p)
-next-is c =
-    let start = c .before .before .before .before .before .before .before .before in
-    c .next-place .ensures (start .args .lead .now) (start .args .cycle .now) refl refl
+abbrev start-of : tie.After-next-place → tie.Start
+start-of c = c .before .before .before .before .before .before .before .before
 
-follows : (c : tie.After-next-place) → let a = c .before .before .before .before .before .before .before .before .args in c .next-place .result < places (a .lead .now) (a .cycle .now)
-follows c =
-    let start = c .before .before .before .before .before .before .before .before in
-    rw (next-is c) (next-low _ _ _ _ _ _ (start .pre .0) (start .args .p) (start .pre .3))
+-- the place that follows is one
+next-is : (c : tie.After-next-place) → c .next-place .result ≡ nextPlace (start-of c .args .lead .now) (start-of c .args .cycle .now) (start-of c .args .p)
+next-is c = c .next-place .ensures (start-of c .args .lead .now) (start-of c .args .cycle .now) refl refl
+
+follows : (c : tie.After-next-place) → c .next-place .result < places (start-of c .args .lead .now) (start-of c .args .cycle .now)
+follows c = omega (arith, next-is c, next-low _ _ _ _ _ _ (start-of c .pre .0) (start-of c .args .p) (start-of c .pre .3))
 
 shared-slice-read-choose-each : tie.Need-shared-slice-read-choose-each
-shared-slice-read-choose-each c =
-    let start = c .before .before .before .before .before .before .before .before .before .before .before .before .before in
-    omega (arith, follows (c .before .before .before .before .before), masks-long _ _ _ _ _ _ (start .pre .0))
+shared-slice-read-choose-each c = let d = c .before .before .before .before .before in omega (arith, follows d, masks-long _ _ _ _ _ _ (start-of d .pre .0))
 
 element-copy-out-choose-each : tie.Need-element-copy-out-choose-each
-element-copy-out-choose-each c =
-    let start = c .before .before .before .before .before .before .before .before .before .before .before .before .before in
-    omega (arith, follows (c .before .before .before .before .before), start .pre .0 .few-places)
+element-copy-out-choose-each c = let d = c .before .before .before .before .before in omega (arith, follows d, start-of d .pre .0 .few-places)
 
 mul-choose-each : tie.Need-mul-choose-each
 mul-choose-each c =

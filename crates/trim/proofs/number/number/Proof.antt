@@ -1,6 +1,6 @@
 -- `number` meets its contract.
 use mathlib.Core.Path.{_≡_}
-use Prim.Native.Nat.{_-_, _/_, _^_, _<_}
+use Prim.Native.Nat.{_-_, _/_, _^_, _<_, _+_}
 use native.Mathlib.Omega.{arith}
 use borrow.Author.Needs.{needs, scaled-fits}
 use lib.ListN.{length, getD}
@@ -17,18 +17,9 @@ abbrev μ-loop : tie.MeasureT-loop
 mul-c : tie.Need-mul-c Inv-loop μ-loop
 mul-c c = scaled-fits _ (length (c .before .before .before .args .codes .now)) 8 (omega (arith, c .before .loop .inv .long)) (c .before .before .before .good .0 .1)
 
-add-k : tie.Need-add-k Inv-loop μ-loop
-add-k c =
-    let l = c .before .before .before .loop in
-    let left : 0 < getD (l .codes) (l .i) 0 / 2 ^ 48 = omega arith in
-    omega (
-      arith,
-      number-room (c .before .before .before .before .before .args .codes .now) (l .codes) (l .k) (l .i) (omega (arith, l .inv .long)) (l .inv) left
-          (c .before .before .before .before .before .pre),
-    )
-
-carrying-requires : tie.Need-carrying-requires Inv-loop μ-loop
-carrying-requires c κs =
+-- the number of a code that is left has room
+room : (c : tie.Then1 Inv-loop μ-loop) → c .before .before .before .loop .k + 1 < 65536
+room c =
     let l = c .before .before .before .loop in
     let left : 0 < getD (l .codes) (l .i) 0 / 2 ^ 48 = omega arith in
     number-room (c .before .before .before .before .before .args .codes .now) (l .codes) (l .k) (l .i) (omega (arith, l .inv .long)) (l .inv) left (c .before .before .before .before .before .pre)
@@ -55,6 +46,6 @@ returns c = let l = c .before .loop in all-numbered (c .before .before .before .
 pub number-spec : {M : Type 1} → statement M
 number-spec =
     tie.close (tie.spec
-    Inv-loop μ-loop (λ c. none-numbered _) mul-c (λ c. omega arith) (λ c. omega arith) add-k carrying-requires mul-codes (λ c. omega arith)
+    Inv-loop μ-loop (λ c. none-numbered _) mul-c (λ c. omega arith) (λ c. omega arith) (λ c. omega (arith, room c)) (λ c κs. room c) mul-codes (λ c. omega arith)
     (λ c. omega (arith, c .before .before .before .before .loop .inv .long)) loop-again
     (λ c. omega (arith, c .before .before .before .loop .inv .long)) loop-again-2 (λ c. c .before .loop .inv .long) returns)

@@ -23,23 +23,15 @@ abbrev μ-loop : tie.MeasureT-loop
 mul-t : tie.Need-mul-t Inv-loop μ-loop
 mul-t c = scaled-fits _ (length (c .before .before .before .before .args .transitions .now)) 8 (omega (arith, c .before .loop .inv .long)) (c .before .before .before .before .good .1 .0 .1)
 
-is-left-requires : tie.Need-is-left-requires Inv-loop μ-loop
-is-left-requires c κs =
-    let a = c .before .before .before .before .before .args in let l = c .before .before .loop in
-    let ts = a .transitions .now in
+-- the transition at i has its ends among the codes
+ends : (c : tie.In-loop Inv-loop μ-loop) → let l = c .before .loop in let n = length (c .before .before .before .before .args .codes .now) in
+    (sourceOf (getD (l .transitions) (l .i) 0) < n) × (targetOf (getD (l .transitions) (l .i) 0) < n)
+ends c =
+    let start = c .before .before .before .before in let l = c .before .loop in let ts = start .args .transitions .now in
     let inside : l .i < length ts = omega (arith, l .inv .long) in
     let e = compact-at _ ts (l .transitions) (l .w) (l .i) inside (l .inv) in
     let m = mem-at ts (l .i) inside in
-    (rw e (c .before .before .before .before .before .pre .sources (getD ts (l .i) 0) m), rw e (c .before .before .before .before .before .pre .targets (getD ts (l .i) 0) m))
-
-rewritten-one-requires : tie.Need-rewritten-one-requires Inv-loop μ-loop
-rewritten-one-requires c κs =
-    let start = c .before .before .before .before .before .before .before in let a = start .args in
-    let l = c .before .before .before .before .loop in let ts = a .transitions .now in
-    let inside : l .i < length ts = omega (arith, l .inv .long) in
-    let e = compact-at _ ts (l .transitions) (l .w) (l .i) inside (l .inv) in
-    let m = mem-at ts (l .i) inside in
-    (rw e (start .pre .sources (getD ts (l .i) 0) m), rw e (start .pre .targets (getD ts (l .i) 0) m), sym (c .before .is-left .ensures) ∙ c .if1 .taken)
+    (rw e (start .pre .sources (getD ts (l .i) 0) m), rw e (start .pre .targets (getD ts (l .i) 0) m))
 
 mul-transitions : tie.Need-mul-transitions Inv-loop μ-loop
 mul-transitions c =
@@ -79,7 +71,8 @@ returns c =
 pub rewrite-all-spec : {M : Type 1} → statement M
 rewrite-all-spec =
     tie.close (tie.spec
-    Inv-loop μ-loop (λ c. compact-start _ _) mul-t (λ c. omega arith) (λ c. omega arith) is-left-requires rewritten-one-requires mul-transitions
+    Inv-loop μ-loop (λ c. compact-start _ _) mul-t (λ c. omega arith) (λ c. omega arith)
+    (λ c κs. ends (c .before)) (λ c κs. let (s, t) = ends (c .before .before .before) in (s, t, sym (c .before .is-left .ensures) ∙ c .if1 .taken)) mul-transitions
     (λ c. omega (arith, c .before .before .before .before .before .loop .inv .behind))
     (λ c. omega (arith, c .before .before .before .before .before .loop .inv .behind))
     (λ c. omega (arith, c .before .before .before .before .before .loop .inv .long)) loop-again
