@@ -89,13 +89,7 @@ pub record Round (A : ℕ → ℕ → Type 0) (old new : List ℕ) (changed : Bo
   pub grown : changed ≡ true → sum old < sum new
 
 pub round-none : (A : ℕ → ℕ → Type 0) → ((x y : ℕ) → A x y → ⊥) → (ms : List ℕ) → Round A ms ms false
-round-none A n ms = record {
-  long = refl;
-  more = λ x. omega arith;
-  still = λ e y h. h;
-  closed = λ x y a. absurd (n x y a);
-  grown = λ e. absurd (false≢true e);
-}
+round-none A n ms = record { long = refl; more = λ x. omega arith; still = λ e y h. h; closed = λ x y a. absurd (n x y a); grown = λ e. absurd (false≢true e) }
 
 pub round-one : (x y : ℕ) (ms : List ℕ) → Round (λ u v. (u ≡ x) × (v ≡ y)) ms (marked x y ms) (isNew x y ms)
 round-one x y ms = marked-cases x y ms (λ l b. Round (λ u v. (u ≡ x) × (v ≡ y)) ms l b)

@@ -1,6 +1,6 @@
 -- The rows of a call, and what a call answers and writes.
 use mathlib.Core.Path.{_≡_, refl, sym, _∙_, ap}
-use mathlib.Core.Bool.{Bool, true, false}
+use mathlib.Core.Bool.{Bool, false}
 use mathlib.Core.List.{List, _++_}
 use Prim.Native.Nat.{ℕ, zero, suc, _+_, _*_, _≤_, _<_}
 use native.Mathlib.Omega.{arith}
@@ -12,7 +12,7 @@ use Rattle.sets.specs.Masks.{bit}
 use Rattle.refusals.specs.Rows.{firstRow}
 use Rattle.sets.specs.Lists.{tabulate}
 use Rattle.sets.proofs.Lists.{length-tabulate}
-use Rattle.refusals.proofs.Rows.{numbered, first-left, first-right, first-parts, first-pass}
+use Rattle.refusals.proofs.Rows.{first-left, first-right, first-parts, first-pass}
 use Rattle.theory.specs.Rule.{Rule}
 use Rattle.theory.specs.Passing.{Passing}
 use Rattle.theory.specs.Word.{places, WordOver}
@@ -21,7 +21,7 @@ use Rattle.theory_laws.proofs.Truth.{truth-length}
 use Rattle.file_spec.specs.File.{ruleIn}
 use Rattle.file_spec.specs.Rows.{fileRows, fileRow}
 use Rattle.file_read.proofs.FileRows.{file-numbered, accepted-passing}
-use Rattle.word_rows.specs.Words.{lengthRows, letterRows, wordRows, wordRow}
+use Rattle.word_rows.specs.Words.{wordRows, wordRow}
 use Rattle.word_rows.proofs.Checks.{passing-of, word-over}
 use Rattle.judge_spec.specs.declared.Verdict.{Verdict}
 use Rattle.judge_spec.specs.declared.Verdict.the-variants.{Refused}
@@ -31,6 +31,7 @@ use Rattle.judge_choices_spec.specs.ChoicesComputed.{choiceAt, choicesBy, choic
 use Rattle.judge_choices_spec.specs.Choice.{Written}
 use Rattle.judge_choices_place.proofs.Meaning.{meaning as choices-meaning}
 use Rattle.judge_choices.specs.Judge.{choiceRows, choicesCallRow, choicesRow, CalledChoices, JudgedChoices}
+use Rattle.judge_spec.proofs.Rows.{rows-numbered}
 
 module _ (r : Rule) (lead cycle : List ℕ) where
   pub choices-long : length (choicesOf r lead cycle) ≡ places lead cycle * r .n
@@ -46,14 +47,6 @@ bytes-few n s lead cycle e l = let h : places lead cycle * n ≤ 64 * 8 = mul-le
 
 -- ---- rows
 module _ (r : Rule) (lead cycle : List ℕ) (m k : ℕ) where
-  words-numbered : numbered (wordRows (r .s) lead cycle) ≡ true
-  unfolding numbered wordRows lengthRows letterRows
-  words-numbered = refl
-
-  slices-numbered : numbered (sliceRows lead cycle m) ≡ true
-  unfolding numbered sliceRows
-  slices-numbered = refl
-
   -- rows 12 to 14
   pub word-refuses : (j : ℕ) → (j ≡ 0 → ⊥) → j ≡ wordRow (r .s) lead cycle → j ≡ choicesCallRow r lead cycle m k
   unfolding choicesCallRow wordRow wordRows
@@ -61,7 +54,7 @@ module _ (r : Rule) (lead cycle : List ℕ) (m k : ℕ) where
 
   word-passes : wordRow (r .s) lead cycle ≡ 0 → choicesCallRow r lead cycle m k ≡ firstRow (sliceRows lead cycle m ++ choiceRows r lead cycle k)
   unfolding choicesCallRow wordRow wordRows
-  word-passes e = first-right (wordRows (r .s) lead cycle) (sliceRows lead cycle m ++ choiceRows r lead cycle k) words-numbered e
+  word-passes e = first-right (wordRows (r .s) lead cycle) (sliceRows lead cycle m ++ choiceRows r lead cycle k) (rows-numbered r lead cycle m) e
 
   -- row 16, of the first slice and of the second
   pub masks-refuse : wordRow (r .s) lead cycle ≡ 0 → m < places lead cycle → 16 ≡ choicesCallRow r lead cycle m k
@@ -78,7 +71,7 @@ module _ (r : Rule) (lead cycle : List ℕ) (m k : ℕ) where
 
   pub call-word : choicesCallRow r lead cycle m k ≡ 0 → wordRow (r .s) lead cycle ≡ 0
   unfolding choicesCallRow wordRow wordRows
-  call-word e = first-parts (wordRows (r .s) lead cycle) (sliceRows lead cycle m ++ choiceRows r lead cycle k) words-numbered e .0
+  call-word e = first-parts (wordRows (r .s) lead cycle) (sliceRows lead cycle m ++ choiceRows r lead cycle k) (rows-numbered r lead cycle m) e .0
 
 module _ (f lead cycle : List ℕ) (m k : ℕ) where
   -- rows 1 to 11

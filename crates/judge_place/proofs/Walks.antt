@@ -1,7 +1,7 @@
 -- A walk over the states of a mask from the least on, which collects those that pass a test.
 use mathlib.Core.Path.{_≡_, refl, sym, _∙_, ap}
 use mathlib.Core.Logic.{by-cases}
-use mathlib.Core.Bool.{Bool, true, false, _&&_, _||_, or-false}
+use mathlib.Core.Bool.{Bool, true, false, _&&_, _||_, or-false, or-true, and-true, and-false}
 use mathlib.Core.List.{List·Memᴰ, List·Memᴰ·head}
 use Prim.Native.Nat.{ℕ, _+_, _-_, _*_, _%_, _^_, _<_}
 use native.Mathlib.Omega.{arith}
@@ -28,21 +28,16 @@ walked f found left q = bit found q || (bit left q && f q)
 
 -- of Booleans
 found-now : (a x : Bool) → ((a || true) || x) ≡ (a || true)
-found-now true x = refl
-found-now false x = refl
+found-now a x = rw (or-true a)
 
 as-before : (a b c : Bool) → ((a || false) || ((b && true) && c)) ≡ (a || (b && c))
-as-before true b c = refl
-as-before false true c = refl
-as-before false false c = refl
+as-before a b c = rw (or-false a, and-true b)
 
 none-here : (a b : Bool) → (a || ((b && false) && false)) ≡ (a || (b && false))
-none-here a true = refl
-none-here a false = refl
+none-here a b = rw (and-false b)
 
 kept-left : (a b c : Bool) → (a || ((b && true) && c)) ≡ (a || (b && c))
-kept-left a true c = refl
-kept-left a false c = refl
+kept-left a b c = rw (and-true b)
 
 module _ (f : Set) (found left : ℕ) (p : 0 < left) (l : left < 256) where
   -- the least state left passes

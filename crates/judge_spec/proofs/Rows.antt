@@ -16,7 +16,7 @@ use Rattle.word_rows.specs.Words.{lengthRows, letterRows, wordRows, wordRow}
 use Rattle.judge_spec.specs.Judge.{sliceRows, judgeCallRow, judgeRow}
 
 module _ (r : Rule) (lead cycle : List ℕ) (m : ℕ) where
-  rows-numbered : numbered (wordRows (r .s) lead cycle) ≡ true
+  pub rows-numbered : numbered (wordRows (r .s) lead cycle) ≡ true
   unfolding numbered wordRows lengthRows letterRows
   rows-numbered = refl
 

@@ -109,12 +109,7 @@ pub record Member (n i m x : ℕ) : Type 0 where
   pub member : bit m number ≡ true
 
 up : (n i m x : ℕ) → Member n (i + 1) (m / 2) x → Member (suc n) i m x
-up n i m x r = record {
-  number = suc (r .number);
-  below = omega (arith, r .below);
-  here = omega (arith, r .here);
-  member = sym (bit-half m (r .number)) ∙ r .member;
-}
+up n i m x r = record { number = suc (r .number); below = omega (arith, r .below); here = omega (arith, r .here); member = sym (bit-half m (r .number)) ∙ r .member }
 
 pub members-from-out : (n i m x : ℕ) → List·Memᴰ x (membersFrom n i m) → Member n i m x
 unfolding membersFrom

@@ -223,16 +223,7 @@ initial-listed codes moves L M = L .codes-are 257 .1 (begins M refl)
 pub step-listed : (moves : List ℕ) → ListsReachable F (0 ∷ 257 ∷ 17592186044673 ∷ []) moves → Goes (automaton F) 257 1 0 → List·Memᴰ 16842752 moves
 unfolding computed
 step-listed moves L G =
-    L .transitions-are 16842752 .1 (record {
-      source = 1;
-      letter = 1;
-      target = 0;
-      source-listed = omega arith;
-      letter-known = omega arith;
-      target-listed = omega arith;
-      packed = refl;
-      steps = G;
-    })
+    L .transitions-are 16842752 .1 (record { source = 1; letter = 1; target = 0; source-listed = omega arith; letter-known = omega arith; target-listed = omega arith; packed = refl; steps = G })
 
 -- the last place is followed by the cycle's first
 pub cycle-first : nextPlace (0 ∷ 1 ∷ []) (0 ∷ []) 2 ≡ 2

@@ -47,11 +47,7 @@ module _ (r : Rule) (c a d : ℕ) (known : a < r .s) (M : Macrostate (automaton 
     };
     run = in-front;
     begins = refl;
-    goes-on = record {
-      macrostate = front-macrostate;
-      steps = front-steps;
-      again = λ i. let (j, l, e) = D .goes-on .again i in (suc j, omega arith, e);
-    };
+    goes-on = record { macrostate = front-macrostate; steps = front-steps; again = λ i. let (j, l, e) = D .goes-on .again i in (suc j, omega arith, e) };
   }
 
   pub before-lead : matters-before .lead ≡ a ∷ D .lead

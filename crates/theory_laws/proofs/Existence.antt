@@ -98,11 +98,7 @@ module _ (A : Automaton) (H : Layered A) (B : ℕ) (room : A .n ≤ B) (w : ℕ 
 
   pub backed : Backed A B w S rk
   unfolding rk
-  backed = record {
-    exact = exact;
-    ranked = λ i q l. rank-order A (S i) (δ i) (levAt A B w S rk i) (λ p r m k c t o. alike i p r m k c t o) q l;
-    bound = rk-bound;
-  }
+  backed = record { exact = exact; ranked = λ i q l. rank-order A (S i) (δ i) (levAt A B w S rk i) (λ p r m k c t o. alike i p r m k c t o) q l; bound = rk-bound }
 
   -- ---- the component at work and what is left of it
   pub record Work : Type 0 where

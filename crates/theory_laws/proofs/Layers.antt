@@ -12,7 +12,7 @@ use Rattle.theory.specs.Layered.{Layered}
 use Rattle.theory_laws.proofs.Components.{height, height-in, height-out, falls, clause-leads, same-heights, few-components, component-iff, together-of-component}
 
 module _ (R : Rule) (P : Passing R) where
-  pub layered : Layered (automaton R)
+  unfoldable pub layered : Layered (automaton R)
   unfolding automaton
   layered = record {
     height = height R;

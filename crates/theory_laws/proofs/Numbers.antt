@@ -78,7 +78,6 @@ picked-length (m ∷ ms) (c ∷ cs) e =
 
 -- a member is found again at its new number
 pub picked-at : (ms cs : List ℕ) (i : ℕ) → i < length cs → 0 < getD ms i 0 → getD (picked ms cs) (newNumber ms i) 0 ≡ getD cs i 0
-unfolding picked
 picked-at [] cs i l h = absurd (omega arith)
 picked-at (m ∷ ms) [] i l h = absurd (omega arith)
 picked-at (m ∷ ms) (c ∷ cs) zero l h = rw (picked-in m ms c cs h, number-none (m ∷ ms)) refl

@@ -112,7 +112,6 @@ renumbered-out ms (t ∷ ts) v m =
     (λ f. let (u, l, g, e) = renumbered-out ms ts v (rw (renumbered-no ms t ts f) at m) in (u, List·Memᴰ·tail l, g, e))
 
 renumbered-in : (ms ts : List ℕ) (t : ℕ) → List·Memᴰ t ts → isLeft ms t ≡ true → List·Memᴰ (renumber ms t) (renumbered ms ts)
-unfolding renumbered
 renumbered-in ms (u ∷ us) t (List·Memᴰ·head e) f = rw (renumbered-yes ms u us (ap (isLeft ms) (sym e) ∙ f)) (List·Memᴰ·head (ap (renumber ms) e))
 renumbered-in ms (u ∷ us) t (List·Memᴰ·tail k) f =
     let i = renumbered-in ms us t k f in bif (isLeft ms u) (λ g. rw (renumbered-yes ms u us g) (List·Memᴰ·tail i)) (λ g. rw (renumbered-no ms u us g) i)

@@ -13,12 +13,10 @@ use Rattle.sets.specs.Tests.{Set}
 use Rattle.sets.specs.Masks.{bit, mask, exclusive}
 use Rattle.sets.specs.Lists.{tabulate}
 use Rattle.sets.proofs.Bools.{bif}
-use Rattle.sets.proofs.Tests.{count-max}
 use Rattle.sets.proofs.Masks.{mask-lt, bit-mask}
 use Rattle.sets.proofs.Bits.{bit-none, bit-below}
 use Rattle.sets.proofs.Lists.{length-tabulate, tabulate-at}
 use Rattle.theory.specs.Rule.{Rule, entry, satisfies}
-use Rattle.theory.specs.Components.{reaches}
 use Rattle.theory.specs.Passing.{Passing}
 use Rattle.theory.specs.Automaton.{Automaton, automaton}
 use Rattle.theory.specs.Layered.{Layered}
@@ -27,7 +25,7 @@ use Rattle.theory.specs.Word.{places, nextPlace, letterAt, WordOver}
 use Rattle.theory.specs.Plan.{AcceptsFrom}
 use Rattle.theory.specs.Truth.{heightOf, layer, roundsAt, solvedBelow, truthMasks}
 use Rattle.theory_laws.proofs.Certified.{rounds, solved}
-use Rattle.theory_laws.proofs.Components.{height, height-in, height-out, falls, clause-leads, same-heights, together-of-component}
+use Rattle.theory_laws.proofs.Components.{height, height-in}
 use Rattle.theory_laws.proofs.FixedPoint.{Sp, exact, near-open}
 use Rattle.theory_laws.proofs.Layers.{layered}
 use Rattle.theory_laws.proofs.Places.{next-place-low}
@@ -39,18 +37,8 @@ use Rattle.theory_laws.proofs.SetOfPlan.{true-in}
 
 -- the layers by height
 unfoldable pub heights : (r : Rule) → Passing r → Layered (automaton r)
-unfolding automaton
-heights r P = let a = layered r P in record {
-  height = height r;
-  down = λ q a c p l k m b. falls r q p l k (clause-leads r q a c p m b);
-  pure = a .pure;
-  top = suc (r .n);
-  tall = λ q l. let h = height-in r q l in let k = count-max (r .n) (reaches r q) in omega arith;
-  edge = λ q l. let h = height-out r q l in omega arith;
-  plain = a .plain;
-  few = a .few;
-  level = λ p q l m e. height-in r p l ∙ same-heights r p q l m (together-of-component r p q l m e) ∙ sym (height-in r q m);
-}
+unfolding layered
+heights r P = layered r P
 
 pub height-is : (r : Rule) (q : ℕ) → q < r .n → heightOf r q ≡ height r q
 unfolding heightOf

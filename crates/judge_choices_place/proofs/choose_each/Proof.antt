@@ -115,13 +115,7 @@ returns c =
     let r = ruleOf (a .rule .head) (a .counts .now) (a .clauses .now) in
     let f : Set = λ x. satisfies (a .rule .head .n) (bit (aimOf r (a .all) (a .near) x)) (entry r x (a .a)) in
     let e : l .left ≡ 0 = omega arith in
-    record {
-      long = l .inv .3;
-      low = l .inv .1;
-      those = λ q. sym (walk-end f (l .found) q) ∙ (rw e at (l .inv .2 q));
-      here = l .inv .4;
-      others = l .inv .5;
-    }
+    record { long = l .inv .3; low = l .inv .1; those = λ q. sym (walk-end f (l .found) q) ∙ (rw e at (l .inv .2 q)); here = l .inv .4; others = l .inv .5 }
 
 pub choose-each-spec : {M : Type 1} → statement M
 choose-each-spec =
