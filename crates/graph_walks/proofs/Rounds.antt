@@ -67,14 +67,6 @@ settled-stays : (v : ℕ) → 2 < v → settled v ≡ v - 2
 unfolding settled
 settled-stays v l = rw (le-ltb v 3 l)
 
-goes-facts : (v : ℕ) → goesOut v ≡ true → v ≡ 2
-unfolding goesOut
-goes-facts v e = eqb-true v 2 e
-
-goes-yes : (v : ℕ) → v ≡ 2 → goesOut v ≡ true
-unfolding goesOut
-goes-yes v e = eq-eqb v 2 e
-
 -- inside from .. to, or outside
 pub where-cases : {C : Type 0} (from to x : ℕ) → (from ≤ x → x < to → C) → ((x < from) ⊎ (to ≤ x) → C) → C
 where-cases from to x f g =
@@ -134,9 +126,10 @@ module _ (E : ℕ → ℕ → Type 0) (b ms new : List ℕ) (from to : ℕ) (cha
       (λ o. let e = s .outside x o in omega arith)
 
   pub back-less : changed ≡ true → sum new < sum b
+  unfolding goesOut
   back-less e =
       let (x, f, t, g) = s .some e in
-      let k = goes-facts (getD ms x 0) g in
+      let k = eqb-true (getD ms x 0) 2 g in
       let gone : getD new x 0 ≡ 0 = s .inside x f t ∙ settled-out (getD ms x 0) (omega arith) in
       sum-lt new b (s .long ∙ m .long) (λ z. ⊎-elim (λ q. omega arith) (λ q. omega arith) (back-each z)) x
       (⊎-elim (λ q. omega arith) (λ q. absurd (omega (arith, q .0, q .1))) (m .each x))
@@ -205,10 +198,11 @@ module _ (E : ℕ → ℕ → Type 0) (b ms new : List ℕ) (changed : Bool) (lo
 
   -- no accepting node went out
   accepting-stay : changed ≡ false → (y : ℕ) → 1 < getD b y 0 → 1 < getD new y 0
+  unfolding goesOut
   accepting-stay e y l =
       ⊎-elim
       (λ z. ⊎-elim
-      (λ q. clash (goes-yes (getD ms y 0) (omega (arith, low y))) (s .none e y (omega arith) (has-place ms y (omega arith))))
+      (λ q. clash (eq-eqb (getD ms y 0) 2 (omega (arith, low y))) (s .none e y (omega arith) (has-place ms y (omega arith))))
       (λ q. absurd (omega (arith, stays y (omega (arith, q .0)))))
       (m .each y))
       (λ q. omega arith)

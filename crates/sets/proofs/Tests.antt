@@ -5,7 +5,7 @@ use mathlib.Core.Bool.{Bool, true, false, _&&_, true≢false, false≢true, and-
 use Prim.Native.Nat.{ℕ, zero, suc, _+_, _≤_, _<_, max}
 use native.Mathlib.Decide.{decLt, decLe, ℕ-discrete}
 use native.Mathlib.Omega.{arith}
-use native.Mathlib.Nat.{add-zero, zero-add}
+use native.Mathlib.Nat.{zero-add}
 use lib.Dec.{leb, ltb}
 use borrow.Author.Tests.{leb-true, le-leb, lt-leb, lt-ltb}
 use native.Mathlib.Numerals.{add-one}
@@ -96,13 +96,20 @@ unfolding first
 first-max zero f a = omega arith
 first-max (suc k) f a = bif (f a) (λ t. rw (first-yes k f a t) (omega arith)) (λ t. let ih = first-max k f (suc a) in rw (first-no k f a t) (omega arith))
 
-pub first-hits : (k : ℕ) (f : Set) (a : ℕ) → f (a + k) ≡ true → f (first k f a) ≡ true
+-- the least number from a to a + k, where one of them passes
+first-meets : (k : ℕ) (f : Set) (a j : ℕ) → a ≤ j → j ≤ a + k → f j ≡ true → f (first k f a) ≡ true
 unfolding first
-first-hits zero f a e = rw add-zero at e
-first-hits (suc k) f a e =
+first-meets zero f a j h l e = let x : a ≡ j = omega arith in ap f x ∙ e
+first-meets (suc k) f a j h l e =
     bif (f a)
     (λ t. ap f (first-yes k f a t) ∙ t)
-    (λ t. let x : a + suc k ≡ suc a + k = omega arith in ap f (first-no k f a t) ∙ first-hits k f (suc a) (rw x at e))
+    (λ t. ap f (first-no k f a t) ∙ by-cases (ℕ-discrete a j) (λ x. clash e (ap f (sym x) ∙ t)) (λ x. first-meets k f (suc a) j (omega arith) (omega arith) e))
+
+pub first-hits : (k : ℕ) (f : Set) (a : ℕ) → f (a + k) ≡ true → f (first k f a) ≡ true
+first-hits k f a e = first-meets k f a (a + k) (omega arith) (omega arith) e
+
+pub first-at : (k : ℕ) (f : Set) (a j : ℕ) → a ≤ j → j < a + k → f j ≡ true → f (first k f a) ≡ true
+first-at k f a j h l e = first-meets k f a j h (omega arith) e
 
 pub first-le : (k : ℕ) (f : Set) (a j : ℕ) → a ≤ j → f j ≡ true → first k f a ≤ j
 unfolding first
@@ -142,13 +149,6 @@ largest-le zero f g b h = omega arith
 largest-le (suc n) f g b h =
     let ih = largest-le n f g b (λ q l e. h q (omega arith) e) in
     bif (f n) (λ t. let y = largest-yes n f g t in let z = h n (omega arith) t in omega arith) (λ t. let y = largest-no n f g t in omega arith)
-
-pub first-at : (k : ℕ) (f : Set) (a j : ℕ) → a ≤ j → j < a + k → f j ≡ true → f (first k f a) ≡ true
-first-at zero f a j h l e = absurd (omega arith)
-first-at (suc k) f a j h l e =
-    bif (f a)
-    (λ t. ap f (first-yes k f a t) ∙ t)
-    (λ t. ap f (first-no k f a t) ∙ by-cases (ℕ-discrete a j) (λ x. clash e (ap f (sym x) ∙ t)) (λ x. first-at k f (suc a) j (omega arith) (omega arith) e))
 
 -- ---- how many
 
@@ -192,23 +192,20 @@ some-no n f e q l = bif (f q) (λ t. clash (some-at n f q l t) e) (λ t. t)
 
 -- ---- tests that agree
 
-pub largest-ext : (n : ℕ) (f g : Set) (h : ℕ → ℕ) → ((q : ℕ) → q < n → f q ≡ g q) → largest n f h ≡ largest n g h
+largest-alike : (n : ℕ) (f g : Set) (h i : ℕ → ℕ) → ((q : ℕ) → q < n → f q ≡ g q) → ((q : ℕ) → q < n → f q ≡ true → h q ≡ i q) → largest n f h ≡ largest n g i
 unfolding largest
-largest-ext zero f g h e = refl
-largest-ext (suc n) f g h e =
-    let ih = largest-ext n f g h (λ q l. e q (omega arith)) in
+largest-alike zero f g h i e v = refl
+largest-alike (suc n) f g h i e v =
+    let ih = largest-alike n f g h i (λ q l. e q (omega arith)) (λ q l. v q (omega arith)) in
     bif (f n)
-    (λ t. largest-yes n f h t ∙ rw ih (sym (largest-yes n g h (sym (e n (omega arith)) ∙ t))))
-    (λ t. largest-no n f h t ∙ ih ∙ sym (largest-no n g h (sym (e n (omega arith)) ∙ t)))
+    (λ t. largest-yes n f h t ∙ ap₂ max (v n (omega arith) t) ih ∙ sym (largest-yes n g i (sym (e n (omega arith)) ∙ t)))
+    (λ t. largest-no n f h t ∙ ih ∙ sym (largest-no n g i (sym (e n (omega arith)) ∙ t)))
+
+pub largest-ext : (n : ℕ) (f g : Set) (h : ℕ → ℕ) → ((q : ℕ) → q < n → f q ≡ g q) → largest n f h ≡ largest n g h
+largest-ext n f g h e = largest-alike n f g h h e (λ q l t. refl)
 
 pub largest-values : (n : ℕ) (f : Set) (g h : ℕ → ℕ) → ((q : ℕ) → q < n → f q ≡ true → g q ≡ h q) → largest n f g ≡ largest n f h
-unfolding largest
-largest-values zero f g h e = refl
-largest-values (suc n) f g h e =
-    let ih = largest-values n f g h (λ q l. e q (omega arith)) in
-    bif (f n)
-    (λ t. largest-yes n f g t ∙ ap₂ max (e n (omega arith) t) ih ∙ sym (largest-yes n f h t))
-    (λ t. largest-no n f g t ∙ ih ∙ sym (largest-no n f h t))
+largest-values n f g h e = largest-alike n f f g h (λ q l. refl) e
 
 pub first-ext : (k a : ℕ) (f g : Set) → ((j : ℕ) → a ≤ j → j < a + k → f j ≡ g j) → first k f a ≡ first k g a
 unfolding first

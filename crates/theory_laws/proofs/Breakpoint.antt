@@ -16,9 +16,10 @@ use Rattle.theory.specs.Layered.{Layered}
 use Rattle.theory.specs.Core.{isOpen, settledUpTo, openOf}
 use Rattle.theory_laws.proofs.Certified.{discharged, Certified, Run}
 use Rattle.theory_laws.proofs.Cores.{next-low}
-use Rattle.theory_laws.proofs.Ranks.{settled-open, levAt, lev-test, rank-pos}
+use Rattle.theory_laws.proofs.Ranks.{levAt, lev-test, rank-pos}
 use Rattle.theory_laws.proofs.Settled.{settled-mono}
 use Rattle.theory_laws.proofs.Turns.{turn-of}
+use Rattle.theory_laws.proofs.Levels.{open-settled}
 
 module _ (A : Automaton) (H : Layered A) (B : ℕ) (w : ℕ → ℕ) (S : ℕ → Set) (r : ℕ → ℕ → ℕ) (K k : ℕ → ℕ) (run : Run A B w S r K k) where
   -- the open states of component C at i are discharged within d
@@ -28,7 +29,7 @@ module _ (A : Automaton) (H : Layered A) (B : ℕ) (w : ℕ → ℕ) (S : ℕ �
   -- one step earlier
   earlier : (i d C : ℕ) → Clear (suc i) d C → Clear i (suc d) C
   unfolding Clear discharged
-  earlier i d C h q l c o = and-i o (settled-mono A _ (isOpen A (S (suc i))) _ q _ (λ p m s t. h p m (s ∙ c) t) (settled-open A H B w S (run .backed .exact) i q l o))
+  earlier i d C h q l c o = and-i o (settled-mono A _ (isOpen A (S (suc i))) _ q _ (λ p m s t. h p m (s ∙ c) t) (open-settled A H (w i) (S i) (S (suc i)) (run .backed .exact i) q l o))
 
   far-earlier : (t i d C : ℕ) → Clear (i + t) d C → (e : ℕ) × Clear i e C
   far-earlier zero i d C h = (d, rw add-zero at h)

@@ -14,15 +14,12 @@ use Rattle.theory_laws.proofs.Certified.{Run}
 use Rattle.theory_laws.proofs.Goes.{rank-small, set-trim, rank-trim, before-rank, goes-before, goes-onward, stay-classes, goes-iff}
 use Rattle.theory_laws.proofs.Unambiguous.{same-S, same-r, same-Kk}
 
-pub accepting-classes : (c : ℕ) → isAccepting c ≡ true → classesIn c ≡ 0
-unfolding isAccepting
-accepting-classes c e = eqb-true (classesIn c) 0 e
-
 module _ (A : Automaton) (H : Layered A) (w c : ℕ → ℕ) (run : CodeRun A w c) where
   tested : (i : ℕ) → goes A (c i) (w i) (c (suc i)) ≡ true
   tested i = goes-iff A H (c i) (w i) (c (suc i)) .1 (run .steps i)
 
   pub run-of : Run A 15 w (λ i. setIn A (c i)) (λ i. rankIn A (c i)) (λ i. componentIn (c i)) (λ i. classesIn (c i))
+  unfolding isAccepting
   run-of = record {
     backed = record {
       exact = λ i. (run .steps i) .earlier .exact;
@@ -37,7 +34,7 @@ module _ (A : Automaton) (H : Layered A) (w c : ℕ → ℕ) (run : CodeRun A w 
     turn-k = λ i. (run .steps i) .all;
     stay-K = λ i. (run .steps i) .stays;
     stay-k = λ i. stay-classes A (c i) (w i) (c (suc i)) (goes-onward A (c i) (w i) (c (suc i)) (tested i));
-    accepts = λ i. let a = run .again i in (a .0, a .1, accepting-classes (c (a .0)) (a .2));
+    accepts = λ i. let a = run .again i in (a .0, a .1, eqb-true (classesIn (c (a .0))) 0 (a .2));
   }
 
 -- two runs of codes over the same letters are the same

@@ -68,9 +68,6 @@ module _ (R : Rule) where
   unfolding reaches
   reach-refl q l = own (R .n) q l
 
-  pub reach-step : (q p : ℕ) → q < R .n → p < R .n → leads R q p ≡ true → reaches R q p ≡ true
-  reach-step q p l m t = closed q q p l m (reach-refl q l) t
-
   pub together-refl : (q : ℕ) → q < R .n → together R q q ≡ true
   unfolding together
   together-refl q l = and-i (reach-refl q l) (reach-refl q l)
@@ -148,7 +145,7 @@ module _ (R : Rule) where
   pub falls : (q p : ℕ) → q < R .n → p < R .n → leads R q p ≡ true → (component R p ≡ component R q) ⊎ (height p < height q)
   unfolding together
   falls q p l k t =
-      let r = reach-step q p l k t in
+      let r = closed q q p l k (reach-refl q l) t in
       bif (reaches R p q)
       (λ b. inl (component-of-together p q k l (and-i b r)))
       (λ b. let x = count-more (R .n) (reaches R p) (reaches R q) (λ y m e. reach-trans q p y k m r e) q l b (reach-refl q l) in

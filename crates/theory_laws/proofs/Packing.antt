@@ -96,9 +96,10 @@ module _ (A : Automaton) (H : Layered A) (small : A .n ≤ 8) (few : A .componen
   pub code : ℕ → ℕ
   code i = pack (S i) (r i) (K i) (k i)
 
-  eS : (i : ℕ) → setIn A (code i) ≡ S i
+  -- its sets are the run's
+  pub code-set : (i : ℕ) → setIn A (code i) ≡ S i
   unfolding code
-  eS i = set-is A small (S i) (r i) (K i) (k i) (run .trim-S i) (run .trim-r i) (r-small i) (K-small i) (k-small i)
+  code-set i = set-is A small (S i) (r i) (K i) (k i) (run .trim-S i) (run .trim-r i) (r-small i) (K-small i) (k-small i)
 
   eR : (i : ℕ) → rankIn A (code i) ≡ r i
   unfolding code
@@ -118,12 +119,12 @@ module _ (A : Automaton) (H : Layered A) (small : A .n ≤ 8) (few : A .componen
 
   before-is : (i : ℕ) → before A (code i) (w i) (code (suc i)) ≡ true
   unfolding before
-  before-is i = rw (before, eS i, eS (suc i), eR i, eR (suc i))
+  before-is i = rw (before, code-set i, code-set (suc i), eR i, eR (suc i))
       (and-i (every-all (A .n) _ (λ q l. beq-same _ _ (run .backed .exact i q l))) (every-all (A .n) _ (λ q l. eq-eqb _ _ (run .backed .ranked i q l))))
 
   onward-is : (i : ℕ) → onward A (code i) (w i) (code (suc i)) ≡ true
   unfolding onward
-  onward-is i = rw (onward, eS i, eS (suc i), eR i, eR (suc i), eK i, eK (suc i), ek i, ek (suc i))
+  onward-is i = rw (onward, code-set i, code-set (suc i), eR i, eR (suc i), eK i, eK (suc i), ek i, ek (suc i))
       (by-cases (ℕ-discrete (k i) 0)
       (λ z. rw (eq-eqb (k i) 0 z) (and-i (eq-eqb _ _ (run .turn-K i z)) (eq-eqb _ _ (run .turn-k i z))))
       (λ z. rw (ne-eqb (k i) 0 z) (and-i (eq-eqb _ _ (run .stay-K i z)) (eq-eqb _ _ (run .stay-k i z)))))
@@ -140,7 +141,3 @@ module _ (A : Automaton) (H : Layered A) (small : A .n ≤ 8) (few : A .componen
     steps = moves;
     again = λ i. let a = run .accepts i in (a .0, a .1, eq-eqb _ _ (ek (a .0) ∙ a .2));
   }
-
-  -- its sets are the run's
-  pub code-set : (i : ℕ) → setIn A (code i) ≡ S i
-  code-set i = eS i

@@ -18,7 +18,7 @@ use Rattle.theory.specs.CoreComputed.{levelOf, taken, rankOf}
 use Rattle.theory.specs.Rule.{satisfies}
 use Rattle.theory_laws.proofs.Certified.{discharged, Certified, Backed}
 use Rattle.theory_laws.proofs.Pursuit.{discharged-shut}
-use Rattle.theory_laws.proofs.Levels.{open-settled, level-test}
+use Rattle.theory_laws.proofs.Levels.{level-test}
 use Rattle.theory_laws.proofs.Classes.{rank-open-is, rank-upto}
 use Rattle.theory_laws.proofs.Cores.{rank-open-pos, rank-shut-is}
 pub use Rattle.theory_laws.proofs.Settled.{settled-ext, settled-mono}
@@ -48,10 +48,6 @@ abbrev pub levAt : (A : Automaton) (B : ℕ) (w : ℕ → ℕ) (S : ℕ → Set)
 levAt A B w S r i p = levelOf A B (S (suc i)) (r (suc i)) p (A .entry p (w i))
 
 module _ (A : Automaton) (H : Layered A) (B : ℕ) (w : ℕ → ℕ) (S : ℕ → Set) (exact : (i q : ℕ) → q < A .n → S i q ≡ satisfies (A .n) (S (suc i)) (A .entry q (w i))) where
-  -- an open state is settled by all the open states after it
-  pub settled-open : (i q : ℕ) → q < A .n → isOpen A (S i) q ≡ true → settled A (S (suc i)) (isOpen A (S (suc i))) q (A .entry q (w i)) ≡ true
-  settled-open i q l o = open-settled A H (w i) (S i) (S (suc i)) (exact i) q l o
-
   module _ (r : ℕ → ℕ → ℕ) (bound : (i q : ℕ) → q < A .n → r i q ≤ B) where
     -- an open state's level is at most c exactly if its test passes at c
     pub lev-test : (i q : ℕ) → q < A .n → isOpen A (S i) q ≡ true → (c : ℕ) → leb (levAt A B w S r i q) c ≡ settledUpTo A (S (suc i)) (r (suc i)) q (A .entry q (w i)) c
