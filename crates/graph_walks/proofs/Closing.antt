@@ -30,8 +30,7 @@ squash-below p v l = rw (le-ltb p v l)
 
 squash-low : (n p v : ℕ) → p < suc n → v < suc n → (v ≡ p → ⊥) → squash p v < n
 squash-low n p v a b d =
-    by-cases (decLt p v)
-    (λ l. let e = squash-above p v l in omega arith)
+    by-cases (decLt p v) (λ l. let e = squash-above p v l in omega arith)
     (λ l. let e = squash-below p v (omega arith) in omega arith)
 
 squash-same : (p u v : ℕ) → (u ≡ p → ⊥) → (v ≡ p → ⊥) → squash p u ≡ squash p v → u ≡ v

@@ -66,8 +66,7 @@ module _ (x y : ℕ) (ms : List ℕ) where
   unfolding marked isNew
   marked-cases C f g h =
       bif (isDue x y ms)
-      (λ t. let d = due-facts t in bif (eqb (getD ms x 0) 1)
-      (λ e. rw (t, e) (f d (eqb-true (getD ms x 0) 1 e)))
+      (λ t. let d = due-facts t in bif (eqb (getD ms x 0) 1) (λ e. rw (t, e) (f d (eqb-true (getD ms x 0) 1 e)))
       (λ e. let k = eqb-false (getD ms x 0) 1 e in rw (t, e) (g d (omega (arith, d .member)))))
       (λ t. rw t (h (λ d. clash (due-yes d) t)))
 

@@ -60,8 +60,7 @@ module _ (r : Rule) (P : Passing r) (lead cycle : List ℕ) (W : WordOver (r .s)
     pub started-step : Started r lead cycle T (k + 1) old new
     started-step = record {
       long = F .long ∙ R .long;
-      done = λ p q i j. by-cases (ℕ-discrete p k)
-          (λ e. rw e (here q j))
+      done = λ p q i j. by-cases (ℕ-discrete p k) (λ e. rw e (here q j))
           (λ n. F .others (p * r .n + q) (apart r lead cycle T k p q j n) ∙ R .done p q (omega arith) j);
       rest = λ i j. let e : (k + 1) * r .n ≡ k * r .n + r .n = omega arith in F .others i (inr (omega arith)) ∙ R .rest i (omega arith);
     }
@@ -75,8 +74,7 @@ module _ (r : Rule) (P : Passing r) (lead cycle : List ℕ) (W : WordOver (r .s)
     byte : (p q : ℕ) → p < L → q < r .n → getD zs (p * r .n + q) 0 ≡ choiceAt r lead cycle T p q
     byte p q l k =
         E .at p q l k ∙ rw (S .done p q l k, blank (p * r .n + q) (digits-lt l k))
-        (bif (bit (getD T p 0) q)
-        (λ t. bif (bit (r .accepting) q) (λ a. rw (t, a)) (λ a. rw (t, a)))
+        (bif (bit (getD T p 0) q) (λ t. bif (bit (r .accepting) q) (λ a. rw (t, a)) (λ a. rw (t, a)))
         (λ t. rw t (sym (choice-false r P lead cycle W p q t))))
 
     long : length zs ≡ length old

@@ -159,8 +159,7 @@ module _ (A : Automaton) (H : Layered A) (L : ℕ) (nx w : ℕ → ℕ) (stays :
       unfolding aim
       suits-inside v = inside-all (A .n) aims c (λ r l b.
           let t = sound r (nx p) l (stays p (g .place)) (v .truths r l b) in
-          bif (A .accepting q)
-          (λ a. rw (a, aim) t)
+          bif (A .accepting q) (λ a. rw (a, aim) t)
           (λ a. bif (eqb (A .component r) (A .component q))
           (λ s. let e = eqb-true _ _ s in
           let n = v .nearer a r l b e in

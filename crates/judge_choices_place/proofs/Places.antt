@@ -52,8 +52,7 @@ module _ (u v : List ℕ) (changed at end p : ℕ) (a : length u ≡ at) (e : le
   -- the cycle's first place did not change
   pub before-none : bit changed at ≡ false → bit (changed / 2) p ≡ false → bit changed (nextPlace u v p) ≡ false
   before-none c b =
-      by-cases (ℕ-discrete (suc p) (places u v))
-      (λ x. rw (next-place-last u v p x, a) c)
+      by-cases (ℕ-discrete (suc p) (places u v)) (λ x. rw (next-place-last u v p x, a) c)
       (λ x. rw (next-place-other u v p x) (sym (bit-half changed p) ∙ b))
 
   -- it did

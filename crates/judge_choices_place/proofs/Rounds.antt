@@ -70,8 +70,7 @@ module _ (r : Rule) (lead cycle masks : List ℕ) where
   -- the index of a pair tells the place
   pub apart : (p x q : ℕ) → q < r .n → (x ≡ p → ⊥) → (x * r .n + q < p * r .n) ⊎ (p * r .n + r .n ≤ x * r .n + q)
   apart p x q l n =
-      by-cases (decLt x p)
-      (λ k. inl (digits-lt k l))
+      by-cases (decLt x p) (λ k. inl (digits-lt k l))
       (λ k. let h : suc p ≤ x = omega arith in let j : suc p * r .n ≤ x * r .n = mul-le-mul-right (r .n) h in inr (omega arith))
 
   -- ---- one place more of a round
@@ -202,10 +201,8 @@ module _ (r : Rule) (P : Passing r) (lead cycle : List ℕ) (W : WordOver (r .s)
     at-is : (p q : ℕ) → p < L r lead cycle T → q < r .n → getD new (p * r .n + q) 0 ≡ cond (bit (near-of (suc d) p) q) (choiceAt r lead cycle T p q) (getD old (p * r .n + q) 0)
     at-is p q l k =
         S .at p q l k ∙ rw (done-is p q l k, R .at p q l k, R .within (nextPlace lead cycle p) (low p l))
-        (bif (bit (near-of d p) q)
-        (λ t. rw (t, near-grows r P lead cycle W d p q l k t))
-        (λ t. bif (bit (near-of (suc d) p) q)
-        (λ v. rw (t, v) (sym (choice-now r P lead cycle W d p q l k t v)))
+        (bif (bit (near-of d p) q) (λ t. rw (t, near-grows r P lead cycle W d p q l k t))
+        (λ t. bif (bit (near-of (suc d) p) q) (λ v. rw (t, v) (sym (choice-now r P lead cycle W d p q l k t v)))
         (λ v. rw (t, v))))
 
     pub rounds-step : Rounds r lead cycle T (suc d) after work′ old new

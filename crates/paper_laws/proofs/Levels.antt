@@ -57,8 +57,7 @@ module _ (A : Automaton) (H : Layered A) (a : ℕ) (S : Set) (r : ℕ → ℕ) (
 
   between-less : (q q′ : ℕ) → q < A .n → q′ < A .n → isOpen A S q ≡ true → isOpen A S q′ ≡ true → Between q q′ → l q < l q′
   between-less q q′ m n o u b =
-      by-cases (decLt (b .lower) (l q′))
-      (λ h. omega (arith, E .level q m o .least (b .lower) (b .yes-at)))
+      by-cases (decLt (b .lower) (l q′)) (λ h. omega (arith, E .level q m o .least (b .lower) (b .yes-at)))
       (λ h. clash (test-mono A T t q′ (A .entry q′ a) (l q′) (b .lower) (omega arith) (E .level q′ n u .holds)) (b .not-at))
 
   -- the class whose rank is the level of q′

@@ -42,8 +42,7 @@ two-xor = two-digits (λ x y. eqb (differ x y) 1 ≡ exclusive (eqb x 1) (eqb y 
 
 two-same : (x y : ℕ) → x < 2 → y < 2 → eqb x 1 ≡ eqb y 1 → x ≡ y
 two-same x y a b e =
-    bif (eqb x 1)
-    (λ t. omega (arith, eqb-true x 1 t, eqb-true y 1 (sym e ∙ t)))
+    bif (eqb x 1) (λ t. omega (arith, eqb-true x 1 t, eqb-true y 1 (sym e ∙ t)))
     (λ t. omega (arith, eqb-false x 1 t, eqb-false y 1 (sym e ∙ t)))
 
 differ-lt : (x y : ℕ) → x < 2 → y < 2 → differ x y < 2
@@ -131,8 +130,7 @@ mask-unique n m f h e = bit-ext n m (mask n f) h (mask-lt n f) (λ q l. e q l �
 pub mask-of : (k n m : ℕ) (f : Set) → n ≤ k → m < 2 ^ k → ((q : ℕ) → q < n → bit m q ≡ f q) → ((q : ℕ) → n ≤ q → q < k → bit m q ≡ false) → m ≡ mask n f
 mask-of k n m f l h same none =
     bit-ext k m (mask n f) h (lt-of-lt-of-le (mask-lt n f) (pow-mono l))
-    (λ q lq. by-cases (decLt q n)
-    (λ y. same q y ∙ sym (bit-mask n f q y))
+    (λ q lq. by-cases (decLt q n) (λ y. same q y ∙ sym (bit-mask n f q y))
     (λ y. none q (omega arith) lq ∙ sym (bit-high n (mask n f) q (mask-lt n f) (omega arith))))
 
 -- the union of two sets
@@ -144,8 +142,7 @@ mask-or n f g =
 -- the members of the mask of a test, at any number
 pub bit-mask-all : (n : ℕ) (f : Set) (q : ℕ) → bit (mask n f) q ≡ ltb q n && f q
 bit-mask-all n f q =
-    by-cases (decLt q n)
-    (λ l. bit-mask n f q l ∙ sym (ap (λ (b : Bool). b && f q) (lt-ltb q n l)))
+    by-cases (decLt q n) (λ l. bit-mask n f q l ∙ sym (ap (λ (b : Bool). b && f q) (lt-ltb q n l)))
     (λ l. bit-high n (mask n f) q (mask-lt n f) (omega arith) ∙ sym (ap (λ (b : Bool). b && f q) (le-ltb q n (omega arith))))
 
 -- ---- the complement among n numbers

@@ -38,8 +38,7 @@ pub bit-mask : (n : ℕ) (f : Set) (q : ℕ) → q < n → bit (mask n f) q ≡ 
 unfolding bit mask
 bit-mask zero f q l = absurd (omega arith)
 bit-mask (suc n) f q l =
-    by-cases (decLt q n)
-    (λ h. ap (λ (x : ℕ). eqb x 1) (above (one (f n)) (mask n f) n q h) ∙ bit-mask n f q h)
+    by-cases (decLt q n) (λ h. ap (λ (x : ℕ). eqb x 1) (above (one (f n)) (mask n f) n q h) ∙ bit-mask n f q h)
     (λ h. let e : q ≡ n = omega arith in rw e (ap (λ (x : ℕ). eqb (x % 2) 1) (digits-div (one (f n)) (mask-lt n f)) ∙ ap (λ (x : ℕ). eqb x 1) (mod-eq-of-lt (one-lt (f n))) ∙ one-eqb (f n)))
 
 -- the masks of tests that agree

@@ -153,8 +153,7 @@ unfolding first trailingZeros
 least-first zero m f a h = sym (add-zero a)
 least-first (suc n) m f a h =
     let z : f a ≡ bit m 0 = ap f (sym (add-zero a)) ∙ h 0 (omega arith) in
-    bif (bit m 0)
-    (λ t. first-yes n f a (z ∙ t) ∙ rw (odd-bit m t) (sym (add-zero a)))
+    bif (bit m 0) (λ t. first-yes n f a (z ∙ t) ∙ rw (odd-bit m t) (sym (add-zero a)))
     (λ t. let d : m % 2 ≡ 0 = (let k = eqb-false (m % 2) 1 (sym (bit-zero m) ∙ t) in omega arith) in
     first-no n f a (z ∙ t) ∙ least-first n (m / 2) f (suc a) (λ q l. let e : suc a + q ≡ a + suc q = omega arith in ap f e ∙ h (suc q) (omega arith) ∙ sym (bit-half m q)) ∙ rw d (omega arith))
 

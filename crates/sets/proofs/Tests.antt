@@ -18,8 +18,7 @@ pub every-at : (n : ℕ) (f : Set) → every n f ≡ true → (q : ℕ) → q < 
 unfolding every
 every-at zero f e q h = absurd (omega arith)
 every-at (suc n) f e q h =
-    by-cases (decLt q n)
-    (λ l. every-at n f (and-l (every n f) (f n) e) q l)
+    by-cases (decLt q n) (λ l. every-at n f (and-l (every n f) (f n) e) q l)
     (λ l. let x : q ≡ n = omega arith in rw x (and-r (every n f) (f n) e))
 
 pub every-all : (n : ℕ) (f : Set) → ((q : ℕ) → q < n → f q ≡ true) → every n f ≡ true
@@ -52,8 +51,7 @@ pub some-get : (n : ℕ) (f : Set) → someBelow n f ≡ true → (q : ℕ) × (
 unfolding someBelow
 some-get zero f e = absurd (false≢true e)
 some-get (suc n) f e =
-    bif (f n)
-    (λ t. (n, omega arith, t))
+    bif (f n) (λ t. (n, omega arith, t))
     (λ t. let r = some-get n f (⊎-elim (λ x. x) (λ x. clash x t) (or-cases (someBelow n f) (f n) e)) in (r .0, omega arith, r .2))
 
 -- ---- `someBelow`, `count`, `first`
@@ -62,8 +60,7 @@ pub some-at : (n : ℕ) (f : Set) (q : ℕ) → q < n → f q ≡ true → someB
 unfolding someBelow
 some-at zero f q l e = absurd (omega arith)
 some-at (suc n) f q l e =
-    by-cases (decLt q n)
-    (λ k. rw (some-at n f q k e))
+    by-cases (decLt q n) (λ k. rw (some-at n f q k e))
     (λ k. let x : q ≡ n = omega arith in rw (ap f (sym x) ∙ e) (or-true (someBelow n f)))
 
 pub some-none : (n : ℕ) (f : Set) → ((q : ℕ) → q < n → f q ≡ false) → someBelow n f ≡ false
@@ -75,8 +72,7 @@ pub count-le : (a b : ℕ) (f : Set) → a ≤ b → count a f ≤ count b f
 unfolding count
 count-le a zero f h = let x : a ≡ 0 = omega arith in rw x (omega arith)
 count-le a (suc b) f h =
-    by-cases (decLe a b)
-    (λ k. let ih = count-le a b f k in omega arith)
+    by-cases (decLe a b) (λ k. let ih = count-le a b f k in omega arith)
     (λ k. let x : a ≡ suc b = omega arith in rw x (omega arith))
 
 pub count-lt : (a b : ℕ) (f : Set) → a < b → f a ≡ true → count a f < count b f
@@ -101,8 +97,7 @@ first-meets : (k : ℕ) (f : Set) (a j : ℕ) → a ≤ j → j ≤ a + k → f 
 unfolding first
 first-meets zero f a j h l e = let x : a ≡ j = omega arith in ap f x ∙ e
 first-meets (suc k) f a j h l e =
-    bif (f a)
-    (λ t. ap f (first-yes k f a t) ∙ t)
+    bif (f a) (λ t. ap f (first-yes k f a t) ∙ t)
     (λ t. ap f (first-no k f a t) ∙ by-cases (ℕ-discrete a j) (λ x. clash e (ap f (sym x) ∙ t)) (λ x. first-meets k f (suc a) j (omega arith) (omega arith) e))
 
 pub first-hits : (k : ℕ) (f : Set) (a : ℕ) → f (a + k) ≡ true → f (first k f a) ≡ true
@@ -115,16 +110,14 @@ pub first-le : (k : ℕ) (f : Set) (a j : ℕ) → a ≤ j → f j ≡ true → 
 unfolding first
 first-le zero f a j h e = h
 first-le (suc k) f a j h e =
-    bif (f a)
-    (λ t. rw (first-yes k f a t) h)
+    bif (f a) (λ t. rw (first-yes k f a t) h)
     (λ t. rw (first-no k f a t) (by-cases (ℕ-discrete a j) (λ x. clash e (ap f (sym x) ∙ t)) (λ x. first-le k f (suc a) j (omega arith) e)))
 
 -- of a test that goes on holding, and holds at b: the least number is at largest c exactly if it holds at c
 pub first-leb : (b : ℕ) (f : Set) → ((i j : ℕ) → i ≤ j → f i ≡ true → f j ≡ true) → f b ≡ true → (c : ℕ) → leb (first b f 0) c ≡ f c
 first-leb b f up e c =
     let hit = first-hits b f 0 (rw zero-add e) in
-    bif (f c)
-    (λ t. le-leb _ c (first-le b f 0 c (omega arith) t) ∙ sym t)
+    bif (f c) (λ t. le-leb _ c (first-le b f 0 c (omega arith) t) ∙ sym t)
     (λ t. bif (leb (first b f 0) c) (λ k. clash (up (first b f 0) c (leb-true _ c k) hit) t) (λ k. k ∙ sym t))
 
 pub largest-yes : (n : ℕ) (f : Set) (g : ℕ → ℕ) → f n ≡ true → largest (suc n) f g ≡ max (g n) (largest n f g)
@@ -173,11 +166,9 @@ count-same zero f g h e x l = absurd (omega arith)
 count-same (suc M) f g h e x l =
     let a = count-sub M f g (λ y m. h y (omega arith)) in
     let b = one-le (f M) (g M) (h M (omega arith)) in
-    by-cases (decLt x M)
-    (λ m. count-same M f g (λ y n. h y (omega arith)) (omega arith) x m)
+    by-cases (decLt x M) (λ m. count-same M f g (λ y n. h y (omega arith)) (omega arith) x m)
     (λ m. let y : x ≡ M = omega arith in
-    bif (f M)
-    (λ t. rw y (t ∙ sym (h M (omega arith) t)))
+    bif (f M) (λ t. rw y (t ∙ sym (h M (omega arith) t)))
     (λ t. bif (g M)
     (λ v. let z1 : one (f M) ≡ 0 = rw t in let z2 : one (g M) ≡ 1 = rw v in absurd (omega arith))
     (λ v. rw y (t ∙ sym v))))
@@ -212,8 +203,7 @@ unfolding first
 first-ext zero a f g h = refl
 first-ext (suc k) a f g h =
     let e = h a (omega arith) (omega arith) in
-    bif (f a)
-    (λ t. first-yes k f a t ∙ sym (first-yes k g a (sym e ∙ t)))
+    bif (f a) (λ t. first-yes k f a t ∙ sym (first-yes k g a (sym e ∙ t)))
     (λ t. first-no k f a t ∙ first-ext k (suc a) f g (λ j l m. h j (omega arith) (omega arith)) ∙ sym (first-no k g a (sym e ∙ t)))
 
 -- ---- numbers from n on that make no difference
@@ -240,8 +230,7 @@ largest-hit zero f g h = absurd (omega arith)
 largest-hit (suc n) f g h =
     bif (f n)
     (λ t. let y = largest-yes n f g t in
-    by-cases (decLe (largest n f g) (g n))
-    (λ k. (n, omega arith, t, omega arith))
+    by-cases (decLe (largest n f g) (g n)) (λ k. (n, omega arith, t, omega arith))
     (λ k. let r = largest-hit n f g (omega arith) in (r .0, omega (arith, r .1), r .2, omega (arith, r .3))))
     (λ t. let y = largest-no n f g t in let r = largest-hit n f g (omega arith) in (r .0, omega (arith, r .1), r .2, omega (arith, r .3)))
 
@@ -252,10 +241,8 @@ pub count-hit : (m : ℕ) (f : Set) (j : ℕ) → j < count m f → (x : ℕ) ×
 unfolding count
 count-hit zero f j l = absurd (omega arith)
 count-hit (suc m) f j l =
-    by-cases (decLt j (count m f))
-    (λ h. let r = count-hit m f j h in (r .0, omega (arith, r .1), r .2, r .3))
-    (λ h. bif (f m)
-    (λ t. let e : one (f m) ≡ 1 = rw t in (m, omega arith, t, omega arith))
+    by-cases (decLt j (count m f)) (λ h. let r = count-hit m f j h in (r .0, omega (arith, r .1), r .2, r .3))
+    (λ h. bif (f m) (λ t. let e : one (f m) ≡ 1 = rw t in (m, omega arith, t, omega arith))
     (λ t. let e : one (f m) ≡ 0 = rw t in absurd (omega arith)))
 
 -- the numbers above 0

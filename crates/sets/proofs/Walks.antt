@@ -61,6 +61,5 @@ sum-take xs i l = rw (add-one i, take-suc xs i 0 l, sum-append (take i xs) (getD
 -- what holds of the elements before i of a list, and of the element put at i, holds of the elements before i + 1
 pub put-next : (f : ℕ → ℕ) (xs : List ℕ) (i v : ℕ) → i < length xs → v ≡ f i → ((j : ℕ) → j < i → getD xs j 0 ≡ f j) → (j : ℕ) → j < i + 1 → getD (set xs i v) j 0 ≡ f j
 put-next f xs i v l e h j k =
-    by-cases (ℕ-discrete j i)
-    (λ x. rw x (getD-set-same xs i v 0 l ∙ e))
+    by-cases (ℕ-discrete j i) (λ x. rw x (getD-set-same xs i v 0 l ∙ e))
     (λ x. getD-set-other xs i j v 0 x ∙ h j (omega arith))

@@ -59,8 +59,7 @@ module _ (A : Automaton) (H : Layered A) (B : ℕ) (w : ℕ → ℕ) (S : ℕ �
   left-go : (t i : ℕ) → k (i + t) ≡ 0 → (d : ℕ) × Left i d
   left-go zero i e = (0, left-0 i (rw add-zero at e))
   left-go (suc t) i e =
-      by-cases (ℕ-discrete (k i) 0)
-      (λ z. (0, left-0 i z))
+      by-cases (ℕ-discrete (k i) 0) (λ z. (0, left-0 i z))
       (λ nz. let x : i + suc t ≡ suc i + t = omega arith in
       let f = left-go t (suc i) (rw x at e) in
       (suc (f .0), left-suc i (f .0) nz (f .1)))
@@ -81,8 +80,7 @@ module _ (A : Automaton) (H : Layered A) (B : ℕ) (w : ℕ → ℕ) (S : ℕ �
   pub comp-below : (i : ℕ) → 0 < A .components → K i < A .components
   comp-below zero h = rw (run .start-K) h
   comp-below (suc i) h =
-      by-cases (ℕ-discrete (k i) 0)
-      (λ z. rw (run .turn-K i z) (next-low A (K i) (comp-below i h)))
+      by-cases (ℕ-discrete (k i) 0) (λ z. rw (run .turn-K i z) (next-low A (K i) (comp-below i h)))
       (λ nz. rw (run .stay-K i nz) (comp-below i h))
 
   -- every component is discharged from every step

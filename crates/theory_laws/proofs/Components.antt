@@ -131,8 +131,7 @@ module _ (R : Rule) where
   pub clause-leads : (q a c p : ℕ) → List·Memᴰ c (entry R q a) → bit c p ≡ true → leads R q p ≡ true
   unfolding leads entry
   clause-leads q a c p m b =
-      bif (ltb a (R .s))
-      (λ t. some-at (R .s) _ a (ltb-true a (R .s) t) (named-at (entry R q a) c p m b))
+      bif (ltb a (R .s)) (λ t. some-at (R .s) _ a (ltb-true a (R .s) t) (named-at (entry R q a) c p m b))
       (λ t. absurd (List·Memᴰ·not-nil {a = c} (rw t at m)))
 
   pub same-heights : (p q : ℕ) → p < R .n → q < R .n → together R p q ≡ true → count (R .n) (reaches R p) ≡ count (R .n) (reaches R q)
@@ -146,8 +145,7 @@ module _ (R : Rule) where
   unfolding together
   falls q p l k t =
       let r = closed q q p l k (reach-refl q l) t in
-      bif (reaches R p q)
-      (λ b. inl (component-of-together p q k l (and-i b r)))
+      bif (reaches R p q) (λ b. inl (component-of-together p q k l (and-i b r)))
       (λ b. let x = count-more (R .n) (reaches R p) (reaches R q) (λ y m e. reach-trans q p y k m r e) q l b (reach-refl q l) in
       let h1 = height-in p k in let h2 = height-in q l in inr (omega arith))
 
@@ -196,8 +194,7 @@ module _ (R : Rule) where
   one-sided : (q p : ℕ) → q < R .n → p < R .n → mixed R ≡ false → together R q p ≡ true → bit (R .accepting) q ≡ true → bit (R .accepting) p ≡ true
   unfolding mixed
   one-sided q p l m e t a =
-      bif (bit (R .accepting) p)
-      (λ b. b)
+      bif (bit (R .accepting) p) (λ b. b)
       (λ b. clash (and-i t (and-i a (rw b))) (some-no (R .n) _ (some-no (R .n) _ e q l) p m))
 
   pub unmixed-iff : (mixed R ≡ false) ↔ ((q p : ℕ) → q < R .n → p < R .n → Together R q p → bit (R .accepting) q ≡ bit (R .accepting) p)

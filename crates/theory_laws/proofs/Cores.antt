@@ -144,8 +144,7 @@ module _ (A : Automaton) where
     -- an open state is one with a rank
     pub open-of-rank : (q : ℕ) → q < A .n → isOpen A S q ≡ ltb 0 (r q)
     open-of-rank q m =
-        bif (isOpen A S q)
-        (λ o. o ∙ sym (lt-ltb 0 (r q) (C .ranked q m o)))
+        bif (isOpen A S q) (λ o. o ∙ sym (lt-ltb 0 (r q) (C .ranked q m o)))
         (λ o. o ∙ sym (le-ltb 0 (r q) (let h = C .closed q m o in omega arith)))
 
     -- a rank of component K is at most the largest
@@ -273,6 +272,5 @@ module _ (A : Automaton) where
 
   pub next-low : (K : ℕ) → K < A .components → nextComponent A K < A .components
   next-low K h =
-      by-cases (ℕ-discrete (suc K) (A .components))
-      (λ e. rw (next-last K e) (omega arith))
+      by-cases (ℕ-discrete (suc K) (A .components)) (λ e. rw (next-last K e) (omega arith))
       (λ e. rw (next-below K (omega arith)) (omega arith))

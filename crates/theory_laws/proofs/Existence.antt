@@ -159,8 +159,7 @@ module _ (A : Automaton) (H : Layered A) (B : ℕ) (room : A .n ≤ B) (w : ℕ 
   unfolding work
   zero-in zero i h = let z = upto-0 i ((work i) .component) in (i, omega arith, omega arith)
   zero-in (suc e) i h =
-      by-cases (ℕ-discrete ((work i) .left) 0)
-      (λ z. (i, omega arith, z))
+      by-cases (ℕ-discrete ((work i) .left) 0) (λ z. (i, omega arith, z))
       (λ z. let f = zero-in e (suc i) (rw (after-stay i (work i) z) (stay-low i e (work i) h)) in
       (f .0, omega (arith, f .1), f .2))
 

@@ -46,8 +46,7 @@ module _ (r : Rule) (P : Passing r) (codes ts : List ℕ) (L : ListsReachable r 
 
   pub narrow-at : (m : ℕ) → getD codes m 0 < 2 ^ 48
   narrow-at m =
-      by-cases (decLt m (length codes))
-      (λ l. narrow A (code m) (macrostate-at r P L room m l))
+      by-cases (decLt m (length codes)) (λ l. narrow A (code m) (macrostate-at r P L room m l))
       (λ l. rw (List·getD-eq-default codes 0 {n = m} (omega arith)) (omega arith))
 
   -- ---- a walk that comes back to an accepting number is a run over a word

@@ -72,8 +72,7 @@ picked-length [] (c ∷ cs) e = absurd (omega arith)
 picked-length (m ∷ ms) [] e = absurd (omega arith)
 picked-length (m ∷ ms) (c ∷ cs) e =
     let ih = picked-length ms cs (omega arith) in
-    by-cases (decLt 0 m)
-    (λ l. rw (picked-in m ms c cs l) (ap suc ih ∙ sym (number-in m ms (length cs) l)))
+    by-cases (decLt 0 m) (λ l. rw (picked-in m ms c cs l) (ap suc ih ∙ sym (number-in m ms (length cs) l)))
     (λ l. rw (picked-not m ms c cs (omega arith)) (ih ∙ sym (number-not m ms (length cs) (omega arith))))
 
 -- a member is found again at its new number
@@ -83,8 +82,7 @@ picked-at (m ∷ ms) [] i l h = absurd (omega arith)
 picked-at (m ∷ ms) (c ∷ cs) zero l h = rw (picked-in m ms c cs h, number-none (m ∷ ms)) refl
 picked-at (m ∷ ms) (c ∷ cs) (suc i) l h =
     let ih = picked-at ms cs i (omega arith) h in
-    by-cases (decLt 0 m)
-    (λ k. rw (picked-in m ms c cs k, number-in m ms i k) ih)
+    by-cases (decLt 0 m) (λ k. rw (picked-in m ms c cs k, number-in m ms i k) ih)
     (λ k. rw (picked-not m ms c cs (omega arith), number-not m ms i (omega arith)) ih)
 
 module _ (ms cs : List ℕ) (same : length ms ≡ length cs) where

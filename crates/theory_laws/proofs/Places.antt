@@ -25,8 +25,7 @@ module _ (lead cycle : List ℕ) (repeats : 0 < length cycle) where
   -- the place after a place is one
   pub next-place-low : (p : ℕ) → p < places lead cycle → nextPlace lead cycle p < places lead cycle
   next-place-low p l =
-      by-cases (ℕ-discrete (suc p) (places lead cycle))
-      (λ e. rw (next-place-last lead cycle p e) (omega arith))
+      by-cases (ℕ-discrete (suc p) (places lead cycle)) (λ e. rw (next-place-last lead cycle p e) (omega arith))
       (λ n. rw (next-place-other lead cycle p n) (omega arith))
 
   -- every step stands at a place

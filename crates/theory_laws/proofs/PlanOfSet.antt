@@ -30,8 +30,7 @@ chosen : (n : ℕ) (X : Set) (cs : List ℕ) → satisfies n X cs ≡ true → L
 unfolding satisfies choose
 chosen n X [] e = absurd (false≢true e)
 chosen n X (c ∷ cs) e =
-    bif (inside n X c)
-    (λ t. rw (t, choose) (List·Memᴰ·head refl, t))
+    bif (inside n X c) (λ t. rw (t, choose) (List·Memᴰ·head refl, t))
     (λ t. let r = chosen n X cs (or-rt (inside n X c) (satisfies n X cs) e t) in rw (t, choose) (List·Memᴰ·tail (r .0), r .1))
 
 module _ (A : Automaton) (H : Layered A) (L : ℕ) (nx w : ℕ → ℕ) (stays : (p : ℕ) → p < L → nx p < L) (S : ℕ → Set)
@@ -61,8 +60,7 @@ module _ (A : Automaton) (H : Layered A) (L : ℕ) (nx w : ℕ → ℕ) (stays :
   pub aim-sat : (q p : ℕ) → Good q p → satisfies (A .n) (aim q p) (A .entry q (w p)) ≡ true
   unfolding aim
   aim-sat q p g =
-      bif (A .accepting q)
-      (λ a. rw a (sym (exact p q (g .place) (g .below)) ∙ g .true-in))
+      bif (A .accepting q) (λ a. rw a (sym (exact p q (g .place) (g .below)) ∙ g .true-in))
       (λ a.
       let o = open-kind A false (S p) q a ∙ g .true-in in
       let h = δ-pos p q (g .below) o in

@@ -139,6 +139,5 @@ module _ (A : Automaton) (H : Layered A) (nx w : ℕ → ℕ) (S1 S2 : ℕ → S
 
 pub unique : (A : Automaton) → Layered A → (nx w : ℕ → ℕ) (S1 S2 : ℕ → Set) → Certified A nx w S1 → Certified A nx w S2 → (i q : ℕ) → q < A .n → S1 i q ≡ S2 i q
 unique A H nx w S1 S2 C1 C2 i q l =
-    bif (S1 i q)
-    (λ e. bif (S2 i q) (λ k. e ∙ sym k) (λ k. absurd (never A H nx w S1 S2 C1 C2 i q l e k)))
+    bif (S1 i q) (λ e. bif (S2 i q) (λ k. e ∙ sym k) (λ k. absurd (never A H nx w S1 S2 C1 C2 i q l e k)))
     (λ e. bif (S2 i q) (λ k. absurd (never A H nx w S2 S1 C2 C1 i q l k e)) (λ k. e ∙ sym k))

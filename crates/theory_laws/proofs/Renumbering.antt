@@ -73,8 +73,7 @@ module _ (ms : List ℕ) (t u : ℕ) (less : t < u) (left : isLeft ms t ≡ true
       omega (arith, n, target-small t, letter-small t))
       (λ a. let e : sourceOf t ≡ sourceOf u = omega arith in
       let n = ap (newNumber ms) e in
-      by-cases (decLt (letterOf t) (letterOf u))
-      (λ b. omega (arith, n, b, target-small t))
+      by-cases (decLt (letterOf t) (letterOf u)) (λ b. omega (arith, n, b, target-small t))
       (λ b. let f : letterOf t ≡ letterOf u = omega arith in
       let c : targetOf t < targetOf u = omega arith in
       let k = number-less ms (targetOf t) (targetOf u) c (left-ends ms t left .1) in
@@ -96,8 +95,7 @@ renumbered-asc : (ms ts : List ℕ) → Ascending ts → Ascending (renumbered m
 unfolding renumbered
 renumbered-asc ms [] a = none
 renumbered-asc ms (t ∷ ts) (from a) =
-    bif (isLeft ms t)
-    (λ f. rw (renumbered-yes ms t ts f) (from (renumbered-above ms ts t f a)))
+    bif (isLeft ms t) (λ f. rw (renumbered-yes ms t ts f) (from (renumbered-above ms ts t f a)))
     (λ f. rw (renumbered-no ms t ts f) (renumbered-asc ms ts (above-asc a)))
 
 -- ---- the members

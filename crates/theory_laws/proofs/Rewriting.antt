@@ -95,8 +95,7 @@ module _ (old : List ℕ) where
   all-numbered xs k i l n = (
     record {
       long = highs-length xs ∙ n .long ∙ sym (highs-length old);
-      each = λ j. by-cases (decLt j (length old))
-          (λ h. n .done j (omega arith))
+      each = λ j. by-cases (decLt j (length old)) (λ h. n .done j (omega arith))
           (λ h. let a = highs-length xs in let b = highs-length old in let c = n .long in
           List·getD-eq-default (highs xs) 0 {n = j} (omega arith) ∙ sym (tag-no (highs old) j (List·getD-eq-default (highs old) 0 {n = j} (omega arith))));
     },

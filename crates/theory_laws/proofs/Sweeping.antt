@@ -143,8 +143,7 @@ flag-low c = bif (isAccepting c) (λ e. let k = flag-accepting c e in omega arit
 
 pub flags-low : (codes : List ℕ) (x : ℕ) → getD (flags codes) x 0 ≤ 2
 flags-low codes x =
-    by-cases (decLt x (length codes))
-    (λ l. rw (flags-at codes x l) (flag-low (getD codes x 0)))
+    by-cases (decLt x (length codes)) (λ l. rw (flags-at codes x l) (flag-low (getD codes x 0)))
     (λ l. let n = flags-length codes in let e = List·getD-eq-default (flags codes) 0 {n = x} (omega arith) in omega arith)
 
 pub live-solved : (codes ts : List ℕ) → Solved (Step ts) (flags codes) (liveMarks codes ts)

@@ -94,8 +94,7 @@ module _ (A : Automaton) (H : Layered A) (small : A .n ≤ 8) (filled : 0 < A .c
   -- k is at most the classes of K
   pub goes-classes : (c a d : ℕ) → Goes A c a d → classesIn d ≤ largest (A .n) (openOf A (setIn A d) (componentIn d)) (rankIn A d)
   goes-classes c a d G =
-      by-cases (ℕ-discrete (classesIn c) 0)
-      (λ z. le-of-eq (G .all z))
+      by-cases (ℕ-discrete (classesIn c) 0) (λ z. le-of-eq (G .all z))
       (λ z. le-trans (le-of-eq (G .left z)) (largest-le (A .n) _ _ _ (λ q m t. left-low c a d G q m t (G .stays z))))
 
   pub reachable-classes : {c : ℕ} → Reachable A s start c → classesIn c ≤ largest (A .n) (openOf A (setIn A c) (componentIn c)) (rankIn A c)

@@ -88,8 +88,7 @@ module _ (r : Rule) (P : Passing r) (lead cycle : List ℕ) (repeats : 0 < lengt
       → (d p q : ℕ) → p < L → q < r .n → height r q ≡ h → isOpen A (bit (getD (roundsAt r lead cycle h ms d) p 0)) q ≡ rounds A next letter (sets h) d p q
   unfolding roundsAt automaton rounds heights
   rounds-open h ms below zero p q l k e =
-      bif (bit (r .accepting) q)
-      (λ a. open-kind A true _ q a ∙ ap not (layer-in h _ ms p q l k e ∙ a))
+      bif (bit (r .accepting) q) (λ a. open-kind A true _ q a ∙ ap not (layer-in h _ ms p q l k e ∙ a))
       (λ a. open-kind A false _ q a ∙ layer-in h _ ms p q l k e ∙ a)
   rounds-open h ms below (suc d) p q l k e =
       let t = roundsAt r lead cycle h ms d in

@@ -19,8 +19,7 @@ module _ (A : Automaton) (K k : ℕ → ℕ) (low : (i : ℕ) → K i < A .compo
   first-zero : (t i j : ℕ) → j ≡ i + t → k j ≡ 0 → (h : ℕ) × (i ≤ h) × (k h ≡ 0) × (K h ≡ K i)
   first-zero zero i j x e = let y : j ≡ i = omega arith in (j, omega arith, e, ap K y)
   first-zero (suc t) i j x e =
-      by-cases (ℕ-discrete (k i) 0)
-      (λ z. (i, omega arith, z, refl))
+      by-cases (ℕ-discrete (k i) 0) (λ z. (i, omega arith, z, refl))
       (λ z. let (h, l, f, s) = first-zero t (suc i) j (omega arith) e in (h, omega arith, f, s ∙ stays i z))
 
   turn-next : (i h C : ℕ) → i ≤ h → K h ≡ C → Turn i (nextComponent A C)
