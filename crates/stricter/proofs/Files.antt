@@ -84,7 +84,7 @@ module _ (f g : List ℕ) (lent : Slices) where
   pub both-read : fileRow f ≡ 0 → fileRow g ≡ 0 → (answer : Comparison) (left : Slices) → ByRow a b (rowOf a b lent) lent answer left → Compared f g lent answer left
   both-read z y answer left C = record {
     by-row = by-row (row-is z y) C;
-    by-lists = λ _ _ tables L M. compared-by-lists a b (accepted-passing f z) (accepted-passing g y) tables L M lent answer left C;
+    by-lists = λ _ _ tables L M. compared-by-lists (accepted-passing f z) (accepted-passing g y) tables L M lent answer left C;
     lists-a = lists-of-a;
     lists-b = lists-of-b;
   }

@@ -54,10 +54,10 @@ room-other : (k : ℕ) (list other lent : List ℕ) → roomAfter zeroesRooms (s
 unfolding roomAfter
 room-other k list other lent = refl
 
-refused-other : (a b : Rule) (tables others : Tables) (k : ℕ) (lent : Slices) (answer : Comparison) (left : Slices) → (k ≡ 0 → ⊥)
+refused-other : {a b : Rule} {tables : Tables} (others : Tables) {k : ℕ} {lent : Slices} {answer : Comparison} {left : Slices} → (k ≡ 0 → ⊥)
     → ComparedBy a b tables k lent answer left → ComparedBy a b others k lent answer left
-refused-other a b tables others zero lent answer left n C = absurd (n refl)
-refused-other a b tables others (suc k) lent answer left n C = record {
+refused-other others {k = zero} n C = absurd (n refl)
+refused-other {tables = tables} others {k = suc k} {lent = lent} n C = record {
   told = C .told;
   codes-a-after = C .codes-a-after ∙ room-other k (tables .codes-a) (others .codes-a) (lent .codes-a);
   transitions-a-after = C .transitions-a-after ∙ room-other k (tables .transitions-a) (others .transitions-a) (lent .transitions-a);
@@ -68,7 +68,7 @@ refused-other a b tables others (suc k) lent answer left n C = record {
 
 -- ---- lists of the two tables
 
-module _ (a b : Rule) (P : Passing a) (Q : Passing b) (tables : Tables) (L : ListsReachable a (tables .codes-a) (tables .transitions-a))
+module _ {a b : Rule} (P : Passing a) (Q : Passing b) (tables : Tables) (L : ListsReachable a (tables .codes-a) (tables .transitions-a))
     (M : ListsRejecting b (tables .codes-b) (tables .transitions-b)) (lent : Slices) where
   codes-a : tables .codes-a ≡ macrostates a
   codes-a = codes-same a P (tables .codes-a) (tables .transitions-a) L
@@ -113,4 +113,4 @@ module _ (a b : Rule) (P : Passing a) (Q : Passing b) (tables : Tables) (L : Lis
       subst (λ (k : ℕ). ComparedBy a b tables k lent answer left) (sym rows-same)
       (by-cases (ℕ-discrete (rulesRow a b (tablesOf a b) lent) 0)
       (λ z. subst (λ (t : Tables). ComparedBy a b t (rulesRow a b (tablesOf a b) lent) lent answer left) (tables-same z) C)
-      (λ n. refused-other a b (tablesOf a b) tables (rulesRow a b (tablesOf a b) lent) lent answer left n C))
+      (λ n. refused-other tables n C))

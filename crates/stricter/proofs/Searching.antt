@@ -2,7 +2,7 @@
 use mathlib.Core.Path.{_≡_, sym, _∙_, ap, ap₂}
 use mathlib.Core.Bool.{Bool, true, false, _||_, not}
 use mathlib.Core.List.{List, [], _++_}
-use Prim.Native.Nat.{ℕ, _+_, _-_, _*_, _≤_}
+use Prim.Native.Nat.{ℕ, _*_, _≤_}
 use native.Mathlib.Omega.{arith}
 use native.Mathlib.Nat.{mul-le-mul}
 use borrow.Author.Tests.{ltb-false}
@@ -115,7 +115,7 @@ module _ {f g : List ℕ} {x y : Side} {cs ts ds us : List ℕ} (O : Ready f tru
         let T = tabled in
         let N : NoShared (macrostates a) (transitions a) (holdsInitial a) (rejectingMacrostates b) (rejectingTransitions b) (lacksInitial b) =
         rw (T .codes-a, T .moves-a, T .codes-b, T .moves-b, T .initial-a, T .initial-b) at (S .1) in
-        (T .sizes, S .0, none-shared a b (T .passing-a) (T .passing-b) same (T .few-a) (T .few-b) N)
+        (T .sizes, S .0, none-shared (T .passing-a) (T .passing-b) same (T .few-a) (T .few-b) N)
 
     pub told-no : {l k : ℕ} → Searched codesA movesA (λ c. bit c (x .layout .head .initial)) codesB movesB (λ c. not (bit c (y .layout .head .initial))) old new (Word l k)
         → Told a b (tablesOf a b) 0 (No (record { a = n; b = m }) l k) old new
@@ -132,7 +132,7 @@ module _ {f g : List ℕ} {x y : Side} {cs ts ds us : List ℕ} (O : Ready f tru
             cycle-long = S .cycle-long;
             letters = S .letters;
             short = omega (arith, H .short, S .lead-long, S .cycle-long);
-            against = shared-against a b (T .passing-a) (T .passing-b) same (T .few-a) (T .few-b) (S .lead) (S .cycle) H;
+            against = shared-against (T .passing-a) (T .passing-b) same (T .few-a) (T .few-b) (S .lead) (S .cycle) H;
           },
         )
 

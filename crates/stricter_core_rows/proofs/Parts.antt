@@ -1,16 +1,16 @@
 -- The mark that a step needs, and a part of a row walked place by place.
 use mathlib.Core.Path.{_≡_, subst}
 use mathlib.Core.Logic.{by-cases}
-use mathlib.Core.Bool.{Bool, true, false, cond, true≢false, false≢true}
+use mathlib.Core.Bool.{Bool, true, false}
 use mathlib.Core.List.{List}
-use Prim.Native.Nat.{ℕ, _+_, _-_, _/_, _%_, _^_, _≤_, _<_}
+use Prim.Native.Nat.{ℕ, _+_, _/_, _^_, _≤_, _<_}
 use native.Mathlib.Omega.{arith}
 use native.Mathlib.Decide.{decLt}
 use lib.ListN.{getD}
 use lib.Bits.{bitAnd}
 use Rattle.codes.proofs.Starts.{held, lacking}
 use Rattle.stricter_spec.specs.Tags.{sparing}
-use Rattle.stricter_core_rows.specs.Rows.{needed, Met}
+use Rattle.stricter_core_rows.specs.Rows.{Met}
 
 -- the digit that tells whether component k is spared
 pub digit-spares : (t k : ℕ) → bitAnd (t / 2 ^ (56 + k)) 1 ≡ 1 → sparing t k ≡ true
@@ -26,6 +26,6 @@ pub one-more : (F : ℕ → Type 0) (from c : ℕ) → ((p : ℕ) → from ≤ p
 one-more F from c h f p l u = by-cases (decLt p c) (λ b. h p l b) (λ b. let e : c ≡ p = omega arith in subst F e f)
 
 -- the places in other words
-pub met-at : (need : ℕ → ℕ) (nb : ℕ) (left cuts : List ℕ) (a b q : ℕ) (marks : List ℕ) (r : Bool) → a ≡ b
+pub met-at : {need : ℕ → ℕ} {nb : ℕ} {left : List ℕ} (cuts : List ℕ) (a b : ℕ) {q : ℕ} {marks : List ℕ} {r : Bool} → a ≡ b
     → Met need nb left (getD cuts a 0) (getD cuts (a + 1) 0) q marks r → Met need nb left (getD cuts b 0) (getD cuts (b + 1) 0) q marks r
-met-at need nb left cuts a b q marks r e m = subst (λ (v : ℕ). Met need nb left (getD cuts v 0) (getD cuts (v + 1) 0) q marks r) e m
+met-at {need = need} {nb = nb} {left = left} cuts a b {q = q} {marks = marks} {r = r} e m = subst (λ (v : ℕ). Met need nb left (getD cuts v 0) (getD cuts (v + 1) 0) q marks r) e m

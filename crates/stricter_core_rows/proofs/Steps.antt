@@ -26,8 +26,8 @@ module _ (left : List ℕ) (asc : Ascending (untagged left)) (i : ℕ) (cuts : L
   cut-has : (a c : ℕ) → a < 16 → getD cuts a 0 ≤ c → c < getD cuts (a + 1) 0
       → (c < length left) × (rowOf (getD left c 0) ≡ i) × (letterOf (getD left c 0) ≡ a)
   cut-has a c l f t =
-      let h = row-has (untagged left) asc i cuts cut a c l f t in
-      let s = cut-le (untagged left) asc i cuts cut (a + 1) (omega arith) in
+      let h = row-has asc i cuts cut a c l f t in
+      let s = cut-le asc i cuts cut (a + 1) (omega arith) in
       let n = untagged-long left in
       let e = untagged-at left c in
       (omega arith, omega (arith, h .0, e), omega (arith, h .1, e))
@@ -37,7 +37,7 @@ module _ (left : List ℕ) (asc : Ascending (untagged left)) (i : ℕ) (cuts : L
       → (getD cuts a 0 ≤ c) × (c < getD cuts (a + 1) 0)
   cut-all c a n s e l =
       let u = untagged-at left c in
-      row-all (untagged left) asc i cuts cut c a (omega (arith, untagged-long left)) (omega arith) (omega arith) l
+      row-all asc i cuts cut c a (omega (arith, untagged-long left)) (omega arith) (omega arith) l
 
 -- ---- the steps of a pair
 
@@ -56,12 +56,12 @@ module _ (nb : ℕ) (left right marks : List ℕ) (second : Bool) (k other : ℕ
       → (o : ℕ) → below (j * 16777216) (untagged right) ≤ o → o < p + 1 → Missed (getD right o 0)
   missed-next j p u e m h = one-more (λ o. Missed (getD right o 0)) (below (j * 16777216) (untagged right)) p h (subst Missed e m)
 
-  module _ (na : ℕ) (fit : CoresFit na nb left right marks) (j : ℕ) (j-low : j < nb) where
+  module _ {na : ℕ} (fit : CoresFit na nb left right marks) (j : ℕ) (j-low : j < nb) where
     module _ (i : ℕ) (cut : RowCut (untagged left) i cuts) where
       -- the pair steps by a transition of each row
-      step-by : (u c : ℕ) → List·Memᴰ u right → rowOf u ≡ j → getD cuts (letterOf u) 0 ≤ c → c < getD cuts (letterOf u + 1) 0
+      step-by : {u : ℕ} (c : ℕ) → List·Memᴰ u right → rowOf u ≡ j → getD cuts (letterOf u) 0 ≤ c → c < getD cuts (letterOf u + 1) 0
           → CoreStep nb left right (i * nb + j) (ontoOf (getD left c 0) * nb + ontoOf u)
-      step-by u c m s f l =
+      step-by {u = u} c m s f l =
           let h = cut-has left (fit .ascend-A) i cuts cut (letterOf u) c (fit .letters-B u m) f l in
           record {
             of-A = getD left c 0;
@@ -82,12 +82,12 @@ module _ (nb : ℕ) (left right marks : List ℕ) (second : Bool) (k other : ℕ
       by-need u c false e f l = inr (ontoOf (getD left c 0) * nb + ontoOf u, e, l)
 
       -- one that is met is found
-      pub met-leading : (u : ℕ) → List·Memᴰ u right → rowOf u ≡ j → (r : Bool) → r ≡ true → MetBy u r
+      pub met-leading : {u : ℕ} → List·Memᴰ u right → rowOf u ≡ j → (r : Bool) → r ≡ true → MetBy u r
           → Leading (CoreStep nb left right) (SparedStep nb left right second k) other marks (i * nb + j) true
       unfolding step-by
-      met-leading u m s b t w =
+      met-leading {u = u} m s b t w =
           let (c, f, l, n) = w .yes t in
-          let e = step-by u c m s f l in
+          let e = step-by c m s f l in
           record {
             yes = λ r. by-need u c (sparing (cond second u (getD left c 0)) k) e (λ q. record { step = e; spares = q }) n;
             no = λ r. absurd (true≢false r);
@@ -97,8 +97,8 @@ module _ (nb : ℕ) (left right marks : List ℕ) (second : Bool) (k other : ℕ
           (end : p < length right → rowOf (getD right p 0) ≡ j → ⊥)
           (missed : (o : ℕ) → below (j * 16777216) (untagged right) ≤ o → o < p → Missed (getD right o 0)) where
         -- a step has not the mark it needs
-        low-step : (y : ℕ) (e : CoreStep nb left right (i * nb + j) y) → getD marks y 0 < needed other (sparing (cond second (e .of-B) (e .of-A)) k)
-        low-step y e =
+        low-step : {y : ℕ} (e : CoreStep nb left right (i * nb + j) y) → getD marks y 0 < needed other (sparing (cond second (e .of-B) (e .of-A)) k)
+        low-step e =
             let t = e .of-A in let u = e .of-B in
             let d = node-unique {nb = nb} {i = i} {j = j} {k = rowOf t} {l = rowOf u} j-low (rows u (e .listed-B)) (e .source) in
             let a = place-of left t (e .listed-A) in
@@ -109,7 +109,7 @@ module _ (nb : ℕ) (left right marks : List ℕ) (second : Bool) (k other : ℕ
             let v = untagged-at right p in
             let n = untagged-long right in
             let row : rowOf (getD right (b .0) 0) ≡ j = ap rowOf ub ∙ sym (d .1) in
-            let s = in-row (untagged right) (fit .ascend-B) j p from (λ g h. end (omega arith) (omega arith)) (b .0) (omega (arith, b .1)) (omega arith) in
+            let s = in-row (fit .ascend-B) j p from (λ g h. end (omega arith) (omega arith)) (b .0) (omega (arith, b .1)) (omega arith) in
             let w = cut-all left (fit .ascend-A) i cuts cut (a .0) (letterOf u) (a .1) (ap rowOf ta ∙ sym (d .0)) (ap letterOf ta ∙ e .letters) (fit .letters-B u (e .listed-B)) in
             let m : Missed u = subst Missed ub (missed (b .0) (s .0) (s .1)) in
             let g = m (a .0) (w .0) (w .1) in
@@ -129,7 +129,7 @@ module _ (nb : ℕ) (left right marks : List ℕ) (second : Bool) (k other : ℕ
             record {
               yes = λ r. absurd (false≢true r);
               no = λ r. record {
-                spared = λ y e. under-one (getD marks y 0) (sparing (cond second (e .step .of-B) (e .step .of-A)) k) (e .spares) (low-step y (e .step));
-                passes = λ y e. under-other o (getD marks y 0) (sparing (cond second (e .of-B) (e .of-A)) k) (low-step y e);
+                spared = λ y e. under-one (getD marks y 0) (sparing (cond second (e .step .of-B) (e .step .of-A)) k) (e .spares) (low-step (e .step));
+                passes = λ y e. under-other o (getD marks y 0) (sparing (cond second (e .of-B) (e .of-A)) k) (low-step e);
               };
             }

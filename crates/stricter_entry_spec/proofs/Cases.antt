@@ -18,7 +18,7 @@ use Rattle.theory.specs.Examples.{E, F}
 use Rattle.theory.specs.Macrostate.{begun, isAccepting}
 use Rattle.theory.specs.MacrostateComputed.{before, onward, goes}
 use Rattle.theory.specs.Rule.{entry, satisfies}
-use Rattle.theory.specs.TableComputed.{reachedIn, reached, digitals, candidates, cores, codesFrom, transitionsOf, macrostatesFrom, transitionsFrom, macrostates, transitions}
+use Rattle.theory.specs.TableComputed.{reachedIn, reached, digitals, candidates, cores, codesFrom, transitionsOf, macrostatesFrom, transitionsFrom}
 use Rattle.file_spec.specs.File.{tagged, clausesOf, countsOf}
 use Rattle.file_spec.specs.Rows.{trailerRows, layoutRows, bodyRows, nameRows, prefaceRows, fileRows}
 use Rattle.file_spec.specs.RuleRows.{numberRows, listRows, nested, someNested, clauseRows, componentRows, formedRows}
@@ -29,7 +29,7 @@ use Rattle.stricter_spec.proofs.RulesCases.{against-F, not-stricter-F}
 use Rattle.stricter_entry_spec.specs.declared.BothCounts.{BothCounts}
 use Rattle.stricter_entry_spec.specs.declared.Comparison.the-variants.{Yes, No}
 use Rattle.stricter_entry_spec.specs.Rows.{Slices, slicesOf, tablesOf, pairs, alphabetRows, bothRoomRows, pairRows, rulesRows, stricterRow, zeroesRooms, scratchLeft}
-use Rattle.stricter_entry_spec.specs.Compared.{sizesOf, WordFound, Told}
+use Rattle.stricter_entry_spec.specs.Compared.{sizesOf, Told}
 
 abbrev fileF : List ℕ
 fileF = 0x01 ∷ 0x00 ∷ 0x01 ∷ 0x01 ∷ 0x01 ∷ 0x02 ∷ 0x00 ∷ 0x00 ∷ 0x02 ∷ 0x00 ∷ 0x41 ∷ 0x57 ∷ []

@@ -34,16 +34,28 @@ abbrev pub Within : Automaton → ℕ → Type 0
 Within A c = classesIn c ≤ classesAt A c (componentIn c)
 
 -- every step makes such a k
-pub step-within : (A : Automaton) → Layered A → (c a d : ℕ) → Goes A c a d → Within A d
-step-within A H c a d G =
+pub step-within : {A : Automaton} → Layered A → {c a d : ℕ} → Goes A c a d → Within A d
+step-within H {c = c} {a = a} {d = d} G =
     by-cases (ℕ-discrete (classesIn c) 0)
     (λ z. let e = G .all z in omega arith)
     (λ z.
     let e = G .left z in
-    let h = left-low A H a c d (G .level) (G .earlier) (componentIn c) (classesIn c) in
+    let h = left-low H a c d (G .level) (G .earlier) (componentIn c) (classesIn c) in
     rw (G .stays z) (omega arith))
 
-module _ (A : Automaton) (H : Layered A) (w c : ℕ → ℕ) (R : Steps A w c) where
+-- until k is 0 each step that spares the component leaves a class more above k
+pub above-one : {A : Automaton} → Layered A → {c a d : ℕ} → Goes A c a d → (classesIn c ≡ 0 → ⊥) → (classesIn d ≡ 0 → ⊥)
+    → classesAt A c (componentIn c) - classesIn c + one (spares A a c d (componentIn c)) ≤ classesAt A d (componentIn c) - classesIn d
+above-one {A} H {c} {a} {d} G z y =
+    let K = componentIn c in
+    let e = G .left z in
+    bif (spares A a c d K)
+    (λ t. let o : one (spares A a c d K) ≡ 1 = rw t in
+    let g = above-spared H a c d (G .level) (G .earlier) K t (classesIn c) (omega arith) in omega arith)
+    (λ t. let o : one (spares A a c d K) ≡ 0 = rw t in
+    let g = above-grows H a c d (G .level) (G .earlier) K (classesIn c) (omega arith) in omega arith)
+
+module _ {A : Automaton} (H : Layered A) {w c : ℕ → ℕ} (R : Steps A w c) where
   abbrev K : ℕ → ℕ
   K i = componentIn (c i)
 
@@ -60,16 +72,6 @@ module _ (A : Automaton) (H : Layered A) (w c : ℕ → ℕ) (R : Steps A w c) w
 
   -- ---- from sparing to accepting
 
-  above-one : (i : ℕ) → (k i ≡ 0 → ⊥) → (k (suc i) ≡ 0 → ⊥)
-      → classes i (K i) - k i + one (spared (K i) i) ≤ classes (suc i) (K i) - k (suc i)
-  above-one i z y =
-      let e = R .steps i .left z in
-      bif (spared (K i) i)
-      (λ t. let o : one (spared (K i) i) ≡ 1 = rw t in
-      let g = above-spared A H (w i) (c i) (c (suc i)) (R .steps i .level) (R .steps i .earlier) (K i) t (k i) (omega arith) in omega arith)
-      (λ t. let o : one (spared (K i) i) ≡ 0 = rw t in
-      let g = above-grows A H (w i) (c i) (c (suc i)) (R .steps i .level) (R .steps i .earlier) (K i) (k i) (omega arith) in omega arith)
-
   -- k is 0 at one of the steps from i to j
   pub record ZeroBy (i j : ℕ) : Type 0 where
     pub at : ℕ
@@ -84,19 +86,19 @@ module _ (A : Automaton) (H : Layered A) (w c : ℕ → ℕ) (R : Steps A w c) w
     within : Within A (c j)
     grown : classes i (K i) - k i + count d (λ x. spared (K i) (i + x)) ≤ classes j (K i) - k j
 
-  grown-next : (i d j : ℕ) → j ≡ i + d → Grown i d j → ZeroBy i (suc j) ⊎ Grown i (suc d) (suc j)
+  grown-next : {i d j : ℕ} → j ≡ i + d → Grown i d j → ZeroBy i (suc j) ⊎ Grown i (suc d) (suc j)
   unfolding count
-  grown-next i d j e g =
+  grown-next {i = i} {d = d} {j = j} e g =
       by-cases (ℕ-discrete (k (suc j)) 0)
       (λ z. inl (record { at = suc j; from = omega arith; upto = omega arith; zero-k = z }))
       (λ z.
-      let a = rw (g .stays) at (above-one j (g .nonzero) z) in
+      let a = rw (g .stays) at (above-one H (R .steps j) (g .nonzero) z) in
       let b : one (spared (K i) j) ≡ one (spared (K i) (i + d)) = ap (λ (x : ℕ). one (spared (K i) x)) e in
       let h = g .grown in
       inr (record {
         stays = R .steps j .stays (g .nonzero) ∙ g .stays;
         nonzero = z;
-        within = step-within A H (c j) (w j) (c (suc j)) (R .steps j);
+        within = step-within H (R .steps j);
         grown = omega arith;
       }))
 
@@ -111,8 +113,7 @@ module _ (A : Automaton) (H : Layered A) (w c : ℕ → ℕ) (R : Steps A w c) w
   walk (suc d) i (suc j) e v =
       ⊎-elim
       (λ z. inl (record { at = z .at; from = z .from; upto = omega (arith, z .upto); zero-k = z .zero-k }))
-      (grown-next i d j (omega arith))
-      (walk d i j (omega arith) v)
+      (grown-next (omega arith)) (walk d i j (omega arith) v)
 
   -- k is 0 within as many spared steps as K has states
   pub zero-within : (i d : ℕ) → Within A (c i) → sizeOf A (K i) ≤ count d (λ x. spared (K i) (i + x)) → ZeroBy i (i + d)
@@ -120,7 +121,7 @@ module _ (A : Automaton) (H : Layered A) (w c : ℕ → ℕ) (R : Steps A w c) w
       ⊎-elim
       (λ z. z)
       (λ g.
-      let a = classes-size A (c (i + d)) (R .macrostate (i + d) .core) (K i) in
+      let a = classes-size (c (i + d)) (R .macrostate (i + d) .core) (K i) in
       let b : k (i + d) ≤ classes (i + d) (K i) = rw (g .stays) at (g .within) in
       let n = g .nonzero in let e = g .grown in
       absurd (omega arith))
@@ -128,7 +129,7 @@ module _ (A : Automaton) (H : Layered A) (w c : ℕ → ℕ) (R : Steps A w c) w
 
   from-sparing : SparesAgain A w c → (i : ℕ) → (j : ℕ) × (i < j) × (k j ≡ 0)
   from-sparing s i =
-      let v = step-within A H (c i) (w i) (c (suc i)) (R .steps i) in
+      let v = step-within H (R .steps i) in
       let (d, l) = often (λ x. spared (K (suc i)) (suc i + x)) again (sizeOf A (K (suc i))) in
       let z = zero-within (suc i) d v l in
       (z .at, z .from, z .zero-k)
@@ -137,7 +138,7 @@ module _ (A : Automaton) (H : Layered A) (w c : ℕ → ℕ) (R : Steps A w c) w
       again x =
           let (j, l, t) = s (K (suc i)) (R .macrostate (suc i) .component) (suc i + x) in
           let e : suc i + (j - suc i) ≡ j = omega arith in
-          (j - suc i, omega arith, rw e (spares-iff A H (w j) (c j) (c (suc j)) (R .steps j .level) (R .steps j .earlier) (K (suc i)) .1 t))
+          (j - suc i, omega arith, rw e (spares-iff H (w j) (c j) (c (suc j)) (R .steps j .level) (R .steps j .earlier) (K (suc i)) .1 t))
 
   -- ---- from accepting to sparing
 
@@ -154,8 +155,8 @@ module _ (A : Automaton) (H : Layered A) (w c : ℕ → ℕ) (R : Steps A w c) w
         bif (spared C i)
         (λ s. (i, omega arith, s))
         (λ s.
-        let p = unspared-some A H (w i) (c i) (c (suc i)) (R .steps i .level) (R .steps i .earlier) C s in
-        let g = full-stays A H (w i) (c i) (c (suc i)) (R .steps i .level) (R .steps i .earlier) C s (k i) f in
+        let p = unspared-some H (w i) (c i) (c (suc i)) (R .steps i .level) (R .steps i .earlier) C s in
+        let g = full-stays H (w i) (c i) (c (suc i)) (R .steps i .level) (R .steps i .earlier) C s (k i) f in
         let l = rw v at (R .steps i .left z) in
         let (y, m, r) = full-spared C t (suc i) j (omega arith) e (R .steps i .stays z ∙ v) (λ n. omega arith) (omega arith) in
         (y, omega arith, r))
@@ -167,7 +168,7 @@ module _ (A : Automaton) (H : Layered A) (w c : ℕ → ℕ) (R : Steps A w c) w
         let (p, l, z, e) = turn-of A K k (λ j. R .macrostate j .component) (λ j. R .steps j .stays) (λ j. R .steps j .next) again i C h in
         let f : k (suc p) ≡ classes (suc p) C = R .steps p .all z ∙ ap (classes (suc p)) e in
         by-cases (ℕ-discrete (k (suc p)) 0)
-        (λ z. (p, l, no-class-spares A H (w p) (c p) (c (suc p)) (R .steps p .level) (R .steps p .earlier) C (sym f ∙ z)))
+        (λ z. (p, l, no-class-spares H (w p) (c p) (c (suc p)) (R .steps p .level) (R .steps p .earlier) C (sym f ∙ z)))
         (λ z.
         let (j, m, a) = again (suc p) in
         let (y, b, t) = full-spared C (j - suc p) (suc p) j (omega arith) a e z (omega arith) in
@@ -177,12 +178,10 @@ module _ (A : Automaton) (H : Layered A) (w c : ℕ → ℕ) (R : Steps A w c) w
     unfolding Spared
     to-sparing C h i =
         let (j, l, t) = find-spared C h i in
-        (j, l, spares-iff A H (w j) (c j) (c (suc j)) (R .steps j .level) (R .steps j .earlier) C .0 t)
+        (j, l, spares-iff H (w j) (c j) (c (suc j)) (R .steps j .level) (R .steps j .earlier) C .0 t)
 
   -- a run of macrostates accepts exactly if its cores spare each component again and again
   pub accepts-iff : ((i : ℕ) → (j : ℕ) × (i < j) × (isAccepting (c j) ≡ true)) ↔ SparesAgain A w c
   unfolding isAccepting
-  accepts-iff = (
-    λ a. to-sparing (λ i. let (j, l, t) = a i in (j, l, eqb-true _ 0 t)),
-    λ s i. let (j, l, e) = from-sparing s i in (j, l, eq-eqb _ 0 e),
-  )
+  accepts-iff =
+      (λ a. to-sparing (λ i. let (j, l, t) = a i in (j, l, eqb-true _ 0 t)), λ s i. let (j, l, e) = from-sparing s i in (j, l, eq-eqb _ 0 e))

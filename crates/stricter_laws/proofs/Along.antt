@@ -23,45 +23,42 @@ use Rattle.stricter_laws.proofs.Steps.{classesAt, left-low}
 
 -- ---- codes of the same core
 
-module _ (A : Automaton) where
-  pub same-set : (c d : ℕ) → SameCore A c d → setIn A c ≡ setIn A d
-  same-set c d s = fun-ext (λ q. by-cases (decLt q (A .n))
+module _ {A : Automaton} where
+  pub same-set : {c d : ℕ} → SameCore A c d → setIn A c ≡ setIn A d
+  same-set {c = c} {d = d} s = fun-ext (λ q. by-cases (decLt q (A .n))
       (λ l. s .sets q l)
       (λ l. set-trim A c q (omega arith) ∙ sym (set-trim A d q (omega arith))))
 
-  pub same-ranks : (c d : ℕ) → SameCore A c d → rankIn A c ≡ rankIn A d
-  same-ranks c d s = fun-ext (λ q. by-cases (decLt q (A .n))
+  pub same-ranks : {c d : ℕ} → SameCore A c d → rankIn A c ≡ rankIn A d
+  same-ranks {c = c} {d = d} s = fun-ext (λ q. by-cases (decLt q (A .n))
       (λ l. s .ranks q l)
       (λ l. rank-trim A c q (omega arith) ∙ sym (rank-trim A d q (omega arith))))
 
   pub same-self : (c : ℕ) → SameCore A c c
   same-self c = record { sets = λ q l. refl; ranks = λ q l. refl }
 
-  pub same-sym : (c d : ℕ) → SameCore A c d → SameCore A d c
-  same-sym c d s = record { sets = λ q l. sym (s .sets q l); ranks = λ q l. sym (s .ranks q l) }
+  pub same-sym : {c d : ℕ} → SameCore A c d → SameCore A d c
+  same-sym s = record { sets = λ q l. sym (s .sets q l); ranks = λ q l. sym (s .ranks q l) }
 
-  pub earlier-same : (a c d c′ d′ : ℕ) (l : ℕ → ℕ) → SameCore A c c′ → SameCore A d d′ → EarlierIn A a c d l → EarlierIn A a c′ d′ l
-  earlier-same a c d c′ d′ l s t E =
-      subst₂ (λ (S : Set) (r : ℕ → ℕ). Earlier A a S r (setIn A d′) (rankIn A d′) l) (same-set c c′ s) (same-ranks c c′ s)
-      (subst₂ (λ (T : Set) (r : ℕ → ℕ). Earlier A a (setIn A c) (rankIn A c) T r l) (same-set d d′ t) (same-ranks d d′ t) E)
+  pub earlier-same : (a : ℕ) {c d c′ d′ : ℕ} (l : ℕ → ℕ) → SameCore A c c′ → SameCore A d d′ → EarlierIn A a c d l → EarlierIn A a c′ d′ l
+  earlier-same a {c = c} {d′ = d′} l s t E =
+      subst₂ (λ (S : Set) (r : ℕ → ℕ). Earlier A a S r (setIn A d′) (rankIn A d′) l) (same-set s) (same-ranks s)
+      (subst₂ (λ (T : Set) (r : ℕ → ℕ). Earlier A a (setIn A c) (rankIn A c) T r l) (same-set t) (same-ranks t) E)
 
-  pub spares-same : (a c d c′ d′ K : ℕ) → SameCore A c c′ → SameCore A d d′ → SparesIn A a c d K → SparesIn A a c′ d′ K
-  spares-same a c d c′ d′ K s t h = rw (← same-set c c′ s, ← same-set d d′ t, ← same-ranks d d′ t) h
+  pub spares-same : (a : ℕ) {c d c′ d′ : ℕ} (K : ℕ) → SameCore A c c′ → SameCore A d d′ → SparesIn A a c d K → SparesIn A a c′ d′ K
+  spares-same a K s t h = rw (← same-set s, ← same-set t, ← same-ranks t) h
 
   pub again-same : (w c d : ℕ → ℕ) → ((i : ℕ) → SameCore A (c i) (d i)) → SparesAgain A w c → SparesAgain A w d
   again-same w c d s h K b i =
       let (j, l, t) = h K b i in
-      (j, l, spares-same (w j) (c j) (c (suc j)) (d j) (d (suc j)) K (s j) (s (suc j)) t)
+      (j, l, spares-same (w j) K (s j) (s (suc j)) t)
 
   -- two runs over the same cores accept together
   pub accepts-same : Layered A → (w c d : ℕ → ℕ) → Steps A w c → Steps A w d → ((i : ℕ) → SameCore A (c i) (d i))
       → ((i : ℕ) → (j : ℕ) × (i < j) × (isAccepting (c j) ≡ true)) ↔ ((i : ℕ) → (j : ℕ) × (i < j) × (isAccepting (d j) ≡ true))
   accepts-same H w c d R T s =
-      let x = accepts-iff A H w c R in
-      let y = accepts-iff A H w d T in (
-        λ h. y .1 (again-same w c d s (x .0 h)),
-        λ h. x .1 (again-same w d c (λ i. same-sym (c i) (d i) (s i)) (y .0 h)),
-      )
+      let x = accepts-iff H R in
+      let y = accepts-iff H T in (λ h. y .1 (again-same w c d s (x .0 h)), λ h. x .1 (again-same w d c (λ i. same-sym (s i)) (y .0 h)))
 
 -- ---- one step
 
@@ -77,7 +74,7 @@ classesAfter A d l e =
 unfoldable pub codeAfter : Automaton → ℕ → (ℕ → ℕ) → ℕ → ℕ
 codeAfter A d l e = pack (setIn A d) (rankIn A d) (componentAfter A e) (classesAfter A d l e)
 
-module _ (A : Automaton) (H : Layered A) (small : A .n ≤ 8) (few : A .components ≤ 16) where
+module _ {A : Automaton} (H : Layered A) (small : A .n ≤ 8) (few : A .components ≤ 16) where
   module _ (a e d : ℕ) (l : ℕ → ℕ) (E : EarlierIn A a e d l) (known : componentIn e < A .components) where
     abbrev C : ℕ
     C = componentAfter A e
@@ -119,7 +116,7 @@ module _ (A : Automaton) (H : Layered A) (small : A .n ≤ 8) (few : A .componen
         (λ z. let x = all-left z in let h = classes-small C in omega arith)
         (λ z.
         let x = some-left z in
-        let y = left-low A H a e d l E (componentIn e) (classesIn e) in
+        let y = left-low H a e d l E (componentIn e) (classesIn e) in
         let h = classes-small (componentIn e) in omega arith)
 
     r-small : (q : ℕ) → rankIn A d q < 16
@@ -167,7 +164,7 @@ module _ (A : Automaton) (H : Layered A) (small : A .n ≤ 8) (few : A .componen
 
   -- ---- all steps
 
-  module _ (w c : ℕ → ℕ) (R : CoreSteps A w c) (start : ℕ) (begins : SameCore A (c 0) start) (M : Macrostate A start) where
+  module _ {w c : ℕ → ℕ} (R : CoreSteps A w c) {start : ℕ} (begins : SameCore A (c 0) start) (M : Macrostate A start) where
     unfoldable pub along : ℕ → ℕ
     along zero = start
     along (suc i) = codeAfter A (c (suc i)) (R .level i) (along i)
@@ -176,9 +173,8 @@ module _ (A : Automaton) (H : Layered A) (small : A .n ≤ 8) (few : A .componen
       macrostate : Macrostate A (along i)
       same : SameCore A (c i) (along i)
 
-    step-at : (i : ℕ) → At i → EarlierIn A (w i) (along i) (c (suc i)) (R .level i)
-    step-at i x =
-        earlier-same A (w i) (c i) (c (suc i)) (along i) (c (suc i)) (R .level i) (x .same) (same-self A (c (suc i))) (R .earlier i)
+    step-at : {i : ℕ} → At i → EarlierIn A (w i) (along i) (c (suc i)) (R .level i)
+    step-at {i = i} x = earlier-same (w i) (R .level i) (x .same) (same-self (c (suc i))) (R .earlier i)
 
     at : (i : ℕ) → At i
     unfolding along
@@ -186,8 +182,8 @@ module _ (A : Automaton) (H : Layered A) (small : A .n ≤ 8) (few : A .componen
     at (suc i) =
         let x = at i in
         let k = x .macrostate .component in record {
-          macrostate = after-macrostate (w i) (along i) (c (suc i)) (R .level i) (step-at i x) k (R .earlier (suc i) .core);
-          same = after-core (w i) (along i) (c (suc i)) (R .level i) (step-at i x) k;
+          macrostate = after-macrostate (w i) (along i) (c (suc i)) (R .level i) (step-at x) k (R .earlier (suc i) .core);
+          same = after-core (w i) (along i) (c (suc i)) (R .level i) (step-at x) k;
         }
 
     pub along-cores : (i : ℕ) → SameCore A (c i) (along i)
@@ -197,5 +193,5 @@ module _ (A : Automaton) (H : Layered A) (small : A .n ≤ 8) (few : A .componen
     unfolding along
     along-steps = record {
       macrostate = λ i. at i .macrostate;
-      steps = λ i. after-goes (w i) (along i) (c (suc i)) (R .level i) (step-at i (at i)) (at i .macrostate .component);
+      steps = λ i. after-goes (w i) (along i) (c (suc i)) (R .level i) (step-at (at i)) (at i .macrostate .component);
     }

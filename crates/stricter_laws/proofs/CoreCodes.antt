@@ -12,7 +12,7 @@ use Rattle.sets.proofs.Masks.{above}
 use Rattle.theory.specs.Automaton.{Automaton}
 use Rattle.theory.specs.Code.{setIn, rankIn, wellCoded}
 use Rattle.build_cores.specs.Parts.{vectorOf}
-use Rattle.build_step_back.proofs.Codes.{core-in, pair-low}
+use Rattle.build_step_back.proofs.Codes.{core-in}
 use Rattle.spare_spec.specs.Spare.{SameCore}
 use Rattle.spare_spec.specs.SpareComputed.{hasLevel, spares}
 use Rattle.stricter_laws.proofs.Along.{same-set, same-ranks}
@@ -30,7 +30,7 @@ rank-core c q l =
     (sym (shr-shr c 8 (4 * q)) ∙ ap (λ (x : ℕ). c / 2 ^ 8 / x) (pow16 q) ∙ ap (λ (x : ℕ). x / 16 ^ q) (split-ranks c))
     ∙ digit-above 16 (omega arith) (c / 1099511627776) (coreIn c / 2 ^ 8) 8 q l
 
-module _ (A : Automaton) where
+module _ {A : Automaton} where
   -- codes with the same bits 0 to 39 have the same core
   pub core-same : A .n ≤ 8 → (c d : ℕ) → coreIn c ≡ coreIn d → SameCore A c d
   unfolding setIn rankIn bit
@@ -42,17 +42,13 @@ module _ (A : Automaton) where
   }
 
   -- and codes of macrostates with the same core have the same bits 0 to 39
-  pub same-core : (c d : ℕ) → wellCoded A c ≡ true → wellCoded A d ≡ true → SameCore A c d → coreIn c ≡ coreIn d
-  same-core c d w v s =
+  pub same-core : {c d : ℕ} → wellCoded A c ≡ true → wellCoded A d ≡ true → SameCore A c d → coreIn c ≡ coreIn d
+  same-core {c = c} {d = d} w v s =
       core-in A c w
-      ∙ ap₂ (λ (r : ℕ → ℕ) (S : Set). vectorOf A r * 2 ^ 8 + mask 8 S) (same-ranks A c d s) (same-set A c d s)
+      ∙ ap₂ (λ (r : ℕ → ℕ) (S : Set). vectorOf A r * 2 ^ 8 + mask 8 S) (same-ranks s) (same-set s)
       ∙ sym (core-in A d v)
 
-  -- such a code has 48 bits
-  pub code-low : (c : ℕ) → wellCoded A c ≡ true → c < 281474976710656
-  code-low c w = let h = pair-low A c w in omega arith
-
   -- steps between the same cores spare the same components
-  pub spares-core : (a c d c′ d′ K : ℕ) → SameCore A c c′ → SameCore A d d′ → spares A a c d K ≡ spares A a c′ d′ K
+  pub spares-core : (a : ℕ) {c d c′ d′ : ℕ} (K : ℕ) → SameCore A c c′ → SameCore A d d′ → spares A a c d K ≡ spares A a c′ d′ K
   unfolding spares hasLevel
-  spares-core a c d c′ d′ K s t = rw (same-set A c c′ s, same-set A d d′ t, same-ranks A d d′ t)
+  spares-core a K s t = rw (same-set s, same-set t, same-ranks t)

@@ -13,9 +13,9 @@ use Rattle.stricter_laws.proofs.Rows.{Walked, walked-next, beside-step,
 use Rattle.stricter_laws.specs.Forest.{Marked, Tried}
 use Rattle.stricter_laws.proofs.Forest.{tried-start, tried-next, tried-end}
 
-module _ (nb : ℕ) (ma mb : List ℕ) (size : ℕ) (paired : Paired nb ma mb size) (j : ℕ) (j-low : j < nb) (i : ℕ) (cuts : List ℕ) (cut : RowCut ma i cuts) (base : ℕ) where
+module _ {nb : ℕ} {ma mb : List ℕ} {size : ℕ} (paired : Paired nb ma mb size) (j : ℕ) (j-low : j < nb) (i : ℕ) (cuts : List ℕ) (cut : RowCut ma i cuts) (base : ℕ) where
   pub expand-start : (k : ℕ) (ms : List ℕ) → k ≡ below (j * 16777216) mb → Tried (PairStep nb ma mb (i * nb + j)) (Walked nb ma mb j cuts k) base ms ms
-  expand-start k ms e = tried-start (PairStep nb ma mb (i * nb + j)) (Walked nb ma mb j cuts k) base ms (λ y w. omega (arith, w .1, w .2))
+  expand-start k ms e = tried-start ms (λ y w. omega (arith, w .1, w .2))
 
   pub expand-next : 1 < base → (old ms new : List ℕ) (k a q : ℕ) → k < length mb → sourceOf (getD mb k 0) ≡ j → a ≡ letterOf (getD mb k 0) → q ≡ targetOf (getD mb k 0)
       → Tried (PairStep nb ma mb (i * nb + j)) (Walked nb ma mb j cuts k) base old ms
@@ -24,20 +24,20 @@ module _ (nb : ℕ) (ma mb : List ℕ) (size : ℕ) (paired : Paired nb ma mb si
   expand-next big old ms new k a q l s e f t m =
       let u = getD mb k 0 in
       let here : Marked (Beside nb ma (getD cuts (letterOf u) 0) (getD cuts (letterOf u + 1) 0) (targetOf u)) (base + 4 * letterOf u) ms new = rw (sym e, sym f) m in
-      tried-next (PairStep nb ma mb (i * nb + j)) (Walked nb ma mb j cuts k) base
-      (Beside nb ma (getD cuts (letterOf u) 0) (getD cuts (letterOf u + 1) 0) (targetOf u)) (Walked nb ma mb j cuts (k + 1)) (letterOf u) old ms new big
-      (λ y b. beside-step nb ma mb size paired j j-low i cuts cut k y l s b)
-      (λ y w. walked-next nb ma mb j cuts k u y refl w) t here
+      tried-next
+      (Walked nb ma mb j cuts (k + 1)) (letterOf u) big
+      (λ y b. beside-step paired j j-low i cuts cut k l s b)
+      (λ y w. walked-next nb ma mb j cuts k u refl w) t here
 
-  pub expand-end : (old new : List ℕ) (k : ℕ) → below (j * 16777216) mb ≤ k → (k < length mb → sourceOf (getD mb k 0) ≡ j → ⊥)
+  pub expand-end : {old new : List ℕ} (k : ℕ) → below (j * 16777216) mb ≤ k → (k < length mb → sourceOf (getD mb k 0) ≡ j → ⊥)
       → Tried (PairStep nb ma mb (i * nb + j)) (Walked nb ma mb j cuts k) base old new
       → Tried (PairStep nb ma mb (i * nb + j)) (PairEdge nb ma mb (i * nb + j)) base old new
-  expand-end old new k l end t = tried-end (PairStep nb ma mb (i * nb + j)) (Walked nb ma mb j cuts k) base (PairEdge nb ma mb (i * nb + j)) old new
-      (λ y e. step-walked nb ma mb size paired j j-low i cuts cut k l end y e) t
+  expand-end {old = old} {new = new} k l end t = tried-end (PairEdge nb ma mb (i * nb + j))
+      (λ y e. step-walked paired j j-low i cuts cut k l end y e) t
 
 -- ---- two tables that the search takes
 
-module _ (ca ma cb mb : List ℕ) (A : Searchable ca ma) (B : Searchable cb mb) where
+module _ {ca ma cb mb : List ℕ} (A : Searchable ca ma) (B : Searchable cb mb) where
   pub searchable-paired : Paired (length cb) ma mb (length ca * length cb)
   searchable-paired = record {
     ascend-A = A .ascend;

@@ -10,8 +10,8 @@ use Rattle.stricter_spec.specs.Steps.{CoresFit, standsIn, OnlyCores}
 use Rattle.stricter_laws.specs.Parts.{Ready}
 
 -- other marks, as many
-pub fits-same : (na nb : ℕ) (left right ms new : List ℕ) → length new ≡ length ms → CoresFit na nb left right ms → CoresFit na nb left right new
-fits-same na nb left right ms new e f = record {
+pub fits-same : {na nb : ℕ} {left right ms : List ℕ} (new : List ℕ) → length new ≡ length ms → CoresFit na nb left right ms → CoresFit na nb left right new
+fits-same new e f = record {
   ascend-A = f .ascend-A;
   ascend-B = f .ascend-B;
   letters-B = f .letters-B;
@@ -22,8 +22,8 @@ fits-same na nb left right ms new e f = record {
   few-B = f .few-B;
 }
 
-pub ready-same : (na nb : ℕ) (left right ms new : List ℕ) → length new ≡ length ms → Ready na nb left right ms → Ready na nb left right new
-ready-same na nb left right ms new e f = record { fits = fits-same na nb left right ms new e (f .fits); rows = f .rows }
+pub ready-same : {na nb : ℕ} {left right ms : List ℕ} (new : List ℕ) → length new ≡ length ms → Ready na nb left right ms → Ready na nb left right new
+ready-same new e f = record { fits = fits-same new e (f .fits); rows = f .rows }
 
 module _ (codes : List ℕ) (nb : ℕ) where
   -- nothing came in

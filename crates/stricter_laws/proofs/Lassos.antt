@@ -90,8 +90,8 @@ module _ (lead cycle : List ℕ) (repeats : 0 < length cycle) where
 
 -- ---- the run
 
-module _ (codes m : List ℕ) (start : Set) (inside : Inside (length codes) m) (lead before after : List ℕ) (repeats : 0 < length (before ++ after))
-    (first turn met : ℕ) (U : Way m first lead turn) (X : Way m turn before met) (Y : Way m met after turn) where
+module _ (codes : List ℕ) {m : List ℕ} (start : Set) (inside : Inside (length codes) m) {lead before after : List ℕ} (repeats : 0 < length (before ++ after))
+    {first turn met : ℕ} (U : Way m first lead turn) (X : Way m turn before met) (Y : Way m met after turn) where
   abbrev cycle : List ℕ
   cycle = before ++ after
 
@@ -171,21 +171,20 @@ pub lasso-run : (codes m : List ℕ) (start : Set) → Inside (length codes) m �
 lasso-run codes m start I lead cycle h L =
     let k : 0 < length (L .before ++ L .after) = rw (← L .parts) h in
     rw (L .parts) (
-      run codes m start I lead (L .before) (L .after) k (L .first) (L .turn) (L .met) (L .there) (L .onto) (L .back),
-      goes-round codes m start I lead (L .before) (L .after) k (L .first) (L .turn) (L .met) (L .there) (L .onto) (L .back) (L .begins) (L .accepts),
+      run codes start I k (L .there) (L .onto) (L .back),
+      goes-round codes start I k (L .there) (L .onto) (L .back) (L .begins) (L .accepts),
     )
 
 -- the letters on a way are those of listed transitions
-way-letters : (m : List ℕ) (s : ℕ) → ((t : ℕ) → List·Memᴰ t m → letterOf t < s) → {x y : ℕ} {w : List ℕ} → Way m x w y → (a : ℕ) → List·Memᴰ a w → a < s
-way-letters m s low stay a k = absurd (List·Memᴰ·not-nil k)
-way-letters m s low (go t l d W) a k =
-    ⊎-elim (λ e. let n = low t l in omega (arith, e, d .letter)) (λ n. way-letters m s low W a n) (List·Memᴰ·cases-cons k)
+way-letters : {m : List ℕ} (s : ℕ) → ((t : ℕ) → List·Memᴰ t m → letterOf t < s) → {x y : ℕ} {w : List ℕ} → Way m x w y → {a : ℕ} → List·Memᴰ a w → a < s
+way-letters s low stay k = absurd (List·Memᴰ·not-nil k)
+way-letters s low (go t l d W) k = ⊎-elim (λ e. let n = low t l in omega (arith, e, d .letter)) (λ n. way-letters s low W n) (List·Memᴰ·cases-cons k)
 
 -- its word is one over the letters of the table's transitions
 pub lasso-word : (codes m : List ℕ) (start : Set) (s : ℕ) → ((t : ℕ) → List·Memᴰ t m → letterOf t < s) → (lead cycle : List ℕ) → 0 < length cycle → Lasso codes m start lead cycle →
     WordOver s lead cycle
 lasso-word codes m start s low lead cycle h L = record {
   repeats = h;
-  lead-letters = way-letters m s low (L .there);
-  cycle-letters = λ a k. way-letters m s low (join m (L .onto) (L .back)) a (rw (← L .parts) k);
+  lead-letters = λ a k. way-letters s low (L .there) k;
+  cycle-letters = λ a k. way-letters s low (join m (L .onto) (L .back)) (rw (← L .parts) k);
 }

@@ -23,10 +23,10 @@ use Rattle.stricter_spec.specs.Rounds.{Again, Narrowed, AllSound}
 use Rattle.stricter_laws.proofs.Table.{row-low, Raised, raise, stays, nears, closer, Lowered, lower}
 use Rattle.stricter_laws.proofs.Nearing.{Lift, Nearer, reach}
 
-module _ (ca ma : List ℕ) (nA : ℕ) (coreA : ℕ → ℕ) (spareA : ℕ → ℕ → Bool) (CA : CoreTable ca ma nA coreA spareA)
-    (left : List ℕ) (SA : Shown ca ma nA coreA spareA left)
-    (cb mb : List ℕ) (nB : ℕ) (coreB : ℕ → ℕ) (spareB : ℕ → ℕ → Bool) (CB : CoreTable cb mb nB coreB spareB)
-    (right : List ℕ) (SB : Shown cb mb nB coreB spareB right) where
+module _ {ca ma : List ℕ} {nA : ℕ} {coreA : ℕ → ℕ} {spareA : ℕ → ℕ → Bool} (CA : CoreTable ca ma nA coreA spareA)
+    {left : List ℕ} (SA : Shown ca ma nA coreA spareA left)
+    {cb mb : List ℕ} {nB : ℕ} {coreB : ℕ → ℕ} {spareB : ℕ → ℕ → Bool} (CB : CoreTable cb mb nB coreB spareB)
+    {right : List ℕ} (SB : Shown cb mb nB coreB spareB right) where
   abbrev E : ℕ → ℕ → Type 0
   E = CoreStep (length cb) left right
 
@@ -52,24 +52,29 @@ module _ (ca ma : List ℕ) (nA : ℕ) (coreA : ℕ → ℕ) (spareA : ℕ → �
   abbrev core : Pair → ℕ
   core x = coreA (x .of-A) * length cb + coreB (x .of-B)
 
+  -- acceptance of a pair on a side is that of its number
+  first-at : (x : Pair) → acceptsIn ca cb false (at x) ≡ false → isAccepting (getD ca (x .of-A) 0) ≡ false
+  first-at x a = sym (accepts-first ca cb (x .of-A) (x .of-B) (x .low-B)) ∙ a
+
+  second-at : (x : Pair) → acceptsIn ca cb true (at x) ≡ false → isAccepting (getD cb (x .of-B) 0) ≡ false
+  second-at x a = sym (accepts-second ca cb (x .of-A) (x .of-B) (x .low-B)) ∙ a
+
   -- the transitions of a pair that go as a step of its cores
   record Lifted (x : Pair) (y : ℕ) (s : CoreStep (length cb) left right (core x) y) : Type 0 where
-    first : Raised ca ma nA coreA spareA CA left SA (x .of-A) (s .of-A)
-    second : Raised cb mb nB coreB spareB CB right SB (x .of-B) (s .of-B)
+    first : Raised CA SA (x .of-A) (s .of-A)
+    second : Raised CB SB (x .of-B) (s .of-B)
 
-  lifted : (x : Pair) (y : ℕ) (s : CoreStep (length cb) left right (core x) y) → Lifted x y s
-  lifted x y s =
+  lifted : (x : Pair) {y : ℕ} (s : CoreStep (length cb) left right (core x) y) → Lifted x y s
+  lifted x s =
       let l = CB .within (x .of-B) (x .low-B) in
-      let m = row-low cb mb nB coreB spareB CB right SB (s .of-B) (s .listed-B) in
+      let m = row-low CB SB (s .listed-B) in
       let rows = node-unique {i = coreA (x .of-A)} {k = rowOf (s .of-A)} l m (s .source) in
       record {
-        first = raise ca ma nA coreA spareA CA left SA (x .of-A) (s .of-A) (x .low-A) (s .listed-A)
-            (rows .0);
-        second = raise cb mb nB coreB spareB CB right SB (x .of-B) (s .of-B) (x .low-B) (s .listed-B)
-            (rows .1);
+        first = raise CA SA (x .of-A) (x .low-A) (s .listed-A) (rows .0);
+        second = raise CB SB (x .of-B) (x .low-B) (s .listed-B) (rows .1);
       }
 
-  module _ (x : Pair) (y : ℕ) (s : CoreStep (length cb) left right (core x) y) (l : Lifted x y s) where
+  module _ {x : Pair} {y : ℕ} {s : CoreStep (length cb) left right (core x) y} (l : Lifted x y s) where
     abbrev to : Pair
     to = record {
       of-A = targetOf (l .first .of);
@@ -96,26 +101,13 @@ module _ (ca ma : List ℕ) (nA : ℕ) (coreA : ℕ → ℕ) (spareA : ℕ → �
     onto : core to ≡ y
     onto = ap₂ (λ (a b : ℕ). a * length cb + b) (l .first .target) (l .second .target) ∙ sym (s .target)
 
-    -- acceptance of a pair on a side is that of its number
-    first-here : acceptsIn ca cb false (at x) ≡ false → isAccepting (getD ca (x .of-A) 0) ≡ false
-    first-here a = sym (accepts-first ca cb (x .of-A) (x .of-B) (x .low-B)) ∙ a
-
-    first-there : acceptsIn ca cb false (at to) ≡ false → isAccepting (getD ca (targetOf (l .first .of)) 0) ≡ false
-    first-there a = sym (accepts-first ca cb (targetOf (l .first .of)) (targetOf (l .second .of)) (to .low-B)) ∙ a
-
-    second-here : acceptsIn ca cb true (at x) ≡ false → isAccepting (getD cb (x .of-B) 0) ≡ false
-    second-here a = sym (accepts-second ca cb (x .of-A) (x .of-B) (x .low-B)) ∙ a
-
-    second-there : acceptsIn ca cb true (at to) ≡ false → isAccepting (getD cb (targetOf (l .second .of)) 0) ≡ false
-    second-there a = sym (accepts-second ca cb (targetOf (l .first .of)) (targetOf (l .second .of)) (to .low-B)) ∙ a
-
     first-lift : Lift P (acceptsIn ca cb false) Pair at core (λ z. CA .component (z .of-A)) (λ z. CA .left (z .of-A)) x y
     first-lift = record {
       to = to;
       edge = edge;
       onto = onto;
-      stays = λ a b. stays ca ma nA coreA spareA CA left SA (x .of-A) (s .of-A) (l .first) (first-here a) (first-there b);
-      nears = λ a b. nears ca ma nA coreA spareA CA left SA (x .of-A) (s .of-A) (l .first) (first-here a) (first-there b);
+      stays = λ a b. stays CA SA (l .first) (first-at x a) (first-at to b);
+      nears = λ a b. nears CA SA (l .first) (first-at x a) (first-at to b);
     }
 
     second-lift : Lift P (acceptsIn ca cb true) Pair at core (λ z. CB .component (z .of-B)) (λ z. CB .left (z .of-B)) x y
@@ -123,34 +115,24 @@ module _ (ca ma : List ℕ) (nA : ℕ) (coreA : ℕ → ℕ) (spareA : ℕ → �
       to = to;
       edge = edge;
       onto = onto;
-      stays = λ a b. stays cb mb nB coreB spareB CB right SB (x .of-B) (s .of-B) (l .second) (second-here a) (second-there b);
-      nears = λ a b. nears cb mb nB coreB spareB CB right SB (x .of-B) (s .of-B) (l .second) (second-here a) (second-there b);
+      stays = λ a b. stays CB SB (l .second) (second-at x a) (second-at to b);
+      nears = λ a b. nears CB SB (l .second) (second-at x a) (second-at to b);
     }
 
     first-nearer : (K : ℕ) → K < nA → sparing (s .of-A) K ≡ true
         → Nearer P (acceptsIn ca cb false) Pair at core (λ z. CA .component (z .of-A)) (λ z. CA .left (z .of-A)) x K y
-    first-nearer K m p = record {
-      to = to;
-      edge = edge;
-      onto = onto;
-      nears = λ a b. closer ca ma nA coreA spareA CA left SA (x .of-A) (s .of-A) (l .first) (first-here a) (first-there b) K m p;
-    }
+    first-nearer K m p = record { to = to; edge = edge; onto = onto; nears = λ a b. closer CA SA (l .first) (first-at x a) (first-at to b) K m p }
 
     second-nearer : (K : ℕ) → K < nB → sparing (s .of-B) K ≡ true
         → Nearer P (acceptsIn ca cb true) Pair at core (λ z. CB .component (z .of-B)) (λ z. CB .left (z .of-B)) x K y
-    second-nearer K m p = record {
-      to = to;
-      edge = edge;
-      onto = onto;
-      nears = λ a b. closer cb mb nB coreB spareB CB right SB (x .of-B) (s .of-B) (l .second) (second-here a) (second-there b) K m p;
-    }
+    second-nearer K m p = record { to = to; edge = edge; onto = onto; nears = λ a b. closer CB SB (l .second) (second-at x a) (second-at to b) K m p }
 
   -- a pair is in exactly if the pair of its cores is
   pub record Marked (final pairs : List ℕ) : Type 0 where
     pub marks : (i j : ℕ) → i < length ca → j < length cb → 0 < getD final (coreA i * length cb + coreB j) 0 → 0 < getD pairs (i * length cb + j) 0
     pub tells : (i j : ℕ) → i < length ca → j < length cb → 0 < getD pairs (i * length cb + j) 0 → 0 < getD final (coreA i * length cb + coreB j) 0
 
-  module _ (final pairs : List ℕ) (sound : AllSound E F n final) (same : Marked final pairs) where
+  module _ {final pairs : List ℕ} (sound : AllSound E F n final) (same : Marked final pairs) where
     marked : (x : Pair) → 0 < getD final (core x) 0 → 0 < getD pairs (at x) 0
     marked x h = same .marks (x .of-A) (x .of-B) (x .low-A) (x .low-B) h
 
@@ -158,17 +140,17 @@ module _ (ca ma : List ℕ) (nA : ℕ) (coreA : ℕ → ℕ) (spareA : ℕ → �
     inside x h = same .tells (x .of-A) (x .of-B) (x .low-A) (x .low-B) h
 
     first-onto : (x : Pair) → 0 < getD pairs (at x) 0 → Onto P (acceptsIn ca cb false) pairs (at x)
-    first-onto x h = reach P (acceptsIn ca cb false) Pair at core (λ z. CA .component (z .of-A)) (λ z. CA .left (z .of-A))
-        E (F false) nA final pairs (sound false) (λ z. CA .known (z .of-A) (z .low-A)) marked
-        (λ z d s. first-lift z d s (lifted z d s))
-        (λ z K d m f. first-nearer z d (f .step) (lifted z d (f .step)) K m (f .spares))
+    first-onto x h = reach
+        (F false) nA pairs (sound false) (λ z. CA .known (z .of-A) (z .low-A)) marked
+        (λ z d s. first-lift (lifted z s))
+        (λ z K d m f. first-nearer (lifted z (f .step)) K m (f .spares))
         x (inside x h)
 
     second-onto : (x : Pair) → 0 < getD pairs (at x) 0 → Onto P (acceptsIn ca cb true) pairs (at x)
-    second-onto x h = reach P (acceptsIn ca cb true) Pair at core (λ z. CB .component (z .of-B)) (λ z. CB .left (z .of-B))
-        E (F true) nB final pairs (sound true) (λ z. CB .known (z .of-B) (z .low-B)) marked
-        (λ z d s. second-lift z d s (lifted z d s))
-        (λ z K d m f. second-nearer z d (f .step) (lifted z d (f .step)) K m (f .spares))
+    second-onto x h = reach
+        (F true) nB pairs (sound true) (λ z. CB .known (z .of-B) (z .low-B)) marked
+        (λ z d s. second-lift (lifted z s))
+        (λ z K d m f. second-nearer (lifted z (f .step)) K m (f .spares))
         x (inside x h)
 
     module _ (long : length pairs ≡ length ca * length cb) (x : ℕ) (h : 0 < getD pairs x 0) where
@@ -191,10 +173,10 @@ module _ (ca ma : List ℕ) (nA : ℕ) (coreA : ℕ → ℕ) (spareA : ℕ → �
   pub both-sound : (final pairs : List ℕ) → AllSound E F n final → Marked final pairs
       → length pairs ≡ length ca * length cb
       → BothSound (PairEdge (length cb) ma mb) (acceptsIn ca cb false) (acceptsIn ca cb true) pairs
-  both-sound final pairs sound same long = record { onto-p = first-from final pairs sound same long; onto-q = second-from final pairs sound same long }
+  both-sound final pairs sound same long = record { onto-p = first-from sound same long; onto-q = second-from sound same long }
 
   -- two accepting runs over the same letters
-  module _ (startA startB : Set) (w x y : ℕ → ℕ) (A : AcceptingRun ca ma startA w x) (B : AcceptingRun cb mb startB w y) where
+  module _ {startA startB : Set} {w x y : ℕ → ℕ} (A : AcceptingRun ca ma startA w x) (B : AcceptingRun cb mb startB w y) where
     abbrev z : ℕ → ℕ
     z i = coreA (x i) * length cb + coreB (y i)
 
@@ -204,11 +186,11 @@ module _ (ca ma : List ℕ) (nA : ℕ) (coreA : ℕ → ℕ) (spareA : ℕ → �
     abbrev u : ℕ → ℕ
     u i = B .run .moves i .0
 
-    lower-A : (i : ℕ) → Lowered ca ma nA coreA spareA CA left SA (t i)
-    lower-A i = lower ca ma nA coreA spareA CA left SA (t i) (A .run .moves i .1)
+    lower-A : (i : ℕ) → Lowered CA SA (t i)
+    lower-A i = lower CA SA (A .run .moves i .1)
 
-    lower-B : (i : ℕ) → Lowered cb mb nB coreB spareB CB right SB (u i)
-    lower-B i = lower cb mb nB coreB spareB CB right SB (u i) (B .run .moves i .1)
+    lower-B : (i : ℕ) → Lowered CB SB (u i)
+    lower-B i = lower CB SB (B .run .moves i .1)
 
     abbrev step : (i : ℕ) → CoreStep (length cb) left right (z i) (z (suc i))
     step i =
@@ -245,13 +227,13 @@ module _ (ca ma : List ℕ) (nA : ℕ) (coreA : ℕ → ℕ) (spareA : ℕ → �
 
   -- where no start pair is left, no sequence of letters has an accepting run of each table: such runs begin at numbers that stand for their
   -- cores, and the pairs of the cores of their numbers are in at first
-  pub nothing : (old final : List ℕ) → Narrowed E F n old final → (startA startB : Set)
+  pub nothing : {old final : List ℕ} → Narrowed E F n old final → (startA startB : Set)
       → ((w x y : ℕ → ℕ) → AcceptingRun ca ma startA w x → AcceptingRun cb mb startB w y → (i : ℕ) → 0 < getD old (coreA (x i) * length cb + coreB (y i)) 0)
       → ((i : ℕ) → i < length ca → begun startA (getD ca i 0) ≡ true → coreA i ≡ i)
       → ((j : ℕ) → j < length cb → begun startB (getD cb j 0) ≡ true → coreB j ≡ j)
       → ((x : ℕ) → 0 < getD final x 0 → startsIn ca cb startA startB x ≡ true → ⊥) → NoShared ca ma startA cb mb startB
-  nothing old final narrow startA startB all first-A first-B none w x y A B =
-      let k = narrow .keeps (z startA startB w x y A B) (step startA startB w x y A B) (all w x y A B) (again startA startB w x y A B) 0 in
+  nothing narrow startA startB all first-A first-B none w x y A B =
+      let k = narrow .keeps (z A B) (step A B) (all w x y A B) (again A B) 0 in
       let e = first-A (x 0) (A .run .within 0) (A .run .begins) in
       let f = first-B (y 0) (B .run .within 0) (B .run .begins) in
-      none (x 0 * length cb + y 0) (rw (e, f) at k) (starts startA startB w x y A B)
+      none (x 0 * length cb + y 0) (rw (e, f) at k) (starts A B)

@@ -28,8 +28,8 @@ module _ (P : ℕ → ℕ → Type 0) (accepts : Set) (T : Type 0) (place core c
     pub nears : accepts (place x) ≡ false → accepts (place to) ≡ false → component x ≡ K → left to < left x
 
 -- E and F K are the edges of the cores; a node's place has a mark of pairs, its core one of final
-module _ (P : ℕ → ℕ → Type 0) (accepts : Set) (T : Type 0) (place core component left : T → ℕ)
-    (E : ℕ → ℕ → Type 0) (F : ℕ → ℕ → ℕ → Type 0) (n : ℕ) (final pairs : List ℕ)
+module _ {P : ℕ → ℕ → Type 0} {accepts : Set} {T : Type 0} {place core component left : T → ℕ}
+    {E : ℕ → ℕ → Type 0} (F : ℕ → ℕ → ℕ → Type 0) (n : ℕ) {final : List ℕ} (pairs : List ℕ)
     (sound : (K : ℕ) → K < n → (c : ℕ) → 0 < getD final c 0 → Toward E (F K) final c)
     (known : (x : T) → component x < n)
     (marked : (x : T) → 0 < getD final (core x) 0 → 0 < getD pairs (place x) 0)
@@ -43,10 +43,7 @@ module _ (P : ℕ → ℕ → Type 0) (accepts : Set) (T : Type 0) (place core c
 
   -- a step, then on if it does not arrive
   onward : (x y : T) → P (place x) (place y) → In y → (accepts (place y) ≡ false → Onto P accepts pairs (place y)) → Onto P accepts pairs (place x)
-  onward x y p h go =
-      bif (accepts (place y))
-      (λ t. Onto.arrives (place y) p (marked y h) t)
-      (λ t. Onto.passes (place y) p (marked y h) (go t))
+  onward x y p h go = bif (accepts (place y)) (λ t. Onto.arrives (place y) p (marked y h) t) (λ t. Onto.passes (place y) p (marked y h) (go t))
 
   module _ (K b : ℕ) (low : K < n) (outer : (x : T) → In x → accepts (place x) ≡ false → left x < b → Onto P accepts pairs (place x)) where
     inner : {c : ℕ} → Toward E (F K) final c → (x : T) → core x ≡ c

@@ -19,7 +19,7 @@ use Rattle.trim_spec.specs.Trimmed.{flags}
 use Rattle.theory_laws.proofs.Sweeping.{flags-length, flags-at, flag-accepting, flag-in, accepting-flag}
 use Rattle.stricter_spec.specs.Tables.{CoreTable}
 
-module _ (codes moves : List ℕ) (n : ℕ) (core : ℕ → ℕ) (spare : ℕ → ℕ → Bool) (C : CoreTable codes moves n core spare) where
+module _ {codes moves : List ℕ} {n : ℕ} {core : ℕ → ℕ} {spare : ℕ → ℕ → Bool} (C : CoreTable codes moves n core spare) where
   abbrev accepts : ℕ → Bool
   accepts i = isAccepting (getD codes i 0)
 
@@ -48,11 +48,7 @@ module _ (codes moves : List ℕ) (n : ℕ) (core : ℕ → ℕ) (spare : ℕ �
         record { of = u; listed-of = m; source = s; letter = a; target = c }
 
     abbrev onward : (k : ℕ) (b : Beside k) → Along k b → Beside (suc k)
-    onward k b u = record {
-      at = targetOf (u .of);
-      low-at = C .inside .targets (u .of) (u .listed-of);
-      same-at = u .target ∙ ap core (joined k);
-    }
+    onward k b u = record { at = targetOf (u .of); low-at = C .inside .targets (u .of) (u .listed-of); same-at = u .target ∙ ap core (joined k) }
 
     abbrev beside : (k : ℕ) → Beside k
     beside zero = record { at = i; low-at = low; same-at = same }
@@ -136,7 +132,7 @@ module _ (codes moves : List ℕ) (n : ℕ) (core : ℕ → ℕ) (spare : ℕ �
 
   -- ---- numbers that are left where those without such a walk are taken out
 
-  module _ (live : List ℕ) (S : Solved (Step moves) (flags codes) live) where
+  module _ {live : List ℕ} (S : Solved (Step moves) (flags codes) live) where
     live-low : (m : ℕ) → 0 < getD live m 0 → m < length codes
     live-low m l = let e = S .long ∙ flags-length codes in let h = has-place live m l in omega arith
 

@@ -16,8 +16,8 @@ use Rattle.stricter_laws.specs.Tests.{acceptsIn}
 use Rattle.stricter_laws.proofs.Sides.{accepts-first, accepts-second}
 use Rattle.stricter_laws.specs.Forest.{kindIn}
 
-pub step-lettered : (nb : ℕ) (ma mb : List ℕ) (size : ℕ) → Paired nb ma mb size → (x a y : ℕ) → PairStep nb ma mb x a y → a < 16
-step-lettered nb ma mb size p x a y s = rw (sym (s .letter-B)) (p .lettered (s .of-B) (s .listed-B))
+pub step-lettered : {nb : ℕ} {ma mb : List ℕ} {size : ℕ} → Paired nb ma mb size → (x a y : ℕ) → PairStep nb ma mb x a y → a < 16
+step-lettered p x a y s = rw (sym (s .letter-B)) (p .lettered (s .of-B) (s .listed-B))
 
 pub one-low : (b : Bool) → one b ≤ 1
 one-low true = omega arith
@@ -31,11 +31,11 @@ pub kind-at : (ca cb : List ℕ) (i j : ℕ) → j < length cb → kindIn ca cb 
 unfolding kindIn
 kind-at ca cb i j l = ap₂ (λ (b d : Bool). 2 * one b + one d) (accepts-first ca cb i j l) (accepts-second ca cb i j l)
 
-pub pair-low : (na nb i j : ℕ) (ma mb ms : List ℕ) → Fits na nb ma mb ms → i < na → j < nb → i * nb + j < length ms
-pair-low na nb i j ma mb ms f l k = rw (f .marked) (digits-lt {q = i} {m = na} {c = nb} l k)
+pub pair-low : {na nb : ℕ} (i j : ℕ) {ma mb ms : List ℕ} → Fits na nb ma mb ms → i < na → j < nb → i * nb + j < length ms
+pair-low {na = na} {nb = nb} i j f l k = rw (f .marked) (digits-lt {q = i} {m = na} {c = nb} l k)
 
-pub row-end : (na nb i : ℕ) (ma mb ms : List ℕ) → Fits na nb ma mb ms → i < na → 0 < nb → i * nb + nb ≤ length ms
-row-end na nb i ma mb ms f l k = let h = pair-low na nb i (nb - 1) ma mb ms f l (omega arith) in omega arith
+pub row-end : {na nb : ℕ} (i : ℕ) {ma mb ms : List ℕ} → Fits na nb ma mb ms → i < na → 0 < nb → i * nb + nb ≤ length ms
+row-end {nb = nb} i f l k = let h = pair-low i (nb - 1) f l (omega arith) in omega arith
 
 -- the two numbers of a pair
 pub record Parts (na nb x : ℕ) : Type 0 where
@@ -49,5 +49,5 @@ parts na nb x l =
     let pos : 0 < nb = by-cases (decLt 0 nb) (λ h. h) (λ h. let e : nb ≡ 0 = omega arith in absurd (omega (arith, mul-zero na, ap (λ (n : ℕ). na * n) e))) in
     record { some = pos; first = div-lt-iff-lt-mul pos .1 l; second = mod-lt x pos; whole = div-add-mod' x nb }
 
-pub pair-parts : (na nb x : ℕ) (ma mb ms : List ℕ) → Fits na nb ma mb ms → x < length ms → Parts na nb x
-pair-parts na nb x ma mb ms f l = parts na nb x (rw (f .marked) at l)
+pub pair-parts : {na nb : ℕ} (x : ℕ) {ma mb ms : List ℕ} → Fits na nb ma mb ms → x < length ms → Parts na nb x
+pair-parts {na = na} {nb = nb} x f l = parts na nb x (rw (f .marked) at l)

@@ -39,7 +39,7 @@ abbrev pub From : List ℕ → List ℕ → ℕ → ℕ → Bool → ℕ → Typ
 From codes moves letter target accepting r =
     (t : ℕ) → List·Memᴰ t moves → letterOf t ≡ letter → targetOf t ≡ target → isAccepting (getD codes (sourceOf t) 0) ≡ accepting → r ≡ sourceOf t
 
-module _ (ca ma cb mb : List ℕ) (size : ℕ) (p : Paired (length cb) ma mb size) (y v i j : ℕ) where
+module _ (ca : List ℕ) {ma : List ℕ} (cb : List ℕ) {mb : List ℕ} {size : ℕ} (p : Paired (length cb) ma mb size) (y v i j : ℕ) where
   pub parent-far : From ca ma (v / 4 % 16) (y / length cb) (eqb (v / 2 % 2) 1) i → From cb mb (v / 4 % 16) (y % length cb) (eqb (v % 2) 1) j
       → (x a : ℕ) → PairStep (length cb) ma mb x a y → v ≡ 64 + 4 * a + kindIn ca cb x → i * length cb + j ≡ x
   unfolding kindIn
@@ -47,7 +47,7 @@ module _ (ca ma cb mb : List ℕ) (size : ℕ) (p : Paired (length cb) ma mb siz
       let t = s .of-A in let u = s .of-B in
       let low = p .sources u (s .listed-B) in
       let under = p .targets u (s .listed-B) in
-      let small = step-lettered (length cb) ma mb size p x a y s in
+      let small = step-lettered p x a y s in
       let letter = letter-in v a (acceptsIn ca cb false x) (acceptsIn ca cb true x) small e in
       let b = bits v a (acceptsIn ca cb false x) (acceptsIn ca cb true x) e in
       let first : i ≡ sourceOf t = f t (s .listed-A) (s .letter-A ∙ sym letter)

@@ -31,20 +31,17 @@ pub settled-start : (from : ℕ) (ms : List ℕ) → Settled from from ms ms fal
 settled-start from ms = settled-out from from ms (λ x a b. absurd (omega arith))
 
 -- the next, which becomes v: `now` says whether some node was 1, with this one
-pub settled-next : (from i : ℕ) (old ms : List ℕ) (changed : Bool) → Settled from i old ms changed → from ≤ i → i < length ms → (v : ℕ)
+pub settled-next : {from i : ℕ} {old ms : List ℕ} {changed : Bool} → Settled from i old ms changed → from ≤ i → i < length ms → (v : ℕ)
     → v ≡ getD ms i 0 / 2 → (now : Bool)
     → (now ≡ true → (changed ≡ true) ⊎ (getD ms i 0 ≡ 1)) → (now ≡ false → (changed ≡ false) × (getD ms i 0 ≡ 1 → ⊥))
     → Settled from (i + 1) old (set ms i v) now
-settled-next from i old ms changed s l h v d now a b = record {
+settled-next {from = from} {i = i} {old = old} {ms = ms} s l h v d now a b = record {
   long = length-set ms i v ∙ s .long;
   inside = split-set (λ x w. from ≤ x → x < i + 1 → w ≡ getD old x 0 / 2) ms i v h
       (λ f t. d ∙ ap (λ (w : ℕ). w / 2) at) (λ x n f t. s .inside x f (omega arith));
   outside = split-set (λ x w. (x < from) ⊎ (i + 1 ≤ x) → w ≡ getD old x 0) ms i v h
       (λ o. absurd (⊎-elim (λ t. omega arith) (λ t. omega arith) o)) (λ x n o. s .outside x (⊎-elim (λ t. inl t) (λ t. inr (omega arith)) o));
-  some = λ e. ⊎-elim
-      (λ c. let k = s .some c in (k .0, k .1, omega (arith, k .2), k .3))
-      (λ g. (i, l, omega arith, sym at ∙ g))
-      (a e);
+  some = λ e. ⊎-elim (λ c. let k = s .some c in (k .0, k .1, omega (arith, k .2), k .3)) (λ g. (i, l, omega arith, sym at ∙ g)) (a e);
   none = λ e x f t g. by-cases (ℕ-discrete x i)
       (λ q. b e .1 (at ∙ subst (λ (n : ℕ). getD old n 0 ≡ 1) q g))
       (λ q. s .none (b e .0) x f (omega arith) g);
@@ -53,9 +50,9 @@ settled-next from i old ms changed s l h v d now a b = record {
     at : getD ms i 0 ≡ getD old i 0
     at = s .outside i (inr (omega arith))
 
-pub settled-then : (from mid to : ℕ) (old ms new : List ℕ) (a b now : Bool) → from ≤ mid → mid ≤ to → Settled from mid old ms a → Settled mid to ms new b
+pub settled-then : {from mid to : ℕ} {old ms new : List ℕ} {a b : Bool} (now : Bool) → from ≤ mid → mid ≤ to → Settled from mid old ms a → Settled mid to ms new b
     → now ≡ (a || b) → Settled from to old new now
-settled-then from mid to old ms new a b now f t r q e = record {
+settled-then {mid = mid} {old = old} {ms = ms} {a = a} {b = b} now f t r q e = record {
   long = q .long ∙ r .long;
   inside = λ x h k. by-cases (decLt x mid)
       (λ l. q .outside x (inl l) ∙ r .inside x h l)
@@ -74,19 +71,18 @@ settled-then from mid to old ms new a b now f t r q e = record {
     later x l = r .outside x (inr l)
 
 -- zeros from node i up to `to`
-pub settled-zeros : (from i to : ℕ) (old ms : List ℕ) (changed : Bool) → Settled from i old ms changed → from ≤ i → i ≤ to
+pub settled-zeros : {from i : ℕ} (to : ℕ) {old ms : List ℕ} {changed : Bool} → Settled from i old ms changed → from ≤ i → i ≤ to
     → ((x : ℕ) → i ≤ x → x < to → getD ms x 0 ≡ 0) → Settled from to old ms changed
-settled-zeros from i to old ms changed s f t o =
-    settled-then from i to old ms ms changed false changed f t s (settled-out i to ms o) (sym (or-false changed))
+settled-zeros {i = i} to {ms = ms} {changed = changed} s f t o = settled-then changed f t s (settled-out i to ms o) (sym (or-false changed))
 
 -- nothing comes in
-pub settled-sub : (from to : ℕ) (old new : List ℕ) (changed : Bool) → Settled from to old new changed → (x : ℕ) → 0 < getD new x 0 → 0 < getD old x 0
-settled-sub from to old new changed s x h =
+pub settled-sub : {from to : ℕ} {old new : List ℕ} {changed : Bool} → Settled from to old new changed → (x : ℕ) → 0 < getD new x 0 → 0 < getD old x 0
+settled-sub {from = from} {to = to} s x h =
     where-cases from to x (λ a b. let e = s .inside x a b in omega arith) (λ o. let e = s .outside x o in omega arith)
 
 -- ---- a round
 
-module _ (E F : ℕ → ℕ → Type 0) (old ms new : List ℕ) (changed : Bool) (low : (x : ℕ) → getD old x 0 ≤ 1)
+module _ {E F : ℕ → ℕ → Type 0} {old ms new : List ℕ} {changed : Bool} (low : (x : ℕ) → getD old x 0 ≤ 1)
     (k : Swept E F old ms) (s : Settled 0 (length ms) ms new changed) where
   m : Marking E F old ms
   m = k .marking
@@ -97,7 +93,7 @@ module _ (E F : ℕ → ℕ → Type 0) (old ms new : List ℕ) (changed : Bool)
       (λ o. ⊎-elim (λ l. absurd (omega arith)) (λ l. let e = List·getD-eq-default ms 0 {n = x} l in let f = s .outside x o in omega arith) o)
 
   high : (x : ℕ) → getD ms x 0 ≤ 2
-  high = marking-low E F old ms low m
+  high = marking-low low m
 
   stays : (x : ℕ) → 2 ≤ getD ms x 0 → 0 < getD new x 0
   stays x h = let e = half x in omega arith
@@ -106,12 +102,12 @@ module _ (E F : ℕ → ℕ → Type 0) (old ms new : List ℕ) (changed : Bool)
   left x h = let e = half x in omega arith
 
   sub : (x : ℕ) → 0 < getD new x 0 → 0 < getD old x 0
-  sub x h = marking-sub E F old ms low m x (let g = left x h in omega arith)
+  sub x h = marking-sub low m x (let g = left x h in omega arith)
 
   -- a node that is in is marked, or 1
   in-cases : {C : Type 0} (x : ℕ) → 0 < getD old x 0 → (2 ≤ getD ms x 0 → C) → (getD ms x 0 ≡ 1 → C) → C
   in-cases x h f g =
-      let a = marking-in E F old ms low m x h in
+      let a = marking-in low m x h in
       by-cases (decLt 1 (getD ms x 0)) (λ l. f (omega arith)) (λ l. g (omega arith))
 
   same : changed ≡ false → (x : ℕ) → 0 < getD old x 0 → 0 < getD new x 0
@@ -121,13 +117,13 @@ module _ (E F : ℕ → ℕ → Type 0) (old ms new : List ℕ) (changed : Bool)
       place x g = by-cases (decLt x (length ms)) (λ l. l) (λ l. let d = List·getD-eq-default ms 0 {n = x} (omega arith) in absurd (omega arith))
 
   -- from an edge that spares back along a walk
-  back-along : (z : ℕ → ℕ) → Walk E z → ((i : ℕ) → 0 < getD old (z i) 0) → (d i j : ℕ) → j ≡ i + d → F (z j) (z (suc j)) → 2 ≤ getD ms (z i) 0
-  back-along z w h zero i j e f =
+  back-along : {z : ℕ → ℕ} → Walk E z → ((i : ℕ) → 0 < getD old (z i) 0) → (d i j : ℕ) → j ≡ i + d → F (z j) (z (suc j)) → 2 ≤ getD ms (z i) 0
+  back-along {z = z} w h zero i j e f =
       let q : j ≡ i = omega arith in
       let f₂ : F (z i) (z (suc i)) = subst (λ (n : ℕ). F (z n) (z (suc n))) q f in
-      in-cases (z i) (h i) (λ g. g) (λ g. let n = k .stuck (z i) g .spared (z (suc i)) f₂ in let y = marking-in E F old ms low m (z (suc i)) (h (suc i)) in absurd (omega arith))
-  back-along z w h (suc d) i j e f =
-      let q = back-along z w h d (suc i) j (omega arith) f in
+      in-cases (z i) (h i) (λ g. g) (λ g. let n = k .stuck (z i) g .spared (z (suc i)) f₂ in let y = marking-in low m (z (suc i)) (h (suc i)) in absurd (omega arith))
+  back-along {z = z} w h (suc d) i j e f =
+      let q = back-along w h d (suc i) j (omega arith) f in
       in-cases (z i) (h i) (λ g. g) (λ g. let n = k .stuck (z i) g .passes (z (suc i)) (w i) in absurd (omega arith))
 
   pub round-of : Round E F old new changed
@@ -136,11 +132,11 @@ module _ (E F : ℕ → ℕ → Type 0) (old ms new : List ℕ) (changed : Bool)
     low = λ x. let e = half x in let h = high x in omega arith;
     sub = sub;
     same = same;
-    sound = λ e x h. toward-more E F old new (same e) (marking-toward E F old ms low m x (left x h));
-    keeps = λ z w h a i. let (j, l, f) = a i in stays (z i) (back-along z w h (j - i) i j (omega arith) f);
+    sound = λ e x h. toward-more new (same e) (marking-toward low m x (left x h));
+    keeps = λ z w h a i. let (j, l, f) = a i in stays (z i) (back-along w h (j - i) i j (omega arith) f);
     less = λ e. let (x, a, b, g) = s .some e in
         sum-lt new old (s .long ∙ m .long) (λ y. below y) x
-        (let f = half x in let h = marking-sub E F old ms low m x (omega arith) in omega arith);
+        (let f = half x in let h = marking-sub low m x (omega arith) in omega arith);
   }
     where
       below : (y : ℕ) → getD new y 0 ≤ getD old y 0

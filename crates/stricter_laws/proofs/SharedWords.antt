@@ -12,60 +12,45 @@ use Rattle.theory.specs.Passing.{Passing}
 use Rattle.theory.specs.Plan.{AcceptsWord}
 use Rattle.theory.specs.Rule.{Rule}
 use Rattle.theory.specs.TableComputed.{macrostates, transitions}
-use Rattle.theory.specs.Word.{WordOver, place, letters}
+use Rattle.theory.specs.Word.{place, letters}
 use Rattle.theory_laws.proofs.Demand.{word-run, demand3}
 use Rattle.rejecting_spec.specs.Rejecting.{lacksInitial}
 use Rattle.rejecting_spec.specs.RejectingComputed.{rejectingMacrostates, rejectingTransitions}
 use Rattle.theory_laws.proofs.RejectingDemand.{rejecting-demand}
-use Rattle.stricter_spec.specs.Search.{Searchable, NoShared, Shared}
+use Rattle.stricter_spec.specs.Search.{NoShared, Shared}
 use Rattle.stricter_spec.specs.Rules.{Stricter, Against}
-use Rattle.stricter_laws.proofs.OneParent.{searchable, letter-low}
+use Rattle.stricter_laws.proofs.OneParent.{letter-low, table-inside}
 use Rattle.stricter_laws.proofs.Lassos.{lasso-run, lasso-word}
 
 -- whether a rule accepts a word with a cycle is decided: by the truth at place 0
-pub accepts-or-not : (r : Rule) → Passing r → (lead cycle : List ℕ) → 0 < length cycle → AcceptsWord r lead cycle ⊎ (AcceptsWord r lead cycle → ⊥)
+pub accepts-or-not : {r : Rule} → Passing r → (lead cycle : List ℕ) → 0 < length cycle → AcceptsWord r lead cycle ⊎ (AcceptsWord r lead cycle → ⊥)
 unfolding place
-accepts-or-not r P lead cycle h =
+accepts-or-not {r = r} P lead cycle h =
     let c = word-run r P lead cycle h in
     let t = c .1 .truth 0 (r .initial) (P .formed .initial-state) in
     bif (setIn (automaton r) (c .0 0) (r .initial)) (λ e. inl (t .0 e)) (λ e. inr (λ a. clash (t .1 a) e))
 
--- the table of a rule, and that of the words that another rejects, are tables that the search takes
-pub searchable-own : (r : Rule) → Passing r → length (macrostates r) ≤ 65536 → Searchable (macrostates r) (transitions r)
-searchable-own r P room = searchable r P (holdsInitial r) room
-
-pub searchable-rejecting : (r : Rule) → Passing r → length (rejectingMacrostates r) ≤ 65536 → Searchable (rejectingMacrostates r) (rejectingTransitions r)
-searchable-rejecting r P room = searchable r P (lacksInitial r) room
-
--- a word over the letters of A is one over those of B
-same-letters : (a b : Rule) → a .s ≡ b .s → (lead cycle : List ℕ) → WordOver (a .s) lead cycle → WordOver (b .s) lead cycle
-same-letters a b e lead cycle W = rw e at W
-
-module _ (a b : Rule) (P : Passing a) (Q : Passing b) (same : a .s ≡ b .s) (room-a : length (macrostates a) ≤ 65536) (room-b : length (rejectingMacrostates b) ≤ 65536) where
+module _ {a b : Rule} (P : Passing a) (Q : Passing b) (same : a .s ≡ b .s) (room-a : length (macrostates a) ≤ 65536) (room-b : length (rejectingMacrostates b) ≤ 65536) where
   -- no sequence of letters has an accepting run of each: yes
   pub none-shared : NoShared (macrostates a) (transitions a) (holdsInitial a) (rejectingMacrostates b) (rejectingTransitions b) (lacksInitial b) → Stricter a b
   none-shared N lead cycle W acc =
       ⊎-elim (λ y. y)
       (λ n. let x = demand3 a P room-a .exact lead cycle W .0 acc in
-      let y = rejecting-demand b Q room-b .exact lead cycle (same-letters a b same lead cycle W) .0 n in
+      let y = rejecting-demand b Q room-b .exact lead cycle (rw same at W) .0 n in
       absurd (N (letters lead cycle) (x .0) (y .0) (x .1) (y .1)))
-      (accepts-or-not b Q lead cycle (W .repeats))
-
-  letters-low-a : (lead cycle : List ℕ) → Shared (macrostates a) (transitions a) (holdsInitial a) (rejectingMacrostates b) (rejectingTransitions b) (lacksInitial b) lead cycle →
-      WordOver (a .s) lead cycle
-  letters-low-a lead cycle S = lasso-word _ _ (holdsInitial a) (a .s) (letter-low a P (holdsInitial a) room-a) lead cycle (S .repeats) (S .of-A)
+      (accepts-or-not Q lead cycle (W .repeats))
 
   -- a word that both share: A accepts it and B rejects it
   pub shared-against : (lead cycle : List ℕ) → Shared (macrostates a) (transitions a) (holdsInitial a) (rejectingMacrostates b) (rejectingTransitions b) (lacksInitial b) lead cycle →
       Against a b lead cycle
   shared-against lead cycle S =
-      let W = letters-low-a lead cycle S in
-      let I = searchable-own a P room-a .inside in
-      let J = searchable-rejecting b Q room-b .inside in
+      let W = lasso-word _ _ (holdsInitial a) (a .s) (λ t. letter-low P (holdsInitial a) room-a) lead cycle (S .repeats) (S .of-A) in
+      let I = table-inside P (holdsInitial a) room-a in
+      let J = table-inside Q (lacksInitial b) room-b in
       let x = lasso-run (macrostates a) (transitions a) (holdsInitial a) I lead cycle (S .repeats) (S .of-A) in
       let y = lasso-run (rejectingMacrostates b) (rejectingTransitions b) (lacksInitial b) J lead cycle (S .repeats) (S .of-B) in
       record {
         word = W;
         accepted = demand3 a P room-a .exact lead cycle W .1 x;
-        rejected = rejecting-demand b Q room-b .exact lead cycle (same-letters a b same lead cycle W) .1 y;
+        rejected = rejecting-demand b Q room-b .exact lead cycle (rw same at W) .1 y;
       }

@@ -1,19 +1,19 @@
 -- One step between two codes: levels against classes, and the computed test.
 use mathlib.Core.Path.{_≡_, sym, _∙_}
-use mathlib.Core.Logic.{_↔_, _⊎_, inl, inr, ⊎-elim, by-cases}
+use mathlib.Core.Logic.{_↔_, inl, inr, ⊎-elim, by-cases}
 use mathlib.Core.Bool.{true, false, _&&_, not}
 use Prim.Native.Nat.{ℕ, zero, suc, _+_, _-_, _≤_, _<_}
 use native.Mathlib.Omega.{arith}
-use native.Mathlib.Decide.{decLe}
+use native.Mathlib.Decide.{decLe, ℕ-discrete}
 use lib.Dec.{eqb, leb}
 use borrow.Author.Tests.{eqb-true, eqb-false, eq-eqb, leb-true, le-leb}
-use Rattle.sets.specs.Tests.{count, largest}
+use Rattle.sets.specs.Tests.{Set, count, largest}
 use Rattle.sets.proofs.Bools.{bif, clash, and-l, and-r, and-i, or-cases, or-r, or-fl, or-fr, not-t, not-f}
 use Rattle.sets.proofs.Tests.{some-at, some-get, largest-ge, largest-le, largest-hit}
 use Rattle.theory.specs.Automaton.{Automaton}
 use Rattle.theory.specs.Layered.{Layered}
 use Rattle.theory.specs.Code.{setIn, rankIn}
-use Rattle.theory.specs.Core.{isOpen, Core, openOf}
+use Rattle.theory.specs.Core.{isOpen, Core, openOf, Earlier}
 use Rattle.theory.specs.CoreComputed.{levelOf}
 use Rattle.theory_laws.proofs.Classes.{open-component, open-state}
 use Rattle.theory_laws.proofs.Cores.{core-rank-comp}
@@ -31,11 +31,17 @@ abbrev pub sizeOf : Automaton → ℕ → ℕ
 sizeOf A K = count (A .n) (λ q. eqb (A .component q) K)
 
 -- it has no more classes than states
-pub classes-size : (A : Automaton) (c : ℕ) → Core A (setIn A c) (rankIn A c) → (K : ℕ) → classesAt A c K ≤ sizeOf A K
-classes-size A c C K = largest-le (A .n) (openOf A (setIn A c) K) (rankIn A c) (sizeOf A K)
+pub classes-size : {A : Automaton} (c : ℕ) → Core A (setIn A c) (rankIn A c) → (K : ℕ) → classesAt A c K ≤ sizeOf A K
+classes-size {A = A} c C K = largest-le (A .n) (openOf A (setIn A c) K) (rankIn A c) (sizeOf A K)
     (λ q m o. rw (open-component A (setIn A c) K q o) at (core-rank-comp A (setIn A c) (rankIn A c) C q m))
 
-module _ (A : Automaton) (H : Layered A) (a c d : ℕ) (l : ℕ → ℕ) (E : EarlierIn A a c d l) where
+-- levels rise with ranks
+pub level-less : {A : Automaton} {a : ℕ} {S T : Set} {r t l : ℕ → ℕ} → Earlier A a S r T t l → (q p : ℕ) → q < A .n → p < A .n → A .component q ≡ A .component p
+    → isOpen A S q ≡ true → isOpen A S p ≡ true → r q < r p → l q < l p
+level-less {l = l} E q p x y e o u h =
+    by-cases (decLe (l p) (l q)) (λ k. let z = E .ordered p q y x (sym e) u o .1 k in absurd (omega arith)) (λ k. omega arith)
+
+module _ {A : Automaton} (H : Layered A) (a c d : ℕ) (l : ℕ → ℕ) (E : EarlierIn A a c d l) where
   -- ---- the computed test
 
   level-is : (q : ℕ) → q < A .n → isOpen A (setIn A c) q ≡ true → levelOf A 15 (setIn A d) (rankIn A d) q (A .entry q a) ≡ l q
@@ -56,8 +62,7 @@ module _ (A : Automaton) (H : Layered A) (a c d : ℕ) (l : ℕ → ℕ) (E : Ea
         (q, b, o, sym (level-is q b (open-state A (setIn A c) K q o)) ∙ eqb-true _ m (and-r (openOf A (setIn A c) K q) _ t))
 
     -- in a step that spares K a level as high as the number of classes is 0
-    pub spared-level : spares A a c d K ≡ true → (q : ℕ) → q < A .n → openOf A (setIn A c) K q ≡ true → l q ≡ classesAt A d K
-        → classesAt A d K ≡ 0
+    pub spared-level : spares A a c d K ≡ true → (q : ℕ) → q < A .n → openOf A (setIn A c) K q ≡ true → l q ≡ classesAt A d K → classesAt A d K ≡ 0
     unfolding spares
     spared-level e q b o f =
         ⊎-elim
@@ -80,14 +85,9 @@ module _ (A : Automaton) (H : Layered A) (a c d : ℕ) (l : ℕ → ℕ) (E : Ea
 
     -- the computed test is the defined one
     spares-in : spares A a c d K ≡ true → SparesIn A a c d K
-    unfolding spares
     spares-in e =
-        ⊎-elim
-        (λ t. inl (λ q b o x.
-        let e = least-unique _ _ _ (E .level q b (open-state A (setIn A c) K q o)) x in
-        clash (has-level q b o (classesAt A d K) e) (not-t _ t)))
-        (λ t. inr (eqb-true _ 0 t))
-        (or-cases (not (hasLevel A a c d K (classesAt A d K))) (eqb (classesAt A d K) 0) e)
+        by-cases (ℕ-discrete (classesAt A d K) 0) inr
+        (λ n. inl (λ q b o x. n (spared-level e q b o (least-unique _ _ _ (E .level q b (open-state A (setIn A c) K q o)) x))))
 
     spares-out : SparesIn A a c d K → spares A a c d K ≡ true
     spares-out (inr z) = no-class-spares z
@@ -101,13 +101,6 @@ module _ (A : Automaton) (H : Layered A) (a c d : ℕ) (l : ℕ → ℕ) (E : Ea
 
   -- ---- levels rise with ranks
 
-  level-less : (q p : ℕ) → q < A .n → p < A .n → A .component q ≡ A .component p
-      → isOpen A (setIn A c) q ≡ true → isOpen A (setIn A c) p ≡ true → rankIn A c q < rankIn A c p → l q < l p
-  level-less q p x y e o u h =
-      by-cases (decLe (l p) (l q))
-      (λ k. let z = E .ordered p q y x (sym e) u o .1 k in absurd (omega arith))
-      (λ k. omega arith)
-
   level-rises : (j q p : ℕ) → q < A .n → p < A .n → A .component q ≡ A .component p
       → isOpen A (setIn A c) q ≡ true → isOpen A (setIn A c) p ≡ true → rankIn A c p ≡ rankIn A c q + j → l q + j ≤ l p
   level-rises zero q p x y e o u h = let z = E .ordered q p x y e o u .0 (omega arith) in omega arith
@@ -115,7 +108,7 @@ module _ (A : Automaton) (H : Layered A) (a c d : ℕ) (l : ℕ → ℕ) (E : Ea
       let low = E .core .ranked q x o in
       let (g, b, f, v, i) = E .core .gapless p (rankIn A c q + j) y u (omega arith) (omega arith) in
       let ih = level-rises j q g x b (e ∙ sym f) o v i in
-      let k = level-less g p b y f v u (omega arith) in
+      let k = level-less E g p b y f v u (omega arith) in
       omega arith
 
   module _ (K : ℕ) where

@@ -12,8 +12,8 @@ use Rattle.theory.specs.Run.{sourceOf, letterOf, targetOf}
 use Rattle.stricter_spec.specs.Tags.{rowOf, ontoOf, sparing}
 use Rattle.stricter_spec.specs.Tables.{CoreTable, Shown}
 
-module _ (codes moves : List ℕ) (n : ℕ) (core : ℕ → ℕ) (spare : ℕ → ℕ → Bool) (C : CoreTable codes moves n core spare)
-    (tagged : List ℕ) (S : Shown codes moves n core spare tagged) where
+module _ {codes moves : List ℕ} {n : ℕ} {core : ℕ → ℕ} {spare : ℕ → ℕ → Bool} (C : CoreTable codes moves n core spare)
+    {tagged : List ℕ} (S : Shown codes moves n core spare tagged) where
   -- the transition that a tagged one shows
   record Shows (s : ℕ) : Type 0 where
     of : ℕ
@@ -33,19 +33,19 @@ module _ (codes moves : List ℕ) (n : ℕ) (core : ℕ → ℕ) (spare : ℕ �
     spares = λ K h. S .spares k K l h;
   }
 
-  shows : (s : ℕ) → List·Memᴰ s tagged → Shows s
-  shows s m = let (k, l, e) = place-of tagged s m in subst Shows e (shows-at k (subst (λ (a : ℕ). k < a) (S .long) l))
+  shows : {s : ℕ} → List·Memᴰ s tagged → Shows s
+  shows {s = s} m = let (k, l, e) = place-of tagged s m in subst Shows e (shows-at k (subst (λ (a : ℕ). k < a) (S .long) l))
 
-  pub row-low : (s : ℕ) → List·Memᴰ s tagged → rowOf s < length codes
-  row-low s m = let h = shows s m in subst (λ (a : ℕ). a < length codes) (sym (h .row)) (C .inside .sources (h .of) (h .listed))
+  pub row-low : {s : ℕ} → List·Memᴰ s tagged → rowOf s < length codes
+  row-low m = let h = shows m in subst (λ (a : ℕ). a < length codes) (sym (h .row)) (C .inside .sources (h .of) (h .listed))
 
-  pub onto-low : (s : ℕ) → List·Memᴰ s tagged → ontoOf s < length codes
-  onto-low s m =
-      let h = shows s m in
+  pub onto-low : {s : ℕ} → List·Memᴰ s tagged → ontoOf s < length codes
+  onto-low m =
+      let h = shows m in
       subst (λ (a : ℕ). a < length codes) (sym (h .onto)) (C .within (targetOf (h .of)) (C .inside .targets (h .of) (h .listed)))
 
-  pub letter-low : ((t : ℕ) → List·Memᴰ t moves → letterOf t < 16) → (s : ℕ) → List·Memᴰ s tagged → letterOf s < 16
-  letter-low l s m = let h = shows s m in subst (λ (a : ℕ). a < 16) (sym (h .letter)) (l (h .of) (h .listed))
+  pub letter-low : ((t : ℕ) → List·Memᴰ t moves → letterOf t < 16) → {s : ℕ} → List·Memᴰ s tagged → letterOf s < 16
+  letter-low l m = let h = shows m in subst (λ (a : ℕ). a < 16) (sym (h .letter)) (l (h .of) (h .listed))
 
   -- a transition of number i that goes as the tagged one s
   pub record Raised (i s : ℕ) : Type 0 where
@@ -56,9 +56,9 @@ module _ (codes moves : List ℕ) (n : ℕ) (core : ℕ → ℕ) (spare : ℕ �
     pub target : core (targetOf of) ≡ ontoOf s
     pub spares : (K : ℕ) → K < n → spare of K ≡ sparing s K
 
-  pub raise : (i s : ℕ) → i < length codes → List·Memᴰ s tagged → core i ≡ rowOf s → Raised i s
-  raise i s l m e =
-      let h = shows s m in
+  pub raise : (i : ℕ) {s : ℕ} → i < length codes → List·Memᴰ s tagged → core i ≡ rowOf s → Raised i s
+  raise i l m e =
+      let h = shows m in
       let c : core i ≡ sourceOf (h .of) = e ∙ h .row in
       let d : core i ≡ core (sourceOf (h .of)) = sym (C .stands i l) ∙ ap core c in
       let (u, k, f, a, t) = C .lifts (h .of) i (h .listed) l d in
@@ -71,7 +71,7 @@ module _ (codes moves : List ℕ) (n : ℕ) (core : ℕ → ℕ) (spare : ℕ �
         spares = λ K b. C .alike u (h .of) K k (h .listed) a (ap core f ∙ d) t b ∙ sym (h .spares K b);
       }
 
-  module _ (i s : ℕ) (r : Raised i s) (dull : isAccepting (getD codes i 0) ≡ false) (still : isAccepting (getD codes (targetOf (r .of)) 0) ≡ false) where
+  module _ {i s : ℕ} (r : Raised i s) (dull : isAccepting (getD codes i 0) ≡ false) (still : isAccepting (getD codes (targetOf (r .of)) 0) ≡ false) where
     moved : (C .component (targetOf (r .of)) ≡ C .component (sourceOf (r .of)))
         × (C .left (targetOf (r .of)) + one (spare (r .of) (C .component (sourceOf (r .of)))) ≤ C .left (sourceOf (r .of)))
     moved = C .nears (r .of) (r .listed) (ap (λ (a : ℕ). isAccepting (getD codes a 0)) (r .source) ∙ dull) still
@@ -104,11 +104,11 @@ module _ (codes moves : List ℕ) (n : ℕ) (core : ℕ → ℕ) (spare : ℕ �
     pub onto : ontoOf of ≡ core (targetOf t)
     pub spares : (K : ℕ) → K < n → sparing of K ≡ spare t K
 
-  module _ (t : ℕ) (m : List·Memᴰ t moves) where
+  module _ {t : ℕ} (m : List·Memᴰ t moves) where
     -- by u in place k, which goes from the core's number
-    lowered-at : (u k : ℕ) → List·Memᴰ u moves → sourceOf u ≡ core (sourceOf t) → letterOf u ≡ letterOf t → core (targetOf u) ≡ core (targetOf t)
+    lowered-at : {u : ℕ} (k : ℕ) → List·Memᴰ u moves → sourceOf u ≡ core (sourceOf t) → letterOf u ≡ letterOf t → core (targetOf u) ≡ core (targetOf t)
         → k < length moves → getD moves k 0 ≡ u → Lowered t
-    lowered-at u k w f a c l e =
+    lowered-at {u = u} k w f a c l e =
         let d : core (sourceOf u) ≡ core (sourceOf t) = ap core f ∙ C .stands (sourceOf t) (C .inside .sources t m) in
         record {
           of = getD tagged k 0;
@@ -124,4 +124,4 @@ module _ (codes moves : List ℕ) (n : ℕ) (core : ℕ → ℕ) (spare : ℕ �
         let l = C .inside .sources t m in
         let (u, w, f, a, c) = C .lifts t (core (sourceOf t)) m (C .within (sourceOf t) l) (C .stands (sourceOf t) l) in
         let (k, h, e) = place-of moves u w in
-        lowered-at u k w f a c h e
+        lowered-at k w f a c h e

@@ -35,13 +35,13 @@ codes-back codes marks tagged T low =
     ext-getD 0 (plain tagged) codes (low-long 281474976710656 tagged ∙ T .long)
     (λ i l. let m : i < length codes = omega (arith, low-long 281474976710656 tagged, T .long) in omega (arith, low-at 281474976710656 (omega arith) tagged i, T .each i m, low i m))
 
-pub told-number : (codes marks tagged : List ℕ) → ToldCodes codes marks tagged → ((i : ℕ) → i < length codes → getD codes i 0 < 281474976710656)
+pub told-number : {codes marks tagged : List ℕ} → ToldCodes codes marks tagged → ((i : ℕ) → i < length codes → getD codes i 0 < 281474976710656)
     → (i : ℕ) → i < length codes → coreNumber (getD tagged i 0) ≡ toldOf codes marks i
-told-number codes marks tagged T low i l = omega (arith, T .each i l, low i l)
+told-number T low i l = omega (arith, T .each i l, low i l)
 
-pub core-number : (codes tagged : List ℕ) → TaggedCodes codes tagged → ((i : ℕ) → i < length codes → getD codes i 0 < 281474976710656)
+pub core-number : {codes tagged : List ℕ} → TaggedCodes codes tagged → ((i : ℕ) → i < length codes → getD codes i 0 < 281474976710656)
     → (i : ℕ) → i < length codes → coreNumber (getD tagged i 0) ≡ firstOf codes i
-core-number codes tagged T low i l = omega (arith, T .each i l, low i l)
+core-number T low i l = omega (arith, T .each i l, low i l)
 
 pub moves-back : (A : Automaton) (codes moves tagged : List ℕ) → TaggedMoves A codes moves tagged → ((t : ℕ) → List·Memᴰ t moves → t < 1099511627776) → untagged tagged ≡ moves
 moves-back A codes moves tagged T low =
@@ -55,7 +55,7 @@ bit-above : (k x y q : ℕ) → x / 2 ^ k ≡ y → bit x (k + q) ≡ bit y q
 unfolding bit
 bit-above k x y q e = ap (λ (z : ℕ). eqb (z % 2) 1) (sym (shr-shr x k q) ∙ ap (λ (z : ℕ). z / 2 ^ q) e)
 
-module _ (A : Automaton) (codes moves tagged : List ℕ) (few : A .components ≤ 8) (low : length codes ≤ 65536) (I : Inside (length codes) moves) (T : TaggedMoves A codes moves tagged) where
+module _ {A : Automaton} {codes moves tagged : List ℕ} (few : A .components ≤ 8) (low : length codes ≤ 65536) (I : Inside (length codes) moves) (T : TaggedMoves A codes moves tagged) where
   module _ (k : ℕ) (l : k < length moves) where
     abbrev move : ℕ
     move = getD moves k 0

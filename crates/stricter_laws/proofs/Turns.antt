@@ -23,61 +23,47 @@ sums-then : (old ms new : List ℕ) (a b now : Bool) → sum ms ≤ sum old → 
     → now ≡ true → sum new < sum old
 sums-then old ms new a b now p q f g e t = bif a (λ h. omega (arith, f h)) (λ h. omega (arith, g (or-rt a b (sym e ∙ t) h)))
 
-module _ (E : ℕ → ℕ → Type 0) (F : Bool → ℕ → ℕ → ℕ → Type 0) (components : Bool → ℕ) where
+module _ {E : ℕ → ℕ → Type 0} {F : Bool → ℕ → ℕ → ℕ → Type 0} {components : Bool → ℕ} where
   pub narrowed-start : (ms : List ℕ) → ((x : ℕ) → getD ms x 0 ≤ 1) → Narrowed E F components ms ms
   narrowed-start ms low = record { long = refl; low = low; sub = λ x h. h; keeps = λ z w h a. h }
 
-  pub narrowed-then : (old ms new : List ℕ) → Narrowed E F components old ms → Narrowed E F components ms new → Narrowed E F components old new
-  narrowed-then old ms new f g = record {
-    long = g .long ∙ f .long;
-    low = g .low;
-    sub = λ x h. f .sub x (g .sub x h);
-    keeps = λ z w h a. g .keeps z w (f .keeps z w h a) a;
-  }
+  pub narrowed-then : {old ms new : List ℕ} → Narrowed E F components old ms → Narrowed E F components ms new → Narrowed E F components old new
+  narrowed-then f g =
+      record { long = g .long ∙ f .long; low = g .low; sub = λ x h. f .sub x (g .sub x h); keeps = λ z w h a. g .keeps z w (f .keeps z w h a) a }
 
-  narrowed-sum : (old new : List ℕ) → Narrowed E F components old new → sum new ≤ sum old
-  narrowed-sum old new f = sums old new (f .long) (f .low) (f .sub)
+  narrowed-sum : {old new : List ℕ} → Narrowed E F components old new → sum new ≤ sum old
+  narrowed-sum {old = old} {new = new} f = sums old new (f .long) (f .low) (f .sub)
 
   -- ---- a side
 
   pub side-start : (second : Bool) (ms : List ℕ) → ((x : ℕ) → getD ms x 0 ≤ 1) → Side E F components second 0 ms ms false
-  side-start second ms low = record {
-    narrowed = narrowed-start ms low;
-    same = λ e x h. h;
-    sound = λ e K l. absurd (omega arith);
-    less = λ e. absurd (false≢true e);
-  }
+  side-start second ms low =
+      record { narrowed = narrowed-start ms low; same = λ e x h. h; sound = λ e K l. absurd (omega arith); less = λ e. absurd (false≢true e) }
 
-  pub side-next : (second : Bool) (k : ℕ) (old ms new : List ℕ) (a b now : Bool) → k < components second → Side E F components second k old ms a
+  pub side-next : {second : Bool} {k : ℕ} {old ms new : List ℕ} {a b : Bool} (now : Bool) → k < components second → Side E F components second k old ms a
       → Round E (F second k) ms new b → now ≡ (a || b) → Side E F components second (k + 1) old new now
-  side-next second k old ms new a b now l s r e = record {
-    narrowed = narrowed-then old ms new (s .narrowed) one;
-    same = λ f x h. r .same (right f) x (s .same (left f) x h);
+  side-next {second = second} {k = k} {old = old} {ms = ms} {new = new} {a = a} {b = b} now l s r e = record {
+    narrowed = narrowed-then (s .narrowed) one;
+    same = λ f x h. r .same (or-fr a b (sym e ∙ f)) x (s .same (or-fl a b (sym e ∙ f)) x h);
     sound = λ f K q x h. by-cases (decLt K k)
-        (λ t. toward-more E (F second K) ms new (r .same (right f)) (s .sound (left f) K t x (r .sub x h)))
-        (λ t. let w : k ≡ K = omega arith in subst (λ (n : ℕ). Toward E (F second n) new x) w (r .sound (right f) x h));
-    less = sums-then old ms new a b now (narrowed-sum old ms (s .narrowed)) (narrowed-sum ms new one) (s .less) (r .less) e;
+        (λ t. toward-more new (r .same (or-fr a b (sym e ∙ f))) (s .sound (or-fl a b (sym e ∙ f)) K t x (r .sub x h)))
+        (λ t. let w : k ≡ K = omega arith in subst (λ (n : ℕ). Toward E (F second n) new x) w (r .sound (or-fr a b (sym e ∙ f)) x h));
+    less = sums-then old ms new a b now (narrowed-sum (s .narrowed)) (narrowed-sum one) (s .less) (r .less) e;
   }
     where
-      left : now ≡ false → a ≡ false
-      left f = or-fl a b (sym e ∙ f)
-
-      right : now ≡ false → b ≡ false
-      right f = or-fr a b (sym e ∙ f)
-
       one : Narrowed E F components ms new
       one = record { long = r .long; low = r .low; sub = r .sub; keeps = λ z w h g. r .keeps z w h (g second k l) }
 
   -- ---- both sides
 
-  pub pass-of : (old ms new : List ℕ) (a b now : Bool) → Side E F components false (components false) old ms a
+  pub pass-of : {old ms new : List ℕ} {a b : Bool} (now : Bool) → Side E F components false (components false) old ms a
       → Side E F components true (components true) ms new b → now ≡ (a || b) → Pass E F components old new now
-  pass-of old ms new a b now f g e = record {
-    narrowed = narrowed-then old ms new (f .narrowed) (g .narrowed);
+  pass-of {old = old} {ms = ms} {new = new} {a = a} {b = b} now f g e = record {
+    narrowed = narrowed-then (f .narrowed) (g .narrowed);
     sound = λ q. sound (or-fl a b (sym e ∙ q)) (or-fr a b (sym e ∙ q));
-    less = sums-then old ms new a b now (narrowed-sum old ms (f .narrowed)) (narrowed-sum ms new (g .narrowed)) (f .less) (g .less) e;
+    less = sums-then old ms new a b now (narrowed-sum (f .narrowed)) (narrowed-sum (g .narrowed)) (f .less) (g .less) e;
   }
     where
       sound : a ≡ false → b ≡ false → AllSound E F components new
       sound p q true K l x h = g .sound q K l x h
-      sound p q false K l x h = toward-more E (F false K) ms new (g .same q) (f .sound p K l x (g .narrowed .sub x h))
+      sound p q false K l x h = toward-more new (g .same q) (f .sound p K l x (g .narrowed .sub x h))

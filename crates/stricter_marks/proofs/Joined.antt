@@ -1,5 +1,5 @@
 -- What is known of a tagged table and of the marks that the cores leave.
-use mathlib.Core.Path.{_≡_, refl, sym, ap, ap₂, _∙_}
+use mathlib.Core.Path.{_≡_, refl, sym, ap, _∙_}
 use mathlib.Core.Logic.{by-cases}
 use mathlib.Core.Bool.{Bool, true, false, _&&_, _||_, cond, or-true, or-false}
 use mathlib.Core.List.{List}
@@ -8,10 +8,10 @@ use native.Mathlib.Omega.{arith}
 use native.Mathlib.Decide.{decLt}
 use native.Mathlib.Nat.{mul-le-mul-right}
 use borrow.Author.Tests.{eq-eqb, eqb-true, lt-ltb, ltb-true}
-use lib.Dec.{leb, ltb}
+use lib.Dec.{leb}
 use lib.ListN.{length, getD, replicate, length-replicate, List·getD-eq-default}
 use Rattle.sets.specs.Tests.{Set, one}
-use Rattle.sets.proofs.Bools.{bif, and-l, and-r, clash}
+use Rattle.sets.proofs.Bools.{bif, and-l, and-r}
 use Rattle.stricter_laws.proofs.Pairs.{one-low, parts}
 use Rattle.theory.specs.Run.{AcceptingRun}
 use Rattle.trim_spec.specs.Trimmed.{isLive, liveMarks}
@@ -25,7 +25,7 @@ use Rattle.stricter_marks.specs.Sorted.{CoresSorted}
 
 -- ---- a tagged table
 
-module _ (codes moves : List ℕ) (components : ℕ) (spare : ℕ → ℕ → Bool) (C : CoreTable codes moves components (firstOf codes) spare)
+module _ {codes moves : List ℕ} {components : ℕ} {spare : ℕ → ℕ → Bool} (C : CoreTable codes moves components (firstOf codes) spare)
     (tagged : List ℕ) (long : length tagged ≡ length codes)
     (number : (i : ℕ) → i < length codes → coreNumber (getD tagged i 0) ≡ toldOf codes (liveMarks codes moves) i) where
   -- number i takes part
@@ -49,7 +49,7 @@ module _ (codes moves : List ℕ) (components : ℕ) (spare : ℕ → ℕ → Bo
   unfolding isLive
   live-same i j l e t =
       lt-ltb 0 (getD (liveMarks codes moves) j 0)
-      (same-live codes moves components (firstOf codes) spare C (liveMarks codes moves) (live-solved codes moves) i j l e (ltb-true 0 (getD (liveMarks codes moves) i 0) t))
+      (same-live C (live-solved codes moves) i j l e (ltb-true 0 (getD (liveMarks codes moves) i 0) t))
 
   counts-same : (i j : ℕ) → j < length codes → firstOf codes j ≡ firstOf codes i → counts i ≡ true → counts j ≡ true
   counts-same i j l e t =
@@ -92,7 +92,7 @@ module _ (codes moves : List ℕ) (components : ℕ) (spare : ℕ → ℕ → Bo
   pub run-counts : (start : Set) (w x : ℕ → ℕ) → AcceptingRun codes moves start w x → (k : ℕ) → counts (x k) ≡ true
   unfolding isLive
   run-counts start w x A k =
-      let live = walk-live codes moves components (firstOf codes) spare C (liveMarks codes moves) (live-solved codes moves) x (A .run .within)
+      let live = walk-live C (live-solved codes moves) x (A .run .within)
       (λ i. let (t, m, e) = A .run .moves i in record { transition = t; listed = m; source = e .source; target = e .target }) (A .again) k in
       ap (λ (b : Bool). b || leb 65536 (length codes)) (lt-ltb 0 (getD (liveMarks codes moves) (x k) 0) live)
 
@@ -111,7 +111,7 @@ cond-true : (b : Bool) (v : ℕ) → 0 < cond b v 0 → b ≡ true
 cond-true true v h = refl
 cond-true false v h = absurd (omega arith)
 
-module _ (acodes bcodes marks : List ℕ) (I : CoresIn acodes bcodes marks) where
+module _ {acodes bcodes marks : List ℕ} (I : CoresIn acodes bcodes marks) where
   pub cores-low : (x : ℕ) → getD marks x 0 ≤ 1
   cores-low x =
       by-cases (decLt x (length marks))
@@ -144,7 +144,7 @@ module _ (acodes bcodes marks : List ℕ) (I : CoresIn acodes bcodes marks) wher
       rw (I .each i j k l) (omega arith)
 
 -- marks that are spread
-module _ (acodes bcodes old new : List ℕ) (S : Spread acodes bcodes old new) where
+module _ {acodes bcodes old new : List ℕ} (S : Spread acodes bcodes old new) where
   pub spread-in : (i j p q : ℕ) → i < length acodes → j < length bcodes → hasCore acodes i ≡ true → hasCore bcodes j ≡ true
       → coreNumber (getD acodes i 0) ≡ p → coreNumber (getD bcodes j 0) ≡ q → 0 < getD old (p * length bcodes + q) 0 → 0 < getD new (i * length bcodes + j) 0
   spread-in i j p q k l a b e f h =

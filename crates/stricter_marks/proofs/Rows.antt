@@ -35,14 +35,12 @@ stands-yes codes i v e z = bif (eqb (coreNumber (getD codes i 0)) i) (λ t. t) (
 -- ---- marks of other places
 
 -- f gives places marks of old: the mark of a place that gives its own is as it was
-module _ (f : ℕ → ℕ) (from to : ℕ) (old ms : List ℕ) (h : Filled f from to old ms) where
+module _ {f : ℕ → ℕ} {from to : ℕ} {old ms : List ℕ} (h : Filled f from to old ms) where
   kept : (p : ℕ) → f p ≡ getD old p 0 → getD ms p 0 ≡ getD old p 0
   kept p e =
       by-cases (decLt p from)
       (λ l. h .outside p (inl l))
-      (λ l. by-cases (decLt p to)
-      (λ m. h .inside p (omega arith) m ∙ e)
-      (λ m. h .outside p (inr (omega arith))))
+      (λ l. by-cases (decLt p to) (λ m. h .inside p (omega arith) m ∙ e) (λ m. h .outside p (inr (omega arith))))
 
 -- ---- the two numbers of a pair
 
@@ -77,16 +75,14 @@ module _ (acodes bcodes : List ℕ) where
       sym (ap (placedAt acodes bcodes) (row-place i x a b) ∙ placed-at i j (omega arith) ∙ e)
 
   -- row i after those before it
-  pub placed-row : (i : ℕ) (old ms new : List ℕ) → Filled (placedAt acodes bcodes) 0 (i * length bcodes) old ms
+  pub placed-row : (i : ℕ) {old ms new : List ℕ} → Filled (placedAt acodes bcodes) 0 (i * length bcodes) old ms
       → Filled (placedAt acodes bcodes) (i * length bcodes) (i * length bcodes + length bcodes) ms new
       → Filled (placedAt acodes bcodes) 0 (i * length bcodes + length bcodes) old new
-  placed-row i old ms new f g =
-      filled-then (placedAt acodes bcodes) (placedAt acodes bcodes) 0 (i * length bcodes) (i * length bcodes + length bcodes) old ms new (omega arith) (omega arith) f g
-      (λ x a b. refl)
+  placed-row i f g = filled-then (omega arith) (omega arith) f g (λ x a b. refl)
 
-  pub placed-end : (old new : List ℕ) → length old ≡ length acodes * length bcodes
+  pub placed-end : {old new : List ℕ} → length old ≡ length acodes * length bcodes
       → Filled (placedAt acodes bcodes) 0 (length acodes * length bcodes) old new → CoresIn acodes bcodes new
-  placed-end old new e f = record {
+  placed-end e f = record {
     long = f .long ∙ e;
     each = λ i j k l. f .inside (i * length bcodes + j) (omega arith) (digits-lt {q = i} {m = length acodes} {c = length bcodes} k l) ∙ placed-at i j l;
   }
@@ -139,50 +135,50 @@ module _ (acodes bcodes : List ℕ) where
 
   module _ (SA : Standing acodes) (SB : Standing bcodes) where
     -- what a pair takes is there still
-    pub taken-kept : (from to : ℕ) (old ms : List ℕ) → Moved from to old ms → (i j : ℕ) → i < length acodes → j < length bcodes
+    pub taken-kept : {from to : ℕ} {old ms : List ℕ} → Moved from to old ms → (i j : ℕ) → i < length acodes → j < length bcodes
         → takenAt acodes bcodes ms (i * length bcodes + j) ≡ takenAt acodes bcodes old (i * length bcodes + j)
-    taken-kept from to old ms h i j k l =
+    taken-kept {old = old} {ms = ms} h i j k l =
         taken-at ms i j l
         ∙ bif (hasCore acodes i)
         (λ ha. bif (hasCore bcodes j)
         (λ hb. ap (λ (v : ℕ). cond (hasCore acodes i && hasCore bcodes j) v 0)
-        (kept (takenAt acodes bcodes old) from to old ms h (coreNumber (getD acodes i 0) * length bcodes + coreNumber (getD bcodes j 0)) (core-own SA SB i j k l ha hb old)))
+        (kept h (coreNumber (getD acodes i 0) * length bcodes + coreNumber (getD bcodes j 0)) (core-own SA SB i j k l ha hb old)))
         (λ hb. rw hb (rw and-false)))
         (λ ha. rw ha)
         ∙ sym (taken-at old i j l)
 
     -- the pair of i, which has a core, and j takes its mark
-    pub moved-next : (i j : ℕ) → i < length acodes → j < length bcodes → hasCore acodes i ≡ true → (from : ℕ) (old ms : List ℕ) (v : ℕ)
+    pub moved-next : (i j : ℕ) → i < length acodes → j < length bcodes → hasCore acodes i ≡ true → {from : ℕ} {old ms : List ℕ} (v : ℕ)
         → from ≤ i * length bcodes + j → i * length bcodes + j < length ms → Moved from (i * length bcodes + j) old ms
         → v ≡ cond (hasCore bcodes j) (getD ms (coreNumber (getD acodes i 0) * length bcodes + coreNumber (getD bcodes j 0)) 0) 0
         → Moved from (i * length bcodes + j + 1) old (set ms (i * length bcodes + j) v)
-    moved-next i j k l ha from old ms v a b h e =
-        filled-next (takenAt acodes bcodes old) from (i * length bcodes + j) old ms v a b h
+    moved-next i j k l ha {ms = ms} v a b h e =
+        filled-next v a b h
         (e ∙ ap (λ (w : Bool). cond (w && hasCore bcodes j) (getD ms (coreNumber (getD acodes i 0) * length bcodes + coreNumber (getD bcodes j 0)) 0) 0) (sym ha)
-        ∙ sym (taken-at ms i j l) ∙ taken-kept from (i * length bcodes + j) old ms h i j k l)
+        ∙ sym (taken-at ms i j l) ∙ taken-kept h i j k l)
 
     -- row i after those before it
-    pub moved-row : (i : ℕ) → i < length acodes → (old ms new : List ℕ) → Moved 0 (i * length bcodes) old ms
+    pub moved-row : (i : ℕ) → i < length acodes → {old ms new : List ℕ} → Moved 0 (i * length bcodes) old ms
         → Moved (i * length bcodes) (i * length bcodes + length bcodes) ms new → Moved 0 (i * length bcodes + length bcodes) old new
-    moved-row i k old ms new f g =
-        filled-then (takenAt acodes bcodes old) (takenAt acodes bcodes ms) 0 (i * length bcodes) (i * length bcodes + length bcodes)
-        old ms new (omega arith) (omega arith) f g
-        (λ x a b. rw (row-place i x a b) (taken-kept 0 (i * length bcodes) old ms f i (x - i * length bcodes) k (omega arith)))
+    moved-row i k f g =
+        filled-then
+        (omega arith) (omega arith) f g
+        (λ x a b. rw (row-place i x a b) (taken-kept f i (x - i * length bcodes) k (omega arith)))
 
   -- a row of zeros of a number that has no core
   abbrev pub Out : List ℕ → ℕ → Type 0
   Out marks i = hasCore acodes i ≡ false → (x : ℕ) → i * length bcodes ≤ x → x < i * length bcodes + length bcodes → getD marks x 0 ≡ 0
 
-  pub moved-out : (i : ℕ) (ms : List ℕ) → Out ms i → hasCore acodes i ≡ false → Moved (i * length bcodes) (i * length bcodes + length bcodes) ms ms
-  moved-out i ms o e = record {
+  pub moved-out : (i : ℕ) {ms : List ℕ} → Out ms i → hasCore acodes i ≡ false → Moved (i * length bcodes) (i * length bcodes + length bcodes) ms ms
+  moved-out i {ms = ms} o e = record {
     long = refl;
     inside = λ x a b. o e x a b ∙ sym (ap (takenAt acodes bcodes ms) (row-place i x a b) ∙ taken-at ms i (x - i * length bcodes) (omega arith) ∙ rw e);
     outside = λ x h. refl;
   }
 
   -- rows that come later are as they were
-  pub out-later : (i : ℕ) (old ms : List ℕ) → Moved 0 (i * length bcodes) old ms → Out old i → Out ms i
-  out-later i old ms f o e x a b = f .outside x (inr a) ∙ o e x a b
+  pub out-later : (i : ℕ) {old ms : List ℕ} → Moved 0 (i * length bcodes) old ms → Out old i → Out ms i
+  out-later i f o e x a b = f .outside x (inr a) ∙ o e x a b
 
   pub out-row : (marks : List ℕ) → OnlyCores acodes (length bcodes) marks → (i : ℕ) → i < length acodes → Out marks i
   unfolding hasCore standsIn
@@ -190,8 +186,8 @@ module _ (acodes bcodes : List ℕ) where
       row-out acodes (length bcodes) marks o i
       (ne-eqb (coreNumber (getD acodes i 0)) i (λ q. let h = ltb-false (coreNumber (getD acodes i 0)) (length acodes) e in omega arith)) x a b
 
-  pub moved-end : (old new : List ℕ) → Moved 0 (length acodes * length bcodes) old new → Spread acodes bcodes old new
-  moved-end old new f = record {
+  pub moved-end : {old new : List ℕ} → Moved 0 (length acodes * length bcodes) old new → Spread acodes bcodes old new
+  moved-end {old = old} f = record {
     long = f .long;
     each = λ i j k l. f .inside (i * length bcodes + j) (omega arith) (digits-lt {q = i} {m = length acodes} {c = length bcodes} k l) ∙ taken-at old i j l;
   }

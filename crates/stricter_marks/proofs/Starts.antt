@@ -1,8 +1,8 @@
 -- Where runs begin: tags make no difference to it, and of the numbers of a core only the first is such a number.
 use mathlib.Core.Path.{_≡_, refl, sym, ap, ap₂, _∙_}
-use mathlib.Core.Bool.{Bool, true, _&&_, not}
+use mathlib.Core.Bool.{Bool, true, _&&_}
 use mathlib.Core.List.{List}
-use Prim.Native.Nat.{ℕ, _+_, _*_, _/_, _%_, _^_, _≤_, _<_}
+use Prim.Native.Nat.{ℕ, _+_, _*_, _/_, _%_, _^_, _<_}
 use native.Mathlib.Omega.{arith}
 use borrow.Author.Tests.{eqb-true}
 use lib.Dec.{eqb}
@@ -30,14 +30,14 @@ bit-low q l c =
 abbrev pub Low : Set → Type 0
 Low s = (c : ℕ) → s (c % 281474976710656) ≡ s c
 
-begun-low : (s : Set) → Low s → (c : ℕ) → begun s (c % 281474976710656) ≡ begun s c
+begun-low : {s : Set} → Low s → (c : ℕ) → begun s (c % 281474976710656) ≡ begun s c
 unfolding begun componentIn classesIn
-begun-low s low c =
+begun-low low c =
     let a : c % 281474976710656 / 2 ^ 40 % 16 ≡ c / 2 ^ 40 % 16 = omega arith in
     let b : c % 281474976710656 / 2 ^ 44 % 16 ≡ c / 2 ^ 44 % 16 = omega arith in
     ap₂ (λ (x y : Bool). x && y) (low c) (ap₂ (λ (x y : ℕ). eqb x 0 && eqb y 0) a b)
 
-module _ (s t : Set) (low-s : Low s) (low-t : Low t) (ca cb ta tb : List ℕ) (a : plain ta ≡ ca) (b : plain tb ≡ cb) where
+module _ {s t : Set} (low-s : Low s) (low-t : Low t) (ca cb ta tb : List ℕ) (a : plain ta ≡ ca) (b : plain tb ≡ cb) where
   code-at : (cs ts : List ℕ) → plain ts ≡ cs → (i : ℕ) → getD cs i 0 ≡ getD ts i 0 % 281474976710656
   code-at cs ts e i = ap (λ (l : List ℕ). getD l i 0) (sym e) ∙ low-at 281474976710656 (omega arith) ts i
 
@@ -49,8 +49,8 @@ module _ (s t : Set) (low-s : Low s) (low-t : Low t) (ca cb ta tb : List ℕ) (a
   starts-plain x =
       ap (λ (n : ℕ). begun s (getD ta (x / n) 0) && begun t (getD tb (x % n) 0)) long
       ∙ sym (ap₂ (λ (p q : Bool). p && q)
-      (ap (begun s) (code-at ca ta a (x / length cb)) ∙ begun-low s low-s (getD ta (x / length cb) 0))
-      (ap (begun t) (code-at cb tb b (x % length cb)) ∙ begun-low t low-t (getD tb (x % length cb) 0)))
+      (ap (begun s) (code-at ca ta a (x / length cb)) ∙ begun-low low-s (getD ta (x / length cb) 0))
+      (ap (begun t) (code-at cb tb b (x % length cb)) ∙ begun-low low-t (getD tb (x % length cb) 0)))
 
 -- a code where a run begins is its core
 begun-core : (s : Set) (c : ℕ) → c < 281474976710656 → begun s c ≡ true → c ≡ coreIn c
@@ -64,5 +64,4 @@ begun-core s c l e =
 pub begun-first : (codes : List ℕ) → Ascending codes → ((i : ℕ) → i < length codes → getD codes i 0 < 281474976710656)
     → (s : Set) (i : ℕ) → i < length codes → begun s (getD codes i 0) ≡ true → firstOf codes i ≡ i
 begun-first codes asc low s i l e =
-    sym (first-is codes i i l refl
-    (λ j h c. omega (arith, asc-at codes asc j i h l, begun-core s (getD codes i 0) (low i l) e)))
+    sym (first-is codes i i l refl (λ j h c. omega (arith, asc-at codes asc j i h l, begun-core s (getD codes i 0) (low i l) e)))

@@ -37,7 +37,7 @@ use Rattle.stricter_marks.proofs.Starts.{bit-low, starts-plain, begun-f
 
 -- ---- one table
 
-module _ (r : Rule) (start : Set) (count : ℕ) (codes moves : List ℕ) (T : TableOf r start count codes moves) where
+module _ {r : Rule} {start : Set} {count : ℕ} {codes moves : List ℕ} (T : TableOf r start count codes moves) where
   P : Passing r
   P = T .passing
 
@@ -45,24 +45,24 @@ module _ (r : Rule) (start : Set) (count : ℕ) (codes moves : List ℕ) (T : Ta
   room = rw (T .codes-are) at (T .few)
 
   table-searchable : Searchable codes moves
-  table-searchable = rw (T .codes-are, T .moves-are) (searchable r P start room)
+  table-searchable = rw (T .codes-are, T .moves-are) (searchable P start room)
 
   low-codes : (i : ℕ) → i < length codes → getD codes i 0 < 281474976710656
-  low-codes = rw (T .codes-are) (codes-low r P start room)
+  low-codes = rw (T .codes-are) (codes-low P start room)
 
   low-moves : (t : ℕ) → List·Memᴰ t moves → t < 1099511627776
-  low-moves = rw (T .moves-are) (moves-low r P start room)
+  low-moves = rw (T .moves-are) (moves-low P start room)
 
   pub few-components : count ≤ 8
-  few-components = rw (T .counted) (few-parts r P start room)
+  few-components = rw (T .counted) (few-parts P start room)
 
   abbrev sparesOf : ℕ → ℕ → Bool
   sparesOf t K = sparesAt (automaton r) codes t K
 
   core-of : CoreTable codes moves count (firstOf codes) sparesOf
-  core-of = rw (T .counted, T .codes-are, T .moves-are) (core-table r P start room)
+  core-of = rw (T .counted, T .codes-are, T .moves-are) (core-table P start room)
 
-  module _ (tcodes tmoves : List ℕ) (X : ToldCodes codes (liveMarks codes moves) tcodes) (Y : TaggedMoves (automaton r) codes moves tmoves) where
+  module _ {tcodes tmoves : List ℕ} (X : ToldCodes codes (liveMarks codes moves) tcodes) (Y : TaggedMoves (automaton r) codes moves tmoves) where
     pub codes-again : plain tcodes ≡ codes
     codes-again = codes-back codes (liveMarks codes moves) tcodes X low-codes
 
@@ -70,10 +70,10 @@ module _ (r : Rule) (start : Set) (count : ℕ) (codes moves : List ℕ) (T : Ta
     moves-again = moves-back (automaton r) codes moves tmoves Y low-moves
 
     shown-by : Shown codes moves count (firstOf codes) sparesOf tmoves
-    shown-by = rw (T .counted) (shown (automaton r) codes moves tmoves (few-parts r P start room) (T .few) (table-searchable .inside) Y)
+    shown-by = rw (T .counted) (shown (few-parts P start room) (T .few) (table-searchable .inside) Y)
 
     numbered : (i : ℕ) → i < length codes → coreNumber (getD tcodes i 0) ≡ toldOf codes (liveMarks codes moves) i
-    numbered = told-number codes (liveMarks codes moves) tcodes X low-codes
+    numbered = told-number X low-codes
 
     ascends : Ascending (untagged tmoves)
     ascends = rw moves-again (table-searchable .ascend)
@@ -82,16 +82,16 @@ module _ (r : Rule) (start : Set) (count : ℕ) (codes moves : List ℕ) (T : Ta
     codes-ascend = rw (T .codes-are) (macrostates-ascending r P start)
 
     pub stands : Standing tcodes
-    stands = standing codes moves count sparesOf core-of tcodes (X .long) numbered
+    stands = standing core-of tcodes (X .long) numbered
 
     onto-low-in : (t : ℕ) → List·Memᴰ t tmoves → ontoOf t < length tcodes
-    onto-low-in = rw (X .long) (onto-low codes moves count (firstOf codes) sparesOf core-of tmoves shown-by)
+    onto-low-in t m = rw (X .long) (onto-low core-of shown-by m)
 
     pub rows-low : (t : ℕ) → List·Memᴰ t tmoves → rowOf t < length tcodes
-    rows-low = rw (X .long) (row-low codes moves count (firstOf codes) sparesOf core-of tmoves shown-by)
+    rows-low t m = rw (X .long) (row-low core-of shown-by m)
 
     letters-low : (t : ℕ) → List·Memᴰ t tmoves → letterOf t < 16
-    letters-low = letter-low codes moves count (firstOf codes) sparesOf core-of tmoves shown-by (table-searchable .lettered)
+    letters-low t m = letter-low core-of shown-by (table-searchable .lettered) m
 
     -- where runs begin, numbers stand for their cores
     begins-first : (s : Set) (i : ℕ) → i < length codes → begun s (getD codes i 0) ≡ true → firstOf codes i ≡ i
@@ -99,81 +99,80 @@ module _ (r : Rule) (start : Set) (count : ℕ) (codes moves : List ℕ) (T : Ta
 
     -- number i takes part
     abbrev part : ℕ → Bool
-    part i = counts codes moves count sparesOf core-of tcodes (X .long) numbered i
+    part i = counts core-of tcodes (X .long) numbered i
 
     part-stands : (i : ℕ) → i < length codes → part i ≡ true → standsIn tcodes (firstOf codes i) ≡ true
-    part-stands = stands-first codes moves count sparesOf core-of tcodes (X .long) numbered
+    part-stands = stands-first core-of tcodes (X .long) numbered
 
     stands-part : (i : ℕ) → i < length codes → standsIn tcodes (firstOf codes i) ≡ true → part i ≡ true
-    stands-part = counts-first codes moves count sparesOf core-of tcodes (X .long) numbered
+    stands-part = counts-first core-of tcodes (X .long) numbered
 
     part-core : (i : ℕ) → i < length codes → part i ≡ true → (hasCore tcodes i ≡ true) × (coreNumber (getD tcodes i 0) ≡ firstOf codes i)
-    part-core = core-first codes moves count sparesOf core-of tcodes (X .long) numbered
+    part-core = core-first core-of tcodes (X .long) numbered
 
     core-part : (i : ℕ) → i < length codes → hasCore tcodes i ≡ true → part i ≡ true
-    core-part = counts-core codes moves count sparesOf core-of tcodes (X .long) numbered
+    core-part = counts-core core-of tcodes (X .long) numbered
 
     run-part : (s : Set) (w x : ℕ → ℕ) → AcceptingRun codes moves s w x → (k : ℕ) → part (x k) ≡ true
-    run-part = run-counts codes moves count sparesOf core-of tcodes (X .long) numbered
+    run-part = run-counts core-of tcodes (X .long) numbered
 
 -- ---- two tables
 
-module _ (a b : Rule) (s t : Set) (nA nB : ℕ) (ca ma cb mb : List ℕ) (A : TableOf a s nA ca ma) (B : TableOf b t nB cb mb)
-    (tca tma tcb tmb : List ℕ)
+module _ {a b : Rule} {s t : Set} {nA nB : ℕ} {ca ma cb mb : List ℕ} (A : TableOf a s nA ca ma) (B : TableOf b t nB cb mb)
+    {tca tma tcb tmb : List ℕ}
     (X : ToldCodes ca (liveMarks ca ma) tca) (Y : TaggedMoves (automaton a) ca ma tma)
     (U : ToldCodes cb (liveMarks cb mb) tcb) (W : TaggedMoves (automaton b) cb mb tmb) where
   pub fits : (marks : List ℕ) → length marks ≡ length ca * length cb → CoresFit (length tca) (length tcb) tma tmb marks
   fits marks e = record {
-    ascend-A = ascends a s nA ca ma A tca tma X Y;
-    ascend-B = ascends b t nB cb mb B tcb tmb U W;
-    letters-B = letters-low b t nB cb mb B tcb tmb U W;
-    onto-A = onto-low-in a s nA ca ma A tca tma X Y;
-    onto-B = onto-low-in b t nB cb mb B tcb tmb U W;
+    ascend-A = ascends A X Y;
+    ascend-B = ascends B U W;
+    letters-B = letters-low B U W;
+    onto-A = onto-low-in A X Y;
+    onto-B = onto-low-in B U W;
     marked = rw (X .long, U .long) e;
     few-A = rw (X .long) (A .few);
     few-B = rw (U .long) (B .few);
   }
 
   CA : CoreTable ca ma nA (firstOf ca) (sparesAt (automaton a) ca)
-  CA = core-of a s nA ca ma A
+  CA = core-of A
 
   CB : CoreTable cb mb nB (firstOf cb) (sparesAt (automaton b) cb)
-  CB = core-of b t nB cb mb B
+  CB = core-of B
 
   SA : Shown ca ma nA (firstOf ca) (sparesAt (automaton a) ca) tma
-  SA = shown-by a s nA ca ma A tca tma X Y
+  SA = shown-by A X Y
 
   SB : Shown cb mb nB (firstOf cb) (sparesAt (automaton b) cb) tmb
-  SB = shown-by b t nB cb mb B tcb tmb U W
+  SB = shown-by B U W
 
   abbrev Joined : List ℕ → List ℕ → Type 0
-  Joined = Marked ca ma nA (firstOf ca) (sparesAt (automaton a) ca) CA tma SA cb mb nB (firstOf cb) (sparesAt (automaton b) cb) CB tmb SB
+  Joined = Marked CA SA CB SB
 
-  module _ (all final : List ℕ) (I : CoresIn tca tcb all) (sub : (x : ℕ) → 0 < getD final x 0 → 0 < getD all x 0) where
+  module _ {all : List ℕ} (final : List ℕ) (I : CoresIn tca tcb all) (sub : (x : ℕ) → 0 < getD final x 0 → 0 < getD all x 0) where
     -- the pairs of the cores of numbers that take part are in at first
-    all-in : (i j : ℕ) → i < length ca → j < length cb → part a s nA ca ma A tca tma X Y i ≡ true → part b t nB cb mb B tcb tmb U W j ≡ true
+    all-in : (i j : ℕ) → i < length ca → j < length cb → part A X Y i ≡ true → part B U W j ≡ true
         → 0 < getD all (firstOf ca i * length cb + firstOf cb j) 0
     all-in i j k l p q =
-        rw (U .long) at (stand-in tca tcb all I (firstOf ca i) (firstOf cb j) (rw (X .long) (CA .within i k)) (rw (U .long) (CB .within j l))
-        (part-stands a s nA ca ma A tca tma X Y i k p) (part-stands b t nB cb mb B tcb tmb U W j l q))
+        rw (U .long) at (stand-in I (firstOf ca i) (firstOf cb j) (rw (X .long) (CA .within i k)) (rw (U .long) (CB .within j l))
+        (part-stands A X Y i k p) (part-stands B U W j l q))
 
     -- the numbers of a pair that is left stand for their cores
     left-stand : (i j : ℕ) → i < length ca → j < length cb → 0 < getD final (i * length cb + j) 0 → (standsIn tca i ≡ true) × (standsIn tcb j ≡ true)
-    left-stand i j k l h =
-        both-stand tca tcb all I i j (rw (X .long) k) (rw (U .long) l) (rw (U .long) (sub (i * length cb + j) h))
+    left-stand i j k l h = both-stand I i j (rw (X .long) k) (rw (U .long) l) (rw (U .long) (sub (i * length cb + j) h))
 
-    module _ (marks : List ℕ) (S : Spread tca tcb final marks) where
+    module _ {marks : List ℕ} (S : Spread tca tcb final marks) where
       joined : Joined final marks
       joined = record {
         marks = λ i j k l h.
             let (p, q) = left-stand (firstOf ca i) (firstOf cb j) (CA .within i k) (CB .within j l) h in
-            let (x, e) = part-core a s nA ca ma A tca tma X Y i k (stands-part a s nA ca ma A tca tma X Y i k p) in
-            let (y, f) = part-core b t nB cb mb B tcb tmb U W j l (stands-part b t nB cb mb B tcb tmb U W j l q) in
-            rw (U .long) at (spread-in tca tcb final marks S i j (firstOf ca i) (firstOf cb j) (rw (X .long) k) (rw (U .long) l) x y e f (rw (U .long) h));
+            let (x, e) = part-core A X Y i k (stands-part A X Y i k p) in
+            let (y, f) = part-core B U W j l (stands-part B U W j l q) in
+            rw (U .long) at (spread-in S i j (firstOf ca i) (firstOf cb j) (rw (X .long) k) (rw (U .long) l) x y e f (rw (U .long) h));
         tells = λ i j k l h.
-            let (x, y, d) = spread-out tca tcb final marks S i j (rw (X .long) k) (rw (U .long) l) (rw (U .long) h) in
-            let (_, e) = part-core a s nA ca ma A tca tma X Y i k (core-part a s nA ca ma A tca tma X Y i k x) in
-            let (_, f) = part-core b t nB cb mb B tcb tmb U W j l (core-part b t nB cb mb B tcb tmb U W j l y) in
+            let (x, y, d) = spread-out S i j (rw (X .long) k) (rw (U .long) l) (rw (U .long) h) in
+            let (_, e) = part-core A X Y i k (core-part A X Y i k x) in
+            let (_, f) = part-core B U W j l (core-part B U W j l y) in
             rw (e, f, U .long) at d;
       }
 
@@ -184,7 +183,7 @@ module _ (a b : Rule) (s t : Set) (nA nB : ℕ) (ca ma cb mb : List ℕ) (A : Ta
           let (p, q) = left-stand i j k l h in
           let e = eqb-true (coreNumber (getD tca i 0)) i p in
           let f = eqb-true (coreNumber (getD tcb j 0)) j q in
-          rw (U .long) at (spread-in tca tcb final marks S i j i j (rw (X .long) k) (rw (U .long) l)
+          rw (U .long) at (spread-in S i j i j (rw (X .long) k) (rw (U .long) l)
           (lt-ltb (coreNumber (getD tca i 0)) (length tca) (omega (arith, e, X .long))) (lt-ltb (coreNumber (getD tcb j 0)) (length tcb) (omega (arith, f, U .long))) e f (rw (U .long) h))
 
   module _ (qa qb : ℕ) (la : qa < 8) (lb : qb < 8) where
@@ -195,29 +194,27 @@ module _ (a b : Rule) (s t : Set) (nA nB : ℕ) (ca ma cb mb : List ℕ) (A : Ta
     startB c = not (bit c qb)
 
     same-starts : (x : ℕ) → startsIn tca tcb startA startB x ≡ startsIn ca cb startA startB x
-    same-starts = starts-plain startA startB (bit-low qa la) (λ c. ap not (bit-low qb lb c)) ca cb tca tcb
-        (codes-again a s nA ca ma A tca tma X Y) (codes-again b t nB cb mb B tcb tmb U W)
+    same-starts = starts-plain (bit-low qa la) (λ c. ap not (bit-low qb lb c)) ca cb tca tcb (codes-again A X Y) (codes-again B U W)
 
-    pub sorted : (marks : List ℕ) (r : ℕ) → length marks ≡ length ca * length cb
+    pub sorted : {marks : List ℕ} {r : ℕ} → length marks ≡ length ca * length cb
         → CoresSorted tca tma nA tcb tmb nB (startsIn tca tcb startA startB) marks r → Sorted ca ma startA cb mb startB marks r
-    sorted marks r e S =
+    sorted {marks = marks} {r = r} e S =
         let N : Narrowed (CoreStep (length cb) tma tmb) (SparedStep (length cb) tma tmb) (λ q. cond q nB nA) (S .all) (S .cores) = rw (U .long) at (S .narrowed) in
         let Q : AllSound (CoreStep (length cb) tma tmb) (SparedStep (length cb) tma tmb) (λ q. cond q nB nA) (S .cores) = rw (U .long) at (S .sound) in
         let low : r < length marks → r < length (S .cores) = λ l. omega (arith, S .long) in
         record {
           long = e;
           within = omega (arith, S .first .within, S .long);
-          sound = λ l. both-sound ca ma nA (firstOf ca) (sparesAt (automaton a) ca) CA tma SA cb mb nB (firstOf cb) (sparesAt (automaton b) cb) CB tmb SB
-              (S .cores) marks Q (joined (S .all) (S .cores) (S .in-all) (N .sub) marks (S .spread (low l))) e;
+          sound = λ l. both-sound CA SA CB SB (S .cores) marks Q (joined (S .cores) (S .in-all) (N .sub) (S .spread (low l))) e;
           inside = λ l.
               let p = parts (length ca) (length cb) r (rw e at l) in
-              rw (p .whole) at (kept-in (S .all) (S .cores) (S .in-all) (N .sub) marks (S .spread (low l)) (r / length cb) (r % length cb) (p .first) (p .second)
+              rw (p .whole) at (kept-in (S .cores) (S .in-all) (N .sub) (S .spread (low l)) (r / length cb) (r % length cb) (p .first) (p .second)
               (rw (p .whole) (S .first .inside (low l))));
           begins = λ l. sym (same-starts r) ∙ S .first .begins (low l);
-          none = λ l. nothing ca ma nA (firstOf ca) (sparesAt (automaton a) ca) CA tma SA cb mb nB (firstOf cb) (sparesAt (automaton b) cb) CB tmb SB
-              (S .all) (S .cores) N startA startB
-              (λ w x y F G i. all-in (S .all) (S .cores) (S .in-all) (N .sub) (x i) (y i) (F .run .within i) (G .run .within i)
-              (run-part a s nA ca ma A tca tma X Y startA w x F i) (run-part b t nB cb mb B tcb tmb U W startB w y G i))
-              (begins-first a s nA ca ma A tca tma X Y startA) (begins-first b t nB cb mb B tcb tmb U W startB)
+          none = λ l. nothing CA SA CB SB
+              N startA startB
+              (λ w x y F G i. all-in (S .cores) (S .in-all) (N .sub) (x i) (y i) (F .run .within i) (G .run .within i)
+              (run-part A X Y startA w x F i) (run-part B U W startB w y G i))
+              (begins-first A X Y startA) (begins-first B U W startB)
               (λ x h q. S .first .none (omega (arith, S .long)) x h (same-starts x ∙ q));
         }

@@ -18,4 +18,4 @@ pub file-searchable : {f : List ℕ} {l : Layout} {start : Rule → Set} {codes 
 file-searchable {f} {start = start} L =
     let T = file-table L refl in
     let room : length (macrostatesFrom (ruleIn f) (start (ruleIn f))) ≤ 65536 = rw (T .codes-are) at (T .few) in
-    rw (T .codes-are, T .moves-are) (searchable (ruleIn f) (T .passing) (start (ruleIn f)) room)
+    rw (T .codes-are, T .moves-are) (searchable (T .passing) (start (ruleIn f)) room)

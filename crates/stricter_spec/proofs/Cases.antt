@@ -1,15 +1,15 @@
 -- Small tables. Number 0 is accepting (its k is 0), number 1 is not (its k is 1).
 use mathlib.Core.Path.{_≡_, refl, sym, ap, _∙_}
 use mathlib.Core.Logic.{_⊎_, inl, inr, ⊎-elim}
-use mathlib.Core.Bool.{true, false, true≢false}
-use mathlib.Core.List.{List, [], _∷_, _++_, List·Memᴰ, List·Memᴰ·head, List·Memᴰ·tail, List·Memᴰ·cases-cons, List·Memᴰ·not-nil}
-use Prim.Native.Nat.{ℕ, _+_, _*_, _≤_, _<_}
+use mathlib.Core.Bool.{true, true≢false}
+use mathlib.Core.List.{List, [], _∷_, List·Memᴰ, List·Memᴰ·head, List·Memᴰ·tail, List·Memᴰ·cases-cons, List·Memᴰ·not-nil}
+use Prim.Native.Nat.{ℕ}
 use native.Mathlib.Omega.{arith}
-use lib.ListN.{length, getD}
+use lib.ListN.{getD}
 use Rattle.sets.specs.Tests.{Set}
 use Rattle.theory.specs.Code.{componentIn, classesIn}
 use Rattle.theory.specs.Macrostate.{begun, isAccepting}
-use Rattle.theory.specs.Run.{sourceOf, letterOf, targetOf}
+use Rattle.theory.specs.Run.{sourceOf}
 use Rattle.stricter_spec.specs.Ways.{Way, Lasso}
 use Rattle.stricter_spec.specs.Search.{OneParent, Shared, Searched}
 use Rattle.stricter_spec.specs.declared.Found.the-variants.{Nothing}

@@ -1,17 +1,16 @@
 -- The word of letter 0 for ever: E accepts it and F rejects it, so E is not stricter than F.
-use mathlib.Core.Path.{_≡_, refl, sym, _∙_, ap, ap₂}
-use mathlib.Core.Bool.{Bool, true, false, true≢false}
-use mathlib.Core.List.{List, [], _∷_, List·Memᴰ, List·Memᴰ·head, List·Memᴰ·not-nil, List·Memᴰ·eq-of-singleton}
-use Prim.Native.Nat.{ℕ, zero, suc, _<_}
+use mathlib.Core.Path.{_≡_, refl, sym, _∙_, ap}
+use mathlib.Core.Bool.{true, false, true≢false}
+use mathlib.Core.List.{List, [], _∷_, List·Memᴰ·head, List·Memᴰ·not-nil, List·Memᴰ·eq-of-singleton}
+use Prim.Native.Nat.{ℕ}
 use native.Mathlib.Omega.{arith}
 use Rattle.sets.specs.Lists.{sum}
 use Rattle.sets.specs.Masks.{bit}
 use Rattle.theory.specs.Automaton.{automaton}
-use Rattle.theory.specs.Components.{component, components}
 use Rattle.theory.specs.Examples.{E, F}
 use Rattle.theory.specs.Plan.{Reach, here, on, AcceptsWord}
 use Rattle.theory.specs.Rule.{entry}
-use Rattle.theory.specs.Word.{nextPlace, letterAt, WordOver}
+use Rattle.theory.specs.Word.{nextPlace, letterAt}
 use Rattle.theory.proofs.AboutExamples.{rejecting-cycle}
 use Rattle.stricter_spec.specs.Rules.{Stricter, Against}
 

@@ -37,11 +37,11 @@ module _ (ca cb : List ℕ) (s t : Set) (marks : List ℕ) (i : ℕ) where
   abbrev pub NoneUp : ℕ → Type 0
   NoneUp x = (y : ℕ) → row ≤ y → y < x → Lacks y
 
-  pub none-zeros : (x : ℕ) → Zeros marks row x → NoneUp x
-  none-zeros = over-zeros marks Lacks (λ y e h. absurd (omega arith)) row
+  pub none-zeros : {x : ℕ} → Zeros marks row x → NoneUp x
+  none-zeros z = over-zeros marks Lacks (λ y e h. absurd (omega arith)) row _ z
 
-  pub none-next : (x r : ℕ) → row ≤ x → x < end → NoneUp x → begun t (getD cb (x - row) 0) ≡ false → Zeros marks (x + 1) r → NoneUp r
-  none-next x r a b n f =
+  pub none-next : (x : ℕ) {r : ℕ} → row ≤ x → x < end → NoneUp x → begun t (getD cb (x - row) 0) ≡ false → Zeros marks (x + 1) r → NoneUp r
+  none-next x {r = r} a b n f =
       over-next marks Lacks (λ y e h. absurd (omega arith)) row x r n (λ h e. clash (and-r (begun s (getD ca i 0)) _ (sym (starts-row x a b) ∙ e)) f)
 
   -- no run of A may begin at i, or i does not stand for its core
@@ -54,17 +54,8 @@ module _ (ca cb : List ℕ) (s t : Set) (marks : List ℕ) (i : ℕ) where
   }
 
   pub found : (x : ℕ) → row ≤ x → x < end → 0 < getD marks x 0 → begun s (getD ca i 0) ≡ true → begun t (getD cb (x - row) 0) ≡ true → RowStart (startsIn ca cb s t) marks row end x
-  found x a b h p q = record {
-    within = omega arith;
-    inside = λ l. h;
-    begins = λ l. starts-row x a b ∙ and-i p q;
-    none = λ l. absurd (omega arith);
-  }
+  found x a b h p q = record { within = omega arith; inside = λ l. h; begins = λ l. starts-row x a b ∙ and-i p q; none = λ l. absurd (omega arith) }
 
   pub ended : (x : ℕ) → x ≡ end → NoneUp x → RowStart (startsIn ca cb s t) marks row end x
-  ended x e n = record {
-    within = omega arith;
-    inside = λ l. absurd (omega arith);
-    begins = λ l. absurd (omega arith);
-    none = λ l y a b. n y a (omega arith);
-  }
+  ended x e n =
+      record { within = omega arith; inside = λ l. absurd (omega arith); begins = λ l. absurd (omega arith); none = λ l y a b. n y a (omega arith) }

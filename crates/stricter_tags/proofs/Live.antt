@@ -10,7 +10,6 @@ use borrow.Author.Tests.{le-leb, lt-leb}
 use lib.Dec.{leb, ltb}
 use lib.ListN.{length, getD, List·getD-eq-default}
 use Rattle.sets.specs.Tests.{one}
-use Rattle.sets.proofs.Bools.{bif}
 use Rattle.trim_spec.specs.Trimmed.{isLive}
 use Rattle.trim_spec.specs.Tagged.{highs, lows}
 use Rattle.theory_laws.proofs.Tagged.{highs-at}
@@ -32,11 +31,11 @@ low-all codes low i =
     (λ l. let e = List·getD-eq-default codes 0 {n = i} (omega arith) in omega arith)
 
 -- a code's mark is above its 48 bits
-pub noted : (xs marks old new : List ℕ) (n : ℕ) → highs xs ≡ marks → length xs ≡ n
+pub noted : (xs marks : List ℕ) {old new : List ℕ} (n : ℕ) → highs xs ≡ marks → length xs ≡ n
     → Filled (λ i. one (ltb 0 (getD xs i 0 / 2 ^ 48))) 0 (length xs) old new → Filled (λ i. one (isLive marks i)) 0 n old new
 unfolding isLive
-noted xs marks old new n h e f =
-    rw e at (filled-same (λ i. one (ltb 0 (getD marks i 0))) (λ i. one (ltb 0 (getD xs i 0 / 2 ^ 48))) 0 (length xs) old new f
+noted xs marks n h e f =
+    rw e at (filled-same (λ i. one (ltb 0 (getD marks i 0))) f
     (λ x a b. ap (λ (v : ℕ). one (ltb 0 v)) (sym (highs-at xs x) ∙ ap (λ (l : List ℕ). getD l x 0) h)))
 
 -- what number k gets where the list has fewer than 65,536
@@ -50,8 +49,8 @@ all-stay codes live l = record {
       (ap (λ (b : Bool). ltb 0 (getD live i 0) || b) (le-leb 65536 (length codes) l) ∙ or-true (ltb 0 (getD live i 0))));
 }
 
-pub some-go : (codes live new : List ℕ) → length codes < 65536 → Filled (given codes live) 0 (length codes) codes new → Buried codes live new
-some-go codes live new l f = record {
+pub some-go : {codes : List ℕ} (live : List ℕ) {new : List ℕ} → length codes < 65536 → Filled (given codes live) 0 (length codes) codes new → Buried codes live new
+some-go {codes = codes} live l f = record {
   long = f .long;
   each = λ i m. f .inside i (omega arith) m
       ∙ sym (ap (λ (b : Bool). cond b (getD codes i 0) (getD codes i 0 % 2 ^ 48 + 2 ^ 48 * length codes))
@@ -62,7 +61,7 @@ one-live : (b : Bool) (v : ℕ) → v ≡ one b → ltb 0 v ≡ b
 one-live true v e = ap (ltb 0) e
 one-live false v e = ap (ltb 0) e
 
-module _ (codes marks tagged live new : List ℕ) (T : TaggedCodes codes tagged)
+module _ {codes : List ℕ} (marks : List ℕ) {tagged live new : List ℕ} (T : TaggedCodes codes tagged)
     (low : (i : ℕ) → getD codes i 0 < 2 ^ 48)
     (noted : (i : ℕ) → i < length codes → getD live i 0 ≡ one (isLive marks i)) (B : Buried tagged live new) where
   told-by : (b : Bool) (i : ℕ) → i < length codes → (isLive marks i || leb 65536 (length codes)) ≡ b → getD new i 0 ≡ getD codes i 0 + 281474976710656 * toldOf codes marks i

@@ -16,8 +16,8 @@ use Rattle.stricter_laws.proofs.First.{first-is}
 
 -- ---- the codes up to a number
 
-pub asc-take : (codes : List ℕ) (n : ℕ) → n ≤ length codes → Ascending codes → Ascending (take n codes)
-asc-take codes n fits asc =
+pub asc-take : {codes : List ℕ} (n : ℕ) → n ≤ length codes → Ascending codes → Ascending (take n codes)
+asc-take {codes = codes} n fits asc =
     let b = length-take-le n codes fits in
     asc-from (take n codes) (λ p q h l.
     omega (arith, getD-take n codes p 0 (omega arith), getD-take n codes q 0 (omega arith), asc-at codes asc p q h (omega arith)))
@@ -43,7 +43,7 @@ module _ (xs : List ℕ) (i : ℕ) (fits : i < length xs) (asc : Ascending (take
   front k h = getD-take i xs k 0 h
 
   pub front-asc : Ascending (take i xs)
-  front-asc = rw (sym (take-take i (i + 1) xs (omega arith))) (asc-take (take (i + 1) xs) i (omega (arith, length-take-le (i + 1) xs (omega arith))) asc)
+  front-asc = rw (sym (take-take i (i + 1) xs (omega arith))) (asc-take i (omega (arith, length-take-le (i + 1) xs (omega arith))) asc)
 
   first-at-place : (p : ℕ) → p ≤ i → coreIn (getD xs p 0) ≡ coreIn (getD xs i 0)
       → ((j : ℕ) → j < p → coreIn (getD xs j 0) ≡ coreIn (getD xs i 0) → ⊥) → p ≡ firstOf (take (i + 1) xs) i

@@ -36,20 +36,20 @@ use Rattle.stricter_laws.proofs.Tags.{core-number}
 use Rattle.stricter_tags_moves.specs.Spared.{sparedIn}
 use Rattle.stricter_tags_moves.proofs.Spared.{mask-is}
 
-module _ (r : Rule) (opens parts : List ℕ) (shape : Shape) (T : RuleTables r opens parts shape) where
+module _ {r : Rule} {opens parts : List ℕ} {shape : Shape} (T : RuleTables r opens parts shape) where
   -- ---- the step back from a core
 
-  module _ (a ranks : ℕ) (known : a < shape .s) (w : Cored parts (shape .components) ranks) (low : List ℕ) (L : Lowest ranks low)
-      (back : ℕ) (levels : List ℕ) (B : Back opens a (getD low 15 0) parts (shape .components) low back levels) where
+  module _ {a ranks : ℕ} (known : a < shape .s) (w : Cored parts (shape .components) ranks) {low : List ℕ} (L : Lowest ranks low)
+      {back : ℕ} {levels : List ℕ} (B : Back opens a (getD low 15 0) parts (shape .components) low back levels) where
     top-level : (K : ℕ) → K < (automaton r) .components → getD levels K 0 / 2 ^ 60 % 16 ≡ levelLeft (automaton r) a ranks K 15
     top-level K l = level-is (automaton r) (layered r (T .shaped .passing)) (r .s) opens parts (T .shaped .masks) (T .table) a ranks (omega (arith, T .shaped .letters-are))
         (within-all (T .shaped) ranks (w .within)) low L back levels (rw (T .shaped .components-are) at B) K 15 l (omega arith)
 
-    pub over-is : (c d : ℕ) → Macrostate (automaton r) d → vectorOf (automaton r) (rankIn (automaton r) d) ≡ ranks → Goes (automaton r) c a d
+    pub over-is : {c d : ℕ} → Macrostate (automaton r) d → vectorOf (automaton r) (rankIn (automaton r) d) ≡ ranks → Goes (automaton r) c a d
         → mask (shape .components) (sparedIn ranks parts levels) ≡ mask 8 (λ K. ltb K ((automaton r) .components) && spares (automaton r) a c d K)
-    over-is c d N e G =
+    over-is N e G =
         ap₂ (λ (n x : ℕ). mask n (sparedIn x parts levels)) (T .shaped .components-are) (sym e)
-        ∙ mask-is (automaton r) (layered r (T .shaped .passing)) parts (T .shaped .masks) a c d N G levels
+        ∙ mask-is (layered r (T .shaped .passing)) (T .shaped .masks) N G levels
         (λ K l. top-level K l ∙ ap (λ (x : ℕ). levelLeft (automaton r) a x K 15) (sym e))
 
   -- ---- the codes
@@ -60,30 +60,30 @@ module _ (r : Rule) (opens parts : List ℕ) (shape : Shape) (T : RuleTables r o
 
     pub code-known : length codes ≤ 65536 → (i : ℕ) → i < length codes → getD codes i 0 / 1099511627776 % 16 < shape .components
     code-known room i l =
-        let M = macrostate-at r (T .shaped .passing) start room i l in
+        let M = macrostate-at (T .shaped .passing) start room i l in
         omega (arith, pair-component (automaton r) (getD codes i 0) (M .coded), M .component, T .shaped .components-are)
 
     -- ---- a transition between them
 
-    module _ (tagged : List ℕ) (few : length tagged ≤ 65536) (C : TaggedCodes codes tagged) (t : ℕ) (m : List·Memᴰ t (transitionsFrom r start)) where
+    module _ {tagged : List ℕ} (few : length tagged ≤ 65536) (C : TaggedCodes codes tagged) {t : ℕ} (m : List·Memᴰ t (transitionsFrom r start)) where
       room : length codes ≤ 65536
       room = omega (arith, C .long)
 
       pub target-low : targetOf t < length codes
-      target-low = table-inside r (T .shaped .passing) start room .targets t m
+      target-low = table-inside (T .shaped .passing) start room .targets t m
 
       pub letter-known : letterOf t < shape .s
-      letter-known = omega (arith, letter-low r (T .shaped .passing) start room t m, T .shaped .letters-are)
+      letter-known = omega (arith, letter-low (T .shaped .passing) start room m, T .shaped .letters-are)
 
       pub step : Goes (automaton r) (getD codes (sourceOf t) 0) (letterOf t) (getD codes (targetOf t) 0)
-      step = goes r (T .shaped .passing) start room t m
+      step = goes (T .shaped .passing) start room m
 
       -- the code of the target, and the vector of its ranks
       abbrev code : ℕ
       code = getD codes (targetOf t) 0
 
       pub target : Macrostate (automaton r) code
-      target = macrostate-at r (T .shaped .passing) start room (targetOf t) target-low
+      target = macrostate-at (T .shaped .passing) start room (targetOf t) target-low
 
       pub vector-cores : Cored parts (shape .components) (vectorOf (automaton r) (rankIn (automaton r) code))
       vector-cores = rw (T .shaped .components-are) (vector-cored (automaton r) (layered r (T .shaped .passing)) parts (T .shaped .masks) code target)
@@ -100,13 +100,13 @@ module _ (r : Rule) (opens parts : List ℕ) (shape : Shape) (T : RuleTables r o
           )
 
       top-is : getD tagged (targetOf t) 0 / 281474976710656 ≡ firstOf codes (targetOf t)
-      top-is = core-number codes tagged C (codes-low r (T .shaped .passing) start room) (targetOf t) target-low
+      top-is = core-number C (codes-low (T .shaped .passing) start room) (targetOf t) target-low
 
       pub top-low : getD tagged (targetOf t) 0 / 281474976710656 < 65536
       top-low = omega (arith, top-is, first-low codes (targetOf t), target-low)
 
       pub move-low : t < 1099511627776
-      move-low = moves-low r (T .shaped .passing) start room t m
+      move-low = moves-low (T .shaped .passing) start room t m
 
       -- the tags, above the transition
       pub tags-are : (spared : ℕ) → spared ≡ mask 8 (λ K. ltb K ((automaton r) .components) && spares (automaton r) (letterOf t) (getD codes (sourceOf t) 0) code K)

@@ -57,7 +57,7 @@ mask-put k acc x f l e h =
 pub mask-small : (k : ℕ) (f : Set) → k ≤ 8 → mask k f < 256
 mask-small k f l = let h = mask-lt k f in let p = pow-mono {i = k} {j = 8} l in omega arith
 
-module _ (A : Automaton) (H : Layered A) (parts : List ℕ) (P : Parts A parts) (a c d : ℕ) (N : Macrostate A d) (G : Goes A c a d) where
+module _ {A : Automaton} (H : Layered A) {parts : List ℕ} (P : Parts A parts) {a c d : ℕ} (N : Macrostate A d) (G : Goes A c a d) where
   -- the vector of d's ranks
   abbrev v : ℕ
   v = vectorOf A (rankIn A d)
@@ -85,7 +85,7 @@ module _ (A : Automaton) (H : Layered A) (parts : List ℕ) (P : Parts A parts) 
 
   module _ (K : ℕ) where
     abbrev left : ℕ
-    left = leftOf A H a c d (G .level) (G .earlier) K 15
+    left = leftOf H a c d (G .level) (G .earlier) K 15
 
     member : (q : ℕ) → q < A .n → openOf A (earlierSet A a v) K q && leb (earlierRank A a v q) 15 ≡ openOf A (setIn A c) K q && leb (rankIn A c q) 15
     unfolding openOf
@@ -110,16 +110,16 @@ module _ (A : Automaton) (H : Layered A) (parts : List ℕ) (P : Parts A parts) 
         by-cases (ℕ-discrete (classesAt A d K) 0)
         (λ z. z)
         (λ z. let g = largest-hit (A .n) (λ q. openOf A (setIn A c) K q && leb (rankIn A c q) 15) (G .level) (omega arith) in
-        spared-level A H a c d (G .level) (G .earlier) K t (g .0) (g .1) (and-l (openOf A (setIn A c) K (g .0)) (leb (rankIn A c (g .0)) 15) (g .2)) (g .3 ∙ e))
+        spared-level H a c d (G .level) (G .earlier) K t (g .0) (g .1) (and-l (openOf A (setIn A c) K (g .0)) (leb (rankIn A c (g .0)) 15) (g .2)) (g .3 ∙ e))
 
     spares-are : spares A a c d K ≡ sparedBy (classesAt A d K) left
     spares-are =
         bif (spares A a c d K)
-        (λ t. let low = left-low A H a c d (G .level) (G .earlier) K 15 in
+        (λ t. let low = left-low H a c d (G .level) (G .earlier) K 15 in
         t ∙ by-cases (ℕ-discrete left (classesAt A d K))
         (λ e. sym (spared-none (classesAt A d K) left (top-none t e)))
         (λ e. sym (spared-less (classesAt A d K) left (omega arith))))
-        (λ t. t ∙ sym (spared-not (classesAt A d K) left (unspared-some A H a c d (G .level) (G .earlier) K t) (full-stays A H a c d (G .level) (G .earlier) K t 15 classes-low)))
+        (λ t. t ∙ sym (spared-not (classesAt A d K) left (unspared-some H a c d (G .level) (G .earlier) K t) (full-stays H a c d (G .level) (G .earlier) K t 15 classes-low)))
 
     spares-is : K < A .components → (level : ℕ) → level ≡ levelLeft A a v K 15 → sparedBy (classCount v (getD parts K 0)) level ≡ spares A a c d K
     spares-is l level e = ap₂ sparedBy (classes-are K l) (e ∙ left-same) ∙ sym spares-are

@@ -1,6 +1,6 @@
 -- `leads` meets its contract.
 use mathlib.Core.Path.{_≡_, refl}
-use mathlib.Core.Bool.{Bool, true, cond}
+use mathlib.Core.Bool.{Bool, cond}
 use Prim.Native.Nat.{ℕ, _+_, _-_, _*_, _≤_, _<_}
 use native.Mathlib.Omega.{arith}
 use borrow.Author.Needs.{needs}
@@ -58,17 +58,15 @@ module _ (at-loop : tie.At-loop Inv-loop μ-loop) where
   ended end i h cut =
       let a = start .args in let p = start .pre in
       missed-leading (a .nb) (a .left .now) (a .right .now) (a .marks .now) (a .ask .second) (a .ask .k) (a .ask .other) (a .cuts .now)
-      (p .0 .0 .0) (p .0 .0 .1) (a .j) (p .0 .1) i cut (p .1 .1) (at-loop .loop .p) (at-loop .loop .inv .0) end (at-loop .loop .inv .2) (p .0 .3)
+      (p .0 .0 .1) (a .j) (p .0 .1) i cut (p .1 .1) (at-loop .loop .p) (at-loop .loop .inv .0) end (at-loop .loop .inv .2) (p .0 .3)
 
   -- u does so, its letter being a
-  by-letter : (x : ℕ) (r : Bool) → x ≡ letterOf u
+  by-letter : (x : ℕ) {r : Bool} → x ≡ letterOf u
       → Met (λ t. needed (start .args .ask .other) (sparing (cond (start .args .ask .second) u t) (start .args .ask .k))) (start .args .nb) (start .args .left .now)
       (getD (start .args .cuts .now) x 0) (getD (start .args .cuts .now) (x + 1) 0) (ontoOf u) (start .args .marks .now) r
       → MetBy (start .args .nb) (start .args .left .now) (start .args .right .now) (start .args .marks .now) (start .args .ask .second) (start .args .ask .k)
       (start .args .ask .other) (start .args .cuts .now) u r
-  by-letter x r e m =
-      let a = start .args in
-      met-at (λ t. needed (a .ask .other) (sparing (cond (a .ask .second) u t) (a .ask .k))) (a .nb) (a .left .now) (a .cuts .now) x (letterOf u) (ontoOf u) (a .marks .now) r e m
+  by-letter x e m = met-at (start .args .cuts .now) x (letterOf u) e m
 
 element-copy-out-has-marked : tie.Need-element-copy-out-has-marked Inv-loop μ-loop
 element-copy-out-has-marked c = omega (arith, letter-low (c .before .before .before .before .before) (omega arith), c .letter-of .ensures)
@@ -97,8 +95,8 @@ returns-2 c =
     let p = start at-loop .pre in
     let s : rowOf (u at-loop) ≡ a .j = omega (arith, after-letter .before .before .row-of .ensures) in
     λ i h cut. met-leading (a .nb) (a .left .now) (a .right .now) (a .marks .now) (a .ask .second) (a .ask .k) (a .ask .other) (a .cuts .now)
-    (p .0 .0 .0) (p .0 .0 .1) (a .j) (p .0 .1) i cut (u at-loop) (mem-at (a .right .now) (at-loop .loop .p) (omega arith)) s
-    (c .before .has-marked .result) (c .if2 .taken) (by-letter at-loop _ _ (after-letter .letter-of .ensures) (c .before .has-marked .ensures))
+    (p .0 .0 .1) (a .j) (p .0 .1) i cut (mem-at (a .right .now) (at-loop .loop .p) (omega arith)) s
+    (c .before .has-marked .result) (c .if2 .taken) (by-letter at-loop _ (after-letter .letter-of .ensures) (c .before .has-marked .ensures))
 
 loop-again : tie.Need-loop-again Inv-loop μ-loop
 loop-again c =
@@ -108,7 +106,7 @@ loop-again c =
       omega arith,
       omega arith,
       missed-next (a .nb) (a .left .now) (a .right .now) (a .marks .now) (a .ask .second) (a .ask .k) (a .ask .other) (a .cuts .now) (a .j) (at-loop .loop .p) (u at-loop) refl
-          (by-letter at-loop _ _ (after-letter .letter-of .ensures) (c .before .has-marked .ensures) .no (c .if2 .left)) (at-loop .loop .inv .2),
+          (by-letter at-loop _ (after-letter .letter-of .ensures) (c .before .has-marked .ensures) .no (c .if2 .left)) (at-loop .loop .inv .2),
     )
 
 pub leads-spec : {M : Type 1} → statement M

@@ -1,6 +1,5 @@
 -- `least_of` meets its contract.
 use mathlib.Core.Path.{sym, ap}
-use mathlib.Core.Bool.{Bool}
 use borrow.Author.Needs.{needs}
 use Rattle.stricter_core_rows.specs.Rows.{needed}
 use Rattle.stricter_core_rows.proofs.Parts.{digit-spares, digit-not}

@@ -1,11 +1,7 @@
 -- `drop_pair` meets its contract.
-use mathlib.Core.Bool.{false}
-use Prim.Native.Nat.{_+_, _*_}
 use native.Mathlib.Omega.{arith}
 use borrow.Author.Needs.{needs}
 use Rattle.stricter_laws.proofs.Rows.{cut-le}
-use Rattle.stricter_spec.specs.Tags.{untagged}
-use Rattle.stricter_spec.specs.Steps.{CoreStep, SparedStep}
 use Rattle.stricter_laws.proofs.Tags.{untagged-long}
 use Rattle.stricter_laws.proofs.Ends.{thinned-start, thinned-one}
 use Rattle.stricter_cores.proofs.drop_pair.Statement.{statement}
@@ -16,18 +12,17 @@ leads-requires c κs =
     let a = c .before .before .before .before .args in let p = c .before .before .before .before .pre in
     let r = p .0 .1 in (
       ((p .0 .0, r .fits), p .3, omega arith, omega arith),
-      (λ b l. omega (arith, cut-le (untagged (a .left .now)) (r .fits .ascend-A) (a .i) (a .cuts .now) (p .1) b l, untagged-long (a .left .now)), r .rows),
+      (λ b l. omega (arith, cut-le (r .fits .ascend-A) (a .i) (a .cuts .now) (p .1) b l, untagged-long (a .left .now)), r .rows),
     )
 
 returns : tie.Need-returns
-returns c = let a = c .before .before .before .before .before .before .args in thinned-start (CoreStep (a .nb) (a .left .now) (a .right .now)) (a .marks .now)
+returns c = let a = c .before .before .before .before .before .before .args in thinned-start (a .marks .now)
 
 returns-2 : tie.Need-returns-2
 returns-2 c =
-    let a = c .before .before .before .before .before .before .args in
     let p = c .before .before .before .before .before .before .pre in
-    thinned-one (CoreStep (a .nb) (a .left .now) (a .right .now)) (SparedStep (a .nb) (a .left .now) (a .right .now) false 0) (a .i * a .nb + a .j) (a .marks .now) (p .4)
-    (c .before .leads .ensures (a .i) (p .2) (p .1) .no (c .if1 .left))
+    thinned-one (p .4)
+    (c .before .leads .ensures (c .before .before .before .before .before .before .args .i) (p .2) (p .1) .no (c .if1 .left))
 
 pub drop-pair-spec : {M : Type 1} → statement M
 drop-pair-spec =

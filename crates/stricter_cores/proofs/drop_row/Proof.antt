@@ -21,14 +21,13 @@ abbrev μ-loop : tie.MeasureT-loop
 loop-holds : tie.Need-loop-holds Inv-loop μ-loop
 loop-holds c =
     let a = c .before .before .before .args in let p = c .before .before .before .pre in
-    (refl, refl, p .3, p .4, thinned-start (CoreStep (a .nb) (a .left .now) (a .right .now)) (a .marks .now))
+    (refl, refl, p .3, p .4, thinned-start (a .marks .now))
 
 drop-pair-requires : tie.Need-drop-pair-requires Inv-loop μ-loop
 drop-pair-requires c κs =
-    let a = c .before .before .before .before .before .before .args in
     let p = c .before .before .before .before .before .before .pre in let l = c .before .before .loop in
-    let long : length (l .marks) ≡ length (a .marks .now) = l .inv .4 .long in (
-      (p .0 .0, ready-same (p .0 .0) (a .nb) _ _ (a .marks .now) (l .marks) long (p .0 .1)),
+    let long : length (l .marks) ≡ length (c .before .before .before .before .before .before .args .marks .now) = l .inv .4 .long in (
+      (p .0 .0, ready-same (l .marks) long (p .0 .1)),
       p .1,
       p .2,
       omega (arith, l .inv .0, l .inv .1, l .inv .2),
@@ -43,14 +42,13 @@ next-set-requires c κs =
 
 loop-again : tie.Need-loop-again Inv-loop μ-loop
 loop-again c =
-    let at-loop = c .before .before .before .before .before .before .before in
-    let start = at-loop .before .before .before .before in let a = start .args in let l = at-loop .loop in
+    let at-loop = c .before .before .before .before .before .before .before in let l = at-loop .loop in
     let s = c .next-set .ensures in (
       l .inv .0,
       l .inv .1,
       omega (arith, l .inv .2, s .before .ordered),
       s .within,
-      thinned-then (CoreStep (a .nb) (a .left .now) (a .right .now)) (a .marks .now) (l .marks) _ (l .inv .4) (c .before .before .before .before .drop-pair .ensures),
+      thinned-then (l .inv .4) (c .before .before .before .before .drop-pair .ensures),
     )
 
 pub drop-row-spec : {M : Type 1} → statement M

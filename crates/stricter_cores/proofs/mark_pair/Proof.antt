@@ -7,7 +7,6 @@ use borrow.Author.Needs.{needs}
 use lib.ListN.{getD}
 use Rattle.sets.proofs.Bools.{not-t, not-f}
 use Rattle.stricter_laws.proofs.Rows.{cut-le}
-use Rattle.stricter_spec.specs.Tags.{untagged}
 use Rattle.stricter_spec.specs.Steps.{CoreStep, SparedStep}
 use Rattle.stricter_spec.specs.Rounds.{Leading}
 use Rattle.stricter_laws.proofs.Tags.{untagged-long}
@@ -18,7 +17,7 @@ use Rattle.stricter_cores.proofs.mark_pair.Tie as tie
 returns : tie.Need-returns
 returns c =
     let a = c .before .before .before .before .before .args in
-    tried-stays (CoreStep (a .nb) (a .left .now) (a .right .now)) (SparedStep (a .nb) (a .left .now) (a .right .now) (a .ask .second) (a .ask .k)) (a .i * a .nb + a .j) (a .marks .now)
+    tried-stays (a .i * a .nb + a .j) (a .marks .now)
     (λ h. absurd (omega arith))
 
 leads-requires : tie.Need-leads-requires
@@ -27,7 +26,7 @@ leads-requires c κs =
     let p = c .before .before .before .before .before .before .pre in
     let r = p .0 .1 in (
       ((p .0 .0, r .fits), p .3, p .4, omega (arith, p .5)),
-      (λ b l. omega (arith, cut-le (untagged (a .left .now)) (r .fits .ascend-A) (a .i) (a .cuts .now) (p .1) b l, untagged-long (a .left .now)), r .rows),
+      (λ b l. omega (arith, cut-le (r .fits .ascend-A) (a .i) (a .cuts .now) (p .1) b l, untagged-long (a .left .now)), r .rows),
     )
 
 -- what the call of `leads` told of the pair
@@ -47,7 +46,7 @@ module _ (c : tie.After-leads) where
 returns-2 : tie.Need-returns-2
 returns-2 c =
     let start = c .before .before .before .before .before .before .before .before in let a = start .args in
-    tried-stays (CoreStep (a .nb) (a .left .now) (a .right .now)) (SparedStep (a .nb) (a .left .now) (a .right .now) (a .ask .second) (a .ask .k)) (a .i * a .nb + a .j) (a .marks .now)
+    tried-stays (a .i * a .nb + a .j) (a .marks .now)
     (λ h. told (c .before) .no (not-t _ (c .if2 .taken)))
 
 returns-3 : tie.Need-returns-3
@@ -55,7 +54,7 @@ returns-3 c =
     let a = c .before .before .before .before .before .before .before .before .args in
     let yes : c .before .leads .result ≡ true = not-f _ (c .if2 .left) in
     let one : getD (a .marks .now) (a .i * a .nb + a .j) 0 ≡ 1 = omega arith in
-    tried-marks (CoreStep (a .nb) (a .left .now) (a .right .now)) (SparedStep (a .nb) (a .left .now) (a .right .now) (a .ask .second) (a .ask .k)) (a .i * a .nb + a .j) (a .marks .now)
+    tried-marks
     one (record { yes = λ r. told (c .before) .yes yes; no = λ r. absurd (true≢false r) })
 
 pub mark-pair-spec : {M : Type 1} → statement M

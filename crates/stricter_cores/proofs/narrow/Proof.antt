@@ -1,7 +1,6 @@
 -- `narrow` meets its contract.
 use mathlib.Core.Bool.{cond}
 use borrow.Author.Needs.{needs}
-use lib.ListN.{length}
 use Rattle.stricter_spec.specs.Steps.{CoreStep, SparedStep}
 use Rattle.stricter_spec.specs.Rounds.{Narrowed}
 use Rattle.stricter_laws.proofs.Fitting.{fits-same, only-sub}
@@ -20,8 +19,8 @@ module _ (c : tie.After-thin) where
       (c .thin .last .1 .1 .1 .1 .0)
   thinned =
       let a = start .args in
-      ends-narrowed (CoreStep (a .nb) (a .left .now) (a .right .now)) (SparedStep (a .nb) (a .left .now) (a .right .now)) (λ s. cond s (a .bcount) (a .acount)) (a .marks .now)
-      (c .thin .last .1 .1 .1 .1 .0) (start .pre .0 .2) (c .thin .ensures)
+      ends-narrowed (SparedStep (a .nb) (a .left .now) (a .right .now)) (λ s. cond s (a .bcount) (a .acount))
+      (start .pre .0 .2) (c .thin .ensures)
 
 passes-requires : tie.Need-passes-requires
 passes-requires c κs =
@@ -30,7 +29,7 @@ passes-requires c κs =
     let p = start after-thin .pre .0 in
     let m = after-thin .thin .last .1 .1 .1 .1 .0 in
     let d = thinned after-thin in (
-      record { fits = fits-same (length (a .acodes .now)) (a .nb) _ _ (a .marks .now) m (d .long) (p .0); rows = start after-thin .pre .1 },
+      record { fits = fits-same m (d .long) (p .0); rows = start after-thin .pre .1 },
       only-sub (a .acodes .now) (a .nb) (a .marks .now) m (d .sub) (p .1),
       d .low,
       p .3,
@@ -41,11 +40,7 @@ returns : tie.Need-returns
 returns c =
     let after-thin = c .before .before .before .before .before .before in
     let a = start after-thin .args in
-    let q = c .before .before .passes .ensures in (
-      narrowed-then (CoreStep (a .nb) (a .left .now) (a .right .now)) (SparedStep (a .nb) (a .left .now) (a .right .now)) (λ s. cond s (a .bcount) (a .acount)) (a .marks .now)
-          (after-thin .thin .last .1 .1 .1 .1 .0) _ (thinned after-thin) (q .0),
-      q .1,
-    )
+    let q = c .before .before .passes .ensures in (narrowed-then (thinned after-thin) (q .0), q .1)
 
 pub narrow-spec : {M : Type 1} → statement M
 narrow-spec =

@@ -3,9 +3,7 @@ use mathlib.Core.Path.{_≡_, sym}
 use mathlib.Core.Bool.{true, _||_, cond}
 use native.Mathlib.Omega.{arith}
 use borrow.Author.Needs.{needs}
-use lib.ListN.{length}
 use Rattle.sets.proofs.Bools.{or-l}
-use Rattle.stricter_spec.specs.Steps.{CoreStep, SparedStep}
 use Rattle.stricter_laws.proofs.Fitting.{ready-same, only-sub}
 use Rattle.stricter_laws.proofs.Turns.{pass-of}
 use Rattle.stricter_cores.proofs.pass.Statement.{statement}
@@ -19,7 +17,7 @@ rounds-requires-2 c κs =
     let start = c .before .before .before .before .before .before .before .before .before in let a = start .args in
     let p = start .pre in
     let n = c .before .before .before .rounds .ensures (λ s. cond s (a .bcount) (a .acount)) (omega arith) .narrowed in (
-      ready-same (length (a .acodes .now)) (a .nb) _ _ (a .marks .now) _ (n .long) (p .0),
+      ready-same _ (n .long) (p .0),
       only-sub (a .acodes .now) (a .nb) (a .marks .now) (c .before .before .before .rounds .last .1 .1 .1 .1 .1 .1 .0) (n .sub) (p .1),
       n .low,
       p .4,
@@ -29,8 +27,8 @@ returns : tie.Need-returns
 returns c =
     let at-rounds2 = c .before .before .before in let at-rounds = at-rounds2 .before .before .before .before in
     let start = at-rounds .before .before .before .before .before .before in let a = start .args in
-    pass-of (CoreStep (a .nb) (a .left .now) (a .right .now)) (SparedStep (a .nb) (a .left .now) (a .right .now)) (λ s. cond s (a .bcount) (a .acount)) (a .marks .now) _ _ (at-rounds .rounds .result)
-    (at-rounds2 .rounds2 .result) true
+    pass-of
+    true
     (at-rounds .rounds .ensures (λ s. cond s (a .bcount) (a .acount)) (omega arith)) (at-rounds2 .rounds2 .ensures (λ s. cond s (a .bcount) (a .acount)) (omega arith))
     (sym (or-l (at-rounds .rounds .result) (at-rounds2 .rounds2 .result) (c .if1 .taken)))
 
@@ -39,8 +37,8 @@ returns-2 c =
     let at-rounds2 = c .before .before .before in let at-rounds = at-rounds2 .before .before .before .before in
     let start = at-rounds .before .before .before .before .before .before in let a = start .args in
     let e : at-rounds2 .rounds2 .result ≡ (at-rounds .rounds .result || at-rounds2 .rounds2 .result) = rw (c .if1 .left) in
-    pass-of (CoreStep (a .nb) (a .left .now) (a .right .now)) (SparedStep (a .nb) (a .left .now) (a .right .now)) (λ s. cond s (a .bcount) (a .acount)) (a .marks .now) _ _ (at-rounds .rounds .result)
-    (at-rounds2 .rounds2 .result) (at-rounds2 .rounds2 .result)
+    pass-of
+    (at-rounds2 .rounds2 .result)
     (at-rounds .rounds .ensures (λ s. cond s (a .bcount) (a .acount)) (omega arith)) (at-rounds2 .rounds2 .ensures (λ s. cond s (a .bcount) (a .acount)) (omega arith)) e
 
 pub pass-spec : {M : Type 1} → statement M

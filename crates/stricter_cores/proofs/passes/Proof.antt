@@ -1,6 +1,5 @@
 -- `passes` meets its contract: each pass but the last takes a pair out.
 use mathlib.Core.Bool.{cond}
-use lib.ListN.{length}
 use Rattle.sets.specs.Lists.{sum}
 use Rattle.stricter_spec.specs.Steps.{CoreStep, SparedStep}
 use Rattle.stricter_spec.specs.Rounds.{Narrowed}
@@ -17,17 +16,14 @@ abbrev μ-loop : tie.MeasureT-loop
 μ-loop acodes left acount nb right bcount marks₀ marks = sum marks
 
 loop-holds : tie.Need-loop-holds Inv-loop μ-loop
-loop-holds c =
-    let a = c .before .before .before .before .args in
-    narrowed-start (CoreStep (a .nb) (a .left .now) (a .right .now)) (SparedStep (a .nb) (a .left .now) (a .right .now)) (λ s. cond s (a .bcount) (a .acount)) (a .marks .now)
-    (c .before .before .before .before .pre .2)
+loop-holds c = narrowed-start (c .before .before .before .before .args .marks .now) (c .before .before .before .before .pre .2)
 
 pass-requires : tie.Need-pass-requires Inv-loop μ-loop
 pass-requires c κs =
     let a = c .before .before .before .before .before .before .args in
     let p = c .before .before .before .before .before .before .pre in
     let l = c .before .loop in (
-      ready-same (length (a .acodes .now)) (a .nb) _ _ (a .marks .now) (l .marks) (l .inv .long) (p .0),
+      ready-same (l .marks) (l .inv .long) (p .0),
       only-sub (a .acodes .now) (a .nb) (a .marks .now) (l .marks) (l .inv .sub) (p .1),
       l .inv .low,
       p .3,
@@ -43,8 +39,7 @@ more : (c : tie.After-pass Inv-loop μ-loop) → Narrowed (CoreStep (start-of-af
     (λ s. cond s (start-of-after-pass c .args .bcount) (start-of-after-pass c .args .acount)) (start-of-after-pass c .args .marks .now) (c .pass .last .1 .1 .1 .1 .1 .1 .0)
 more c =
     let a = start-of-after-pass c .args in
-    narrowed-then (CoreStep (a .nb) (a .left .now) (a .right .now)) (SparedStep (a .nb) (a .left .now) (a .right .now)) (λ s. cond s (a .bcount) (a .acount)) (a .marks .now)
-    (c .before .before .loop .marks) _
+    narrowed-then
     (c .before .before .loop .inv) (c .pass .ensures .narrowed)
 
 returns : tie.Need-returns Inv-loop μ-loop

@@ -3,7 +3,6 @@ use mathlib.Core.Path.{_≡_, sym, subst, _∙_}
 use Prim.Native.Nat.{ℕ, _*_}
 use borrow.Author.Needs.{needs}
 use lib.ListN.{length}
-use Rattle.stricter_spec.specs.Steps.{CoreStep, SparedStep}
 use Rattle.stricter_laws.specs.Parts.{Settled}
 use Rattle.stricter_laws.proofs.Fitting.{only-sub}
 use Rattle.stricter_laws.proofs.Tries.{marking-sub}
@@ -18,7 +17,7 @@ settle-requires c κs =
     let m = c .before .before .before .sweep-out .ensures .marking in (
       m .long ∙ p .0 .fits .marked,
       only-sub (a .acodes .now) (a .nb) (a .marks .now) (c .before .before .before .sweep-out .last .1 .1 .1 .1 .1 .0)
-          (marking-sub (CoreStep (a .nb) (a .left .now) (a .right .now)) (SparedStep (a .nb) (a .left .now) (a .right .now) (a .ask .second) (a .ask .k)) (a .marks .now) _ (p .2) m) (p .1),
+          (marking-sub (p .2) m) (p .1),
     )
 
 returns : tie.Need-returns
@@ -27,8 +26,8 @@ returns c =
     let start = at-sweep-out .before .before .before .before .before .before in let a = start .args in
     let p = start .pre in let w = at-sweep-out .sweep-out .ensures in
     let e : length (a .acodes .now) * a .nb ≡ length (at-sweep-out .sweep-out .last .1 .1 .1 .1 .1 .0) = sym (w .marking .long ∙ p .0 .fits .marked) in
-    round-of (CoreStep (a .nb) (a .left .now) (a .right .now)) (SparedStep (a .nb) (a .left .now) (a .right .now) (a .ask .second) (a .ask .k)) (a .marks .now)
-    (at-sweep-out .sweep-out .last .1 .1 .1 .1 .1 .0) _ _ (p .2) w
+    round-of
+    (p .2) w
     (subst (λ (n : ℕ). Settled 0 n (at-sweep-out .sweep-out .last .1 .1 .1 .1 .1 .0) (c .before .before .settle .last .1 .1 .0) (c .before .before .settle .result)) e
     (c .before .before .settle .ensures))
 

@@ -4,7 +4,6 @@ use mathlib.Core.Bool.{Bool, true}
 use Prim.Native.Nat.{ℕ, _-_, _≤_}
 use native.Mathlib.Omega.{arith}
 use borrow.Author.Needs.{needs}
-use lib.ListN.{length}
 use Rattle.table_fixpoints_spec.proofs.Loops.{or-now, or-before}
 use Rattle.stricter_spec.specs.Steps.{CoreStep, SparedStep}
 use Rattle.stricter_spec.specs.Rounds.{Narrowed}
@@ -23,11 +22,8 @@ abbrev μ-loop : tie.MeasureT-loop
 
 loop-holds : tie.Need-loop-holds Inv-loop μ-loop
 loop-holds c =
-    let a = c .before .before .before .before .args in (
-      omega arith,
-      λ n l. side-start (CoreStep (a .nb) (a .left .now) (a .right .now)) (SparedStep (a .nb) (a .left .now) (a .right .now)) n (a .second) (a .marks .now)
-          (c .before .before .before .before .pre .2),
-    )
+    let a = c .before .before .before .before .args in
+    (omega arith, λ n l. side-start (a .second) (a .marks .now) (c .before .before .before .before .pre .2))
 
 cast-c : tie.Need-cast-c Inv-loop μ-loop
 cast-c c = omega (arith, c .before .before .before .before .before .before .pre .3)
@@ -38,7 +34,7 @@ round-requires c κs =
     let p = start .pre in let l = c .before .before .loop in
     let n : Narrowed (CoreStep (a .nb) (a .left .now) (a .right .now)) (SparedStep (a .nb) (a .left .now) (a .right .now)) (λ s. a .count) (a .marks .now) (l .marks) =
     l .inv .1 (λ s. a .count) (omega arith) .narrowed in (
-      ready-same (length (a .acodes .now)) (a .nb) _ _ (a .marks .now) (l .marks) (n .long) (p .0),
+      ready-same (l .marks) (n .long) (p .0),
       only-sub (a .acodes .now) (a .nb) (a .marks .now) (l .marks) (n .sub) (p .1),
       n .low,
       omega (arith, p .3),
@@ -47,21 +43,17 @@ round-requires c κs =
 
 loop-again : tie.Need-loop-again Inv-loop μ-loop
 loop-again c =
-    let start = c .before .before .before .before .before .before .before .before .before .before .before in
-    let a = start .args in
     let l = c .before .before .before .before .before .before .loop in (
       omega arith,
-      λ n h. side-next (CoreStep (a .nb) (a .left .now) (a .right .now)) (SparedStep (a .nb) (a .left .now) (a .right .now)) n (a .second) (l .k) (a .marks .now) (l .marks) _ (l .changed) _ true
+      λ n h. side-next true
           (omega arith) (l .inv .1 n h) (c .before .before .before .round .ensures) (or-now (l .changed) _ (c .if1 .taken)),
     )
 
 loop-again-2 : tie.Need-loop-again-2 Inv-loop μ-loop
 loop-again-2 c =
-    let start = c .before .before .before .before .before .before .before .before .before .before .before in
-    let a = start .args in
     let l = c .before .before .before .before .before .before .loop in (
       omega arith,
-      λ n h. side-next (CoreStep (a .nb) (a .left .now) (a .right .now)) (SparedStep (a .nb) (a .left .now) (a .right .now)) n (a .second) (l .k) (a .marks .now) (l .marks) _ (l .changed) _
+      λ n h. side-next
           (l .changed) (omega arith) (l .inv .1 n h) (c .before .before .before .round .ensures) (or-before (l .changed) _ (c .if1 .left)),
     )
 

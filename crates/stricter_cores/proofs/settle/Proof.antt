@@ -1,7 +1,7 @@
 -- `settle` meets its contract.
 use mathlib.Core.Path.{_≡_, _∙_}
 use mathlib.Core.Bool.{true}
-use Prim.Native.Nat.{_+_, _-_, _*_, _≤_}
+use Prim.Native.Nat.{_-_, _*_, _≤_}
 use native.Mathlib.Omega.{arith}
 use native.Mathlib.Nat.{zero-mul, suc-mul}
 use native.Mathlib.Numerals.{add-one}
@@ -27,13 +27,13 @@ settle-row-requires : tie.Need-settle-row-requires Inv-loop μ-loop
 settle-row-requires c κs =
     let a = c .before .before .before .before .before .args in let p = c .before .before .before .before .before .pre in
     let l = c .before .before .loop in
-    (l .inv .1 .long ∙ p .0, only-sub (a .acodes .now) (a .nb) (a .marks .now) (l .marks) (settled-sub 0 (l .i * a .nb) (a .marks .now) (l .marks) (l .changed) (l .inv .1)) (p .1), omega arith)
+    (l .inv .1 .long ∙ p .0, only-sub (a .acodes .now) (a .nb) (a .marks .now) (l .marks) (settled-sub (l .inv .1)) (p .1), omega arith)
 
 loop-again : tie.Need-loop-again Inv-loop μ-loop
 loop-again c =
     let start = c .before .before .before .before .before .before .before .before .before in let a = start .args in
     let l = c .before .before .before .before .before .before .loop in
-    let step = settled-then 0 (l .i * a .nb) (l .i * a .nb + a .nb) (a .marks .now) (l .marks) _ (l .changed) _ true (omega arith) (omega arith) (l .inv .1)
+    let step = settled-then true (omega arith) (omega arith) (l .inv .1)
     (c .before .before .before .settle-row .ensures) (or-now (l .changed) _ (c .if1 .taken)) in
     (omega arith, rw (add-one (l .i), suc-mul (l .i) (a .nb)) step)
 
@@ -41,7 +41,7 @@ loop-again-2 : tie.Need-loop-again-2 Inv-loop μ-loop
 loop-again-2 c =
     let start = c .before .before .before .before .before .before .before .before .before in let a = start .args in
     let l = c .before .before .before .before .before .before .loop in
-    let step = settled-then 0 (l .i * a .nb) (l .i * a .nb + a .nb) (a .marks .now) (l .marks) _ (l .changed) _ (l .changed) (omega arith) (omega arith) (l .inv .1)
+    let step = settled-then (l .changed) (omega arith) (omega arith) (l .inv .1)
     (c .before .before .before .settle-row .ensures) (or-before (l .changed) _ (c .if1 .left)) in
     (omega arith, rw (add-one (l .i), suc-mul (l .i) (a .nb)) step)
 

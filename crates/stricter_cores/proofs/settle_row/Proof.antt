@@ -27,26 +27,14 @@ returns c =
     settled-out (a .i * a .nb) (a .i * a .nb + a .nb) (a .marks .now) (row-out (a .acodes .now) (a .nb) (a .marks .now) (c .before .before .before .before .pre .1) (a .i)
     (sym (c .before .stands .ensures) ∙ not-t _ (c .if1 .taken)))
 
-mul-x : tie.Need-mul-x Inv-loop μ-loop
-mul-x c = let a = c .before .before .before .before .args in omega (
-  arith,
-  place-room (a .nb) (a .i) (length (a .acodes .now)) (c .before .before .before .before .pre .2),
-  c .before .before .before .before .pre .0,
-)
-
-add-to : tie.Need-add-to Inv-loop μ-loop
-add-to c = let a = c .before .before .before .before .args in omega (
-  arith,
-  place-room (a .nb) (a .i) (length (a .acodes .now)) (c .before .before .before .before .pre .2),
-  c .before .before .before .before .pre .0,
-)
+-- the row ends within the marks
+ends : (c : tie.Start Inv-loop μ-loop) → c .args .i * c .args .nb + c .args .nb ≤ length (c .args .marks .now)
+ends c = rw (c .pre .0) (place-room (c .args .nb) (c .args .i) (length (c .args .acodes .now)) (c .pre .2))
 
 loop-holds : tie.Need-loop-holds Inv-loop μ-loop
 loop-holds c =
-    let a = c .before .before .before .before .args in
-    let r : a .i * a .nb + a .nb ≤ length (a .marks .now) = rw (c .before .before .before .before .pre .0)
-    (place-room (a .nb) (a .i) (length (a .acodes .now)) (c .before .before .before .before .pre .2)) in
-    (refl, omega arith, omega arith, r, settled-start (a .i * a .nb) (a .marks .now))
+    let start = c .before .before .before .before in
+    (refl, omega arith, omega arith, ends start, settled-start (start .args .i * start .args .nb) (start .args .marks .now))
 
 next-set-requires : tie.Need-next-set-requires Inv-loop μ-loop
 next-set-requires c κs = let l = c .before .before .loop in (omega arith, omega (arith, l .inv .3, l .inv .4 .long))
@@ -56,7 +44,7 @@ returns-2 c =
     let start = c .before .before .before .before .before .before .before .before .before in
     let l = c .before .before .before .before .loop in let a = start .args in let s = c .before .next-set .ensures in
     let e : c .before .next-set .result ≡ a .i * a .nb + a .nb = omega (arith, l .inv .0) in
-    rw e at (settled-zeros (a .i * a .nb) (l .x) (c .before .next-set .result) (a .marks .now) (l .marks) (l .changed) (l .inv .4) (l .inv .1) (s .before .ordered) (s .before .zeros))
+    rw e at (settled-zeros (c .before .next-set .result) (l .inv .4) (l .inv .1) (s .before .ordered) (s .before .zeros))
 
 -- the place found is one of the row
 room : (c : tie.Else2 Inv-loop μ-loop) → c .before .next-set .result < length (c .before .before .before .before .loop .marks)
@@ -69,25 +57,21 @@ start-of-else2 c = c .before .before .before .before .before .before .before .be
 reached : (c : tie.Else2 Inv-loop μ-loop) → Settled (start-of-else2 c .args .i * start-of-else2 c .args .nb) (c .before .next-set .result) (start-of-else2 c .args .marks .now)
     (c .before .before .before .before .loop .marks) (c .before .before .before .before .loop .changed)
 reached c =
-    let l = c .before .before .before .before .loop in
-    let a = start-of-else2 c .args in
-    let s = c .before .next-set .ensures in
-    settled-zeros (a .i * a .nb) (l .x) (c .before .next-set .result) (a .marks .now) (l .marks) (l .changed) (l .inv .4) (l .inv .1) (s .before .ordered) (s .before .zeros)
+    let l = c .before .before .before .before .loop in let s = c .before .next-set .ensures in
+    settled-zeros (c .before .next-set .result) (l .inv .4) (l .inv .1) (s .before .ordered) (s .before .zeros)
 
 loop-less : tie.Need-loop-less Inv-loop μ-loop
 loop-less c = omega (arith, c .before .before .before .next-set .ensures .before .ordered)
 
 loop-again : tie.Need-loop-again Inv-loop μ-loop
 loop-again c =
-    let start = c .before .before .before .before .before .before .before .before .before .before .before in
-    let a = start .args in let l = c .before .before .before .before .before .before .loop in
-    let s = c .before .before .before .next-set .ensures in
-    let y = c .before .before .before .next-set .result in (
+    let l = c .before .before .before .before .before .before .loop in
+    let s = c .before .before .before .next-set .ensures in (
       l .inv .0,
       omega (arith, l .inv .1, s .before .ordered),
       omega (arith, s .within),
       l .inv .3,
-      settled-next (a .i * a .nb) y (a .marks .now) (l .marks) (l .changed) (reached (c .before .before)) (omega (arith, l .inv .1, s .before .ordered)) (room (c .before .before)) _
+      settled-next (reached (c .before .before)) (omega (arith, l .inv .1, s .before .ordered)) (room (c .before .before)) _
           (omega arith) true (λ e. inr (omega arith)) (λ e. absurd (true≢false e)),
     )
 
@@ -96,15 +80,13 @@ loop-less-2 c = omega (arith, c .before .before .before .next-set .ensures .befo
 
 loop-again-2 : tie.Need-loop-again-2 Inv-loop μ-loop
 loop-again-2 c =
-    let start = c .before .before .before .before .before .before .before .before .before .before .before in
-    let a = start .args in let l = c .before .before .before .before .before .before .loop in
-    let s = c .before .before .before .next-set .ensures in
-    let y = c .before .before .before .next-set .result in (
+    let l = c .before .before .before .before .before .before .loop in
+    let s = c .before .before .before .next-set .ensures in (
       l .inv .0,
       omega (arith, l .inv .1, s .before .ordered),
       omega (arith, s .within),
       l .inv .3,
-      settled-next (a .i * a .nb) y (a .marks .now) (l .marks) (l .changed) (reached (c .before .before)) (omega (arith, l .inv .1, s .before .ordered)) (room (c .before .before)) _ (omega arith)
+      settled-next (reached (c .before .before)) (omega (arith, l .inv .1, s .before .ordered)) (room (c .before .before)) _ (omega arith)
           (l .changed) (λ e. inl e) (λ e. (e, λ h. omega arith)),
     )
 
@@ -117,6 +99,6 @@ returns-3 c =
 pub settle-row-spec : {M : Type 1} → statement M
 settle-row-spec =
     tie.close (tie.spec
-    Inv-loop μ-loop (λ c κs. search needs) returns mul-x add-to loop-holds next-set-requires
+    Inv-loop μ-loop (λ c κs. search needs) returns (λ c. let h = ends (c .before .before .before .before) in omega arith) (λ c. let h = ends (c .before .before .before .before) in omega arith) loop-holds next-set-requires
     (λ c. c .before .before .before .before .loop .inv .4 .long) returns-2 (λ c. room (c .before)) (λ c. room (c .before))
     (λ c. omega (arith, room (c .before))) loop-less loop-again loop-less-2 loop-again-2 (λ c. c .before .loop .inv .4 .long) returns-3)

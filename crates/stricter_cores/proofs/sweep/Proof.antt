@@ -1,7 +1,7 @@
 -- `sweep` meets its contract.
 use mathlib.Core.Path.{_≡_}
 use mathlib.Core.Bool.{true}
-use Prim.Native.Nat.{_+_, _-_, _*_, _≤_}
+use Prim.Native.Nat.{_-_, _*_, _≤_}
 use native.Mathlib.Omega.{arith}
 use native.Mathlib.Nat.{zero-mul, suc-mul}
 use native.Mathlib.Numerals.{add-one}
@@ -24,40 +24,27 @@ abbrev μ-loop : tie.MeasureT-loop
 
 loop-holds : tie.Need-loop-holds Inv-loop μ-loop
 loop-holds c =
-    let a = c .before .before .before .before .args in (
-      omega arith,
-      tried-none (CoreStep (a .nb) (a .left .now) (a .right .now)) (SparedStep (a .nb) (a .left .now) (a .right .now) (a .ask .second) (a .ask .k)) 0 (0 * a .nb) (a .marks .now)
-          (λ x f t h. omega (arith, zero-mul (a .nb))),
-    )
+    let a = c .before .before .before .before .args in
+    (omega arith, tried-none 0 (0 * a .nb) (a .marks .now) (λ x f t h. omega (arith, zero-mul (a .nb))))
 
 visit-row-requires : tie.Need-visit-row-requires Inv-loop μ-loop
 visit-row-requires c κs =
-    let start = c .before .before .before .before .before .before .before in let a = start .args in
-    let p = start .pre in
-    let l = c .before .before .loop in (
-      ready-same (length (a .acodes .now)) (a .nb) _ _ (a .marks .now) (l .marks) (l .inv .1 .long) (p .0),
-      begun-only (CoreStep (a .nb) (a .left .now) (a .right .now)) (SparedStep (a .nb) (a .left .now) (a .right .now) (a .ask .second) (a .ask .k)) (a .acodes .now) (a .nb) (l .marks)
-          (begun-next (CoreStep (a .nb) (a .left .now) (a .right .now)) (SparedStep (a .nb) (a .left .now) (a .right .now) (a .ask .second) (a .ask .k)) (a .acodes .now) (a .nb) 0 (l .i * a .nb)
-          (a .marks .now) (l .marks) (l .changed) (l .inv .1) (p .3)),
-      omega arith,
-      p .1,
-      p .2,
-    )
+    let start = c .before .before .before .before .before .before .before in let p = start .pre in
+    let l = c .before .before .loop in
+    (ready-same (l .marks) (l .inv .1 .long) (p .0), begun-only (begun-next (l .inv .1) (p .3)), omega arith, p .1, p .2)
 
 loop-again : tie.Need-loop-again Inv-loop μ-loop
 loop-again c =
     let start = c .before .before .before .before .before .before .before .before .before .before .before in
     let a = start .args in let l = c .before .before .before .before .before .before .loop in
-    let step = tried-then (CoreStep (a .nb) (a .left .now) (a .right .now)) (SparedStep (a .nb) (a .left .now) (a .right .now) (a .ask .second) (a .ask .k)) 0 (l .i * a .nb) (l .i * a .nb + a .nb)
-    (a .marks .now) (l .marks) _ (l .changed) _ true (l .inv .1) (c .before .before .before .visit-row .ensures) (or-now (l .changed) _ (c .if1 .taken)) in
+    let step = tried-then true (l .inv .1) (c .before .before .before .visit-row .ensures) (or-now (l .changed) _ (c .if1 .taken)) in
     (omega arith, rw (add-one (l .i), suc-mul (l .i) (a .nb)) step)
 
 loop-again-2 : tie.Need-loop-again-2 Inv-loop μ-loop
 loop-again-2 c =
     let start = c .before .before .before .before .before .before .before .before .before .before .before in
     let a = start .args in let l = c .before .before .before .before .before .before .loop in
-    let step = tried-then (CoreStep (a .nb) (a .left .now) (a .right .now)) (SparedStep (a .nb) (a .left .now) (a .right .now) (a .ask .second) (a .ask .k)) 0 (l .i * a .nb) (l .i * a .nb + a .nb)
-    (a .marks .now) (l .marks) _ (l .changed) _ (l .changed) (l .inv .1) (c .before .before .before .visit-row .ensures) (or-before (l .changed) _ (c .if1 .left)) in
+    let step = tried-then (l .changed) (l .inv .1) (c .before .before .before .visit-row .ensures) (or-before (l .changed) _ (c .if1 .left)) in
     (omega arith, rw (add-one (l .i), suc-mul (l .i) (a .nb)) step)
 
 returns : tie.Need-returns Inv-loop μ-loop

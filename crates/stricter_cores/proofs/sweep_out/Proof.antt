@@ -18,31 +18,20 @@ abbrev μ-loop : tie.MeasureT-loop
 μ-loop acodes left right nb ask marks₀ marks = 2 * length marks₀ - sum marks
 
 loop-holds : tie.Need-loop-holds Inv-loop μ-loop
-loop-holds c =
-    let a = c .before .before .before .before .args in
-    marking-start (CoreStep (a .nb) (a .left .now) (a .right .now)) (SparedStep (a .nb) (a .left .now) (a .right .now) (a .ask .second) (a .ask .k)) (a .marks .now)
+loop-holds c = marking-start (c .before .before .before .before .args .marks .now)
 
 sweep-requires : tie.Need-sweep-requires Inv-loop μ-loop
 sweep-requires c κs =
     let a = c .before .before .before .before .before .before .args in
-    let p = c .before .before .before .before .before .before .pre in
-    let l = c .before .loop in (
-      ready-same (length (a .acodes .now)) (a .nb) _ _ (a .marks .now) (l .marks) (l .inv .long) (p .0),
-      p .3,
-      p .4,
-      record { base = a .marks .now; low = p .2; cores = p .1; marking = l .inv },
-    )
+    let p = c .before .before .before .before .before .before .pre in let l = c .before .loop in
+    (ready-same (l .marks) (l .inv .long) (p .0), p .3, p .4, record { base = a .marks .now; low = p .2; cores = p .1; marking = l .inv })
 
 loop-less : tie.Need-loop-less Inv-loop μ-loop
 loop-less c =
     let start = c .before .before .before .before .before .before .before .before .before .before in
     let a = start .args in
     let m = c .before .before .before .sweep .ensures .marking (a .marks .now) (start .pre .2) (c .before .before .before .before .before .loop .inv) in
-    omega (
-      arith,
-      c .before .before .before .sweep .ensures .grown (c .if1 .taken),
-      marking-sum (CoreStep (a .nb) (a .left .now) (a .right .now)) (SparedStep (a .nb) (a .left .now) (a .right .now) (a .ask .second) (a .ask .k)) (a .marks .now) _ (start .pre .2) m,
-    )
+    omega (arith, c .before .before .before .sweep .ensures .grown (c .if1 .taken), marking-sum (start .pre .2) m)
 
 loop-again : tie.Need-loop-again Inv-loop μ-loop
 loop-again c =
@@ -55,9 +44,8 @@ same-length c = c .before .before .before .sweep .ensures .long ∙ c .before .b
 returns : tie.Need-returns Inv-loop μ-loop
 returns c =
     let start = c .before .before .before .before .before .before .before .before .before .before in
-    let a = start .args in
-    swept-end (CoreStep (a .nb) (a .left .now) (a .right .now)) (SparedStep (a .nb) (a .left .now) (a .right .now) (a .ask .second) (a .ask .k)) (length (a .acodes .now) * a .nb) (a .marks .now)
-    (c .before .before .before .before .before .loop .marks) _ (start .pre .0 .fits .marked) (start .pre .2) (c .before .before .before .before .before .loop .inv)
+    swept-end
+    (start .pre .0 .fits .marked) (start .pre .2) (c .before .before .before .before .before .loop .inv)
     (rw (c .if1 .left) at (c .before .before .before .sweep .ensures))
 
 pub sweep-out-spec : {M : Type 1} → statement M

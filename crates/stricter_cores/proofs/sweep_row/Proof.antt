@@ -24,14 +24,7 @@ abbrev μ-loop : tie.MeasureT-loop
 loop-holds : tie.Need-loop-holds Inv-loop μ-loop
 loop-holds c =
     let a = c .before .before .before .args in
-    let p = c .before .before .before .pre in (
-      refl,
-      refl,
-      p .3,
-      p .4,
-      tried-none (CoreStep (a .nb) (a .left .now) (a .right .now)) (SparedStep (a .nb) (a .left .now) (a .right .now) (a .ask .second) (a .ask .k)) (a .from) (a .from)
-          (a .marks .now) (λ x f t h. omega arith),
-    )
+    let p = c .before .before .before .pre in (refl, refl, p .3, p .4, tried-none (a .from) (a .from) (a .marks .now) (λ x f t h. omega arith))
 
 next-set-requires : tie.Need-next-set-requires Inv-loop μ-loop
 next-set-requires c κs = let l = c .before .before .loop in (omega arith, omega (arith, l .inv .1, l .inv .4 .long, c .before .before .before .before .before .before .pre .7))
@@ -41,8 +34,7 @@ returns c =
     let start = c .before .before .before .before .before .before .before .before in let a = start .args in
     let l = c .before .before .before .before .loop in
     let e : c .before .next-set .result ≡ a .i * a .nb + a .nb = omega (arith, l .inv .1) in
-    rw e at (tried-zeros (CoreStep (a .nb) (a .left .now) (a .right .now)) (SparedStep (a .nb) (a .left .now) (a .right .now) (a .ask .second) (a .ask .k)) (a .from) (l .x)
-    (c .before .next-set .result) (a .marks .now) (l .marks) (l .changed) (l .inv .4) (c .before .next-set .ensures .before .zeros))
+    rw e at (tried-zeros (c .before .next-set .result) (l .inv .4) (c .before .next-set .ensures .before .zeros))
 
 mark-pair-requires : tie.Need-mark-pair-requires Inv-loop μ-loop
 mark-pair-requires c κs =
@@ -50,7 +42,7 @@ mark-pair-requires c κs =
     let p = start .pre in let l = c .before .before .before .before .before .loop in
     let s = c .before .before .next-set .ensures in
     let long : length (l .marks) ≡ length (a .marks .now) = l .inv .4 .long in (
-      (p .0 .0, ready-same (p .0 .0) (a .nb) _ _ (a .marks .now) (l .marks) long (p .0 .1)),
+      (p .0 .0, ready-same (l .marks) long (p .0 .1)),
       p .1,
       p .2,
       omega (arith, l .inv .0, l .inv .1, l .inv .2, s .before .ordered, s .within),
@@ -73,8 +65,8 @@ loop-again c =
       l .inv .1,
       omega (arith, l .inv .2, s .before .ordered),
       omega (arith, s .within),
-      tried-turn (CoreStep (a .nb) (a .left .now) (a .right .now)) (SparedStep (a .nb) (a .left .now) (a .right .now) (a .ask .second) (a .ask .k)) (a .from) (l .x) y (a .i * a .nb)
-          (y - a .i * a .nb) (a .marks .now) (l .marks) _ (l .changed) _ true (l .inv .4) (s .before .zeros) e (rw (l .inv .0) at (c .before .before .before .mark-pair .ensures))
+      tried-turn y (a .i * a .nb)
+          (y - a .i * a .nb) true (l .inv .4) (s .before .zeros) e (rw (l .inv .0) at (c .before .before .before .mark-pair .ensures))
           (or-now (l .changed) _ (c .if2 .taken)),
     )
 
@@ -92,8 +84,8 @@ loop-again-2 c =
       l .inv .1,
       omega (arith, l .inv .2, s .before .ordered),
       omega (arith, s .within),
-      tried-turn (CoreStep (a .nb) (a .left .now) (a .right .now)) (SparedStep (a .nb) (a .left .now) (a .right .now) (a .ask .second) (a .ask .k)) (a .from) (l .x) y (a .i * a .nb)
-          (y - a .i * a .nb) (a .marks .now) (l .marks) _ (l .changed) _ (l .changed) (l .inv .4) (s .before .zeros) e (rw (l .inv .0) at (c .before .before .before .mark-pair .ensures))
+      tried-turn y (a .i * a .nb)
+          (y - a .i * a .nb) (l .changed) (l .inv .4) (s .before .zeros) e (rw (l .inv .0) at (c .before .before .before .mark-pair .ensures))
           (or-before (l .changed) _ (c .if2 .left)),
     )
 

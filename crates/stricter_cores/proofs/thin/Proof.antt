@@ -17,19 +17,15 @@ abbrev μ-loop : tie.MeasureT-loop
 μ-loop acodes left right nb marks₀ i₀ marks i = length acodes - i
 
 loop-holds : tie.Need-loop-holds Inv-loop μ-loop
-loop-holds c = let a = c .before .before .before .before .args in thinned-start (CoreStep (a .nb) (a .left .now) (a .right .now)) (a .marks .now)
+loop-holds c = let a = c .before .before .before .before .args in thinned-start (a .marks .now)
 
 thin-row-requires : tie.Need-thin-row-requires Inv-loop μ-loop
 thin-row-requires c κs =
-    let start = c .before .before .before .before .before .before .before in let a = start .args in
-    let l = c .before .before .loop in
-    (ready-same (length (a .acodes .now)) (a .nb) _ _ (a .marks .now) (l .marks) (l .inv .long) (start .pre), omega arith)
+    let start = c .before .before .before .before .before .before .before in let l = c .before .before .loop in
+    (ready-same (l .marks) (l .inv .long) (start .pre), omega arith)
 
 loop-again : tie.Need-loop-again Inv-loop μ-loop
-loop-again c =
-    let start = c .before .before .before .before .before .before .before .before .before .before in
-    let a = start .args in let l = c .before .before .before .before .before .loop in
-    thinned-then (CoreStep (a .nb) (a .left .now) (a .right .now)) (a .marks .now) (l .marks) _ (l .inv) (c .before .before .thin-row .ensures)
+loop-again c = thinned-then (c .before .before .before .before .before .loop .inv) (c .before .before .thin-row .ensures)
 
 pub thin-spec : {M : Type 1} → statement M
 thin-spec =

@@ -5,13 +5,12 @@ use native.Mathlib.Omega.{arith}
 use borrow.Author.Needs.{needs}
 use lib.ListN.{length}
 use Rattle.table_fixpoints_spec.proofs.Places.{place-room}
-use Rattle.stricter_spec.specs.Steps.{CoreStep}
 use Rattle.stricter_laws.proofs.Ends.{thinned-start}
 use Rattle.stricter_cores.proofs.thin_row.Statement.{statement}
 use Rattle.stricter_cores.proofs.thin_row.Tie as tie
 
 returns : tie.Need-returns
-returns c = let a = c .before .before .before .before .before .before .args in thinned-start (CoreStep (a .nb) (a .left .now) (a .right .now)) (a .marks .now)
+returns c = let a = c .before .before .before .before .before .before .args in thinned-start (a .marks .now)
 
 -- the pairs of the row have marks
 room : (c : tie.Else1) → c .before .before .before .before .before .before .args .i * c .before .before .before .before .before .before .args .nb + c .before .before .before .before .before
@@ -22,8 +21,7 @@ room c =
 
 returns-2 : tie.Need-returns-2
 returns-2 c =
-    let start = c .before .before .before .before .before .before .before .before .before in
-    let a = start .args in thinned-start (CoreStep (a .nb) (a .left .now) (a .right .now)) (a .marks .now)
+    let a = c .before .before .before .before .before .before .before .before .before .args in thinned-start (a .marks .now)
 
 cut-low-requires : tie.Need-cut-low-requires
 cut-low-requires c κs =

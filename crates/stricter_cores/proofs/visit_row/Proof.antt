@@ -1,13 +1,11 @@
 -- `visit_row` meets its contract.
 use mathlib.Core.Path.{refl, sym, _∙_}
-use mathlib.Core.Bool.{false}
 use Prim.Native.Nat.{_+_, _*_, _≤_}
 use native.Mathlib.Omega.{arith}
 use borrow.Author.Needs.{needs}
 use lib.ListN.{length}
 use Rattle.sets.proofs.Bools.{not-t}
 use Rattle.table_fixpoints_spec.proofs.Places.{place-room}
-use Rattle.stricter_spec.specs.Steps.{CoreStep, SparedStep}
 use Rattle.stricter_laws.proofs.Fitting.{row-out}
 use Rattle.stricter_laws.proofs.Tries.{tried-none, tried-then}
 use Rattle.stricter_cores.proofs.visit_row.Statement.{statement}
@@ -16,7 +14,7 @@ use Rattle.stricter_cores.proofs.visit_row.Tie as tie
 returns : tie.Need-returns
 returns c =
     let a = c .before .before .before .before .before .before .args in
-    tried-none (CoreStep (a .nb) (a .left .now) (a .right .now)) (SparedStep (a .nb) (a .left .now) (a .right .now) (a .ask .second) (a .ask .k)) (a .i * a .nb) (a .i * a .nb + a .nb) (a .marks .now)
+    tried-none (a .i * a .nb) (a .i * a .nb + a .nb) (a .marks .now)
     (λ x f t h. let z = row-out (a .acodes .now) (a .nb) (a .marks .now) (c .before .before .before .before .before .before .pre .1) (a .i)
     (sym (c .before .stands .ensures) ∙ not-t _ (c .if1 .taken)) x f t in omega arith)
 
@@ -30,7 +28,7 @@ room c =
 returns-2 : tie.Need-returns-2
 returns-2 c =
     let start = c .before .before .before .before .before .before .before .before .before in let a = start .args in
-    tried-none (CoreStep (a .nb) (a .left .now) (a .right .now)) (SparedStep (a .nb) (a .left .now) (a .right .now) (a .ask .second) (a .ask .k)) (a .i * a .nb) (a .i * a .nb + a .nb) (a .marks .now)
+    tried-none (a .i * a .nb) (a .i * a .nb + a .nb) (a .marks .now)
     (λ x f t h. let l = c .before .next-between .ensures .none x f (omega arith) (omega arith) in omega arith)
 
 cut-low-requires : tie.Need-cut-low-requires
@@ -56,12 +54,10 @@ sweep-row-requires c κs =
 returns-3 : tie.Need-returns-3
 returns-3 c =
     let at-next-between = c .before .before .before .before .before .before .before in
-    let start = at-next-between .before .before .before .before .before .before .before .before in
-    let a = start .args in let w = at-next-between .next-between in
-    tried-then (CoreStep (a .nb) (a .left .now) (a .right .now)) (SparedStep (a .nb) (a .left .now) (a .right .now) (a .ask .second) (a .ask .k)) (a .i * a .nb) (w .result) (a .i * a .nb + a .nb)
-    (a .marks .now) (a .marks .now) _ false _ _
-    (tried-none (CoreStep (a .nb) (a .left .now) (a .right .now)) (SparedStep (a .nb) (a .left .now) (a .right .now) (a .ask .second) (a .ask .k)) (a .i * a .nb) (w .result) (a .marks .now)
-    (λ x f t h. let l = w .ensures .none x f t (omega arith) in omega arith))
+    let a = at-next-between .before .before .before .before .before .before .before .before .args in let w = at-next-between .next-between in
+    tried-then
+    _
+    (tried-none (a .i * a .nb) (w .result) (a .marks .now) (λ x f t h. let l = w .ensures .none x f t (omega arith) in omega arith))
     (c .before .before .sweep-row .ensures) refl
 
 pub visit-row-spec : {M : Type 1} → statement M

@@ -47,9 +47,8 @@ start-in-row-requires c κs =
 
 returns : tie.Need-returns Inv-loop μ-loop
 returns c =
-    let earlier = c .before .before .before .before .before .before .before in
     let s = c .before .start-in-row .ensures in let l = c .before .before .before .loop in
-    let r = room (earlier) (l .i) (c .before .before .loop-test .taken) in
+    let r = room (c .before .before .before .before .before .before .before) (l .i) (c .before .before .loop-test .taken) in
     record {
       within = omega (arith, r);
       inside = λ h. s .inside (c .if1 .taken);

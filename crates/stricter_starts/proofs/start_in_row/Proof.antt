@@ -1,10 +1,9 @@
 -- `start_in_row` meets its contract.
 use mathlib.Core.Path.{_≡_, refl, sym, _∙_}
-use mathlib.Core.Bool.{true, false, not, _&&_}
-use mathlib.Core.List.{List}
-use Prim.Native.Nat.{ℕ, _+_, _-_, _*_, _≤_, _<_}
+use mathlib.Core.Bool.{true, not}
+use Prim.Native.Nat.{_+_, _-_, _*_, _≤_, _<_}
 use native.Mathlib.Omega.{arith}
-use borrow.Author.Needs.{needs, scaled-fits}
+use borrow.Author.Needs.{needs}
 use lib.ListN.{length, getD}
 use Rattle.sets.specs.Masks.{bit}
 use Rattle.sets.proofs.Bools.{and-r, not-t, not-f}
@@ -45,7 +44,7 @@ loop-holds c =
       n .within,
       n .set,
       and-r (standsIn (a .acodes .now) (a .i)) _ (sym (c .before .before .begins-here .ensures) ∙ not-f _ (c .before .if1 .left)),
-      none-zeros (a .acodes .now) (a .bcodes .now) (λ x. bit x (a .ainitial)) (λ x. not (bit x (a .binitial))) (a .marks .now) (a .i) _ (n .before),
+      none-zeros (a .acodes .now) (a .bcodes .now) (λ x. bit x (a .ainitial)) (λ x. not (bit x (a .binitial))) (a .marks .now) (a .i) (n .before),
     )
 
 returns-2 : tie.Need-returns-2 Inv-loop μ-loop
@@ -71,7 +70,7 @@ loop-again c =
       n .within,
       n .set,
       l .inv .6,
-      none-next (a .acodes .now) (a .bcodes .now) (λ x. bit x (a .ainitial)) (λ x. not (bit x (a .binitial))) (a .marks .now) (a .i) (l .x) _
+      none-next (a .acodes .now) (a .bcodes .now) (λ x. bit x (a .ainitial)) (λ x. not (bit x (a .binitial))) (a .marks .now) (a .i) (l .x)
           (omega (arith, l .inv .0)) (omega (arith, l .inv .1)) (l .inv .7)
           (sym (c .before .before .begins-lacking .ensures) ∙ c .before .if2 .left) (n .before),
     )

@@ -4,7 +4,7 @@ use mathlib.Core.Logic.{inr}
 use mathlib.Core.Bool.{cond}
 use Prim.Native.Nat.{ℕ, _+_, _-_, _*_, _%_, _^_, _≤_, _<_}
 use native.Mathlib.Omega.{arith}
-use borrow.Author.Needs.{needs, scaled-fits}
+use borrow.Author.Needs.{needs}
 use lib.Dec.{ltb}
 use lib.ListN.{length, getD}
 use Rattle.stricter_laws.specs.Fill.{Filled}
@@ -30,8 +30,7 @@ slice-read-told c = let l = c .before .before .loop in omega (arith, l .inv .3 .
 
 shared-slice-read-told : tie.Need-shared-slice-read-told Inv-loop μ-loop
 shared-slice-read-told c =
-    let start = c .before .before .before .before .before .before .before in
-    let l = c .before .before .before .loop in omega (arith, l .inv .0, start .pre)
+    let l = c .before .before .before .loop in omega (arith, l .inv .0, c .before .before .before .before .before .before .before .pre)
 
 slice-write-codes : tie.Need-slice-write-codes Inv-loop μ-loop
 slice-write-codes c = let l = c .before .before .before .before .loop in omega (arith, l .inv .3 .long, l .inv .0)
@@ -44,7 +43,7 @@ loop-again c =
       l .inv .0,
       l .inv .1,
       omega arith,
-      filled-next (given (a .codes .now) (a .live .now)) 0 (l .i) (a .codes .now) (l .codes) _ (omega arith) k h
+      filled-next _ (omega arith) k h
           (c .told .ensures ∙ ap₂ (λ (x n : ℕ). cond (ltb 0 (getD (a .live .now) (l .i) 0)) x (x % 2 ^ 48 + 2 ^ 48 * n)) (h .outside (l .i) (inr (omega arith))) (l .inv .0)),
     )
 
@@ -52,7 +51,7 @@ returns-2 : tie.Need-returns-2 Inv-loop μ-loop
 returns-2 c =
     let l = c .before .loop in let a = c .before .before .before .before .before .args in
     let e : l .i ≡ length (a .codes .now) = omega (arith, l .inv .0) in
-    some-go (a .codes .now) (a .live .now) (l .codes) (omega (arith, l .inv .0)) (rw e at (l .inv .3))
+    some-go (a .live .now) (omega (arith, l .inv .0)) (rw e at (l .inv .3))
 
 pub bury-spec : {M : Type 1} → statement M
 bury-spec =

@@ -1,6 +1,5 @@
 -- `note_live` meets its contract.
-use mathlib.Core.Path.{sym, _∙_}
-use native.Mathlib.Omega.{arith}
+use mathlib.Core.Path.{_∙_}
 use borrow.Author.Needs.{needs}
 use Rattle.trim_spec.specs.Trimmed.{liveMarks}
 use Rattle.stricter_tags.proofs.Live.{low-lows, noted}
@@ -13,7 +12,7 @@ returns c =
     let start = at-mark-live .before .before .before .before .before in let a = start .args in
     let m = at-mark-live .mark-live in let n = c .before .before .before .before .before .before .note-marks in
     let s = c .before .before .strip in
-    (s .ensures ∙ low-lows _ ∙ m .ensures .1, noted _ (liveMarks (a .codes .now) (a .moves .now)) _ _ _ (m .ensures .0) (m .kept .0) (n .ensures))
+    (s .ensures ∙ low-lows _ ∙ m .ensures .1, noted _ (liveMarks (a .codes .now) (a .moves .now)) _ (m .ensures .0) (m .kept .0) (n .ensures))
 
 pub note-live-spec : {M : Type 1} → statement M
 note-live-spec = tie.close (tie.spec (λ c κs. search needs) (λ c κs. search needs) (λ c κs. search needs) (λ c. search needs) (λ c. search needs) returns)

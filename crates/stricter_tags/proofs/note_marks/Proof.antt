@@ -28,11 +28,8 @@ slice-write-live c =
 loop-again : tie.Need-loop-again Inv-loop μ-loop
 loop-again c =
     let at-loop = c .before .before .before in let start = at-loop .before .before .before in
-    let l = at-loop .loop in (
-      omega arith,
-      filled-next (λ k. one (ltb 0 (getD (start .args .codes .now) k 0 / 2 ^ 48))) 0 (l .i) (start .args .live .now) (l .live) _ (omega arith)
-          (omega (arith, l .inv .1 .long, start .pre)) (l .inv .1) (c .is-marked .ensures),
-    )
+    let l = at-loop .loop in
+    (omega arith, filled-next _ (omega arith) (omega (arith, l .inv .1 .long, start .pre)) (l .inv .1) (c .is-marked .ensures))
 
 returns : tie.Need-returns Inv-loop μ-loop
 returns c =

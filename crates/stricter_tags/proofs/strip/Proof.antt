@@ -1,7 +1,7 @@
 -- `strip` meets its contract.
 use mathlib.Core.Path.{_≡_, sym, ap, _∙_}
 use mathlib.Core.Logic.{inr}
-use Prim.Native.Nat.{ℕ, _-_, _%_, _^_, _≤_, _<_}
+use Prim.Native.Nat.{ℕ, _-_, _%_, _^_, _≤_}
 use native.Mathlib.Omega.{arith}
 use borrow.Author.Needs.{needs, scaled-fits}
 use lib.Bits.{bitAnd, and-mask}
@@ -41,7 +41,7 @@ loop-again c =
     let a = c .before .before .before .args in (
       l .inv .0,
       omega (arith, l .inv .2 .long),
-      filled-next (λ k. getD (a .list .now) k 0 % 2 ^ a .bits) 0 (l .i) (a .list .now) (l .list) _ (omega arith) (omega arith) (l .inv .2)
+      filled-next _ (omega arith) (omega arith) (l .inv .2)
           (ap (bitAnd (getD (l .list) (l .i) 0)) (l .inv .0) ∙ and-mask (getD (l .list) (l .i) 0) (a .bits)
           ∙ ap (λ (x : ℕ). x % 2 ^ a .bits) (l .inv .2 .outside (l .i) (inr (omega arith)))),
     )

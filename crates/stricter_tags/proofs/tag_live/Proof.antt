@@ -1,5 +1,5 @@
 -- `tag_live` meets its contract.
-use mathlib.Core.Path.{_≡_, _∙_}
+use mathlib.Core.Path.{_∙_}
 use native.Mathlib.Omega.{arith}
 use borrow.Author.Needs.{needs}
 use Rattle.theory.specs.Automaton.{automaton}
@@ -13,10 +13,9 @@ use Rattle.stricter_tags.proofs.tag_live.Tie as tie
 
 note-live-requires : tie.Need-note-live-requires
 note-live-requires c κs =
-    let a = c .before .before .before .before .before .before .args in
     let ((r, start, T, few, e, f), long) = c .before .before .before .before .before .before .pre in (
-      rw (e, f) (table-inside r (T .shaped .passing) start (rw e at few)),
-      low-all (a .codes .now) (rw e (codes-low r (T .shaped .passing) start (rw e at few))),
+      rw (e, f) (table-inside (T .shaped .passing) start (rw e at few)),
+      low-all (c .before .before .before .before .before .before .args .codes .now) (rw e (codes-low (T .shaped .passing) start (rw e at few))),
       long,
     )
 
@@ -37,8 +36,7 @@ returns c =
     let (X, Y) = t .ensures r start T (omega (arith, n .kept .0)) (n .ensures .0 ∙ e) f in
     let U : TaggedCodes (a .codes .now) _ = rw (n .ensures .0) at X in
     let W : TaggedMoves (automaton r) (a .codes .now) (a .moves .now) _ = rw (n .ensures .0) at Y in (
-      told-codes (a .codes .now) (liveMarks (a .codes .now) (a .moves .now)) _ _ _ U
-          (low-all (a .codes .now) (rw e (codes-low r (T .shaped .passing) start (rw e at few))))
+      told-codes (liveMarks (a .codes .now) (a .moves .now)) U (low-all (a .codes .now) (rw e (codes-low (T .shaped .passing) start (rw e at few))))
           (λ i l. n .ensures .1 .inside i (omega arith) l) (b .ensures),
       W,
     )

@@ -9,20 +9,15 @@ use Rattle.stricter_tags.proofs.tag_table.Tie as tie
 
 tag-codes-requires : tie.Need-tag-codes-requires
 tag-codes-requires c κs =
-    let a = c .before .before .before .args in
     let (r, start, T, few, e, f) = c .before .before .before .pre in (
       few,
       rw e (macrostates-ascending r (T .shaped .passing) start),
-      λ j l. rw e (
-        codes-low r (T .shaped .passing) start (rw e at few) j (rw e at l),
-        omega (arith, code-known r (a .opens .now) (a .parts .now) (a .shape) T start (rw e at few) j (rw e at l)),
-      ),
+      λ j l. rw e (codes-low (T .shaped .passing) start (rw e at few) j (rw e at l), omega (arith, code-known T start (rw e at few) j (rw e at l))),
     )
 
 tag-moves-requires : tie.Need-tag-moves-requires
 tag-moves-requires c κs =
-    let start-2 = c .before .before .before .before .before .before .before .before in
-    let (r, start, T, few, e, f) = start-2 .pre in
+    let (r, start, T, few, e, f) = c .before .before .before .before .before .before .before .before .pre in
     let t = c .before .before .before .before .tag-codes in
     (r, start, T, omega (arith, t .kept .0), rw e at (t .ensures), f)
 

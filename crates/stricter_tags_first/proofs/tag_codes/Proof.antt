@@ -35,10 +35,10 @@ front c =
 
 first-of-requires : tie.Need-first-of-requires Inv-loop μ-loop
 first-of-requires c κs =
-    let a = c .before .before .before .before .args in let p = c .before .before .before .before .pre in
+    let p = c .before .before .before .before .pre in
     let l = c .before .before .loop in (
       omega (arith, l .inv .1 .long),
-      rw (front (c .before)) (asc-take (a .codes .now) (l .i - 1 + 1) (omega arith) (p .1)),
+      rw (front (c .before)) (asc-take (l .i - 1 + 1) (omega arith) (p .1)),
       λ j h. rw (l .inv .1 .outside j (inl (omega arith))) (p .2 j (omega arith) .1),
     )
 
@@ -65,11 +65,10 @@ add-codes c =
 
 loop-again : tie.Need-loop-again Inv-loop μ-loop
 loop-again c =
-    let a = c .before .before .before .before .before .before .args in
     let l = c .before .before .before .before .loop in
     let i : l .i ≡ l .i - 1 + 1 = omega arith in (
       omega arith,
-      filled-before (tag (a .codes .now)) (l .i - 1) (length (a .codes .now)) (a .codes .now) (l .codes) _ (omega arith) (omega (arith, l .inv .1 .long)) (rw i at (l .inv .1))
+      filled-before (l .i - 1) _ (omega arith) (omega (arith, l .inv .1 .long)) (rw i at (l .inv .1))
           (omega (arith, found (c .before), l .inv .1 .outside (l .i - 1) (inl (omega arith)))),
     )
 

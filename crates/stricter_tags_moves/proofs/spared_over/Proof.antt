@@ -14,16 +14,10 @@ use Rattle.stricter_tags_moves.proofs.spared_over.Tie as tie
 step-back-requires : tie.Need-step-back-requires
 step-back-requires c κs =
     let a = c .before .before .args in let p = c .before .before .pre in
-    let e = p .0 in (
-      few (e .1 .shaped),
-      rises (e .1) (a .letter) (p .2) (p .1) (c .before .lowest .result) (c .before .lowest .ensures),
-    )
+    let e = p .0 in (few (e .1 .shaped), rises (e .1) (a .letter) (p .2) (p .1) (c .before .lowest .result) (c .before .lowest .ensures))
 
 spared-in-requires : tie.Need-spared-in-requires
-spared-in-requires c κs =
-    let a = c .before .before .before .before .before .args in
-    let e = c .before .before .before .before .before .pre .0 in
-    few (e .1 .shaped)
+spared-in-requires c κs = few (c .before .before .before .before .before .pre .0 .1 .shaped)
 
 returns : tie.Need-returns
 returns c =
@@ -33,7 +27,7 @@ returns c =
     let low = c .before .before .before .before .before .lowest in (
       omega (arith, c .spared-in .ensures, mask-small (a .shape .components) (sparedIn (a .ranks) (a .parts .now) (b .result .levels)) (few (e .1 .shaped))),
       λ r T x d N f G. _∙_ {b = mask (a .shape .components) (sparedIn (a .ranks) (a .parts .now) (b .result .levels))} (c .spared-in .ensures)
-          (over-is r (a .opens .now) (a .parts .now) (a .shape) T (a .letter) (a .ranks) (p .2) (p .1) (low .result) (low .ensures) (b .result .ranks) (b .result .levels) (b .ensures) x d N f G),
+          (over-is T (p .2) (p .1) (low .ensures) (b .ensures) N f G),
     )
 
 pub spared-over-spec : {M : Type 1} → statement M

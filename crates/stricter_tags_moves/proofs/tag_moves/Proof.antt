@@ -63,7 +63,7 @@ loop-again c =
       length-set (l .moves) (l .i) _ ∙ l .inv .1,
       (λ k h. getD-set-other (l .moves) (l .i) k _ 0 (λ x. omega arith) ∙ l .inv .2 k (omega arith)),
       λ r start T few C e.
-          filled-next (tag (automaton r) (macrostatesFrom r start) (a .moves .now)) 0 (l .i) (a .moves .now) (l .moves) (c .tag-move .result) (omega arith) (omega arith) (l .inv .3 r start T few C e)
+          filled-next (c .tag-move .result) (omega arith) (omega arith) (l .inv .3 r start T few C e)
           (c .tag-move .ensures r start T few C (here (c .before .before) (transitionsFrom r start) e) ∙ ap (λ (t : ℕ). t + 1099511627776 * tagOf (automaton r) (macrostatesFrom r start) t) same),
     )
 

@@ -34,17 +34,8 @@ returns-2 c =
 narrow-requires : tie.Need-narrow-requires
 narrow-requires c κs =
     let start = c .before .before .before .before .before .before .before .before .before .before .before .before .before .before in
-    let a = start .args in let p = start .pre in
-    let I = c .before .before .before .place-cores .ensures in (
-      (
-        fits-same _ _ (a .left .now) (a .right .now) (a .marks .now) _ (I .long ∙ sym (p .0 .0 .marked)) (p .0 .0),
-        only-cores (a .acodes .now) (a .bcodes .now) _ I,
-        cores-low (a .acodes .now) (a .bcodes .now) _ I,
-        omega arith,
-        omega arith,
-      ),
-      p .1,
-    )
+    let p = start .pre in let I = c .before .before .before .place-cores .ensures in
+    ((fits-same _ (I .long ∙ sym (p .0 .0 .marked)) (p .0 .0), only-cores I, cores-low I, omega arith, omega arith), p .1)
 
 first-start-requires : tie.Need-first-start-requires
 first-start-requires c κs =
@@ -55,7 +46,7 @@ first-start-requires c κs =
     let I = i .ensures in (
       N .long ∙ I .long,
       only-sub (a .acodes .now) (length (a .bcodes .now)) (i .last .1 .1 .0) (n .last .1 .1 .1 .1 .1 .1 .0) (N .sub)
-          (only-cores (a .acodes .now) (a .bcodes .now) (i .last .1 .1 .0) I),
+          (only-cores I),
       p .0 .5,
       p .0 .6,
     )
@@ -91,7 +82,7 @@ spread-marks-requires c κs =
       p .0 .0 .few-B,
       p .0 .1,
       p .0 .2,
-      only-sub (a .acodes .now) (length (a .bcodes .now)) (i .last .1 .1 .0) (n .last .1 .1 .1 .1 .1 .1 .0) (N .sub) (only-cores (a .acodes .now) (a .bcodes .now) (i .last .1 .1 .0) I),
+      only-sub (a .acodes .now) (length (a .bcodes .now)) (i .last .1 .1 .0) (n .last .1 .1 .1 .1 .1 .1 .0) (N .sub) (only-cores I),
     )
 
 returns-4 : tie.Need-returns-4

@@ -24,7 +24,7 @@ loop-again c =
     let l = c .before .loop in
     let b : ℕ = c .before .before .args .base in
     let low : b + l .j < length (l .marks) = omega (arith, l .inv .1 .long) in
-    (omega arith, rw (← add-assoc b (l .j) 1) (filled-next (λ _. 0) b (b + l .j) (c .before .before .args .marks .now) (l .marks) 0 (omega arith) low (l .inv .1) refl))
+    (omega arith, rw (← add-assoc b (l .j) 1) (filled-next 0 (omega arith) low (l .inv .1) refl))
 
 returns : tie.Need-returns Inv-loop μ-loop
 returns c = let e : c .before .loop .j ≡ c .before .before .args .n = omega (arith, c .before .loop .inv .0) in rw e at (c .before .loop .inv .1)

@@ -33,14 +33,14 @@ loop-again c =
     let l = c .before .before .before .before .before .loop in (
       omega arith,
       rw (add-one (l .i), suc-mul (l .i) (length (a .bcodes .now)))
-          (placed-row (a .acodes .now) (a .bcodes .now) (l .i) (a .marks .now) (l .marks) _ (l .inv .1) (c .before .before .place-row .ensures)),
+          (placed-row (a .acodes .now) (a .bcodes .now) (l .i) (l .inv .1) (c .before .before .place-row .ensures)),
     )
 
 returns : tie.Need-returns Inv-loop μ-loop
 returns c =
     let a = c .before .before .before .before .before .args in
     let e : c .before .loop .i ≡ length (a .acodes .now) = omega (arith, c .before .loop .inv .0) in
-    placed-end (a .acodes .now) (a .bcodes .now) (a .marks .now) _ (c .before .before .before .before .before .pre .0) (rw e at (c .before .loop .inv .1))
+    placed-end (a .acodes .now) (a .bcodes .now) (c .before .before .before .before .before .pre .0) (rw e at (c .before .loop .inv .1))
 
 pub place-cores-spec : {M : Type 1} → statement M
 place-cores-spec =

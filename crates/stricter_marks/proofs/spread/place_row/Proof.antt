@@ -1,11 +1,9 @@
 -- `place_row` meets its contract.
 use mathlib.Core.Path.{_≡_}
 use mathlib.Core.Bool.{true, false}
-use Prim.Native.Nat.{_+_, _-_, _*_}
 use native.Mathlib.Omega.{arith}
 use borrow.Author.Needs.{needs}
 use lib.ListN.{length}
-use Rattle.sets.specs.Tests.{one}
 use Rattle.table_fixpoints_spec.proofs.Places.{place-room}
 use Rattle.stricter_spec.specs.Steps.{standsIn}
 use Rattle.stricter_marks.specs.Rows.{placedAt}
@@ -29,12 +27,11 @@ clear-row-requires c κs =
 
 returns : tie.Need-returns
 returns c =
-    let start = c .before .before .before .before .before .before .before .before .before .before in
-    let a = start .args in
+    let a = c .before .before .before .before .before .before .before .before .before .before .args in
     let no : standsIn (a .acodes .now) (a .i) ≡ false = stands-no (a .acodes .now) (a .i) _ (c .before .before .before .before .before .standing .ensures)
     (c .before .before .before .before .if1 .taken) in
-    filled-same (placedAt (a .acodes .now) (a .bcodes .now)) (λ _. 0) (a .i * length (a .bcodes .now)) (a .i * length (a .bcodes .now) + length (a .bcodes .now))
-    (a .marks .now) _ (c .before .before .clear-row .ensures) (clear-same (a .acodes .now) (a .bcodes .now) (a .i) no)
+    filled-same (placedAt (a .acodes .now) (a .bcodes .now))
+    (c .before .before .clear-row .ensures) (clear-same (a .acodes .now) (a .bcodes .now) (a .i) no)
 
 stand-row-requires : tie.Need-stand-row-requires
 stand-row-requires c κs =
@@ -43,13 +40,11 @@ stand-row-requires c κs =
 
 returns-2 : tie.Need-returns-2
 returns-2 c =
-    let start = c .before .before .before .before .before .before .before .before .before .before in
-    let a = start .args in
+    let a = c .before .before .before .before .before .before .before .before .before .before .args in
     let yes : standsIn (a .acodes .now) (a .i) ≡ true = stands-yes (a .acodes .now) (a .i) _ (c .before .before .before .before .before .standing .ensures)
     (c .before .before .before .before .if1 .left) in
-    filled-same (placedAt (a .acodes .now) (a .bcodes .now)) (λ x. one (standsIn (a .bcodes .now) (x - a .i * length (a .bcodes .now))))
-    (a .i * length (a .bcodes .now)) (a .i * length (a .bcodes .now) + length (a .bcodes .now))
-    (a .marks .now) _ (c .before .before .stand-row .ensures) (stand-same (a .acodes .now) (a .bcodes .now) (a .i) yes)
+    filled-same (placedAt (a .acodes .now) (a .bcodes .now))
+    (c .before .before .stand-row .ensures) (stand-same (a .acodes .now) (a .bcodes .now) (a .i) yes)
 
 pub place-row-spec : {M : Type 1} → statement M
 place-row-spec =

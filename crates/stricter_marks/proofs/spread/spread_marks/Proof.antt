@@ -33,7 +33,7 @@ spread-row-requires c κs =
       (
         p .3,
         p .4,
-        out-later (a .acodes .now) (a .bcodes .now) (l .i) (a .marks .now) (l .marks) (l .inv .1)
+        out-later (a .acodes .now) (a .bcodes .now) (l .i) (l .inv .1)
             (out-row (a .acodes .now) (a .bcodes .now) (a .marks .now) (p .5) (l .i) (omega arith)),
       ),
     )
@@ -45,7 +45,7 @@ loop-again c =
     let l = at-loop .loop in (
       omega arith,
       rw (add-one (l .i), suc-mul (l .i) (length (a .bcodes .now)))
-          (moved-row (a .acodes .now) (a .bcodes .now) (start .pre .3) (start .pre .4) (l .i) (omega arith) (a .marks .now) (l .marks) _ (l .inv .1)
+          (moved-row (a .acodes .now) (a .bcodes .now) (start .pre .3) (start .pre .4) (l .i) (omega arith) (l .inv .1)
           (c .before .before .spread-row .ensures)),
     )
 
@@ -53,7 +53,7 @@ returns : tie.Need-returns Inv-loop μ-loop
 returns c =
     let at-loop = c .before in let a = at-loop .before .before .before .before .args in
     let e : at-loop .loop .i ≡ length (a .acodes .now) = omega (arith, at-loop .loop .inv .0) in
-    moved-end (a .acodes .now) (a .bcodes .now) (a .marks .now) _ (rw e at (at-loop .loop .inv .1))
+    moved-end (a .acodes .now) (a .bcodes .now) (rw e at (at-loop .loop .inv .1))
 
 pub spread-marks-spec : {M : Type 1} → statement M
 spread-marks-spec =

@@ -32,7 +32,7 @@ unfolding hasCore
 returns c =
     let start = c .before .before .before .before .before .before in let a = start .args in
     let no : hasCore (a .acodes .now) (a .i) ≡ false = le-ltb (coreNumber (getD (a .acodes .now) (a .i) 0)) (length (a .acodes .now)) (omega (arith, c .before .core-number .ensures)) in
-    moved-out (a .acodes .now) (a .bcodes .now) (a .i) (a .marks .now) (start .pre .1 .2) no
+    moved-out (a .acodes .now) (a .bcodes .now) (a .i) (start .pre .1 .2) no
 
 mul-row : tie.Need-mul-row Inv-loop μ-loop
 mul-row c =
@@ -40,10 +40,9 @@ mul-row c =
     let nb = length (start .args .bcodes .now) in
     omega (arith, place-room nb (c .before .core-number .result) (length (start .args .acodes .now)) (omega arith), start .pre .0 .1)
 
-mul-base : tie.Need-mul-base Inv-loop μ-loop
-mul-base c =
-    let start = c .before .before .before .before .before .before in
-    omega (arith, place-room (length (start .args .bcodes .now)) (start .args .i) (length (start .args .acodes .now)) (start .pre .0 .0), start .pre .0 .1)
+-- the row ends within the marks
+ends : (c : tie.Start Inv-loop μ-loop) → c .args .i * length (c .args .bcodes .now) + length (c .args .bcodes .now) ≤ length (c .args .marks .now)
+ends c = omega (arith, place-room (length (c .args .bcodes .now)) (c .args .i) (length (c .args .acodes .now)) (c .pre .0 .0), c .pre .0 .1)
 
 loop-holds : tie.Need-loop-holds Inv-loop μ-loop
 loop-holds c =
@@ -65,27 +64,13 @@ mark-of-requires c κs =
 
 add-marks : tie.Need-add-marks Inv-loop μ-loop
 add-marks c =
-    let at-loop = c .before .before .before .before .before in
-    let start = at-loop .before .before .before .before .before .before .before in
-    omega (
-      arith,
-      place-room (length (start .args .bcodes .now)) (start .args .i) (length (start .args .acodes .now)) (start .pre .0 .0),
-      start .pre .0 .1,
-      at-loop .loop .inv .3,
-      at-loop .loop .inv .5 .long,
-    )
+    let at-loop = c .before .before .before .before .before in let h = ends (at-loop .before .before .before .before .before .before .before) in
+    omega (arith, at-loop .loop .inv .3, at-loop .loop .inv .5 .long)
 
 slice-write-marks : tie.Need-slice-write-marks Inv-loop μ-loop
 slice-write-marks c =
-    let at-loop = c .before .before .before .before .before in
-    let start = at-loop .before .before .before .before .before .before .before in
-    omega (
-      arith,
-      place-room (length (start .args .bcodes .now)) (start .args .i) (length (start .args .acodes .now)) (start .pre .0 .0),
-      start .pre .0 .1,
-      at-loop .loop .inv .3,
-      at-loop .loop .inv .5 .long,
-    )
+    let at-loop = c .before .before .before .before .before in let h = ends (at-loop .before .before .before .before .before .before .before) in
+    omega (arith, at-loop .loop .inv .3, at-loop .loop .inv .5 .long)
 
 loop-again : tie.Need-loop-again Inv-loop μ-loop
 unfolding hasCore
@@ -96,14 +81,14 @@ loop-again c =
     let base : ℕ = a .i * nb in
     let l = at-loop .loop in
     let has : hasCore (a .acodes .now) (a .i) ≡ true = lt-ltb (coreNumber (getD (a .acodes .now) (a .i) 0)) (length (a .acodes .now)) (omega (arith, l .inv .0, l .inv .1)) in
-    let low : base + l .j < length (l .marks) = omega (arith, place-room nb (a .i) (length (a .acodes .now)) (start .pre .0 .0), start .pre .0 .1, l .inv .5 .long) in (
+    let low : base + l .j < length (l .marks) = omega (arith, ends start, l .inv .5 .long) in (
       l .inv .0,
       l .inv .1,
       l .inv .2,
       l .inv .3,
       omega arith,
       rw (← add-assoc base (l .j) 1, l .inv .3)
-          (moved-next (a .acodes .now) (a .bcodes .now) (start .pre .1 .0) (start .pre .1 .1) (a .i) (l .j) (start .pre .0 .0) (omega arith) has base (a .marks .now) (l .marks) _
+          (moved-next (a .acodes .now) (a .bcodes .now) (start .pre .1 .0) (start .pre .1 .1) (a .i) (l .j) (start .pre .0 .0) (omega arith) has _
           (omega arith) low (l .inv .5)
           (c .mark-of .ensures ∙ ap₂ (λ (k r : ℕ). cond (ltb k nb) (getD (l .marks) (r * nb + k) 0) 0) (c .before .core-number2 .ensures) (l .inv .0))),
     )
@@ -117,6 +102,6 @@ returns-2 c =
 pub spread-row-spec : {M : Type 1} → statement M
 spread-row-spec =
     tie.close (tie.spec
-    Inv-loop μ-loop (λ c. search needs) (λ c. search needs) (λ c κs. search needs) returns mul-row mul-base loop-holds (λ c. search needs) (λ c. search needs)
+    Inv-loop μ-loop (λ c. search needs) (λ c. search needs) (λ c κs. search needs) returns mul-row (λ c. let h = ends (c .before .before .before .before .before .before) in omega arith) loop-holds (λ c. search needs) (λ c. search needs)
     (λ c κs. search needs) mark-of-requires add-marks slice-write-marks (λ c. search needs) (λ c. search needs) loop-again (λ c. c .before .loop .inv .5 .long)
     returns-2)

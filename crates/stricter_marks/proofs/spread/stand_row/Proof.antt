@@ -30,8 +30,7 @@ loop-again c =
     let b : ℕ = a .base in
     let low : b + l .j < length (l .marks) = omega (arith, l .inv .1 .long) in (
       omega arith,
-      rw (← add-assoc b (l .j) 1) (filled-next (λ x. one (standsIn (a .bcodes .now) (x - b))) b (b + l .j) (a .marks .now) (l .marks) _ (omega arith) low (l .inv .1)
-          (c .standing .ensures ∙ stand-value (a .bcodes .now) b (l .j))),
+      rw (← add-assoc b (l .j) 1) (filled-next _ (omega arith) low (l .inv .1) (c .standing .ensures ∙ stand-value (a .bcodes .now) b (l .j))),
     )
 
 returns : tie.Need-returns Inv-loop μ-loop

@@ -1,12 +1,10 @@
 -- `sort_files` meets its contract: both tables are tagged while the pairs of cores are sorted out, and the tags go again.
-use mathlib.Core.Path.{_≡_, refl, _∙_}
+use mathlib.Core.Path.{refl, _∙_}
 use native.Mathlib.Omega.{arith}
 use lib.ListN.{length}
 use borrow.Author.Needs.{needs}
 use Rattle.theory.specs.Macrostate.{holdsInitial}
 use Rattle.rejecting_spec.specs.Rejecting.{lacksInitial}
-use Rattle.file_spec.specs.File.{ruleIn}
-use Rattle.stricter_spec.specs.Tags.{plain}
 use Rattle.stricter_marks.proofs.Tables.{few-components, rows-low, stands, fits, sorted, codes-again, moves-again}
 use Rattle.stricter_search.proofs.FileTables.{initial-low, no-pairs, room-A, room-B, file-table}
 use Rattle.stricter_search.proofs.files.mark_files.Statement.{statement}
@@ -49,26 +47,20 @@ mark-tagged-requires c κs =
     let at-tag-file2 = c .before .before .before .before .before .before .before .before .before .before .before .before .before in
     let at-tag-file = at-tag-file2 .before .before .before .before .before .before .before .before .before .before in
     let start = at-tag-file .before .before .before .before .before .before .before .before .before .before .before .before in
-    let a = start .args in let p = start .pre in let x = at-tag-file .tag-file .ensures in
-    let y = at-tag-file2 .tag-file2 .ensures in
-    let r = ruleIn (a .a .now) in
-    let q = ruleIn (a .b .now) in
-    let s = holdsInitial r in
-    let t = lacksInitial q in
+    let p = start .pre in let x = at-tag-file .tag-file .ensures in let y = at-tag-file2 .tag-file2 .ensures in
     let A = file-table (p .0) (x .0) in
     let B = file-table (p .1) (y .0) in
-    let u = x .1 in
-    let v = y .1 in (
+    let u = x .1 in let v = y .1 in (
       (
-        fits r q s t _ _ _ _ _ _ A B _ _ _ _ (u .0) (u .1) (v .0) (v .1) _ (at-tag-file2 .tag-file2 .kept .1 .1 .1 .1 .0 ∙ at-tag-file .tag-file .kept .1 .1 .1 .1 .0 ∙ p .2),
-        stands r s _ _ _ A _ _ (u .0) (u .1),
-        stands q t _ _ _ B _ _ (v .0) (v .1),
-        few-components r s _ _ _ A,
-        few-components q t _ _ _ B,
+        fits A B (u .0) (u .1) (v .0) (v .1) _ (at-tag-file2 .tag-file2 .kept .1 .1 .1 .1 .0 ∙ at-tag-file .tag-file .kept .1 .1 .1 .1 .0 ∙ p .2),
+        stands A (u .0) (u .1),
+        stands B (v .0) (v .1),
+        few-components A,
+        few-components B,
         initial-low (p .0),
         initial-low (p .1),
       ),
-      rows-low q t _ _ _ B _ _ (v .0) (v .1),
+      rows-low B (v .0) (v .1),
     )
 
 same-length : tie.Need-same-length
@@ -98,21 +90,15 @@ returns-2 c =
     let at-tag-file2 = at-sort-tagged .before .before .before .before .before .before .before .before .before .before .before .before .before .before in
     let at-tag-file = at-tag-file2 .before .before .before .before .before .before .before .before .before .before in
     let start = at-tag-file .before .before .before .before .before .before .before .before .before .before .before .before in
-    let a = start .args in let p = start .pre in let x = at-tag-file .tag-file .ensures in
-    let y = at-tag-file2 .tag-file2 .ensures in
-    let r = ruleIn (a .a .now) in
-    let q = ruleIn (a .b .now) in
-    let s = holdsInitial r in
-    let t = lacksInitial q in
+    let p = start .pre in let x = at-tag-file .tag-file .ensures in let y = at-tag-file2 .tag-file2 .ensures in
     let A = file-table (p .0) (x .0) in
     let B = file-table (p .1) (y .0) in
     let u = x .1 in let v = y .1 in
     let d = at-sort-tagged .mark-tagged .ensures in (
-      sorted r q s t _ _ _ _ _ _ A B _ _ _ _ (u .0) (u .1) (v .0) (v .1) (a .l .head .initial) (a .m .head .initial)
-          (initial-low (p .0)) (initial-low (p .1)) _ _ (same-length-5 c ∙ p .2) (d .0),
+      sorted A B (u .0) (u .1) (v .0) (v .1) _ _ (initial-low (p .0)) (initial-low (p .1)) (same-length-5 c ∙ p .2) (d .0),
       (
-        (d .1 .0 .0 ∙ codes-again r s _ _ _ A _ _ (u .0) (u .1), d .1 .0 .1 ∙ moves-again r s _ _ _ A _ _ (u .0) (u .1)),
-        (d .1 .1 .0 ∙ codes-again q t _ _ _ B _ _ (v .0) (v .1), d .1 .1 .1 ∙ moves-again q t _ _ _ B _ _ (v .0) (v .1)),
+        (d .1 .0 .0 ∙ codes-again A (u .0) (u .1), d .1 .0 .1 ∙ moves-again A (u .0) (u .1)),
+        (d .1 .1 .0 ∙ codes-again B (v .0) (v .1), d .1 .1 .1 ∙ moves-again B (v .0) (v .1)),
       ),
     )
 

@@ -1,6 +1,6 @@
 -- `clear` meets its contract.
 use mathlib.Core.Path.{_≡_, refl}
-use Prim.Native.Nat.{_+_, _-_, _<_}
+use Prim.Native.Nat.{_-_, _<_}
 use native.Mathlib.Omega.{arith}
 use borrow.Author.Needs.{needs}
 use lib.ListN.{length, getD, length-set}
@@ -15,7 +15,7 @@ abbrev μ-loop : tie.MeasureT-loop
 μ-loop marks₀ x₀ marks x = length marks₀ - x
 
 loop-holds : tie.Need-loop-holds Inv-loop μ-loop
-loop-holds c = let n = c .next-set .ensures in (refl, n .set, clearing-over 0 _ _ _ (n .before .ordered) (n .before .zeros) (clearing-start _))
+loop-holds c = let n = c .next-set .ensures in (refl, n .set, clearing-over _ (n .before .ordered) (n .before .zeros) (clearing-start _))
 
 next-set-requires-2 : tie.Need-next-set-requires-2 Inv-loop μ-loop
 next-set-requires-2 c κs = let l = c .before .before .loop in let h = length-set (l .marks) (l .x) 1 in (omega (arith, h, c .before .loop-test .taken), omega arith)
@@ -26,11 +26,11 @@ loop-less c = omega (arith, c .next-set2 .ensures .before .ordered, c .before .b
 loop-again : tie.Need-loop-again Inv-loop μ-loop
 loop-again c =
     let l = c .before .before .before .loop in let n = c .next-set2 .ensures in
-    let m = clearing-over (l .x + 1) _ _ _ (n .before .ordered) (n .before .zeros) (clearing-set (l .x) _ (l .marks) (l .inv .1 (c .before .before .loop-test .taken)) (l .inv .2)) in
+    let m = clearing-over _ (n .before .ordered) (n .before .zeros) (clearing-set (l .inv .1 (c .before .before .loop-test .taken)) (l .inv .2)) in
     (m .long, n .set, m)
 
 returns : tie.Need-returns Inv-loop μ-loop
-returns c = clearing-end (c .before .loop .x) _ (c .before .loop .marks) (omega arith) (c .before .loop .inv .2)
+returns c = clearing-end (omega arith) (c .before .loop .inv .2)
 
 pub clear-spec : {M : Type 1} → statement M
 clear-spec =

@@ -18,14 +18,11 @@ abbrev μ-loop : tie.MeasureT-loop
 μ-loop lcodes left rcodes right marks₀ marks = 256 * length marks₀ - sum marks
 
 loop-holds : tie.Need-loop-holds Inv-loop μ-loop
-loop-holds c =
-    let a = c .before .before .before .before .before .args in
-    passing-start (PairStep (length (a .rcodes .now)) (a .left .now) (a .right .now)) (kindIn (a .lcodes .now) (a .rcodes .now)) (a .marks .now)
+loop-holds c = passing-start (c .before .before .before .before .before .args .marks .now)
 
 visit-all-requires : tie.Need-visit-all-requires Inv-loop μ-loop
 visit-all-requires c κs =
-    let start = c .before .before .before .before .before .before .before in let a = start .args in
-    fits-same (length (a .lcodes .now)) (length (a .rcodes .now)) _ _ (a .marks .now) (c .before .loop .marks) (c .before .loop .inv .long) (start .pre)
+    fits-same (c .before .loop .marks) (c .before .loop .inv .long) (c .before .before .before .before .before .before .before .pre)
 
 loop-less : tie.Need-loop-less Inv-loop μ-loop
 loop-less c =
@@ -34,11 +31,7 @@ loop-less c =
     omega (arith, c .before .before .before .visit-all .ensures .long, c .before .before .before .before .before .loop .inv .long)
 
 loop-again : tie.Need-loop-again Inv-loop μ-loop
-loop-again c =
-    let start = c .before .before .before .before .before .before .before .before .before .before .before in
-    let a = start .args in
-    passing-next (PairStep (length (a .rcodes .now)) (a .left .now) (a .right .now)) (kindIn (a .lcodes .now) (a .rcodes .now))
-    (a .marks .now) (c .before .before .before .before .before .loop .marks) _ 0 _ _ (c .before .before .before .before .before .loop .inv) (c .before .before .before .visit-all .ensures)
+loop-again c = passing-next (c .before .before .before .before .before .loop .inv) (c .before .before .before .visit-all .ensures)
 
 same-length : tie.Need-same-length Inv-loop μ-loop
 same-length c = c .before .before .before .visit-all .ensures .long ∙ c .before .before .before .before .before .loop .inv .long
@@ -46,9 +39,7 @@ same-length c = c .before .before .before .visit-all .ensures .long ∙ c .befor
 returns : tie.Need-returns Inv-loop μ-loop
 returns c =
     let at-loop = c .before .before .before .before .before in
-    let start = at-loop .before .before .before .before .before .before in let a = start .args in
-    exhausted (PairStep (length (a .rcodes .now)) (a .left .now) (a .right .now)) (kindIn (a .lcodes .now) (a .rcodes .now))
-    (a .marks .now) (at-loop .loop .marks) _ (at-loop .loop .inv) (rw (sym (at-loop .loop .inv .long), sym (c .if1 .left)) (c .before .before .before .visit-all .ensures))
+    exhausted (at-loop .loop .inv) (rw (sym (at-loop .loop .inv .long), sym (c .if1 .left)) (c .before .before .before .visit-all .ensures))
 
 pub exhaust-spec : {M : Type 1} → statement M
 exhaust-spec = tie.close (tie.spec Inv-loop μ-loop loop-holds visit-all-requires loop-less loop-again same-length returns)

@@ -34,7 +34,7 @@ loop-holds c =
       omega arith,
       omega (arith, below-le (a .j * 16777216) (a .right .now)),
       refl,
-      λ i cut. expand-start (a .nb) (a .left .now) (a .right .now) _ (c .before .before .before .before .pre .0 .0) (a .j) (c .before .before .before .before .pre .0 .1) i (a .cuts .now) cut
+      λ i cut. expand-start (c .before .before .before .before .pre .0 .0) (a .j) (c .before .before .before .before .pre .0 .1) i (a .cuts .now) cut
           (a .base) (c .place .result) (a .marks .now) e,
     )
 
@@ -43,7 +43,7 @@ returns c =
     let start = c .before .before .before .before .before .before .before .before .before in let a = start .args in
     let l = c .before .before .before .before .loop in
     let other : sourceOf (getD (a .right .now) (l .k) 0) ≡ a .j → ⊥ = λ e. omega (arith, c .before .source-of .ensures) in
-    λ i cut. expand-end (a .nb) (a .left .now) (a .right .now) _ (start .pre .0 .0) (a .j) (start .pre .0 .1) i (a .cuts .now) cut (a .base) (a .marks .now) (l .marks) (l .k) (l .inv .0) (λ h. other)
+    λ i cut. expand-end (start .pre .0 .0) (a .j) (start .pre .0 .1) i (a .cuts .now) cut (a .base) (l .k) (l .inv .0) (λ h. other)
     (l .inv .3 i cut)
 
 -- the letter is below 16
@@ -82,7 +82,7 @@ loop-again c =
       omega (arith, l .inv .0),
       omega arith,
       c .before .before .meet .ensures .long ∙ l .inv .2,
-      λ i cut. expand-next (a .nb) (a .left .now) (a .right .now) _ (start .pre .0 .0) (a .j) (start .pre .0 .1) i (a .cuts .now) cut (a .base) (start .pre .0 .3) (a .marks .now) (l .marks) _ (l .k)
+      λ i cut. expand-next (start .pre .0 .0) (a .j) (start .pre .0 .1) i (a .cuts .now) cut (a .base) (start .pre .0 .3) (a .marks .now) (l .marks) _ (l .k)
           (at-letter-of .letter-of .result) (c .before .before .before .before .target-of .result) (omega arith) s (at-letter-of .letter-of .ensures)
           (c .before .before .before .before .target-of .ensures) (l .inv .3 i cut) (c .before .before .meet .ensures),
     )
@@ -90,8 +90,8 @@ loop-again c =
 returns-2 : tie.Need-returns-2 Inv-loop μ-loop
 returns-2 c =
     let a = c .before .before .before .before .before .before .args in let l = c .before .loop in
-    λ i cut. expand-end (a .nb) (a .left .now) (a .right .now) _ (c .before .before .before .before .before .before .pre .0 .0) (a .j) (c .before .before .before .before .before .before .pre .0 .1) i
-    (a .cuts .now) cut (a .base) (a .marks .now) (l .marks) (l .k) (l .inv .0) (λ h. absurd (omega arith)) (l .inv .3 i cut)
+    λ i cut. expand-end (c .before .before .before .before .before .before .pre .0 .0) (a .j) (c .before .before .before .before .before .before .pre .0 .1) i
+    (a .cuts .now) cut (a .base) (l .k) (l .inv .0) (λ h. absurd (omega arith)) (l .inv .3 i cut)
 
 pub expand-spec : {M : Type 1} → statement M
 expand-spec =

@@ -4,7 +4,6 @@ use Prim.Native.Nat.{ℕ, _+_, _*_, _<_}
 use native.Mathlib.Omega.{arith}
 use borrow.Author.Needs.{needs}
 use lib.ListN.{length}
-use Rattle.stricter_laws.specs.Pairs.{PairStep, PairEdge}
 use Rattle.stricter_laws.proofs.Rows.{cut-le}
 use Rattle.stricter_laws.specs.Forest.{kindIn}
 use Rattle.stricter_laws.proofs.Pairs.{step-lettered, kind-low, kind-at, pair-low}
@@ -14,7 +13,7 @@ use Rattle.stricter_word.proofs.explore.visit.Tie as tie
 
 -- the pair is below the number of marks
 low : (c : tie.Start) → c .args .i * length (c .args .rcodes .now) + c .args .j < length (c .args .marks .now)
-low c = pair-low (length (c .args .lcodes .now)) (length (c .args .rcodes .now)) (c .args .i) (c .args .j) _ _ (c .args .marks .now) (c .pre .0) (c .pre .2) (c .pre .3)
+low c = pair-low (c .args .i) (c .args .j) (c .pre .0) (c .pre .2) (c .pre .3)
 
 slice-read-v : tie.Need-slice-read-v
 slice-read-v c = let h = low (c .before .before .before .before .before .before) in omega arith
@@ -40,7 +39,7 @@ expand-requires c κs =
     let e = kind-is (c .before) in
     let h = kind-low (a .lcodes .now) (a .rcodes .now) (a .i * length (a .rcodes .now) + a .j) in (
       (rw (f .marked) (f .paired), start .pre .3, omega (arith, start .pre .3, f .few-B), omega arith, omega arith),
-      cut-le (a .left .now) (f .paired .ascend-A) (a .i) (a .cuts .now) (start .pre .1),
+      cut-le (f .paired .ascend-A) (a .i) (a .cuts .now) (start .pre .1),
     )
 
 slice-write-marks : tie.Need-slice-write-marks
@@ -52,9 +51,9 @@ returns : tie.Need-returns
 returns c =
     let start = c .before .before .before .before .before .before .before .before .before .before .before .before .before in
     let a = start .args in
-    passed-visit (PairStep (length (a .rcodes .now)) (a .left .now) (a .right .now)) (kindIn (a .lcodes .now) (a .rcodes .now))
-    (step-lettered _ _ _ _ (start .pre .0 .paired)) (kind-low _ _) (a .i * length (a .rcodes .now) + a .j) _ _
-    (PairEdge (length (a .rcodes .now)) (a .left .now) (a .right .now) (a .i * length (a .rcodes .now) + a .j)) (a .marks .now) _ refl (start .pre .4 .big) (start .pre .4 .small)
+    passed-visit
+    (step-lettered (start .pre .0 .paired)) (kind-low _ _) (a .i * length (a .rcodes .now) + a .j) _
+    refl (start .pre .4 .big) (start .pre .4 .small)
     (ap (λ (k : ℕ). 64 + k) (kind-is (c .before .before .before .before))) (λ b y s. (b, s)) (c .before .before .expand .ensures (a .i) (start .pre .1))
 
 pub visit-spec : {M : Type 1} → statement M

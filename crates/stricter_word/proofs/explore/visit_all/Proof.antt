@@ -7,7 +7,7 @@ use lib.ListN.{length}
 use Rattle.stricter_laws.specs.Pairs.{PairStep}
 use Rattle.stricter_laws.proofs.Rows.{fits-same}
 use Rattle.stricter_laws.specs.Forest.{kindIn, Waits, Passed}
-use Rattle.stricter_laws.proofs.Pairs.{step-lettered, kind-low, row-end, Parts, pair-parts}
+use Rattle.stricter_laws.proofs.Pairs.{row-end, Parts, pair-parts}
 use Rattle.stricter_laws.proofs.Passes.{passed-over, passed-turn}
 use Rattle.stricter_word.proofs.explore.visit_all.Statement.{statement}
 use Rattle.stricter_word.proofs.explore.visit_all.Tie as tie
@@ -22,12 +22,8 @@ abbrev μ-loop : tie.MeasureT-loop
 loop-holds : tie.Need-loop-holds Inv-loop μ-loop
 loop-holds c =
     let start = c .before .before .before .before .before .before .before in let a = start .args in
-    let n = c .next-waiting .ensures in (
-      n .within,
-      (λ h. let w = n .found h in record { big = w .0; small = w .1 }),
-      passed-over (PairStep (length (a .rcodes .now)) (a .left .now) (a .right .now)) (kindIn (a .lcodes .now) (a .rcodes .now))
-          (step-lettered _ _ _ _ (start .pre .paired)) (kind-low _ _) 0 _ (a .marks .now) (n .none),
-    )
+    let n = c .next-waiting .ensures in
+    (n .within, (λ h. let w = n .found h in record { big = w .0; small = w .1 }), passed-over 0 _ (a .marks .now) (n .none))
 
 abbrev start-of-in-loop : tie.In-loop Inv-loop μ-loop → tie.Start Inv-loop μ-loop
 start-of-in-loop c = c .before .before .before .before .before .before .before .before .before
@@ -38,12 +34,12 @@ below c = omega (arith, c .loop-test .taken, c .before .loop .inv .2 .long)
 
 -- its two numbers
 numbers : (c : tie.In-loop Inv-loop μ-loop) → Parts (length (start-of-in-loop c .args .lcodes .now)) (length (start-of-in-loop c .args .rcodes .now)) (c .before .loop .x)
-numbers c = let a = start-of-in-loop c .args in pair-parts (length (a .lcodes .now)) (length (a .rcodes .now)) (c .before .loop .x) _ _ (a .marks .now) (start-of-in-loop c .pre) (below c)
+numbers c = let a = start-of-in-loop c .args in pair-parts (c .before .loop .x) (start-of-in-loop c .pre) (below c)
 
 -- the row ends within the marks
 ends : (c : tie.In-loop Inv-loop μ-loop) → c .before .loop .x / length (start-of-in-loop c .args .rcodes .now) * length (start-of-in-loop c .args .rcodes .now) + length
     (start-of-in-loop c .args .rcodes .now) ≤ length (start-of-in-loop c .args .marks .now)
-ends c = let a = start-of-in-loop c .args in row-end (length (a .lcodes .now)) (length (a .rcodes .now)) _ _ _ (a .marks .now) (start-of-in-loop c .pre) (numbers c .first) (numbers c .some)
+ends c = let a = start-of-in-loop c .args in row-end _ (start-of-in-loop c .pre) (numbers c .first) (numbers c .some)
 
 cut-row-requires : tie.Need-cut-row-requires Inv-loop μ-loop
 cut-row-requires c κs =
@@ -52,10 +48,9 @@ cut-row-requires c κs =
 
 visit-row-requires : tie.Need-visit-row-requires Inv-loop μ-loop
 visit-row-requires c κs =
-    let start = c .before .before .before .before .before .before .before .before .before .before .before .before in
-    let a = start .args in let l = c .before .before .before .before .loop in
+    let l = c .before .before .before .before .loop in
     let n = numbers (c .before .before .before) in (
-      fits-same (length (a .lcodes .now)) (length (a .rcodes .now)) _ _ (a .marks .now) (l .marks) (l .inv .2 .long) (start .pre),
+      fits-same (l .marks) (l .inv .2 .long) (c .before .before .before .before .before .before .before .before .before .before .before .before .pre),
       c .before .before .cut-row .ensures,
       n .first,
       n .second,
@@ -64,13 +59,11 @@ visit-row-requires c κs =
 
 mul-next-waiting : tie.Need-mul-next-waiting Inv-loop μ-loop
 mul-next-waiting c =
-    let earlier = c .before .before .before .before .before .before .before in
-    let h = ends (earlier) in omega arith
+    let h = ends (c .before .before .before .before .before .before .before) in omega arith
 
 add-next-waiting : tie.Need-add-next-waiting Inv-loop μ-loop
 add-next-waiting c =
-    let earlier = c .before .before .before .before .before .before .before in
-    let h = ends (earlier) in omega arith
+    let h = ends (c .before .before .before .before .before .before .before) in omega arith
 
 next-waiting-requires-2 : tie.Need-next-waiting-requires-2 Inv-loop μ-loop
 next-waiting-requires-2 c κs =
@@ -91,8 +84,7 @@ loop-again c =
     let long : _ ≡ length (a .marks .now) = c .before .before .before .before .visit-row .ensures .long ∙ l .inv .2 .long in (
       omega (arith, n .within, long),
       (λ h. let w = n .found (omega (arith, h, long)) in record { big = w .0; small = w .1 }),
-      passed-turn (PairStep nb (a .left .now) (a .right .now)) (kindIn (a .lcodes .now) (a .rcodes .now)) (step-lettered _ _ _ _ (start .pre .paired)) (kind-low _ _)
-          0 (l .x) (l .x / nb * nb + nb) _ (a .marks .now) (l .marks) _ (l .changed) (l .inv .2) (rw (numbers (earlier) .whole) at (c .before .before .before .before .visit-row .ensures)) (n .none),
+      passed-turn _ (l .inv .2) (rw (numbers (earlier) .whole) at (c .before .before .before .before .visit-row .ensures)) (n .none),
     )
 
 returns : tie.Need-returns Inv-loop μ-loop

@@ -7,7 +7,7 @@ use lib.ListN.{length}
 use Rattle.stricter_laws.specs.Pairs.{PairStep}
 use Rattle.stricter_laws.proofs.Rows.{fits-same}
 use Rattle.stricter_laws.specs.Forest.{kindIn, Waits, Passed}
-use Rattle.stricter_laws.proofs.Pairs.{step-lettered, kind-low, row-end}
+use Rattle.stricter_laws.proofs.Pairs.{row-end}
 use Rattle.stricter_laws.proofs.Passes.{passed-start, passed-turn}
 use Rattle.stricter_word.proofs.explore.visit_row.Statement.{statement}
 use Rattle.stricter_word.proofs.explore.visit_row.Tie as tie
@@ -22,7 +22,7 @@ abbrev μ-loop : tie.MeasureT-loop
 
 -- the row ends within the marks
 ends : (c : tie.Start Inv-loop μ-loop) → c .args .i * length (c .args .rcodes .now) + length (c .args .rcodes .now) ≤ length (c .args .marks .now)
-ends c = row-end (length (c .args .lcodes .now)) (length (c .args .rcodes .now)) (c .args .i) _ _ (c .args .marks .now) (c .pre .0) (c .pre .2) (omega (arith, c .pre .3))
+ends c = row-end (c .args .i) (c .pre .0) (c .pre .2) (omega (arith, c .pre .3))
 
 mul-row : tie.Need-mul-row Inv-loop μ-loop
 mul-row c = let h = ends (c .before .before .before .before .before) in omega arith
@@ -32,22 +32,13 @@ add-end c = let h = ends (c .before .before .before .before .before) in omega ar
 
 loop-holds : tie.Need-loop-holds Inv-loop μ-loop
 loop-holds c =
-    let a = c .before .before .before .before .before .args in
-    let p = c .before .before .before .before .before .pre in (
-      p .3,
-      p .4,
-      (
-        false,
-        passed-start (PairStep (length (a .rcodes .now)) (a .left .now) (a .right .now)) (kindIn (a .lcodes .now) (a .rcodes .now))
-            (step-lettered _ _ _ _ (p .0 .paired)) (kind-low _ _) (a .i * length (a .rcodes .now) + a .j) (a .marks .now),
-      ),
-    )
+    let a = c .before .before .before .before .before .args in let p = c .before .before .before .before .before .pre in
+    (p .3, p .4, (false, passed-start (a .i * length (a .rcodes .now) + a .j) (a .marks .now)))
 
 visit-requires : tie.Need-visit-requires Inv-loop μ-loop
 visit-requires c κs =
-    let start = c .before .before .before .before .before .before .before in let a = start .args in
-    let p = start .pre in let l = c .before .loop in
-    (fits-same (length (a .lcodes .now)) (length (a .rcodes .now)) _ _ (a .marks .now) (l .marks) (l .inv .2 .1 .long) (p .0), p .1, p .2, l .inv .0, l .inv .1)
+    let p = c .before .before .before .before .before .before .before .pre in let l = c .before .loop in
+    (fits-same (l .marks) (l .inv .2 .1 .long) (p .0), p .1, p .2, l .inv .0, l .inv .1)
 
 add-next-waiting : tie.Need-add-next-waiting Inv-loop μ-loop
 add-next-waiting c =
@@ -67,25 +58,18 @@ next-waiting-requires c κs =
 
 same-length : tie.Need-same-length Inv-loop μ-loop
 same-length c =
-    let at-loop = c .before .before .before .before .before .before .before in
-    c .before .before .before .before .before .visit .ensures .long ∙ at-loop .loop .inv .2 .1 .long
+    c .before .before .before .before .before .visit .ensures .long ∙ c .before .before .before .before .before .before .before .loop .inv .2 .1 .long
 
 -- one turn
 turn : (c : tie.After-next-waiting Inv-loop μ-loop) → let a = c .before .before .before .before .before .before .before .before .before .before .before .before .args in
     Passed (PairStep (length (a .rcodes .now)) (a .left .now) (a .right .now)) (kindIn (a .lcodes .now) (a .rcodes .now)) (a .i * length (a .rcodes .now) + a .j) (c .next-waiting .result)
     (a .marks .now) (c .before .before .before .before .visit .last .1 .1 .1 .1 .1 .1 .1 .0) true
 turn c =
-    let start = c .before .before .before .before .before .before .before .before .before .before .before .before in
-    let a = start .args in let l = c .before .before .before .before .before .before .loop in
-    let row = a .i * length (a .rcodes .now) in
-    passed-turn (PairStep (length (a .rcodes .now)) (a .left .now) (a .right .now)) (kindIn (a .lcodes .now) (a .rcodes .now))
-    (step-lettered _ _ _ _ (start .pre .0 .paired)) (kind-low _ _) (row + a .j) (row + l .k) (row + l .k + 1) _ (a .marks .now) (l .marks) _ (l .inv .2 .0)
-    (l .inv .2 .1) (c .before .before .before .before .visit .ensures) (c .next-waiting .ensures .none)
+    let l = c .before .before .before .before .before .before .loop in
+    passed-turn _ (l .inv .2 .1) (c .before .before .before .before .visit .ensures) (c .next-waiting .ensures .none)
 
 loop-less : tie.Need-loop-less Inv-loop μ-loop
-loop-less c =
-    let at-loop = c .before .before .before .before .before .before .before in
-    omega (arith, c .before .next-waiting .ensures .ordered, at-loop .loop .inv .0)
+loop-less c = omega (arith, c .before .next-waiting .ensures .ordered, c .before .before .before .before .before .before .before .loop .inv .0)
 
 loop-again : tie.Need-loop-again Inv-loop μ-loop
 loop-again c =

@@ -1,13 +1,10 @@
 -- `find_lasso` meets its contract.
 use mathlib.Core.Path.{_∙_}
-use mathlib.Core.Bool.{true, false}
 use native.Mathlib.Omega.{arith}
 use native.Mathlib.Nat.{mul-le-mul-right}
 use borrow.Author.Needs.{needs}
 use lib.ListN.{length}
 use Rattle.graph_walks.proofs.Sums.{has-place}
-use Rattle.stricter_laws.specs.Pairs.{PairStep}
-use Rattle.stricter_laws.specs.Tests.{acceptsIn}
 use Rattle.stricter_laws.proofs.Reach.{same-then}
 use Rattle.stricter_laws.proofs.Words.{written}
 use Rattle.stricter_word.proofs.Turns.{route-length, ask-there, ask-onto, ask-back}
@@ -17,22 +14,18 @@ use Rattle.stricter_word.proofs.lasso.find_lasso.Tie as tie
 write-between-requires : tie.Need-write-between-requires
 write-between-requires c κs =
     let at-find-turn = c .before .before .before .before in
-    let start = at-find-turn .before .before .before .before .before .before .before .before in let a = start .args in
-    let p = start .pre in let t = at-find-turn .find-turn .ensures in
-    let ask = ask-there (PairStep (length (a .rcodes .now)) (a .left .now) (a .right .now)) (acceptsIn (a .lcodes .now) (a .rcodes .now) false) (acceptsIn (a .lcodes .now) (a .rcodes .now) true)
-    (a .start) (at-find-turn .find-turn .result .u) (at-find-turn .find-turn .result .v) (a .marks .now) _ (t .1) (t .0) (p .4) in
+    let p = at-find-turn .before .before .before .before .before .before .before .before .pre in let t = at-find-turn .find-turn .ensures in
+    let ask = ask-there (t .1) (t .0) (p .4) in
     ((p .0, p .1, t .0 .long ∙ p .2, ask .0, omega (arith, t .0 .long, p .2, p .3)), ask .1)
 
 write-between-requires-2 : tie.Need-write-between-requires-2
 write-between-requires-2 c κs =
     let at-find-turn = c .before .before .before .before .before .before .before .before .before .before .before in
-    let start = at-find-turn .before .before .before .before .before .before .before .before in let a = start .args in
-    let p = start .pre in let t = at-find-turn .find-turn .ensures in
+    let p = at-find-turn .before .before .before .before .before .before .before .before .pre in let t = at-find-turn .find-turn .ensures in
     let w = c .before .before .before .before .before .before .write-between .ensures in
-    let same = same-then (a .marks .now) _ _ (t .0) (w .same) in
-    let long = route-length _ _ _ 0 (c .before .before .before .before .before .before .write-between .result) (a .word .now) _ (omega (arith, t .0 .long, p .2, p .3, w .short)) (w .written) in
-    let ask = ask-onto (PairStep (length (a .rcodes .now)) (a .left .now) (a .right .now)) (acceptsIn (a .lcodes .now) (a .rcodes .now) false) (acceptsIn (a .lcodes .now) (a .rcodes .now) true)
-    (a .start) (at-find-turn .find-turn .result .u) (at-find-turn .find-turn .result .v) (a .marks .now) _ (t .1) same in
+    let same = same-then (t .0) (w .same) in
+    let long = route-length (omega (arith, t .0 .long, p .2, p .3, w .short)) (w .written) in
+    let ask = ask-onto (t .1) same in
     ((p .0, p .1, same .long ∙ p .2, ask .0, omega (arith, t .0 .long, p .2, p .3, w .short, same .long, long)), ask .1)
 
 add-write-between : tie.Need-add-write-between
@@ -48,16 +41,13 @@ write-between-requires-3 : tie.Need-write-between-requires-3
 write-between-requires-3 c κs =
     let at-write-between = c .before .before .before .before .before .before .before .before .before .before .before .before .before in
     let at-find-turn = at-write-between .before .before .before .before .before in
-    let start = at-find-turn .before .before .before .before .before .before .before .before in let a = start .args in
-    let p = start .pre in let t = at-find-turn .find-turn .ensures in
+    let p = at-find-turn .before .before .before .before .before .before .before .before .pre in let t = at-find-turn .find-turn .ensures in
     let w = at-write-between .write-between .ensures in
     let o = c .before .before .before .before .before .before .write-between2 .ensures in
-    let same = same-then (a .marks .now) _ _ (same-then (a .marks .now) _ _ (t .0) (w .same)) (o .same) in
-    let long = route-length _ _ _ 0 (at-write-between .write-between .result) (a .word .now) _ (omega (arith, t .0 .long, p .2, p .3, w .short)) (w .written) in
-    let more = route-length _ _ _ (at-write-between .write-between .result) (c .before .before .before .before .before .before .write-between2 .result) _ _
-    (omega (arith, t .0 .long, p .2, p .3, w .short, w .same .long, o .short, long)) (o .written) in
-    let ask = ask-back (PairStep (length (a .rcodes .now)) (a .left .now) (a .right .now)) (acceptsIn (a .lcodes .now) (a .rcodes .now) false) (acceptsIn (a .lcodes .now) (a .rcodes .now) true)
-    (a .start) (at-find-turn .find-turn .result .u) (at-find-turn .find-turn .result .v) (a .marks .now) _ (t .1) same in
+    let same = same-then (same-then (t .0) (w .same)) (o .same) in
+    let long = route-length (omega (arith, t .0 .long, p .2, p .3, w .short)) (w .written) in
+    let more = route-length (omega (arith, t .0 .long, p .2, p .3, w .short, w .same .long, o .short, long)) (o .written) in
+    let ask = ask-back (t .1) same in
     ((p .0, p .1, same .long ∙ p .2, ask .0, omega (arith, t .0 .long, p .2, p .3, w .short, w .same .long, o .short, same .long, long, more)), ask .1)
 
 add-t26 : tie.Need-add-t26
@@ -81,8 +71,8 @@ returns c =
     let b = c .before .before .before .before .write-between3 .ensures in
     let place = has-place (a .marks .now) (a .start) (p .4) in
     λ startA startB begins.
-    written (a .lcodes .now) (a .left .now) (a .rcodes .now) (a .right .now) (p .0) (p .1) startA startB (a .start) (at-find-turn .find-turn .result .u) (at-find-turn .find-turn .result .v)
-    (omega (arith, p .2)) begins (t .1 .accepts-u) (t .1 .accepts-v) _ _ _ (a .word .now) _ _ _ (w .written) (o .written) (b .written) (o .some)
+    written (p .0) (p .1) startA startB (a .start) (at-find-turn .find-turn .result .u) (at-find-turn .find-turn .result .v)
+    (omega (arith, p .2)) begins (t .1 .accepts-u) (t .1 .accepts-v) (w .written) (o .written) (b .written) (o .some)
     (omega (arith, t .0 .long, p .2, w .short)) (omega (arith, t .0 .long, p .2, w .same .long, o .short)) (omega (arith, t .0 .long, p .2, w .same .long, o .same .long, b .short))
 
 pub find-lasso-spec : {M : Type 1} → statement M

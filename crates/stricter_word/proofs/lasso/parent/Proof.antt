@@ -37,7 +37,7 @@ returns-2 c =
     let start = c .before .before .before .before .before .before .before in let a = start .args in
     record {
       near = λ l. absurd (omega arith);
-      far = parent-far (a .lcodes .now) (a .left .now) (a .rcodes .now) (a .right .now) _ (searchable-paired _ _ _ _ (start .pre .0) (start .pre .1)) (a .y) (a .v) _ _
+      far = parent-far (a .lcodes .now) (a .rcodes .now) (searchable-paired (start .pre .0) (start .pre .1)) (a .y) (a .v) _ _
           (c .before .source-for .ensures .source) (c .source-for2 .ensures .source);
     }
 

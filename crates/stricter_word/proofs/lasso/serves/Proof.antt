@@ -23,8 +23,7 @@ mul-is-accepting c = let h = own (c .before .before .before .before .before .bef
 
 shared-slice-read-is-accepting : tie.Need-shared-slice-read-is-accepting
 shared-slice-read-is-accepting c =
-    let earlier = c .before .before .before .before .before .before .before in
-    let h = own (earlier) .second in omega arith
+    let h = own (c .before .before .before .before .before .before .before) .second in omega arith
 
 returns-2 : tie.Need-returns-2
 unfolding acceptsIn
@@ -40,8 +39,7 @@ mul-is-accepting-2 c = let h = own (c .before .before .before .before .before .b
 
 shared-slice-read-is-accepting-2 : tie.Need-shared-slice-read-is-accepting-2
 shared-slice-read-is-accepting-2 c =
-    let earlier = c .before .before .before .before .before .before .before in
-    let h = own (earlier) .first in omega arith
+    let h = own (c .before .before .before .before .before .before .before) .first in omega arith
 
 returns-3 : tie.Need-returns-3
 unfolding acceptsIn

@@ -1,7 +1,6 @@
 -- `find_word` meets its contract.
-use mathlib.Core.Path.{_≡_, sym, _∙_}
-use mathlib.Core.Bool.{true, false}
-use Prim.Native.Nat.{ℕ, _+_, _*_}
+use mathlib.Core.Path.{_≡_, _∙_}
+use Prim.Native.Nat.{_+_}
 use native.Mathlib.Omega.{arith}
 use native.Mathlib.Nat.{add-zero}
 use borrow.Author.Needs.{needs}
@@ -9,8 +8,6 @@ use lib.ListN.{length}
 use Rattle.graph_walks.proofs.Sums.{has-place}
 use Rattle.stricter_spec.specs.Search.{Written}
 use Rattle.stricter_laws.specs.Pairs.{PairStep}
-use Rattle.stricter_laws.specs.Tests.{acceptsIn}
-use Rattle.stricter_laws.specs.Forest.{kindIn}
 use Rattle.stricter_laws.proofs.Words.{written}
 use Rattle.stricter_word.proofs.Turns.{sound-same, stays-at}
 use Rattle.stricter_word.proofs.lasso.shared_word.Statement.{statement}
@@ -31,8 +28,8 @@ returns c =
     let place = has-place (a .marks .now) (a .start) (p .4) in
     λ startA startB begins.
     let w : Written (a .lcodes .now) (a .left .now) startA (a .rcodes .now) (a .right .now) startB 0 (r .result + 0) (a .word .now) _
-    = written (a .lcodes .now) (a .left .now) (a .rcodes .now) (a .right .now) (p .0) (p .1) startA startB (a .start) (a .start) (a .start)
-    (omega (arith, p .2)) begins (R .first l) (R .second l) 0 (r .result) 0 (a .word .now) (a .word .now) _ _
+    = written (p .0) (p .1) startA startB (a .start) (a .start) (a .start)
+    (omega (arith, p .2)) begins (R .first l) (R .second l)
     (stays-at s (a .start) 0 (a .word .now)) (R .written l) (stays-at s (a .start) (0 + r .result) _) l
     (omega arith) (omega (arith, R .short, p .2)) (omega arith) in
     rw (add-zero (r .result)) at w
@@ -42,15 +39,8 @@ find-lasso-requires c κs =
     let at-write-round = c .before .before .before .before .before .before .before in
     let start = at-write-round .before .before .before .before .before .before .before .before .before in
     let a = start .args in let p = start .pre in let R = at-write-round .write-round .ensures in
-    let z : at-write-round .write-round .result ≡ 0 = omega (arith, c .before .before .if1 .left) in (
-      p .0,
-      p .1,
-      R .same .long ∙ p .2,
-      rw (R .none z) (p .3),
-      R .same .kept (a .start) (p .4),
-      sound-same (PairStep (length (a .rcodes .now)) (a .left .now) (a .right .now)) (kindIn (a .lcodes .now) (a .rcodes .now))
-          (acceptsIn (a .lcodes .now) (a .rcodes .now) false) (acceptsIn (a .lcodes .now) (a .rcodes .now) true) (a .start) (a .marks .now) _ (R .same) (p .5),
-    )
+    let z : at-write-round .write-round .result ≡ 0 = omega (arith, c .before .before .if1 .left) in
+    (p .0, p .1, R .same .long ∙ p .2, rw (R .none z) (p .3), R .same .kept (a .start) (p .4), sound-same (R .same) (p .5))
 
 returns-2 : tie.Need-returns-2
 returns-2 c =

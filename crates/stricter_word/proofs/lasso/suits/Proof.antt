@@ -1,6 +1,6 @@
 -- `suits` meets its contract.
 use mathlib.Core.Path.{_≡_, sym, ap, _∙_}
-use mathlib.Core.Bool.{true, false, not, false≢true}
+use mathlib.Core.Bool.{not, false≢true}
 use Prim.Native.Nat.{ℕ}
 use native.Mathlib.Omega.{arith}
 use borrow.Author.Needs.{needs}
@@ -36,10 +36,9 @@ accepts c = c .is-accepting .ensures ∙ ap (λ (n : ℕ). isAccepting (getD (st
 
 returns-3 : tie.Need-returns-3
 returns-3 c =
-    let at-letter-of = c .before .before .before .before .before .before .before in
     let e = sym (accepts (c .before)) ∙ c .if3 .taken in
     record {
-      over = λ r. omega (arith, at-letter-of .letter-of .ensures);
+      over = λ r. omega (arith, c .before .before .before .before .before .before .before .letter-of .ensures);
       to = λ r. omega (arith, c .before .before .before .before .before .target-of .ensures);
       from = λ r. e ∙ sym r;
       all = λ f g h. sym h ∙ e;
@@ -47,10 +46,9 @@ returns-3 c =
 
 returns-4 : tie.Need-returns-4
 returns-4 c =
-    let at-letter-of = c .before .before .before .before .before .before .before in
     let e = sym (accepts (c .before)) ∙ c .if3 .left in
     record {
-      over = λ r. omega (arith, at-letter-of .letter-of .ensures);
+      over = λ r. omega (arith, c .before .before .before .before .before .before .before .letter-of .ensures);
       to = λ r. omega (arith, c .before .before .before .before .before .target-of .ensures);
       from = λ r. e ∙ sym (not-t _ r);
       all = λ f g h. ap not (sym h ∙ e);

@@ -27,9 +27,8 @@ loop-holds c = let (d, h, b) = c .before .before .before .before .before .pre .1
 -- the pair is met
 low : (c : tie.At-loop Inv-loop μ-loop) → c .loop .x < length (c .before .before .before .before .before .before .args .marks .now)
 low c =
-    let a = c .before .before .before .before .before .before .args in
-    let h = back-met (PairStep (length (a .rcodes .now)) (a .left .now) (a .right .now)) (kindIn (a .lcodes .now) (a .rcodes .now)) (a .origin) (a .marks .now) (c .loop .inv .5) in
-    has-place (a .marks .now) (c .loop .x) (omega arith)
+    let h = back-met (c .loop .inv .5) in
+    has-place (c .before .before .before .before .before .before .args .marks .now) (c .loop .x) (omega arith)
 
 parent-requires : tie.Need-parent-requires Inv-loop μ-loop
 parent-requires c κs =
@@ -46,16 +45,16 @@ back : (c : tie.After-parent Inv-loop μ-loop) → (e : ℕ) × (c .before .befo
     (c .parent .result) e
 back c =
     let a = start-of-after-parent c .args in
-    back-far (PairStep (length (a .rcodes .now)) (a .left .now) (a .right .now)) (kindIn (a .lcodes .now) (a .rcodes .now))
-    (step-lettered _ _ _ _ (searchable-paired _ _ _ _ (start-of-after-parent c .pre .0 .0) (start-of-after-parent c .pre .0 .1))) (kind-low _ _) (a .origin) (a .marks .now)
-    (c .before .before .before .before .loop .inv .5) (omega arith) (c .parent .result) (c .parent .ensures)
+    back-far
+    (step-lettered (searchable-paired (start-of-after-parent c .pre .0 .0) (start-of-after-parent c .pre .0 .1))) (kind-low _ _) (a .origin) (a .marks .now)
+    (c .before .before .before .before .loop .inv .5) (omega arith) (c .parent .ensures)
 
 more : (c : tie.After-parent Inv-loop μ-loop) → c .before .before .before .before .loop .k < length (start-of-after-parent c .args .marks .now)
 more c =
     let a = start-of-after-parent c .args in
     let (e, f, b) = back c in
-    let h = back-some (PairStep (length (a .rcodes .now)) (a .left .now) (a .right .now)) (kindIn (a .lcodes .now) (a .rcodes .now))
-    (step-lettered _ _ _ _ (searchable-paired _ _ _ _ (start-of-after-parent c .pre .0 .0) (start-of-after-parent c .pre .0 .1))) (kind-low _ _) (a .origin) (a .marks .now) b in
+    let h = back-some
+    (step-lettered (searchable-paired (start-of-after-parent c .pre .0 .0) (start-of-after-parent c .pre .0 .1))) (kind-low _ _) (a .origin) (a .marks .now) b in
     omega (arith, c .before .before .before .before .loop .inv .2, c .before .before .before .before .loop .inv .3)
 
 loop-again : tie.Need-loop-again Inv-loop μ-loop
@@ -73,8 +72,8 @@ returns : tie.Need-returns Inv-loop μ-loop
 returns c =
     let start = c .before .before .before .before .before .before .before .before in let a = start .args in
     let i = c .before .before .loop .inv in
-    let d = back-near (PairStep (length (a .rcodes .now)) (a .left .now) (a .right .now)) (kindIn (a .lcodes .now) (a .rcodes .now))
-    (step-lettered _ _ _ _ (searchable-paired _ _ _ _ (start .pre .0 .0) (start .pre .0 .1))) (kind-low _ _) (a .origin) (a .marks .now) (i .5) (omega arith) in
+    let d = back-near
+    (step-lettered (searchable-paired (start .pre .0 .0) (start .pre .0 .1))) (kind-low _ _) (a .origin) (a .marks .now) (i .5) (omega arith) in
     let e : i .1 ≡ c .before .before .loop .k = omega (arith, i .3) in
     (omega (arith, i .2), rw e at (i .4))
 

@@ -2,9 +2,6 @@
 use mathlib.Core.Path.{_∙_}
 use native.Mathlib.Omega.{arith}
 use borrow.Author.Needs.{needs}
-use lib.ListN.{length}
-use Rattle.stricter_laws.specs.Pairs.{PairStep}
-use Rattle.stricter_laws.specs.Forest.{kindIn}
 use Rattle.stricter_laws.proofs.Expand.{searchable-paired}
 use Rattle.stricter_laws.proofs.Pairs.{step-lettered, kind-low}
 use Rattle.stricter_laws.proofs.Reach.{explored-meets}
@@ -17,16 +14,13 @@ explore-requires : tie.Need-explore-requires
 explore-requires c κs =
     let start = c .before .before .before .before .before .before .before in let a = start .args in
     let p = start .pre .0 in
-    (searchable-fits (a .lcodes .now) (a .left .now) (a .rcodes .now) (a .right .now) (a .marks .now) (p .0) (p .1) (p .2), p .3)
+    (searchable-fits (a .marks .now) (p .0) (p .1) (p .2), p .3)
 
 way-length-requires : tie.Need-way-length-requires
 way-length-requires c κs =
     let start = c .before .before .before .before .before .before .before .before .before .before .before in
     let a = start .args in let p = start .pre .0 in
-    let e = c .before .before .before .explore .ensures in (
-      (p .0, p .1, e .same .long ∙ p .2),
-      e .back (a .to) (explored-meets (PairStep (length (a .rcodes .now)) (a .left .now) (a .right .now)) (kindIn (a .lcodes .now) (a .rcodes .now)) (a .from) (a .marks .now) _ e (start .pre .1)),
-    )
+    let e = c .before .before .before .explore .ensures in ((p .0, p .1, e .same .long ∙ p .2), e .back (a .to) (explored-meets e (start .pre .1)))
 
 write-way-requires : tie.Need-write-way-requires
 write-way-requires c κs =
@@ -42,8 +36,8 @@ returns c =
     record {
       same = e .same;
       written = c .before .before .write-way .ensures;
-      some = back-some (PairStep (length (a .rcodes .now)) (a .left .now) (a .right .now)) (kindIn (a .lcodes .now) (a .rcodes .now))
-          (step-lettered _ _ _ _ (searchable-paired _ _ _ _ (p .0) (p .1))) (kind-low _ _) (a .from) _ (c .before .before .before .before .before .way-length .ensures .1);
+      some = back-some
+          (step-lettered (searchable-paired (p .0) (p .1))) (kind-low _ _) (a .from) _ (c .before .before .before .before .before .way-length .ensures .1);
       short = omega (arith, c .before .before .before .before .before .way-length .ensures .0, e .same .long);
     }
 

@@ -6,11 +6,9 @@ use native.Mathlib.Omega.{arith}
 use borrow.Author.Needs.{needs}
 use borrow.Author.Tests.{ltb-true}
 use lib.Dec.{ltb}
-use lib.ListN.{length, getD}
+use lib.ListN.{getD}
 use Rattle.sets.proofs.Bools.{and-l, and-r, not-f}
-use Rattle.stricter_laws.specs.Pairs.{PairStep}
 use Rattle.stricter_laws.specs.Tests.{acceptsIn}
-use Rattle.stricter_laws.specs.Forest.{kindIn}
 use Rattle.stricter_laws.proofs.Expand.{searchable-paired}
 use Rattle.stricter_laws.proofs.Pairs.{step-lettered, kind-low}
 use Rattle.stricter_laws.proofs.Routes.{back-some}
@@ -22,7 +20,7 @@ explore-requires : tie.Need-explore-requires
 explore-requires c κs =
     let start = c .before .before .before .before .before .before .before in let a = start .args in
     let p = start .pre in
-    (searchable-fits (a .lcodes .now) (a .left .now) (a .rcodes .now) (a .right .now) (a .marks .now) (p .0) (p .1) (p .2), p .3)
+    (searchable-fits (a .marks .now) (p .0) (p .1) (p .2), p .3)
 
 serves-requires : tie.Need-serves-requires
 serves-requires c κs =
@@ -31,13 +29,7 @@ serves-requires c κs =
     (e .same .long ∙ p .2, omega (arith, p .3, e .same .long))
 
 returns : tie.Need-returns
-returns c =
-    let start = c .before .before .before .before .before .before .before .before .before .before .before .before .before in
-    let a = start .args in
-    let s = PairStep (length (a .rcodes .now)) (a .left .now) (a .right .now) in
-    let one = acceptsIn (a .lcodes .now) (a .rcodes .now) false in
-    let two = acceptsIn (a .lcodes .now) (a .rcodes .now) true in
-    no-round s one two (a .start) (a .marks .now) _ (a .word .now) (c .before .before .before .before .before .explore .ensures .same)
+returns c = no-round _ (c .before .before .before .before .before .explore .ensures .same)
 
 serves-requires-2 : tie.Need-serves-requires-2
 serves-requires-2 c κs =
@@ -46,13 +38,7 @@ serves-requires-2 c κs =
     (e .same .long ∙ p .2, omega (arith, p .3, e .same .long))
 
 returns-2 : tie.Need-returns-2
-returns-2 c =
-    let at-explore = c .before .before .before .before .before .before .before .before in
-    let start = at-explore .before .before .before .before .before .before .before .before in let a = start .args in
-    let s = PairStep (length (a .rcodes .now)) (a .left .now) (a .right .now) in
-    let one = acceptsIn (a .lcodes .now) (a .rcodes .now) false in
-    let two = acceptsIn (a .lcodes .now) (a .rcodes .now) true in
-    no-round s one two (a .start) (a .marks .now) _ (a .word .now) (at-explore .explore .ensures .same)
+returns-2 c = no-round _ (c .before .before .before .before .before .before .before .before .explore .ensures .same)
 
 -- a test that is passed by a node that is met
 met-by : (v : ℕ) (b r : Bool) → r ≡ (ltb 1 v && b) → r ≡ true → 1 < v
@@ -66,9 +52,7 @@ way-length-requires c κs =
     let at-explore = c .before .before .before .before .before .before .before .before .before in
     let start = at-explore .before .before .before .before .before .before .before .before in let a = start .args in
     let p = start .pre in let x = at-explore .explore in let e = x .ensures in
-    let s = PairStep (length (a .rcodes .now)) (a .left .now) (a .right .now) in
-    let one = acceptsIn (a .lcodes .now) (a .rcodes .now) false in
-    let two = acceptsIn (a .lcodes .now) (a .rcodes .now) true in (
+    let one = acceptsIn (a .lcodes .now) (a .rcodes .now) false in (
       (p .0, p .1, e .same .long ∙ p .2),
       e .back (a .start) (met-by (getD (x .last .1 .1 .1 .1 .1 .0) (a .start) 0) (one (a .start)) _ (c .before .before .before .before .before .serves .ensures)
           (not-f _ (c .before .before .before .before .if1 .left))),
@@ -89,12 +73,10 @@ returns-3 c =
     let start = at-explore .before .before .before .before .before .before .before .before in let a = start .args in
     let x = at-explore .explore in let e = x .ensures in
     let w = c .before .before .before .before .before .way-length .ensures in
-    let s = PairStep (length (a .rcodes .now)) (a .left .now) (a .right .now) in
     let one = acceptsIn (a .lcodes .now) (a .rcodes .now) false in
     let two = acceptsIn (a .lcodes .now) (a .rcodes .now) true in
     let p = start .pre in
-    let some = back-some s (kindIn (a .lcodes .now) (a .rcodes .now)) (step-lettered _ _ _ _ (searchable-paired _ _ _ _ (p .0) (p .1))) (kind-low _ _)
-    (a .start) _ (w .1) in
+    let some = back-some (step-lettered (searchable-paired (p .0) (p .1))) (kind-low _ _) (a .start) _ (w .1) in
     record {
       same = e .same;
       short = omega (arith, w .0, e .same .long);

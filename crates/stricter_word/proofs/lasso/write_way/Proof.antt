@@ -25,13 +25,7 @@ abbrev μ-loop : tie.MeasureT-loop
 μ-loop lcodes left rcodes right origin marks y at n word₀ x₀ k₀ word x k = k
 
 loop-holds : tie.Need-loop-holds Inv-loop μ-loop
-loop-holds c =
-    let a = c .before .before .before .before .before .before .args in (
-      omega arith,
-      refl,
-      inr (c .before .before .before .before .before .before .pre .1),
-      writing-start (PairStep (length (a .rcodes .now)) (a .left .now) (a .right .now)) (a .y) (a .at) (a .n) (a .word .now),
-    )
+loop-holds c = (omega arith, refl, inr (c .before .before .before .before .before .before .pre .1), writing-start)
 
 abbrev start-of-in-loop : tie.In-loop Inv-loop μ-loop → tie.Start Inv-loop μ-loop
 start-of-in-loop c = c .before .before .before .before .before .before .before .before
@@ -48,13 +42,11 @@ met c =
 low : (c : tie.In-loop Inv-loop μ-loop) → c .before .loop .x < length (start-of-in-loop c .args .marks .now)
 low c =
     let a = start-of-in-loop c .args in
-    let h = back-met (PairStep (length (a .rcodes .now)) (a .left .now) (a .right .now)) (kindIn (a .lcodes .now) (a .rcodes .now)) (a .origin) (a .marks .now) (met c) in
+    let h = back-met (met c) in
     has-place (a .marks .now) (c .before .loop .x) (omega arith)
 
 add-word : tie.Need-add-word Inv-loop μ-loop
-add-word c =
-    let start = c .before .before .before .before .before .before .before .before .before in
-    omega (arith, start .pre .0 .3, c .before .before .loop .inv .0)
+add-word c = omega (arith, c .before .before .before .before .before .before .before .before .before .pre .0 .3, c .before .before .loop .inv .0)
 
 slice-write-word : tie.Need-slice-write-word Inv-loop μ-loop
 slice-write-word c =
@@ -72,13 +64,13 @@ loop-again c =
     let a = start .args in let l = c .before .before .before .loop in
     let s = PairStep (length (a .rcodes .now)) (a .left .now) (a .right .now) in
     let e : l .k ≡ (l .k - 1) + 1 = omega arith in
-    let b = back-parent s (kindIn (a .lcodes .now) (a .rcodes .now))
-    (step-lettered _ _ _ _ (searchable-paired _ _ _ _ (start .pre .0 .0) (start .pre .0 .1))) (kind-low _ _) (a .origin) (a .marks .now) (met (c .before .before)) (c .parent .result)
+    let b = back-parent
+    (step-lettered (searchable-paired (start .pre .0 .0) (start .pre .0 .1))) (kind-low _ _) (a .origin) (a .marks .now) (met (c .before .before))
     (c .parent .ensures) in (
       omega (arith, l .inv .0),
       length-set (l .word) _ _ ∙ l .inv .1,
       b .1,
-      writing-next s (a .y) (a .at) (a .n) (a .word .now) (l .x) (l .k - 1) _ (c .parent .result) (l .word) (omega (arith, start .pre .0 .3, l .inv .0)) (b .0)
+      writing-next (l .k - 1) _ (c .parent .result) (omega (arith, start .pre .0 .3, l .inv .0)) (b .0)
           (subst (λ (m : ℕ). Writing s (a .y) (a .at) (a .n) (a .word .now) (l .x) m (l .word)) e (l .inv .3)),
     )
 
@@ -86,12 +78,11 @@ returns : tie.Need-returns Inv-loop μ-loop
 returns c =
     let start = c .before .before .before .before .before .before .before .before in let a = start .args in
     let l = c .before .loop in
-    let s = PairStep (length (a .rcodes .now)) (a .left .now) (a .right .now) in
     let none : l .k ≡ 0 = omega arith in
     let from : l .x ≡ a .origin = ⊎-elim (λ h. h .1)
-    (λ h. let some = back-some s (kindIn (a .lcodes .now) (a .rcodes .now))
-    (step-lettered _ _ _ _ (searchable-paired _ _ _ _ (start .pre .0 .0) (start .pre .0 .1))) (kind-low _ _) (a .origin) (a .marks .now) h in absurd (omega arith)) (l .inv .2) in
-    writing-end s (a .y) (a .at) (a .n) (a .word .now) (a .origin) (l .x) (l .word) from (rw none at (l .inv .3))
+    (λ h. let some = back-some
+    (step-lettered (searchable-paired (start .pre .0 .0) (start .pre .0 .1))) (kind-low _ _) (a .origin) (a .marks .now) h in absurd (omega arith)) (l .inv .2) in
+    writing-end (a .origin) from (rw none at (l .inv .3))
 
 pub write-way-spec : {M : Type 1} → statement M
 write-way-spec =
