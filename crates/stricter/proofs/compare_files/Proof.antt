@@ -1,7 +1,6 @@
 -- `compare_files` meets its contract: 28, then 17 and 18 by A's table, then what is left once it is built.
 use mathlib.Core.Path.{refl, sym, _∙_}
 use mathlib.Core.Bool.{true}
-use Rattle.stricter_entry_spec.specs.Rows.{slicesOf}
 use Rattle.stricter.proofs.Rooms.{refused-zero, lent-same, made-refused, made-row, made-ready, file-letters, different, own-refused, own-served, other-settles}
 use borrow.Author.Needs.{needs}
 use Rattle.stricter.proofs.compare_files.Statement.{statement}
@@ -11,8 +10,7 @@ returns : tie.Need-returns
 returns c =
     let start = c .before .before .before .before .before .before .before .before .before .before .before in
     let a = start .args in let p = start .pre in
-    let lent = slicesOf (a .acodes .now) (a .atransitions .now) (a .bcodes .now) (a .btransitions .now) (a .word .now) (a .scratch .now) in
-    different (a .a .now) (a .b .now) lent (λ e. c .if1 .taken (file-letters (a .a .now) (p .0) ∙ e ∙ sym (file-letters (a .b .now) (p .1))))
+    different (a .a .now) (a .b .now) _ (λ e. c .if1 .taken (file-letters (a .a .now) (p .0) ∙ e ∙ sym (file-letters (a .b .now) (p .1))))
 
 compare-other-requires : tie.Need-compare-other-requires
 compare-other-requires c κs =
@@ -34,10 +32,9 @@ returns-2 c =
     let at-if1 = at-build .before .before .before in
     let start = at-if1 .before .before .before .before .before .before .before .before .before .before .before in
     let a = start .args in let p = start .pre in let z = c .before .before .before .before .zero-rooms .ensures in
-    let lent = slicesOf (a .acodes .now) (a .atransitions .now) (a .bcodes .now) (a .btransitions .now) (a .word .now) (a .scratch .now) in
     let E = made-refused (rw (at-row .row .given .1) at (at-build .build-accepted .ensures)) in
     let same = sym (file-letters (a .a .now) (p .0)) ∙ at-if1 .if1 .left ∙ file-letters (a .b .now) (p .1) in
-    refused-zero (own-refused (a .a .now) (a .b .now) lent same E) (E .some) (E .zeroes) (E .codes-zero) (E .moves-zero) (z .0) (z .1) refl refl
+    refused-zero (own-refused (a .a .now) (a .b .now) _ same E) (E .some) (E .zeroes) (E .codes-zero) (E .moves-zero) (z .0) (z .1) refl refl
 
 returns-3 : tie.Need-returns-3
 returns-3 c =
@@ -48,10 +45,9 @@ returns-3 c =
     let start = at-if1 .before .before .before .before .before .before .before .before .before .before .before in
     let a = start .args in let p = start .pre in let f = at-build .build-accepted in let e = f .kept .1 .1 .1 .0 in
     let d = f .kept .1 .1 .1 .1 .0 in
-    let lent = slicesOf (a .acodes .now) (a .atransitions .now) (a .bcodes .now) (a .btransitions .now) (a .word .now) (a .scratch .now) in
     let same = sym (file-letters (a .a .now) (p .0)) ∙ at-if1 .if1 .left ∙ file-letters (a .b .now) (p .1) in
     let row = made-row (a .a .now) true (p .0) (rw (at-n .n .given .1) at (f .ensures)) e d in
-    lent-same (own-served (a .a .now) (a .b .now) lent same (f .last .1 .1 .1 .0) (f .last .1 .1 .1 .1 .0) row) (other-settles (a .a .now) (a .b .now) _) e d refl refl refl refl
+    lent-same (own-served (a .a .now) (a .b .now) _ same (f .last .1 .1 .1 .0) (f .last .1 .1 .1 .1 .0) row) (other-settles (a .a .now) (a .b .now) _) e d refl refl refl refl
     (at-compare .compare-other .ensures)
 
 pub compare-files-spec : {M : Type 1} → statement M

@@ -1,7 +1,6 @@
 -- `compare_other` meets its contract: 17 and 18 by the table of the words that B rejects, then the search.
 use mathlib.Core.Path.{refl}
 use mathlib.Core.Bool.{false}
-use Rattle.stricter_entry_spec.specs.Rows.{slicesOf}
 use Rattle.stricter.proofs.Rooms.{refused-zero, lent-same, made-refused, made-row, made-ready, other-refused, other-served, pair-settles}
 use borrow.Author.Needs.{needs}
 use Rattle.stricter.proofs.compare_other.Statement.{statement}
@@ -21,9 +20,8 @@ returns c =
     let at-build = at-row .before .before .before .before .before .before in
     let start = at-build .before .before .before .before .before .before .before .before .before .before .before in
     let a = start .args in let z = c .before .before .before .before .zero-rooms .ensures in
-    let lent = slicesOf (a .acodes .now) (a .atransitions .now) (a .bcodes .now) (a .btransitions .now) (a .word .now) (a .scratch .now) in
     let E = made-refused (rw (at-row .row .given .1) at (at-build .build-accepted .ensures)) in
-    refused-zero (other-refused (a .a .now) (a .b .now) lent E) (E .some) (E .zeroes) (z .0) (z .1) (E .codes-zero) (E .moves-zero) refl refl
+    refused-zero (other-refused (a .a .now) (a .b .now) _ E) (E .some) (E .zeroes) (z .0) (z .1) (E .codes-zero) (E .moves-zero) refl refl
 
 returns-2 : tie.Need-returns-2
 returns-2 c =
@@ -33,9 +31,8 @@ returns-2 c =
     let start = at-build .before .before .before .before .before .before .before .before .before .before .before in
     let a = start .args in let f = at-build .build-accepted in let e = f .kept .1 .1 .1 .0 in
     let d = f .kept .1 .1 .1 .1 .0 in
-    let lent = slicesOf (a .acodes .now) (a .atransitions .now) (a .bcodes .now) (a .btransitions .now) (a .word .now) (a .scratch .now) in
     let row = made-row (a .b .now) false (start .pre .1) (rw (at-m .m .given .1) at (f .ensures)) e d in
-    lent-same (other-served (a .a .now) (a .b .now) lent (f .last .1 .1 .1 .0) (f .last .1 .1 .1 .1 .0) row) (pair-settles (a .a .now) (a .b .now) _) refl refl e d refl refl
+    lent-same (other-served (a .a .now) (a .b .now) _ (f .last .1 .1 .1 .0) (f .last .1 .1 .1 .1 .0) row) (pair-settles (a .a .now) (a .b .now) _) refl refl e d refl refl
     (at-compare .compare-tables .ensures)
 
 pub compare-other-spec : {M : Type 1} → statement M

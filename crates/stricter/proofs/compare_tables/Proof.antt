@@ -24,10 +24,9 @@ returns c =
     let at-zero-rooms = c .before .before .before .before .before .before .before .before .before .before .before in
     let at-if1 = at-zero-rooms .before .before .before in
     let start = at-if1 .before .before .before .before .before .before .before .before .before .before .before .before .before .before in
-    let a = start .args in let p = start .pre in let z = at-zero-rooms .zero-rooms .ensures in
+    let p = start .pre in let z = at-zero-rooms .zero-rooms .ensures in
     let v = c .before .before .before .before .zero-rooms2 .ensures in
-    let lent = slicesOf (a .acodes .now) (a .atransitions .now) (a .bcodes .now) (a .btransitions .now) (a .word .now) (a .scratch .now) in
-    refused-zero (pair-short (p .0) (p .1) lent (at-if1 .before .lacks-room .ensures) (at-if1 .if1 .taken)) (λ e. omega arith) refl (z .0) (z .1) (v .0) (v .1) refl refl
+    refused-zero (pair-short (p .0) (p .1) _ (at-if1 .before .lacks-room .ensures) (at-if1 .if1 .taken)) (λ e. omega arith) refl (z .0) (z .1) (v .0) (v .1) refl refl
 
 search-tables-requires : tie.Need-search-tables-requires
 search-tables-requires c κs =
@@ -42,10 +41,8 @@ returns-2 : tie.Need-returns-2
 returns-2 c =
     let at-search-tables = c .before .before .before .before .before .before .before .before .before .before .before .before in
     let at-if1 = at-search-tables .before .before .before .before .before .before .before in
-    let start = at-if1 .before .before .before .before .before .before .before .before .before .before .before .before .before .before in
-    let a = start .args in let p = start .pre in
-    let lent = slicesOf (a .acodes .now) (a .atransitions .now) (a .bcodes .now) (a .btransitions .now) (a .word .now) (a .scratch .now) in
-    by-row (pair-room (p .0) (p .1) lent (at-if1 .before .lacks-room .ensures) (at-if1 .if1 .left)) (at-search-tables .search-tables .ensures)
+    let p = at-if1 .before .before .before .before .before .before .before .before .before .before .before .before .before .before .pre in
+    by-row (pair-room (p .0) (p .1) _ (at-if1 .before .lacks-room .ensures) (at-if1 .if1 .left)) (at-search-tables .search-tables .ensures)
 
 pub compare-tables-spec : {M : Type 1} → statement M
 compare-tables-spec =

@@ -10,29 +10,21 @@ use Rattle.stricter.proofs.search_tables.Statement.{statement}
 use Rattle.stricter.proofs.search_tables.Tie as tie
 
 slice-relend-prefix-search : tie.Need-slice-relend-prefix-search
-slice-relend-prefix-search c =
-    let start = c .before .before .before .before .before .before .before .before .before .before in
-    codes-fit (start .pre .0)
+slice-relend-prefix-search c = codes-fit (c .before .before .before .before .before .before .before .before .before .before .pre .0)
 
 slice-aggregate-search : tie.Need-slice-aggregate-search
 slice-aggregate-search c =
-    let start = c .before .before .before .before .before .before .before .before .before .before .before in
-    sym (length-take-le _ _ (codes-fit (start .pre .0)))
+    sym (length-take-le _ _ (codes-fit (c .before .before .before .before .before .before .before .before .before .before .before .pre .0)))
 
 slice-relend-prefix-search-2 : tie.Need-slice-relend-prefix-search-2
-slice-relend-prefix-search-2 c =
-    let start = c .before .before .before .before .before .before .before .before .before .before .before in
-    moves-fit (start .pre .0)
+slice-relend-prefix-search-2 c = moves-fit (c .before .before .before .before .before .before .before .before .before .before .before .pre .0)
 
 slice-aggregate-search-2 : tie.Need-slice-aggregate-search-2
 slice-aggregate-search-2 c =
-    let start = c .before .before .before .before .before .before .before .before .before .before .before .before in
-    sym (length-take-le _ _ (moves-fit (start .pre .0)))
+    sym (length-take-le _ _ (moves-fit (c .before .before .before .before .before .before .before .before .before .before .before .before .pre .0)))
 
 slice-relend-prefix-search-3 : tie.Need-slice-relend-prefix-search-3
-slice-relend-prefix-search-3 c =
-    let start = c .before .before .before .before .before .before .before .before .before .before .before .before in
-    codes-fit (start .pre .1)
+slice-relend-prefix-search-3 c = codes-fit (c .before .before .before .before .before .before .before .before .before .before .before .before .pre .1)
 
 slice-aggregate-search-3 : tie.Need-slice-aggregate-search-3
 slice-aggregate-search-3 c =
@@ -41,8 +33,7 @@ slice-aggregate-search-3 c =
 
 slice-relend-prefix-search-4 : tie.Need-slice-relend-prefix-search-4
 slice-relend-prefix-search-4 c =
-    let start = c .before .before .before .before .before .before .before .before .before .before .before .before .before in
-    moves-fit (start .pre .1)
+    moves-fit (c .before .before .before .before .before .before .before .before .before .before .before .before .before .pre .1)
 
 slice-aggregate-search-4 : tie.Need-slice-aggregate-search-4
 slice-aggregate-search-4 c =

@@ -23,8 +23,7 @@ returns c =
 returns-2 : tie.Need-returns-2
 returns-2 c =
     let at-read-rule = c .before .before .before .before .before .before .before in
-    let start = at-read-rule .before .before .before .before .before .before .before .before .before in
-    let a = start .args in let k = c .before .other .given .0 .0 in
+    let a = at-read-rule .before .before .before .before .before .before .before .before .before .args in let k = c .before .other .given .0 .0 in
     let lent : Slices = slicesOf (a .acodes .now) (a .atransitions .now) (a .bcodes .now) (a .btransitions .now) (a .word .now) (a .scratch .now) in
     second-refused (a .a .now) (a .b .now) lent (served (a .a .now) (c .before .before .before .before .before .l .given .0 .0)
     (sym (at-read-rule .read-rule .ensures) ∙ c .before .before .before .before .before .l .given .1) .row) k
@@ -36,8 +35,7 @@ returns-3 c =
     let at-m = at-compare-files .before .before .before .before .before .before .before .before in
     let at-read-rule2 = at-m .before .before in let at-l = at-read-rule2 .before .before in
     let at-read-rule = at-l .before .before in
-    let start = at-read-rule .before .before .before .before .before .before .before .before .before in
-    let a = start .args in let s = at-compare-files .compare-files in
+    let a = at-read-rule .before .before .before .before .before .before .before .before .before .args in let s = at-compare-files .compare-files in
     let lent : Slices = slicesOf (a .acodes .now) (a .atransitions .now) (a .bcodes .now) (a .btransitions .now) (a .word .now) (a .scratch .now) in
     both-read (a .a .now) (a .b .now) lent (served (a .a .now) (at-l .l .given .0 .0) (sym (at-read-rule .read-rule .ensures) ∙ at-l .l .given .1) .row)
     (served (a .b .now) (at-m .m .given .0 .0) (sym (at-read-rule2 .read-rule2 .ensures) ∙ at-m .m .given .1) .row) (s .result) _ (s .ensures)
