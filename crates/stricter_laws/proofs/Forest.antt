@@ -95,7 +95,7 @@ marked-end D' f g w = record {
 
 -- ---- the transitions of A beside a number of B
 
-module _ (nb : ℕ) (moves : List ℕ) (from c q : ℕ) {byte : ℕ} (big : 1 < byte) {old ms : List ℕ} (w : Marked (Beside nb moves from c q) byte old ms) {x : ℕ}
+module _ {nb : ℕ} {moves : List ℕ} {from c q : ℕ} {byte : ℕ} (big : 1 < byte) {old ms : List ℕ} (w : Marked (Beside nb moves from c q) byte old ms) {x : ℕ}
     (here : x ≡ targetOf (getD moves c 0) * nb + q) where
   wider : (y : ℕ) → Beside nb moves from c q y → Beside nb moves from (c + 1) q y
   wider y b = record { place = b .place; above = b .above; under = omega (arith, b .under); node = b .node }

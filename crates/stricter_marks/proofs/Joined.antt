@@ -29,7 +29,7 @@ module _ {codes moves : List ℕ} {components : ℕ} {spare : ℕ → ℕ → Bo
     (tagged : List ℕ) (long : length tagged ≡ length codes)
     (number : (i : ℕ) → i < length codes → coreNumber (getD tagged i 0) ≡ toldOf codes (liveMarks codes moves) i) where
   -- number i takes part
-  abbrev pub counts : ℕ → Bool
+  abbrev counts : ℕ → Bool
   counts i = isLive (liveMarks codes moves) i || leb 65536 (length codes)
 
   number-in : (i : ℕ) → i < length codes → counts i ≡ true → coreNumber (getD tagged i 0) ≡ firstOf codes i
@@ -58,43 +58,49 @@ module _ {codes moves : List ℕ} {components : ℕ} {spare : ℕ → ℕ → Bo
       (λ b. ap (λ (x : Bool). x || leb 65536 (length codes))
       (live-same i j l e (sym (ap (λ (x : Bool). isLive (liveMarks codes moves) i || x) b ∙ or-false (isLive (liveMarks codes moves) i)) ∙ t)))
 
-  pub stands-first : (i : ℕ) → i < length codes → counts i ≡ true → standsIn tagged (firstOf codes i) ≡ true
+  stands-first : (i : ℕ) → i < length codes → counts i ≡ true → standsIn tagged (firstOf codes i) ≡ true
   unfolding standsIn
   stands-first i l t =
       let w = C .within i l in
       eq-eqb _ _ (number-in (firstOf codes i) w (counts-same i (firstOf codes i) w (C .stands i l) t) ∙ C .stands i l)
 
   -- and it takes part if its core stands
-  pub counts-first : (i : ℕ) → i < length codes → standsIn tagged (firstOf codes i) ≡ true → counts i ≡ true
+  counts-first : (i : ℕ) → i < length codes → standsIn tagged (firstOf codes i) ≡ true → counts i ≡ true
   unfolding standsIn
   counts-first i l t =
       let w = C .within i l in
       let e = eqb-true (coreNumber (getD tagged (firstOf codes i) 0)) (firstOf codes i) t in
       counts-same (firstOf codes i) i l (sym (C .stands i l)) (counts-low (firstOf codes i) w (omega (arith, e, w)))
 
-  pub core-first : (i : ℕ) → i < length codes → counts i ≡ true → (hasCore tagged i ≡ true) × (coreNumber (getD tagged i 0) ≡ firstOf codes i)
+  core-first : (i : ℕ) → i < length codes → counts i ≡ true → (hasCore tagged i ≡ true) × (coreNumber (getD tagged i 0) ≡ firstOf codes i)
   unfolding hasCore
   core-first i l t =
       let e = number-in i l t in
       (lt-ltb (coreNumber (getD tagged i 0)) (length tagged) (omega (arith, e, long, C .within i l)), e)
 
-  pub counts-core : (i : ℕ) → i < length codes → hasCore tagged i ≡ true → counts i ≡ true
+  counts-core : (i : ℕ) → i < length codes → hasCore tagged i ≡ true → counts i ≡ true
   unfolding hasCore
   counts-core i l t = counts-low i l (omega (arith, long, ltb-true (coreNumber (getD tagged i 0)) (length tagged) t))
+
+  -- the number that a number of a core bears
+  pub core-standing : (i : ℕ) → i < length codes → standsIn tagged (firstOf codes i) ≡ true → (hasCore tagged i ≡ true) × (coreNumber (getD tagged i 0) ≡ firstOf codes i)
+  core-standing i l t = core-first i l (counts-first i l t)
+
+  pub core-own : (i : ℕ) → i < length codes → hasCore tagged i ≡ true → coreNumber (getD tagged i 0) ≡ firstOf codes i
+  core-own i l t = core-first i l (counts-core i l t) .1
 
   pub standing : Standing tagged
   standing i l t =
       let m : i < length codes = omega (arith, long) in
-      let k = counts-core i m t in
-      rw (core-first i m k .1) (stands-first i m k)
+      rw (core-own i m t) (stands-first i m (counts-core i m t))
 
-  -- the numbers of an accepting run take part
-  pub run-counts : (start : Set) (w x : ℕ → ℕ) → AcceptingRun codes moves start w x → (k : ℕ) → counts (x k) ≡ true
+  -- the cores of the numbers of an accepting run stand
+  pub run-stands : (start : Set) (w x : ℕ → ℕ) → AcceptingRun codes moves start w x → (k : ℕ) → standsIn tagged (firstOf codes (x k)) ≡ true
   unfolding isLive
-  run-counts start w x A k =
+  run-stands start w x A k =
       let live = walk-live C (live-solved codes moves) x (A .run .within)
       (λ i. let (t, m, e) = A .run .moves i in record { transition = t; listed = m; source = e .source; target = e .target }) (A .again) k in
-      ap (λ (b : Bool). b || leb 65536 (length codes)) (lt-ltb 0 (getD (liveMarks codes moves) (x k) 0) live)
+      stands-first (x k) (A .run .within k) (ap (λ (b : Bool). b || leb 65536 (length codes)) (lt-ltb 0 (getD (liveMarks codes moves) (x k) 0) live))
 
 -- ---- marks
 

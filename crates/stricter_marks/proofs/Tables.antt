@@ -13,7 +13,7 @@ use Rattle.theory.specs.Automaton.{automaton}
 use Rattle.theory.specs.Passing.{Passing}
 use Rattle.theory.specs.Rule.{Rule}
 use Rattle.theory.specs.Macrostate.{begun}
-use Rattle.theory.specs.Run.{letterOf, AcceptingRun}
+use Rattle.theory.specs.Run.{letterOf}
 use Rattle.theory.specs.TableComputed.{macrostatesFrom}
 use Rattle.theory_laws.proofs.Tables.{macrostates-ascending}
 use Rattle.trim_spec.specs.Trimmed.{liveMarks}
@@ -31,8 +31,7 @@ use Rattle.stricter_laws.proofs.Table.{row-low, onto-low, letter-low}
 use Rattle.stricter_laws.proofs.Lifts.{Marked, both-sound, nothing}
 use Rattle.stricter_laws.proofs.CoreTables.{core-table, codes-low, moves-low, few-parts}
 use Rattle.stricter_marks.specs.Sorted.{Sorted, CoresSorted, TableOf}
-use Rattle.stricter_marks.proofs.Joined.{counts, stands-first, counts-first, core-first, counts-core, standing, run-counts}
-use Rattle.stricter_marks.proofs.Joined.{both-stand, stand-in, spread-in, spread-out}
+use Rattle.stricter_marks.proofs.Joined.{core-standing, core-own, standing, run-stands, both-stand, stand-in, spread-in, spread-out}
 use Rattle.stricter_marks.proofs.Starts.{bit-low, starts-plain, begun-first}
 
 -- ---- one table
@@ -97,25 +96,6 @@ module _ {r : Rule} {start : Set} {count : ℕ} {codes moves : List ℕ} (T : Ta
     begins-first : (s : Set) (i : ℕ) → i < length codes → begun s (getD codes i 0) ≡ true → firstOf codes i ≡ i
     begins-first = begun-first codes codes-ascend low-codes
 
-    -- number i takes part
-    abbrev part : ℕ → Bool
-    part i = counts core-of tcodes (X .long) numbered i
-
-    part-stands : (i : ℕ) → i < length codes → part i ≡ true → standsIn tcodes (firstOf codes i) ≡ true
-    part-stands = stands-first core-of tcodes (X .long) numbered
-
-    stands-part : (i : ℕ) → i < length codes → standsIn tcodes (firstOf codes i) ≡ true → part i ≡ true
-    stands-part = counts-first core-of tcodes (X .long) numbered
-
-    part-core : (i : ℕ) → i < length codes → part i ≡ true → (hasCore tcodes i ≡ true) × (coreNumber (getD tcodes i 0) ≡ firstOf codes i)
-    part-core = core-first core-of tcodes (X .long) numbered
-
-    core-part : (i : ℕ) → i < length codes → hasCore tcodes i ≡ true → part i ≡ true
-    core-part = counts-core core-of tcodes (X .long) numbered
-
-    run-part : (s : Set) (w x : ℕ → ℕ) → AcceptingRun codes moves s w x → (k : ℕ) → part (x k) ≡ true
-    run-part = run-counts core-of tcodes (X .long) numbered
-
 -- ---- two tables
 
 module _ {a b : Rule} {s t : Set} {nA nB : ℕ} {ca ma cb mb : List ℕ} (A : TableOf a s nA ca ma) (B : TableOf b t nB cb mb)
@@ -150,12 +130,11 @@ module _ {a b : Rule} {s t : Set} {nA nB : ℕ} {ca ma cb mb : List ℕ} (A : Ta
   Joined = Marked CA SA CB SB
 
   module _ {all : List ℕ} (final : List ℕ) (I : CoresIn tca tcb all) (sub : (x : ℕ) → 0 < getD final x 0 → 0 < getD all x 0) where
-    -- the pairs of the cores of numbers that take part are in at first
-    all-in : (i j : ℕ) → i < length ca → j < length cb → part A X Y i ≡ true → part B U W j ≡ true
+    -- the pairs of cores that stand are in at first
+    all-in : (i j : ℕ) → i < length ca → j < length cb → standsIn tca (firstOf ca i) ≡ true → standsIn tcb (firstOf cb j) ≡ true
         → 0 < getD all (firstOf ca i * length cb + firstOf cb j) 0
     all-in i j k l p q =
-        rw (U .long) at (stand-in I (firstOf ca i) (firstOf cb j) (rw (X .long) (CA .within i k)) (rw (U .long) (CB .within j l))
-        (part-stands A X Y i k p) (part-stands B U W j l q))
+        rw (U .long) at (stand-in I (firstOf ca i) (firstOf cb j) (rw (X .long) (CA .within i k)) (rw (U .long) (CB .within j l)) p q)
 
     -- the numbers of a pair that is left stand for their cores
     left-stand : (i j : ℕ) → i < length ca → j < length cb → 0 < getD final (i * length cb + j) 0 → (standsIn tca i ≡ true) × (standsIn tcb j ≡ true)
@@ -166,13 +145,13 @@ module _ {a b : Rule} {s t : Set} {nA nB : ℕ} {ca ma cb mb : List ℕ} (A : Ta
       joined = record {
         marks = λ i j k l h.
             let (p, q) = left-stand (firstOf ca i) (firstOf cb j) (CA .within i k) (CB .within j l) h in
-            let (x, e) = part-core A X Y i k (stands-part A X Y i k p) in
-            let (y, f) = part-core B U W j l (stands-part B U W j l q) in
+            let (x, e) = core-standing CA tca (X .long) (numbered A X Y) i k p in
+            let (y, f) = core-standing CB tcb (U .long) (numbered B U W) j l q in
             rw (U .long) at (spread-in S i j (firstOf ca i) (firstOf cb j) (rw (X .long) k) (rw (U .long) l) x y e f (rw (U .long) h));
         tells = λ i j k l h.
             let (x, y, d) = spread-out S i j (rw (X .long) k) (rw (U .long) l) (rw (U .long) h) in
-            let (_, e) = part-core A X Y i k (core-part A X Y i k x) in
-            let (_, f) = part-core B U W j l (core-part B U W j l y) in
+            let e = core-own CA tca (X .long) (numbered A X Y) i k x in
+            let f = core-own CB tcb (U .long) (numbered B U W) j l y in
             rw (e, f, U .long) at d;
       }
 
@@ -214,7 +193,7 @@ module _ {a b : Rule} {s t : Set} {nA nB : ℕ} {ca ma cb mb : List ℕ} (A : Ta
           none = λ l. nothing CA SA CB SB
               N startA startB
               (λ w x y F G i. all-in (S .cores) (S .in-all) (N .sub) (x i) (y i) (F .run .within i) (G .run .within i)
-              (run-part A X Y startA w x F i) (run-part B U W startB w y G i))
+              (run-stands CA tca (X .long) (numbered A X Y) startA w x F i) (run-stands CB tcb (U .long) (numbered B U W) startB w y G i))
               (begins-first A X Y startA) (begins-first B U W startB)
               (λ x h q. S .first .none (omega (arith, S .long)) x h (same-starts x ∙ q));
         }

@@ -1,6 +1,7 @@
 -- `place_row` meets its contract.
 use mathlib.Core.Path.{_≡_}
 use mathlib.Core.Bool.{true, false}
+use Prim.Native.Nat.{_+_, _*_, _≤_}
 use native.Mathlib.Omega.{arith}
 use borrow.Author.Needs.{needs}
 use lib.ListN.{length}
@@ -12,18 +13,9 @@ use Rattle.stricter_marks.proofs.Rows.{stands-no, stands-yes, clear-sam
 use Rattle.stricter_marks.proofs.spread.place_row.Statement.{statement}
 use Rattle.stricter_marks.proofs.spread.place_row.Tie as tie
 
-mul-base : tie.Need-mul-base
-mul-base c = omega (
-  arith,
-  place-room (length (c .before .before .before .args .bcodes .now)) (c .before .before .before .args .i) (length (c .before .before .before .args .acodes .now))
-      (c .before .before .before .pre .0),
-  c .before .before .before .pre .1,
-)
-
-clear-row-requires : tie.Need-clear-row-requires
-clear-row-requires c κs =
-    let start = c .before .before .before .before .before .before .before in
-    omega (arith, place-room (length (start .args .bcodes .now)) (start .args .i) (length (start .args .acodes .now)) (start .pre .0), start .pre .1)
+-- the row ends within the marks
+ends : (c : tie.Start) → c .args .i * length (c .args .bcodes .now) + length (c .args .bcodes .now) ≤ length (c .args .marks .now)
+ends c = omega (arith, place-room (length (c .args .bcodes .now)) (c .args .i) (length (c .args .acodes .now)) (c .pre .0), c .pre .1)
 
 returns : tie.Need-returns
 returns c =
@@ -32,11 +24,6 @@ returns c =
     (c .before .before .before .before .if1 .taken) in
     filled-same (placedAt (a .acodes .now) (a .bcodes .now))
     (c .before .before .clear-row .ensures) (clear-same (a .acodes .now) (a .bcodes .now) (a .i) no)
-
-stand-row-requires : tie.Need-stand-row-requires
-stand-row-requires c κs =
-    let start = c .before .before .before .before .before .before .before in
-    omega (arith, place-room (length (start .args .bcodes .now)) (start .args .i) (length (start .args .acodes .now)) (start .pre .0), start .pre .1)
 
 returns-2 : tie.Need-returns-2
 returns-2 c =
@@ -49,5 +36,6 @@ returns-2 c =
 pub place-row-spec : {M : Type 1} → statement M
 place-row-spec =
     tie.close (tie.spec
-    mul-base (λ c. search needs) (λ c. search needs) (λ c κs. search needs) clear-row-requires (λ c. search needs) returns stand-row-requires
-    (λ c. search needs) returns-2)
+    (λ c. let h = ends (c .before .before .before) in omega arith) (λ c. search needs) (λ c. search needs) (λ c κs. search needs)
+    (λ c κs. let h = ends (c .before .before .before .before .before .before .before) in omega arith) (λ c. search needs) returns
+    (λ c κs. let h = ends (c .before .before .before .before .before .before .before) in omega arith) (λ c. search needs) returns-2)

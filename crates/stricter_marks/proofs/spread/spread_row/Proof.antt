@@ -102,6 +102,7 @@ returns-2 c =
 pub spread-row-spec : {M : Type 1} → statement M
 spread-row-spec =
     tie.close (tie.spec
-    Inv-loop μ-loop (λ c. search needs) (λ c. search needs) (λ c κs. search needs) returns mul-row (λ c. let h = ends (c .before .before .before .before .before .before) in omega arith) loop-holds (λ c. search needs) (λ c. search needs)
+    Inv-loop μ-loop (λ c. search needs) (λ c. search needs) (λ c κs. search needs) returns mul-row
+    (λ c. let h = ends (c .before .before .before .before .before .before) in omega arith) loop-holds (λ c. search needs) (λ c. search needs)
     (λ c κs. search needs) mark-of-requires add-marks slice-write-marks (λ c. search needs) (λ c. search needs) loop-again (λ c. c .before .loop .inv .5 .long)
     returns-2)

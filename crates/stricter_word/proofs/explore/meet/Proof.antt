@@ -46,8 +46,7 @@ loop-again c =
     let start = c .before .before .before .before .before .before .before .before in let a = start .args in
     let l = c .before .before .before .before .before .loop in
     let e : c .before .before .target-of .result ≡ targetOf (getD (a .moves .now) (l .c) 0) = c .before .before .target-of .ensures in
-    let n = meet-set (a .nb) (a .moves .now) (a .from) (l .c) (a .q) (start .pre .1) (l .inv .3)
-    (ap (λ (t : ℕ). t * a .nb + a .q) e) (l .inv .0) (omega arith) in
+    let n = meet-set (start .pre .1) (l .inv .3) (ap (λ (t : ℕ). t * a .nb + a .q) e) (l .inv .0) (omega arith) in
     (omega (arith, l .inv .0), n .long, λ p h k. omega arith, n)
 
 loop-again-2 : tie.Need-loop-again-2 Inv-loop μ-loop
@@ -55,8 +54,7 @@ loop-again-2 c =
     let start = c .before .before .before .before .before .before .before .before in let a = start .args in
     let l = c .before .before .before .before .before .loop in
     let e : c .before .before .target-of .result ≡ targetOf (getD (a .moves .now) (l .c) 0) = c .before .before .target-of .ensures in
-    let n = meet-stay (a .nb) (a .moves .now) (a .from) (l .c) (a .q) (start .pre .1) (l .inv .3)
-    (ap (λ (t : ℕ). t * a .nb + a .q) e) (λ h. omega arith) in
+    let n = meet-stay (start .pre .1) (l .inv .3) (ap (λ (t : ℕ). t * a .nb + a .q) e) (λ h. omega arith) in
     (omega (arith, l .inv .0), n .long, λ p h k. omega arith, n)
 
 returns : tie.Need-returns Inv-loop μ-loop

@@ -1,6 +1,6 @@
 -- `suits` meets its contract.
 use mathlib.Core.Path.{_≡_, sym, ap, _∙_}
-use mathlib.Core.Bool.{not, false≢true}
+use mathlib.Core.Bool.{true, false, not, false≢true}
 use Prim.Native.Nat.{ℕ}
 use native.Mathlib.Omega.{arith}
 use borrow.Author.Needs.{needs}
@@ -11,21 +11,14 @@ use Rattle.theory.specs.Run.{sourceOf}
 use Rattle.stricter_word.proofs.lasso.suits.Statement.{statement}
 use Rattle.stricter_word.proofs.lasso.suits.Tie as tie
 
+never : {C : Type 0} → false ≡ true → C
+never e = absurd (false≢true e)
+
 returns : tie.Need-returns
-returns c = record {
-  over = λ r. absurd (false≢true r);
-  to = λ r. absurd (false≢true r);
-  from = λ r. absurd (false≢true r);
-  all = λ e f g. absurd (omega (arith, c .before .letter-of .ensures));
-}
+returns c = record { over = never; to = never; from = never; all = λ e f g. absurd (omega (arith, c .before .letter-of .ensures)) }
 
 returns-2 : tie.Need-returns-2
-returns-2 c = record {
-  over = λ r. absurd (false≢true r);
-  to = λ r. absurd (false≢true r);
-  from = λ r. absurd (false≢true r);
-  all = λ e f g. absurd (omega (arith, c .before .target-of .ensures));
-}
+returns-2 c = record { over = never; to = never; from = never; all = λ e f g. absurd (omega (arith, c .before .target-of .ensures)) }
 
 abbrev start-of-after-is-accepting : tie.After-is-accepting → tie.Start
 start-of-after-is-accepting c = c .before .before .before .before .before .before .before .before
