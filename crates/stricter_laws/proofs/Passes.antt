@@ -94,7 +94,8 @@ module _ {S : ℕ → ℕ → ℕ → Type 0} {kind : ℕ → ℕ} where
   pub passed-start : (from : ℕ) (ms : List ℕ) → Passed S kind from from ms ms false
   passed-start from ms = passed-over from from ms (λ x a b l. absurd (omega arith))
 
-  pub passed-then : {from mid to : ℕ} {old ms new : List ℕ} {a b : Bool} (now : Bool) → Passed S kind from mid old ms a → Passed S kind mid to ms new b → now ≡ (a || b) → Passed S kind from to old new now
+  pub passed-then : {from mid to : ℕ} {old ms new : List ℕ} {a b : Bool} (now : Bool)
+      → Passed S kind from mid old ms a → Passed S kind mid to ms new b → now ≡ (a || b) → Passed S kind from to old new now
   passed-then {mid = mid} {old = old} {ms = ms} {new = new} {a = a} {b = b} now p q e = record {
     long = q .long ∙ p .long;
     more = λ x. let h = p .more x in let k = q .more x in omega arith;

@@ -99,6 +99,7 @@ returns-3 c =
 pub settle-row-spec : {M : Type 1} → statement M
 settle-row-spec =
     tie.close (tie.spec
-    Inv-loop μ-loop (λ c κs. search needs) returns (λ c. let h = ends (c .before .before .before .before) in omega arith) (λ c. let h = ends (c .before .before .before .before) in omega arith) loop-holds next-set-requires
+    Inv-loop μ-loop (λ c κs. search needs) returns (λ c. let h = ends (c .before .before .before .before) in omega arith)
+    (λ c. let h = ends (c .before .before .before .before) in omega arith) loop-holds next-set-requires
     (λ c. c .before .before .before .before .loop .inv .4 .long) returns-2 (λ c. room (c .before)) (λ c. room (c .before))
     (λ c. omega (arith, room (c .before))) loop-less loop-again loop-less-2 loop-again-2 (λ c. c .before .loop .inv .4 .long) returns-3)
