@@ -1,5 +1,5 @@
 -- The pair that a step comes from, found in the two tables by the byte that it left.
-use mathlib.Core.Path.{_≡_, refl, sym, ap, ap₂, _∙_}
+use mathlib.Core.Path.{_≡_, sym, ap, ap₂, _∙_}
 use mathlib.Core.Logic.{⊎-elim}
 use mathlib.Core.Bool.{Bool, true, false}
 use mathlib.Core.List.{List, List·Memᴰ}
@@ -15,11 +15,7 @@ use Rattle.stricter_laws.specs.Pairs.{PairStep, Paired}
 use Rattle.stricter_laws.specs.Tests.{acceptsIn}
 use Rattle.stricter_laws.proofs.Sides.{accepts-first, accepts-second}
 use Rattle.stricter_laws.specs.Forest.{kindIn, Back, Trail}
-use Rattle.stricter_laws.proofs.Pairs.{step-lettered}
-
-eqb-one : (b : Bool) → eqb (one b) 1 ≡ b
-eqb-one true = refl
-eqb-one false = refl
+use Rattle.stricter_laws.proofs.Pairs.{one-low, step-lettered}
 
 -- the two bits of a byte
 bits : (v a : ℕ) (p q : Bool) → v ≡ 64 + 4 * a + (2 * one p + one q) → (eqb (v / 2 % 2) 1 ≡ p) × (eqb (v % 2) 1 ≡ q)
@@ -29,10 +25,7 @@ bits v a false true e = let f : v / 2 % 2 ≡ 0 = omega arith in let g : v % 2 �
 bits v a false false e = let f : v / 2 % 2 ≡ 0 = omega arith in let g : v % 2 ≡ 0 = omega arith in (rw f, rw g)
 
 letter-in : (v a : ℕ) (p q : Bool) → a < 16 → v ≡ 64 + 4 * a + (2 * one p + one q) → v / 4 % 16 ≡ a
-letter-in v a true true l e = omega arith
-letter-in v a true false l e = omega arith
-letter-in v a false true l e = omega arith
-letter-in v a false false l e = omega arith
+letter-in v a p q l e = omega (arith, one-low p, one-low q)
 
 -- what is asked of where transitions come from
 abbrev pub From : List ℕ → List ℕ → ℕ → ℕ → Bool → ℕ → Type 0
