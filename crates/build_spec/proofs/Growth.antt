@@ -81,10 +81,6 @@ module _ {W F : ℕ → Type 0} {xs : List ℕ} {n : ℕ} {ys heads last : List 
     over = λ t. let o = g .over t in record { one = o .one; from = f (o .one) (o .from); lacks = o .lacks; filled = o .filled };
   }
 
-  -- all that must be there is
-  pub listed : {U : ℕ → Type 0} → ((y : ℕ) → U y → Lists ys m y) → Grown U F xs n ys heads last m full
-  listed h = record { long = g .long; more = g .more; same = g .same; chained = g .chained; whole = λ t. h; only = g .only; over = g .over }
-
 pub grown-then : {W U X F : ℕ → Type 0} {xs ys zs hs ls heads last : List ℕ} {n m u : ℕ} {full full′ : Bool} → Grown W F xs n ys hs ls m full → full ≡ false
     → Grown U F ys m zs heads last u full′ → (full′ ≡ false → (y : ℕ) → X y → W y ⊎ U y) → Grown X F xs n zs heads last u full′
 grown-then g e h part = record {

@@ -1,10 +1,10 @@
 -- A walk along a chain meets every place of its bucket.
 use mathlib.Core.Path.{_≡_}
-use mathlib.Core.Logic.{⊎-elim, by-cases}
+use mathlib.Core.Logic.{_⊎_, inl, inr, ⊎-elim, by-cases}
 use mathlib.Core.List.{List}
 use Prim.Native.Nat.{ℕ, _≤_, _<_}
 use native.Mathlib.Omega.{arith}
-use native.Mathlib.Decide.{decLt}
+use native.Mathlib.Decide.{decLt, ℕ-discrete}
 use Rattle.build_spec.specs.Chains.{linkAt, bucketAt, Begins}
 
 -- a walk through the bucket b of the first n elements has come to place i: the places of the bucket from `done` on are behind it
@@ -13,58 +13,51 @@ pub record Ahead (xs : List ℕ) (n b i done : ℕ) : Type 0 where
   pub fits : done ≤ n
   pub begins : Begins xs done b i
 
--- and Q holds there
-pub record Walked (Q : ℕ → Type 0) (xs : List ℕ) (n b i : ℕ) : Type 0 where
+-- and Made is what was made of them
+pub record Walked (Made : ℕ → Type 0) (xs : List ℕ) (n b i : ℕ) : Type 0 where
   pub done : ℕ
   pub ahead : Ahead xs n b i done
-  pub met : (p : ℕ) → done ≤ p → p < n → bucketAt xs p ≡ b → Q p
+  pub made : Made done
+
+-- Q holds at the places of the bucket from d on
+abbrev pub Met : (ℕ → Type 0) → List ℕ → ℕ → ℕ → ℕ → Type 0
+Met Q xs n b d = (p : ℕ) → d ≤ p → p < n → bucketAt xs p ≡ b → Q p
 
 module _ {xs : List ℕ} {n b i : ℕ} where
-  pub ahead-from : 0 < n → Begins xs n b i → Ahead xs n b i n
-  ahead-from h g = record { some = h; fits = omega arith; begins = g }
+  pub walk-from : {Made : ℕ → Type 0} → 0 < n → Begins xs n b i → Made n → Walked Made xs n b i
+  walk-from h g m = record { done = n; ahead = record { some = h; fits = omega arith; begins = g }; made = m }
 
-  pub walk-from : {Q : ℕ → Type 0} → 0 < n → Begins xs n b i → Walked Q xs n b i
-  walk-from h g = record { done = n; ahead = ahead-from h g; met = λ p k j e. absurd (omega arith) }
+  module _ {Made : ℕ → Type 0} (w : Walked Made xs n b i) where
+    pub walk-below : i < w .done
+    walk-below = omega (arith, w .ahead .begins .inside, w .ahead .some)
 
-  module _ {done : ℕ} (a : Ahead xs n b i done) where
-    pub ahead-below : i < done
-    ahead-below = omega (arith, a .begins .inside, a .some)
+    pub walk-inside : i < n
+    walk-inside = omega (arith, walk-below, w .ahead .fits)
 
-    pub ahead-inside : i < n
-    ahead-inside = omega (arith, ahead-below, a .fits)
+    -- a place of the bucket above i is behind
+    pub walk-behind : (p : ℕ) → i < p → bucketAt xs p ≡ b → w .done ≤ p
+    walk-behind p h e = by-cases (decLt p (w .done)) (λ k. absurd (omega (arith, w .ahead .begins .above p k e))) (λ k. omega arith)
 
-    -- a place of the bucket from i on that is not behind
-    pub ahead-here : (p : ℕ) → i ≤ p → p < done → bucketAt xs p ≡ b → p ≡ i
-    ahead-here p h l e = omega (arith, a .begins .above p l e)
+    -- what is of a place of the bucket from i on: of one behind, or of i
+    pub walk-part : (D : ℕ → ℕ → Type 0) → ((p y : ℕ) → D p y → bucketAt xs p ≡ b) → (p y : ℕ) → i ≤ p → p < n → D p y
+        → ((q : ℕ) × (w .done ≤ q) × (q < n) × D q y) ⊎ D i y
+    walk-part D own p y h l d = by-cases (ℕ-discrete p i) (λ e. inr (rw e at d)) (λ e. inl (p, walk-behind p (omega arith) (own p y d), l, d))
 
     module _ (links : (p : ℕ) → 0 < p → p < n → Begins xs p (bucketAt xs p) (linkAt xs p)) (o : i ≡ 0 → ⊥) where
-      pub ahead-less : linkAt xs i < i
-      ahead-less = omega (arith, links i (omega arith) ahead-inside .inside)
+      pub walk-less : linkAt xs i < i
+      walk-less = omega (arith, links i (omega arith) walk-inside .inside)
 
-      -- on to the link
-      pub ahead-next : Ahead xs n b (linkAt xs i) i
-      ahead-next =
-          let own : bucketAt xs i ≡ b = ⊎-elim (λ z. absurd (o z)) (λ e. e) (a .begins .own) in
-          record { some = omega arith; fits = omega (arith, ahead-inside); begins = rw own at (links i (omega arith) ahead-inside) }
+      -- on to the link, with what is made of place i too
+      pub walk-next : {More : ℕ → Type 0} → More i → Walked More xs n b (linkAt xs i)
+      walk-next m =
+          let own : bucketAt xs i ≡ b = ⊎-elim (λ z. absurd (o z)) (λ e. e) (w .ahead .begins .own) in
+          record { done = i; ahead = record { some = omega arith; fits = omega (arith, walk-inside); begins = rw own at (links i (omega arith) walk-inside) }; made = m }
 
-  module _ {Q : ℕ → Type 0} (w : Walked Q xs n b i) where
-    pub walk-inside : i < n
-    walk-inside = ahead-inside (w .ahead)
-
-    pub walk-as : {R : ℕ → Type 0} → ((p : ℕ) → p < n → Q p → R p) → Walked R xs n b i
-    walk-as f = record { done = w .done; ahead = w .ahead; met = λ p k l e. f p l (w .met p k l e) }
-
+  module _ {Q : ℕ → Type 0} (w : Walked (Met Q xs n b) xs n b i) where
     -- the place itself done
-    met-too : Q i → (p : ℕ) → i ≤ p → p < n → bucketAt xs p ≡ b → Q p
-    met-too q p h l e = by-cases (decLt p (w .done)) (λ k. rw (ahead-here (w .ahead) p h k e) q) (λ k. w .met p (omega arith) l e)
-
-    pub walk-next : ((p : ℕ) → 0 < p → p < n → Begins xs p (bucketAt xs p) (linkAt xs p)) → (i ≡ 0 → ⊥) → Q i → Walked Q xs n b (linkAt xs i)
-    walk-next links o q = record { done = i; ahead = ahead-next (w .ahead) links o; met = met-too q }
+    pub walk-met : Q i → Met Q xs n b i
+    walk-met q p h l e = by-cases (ℕ-discrete p i) (λ d. rw d q) (λ d. w .made p (walk-behind w p (omega arith) e) l e)
 
     -- at place 0
     pub walk-end : i ≡ 0 → Q i → (p : ℕ) → p < n → bucketAt xs p ≡ b → Q p
-    walk-end z q p l e = met-too q p (omega arith) l e
-
-    -- below a place
-    pub walk-stop : (from : ℕ) → i < from → (p : ℕ) → from ≤ p → p < n → bucketAt xs p ≡ b → Q p
-    walk-stop from h p k l e = by-cases (decLt p (w .done)) (λ j. absurd (omega (arith, w .ahead .begins .above p j e))) (λ j. w .met p (omega arith) l e)
+    walk-end z q p l e = walk-met q p (omega arith) l e

@@ -6,12 +6,12 @@ use native.Mathlib.Omega.{arith}
 use lib.Bits.{bitAnd, and-mask}
 use lib.ListN.{getD}
 use Rattle.build_spec.specs.Chains.{keyAt, bucketOf, bucketAt}
-use Rattle.build_spec.proofs.Walks.{Walked, walk-from, walk-inside, walk-next, walk-end}
+use Rattle.build_spec.proofs.Walks.{Walked, Met, walk-from, walk-inside, walk-met, walk-next, walk-end}
 use Rattle.build_chains.proofs.core_before.Statement.{statement}
 use Rattle.build_chains.proofs.core_before.Tie as tie
 
 abbrev Inv-loop : tie.InvT-loop
-Inv-loop keys heads last n j own q₀ q = Walked (λ p. keyAt keys p / 256 ≡ keyAt keys j / 256 → ⊥) keys j (bucketAt keys j) q
+Inv-loop keys heads last n j own q₀ q = Walked (Met (λ p. keyAt keys p / 256 ≡ keyAt keys j / 256 → ⊥) keys j (bucketAt keys j)) keys j (bucketAt keys j) q
 
 abbrev μ-loop : tie.MeasureT-loop
 μ-loop keys heads last n j own q₀ q = q
@@ -22,7 +22,7 @@ returns c = (λ t. absurd (false≢true t), λ t h. omega (arith, h .1, c .if1 .
 loop-holds : tie.Need-loop-holds Inv-loop μ-loop
 loop-holds c =
     let a = c .before .before .args in let p = c .before .before .pre in let some : 0 < a .j = omega (arith, c .before .if1 .left) in
-    walk-from some (p .0 .links (a .j) some (p .1))
+    walk-from some (p .0 .links (a .j) some (p .1)) (λ p k j e. absurd (omega arith))
 
 inside : (c : tie.At-loop Inv-loop μ-loop) → c .loop .q < c .before .before .before .args .j
 inside c = walk-inside (c .loop .inv)
@@ -60,11 +60,10 @@ loop-less c =
 loop-again : tie.Need-loop-again Inv-loop μ-loop
 loop-again c =
     let p = c .before .before .before .before .before .before .pre in
-    walk-next (c .before .before .before .loop .inv) (λ q h k. p .0 .links q h (omega (arith, p .1))) (c .if3 .left) (other (c .before))
+    let w = c .before .before .before .loop .inv in walk-next w (λ q h k. p .0 .links q h (omega (arith, p .1))) (c .if3 .left) (walk-met w (other (c .before)))
 
 pub core-before-spec : {M : Type 1} → statement M
-core-before-spec =
-    tie.close (tie.spec
+core-before-spec = tie.close (tie.spec
     Inv-loop μ-loop returns (λ c. let p = c .before .pre in omega (arith, p .1, p .0 .fits, p .0 .few))
     (λ c. let p = c .before .before .pre in omega (arith, p .1, p .0 .fits)) loop-holds mul-x shared-slice-read-x returns-2 returns-3 loop-less
     loop-again)

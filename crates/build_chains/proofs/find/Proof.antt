@@ -7,12 +7,12 @@ use lib.ListN.{getD}
 use borrow.Author.Needs.{needs}
 use Rattle.build_spec.specs.Chains.{keyAt, bucketOf}
 use Rattle.build_spec.proofs.Chains.{bucket-low}
-use Rattle.build_spec.proofs.Walks.{Walked, walk-from, walk-inside, walk-next, walk-end}
+use Rattle.build_spec.proofs.Walks.{Walked, Met, walk-from, walk-inside, walk-met, walk-next, walk-end}
 use Rattle.build_chains.proofs.find.Statement.{statement}
 use Rattle.build_chains.proofs.find.Tie as tie
 
 abbrev Inv-loop : tie.InvT-loop
-Inv-loop keys heads last n key i₀ i = Walked (λ p. keyAt keys p ≡ key → ⊥) keys n (bucketOf (key / 256)) i
+Inv-loop keys heads last n key i₀ i = Walked (Met (λ p. keyAt keys p ≡ key → ⊥) keys n (bucketOf (key / 256))) keys n (bucketOf (key / 256)) i
 
 abbrev μ-loop : tie.MeasureT-loop
 μ-loop keys heads last n key i₀ i = i
@@ -23,7 +23,7 @@ returns c = record { hit = λ l. absurd (omega arith); none = λ l h. omega (ari
 loop-holds : tie.Need-loop-holds Inv-loop μ-loop
 loop-holds c =
     let a = c .before .before .before .args in let p = c .before .before .before .pre in
-    rw (c .chain-top .ensures) (walk-from (omega (arith, c .before .if1 .left)) (p .0 .begin (bucketOf (a .key / 256)) (bucket-low (a .key / 256))))
+    rw (c .chain-top .ensures) (walk-from (omega (arith, c .before .if1 .left)) (p .0 .begin (bucketOf (a .key / 256)) (bucket-low (a .key / 256))) (λ p k j e. absurd (omega arith)))
 
 inside : (c : tie.At-loop Inv-loop μ-loop) → c .loop .i < c .before .before .before .before .args .n
 inside c = walk-inside (c .loop .inv)
@@ -59,10 +59,9 @@ loop-less c =
 loop-again : tie.Need-loop-again Inv-loop μ-loop
 loop-again c =
     let start = c .before .before .before .before .before .before .before in
-    walk-next (c .before .before .before .loop .inv) (start .pre .0 .links) (c .if3 .left) (other (c .before))
+    let w = c .before .before .before .loop .inv in walk-next w (start .pre .0 .links) (c .if3 .left) (walk-met w (other (c .before)))
 
 pub find-spec : {M : Type 1} → statement M
-find-spec =
-    tie.close (tie.spec
+find-spec = tie.close (tie.spec
     Inv-loop μ-loop returns (λ c κs. let p = c .before .before .pre in omega (arith, p .1)) (λ c. search needs) loop-holds mul-x shared-slice-read-x
     returns-2 returns-3 loop-less loop-again)

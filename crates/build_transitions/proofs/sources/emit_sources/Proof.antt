@@ -5,7 +5,7 @@ use lib.ListN.{length, getD}
 use lib.Bits.{and-mask}
 use borrow.Author.Needs.{needs}
 use Rattle.build_cores.specs.Onward.{onwardIn}
-use Rattle.build_spec.proofs.Walks.{ahead-inside, ahead-less}
+use Rattle.build_spec.proofs.Walks.{walk-inside, walk-less}
 use Rattle.build_spec.proofs.Sources.{Turn, turn-start, turn-full, turn-end, turn-next}
 use Rattle.build_transitions.proofs.sources.emit_sources.Statement.{statement}
 use Rattle.build_transitions.proofs.sources.emit_sources.Tie as tie
@@ -21,16 +21,16 @@ loop-holds : tie.Need-loop-holds Inv-loop μ-loop
 loop-holds c = let p = c .before .before .before .pre in rw (c .chain-top .ensures) (turn-start (p .0) (p .1) (p .7))
 
 mul-x : tie.Need-mul-x Inv-loop μ-loop
-mul-x c = omega (arith, ahead-inside (c .loop .inv .ahead), c .before .before .before .before .pre .0 .few)
+mul-x c = omega (arith, walk-inside (c .loop .inv .walked), c .before .before .before .before .pre .0 .few)
 
 emit-source-requires : tie.Need-emit-source-requires Inv-loop μ-loop
 emit-source-requires c κs =
     let start = c .before .before .before .before .before .before in
-    let p = start .pre in let l = c .before .before .loop in let key = and-mask (getD (start .args .keys .now) (l .i) 0) 48 in let inside = ahead-inside (l .inv .ahead) in
-    (p .0, inside, key, rw key (p .2 (l .i) inside), p .3, p .4, p .6, l .inv .emitted .fits)
+    let p = start .pre in let l = c .before .before .loop in let key = and-mask (getD (start .args .keys .now) (l .i) 0) 48 in let inside = walk-inside (l .inv .walked) in
+    (p .0, inside, key, rw key (p .2 (l .i) inside), p .3, p .4, p .6, l .inv .walked .made .fits)
 
 same-length : tie.Need-same-length Inv-loop μ-loop
-same-length c = c .before .before .before .emit-source .kept .0 ∙ c .before .before .before .before .before .before .loop .inv .emitted .long
+same-length c = c .before .before .before .emit-source .kept .0 ∙ c .before .before .before .before .before .before .loop .inv .walked .made .long
 
 returns : tie.Need-returns Inv-loop μ-loop
 returns c =
@@ -39,8 +39,7 @@ returns c =
 
 same-length-2 : tie.Need-same-length-2 Inv-loop μ-loop
 same-length-2 c =
-    let at-loop = c .before .before .before .before .before .before .before in
-    c .before .before .before .before .emit-source .kept .0 ∙ at-loop .loop .inv .emitted .long
+    c .before .before .before .before .emit-source .kept .0 ∙ c .before .before .before .before .before .before .before .loop .inv .walked .made .long
 
 returns-2 : tie.Need-returns-2 Inv-loop μ-loop
 returns-2 c =
@@ -50,7 +49,7 @@ returns-2 c =
 loop-less : tie.Need-loop-less Inv-loop μ-loop
 loop-less c =
     let at-loop = c .before .before .before .before .before .before .before in
-    ahead-less (at-loop .loop .inv .ahead) (at-loop .before .before .before .before .pre .0 .links) (c .if2 .left)
+    walk-less (at-loop .loop .inv .walked) (at-loop .before .before .before .before .pre .0 .links) (c .if2 .left)
 
 loop-again : tie.Need-loop-again Inv-loop μ-loop
 loop-again c =
@@ -58,7 +57,6 @@ loop-again c =
     turn-next (at-loop .loop .inv) (at-loop .before .before .before .before .pre .0) (c .before .before .before .before .emit-source .ensures) (c .before .if1 .left) (c .if2 .left)
 
 pub emit-sources-spec : {M : Type 1} → statement M
-emit-sources-spec =
-    tie.close (tie.spec
-    Inv-loop μ-loop (λ c κs. search needs) (λ c. search needs) loop-holds mul-x (λ c. ahead-inside (c .before .loop .inv .ahead)) emit-source-requires same-length returns
+emit-sources-spec = tie.close (tie.spec
+    Inv-loop μ-loop (λ c κs. search needs) (λ c. search needs) loop-holds mul-x (λ c. walk-inside (c .before .loop .inv .walked)) emit-source-requires same-length returns
     same-length-2 returns-2 loop-less loop-again)

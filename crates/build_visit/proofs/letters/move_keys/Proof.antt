@@ -10,29 +10,28 @@ use Rattle.build_visit.proofs.letters.move_keys.Tie as tie
 
 abbrev Inv-loop : tie.InvT-loop
 Inv-loop keys₀ heads₀ last₀ n from step parts levels g₀ i₀ keys heads last g i =
-    Turn (step .earlier) (step .core) (onwardIn (step .ranks) parts (step .components) levels) from keys₀ n keys heads last (g .m) (g .full) i
+    Turn (step .earlier) (step .core) (onwardIn (step .ranks) parts (step .components) levels) keys₀ n keys heads last (g .m) (g .full) i
 
 abbrev μ-loop : tie.MeasureT-loop
 μ-loop keys₀ heads₀ last₀ n from step parts levels g₀ i₀ keys heads last g i = i
 
 loop-holds : tie.Need-loop-holds Inv-loop μ-loop
-loop-holds c = let p = c .before .before .before .pre in rw (c .chain-top .ensures) (turn-start (p .0) (p .1))
+loop-holds c = let p = c .before .before .before .pre in rw (c .chain-top .ensures) (turn-start (p .0) (omega (arith, p .1)))
 
 mul-x : tie.Need-mul-x Inv-loop μ-loop
 mul-x c = let p = c .before .before .before .before .before .pre in omega (arith, walk-inside (c .before .loop .inv .walked), p .0 .fits, p .0 .few)
 
 slice-read-x : tie.Need-slice-read-x Inv-loop μ-loop
-slice-read-x c = let l = c .before .before .loop in omega (arith, walk-inside (l .inv .walked), c .before .before .before .before .before .before .pre .0 .fits, l .inv .grown .long)
+slice-read-x c = let l = c .before .before .loop in omega (arith, walk-inside (l .inv .walked), c .before .before .before .before .before .before .pre .0 .fits, l .inv .walked .made .long)
 
 move-key-requires : tie.Need-move-key-requires Inv-loop μ-loop
 move-key-requires c κs =
     let start = c .before .before .before .before .before .before .before .before .before in
-    let p = start .pre in let l = c .before .before .before .before .before .loop in (l .inv .grown .chained, turn-paired (l .inv) (p .2), p .3, p .4)
+    let p = start .pre in let l = c .before .before .before .before .before .loop in (l .inv .walked .made .chained, turn-paired (l .inv) (p .2), p .3, p .4)
 
 same-length : tie.Need-same-length Inv-loop μ-loop
 same-length c =
-    let at-loop = c .before .before .before .before .before .before .before .before .before in
-    c .before .before .before .move-key .kept .0 ∙ at-loop .loop .inv .grown .long
+    c .before .before .before .move-key .kept .0 ∙ c .before .before .before .before .before .before .before .before .before .loop .inv .walked .made .long
 
 returns : tie.Need-returns Inv-loop μ-loop
 returns c =
@@ -42,12 +41,12 @@ returns c =
 same-length-2 : tie.Need-same-length-2 Inv-loop μ-loop
 same-length-2 c =
     let at-loop = c .before .before .before .before .before .before .before .before .before .before in
-    c .before .before .before .before .move-key .kept .0 ∙ at-loop .loop .inv .grown .long
+    c .before .before .before .before .move-key .kept .0 ∙ at-loop .loop .inv .walked .made .long
 
 returns-2 : tie.Need-returns-2 Inv-loop μ-loop
 returns-2 c =
     let at-loop = c .before .before .before .before .before .before .before .before .before .before in
-    turn-end (at-loop .loop .inv) (c .before .before .before .before .move-key .ensures) (c .before .if1 .left) (c .if2 .taken)
+    turn-end (at-loop .loop .inv) (c .before .before .before .before .move-key .ensures) (c .if2 .taken)
 
 loop-less : tie.Need-loop-less Inv-loop μ-loop
 loop-less c =
@@ -60,8 +59,7 @@ loop-again c =
     turn-next (at-loop .loop .inv) (c .before .before .before .before .move-key .ensures) (c .before .if1 .left) (at-loop .before .before .before .before .pre .0) (c .if2 .left)
 
 pub move-keys-spec : {M : Type 1} → statement M
-move-keys-spec =
-    tie.close (tie.spec
+move-keys-spec = tie.close (tie.spec
     Inv-loop μ-loop (λ c κs. search needs) (λ c. search needs) loop-holds mul-x slice-read-x move-key-requires same-length returns same-length-2
-    returns-2 loop-less loop-again (λ c. c .before .loop .inv .grown .long)
+    returns-2 loop-less loop-again (λ c. c .before .loop .inv .walked .made .long)
     (λ c. turn-stop (c .before .loop .inv) (omega (arith, c .loop-test .left))))
