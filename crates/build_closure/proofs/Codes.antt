@@ -51,8 +51,7 @@ code-put y =
 -- one turn of to_codes
 pub coded-next : (i : ℕ) (xs ys : List ℕ) → i < length xs → ys ≡ coded i xs →
     set ys i (bitOr (bitAnd (getD ys i 0) 255 * 2 ^ 40 % 2 ^ 64) (bitAnd (getD ys i 0) 281474976710655 / 2 ^ 8)) ≡ coded (i + 1) xs
-coded-next i xs ys h e =
-    ap (set ys i) (code-put (getD ys i 0))
+coded-next i xs ys h e = ap (set ys i) (code-put (getD ys i 0))
     ∙ ap (λ (l : List ℕ). set l i (codeOf (getD l i 0 % 2 ^ 48))) e
     ∙ ap (λ (x : ℕ). set (coded i xs) i (codeOf (x % 2 ^ 48))) (here i xs)
     ∙ coded-suc i xs h

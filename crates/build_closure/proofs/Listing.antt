@@ -47,8 +47,7 @@ module _ {r : Rule} (P : Passing r) (start : Set) where
   module _ {xs ys : List ℕ} {m : ℕ} where
     -- more macrostates than the slice has room for
     pub too-many : Gathered (KeyOf R) xs ys m true → length xs < length (macrostatesFrom r start)
-    too-many g =
-        rw (length-map (macrostatesFrom r start) keyOf) at
+    too-many g = rw (length-map (macrostatesFrom r start) keyOf) at
         (g .crowded refl (map keyOf (macrostatesFrom r start)) (λ y k. rw (k .2) (Memᴰ·map keyOf (reachable-iff r P start (k .0) .1 (k .1)))))
 
     module _ (g : Gathered (KeyOf R) xs ys m false) where

@@ -75,8 +75,7 @@ module _ (A : Automaton) (parts : List ℕ) (P : Parts A parts) where
 
   size-in : (c q : ℕ) → c < A .components → q < A .n → A .component q ≡ c → count 8 (bit (part c)) ≡ sizeAt A q
   unfolding sizeAt
-  size-in c q l m e =
-      count-ext 8 (bit (part c)) (λ p. ltb p (A .n) && eqb (A .component p) c) (λ p k. part-bit c p l)
+  size-in c q l m e = count-ext 8 (bit (part c)) (λ p. ltb p (A .n) && eqb (A .component p) c) (λ p k. part-bit c p l)
       ∙ count-trim 8 (A .n) (λ p. ltb p (A .n) && eqb (A .component p) c) (P .few-states) (λ p a b. rw (le-ltb p (A .n) a))
       ∙ count-ext (A .n) (λ p. ltb p (A .n) && eqb (A .component p) c) (λ p. eqb (A .component p) (A .component q)) (λ p k. rw (lt-ltb p (A .n) k, e))
 
@@ -210,8 +209,7 @@ module _ (A : Automaton) (parts : List ℕ) (P : Parts A parts) where
 
     gapless-at : (c : ℕ) → c < A .components → gapless v (part c) ≡ true
     unfolding gapless
-    gapless-at c l =
-        every-all 15 (λ j. not (used v (part c) (suc j)) || used v (part c) j) (λ j k. bif (used v (part c) (suc j))
+    gapless-at c l = every-all 15 (λ j. not (used v (part c) (suc j)) || used v (part c) j) (λ j k. bif (used v (part c) (suc j))
         (λ t. or-r (not (used v (part c) (suc j))) (used v (part c) j) (lower c j l (sym (used-suc v (part c) j) ∙ t)))
         (λ t. or-l (not (used v (part c) (suc j))) (used v (part c) j) (ap not t)))
 

@@ -31,8 +31,7 @@ use Rattle.build_cores.proofs.Sums.{num-nothing}
 -- ---- the walk over a component
 
 any-some : (m : ℕ) (f : Set) → anyOf (members m) f ≡ someBelow 8 (λ q. bit m q && f q)
-any-some m f =
-    iff (anyOf (members m) f) (someBelow 8 (λ q. bit m q && f q))
+any-some m f = iff (anyOf (members m) f) (someBelow 8 (λ q. bit m q && f q))
     (λ t. let r = any-out (members m) f t in let i = members-out m (r .0) (r .1) in some-at 8 (λ q. bit m q && f q) (r .0) (i .0) (and-i (i .1) (r .2)))
     (λ t. let r = some-get 8 (λ q. bit m q && f q) t in
     any-in (members m) f (r .0) (members-in m (r .0) (r .1) (and-l (bit m (r .0)) (f (r .0)) (r .2))) (and-r (bit m (r .0)) (f (r .0)) (r .2)))
@@ -70,8 +69,7 @@ walk-on ranks part found left v p low e h w =
 
 pub walk-end : (ranks part found left : ℕ) → left ≡ 0 → Walk ranks part found left → found ≡ mask 16 (used ranks part)
 unfolding anyOf
-walk-end ranks part found left e w =
-    mask-unique 16 found (used ranks part) (w .small)
+walk-end ranks part found left e w = mask-unique 16 found (used ranks part) (w .small)
     (λ j l. sym (or-false (bit found j)) ∙ ap (λ (xs : List ℕ). bit found j || anyOf xs (λ q. eqb (rankAt ranks q) j)) (sym (ap members e ∙ members-none 8 0)) ∙ w .same j)
 
 pub rank-low : (ranks q : ℕ) → rankAt ranks q < 16
@@ -126,12 +124,10 @@ even-or-odd : (m : ℕ) → (m % 2 ≡ 1 → ⊥) → m % 2 ≡ 0
 even-or-odd m n = omega arith
 
 pub and-unbroken : (q m : ℕ) → bitAnd m (m + 1) ≡ 0 → bit m (suc q) ≡ true → bit m q ≡ true
-and-unbroken zero m e t =
-    by-cases (ℕ-discrete (m % 2) 1)
+and-unbroken zero m e t = by-cases (ℕ-discrete (m % 2) 1)
     (λ o. bit-zero m ∙ eq-eqb (m % 2) 1 o)
     (λ o. let z : m ≡ 0 = sym (even-and m (even-or-odd m o)) ∙ e in clash t (ap (λ (x : ℕ). bit x 1) z ∙ bit-none 1))
-and-unbroken (suc q) m e t =
-    by-cases (ℕ-discrete (m % 2) 1)
+and-unbroken (suc q) m e t = by-cases (ℕ-discrete (m % 2) 1)
     (λ o. sym (bit-half m q) ∙ and-unbroken q (m / 2) (omega (arith, odd-and m o)) (bit-half m (suc q) ∙ t))
     (λ o. let z : m ≡ 0 = sym (even-and m (even-or-odd m o)) ∙ e in clash t (ap (λ (x : ℕ). bit x (suc (suc q))) z ∙ bit-none (suc (suc q))))
 
@@ -141,8 +137,7 @@ none-without m u e (suc q) = bif (bit m (suc q)) (λ t. clash (u .down q t) (non
 
 pub unbroken-and : (n m : ℕ) → m < 2 ^ n → Unbroken m → bitAnd m (m + 1) ≡ 0
 unbroken-and zero m h u = let z : m ≡ 0 = omega arith in rw z
-unbroken-and (suc n) m h u =
-    by-cases (ℕ-discrete (m % 2) 1)
+unbroken-and (suc n) m h u = by-cases (ℕ-discrete (m % 2) 1)
     (λ o. let ih = unbroken-and n (m / 2) (shr-lt n 1 (rw add-one h)) (record { down = λ q t. bit-half m q ∙ u .down (suc q) (sym (bit-half m (suc q)) ∙ t) }) in omega (arith, odd-and m o))
     (λ o. let z : m ≡ 0 = bit-ext (suc n) m 0 h (omega arith) (λ q l. none-without m u (bit-zero m ∙ ne-eqb (m % 2) 1 o) q ∙ sym (bit-none q)) in even-and m (even-or-odd m o) ∙ z)
 

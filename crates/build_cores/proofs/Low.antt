@@ -18,9 +18,7 @@ use Rattle.sets.proofs.Bits.{bit-shl-one, mask-unique, mask-or, shl-one}
 
 -- the set of one state, as the code shifts it
 mask-one : (q : ℕ) → q < 8 → 1 * 2 ^ q % 256 ≡ mask 8 (λ p. eqb q p)
-mask-one q h =
-    let p = pow-lt {i = q} {j = 8} h in
-    shl-one 8 q h ∙ mask-unique 8 (2 ^ q) (λ p. eqb q p) (omega arith) (λ p l. bit-shl-one q p)
+mask-one q h = let p = pow-lt {i = q} {j = 8} h in shl-one 8 q h ∙ mask-unique 8 (2 ^ q) (λ p. eqb q p) (omega arith) (λ p l. bit-shl-one q p)
 
 pub zero-at : (m j : ℕ) → getD {A = ℕ} (replicate m 0) j 0 ≡ 0
 zero-at zero j = refl
@@ -44,8 +42,7 @@ put-start n = record {
 module _ (n : ℕ → ℕ) (q j : ℕ) where
   -- state q comes in
   enter : (p : ℕ) → n q ≡ j → (ltb p q && eqb (n p) j) || eqb q p ≡ ltb p (q + 1) && eqb (n p) j
-  enter p e =
-      by-cases (ℕ-discrete p q)
+  enter p e = by-cases (ℕ-discrete p q)
       (λ u. rw (u, le-ltb q q (omega arith), eq-eqb q q refl, lt-ltb q (q + 1) (omega arith), eq-eqb (n q) j e))
       (λ u. rw (ne-eqb q p (λ x. u (sym x))) (or-false (ltb p q && eqb (n p) j) ∙ ap (λ (b : Bool). b && eqb (n p) j) (shift p u)))
     where
@@ -54,8 +51,7 @@ module _ (n : ℕ → ℕ) (q j : ℕ) where
 
   -- at another place
   pass : (p : ℕ) → (n q ≡ j → ⊥) → ltb p q && eqb (n p) j ≡ ltb p (q + 1) && eqb (n p) j
-  pass p e =
-      by-cases (ℕ-discrete p q)
+  pass p e = by-cases (ℕ-discrete p q)
       (λ u. rw (u, le-ltb q q (omega arith), ne-eqb (n q) j e, lt-ltb q (q + 1) (omega arith)))
       (λ u. by-cases (decLt p q)
       (λ a. rw (lt-ltb p q a, lt-ltb p (q + 1) (omega arith)))

@@ -20,27 +20,23 @@ next-one m w c e = rw (ne-eqb (w % 16) (c % 16) e)
 pub more : (m w c : ℕ) → Within m w c → (w ≡ c → ⊥) → w < nextOf m w c
 unfolding Within
 more zero w c h n = absurd (n (omega arith))
-more (suc m) w c h n =
-    by-cases (ℕ-discrete (w % 16) (c % 16))
+more (suc m) w c h n = by-cases (ℕ-discrete (w % 16) (c % 16))
     (λ e. rw (next-carry m w c e) (omega (arith, more m (w / 16) (c / 16) (h .1) (λ u. n (omega arith)))))
     (λ e. rw (next-one m w c e) (omega arith))
 
 pub within-next : (m w c : ℕ) → Within m w c → (w ≡ c → ⊥) → Within m (nextOf m w c) c
 unfolding Within
 within-next zero w c h n = absurd (n (omega arith))
-within-next (suc m) w c h n =
-    by-cases (ℕ-discrete (w % 16) (c % 16))
+within-next (suc m) w c h n = by-cases (ℕ-discrete (w % 16) (c % 16))
     (λ e. let i = within-next m (w / 16) (c / 16) (h .1) (λ u. n (omega arith)) in
     let q : nextOf m (w / 16) (c / 16) * 16 / 16 ≡ nextOf m (w / 16) (c / 16) = omega arith in
     rw (next-carry m w c e) (omega arith, rw q i))
-    (λ e. let q : (w + 1) / 16 ≡ w / 16 = omega (arith, h .0) in
-    rw (next-one m w c e) (omega (arith, h .0), rw q (h .1)))
+    (λ e. let q : (w + 1) / 16 ≡ w / 16 = omega (arith, h .0) in rw (next-one m w c e) (omega (arith, h .0), rw q (h .1)))
 
 pub least : (m w c v : ℕ) → Within m w c → Within m v c → w < v → nextOf m w c ≤ v
 unfolding Within
 least zero w c v h k l = absurd (omega arith)
-least (suc m) w c v h k l =
-    by-cases (ℕ-discrete (w % 16) (c % 16))
+least (suc m) w c v h k l = by-cases (ℕ-discrete (w % 16) (c % 16))
     (λ e. rw (next-carry m w c e) (omega (arith, least m (w / 16) (c / 16) (v / 16) (h .1) (k .1) (omega (arith, k .0)))))
     (λ e. rw (next-one m w c e) (omega arith))
 

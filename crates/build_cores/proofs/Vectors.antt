@@ -81,8 +81,7 @@ module _ (caps v : ℕ) (fits : caps < 2 ^ 32) (w : Within 8 v caps) where
   meet : (i : ℕ) → Met i
   unfolding visited
   meet zero = by-cases (ℕ-discrete v 0) (λ e. inl (0, sym e)) (λ e. inr (omega arith, omega arith, within-zero caps fits))
-  meet (suc i) =
-      ⊎-elim (λ f. inl f)
+  meet (suc i) = ⊎-elim (λ f. inl f)
       (λ a. let x = visited caps i in
       let other : x ≡ caps → ⊥ = λ e. omega (arith, a .1, within-le 8 v caps w) in
       let up = more 8 x caps (a .2) other in

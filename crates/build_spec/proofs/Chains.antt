@@ -92,32 +92,27 @@ module _ {xs heads last : List ℕ} {n : ℕ} (C : Chained xs heads last n) (y :
   bucket-new = ap (λ (x : ℕ). bucketOf (x / 256)) key-new
 
   begins-new : (c : ℕ) → c < 16384 → Begins ys (n + 1) c (getD heads′ c 0)
-  begins-new c l =
-      by-cases (ℕ-discrete c b)
+  begins-new c l = by-cases (ℕ-discrete c b)
       (λ e. rw (e, getD-set-same heads b n 0 (let h = bucket-low (y / 256) in omega (arith, C .buckets))) (rw bucket-new at (begins-own ys n)))
       (λ e. rw (getD-set-other heads b c n 0 e) (begins-other (λ q. e (sym q ∙ bucket-new)) (begins-same put-same (C .begin c l))))
 
   links-new : (p : ℕ) → 0 < p → p < n + 1 → Begins ys p (bucketAt ys p) (linkAt ys p)
-  links-new p h l =
-      by-cases (ℕ-discrete p n)
+  links-new p h l = by-cases (ℕ-discrete p n)
       (λ e. rw (e, link-new, bucket-new) (begins-same put-same (C .begin b (bucket-low (y / 256)))))
       (λ e. let k : p < n = omega arith in rw (put-same p k) (begins-same (λ q j. put-same q (omega arith)) (C .links p h k)))
 
   once-new : (p q : ℕ) → p < q → q < n + 1 → keyAt ys p ≡ keyAt ys q → ⊥
-  once-new p q h l e =
-      by-cases (ℕ-discrete q n)
+  once-new p q h l e = by-cases (ℕ-discrete q n)
       (λ u. new (p, omega arith, sym (key-old p (omega arith)) ∙ e ∙ ap (keyAt ys) u ∙ key-new))
       (λ u. C .once p q h (omega arith) (sym (key-old p (omega arith)) ∙ e ∙ key-old q (omega arith)))
 
   clock-at : (s : ℕ) → s < 256 → (p : ℕ) → (s ≡ y / 256 % 256 → p < n + 1) → ((s ≡ y / 256 % 256 → ⊥) → p < getD last s 0) → p < getD last′ s 0
-  clock-at s l p f g =
-      by-cases (ℕ-discrete s (y / 256 % 256))
+  clock-at s l p f g = by-cases (ℕ-discrete s (y / 256 % 256))
       (λ e. rw (e, getD-set-same last (y / 256 % 256) (n + 1) 0 (omega (arith, C .sets))) (f e))
       (λ e. rw (getD-set-other last (y / 256 % 256) s (n + 1) 0 e) (g e))
 
   clock-new : (p : ℕ) → p < n + 1 → p < getD last′ (keyAt ys p / 256 % 256) 0
-  clock-new p l =
-      clock-at (keyAt ys p / 256 % 256) (omega arith) p (λ e. l)
+  clock-new p l = clock-at (keyAt ys p / 256 % 256) (omega arith) p (λ e. l)
       (λ e. by-cases (ℕ-discrete p n)
       (λ u. absurd (e (ap (λ (x : ℕ). x / 256 % 256) (ap (keyAt ys) u ∙ key-new))))
       (λ u. rw (key-old p (omega arith)) (C .clock p (omega arith))))

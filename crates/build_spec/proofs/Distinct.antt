@@ -13,8 +13,7 @@ use Rattle.slice_sort.proofs.Distinct.{in-times, asc-distinct, cons-distinct}
 -- no two places hold the same number
 pub distinct-at : (l : List ℕ) → ((i j : ℕ) → i < j → j < length l → getD l i 0 ≡ getD l j 0 → ⊥) → Distinct l
 distinct-at [] h = asc-distinct [] none
-distinct-at (x ∷ l) h =
-    cons-distinct x l (distinct-at l (λ i j a b e. h (suc i) (suc j) (omega arith) (omega arith) e))
+distinct-at (x ∷ l) h = cons-distinct x l (distinct-at l (λ i j a b e. h (suc i) (suc j) (omega arith) (omega arith) e))
     (λ m. let p = place-of l x m in h 0 (suc (p .0)) (omega arith) (omega (arith, p .1)) (sym (p .2)))
 
 distinct-tail : (x : ℕ) (l : List ℕ) → Distinct (x ∷ l) → Distinct l

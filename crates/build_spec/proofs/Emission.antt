@@ -65,8 +65,7 @@ module _ {N U : ℕ → Type 0} {xs ys zs : List ℕ} {m r u : ℕ} {full full�
   first p k l = rw (h .same p l) (g .only p k l)
 
   then-once : (p q : ℕ) → m ≤ p → p < q → q < u → getD zs p 0 ≡ getD zs q 0 → ⊥
-  then-once p q k l j d =
-      by-cases (decLt q r)
+  then-once p q k l j d = by-cases (decLt q r)
       (λ b. g .once p q k l b (sym (h .same p (omega arith)) ∙ d ∙ h .same q b))
       (λ b. by-cases (decLt p r)
       (λ c. apart (getD zs q 0) (rw d at (first p k c)) (h .only q (omega arith) j))

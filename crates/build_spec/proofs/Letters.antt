@@ -89,14 +89,12 @@ module _ {r : Rule} {opens parts : List ℕ} {shape : Shape} (T : RuleTables r o
 
     earlier-is : ranks * 2 ^ 8 + bitXor (getD opens (a * 256 + getD low 15 0) 0) (shape .accepting) ≡ backOf (automaton r) a v
     unfolding backOf
-    earlier-is =
-        ap₂ (λ (x y : ℕ). x * 2 ^ 8 + y) ranks-are
+    earlier-is = ap₂ (λ (x y : ℕ). x * 2 ^ 8 + y) ranks-are
         (set-is (automaton r) (layered r (T .shaped .passing)) (r .s) opens parts (T .shaped .masks) (T .table) a v letter within low L (shape .accepting) (accepting-fits (T .shaped))
         (λ q l. accepting-same (T .shaped) q))
 
     onto-is : (pair : ℕ) → pair < 256 → pair % 16 < shape .components → onwardIn v parts (shape .components) levels pair ≡ ontoOf (automaton r) a v pair
-    onto-is pair h l =
-        ap (λ (c : ℕ). onwardIn v parts c levels pair) (T .shaped .components-are)
+    onto-is pair h l = ap (λ (c : ℕ). onwardIn v parts c levels pair) (T .shaped .components-are)
         ∙ onward-is (automaton r) (layered r (T .shaped .passing)) (r .s) opens parts (T .shaped .masks) (T .table) a v letter within low L ranks levels back
         (rw (T .shaped .components-are) at (w .passes)) pair h (omega (arith, T .shaped .components-are))
 

@@ -49,8 +49,7 @@ module _ (ys : List ℕ) (m : ℕ) (fits : m ≤ length ys) where
       (p .0, omega arith, l, sym (getD-take m ys (p .0) 0 l) ∙ p .2)
 
   once-distinct : ((p q : ℕ) → 0 ≤ p → p < q → q < m → getD ys p 0 ≡ getD ys q 0 → ⊥) → Distinct (take m ys)
-  once-distinct h =
-      distinct-at (take m ys)
+  once-distinct h = distinct-at (take m ys)
       (λ i j a b e. let l : j < m = omega (arith, length-take-le m ys fits) in h i j (omega arith) a l (sym (getD-take m ys i 0 (omega arith)) ∙ e ∙ getD-take m ys j 0 l))
 
 module _ {r : Rule} {opens parts : List ℕ} {shape : Shape} (T : RuleTables r opens parts shape) where

@@ -96,8 +96,7 @@ module _ (A : Automaton) (parts : List ℕ) (P : Parts A parts) (x : ℕ) (state
   own-bit q t = open-bit (A .component q) q (P .known q (states q t)) ∙ rw (lt-ltb q (A .n) (states q t), eq-eqb (A .component q) (A .component q) refl, t)
 
   digit-one : (q : ℕ) → one (bit x q) ≤ digit q
-  digit-one q =
-      bif (bit x q)
+  digit-one q = bif (bit x q)
       (λ t. let n = count-lt q 8 (bit (openPart (A .component q))) (let s = states q t in omega (arith, P .few-states)) (own-bit q t) in let e : one (bit x q) ≡ 1 = rw t in
       omega (arith, digit-open q t))
       (λ t. let e : one (bit x q) ≡ 0 = rw t in omega arith)
@@ -109,8 +108,7 @@ module _ (A : Automaton) (parts : List ℕ) (P : Parts A parts) (x : ℕ) (state
 
   digit-cap : (q : ℕ) → q < 8 → digit q ≤ rankAt (capsOf parts (A .components)) q
   unfolding sizeAt
-  digit-cap q l =
-      bif (ltb q (A .n) && bit x q)
+  digit-cap q l = bif (ltb q (A .n) && bit x q)
       (λ t. let h = ltb-true q (A .n) (and-l (ltb q (A .n)) (bit x q) t) in
       let k = P .known q h in
       let a = count-sub 8 (bit (openPart (A .component q))) (λ p. ltb p (A .n) && eqb (A .component p) (A .component q))
@@ -144,8 +142,7 @@ module _ (A : Automaton) (parts : List ℕ) (P : Parts A parts) (x : ℕ) (state
         omega arith
 
     rank-digit-le : (q : ℕ) → q < 8 → rankAt v q ≤ digit q
-    rank-digit-le q l =
-        by-cases (decLt 0 (rankAt v q))
+    rank-digit-le q l = by-cases (decLt 0 (rankAt v q))
         (λ h. let t = ranked q l ∙ lt-ltb 0 (rankAt v q) h in
         let a = filled q (states q t) t (rankAt v q) (omega arith) in
         let b = count-sub 8 (λ p. bit (openPart (A .component q)) p && leb (rankAt v p) (rankAt v q)) (bit (openPart (A .component q)))

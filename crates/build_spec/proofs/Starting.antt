@@ -83,8 +83,7 @@ module _ {r : Rule} {parts : List ℕ} {shape : Shape} (S : Shaped r parts shape
     -- the number of its core
     module _ (low : List ℕ) (L : Lowest v low) where
       opened : (q : ℕ) → q < 8 → bit (getD low 15 0) q ≡ ltb 0 (rankAt v q)
-      opened q k =
-          ap (λ (x : ℕ). bit x q) (L 15 (omega arith))
+      opened q k = ap (λ (x : ℕ). bit x q) (L 15 (omega arith))
           ∙ bit-mask 8 (λ p. ltb 0 (rankAt v p) && leb (rankAt v p) 15) q k
           ∙ ap (λ (b : Bool). ltb 0 (rankAt v q) && b) (le-leb (rankAt v q) 15 (let h = rank-low v q in omega arith))
           ∙ and-true (ltb 0 (rankAt v q))
@@ -112,8 +111,7 @@ module _ {r : Rule} {parts : List ℕ} {shape : Shape} (S : Shaped r parts shape
     -- the start condition, by the rank of the initial state
     holds-is : exclusive (bit (shape .accepting) (shape .initial)) (ltb 0 (rankAt v (shape .initial))) ≡ bit (coreOf (automaton r) v) (r .initial)
     unfolding coreOf bit
-    holds-is =
-        ap (λ (b : Bool). exclusive b (ltb 0 (rankAt v (shape .initial)))) (accepting-same (shape .initial))
+    holds-is = ap (λ (b : Bool). exclusive b (ltb 0 (rankAt v (shape .initial)))) (accepting-same (shape .initial))
         ∙ sym (set-rank (automaton r) v (shape .initial) initial-state)
         ∙ sym (bit-mask 8 (setOf (automaton r) v) (shape .initial) initial-low)
         ∙ ap (λ (x : ℕ). eqb x 1) (sym (above v (mask 8 (setOf (automaton r) v)) 8 (shape .initial) initial-low))

@@ -21,8 +21,7 @@ module _ (caps : ℕ) {G : ℕ → ℕ → Type 0} (inside : (v y : ℕ) → G v
     (v : (y : ℕ) → G t y → U y) where
   -- on to the next vector
   pub walk-next : Grown (Upto G (nextOf 8 t caps)) F xs n zs heads last u full′
-  walk-next =
-      grown-as (upto-next g e h v)
+  walk-next = grown-as (upto-next g e h v)
       (λ f y k. (k .0, by-cases (decLt t (k .0)) (λ l. absurd (let z = least 8 t caps (k .0) within (inside (k .0) y (k .2)) l in omega (arith, k .1))) (λ l. omega arith), k .2))
       (λ y k. k)
 

@@ -45,8 +45,7 @@ module _ (P : Set) (l : ℕ → ℕ) (low : (q : ℕ) → q < 8 → P q ≡ true
 
   -- no member has the value j
   below-none : (j : ℕ) → valued P l j ≡ false → (q : ℕ) → q < 8 → below (suc j) q ≡ below j q
-  below-none j e q h =
-      bif (P q)
+  below-none j e q h = bif (P q)
       (λ t. rw t (by-cases (decLt (l q) j)
       (λ a. lt-ltb (l q) (suc j) (omega arith) ∙ sym (lt-ltb (l q) j a))
       (λ a. by-cases (ℕ-discrete (l q) j)
@@ -79,8 +78,7 @@ module _ (P : Set) (l : ℕ → ℕ) (low : (q : ℕ) → q < 8 → P q ≡ true
   -- a class above k comes in: nothing changes
   top-keep : (j k : ℕ) → k < count (suc j) (valued P l) → largestUpto (suc j) k ≡ largestUpto j k
   unfolding largestUpto
-  top-keep j k m =
-      largest-ext 8 _ _ l (λ q h. bif (P q)
+  top-keep j k m = largest-ext 8 _ _ l (λ q h. bif (P q)
       (λ t. rw t (by-cases (decLt (l q) j)
       (λ a. rw (lt-ltb (l q) (suc j) (omega arith), lt-ltb (l q) j a))
       (λ a. by-cases (ℕ-discrete (l q) j)
@@ -109,9 +107,7 @@ module _ (P : Set) (l : ℕ → ℕ) (low : (q : ℕ) → q < 8 → P q ≡ true
   top-all : (j k : ℕ) → count j (valued P l) ≤ k → largestUpto j k ≡ largest 8 (below j) l
   unfolding largestUpto
   top-all j k m =
-      largest-ext 8 _ _ l (λ q h. bif (below j q)
-      (λ t. rw t (le-leb (class P l q) k (le-trans (class-below j q (below-lt j q t)) m)))
-      (λ t. rw t))
+      largest-ext 8 _ _ l (λ q h. bif (below j q) (λ t. rw t (le-leb (class P l q) k (le-trans (class-below j q (below-lt j q t)) m))) (λ t. rw t))
 
   top-le : (j k : ℕ) → largestUpto j k ≤ 8
   unfolding largestUpto
@@ -159,10 +155,7 @@ module _ (P : Set) (l : ℕ → ℕ) (low : (q : ℕ) → q < 8 → P q ≡ true
   none-top k = largest-ext 8 _ (λ q. false) l (λ q g. ap (λ (b : Bool). b && leb (class P l q) k) (none-below q))
 
   start-level : (k : ℕ) → levelSoFar 0 0 k ≡ 0
-  start-level k =
-      by-cases (decLt 0 k)
-      (λ h. rw (lt-ltb 0 k h))
-      (λ h. rw (le-ltb 0 k (omega arith)) (omega (arith, none-top k)))
+  start-level k = by-cases (decLt 0 k) (λ h. rw (lt-ltb 0 k h)) (λ h. rw (le-ltb 0 k (omega arith)) (omega (arith, none-top k)))
 
   start-levels : levelsSoFar 0 0 ≡ 0
   unfolding levelsSoFar num
@@ -197,11 +190,8 @@ module _ (P : Set) (l : ℕ → ℕ) (low : (q : ℕ) → q < 8 → P q ≡ true
   ranks-digits m j = num-add 16 8 (λ q. cond (below j q) (class P l q) 0) (λ q. one (late j q)) m
 
   rank-fits : (m j q : ℕ) → m < 16 → q < 8 → rankSoFar m j q < 16
-  rank-fits m j q h k =
-      bif (P q)
-      (λ t. rw t (bif (ltb (l q) j)
-      (λ u. rw u (omega (arith, class-max q k t)))
-      (λ u. rw u (omega arith))))
+  rank-fits m j q h k = bif (P q)
+      (λ t. rw t (bif (ltb (l q) j) (λ u. rw u (omega (arith, class-max q k t))) (λ u. rw u (omega arith))))
       (λ t. rw t (omega arith))
 
   pub ranks-fit : (m j : ℕ) → m < 16 → ranksSoFar m j < 2 ^ 32
@@ -214,10 +204,7 @@ module _ (P : Set) (l : ℕ → ℕ) (low : (q : ℕ) → q < 8 → P q ≡ true
   levelRaised m j k = cond (ltb m k) (suc j) (one (leb 1 k) + largestUpto j k)
 
   raise : (m j k : ℕ) → levelSoFar m j k + one (leb (suc m) k) * 1 ≡ levelRaised m j k
-  raise m j k =
-      by-cases (decLt m k)
-      (λ h. rw (lt-ltb m k h) (omega arith))
-      (λ h. rw (le-ltb m k (omega arith)) (omega arith))
+  raise m j k = by-cases (decLt m k) (λ h. rw (lt-ltb m k h) (omega arith)) (λ h. rw (le-ltb m k (omega arith)) (omega arith))
 
   raised : (m j : ℕ) → levelsSoFar m j + ones-from (suc m) ≡ num 16 16 (levelRaised m j)
   unfolding levelsSoFar ones-from
@@ -227,15 +214,13 @@ module _ (P : Set) (l : ℕ → ℕ) (low : (q : ℕ) → q < 8 → P q ≡ true
       ∙ num-ext 16 (omega arith) 16 _ _ (λ k h. raise m j k)
 
   raised-digit : (m j k : ℕ) → j ≤ 8 → levelRaised m j k < 16
-  raised-digit m j k h =
-      by-cases (decLt m k)
+  raised-digit m j k h = by-cases (decLt m k)
       (λ a. rw (lt-ltb m k a) (omega arith))
       (λ a. rw (le-ltb m k (omega arith)) (omega (arith, top-le j k, one-le (leb 1 k))))
 
   -- ranks of members that come in or are still to come
   rank-up : (m j q : ℕ) → suc m ≡ count (suc j) (valued P l) → rankSoFar m j q + one (late j q) * 1 ≡ rankSoFar (suc m) (suc j) q
-  rank-up m j q c =
-      bif (P q)
+  rank-up m j q c = bif (P q)
       (λ t. rw t (by-cases (decLt (l q) j)
       (λ a. rw (lt-ltb (l q) (suc j) (omega arith), lt-ltb (l q) j a) (omega arith))
       (λ a. by-cases (ℕ-discrete (l q) j)
@@ -244,8 +229,7 @@ module _ (P : Set) (l : ℕ → ℕ) (low : (q : ℕ) → q < 8 → P q ≡ true
       (λ t. rw t (omega arith))
 
   late-none : (j : ℕ) → valued P l j ≡ false → (q : ℕ) → q < 8 → late (suc j) q ≡ late j q
-  late-none j e q h =
-      bif (P q)
+  late-none j e q h = bif (P q)
       (λ t. let z = below-none j e q h in rw t (ap not (sym (ap (λ (b : Bool). b && ltb (l q) (suc j)) t) ∙ z ∙ ap (λ (b : Bool). b && ltb (l q) j) t)))
       (λ t. rw t)
 
@@ -253,8 +237,7 @@ module _ (P : Set) (l : ℕ → ℕ) (low : (q : ℕ) → q < 8 → P q ≡ true
   level-stay m j k e = ap (λ (x : ℕ). cond (ltb m k) (suc j) (one (leb 1 k) + x)) (sym (top-none j e k))
 
   level-go : (m j k : ℕ) → suc m ≡ count (suc j) (valued P l) → valued P l j ≡ true → levelRaised m j k ≡ levelSoFar (suc m) (suc j) k
-  level-go m j k c e =
-      by-cases (decLt m k)
+  level-go m j k c e = by-cases (decLt m k)
       (λ a. by-cases (decLt (suc m) k)
       (λ b. rw (lt-ltb m k a, lt-ltb (suc m) k b))
       (λ b. rw (lt-ltb m k a, le-ltb (suc m) k (omega arith), le-leb 1 k (omega arith)) (omega (arith, top-new j k e (omega arith)))))
@@ -369,15 +352,13 @@ module _ (P : Set) (l : ℕ → ℕ) (low : (q : ℕ) → q < 8 → P q ≡ true
         omega (arith, y .1, top-all j k (omega (arith, s .found)), ap (λ (z : ℕ). largest 8 (below z) l) (y .1), all-new (y .0) (y .2))
 
     done-level : (k : ℕ) → levelSoFar (s .m) j k ≡ largest 8 (λ q. P q && leb (class P l q) k) l + one (leb 1 k) * 1
-    done-level k =
-        by-cases (decLt (s .m) k)
+    done-level k = by-cases (decLt (s .m) k)
         (λ h. rw (lt-ltb (s .m) k h, le-leb 1 k (omega arith)) (omega (arith, top-last k h, top-done k)))
         (λ h. rw (le-ltb (s .m) k (omega arith)) (omega (arith, top-done k)))
 
     pub done-levels : levels ≡ levelDigits P l + 1229782938247303440
     unfolding levelDigits levelsSoFar ones-from
-    done-levels =
-        s .levelled
+    done-levels = s .levelled
         ∙ num-ext 16 (omega arith) 16 _ _ (λ k h. done-level k)
         ∙ sym (num-add 16 16 (λ k. largest 8 (λ q. P q && leb (class P l q) k) l) (λ k. one (leb 1 k)) 1)
         ∙ (let y = ones-first in omega arith)

@@ -48,14 +48,11 @@ module _ (opens : List ℕ) (letter opened part : ℕ) (low : List ℕ) (r : Ris
   level-low q h t = level-first q 8 (ap (λ (x : ℕ). bit x q) (r .whole 8 (omega arith) (omega arith)) ∙ t)
 
   pub upto-bits : (j : ℕ) → j < 16 → (q : ℕ) → q < 8 → bit (U j) q ≡ bit G q && leb (L q) j
-  upto-bits j h q hq =
-      bif (bit (U j) q)
+  upto-bits j h q hq = bif (bit (U j) q)
       (λ t. let g : bit G q ≡ true = sym (ap (λ (x : ℕ). bit x q) (r .whole 15 (omega arith) (omega arith))) ∙ r .mono j 15 q hq (omega arith) (omega arith) t in
       rw (t, g, le-leb (L q) j (level-first q j t)))
       (λ t. rw t (bif (bit G q)
-      (λ g. rw g (by-cases (decLe (L q) j)
-      (λ a. clash (r .mono (L q) j q hq a h (level-hits q g)) t)
-      (λ a. sym (lt-leb (L q) j (omega arith)))))
+      (λ g. rw g (by-cases (decLe (L q) j) (λ a. clash (r .mono (L q) j q hq a h (level-hits q g)) t) (λ a. sym (lt-leb (L q) j (omega arith)))))
       (λ g. rw g)))
 
   pub goal-small : part < 256 → G < 256

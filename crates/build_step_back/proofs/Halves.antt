@@ -54,8 +54,7 @@ module _ (A : Automaton) (H : Layered A) (s : ℕ) (opens parts : List ℕ) (P :
     rankIn c q = cond ((ltb q (A .n) && W q) && eqb (A .component q) c) (rankOf A S l q) 0
 
     kind-rank : (c : ℕ) → c < A .components → (q : ℕ) → cond (K c) (cond (ltb q (A .n) && eqb (A .component q) c) (rankOf A S l q) 0) 0 ≡ rankIn c q
-    kind-rank c h q =
-        bif (ltb q (A .n))
+    kind-rank c h q = bif (ltb q (A .n))
         (λ t. rw t (bif (eqb (A .component q) c)
         (λ u. rw (u, kind c q h (ltb-true q (A .n) t) (eqb-true (A .component q) c u)) (bif (W q) (λ x. rw x) (λ x. rw x)))
         (λ u. rw u (bif (K c) (λ x. rw x (bif (W q) (λ y. rw y) (λ y. rw y))) (λ x. rw x (bif (W q) (λ y. rw y) (λ y. rw y)))))))
@@ -75,8 +74,7 @@ module _ (A : Automaton) (H : Layered A) (s : ℕ) (opens parts : List ℕ) (P :
         ∙ num-ext 16 (omega arith) 8 _ _ (λ q m. kind-rank c h q)
 
     ranks-of : ranks ≡ num 16 8 (λ q. cond ((ltb q (A .n) && W q) && ltb (A .component q) (A .components)) (rankOf A S l q) 0)
-    ranks-of =
-        B .ranked
+    ranks-of = B .ranked
         ∙ sum-ext (A .components) _ (λ c. num 16 8 (rankIn c)) part-ranks
         ∙ sum-ranks (A .components) (A .component) (λ q. ltb q (A .n) && W q) (rankOf A S l)
 
@@ -86,8 +84,7 @@ module _ (A : Automaton) (H : Layered A) (s : ℕ) (opens parts : List ℕ) (P :
     -- the ranks of the kind are those of the earlier core
     rank-at : (q : ℕ) → q < A .n → W q ≡ true → earlierRank A a v q ≡ rankAt ranks q
     unfolding rankAt
-    rank-at q m x =
-        earlier-rank A H s opens parts P O a v letter w low lowest q m
+    rank-at q m x = earlier-rank A H s opens parts P O a v letter w low lowest q m
         ∙ sym (ap₂ (λ (y z : ℕ). y / z % 16) ranks-of (pow16 q) ∙ digit-num 16 (omega arith) 8 _ (λ j h. rank-small j) q (omega (arith, P .few-states))
         ∙ rw (lt-ltb q (A .n) m, x, lt-ltb (A .component q) (A .components) (P .known q m)))
 
@@ -103,8 +100,7 @@ module _ (A : Automaton) (H : Layered A) (s : ℕ) (opens parts : List ℕ) (P :
     -- a component is rejecting if one of its states is
     rejecting-at : (c q : ℕ) → c < A .components → q < A .n → A .component q ≡ c → rejectingPart parts accepting c ≡ not (A .accepting q)
     unfolding rejectingPart
-    rejecting-at c q h m e =
-        bif (A .accepting q)
+    rejecting-at c q h m e = bif (A .accepting q)
         (λ x. ne-eqb (bitAnd (getD parts c 0) accepting) 0 (λ z. clash (both-bit c q h m ∙ and-i (eq-eqb (A .component q) c e) x) (ap (λ (y : ℕ). bit y q) z ∙ bit-none q)) ∙ sym (ap not x))
         (λ x. eq-eqb (bitAnd (getD parts c 0) accepting) 0 (bit-ext 8 (bitAnd (getD parts c 0) accepting) 0
         (omega (arith, and-le-l (getD parts c 0) accepting, part-small A H s opens parts P O a v letter w low lowest c h)) (omega arith)
@@ -125,8 +121,7 @@ module _ (A : Automaton) (H : Layered A) (s : ℕ) (opens parts : List ℕ) (P :
     back-kind : (k : Bool) (before : List ℕ) (ranks : ℕ) (levels : List ℕ)
         → BackOf (partOf parts accepting k) opens a (getD low 15 0) parts (A .components) low before ranks levels
         → EarlierOf A k a (earlierSet A a v) (rankAt ranks) (setOf A v) (rankAt v) (earlierLevel A a v)
-    back-kind k before ranks levels B =
-        half-same A H a S (earlierRank A a v) (setOf A v) (rankAt v) l k (rankAt ranks) l
+    back-kind k before ranks levels B = half-same A H a S (earlierRank A a v) (setOf A v) (rankAt v) l k (rankAt ranks) l
         (λ q m x. (rank-at (partOf parts accepting k) (λ p. exclusive k (not (A .accepting p))) (part-at k) before ranks levels B q m (kind-is k (A .accepting q) x), refl))
         (half A H a S (earlierRank A a v) (setOf A v) (rankAt v) l k (earlier-is A H s opens parts P O a v letter w low lowest))
 

@@ -27,10 +27,7 @@ below-other d c n = by-cases (decLt d c)
 sum-both : (kind : Set) (f : ℕ → ℕ) (n : ℕ) → sumOf n (λ c. cond (kind c) (f c) 0) + sumOf n (λ c. cond (not (kind c)) (f c) 0) ≡ sumOf n f
 unfolding sumOf
 sum-both kind f zero = refl
-sum-both kind f (suc n) =
-    bif (kind n)
-    (λ t. rw t (omega (arith, sum-both kind f n)))
-    (λ t. rw t (omega (arith, sum-both kind f n)))
+sum-both kind f (suc n) = bif (kind n) (λ t. rw t (omega (arith, sum-both kind f n))) (λ t. rw t (omega (arith, sum-both kind f n)))
 
 -- the test of a component's kind, as the code has it
 beq-not : (b k : Bool) → cond k (not b) b ≡ Bool·beq (not b) k

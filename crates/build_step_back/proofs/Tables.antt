@@ -55,14 +55,12 @@ module _ (A : Automaton) (H : Layered A) (s : ℕ) (opens parts : List ℕ) (P :
   opened = getD low 15 0
 
   low-bit : (j p : ℕ) → j < 16 → p < A .n → bit (getD low j 0) p ≡ isOpen A (setOf A v) p && leb (rankAt v p) j
-  low-bit j p l k =
-      ap (λ (x : ℕ). bit x p) (lowest j l)
+  low-bit j p l k = ap (λ (x : ℕ). bit x p) (lowest j l)
       ∙ bit-mask 8 (λ p. ltb 0 (rankAt v p) && leb (rankAt v p) j) p (omega (arith, P .few-states))
       ∙ ap (λ (b : Bool). b && leb (rankAt v p) j) (sym (open-rank A v p k))
 
   opened-bit : (p : ℕ) → p < A .n → bit opened p ≡ isOpen A (setOf A v) p
-  opened-bit p k =
-      low-bit 15 p (omega arith) k
+  opened-bit p k = low-bit 15 p (omega arith) k
       ∙ ap (λ (b : Bool). isOpen A (setOf A v) p && b) (le-leb (rankAt v p) 15 (let h = rank-low v p in omega arith))
       ∙ and-true (isOpen A (setOf A v) p)
 
@@ -118,8 +116,7 @@ module _ (A : Automaton) (H : Layered A) (s : ℕ) (opens parts : List ℕ) (P :
   -- the table's place for the open states of the later core holds those of the earlier one
   pub open-is : (q : ℕ) → q < A .n → bit (getD opens (a * 256 + opened) 0) q ≡ isOpen A (earlierSet A a v) q
   unfolding openBefore
-  open-is q l =
-      ap (λ (x : ℕ). bit x q) entry-before
+  open-is q l = ap (λ (x : ℕ). bit x q) entry-before
       ∙ bit-mask (A .n) (isOpen A (λ q. satisfies (A .n) (setFrom A opened) (A .entry q a))) q l
       ∙ open-ext A (λ q. satisfies (A .n) (setFrom A opened) (A .entry q a)) (earlierSet A a v) q
       (satisfies-ext (A .n) (setFrom A opened) (setOf A v) from-opened (A .entry q a) ∙ sym (earlier-exact q l))
@@ -147,8 +144,7 @@ module _ (A : Automaton) (H : Layered A) (s : ℕ) (opens parts : List ℕ) (P :
   module _ (ranks : ℕ) (levels : List ℕ) (B : Back opens a opened parts (A .components) low ranks levels) where
     pub ranks-is : ranks ≡ vectorOf A (earlierRank A a v)
     unfolding vectorOf earlierLevel
-    ranks-is =
-        B .ranked
+    ranks-is = B .ranked
         ∙ sum-ext (A .components) (ranksIn opens a opened parts low) (λ c. num 16 8 (λ q. cond (ltb q (A .n) && eqb (A .component q) c) (rankOf A (earlierSet A a v) (earlierLevel A a v) q) 0))
         (λ c l. ranks-are A opens a opened (getD parts c 0) low c (setOf A v) (rankAt v) (masks-at c l) (earlierSet A a v) earlier-exact)
         ∙ sum-ranks (A .components) (A .component) (λ q. ltb q (A .n)) (rankOf A (earlierSet A a v) (earlierLevel A a v))
@@ -166,8 +162,7 @@ module _ (A : Automaton) (H : Layered A) (s : ℕ) (opens parts : List ℕ) (P :
 
     pub level-is : (c k : ℕ) → c < A .components → k < 16 → getD levels c 0 / 2 ^ (4 * k) % 16 ≡ levelLeft A a v c k
     unfolding levelDigits levelLeft earlierLevel
-    level-is c k l h =
-        ap₂ (λ (x y : ℕ). x / y % 16) (B .levelled c l) (pow16 k)
+    level-is c k l h = ap₂ (λ (x y : ℕ). x / y % 16) (B .levelled c l) (pow16 k)
         ∙ digit-num 16 (omega arith) 16 _ (λ j m. nibble-low c j l) k h
         ∙ left-is A opens a opened (getD parts c 0) low c (setOf A v) (rankAt v) (masks-at c l) (earlierSet A a v) earlier-exact k
         ∙ largest-ext (A .n) _ _ (earlierLevel A a v) (λ q m. ap (λ (x : ℕ). openOf A (earlierSet A a v) c q && leb x k) (sym (earlier-rank q m)))
@@ -190,8 +185,7 @@ module _ (A : Automaton) (H : Layered A) (s : ℕ) (opens parts : List ℕ) (P :
 
       pub onward-is : (pair : ℕ) → pair < 256 → pair % 16 < A .components → onwardIn v parts (A .components) levels pair ≡ ontoOf A a v pair
       unfolding ontoOf
-      onward-is pair h l =
-          by-cases (ℕ-discrete (pair / 16) 0)
+      onward-is pair h l = by-cases (ℕ-discrete (pair / 16) 0)
           (λ z. onward-turn v parts (A .components) levels pair z
           ∙ ap₂ (λ (x y : ℕ). x + 16 * y) (next-is (pair % 16)) (classes-is (nextIn (A .components) (pair % 16)) (next-lt (A .components) (pair % 16) l) ∙ ap (allClasses A a v) (next-is (pair % 16)))
           ∙ sym (ap (λ (b : Bool). cond b (nextComponent A (pair % 16) + 16 * allClasses A a v (nextComponent A (pair % 16))) (pair % 16 + 16 * levelLeft A a v (pair % 16) (pair / 16)))

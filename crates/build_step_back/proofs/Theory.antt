@@ -71,8 +71,7 @@ module _ (W : Automaton) (opens : List ℕ) (a opened part : ℕ) (low : List �
   arg j = bitOr (bitXor opened (bitAnd opened part)) (bitAnd (getD low j 0) part)
 
   arg-is : (j p : ℕ) → bit (arg j) p ≡ cond (bit part p) (bit (getD low j 0) p) (bit opened p)
-  arg-is j p =
-      bit-or (bitXor opened (bitAnd opened part)) (bitAnd (getD low j 0) part) p
+  arg-is j p = bit-or (bitXor opened (bitAnd opened part)) (bitAnd (getD low j 0) part) p
       ∙ ap₂ (λ (x y : Bool). x || y) (bit-xor opened (bitAnd opened part) p ∙ ap (exclusive (bit opened p)) (bit-and opened part p)) (bit-and (getD low j 0) part p)
       ∙ arg-bit (bit opened p) (bit part p) (bit (getD low j 0) p)
 
@@ -90,15 +89,13 @@ module _ (W : Automaton) (opens : List ℕ) (a opened part : ℕ) (low : List �
 
   acc-case : (j q : ℕ) → j < 16 → q < W .n → W .component q ≡ K → W .accepting q ≡ true → (p : ℕ) → p < W .n → setFrom W (arg j) p ≡ not (mix W q (λ r. not (T r)) (D j) p)
   unfolding mix isOpen setFrom
-  acc-case j q l m e t p k =
-      ap (exclusive (W .accepting p)) (arg-in j p l k) ∙ rw e (bif (eqb (W .component p) K)
+  acc-case j q l m e t p k = ap (exclusive (W .accepting p)) (arg-in j p l k) ∙ rw e (bif (eqb (W .component p) K)
       (λ u. rw (u, h .pure p q k m (eqb-true _ _ u ∙ sym e) ∙ t))
       (λ u. rw u (xor-twice (W .accepting p) (T p) ∙ sym (Bool·not-not (T p)))))
 
   rej-case : (j q : ℕ) → j < 16 → q < W .n → W .component q ≡ K → W .accepting q ≡ false → (p : ℕ) → p < W .n → setFrom W (arg j) p ≡ mix W q T (D j) p
   unfolding mix isOpen setFrom
-  rej-case j q l m e t p k =
-      ap (exclusive (W .accepting p)) (arg-in j p l k) ∙ rw e (bif (eqb (W .component p) K)
+  rej-case j q l m e t p k = ap (exclusive (W .accepting p)) (arg-in j p l k) ∙ rw e (bif (eqb (W .component p) K)
       (λ u. rw (u, h .pure p q k m (eqb-true _ _ u ∙ sym e) ∙ t))
       (λ u. rw u (xor-twice (W .accepting p) (T p))))
 
@@ -122,8 +119,7 @@ module _ (W : Automaton) (opens : List ℕ) (a opened part : ℕ) (low : List �
   -- the states of level at most j
   pub test-is : (j q : ℕ) → j < 16 → q < W .n → W .component q ≡ K → bit (upto opens a opened part low j) q ≡ settledUpTo W T r q (W .entry q a) j
   unfolding upto settledUpTo
-  test-is j q l m e =
-      bit-and (getD opens (a * 256 + arg j) 0) part q
+  test-is j q l m e = bit-and (getD opens (a * 256 + arg j) 0) part q
       ∙ ap₂ (λ (x y : Bool). x && y) (entry-is (arg j) q (arg-small opened part (getD low j 0) (h .opened-small) (h .part-small)) m) (h .part-bits q m ∙ eq-eqb (W .component q) K e)
       ∙ and-true (exclusive (W .accepting q) (satisfies (W .n) (setFrom W (arg j)) (W .entry q a)))
       ∙ settled-is j q l m e
@@ -137,16 +133,13 @@ module _ (W : Automaton) (opens : List ℕ) (a opened part : ℕ) (low : List �
 
   mono-in : (i j q : ℕ) → q < W .n → W .component q ≡ K → i ≤ j → j < 16 → bit (upto opens a opened part low i) q ≡ true → bit (upto opens a opened part low j) q ≡ true
   unfolding settledUpTo
-  mono-in i j q m e l b t =
-      test-is j q b m e
+  mono-in i j q m e l b t = test-is j q b m e
       ∙ settled-mono W T (D i) (D j) q (W .entry q a) (λ p k c u. and-i (and-l (isOpen W T p) (leb (r p) i) u)
       (le-leb (r p) j (let z = leb-true (r p) i (and-r (isOpen W T p) (leb (r p) i) u) in omega arith)))
       (sym (test-is i q (omega arith) m e) ∙ t)
 
   mono-all : (i j q : ℕ) → q < 8 → i ≤ j → j < 16 → bit (upto opens a opened part low i) q ≡ true → bit (upto opens a opened part low j) q ≡ true
-  mono-all i j q l b c t = bif (bit part q)
-      (λ u. let z = part-of q l u in mono-in i j q (z .0) (z .1) b c t)
-      (λ u. clash t (apart-upto i q u))
+  mono-all i j q l b c t = bif (bit part q) (λ u. let z = part-of q l u in mono-in i j q (z .0) (z .1) b c t) (λ u. clash t (apart-upto i q u))
 
   arg-whole : (j : ℕ) → 8 ≤ j → j < 16 → arg j ≡ opened
   arg-whole j b l = bit-ext 8 (arg j) opened (arg-small opened part (getD low j 0) (h .opened-small) (h .part-small)) (h .opened-small) (λ p k. arg-is j p ∙ bif (bit part p)
@@ -169,8 +162,7 @@ module _ (W : Automaton) (opens : List ℕ) (a opened part : ℕ) (low : List �
 
     pub goal-is : (q : ℕ) → q < W .n → W .component q ≡ K → bit (goal opens a opened part low) q ≡ isOpen W S q
     unfolding goal isOpen
-    goal-is q m e =
-        bit-and (getD opens (a * 256 + opened) 0) part q
+    goal-is q m e = bit-and (getD opens (a * 256 + opened) 0) part q
         ∙ ap₂ (λ (x y : Bool). x && y) (entry-is opened q (h .opened-small) m) (h .part-bits q m ∙ eq-eqb (W .component q) K e)
         ∙ and-true (exclusive (W .accepting q) (satisfies (W .n) (setFrom W opened) (W .entry q a)))
         ∙ ap (exclusive (W .accepting q)) (satisfies-ext (W .n) (setFrom W opened) T from-opened (W .entry q a) ∙ sym (exact q m))
@@ -200,8 +192,7 @@ module _ (W : Automaton) (opens : List ℕ) (a opened part : ℕ) (low : List �
 
     valued-is : (j : ℕ) → valued G L j ≡ taken W S lev K j
     unfolding valued taken
-    valued-is j =
-        some-trim 8 (W .n) (λ p. G p && eqb (L p) j) (h .few) (λ p b l. rw (rest-none p b l))
+    valued-is j = some-trim 8 (W .n) (λ p. G p && eqb (L p) j) (h .few) (λ p b l. rw (rest-none p b l))
         ∙ some-ext (W .n) (λ p. G p && eqb (L p) j) (λ p. eqb (W .component p) K && (isOpen W S p && eqb (lev p) j)) (member j)
 
     class-is : (q : ℕ) → q < W .n → W .component q ≡ K → isOpen W S q ≡ true → class G L q ≡ rankOf W S lev q
@@ -224,8 +215,7 @@ module _ (W : Automaton) (opens : List ℕ) (a opened part : ℕ) (low : List �
 
     pub left-is : (k : ℕ) → largest 8 (λ q. G q && leb (class G L q) k) L ≡ largest (W .n) (λ q. openOf W S K q && leb (rankOf W S lev q) k) lev
     unfolding openOf
-    left-is k =
-        largest-trim 8 (W .n) (λ q. G q && leb (class G L q) k) L (h .few) (λ p b l. rw (rest-none p b l))
+    left-is k = largest-trim 8 (W .n) (λ q. G q && leb (class G L q) k) L (h .few) (λ p b l. rw (rest-none p b l))
         ∙ largest-ext (W .n) (λ q. G q && leb (class G L q) k) (λ q. (eqb (W .component q) K && isOpen W S q) && leb (rankOf W S lev q) k) L (λ q m. bif (eqb (W .component q) K)
         (λ u. let e = eqb-true (W .component q) K u in rw (u, goal-is q m e) (bif (isOpen W S q) (λ o. rw (o, class-is q m e o)) (λ o. rw o)))
         (λ u. rw (u, apart-goal q (h .part-bits q m ∙ u))))

@@ -30,8 +30,7 @@ KeysOf codes keys = (p : ℕ) → p < length codes → keyAt keys p ≡ keyOf (g
 -- the codes come back
 pub restored : {codes : List ℕ} (keys : List ℕ) {zs : List ℕ} → length keys ≡ length codes → ((p : ℕ) → p < length codes → getD codes p 0 < 2 ^ 48) → KeysOf codes keys
     → zs ≡ coded (length codes) keys → zs ≡ codes
-restored {codes} keys {zs} long low is e =
-    ext-getD 0 zs codes (ap length e ∙ coded-long (length codes) keys (omega arith) ∙ long)
+restored {codes} keys {zs} long low is e = ext-getD 0 zs codes (ap length e ∙ coded-long (length codes) keys (omega arith) ∙ long)
     (λ p h.
     let l : p < length codes = omega (arith, ap length e ∙ coded-long (length codes) keys (omega arith)) in
     ap (λ (x : List ℕ). getD x p 0) e ∙ coded-at (length codes) p keys l (omega arith) ∙ ap codeOf (is p l) ∙ code-key (getD codes p 0) (let z = low p l in omega arith))
@@ -51,14 +50,13 @@ module _ {r : Rule} {opens parts : List ℕ} {shape : Shape} (T : RuleTables r o
         → length xs < length (transitionsFrom r start)
 
   pub ready : {codes : List ℕ} → codes ≡ macrostatesFrom r start → Ready codes
-  ready e =
-      subst Ready (sym e) (record {
-        ascending = macrostates-ascending r (T .shaped .passing) start;
-        low = λ p l. code-low (macrostate T p l);
-        reached = all-reached T;
-        written = λ f k i. all-written T f k i;
-        over = λ f k i. overfull T f k i;
-      })
+  ready e = subst Ready (sym e) (record {
+    ascending = macrostates-ascending r (T .shaped .passing) start;
+    low = λ p l. code-low (macrostate T p l);
+    reached = all-reached T;
+    written = λ f k i. all-written T f k i;
+    over = λ f k i. overfull T f k i;
+  })
 
   module _ {codes : List ℕ} (R : Ready codes) (few : length codes ≤ 65536) (keys : List ℕ) (long : length keys ≡ length codes) (is : KeysOf codes keys) where
     pub reached : AllReached r parts shape keys (length keys)

@@ -35,10 +35,9 @@ pub table-length : (initial : Set) (names codes moves : List ℕ)
     → length (tableText initial names codes moves) ≡ length (builtLine (length codes) (length moves)) + length (nameLines names) + length (macrostateLines initial codes) + length
     (transitionLines moves)
 unfolding tableText
-table-length initial names codes moves =
-    omega (
-      arith,
-      length-append (builtLine (length codes) (length moves)) (nameLines names ++ (macrostateLines initial codes ++ transitionLines moves)),
-      length-append (nameLines names) (macrostateLines initial codes ++ transitionLines moves),
-      length-append (macrostateLines initial codes) (transitionLines moves),
-    )
+table-length initial names codes moves = omega (
+  arith,
+  length-append (builtLine (length codes) (length moves)) (nameLines names ++ (macrostateLines initial codes ++ transitionLines moves)),
+  length-append (nameLines names) (macrostateLines initial codes ++ transitionLines moves),
+  length-append (macrostateLines initial codes) (transitionLines moves),
+)

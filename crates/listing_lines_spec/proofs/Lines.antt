@@ -36,8 +36,7 @@ module _ (line : ℕ → ℕ → List ℕ) where
   module _ (xs : List ℕ) (i : ℕ) (h : i < length xs) where
     -- one line more
     pub lines-next : lines line 0 (take (i + 1) xs) ≡ lines line 0 (take i xs) ++ line i (getD xs i 0)
-    lines-next =
-        ap (λ (k : ℕ). lines line 0 (take k xs)) (add-one i)
+    lines-next = ap (λ (k : ℕ). lines line 0 (take k xs)) (add-one i)
         ∙ ap (lines line 0) (take-suc xs i 0 h)
         ∙ lines-append 0 (take i xs) (getD xs i 0 ∷ [])
         ∙ ap (λ (k : ℕ). lines line 0 (take i xs) ++ lines line k (getD xs i 0 ∷ [])) (zero-add (length (take i xs)) ∙ length-take-le i xs (omega arith))
@@ -49,17 +48,16 @@ module _ (line : ℕ → ℕ → List ℕ) where
     module _ {d : List ℕ} {at : ℕ} {d₁ : List ℕ} {e : ℕ} (P : Put d at (lines line 0 (take i xs)) d₁ e) (text : List ℕ) (is : text ≡ line i (getD xs i 0)) where
       -- there is room for the next line
       pub room-line : at + length (lines line 0 xs) ≤ length d → e + length text ≤ length d₁
-      room-line room =
-          omega (
-            arith,
-            P .ends,
-            put-length P,
-            ap length is,
-            ap length lines-next,
-            ap length lines-part,
-            length-append (lines line 0 (take i xs)) (line i (getD xs i 0)),
-            length-append (lines line 0 (take (i + 1) xs)) (lines line (0 + length (take (i + 1) xs)) (drop (i + 1) xs)),
-          )
+      room-line room = omega (
+        arith,
+        P .ends,
+        put-length P,
+        ap length is,
+        ap length lines-next,
+        ap length lines-part,
+        length-append (lines line 0 (take i xs)) (line i (getD xs i 0)),
+        length-append (lines line 0 (take (i + 1) xs)) (lines line (0 + length (take (i + 1) xs)) (drop (i + 1) xs)),
+      )
 
       -- the next line
       pub put-line : {d₂ : List ℕ} {r : ℕ} → Put d₁ e text d₂ r → Put d at (lines line 0 (take (i + 1) xs)) d₂ r

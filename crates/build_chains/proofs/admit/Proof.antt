@@ -35,6 +35,5 @@ returns-3 c =
     (omega (arith, p .0 .fits, c .before .before .before .before .before .before .if2 .left)) (p .1))
 
 pub admit-spec : {M : Type 1} → statement M
-admit-spec =
-    tie.close (tie.spec
+admit-spec = tie.close (tie.spec
     (λ c κs. search needs) (λ c. search needs) returns (λ c. search needs) returns-2 put-requires add-t6 (λ c. search needs) returns-3)

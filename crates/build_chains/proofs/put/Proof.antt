@@ -27,8 +27,7 @@ returns c =
     (ap (set (a .keys .now) (a .n)) element, ap (λ (b : ℕ). set (a .heads .now) b (a .n)) e, ap (λ (s : ℕ). set (a .last .now) s (a .n + 1)) (and-mask (a .key / 256) 8))
 
 pub put-spec : {M : Type 1} → statement M
-put-spec =
-    tie.close (tie.spec
+put-spec = tie.close (tie.spec
     (λ c κs. search needs) (λ c. omega (arith, known c)) (λ c. known c) (λ c. omega (arith, head c)) (λ c. search needs) (λ c. search needs)
     (λ c. let p = c .before .before .before .pre in omega (arith, p .0 .few)) (λ c. omega (arith, known (c .before))) (λ c. known (c .before))
     (λ c. let p = c .before .before .before .pre in omega (arith, p .0 .few))

@@ -19,7 +19,6 @@ returns : tie.Need-returns Inv-loop μ-loop
 returns c = let l = c .before .loop in λ n f j k. l .inv .1 .is n f j (omega arith)
 
 pub gathered-spec : {M : Type 1} → statement M
-gathered-spec =
-    tie.close (tie.spec
+gathered-spec = tie.close (tie.spec
     Inv-loop μ-loop (λ c. (omega arith, gather-start (c .args .at .now))) (λ c. search needs) (λ c. search needs) (λ c. search needs)
     (λ c. search needs) (λ c. search needs) (λ c. search needs) loop-again returns)

@@ -46,6 +46,5 @@ returns-2 c = let l = c .before .loop in let e : l .c ≡ c .before .before .arg
     sym (ap (λ (n : ℕ). every n (λ d. gapless (c .before .before .args .ranks) (getD (c .before .before .args .parts .now) d 0))) (sym e) ∙ l .inv .1)
 
 pub is-core-spec : {M : Type 1} → statement M
-is-core-spec =
-    tie.close (tie.spec
+is-core-spec = tie.close (tie.spec
     Inv-loop μ-loop loop-holds (λ c. search needs) (λ c κs. search needs) add-if1 returns (λ c. search needs) (λ c. search needs) loop-again returns-2)

@@ -29,7 +29,6 @@ returns : tie.Need-returns Inv-loop μ-loop
 returns c = let l = c .before .loop in let e : l .c ≡ c .before .before .args .components = omega (arith, l .inv .0) in l .inv .1 ∙ ap (capsOf (c .before .before .args .parts .now)) e
 
 pub largest-ranks-spec : {M : Type 1} → statement M
-largest-ranks-spec =
-    tie.close (tie.spec
+largest-ranks-spec = tie.close (tie.spec
     Inv-loop μ-loop loop-holds (λ c. search needs) (λ c κs. search needs) (λ c. search needs) (λ c. search needs) (λ c. search needs) (λ c. search needs)
     loop-again returns)

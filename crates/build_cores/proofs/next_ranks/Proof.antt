@@ -34,7 +34,6 @@ returns c =
     ∙ sym (end _ _ _ _ _ _ (l .inv .1 .1) (λ e. c .loop-test .left (and-mask (l .w) 4 ∙ e ∙ sym (and-mask (l .c) 4))))
 
 pub next-ranks-spec : {M : Type 1} → statement M
-next-ranks-spec =
-    tie.close (tie.spec
+next-ranks-spec = tie.close (tie.spec
     Inv-loop μ-loop loop-holds (λ c. omega (arith, c .before .loop .inv .1 .1 .left)) loop-less loop-again
     (λ c. let l = c .before .loop in omega (arith, l .inv .0)) (λ c. search needs) (λ c. omega (arith, c .before .loop .inv .1 .1 .left)) returns)

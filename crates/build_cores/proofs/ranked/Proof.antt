@@ -35,7 +35,6 @@ returns c =
     λ j k. l .inv .is j k ∙ mask-ext 8 _ _ (λ p h. rw (lt-ltb p (l .q) (omega arith)))
 
 pub ranked-spec : {M : Type 1} → statement M
-ranked-spec =
-    tie.close (tie.spec
+ranked-spec = tie.close (tie.spec
     Inv-loop μ-loop (λ c. put-start (λ p. c .args .ranks / 2 ^ (4 * p) % 16)) (λ c. search needs) (λ c. search needs) (λ c. search needs)
     (λ c. search needs) (λ c. search needs) array-read-at array-write-at (λ c. search needs) (λ c. search needs) loop-again returns)

@@ -46,7 +46,6 @@ returns : tie.Need-returns Inv-loop μ-loop
 returns c = let l = c .before .loop in walk-end (c .before .before .args .ranks) (c .before .before .args .part) (l .found) (l .left) (c .loop-test .left) (l .inv .1)
 
 pub used-ranks-spec : {M : Type 1} → statement M
-used-ranks-spec =
-    tie.close (tie.spec
+used-ranks-spec = tie.close (tie.spec
     Inv-loop μ-loop loop-holds (λ c. omega (arith, below c)) (λ c. omega (arith, below c)) (λ c. omega (arith, below c)) cast-found-2 shl-found
     (λ c. omega arith) loop-less loop-again returns)

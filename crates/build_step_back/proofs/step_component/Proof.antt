@@ -112,8 +112,7 @@ returns-2 c =
     stepped (a .opens .now) (a .letter) (a .opened) (a .part) (a .low .now) (l .inv .0) (l .prev) (l .ones) (l .ranks) (l .levels) (l .j) (l .inv .2) (c .loop-test .left) .1
 
 pub step-component-spec : {M : Type 1} → statement M
-step-component-spec =
-    tie.close (tie.spec
+step-component-spec = tie.close (tie.spec
     Inv-loop μ-loop (λ c. search needs) cast-outside (λ c. search needs) (λ c. search needs) returns loop-holds (λ c. omega (arith, deep c)) cast-x
     (λ c. omega (arith, small c)) (λ c. omega (arith, small c, c .before .before .loop .inv .0 .letters)) add-levels (λ c. omega arith)
     (λ c. omega (arith, deep (c .before .before .before))) loop-again (λ c κs. search needs) add-ranks

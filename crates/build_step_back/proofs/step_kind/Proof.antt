@@ -54,8 +54,7 @@ returns c =
     let l = c .before .loop in let e : l .c ≡ c .before .before .args .components = omega (arith, l .inv .0) in rw (← e) (l .inv .1)
 
 pub step-kind-spec : {M : Type 1} → statement M
-step-kind-spec =
-    tie.close (tie.spec
+step-kind-spec = tie.close (tie.spec
     Inv-loop μ-loop loop-holds (λ c. search needs) (λ c. omega arith) (λ c. omega arith) loop-again step-component-requires (λ c κs. search needs)
     add-ranks (λ c. search needs) (λ c. omega (arith, c .before .before .before .before .before .loop .inv .2)) (λ c. omega arith) (λ c. omega arith)
     loop-again-2 returns)

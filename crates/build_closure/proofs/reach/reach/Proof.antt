@@ -41,6 +41,5 @@ returns-2 c =
     (c .before .before .close .ensures r T (all at-firsts r T) (λ y f. G .whole (c .before .before .before .before .before .before .if1 .left) y f))
 
 pub reach-spec : {M : Type 1} → statement M
-reach-spec =
-    tie.close (tie.spec
+reach-spec = tie.close (tie.spec
     (λ c κs. let p = c .before .pre in few (p .0 .1 .shaped)) firsts-requires (λ c. search needs) returns close-requires (λ c. search needs) returns-2)

@@ -24,7 +24,6 @@ returns c =
     let l = c .before .loop in let e : l .i ≡ c .before .before .args .n = omega (arith, l .inv .0) in rw e at (l .inv .2)
 
 pub to-codes-spec : {M : Type 1} → statement M
-to-codes-spec =
-    tie.close (tie.spec
+to-codes-spec = tie.close (tie.spec
     Inv-loop μ-loop (λ c. (omega arith, refl, refl)) (λ c. search needs) (λ c. search needs) (λ c. search needs) (λ c. search needs)
     (λ c. search needs) (λ c. search needs) loop-again (λ c. search needs) returns)

@@ -38,9 +38,7 @@ round-requires c κs = let p = c .before .before .before .before .before .before
     ((p .0 .0, p .0 .1, l .inv .3 (p .0 .0) (p .0 .1) (p .0 .2)), l .inv .0, c .before .before .before .loop-test .taken, p .2)
 
 same-length : tie.Need-same-length Inv-loop μ-loop
-same-length c =
-    let at-loop = c .before .before .before .before .before .before .before .before in
-    c .before .before .before .round .kept .0 ∙ at-loop .loop .inv .2
+same-length c = c .before .before .before .round .kept .0 ∙ c .before .before .before .before .before .before .before .before .loop .inv .2
 
 returns : tie.Need-returns Inv-loop μ-loop
 returns c =

@@ -77,6 +77,5 @@ loop-again c =
     )
 
 pub firsts-spec : {M : Type 1} → statement M
-firsts-spec =
-    tie.close (tie.spec
+firsts-spec = tie.close (tie.spec
     Inv-loop μ-loop loop-holds visit-first-requires same-length returns same-length-2 returns-2 next-ranks-requires loop-less loop-again)

@@ -81,9 +81,7 @@ add-x c =
     omega (arith, at-loop .loop .inv .0, c .if2 .left, all-is at-lowest, mask-lt 8 (λ q. ltb 0 (rankAt (capsOf (a .parts .now) (a .shape .components)) q)))
 
 loop-less : tie.Need-loop-less Inv-loop μ-loop
-loop-less c =
-    let at-loop = c .before .before .before .before .before .before .before .before in
-    omega (arith, at-loop .loop .inv .0, c .if2 .left)
+loop-less c = let at-loop = c .before .before .before .before .before .before .before .before in omega (arith, at-loop .loop .inv .0, c .if2 .left)
 
 loop-again : tie.Need-loop-again Inv-loop μ-loop
 loop-again c =
@@ -97,7 +95,6 @@ loop-again c =
     )
 
 pub round-spec : {M : Type 1} → statement M
-round-spec =
-    tie.close (tie.spec
+round-spec = tie.close (tie.spec
     Inv-loop μ-loop (λ c κs. search needs) (λ c. search needs) (λ c. (omega arith, refl, λ r T R. upto-start (c .before .before .pre .1)))
     visit-set-requires same-length returns same-length-2 returns-2 add-x loop-less loop-again)

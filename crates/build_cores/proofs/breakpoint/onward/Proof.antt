@@ -46,8 +46,7 @@ returns-2 c =
     ∙ sym (onward-stay (a .ranks) (a .parts .now) (a .components) (a .levels .now) (a .pair) (c .before .if1 .left))
 
 pub onward-spec : {M : Type 1} → statement M
-onward-spec =
-    tie.close (tie.spec
+onward-spec = tie.close (tie.spec
     (λ c. search needs) (λ c κs. omega (arith, c .before .pre, and-mask (c .before .args .pair) 4)) element-copy-out-class-count
     (λ c κs. search needs) (λ c. search needs) returns (λ c. omega (arith, and-mask (c .before .args .pair) 4))
     (λ c. omega (arith, c .before .pre, and-mask (c .before .args .pair) 4)) (λ c. search needs) (λ c. search needs) (λ c. search needs) returns-2)

@@ -31,9 +31,7 @@ satisfied-requires : tie.Need-satisfied-requires Inv-loop μ-loop
 satisfied-requires c κs = let p = c .before .before .before .before .before .before .pre in (p .0, p .1, c .if1 .taken, p .2)
 
 marked-requires : tie.Need-marked-requires Inv-loop μ-loop
-marked-requires c κs =
-    let start = c .before .before .before .before .before .before .before in
-    omega (arith, c .before .if1 .taken, start .pre .0 .few-states)
+marked-requires c κs = omega (arith, c .before .if1 .taken, c .before .before .before .before .before .before .before .pre .0 .few-states)
 
 abbrev start-of-after-marked : tie.After-marked Inv-loop μ-loop → tie.Start Inv-loop μ-loop
 start-of-after-marked c = c .before .before .before .before .before .before .before .before
@@ -59,9 +57,7 @@ fits c =
     (omega (arith, c .before .before .if1 .taken, start-of-after-marked c .pre .0 .few-states))
 
 add-q : tie.Need-add-q Inv-loop μ-loop
-add-q c =
-    let start = c .before .before .before .before .before .before .before .before in
-    omega (arith, c .before .before .if1 .taken, start .pre .0 .few-states)
+add-q c = omega (arith, c .before .before .if1 .taken, c .before .before .before .before .before .before .before .before .pre .0 .few-states)
 
 returns : tie.Need-returns Inv-loop μ-loop
 returns c =
@@ -72,7 +68,6 @@ returns c =
     ∙ place-is r (c .before .before .before .before .before .before .pre .0) (a .letter) (a .opened)
 
 pub open-before-spec : {M : Type 1} → statement M
-open-before-spec =
-    tie.close (tie.spec
+open-before-spec = tie.close (tie.spec
     Inv-loop μ-loop cast-accepting loop-holds satisfied-requires marked-requires (λ c. omega (arith, more c, fits c)) add-q
     (λ c. omega (arith, c .before .before .if1 .taken)) (λ c. (omega (arith, c .before .before .if1 .taken), more c)) returns)

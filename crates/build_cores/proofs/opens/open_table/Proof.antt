@@ -16,9 +16,7 @@ abbrev μ-loop : tie.MeasureT-loop
 μ-loop h counts clauses starts opens₀ end i₀ opens i = h .s * 256 - i
 
 starts-of-requires : tie.Need-starts-of-requires Inv-loop μ-loop
-starts-of-requires c κs =
-    let a = c .before .before .args in
-    entries-few (ruleOf (a .h) (a .counts .now) (a .clauses .now)) (c .before .before .pre)
+starts-of-requires c κs = let a = c .before .before .args in entries-few (ruleOf (a .h) (a .counts .now) (a .clauses .now)) (c .before .before .pre)
 
 loop-holds : tie.Need-loop-holds Inv-loop μ-loop
 loop-holds c = let a = c .before .before .before .before .args in (omega arith, filled-start (automaton (ruleOf (a .h) (a .counts .now) (a .clauses .now))) _ refl)
@@ -30,13 +28,10 @@ open-before-requires c κs =
 
 array-write-opens : tie.Need-array-write-opens Inv-loop μ-loop
 array-write-opens c =
-    let start = c .before .before .before .before .before .before .before .before in
-    omega (arith, c .before .before .loop-test .taken, start .pre .few-letters)
+    omega (arith, c .before .before .loop-test .taken, c .before .before .before .before .before .before .before .before .pre .few-letters)
 
 add-i : tie.Need-add-i Inv-loop μ-loop
-add-i c =
-    let start = c .before .before .before .before .before .before .before .before in
-    omega (arith, c .before .before .loop-test .taken, start .pre .few-letters)
+add-i c = omega (arith, c .before .before .loop-test .taken, c .before .before .before .before .before .before .before .before .pre .few-letters)
 
 loop-again : tie.Need-loop-again Inv-loop μ-loop
 loop-again c =
@@ -54,7 +49,6 @@ returns c =
     filled-table (automaton (ruleOf (a .h) (a .counts .now) (a .clauses .now))) (a .h .s) (l .opens) (c .before .before .before .before .before .before .pre .few-letters) (rw (← e) (l .inv .1))
 
 pub open-table-spec : {M : Type 1} → statement M
-open-table-spec =
-    tie.close (tie.spec
+open-table-spec = tie.close (tie.spec
     Inv-loop μ-loop starts-of-requires (λ c. omega (arith, c .before .before .before .before .pre .few-letters)) loop-holds (λ c. omega arith)
     open-before-requires array-write-opens add-i (λ c. omega (arith, c .before .before .loop-test .taken)) loop-again returns)

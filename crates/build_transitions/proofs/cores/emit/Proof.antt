@@ -37,9 +37,7 @@ emit-core-requires c κs =
     let p = start .pre in (p .0, p .1, c .before .before .before .loop-test .taken, c .before .before .before .before .loop .inv .3)
 
 same-length : tie.Need-same-length Inv-loop μ-loop
-same-length c =
-    let at-loop = c .before .before .before .before .before .before .before .before in
-    c .before .before .before .emit-core .kept .0 ∙ at-loop .loop .inv .2
+same-length c = c .before .before .before .emit-core .kept .0 ∙ c .before .before .before .before .before .before .before .before .loop .inv .2
 
 returns : tie.Need-returns Inv-loop μ-loop
 returns c =
@@ -68,7 +66,6 @@ returns-2 c =
     λ r T R. rw e at (l .inv .4 r T R)
 
 pub emit-spec : {M : Type 1} → statement M
-emit-spec =
-    tie.close (tie.spec
+emit-spec = tie.close (tie.spec
     Inv-loop μ-loop loop-holds (λ c κs. search needs) (λ c. search needs) (λ c. search needs) loop-again emit-core-requires same-length returns
     (λ c. search needs) (λ c. search needs) loop-again-2 (λ c. c .before .loop .inv .2) returns-2)

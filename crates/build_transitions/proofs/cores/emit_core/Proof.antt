@@ -46,9 +46,7 @@ emit-letter-requires c κs =
     )
 
 same-length : tie.Need-same-length Inv-loop μ-loop
-same-length c =
-    let at-loop = c .before .before .before .before .before .before .before .before in
-    c .before .before .before .emit-letter .kept .0 ∙ at-loop .loop .inv .2
+same-length c = c .before .before .before .emit-letter .kept .0 ∙ c .before .before .before .before .before .before .before .before .loop .inv .2
 
 returns : tie.Need-returns Inv-loop μ-loop
 returns c =
@@ -82,7 +80,6 @@ returns-2 c =
     rw (← ranks-of x) all
 
 pub emit-core-spec : {M : Type 1} → statement M
-emit-core-spec =
-    tie.close (tie.spec
+emit-core-spec = tie.close (tie.spec
     Inv-loop μ-loop (λ c. let p = c .before .before .pre in omega (arith, p .2, p .1 .few)) (λ c. search needs) (λ c κs. search needs) loop-holds
     emit-letter-requires same-length returns (λ c. search needs) (λ c. search needs) loop-again (λ c. c .before .before .loop .inv .2) returns-2)

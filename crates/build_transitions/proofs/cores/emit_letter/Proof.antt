@@ -46,6 +46,5 @@ returns-2 c = λ r T R. let S = c .before .before .before .before .before .befor
     (λ t y m. (m .0, m .1, (m .2 .0, m .2 .1, leads-out S (key-paired (T .shaped) (R (m .0) (m .1))) (m .2 .2), m .2 .3)))
 
 pub emit-letter-spec : {M : Type 1} → statement M
-emit-letter-spec =
-    tie.close (tie.spec
+emit-letter-spec = tie.close (tie.spec
     (λ c. search needs) set-before-requires (λ c κs. search needs) returns step-over-requires emit-sources-requires (λ c. search needs) returns-2)

@@ -54,9 +54,7 @@ pack-transition-requires c κs =
     let p = start .pre in (omega (arith, p .1, p .0 .few), omega (arith, p .6), omega (arith, c .before .if2 .left, p .0 .few))
 
 slice-write-out : tie.Need-slice-write-out
-slice-write-out c =
-    let start = c .before .before .before .before .before .before .before .before .before .before in
-    omega (arith, start .pre .7, c .before .if3 .left)
+slice-write-out c = omega (arith, c .before .before .before .before .before .before .before .before .before .before .pre .7, c .before .if3 .left)
 
 returns-4 : tie.Need-returns-4
 returns-4 c =
@@ -69,7 +67,6 @@ returns-4 c =
     (crossed (a .step .letter) (a .p) (p .0) (place at-find) there))
 
 pub emit-source-spec : {M : Type 1} → statement M
-emit-source-spec =
-    tie.close (tie.spec
+emit-source-spec = tie.close (tie.spec
     returns onward-requires find-requires returns-2 returns-3 pack-transition-requires (λ c. search needs) slice-write-out (λ c. search needs)
     (λ c. search needs) returns-4)

@@ -38,8 +38,7 @@ loop-again c =
     let a = start .args in let p = start .pre in let l = at-loop .loop in let e = c .before .before .put .ensures in let inside : l .p < length (a .codes .now) =
     omega (arith, at-loop-test .loop-test .taken, l .inv .1 .long) in (
       omega arith,
-      rw (e .0, e .1, e .2) (chaining-next (l .inv .1) (p .1) (p .2) inside
-          (key-read (l .inv .1) (p .2 (l .p) inside))),
+      rw (e .0, e .1, e .2) (chaining-next (l .inv .1) (p .1) (p .2) inside (key-read (l .inv .1) (p .2 (l .p) inside))),
     )
 
 returns : tie.Need-returns Inv-loop μ-loop
@@ -49,7 +48,6 @@ returns c =
     (rw e at (l .inv .1 .chained), λ p h. l .inv .1 .done p (omega arith))
 
 pub chain-spec : {M : Type 1} → statement M
-chain-spec =
-    tie.close (tie.spec
+chain-spec = tie.close (tie.spec
     Inv-loop μ-loop (λ c. (omega arith, chaining-start (c .before .pre .0))) (λ c. search needs) (λ c. search needs) put-requires (λ c. search needs)
     loop-less loop-again (λ c. c .before .loop .inv .1 .long) returns)

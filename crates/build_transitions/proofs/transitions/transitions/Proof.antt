@@ -17,9 +17,7 @@ emit-requires c κs =
     ((e .0, e .1, reached (e .1) (ready (e .1) (e .2)) (p .1) (k .last .0) (k .kept .0) (k .ensures .1)), rw (k .kept .0) (k .ensures .0))
 
 to-codes-requires : tie.Need-to-codes-requires
-to-codes-requires c κs =
-    let at-chain = c .before .before .before .before .before .before .before .before .before .before in
-    omega (arith, at-chain .chain .kept .0)
+to-codes-requires c κs = omega (arith, c .before .before .before .before .before .before .before .before .before .before .chain .kept .0)
 
 returns : tie.Need-returns
 returns c =
@@ -54,7 +52,6 @@ returns-2 c =
     )
 
 pub transitions-spec : {M : Type 1} → statement M
-transitions-spec =
-    tie.close (tie.spec
+transitions-spec = tie.close (tie.spec
     chain-requires emit-requires to-codes-requires (λ c. search needs) (λ c. search needs) returns sort-first-requires (λ c. search needs) (λ c. search needs)
     returns-2)

@@ -6,6 +6,5 @@ use Rattle.build_visit.proofs.initial.begins.Statement.{statement}
 use Rattle.build_visit.proofs.initial.begins.Tie as tie
 
 pub begins-spec : {M : Type 1} → statement M
-begins-spec =
-    tie.close (tie.spec
+begins-spec = tie.close (tie.spec
     (λ c κs. search needs) (λ c. rw (c .if1 .taken) (c .before .in-set .ensures)) (λ c. rw (c .if1 .left) (ap not (c .before .in-set .ensures))))

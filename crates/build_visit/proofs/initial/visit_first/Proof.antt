@@ -39,7 +39,6 @@ returns-3 c =
     ))
 
 pub visit-first-spec : {M : Type 1} → statement M
-visit-first-spec =
-    tie.close (tie.spec
+visit-first-spec = tie.close (tie.spec
     (λ c κs. initial-low (c .before .pre .0 .1)) returns (λ c κs. few (c .before .before .before .pre .0 .1)) returns-2 (λ c κs. search needs)
     (λ c. search needs) core-of-requires admit-requires (λ c. search needs) returns-3)

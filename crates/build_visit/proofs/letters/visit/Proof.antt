@@ -49,8 +49,7 @@ visit-letter-requires c κs =
 
 same-length : tie.Need-same-length Inv-loop μ-loop
 same-length c =
-    let at-loop = c .before .before .before .before .before .before .before .before .before .before in
-    c .before .before .before .visit-letter .kept .0 ∙ at-loop .loop .inv .2
+    c .before .before .before .visit-letter .kept .0 ∙ c .before .before .before .before .before .before .before .before .before .before .loop .inv .2
 
 returns-2 : tie.Need-returns-2 Inv-loop μ-loop
 returns-2 c =
@@ -77,7 +76,6 @@ returns-3 c =
     (λ t. letters-out (automaton r) (a .parts .now) (a .shape .components) (a .shape .s) (a .from) (a .n) (a .keys .now) (a .ranks)) (λ y h. h)
 
 pub visit-spec : {M : Type 1} → statement M
-visit-spec =
-    tie.close (tie.spec
+visit-spec = tie.close (tie.spec
     Inv-loop μ-loop (λ c κs. few (c .before .pre .0 .1 .shaped)) returns (λ c κs. search needs) loop-holds visit-letter-requires same-length returns-2
     (λ c. search needs) (λ c. search needs) loop-again (λ c. c .before .before .loop .inv .2) returns-3)

@@ -23,9 +23,7 @@ returns c =
     λ r T R. grown-none (p .1) (λ y h. absurd (nothing-new T (a .at .letter) (p .5) (p .3) (a .low .now) (p .4) (a .from) (p .1) passed y h))
 
 step-over-requires : tie.Need-step-over-requires
-step-over-requires c κs =
-    let start = c .before .before .before .before .before .before .before in
-    let p = start .pre in ((p .0 .0, p .0 .1), p .3, p .4, p .5)
+step-over-requires c κs = let p = c .before .before .before .before .before .before .before .pre in ((p .0 .0, p .0 .1), p .3, p .4, p .5)
 
 move-keys-requires : tie.Need-move-keys-requires
 move-keys-requires c κs =
@@ -42,7 +40,6 @@ returns-2 c =
     (λ y h. led (start .args .shape) (p .5) (p .3) (R (h .0) (h .2)) (leads-in S (key-paired (T .shaped) (R (h .0) (h .2))) (h .3)))
 
 pub visit-letter-spec : {M : Type 1} → statement M
-visit-letter-spec =
-    tie.close (tie.spec
+visit-letter-spec = tie.close (tie.spec
     (λ c. search needs) set-before-requires (λ c κs. search needs) (λ c κs. search needs) returns step-over-requires move-keys-requires (λ c. search needs)
     returns-2)

@@ -30,8 +30,7 @@ returns-2 : tie.Need-returns-2 Inv-loop μ-loop
 returns-2 c = λ t b h. c .before .before .loop .inv .1 b (omega (arith, c .if1 .left))
 
 pub is-fresh-spec : {M : Type 1} → statement M
-is-fresh-spec =
-    tie.close (tie.spec
+is-fresh-spec = tie.close (tie.spec
     Inv-loop μ-loop (λ c. (omega arith, λ b h. absurd (omega arith))) (λ c κs. omega (arith, c .if1 .taken, c .before .before .before .pre))
     (λ c κs. search needs) (λ c κs. search needs) (λ c t. absurd (true≢false t)) (λ c. search needs)
     (λ c. omega (arith, c .before .before .before .before .if1 .taken)) loop-again returns-2)

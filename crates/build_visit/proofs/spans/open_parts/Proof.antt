@@ -25,7 +25,6 @@ loop-again c =
     )
 
 pub open-parts-spec : {M : Type 1} → statement M
-open-parts-spec =
-    tie.close (tie.spec
+open-parts-spec = tie.close (tie.spec
     Inv-loop μ-loop (λ c. (omega arith, refl, λ q h. absurd (omega arith))) (λ c. search needs) (λ c. search needs) (λ c. search needs)
     (λ c. search needs) loop-again (λ c q h. c .before .loop .inv .2 q (omega (arith, c .loop-test .left))))

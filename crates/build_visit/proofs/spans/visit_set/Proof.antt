@@ -118,7 +118,6 @@ loop-again c =
     )
 
 pub visit-set-spec : {M : Type 1} → statement M
-visit-set-spec =
-    tie.close (tie.spec
+visit-set-spec = tie.close (tie.spec
     Inv-loop μ-loop returns is-fresh-requires returns-2 span-of-requires loop-holds add-visit visit-requires same-length returns-3 same-length-2 returns-4
     next-ranks-requires loop-less loop-again)
