@@ -43,8 +43,7 @@ noneOf kind (c ∷ cs) = not (kind (c .number)) && noneOf kind cs
 pub first-other : (kind : ℕ → Bool) → kind 0 ≡ false → (cs : List Check) → noneOf kind cs ≡ true → kind (firstRow cs) ≡ false
 unfolding noneOf firstRow
 first-other kind z [] e = z
-first-other kind z (c ∷ cs) e =
-    bif (c .applies)
+first-other kind z (c ∷ cs) e = bif (c .applies)
     (λ t. rw (row-yes c cs t) (not-t (kind (c .number)) (and-l (not (kind (c .number))) (noneOf kind cs) e)))
     (λ t. rw (row-no c cs t) (first-other kind z cs (and-r (not (kind (c .number))) (noneOf kind cs) e)))
 

@@ -29,8 +29,7 @@ module _ (r : Rule) (P : Passing r) {start : Set} (codes moves : List ℕ) (L : 
 
   -- rows 17 and 18: more macrostates than any room are refused by the codes alone
   pub row-same : (cl ml : ℕ) → roomRow codes moves cl ml ≡ roomRow (macrostatesFrom r start) (transitionsFrom r start) cl ml
-  row-same cl ml =
-      by-cases (decLt 65536 (length (macrostatesFrom r start)))
+  row-same cl ml = by-cases (decLt 65536 (length (macrostatesFrom r start)))
       (λ big. let cap = room-cap 65536 cl in
       row-codes codes moves cl ml (omega (arith, ap length codes-same)) ∙ sym (row-codes (macrostatesFrom r start) (transitionsFrom r start) cl ml (omega arith)))
       (λ few. ap₂ (λ (x y : List ℕ). roomRow x y cl ml) codes-same (moves-same (omega arith)))

@@ -22,8 +22,7 @@ module _ (codes moves : List ℕ) (cl ml : ℕ) where
   -- 18: "more transitions than room", where the macrostates have room
   pub row-moves : length codes ≤ codesRoom cl → transitionsRoom ml < length moves → roomRow codes moves cl ml ≡ 18
   unfolding roomRow roomRows
-  row-moves h l =
-      row-no (check (ltb (codesRoom cl) (length codes)) 17) _ (le-ltb _ _ h)
+  row-moves h l = row-no (check (ltb (codesRoom cl) (length codes)) 17) _ (le-ltb _ _ h)
       ∙ row-yes (check (ltb (transitionsRoom ml) (length moves)) 18) _ (lt-ltb _ _ l)
 
   -- both have room

@@ -43,8 +43,7 @@ module _ (cap room : ℕ) (xs ys : List ℕ) (is : room ≡ roomOf cap (length x
       in-room = let h = size in let k = part in omega (arith, long, fits)
 
       zeros-after : zeroedFrom m (ys ++ drop room xs) ≡ l ++ replicate (length xs - length l) 0
-      zeros-after =
-          ap₂ (λ (a : List ℕ) (k : ℕ). a ++ replicate k 0) (take-append-le m ys (drop room xs) fits ∙ e)
+      zeros-after = ap₂ (λ (a : List ℕ) (k : ℕ). a ++ replicate k 0) (take-append-le m ys (drop room xs) fits ∙ e)
           (ap₂ (λ (a b : ℕ). a - b) whole (sym size))
 
       in-slice : length l + (length xs - length l) ≡ length xs

@@ -17,8 +17,7 @@ unfolding roomOf
 room-capped cap len l = rw (le-ltb len cap l)
 
 pub room-len : (cap len : ℕ) → roomOf cap len ≤ len
-room-len cap len =
-    bif (ltb len cap)
+room-len cap len = bif (ltb len cap)
     (λ t. let e = room-short cap len (ltb-true len cap t) in omega arith)
     (λ t. let h = ltb-false len cap t in let e = room-capped cap len h in omega arith)
 
@@ -27,8 +26,7 @@ pub room-fits : (cap len r : ℕ) → r ≡ roomOf cap len → r ≤ len
 room-fits cap len r e = omega (arith, room-len cap len)
 
 pub room-cap : (cap len : ℕ) → roomOf cap len ≤ cap
-room-cap cap len =
-    bif (ltb len cap)
+room-cap cap len = bif (ltb len cap)
     (λ t. let h = ltb-true len cap t in let e = room-short cap len h in omega arith)
     (λ t. let e = room-capped cap len (ltb-false len cap t) in omega arith)
 

@@ -246,8 +246,7 @@ module _ (f xs zs : List ℕ) (a : Built) (ys ws : List ℕ) (e : a ≡ trimmedO
         (codes-once (M (row-is ∙ k)) T, moves-once (M (row-is ∙ k)) T)
 
     by-lists : Filled (roomRow codes moves (length xs) (length zs)) left kept xs zs a ys ws
-    by-lists =
-        subst (λ (k : ℕ). Filled k left kept xs zs a ys ws) (sym row-is)
+    by-lists = subst (λ (k : ℕ). Filled k left kept xs zs a ys ws) (sym row-is)
         (filled-same (buildRow f (length xs) (length zs)) left kept (trimmedCodes (ruleIn f)) (trimmedTransitions (ruleIn f)) xs zs a ys ws lists-same filled)
 
   survival : (n : Counts) → a ≡ Table n → (codes moves : List ℕ) → ListsReachable (ruleIn f) codes moves

@@ -36,8 +36,7 @@ byte-at x j l = tabulate-at 8 (λ i. x / 256 ^ i % 256) 0 j l ∙ ap (λ (i : �
 -- the bytes of a number give the number
 pub word-back : (x : ℕ) → x < 2 ^ 64 → wordAt (bytesOf x) 0 ≡ x
 unfolding wordAt
-word-back x h =
-    num-ext 256 (omega arith) 8 (λ j. getD (bytesOf x) (0 + j) 0) (λ j. x / 256 ^ j % 256)
+word-back x h = num-ext 256 (omega arith) 8 (λ j. getD (bytesOf x) (0 + j) 0) (λ j. x / 256 ^ j % 256)
     (λ j l. ap (λ (i : ℕ). getD (bytesOf x) i 0) (zero-add j) ∙ byte-at x j l)
     ∙ num-digits 256 (omega arith) 8 x ∙ mod-eq-of-lt h
 
@@ -52,8 +51,7 @@ word-digit bs h j l =
 
 -- the number of eight bytes gives the bytes
 pub bytes-back : (bs : List ℕ) → length bs ≡ 8 → ((j : ℕ) → j < 8 → getD bs j 0 < 256) → bytesOf (wordAt bs 0) ≡ bs
-bytes-back bs long h =
-    ext-getD 0 (bytesOf (wordAt bs 0)) bs (bytes-long (wordAt bs 0) ∙ sym long)
+bytes-back bs long h = ext-getD 0 (bytesOf (wordAt bs 0)) bs (bytes-long (wordAt bs 0) ∙ sym long)
     (λ j l. byte-at (wordAt bs 0) j (omega (arith, bytes-long (wordAt bs 0))) ∙ word-digit bs h j (omega (arith, bytes-long (wordAt bs 0))))
 
 -- number i of the numbers whose bytes follow each other
@@ -74,15 +72,13 @@ all-bytes-length (x ∷ xs) = omega (arith, length-append (bytesOf x) (bytesOfAl
 
 word-front : (x : ℕ) (ys : List ℕ) → x < 2 ^ 64 → wordAt (bytesOf x ++ ys) 0 ≡ x
 unfolding wordAt
-word-front x ys h =
-    num-ext 256 (omega arith) 8 (λ j. getD (bytesOf x ++ ys) (0 + j) 0) (λ j. getD (bytesOf x) (0 + j) 0)
+word-front x ys h = num-ext 256 (omega arith) 8 (λ j. getD (bytesOf x ++ ys) (0 + j) 0) (λ j. getD (bytesOf x) (0 + j) 0)
     (λ j l. List·getD-append (bytesOf x) ys 0 (0 + j) (omega (arith, bytes-long x)))
     ∙ word-back x h
 
 word-behind : (x : ℕ) (ys : List ℕ) (k : ℕ) → wordAt (bytesOf x ++ ys) (8 + k) ≡ wordAt ys k
 unfolding wordAt
-word-behind x ys k =
-    num-ext 256 (omega arith) 8 (λ j. getD (bytesOf x ++ ys) (8 + k + j) 0) (λ j. getD ys (k + j) 0)
+word-behind x ys k = num-ext 256 (omega arith) 8 (λ j. getD (bytesOf x ++ ys) (8 + k + j) 0) (λ j. getD ys (k + j) 0)
     (λ j l. let e : 8 + k + j ≡ length (bytesOf x) + (k + j) = omega (arith, bytes-long x) in
     ap (λ (i : ℕ). getD (bytesOf x ++ ys) i 0) e ∙ getD-append-add (bytesOf x) ys (k + j) 0)
 
@@ -97,6 +93,5 @@ word-of-all (x ∷ xs) h (suc i) l =
 
 -- a list that is written low byte first reads back as the same list
 pub all-words-back : (xs : List ℕ) → ((i : ℕ) → i < length xs → getD xs i 0 < 2 ^ 64) → wordsOf (length xs) (bytesOfAll xs) ≡ xs
-all-words-back xs h =
-    ext-getD 0 (wordsOf (length xs) (bytesOfAll xs)) xs (words-length (length xs) (bytesOfAll xs))
+all-words-back xs h = ext-getD 0 (wordsOf (length xs) (bytesOfAll xs)) xs (words-length (length xs) (bytesOfAll xs))
     (λ i l. let m : i < length xs = omega (arith, words-length (length xs) (bytesOfAll xs)) in words-at (length xs) (bytesOfAll xs) i m ∙ word-of-all xs h i m)

@@ -46,8 +46,7 @@ module _ (f : List ℕ) (short : length f ≤ 4096) where
   module _ (e : fileRow f ≡ 0) (codes moves : List ℕ) (L : ListsReachable (ruleIn f) codes moves) where
     accepted-text : listingOf f ≡ textBy (roomRow (macrostates (ruleIn f)) (transitions (ruleIn f)) 512 4096) (namedIn f) (macrostates (ruleIn f)) (transitions (ruleIn f))
     unfolding rowFrom roomRow fileRow
-    accepted-text =
-        row-text
+    accepted-text = row-text
         ∙ ap (λ (j : ℕ). textBy j (namedIn f) (macrostates (ruleIn f)) (transitions (ruleIn f)))
         (first-right (fileRows f) (roomRows (macrostates (ruleIn f)) (transitions (ruleIn f)) 512 4096) (file-numbered f) e)
 
@@ -65,9 +64,7 @@ module _ (f : List ℕ) (short : length f ≤ 4096) where
         ∙ sym (ap (λ (j : ℕ). textBy j (namedIn f) codes moves) given ∙ refused-by 16 (namedIn f) codes moves)
 
     roomy : length (macrostates (ruleIn f)) ≤ 512 → listingOf f ≡ textBy (roomRow codes moves 512 4096) (namedIn f) codes moves
-    roomy few =
-        let m = moves-same (ruleIn f) (accepted-passing f e) codes moves L (omega arith) in
-        rw (same-codes, m) accepted-text
+    roomy few = let m = moves-same (ruleIn f) (accepted-passing f e) codes moves L (omega arith) in rw (same-codes, m) accepted-text
 
     listing-by-lists : listingOf f ≡ textBy (roomRow codes moves 512 4096) (namedIn f) codes moves
     listing-by-lists = by-cases (decLt 512 (length (macrostates (ruleIn f)))) crowded (λ few. roomy (omega arith))

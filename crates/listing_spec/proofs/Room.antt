@@ -91,17 +91,16 @@ module _ (r : Rule) (P : Passing r) (few : length (macrostates r) ≤ 512) where
         omega arith
 
     table-most : (names : List ℕ) → length names ≤ 128 → length (tableText (isInitial r) names (macrostates r) (transitions r)) ≤ 66799
-    table-most names h =
-        omega (
-          arith,
-          table-length (isInitial r) names (macrostates r) (transitions r),
-          built-length (length (macrostates r)) (length (transitions r)),
-          word-most 2 (length (macrostates r)) (omega arith),
-          word-most 3 (length (transitions r)) (omega arith),
-          n-lines-most names h,
-          m-lines-most,
-          t-lines-most,
-        )
+    table-most names h = omega (
+      arith,
+      table-length (isInitial r) names (macrostates r) (transitions r),
+      built-length (length (macrostates r)) (length (transitions r)),
+      word-most 2 (length (macrostates r)) (omega arith),
+      word-most 3 (length (transitions r)) (omega arith),
+      n-lines-most names h,
+      m-lines-most,
+      t-lines-most,
+    )
 
 -- ---- refusals have at most two digits
 
@@ -121,8 +120,7 @@ low (c ∷ cs) = ltb (c .number) 100 && low cs
 first-low : (cs : List Check) → low cs ≡ true → firstRow cs < 100
 unfolding low firstRow
 first-low [] e = omega arith
-first-low (c ∷ cs) e =
-    bif (c .applies)
+first-low (c ∷ cs) e = bif (c .applies)
     (λ t. rw (row-yes c cs t) (ltb-true (c .number) 100 (and-l (ltb (c .number) 100) (low cs) e)))
     (λ t. rw (row-no c cs t) (first-low cs (and-r (ltb (c .number) 100) (low cs) e)))
 
@@ -136,8 +134,7 @@ file-row-low f = first-low (fileRows f) (file-rows-low f)
 
 row-low : (f : List ℕ) (m t : ℕ) → buildRow f m t < 100
 unfolding rowFrom fileRow
-row-low f m t =
-    by-cases (ℕ-discrete (fileRow f) 0)
+row-low f m t = by-cases (ℕ-discrete (fileRow f) 0)
     (λ z. rw (first-right (fileRows f) (roomRows (macrostates (ruleIn f)) (transitions (ruleIn f)) m t) (file-numbered f) z) (room-rows-low _ _ m t))
     (λ z. let e = first-left (fileRows f) (roomRows (macrostates (ruleIn f)) (transitions (ruleIn f)) m t) (fileRow f) z refl in let l = file-row-low f in omega arith)
 
@@ -163,8 +160,7 @@ by-row (suc k) r l h = omega (arith, refused-length (suc k), word-most 1 (suc k)
 
 pub listing-most : (f : List ℕ) → length (listingOf f) ≤ 66799
 unfolding listingOf builtFrom
-listing-most f =
-    by-cases (decLt 4096 (length f))
+listing-most f = by-cases (decLt 4096 (length f))
     (λ h. rw (long-text f h) (omega arith))
     (λ h. rw (le-ltb 4096 (length f) (omega arith)) (by-row (buildRow f 512 4096) (namedIn f) (row-low f 512 4096)
     (λ z. let b = both-rows f z in table-most (ruleIn f) (accepted-passing f (b .0)) (b .1) (b .2) (namesOf f) (names-most f (b .0)))))

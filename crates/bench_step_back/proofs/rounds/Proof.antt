@@ -16,7 +16,6 @@ sweep-requires : tie.Need-sweep-requires Inv-loop μ-loop
 sweep-requires c κs = (c .before .before .before .pre, c .before .before .largest-ranks .ensures)
 
 pub rounds-spec : {M : Type 1} → statement M
-rounds-spec =
-    tie.close (tie.spec
+rounds-spec = tie.close (tie.spec
     Inv-loop μ-loop (λ c κs. let p = c .pre in few (p .1 .shaped)) (λ c. omega arith) sweep-requires (λ c. search needs) (λ c. search needs)
     (λ c. search needs) (λ c. search needs) (λ c. search needs))

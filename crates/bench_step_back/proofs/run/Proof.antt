@@ -8,8 +8,7 @@ rule-rounds-requires : tie.Need-rule-rounds-requires
 rule-rounds-requires c κs = sym (c .before .before .before .before .read-rule .ensures) ∙ c .before .before .l .given .1
 
 pub run-spec : {M : Type 1} → statement M
-run-spec =
-    tie.close (tie.spec
+run-spec = tie.close (tie.spec
     (λ c κs. search needs) (λ c. search needs) (λ c. search needs) (λ c. search needs) (λ c κs. search needs) (λ c. search needs) rule-rounds-requires
     (λ c. search needs) (λ c κs. search needs) (λ c. search needs) (λ c κs. search needs) (λ c. search needs) (λ c κs. search needs) (λ c. search needs)
     (λ c κs. search needs) (λ c. search needs) (λ c. search needs))

@@ -22,7 +22,6 @@ step-back-requires c κs =
     )
 
 pub step-letters-spec : {M : Type 1} → statement M
-step-letters-spec =
-    tie.close (tie.spec
+step-letters-spec = tie.close (tie.spec
     Inv-loop μ-loop (λ c. search needs) (λ c. omega arith) step-back-requires (λ c. search needs) (λ c. search needs) (λ c κs. search needs)
     (λ c κs. search needs) (λ c κs. search needs) (λ c. search needs) (λ c. search needs) (λ c. search needs) (λ c κs. search needs) (λ c. search needs))

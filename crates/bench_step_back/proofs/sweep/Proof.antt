@@ -35,7 +35,6 @@ loop-again c =
     rw (c .next-ranks .ensures) (within-next 8 (l .t) (a .caps) (l .inv) (c .before .if1 .left))
 
 pub sweep-spec : {M : Type 1} → statement M
-sweep-spec =
-    tie.close (tie.spec
+sweep-spec = tie.close (tie.spec
     Inv-loop μ-loop loop-holds (λ c κs. let p = c .before .pre in (p .0, rw (p .1) at (c .loop .inv))) (λ c. search needs) next-ranks-requires
     loop-less loop-again)

@@ -12,6 +12,5 @@ step-letters-requires c κs =
     (p .0, record { within = p .1; passes = sym (c .before .before .before .is-core .ensures) ∙ not-false _ (c .before .before .if1 .left) }, c .before .lowest .ensures)
 
 pub visit-spec : {M : Type 1} → statement M
-visit-spec =
-    tie.close (tie.spec
+visit-spec = tie.close (tie.spec
     (λ c κs. let p = c .pre in few (p .0 .1 .shaped)) (λ c. search needs) (λ c κs. search needs) step-letters-requires (λ c. search needs))

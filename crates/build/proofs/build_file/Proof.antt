@@ -10,9 +10,7 @@ use Rattle.build.proofs.build_file.Statement.{statement}
 use Rattle.build.proofs.build_file.Tie as tie
 
 build-accepted-requires : tie.Need-build-accepted-requires
-build-accepted-requires c κs =
-    let at-l = c .before .before .before in
-    sym (at-l .before .before .read-rule .ensures) ∙ at-l .l .given .1
+build-accepted-requires c κs = let at-l = c .before .before .before in sym (at-l .before .before .read-rule .ensures) ∙ at-l .l .given .1
 
 returns : tie.Need-returns
 returns c =

@@ -49,7 +49,6 @@ returns-3 c =
     (g .result .m) (e .result .m) (g .result .full) (e .result .full) (at-if1 .if1 .left) (c .if2 .left) (g .ensures r T) (e .ensures .1 r T C) (omega arith) (omega arith))
 
 pub build-table-spec : {M : Type 1} → statement M
-build-table-spec =
-    tie.close (tie.spec
+build-table-spec = tie.close (tie.spec
     (λ c κs. search needs) (λ c κs. search needs) (λ c κs. search needs) (λ c. search needs) (λ c. search needs) returns list-transitions-requires
     (λ c κs. search needs) (λ c κs. search needs) (λ c. search needs) (λ c. search needs) returns-2 (λ c. search needs) (λ c. search needs) returns-3)

@@ -15,8 +15,7 @@ use Rattle.build_lists.proofs.list_codes.Tie as tie
 
 slice-aggregate-reachable : tie.Need-slice-aggregate-reachable
 slice-aggregate-reachable c =
-    let xs = c .before .before .before .args .codes .now in
-    sym (length-take-le (c .before .room-of .result) xs (room-fits _ _ _ (c .before .room-of .ensures)))
+    sym (length-take-le (c .before .room-of .result) (c .before .before .before .args .codes .now) (room-fits _ _ _ (c .before .room-of .ensures)))
 
 reachable-requires : tie.Need-reachable-requires
 reachable-requires c κs =
@@ -54,7 +53,6 @@ returns-2 c =
     (L .listed (c .before .before .before .before .if1 .left)) (c .before .before .zero-from .last .0) zeros
 
 pub list-codes-spec : {M : Type 1} → statement M
-list-codes-spec =
-    tie.close (tie.spec
+list-codes-spec = tie.close (tie.spec
     (λ c κs. search needs) (λ c. room-fits _ _ _ (c .room-of .ensures)) slice-aggregate-reachable reachable-requires (λ c. search needs) returns
     zero-from-requires (λ c. search needs) returns-2)

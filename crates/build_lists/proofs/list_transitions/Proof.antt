@@ -65,7 +65,6 @@ returns-2 c =
     )
 
 pub list-transitions-spec : {M : Type 1} → statement M
-list-transitions-spec =
-    tie.close (tie.spec
+list-transitions-spec = tie.close (tie.spec
     (λ c κs. search needs) (λ c. room-fits _ _ _ (c .room-of .ensures)) slice-aggregate-transitions (λ c. search needs) slice-aggregate-transitions-2
     transitions-requires (λ c. search needs) (λ c. search needs) returns zero-from-requires (λ c. search needs) (λ c. search needs) returns-2)

@@ -83,7 +83,6 @@ returns-2 c =
     (moves-left f (a .codes .now) (a .transitions .now) _ _ (b .ensures .codes-after) (b .ensures .moves-after) n t m _ _ T p q)
 
 pub build-trimmed-spec : {M : Type 1} → statement M
-build-trimmed-spec =
-    tie.close (tie.spec
+build-trimmed-spec = tie.close (tie.spec
     (λ c κs. search needs) (λ c. search needs) (λ c. search needs) slice-relend-prefix-trim slice-aggregate-trim slice-relend-prefix-trim-2
     slice-aggregate-trim-2 trim-requires (λ c. search needs) (λ c. search needs) returns (λ c. search needs) (λ c. search needs) returns-2)

@@ -40,7 +40,6 @@ returns-2 c =
     _ _ (w .0) (w .1) _ _ (k .0) (k .1)
 
 pub trim-spec : {M : Type 1} → statement M
-trim-spec =
-    tie.close (tie.spec
+trim-spec = tie.close (tie.spec
     (λ c κs. search needs) (λ c κs. search needs) (λ c κs. search needs) (λ c. search needs) (λ c. search needs) returns number-requires rewrite-all-requires
     (λ c κs. search needs) (λ c. search needs) (λ c. search needs) returns-2)

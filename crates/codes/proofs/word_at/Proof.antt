@@ -36,6 +36,5 @@ returns c =
     ∙ from-all 256 8 (λ j. getD (a .bytes .now) (a .i + j) 0) (λ j. getD (a .bytes .now) (a .i + j) 0) (omega arith) (λ j. ap (λ (x : ℕ). getD (a .bytes .now) (a .i + x) 0) (zero-add j))
 
 pub word-at-spec : {M : Type 1} → statement M
-word-at-spec =
-    tie.close (tie.spec
+word-at-spec = tie.close (tie.spec
     Inv-loop μ-loop loop-holds (λ c. omega arith) (λ c. omega arith) (λ c. omega arith) cast-r (λ c. omega arith) loop-again returns)

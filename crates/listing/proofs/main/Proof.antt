@@ -6,7 +6,6 @@ use Rattle.listing.proofs.main.Statement.{statement}
 use Rattle.listing.proofs.main.Tie as tie
 
 pub main-spec : {M : Type 1} → statement M
-main-spec =
-    tie.close (tie.spec
+main-spec = tie.close (tie.spec
     (λ c. search needs) (λ c κs. search needs) (λ c. search needs) (λ c. search needs) (λ c κs. search needs) (λ c. c .listing2 .ensures .1 .1 .0)
     (λ c. sym (length-take-le _ _ (c .before .listing2 .ensures .1 .1 .0))) (λ c κs. search needs) (λ c. search needs))

@@ -30,6 +30,5 @@ returns-2 : tie.Need-returns-2
 returns-2 c = (small (c .before .before .before), λ e. initial-is (c .before .before .before))
 
 pub initial-of-spec : {M : Type 1} → statement M
-initial-of-spec =
-    tie.close (tie.spec
+initial-of-spec = tie.close (tie.spec
     (λ c κs. search needs) (λ c. search needs) (λ c. search needs) (λ c. omega (arith, small (c .before .before .before))) returns returns-2)

@@ -8,8 +8,7 @@ use Rattle.listing_text.proofs.listing.Statement.{statement}
 use Rattle.listing_text.proofs.listing.Tie as tie
 
 put-listing-requires : tie.Need-put-listing-requires
-put-listing-requires c κs =
-    omega (arith, listing-most (c .before .before .args .file .now), c .before .before .good)
+put-listing-requires c κs = omega (arith, listing-most (c .before .before .args .file .now), c .before .before .good)
 
 returns : tie.Need-returns
 returns c =

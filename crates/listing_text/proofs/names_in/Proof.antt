@@ -15,6 +15,5 @@ returns c =
     λ e. absurd (t .1 e)
 
 pub names-in-spec : {M : Type 1} → statement M
-names-in-spec =
-    tie.close (tie.spec
+names-in-spec = tie.close (tie.spec
     (λ c κs. search needs) (λ c. search needs) (λ c. search needs) (λ c. search needs) names-of-requires returns (λ c. search needs))

@@ -72,8 +72,7 @@ slice-aggregate-put-table : tie.Need-slice-aggregate-put-table
 slice-aggregate-put-table c = sym (length-take-le _ _ (codes-held (c .before .before .before .before .before)))
 
 slice-aggregate-put-table-2 : tie.Need-slice-aggregate-put-table-2
-slice-aggregate-put-table-2 c =
-    sym (length-take-le _ _ (moves-held (c .before .before .before .before .before .before)))
+slice-aggregate-put-table-2 c = sym (length-take-le _ _ (moves-held (c .before .before .before .before .before .before)))
 
 abbrev start-of-after-names-in : tie.After-names-in → tie.Start
 start-of-after-names-in c = c .before .before .before .before .before .before .before .before .before .before .before .before .before .before
@@ -95,16 +94,13 @@ put-table-requires c κs =
     (c .before .before .before .initial-of .ensures .0, omega (arith, start .pre, ap length (table (c .before .before))))
 
 returns-2 : tie.Need-returns-2
-returns-2 c =
-    put-as (refusal (c .before .before .before .before .before)) (c .before .before .put-refused .ensures)
+returns-2 c = put-as (refusal (c .before .before .before .before .before)) (c .before .before .put-refused .ensures)
 
 returns-3 : tie.Need-returns-3
-returns-3 c =
-    put-as (table (c .before .before .before .before .before)) (c .before .before .put-table .ensures)
+returns-3 c = put-as (table (c .before .before .before .before .before)) (c .before .before .put-table .ensures)
 
 pub put-listing-spec : {M : Type 1} → statement M
-put-listing-spec =
-    tie.close (tie.spec
+put-listing-spec = tie.close (tie.spec
     (λ c. search needs) put-requires (λ c. search needs) returns (λ c. search needs) (λ c. search needs) (λ c κs. search needs) (λ c. search needs)
     put-refused-requires (λ c. search needs) (λ c κs. search needs) (λ c κs. search needs) (λ c. codes-held (c .before .before .before .before))
     slice-aggregate-put-table (λ c. moves-held (c .before .before .before .before .before)) slice-aggregate-put-table-2 put-table-requires

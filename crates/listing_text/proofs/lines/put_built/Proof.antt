@@ -8,9 +8,7 @@ use Rattle.listing_text.proofs.lines.put_built.Statement.{statement}
 use Rattle.listing_text.proofs.lines.put_built.Tie as tie
 
 put-requires : tie.Need-put-requires
-put-requires c κs =
-    let a = c .before .before .before .args in
-    omega (arith, built-length (a .macrostates) (a .transitions))
+put-requires c κs = let a = c .before .before .before .args in omega (arith, built-length (a .macrostates) (a .transitions))
 
 put-word-requires : tie.Need-put-word-requires
 put-word-requires c κs =
@@ -36,8 +34,7 @@ returns c =
     let at-put = at-put-word .before .before .before .before in
     put-then (at-put .put .ensures)
     (put-then (at-put-word .put-word .ensures)
-    (put-then (c .before .before .before .before .before .before .put-word2 .ensures)
-    (c .before .before .put-byte .ensures)))
+    (put-then (c .before .before .before .before .before .before .put-word2 .ensures) (c .before .before .put-byte .ensures)))
 
 pub put-built-spec : {M : Type 1} → statement M
 put-built-spec = tie.close (tie.spec (λ c. search needs) put-requires put-word-requires put-word-requires-2 put-byte-requires (λ c. search needs) returns)

@@ -11,9 +11,7 @@ use Rattle.listing_text.proofs.lines.put_macrostate.Statement.{statemen
 use Rattle.listing_text.proofs.lines.put_macrostate.Tie as tie
 
 put-byte-requires : tie.Need-put-byte-requires
-put-byte-requires c κs =
-    let a = c .before .before .args in
-    omega (arith, m-length (a .number) (a .code) (a .initial) (a .accepting))
+put-byte-requires c κs = let a = c .before .before .args in omega (arith, m-length (a .number) (a .code) (a .initial) (a .accepting))
 
 put-word-requires : tie.Need-put-word-requires
 put-word-requires c κs =
@@ -48,7 +46,6 @@ returns c =
     (put-as (marks _ _ _ _ (c .before .before .before .before .before .before .sign-of .ensures) (c .before .before .before .before .before .sign-of2 .ensures)) (c .before .before .put .ensures))))
 
 pub put-macrostate-spec : {M : Type 1} → statement M
-put-macrostate-spec =
-    tie.close (tie.spec
+put-macrostate-spec = tie.close (tie.spec
     put-byte-requires put-word-requires put-word-requires-2 (λ c κs. search needs) (λ c κs. search needs) (λ c. search needs) put-requires (λ c. search needs)
     returns)

@@ -24,9 +24,7 @@ loop-holds c =
     (omega arith, put-no-lines (macrostateLine (initialAt (a .initial))) (a .list .now) (a .out .now) (a .at) (c .before .before .pre .1))
 
 mul-code : tie.Need-mul-code Inv-loop μ-loop
-mul-code c =
-    let s = c .before .before .before .before in
-    scaled-fits _ (length (s .args .list .now)) 8 (omega arith) (s .good .1 .1 .0 .1)
+mul-code c = let s = c .before .before .before .before in scaled-fits _ (length (s .args .list .now)) 8 (omega arith) (s .good .1 .1 .0 .1)
 
 abbrev start-of-after-is-accepting : tie.After-is-accepting Inv-loop μ-loop → tie.Start Inv-loop μ-loop
 start-of-after-is-accepting c = c .before .before .before .before .before .before .before
@@ -60,7 +58,6 @@ returns c =
     put-lines (macrostateLine (initialAt (a .initial))) (a .list .now) (l .i) (omega arith) (l .inv .1)
 
 pub put-macrostates-spec : {M : Type 1} → statement M
-put-macrostates-spec =
-    tie.close (tie.spec
+put-macrostates-spec = tie.close (tie.spec
     Inv-loop μ-loop loop-holds mul-code (λ c. omega arith) (λ c κs. c .before .before .before .before .before .pre .0) (λ c κs. search needs)
     put-macrostate-requires (λ c. omega arith) (λ c. omega arith) loop-again (λ c. put-length (c .before .loop .inv .1)) returns)

@@ -11,9 +11,7 @@ put-byte-requires : tie.Need-put-byte-requires
 put-byte-requires c κs = let a = c .before .before .before .args in omega (arith, n-length (a .letter) (a .name .now))
 
 put-word-requires : tie.Need-put-word-requires
-put-word-requires c κs =
-    let start = c .before .before .before .before .before .before .before in
-    let a = start .args in omega (arith, n-length (a .letter) (a .name .now))
+put-word-requires c κs = let a = c .before .before .before .before .before .before .before .args in omega (arith, n-length (a .letter) (a .name .now))
 
 put-byte-requires-2 : tie.Need-put-byte-requires-2
 put-byte-requires-2 c κs =
@@ -39,8 +37,7 @@ returns c =
     put-then (at-put-byte .put-byte .ensures)
     (put-then (at-put-word .put-word .ensures)
     (put-then (at-put-byte2 .put-byte2 .ensures)
-    (put-then (c .before .before .before .before .before .before .put .ensures)
-    (c .before .before .put-byte3 .ensures))))
+    (put-then (c .before .before .before .before .before .before .put .ensures) (c .before .before .put-byte3 .ensures))))
 
 pub put-name-spec : {M : Type 1} → statement M
 put-name-spec = tie.close (tie.spec put-byte-requires put-word-requires put-byte-requires-2 put-requires put-byte-requires-3 (λ c. search needs) returns)

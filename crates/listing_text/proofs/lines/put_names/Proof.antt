@@ -53,7 +53,6 @@ returns c =
     put-lines (nameLine names) (lettersOf names) (l .i) (omega (arith, c .loop-test .left, length-tabulate (length names / 8) (λ a. a) 0)) (l .inv .1)
 
 pub put-names-spec : {M : Type 1} → statement M
-put-names-spec =
-    tie.close (tie.spec
+put-names-spec = tie.close (tie.spec
     Inv-loop μ-loop loop-holds (λ c. omega arith) (λ c. omega arith) (λ c. omega arith) (λ c. omega arith) (λ c. omega arith) put-name-requires
     (λ c. omega arith) (λ c. omega arith) loop-again (λ c. put-length (c .before .loop .inv .1)) returns)

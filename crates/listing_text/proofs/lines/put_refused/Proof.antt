@@ -11,23 +11,18 @@ put-requires : tie.Need-put-requires
 put-requires c κs = let a = c .before .before .before .args in omega (arith, refused-length (a .row))
 
 put-word-requires : tie.Need-put-word-requires
-put-word-requires c κs =
-    let start = c .before .before .before .before .before .before .before in let a = start .args in
-    omega (arith, refused-length (a .row))
+put-word-requires c κs = omega (arith, refused-length (c .before .before .before .before .before .before .before .args .row))
 
 put-byte-requires : tie.Need-put-byte-requires
 put-byte-requires c κs =
-    let start = c .before .before .before .before .before .before .before .before .before .before .before in
-    let a = start .args in
-    omega (arith, refused-length (a .row))
+    omega (arith, refused-length (c .before .before .before .before .before .before .before .before .before .before .before .args .row))
 
 returns : tie.Need-returns
 unfolding refusedLine
 returns c =
     let at-put = c .before .before .before .before .before .before .before .before .before .before in
     put-then (at-put .put .ensures)
-    (put-then (c .before .before .before .before .before .before .put-word .ensures)
-    (c .before .before .put-byte .ensures))
+    (put-then (c .before .before .before .before .before .before .put-word .ensures) (c .before .before .put-byte .ensures))
 
 pub put-refused-spec : {M : Type 1} → statement M
 put-refused-spec = tie.close (tie.spec (λ c. search needs) put-requires put-word-requires put-byte-requires (λ c. search needs) returns)

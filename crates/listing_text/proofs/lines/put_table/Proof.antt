@@ -36,8 +36,7 @@ returns c =
     let at-put-built = at-put-names .before .before .before .before in
     put-then (at-put-built .put-built .ensures)
     (put-then (at-put-names .put-names .ensures)
-    (put-then (c .before .before .before .before .before .before .put-macrostates .ensures)
-    (c .before .before .put-transitions .ensures)))
+    (put-then (c .before .before .before .before .before .before .put-macrostates .ensures) (c .before .before .put-transitions .ensures)))
 
 pub put-table-spec : {M : Type 1} → statement M
 put-table-spec = tie.close (tie.spec put-built-requires put-names-requires put-macrostates-requires put-transitions-requires (λ c. search needs) returns)

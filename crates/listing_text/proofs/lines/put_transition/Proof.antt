@@ -8,9 +8,7 @@ use Rattle.listing_text.proofs.lines.put_transition.Statement.{statemen
 use Rattle.listing_text.proofs.lines.put_transition.Tie as tie
 
 put-byte-requires : tie.Need-put-byte-requires
-put-byte-requires c κs =
-    let a = c .before .before .args in
-    omega (arith, t-length (a .source) (a .letter) (a .target))
+put-byte-requires c κs = let a = c .before .before .args in omega (arith, t-length (a .source) (a .letter) (a .target))
 
 put-word-requires : tie.Need-put-word-requires
 put-word-requires c κs =
@@ -44,10 +42,8 @@ returns c =
     put-then (at-put-byte .put-byte .ensures)
     (put-then (at-put-word .put-word .ensures)
     (put-then (at-put-word2 .put-word2 .ensures)
-    (put-then (c .before .before .before .before .before .before .put-word3 .ensures)
-    (c .before .before .put-byte2 .ensures))))
+    (put-then (c .before .before .before .before .before .before .put-word3 .ensures) (c .before .before .put-byte2 .ensures))))
 
 pub put-transition-spec : {M : Type 1} → statement M
 put-transition-spec =
-    tie.close (tie.spec
-    put-byte-requires put-word-requires put-word-requires-2 put-word-requires-3 put-byte-requires-2 (λ c. search needs) returns)
+    tie.close (tie.spec put-byte-requires put-word-requires put-word-requires-2 put-word-requires-3 put-byte-requires-2 (λ c. search needs) returns)

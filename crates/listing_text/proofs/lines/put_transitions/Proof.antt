@@ -24,9 +24,7 @@ loop-holds c =
     (omega arith, put-no-lines transitionLine (a .list .now) (a .out .now) (a .at) (c .before .before .pre))
 
 mul-t : tie.Need-mul-t Inv-loop μ-loop
-mul-t c =
-    let s = c .before .before .before .before in
-    scaled-fits _ (length (s .args .list .now)) 8 (omega arith) (s .good .1 .1 .0 .1)
+mul-t c = let s = c .before .before .before .before in scaled-fits _ (length (s .args .list .now)) 8 (omega arith) (s .good .1 .1 .0 .1)
 
 abbrev start-of-after-target-of : tie.After-target-of Inv-loop μ-loop → tie.Start Inv-loop μ-loop
 start-of-after-target-of c = c .before .before .before .before .before .before .before .before
@@ -52,12 +50,9 @@ loop-again c =
     (omega arith, put-line transitionLine (a .list .now) (l .i) (omega arith) (l .inv .1) _ (text-is (c .before .before .before .before)) (c .before .before .put-transition .ensures))
 
 returns : tie.Need-returns Inv-loop μ-loop
-returns c =
-    let a = c .before .before .before .before .args in let l = c .before .loop in
-    put-lines transitionLine (a .list .now) (l .i) (omega arith) (l .inv .1)
+returns c = let l = c .before .loop in put-lines transitionLine (c .before .before .before .before .args .list .now) (l .i) (omega arith) (l .inv .1)
 
 pub put-transitions-spec : {M : Type 1} → statement M
-put-transitions-spec =
-    tie.close (tie.spec
+put-transitions-spec = tie.close (tie.spec
     Inv-loop μ-loop loop-holds mul-t (λ c. omega arith) (λ c κs. search needs) (λ c κs. search needs) (λ c κs. search needs) put-transition-requires
     (λ c. omega arith) (λ c. omega arith) loop-again (λ c. put-length (c .before .loop .inv .1)) returns)
