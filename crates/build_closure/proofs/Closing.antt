@@ -20,15 +20,15 @@ pub gathered-full : {R W F : ℕ → Type 0} {xs : List ℕ} {n : ℕ} {ys heads
     → ((p : ℕ) → p < n → R (keyAt xs p)) → ((y : ℕ) → F y → R y) → length xs ≡ length zs → Gathered R zs ys m full
 gathered-full {R} {ys = ys} {m = m} g e old new l = record {
   long = g .long ∙ l;
-  fits = g .chained .fits;
+  fits = g .kept .fits;
   once = λ t. absurd (true≢false (sym e ∙ t));
   sound = λ t. absurd (true≢false (sym e ∙ t));
   whole = λ t. absurd (true≢false (sym e ∙ t));
   crowded = λ t k h.
       let o = g .over e in
       let all = all-in g R old new in
-      let f = g .chained .fits in
-      let z = longer (keysOf m ys) (o .one) k (keys-once m ys f (g .chained .once)) (λ i. o .lacks (in-lists m ys f (o .one) i)) (h (o .one) (new (o .one) (o .from)))
+      let f = g .kept .fits in
+      let z = longer (keysOf m ys) (o .one) k (keys-once m ys f (g .kept .once)) (λ i. o .lacks (in-lists m ys f (o .one) i)) (h (o .one) (new (o .one) (o .from)))
       (λ y i. let q = in-lists m ys f y i in h y (rw (q .2) at (all (q .0) (q .1)))) in
       omega (arith, keys-long m ys f, o .filled, g .long);
 }
@@ -46,7 +46,7 @@ module _ {first : ℕ → Type 0} {edge : ℕ → ℕ → Type 0} {xs heads last
   -- a round
   pub close-next : {ys hs ls : List ℕ} {m : ℕ} {full : Bool} → Grown (After from n xs edge) (Reached first edge) xs n ys hs ls m full → full ≡ false → Closing first edge ys hs ls m n
   close-next g e = record {
-    chained = g .chained;
+    chained = g .kept;
     place = g .more;
     sound = all-kept g (c .sound);
     holds = λ y f. lists-kept g (c .holds y f);

@@ -8,55 +8,25 @@ use native.Mathlib.Omega.{arith}
 use native.Mathlib.Decide.{decLt}
 use lib.ListN.{length, getD, set, length-set}
 use lib.Seq.{getD-set-same, getD-set-other}
+use Rattle.build_spec.proofs.Appended.{appended-none, appended-full, appended-put, appended-as, appended-then}
 use Rattle.build_spec.proofs.Growth.{Upto, upto-join, upto-part}
-use Rattle.build_spec.specs.Emission.{Stands, Lacking, Emitted}
+use Rattle.build_spec.specs.Emission.{Stands, Once, Emitted}
+
+nothing : {xs : List ℕ} {m : ℕ} → m ≤ length xs → Once m xs m
+nothing h = record { fits = h; once = λ p q k l j. absurd (omega arith) }
 
 module _ {N : ℕ → Type 0} {xs : List ℕ} {m : ℕ} where
-  -- the slice stays as it is
-  still : (full : Bool) → m ≤ length xs → (full ≡ false → (y : ℕ) → N y → ⊥) → (full ≡ true → Lacking N m xs m) → Emitted N xs m xs m full
-  still full h w o = record {
-    long = refl;
-    more = omega arith;
-    fits = h;
-    same = λ p l. refl;
-    only = λ p k l. absurd (omega arith);
-    once = λ p q k l j. absurd (omega arith);
-    whole = λ t y n. absurd (w t y n);
-    over = o;
-  }
-
   pub emitted-none : m ≤ length xs → ((y : ℕ) → N y → ⊥) → Emitted N xs m xs m false
-  emitted-none h e = still false h (λ t. e) (λ t. absurd (false≢true t))
+  emitted-none h e = appended-none (nothing h) (λ y n. absurd (e y n))
 
   -- no room for y
   pub emitted-full : (y : ℕ) → N y → m ≡ length xs → Emitted N xs m xs m true
-  emitted-full y n f = still true (omega arith) (λ t. absurd (true≢false t)) (λ t. record { one = y; from = n; lacks = λ s. omega (arith, s .1, s .2); filled = f })
+  emitted-full y n f = appended-full (nothing (omega arith)) y n (λ s. omega (arith, s .1, s .2)) f
 
   -- y written at the end
   pub emitted-put : (y : ℕ) → m < length xs → N y → ((z : ℕ) → N z → z ≡ y) → Emitted N xs m (set xs m y) (m + 1) false
-  emitted-put y h n is = record {
-    long = length-set xs m y;
-    more = omega arith;
-    fits = omega (arith, length-set xs m y);
-    same = λ p l. getD-set-other xs m p y 0 (λ e. omega arith);
-    only = λ p k l. let e : p ≡ m = omega arith in rw (e, getD-set-same xs m y 0 h) n;
-    once = λ p q k l j. absurd (omega arith);
-    whole = λ t z o. (m, omega arith, omega arith, getD-set-same xs m y 0 h ∙ sym (is z o));
-    over = λ t. absurd (false≢true t);
-  }
-
--- numbers of another predicate that are these; where there is no room, more of them
-pub emitted-as : {N U : ℕ → Type 0} {xs ys : List ℕ} {m r : ℕ} {full : Bool} → Emitted N xs m ys r full → ((y : ℕ) → N y → U y) → (full ≡ false → (y : ℕ) → U y → N y) → Emitted U xs m ys r full
-emitted-as {ys = ys} g f v = record {
-  long = g .long;
-  more = g .more;
-  fits = g .fits;
-  same = g .same;
-  only = λ p k l. f (getD ys p 0) (g .only p k l);
-  once = g .once;
-  whole = λ t y u. g .whole t y (v t y u);
-  over = λ t. let o = g .over t in record { one = o .one; from = f (o .one) (o .from); lacks = o .lacks; filled = o .filled };
-}
+  emitted-put y h n is = appended-put y h (record { fits = omega (arith, length-set xs m y); once = λ p q k l j. absurd (omega arith) })
+      (λ z o. (m, omega arith, omega arith, getD-set-same xs m y 0 h ∙ sym (is z o))) n
 
 -- the numbers of N, and after them others
 module _ {N U : ℕ → Type 0} {xs ys zs : List ℕ} {m r u : ℕ} {full full′ : Bool} (g : Emitted N xs m ys r full) (e : full ≡ false) (h : Emitted U ys r zs u full′)
@@ -66,28 +36,18 @@ module _ {N U : ℕ → Type 0} {xs ys zs : List ℕ} {m r u : ℕ} {full full�
 
   then-once : (p q : ℕ) → m ≤ p → p < q → q < u → getD zs p 0 ≡ getD zs q 0 → ⊥
   then-once p q k l j d = by-cases (decLt q r)
-      (λ b. g .once p q k l b (sym (h .same p (omega arith)) ∙ d ∙ h .same q b))
+      (λ b. g .kept .once p q k l b (sym (h .same p (omega arith)) ∙ d ∙ h .same q b))
       (λ b. by-cases (decLt p r)
       (λ c. apart (getD zs q 0) (rw d at (first p k c)) (h .only q (omega arith) j))
-      (λ c. h .once p q (omega arith) l j d))
+      (λ c. h .kept .once p q (omega arith) l j d))
 
   -- a number that lacks room is none of N
   lacking : (y : ℕ) → U y → (Stands r zs u y → ⊥) → Stands m zs u y → ⊥
   lacking y v o s = by-cases (decLt (s .0) r) (λ b. apart y (rw (s .3) at (first (s .0) (s .1) b)) v) (λ b. o (s .0, omega arith, s .2, s .3))
 
   pub emitted-then : {X : ℕ → Type 0} → ((y : ℕ) → N y ⊎ U y → X y) → (full′ ≡ false → (y : ℕ) → X y → N y ⊎ U y) → Emitted X xs m zs u full′
-  emitted-then join part = record {
-    long = h .long ∙ g .long;
-    more = omega (arith, g .more, h .more);
-    fits = h .fits;
-    same = λ p l. h .same p (omega (arith, g .more)) ∙ g .same p l;
-    only = λ p k l. by-cases (decLt p r) (λ b. join _ (inl (first p k b))) (λ b. join _ (inr (h .only p (omega arith) l)));
-    once = then-once;
-    whole = λ t y x. ⊎-elim
-        (λ n. let s = g .whole e y n in (s .0, s .1, omega (arith, s .2, h .more), h .same (s .0) (s .2) ∙ s .3))
-        (λ v. let s = h .whole t y v in (s .0, omega (arith, s .1, g .more), s .2, s .3)) (part t y x);
-    over = λ t. let o = h .over t in record { one = o .one; from = join (o .one) (inr (o .from)); lacks = lacking (o .one) (o .from) (o .lacks); filled = o .filled };
-  }
+  emitted-then = appended-then g e h (record { fits = h .kept .fits; once = then-once })
+      (λ y s. (s .0, s .1, omega (arith, s .2, h .more), h .same (s .0) (s .2) ∙ s .3)) (λ y s. (s .0, omega (arith, s .1, g .more), s .2, s .3)) lacking
 
 -- ---- up to a count
 
@@ -97,7 +57,7 @@ module _ {G : ℕ → ℕ → Type 0} {xs : List ℕ} {m : ℕ} where
 
   -- number i stands for nothing that is not there
   pub emitted-skip : {i : ℕ} {ys : List ℕ} {r : ℕ} {full : Bool} → Emitted (Upto G i) xs m ys r full → ((y : ℕ) → G i y → Upto G i y) → Emitted (Upto G (i + 1)) xs m ys r full
-  emitted-skip {i} g b = emitted-as g (λ y d. upto-join G i y (inl d)) (λ t y d. ⊎-elim (λ f. f) (b y) (upto-part G i y d))
+  emitted-skip {i} g b = appended-as g (λ t y d. ⊎-elim (λ f. f) (b y) (upto-part G i y d)) (λ y d. upto-join G i y (inl d))
 
   module _ {i : ℕ} {ys zs : List ℕ} {r u : ℕ} {full full′ : Bool} (g : Emitted (Upto G i) xs m ys r full) (e : full ≡ false) (h : Emitted (G i) ys r zs u full′)
       (apart : (y : ℕ) → Upto G i y → G i y → ⊥) where
@@ -105,4 +65,4 @@ module _ {G : ℕ → ℕ → Type 0} {xs : List ℕ} {m : ℕ} where
     emitted-next = emitted-then g e h apart (upto-join G i) (λ t. upto-part G i)
 
     pub emitted-over : {s : ℕ} → i < s → full′ ≡ true → Emitted (Upto G s) xs m zs u full′
-    emitted-over l f = emitted-as emitted-next (λ y k. (k .0, omega (arith, k .1), k .2)) (λ t. absurd (true≢false (sym f ∙ t)))
+    emitted-over l f = appended-as emitted-next (λ t. absurd (true≢false (sym f ∙ t))) (λ y k. (k .0, omega (arith, k .1), k .2))

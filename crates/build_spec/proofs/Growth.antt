@@ -8,8 +8,9 @@ use native.Mathlib.Omega.{arith}
 use native.Mathlib.Decide.{decLt}
 use lib.ListN.{length, getD, set, length-set}
 use Rattle.build_spec.specs.Chains.{keyAt, bucketOf, Lists, Chained}
-use Rattle.build_spec.specs.Growth.{Over, Grown, After}
-use Rattle.build_spec.proofs.Chains.{put-same, key-new, put-chained}
+use Rattle.build_spec.specs.Growth.{Grown, After}
+use Rattle.build_spec.proofs.Appended.{appended-none, appended-put, appended-then}
+use Rattle.build_spec.proofs.Chains.{key-new, put-chained}
 
 -- G k for some k below i
 abbrev pub Upto : (ℕ → ℕ → Type 0) → ℕ → ℕ → Type 0
@@ -21,33 +22,13 @@ upto-join G i y = ⊎-elim (λ f. (f .0, omega (arith, f .1), f .2)) (λ k. (i, 
 pub upto-part : (G : ℕ → ℕ → Type 0) (i y : ℕ) → Upto G (i + 1) y → Upto G i y ⊎ G i y
 upto-part G i y k = by-cases (decLt (k .0) i) (λ l. inl (k .0, l, k .2)) (λ l. inr (let q : k .0 ≡ i = omega (arith, k .1) in rw q at (k .2)))
 
--- ---- nothing, and one key
+-- ---- one key
 
-module _ {xs heads last : List ℕ} {n : ℕ} (C : Chained xs heads last n) where
-  -- the list stays as it is
-  still : {W F : ℕ → Type 0} (full : Bool) → (full ≡ false → (y : ℕ) → W y → Lists xs n y) → (full ≡ true → Over F xs n) → Grown W F xs n xs heads last n full
-  still full w o = record { long = refl; more = omega arith; same = λ p l. refl; chained = C; whole = w; only = λ p h l. absurd (omega arith); over = o }
-
-  pub grown-none : {W F : ℕ → Type 0} → ((y : ℕ) → W y → Lists xs n y) → Grown W F xs n xs heads last n false
-  grown-none e = still false (λ t. e) (λ t. absurd (false≢true t))
-
-  module _ (y : ℕ) (new : Lists xs n y → ⊥) where
-    -- no room for y
-    pub grown-full : n ≡ length xs → Grown (λ z. z ≡ y) (λ z. z ≡ y) xs n xs heads last n true
-    grown-full f = still true (λ t. absurd (true≢false t)) (λ t. record { one = y; from = refl; lacks = new; filled = f })
-
-    -- y put at the end
-    pub grown-put : n < length xs → y < 2 ^ 48
-        → Grown (λ z. z ≡ y) (λ z. z ≡ y) xs n (set xs n (getD heads (bucketOf (y / 256)) 0 * 2 ^ 48 + y)) (set heads (bucketOf (y / 256)) n) (set last (y / 256 % 256) (n + 1)) (n + 1) false
-    grown-put room low = record {
-      long = length-set xs n _;
-      more = omega arith;
-      same = put-same C y room low new;
-      chained = put-chained C y room low new;
-      whole = λ t z e. (n, omega arith, key-new C y room low new ∙ sym e);
-      only = λ p h l. let z : p ≡ n = omega arith in rw z (key-new C y room low new);
-      over = λ t. absurd (false≢true t);
-    }
+-- y put at the end
+pub grown-put : {xs heads last : List ℕ} {n : ℕ} → Chained xs heads last n → (y : ℕ) → (Lists xs n y → ⊥) → n < length xs → y < 2 ^ 48
+    → Grown (λ z. z ≡ y) (λ z. z ≡ y) xs n (set xs n (getD heads (bucketOf (y / 256)) 0 * 2 ^ 48 + y)) (set heads (bucketOf (y / 256)) n) (set last (y / 256 % 256) (n + 1)) (n + 1) false
+grown-put {n = n} C y new room low =
+    appended-put _ room (put-chained C y room low new) (λ z e. (n, omega arith, key-new C y room low new ∙ sym e)) (omega arith)
 
 -- ---- one thing after the other
 
@@ -69,35 +50,15 @@ module _ {W F : ℕ → Type 0} {xs : List ℕ} {n : ℕ} {ys heads last : List 
   pub all-kept : ((p : ℕ) → p < n → F (keyAt xs p)) → (p : ℕ) → p < m → F (keyAt ys p)
   all-kept old = all-in F old (λ y h. h)
 
-  -- less that must be there, more that may be
-  pub grown-as : {U G : ℕ → Type 0} → (full ≡ false → (y : ℕ) → U y → W y) → ((y : ℕ) → F y → G y) → Grown U G xs n ys heads last m full
-  grown-as v f = record {
-    long = g .long;
-    more = g .more;
-    same = g .same;
-    chained = g .chained;
-    whole = λ t y h. g .whole t y (v t y h);
-    only = λ p h l. f (keyAt ys p) (g .only p h l);
-    over = λ t. let o = g .over t in record { one = o .one; from = f (o .one) (o .from); lacks = o .lacks; filled = o .filled };
-  }
-
 pub grown-then : {W U X F : ℕ → Type 0} {xs ys zs hs ls heads last : List ℕ} {n m u : ℕ} {full full′ : Bool} → Grown W F xs n ys hs ls m full → full ≡ false
     → Grown U F ys m zs heads last u full′ → (full′ ≡ false → (y : ℕ) → X y → W y ⊎ U y) → Grown X F xs n zs heads last u full′
-grown-then g e h part = record {
-  long = h .long ∙ g .long;
-  more = omega (arith, g .more, h .more);
-  same = λ p l. h .same p (omega (arith, g .more)) ∙ g .same p l;
-  chained = h .chained;
-  whole = λ t y v. ⊎-elim (λ w. lists-kept h (g .whole e y w)) (λ k. h .whole t y k) (part t y v);
-  only = λ p k l. by-cases (decLt p _) (λ j. rw (key-kept h p j) (g .only p k j)) (λ j. h .only p (omega arith) l);
-  over = h .over;
-}
+grown-then g e h = appended-then g e h (h .kept) (λ y. lists-kept h) (λ y l. l) (λ y f o. o) (λ y. ⊎-elim (λ f. f) (λ f. f))
 
 -- ---- up to a count
 
 module _ {G : ℕ → ℕ → Type 0} {F : ℕ → Type 0} {xs : List ℕ} {n : ℕ} where
   pub upto-start : {heads last : List ℕ} → Chained xs heads last n → Grown (Upto G 0) F xs n xs heads last n false
-  upto-start C = grown-none C (λ y h. absurd (omega (arith, h .1)))
+  upto-start C = appended-none C (λ y h. absurd (omega (arith, h .1)))
 
   module _ {U : ℕ → Type 0} {i : ℕ} {ys zs hs ls heads last : List ℕ} {m u : ℕ} {full full′ : Bool} (g : Grown (Upto G i) F xs n ys hs ls m full) (e : full ≡ false)
       (h : Grown U F ys m zs heads last u full′) where

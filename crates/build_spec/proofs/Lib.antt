@@ -1,4 +1,5 @@
 pub mod Chains
+pub mod Appended
 pub mod Growth
 pub mod Walks
 pub mod Keys

@@ -16,7 +16,8 @@ use Rattle.build_spec.specs.Chains.{keyAt, linkAt, bucketOf, Chained}
 use Rattle.build_spec.specs.Growth.{Grown, After}
 use Rattle.build_spec.proofs.Chains.{bucket-low}
 use Rattle.build_spec.proofs.Walks.{Walked, walk-from, walk-inside, walk-behind, walk-part, walk-less, walk-next}
-use Rattle.build_spec.proofs.Growth.{grown-none, grown-as, grown-then}
+use Rattle.build_spec.proofs.Appended.{appended-none, appended-as}
+use Rattle.build_spec.proofs.Growth.{grown-then}
 use Rattle.build_spec.specs.Keys.{Paired, Moved}
 
 -- a pair goes on to a pair
@@ -45,7 +46,7 @@ module _ (earlier core : ℕ) (onto : ℕ → ℕ) (xs : List ℕ) (n : ℕ) whe
 
 module _ {earlier core : ℕ} {onto : ℕ → ℕ} {xs : List ℕ} {n : ℕ} where
   pub turn-start : {heads last : List ℕ} → Chained xs heads last n → 0 < n → Turn earlier core onto xs n xs heads last n false (getD heads (bucketOf earlier) 0)
-  turn-start C h = record { room = refl; walked = walk-from h (C .begin (bucketOf earlier) (bucket-low earlier)) (grown-none C (λ y f. absurd (omega (arith, f .1, f .2)))) }
+  turn-start C h = record { room = refl; walked = walk-from h (C .begin (bucketOf earlier) (bucket-low earlier)) (appended-none C (λ y f. absurd (omega (arith, f .1, f .2)))) }
 
   module _ {ys hs ls : List ℕ} {m : ℕ} {full : Bool} {i : ℕ} (t : Turn earlier core onto xs n ys hs ls m full i) where
     turn-read : getD ys i 0 ≡ getD xs i 0
@@ -63,13 +64,13 @@ module _ {earlier core : ℕ} {onto : ℕ → ℕ} {xs : List ℕ} {n : ℕ} whe
 
     -- the chain goes on below place `from`
     pub turn-stop : {from : ℕ} → i < from → Grown (Gone earlier core onto xs n from) (Gone earlier core onto xs n 0) xs n ys hs ls m full
-    turn-stop l = grown-as (t .walked .made) (λ e y h. (h .0, walk-behind (t .walked) (h .0) (omega (arith, h .1)) (ap bucketOf (h .3 .from)), h .2, h .3)) (λ y h. h)
+    turn-stop l = appended-as (t .walked .made) (λ e y h. (h .0, walk-behind (t .walked) (h .0) (omega (arith, h .1)) (ap bucketOf (h .3 .from)), h .2, h .3)) (λ y h. h)
 
     module _ {zs heads last : List ℕ} {u : ℕ} {full′ : Bool}
         (g : Grown (Moved earlier core onto (bitAnd (getD ys i 0) 281474976710655)) (Moved earlier core onto (bitAnd (getD ys i 0) 281474976710655)) ys m zs heads last u full′) where
       after : {X : ℕ → Type 0} → (full′ ≡ false → (y : ℕ) → X y → Gone earlier core onto xs n (t .walked .done) y ⊎ Moved earlier core onto (keyAt xs i) y)
           → Grown X (Gone earlier core onto xs n 0) xs n zs heads last u full′
-      after = grown-then (t .walked .made) (t .room) (grown-as (rw turn-key at g) (λ e y h. h) (λ y h. (i, omega arith, walk-inside (t .walked), h)))
+      after = grown-then (t .walked .made) (t .room) (appended-as (rw turn-key at g) (λ e y h. h) (λ y h. (i, omega arith, walk-inside (t .walked), h)))
 
       -- from a place that is not below i
       upto : (d : ℕ) → i ≤ d → Grown (Gone earlier core onto xs n d) (Gone earlier core onto xs n 0) xs n zs heads last u full′

@@ -1,12 +1,13 @@
 -- The transitions between listed keys, written into a slice one after the other.
 use mathlib.Core.Path.{_≡_}
-use mathlib.Core.Bool.{Bool, true, false}
+use mathlib.Core.Bool.{Bool}
 use mathlib.Core.List.{List}
 use Prim.Native.Nat.{ℕ, _/_, _≤_, _<_}
 use lib.ListN.{length, getD}
 use Rattle.theory.specs.Automaton.{Automaton}
 use Rattle.codes.specs.Codes.{transitionOf}
 use Rattle.build_step_back.specs.Earlier.{coreOf, backOf, ontoOf}
+use Rattle.build_spec.specs.Appended.{Appended}
 use Rattle.build_spec.specs.Chains.{keyAt}
 use Rattle.build_spec.specs.Keys.{Moved}
 
@@ -16,23 +17,14 @@ use Rattle.build_spec.specs.Keys.{Moved}
 abbrev pub Stands : ℕ → List ℕ → ℕ → ℕ → Type 0
 Stands m ys r y = (p : ℕ) × (m ≤ p) × (p < r) × (getD ys p 0 ≡ y)
 
--- no room: the slice is full, and a number of N does not stand there
-pub record Lacking (N : ℕ → Type 0) (m : ℕ) (ys : List ℕ) (r : ℕ) : Type 0 where
-  pub one : ℕ
-  pub from : N one
-  pub lacks : Stands m ys r one → ⊥
-  pub filled : r ≡ length ys
+-- the elements from place m up to r are different
+pub record Once (m : ℕ) (ys : List ℕ) (r : ℕ) : Type 0 where
+  pub fits : r ≤ length ys
+  pub once : (p q : ℕ) → m ≤ p → p < q → q < r → getD ys p 0 ≡ getD ys q 0 → ⊥
 
 -- the m elements stay, and after them come the numbers of N, each once; or they are more than there is room for
-pub record Emitted (N : ℕ → Type 0) (xs : List ℕ) (m : ℕ) (ys : List ℕ) (r : ℕ) (full : Bool) : Type 0 where
-  pub long : length ys ≡ length xs
-  pub more : m ≤ r
-  pub fits : r ≤ length ys
-  pub same : (p : ℕ) → p < m → getD ys p 0 ≡ getD xs p 0
-  pub only : (p : ℕ) → m ≤ p → p < r → N (getD ys p 0)
-  pub once : (p q : ℕ) → m ≤ p → p < q → q < r → getD ys p 0 ≡ getD ys q 0 → ⊥
-  pub whole : full ≡ false → (y : ℕ) → N y → Stands m ys r y
-  pub over : full ≡ true → Lacking N m ys r
+abbrev pub Emitted : (ℕ → Type 0) → List ℕ → ℕ → List ℕ → ℕ → Bool → Type 0
+Emitted N xs m ys r full = Appended (λ x. x) (Stands m ys r) (Once m ys r) N N xs m ys r full
 
 -- ---- which transitions: the first n keys are numbered by their places
 

@@ -67,7 +67,7 @@ module _ {r : Rule} {opens parts : List ℕ} {shape : Shape} (T : RuleTables r o
       done = rw long at g
 
       pub filled-full : full ≡ true → Listed (transitionsFrom r start) xs ys m full
-      filled-full e = record { long = g .long; fits = g .fits; listed = λ t. absurd (true≢false (sym e ∙ t)); crowded = λ t. R .over few keys is (rw e at done) }
+      filled-full e = record { long = g .long; fits = g .kept .fits; listed = λ t. absurd (true≢false (sym e ∙ t)); crowded = λ t. R .over few keys is (rw e at done) }
 
       pub filled : full ≡ false → {us : List ℕ} → ArrangedFirst ys m us → length us ≡ length ys → Listed (transitionsFrom r start) xs us m full
-      filled e a l = record { long = l ∙ g .long; fits = omega (arith, g .fits); listed = λ t. R .written few keys is (rw e at done) a; crowded = λ t. absurd (true≢false (sym t ∙ e)) }
+      filled e a l = record { long = l ∙ g .long; fits = omega (arith, g .kept .fits); listed = λ t. R .written few keys is (rw e at done) a; crowded = λ t. absurd (true≢false (sym t ∙ e)) }

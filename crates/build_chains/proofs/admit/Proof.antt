@@ -1,20 +1,21 @@
 -- `build_chains::admit` meets its contract.
-use mathlib.Core.Path.{_≡_}
+use mathlib.Core.Path.{_≡_, refl}
 use native.Mathlib.Omega.{arith}
 use borrow.Author.Needs.{needs}
-use Rattle.build_spec.proofs.Growth.{grown-none, grown-full, grown-put}
+use Rattle.build_spec.proofs.Appended.{appended-none, appended-full}
+use Rattle.build_spec.proofs.Growth.{grown-put}
 use Rattle.build_chains.proofs.admit.Statement.{statement}
 use Rattle.build_chains.proofs.admit.Tie as tie
 
 returns : tie.Need-returns
 returns c =
     let p = c .before .before .before .before .before .before .pre in
-    grown-none (p .0) (λ y e. rw e (c .before .find .result, c .if1 .taken, c .before .find .ensures .hit (c .if1 .taken)))
+    appended-none (p .0) (λ y e. rw e (c .before .find .result, c .if1 .taken, c .before .find .ensures .hit (c .if1 .taken)))
 
 returns-2 : tie.Need-returns-2
 returns-2 c =
     let start = c .before .before .before .before .before .before .before in
-    let p = start .pre in grown-full (p .0) (start .args .key) (c .before .before .find .ensures .none (c .before .if1 .left)) (omega (arith, c .if2 .taken, p .0 .fits, p .0 .few))
+    let p = start .pre in appended-full (p .0) (start .args .key) refl (c .before .before .find .ensures .none (c .before .if1 .left)) (omega (arith, c .if2 .taken, p .0 .fits, p .0 .few))
 
 put-requires : tie.Need-put-requires
 put-requires c κs =

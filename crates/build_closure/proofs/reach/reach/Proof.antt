@@ -31,7 +31,7 @@ close-requires c κs =
     let at-firsts = c .before .before .before .before .before .before in
     let at-largest-ranks = at-firsts .before .before .before .before in
     let e = at-largest-ranks .before .before .pre .0 in
-    ((e .0, e .1, all at-firsts (e .0) (e .1)), at-firsts .firsts .ensures (e .0) (e .1 .shaped) .chained, at-largest-ranks .largest-ranks .ensures)
+    ((e .0, e .1, all at-firsts (e .0) (e .1)), at-firsts .firsts .ensures (e .0) (e .1 .shaped) .kept, at-largest-ranks .largest-ranks .ensures)
 
 returns-2 : tie.Need-returns-2
 returns-2 c =

@@ -56,7 +56,7 @@ loop-again : tie.Need-loop-again Inv-loop μ-loop
 loop-again c =
     let at-loop = c .before .before .before .before .before .before .before .before in
     let e = at-loop .before .before .pre .0 in let v = at-loop .loop .inv in let g = c .before .before .before .round in let G = g .ensures (e .0) (e .1) (v .3 (e .0) (e .1) (e .2)) in (
-      G .chained,
+      G .kept,
       omega (arith, G .more),
       g .kept .0 ∙ v .2,
       (λ r T R. all-kept (g .ensures r T (v .3 r T R)) (v .3 r T R)),

@@ -8,7 +8,8 @@ use Rattle.build_cores.specs.Vectors.{Within}
 use Rattle.build_cores.proofs.Next.{within-next}
 use Rattle.build_cores.proofs.Vectors.{within-zero, within-le}
 use Rattle.build_spec.specs.Growth.{Grown}
-use Rattle.build_spec.proofs.Growth.{Upto, grown-as, upto-start, upto-full}
+use Rattle.build_spec.proofs.Appended.{appended-as}
+use Rattle.build_spec.proofs.Growth.{Upto, upto-start, upto-full}
 use Rattle.build_spec.specs.Keys.{StartsAt, First}
 use Rattle.build_spec.specs.Tables.{Shaped}
 use Rattle.build_spec.proofs.Starting.{caps-low}
@@ -29,7 +30,7 @@ loop-holds c = let p = c .before .pre in (within-zero (c .before .args .caps) (r
 
 visit-first-requires : tie.Need-visit-first-requires Inv-loop μ-loop
 visit-first-requires c κs =
-    let p = c .before .before .before .before .before .pre in let l = c .before .before .before .loop in (p .0, l .inv .2 (p .0 .0) (p .0 .1) .chained, rw (p .2) at (l .inv .0))
+    let p = c .before .before .before .before .before .pre in let l = c .before .before .before .loop in (p .0, l .inv .2 (p .0 .0) (p .0 .1) .kept, rw (p .2) at (l .inv .0))
 
 same-length : tie.Need-same-length Inv-loop μ-loop
 same-length c =
@@ -39,7 +40,7 @@ same-length c =
 returns : tie.Need-returns Inv-loop μ-loop
 returns c =
     let at-loop = c .before .before .before .before .before .before .before in
-    let l = at-loop .loop in λ r S. upto-full (l .inv .2 r S) (l .inv .1) (grown-as (c .before .before .before .visit-first .ensures r S) (λ e y h. h) (λ y h. (l .t, h))) (c .if1 .taken)
+    let l = at-loop .loop in λ r S. upto-full (l .inv .2 r S) (l .inv .1) (appended-as (c .before .before .before .visit-first .ensures r S) (λ e y h. h) (λ y h. (l .t, h))) (c .if1 .taken)
 
 same-length-2 : tie.Need-same-length-2 Inv-loop μ-loop
 same-length-2 c =
@@ -51,7 +52,7 @@ returns-2 c =
     let at-loop = c .before .before .before .before .before .before .before .before in
     let l = at-loop .loop in let p = at-loop .before .before .pre in
     λ r S. walk-end (at-loop .before .before .args .caps) (λ v y h. rw (p .2) (h .0 .within)) (l .inv .0) (l .inv .2 r S) (l .inv .1)
-    (grown-as (c .before .before .before .before .visit-first .ensures r S) (λ e y h. h) (λ y h. (l .t, h))) (λ y h. h) (c .if2 .taken)
+    (appended-as (c .before .before .before .before .visit-first .ensures r S) (λ e y h. h) (λ y h. (l .t, h))) (λ y h. h) (c .if2 .taken)
 
 next-ranks-requires : tie.Need-next-ranks-requires Inv-loop μ-loop
 next-ranks-requires c κs =
@@ -73,7 +74,7 @@ loop-again c =
       within-next 8 (l .t) caps (l .inv .0) (c .before .if2 .left),
       c .before .before .if1 .left,
       λ r S. walk-next caps (λ v y h. rw (p .2) (h .0 .within)) (l .inv .0) (l .inv .2 r S) (l .inv .1)
-          (grown-as (c .before .before .before .before .before .visit-first .ensures r S) (λ e y h. h) (λ y h. (l .t, h))) (λ y h. h),
+          (appended-as (c .before .before .before .before .before .visit-first .ensures r S) (λ e y h. h) (λ y h. (l .t, h))) (λ y h. h),
     )
 
 pub firsts-spec : {M : Type 1} → statement M

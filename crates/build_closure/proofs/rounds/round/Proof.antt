@@ -13,7 +13,8 @@ use Rattle.theory.specs.Automaton.{automaton}
 use Rattle.build_cores.specs.Vectors.{rankAt}
 use Rattle.build_cores.specs.Used.{capsOf}
 use Rattle.build_spec.specs.Growth.{Grown}
-use Rattle.build_spec.proofs.Growth.{Upto, grown-as, all-kept, after-kept, upto-start, upto-next, upto-full}
+use Rattle.build_spec.proofs.Appended.{appended-as}
+use Rattle.build_spec.proofs.Growth.{Upto, all-kept, after-kept, upto-start, upto-next, upto-full}
 use Rattle.build_spec.specs.declared.Shape.{Shape}
 use Rattle.build_spec.specs.Keys.{Leads, LeadsAt}
 use Rattle.build_spec.specs.Reached.{ReachedKey, AllReached}
@@ -43,7 +44,7 @@ all-is c = let p = c .before .before .pre in open-lowest (p .0 .1 .shaped) (c .b
 visit-set-requires : tie.Need-visit-set-requires Inv-loop μ-loop
 visit-set-requires c κs =
     let p = c .before .before .before .before .before .before .pre in let e = p .0 in let i = c .before .before .before .loop .inv .2 (e .0) (e .1) (e .2) in
-    ((e .0, e .1, all-kept i (e .2)), i .chained, omega (arith, p .2, i .more), all-is (c .before .before .before .before))
+    ((e .0, e .1, all-kept i (e .2)), i .kept, omega (arith, p .2, i .more), all-is (c .before .before .before .before))
 
 same-length : tie.Need-same-length Inv-loop μ-loop
 same-length c =
@@ -66,7 +67,7 @@ returns-2 c =
     let at-lowest = at-loop .before in
     let a = at-lowest .before .before .args in let l = at-loop .loop in
     λ r T R. let i = l .inv .2 r T R in
-    grown-as (upto-next i (l .inv .1) (c .before .before .before .before .visit-set .ensures r T (all-kept i R))
+    appended-as (upto-next i (l .inv .1) (c .before .before .before .before .visit-set .ensures r T (all-kept i R))
     (λ y h. (h .0, h .1, (h .2 .0, after-kept i (Leads (automaton r) (a .shape .s) (h .0)) (h .2 .1)))))
     (λ t y h.
     let e = edges-out (automaton r) (a .parts .now) (a .shape .components) (a .shape .s) (a .from) (a .n) (a .keys .now) y h in

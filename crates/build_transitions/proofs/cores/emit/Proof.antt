@@ -56,7 +56,7 @@ loop-again-2 c =
       omega (arith, inside),
       c .if2 .left,
       g .kept .0 ∙ l .inv .2,
-      g .ensures (e .0) (e .1) (e .2) .fits,
+      g .ensures (e .0) (e .1) (e .2) .kept .fits,
       λ r T R. emitted-next (l .inv .4 r T R) (l .inv .1) (g .ensures r T R) (fresh T (p .1) R (l .j) inside new),
     )
 

@@ -65,7 +65,7 @@ loop-again c =
       omega (arith, known),
       c .if2 .left,
       g .kept .0 ∙ l .inv .2,
-      g .ensures (e .0) (e .1) (e .2) .fits,
+      g .ensures (e .0) (e .1) (e .2) .kept .fits,
       λ r T R. emitted-next (l .inv .4 r T R) (l .inv .1) (g .ensures r T R)
           (letters-apart T (a .keys .now) (bitAnd x 281474976710655 / 2 ^ 16) (start .pre .1 .few) (l .a) known),
     )

@@ -8,7 +8,8 @@ use Rattle.build_spec.specs.Chains.{keyAt}
 use Rattle.build_spec.proofs.Link.{key-paired}
 use Rattle.build_spec.proofs.Starting.{few}
 use Rattle.build_spec.proofs.Letters.{stepping-fits, leads-in, leads-out, nothing-new}
-use Rattle.build_spec.proofs.Emission.{emitted-none, emitted-as}
+use Rattle.build_spec.proofs.Appended.{appended-as}
+use Rattle.build_spec.proofs.Emission.{emitted-none}
 use Rattle.build_transitions.proofs.cores.emit_letter.Statement.{statement}
 use Rattle.build_transitions.proofs.cores.emit_letter.Tie as tie
 
@@ -41,9 +42,9 @@ emit-sources-requires c κs =
 
 returns-2 : tie.Need-returns-2
 returns-2 c = λ r T R. let S = c .before .before .before .before .before .before .step-over .ensures r T in
-    emitted-as (c .before .before .emit-sources .ensures)
-    (λ y m. (m .0, m .1, (m .2 .0, m .2 .1, leads-in S (key-paired (T .shaped) (R (m .0) (m .1))) (m .2 .2), m .2 .3)))
+    appended-as (c .before .before .emit-sources .ensures)
     (λ t y m. (m .0, m .1, (m .2 .0, m .2 .1, leads-out S (key-paired (T .shaped) (R (m .0) (m .1))) (m .2 .2), m .2 .3)))
+    (λ y m. (m .0, m .1, (m .2 .0, m .2 .1, leads-in S (key-paired (T .shaped) (R (m .0) (m .1))) (m .2 .2), m .2 .3)))
 
 pub emit-letter-spec : {M : Type 1} → statement M
 emit-letter-spec = tie.close (tie.spec

@@ -27,7 +27,7 @@ emit-source-requires : tie.Need-emit-source-requires Inv-loop μ-loop
 emit-source-requires c κs =
     let start = c .before .before .before .before .before .before in
     let p = start .pre in let l = c .before .before .loop in let key = and-mask (getD (start .args .keys .now) (l .i) 0) 48 in let inside = walk-inside (l .inv .walked) in
-    (p .0, inside, key, rw key (p .2 (l .i) inside), p .3, p .4, p .6, l .inv .walked .made .fits)
+    (p .0, inside, key, rw key (p .2 (l .i) inside), p .3, p .4, p .6, l .inv .walked .made .kept .fits)
 
 same-length : tie.Need-same-length Inv-loop μ-loop
 same-length c = c .before .before .before .emit-source .kept .0 ∙ c .before .before .before .before .before .before .loop .inv .walked .made .long

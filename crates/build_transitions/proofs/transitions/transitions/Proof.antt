@@ -36,7 +36,7 @@ sort-first-requires c κs =
     let at-chain = at-emit .before .before .before .before .before .before .before in
     let start = at-chain .before .before .before .before .before .before in
     let p = start .pre in let e = p .0 in let k = at-chain .chain in
-    omega (arith, at-emit .emit .ensures (e .0) (e .1) (reached (e .1) (ready (e .1) (e .2)) (p .1) (k .last .0) (k .kept .0) (k .ensures .1)) .fits)
+    omega (arith, at-emit .emit .ensures (e .0) (e .1) (reached (e .1) (ready (e .1) (e .2)) (p .1) (k .last .0) (k .kept .0) (k .ensures .1)) .kept .fits)
 
 returns-2 : tie.Need-returns-2
 returns-2 c =

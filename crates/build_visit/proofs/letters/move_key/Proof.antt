@@ -3,13 +3,13 @@ use mathlib.Core.Path.{sym, _∙_}
 use native.Mathlib.Omega.{arith}
 use lib.Bits.{and-mask}
 use borrow.Author.Needs.{needs}
-use Rattle.build_spec.proofs.Growth.{grown-none, grown-as}
+use Rattle.build_spec.proofs.Appended.{appended-none, appended-as}
 use Rattle.build_spec.proofs.Moves.{key-onward}
 use Rattle.build_visit.proofs.letters.move_key.Statement.{statement}
 use Rattle.build_visit.proofs.letters.move_key.Tie as tie
 
 returns : tie.Need-returns
-returns c = grown-none (c .before .before .before .pre .0) (λ y h. absurd (c .if1 .taken (h .from)))
+returns c = appended-none (c .before .before .before .pre .0) (λ y h. absurd (c .if1 .taken (h .from)))
 
 onward-requires : tie.Need-onward-requires
 onward-requires c κs = let p = c .before .before .before .pre in let e = and-mask (c .before .before .before .args .key) 8 in (omega (arith, e), omega (arith, e, p .1), p .2)
@@ -27,7 +27,7 @@ returns-2 c =
     let start = at-onward .before .before .before .before in
     let a = start .args in let p = start .pre in
     let k = key-onward (a .step .ranks) (a .parts .now) (a .step .components) (a .levels .now) (a .step .core) (a .key) (p .2) (p .1) (p .3) (at-onward .onward .ensures) in
-    grown-as (c .before .before .admit .ensures) (λ t z h. h .to ∙ sym (k .0)) (λ z h. record { from = at-onward .before .if1 .left; to = h ∙ k .0 })
+    appended-as (c .before .before .admit .ensures) (λ t z h. h .to ∙ sym (k .0)) (λ z h. record { from = at-onward .before .if1 .left; to = h ∙ k .0 })
 
 pub move-key-spec : {M : Type 1} → statement M
 move-key-spec = tie.close (tie.spec returns onward-requires admit-requires (λ c. search needs) returns-2)

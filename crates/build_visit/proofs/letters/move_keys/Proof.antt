@@ -27,7 +27,7 @@ slice-read-x c = let l = c .before .before .loop in omega (arith, walk-inside (l
 move-key-requires : tie.Need-move-key-requires Inv-loop μ-loop
 move-key-requires c κs =
     let start = c .before .before .before .before .before .before .before .before .before in
-    let p = start .pre in let l = c .before .before .before .before .before .loop in (l .inv .walked .made .chained, turn-paired (l .inv) (p .2), p .3, p .4)
+    let p = start .pre in let l = c .before .before .before .before .before .loop in (l .inv .walked .made .kept, turn-paired (l .inv) (p .2), p .3, p .4)
 
 same-length : tie.Need-same-length Inv-loop μ-loop
 same-length c =

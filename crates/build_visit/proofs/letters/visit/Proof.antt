@@ -10,7 +10,8 @@ use Rattle.sets.proofs.Bools.{clash}
 use Rattle.theory.specs.Rule.{Rule}
 use Rattle.theory.specs.Automaton.{automaton}
 use Rattle.build_spec.specs.Growth.{Grown, After}
-use Rattle.build_spec.proofs.Growth.{Upto, grown-none, grown-as, all-kept, after-kept, upto-start, upto-next, upto-full}
+use Rattle.build_spec.proofs.Appended.{appended-none, appended-as}
+use Rattle.build_spec.proofs.Growth.{Upto, all-kept, after-kept, upto-start, upto-next, upto-full}
 use Rattle.build_spec.specs.Keys.{LeadsOver}
 use Rattle.build_spec.specs.Reached.{ReachedKey, AllReached}
 use Rattle.build_spec.specs.Tables.{RuleTables}
@@ -29,7 +30,7 @@ abbrev μ-loop : tie.MeasureT-loop
 μ-loop keys₀ heads₀ last₀ n from ranks shape opens parts g₀ low a₀ keys heads last g a = shape .s - a
 
 returns : tie.Need-returns Inv-loop μ-loop
-returns c = λ r T R. grown-none (c .before .before .before .pre .1) (λ y f. absurd (clash (f .0 .passes) (sym (c .before .is-core .ensures) ∙ not-true _ (c .if1 .taken))))
+returns c = λ r T R. appended-none (c .before .before .before .pre .1) (λ y f. absurd (clash (f .0 .passes) (sym (c .before .is-core .ensures) ∙ not-true _ (c .if1 .taken))))
 
 loop-holds : tie.Need-loop-holds Inv-loop μ-loop
 loop-holds c = (omega arith, refl, refl, λ r T R. upto-start (c .before .before .before .before .pre .1))
@@ -40,7 +41,7 @@ visit-letter-requires c κs =
     let start = at-lowest .before .before .before .before in
     let p = start .pre in let e = p .0 in let i = c .before .before .before .before .before .before .loop .inv .3 (e .0) (e .1) (e .2) in (
       (e .0, e .1, all-kept i (e .2)),
-      i .chained,
+      i .kept,
       omega (arith, p .2, i .more),
       record { within = p .3; passes = sym (at-lowest .before .before .is-core .ensures) ∙ not-false _ (at-lowest .before .if1 .left) },
       at-lowest .lowest .ensures,
@@ -72,7 +73,7 @@ returns-3 : tie.Need-returns-3 Inv-loop μ-loop
 returns-3 c =
     let start = c .before .before .before .before .before .before .before in
     let a = start .args in let l = c .before .before .loop in let e : l .a ≡ a .shape .s = omega (arith, l .inv .0, c .if2 .left) in
-    λ r T R. grown-as (rw e at (l .inv .3 r T R))
+    λ r T R. appended-as (rw e at (l .inv .3 r T R))
     (λ t. letters-out (automaton r) (a .parts .now) (a .shape .components) (a .shape .s) (a .from) (a .n) (a .keys .now) (a .ranks)) (λ y h. h)
 
 pub visit-spec : {M : Type 1} → statement M

@@ -4,7 +4,7 @@ use native.Mathlib.Omega.{arith}
 use lib.ListN.{getD}
 use lib.Bits.{bitXor}
 use borrow.Author.Needs.{needs}
-use Rattle.build_spec.proofs.Growth.{grown-none, grown-as}
+use Rattle.build_spec.proofs.Appended.{appended-none, appended-as}
 use Rattle.build_spec.proofs.Link.{key-paired}
 use Rattle.build_spec.proofs.Starting.{few}
 use Rattle.build_spec.proofs.Letters.{stepping-fits, leads-in, leads-out, nothing-new, led}
@@ -20,7 +20,7 @@ returns c =
     let a = start .args in let p = start .pre in
     let passed : getD (a .last .now) (bitXor (getD (a .opens .now) (a .at .letter * 256 + getD (a .low .now) 15 0) 0) (a .shape .accepting)) 0 ≤ a .from
     = rw (c .before .wide .ensures, c .before .before .last-of .ensures, c .before .before .before .before .set-before .ensures) at (c .if1 .taken) in
-    λ r T R. grown-none (p .1) (λ y h. absurd (nothing-new T (a .at .letter) (p .5) (p .3) (a .low .now) (p .4) (a .from) (p .1) passed y h))
+    λ r T R. appended-none (p .1) (λ y h. absurd (nothing-new T (a .at .letter) (p .5) (p .3) (a .low .now) (p .4) (a .from) (p .1) passed y h))
 
 step-over-requires : tie.Need-step-over-requires
 step-over-requires c κs = let p = c .before .before .before .before .before .before .before .pre in ((p .0 .0, p .0 .1), p .3, p .4, p .5)
@@ -36,7 +36,7 @@ returns-2 c =
     let at-step-over = c .before .before .before .before .before .before .before .before in
     let start = at-step-over .before .before .before .before .before .before .before .before in let p = start .pre in
     λ r T R. let S = at-step-over .step-over .ensures r T in
-    grown-as (c .before .before .move-keys .ensures) (λ t y h. (h .0, h .1, h .2, leads-out S (key-paired (T .shaped) (R (h .0) (h .2))) (h .3)))
+    appended-as (c .before .before .move-keys .ensures) (λ t y h. (h .0, h .1, h .2, leads-out S (key-paired (T .shaped) (R (h .0) (h .2))) (h .3)))
     (λ y h. led (start .args .shape) (p .5) (p .3) (R (h .0) (h .2)) (leads-in S (key-paired (T .shaped) (R (h .0) (h .2))) (h .3)))
 
 pub visit-letter-spec : {M : Type 1} → statement M

@@ -13,7 +13,8 @@ use Rattle.build_cores.specs.Vectors.{Within}
 use Rattle.build_cores.proofs.Next.{within-next}
 use Rattle.build_cores.proofs.Vectors.{within-zero, within-le, within-lt}
 use Rattle.build_spec.specs.Growth.{Grown}
-use Rattle.build_spec.proofs.Growth.{Upto, grown-none, grown-as, all-kept, after-kept, upto-start, upto-full}
+use Rattle.build_spec.proofs.Appended.{appended-none, appended-as}
+use Rattle.build_spec.proofs.Growth.{Upto, all-kept, after-kept, upto-start, upto-full}
 use Rattle.build_spec.specs.declared.Shape.{Shape}
 use Rattle.build_spec.specs.Keys.{Leads, LeadsAt}
 use Rattle.build_spec.specs.Reached.{ReachedKey, AllReached}
@@ -38,7 +39,7 @@ abbrev μ-loop : tie.MeasureT-loop
 returns : tie.Need-returns Inv-loop μ-loop
 returns c =
     let p = c .before .before .pre in
-    λ r T R. grown-none (p .1) (λ y h. absurd (c .if1 .taken (ap (bitAnd (c .before .before .args .x)) (p .3) ∙ rw (h .1) at (open-and (T .shaped) (h .0) (h .2 .0 .within)))))
+    λ r T R. appended-none (p .1) (λ y h. absurd (c .if1 .taken (ap (bitAnd (c .before .before .args .x)) (p .3) ∙ rw (h .1) at (open-and (T .shaped) (h .0) (h .2 .0 .within)))))
 
 is-fresh-requires : tie.Need-is-fresh-requires Inv-loop μ-loop
 is-fresh-requires c κs = let e = c .before .before .before .pre .0 in omega (arith, e .1 .shaped .letters-are, e .1 .table .few-letters)
@@ -46,7 +47,7 @@ is-fresh-requires c κs = let e = c .before .before .before .pre .0 in omega (ar
 returns-2 : tie.Need-returns-2 Inv-loop μ-loop
 returns-2 c =
     let a = c .before .before .before .before .before .args in let p = c .before .before .before .before .before .pre in
-    λ r T R. grown-none (p .1) (λ y h. absurd (nothing-fresh T (a .from) (a .x) (p .1) (c .before .is-fresh .ensures (not-true _ (c .if2 .taken))) (h .0) (h .1) y (h .2)))
+    λ r T R. appended-none (p .1) (λ y h. absurd (nothing-fresh T (a .from) (a .x) (p .1) (c .before .is-fresh .ensures (not-true _ (c .if2 .taken))) (h .0) (h .1) y (h .2)))
 
 span-of-requires : tie.Need-span-of-requires Inv-loop μ-loop
 span-of-requires c κs =
@@ -63,7 +64,7 @@ visit-requires : tie.Need-visit-requires Inv-loop μ-loop
 visit-requires c κs =
     let start = c .before .before .before .before .before .before .before .before .before .before in
     let p = start .pre in let e = p .0 in let l = c .before .before .before .loop in let i = l .inv .2 (e .0) (e .1) (e .2) in
-    ((e .0, e .1, all-kept i (e .2)), i .chained, omega (arith, p .2, i .more), c .before .before .before .before .span-of .ensures .inside (l .d) (l .inv .0))
+    ((e .0, e .1, all-kept i (e .2)), i .kept, omega (arith, p .2, i .more), c .before .before .before .before .span-of .ensures .inside (l .d) (l .inv .0))
 
 same-length : tie.Need-same-length Inv-loop μ-loop
 same-length c =
@@ -88,7 +89,7 @@ returns-4 c =
     let at-span-of = at-loop .before in let start = at-span-of .before .before .before .before .before .before in
     let a = start .args in let l = at-loop .loop in let s = at-span-of .span-of in
     λ r T R. let i = l .inv .2 r T R in
-    grown-as (walk-end (s .result .caps) (λ v y h. h .0) (l .inv .0) i (l .inv .1) (c .before .before .before .before .visit .ensures r T (all-kept i R))
+    appended-as (walk-end (s .result .caps) (λ v y h. h .0) (l .inv .0) i (l .inv .1) (c .before .before .before .before .visit .ensures r T (all-kept i R))
     (λ y h. (h .1 .0, after-kept i (Leads (automaton r) (a .shape .s) (s .result .base + l .d)) (h .1 .1))) (c .if4 .taken))
     (λ t y h. let k = s .ensures .covers (h .0) (h .2 .0) (h .1) in (k .0, (k .1, rw (k .2) at (h .2))))
     (λ y h. h)
