@@ -4,25 +4,16 @@ use mathlib.Core.List.{List, [], _∷_, map, List·Memᴰ, List·Memᴰ·head, L
 use Prim.Native.Nat.{ℕ, suc, _<_}
 use native.Mathlib.Omega.{arith}
 use lib.ListN.{length, getD}
-use borrow.Author.Tests.{eq-eqb}
 use Rattle.sets.specs.Lists.{none}
 use Rattle.sets.proofs.Lists.{place-of}
-use Rattle.slice_sort.specs.Order.{times, Distinct}
-use Rattle.slice_sort.proofs.Distinct.{in-times, asc-distinct, cons-distinct}
+use Rattle.slice_sort.specs.Order.{Distinct}
+use Rattle.slice_sort.proofs.Distinct.{asc-distinct, cons-distinct, distinct-tail, distinct-head}
 
 -- no two places hold the same number
 pub distinct-at : (l : List ℕ) → ((i j : ℕ) → i < j → j < length l → getD l i 0 ≡ getD l j 0 → ⊥) → Distinct l
 distinct-at [] h = asc-distinct [] none
 distinct-at (x ∷ l) h = cons-distinct x l (distinct-at l (λ i j a b e. h (suc i) (suc j) (omega arith) (omega arith) e))
     (λ m. let p = place-of l x m in h 0 (suc (p .0)) (omega arith) (omega (arith, p .1)) (sym (p .2)))
-
-distinct-tail : (x : ℕ) (l : List ℕ) → Distinct (x ∷ l) → Distinct l
-unfolding times
-distinct-tail x l o v = omega (arith, o v)
-
-distinct-head : (x : ℕ) (l : List ℕ) → Distinct (x ∷ l) → List·Memᴰ x l → ⊥
-unfolding times
-distinct-head x l o m = let w = rw (eq-eqb x x refl) at (o x) in let z = in-times x l m in omega arith
 
 -- through a function that tells its members apart
 pub distinct-through : (f : ℕ → ℕ) (l : List ℕ) → Distinct l → ((x y : ℕ) → List·Memᴰ x l → List·Memᴰ y l → f x ≡ f y → x ≡ y) → Distinct (map f l)
