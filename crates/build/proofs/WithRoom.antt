@@ -38,8 +38,7 @@ module _ (r : Rule) (P : Passing r) (apart : someNested r ≡ false) (p : List �
     (codes-fit : length (macrostates r) ≤ codesRoom (length xs)) (moves-fit : length (transitions r) ≤ transitionsRoom (length zs)) where
   -- no row refuses the file of the rule
   unrefused : buildRow (p ++ bodyOf r) (length xs) (length zs) ≡ 0
-  unrefused =
-      let a = layout-accepted r P apart p named in
+  unrefused = let a = layout-accepted r P apart p named in
       build-row holdsInitial (p ++ bodyOf r) xs zs (a .0) ∙ rw (a .1) (row-fits (macrostates r) (transitions r) (length xs) (length zs) codes-fit moves-fit)
 
   -- the file of the rule, after any preface p whose names are not refused, is built: the counts and both lists, and zeros after them

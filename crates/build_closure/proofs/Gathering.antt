@@ -19,8 +19,7 @@ module _ (m : ℕ) (ys : List ℕ) (fits : m ≤ length ys) where
   keys-at p h = List·getD-map (λ (e : ℕ). e % 2 ^ 48) (take m ys) p 0 ∙ ap (λ (e : ℕ). e % 2 ^ 48) (getD-take m ys p 0 h)
 
   pub lists-in : (y : ℕ) → Lists ys m y → List·Memᴰ y (keysOf m ys)
-  lists-in y h =
-      let e : getD (keysOf m ys) (h .0) 0 ≡ y = keys-at (h .0) (h .1) ∙ h .2 in
+  lists-in y h = let e : getD (keysOf m ys) (h .0) 0 ≡ y = keys-at (h .0) (h .1) ∙ h .2 in
       rw e at (mem-at (keysOf m ys) (h .0) (omega (arith, h .1, keys-long)))
 
   pub in-lists : (y : ℕ) → List·Memᴰ y (keysOf m ys) → Lists ys m y

@@ -45,8 +45,7 @@ open-rank A v q l = ap (exclusive (A .accepting q)) (set-rank A v q l) ∙ xor-t
 down : (v part : ℕ) → gapless v part ≡ true → (j i : ℕ) → j + i < 16 → used v part (j + i) ≡ true → used v part j ≡ true
 unfolding gapless
 down v part g j zero l t = let e : j + 0 ≡ j = omega arith in ap (used v part) (sym e) ∙ t
-down v part g j (suc i) l t =
-    let e : j + suc i ≡ suc (j + i) = omega arith in
+down v part g j (suc i) l t = let e : j + suc i ≡ suc (j + i) = omega arith in
     down v part g j i (omega arith) (or-tf (used v part (suc (j + i))) (used v part (j + i)) (every-at 15 (λ x. not (used v part (suc x)) || used v part x) g (j + i) (omega arith))
     (ap (used v part) (sym e) ∙ t))
 
@@ -67,8 +66,7 @@ module _ (A : Automaton) (parts : List ℕ) (P : Parts A parts) where
   part-in c q l m e = part-bit c q l ∙ and-i (lt-ltb q (A .n) m) (eq-eqb (A .component q) c e)
 
   pub part-out : (c q : ℕ) → c < A .components → bit (part c) q ≡ true → (q < A .n) × (A .component q ≡ c)
-  part-out c q l t =
-      let u = sym (part-bit c q l) ∙ t in
+  part-out c q l t = let u = sym (part-bit c q l) ∙ t in
       (ltb-true q (A .n) (and-l (ltb q (A .n)) (eqb (A .component q) c) u), eqb-true (A .component q) c (and-r (ltb q (A .n)) (eqb (A .component q) c) u))
 
   -- ---- the largest ranks are the sizes of the components

@@ -144,8 +144,7 @@ unbroken-and (suc n) m h u = by-cases (ℕ-discrete (m % 2) 1)
 -- the code's test
 pub gap-free : (ranks part : ℕ) → bitAnd (mask 16 (used ranks part)) (mask 16 (used ranks part) + 1) ≡ 0 → gapless ranks part ≡ true
 unfolding gapless
-gap-free ranks part e =
-    let f = used ranks part in let m = mask 16 f in
+gap-free ranks part e = let f = used ranks part in let m = mask 16 f in
     every-all 15 (λ j. not (f (suc j)) || f j) (λ j l. bif (f (suc j))
     (λ t. or-r (not (f (suc j))) (f j) (sym (bit-mask 16 f j (omega arith)) ∙ and-unbroken j m e (bit-mask 16 f (suc j) (omega arith) ∙ t)))
     (λ t. or-l (not (f (suc j))) (f j) (ap not t)))

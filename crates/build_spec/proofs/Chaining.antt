@@ -18,8 +18,7 @@ use Rattle.build_spec.proofs.Keys.{code-key, key-parts}
 
 -- a key from its code, by shifts and masks
 key-put : (c : ℕ) → c < 2 ^ 48 → bitOr (bitAnd c 1099511627775 * 2 ^ 8 % 2 ^ 64) (c / 2 ^ 40) ≡ keyOf c
-key-put c h =
-    let fits : c % 2 ^ 40 * 2 ^ 8 < 2 ^ 64 = omega arith in
+key-put c h = let fits : c % 2 ^ 40 * 2 ^ 8 < 2 ^ 64 = omega arith in
     ap (λ (x : ℕ). bitOr (x * 2 ^ 8 % 2 ^ 64) (c / 2 ^ 40)) (and-mask c 40)
     ∙ ap (λ (x : ℕ). bitOr x (c / 2 ^ 40)) (mod-eq-of-lt fits)
     ∙ or-shifted (c % 2 ^ 40) 8 (c / 2 ^ 40) (omega arith)

@@ -115,15 +115,13 @@ module _ (A : Automaton) (H : Layered A) (parts : List ℕ) (P : Parts A parts) 
     onto-stay a pair z = rw (ne-eqb (pair / 16) 0 z)
 
     pub onto-component : (a pair : ℕ) → pair % 16 < A .components → ontoOf A a v pair % 16 < A .components
-    onto-component a pair h =
-        let f = P .few-components in
+    onto-component a pair h = let f = P .few-components in
         by-cases (ℕ-discrete (pair / 16) 0)
         (λ z. let e = onto-turn a pair z in let n = next-low A (pair % 16) h in omega arith)
         (λ z. let e = onto-stay a pair z in omega arith)
 
     pub onto-low : (a pair : ℕ) → pair % 16 < A .components → ontoOf A a v pair < 256
-    onto-low a pair h =
-        let f = P .few-components in
+    onto-low a pair h = let f = P .few-components in
         by-cases (ℕ-discrete (pair / 16) 0)
         (λ z. let e = onto-turn a pair z in let n = next-low A (pair % 16) h in let k = all-low a (nextComponent A (pair % 16)) in omega arith)
         (λ z. let e = onto-stay a pair z in let k = level-low a (pair % 16) (pair / 16) in omega arith)

@@ -38,8 +38,7 @@ code-low {A} {x} M = omega (arith, pair-low A x (M .coded))
 
 module _ (ys : List ℕ) (m : ℕ) (fits : m ≤ length ys) where
   stands-in : (y : ℕ) → Stands 0 ys m y → List·Memᴰ y (take m ys)
-  stands-in y s =
-      let l : s .0 < length (take m ys) = omega (arith, s .2, length-take-le m ys fits) in
+  stands-in y s = let l : s .0 < length (take m ys) = omega (arith, s .2, length-take-le m ys fits) in
       rw (getD-take m ys (s .0) 0 (s .2), s .3) at (mem-at (take m ys) (s .0) l)
 
   in-stands : (y : ℕ) → List·Memᴰ y (take m ys) → Stands 0 ys m y
@@ -90,8 +89,7 @@ module _ {r : Rule} {opens parts : List ℕ} {shape : Shape} (T : RuleTables r o
         (key-core (code j) (pair-low A (code j) (M .coded)) ∙ vector-core A (layered r (T .shaped .passing)) parts (T .shaped .masks) (code j) M) ∙ core-vector A v)
 
     done-in : (y : ℕ) → List·Memᴰ y (transitionsFrom r start) → Done A (shape .s) keys n n y
-    done-in y k =
-        let t = transition-iff r (T .shaped .passing) start few y .0 k in
+    done-in y k = let t = transition-iff r (T .shaped .passing) start few y .0 k in
         at (t .source) (t .letter) (t .target) (t .source-listed) (t .letter-known) (t .target-listed) (t .packed) (t .steps)
       where
         at : (x a j : ℕ) → x < n → a < r .s → j < n → y ≡ transitionOf x a j → Goes A (code x) a (code j) → Done A (shape .s) keys n n y

@@ -203,8 +203,7 @@ module _ {r : Rule} {parts : List ℕ} {shape : Shape} (S : Shaped r parts shape
 
   -- open states have a largest rank
   open-bits : (v : ℕ) → Within 8 v largest → (q : ℕ) → q < 8 → bit (openIn v) q ≡ true → bit (openIn largest) q ≡ true
-  open-bits v w q l t =
-      let a = ltb-true 0 (rankAt v q) (sym (bit-mask 8 (λ q. ltb 0 (rankAt v q)) q l) ∙ t) in
+  open-bits v w q l t = let a = ltb-true 0 (rankAt v q) (sym (bit-mask 8 (λ q. ltb 0 (rankAt v q)) q l) ∙ t) in
       bit-mask 8 (λ q. ltb 0 (rankAt largest q)) q l ∙ lt-ltb 0 (rankAt largest q) (omega (arith, within-rank 8 v largest w q l))
 
   pub open-within : (v : ℕ) → Within 8 v largest → openIn v ≤ openIn largest

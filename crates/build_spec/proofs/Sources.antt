@@ -42,8 +42,7 @@ module _ {earlier core : ℕ} {onto : ℕ → ℕ} {a : ℕ} {keys : List ℕ} {
       (g : Emitted (Crossing earlier core onto a keys n i) ys r zs u full′) where
     -- transitions from different places are different
     apart : (y : ℕ) → From earlier core onto a keys n (t .walked .done) y → Crossing earlier core onto a keys n i y → ⊥
-    apart y f h =
-        let e : transitionOf (f .0) a (f .3 .0) ≡ transitionOf i a (h .0) = sym (f .3 .3) ∙ h .3 in
+    apart y f h = let e : transitionOf (f .0) a (f .3 .0) ≡ transitionOf i a (h .0) = sym (f .3 .3) ∙ h .3 in
         omega (arith, walk-below (t .walked), f .1, f .3 .1, h .1, C .fits, C .few)
 
     all : (y : ℕ) → From earlier core onto a keys n (t .walked .done) y ⊎ Crossing earlier core onto a keys n i y → Crossings earlier core onto a keys n y

@@ -49,8 +49,7 @@ module _ {xs : List ℕ} {n b i : ℕ} where
 
       -- on to the link, with what is made of place i too
       pub walk-next : {More : ℕ → Type 0} → More i → Walked More xs n b (linkAt xs i)
-      walk-next m =
-          let own : bucketAt xs i ≡ b = ⊎-elim (λ z. absurd (o z)) (λ e. e) (w .ahead .begins .own) in
+      walk-next m = let own : bucketAt xs i ≡ b = ⊎-elim (λ z. absurd (o z)) (λ e. e) (w .ahead .begins .own) in
           record { done = i; ahead = record { some = omega arith; fits = omega (arith, walk-inside); begins = rw own at (links i (omega arith) walk-inside) }; made = m }
 
   module _ {Q : ℕ → Type 0} (w : Walked (Met Q xs n b) xs n b i) where

@@ -278,8 +278,7 @@ module _ (P : Set) (l : ℕ → ℕ) (low : (q : ℕ) → q < 8 → P q ≡ true
 
     pub stay : x ≡ prev → (((q : ℕ) → q < 8 → bit prev q ≡ P q) → ⊥) → State prev ones ranks (levels + ones) (j + 1)
     unfolding levelsSoFar ranksSoFar
-    stay e more =
-        let v = same-none e in
+    stay e more = let v = same-none e in
         rw (add-one j) record {
           m = s .m;
           bits = λ q h. s .bits q h ∙ sym (below-none j v q h);
@@ -312,8 +311,7 @@ module _ (P : Set) (l : ℕ → ℕ) (low : (q : ℕ) → q < 8 → P q ≡ true
 
       pub go : j ≤ 8 → State x (ones * 2 ^ 4 % 2 ^ 64) (ranks + num 16 8 (λ q. one (bit d q))) (levels + ones) (j + 1)
       unfolding levelsSoFar
-      go h =
-          let v = other-new ne in
+      go h = let v = other-new ne in
           rw (add-one j) record {
             m = suc (s .m);
             bits = λ q k. bx q k ∙ leb-suc q;
@@ -347,8 +345,7 @@ module _ (P : Set) (l : ℕ → ℕ) (low : (q : ℕ) → q < 8 → P q ≡ true
 
     -- above the last class: its value
     top-last : (k : ℕ) → s .m < k → j ≡ suc (largestUpto j k)
-    top-last k h =
-        let y = s .latest e in
+    top-last k h = let y = s .latest e in
         omega (arith, y .1, top-all j k (omega (arith, s .found)), ap (λ (z : ℕ). largest 8 (below z) l) (y .1), all-new (y .0) (y .2))
 
     done-level : (k : ℕ) → levelSoFar (s .m) j k ≡ largest 8 (λ q. P q && leb (class P l q) k) l + one (leb 1 k) * 1

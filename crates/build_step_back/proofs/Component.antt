@@ -75,8 +75,7 @@ module _ (opens : List ℕ) (letter opened part : ℕ) (low : List ℕ) (r : Ris
 
   -- no open state
   pub nothing : G ≡ 0 → Stepped opens letter opened part low 0 0
-  nothing e =
-      let n : (q : ℕ) → q < 8 → bit G q ≡ false = λ q h. ap (λ (x : ℕ). bit x q) e ∙ bit-none q in
+  nothing e = let n : (q : ℕ) → q < 8 → bit G q ≡ false = λ q h. ap (λ (x : ℕ). bit x q) e ∙ bit-none q in
       record { ranked = none-ranks (bit G) L level-low n; levelled = none-levels (bit G) L level-low n }
 
   pub stepped : (prev ones ranks levels j : ℕ) → At prev ones ranks levels j → prev ≡ G → (1229782938247303440 ≤ levels) × Stepped opens letter opened part low ranks (levels - 1229782938247303440)

@@ -64,8 +64,7 @@ slice-none row list lent e = rw e refl
 
 module _ (big small : List ℕ) (n : ℕ) (shorter : length small ≤ length big) (room : length big ≤ n) where
   zeros-join : padded small (length big) ++ replicate (n - length big) 0 ≡ padded small n
-  zeros-join =
-      let e : length big - length small + (n - length big) ≡ n - length small = omega arith in
+  zeros-join = let e : length big - length small + (n - length big) ≡ n - length small = omega arith in
       append-assoc small (replicate (length big - length small) 0) (replicate (n - length big) 0)
       ∙ ap (λ (l : List ℕ). small ++ l) (replicate-append-replicate (length big - length small) (n - length big) 0)
       ∙ ap (λ (k : ℕ). small ++ replicate k 0) e
@@ -73,8 +72,7 @@ module _ (big small : List ℕ) (n : ℕ) (shorter : length small ≤ length big
 renumbered-short : (ms ts : List ℕ) → length (renumbered ms ts) ≤ length ts
 unfolding renumbered
 renumbered-short ms [] = omega arith
-renumbered-short ms (t ∷ ts) =
-    let ih = renumbered-short ms ts in
+renumbered-short ms (t ∷ ts) = let ih = renumbered-short ms ts in
     bif (isLeft ms t) (λ e. rw (renumbered-yes ms t ts e) (omega arith)) (λ e. rw (renumbered-no ms t ts e) (omega arith))
 
 -- ---- the file of the call, and both slices before and after the build
@@ -177,13 +175,11 @@ module _ (f xs zs ys ws : List ℕ) (codes-built : ys ≡ codesAfter f xs (lengt
 
       codes-joined : vs ++ drop (n .macrostates) ys ≡ padded (trimmedCodes r) (length xs)
       unfolding trimmedCodes
-      codes-joined =
-          let fits : length (macrostates r) ≤ length xs = omega (arith, counted .1, codes-room, ys-long) in
+      codes-joined = let fits : length (macrostates r) ≤ length xs = omega (arith, counted .1, codes-room, ys-long) in
           ap₂ (λ (a b : List ℕ). a ++ b) (T .codes-after) codes-behind ∙ zeros-join (macrostates r) (trimmedCodes r) (length xs) kept-fits fits
 
       moves-joined : us ++ drop (n .transitions) ws ≡ padded (trimmedTransitions r) (length zs)
-      moves-joined =
-          let fits : length (transitions r) ≤ length zs = omega (arith, counted .2, moves-room, ws-long) in
+      moves-joined = let fits : length (transitions r) ≤ length zs = omega (arith, counted .2, moves-room, ws-long) in
           ap₂ (λ (a b : List ℕ). a ++ b) (T .transitions-after ∙ ap (λ (l : List ℕ). padded l (length (transitions r))) moves-are) moves-behind
           ∙ zeros-join (transitions r) (trimmedTransitions r) (length zs) moves-shorter fits
 

@@ -23,8 +23,7 @@ from-all b m f g hb h = let e : m - 0 ≡ m = omega arith in ap (λ (n : ℕ). n
 
 -- the digit below k
 pub from-step : (b m : ℕ) (f : ℕ → ℕ) (k : ℕ) → 0 < b → 0 < k → k ≤ m → from b m f (k - 1) ≡ from b m f k * b + f (k - 1)
-from-step b m f k hb p l =
-    let e : m - (k - 1) ≡ suc (m - k) = omega arith in
+from-step b m f k hb p l = let e : m - (k - 1) ≡ suc (m - k) = omega arith in
     ap (λ (n : ℕ). num b n (λ j. f (k - 1 + j))) e
     ∙ num-low b (m - k) (λ j. f (k - 1 + j))
     ∙ ap (λ (x : ℕ). x * b + f (k - 1 + 0)) (num-ext b hb (m - k) (λ j. f (k - 1 + suc j)) (λ j. f (k + j)) (λ j h. let z : k - 1 + suc j ≡ k + j = omega arith in ap f z))

@@ -86,8 +86,7 @@ word-of-all : (xs : List ℕ) → ((i : ℕ) → i < length xs → getD xs i 0 <
 unfolding bytesOfAll
 word-of-all [] h i l = absurd (omega arith)
 word-of-all (x ∷ xs) h zero l = word-front x (bytesOfAll xs) (h 0 l)
-word-of-all (x ∷ xs) h (suc i) l =
-    let e : suc i * 8 ≡ 8 + i * 8 = omega arith in
+word-of-all (x ∷ xs) h (suc i) l = let e : suc i * 8 ≡ 8 + i * 8 = omega arith in
     ap (λ (k : ℕ). wordAt (bytesOf x ++ bytesOfAll xs) k) e ∙ word-behind x (bytesOfAll xs) (i * 8)
     ∙ word-of-all xs (λ j m. h (suc j) (omega arith)) i (omega arith)
 

@@ -15,8 +15,7 @@ module _ (line : ℕ → ℕ → List ℕ) where
   lines-append : (i : ℕ) (xs ys : List ℕ) → lines line i (xs ++ ys) ≡ lines line i xs ++ lines line (i + length xs) ys
   unfolding lines
   lines-append i [] ys = rw (add-zero i)
-  lines-append i (x ∷ xs) ys =
-      let e : suc i + length xs ≡ i + suc (length xs) = omega arith in
+  lines-append i (x ∷ xs) ys = let e : suc i + length xs ≡ i + suc (length xs) = omega arith in
       ap (λ (t : List ℕ). line i x ++ t) (lines-append (suc i) xs ys ∙ ap (λ (k : ℕ). lines line (suc i) xs ++ lines line k ys) e)
       ∙ sym (append-assoc (line i x) (lines line (suc i) xs) (lines line (i + suc (length xs)) ys))
 

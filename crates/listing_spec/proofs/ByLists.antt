@@ -39,8 +39,7 @@ module _ (f : List ℕ) (short : length f ≤ 4096) where
 
   refused-listing : (k : ℕ) → fileRow f ≡ suc k → listingOf f ≡ refusedLine (suc k)
   unfolding rowFrom fileRow
-  refused-listing k e =
-      let row : suc k ≡ buildRow f 512 4096 = first-left (fileRows f) _ (suc k) (λ z. omega arith) (sym e) in
+  refused-listing k e = let row : suc k ≡ buildRow f 512 4096 = first-left (fileRows f) _ (suc k) (λ z. omega arith) (sym e) in
       row-text ∙ ap (λ (j : ℕ). textBy j (namedIn f) (macrostates (ruleIn f)) (transitions (ruleIn f))) (sym row) ∙ refused-by k (namedIn f) (macrostates (ruleIn f)) (transitions (ruleIn f))
 
   module _ (e : fileRow f ≡ 0) (codes moves : List ℕ) (L : ListsReachable (ruleIn f) codes moves) where

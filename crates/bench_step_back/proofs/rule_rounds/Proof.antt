@@ -5,8 +5,7 @@ use Rattle.bench_step_back.proofs.rule_rounds.Statement.{statement}
 use Rattle.bench_step_back.proofs.rule_rounds.Tie as tie
 
 rounds-requires : tie.Need-rounds-requires
-rounds-requires c κs =
-    let at-prepare = c .before .before .before .before in
+rounds-requires c κs = let at-prepare = c .before .before .before .before in
     (ruleIn (at-prepare .before .before .args .file .now), record { shaped = at-prepare .prepare .ensures .0; table = c .before .before .file-opens .ensures })
 
 pub rule-rounds-spec : {M : Type 1} → statement M

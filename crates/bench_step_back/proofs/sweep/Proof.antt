@@ -30,8 +30,7 @@ loop-less c =
     let l = c .before .before .before .loop in rw (c .next-ranks .ensures) (walk-less (c .before .before .before .before .args .caps) (l .t) (l .inv) (c .before .if1 .left))
 
 loop-again : tie.Need-loop-again Inv-loop μ-loop
-loop-again c =
-    let a = c .before .before .before .before .args in let l = c .before .before .before .loop in
+loop-again c = let a = c .before .before .before .before .args in let l = c .before .before .before .loop in
     rw (c .next-ranks .ensures) (within-next 8 (l .t) (a .caps) (l .inv) (c .before .if1 .left))
 
 pub sweep-spec : {M : Type 1} → statement M

@@ -5,8 +5,7 @@ use Rattle.build.proofs.build_accepted.Statement.{statement}
 use Rattle.build.proofs.build_accepted.Tie as tie
 
 build-table-requires : tie.Need-build-table-requires
-build-table-requires c κs =
-    let at-opens = c .before .before .before .before in let at-prepare = at-opens .before .before in
+build-table-requires c κs = let at-opens = c .before .before .before .before in let at-prepare = at-opens .before .before in
     (ruleIn (at-prepare .before .before .before .before .args .file .now), record { shaped = at-prepare .prepare .ensures .0; table = at-opens .file-opens .ensures })
 
 returns : tie.Need-returns

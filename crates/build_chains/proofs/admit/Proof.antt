@@ -8,8 +8,7 @@ use Rattle.build_chains.proofs.admit.Statement.{statement}
 use Rattle.build_chains.proofs.admit.Tie as tie
 
 returns : tie.Need-returns
-returns c =
-    let p = c .before .before .before .before .before .before .pre in
+returns c = let p = c .before .before .before .before .before .before .pre in
     appended-none (p .0) (λ y e. rw e (c .before .find .result, c .if1 .taken, c .before .find .ensures .hit (c .if1 .taken)))
 
 returns-2 : tie.Need-returns-2

@@ -20,8 +20,7 @@ returns : tie.Need-returns Inv-loop μ-loop
 returns c = (λ t. absurd (false≢true t), λ t h. omega (arith, h .1, c .if1 .taken))
 
 loop-holds : tie.Need-loop-holds Inv-loop μ-loop
-loop-holds c =
-    let a = c .before .before .args in let p = c .before .before .pre in let some : 0 < a .j = omega (arith, c .before .if1 .left) in
+loop-holds c = let a = c .before .before .args in let p = c .before .before .pre in let some : 0 < a .j = omega (arith, c .before .if1 .left) in
     walk-from some (p .0 .links (a .j) some (p .1)) (λ p k j e. absurd (omega arith))
 
 inside : (c : tie.At-loop Inv-loop μ-loop) → c .loop .q < c .before .before .before .args .j
@@ -38,8 +37,7 @@ core : (x : ℕ) → bitAnd x 281474976710655 / 2 ^ 8 ≡ x % 2 ^ 48 / 256
 core x = ap (λ (y : ℕ). y / 2 ^ 8) (and-mask x 48)
 
 returns-2 : tie.Need-returns-2 Inv-loop μ-loop
-returns-2 c =
-    let a = c .before .before .before .before .before .args in let i = c .before .before .loop .q in
+returns-2 c = let a = c .before .before .before .before .before .args in let i = c .before .before .loop .q in
     (λ t. (i, inside (c .before .before), sym (core (getD (a .keys .now) i 0)) ∙ c .if2 .taken ∙ core (getD (a .keys .now) (a .j) 0)), λ t. absurd (true≢false t))
 
 -- the core at the place is another
@@ -48,8 +46,7 @@ other : (c : tie.Else2 Inv-loop μ-loop) → keyAt (c .before .before .before .b
 other c e = let a = c .before .before .before .before .before .args in c .if2 .left (core (getD (a .keys .now) (c .before .before .loop .q) 0) ∙ e ∙ sym (core (getD (a .keys .now) (a .j) 0)))
 
 returns-3 : tie.Need-returns-3 Inv-loop μ-loop
-returns-3 c =
-    let l = c .before .before .before .loop in let last : l .q ≡ 0 = omega (arith, c .if3 .taken) in
+returns-3 c = let l = c .before .before .before .loop in let last : l .q ≡ 0 = omega (arith, c .if3 .taken) in
     (λ t. absurd (false≢true t), λ t h. walk-end (l .inv) last (other (c .before)) (h .0) (h .1) (ap bucketOf (h .2)) (h .2))
 
 loop-less : tie.Need-loop-less Inv-loop μ-loop

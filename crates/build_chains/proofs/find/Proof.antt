@@ -21,8 +21,7 @@ returns : tie.Need-returns Inv-loop μ-loop
 returns c = record { hit = λ l. absurd (omega arith); none = λ l h. omega (arith, h .1, c .if1 .taken) }
 
 loop-holds : tie.Need-loop-holds Inv-loop μ-loop
-loop-holds c =
-    let a = c .before .before .before .args in let p = c .before .before .before .pre in
+loop-holds c = let a = c .before .before .before .args in let p = c .before .before .before .pre in
     rw (c .chain-top .ensures) (walk-from (omega (arith, c .before .if1 .left)) (p .0 .begin (bucketOf (a .key / 256)) (bucket-low (a .key / 256))) (λ p k j e. absurd (omega arith)))
 
 inside : (c : tie.At-loop Inv-loop μ-loop) → c .loop .i < c .before .before .before .before .args .n
@@ -35,8 +34,7 @@ shared-slice-read-x : tie.Need-shared-slice-read-x Inv-loop μ-loop
 shared-slice-read-x c = omega (arith, inside (c .before), c .before .before .before .before .before .pre .0 .fits)
 
 returns-2 : tie.Need-returns-2 Inv-loop μ-loop
-returns-2 c =
-    let a = c .before .before .before .before .before .before .args in let i = c .before .before .loop .i in
+returns-2 c = let a = c .before .before .before .before .before .before .args in let i = c .before .before .loop .i in
     record { hit = λ l. sym (and-mask (getD (a .keys .now) i 0) 48) ∙ c .if2 .taken; none = λ l. absurd (let h = inside (c .before .before) in omega arith) }
 
 abbrev start-of-else2 : tie.Else2 Inv-loop μ-loop → tie.Start Inv-loop μ-loop
@@ -47,8 +45,7 @@ other : (c : tie.Else2 Inv-loop μ-loop) → keyAt (start-of-else2 c .args .keys
 other c e = c .if2 .left (and-mask (getD (start-of-else2 c .args .keys .now) (c .before .before .loop .i) 0) 48 ∙ e)
 
 returns-3 : tie.Need-returns-3 Inv-loop μ-loop
-returns-3 c =
-    let l = c .before .before .before .loop in let last : l .i ≡ 0 = omega (arith, c .if3 .taken) in
+returns-3 c = let l = c .before .before .before .loop in let last : l .i ≡ 0 = omega (arith, c .if3 .taken) in
     record { hit = λ l. absurd (omega arith); none = λ z h. walk-end (l .inv) last (other (c .before)) (h .0) (h .1) (ap (λ (y : ℕ). bucketOf (y / 256)) (h .2)) (h .2) }
 
 loop-less : tie.Need-loop-less Inv-loop μ-loop

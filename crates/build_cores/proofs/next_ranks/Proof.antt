@@ -28,8 +28,7 @@ loop-again c =
     (omega (arith, l .inv .0), carry _ _ _ _ _ _ (l .inv .1 .1) e)
 
 returns : tie.Need-returns Inv-loop μ-loop
-returns c =
-    let l = c .before .loop in let p = c .before .before .pre in
+returns c = let l = c .before .loop in let p = c .before .before .pre in
     mod-eq-of-lt (next-fits _ _ _ _ _ _ (l .inv .1 .1) (p .1) (p .0))
     ∙ sym (end _ _ _ _ _ _ (l .inv .1 .1) (λ e. c .loop-test .left (and-mask (l .w) 4 ∙ e ∙ sym (and-mask (l .c) 4))))
 

@@ -18,8 +18,7 @@ slice-aggregate-reachable c =
     sym (length-take-le (c .before .room-of .result) (c .before .before .before .args .codes .now) (room-fits _ _ _ (c .before .room-of .ensures)))
 
 reachable-requires : tie.Need-reachable-requires
-reachable-requires c κs =
-    let xs = c .before .before .before .args .codes .now in let room = c .before .room-of in
+reachable-requires c κs = let xs = c .before .before .before .args .codes .now in let room = c .before .room-of in
     (c .before .before .before .pre, omega (arith, length-take-le (room .result) xs (room-fits _ _ _ (room .ensures)), room-most _ _ _ (room .ensures)))
 
 returns : tie.Need-returns

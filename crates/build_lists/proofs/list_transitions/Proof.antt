@@ -22,8 +22,7 @@ slice-aggregate-transitions-2 c = sym (length-take-le (c .before .before .before
     (c .before .before .before .before .before .pre .2 .fits))
 
 transitions-requires : tie.Need-transitions-requires
-transitions-requires c κs =
-    let a = c .before .before .before .before .before .args in let p = c .before .before .before .before .before .pre in
+transitions-requires c κs = let a = c .before .before .before .before .before .args in let p = c .before .before .before .before .before .pre in
     ((p .0, p .1, p .2 .listed), omega (arith, length-take-le (a .n) (a .codes .now) (p .2 .fits), p .2 .few))
 
 -- the codes as they were

@@ -10,8 +10,7 @@ step-accepting-requires c κs = let p = c .before .before .before .pre in (p .0,
 
 returns : tie.Need-returns
 unfolding acceptingPart
-returns c =
-    let a = c .before .before .before .before .args in let x = c .before .before .step-rejecting in let y = c .step-accepting in
+returns c = let a = c .before .before .before .before .args in let x = c .before .before .step-rejecting in let y = c .step-accepting in
     both (rejectingPart (a .parts .now) (a .accepting)) (a .opens .now) (a .letter) (a .opened) (a .parts .now) (a .components) (a .low .now) _ (x .result) (x .last .1 .1 .1 .1 .1 .1 .1 .0)
     (y .result) (y .last .1 .1 .1 .1 .1 .1 .1 .0) (x .ensures) (y .ensures)
 

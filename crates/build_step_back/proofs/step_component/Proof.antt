@@ -19,8 +19,7 @@ abbrev μ-loop : tie.MeasureT-loop
 μ-loop opens letter opened part low row outside goal prev₀ ones₀ ranks₀ levels₀ j₀ prev ones ranks levels j = 9 - j
 
 cast-outside : tie.Need-cast-outside Inv-loop μ-loop
-cast-outside c =
-    let a = c .args in
+cast-outside c = let a = c .args in
     omega (arith, xor-lt 8 (a .opened) (bitAnd (a .opened) (a .part)) (omega arith) (omega (arith, and-le-r (a .opened) (a .part))))
 
 returns : tie.Need-returns Inv-loop μ-loop
@@ -29,8 +28,7 @@ returns c = let a = c .before .before .args in nothing (a .opens .now) (a .lette
 
 loop-holds : tie.Need-loop-holds Inv-loop μ-loop
 unfolding goal
-loop-holds c =
-    let a = c .before .before .args in
+loop-holds c = let a = c .before .before .args in
     (c .before .before .pre, omega arith, begin (a .opens .now) (a .letter) (a .opened) (a .part) (a .low .now) (c .before .before .pre) (omega arith) (c .if1 .left))
 
 -- the loop's test: not all have come in
@@ -40,8 +38,7 @@ unfolding goal
 more c = c .loop-test .taken
 
 deep : (c : tie.In-loop Inv-loop μ-loop) → c .before .loop .j ≤ 8
-deep c =
-    let a = c .before .before .before .before .args in let l = c .before .loop in
+deep c = let a = c .before .before .before .before .args in let l = c .before .loop in
     deep-in (a .opens .now) (a .letter) (a .opened) (a .part) (a .low .now) (l .inv .0) (omega arith) (l .prev) (l .ones) (l .ranks) (l .levels) (l .j) (l .inv .2) (more c)
 
 small : (c : tie.After-x Inv-loop μ-loop) → _<_ (bitOr (bitXor (c .before .before .before .before .before .args .opened)
@@ -51,13 +48,11 @@ small c = arg-small (c .before .before .before .before .before .args .opened) (c
     (getD (c .before .before .before .before .before .args .low .now) (c .before .before .loop .j) 0) (omega arith) (omega arith)
 
 cast-x : tie.Need-cast-x Inv-loop μ-loop
-cast-x c =
-    let a = c .before .before .before .before .before .args in
+cast-x c = let a = c .before .before .before .before .before .args in
     omega (arith, and-le-r (getD (a .low .now) (c .before .before .loop .j) 0) (a .part))
 
 add-levels : tie.Need-add-levels Inv-loop μ-loop
-add-levels c =
-    let a = c .before .before .before .before .before .before .args in let l = c .before .before .before .loop in
+add-levels c = let a = c .before .before .before .before .before .before .args in let l = c .before .before .before .loop in
     omega (
       arith,
       levels-fit (a .opens .now) (a .letter) (a .opened) (a .part) (a .low .now) (l .inv .0) (omega arith) (l .prev) (l .ones) (l .ranks) (l .levels) (l .j) (l .inv .2)
@@ -101,14 +96,12 @@ loop-again-2 c =
 
 sub-levels : tie.Need-sub-levels Inv-loop μ-loop
 unfolding goal
-sub-levels c =
-    let a = c .before .before .before .before .args in let l = c .before .loop in
+sub-levels c = let a = c .before .before .before .before .args in let l = c .before .loop in
     omega (arith, stepped (a .opens .now) (a .letter) (a .opened) (a .part) (a .low .now) (l .inv .0) (l .prev) (l .ones) (l .ranks) (l .levels) (l .j) (l .inv .2) (c .loop-test .left) .0)
 
 returns-2 : tie.Need-returns-2 Inv-loop μ-loop
 unfolding goal
-returns-2 c =
-    let a = c .before .before .before .before .args in let l = c .before .loop in
+returns-2 c = let a = c .before .before .before .before .args in let l = c .before .loop in
     stepped (a .opens .now) (a .letter) (a .opened) (a .part) (a .low .now) (l .inv .0) (l .prev) (l .ones) (l .ranks) (l .levels) (l .j) (l .inv .2) (c .loop-test .left) .1
 
 pub step-component-spec : {M : Type 1} → statement M

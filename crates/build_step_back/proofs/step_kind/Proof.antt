@@ -18,8 +18,7 @@ abbrev μ-loop : tie.MeasureT-loop
 μ-loop opens letter opened parts components accepting low levels₀ kind ranks₀ c₀ levels ranks c = components - c
 
 loop-holds : tie.Need-loop-holds Inv-loop μ-loop
-loop-holds c =
-    let a = c .args in
+loop-holds c = let a = c .args in
     (omega arith, start (partOf (a .parts .now) (a .accepting) (a .kind)) (a .opens .now) (a .letter) (a .opened) (a .parts .now) (a .low .now) (a .levels .now), c .pre .2)
 
 loop-again : tie.Need-loop-again Inv-loop μ-loop

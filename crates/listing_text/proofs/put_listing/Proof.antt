@@ -19,13 +19,11 @@ over : (c : tie.Then1) → 4096 < length (c .before .before .before .args .file 
 over c = omega (arith, c .if1 .taken)
 
 put-requires : tie.Need-put-requires
-put-requires c κs =
-    let s = c .before .before .before .before .before in
+put-requires c κs = let s = c .before .before .before .before .before in
     omega (arith, s .pre, ap length (long-text (s .args .file .now) (over (c .before .before))))
 
 returns : tie.Need-returns
-returns c =
-    let start = c .before .before .before .before .before .before .before .before in
+returns c = let start = c .before .before .before .before .before .before .before .before in
     put-as (long-text (start .args .file .now) (over (c .before .before .before .before .before))) (c .before .before .put .ensures)
 
 -- the answer of the build in rooms of 512 and 4,096
@@ -43,8 +41,7 @@ refusal c =
     refused-text (s .args .file .now) (at-if1 .if1 .left) (c .row .given .0 .0) (sym (answer (c .before .before .before .before)) ∙ c .row .given .1)
 
 put-refused-requires : tie.Need-put-refused-requires
-put-refused-requires c κs =
-    let start = c .before .before .before .before .before .before .before .before .before .before .before .before in
+put-refused-requires c κs = let start = c .before .before .before .before .before .before .before .before .before .before .before .before in
     omega (arith, start .pre, ap length (refusal (c .before .before)))
 
 abbrev start-of-after-counts : tie.After-counts → tie.Start

@@ -34,8 +34,7 @@ close-requires c κs =
     ((e .0, e .1, all at-firsts (e .0) (e .1)), at-firsts .firsts .ensures (e .0) (e .1 .shaped) .kept, at-largest-ranks .largest-ranks .ensures)
 
 returns-2 : tie.Need-returns-2
-returns-2 c =
-    let at-firsts = c .before .before .before .before .before .before .before .before .before in
+returns-2 c = let at-firsts = c .before .before .before .before .before .before .before .before .before in
     λ r T. let G = at-firsts .firsts .ensures r (T .shaped) in
     gathered-as (G .long) (reached-in (T .shaped)) (reached-out (T .shaped))
     (c .before .before .close .ensures r T (all at-firsts r T) (λ y f. G .whole (c .before .before .before .before .before .before .if1 .left) y f))

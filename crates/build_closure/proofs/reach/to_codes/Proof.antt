@@ -15,8 +15,7 @@ abbrev μ-loop : tie.MeasureT-loop
 μ-loop keys₀ n i₀ keys i = n - i
 
 loop-again : tie.Need-loop-again Inv-loop μ-loop
-loop-again c =
-    let a = c .before .before .before .args in let p = c .before .before .before .pre in let l = c .before .before .loop in
+loop-again c = let a = c .before .before .before .args in let p = c .before .before .before .pre in let l = c .before .before .loop in
     (omega arith, length-set (l .keys) (l .i) _ ∙ l .inv .1, coded-next (l .i) (a .keys .now) (l .keys) (omega (arith, p)) (l .inv .2))
 
 returns : tie.Need-returns Inv-loop μ-loop

@@ -20,8 +20,7 @@ abbrev μ-loop : tie.MeasureT-loop
 μ-loop h counts starts clauses letter opened accepting set found₀ q₀ found q = h .n - q
 
 cast-accepting : tie.Need-cast-accepting Inv-loop μ-loop
-cast-accepting c =
-    let a = c .before .before .before .args in
+cast-accepting c = let a = c .before .before .before .args in
     omega (arith, accepting-small (ruleOf (a .h) (a .counts .now) (a .clauses .now)) (c .before .before .before .pre .0))
 
 loop-holds : tie.Need-loop-holds Inv-loop μ-loop
@@ -51,8 +50,7 @@ more c =
 fits : (c : tie.After-marked Inv-loop μ-loop) → mask (c .before .before .before .before .loop .q + 1)
     (metBy (ruleOf (start-of-after-marked c .args .h) (start-of-after-marked c .args .counts .now) (start-of-after-marked c .args .clauses .now)) (start-of-after-marked c .args .letter)
     (start-of-after-marked c .args .opened)) < 256
-fits c =
-    let a = start-of-after-marked c .args in
+fits c = let a = start-of-after-marked c .args in
     mask-fits (c .before .before .before .before .loop .q) (metBy (ruleOf (a .h) (a .counts .now) (a .clauses .now)) (a .letter) (a .opened))
     (omega (arith, c .before .before .if1 .taken, start-of-after-marked c .pre .0 .few-states))
 

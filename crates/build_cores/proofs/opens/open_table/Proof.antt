@@ -22,8 +22,7 @@ loop-holds : tie.Need-loop-holds Inv-loop μ-loop
 loop-holds c = let a = c .before .before .before .before .args in (omega arith, filled-start (automaton (ruleOf (a .h) (a .counts .now) (a .clauses .now))) _ refl)
 
 open-before-requires : tie.Need-open-before-requires Inv-loop μ-loop
-open-before-requires c κs =
-    let start = c .before .before .before .before .before .before .before in
+open-before-requires c κs = let start = c .before .before .before .before .before .before .before in
     (start .pre, c .before .before .before .before .starts-of .ensures, omega (arith, c .before .loop-test .taken))
 
 array-write-opens : tie.Need-array-write-opens Inv-loop μ-loop

@@ -7,13 +7,11 @@ use Rattle.build_lists.proofs.prepare.prepare.Statement.{statement}
 use Rattle.build_lists.proofs.prepare.prepare.Tie as tie
 
 split-requires : tie.Need-split-requires
-split-requires c κs =
-    let start = c .before .before .before .before in
+split-requires c κs = let start = c .before .before .before .before in
     file-formed (start .args .file .now) (start .args .l) (start .pre) _ _ (c .before .counts-of .ensures) (c .clauses-of .ensures)
 
 cast-t10 : tie.Need-cast-t10
-cast-t10 c =
-    let at-clauses-of = c .before .before .before in let start = at-clauses-of .before .before .before .before in
+cast-t10 c = let at-clauses-of = c .before .before .before in let start = at-clauses-of .before .before .before .before in
     omega (arith, file-accepting (start .args .file .now) (start .args .l) (start .pre) _ _ (at-clauses-of .before .counts-of .ensures) (at-clauses-of .clauses-of .ensures))
 
 returns : tie.Need-returns

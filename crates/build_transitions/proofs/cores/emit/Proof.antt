@@ -27,8 +27,7 @@ loop-holds : tie.Need-loop-holds Inv-loop μ-loop
 loop-holds c = (omega arith, refl, refl, omega arith, λ r T R. emitted-start (omega arith))
 
 loop-again : tie.Need-loop-again Inv-loop μ-loop
-loop-again c =
-    let v = c .before .before .before .loop .inv in let b = c .before .core-before .ensures .0 (c .if1 .taken) in
+loop-again c = let v = c .before .before .before .loop .inv in let b = c .before .core-before .ensures .0 (c .if1 .taken) in
     (omega (arith, c .before .before .loop-test .taken), v .1, v .2, v .3, λ r T R. emitted-skip (v .4 r T R) (λ y f. (b .0, b .1, rw (ap (λ (x : ℕ). x / 256) (b .2)) f)))
 
 emit-core-requires : tie.Need-emit-core-requires Inv-loop μ-loop

@@ -37,8 +37,7 @@ place c =
     rw (k .0 ∙ ap (λ (x : ℕ). a .step .core * 256 + onto (x % 256)) (p .2)) at (c .find .ensures)
 
 returns-2 : tie.Need-returns-2
-returns-2 c =
-    let start = c .before .before .before .before .before .before .before .before in
+returns-2 c = let start = c .before .before .before .before .before .before .before .before in
     emitted-none (start .pre .7) (λ y h. place (c .before) .none (c .if2 .taken) (h .0, h .1, h .2 .to))
 
 returns-3 : tie.Need-returns-3

@@ -33,8 +33,7 @@ same-length : tie.Need-same-length Inv-loop μ-loop
 same-length c = c .before .before .before .emit-source .kept .0 ∙ c .before .before .before .before .before .before .loop .inv .walked .made .long
 
 returns : tie.Need-returns Inv-loop μ-loop
-returns c =
-    let start = c .before .before .before .before .before .before .before .before .before .before in
+returns c = let start = c .before .before .before .before .before .before .before .before .before .before in
     turn-full (c .before .before .before .before .before .before .loop .inv) (start .pre .0) (c .before .before .before .emit-source .ensures) (c .if1 .taken)
 
 same-length-2 : tie.Need-same-length-2 Inv-loop μ-loop
@@ -42,18 +41,15 @@ same-length-2 c =
     c .before .before .before .before .emit-source .kept .0 ∙ c .before .before .before .before .before .before .before .loop .inv .walked .made .long
 
 returns-2 : tie.Need-returns-2 Inv-loop μ-loop
-returns-2 c =
-    let at-loop = c .before .before .before .before .before .before .before in
+returns-2 c = let at-loop = c .before .before .before .before .before .before .before in
     turn-end (at-loop .loop .inv) (at-loop .before .before .before .before .pre .0) (c .before .before .before .before .emit-source .ensures) (c .if2 .taken)
 
 loop-less : tie.Need-loop-less Inv-loop μ-loop
-loop-less c =
-    let at-loop = c .before .before .before .before .before .before .before in
+loop-less c = let at-loop = c .before .before .before .before .before .before .before in
     walk-less (at-loop .loop .inv .walked) (at-loop .before .before .before .before .pre .0 .links) (c .if2 .left)
 
 loop-again : tie.Need-loop-again Inv-loop μ-loop
-loop-again c =
-    let at-loop = c .before .before .before .before .before .before .before in
+loop-again c = let at-loop = c .before .before .before .before .before .before .before in
     turn-next (at-loop .loop .inv) (at-loop .before .before .before .before .pre .0) (c .before .before .before .before .emit-source .ensures) (c .before .if1 .left) (c .if2 .left)
 
 pub emit-sources-spec : {M : Type 1} → statement M

@@ -9,8 +9,7 @@ use Rattle.build_visit.proofs.initial.visit_first.Statement.{statement}
 use Rattle.build_visit.proofs.initial.visit_first.Tie as tie
 
 returns : tie.Need-returns
-returns c =
-    let p = c .before .before .before .pre in
+returns c = let p = c .before .before .before .pre in
     λ r S. appended-none (p .1) (λ y f. absurd (clash (f .1 .start) (sym (start-is S (c .before .before .before .args .ranks) (p .2)) ∙ sym (c .before .begins .ensures) ∙ not-true _ (c .if1 .taken))))
 
 returns-2 : tie.Need-returns-2

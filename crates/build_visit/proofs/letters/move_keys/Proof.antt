@@ -34,28 +34,23 @@ same-length c =
     c .before .before .before .move-key .kept .0 ∙ c .before .before .before .before .before .before .before .before .before .loop .inv .walked .made .long
 
 returns : tie.Need-returns Inv-loop μ-loop
-returns c =
-    let at-loop = c .before .before .before .before .before .before .before .before .before in
+returns c = let at-loop = c .before .before .before .before .before .before .before .before .before in
     turn-full (at-loop .loop .inv) (c .before .before .before .move-key .ensures) (c .if1 .taken)
 
 same-length-2 : tie.Need-same-length-2 Inv-loop μ-loop
-same-length-2 c =
-    let at-loop = c .before .before .before .before .before .before .before .before .before .before in
+same-length-2 c = let at-loop = c .before .before .before .before .before .before .before .before .before .before in
     c .before .before .before .before .move-key .kept .0 ∙ at-loop .loop .inv .walked .made .long
 
 returns-2 : tie.Need-returns-2 Inv-loop μ-loop
-returns-2 c =
-    let at-loop = c .before .before .before .before .before .before .before .before .before .before in
+returns-2 c = let at-loop = c .before .before .before .before .before .before .before .before .before .before in
     turn-end (at-loop .loop .inv) (c .before .before .before .before .move-key .ensures) (c .if2 .taken)
 
 loop-less : tie.Need-loop-less Inv-loop μ-loop
-loop-less c =
-    let at-loop = c .before .before .before .before .before .before .before .before .before .before in
+loop-less c = let at-loop = c .before .before .before .before .before .before .before .before .before .before in
     turn-less (at-loop .loop .inv) (at-loop .before .before .before .before .pre .0) (c .if2 .left)
 
 loop-again : tie.Need-loop-again Inv-loop μ-loop
-loop-again c =
-    let at-loop = c .before .before .before .before .before .before .before .before .before .before in
+loop-again c = let at-loop = c .before .before .before .before .before .before .before .before .before .before in
     turn-next (at-loop .loop .inv) (c .before .before .before .before .move-key .ensures) (c .before .if1 .left) (at-loop .before .before .before .before .pre .0) (c .if2 .left)
 
 pub move-keys-spec : {M : Type 1} → statement M

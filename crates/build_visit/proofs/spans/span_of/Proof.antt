@@ -10,8 +10,7 @@ largest-ranks-requires : tie.Need-largest-ranks-requires
 largest-ranks-requires c κs = let a = c .before .before .before .args in let p = c .before .before .before .pre in few (p .0 .1)
 
 sub-caps : tie.Need-sub-caps
-sub-caps c =
-    let a = c .before .before .before .before .args in let p = c .before .before .before .before .pre in
+sub-caps c = let a = c .before .before .before .before .args in let p = c .before .before .before .before .pre in
     omega (
       arith,
       base-le (p .0 .1) (a .x) (p .1) (c .before .before .open-parts .result) (c .before .before .open-parts .ensures),
@@ -20,8 +19,7 @@ sub-caps c =
     )
 
 returns : tie.Need-returns
-returns c =
-    let a = c .before .before .before .before .args in let p = c .before .before .before .before .pre in
+returns c = let a = c .before .before .before .before .args in let p = c .before .before .before .before .pre in
     rw (c .before .before .before .nibbles-of .ensures, c .largest-ranks .ensures)
     (span-of (p .0 .1) (a .x) (p .1) (c .before .before .open-parts .result) (c .before .before .open-parts .ensures))
 

@@ -37,21 +37,18 @@ abbrev μ-loop : tie.MeasureT-loop
 μ-loop keys₀ heads₀ last₀ n from x all shape opens parts g₀ base caps d₀ keys heads last g d = caps - d
 
 returns : tie.Need-returns Inv-loop μ-loop
-returns c =
-    let p = c .before .before .pre in
+returns c = let p = c .before .before .pre in
     λ r T R. appended-none (p .1) (λ y h. absurd (c .if1 .taken (ap (bitAnd (c .before .before .args .x)) (p .3) ∙ rw (h .1) at (open-and (T .shaped) (h .0) (h .2 .0 .within)))))
 
 is-fresh-requires : tie.Need-is-fresh-requires Inv-loop μ-loop
 is-fresh-requires c κs = let e = c .before .before .before .pre .0 in omega (arith, e .1 .shaped .letters-are, e .1 .table .few-letters)
 
 returns-2 : tie.Need-returns-2 Inv-loop μ-loop
-returns-2 c =
-    let a = c .before .before .before .before .before .args in let p = c .before .before .before .before .before .pre in
+returns-2 c = let a = c .before .before .before .before .before .args in let p = c .before .before .before .before .before .pre in
     λ r T R. appended-none (p .1) (λ y h. absurd (nothing-fresh T (a .from) (a .x) (p .1) (c .before .is-fresh .ensures (not-true _ (c .if2 .taken))) (h .0) (h .1) y (h .2)))
 
 span-of-requires : tie.Need-span-of-requires Inv-loop μ-loop
-span-of-requires c κs =
-    let p = c .before .before .before .before .before .pre in
+span-of-requires c κs = let p = c .before .before .before .before .before .pre in
     ((p .0 .0, p .0 .1 .shaped), sym (ap (bitAnd (c .before .before .before .before .before .args .x)) (p .3)) ∙ c .before .before .before .if1 .left)
 
 loop-holds : tie.Need-loop-holds Inv-loop μ-loop

@@ -11,8 +11,7 @@ put-requires : tie.Need-put-requires
 put-requires c κs = let a = c .before .before .before .args in omega (arith, built-length (a .macrostates) (a .transitions))
 
 put-word-requires : tie.Need-put-word-requires
-put-word-requires c κs =
-    let start = c .before .before .before .before .before .before .before in let a = start .args in
+put-word-requires c κs = let start = c .before .before .before .before .before .before .before in let a = start .args in
     omega (arith, built-length (a .macrostates) (a .transitions))
 
 put-word-requires-2 : tie.Need-put-word-requires-2

@@ -14,8 +14,7 @@ put-byte-requires : tie.Need-put-byte-requires
 put-byte-requires c κs = let a = c .before .before .args in omega (arith, m-length (a .number) (a .code) (a .initial) (a .accepting))
 
 put-word-requires : tie.Need-put-word-requires
-put-word-requires c κs =
-    let a = c .before .before .before .before .before .before .args in
+put-word-requires c κs = let a = c .before .before .before .before .before .before .args in
     omega (arith, m-length (a .number) (a .code) (a .initial) (a .accepting))
 
 put-word-requires-2 : tie.Need-put-word-requires-2

@@ -19,8 +19,7 @@ abbrev μ-loop : tie.MeasureT-loop
 μ-loop out₀ at list initial end₀ i₀ out end i = length list - i
 
 loop-holds : tie.Need-loop-holds Inv-loop μ-loop
-loop-holds c =
-    let a = c .before .before .args in
+loop-holds c = let a = c .before .before .args in
     (omega arith, put-no-lines (macrostateLine (initialAt (a .initial))) (a .list .now) (a .out .now) (a .at) (c .before .before .pre .1))
 
 mul-code : tie.Need-mul-code Inv-loop μ-loop
@@ -32,8 +31,7 @@ start-of-after-is-accepting c = c .before .before .before .before .before .befor
 -- the line that is written
 text-is : (c : tie.After-is-accepting Inv-loop μ-loop) → let a = start-of-after-is-accepting c .args in let i = c .before .before .before .before .loop .i in
     mLine i (getD (a .list .now) i 0) (c .before .is-initial .result) (c .is-accepting .result) ≡ macrostateLine (initialAt (a .initial)) i (getD (a .list .now) i 0)
-text-is c =
-    let a = start-of-after-is-accepting c .args in let i = c .before .before .before .before .loop .i in
+text-is c = let a = start-of-after-is-accepting c .args in let i = c .before .before .before .before .loop .i in
     ap₂ (λ (p q : Bool). mLine i (getD (a .list .now) i 0) p q) (c .before .is-initial .ensures) (c .is-accepting .ensures)
 
 put-macrostate-requires : tie.Need-put-macrostate-requires Inv-loop μ-loop
@@ -53,8 +51,7 @@ loop-again c =
     )
 
 returns : tie.Need-returns Inv-loop μ-loop
-returns c =
-    let a = c .before .before .before .before .args in let l = c .before .loop in
+returns c = let a = c .before .before .before .before .args in let l = c .before .loop in
     put-lines (macrostateLine (initialAt (a .initial))) (a .list .now) (l .i) (omega arith) (l .inv .1)
 
 pub put-macrostates-spec : {M : Type 1} → statement M

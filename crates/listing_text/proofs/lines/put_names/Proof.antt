@@ -19,8 +19,7 @@ abbrev μ-loop : tie.MeasureT-loop
 μ-loop out₀ at names count end₀ i₀ out end i = length names / 8 - i
 
 loop-holds : tie.Need-loop-holds Inv-loop μ-loop
-loop-holds c =
-    let a = c .before .before .args in
+loop-holds c = let a = c .before .before .args in
     (omega arith, put-no-lines (nameLine (a .names .now)) (lettersOf (a .names .now)) (a .out .now) (a .at) (c .before .before .pre))
 
 -- a letter with a name
@@ -48,8 +47,7 @@ loop-again c =
     )
 
 returns : tie.Need-returns Inv-loop μ-loop
-returns c =
-    let names = c .before .before .before .before .args .names .now in let l = c .before .loop in
+returns c = let names = c .before .before .before .before .args .names .now in let l = c .before .loop in
     put-lines (nameLine names) (lettersOf names) (l .i) (omega (arith, c .loop-test .left, length-tabulate (length names / 8) (λ a. a) 0)) (l .inv .1)
 
 pub put-names-spec : {M : Type 1} → statement M

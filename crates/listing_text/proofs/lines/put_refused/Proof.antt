@@ -19,8 +19,7 @@ put-byte-requires c κs =
 
 returns : tie.Need-returns
 unfolding refusedLine
-returns c =
-    let at-put = c .before .before .before .before .before .before .before .before .before .before in
+returns c = let at-put = c .before .before .before .before .before .before .before .before .before .before in
     put-then (at-put .put .ensures)
     (put-then (c .before .before .before .before .before .before .put-word .ensures) (c .before .before .put-byte .ensures))
 

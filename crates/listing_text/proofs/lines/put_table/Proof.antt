@@ -8,13 +8,11 @@ use Rattle.listing_text.proofs.lines.put_table.Statement.{statement}
 use Rattle.listing_text.proofs.lines.put_table.Tie as tie
 
 put-built-requires : tie.Need-put-built-requires
-put-built-requires c κs =
-    let a = c .before .before .before .before .before .args in
+put-built-requires c κs = let a = c .before .before .before .before .before .args in
     omega (arith, table-length (initialAt (a .initial)) (a .names .now) (a .list .now) (a .transitions .now))
 
 put-names-requires : tie.Need-put-names-requires
-put-names-requires c κs =
-    let start = c .before .before .before .before .before .before .before .before .before in let a = start .args in
+put-names-requires c κs = let start = c .before .before .before .before .before .before .before .before .before in let a = start .args in
     omega (arith, table-length (initialAt (a .initial)) (a .names .now) (a .list .now) (a .transitions .now))
 
 put-macrostates-requires : tie.Need-put-macrostates-requires

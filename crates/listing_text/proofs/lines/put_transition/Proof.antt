@@ -11,8 +11,7 @@ put-byte-requires : tie.Need-put-byte-requires
 put-byte-requires c κs = let a = c .before .before .args in omega (arith, t-length (a .source) (a .letter) (a .target))
 
 put-word-requires : tie.Need-put-word-requires
-put-word-requires c κs =
-    let a = c .before .before .before .before .before .before .args in
+put-word-requires c κs = let a = c .before .before .before .before .before .before .args in
     omega (arith, t-length (a .source) (a .letter) (a .target))
 
 put-word-requires-2 : tie.Need-put-word-requires-2

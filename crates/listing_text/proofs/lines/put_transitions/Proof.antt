@@ -19,8 +19,7 @@ abbrev μ-loop : tie.MeasureT-loop
 μ-loop out₀ at list end₀ i₀ out end i = length list - i
 
 loop-holds : tie.Need-loop-holds Inv-loop μ-loop
-loop-holds c =
-    let a = c .before .before .args in
+loop-holds c = let a = c .before .before .args in
     (omega arith, put-no-lines transitionLine (a .list .now) (a .out .now) (a .at) (c .before .before .pre))
 
 mul-t : tie.Need-mul-t Inv-loop μ-loop
@@ -32,8 +31,7 @@ start-of-after-target-of c = c .before .before .before .before .before .before .
 -- the line that is written
 text-is : (c : tie.After-target-of Inv-loop μ-loop) → let a = start-of-after-target-of c .args in let i = c .before .before .before .before .before .loop .i in
     tLine (c .before .before .source-of .result) (c .before .letter-of .result) (c .target-of .result) ≡ transitionLine i (getD (a .list .now) i 0)
-text-is c =
-    let a = start-of-after-target-of c .args in let i = c .before .before .before .before .before .loop .i in
+text-is c = let a = start-of-after-target-of c .args in let i = c .before .before .before .before .before .loop .i in
     ap₂ (λ (p q : ℕ). tLine p q (c .target-of .result)) (c .before .before .source-of .ensures) (c .before .letter-of .ensures)
     ∙ ap (λ (p : ℕ). tLine (sourceOf (getD (a .list .now) i 0)) (letterOf (getD (a .list .now) i 0)) p) (c .target-of .ensures)
 
