@@ -12,10 +12,10 @@ use borrow.Author.Tests.{eqb-true, eq-eqb, lt-ltb, le-ltb, ltb-true, ltb-false}
 use Rattle.sets.specs.Tests.{Set, one, every, count, largest}
 use Rattle.sets.specs.Masks.{bit, exclusive}
 use Rattle.sets.specs.Digits.{num}
-use Rattle.sets.proofs.Bools.{bif, and-l, and-r, and-i, or-l, or-r, or-tf, or-cases, xor-twice}
+use Rattle.sets.proofs.Bools.{bif, and-l, and-r, and-i, or-r, or-cases, xor-twice}
 use Rattle.sets.proofs.Tests.{every-at, every-all, some-at, some-get, some-ext, some-trim, count-ext, count-trim, count-max}
 use Rattle.sets.proofs.Bits.{bit-mask-all}
-use Rattle.sets.proofs.Digits.{num-ext, num-add, num-lt}
+use Rattle.sets.proofs.Digits.{num-ext, num-lt}
 use Rattle.theory.specs.Automaton.{Automaton}
 use Rattle.theory.specs.Core.{Core, isOpen, openOf}
 use Rattle.theory.specs.CoreComputed as core
@@ -24,8 +24,8 @@ use Rattle.build_cores.specs.Vectors.{rankAt, Within, visited}
 use Rattle.build_cores.specs.Used.{taken, used, classCount, gapless, sizesOf, capsOf}
 use Rattle.build_cores.specs.Parts.{Parts, setOf, vectorOf, sizeAt}
 use Rattle.build_cores.proofs.Vectors.{rank-num, rank-high, within-rank, within-of, all-visited}
-use Rattle.build_cores.proofs.Sums.{sum-ext, sum-ranks, num-nothing}
-use Rattle.build_cores.proofs.Gaps.{count-shift, used-zero, used-suc}
+use Rattle.build_cores.proofs.Sums.{sum-ext, sum-ranks}
+use Rattle.build_cores.proofs.Gaps.{count-shift, used-zero, used-suc, gapless-in, gapless-out, sizes-by}
 
 -- the set of a vector, at a state
 pub set-rank : (A : Automaton) (v q : ℕ) → q < A .n → setOf A v q ≡ exclusive (A .accepting q) (ltb 0 (rankAt v q))
@@ -43,11 +43,9 @@ open-rank A v q l = ap (exclusive (A .accepting q)) (set-rank A v q l) ∙ xor-t
 
 -- a step down the ranks in use
 down : (v part : ℕ) → gapless v part ≡ true → (j i : ℕ) → j + i < 16 → used v part (j + i) ≡ true → used v part j ≡ true
-unfolding gapless
 down v part g j zero l t = let e : j + 0 ≡ j = omega arith in ap (used v part) (sym e) ∙ t
 down v part g j (suc i) l t = let e : j + suc i ≡ suc (j + i) = omega arith in
-    down v part g j i (omega arith) (or-tf (used v part (suc (j + i))) (used v part (j + i)) (every-at 15 (λ x. not (used v part (suc x)) || used v part x) g (j + i) (omega arith))
-    (ap (used v part) (sym e) ∙ t))
+    down v part g j i (omega arith) (gapless-out v part g (j + i) (omega arith) (ap (used v part) (sym e) ∙ t))
 
 module _ (A : Automaton) (parts : List ℕ) (P : Parts A parts) where
   abbrev part : ℕ → ℕ
@@ -78,16 +76,8 @@ module _ (A : Automaton) (parts : List ℕ) (P : Parts A parts) where
       ∙ count-ext (A .n) (λ p. ltb p (A .n) && eqb (A .component p) c) (λ p. eqb (A .component p) (A .component q)) (λ p k. rw (lt-ltb p (A .n) k, e))
 
   sizes-in : (c : ℕ) → c < A .components → sizesOf (part c) ≡ num 16 8 (λ q. cond (ltb q (A .n) && eqb (A .component q) c) (sizeAt A q) 0)
-  unfolding sizesOf
-  sizes-in c l =
-      (let z : num 16 8 (λ q. 0) ≡ 0 = num-nothing in
-      let e = num-add 16 8 (λ q. 0) (λ q. one (bit (part c) q)) (count 8 (bit (part c))) in
-      let f : num 16 8 (λ q. one (bit (part c) q)) * count 8 (bit (part c)) ≡ num 16 8 (λ q. 0 + one (bit (part c) q) * count 8 (bit (part c))) = omega arith in f)
-      ∙ num-ext 16 (omega arith) 8 _ _ (λ q k. bif (ltb q (A .n) && eqb (A .component q) c)
-      (λ t. let m = ltb-true q (A .n) (and-l (ltb q (A .n)) (eqb (A .component q) c) t) in
-      let e = eqb-true (A .component q) c (and-r (ltb q (A .n)) (eqb (A .component q) c) t) in
-      rw (t, part-bit c q l ∙ t) (omega (arith, size-in c q l m e)))
-      (λ t. rw (t, part-bit c q l ∙ t) (omega arith)))
+  sizes-in c l = sizes-by (part c) (λ q. ltb q (A .n) && eqb (A .component q) c) (sizeAt A) (λ q. part-bit c q l)
+      (λ q t. size-in c q l (ltb-true q (A .n) (and-l (ltb q (A .n)) (eqb (A .component q) c) t)) (eqb-true (A .component q) c (and-r (ltb q (A .n)) (eqb (A .component q) c) t)))
 
   pub caps-are : capsOf parts (A .components) ≡ num 16 8 (λ q. cond (ltb q (A .n)) (sizeAt A q) 0)
   unfolding capsOf
@@ -106,7 +96,7 @@ module _ (A : Automaton) (parts : List ℕ) (P : Parts A parts) where
   pub caps-fit : capsOf parts (A .components) < 2 ^ 32
   caps-fit = rw caps-are (num-lt 16 (omega arith) 8 _ (λ q l. cap-low q))
 
-  cap-at : (q : ℕ) → q < 8 → rankAt (capsOf parts (A .components)) q ≡ cond (ltb q (A .n)) (sizeAt A q) 0
+  pub cap-at : (q : ℕ) → q < 8 → rankAt (capsOf parts (A .components)) q ≡ cond (ltb q (A .n)) (sizeAt A q) 0
   cap-at q l = ap (λ (x : ℕ). rankAt x q) caps-are ∙ rank-num (λ q. cond (ltb q (A .n)) (sizeAt A q) 0) (λ q k. cap-low q) q l
 
   -- what is no state has rank 0, and no rank is above 8
@@ -206,10 +196,7 @@ module _ (A : Automaton) (parts : List ℕ) (P : Parts A parts) where
         taken-used v c (suc j) (taken-at v c (suc j) (g .0) l (g .1) (g .2 ∙ p .2) (vector-rank (g .0) (g .1) ∙ g .4))
 
     gapless-at : (c : ℕ) → c < A .components → gapless v (part c) ≡ true
-    unfolding gapless
-    gapless-at c l = every-all 15 (λ j. not (used v (part c) (suc j)) || used v (part c) j) (λ j k. bif (used v (part c) (suc j))
-        (λ t. or-r (not (used v (part c) (suc j))) (used v (part c) j) (lower c j l (sym (used-suc v (part c) j) ∙ t)))
-        (λ t. or-l (not (used v (part c) (suc j))) (used v (part c) j) (ap not t)))
+    gapless-at c l = gapless-in v (part c) (λ j k t. lower c j l (sym (used-suc v (part c) j) ∙ t))
 
     -- and passes the test
     pub vector-passes : every (A .components) (λ c. gapless v (part c)) ≡ true

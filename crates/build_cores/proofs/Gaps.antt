@@ -1,7 +1,7 @@
 -- Ranks in use, as a mask: walked over a component, counted, and without a gap.
 use mathlib.Core.Path.{_≡_, refl, ap, ap₂, sym, _∙_}
 use mathlib.Core.Logic.{by-cases}
-use mathlib.Core.Bool.{Bool, true, false, _&&_, _||_, not, or-false, or-assoc}
+use mathlib.Core.Bool.{Bool, true, false, _&&_, _||_, not, cond, or-false, or-assoc}
 use mathlib.Core.List.{List}
 use Prim.Native.Nat.{ℕ, zero, suc, _+_, _-_, _*_, _/_, _%_, _^_, _≤_, _<_}
 use native.Mathlib.Omega.{arith}
@@ -21,7 +21,7 @@ use Rattle.sets.proofs.Bools.{bif, clash, and-l, and-r, and-i, or-l, or-r, or-t
 use Rattle.sets.proofs.Tests.{every-at, every-all, some-at, some-get, count-ext, count-max}
 use Rattle.sets.proofs.Lists.{any-out, any-in, any-cons}
 use Rattle.sets.proofs.Masks.{mask-lt, bit-mask}
-use Rattle.sets.proofs.Digits.{num-add, num-lt}
+use Rattle.sets.proofs.Digits.{num-add, num-ext, num-lt}
 use Rattle.sets.proofs.Bits.{bit-or, bit-none, bit-zero, bit-half, bit-shl-one, bit-ext, bit-below, mask-unique, ones-count}
 use Rattle.sets.proofs.Members.{members-cons, members-none, members-in, members-out}
 use Rattle.build_cores.specs.Vectors.{rankAt}
@@ -141,22 +141,27 @@ unbroken-and (suc n) m h u = by-cases (ℕ-discrete (m % 2) 1)
     (λ o. let ih = unbroken-and n (m / 2) (shr-lt n 1 (rw add-one h)) (record { down = λ q t. bit-half m q ∙ u .down (suc q) (sym (bit-half m (suc q)) ∙ t) }) in omega (arith, odd-and m o))
     (λ o. let z : m ≡ 0 = bit-ext (suc n) m 0 h (omega arith) (λ q l. none-without m u (bit-zero m ∙ ne-eqb (m % 2) 1 o) q ∙ sym (bit-none q)) in even-and m (even-or-odd m o) ∙ z)
 
+-- by its ranks, one after the other
+pub gapless-in : (ranks part : ℕ) → ((j : ℕ) → j < 15 → used ranks part (suc j) ≡ true → used ranks part j ≡ true) → gapless ranks part ≡ true
+unfolding gapless
+gapless-in ranks part h = let f = used ranks part in every-all 15 (λ j. not (f (suc j)) || f j)
+    (λ j l. bif (f (suc j)) (λ t. or-r (not (f (suc j))) (f j) (h j l t)) (λ t. or-l (not (f (suc j))) (f j) (ap not t)))
+
+pub gapless-out : (ranks part : ℕ) → gapless ranks part ≡ true → (j : ℕ) → j < 15 → used ranks part (suc j) ≡ true → used ranks part j ≡ true
+unfolding gapless
+gapless-out ranks part g j l t = let f = used ranks part in or-tf (f (suc j)) (f j) (every-at 15 (λ x. not (f (suc x)) || f x) g j l) t
+
 -- the code's test
 pub gap-free : (ranks part : ℕ) → bitAnd (mask 16 (used ranks part)) (mask 16 (used ranks part) + 1) ≡ 0 → gapless ranks part ≡ true
-unfolding gapless
-gap-free ranks part e = let f = used ranks part in let m = mask 16 f in
-    every-all 15 (λ j. not (f (suc j)) || f j) (λ j l. bif (f (suc j))
-    (λ t. or-r (not (f (suc j))) (f j) (sym (bit-mask 16 f j (omega arith)) ∙ and-unbroken j m e (bit-mask 16 f (suc j) (omega arith) ∙ t)))
-    (λ t. or-l (not (f (suc j))) (f j) (ap not t)))
+gap-free ranks part e = let f = used ranks part in
+    gapless-in ranks part (λ j l t. sym (bit-mask 16 f j (omega arith)) ∙ and-unbroken j (mask 16 f) e (bit-mask 16 f (suc j) (omega arith) ∙ t))
 
 pub gap-none : (ranks part : ℕ) → gapless ranks part ≡ true → bitAnd (mask 16 (used ranks part)) (mask 16 (used ranks part) + 1) ≡ 0
-unfolding gapless
-gap-none ranks part e =
-    let f = used ranks part in let m = mask 16 f in
+gap-none ranks part e = let f = used ranks part in let m = mask 16 f in
     unbroken-and 16 m (mask-lt 16 f) (record {
       down = λ q t.
           let l : suc q < 16 = bit-below 16 m (suc q) (mask-lt 16 f) t in
-          bit-mask 16 f q (omega arith) ∙ or-tf (f (suc q)) (f q) (every-at 15 (λ j. not (f (suc j)) || f j) e q (omega arith)) (sym (bit-mask 16 f (suc q) l) ∙ t);
+          bit-mask 16 f q (omega arith) ∙ gapless-out ranks part e q (omega arith) (sym (bit-mask 16 f (suc q) l) ∙ t);
     })
 
 pub gap-there : (ranks part : ℕ) → (bitAnd (mask 16 (used ranks part)) (mask 16 (used ranks part) + 1) ≡ 0 → ⊥) → gapless ranks part ≡ false
@@ -164,17 +169,24 @@ gap-there ranks part n = bif (gapless ranks part) (λ t. absurd (n (gap-none ran
 
 -- ---- the largest ranks
 
-digit-low : (b : Bool) (c : ℕ) → c ≤ 8 → 0 + one b * c < 16
+digit-low : (b : Bool) (c : ℕ) → c ≤ 8 → one b * c < 16
 digit-low true c h = omega arith
 digit-low false c h = omega arith
 
+sizes-num : (part : ℕ) → sizesOf part ≡ num 16 8 (λ q. one (bit part q) * count 8 (bit part))
+unfolding sizesOf
+sizes-num part =
+    let z : num 16 8 (λ q. 0) ≡ 0 = num-nothing in let e = num-add 16 8 (λ q. 0) (λ q. one (bit part q)) (count 8 (bit part)) in
+    let f : num 16 8 (λ q. one (bit part q)) * count 8 (bit part) ≡ num 16 8 (λ q. 0 + one (bit part q) * count 8 (bit part)) = omega arith in
+    f ∙ num-ext 16 (omega arith) 8 _ _ (λ q l. omega arith)
+
+-- a set that is f, and whose size is n at its members
+pub sizes-by : (part : ℕ) (f : Set) (n : ℕ → ℕ) → ((q : ℕ) → bit part q ≡ f q) → ((q : ℕ) → f q ≡ true → count 8 (bit part) ≡ n q) → sizesOf part ≡ num 16 8 (λ q. cond (f q) (n q) 0)
+sizes-by part f n same size = sizes-num part
+    ∙ num-ext 16 (omega arith) 8 _ _ (λ q k. bif (f q) (λ t. rw (t, same q ∙ t) (omega (arith, size q t))) (λ t. rw (t, same q ∙ t) (omega arith)))
+
 pub sizes-low : (part : ℕ) → sizesOf part < 4294967296
-unfolding sizesOf num
-sizes-low part =
-    let z : num 16 8 (λ q. 0) ≡ 0 = num-nothing in
-    let e = num-add 16 8 (λ q. 0) (λ q. one (bit part q)) (count 8 (bit part)) in
-    let l = num-lt 16 (omega arith) 8 (λ q. 0 + one (bit part q) * count 8 (bit part)) (λ q h. digit-low (bit part q) (count 8 (bit part)) (count-max 8 (bit part))) in
-    omega arith
+sizes-low part = rw (sizes-num part) (num-lt 16 (omega arith) 8 _ (λ q h. digit-low (bit part q) (count 8 (bit part)) (count-max 8 (bit part))))
 
 pub sizes-are : (part : ℕ) → part < 256 → num 16 8 (λ q. one (bit part q)) * ones part ≡ sizesOf part
 unfolding sizesOf

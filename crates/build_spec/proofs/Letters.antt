@@ -22,7 +22,7 @@ use Rattle.build_cores.specs.Parts.{vectorOf}
 use Rattle.build_step_back.specs.Step.{Rising, Back}
 use Rattle.build_cores.specs.Onward.{onwardIn}
 use Rattle.build_step_back.specs.Earlier.{coreOf, backOf, ontoOf, earlierSet, earlierLevel, earlierRank}
-use Rattle.build_step_back.proofs.Tables.{rises-at, set-is, ranks-is, onward-is}
+use Rattle.build_step_back.proofs.Tables.{rises-at, set-is, ranks-is, back-is, onward-is}
 use Rattle.build_step_back.proofs.Codes.{back-low}
 use Rattle.build_spec.specs.declared.Shape.{Shape}
 use Rattle.build_spec.specs.Chains.{keyAt, Chained}
@@ -88,10 +88,8 @@ module _ {r : Rule} {opens parts : List ℕ} {shape : Shape} (T : RuleTables r o
     ranks-fit = rw ranks-are (ranks-low (automaton r) (T .shaped .masks .few-states) a v)
 
     earlier-is : ranks * 2 ^ 8 + bitXor (getD opens (a * 256 + getD low 15 0) 0) (shape .accepting) ≡ backOf (automaton r) a v
-    unfolding backOf
-    earlier-is = ap₂ (λ (x y : ℕ). x * 2 ^ 8 + y) ranks-are
-        (set-is (automaton r) (layered r (T .shaped .passing)) (r .s) opens parts (T .shaped .masks) (T .table) a v letter within low L (shape .accepting) (accepting-fits (T .shaped))
-        (λ q l. accepting-same (T .shaped) q))
+    earlier-is = back-is (automaton r) (layered r (T .shaped .passing)) (r .s) opens parts (T .shaped .masks) (T .table) a v letter within low L ranks levels back
+        (shape .accepting) (accepting-fits (T .shaped)) (λ q l. accepting-same (T .shaped) q)
 
     onto-is : (pair : ℕ) → pair < 256 → pair % 16 < shape .components → onwardIn v parts (shape .components) levels pair ≡ ontoOf (automaton r) a v pair
     onto-is pair h l = ap (λ (c : ℕ). onwardIn v parts c levels pair) (T .shaped .components-are)

@@ -28,14 +28,15 @@ use Rattle.build_cores.specs.Vectors.{rankAt, Within}
 use Rattle.build_cores.specs.Used.{sizesOf, capsOf}
 use Rattle.build_cores.specs.Parts.{Parts, setOf, sizeAt}
 use Rattle.build_cores.proofs.Vectors.{rank-digit, rank-num, within-rank, within-lt, within-of}
-use Rattle.build_cores.proofs.Gaps.{rank-low}
+use Rattle.build_cores.proofs.Gaps.{rank-low, sizes-by}
 use Rattle.build_cores.proofs.Sums.{num-nothing, sum-ext, sum-ranks}
-use Rattle.build_cores.proofs.Cores.{part-bit, caps-are, caps-fit, rank-beyond, open-rank, only-cores}
+use Rattle.build_cores.proofs.Cores.{part-bit, cap-at, caps-fit, rank-beyond, open-rank, only-cores}
 use Rattle.build_spec.specs.Chains.{Chained}
 use Rattle.build_spec.specs.Keys.{Cored, LeadsAt}
 use Rattle.build_spec.specs.Tables.{Shaped, RuleTables, Lowest}
 use Rattle.build_spec.specs.declared.Shape.{Shape}
 use Rattle.build_spec.specs.Sets.{openIn, Spans}
+use Rattle.build_spec.proofs.Starting.{open-lowest}
 use Rattle.build_spec.proofs.Letters.{nothing-new}
 
 -- a vector by its ranks
@@ -69,14 +70,8 @@ module _ (A : Automaton) (parts : List ℕ) (P : Parts A parts) (x : ℕ) (state
       (λ t. rw t)
 
   open-sizes : (c : ℕ) → c < A .components → sizesOf (openPart c) ≡ num 16 8 (λ q. cond ((ltb q (A .n) && bit x q) && eqb (A .component q) c) (shared q) 0)
-  unfolding sizesOf
-  open-sizes c l =
-      (let z : num 16 8 (λ q. 0) ≡ 0 = num-nothing in
-      let e = num-add 16 8 (λ q. 0) (λ q. one (bit (openPart c) q)) (count 8 (bit (openPart c))) in
-      let f : num 16 8 (λ q. one (bit (openPart c) q)) * count 8 (bit (openPart c)) ≡ num 16 8 (λ q. 0 + one (bit (openPart c) q) * count 8 (bit (openPart c))) = omega arith in f)
-      ∙ num-ext 16 (omega arith) 8 _ _ (λ q k. bif ((ltb q (A .n) && bit x q) && eqb (A .component q) c)
-      (λ t. let e = eqb-true (A .component q) c (and-r (ltb q (A .n) && bit x q) (eqb (A .component q) c) t) in rw (t, open-bit c q l ∙ inside-is c q ∙ t, e) (omega arith))
-      (λ t. rw (t, open-bit c q l ∙ inside-is c q ∙ t) (omega arith)))
+  open-sizes c l = sizes-by (openPart c) (λ q. (ltb q (A .n) && bit x q) && eqb (A .component q) c) shared (λ q. open-bit c q l ∙ inside-is c q)
+      (λ q t. ap (λ (c : ℕ). count 8 (bit (openPart c))) (sym (eqb-true (A .component q) c (and-r (ltb q (A .n) && bit x q) (eqb (A .component q) c) t))))
 
   caps-open : (those : List ℕ) → ((c : ℕ) → c < 8 → getD those c 0 ≡ openPart c) → capsOf those (A .components) ≡ num 16 8 digit
   unfolding capsOf
@@ -101,11 +96,6 @@ module _ (A : Automaton) (parts : List ℕ) (P : Parts A parts) (x : ℕ) (state
       omega (arith, digit-open q t))
       (λ t. let e : one (bit x q) ≡ 0 = rw t in omega arith)
 
-  cap-at : (q : ℕ) → q < 8 → rankAt (capsOf parts (A .components)) q ≡ cond (ltb q (A .n)) (sizeAt A q) 0
-  unfolding sizeAt
-  cap-at q l = ap (λ (v : ℕ). rankAt v q) (caps-are A parts P) ∙ rank-num (λ q. cond (ltb q (A .n)) (sizeAt A q) 0)
-      (λ q k. bif (ltb q (A .n)) (λ t. rw t (let h = count-max (A .n) (λ p. eqb (A .component p) (A .component q)) in omega (arith, P .few-states))) (λ t. rw t (omega arith))) q l
-
   digit-cap : (q : ℕ) → q < 8 → digit q ≤ rankAt (capsOf parts (A .components)) q
   unfolding sizeAt
   digit-cap q l = bif (ltb q (A .n) && bit x q)
@@ -116,7 +106,7 @@ module _ (A : Automaton) (parts : List ℕ) (P : Parts A parts) (x : ℕ) (state
       let b = count-trim 8 (A .n) (λ p. ltb p (A .n) && eqb (A .component p) (A .component q)) (P .few-states) (λ p m n. rw (le-ltb p (A .n) m)) in
       let c = count-ext (A .n) (λ p. ltb p (A .n) && eqb (A .component p) (A .component q)) (λ p. eqb (A .component p) (A .component q)) (λ p m. rw (lt-ltb p (A .n) m)) in
       let d : cond (ltb q (A .n)) (count (A .n) (λ p. eqb (A .component p) (A .component q))) 0 ≡ count (A .n) (λ p. eqb (A .component p) (A .component q)) = rw (lt-ltb q (A .n) h) in
-      let e : digit q ≡ shared q = rw t in omega (arith, cap-at q l))
+      let e : digit q ≡ shared q = rw t in omega (arith, cap-at A parts P q l))
       (λ t. let e : digit q ≡ 0 = rw t in omega arith)
 
   module _ (v : ℕ) (w : Cored parts (A .components) v) (o : openIn v ≡ x) where
@@ -196,11 +186,6 @@ module _ {r : Rule} {parts : List ℕ} {shape : Shape} (S : Shaped r parts shape
   abbrev largest : ℕ
   largest = capsOf parts (shape .components)
 
-  -- the states with a rank of at most 15 are those with a rank
-  pub open-lowest : (v : ℕ) (low : List ℕ) → Lowest v low → getD low 15 0 ≡ openIn v
-  open-lowest v low L = L 15 (omega arith) ∙ mask-ext 8 (λ p. ltb 0 (rankAt v p) && leb (rankAt v p) 15) (λ p. ltb 0 (rankAt v p))
-      (λ q k. ap (λ (b : Bool). ltb 0 (rankAt v q) && b) (le-leb (rankAt v q) 15 (let h = rank-low v q in omega arith)) ∙ and-true (ltb 0 (rankAt v q)))
-
   -- open states have a largest rank
   open-bits : (v : ℕ) → Within 8 v largest → (q : ℕ) → q < 8 → bit (openIn v) q ≡ true → bit (openIn largest) q ≡ true
   open-bits v w q l t = let a = ltb-true 0 (rankAt v q) (sym (bit-mask 8 (λ q. ltb 0 (rankAt v q)) q l) ∙ t) in
@@ -245,7 +230,7 @@ pub nothing-fresh : {r : Rule} {opens parts : List ℕ} {shape : Shape} → Rule
 nothing-fresh T from x C h v o y l =
     let a = l .1 .3 .0 in let known = l .1 .3 .1 in
     let L : Lowest v low = λ j k. tabulate-at 16 level 0 j k ∙ ap level (let z : 0 + j ≡ j = omega arith in z) in
-    let e : getD low 15 0 ≡ x = open-lowest (T .shaped) v low L ∙ o in
+    let e : getD low 15 0 ≡ x = open-lowest v low L ∙ o in
     nothing-new T a known (l .0) low L from C (rw e (h a known)) y (l .1 .0, l .1 .1, l .1 .2, l .1 .3 .2)
   where
     level : ℕ → ℕ

@@ -12,7 +12,7 @@ use lib.Bits.{bitAnd, bitXor, and-mask, xor-lt}
 use lib.Pow.{pow-mono}
 use borrow.Author.Tests.{lt-ltb, le-ltb, le-leb}
 use Rattle.sets.specs.Masks.{bit, mask, exclusive}
-use Rattle.sets.proofs.Masks.{mask-lt, bit-mask, above}
+use Rattle.sets.proofs.Masks.{mask-lt, mask-ext, bit-mask, above}
 use Rattle.sets.proofs.Bits.{bit-xor, bit-high, mask-unique}
 use Rattle.sets.proofs.Bools.{xor-comm}
 use Rattle.theory.specs.Rule.{Rule}
@@ -26,24 +26,22 @@ use Rattle.build_cores.proofs.Cores.{set-rank, set-beyond, rank-beyond, caps-fi
 use Rattle.build_step_back.specs.Earlier.{coreOf}
 use Rattle.build_spec.specs.declared.Shape.{Shape}
 use Rattle.build_spec.specs.Keys.{startOf}
+use Rattle.build_spec.specs.Sets.{openIn}
 use Rattle.build_spec.specs.Tables.{Shaped, Lowest}
-
-xor-true : (a : Bool) → exclusive a true ≡ not a
-xor-true true = refl
-xor-true false = refl
-
-xor-false : (a : Bool) → exclusive a false ≡ a
-xor-false true = refl
-xor-false false = refl
 
 -- what in_set finds
 pub in-set-ranked : (ranks accepting q : ℕ) → 0 < bitAnd (ranks / 2 ^ (4 * q)) 15 → not (bit accepting q) ≡ exclusive (bit accepting q) (ltb 0 (rankAt ranks q))
 unfolding rankAt
-in-set-ranked ranks accepting q h = sym (xor-true (bit accepting q)) ∙ ap (exclusive (bit accepting q)) (sym (lt-ltb 0 (ranks / 2 ^ (4 * q) % 16) (omega (arith, and-mask (ranks / 2 ^ (4 * q)) 4))))
+in-set-ranked ranks accepting q h = xor-comm true (bit accepting q) ∙ ap (exclusive (bit accepting q)) (sym (lt-ltb 0 (ranks / 2 ^ (4 * q) % 16) (omega (arith, and-mask (ranks / 2 ^ (4 * q)) 4))))
 
 pub in-set-closed : (ranks accepting q : ℕ) → bitAnd (ranks / 2 ^ (4 * q)) 15 ≤ 0 → bit accepting q ≡ exclusive (bit accepting q) (ltb 0 (rankAt ranks q))
 unfolding rankAt
-in-set-closed ranks accepting q h = sym (xor-false (bit accepting q)) ∙ ap (exclusive (bit accepting q)) (sym (le-ltb 0 (ranks / 2 ^ (4 * q) % 16) (omega (arith, and-mask (ranks / 2 ^ (4 * q)) 4))))
+in-set-closed ranks accepting q h = xor-comm false (bit accepting q) ∙ ap (exclusive (bit accepting q)) (sym (le-ltb 0 (ranks / 2 ^ (4 * q) % 16) (omega (arith, and-mask (ranks / 2 ^ (4 * q)) 4))))
+
+-- the states with a rank of at most 15 are those with a rank
+pub open-lowest : (v : ℕ) (low : List ℕ) → Lowest v low → getD low 15 0 ≡ openIn v
+open-lowest v low L = L 15 (omega arith) ∙ mask-ext 8 (λ p. ltb 0 (rankAt v p) && leb (rankAt v p) 15) (λ p. ltb 0 (rankAt v p))
+    (λ q k. ap (λ (b : Bool). ltb 0 (rankAt v q) && b) (le-leb (rankAt v q) 15 (let h = rank-low v q in omega arith)) ∙ and-true (ltb 0 (rankAt v q)))
 
 -- the number of a core has 40 bits
 pub core-low : (A : Automaton) (v : ℕ) → v < 2 ^ 32 → coreOf A v < 2 ^ 40
@@ -83,13 +81,10 @@ module _ {r : Rule} {parts : List ℕ} {shape : Shape} (S : Shaped r parts shape
     -- the number of its core
     module _ (low : List ℕ) (L : Lowest v low) where
       opened : (q : ℕ) → q < 8 → bit (getD low 15 0) q ≡ ltb 0 (rankAt v q)
-      opened q k = ap (λ (x : ℕ). bit x q) (L 15 (omega arith))
-          ∙ bit-mask 8 (λ p. ltb 0 (rankAt v p) && leb (rankAt v p) 15) q k
-          ∙ ap (λ (b : Bool). ltb 0 (rankAt v q) && b) (le-leb (rankAt v q) 15 (let h = rank-low v q in omega arith))
-          ∙ and-true (ltb 0 (rankAt v q))
+      opened q k = ap (λ (x : ℕ). bit x q) (open-lowest v low L) ∙ bit-mask 8 (λ p. ltb 0 (rankAt v p)) q k
 
       opened-low : getD low 15 0 < 256
-      opened-low = rw (L 15 (omega arith)) (mask-lt 8 (λ p. ltb 0 (rankAt v p) && leb (rankAt v p) 15))
+      opened-low = rw (open-lowest v low L) (mask-lt 8 (λ p. ltb 0 (rankAt v p)))
 
       accepting-low : shape .accepting < 256
       accepting-low = let p = pow-mono {i = (automaton r) .n} {j = 8} (S .masks .few-states) in omega (arith, accepting-fits)

@@ -43,15 +43,16 @@ module _ (P : Set) (l : ℕ → ℕ) (low : (q : ℕ) → q < 8 → P q ≡ true
   unfolding valued
   V-get j e = let r = some-get 8 (λ p. P p && eqb (l p) j) e in (r .0, r .1, and-l (P (r .0)) (eqb (l (r .0)) j) (r .2), eqb-true _ _ (and-r (P (r .0)) (eqb (l (r .0)) j) (r .2)))
 
+  -- the value of q is below j, is j, or is above
+  beside : {X : Type 0} (j q : ℕ) → (ltb (l q) (suc j) ≡ true → ltb (l q) j ≡ true → X) → (l q ≡ j → ltb (l q) (suc j) ≡ true → ltb (l q) j ≡ false → X)
+      → (ltb (l q) (suc j) ≡ false → ltb (l q) j ≡ false → X) → X
+  beside j q f g h = by-cases (decLt (l q) j) (λ a. f (lt-ltb (l q) (suc j) (omega arith)) (lt-ltb (l q) j a)) (λ a. by-cases (ℕ-discrete (l q) j)
+      (λ b. g b (lt-ltb (l q) (suc j) (omega arith)) (le-ltb (l q) j (omega arith)))
+      (λ b. h (le-ltb (l q) (suc j) (omega arith)) (le-ltb (l q) j (omega arith))))
+
   -- no member has the value j
   below-none : (j : ℕ) → valued P l j ≡ false → (q : ℕ) → q < 8 → below (suc j) q ≡ below j q
-  below-none j e q h = bif (P q)
-      (λ t. rw t (by-cases (decLt (l q) j)
-      (λ a. lt-ltb (l q) (suc j) (omega arith) ∙ sym (lt-ltb (l q) j a))
-      (λ a. by-cases (ℕ-discrete (l q) j)
-      (λ b. clash (V-at j q h t b) e)
-      (λ b. le-ltb (l q) (suc j) (omega arith) ∙ sym (le-ltb (l q) j (omega arith))))))
-      (λ t. rw t)
+  below-none j e q h = bif (P q) (λ t. rw t (beside j q (λ a b. a ∙ sym b) (λ i a b. clash (V-at j q h t i) e) (λ a b. a ∙ sym b))) (λ t. rw t)
 
   class-max : (q : ℕ) → q < 8 → P q ≡ true → class P l q < 16
   unfolding class
@@ -79,11 +80,7 @@ module _ (P : Set) (l : ℕ → ℕ) (low : (q : ℕ) → q < 8 → P q ≡ true
   top-keep : (j k : ℕ) → k < count (suc j) (valued P l) → largestUpto (suc j) k ≡ largestUpto j k
   unfolding largestUpto
   top-keep j k m = largest-ext 8 _ _ l (λ q h. bif (P q)
-      (λ t. rw t (by-cases (decLt (l q) j)
-      (λ a. rw (lt-ltb (l q) (suc j) (omega arith), lt-ltb (l q) j a))
-      (λ a. by-cases (ℕ-discrete (l q) j)
-      (λ b. rw (lt-ltb (l q) (suc j) (omega arith), le-ltb (l q) j (omega arith), lt-leb (class P l q) k (omega (arith, class-new j q b))))
-      (λ b. rw (le-ltb (l q) (suc j) (omega arith), le-ltb (l q) j (omega arith))))))
+      (λ t. rw t (beside j q (λ a b. rw (a, b)) (λ i a b. rw (a, b, lt-leb (class P l q) k (omega (arith, class-new j q i)))) (λ a b. rw (a, b))))
       (λ t. rw t))
 
   below-lt : (j q : ℕ) → below j q ≡ true → l q < j
@@ -221,11 +218,7 @@ module _ (P : Set) (l : ℕ → ℕ) (low : (q : ℕ) → q < 8 → P q ≡ true
   -- ranks of members that come in or are still to come
   rank-up : (m j q : ℕ) → suc m ≡ count (suc j) (valued P l) → rankSoFar m j q + one (late j q) * 1 ≡ rankSoFar (suc m) (suc j) q
   rank-up m j q c = bif (P q)
-      (λ t. rw t (by-cases (decLt (l q) j)
-      (λ a. rw (lt-ltb (l q) (suc j) (omega arith), lt-ltb (l q) j a) (omega arith))
-      (λ a. by-cases (ℕ-discrete (l q) j)
-      (λ b. rw (lt-ltb (l q) (suc j) (omega arith), le-ltb (l q) j (omega arith)) (omega (arith, class-new j q b)))
-      (λ b. rw (le-ltb (l q) (suc j) (omega arith), le-ltb (l q) j (omega arith)) (omega arith)))))
+      (λ t. rw t (beside j q (λ a b. rw (a, b) (omega arith)) (λ i a b. rw (a, b) (omega (arith, class-new j q i))) (λ a b. rw (a, b) (omega arith))))
       (λ t. rw t (omega arith))
 
   late-none : (j : ℕ) → valued P l j ≡ false → (q : ℕ) → q < 8 → late (suc j) q ≡ late j q

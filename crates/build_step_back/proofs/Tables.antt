@@ -14,7 +14,7 @@ use borrow.Author.Tests.{eq-eqb, ne-eqb, lt-ltb, ltb-true, le-leb}
 use Rattle.sets.specs.Tests.{every, largest}
 use Rattle.sets.specs.Masks.{bit, mask, exclusive}
 use Rattle.sets.specs.Digits.{num}
-use Rattle.sets.proofs.Bools.{bif, and-l, xor-twice}
+use Rattle.sets.proofs.Bools.{bif, and-l, xor-comm, xor-twice}
 use Rattle.sets.proofs.Tests.{largest-le, largest-ext}
 use Rattle.sets.proofs.Masks.{mask-lt, bit-mask}
 use Rattle.sets.proofs.Bits.{bit-xor, bit-high, mask-unique}
@@ -42,10 +42,7 @@ use Rattle.build_cores.proofs.Pairs.{next-lt, onward-turn, onward-stay}
 use Rattle.build_step_back.proofs.Theory.{Masks, rises, ranks-are, left-is}
 
 xor-off : (a b : Bool) → exclusive (exclusive a b) a ≡ b
-xor-off true true = refl
-xor-off true false = refl
-xor-off false true = refl
-xor-off false false = refl
+xor-off a b = xor-comm (exclusive a b) a ∙ xor-twice a b
 
 module _ (A : Automaton) (H : Layered A) (s : ℕ) (opens parts : List ℕ) (P : Parts A parts) (O : Opens A s opens)
     (a v : ℕ) (letter : a < s) (w : Within 8 v (capsOf parts (A .components)))

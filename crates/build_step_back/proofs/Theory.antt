@@ -1,7 +1,7 @@
 -- The step back on masks is the step back of the theory.
 use mathlib.Core.Path.{_≡_, refl, ap, ap₂, sym, _∙_}
 use mathlib.Core.Logic.{by-cases}
-use mathlib.Core.Bool.{Bool, true, false, _&&_, _||_, not, cond, and-true, Bool·not-not}
+use mathlib.Core.Bool.{Bool, true, false, _&&_, _||_, not, cond, and-true, and-false, Bool·not-not}
 use mathlib.Core.List.{List}
 use Prim.Native.Nat.{ℕ, suc, _+_, _*_, _≤_, _<_}
 use native.Mathlib.Omega.{arith}
@@ -29,18 +29,13 @@ use Rattle.build_cores.specs.Opens.{setFrom, openBefore}
 use Rattle.build_step_back.proofs.Masks.{arg-small}
 
 arg-bit : (o k l : Bool) → exclusive o (o && k) || (l && k) ≡ cond k l o
-arg-bit true true true = refl
-arg-bit true true false = refl
-arg-bit true false true = refl
-arg-bit true false false = refl
-arg-bit false true true = refl
-arg-bit false true false = refl
-arg-bit false false true = refl
-arg-bit false false false = refl
+arg-bit true true l = and-true l
+arg-bit true false l = refl
+arg-bit false true l = and-true l
+arg-bit false false l = and-false l
 
 and-none : (b c : Bool) → c ≡ false → b && c ≡ false
-and-none true c e = e
-and-none false c e = refl
+and-none b c e = ap (λ (x : Bool). b && x) e ∙ and-false b
 
 -- ---- the component K of W, over letter a, from the core of set T and ranks r
 

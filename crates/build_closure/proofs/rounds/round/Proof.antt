@@ -21,7 +21,8 @@ use Rattle.build_spec.specs.Reached.{ReachedKey, AllReached}
 use Rattle.build_spec.specs.Sets.{openIn}
 use Rattle.build_spec.specs.Tables.{RuleTables}
 use Rattle.build_spec.proofs.Letters.{edges-out}
-use Rattle.build_spec.proofs.Sets.{open-lowest, open-within}
+use Rattle.build_spec.proofs.Sets.{open-within}
+use Rattle.build_spec.proofs.Starting.{open-lowest}
 use Rattle.build_closure.proofs.rounds.round.Statement.{statement}
 use Rattle.build_closure.proofs.rounds.round.Tie as tie
 
@@ -39,7 +40,7 @@ abbrev μ-loop : tie.MeasureT-loop
 
 -- the states that can be open
 all-is : (c : tie.After-lowest Inv-loop μ-loop) → getD (c .lowest .result) 15 0 ≡ openIn (capsOf (c .before .before .args .parts .now) (c .before .before .args .shape .components))
-all-is c = let p = c .before .before .pre in open-lowest (p .0 .1 .shaped) (c .before .before .args .caps) (c .lowest .result) (c .lowest .ensures) ∙ ap openIn (p .3)
+all-is c = let p = c .before .before .pre in open-lowest (c .before .before .args .caps) (c .lowest .result) (c .lowest .ensures) ∙ ap openIn (p .3)
 
 visit-set-requires : tie.Need-visit-set-requires Inv-loop μ-loop
 visit-set-requires c κs =
