@@ -3,6 +3,7 @@ use Prim.Native.Nat.{_-_, _^_, _<_}
 use mathlib.Core.Path.{_≡_, refl, _∙_}
 use mathlib.Core.Bool.{false}
 use native.Mathlib.Omega.{arith}
+use lib.ListN.{length}
 use Rattle.theory.specs.Rule.{Rule}
 use Rattle.build_cores.specs.Vectors.{Within}
 use Rattle.build_cores.proofs.Next.{within-next}
@@ -32,20 +33,14 @@ visit-first-requires : tie.Need-visit-first-requires Inv-loop μ-loop
 visit-first-requires c κs =
     let p = c .before .before .before .before .before .pre in let l = c .before .before .before .loop in (p .0, l .inv .2 (p .0 .0) (p .0 .1) .kept, rw (p .2) at (l .inv .0))
 
-same-length : tie.Need-same-length Inv-loop μ-loop
-same-length c =
-    let at-loop = c .before .before .before .before .before .before .before in
-    let e = at-loop .before .before .pre .0 in c .before .before .before .visit-first .kept .0 ∙ at-loop .loop .inv .2 (e .0) (e .1) .long
+-- the slice keeps its length
+long-at : (c : tie.At-loop Inv-loop μ-loop) → length (c .loop .keys) ≡ length (c .before .before .args .keys .now)
+long-at c = let e = c .before .before .pre .0 in c .loop .inv .2 (e .0) (e .1) .long
 
 returns : tie.Need-returns Inv-loop μ-loop
 returns c =
     let at-loop = c .before .before .before .before .before .before .before in
     let l = at-loop .loop in λ r S. upto-full (l .inv .2 r S) (l .inv .1) (appended-as (c .before .before .before .visit-first .ensures r S) (λ e y h. h) (λ y h. (l .t, h))) (c .if1 .taken)
-
-same-length-2 : tie.Need-same-length-2 Inv-loop μ-loop
-same-length-2 c =
-    let at-loop = c .before .before .before .before .before .before .before .before in
-    let e = at-loop .before .before .pre .0 in c .before .before .before .before .visit-first .kept .0 ∙ at-loop .loop .inv .2 (e .0) (e .1) .long
 
 returns-2 : tie.Need-returns-2 Inv-loop μ-loop
 returns-2 c =
@@ -79,4 +74,7 @@ loop-again c =
 
 pub firsts-spec : {M : Type 1} → statement M
 firsts-spec = tie.close (tie.spec
-    Inv-loop μ-loop loop-holds visit-first-requires same-length returns same-length-2 returns-2 next-ranks-requires loop-less loop-again)
+    Inv-loop μ-loop loop-holds visit-first-requires
+    (λ c. c .before .before .before .visit-first .kept .0 ∙ long-at (c .before .before .before .before .before .before .before)) returns
+    (λ c. c .before .before .before .before .visit-first .kept .0 ∙ long-at (c .before .before .before .before .before .before .before .before))
+    returns-2 next-ranks-requires loop-less loop-again)

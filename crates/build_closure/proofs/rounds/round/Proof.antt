@@ -5,7 +5,7 @@ use mathlib.Core.Bool.{false}
 use mathlib.Core.List.{List}
 use native.Mathlib.Omega.{arith}
 use lib.Dec.{ltb}
-use lib.ListN.{getD}
+use lib.ListN.{length, getD}
 use borrow.Author.Needs.{needs}
 use Rattle.sets.proofs.Masks.{mask-lt}
 use Rattle.theory.specs.Rule.{Rule}
@@ -47,20 +47,14 @@ visit-set-requires c κs =
     let p = c .before .before .before .before .before .before .pre in let e = p .0 in let i = c .before .before .before .loop .inv .2 (e .0) (e .1) (e .2) in
     ((e .0, e .1, all-kept i (e .2)), i .kept, omega (arith, p .2, i .more), all-is (c .before .before .before .before))
 
-same-length : tie.Need-same-length Inv-loop μ-loop
-same-length c =
-    let at-loop = c .before .before .before .before .before .before .before in
-    let e = at-loop .before .before .before .pre .0 in c .before .before .before .visit-set .kept .0 ∙ at-loop .loop .inv .2 (e .0) (e .1) (e .2) .long
+-- the slice keeps its length
+long-at : (c : tie.At-loop Inv-loop μ-loop) → length (c .loop .keys) ≡ length (c .before .before .before .args .keys .now)
+long-at c = let e = c .before .before .before .pre .0 in c .loop .inv .2 (e .0) (e .1) (e .2) .long
 
 returns : tie.Need-returns Inv-loop μ-loop
 returns c =
     let at-loop = c .before .before .before .before .before .before .before in
     let v = at-loop .loop .inv in λ r T R. let i = v .2 r T R in upto-full i (v .1) (c .before .before .before .visit-set .ensures r T (all-kept i R)) (c .if1 .taken)
-
-same-length-2 : tie.Need-same-length-2 Inv-loop μ-loop
-same-length-2 c =
-    let at-loop = c .before .before .before .before .before .before .before .before in
-    let e = at-loop .before .before .before .pre .0 in c .before .before .before .before .visit-set .kept .0 ∙ at-loop .loop .inv .2 (e .0) (e .1) (e .2) .long
 
 returns-2 : tie.Need-returns-2 Inv-loop μ-loop
 returns-2 c =
@@ -99,4 +93,7 @@ loop-again c =
 pub round-spec : {M : Type 1} → statement M
 round-spec = tie.close (tie.spec
     Inv-loop μ-loop (λ c κs. search needs) (λ c. search needs) (λ c. (omega arith, refl, λ r T R. upto-start (c .before .before .pre .1)))
-    visit-set-requires same-length returns same-length-2 returns-2 add-x loop-less loop-again)
+    visit-set-requires (λ c. c .before .before .before .visit-set .kept .0 ∙ long-at (c .before .before .before .before .before .before .before))
+    returns
+    (λ c. c .before .before .before .before .visit-set .kept .0 ∙ long-at (c .before .before .before .before .before .before .before .before))
+    returns-2 add-x loop-less loop-again)

@@ -6,6 +6,7 @@ use mathlib.Core.List.{List}
 use native.Mathlib.Omega.{arith}
 use lib.Bits.{bitAnd}
 use borrow.Author.Tests.{not-true}
+use lib.ListN.{length}
 use borrow.Author.Needs.{needs}
 use Rattle.theory.specs.Rule.{Rule}
 use Rattle.theory.specs.Automaton.{automaton}
@@ -63,22 +64,14 @@ visit-requires c κs =
     let p = start .pre in let e = p .0 in let l = c .before .before .before .loop in let i = l .inv .2 (e .0) (e .1) (e .2) in
     ((e .0, e .1, all-kept i (e .2)), i .kept, omega (arith, p .2, i .more), c .before .before .before .before .span-of .ensures .inside (l .d) (l .inv .0))
 
-same-length : tie.Need-same-length Inv-loop μ-loop
-same-length c =
-    let at-loop = c .before .before .before .before .before .before .before in
-    let start = at-loop .before .before .before .before .before .before .before in
-    let e = start .pre .0 in c .before .before .before .visit .kept .0 ∙ at-loop .loop .inv .2 (e .0) (e .1) (e .2) .long
+-- the slice keeps its length
+long-at : (c : tie.At-loop Inv-loop μ-loop) → length (c .loop .keys) ≡ length (c .before .before .before .before .before .before .before .args .keys .now)
+long-at c = let e = c .before .before .before .before .before .before .before .pre .0 in c .loop .inv .2 (e .0) (e .1) (e .2) .long
 
 returns-3 : tie.Need-returns-3 Inv-loop μ-loop
 returns-3 c =
     let at-loop = c .before .before .before .before .before .before .before in
     let v = at-loop .loop .inv in λ r T R. let i = v .2 r T R in upto-full i (v .1) (c .before .before .before .visit .ensures r T (all-kept i R)) (c .if3 .taken)
-
-same-length-2 : tie.Need-same-length-2 Inv-loop μ-loop
-same-length-2 c =
-    let at-loop = c .before .before .before .before .before .before .before .before in
-    let start = at-loop .before .before .before .before .before .before .before in
-    let e = start .pre .0 in c .before .before .before .before .visit .kept .0 ∙ at-loop .loop .inv .2 (e .0) (e .1) (e .2) .long
 
 returns-4 : tie.Need-returns-4 Inv-loop μ-loop
 returns-4 c =
@@ -117,5 +110,7 @@ loop-again c =
 
 pub visit-set-spec : {M : Type 1} → statement M
 visit-set-spec = tie.close (tie.spec
-    Inv-loop μ-loop returns is-fresh-requires returns-2 span-of-requires loop-holds add-visit visit-requires same-length returns-3 same-length-2 returns-4
+    Inv-loop μ-loop returns is-fresh-requires returns-2 span-of-requires loop-holds add-visit visit-requires
+    (λ c. c .before .before .before .visit .kept .0 ∙ long-at (c .before .before .before .before .before .before .before)) returns-3
+    (λ c. c .before .before .before .before .visit .kept .0 ∙ long-at (c .before .before .before .before .before .before .before .before)) returns-4
     next-ranks-requires loop-less loop-again)
