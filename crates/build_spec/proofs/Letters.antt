@@ -33,17 +33,10 @@ use Rattle.build_spec.specs.Tables.{Shaped, RuleTables, Lowest}
 use Rattle.build_spec.specs.Reached.{leads, ReachedKey}
 use Rattle.build_spec.proofs.Starting.{core-low, vector-low, within-all, accepting-fits, accepting-same, core-is}
 
--- an earlier core has ranks of at most 8, so its vector has 32 bits
-module _ (A : Automaton) (small : A .n ≤ 8) (a v : ℕ) where
-  rank-low : (q : ℕ) → cond (ltb q (A .n)) (earlierRank A a v q) 0 < 16
-  unfolding earlierRank
-  rank-low q = by-cases (decLt q (A .n))
-      (λ l. rw (lt-ltb q (A .n) l) (let h = rank-max A (earlierSet A a v) (earlierLevel A a v) q in omega arith))
-      (λ l. rw (le-ltb q (A .n) (omega arith)) (omega arith))
-
-  pub ranks-low : vectorOf A (earlierRank A a v) < 2 ^ 32
-  unfolding vectorOf
-  ranks-low = num-lt 16 (omega arith) 8 (λ q. cond (ltb q (A .n)) (earlierRank A a v q) 0) (λ q k. rank-low q)
+-- the number of an earlier core has 40 bits, so its vector has 32
+ranks-low : (A : Automaton) → A .n ≤ 8 → (a v : ℕ) → vectorOf A (earlierRank A a v) < 2 ^ 32
+unfolding backOf
+ranks-low A few a v = omega (arith, back-low A few a v)
 
 -- what a step moves is what leads over the letter
 module _ {A : Automaton} {parts : List ℕ} {C v a earlier core : ℕ} {levels : List ℕ} (S : Stepping A parts C v a earlier core levels) where

@@ -32,7 +32,7 @@ use Rattle.build_cores.proofs.Vectors.{rank-num, rank-high, ranks-eq, within-lt
 use Rattle.build_cores.proofs.Gaps.{rank-low}
 use Rattle.build_cores.proofs.Cores.{set-beyond, rank-beyond, only-cores, vector-within, vector-passes}
 use Rattle.build_step_back.specs.Earlier.{coreOf, backOf, ontoOf, earlierLevel, levelLeft, allClasses}
-use Rattle.build_step_back.proofs.Codes.{pack-key, pair-in, pair-component, pair-low, core-is, goes-is}
+use Rattle.build_step_back.proofs.Codes.{pack-key, pair-in, pair-component, pair-low, core-is, goes-is, onto-turned, onto-stayed}
 use Rattle.build_spec.specs.Reached.{Reached, begins, leads, ReachedKey}
 use Rattle.build_spec.specs.Keys.{keyOf, KeyOf, startOf, Cored, LeadsOver, KeyEdge, First}
 use Rattle.build_spec.specs.Tables.{Shaped}
@@ -106,25 +106,17 @@ module _ (A : Automaton) (H : Layered A) (parts : List ℕ) (P : Parts A parts) 
     unfolding allClasses
     all-low a K = let h = classes-max A (setOf A v) (rankAt v) core-of K in let n = P .few-states in omega arith
 
-    onto-turn : (a pair : ℕ) → pair / 16 ≡ 0 → ontoOf A a v pair ≡ nextComponent A (pair % 16) + 16 * allClasses A a v (nextComponent A (pair % 16))
-    unfolding ontoOf
-    onto-turn a pair z = rw (eq-eqb (pair / 16) 0 z)
-
-    onto-stay : (a pair : ℕ) → (pair / 16 ≡ 0 → ⊥) → ontoOf A a v pair ≡ pair % 16 + 16 * levelLeft A a v (pair % 16) (pair / 16)
-    unfolding ontoOf
-    onto-stay a pair z = rw (ne-eqb (pair / 16) 0 z)
-
     pub onto-component : (a pair : ℕ) → pair % 16 < A .components → ontoOf A a v pair % 16 < A .components
     onto-component a pair h = let f = P .few-components in
         by-cases (ℕ-discrete (pair / 16) 0)
-        (λ z. let e = onto-turn a pair z in let n = next-low A (pair % 16) h in omega arith)
-        (λ z. let e = onto-stay a pair z in omega arith)
+        (λ z. let e = onto-turned A a v pair z in let n = next-low A (pair % 16) h in omega arith)
+        (λ z. let e = onto-stayed A a v pair z in omega arith)
 
     pub onto-low : (a pair : ℕ) → pair % 16 < A .components → ontoOf A a v pair < 256
     onto-low a pair h = let f = P .few-components in
         by-cases (ℕ-discrete (pair / 16) 0)
-        (λ z. let e = onto-turn a pair z in let n = next-low A (pair % 16) h in let k = all-low a (nextComponent A (pair % 16)) in omega arith)
-        (λ z. let e = onto-stay a pair z in let k = level-low a (pair % 16) (pair / 16) in omega arith)
+        (λ z. let e = onto-turned A a v pair z in let n = next-low A (pair % 16) h in let k = all-low a (nextComponent A (pair % 16)) in omega arith)
+        (λ z. let e = onto-stayed A a v pair z in let k = level-low a (pair % 16) (pair / 16) in omega arith)
 
     -- ---- a key of it that is led to is that of a macrostate
 

@@ -236,7 +236,7 @@ module _ (P : Set) (l : ℕ → ℕ) (low : (q : ℕ) → q < 8 → P q ≡ true
       (λ b. rw (lt-ltb m k a, le-ltb (suc m) k (omega arith), le-leb 1 k (omega arith)) (omega (arith, top-new j k e (omega arith)))))
       (λ a. rw (le-ltb m k (omega arith), le-ltb (suc m) k (omega arith)) (omega (arith, top-keep j k (omega arith))))
 
-  module _ (x prev ones ranks levels j : ℕ) (hx : x < 256) (bx : (q : ℕ) → q < 8 → bit x q ≡ P q && leb (l q) j) (s : State prev ones ranks levels j) where
+  module _ (x : ℕ) {prev ones ranks levels j : ℕ} (hx : x < 256) (bx : (q : ℕ) → q < 8 → bit x q ≡ P q && leb (l q) j) (s : State prev ones ranks levels j) where
     leb-suc : (q : ℕ) → P q && leb (l q) j ≡ P q && ltb (l q) (suc j)
     leb-suc q = bif (leb (l q) j)
         (λ t. rw (t, lt-ltb (l q) (suc j) (omega (arith, leb-true (l q) j t))))
@@ -318,7 +318,7 @@ module _ (P : Set) (l : ℕ → ℕ) (low : (q : ℕ) → q < 8 → P q ≡ true
 
   -- ---- after the last turn
 
-  module _ (prev ones ranks levels j : ℕ) (s : State prev ones ranks levels j) (e : (q : ℕ) → q < 8 → bit prev q ≡ P q) where
+  module _ {prev ones ranks levels j : ℕ} (s : State prev ones ranks levels j) (e : (q : ℕ) → q < 8 → bit prev q ≡ P q) where
     all-in : (q : ℕ) → q < 8 → P q && ltb (l q) j ≡ P q
     all-in q h = sym (s .bits q h) ∙ e q h
 

@@ -62,6 +62,15 @@ module _ (A : Automaton) where
   unfolding earlierRank
   earlier-rank-beyond a v q l = ap (λ (b : Bool). cond b (rankOf A (earlierSet A a v) (earlierLevel A a v) q) 0) (le-ltb q (A .n) l)
 
+  -- a pair goes on, with no class left and with some
+  pub onto-turned : (a v pair : ℕ) → pair / 16 ≡ 0 → ontoOf A a v pair ≡ nextComponent A (pair % 16) + 16 * allClasses A a v (nextComponent A (pair % 16))
+  unfolding ontoOf
+  onto-turned a v pair z = rw (eq-eqb (pair / 16) 0 z)
+
+  pub onto-stayed : (a v pair : ℕ) → (pair / 16 ≡ 0 → ⊥) → ontoOf A a v pair ≡ pair % 16 + 16 * levelLeft A a v (pair % 16) (pair / 16)
+  unfolding ontoOf
+  onto-stayed a v pair z = rw (ne-eqb (pair / 16) 0 z)
+
   -- numbers of cores have 40 bits
   pub back-low : A .n ≤ 8 → (a v : ℕ) → backOf A a v < 2 ^ 40
   unfolding backOf
@@ -177,12 +186,10 @@ module _ (A : Automaton) (parts : List ℕ) (P : Parts A parts) (c a d : ℕ) (w
   pair = c / 2 ^ 40
 
   onto-turn : classesIn c ≡ 0 → ontoOf A a v pair ≡ nextComponent A (componentIn c) + 16 * allClasses A a v (nextComponent A (componentIn c))
-  unfolding ontoOf
-  onto-turn z = rw (pair-component A c wc, eq-eqb (pair / 16) 0 (pair-classes A c wc ∙ z))
+  onto-turn z = rw (pair-component A c wc) at (onto-turned A a v pair (pair-classes A c wc ∙ z))
 
   onto-stay : (classesIn c ≡ 0 → ⊥) → ontoOf A a v pair ≡ componentIn c + 16 * levelLeft A a v (componentIn c) (classesIn c)
-  unfolding ontoOf
-  onto-stay z = rw (pair-component A c wc, pair-classes A c wc, ne-eqb (classesIn c) 0 z)
+  onto-stay z = rw (pair-component A c wc, pair-classes A c wc) at (onto-stayed A a v pair (λ e. z (sym (pair-classes A c wc) ∙ e)))
 
   module _ (S : setIn A c ≡ earlierSet A a v) (r : rankIn A c ≡ earlierRank A a v) where
     onward-in : onward A c a d ≡ true → d / 2 ^ 40 ≡ ontoOf A a v pair

@@ -23,7 +23,7 @@ xor-and : (a b : Bool) → exclusive a (a && b) ≡ a && not b
 xor-and true b = refl
 xor-and false b = refl
 
-module _ (opens : List ℕ) (letter opened part : ℕ) (low : List ℕ) (r : Rising opens letter opened part low) where
+module _ {opens : List ℕ} {letter opened part : ℕ} {low : List ℕ} (r : Rising opens letter opened part low) where
   abbrev pub G : ℕ
   G = goal opens letter opened part low
 
@@ -78,17 +78,15 @@ module _ (opens : List ℕ) (letter opened part : ℕ) (low : List ℕ) (r : Ris
   nothing e = let n : (q : ℕ) → q < 8 → bit G q ≡ false = λ q h. ap (λ (x : ℕ). bit x q) e ∙ bit-none q in
       record { ranked = none-ranks (bit G) L level-low n; levelled = none-levels (bit G) L level-low n }
 
-  pub stepped : (prev ones ranks levels j : ℕ) → At prev ones ranks levels j → prev ≡ G → (1229782938247303440 ≤ levels) × Stepped opens letter opened part low ranks (levels - 1229782938247303440)
-  stepped prev ones ranks levels j s e =
+  pub stepped : {prev ones ranks levels j : ℕ} → At prev ones ranks levels j → prev ≡ G → (1229782938247303440 ≤ levels) × Stepped opens letter opened part low ranks (levels - 1229782938247303440)
+  stepped {prev} s e =
       let a : (q : ℕ) → q < 8 → bit prev q ≡ bit G q = λ q h. ap (λ (x : ℕ). bit x q) e in
-      let d = done-levels (bit G) L level-low prev ones ranks levels j s a in (
-        omega arith,
-        record { ranked = done-ranks (bit G) L level-low prev ones ranks levels j s a; levelled = omega arith },
-      )
+      let d = done-levels (bit G) L level-low s a in
+      (omega arith, record { ranked = done-ranks (bit G) L level-low s a; levelled = omega arith })
 
   -- ---- a turn of the loop
 
-  module _ (hp : part < 256) (prev ones ranks levels j : ℕ) (s : At prev ones ranks levels j) (more : prev ≡ G → ⊥) where
+  module _ (hp : part < 256) {prev ones ranks levels j : ℕ} (s : At prev ones ranks levels j) (more : prev ≡ G → ⊥) where
     left : ((q : ℕ) → q < 8 → bit prev q ≡ bit G q) → ⊥
     left e = more (same-goal hp prev (s .small) e)
 
@@ -104,14 +102,14 @@ module _ (opens : List ℕ) (letter opened part : ℕ) (low : List ℕ) (r : Ris
     late-bit q h = bit-xor G prev q ∙ ap (exclusive (bit G q)) (s .bits q h) ∙ xor-and (bit G q) (ltb (L q) j)
 
     pub levels-fit : levels + ones < 2 ^ 64
-    levels-fit = levels-room (bit G) L level-low (U j) prev ones ranks levels j (upto-small hp j) bits-at s deep-in
+    levels-fit = levels-room (bit G) L level-low (U j) (upto-small hp j) bits-at s deep-in
 
     pub on-same : U j ≡ prev → At prev ones ranks (levels + ones) (j + 1)
-    on-same e = stay (bit G) L level-low (U j) prev ones ranks levels j (upto-small hp j) bits-at s e left
+    on-same e = stay (bit G) L level-low (U j) (upto-small hp j) bits-at s e left
 
     module _ (ne : U j ≡ prev → ⊥) where
       pub ranks-fit : ranks + num 16 8 (λ q. one (bit (bitXor G prev) q)) < 2 ^ 32
-      ranks-fit = ranks-room (bit G) L level-low (U j) prev ones ranks levels j (upto-small hp j) bits-at s (bitXor G prev) late-bit ne deep-in
+      ranks-fit = ranks-room (bit G) L level-low (U j) (upto-small hp j) bits-at s (bitXor G prev) late-bit ne deep-in
 
       pub on-new : At (U j) (ones * 2 ^ 4 % 2 ^ 64) (ranks + num 16 8 (λ q. one (bit (bitXor G prev) q))) (levels + ones) (j + 1)
-      on-new = go (bit G) L level-low (U j) prev ones ranks levels j (upto-small hp j) bits-at s (bitXor G prev) late-bit ne deep-in
+      on-new = go (bit G) L level-low (U j) (upto-small hp j) bits-at s (bitXor G prev) late-bit ne deep-in

@@ -41,12 +41,12 @@ unfolding rejectingPart acceptingPart
 part-kind parts accepting true c = beq-not (eqb (bitAnd (getD parts c 0) accepting) 0) true
 part-kind parts accepting false c = beq-not (eqb (bitAnd (getD parts c 0) accepting) 0) false
 
-module _ (kind : Set) (opens : List ℕ) (letter opened : ℕ) (parts low before : List ℕ) where
+module _ {kind : Set} {opens : List ℕ} {letter opened : ℕ} {parts low before : List ℕ} where
   pub start : BackOf kind opens letter opened parts 0 low before 0 before
   unfolding sumOf
   start = record { ranked = refl; levelled = λ c. rw (le-ltb c 0 (omega arith)); long = refl; bound = omega arith }
 
-  module _ (levels : List ℕ) (ranks c : ℕ) (w : BackOf kind opens letter opened parts c low before ranks levels) where
+  module _ {levels : List ℕ} {ranks c : ℕ} (w : BackOf kind opens letter opened parts c low before ranks levels) where
     -- a component of the kind
     pub next : (r l : ℕ) → kind c ≡ true → c < length levels → r < 4294967296 → Stepped opens letter opened (getD parts c 0) low r l
         → BackOf kind opens letter opened parts (c + 1) low before (ranks + r) (set levels c l)
@@ -73,11 +73,10 @@ module _ (kind : Set) (opens : List ℕ) (letter opened : ℕ) (parts low before
     }
 
 -- both kinds together
-pub both : (kind : Set) (opens : List ℕ) (letter opened : ℕ) (parts : List ℕ) (components : ℕ) (low before : List ℕ) (ranks₁ : ℕ) (levels₁ : List ℕ) (ranks₂ : ℕ) (levels₂ : List ℕ)
-    → BackOf kind opens letter opened parts components low before ranks₁ levels₁
-    → BackOf (λ c. not (kind c)) opens letter opened parts components low levels₁ ranks₂ levels₂
+pub both : {kind : Set} {opens : List ℕ} {letter opened : ℕ} {parts : List ℕ} {components : ℕ} {low before : List ℕ} {ranks₁ : ℕ} {levels₁ : List ℕ} {ranks₂ : ℕ} {levels₂ : List ℕ}
+    → BackOf kind opens letter opened parts components low before ranks₁ levels₁ → BackOf (λ c. not (kind c)) opens letter opened parts components low levels₁ ranks₂ levels₂
     → Back opens letter opened parts components low (ranks₁ + ranks₂) levels₂
-both kind opens letter opened parts components low before ranks₁ levels₁ ranks₂ levels₂ x y = record {
+both {kind} {opens} {letter} {opened} {parts} {components} {low} x y = record {
   ranked = omega (arith, x .ranked, y .ranked, sum-both kind (ranksIn opens letter opened parts low) components);
   levelled = λ c h. bif (kind c)
       (λ k. y .levelled c ∙ rw (lt-ltb c components h, k) (x .levelled c ∙ rw (lt-ltb c components h, k)))

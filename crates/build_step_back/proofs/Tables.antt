@@ -36,7 +36,7 @@ use Rattle.build_step_back.specs.Step.{goal, level, class, levelDigits, 
 use Rattle.build_cores.specs.Onward.{nextIn, onwardIn}
 use Rattle.build_cores.specs.Opens.{setFrom, openBefore, Opens}
 use Rattle.build_step_back.specs.Earlier.{earlierSet, earlierLevel, earlierRank, backOf, levelLeft, allClasses, ontoOf}
-use Rattle.build_step_back.proofs.Codes.{earlier-set-beyond}
+use Rattle.build_step_back.proofs.Codes.{earlier-set-beyond, onto-turned, onto-stayed}
 use Rattle.build_step_back.proofs.Component.{level-low}
 use Rattle.build_cores.proofs.Pairs.{next-lt, onward-turn, onward-stay}
 use Rattle.build_step_back.proofs.Theory.{Masks, rises, ranks-are, left-is}
@@ -154,7 +154,7 @@ module _ (A : Automaton) (H : Layered A) (s : ℕ) (opens parts : List ℕ) (P :
     nibble-low c k l =
         let h = largest-le 8 (λ q. bit (goal opens a opened (getD parts c 0) low) q && leb (class (bit (goal opens a opened (getD parts c 0) low)) (level opens a opened (getD parts c 0) low) q) k)
         (level opens a opened (getD parts c 0) low) 8
-        (λ q m t. level-low opens a opened (getD parts c 0) low (rises-at c l) q m
+        (λ q m t. level-low (rises-at c l) q m
         (and-l (bit (goal opens a opened (getD parts c 0) low) q) (leb (class (bit (goal opens a opened (getD parts c 0) low)) (level opens a opened (getD parts c 0) low) q) k) t)) in omega arith
 
     pub level-is : (c k : ℕ) → c < A .components → k < 16 → getD levels c 0 / 2 ^ (4 * k) % 16 ≡ levelLeft A a v c k
@@ -181,13 +181,9 @@ module _ (A : Automaton) (H : Layered A) (s : ℕ) (opens parts : List ℕ) (P :
       classes-is c l = classes-largest A parts P (setOf A v) (rankAt v) (only-cores A parts P v w passes) v (λ q m. refl) c l
 
       pub onward-is : (pair : ℕ) → pair < 256 → pair % 16 < A .components → onwardIn v parts (A .components) levels pair ≡ ontoOf A a v pair
-      unfolding ontoOf
       onward-is pair h l = by-cases (ℕ-discrete (pair / 16) 0)
           (λ z. onward-turn v parts (A .components) levels pair z
           ∙ ap₂ (λ (x y : ℕ). x + 16 * y) (next-is (pair % 16)) (classes-is (nextIn (A .components) (pair % 16)) (next-lt (A .components) (pair % 16) l) ∙ ap (allClasses A a v) (next-is (pair % 16)))
-          ∙ sym (ap (λ (b : Bool). cond b (nextComponent A (pair % 16) + 16 * allClasses A a v (nextComponent A (pair % 16))) (pair % 16 + 16 * levelLeft A a v (pair % 16) (pair / 16)))
-          (eq-eqb (pair / 16) 0 z)))
+          ∙ sym (onto-turned A a v pair z))
           (λ z. onward-stay v parts (A .components) levels pair z
-          ∙ ap (λ (x : ℕ). pair % 16 + 16 * x) (level-is (pair % 16) (pair / 16) l (omega arith))
-          ∙ sym (ap (λ (b : Bool). cond b (nextComponent A (pair % 16) + 16 * allClasses A a v (nextComponent A (pair % 16))) (pair % 16 + 16 * levelLeft A a v (pair % 16) (pair / 16)))
-          (ne-eqb (pair / 16) 0 z)))
+          ∙ ap (λ (x : ℕ). pair % 16 + 16 * x) (level-is (pair % 16) (pair / 16) l (omega arith)) ∙ sym (onto-stayed A a v pair z))

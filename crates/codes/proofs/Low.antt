@@ -43,7 +43,5 @@ byte-turn f k r p l digit bound e =
     let small : r < 2 ^ 56 = lt-of-lt-of-le bound (pow-le-pow-right {n = 256} (lit< tt) {i = 8 - k} {j = 7} (omega arith)) in
     let m : 8 - (k - 1) ≡ 8 - k + 1 = omega arith in
     let put = put-byte r (f (k - 1)) small digit in
-    let next = bound-step 256 (8 - k) r (f (k - 1)) bound digit in (
-      rw (put, m) next,
-      put ∙ ap (λ (x : ℕ). x * 256 + f (k - 1)) e ∙ sym (from-step 256 8 f k (omega arith) p l),
-    )
+    let next = bound-step 256 (8 - k) r (f (k - 1)) bound digit in
+    (rw (put, m) next, put ∙ ap (λ (x : ℕ). x * 256 + f (k - 1)) e ∙ sym (from-step 256 8 f k (omega arith) p l))

@@ -10,8 +10,7 @@ build-table-requires c κs = let at-opens = c .before .before .before .before in
 
 returns : tie.Need-returns
 returns c =
-    let at-build-table = c .before .before .before .before in
-    let at-opens = at-build-table .before .before .before .before .before in
+    let at-build-table = c .before .before .before .before in let at-opens = at-build-table .before .before .before .before .before in
     let at-prepare = at-opens .before .before in let p = at-prepare .prepare .ensures in
     let r = ruleIn (at-prepare .before .before .before .before .args .file .now) in
     rw (p .1) at (at-build-table .build-table .ensures r (record { shaped = p .0; table = at-opens .file-opens .ensures }))

@@ -32,8 +32,7 @@ returns c =
 zero-from-requires : tie.Need-zero-from-requires
 zero-from-requires c κs =
     let start = c .before .before .before .before .before .before .before .before in let xs = start .args .codes .now in
-    let g = c .before .before .before .before .reachable in
-    let room = c .before .before .before .before .before .before .room-of in
+    let g = c .before .before .before .before .reachable in let room = c .before .before .before .before .before .before .room-of in
     let L = g .ensures (start .pre .0) (start .pre .1) in
     let long = whole _ (room .result) xs (g .last .0) (room .ensures) (L .long) in
     let few = room-fits _ _ _ (room .ensures) in

@@ -31,8 +31,7 @@ kept n xs ys e = ap (λ (l : List ℕ). l ++ drop n xs) e ∙ take-append-drop n
 
 returns : tie.Need-returns
 returns c =
-    let at-room-of = c .before .before .before .before .before .before .before .before in
-    let start = at-room-of .before .before .before in
+    let at-room-of = c .before .before .before .before .before .before .before .before in let start = at-room-of .before .before .before in
     let a = start .args in let g = c .before .before .before .before .before .transitions in let room = at-room-of .room-of in (
       kept (a .n) (a .codes .now) (g .last .1 .0) (g .ensures .0),
       λ r T C.

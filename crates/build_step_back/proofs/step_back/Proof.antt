@@ -10,9 +10,7 @@ step-accepting-requires c κs = let p = c .before .before .before .pre in (p .0,
 
 returns : tie.Need-returns
 unfolding acceptingPart
-returns c = let a = c .before .before .before .before .args in let x = c .before .before .step-rejecting in let y = c .step-accepting in
-    both (rejectingPart (a .parts .now) (a .accepting)) (a .opens .now) (a .letter) (a .opened) (a .parts .now) (a .components) (a .low .now) _ (x .result) (x .last .1 .1 .1 .1 .1 .1 .1 .0)
-    (y .result) (y .last .1 .1 .1 .1 .1 .1 .1 .0) (x .ensures) (y .ensures)
+returns c = both (c .before .before .step-rejecting .ensures) (c .step-accepting .ensures)
 
 pub step-back-spec : {M : Type 1} → statement M
 step-back-spec = tie.close (tie.spec (λ c κs. search needs) step-accepting-requires (λ c. search needs) returns)

@@ -13,7 +13,7 @@ use Rattle.build_step_back.proofs.step_component.Tie as tie
 
 abbrev Inv-loop : tie.InvT-loop
 Inv-loop opens letter opened part low row outside goal prev₀ ones₀ ranks₀ levels₀ j₀ prev ones ranks levels j =
-    (r : Rising opens letter opened part low) × (j ≤ 9) × At opens letter opened part low r prev ones ranks levels j
+    (r : Rising opens letter opened part low) × (j ≤ 9) × At r prev ones ranks levels j
 
 abbrev μ-loop : tie.MeasureT-loop
 μ-loop opens letter opened part low row outside goal prev₀ ones₀ ranks₀ levels₀ j₀ prev ones ranks levels j = 9 - j
@@ -24,12 +24,11 @@ cast-outside c = let a = c .args in
 
 returns : tie.Need-returns Inv-loop μ-loop
 unfolding goal
-returns c = let a = c .before .before .args in nothing (a .opens .now) (a .letter) (a .opened) (a .part) (a .low .now) (c .before .before .pre) (c .if1 .taken)
+returns c = nothing (c .before .before .pre) (c .if1 .taken)
 
 loop-holds : tie.Need-loop-holds Inv-loop μ-loop
 unfolding goal
-loop-holds c = let a = c .before .before .args in
-    (c .before .before .pre, omega arith, begin (a .opens .now) (a .letter) (a .opened) (a .part) (a .low .now) (c .before .before .pre) (omega arith) (c .if1 .left))
+loop-holds c = (c .before .before .pre, omega arith, begin (c .before .before .pre) (omega arith) (c .if1 .left))
 
 -- the loop's test: not all have come in
 more : (c : tie.In-loop Inv-loop μ-loop) → c .before .loop .prev ≡ goal (c .before .before .before .before .args .opens .now) (c .before .before .before .before .args .letter)
@@ -38,8 +37,7 @@ unfolding goal
 more c = c .loop-test .taken
 
 deep : (c : tie.In-loop Inv-loop μ-loop) → c .before .loop .j ≤ 8
-deep c = let a = c .before .before .before .before .args in let l = c .before .loop in
-    deep-in (a .opens .now) (a .letter) (a .opened) (a .part) (a .low .now) (l .inv .0) (omega arith) (l .prev) (l .ones) (l .ranks) (l .levels) (l .j) (l .inv .2) (more c)
+deep c = let l = c .before .loop in deep-in (l .inv .0) (omega arith) (l .inv .2) (more c)
 
 small : (c : tie.After-x Inv-loop μ-loop) → _<_ (bitOr (bitXor (c .before .before .before .before .before .args .opened)
     (bitAnd (c .before .before .before .before .before .args .opened) (c .before .before .before .before .before .args .part)))
@@ -52,57 +50,30 @@ cast-x c = let a = c .before .before .before .before .before .args in
     omega (arith, and-le-r (getD (a .low .now) (c .before .before .loop .j) 0) (a .part))
 
 add-levels : tie.Need-add-levels Inv-loop μ-loop
-add-levels c = let a = c .before .before .before .before .before .before .args in let l = c .before .before .before .loop in
-    omega (
-      arith,
-      levels-fit (a .opens .now) (a .letter) (a .opened) (a .part) (a .low .now) (l .inv .0) (omega arith) (l .prev) (l .ones) (l .ranks) (l .levels) (l .j) (l .inv .2)
-          (more (c .before .before)),
-    )
+add-levels c = let l = c .before .before .before .loop in omega (arith, levels-fit (l .inv .0) (omega arith) (l .inv .2) (more (c .before .before)))
 
 loop-again : tie.Need-loop-again Inv-loop μ-loop
 unfolding upto
-loop-again c =
-    let start = c .before .before .before .before .before .before .before in
-    let a = start .args in let l = c .before .before .before .before .loop in (
-      l .inv .0,
-      omega (arith, deep (c .before .before .before)),
-      on-same (a .opens .now) (a .letter) (a .opened) (a .part) (a .low .now) (l .inv .0) (omega arith) (l .prev) (l .ones) (l .ranks) (l .levels) (l .j) (l .inv .2)
-          (more (c .before .before .before)) (c .if2 .taken),
-    )
+loop-again c = let l = c .before .before .before .before .loop in let i = c .before .before .before in
+    (l .inv .0, omega (arith, deep i), on-same (l .inv .0) (omega arith) (l .inv .2) (more i) (c .if2 .taken))
 
 add-ranks : tie.Need-add-ranks Inv-loop μ-loop
 unfolding upto goal
-add-ranks c =
-    let start = c .before .before .before .before .before .before .before .before in
-    let a = start .args in let l = c .before .before .before .before .before .loop in
-    rw (c .nibbles-of .ensures)
-    (omega (
-      arith,
-      ranks-fit (a .opens .now) (a .letter) (a .opened) (a .part) (a .low .now) (l .inv .0) (omega arith) (l .prev) (l .ones) (l .ranks) (l .levels) (l .j) (l .inv .2)
-          (more (c .before .before .before .before)) (c .before .if2 .left),
-    ))
+add-ranks c = let l = c .before .before .before .before .before .loop in
+    rw (c .nibbles-of .ensures) (omega (arith, ranks-fit (l .inv .0) (omega arith) (l .inv .2) (more (c .before .before .before .before)) (c .before .if2 .left)))
 
 loop-again-2 : tie.Need-loop-again-2 Inv-loop μ-loop
 unfolding upto goal
-loop-again-2 c =
-    let start = c .before .before .before .before .before .before .before .before in
-    let a = start .args in let l = c .before .before .before .before .before .loop in (
-      l .inv .0,
-      omega (arith, deep (c .before .before .before .before)),
-      rw (c .nibbles-of .ensures)
-          (on-new (a .opens .now) (a .letter) (a .opened) (a .part) (a .low .now) (l .inv .0) (omega arith) (l .prev) (l .ones) (l .ranks) (l .levels) (l .j) (l .inv .2)
-          (more (c .before .before .before .before)) (c .before .if2 .left)),
-    )
+loop-again-2 c = let l = c .before .before .before .before .before .loop in let i = c .before .before .before .before in
+    (l .inv .0, omega (arith, deep i), rw (c .nibbles-of .ensures) (on-new (l .inv .0) (omega arith) (l .inv .2) (more i) (c .before .if2 .left)))
 
 sub-levels : tie.Need-sub-levels Inv-loop μ-loop
 unfolding goal
-sub-levels c = let a = c .before .before .before .before .args in let l = c .before .loop in
-    omega (arith, stepped (a .opens .now) (a .letter) (a .opened) (a .part) (a .low .now) (l .inv .0) (l .prev) (l .ones) (l .ranks) (l .levels) (l .j) (l .inv .2) (c .loop-test .left) .0)
+sub-levels c = let l = c .before .loop in omega (arith, stepped (l .inv .0) (l .inv .2) (c .loop-test .left) .0)
 
 returns-2 : tie.Need-returns-2 Inv-loop μ-loop
 unfolding goal
-returns-2 c = let a = c .before .before .before .before .args in let l = c .before .loop in
-    stepped (a .opens .now) (a .letter) (a .opened) (a .part) (a .low .now) (l .inv .0) (l .prev) (l .ones) (l .ranks) (l .levels) (l .j) (l .inv .2) (c .loop-test .left) .1
+returns-2 c = let l = c .before .loop in stepped (l .inv .0) (l .inv .2) (c .loop-test .left) .1
 
 pub step-component-spec : {M : Type 1} → statement M
 step-component-spec = tie.close (tie.spec

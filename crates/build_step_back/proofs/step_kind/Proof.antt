@@ -17,19 +17,10 @@ Inv-loop opens letter opened parts components accepting low levels₀ kind ranks
 abbrev μ-loop : tie.MeasureT-loop
 μ-loop opens letter opened parts components accepting low levels₀ kind ranks₀ c₀ levels ranks c = components - c
 
-loop-holds : tie.Need-loop-holds Inv-loop μ-loop
-loop-holds c = let a = c .args in
-    (omega arith, start (partOf (a .parts .now) (a .accepting) (a .kind)) (a .opens .now) (a .letter) (a .opened) (a .parts .now) (a .low .now) (a .levels .now), c .pre .2)
-
 loop-again : tie.Need-loop-again Inv-loop μ-loop
 loop-again c =
     let a = c .before .before .before .before .args in let l = c .before .before .before .loop in
-    let kind = part-kind (a .parts .now) (a .accepting) (a .kind) (l .c) in (
-      omega arith,
-      skip (partOf (a .parts .now) (a .accepting) (a .kind)) (a .opens .now) (a .letter) (a .opened) (a .parts .now) (a .low .now) (a .levels .now) (l .levels) (l .ranks) (l .c) (l .inv .1)
-          (kind ∙ not-true _ (c .if1 .taken)),
-      l .inv .2,
-    )
+    (omega arith, skip (l .inv .1) (part-kind (a .parts .now) (a .accepting) (a .kind) (l .c) ∙ not-true _ (c .if1 .taken)), l .inv .2)
 
 step-component-requires : tie.Need-step-component-requires Inv-loop μ-loop
 step-component-requires c κs = c .before .before .before .before .pre .1 (c .before .before .before .loop .c) (omega arith)
@@ -40,13 +31,9 @@ add-ranks c = omega (arith, c .before .before .before .before .before .loop .inv
 loop-again-2 : tie.Need-loop-again-2 Inv-loop μ-loop
 loop-again-2 c =
     let a = c .before .before .before .before .before .before .args in let l = c .before .before .before .before .before .loop in let s = c .before .step-component in
-    let kind = part-kind (a .parts .now) (a .accepting) (a .kind) (l .c) in (
-      omega arith,
-      rw (c .wide .ensures)
-          (next (partOf (a .parts .now) (a .accepting) (a .kind)) (a .opens .now) (a .letter) (a .opened) (a .parts .now) (a .low .now) (a .levels .now) (l .levels) (l .ranks) (l .c) (l .inv .1)
-          (s .result .ranks) (s .result .levels) (kind ∙ not-false _ (c .before .before .if1 .left)) (omega (arith, l .inv .2)) (search needs) (s .ensures)),
-      simp length-set (l .inv .2),
-    )
+    let kind = part-kind (a .parts .now) (a .accepting) (a .kind) (l .c) ∙ not-false _ (c .before .before .if1 .left) in
+    let found = next (l .inv .1) (s .result .ranks) (s .result .levels) kind (omega (arith, l .inv .2)) (search needs) (s .ensures) in
+    (omega arith, rw (c .wide .ensures) found, simp length-set (l .inv .2))
 
 returns : tie.Need-returns Inv-loop μ-loop
 returns c =
@@ -54,6 +41,6 @@ returns c =
 
 pub step-kind-spec : {M : Type 1} → statement M
 step-kind-spec = tie.close (tie.spec
-    Inv-loop μ-loop loop-holds (λ c. search needs) (λ c. omega arith) (λ c. omega arith) loop-again step-component-requires (λ c κs. search needs)
+    Inv-loop μ-loop (λ c. (omega arith, start, c .pre .2)) (λ c. search needs) (λ c. omega arith) (λ c. omega arith) loop-again step-component-requires (λ c κs. search needs)
     add-ranks (λ c. search needs) (λ c. omega (arith, c .before .before .before .before .before .loop .inv .2)) (λ c. omega arith) (λ c. omega arith)
     loop-again-2 returns)

@@ -34,8 +34,7 @@ returns-2 c =
     let at-mark-live = at-number .before .before .before .before .before .before .before in
     let start = at-mark-live .before .before .before .before .before in let a = start .args in
     let s = at-mark-live .mark-live in let v = at-number .number in
-    let w = c .before .before .before .before .before .before .rewrite-all .ensures in
-    let k = c .before .before .compact2 .ensures in
+    let w = c .before .before .before .before .before .before .rewrite-all .ensures in let k = c .before .before .compact2 .ensures in
     trimmed-some (a .codes .now) (a .transitions .now) (start .pre) (s .last .0) (s .ensures .0) (s .ensures .1) (v .last .0) (v .ensures .0) (v .ensures .1) (v .kept .0)
     _ _ (w .0) (w .1) _ _ (k .0) (k .1)
 

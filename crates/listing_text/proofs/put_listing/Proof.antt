@@ -52,16 +52,12 @@ built : (c : tie.After-counts) → builtOf (start-of-after-counts c .args .file 
 built c = sym (answer (c .before .before .before .before)) ∙ c .counts .given .1
 
 codes-held : (c : tie.After-counts) → c .counts .given .0 .0 .macrostates ≤ length (c .before .before .before .before .build .last .1 .0)
-codes-held c =
-    let at-if1 = c .before .before .before .before .before .before .before in
-    let start = at-if1 .before .before .before in
+codes-held c = let at-if1 = c .before .before .before .before .before .before .before in let start = at-if1 .before .before .before in
     codes-fit (start .args .file .now) (at-if1 .if1 .left) (c .counts .given .0 .0) (built c)
     _ _ refl (c .before .before .before .before .build .ensures .codes-after)
 
 moves-held : (c : tie.After-counts) → c .counts .given .0 .0 .transitions ≤ length (c .before .before .before .before .build .last .1 .1 .0)
-moves-held c =
-    let at-if1 = c .before .before .before .before .before .before .before in
-    let start = at-if1 .before .before .before in
+moves-held c = let at-if1 = c .before .before .before .before .before .before .before in let start = at-if1 .before .before .before in
     moves-fit (start .args .file .now) (at-if1 .if1 .left) (c .counts .given .0 .0) (built c)
     _ _ refl (c .before .before .before .before .build .ensures .moves-after)
 

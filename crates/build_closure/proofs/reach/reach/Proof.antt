@@ -28,8 +28,7 @@ all c r T = let a = c .before .before .before .before .before .before .args in
 
 close-requires : tie.Need-close-requires
 close-requires c κs =
-    let at-firsts = c .before .before .before .before .before .before in
-    let at-largest-ranks = at-firsts .before .before .before .before in
+    let at-firsts = c .before .before .before .before .before .before in let at-largest-ranks = at-firsts .before .before .before .before in
     let e = at-largest-ranks .before .before .pre .0 in
     ((e .0, e .1, all at-firsts (e .0) (e .1)), at-firsts .firsts .ensures (e .0) (e .1 .shaped) .kept, at-largest-ranks .largest-ranks .ensures)
 

@@ -22,8 +22,7 @@ sort-first-requires c κs =
 
 returns-2 : tie.Need-returns-2
 returns-2 c =
-    let at-if1 = c .before .before .before .before .before .before .before .before in
-    let at-reach = at-if1 .before .before .before in
+    let at-if1 = c .before .before .before .before .before .before .before .before in let at-reach = at-if1 .before .before .before in
     let t = c .before .before .before .before .before .before .to-codes in let z = c .before .before .sort-first in
     λ r T. listed-all (T .shaped .passing) (startOf r (at-reach .before .before .before .args .shape .holds)) (at-if1 .if1 .left) (at-reach .reach .ensures r T)
     (t .ensures) (z .ensures) (z .kept .0 ∙ t .kept .0)

@@ -58,8 +58,7 @@ returns c =
 
 returns-2 : tie.Need-returns-2 Inv-loop μ-loop
 returns-2 c =
-    let at-loop = c .before .before .before .before .before .before .before .before in
-    let at-lowest = at-loop .before in
+    let at-loop = c .before .before .before .before .before .before .before .before in let at-lowest = at-loop .before in
     let a = at-lowest .before .before .args in let l = at-loop .loop in
     λ r T R. let i = l .inv .2 r T R in
     appended-as (upto-next i (l .inv .1) (c .before .before .before .before .visit-set .ensures r T (all-kept i R))

@@ -40,16 +40,14 @@ same-length c = c .before .before .before .emit-core .kept .0 ∙ c .before .bef
 
 returns : tie.Need-returns Inv-loop μ-loop
 returns c =
-    let at-core-before = c .before .before .before .before .before .before in
-    let at-loop = at-core-before .before .before in
+    let at-core-before = c .before .before .before .before .before .before in let at-loop = at-core-before .before .before in
     let l = at-loop .loop in let inside = at-core-before .before .loop-test .taken in let new = at-core-before .core-before .ensures .1 (c .before .before .before .before .before .if1 .left) in
     λ r T R. emitted-over (l .inv .4 r T R) (l .inv .1) (c .before .before .before .emit-core .ensures r T R)
     (fresh T (at-loop .before .before .before .pre .1) R (l .j) inside new) inside (c .if2 .taken)
 
 loop-again-2 : tie.Need-loop-again-2 Inv-loop μ-loop
 loop-again-2 c =
-    let at-core-before = c .before .before .before .before .before .before in
-    let at-loop = at-core-before .before .before in
+    let at-core-before = c .before .before .before .before .before .before in let at-loop = at-core-before .before .before in
     let l = at-loop .loop in let inside = at-core-before .before .loop-test .taken in let new = at-core-before .core-before .ensures .1 (c .before .before .before .before .before .if1 .left) in
     let p = at-loop .before .before .before .pre in let e = p .0 in let g = c .before .before .before .emit-core in (
       omega (arith, inside),

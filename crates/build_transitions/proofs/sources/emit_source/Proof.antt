@@ -57,8 +57,7 @@ slice-write-out c = omega (arith, c .before .before .before .before .before .bef
 
 returns-4 : tie.Need-returns-4
 returns-4 c =
-    let at-find = c .before .before .before in
-    let start = at-find .before .before .before .before .before .before .before in
+    let at-find = c .before .before .before in let start = at-find .before .before .before .before .before .before .before in
     let a = start .args in let p = start .pre in let t = at-find .find .result in let there : t < length (a .keys .now) = omega (arith, c .before .before .if2 .left) in
     let packed : c .pack-transition .result ≡ transitionOf (a .p) (a .step .letter) t = c .pack-transition .ensures in
     rw packed (emitted-put (transitionOf (a .p) (a .step .letter) t) (omega (arith, p .7, c .before .if3 .left))

@@ -27,8 +27,7 @@ put-requires c κs =
 
 loop-less : tie.Need-loop-less Inv-loop μ-loop
 loop-less c =
-    let at-loop-test = c .before .before .before .before .before .before .before in
-    let at-loop = at-loop-test .before in
+    let at-loop-test = c .before .before .before .before .before .before .before in let at-loop = at-loop-test .before in
     let l = at-loop .loop in omega (arith, at-loop-test .loop-test .taken, l .inv .1 .long)
 
 loop-again : tie.Need-loop-again Inv-loop μ-loop
@@ -36,10 +35,8 @@ loop-again c =
     let at-loop-test = c .before .before .before .before .before .before .before in
     let at-loop = at-loop-test .before in let start = at-loop .before .before in
     let a = start .args in let p = start .pre in let l = at-loop .loop in let e = c .before .before .put .ensures in let inside : l .p < length (a .codes .now) =
-    omega (arith, at-loop-test .loop-test .taken, l .inv .1 .long) in (
-      omega arith,
-      rw (e .0, e .1, e .2) (chaining-next (l .inv .1) (p .1) (p .2) inside (key-read (l .inv .1) (p .2 (l .p) inside))),
-    )
+    omega (arith, at-loop-test .loop-test .taken, l .inv .1 .long) in
+    (omega arith, rw (e .0, e .1, e .2) (chaining-next (l .inv .1) (p .1) (p .2) inside (key-read (l .inv .1) (p .2 (l .p) inside))))
 
 returns : tie.Need-returns Inv-loop μ-loop
 returns c =

@@ -40,8 +40,7 @@ sort-first-requires c κs =
 
 returns-2 : tie.Need-returns-2
 returns-2 c =
-    let at-to-codes = c .before .before .before .before .before .before .before in
-    let at-emit = at-to-codes .before .before .before .before in
+    let at-to-codes = c .before .before .before .before .before .before .before in let at-emit = at-to-codes .before .before .before .before in
     let at-chain = at-emit .before .before .before .before .before .before .before in
     let start = at-chain .before .before .before .before .before .before in
     let p = start .pre in let k = at-chain .chain in let o = c .before .before .sort-first in (

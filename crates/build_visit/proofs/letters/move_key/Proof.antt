@@ -23,8 +23,7 @@ admit-requires c κs =
 
 returns-2 : tie.Need-returns-2
 returns-2 c =
-    let at-onward = c .before .before .before .before .before .before .before in
-    let start = at-onward .before .before .before .before in
+    let at-onward = c .before .before .before .before .before .before .before in let start = at-onward .before .before .before .before in
     let a = start .args in let p = start .pre in
     let k = key-onward (a .step .ranks) (a .parts .now) (a .step .components) (a .levels .now) (a .step .core) (a .key) (p .2) (p .1) (p .3) (at-onward .onward .ensures) in
     appended-as (c .before .before .admit .ensures) (λ t z h. h .to ∙ sym (k .0)) (λ z h. record { from = at-onward .before .if1 .left; to = h ∙ k .0 })

@@ -37,8 +37,7 @@ loop-holds c = (omega arith, refl, refl, λ r T R. upto-start (c .before .before
 
 visit-letter-requires : tie.Need-visit-letter-requires Inv-loop μ-loop
 visit-letter-requires c κs =
-    let at-lowest = c .before .before .before .before .before .before .before in
-    let start = at-lowest .before .before .before .before in
+    let at-lowest = c .before .before .before .before .before .before .before in let start = at-lowest .before .before .before .before in
     let p = start .pre in let e = p .0 in let i = c .before .before .before .before .before .before .loop .inv .3 (e .0) (e .1) (e .2) in (
       (e .0, e .1, all-kept i (e .2)),
       i .kept,
@@ -59,8 +58,7 @@ returns-2 c =
 
 loop-again : tie.Need-loop-again Inv-loop μ-loop
 loop-again c =
-    let at-if2 = c .before .before .before .before .before .before .before .before in
-    let at-loop = at-if2 .before .before in
+    let at-if2 = c .before .before .before .before .before .before .before .before in let at-loop = at-if2 .before .before in
     let l = at-loop .loop in let start = at-loop .before .before .before .before .before in (
       omega (arith, at-if2 .if2 .taken),
       c .if3 .left,

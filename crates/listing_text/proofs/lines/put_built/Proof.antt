@@ -16,8 +16,7 @@ put-word-requires c κs = let start = c .before .before .before .before .before 
 
 put-word-requires-2 : tie.Need-put-word-requires-2
 put-word-requires-2 c κs =
-    let start = c .before .before .before .before .before .before .before .before .before .before .before in
-    let a = start .args in
+    let start = c .before .before .before .before .before .before .before .before .before .before .before in let a = start .args in
     omega (arith, built-length (a .macrostates) (a .transitions))
 
 put-byte-requires : tie.Need-put-byte-requires

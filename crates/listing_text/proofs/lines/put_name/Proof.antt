@@ -32,8 +32,7 @@ returns : tie.Need-returns
 unfolding nLine
 returns c =
     let at-put-byte2 = c .before .before .before .before .before .before .before .before .before .before in
-    let at-put-word = at-put-byte2 .before .before .before .before in
-    let at-put-byte = at-put-word .before .before .before .before in
+    let at-put-word = at-put-byte2 .before .before .before .before in let at-put-byte = at-put-word .before .before .before .before in
     put-then (at-put-byte .put-byte .ensures)
     (put-then (at-put-word .put-word .ensures)
     (put-then (at-put-byte2 .put-byte2 .ensures)

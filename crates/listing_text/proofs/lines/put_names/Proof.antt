@@ -38,8 +38,7 @@ put-name-requires c κs =
 
 loop-again : tie.Need-loop-again Inv-loop μ-loop
 loop-again c =
-    let start = c .before .before .before .before .before .before .before .before .before in
-    let names = start .args .names .now in
+    let start = c .before .before .before .before .before .before .before .before .before in let names = start .args .names .now in
     let l = c .before .before .before .before .before .before .loop in (
       omega arith,
       put-line (nameLine names) (lettersOf names) (l .i) (listed names (l .i) (c .before .before .before .before .before .loop-test .taken)) (l .inv .1) _ (text-is names (l .i))
