@@ -25,6 +25,7 @@ use Rattle.build.specs.declared.Counts.{Counts}
 use Rattle.build.specs.declared.Built.{Built}
 use Rattle.build.specs.declared.Built.the-variants.{Table, Refused}
 use Rattle.build.specs.Built.{roomRow, builtBy, roomAfter, sliceAfter, rowFrom, builtFrom, codesAfterFrom, transitionsAfterFrom, buildRow, builtOf, codesAfter, transitionsAfter}
+use Rattle.build.specs.Entry.{TableBuilt}
 use Rattle.build.specs.Filling.{Filled}
 use Rattle.build.proofs.Answer.{table-by, build-row}
 use Rattle.build.proofs.ByLists.{codes-same, moves-same, row-same, filled-same}
@@ -77,7 +78,7 @@ renumbered-short ms (t ∷ ts) = let ih = renumbered-short ms ts in
 
 -- ---- the file of the call, and both slices before and after the build
 
-module _ (f xs zs ys ws : List ℕ) (codes-built : ys ≡ codesAfter f xs (length zs)) (moves-built : ws ≡ transitionsAfter f (length xs) zs) where
+module _ {f xs zs : List ℕ} {b : Built} {ys ws : List ℕ} (B : TableBuilt f xs zs b ys ws) where
   abbrev row : ℕ
   row = buildRow f (length xs) (length zs)
 
@@ -85,24 +86,27 @@ module _ (f xs zs ys ws : List ℕ) (codes-built : ys ≡ codesAfter f xs (lengt
   r = ruleIn f
 
   -- the build refuses
-  module _ (k : ℕ) (e : Refused k ≡ builtOf f (length xs) (length zs)) where
+  module _ {k : ℕ} (e : b ≡ Refused k) where
+    refused : Refused k ≡ builtOf f (length xs) (length zs)
+    refused = sym e ∙ B .answer
+
     pub refused-answer : Refused k ≡ trimmedOf f (length xs) (length zs)
     unfolding trimmedOf builtFrom
-    refused-answer = refused-same row (macrostates r) (transitions r) (trimmedCodes r) (trimmedTransitions r) k e
+    refused-answer = refused-same row (macrostates r) (transitions r) (trimmedCodes r) (trimmedTransitions r) k refused
 
     pub refused-codes : ys ≡ trimmedCodesAfter f xs (length zs)
     unfolding trimmedCodesAfter codesAfterFrom builtFrom
-    refused-codes = codes-built ∙ slice-same row (macrostates r) (transitions r) (macrostates r) (trimmedCodes r) xs k e
+    refused-codes = B .codes-after ∙ slice-same row (macrostates r) (transitions r) (macrostates r) (trimmedCodes r) xs k refused
 
     pub refused-moves : ws ≡ trimmedTransitionsAfter f (length xs) zs
     unfolding trimmedTransitionsAfter transitionsAfterFrom builtFrom
-    refused-moves = moves-built ∙ slice-same row (macrostates r) (transitions r) (transitions r) (trimmedTransitions r) zs k e
+    refused-moves = B .moves-after ∙ slice-same row (macrostates r) (transitions r) (transitions r) (trimmedTransitions r) zs k refused
 
   -- the build leaves a table
-  module _ (n : Counts) (e : Table n ≡ builtOf f (length xs) (length zs)) where
+  module _ {n : Counts} (e : b ≡ Table n) where
     counted : (row ≡ 0) × (n .macrostates ≡ length (macrostates r)) × (n .transitions ≡ length (transitions r))
     unfolding builtFrom
-    counted = table-by row (macrostates r) (transitions r) n e
+    counted = table-by row (macrostates r) (transitions r) n (sym e ∙ B .answer)
 
     both-rows : (fileRow f ≡ 0) × (roomRow (macrostates r) (transitions r) (length xs) (length zs) ≡ 0)
     unfolding rowFrom roomRow fileRow
@@ -119,11 +123,11 @@ module _ (f xs zs ys ws : List ℕ) (codes-built : ys ≡ codesAfter f xs (lengt
 
     codes-held : ys ≡ padded (macrostates r) (length xs)
     unfolding codesAfterFrom
-    codes-held = codes-built ∙ slice-none row (macrostates r) xs (counted .0)
+    codes-held = B .codes-after ∙ slice-none row (macrostates r) xs (counted .0)
 
     moves-held : ws ≡ padded (transitions r) (length zs)
     unfolding transitionsAfterFrom
-    moves-held = moves-built ∙ slice-none row (transitions r) zs (counted .0)
+    moves-held = B .moves-after ∙ slice-none row (transitions r) zs (counted .0)
 
     pub codes-front : take (n .macrostates) ys ≡ macrostates r
     codes-front = ap₂ (λ (k : ℕ) (l : List ℕ). take k l) (counted .1) codes-held ∙ take-append-seam (macrostates r) _
@@ -152,7 +156,7 @@ module _ (f xs zs ys ws : List ℕ) (codes-built : ys ≡ codesAfter f xs (lengt
     unfolding trimmedTransitions trimmedCodes
     moves-are = renumbered-are r passing (macrostates r) (transitions r) lists few (liveMarks (macrostates r) (transitions r)) (live-solved (macrostates r) (transitions r))
 
-    module _ (m : Counts) (vs us : List ℕ) (T : Trimming (macrostates r) (transitions r) m vs us) (ys-long : length ys ≡ length xs) (ws-long : length ws ≡ length zs) where
+    module _ {m : Counts} {vs us : List ℕ} (T : Trimming (macrostates r) (transitions r) m vs us) (ys-long : length ys ≡ length xs) (ws-long : length ws ≡ length zs) where
       macrostates-left : m .macrostates ≡ length (trimmedCodes r)
       unfolding trimmedCodes
       macrostates-left = T .macrostates
