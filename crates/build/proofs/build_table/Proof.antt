@@ -8,45 +8,27 @@ use Rattle.build.proofs.build_table.Statement.{statement}
 use Rattle.build.proofs.build_table.Tie as tie
 
 returns : tie.Need-returns
-returns c =
-    let at-if1 = c .before .before .before .before .before .before .before .before in
-    let at-list-codes = at-if1 .before .before .before in let start = at-list-codes .before .before .before .before in
-    let a = start .args in let g = at-list-codes .list-codes in
-    λ r T.
-    made-17 (macrostatesFrom r (startOf r (a .shape .holds))) (transitionsFrom r (startOf r (a .shape .holds))) (a .codes .now) (a .out .now) (g .last .0)
-    (c .before .before .before .before .before .before .zero-all .last .0) (c .before .before .zero-all2 .last .0) (g .result .m) (g .result .full) (at-if1 .if1 .taken) (g .ensures r T)
-    (c .before .before .before .before .before .before .zero-all .ensures) (c .before .before .zero-all2 .ensures)
+returns c = let at-if1 = c .before .before .before .before .before .before .before .before in
+    λ r T. made-17 (at-if1 .if1 .taken) (at-if1 .before .before .before .list-codes .ensures r T) (c .before .before .before .before .before .before .zero-all .ensures) (c .before .before .zero-all2 .ensures)
 
 list-transitions-requires : tie.Need-list-transitions-requires
-list-transitions-requires c κs =
-    let start = c .before .before .before .before .before .before .before .before .before in let a = start .args in
-    let p = start .pre in let g = c .before .before .before .before .before .list-codes in
-    (p .0, p .1, codes-listed (p .0) (a .shape .holds) (a .codes .now) (g .last .0) (g .result .m) (g .result .full) (c .before .before .if1 .left) (g .ensures (p .0) (p .1)))
+list-transitions-requires c κs = let start = c .before .before .before .before .before .before .before .before .before in let p = start .pre in let g = c .before .before .before .before .before .list-codes in
+    (p .0, p .1, codes-listed (p .0) (start .args .shape .holds) (c .before .before .if1 .left) (g .ensures (p .0) (p .1)))
 
 returns-2 : tie.Need-returns-2
 returns-2 c =
-    let at-if2 = c .before .before .before .before .before .before .before .before in
-    let at-list-transitions = at-if2 .before .before .before .before .before in
-    let at-if1 = at-list-transitions .before .before .before in let at-list-codes = at-if1 .before .before .before in
-    let start = at-list-codes .before .before .before .before in let a = start .args in
-    let g = at-list-codes .list-codes in let e = at-list-transitions .list-transitions in
-    λ r T.
-    let C = codes-listed r (a .shape .holds) (a .codes .now) (g .last .0) (g .result .m) (g .result .full) (at-if1 .if1 .left) (g .ensures r T) in
-    made-18 (macrostatesFrom r (startOf r (a .shape .holds))) (transitionsFrom r (startOf r (a .shape .holds))) (a .codes .now) (a .out .now) (g .last .0) (e .last .0)
-    (c .before .before .before .before .before .before .zero-all3 .last .0) (c .before .before .zero-all4 .last .0) (g .result .m) (e .result .m) (g .result .full) (e .result .full)
-    (at-if1 .if1 .left) (at-if2 .if2 .taken) (g .ensures r T) (e .ensures .1 r T C) (rw (e .ensures .0) at (c .before .before .before .before .before .before .zero-all3 .ensures))
-    (c .before .before .zero-all4 .ensures)
+    let at-if2 = c .before .before .before .before .before .before .before .before in let at-transitions = at-if2 .before .before .before .before .before in
+    let at-if1 = at-transitions .before .before .before in let at-list-codes = at-if1 .before .before .before in
+    let g = at-list-codes .list-codes .ensures in let e = at-transitions .list-transitions .ensures in
+    λ r T. let C = codes-listed r (at-list-codes .before .before .before .before .args .shape .holds) (at-if1 .if1 .left) (g r T) in
+    made-18 (g r T) (e .1 r T C) (at-if1 .if1 .left) (at-if2 .if2 .taken) (rw (e .0) at (c .before .before .before .before .before .before .zero-all3 .ensures)) (c .before .before .zero-all4 .ensures)
 
 returns-3 : tie.Need-returns-3
 returns-3 c =
-    let at-if1 = c .before .before .before .before .before .before .before .before in
-    let at-list-codes = at-if1 .before .before .before in let start = at-list-codes .before .before .before .before in
-    let a = start .args in let g = at-list-codes .list-codes in
-    let e = c .before .before .before .before .before .list-transitions in
-    λ r T.
-    let C = codes-listed r (a .shape .holds) (a .codes .now) (g .last .0) (g .result .m) (g .result .full) (at-if1 .if1 .left) (g .ensures r T) in
-    rw (e .ensures .0) (made-table (macrostatesFrom r (startOf r (a .shape .holds))) (transitionsFrom r (startOf r (a .shape .holds))) (a .codes .now) (a .out .now) (g .last .0) (e .last .0)
-    (g .result .m) (e .result .m) (g .result .full) (e .result .full) (at-if1 .if1 .left) (c .if2 .left) (g .ensures r T) (e .ensures .1 r T C) (omega arith) (omega arith))
+    let at-if1 = c .before .before .before .before .before .before .before .before in let at-list-codes = at-if1 .before .before .before in
+    let g = at-list-codes .list-codes .ensures in let e = c .before .before .before .before .before .list-transitions .ensures in
+    λ r T. let C = codes-listed r (at-list-codes .before .before .before .before .args .shape .holds) (at-if1 .if1 .left) (g r T) in
+    rw (e .0) (made-table (g r T) (e .1 r T C) (at-if1 .if1 .left) (c .if2 .left) (omega arith) (omega arith))
 
 pub build-table-spec : {M : Type 1} → statement M
 build-table-spec = tie.close (tie.spec
