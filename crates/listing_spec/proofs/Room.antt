@@ -7,8 +7,8 @@ use Prim.Native.Nat.{ℕ, zero, suc, _+_, _*_, _/_, _^_, _≤_, _<_}
 use native.Mathlib.Omega.{arith}
 use native.Mathlib.Decide.{decLt, ℕ-discrete}
 use native.Mathlib.Nat.{zero-add}
-use borrow.Author.Tests.{le-ltb, ltb-true}
-use lib.Dec.{ltb}
+use borrow.Author.Tests.{le-ltb, leb-false}
+use lib.Dec.{leb, ltb}
 use lib.ListN.{length, drop, length-take}
 use Rattle.refusals.specs.Rows.{Check, firstRow}
 use Rattle.sets.proofs.Bools.{bif, and-l, and-r}
@@ -26,9 +26,10 @@ use Rattle.file_spec.specs.Names.{hasNames}
 use Rattle.file_spec.proofs.Names.{fit-21, names-length, no-names}
 use Rattle.file_spec.specs.Rows.{trailerRows, layoutRows, bodyRows, nameRows, prefaceRows, prefaceRow, fileRow, fileRows}
 use Rattle.file_spec.specs.RuleRows.{numberRows, listRows, clauseRows, componentRows, formedRows}
-use Rattle.refusals.proofs.Rows.{row-yes, row-no, first-left, first-right}
+use Rattle.refusals.proofs.Rows.{first-left, first-right}
 use Rattle.file_read.proofs.FileRows.{file-numbered, accepted-rows, accepted-passing}
 use Rattle.build_spec.proofs.Listing.{code-low}
+use Rattle.build.proofs.Answer.{noneOf, first-other}
 use Rattle.build_lists.specs.Room.{codesRoom, transitionsRoom}
 use Rattle.build.specs.Built.{roomRows, builtBy, rowFrom, builtFrom, buildRow}
 use Rattle.slice_text.specs.Decimal.{word}
@@ -113,24 +114,9 @@ room-rows-low : (codes moves : List ℕ) (m t : ℕ) → firstRow (roomRows code
 unfolding roomRows firstRow
 room-rows-low codes moves m t = two-rows (ltb (codesRoom m) (length codes)) (ltb (transitionsRoom t) (length moves))
 
-unfoldable low : List Check → Bool
-low [] = true
-low (c ∷ cs) = ltb (c .number) 100 && low cs
-
-first-low : (cs : List Check) → low cs ≡ true → firstRow cs < 100
-unfolding low firstRow
-first-low [] e = omega arith
-first-low (c ∷ cs) e = bif (c .applies)
-    (λ t. rw (row-yes c cs t) (ltb-true (c .number) 100 (and-l (ltb (c .number) 100) (low cs) e)))
-    (λ t. rw (row-no c cs t) (first-low cs (and-r (ltb (c .number) 100) (low cs) e)))
-
-file-rows-low : (f : List ℕ) → low (fileRows f) ≡ true
-unfolding low fileRows bodyRows prefaceRows nameRows layoutRows trailerRows numberRows listRows formedRows clauseRows componentRows
-file-rows-low f = refl
-
 file-row-low : (f : List ℕ) → fileRow f < 100
-unfolding fileRow
-file-row-low f = first-low (fileRows f) (file-rows-low f)
+unfolding fileRow noneOf fileRows bodyRows prefaceRows nameRows layoutRows trailerRows numberRows listRows formedRows clauseRows componentRows
+file-row-low f = leb-false 100 (fileRow f) (first-other (λ k. leb 100 k) refl (fileRows f) refl)
 
 row-low : (f : List ℕ) (m t : ℕ) → buildRow f m t < 100
 unfolding rowFrom fileRow
