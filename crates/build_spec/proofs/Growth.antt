@@ -1,12 +1,12 @@
 -- What is added: nothing, one key, one thing after the other, things up to a count.
-use mathlib.Core.Path.{_≡_, refl, ap, sym, _∙_}
+use mathlib.Core.Path.{_≡_, ap, sym, _∙_}
 use mathlib.Core.Logic.{_⊎_, inl, inr, ⊎-elim, by-cases}
-use mathlib.Core.Bool.{Bool, true, false, true≢false, false≢true}
+use mathlib.Core.Bool.{Bool, true, false, true≢false}
 use mathlib.Core.List.{List}
 use Prim.Native.Nat.{ℕ, _+_, _*_, _/_, _%_, _^_, _<_}
 use native.Mathlib.Omega.{arith}
 use native.Mathlib.Decide.{decLt}
-use lib.ListN.{length, getD, set, length-set}
+use lib.ListN.{length, getD, set}
 use Rattle.build_spec.specs.Chains.{keyAt, bucketOf, Lists, Chained}
 use Rattle.build_spec.specs.Growth.{Grown, After}
 use Rattle.build_spec.proofs.Appended.{appended-none, appended-put, appended-then}

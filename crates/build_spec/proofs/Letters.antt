@@ -1,27 +1,20 @@
 -- The step back over a letter, in the code's terms and in the theory's.
 use mathlib.Core.Path.{_≡_, ap, ap₂, sym, _∙_}
-use mathlib.Core.Logic.{by-cases}
-use mathlib.Core.Bool.{cond}
 use mathlib.Core.List.{List}
 use Prim.Native.Nat.{ℕ, _+_, _*_, _/_, _%_, _^_, _≤_, _<_}
 use native.Mathlib.Omega.{arith}
-use native.Mathlib.Decide.{decLt}
-use lib.Dec.{ltb}
 use lib.ListN.{getD}
 use lib.Bits.{bitXor}
-use borrow.Author.Tests.{lt-ltb, le-ltb}
-use Rattle.sets.proofs.Digits.{num-lt}
 use Rattle.sets.proofs.Masks.{mask-lt}
 use Rattle.theory.specs.Rule.{Rule}
 use Rattle.theory.specs.Automaton.{Automaton, automaton}
-use Rattle.theory_laws.proofs.Classes.{rank-max}
 use Rattle.theory_laws.proofs.Layers.{layered}
 use Rattle.build_cores.specs.Vectors.{Within}
 use Rattle.build_cores.specs.Used.{capsOf}
 use Rattle.build_cores.specs.Parts.{vectorOf}
 use Rattle.build_step_back.specs.Step.{Rising, Back}
 use Rattle.build_cores.specs.Onward.{onwardIn}
-use Rattle.build_step_back.specs.Earlier.{coreOf, backOf, ontoOf, earlierSet, earlierLevel, earlierRank}
+use Rattle.build_step_back.specs.Earlier.{coreOf, backOf, ontoOf, earlierSet, earlierRank}
 use Rattle.build_step_back.proofs.Tables.{rises-at, set-is, ranks-is, back-is, onward-is}
 use Rattle.build_step_back.proofs.Codes.{back-low}
 use Rattle.build_spec.specs.declared.Shape.{Shape}

@@ -1,7 +1,7 @@
 -- The ranks of the cores with given open states: each at least 1, and at most the number of open states of the component.
 use mathlib.Core.Path.{_≡_, refl, ap, ap₂, sym, _∙_}
 use mathlib.Core.Logic.{by-cases}
-use mathlib.Core.Bool.{Bool, true, false, _&&_, cond, and-true}
+use mathlib.Core.Bool.{Bool, true, false, _&&_, cond}
 use mathlib.Core.List.{List}
 use Prim.Native.Nat.{ℕ, zero, suc, _+_, _-_, _*_, _^_, _≤_, _<_}
 use native.Mathlib.Omega.{arith}
@@ -16,9 +16,9 @@ use Rattle.sets.specs.Lists.{tabulate}
 use Rattle.sets.specs.Masks.{bit, mask}
 use Rattle.sets.specs.Digits.{num}
 use Rattle.sets.proofs.Bools.{bif, and-l, and-r, and-i}
-use Rattle.sets.proofs.Tests.{count-ext, count-lt, count-max, count-sub, count-more, count-trim}
+use Rattle.sets.proofs.Tests.{count-ext, count-lt, count-sub, count-more, count-trim}
 use Rattle.sets.proofs.Lists.{tabulate-at}
-use Rattle.sets.proofs.Masks.{bit-mask, mask-ext, mask-lt}
+use Rattle.sets.proofs.Masks.{bit-mask, mask-lt}
 use Rattle.sets.proofs.Bits.{bit-and, bit-below, subset-and, subset-le}
 use Rattle.sets.proofs.Digits.{num-add, num-ext, num-lt, num-digits}
 use Rattle.theory.specs.Automaton.{Automaton, automaton}
@@ -29,7 +29,7 @@ use Rattle.build_cores.specs.Used.{sizesOf, capsOf}
 use Rattle.build_cores.specs.Parts.{Parts, setOf, sizeAt}
 use Rattle.build_cores.proofs.Vectors.{rank-digit, rank-num, within-rank, within-lt, within-of}
 use Rattle.build_cores.proofs.Gaps.{rank-low, sizes-by}
-use Rattle.build_cores.proofs.Sums.{num-nothing, sum-ext, sum-ranks}
+use Rattle.build_cores.proofs.Sums.{sum-ext, sum-ranks}
 use Rattle.build_cores.proofs.Cores.{part-bit, cap-at, caps-fit, rank-beyond, open-rank, only-cores}
 use Rattle.build_spec.specs.Chains.{Chained}
 use Rattle.build_spec.specs.Keys.{Cored, LeadsAt}

@@ -1,7 +1,7 @@
 -- With the tables of an automaton, the step back from the core of a vector is the step back of the theory.
 use mathlib.Core.Path.{_≡_, refl, ap, ap₂, sym, _∙_}
 use mathlib.Core.Logic.{by-cases}
-use mathlib.Core.Bool.{Bool, true, false, _&&_, cond, and-true}
+use mathlib.Core.Bool.{Bool, true, _&&_, cond, and-true}
 use mathlib.Core.List.{List}
 use Prim.Native.Nat.{ℕ, _+_, _*_, _/_, _%_, _^_, _<_}
 use native.Mathlib.Omega.{arith}
@@ -10,7 +10,7 @@ use lib.Dec.{eqb, leb, ltb}
 use lib.ListN.{getD}
 use lib.Bits.{bitXor, xor-lt}
 use lib.Pow.{pow-mono}
-use borrow.Author.Tests.{eq-eqb, ne-eqb, lt-ltb, ltb-true, le-leb}
+use borrow.Author.Tests.{lt-ltb, ltb-true, le-leb}
 use Rattle.sets.specs.Tests.{every, largest}
 use Rattle.sets.specs.Masks.{bit, mask, exclusive}
 use Rattle.sets.specs.Digits.{num}

@@ -24,7 +24,7 @@ use Rattle.file_read.proofs.FileRows.{file-numbered, accepted-passing}
 use Rattle.build.specs.declared.Counts.{Counts}
 use Rattle.build.specs.declared.Built.{Built}
 use Rattle.build.specs.declared.Built.the-variants.{Table, Refused}
-use Rattle.build.specs.Built.{roomRow, builtBy, roomAfter, sliceAfter, rowFrom, builtFrom, codesAfterFrom, transitionsAfterFrom, buildRow, builtOf, codesAfter, transitionsAfter}
+use Rattle.build.specs.Built.{roomRow, builtBy, roomAfter, sliceAfter, rowFrom, builtFrom, codesAfterFrom, transitionsAfterFrom, buildRow, builtOf}
 use Rattle.build.specs.Entry.{TableBuilt}
 use Rattle.build.specs.Filling.{Filled}
 use Rattle.build.proofs.Answer.{table-by, build-row}

@@ -1,8 +1,8 @@
 -- No listing is longer than 66,799 bytes: line one, 16 n lines, 512 m lines and 4,096 t lines at their longest.
 use mathlib.Core.Path.{_≡_, refl}
 use mathlib.Core.Logic.{by-cases}
-use mathlib.Core.Bool.{Bool, true, false, _&&_, cond}
-use mathlib.Core.List.{List, [], _∷_, List·Memᴰ}
+use mathlib.Core.Bool.{Bool, true, false, cond}
+use mathlib.Core.List.{List, [], List·Memᴰ}
 use Prim.Native.Nat.{ℕ, zero, suc, _+_, _*_, _/_, _^_, _≤_, _<_}
 use native.Mathlib.Omega.{arith}
 use native.Mathlib.Decide.{decLt, ℕ-discrete}
@@ -10,8 +10,8 @@ use native.Mathlib.Nat.{zero-add}
 use borrow.Author.Tests.{le-ltb, leb-false}
 use lib.Dec.{leb, ltb}
 use lib.ListN.{length, drop, length-take}
-use Rattle.refusals.specs.Rows.{Check, firstRow}
-use Rattle.sets.proofs.Bools.{bif, and-l, and-r}
+use Rattle.refusals.specs.Rows.{firstRow}
+use Rattle.sets.proofs.Bools.{bif}
 use Rattle.sets.proofs.Lists.{mem-at, length-tabulate}
 use Rattle.theory.specs.Automaton.{automaton}
 use Rattle.theory.specs.Macrostate.{holdsInitial, isInitial}

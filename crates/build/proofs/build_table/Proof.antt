@@ -1,7 +1,5 @@
 -- `build_table` meets its contract: row 17 by the codes, then row 18 by the transitions.
 use native.Mathlib.Omega.{arith}
-use Rattle.theory.specs.TableComputed.{macrostatesFrom, transitionsFrom}
-use Rattle.build_spec.specs.Keys.{startOf}
 use Rattle.build.proofs.Making.{made-17, made-18, made-table, codes-listed}
 use borrow.Author.Needs.{needs}
 use Rattle.build.proofs.build_table.Statement.{statement}

@@ -1,6 +1,6 @@
 -- `build_step_back::step_back` meets its contract.
 use borrow.Author.Needs.{needs}
-use Rattle.build_step_back.specs.Step.{rejectingPart, acceptingPart}
+use Rattle.build_step_back.specs.Step.{acceptingPart}
 use Rattle.build_step_back.proofs.Sum.{both}
 use Rattle.build_step_back.proofs.step_back.Statement.{statement}
 use Rattle.build_step_back.proofs.step_back.Tie as tie

@@ -1,12 +1,10 @@
 -- `build_trimmed` meets its contract: the build, and then, where it leaves a table, the trimming of the parts that hold it.
-use mathlib.Core.Path.{_≡_, sym, _∙_}
+use mathlib.Core.Path.{_≡_, sym}
 use borrow.Author.Needs.{needs}
-use lib.ListN.{length, take, drop}
+use lib.ListN.{take, drop}
 use lib.Seq.{length-take-le}
 use Rattle.theory.specs.TableComputed.{macrostates, transitions}
 use Rattle.file_spec.specs.File.{ruleIn}
-use Rattle.build.specs.Built.{builtOf}
-use Rattle.build.specs.declared.Built.the-variants.{Table, Refused}
 use Rattle.build_trimmed.specs.Trimming.{Trimming}
 use Rattle.build_trimmed.proofs.Answer.{refused-answer, refused-codes, refused-moves, codes-front, moves-front, codes-room, moves-room, trimmable, table-answer, codes-left}
 use Rattle.build_trimmed.proofs.Answer.{moves-left, contract}
