@@ -17,7 +17,7 @@ use Rattle.build_spec.specs.Keys.{Moved}
 abbrev pub Stands : ℕ → List ℕ → ℕ → ℕ → Type 0
 Stands m ys r y = (p : ℕ) × (m ≤ p) × (p < r) × (getD ys p 0 ≡ y)
 
--- the elements from place m up to r are different
+-- r elements fit, and those from place m on are different
 pub record Once (m : ℕ) (ys : List ℕ) (r : ℕ) : Type 0 where
   pub fits : r ≤ length ys
   pub once : (p q : ℕ) → m ≤ p → p < q → q < r → getD ys p 0 ≡ getD ys q 0 → ⊥

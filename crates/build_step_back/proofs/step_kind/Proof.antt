@@ -18,8 +18,7 @@ abbrev μ-loop : tie.MeasureT-loop
 μ-loop opens letter opened parts components accepting low levels₀ kind ranks₀ c₀ levels ranks c = components - c
 
 loop-again : tie.Need-loop-again Inv-loop μ-loop
-loop-again c =
-    let a = c .before .before .before .before .args in let l = c .before .before .before .loop in
+loop-again c = let a = c .before .before .before .before .args in let l = c .before .before .before .loop in
     (omega arith, skip (l .inv .1) (part-kind (a .parts .now) (a .accepting) (a .kind) (l .c) ∙ not-true _ (c .if1 .taken)), l .inv .2)
 
 step-component-requires : tie.Need-step-component-requires Inv-loop μ-loop

@@ -35,9 +35,7 @@ start-of-after-row c = c .before .before .before .before .before .before .before
 
 -- the text of a refusal
 refusal : (c : tie.After-row) → listingOf (start-of-after-row c .args .file .now) ≡ refusedLine (c .row .given .0 .0)
-refusal c =
-    let at-if1 = c .before .before .before .before .before .before .before in
-    let earlier = at-if1 .before .before .before in let s = earlier in
+refusal c = let at-if1 = c .before .before .before .before .before .before .before in let s = at-if1 .before .before .before in
     refused-text (s .args .file .now) (at-if1 .if1 .left) (c .row .given .0 .0) (sym (answer (c .before .before .before .before)) ∙ c .row .given .1)
 
 put-refused-requires : tie.Need-put-refused-requires
