@@ -123,7 +123,8 @@ module _ {r : Rule} {opens parts : List ℕ} {shape : Shape} (T : RuleTables r o
       -- sorted
       pub all-written : Emitted (Done A (shape .s) keys n n) xs 0 ys m false → {us : List ℕ} → ArrangedFirst ys m us → take m us ≡ transitionsFrom r start
       all-written g {us} a =
-          asc-ext (take m us) (transitionsFrom r start) (arranged-asc (take m ys) (take m us) (once-distinct ys m (g .kept .fits) (g .kept .once)) (a .front)) (transitions-ascending r (T .shaped .passing) start)
+          asc-ext (take m us) (transitionsFrom r start) (arranged-asc (take m ys) (take m us) (once-distinct ys m (g .kept .fits) (g .kept .once)) (a .front))
+          (transitions-ascending r (T .shaped .passing) start)
           (λ y k. let s = in-stands ys m (g .kept .fits) y (rearranged-out (take m ys) (take m us) y (a .front .rearranged) k) in done-out y (rw (s .3) at (g .only (s .0) (s .1) (s .2))))
           (λ y k. rearranged-in (take m ys) (take m us) y (a .front .rearranged) (stands-in ys m (g .kept .fits) y (g .whole refl y (done-in y k))))
 
@@ -131,6 +132,6 @@ module _ {r : Rule} {opens parts : List ℕ} {shape : Shape} (T : RuleTables r o
       pub overfull : Emitted (Done A (shape .s) keys n n) xs 0 ys m true → length xs < length (transitionsFrom r start)
       overfull g =
           let o = g .over refl in
-          let z = longer (take m ys) (o .one) (transitionsFrom r start) (once-distinct ys m (g .kept .fits) (g .kept .once)) (λ k. o .lacks (in-stands ys m (g .kept .fits) (o .one) k)) (done-out (o .one) (o .from))
-          (λ y k. let s = in-stands ys m (g .kept .fits) y k in done-out y (rw (s .3) at (g .only (s .0) (s .1) (s .2)))) in
+          let z = longer (take m ys) (o .one) (transitionsFrom r start) (once-distinct ys m (g .kept .fits) (g .kept .once)) (λ k. o .lacks (in-stands ys m (g .kept .fits) (o .one) k))
+          (done-out (o .one) (o .from)) (λ y k. let s = in-stands ys m (g .kept .fits) y k in done-out y (rw (s .3) at (g .only (s .0) (s .1) (s .2)))) in
           omega (arith, length-take-le m ys (g .kept .fits), o .filled, g .long)

@@ -7,10 +7,12 @@ use Rattle.build.proofs.build_table.Tie as tie
 
 returns : tie.Need-returns
 returns c = let at-if1 = c .before .before .before .before .before .before .before .before in
-    λ r T. made-17 (at-if1 .if1 .taken) (at-if1 .before .before .before .list-codes .ensures r T) (c .before .before .before .before .before .before .zero-all .ensures) (c .before .before .zero-all2 .ensures)
+    λ r T. made-17 (at-if1 .if1 .taken) (at-if1 .before .before .before .list-codes .ensures r T)
+    (c .before .before .before .before .before .before .zero-all .ensures) (c .before .before .zero-all2 .ensures)
 
 list-transitions-requires : tie.Need-list-transitions-requires
-list-transitions-requires c κs = let start = c .before .before .before .before .before .before .before .before .before in let p = start .pre in let g = c .before .before .before .before .before .list-codes in
+list-transitions-requires c κs = let start = c .before .before .before .before .before .before .before .before .before in
+    let p = start .pre in let g = c .before .before .before .before .before .list-codes in
     (p .0, p .1, codes-listed (p .0) (start .args .shape .holds) (c .before .before .if1 .left) (g .ensures (p .0) (p .1)))
 
 returns-2 : tie.Need-returns-2
@@ -19,7 +21,8 @@ returns-2 c =
     let at-if1 = at-transitions .before .before .before in let at-list-codes = at-if1 .before .before .before in
     let g = at-list-codes .list-codes .ensures in let e = at-transitions .list-transitions .ensures in
     λ r T. let C = codes-listed r (at-list-codes .before .before .before .before .args .shape .holds) (at-if1 .if1 .left) (g r T) in
-    made-18 (g r T) (e .1 r T C) (at-if1 .if1 .left) (at-if2 .if2 .taken) (rw (e .0) at (c .before .before .before .before .before .before .zero-all3 .ensures)) (c .before .before .zero-all4 .ensures)
+    made-18 (g r T) (e .1 r T C) (at-if1 .if1 .left) (at-if2 .if2 .taken)
+    (rw (e .0) at (c .before .before .before .before .before .before .zero-all3 .ensures)) (c .before .before .zero-all4 .ensures)
 
 returns-3 : tie.Need-returns-3
 returns-3 c =

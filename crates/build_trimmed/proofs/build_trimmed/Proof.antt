@@ -22,7 +22,8 @@ returns c = let at-build = c .before .before .before .before .before .before .be
 
 returns-2 : tie.Need-returns-2
 returns-2 c =
-    let at-trim = c .before .before .before .before in let at-n = at-trim .before .before .before .before in let at-build = at-n .before .before .before .before .before .before in let a = at-build .before .before .before .before .before .before .args in
+    let at-trim = c .before .before .before .before in let at-n = at-trim .before .before .before .before in
+    let at-build = at-n .before .before .before .before .before .before in let a = at-build .before .before .before .before .before .before .args in
     let r = ruleIn (a .file .now) in let b = at-build .build .ensures in let t = at-n .n .given .1 in let p = at-build .build .kept .1 .0 in let q = at-build .build .kept .1 .1 .0 in
     let T : Trimming (macrostates r) (transitions r) (at-trim .trim .result) (at-trim .trim .last .0) (at-trim .trim .last .1 .0) =
     rw (codes-front b t, moves-front b t) at (at-trim .trim .ensures) in
