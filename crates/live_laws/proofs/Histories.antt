@@ -16,7 +16,7 @@ use Rattle.live_spec.specs.History.{History, atStart, later, Moment, unset, at,
 use Rattle.live_spec.specs.State.{stateLength, twoBytes, logBytes, stateOf, padded}
 use Rattle.live_spec.specs.Called.{effect}
 use Rattle.live_laws.proofs.Reached.{afresh-length}
-use Rattle.live_laws.proofs.States.{flagBytes, numberBytes, markBytes, bytesOf, long, log-bytes, remark-low, start-leaves, arrive-leaves, withdraw-leaves, return-leaves, mark-leaves}
+use Rattle.live_laws.proofs.States.{flagBytes, numberBytes, markBytes, bytesOf, Held, long, log-bytes, remark-low, start-leaves, arrive-leaves, withdraw-leaves, return-leaves, mark-leaves}
 
 -- ---- served calls keep to 512 letters
 
@@ -54,6 +54,9 @@ Onward (Mark m) = Unit {0}
 Onward (Return m) = Unit {0}
 
 module _ (q : ℕ) (codes ts : List ℕ) where
+  pub held-by : length codes ≤ 65536 → (g : Log) → Small g → Held (g .letters) (g .marks) (afresh q codes ts (g .letters))
+  held-by room g S = record { few = S .few-letters; low = S .few-marked; narrow = omega (arith, afresh-length q codes ts (g .letters)) }
+
   -- in front of the rest as lent
   abbrev pub heldBytes : Log → List ℕ → List ℕ
   heldBytes g rest = bytesOf (g .letters) (g .marks) (afresh q codes ts (g .letters)) rest
@@ -85,22 +88,12 @@ module _ (q : ℕ) (codes ts : List ℕ) where
   -- it has as many bytes as state
   pub state-long : (s : ℕ) (h : History) → Served s h → length codes ≤ 65536 → length (stateOf q codes ts h) ≡ stateLength
   unfolding stateOf logBytes flagBytes numberBytes markBytes
-  state-long s h S few =
+  state-long s h S room =
       let g = logOf h in
       let K = small s h S in
-      let t = twoBytes (length (g .letters)) in
-      let f = flagBytes (g .marks) in
-      let n = numberBytes (g .marks) in
-      let l = padded 512 (g .letters) in
-      let m = markBytes (g .marks) in
-      let v = padded 65536 (afresh q codes ts (g .letters)) in
-      let L = long (g .letters) (g .marks) (afresh q codes ts (g .letters)) (K .few-letters) (K .few-marked) (let e = afresh-length q codes ts (g .letters) in omega (arith, e, few)) in
-      let e₁ = length-append (t ++ (f ++ (n ++ (l ++ m)))) v in
-      let e₂ = length-append t (f ++ (n ++ (l ++ m))) in
-      let e₃ = length-append f (n ++ (l ++ m)) in
-      let e₄ = length-append n (l ++ m) in
-      let e₅ = length-append l m in
-      omega (arith, e₁, e₂, e₃, e₄, e₅, L .number-long, L .flags-long, L .numbers-long, L .letters-long, L .marks-long, L .set-long)
+      let H : Held (g .letters) (g .marks) (afresh q codes ts (g .letters)) = held-by room g K in
+      let L = long (length (g .letters)) (g .marks) (g .marks) H in
+      simp length-append (omega (arith, L .number-long, L .flags-long, L .numbers-long, L .letters-long, L .marks-long, L .set-long))
 
   -- ---- an arrival and then a withdrawal
 

@@ -24,9 +24,9 @@ use Rattle.live_spec.specs.State.{stateLength, stateOf, numberIn, isMarked, set
 use Rattle.live_spec.specs.Effects.{put, shown}
 use Rattle.live_spec.specs.Called.{effect, answerBy, leftBy, CalledBy, Gets, TrimmedTable, Leaves}
 use Rattle.live_laws.proofs.Empty.{some-left, none-left}
-use Rattle.live_laws.proofs.Histories.{Onward, Small, small, state-bytes, state-long, start-goes, call-goes}
+use Rattle.live_laws.proofs.Histories.{Onward, Small, small, held-by, state-bytes, state-long, start-goes, call-goes}
 use Rattle.live_laws.proofs.Reached.{Bytes, in-one, afresh-length, afresh-bytes, reached-iff}
-use Rattle.live_laws.proofs.States.{bytesOf, number-held, flag-held, set-at}
+use Rattle.live_laws.proofs.States.{bytesOf, Held, number-held, flag-held, set-at}
 
 -- ---- what is told of a state's bytes
 
@@ -40,18 +40,18 @@ module _ (q : ℕ) (codes ts : List ℕ) (room : length codes ≤ 65536) (g : Lo
   set-length : length set ≡ length codes
   set-length = afresh-length q codes ts (g .letters)
 
-  narrow : length set ≤ 65536
-  narrow = let e = set-length in omega (arith, e, room)
+  abbrev H : Held (g .letters) (g .marks) set
+  H = held-by q codes ts room g S
 
   pub number-told : numberIn state ≡ length (g .letters)
-  number-told = number-held (g .letters) (g .marks) set rest (S .few-letters) (S .few-marked) narrow
+  number-told = number-held rest H
 
   pub mark-told : (m : ℕ) → m < 16 → isMarked state m ≡ isSet (g .marks m)
   unfolding isMarked
-  mark-told m h = ap (ltb 0) (flag-held (g .letters) (g .marks) set rest (S .few-letters) (S .few-marked) narrow m h) ∙ in-one (isSet (g .marks m))
+  mark-told m h = ap (ltb 0) (flag-held rest H m h) ∙ in-one (isSet (g .marks m))
 
   byte-at : (y : ℕ) → y < length codes → getD (setBytes state) y 0 ≡ getD set y 0
-  byte-at y l = set-at (g .letters) (g .marks) set rest (S .few-letters) (S .few-marked) narrow y (let e = set-length in omega (arith, l, e))
+  byte-at y l = set-at rest H y (omega (arith, set-length))
 
   pub members-told : membersOf (length codes) (setBytes state) ≡ membersOf (length codes) set
   unfolding membersOf

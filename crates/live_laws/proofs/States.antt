@@ -39,19 +39,7 @@ bytesOf letters marks set rest = laid (twoBytes (length letters)) (flagBytes mar
 
 pub log-bytes : (g : Log) (set rest : List ℕ) → logBytes g ++ padded 65536 set ++ rest ≡ bytesOf (g .letters) (g .marks) set rest
 unfolding bytesOf laid logBytes flagBytes numberBytes markBytes
-log-bytes g set rest =
-    let t = twoBytes (length (g .letters)) in
-    let f = flagBytes (g .marks) in
-    let n = numberBytes (g .marks) in
-    let l = padded 512 (g .letters) in
-    let m = markBytes (g .marks) in
-    let s = padded 65536 set in
-    append-assoc (t ++ (f ++ (n ++ (l ++ m)))) s rest
-    ∙ append-assoc t (f ++ (n ++ (l ++ m))) (s ++ rest)
-    ∙ ap (λ (x : List ℕ). t ++ x)
-    (append-assoc f (n ++ (l ++ m)) (s ++ rest)
-    ∙ ap (λ (x : List ℕ). f ++ x)
-    (append-assoc n (l ++ m) (s ++ rest) ∙ ap (λ (x : List ℕ). n ++ x) (append-assoc l m (s ++ rest))))
+log-bytes g set rest = simp append-assoc
 
 two-long : (n : ℕ) → length (twoBytes n) ≡ 2
 unfolding twoBytes
@@ -69,15 +57,22 @@ pub marks-long : (k : ℕ → Moment) → ((m : ℕ) → length (lettersAt (k m)
 unfolding markBytes forMarks
 marks-long k h = parts-length 16 0 512 (λ m. padded 512 (lettersAt (k m))) (λ j. padded-length 512 (lettersAt (k j)) (h j))
 
-pub long : (letters : List ℕ) (marks : ℕ → Moment) (set : List ℕ) → length letters ≤ 512 → ((m : ℕ) → length (lettersAt (marks m)) ≤ 512) → length set ≤ 65536
-    → Long (twoBytes (length letters)) (flagBytes marks) (numberBytes marks) (padded 512 letters) (markBytes marks) (padded 65536 set)
-long letters marks set l m s = record {
-  number-long = two-long (length letters);
-  flags-long = flags-long marks;
-  numbers-long = numbers-long marks;
-  letters-long = padded-length 512 letters l;
-  marks-long = marks-long marks m;
-  set-long = padded-length 65536 set s;
+-- at most 512 letters, of the marks too, and a set with room for it
+pub record Held (letters : List ℕ) (marks : ℕ → Moment) (set : List ℕ) : Type 0 where
+  pub few : length letters ≤ 512
+  pub low : (m : ℕ) → length (lettersAt (marks m)) ≤ 512
+  pub narrow : length set ≤ 65536
+
+-- with any number, and with the flags and numbers of any marks
+pub long : {letters : List ℕ} {marks : ℕ → Moment} {set : List ℕ} (n : ℕ) (f k : ℕ → Moment) → Held letters marks set
+    → Long (twoBytes n) (flagBytes f) (numberBytes k) (padded 512 letters) (markBytes marks) (padded 65536 set)
+long {letters} {marks} {set} n f k H = record {
+  number-long = two-long n;
+  flags-long = flags-long f;
+  numbers-long = numbers-long k;
+  letters-long = padded-length 512 letters (H .few);
+  marks-long = marks-long marks (H .low);
+  set-long = padded-length 65536 set (H .narrow);
 }
 
 -- ---- a start
@@ -94,21 +89,14 @@ marks-none : markBytes (λ k. unset) ≡ zeros 8192
 unfolding markBytes forMarks
 marks-none = ap (λ (z : List ℕ). flat (tabulate 16 (λ m. m) 0) (λ j. z)) (padded-none 512) ∙ zeros-parts 16 0 512
 
-blank : (rest : List ℕ) → zeros stateLength ++ rest ≡ laid (zeros 2) (zeros 16) (zeros 32) (zeros 512) (zeros 8192) (zeros 65536) rest
+blank : (a b c d e f : ℕ) (rest : List ℕ) → zeros (a + (b + (c + (d + (e + f))))) ++ rest ≡ laid (zeros a) (zeros b) (zeros c) (zeros d) (zeros e) (zeros f) rest
 unfolding laid
-blank rest =
-    zeros-split 2 74288 rest
-    ∙ ap (λ (x : List ℕ). zeros 2 ++ x)
-    (zeros-split 16 74272 rest
-    ∙ ap (λ (x : List ℕ). zeros 16 ++ x)
-    (zeros-split 32 74240 rest
-    ∙ ap (λ (x : List ℕ). zeros 32 ++ x)
-    (zeros-split 512 73728 rest ∙ ap (λ (x : List ℕ). zeros 512 ++ x) (zeros-split 8192 65536 rest))))
+blank a b c d e f rest = simp zeros-split
 
 -- all zeros are the log that has nothing
 blank-bytes : (rest : List ℕ) → zeros stateLength ++ rest ≡ bytesOf [] (λ k. unset) [] rest
 unfolding bytesOf twoBytes
-blank-bytes rest = blank rest
+blank-bytes rest = blank 2 16 32 512 8192 65536 rest
     ∙ ap (λ (x : List ℕ). laid (zeros 2) x (zeros 32) (zeros 512) (zeros 8192) (zeros 65536) rest) (sym flags-none)
     ∙ ap (λ (x : List ℕ). laid (zeros 2) (flagBytes (λ k. unset)) x (zeros 512) (zeros 8192) (zeros 65536) rest) (sym numbers-none)
     ∙ ap (λ (x : List ℕ). laid (zeros 2) (flagBytes (λ k. unset)) (numberBytes (λ k. unset)) x (zeros 8192) (zeros 65536) rest) (sym (padded-none 512))
@@ -121,40 +109,34 @@ flag-part : (marks : ℕ → Moment) (m : ℕ) → m < 16 → getD (flagBytes ma
 unfolding flagBytes forMarks
 flag-part marks m h =
     let f : ℕ → List ℕ = λ j. one (isSet (marks j)) ∷ [] in
-    let e : take 1 (drop (1 * m) (flagBytes marks)) ≡ f m = parts-read 16 0 1 f m (λ j. refl) h ∙ ap f (zero-add m) in
-    ap (λ (k : ℕ). getD (flagBytes marks) k 0) (let i : m ≡ 1 * m + 0 = omega arith in i)
-    ∙ sym (getD-drop (1 * m) (flagBytes marks) 0 0) ∙ sym (getD-take 1 (drop (1 * m) (flagBytes marks)) 0 0 (omega arith)) ∙ ap (λ (l : List ℕ). getD l 0 0) e
+    let i : m ≡ 1 * m + 0 = omega arith in
+    ap (λ (k : ℕ). getD (flagBytes marks) k 0) i
+    ∙ sym (getD-take 1 (drop (1 * m) (flagBytes marks)) 0 0 (omega arith) ∙ getD-drop (1 * m) (flagBytes marks) 0 0)
+    ∙ ap (λ (l : List ℕ). getD l 0 0) (parts-read 16 0 1 f m (λ j. refl) h ∙ ap f (zero-add m))
 
-module _ (letters : List ℕ) (marks : ℕ → Moment) (set rest : List ℕ) (few : length letters ≤ 512) (low : (m : ℕ) → length (lettersAt (marks m)) ≤ 512) (narrow : length set ≤ 65536) where
+module _ {letters : List ℕ} {marks : ℕ → Moment} {set : List ℕ} (rest : List ℕ) (H : Held letters marks set) where
   abbrev bytes : List ℕ
   bytes = bytesOf letters marks set rest
 
   abbrev L : Long (twoBytes (length letters)) (flagBytes marks) (numberBytes marks) (padded 512 letters) (markBytes marks) (padded 65536 set)
-  L = long letters marks set few low narrow
+  L = long (length letters) marks marks H
 
   pub number-held : numberIn bytes ≡ length letters
   unfolding bytesOf
-  number-held =
-      read-number (twoBytes (length letters)) (flagBytes marks) (numberBytes marks) (padded 512 letters) (markBytes marks) (padded 65536 set) rest L
-      ∙ number-two (length letters) few
+  number-held = read-number rest L ∙ number-two (length letters) (H .few)
 
   pub letters-held : lettersIn bytes ≡ letters
   unfolding lettersIn bytesOf
-  letters-held =
-      ap (λ (k : ℕ). take k (drop lettersAtByte bytes)) number-held
-      ∙ read-letters (twoBytes (length letters)) (flagBytes marks) (numberBytes marks) (padded 512 letters) (markBytes marks) (padded 65536 set) rest L (length letters) few
-      ∙ padded-read 512 letters
+  letters-held = ap (λ (k : ℕ). take k (drop lettersAtByte bytes)) number-held ∙ read-letters rest L (length letters) (H .few) ∙ padded-read 512 letters
 
   -- all 512 bytes
   pub letters-whole : take 512 (drop lettersAtByte bytes) ≡ padded 512 letters
   unfolding bytesOf
-  letters-whole =
-      read-letters (twoBytes (length letters)) (flagBytes marks) (numberBytes marks) (padded 512 letters) (markBytes marks) (padded 65536 set) rest L 512 (omega arith)
-      ∙ take-all 512 (padded 512 letters) (let e = padded-length 512 letters few in omega (arith, e))
+  letters-whole = read-letters rest L 512 (omega arith) ∙ take-all 512 (padded 512 letters) (omega (arith, L .letters-long))
 
   pub set-held : setBytes bytes ≡ padded 65536 set ++ rest
   unfolding bytesOf
-  set-held = read-set (twoBytes (length letters)) (flagBytes marks) (numberBytes marks) (padded 512 letters) (markBytes marks) (padded 65536 set) rest L
+  set-held = read-set rest L
 
   pub set-at : (y : ℕ) → y < length set → getD (setBytes bytes) y 0 ≡ getD set y 0
   unfolding padded
@@ -162,64 +144,38 @@ module _ (letters : List ℕ) (marks : ℕ → Moment) (set rest : List ℕ) (fe
 
   pub flag-held : (m : ℕ) → m < 16 → getD bytes (2 + m) 0 ≡ one (isSet (marks m))
   unfolding bytesOf
-  flag-held m h =
-      read-flag (twoBytes (length letters)) (flagBytes marks) (numberBytes marks) (padded 512 letters) (markBytes marks) (padded 65536 set) rest L m h
-      ∙ flag-part marks m h
+  flag-held m h = read-flag rest L m h ∙ flag-part marks m h
 
   pub mark-number : (m : ℕ) → m < 16 → numberAt bytes (markNumberAt m) ≡ length (lettersAt (marks m))
   unfolding bytesOf numberBytes forMarks
   mark-number m h =
-      read-numbers (twoBytes (length letters)) (flagBytes marks) (numberBytes marks) (padded 512 letters) (markBytes marks) (padded 65536 set) rest L (2 * m) (omega (arith, h))
+      let f : ℕ → List ℕ = λ j. twoBytes (length (lettersAt (marks j))) in
+      read-numbers rest L (2 * m) (omega arith)
       ∙ number-read (numberBytes marks) (2 * m)
-      ∙ ap (λ (x : List ℕ). numberAt x 0)
-      (parts-read 16 0 2 (λ j. twoBytes (length (lettersAt (marks j)))) m (λ j. two-long (length (lettersAt (marks j)))) h ∙ ap (λ (j : ℕ). twoBytes (length (lettersAt (marks j)))) (zero-add m))
-      ∙ number-two (length (lettersAt (marks m))) (low m)
+      ∙ ap (λ (x : List ℕ). numberAt x 0) (parts-read 16 0 2 f m (λ j. two-long (length (lettersAt (marks j)))) h ∙ ap f (zero-add m))
+      ∙ number-two (length (lettersAt (marks m))) (H .low m)
 
   pub mark-letters : (m : ℕ) → m < 16 → take 512 (drop (markLettersAt m) bytes) ≡ padded 512 (lettersAt (marks m))
   unfolding bytesOf markBytes forMarks
   mark-letters m h =
-      read-marks (twoBytes (length letters)) (flagBytes marks) (numberBytes marks) (padded 512 letters) (markBytes marks) (padded 65536 set) rest L (512 * m) 512 (omega (arith, h))
-      ∙ parts-read 16 0 512 (λ j. padded 512 (lettersAt (marks j))) m (λ j. padded-length 512 (lettersAt (marks j)) (low j)) h
-      ∙ ap (λ (j : ℕ). padded 512 (lettersAt (marks j))) (zero-add m)
+      let f : ℕ → List ℕ = λ j. padded 512 (lettersAt (marks j)) in
+      read-marks rest L (512 * m) 512 (omega arith) ∙ parts-read 16 0 512 f m (λ j. padded-length 512 (lettersAt (marks j)) (H .low j)) h ∙ ap f (zero-add m)
 
   -- with another set of as many macrostates
   pub put-other : (v : List ℕ) → length v ≡ length set → put setAt v bytes ≡ bytesOf letters marks v rest
   unfolding bytesOf
   put-other v e =
-      put-set (twoBytes (length letters)) (flagBytes marks) (numberBytes marks) (padded 512 letters) (markBytes marks) (padded 65536 set) rest L v (omega (arith, e, narrow))
+      put-set rest L v (omega (arith, H .narrow))
       ∙ ap (λ (x : List ℕ). laid (twoBytes (length letters)) (flagBytes marks) (numberBytes marks) (padded 512 letters) (markBytes marks) x rest) (padded-put 65536 v set e)
 
--- ---- the log's parts written
-
--- with a number that need not be that of the letters
-unfoldable loose : ℕ → List ℕ → (ℕ → Moment) → List ℕ → List ℕ → List ℕ
-loose n letters marks set rest = laid (twoBytes n) (flagBytes marks) (numberBytes marks) (padded 512 letters) (markBytes marks) (padded 65536 set) rest
-
-tight : (letters : List ℕ) (marks : ℕ → Moment) (set rest : List ℕ) → loose (length letters) letters marks set rest ≡ bytesOf letters marks set rest
-unfolding loose bytesOf
-tight letters marks set rest = refl
-
-module _ (n : ℕ) (letters : List ℕ) (marks : ℕ → Moment) (set rest : List ℕ) (few : length letters ≤ 512) (low : (m : ℕ) → length (lettersAt (marks m)) ≤ 512) (narrow : length set ≤ 65536) where
-  loose-long : Long (twoBytes n) (flagBytes marks) (numberBytes marks) (padded 512 letters) (markBytes marks) (padded 65536 set)
-  loose-long = record {
-    number-long = two-long n;
-    flags-long = flags-long marks;
-    numbers-long = numbers-long marks;
-    letters-long = padded-length 512 letters few;
-    marks-long = marks-long marks low;
-    set-long = padded-length 65536 set narrow;
-  }
-
-  loose-number : (k : ℕ) → numbered k (loose n letters marks set rest) ≡ loose k letters marks set rest
-  unfolding numbered loose
-  loose-number k = put-number (twoBytes n) (flagBytes marks) (numberBytes marks) (padded 512 letters) (markBytes marks) (padded 65536 set) rest loose-long (twoBytes k) (two-long k)
-
-  loose-letters : (i : ℕ) (v other : List ℕ) → i + length v ≤ 512 → put i v (padded 512 letters) ≡ padded 512 other
-      → put (lettersAtByte + i) v (loose n letters marks set rest) ≡ loose n other marks set rest
-  unfolding loose
-  loose-letters i v other h e =
-      put-letters (twoBytes n) (flagBytes marks) (numberBytes marks) (padded 512 letters) (markBytes marks) (padded 65536 set) rest loose-long i v h
-      ∙ ap (λ (x : List ℕ). laid (twoBytes n) (flagBytes marks) (numberBytes marks) x (markBytes marks) (padded 65536 set) rest) e
+  -- with other letters and their number
+  put-log : (k i : ℕ) (v other : List ℕ) → k ≡ length other → i + length v ≤ 512 → put i v (padded 512 letters) ≡ padded 512 other
+      → put (lettersAtByte + i) v (numbered k bytes) ≡ bytesOf other marks set rest
+  unfolding numbered bytesOf
+  put-log k i v other c h e =
+      ap (put (lettersAtByte + i) v) (put-number rest L (twoBytes k) (two-long k))
+      ∙ put-letters rest (long k marks marks H) i v h
+      ∙ ap₂ (λ (j : ℕ) (x : List ℕ). laid (twoBytes j) (flagBytes marks) (numberBytes marks) x (markBytes marks) (padded 65536 set) rest) c e
 
 -- ---- a mark set
 
@@ -270,21 +226,19 @@ module _ (q : ℕ) (codes ts : List ℕ) (room : length codes ≤ 65536) (inside
   start-leaves state =
       let rest = drop stateLength state in
       let v = initialSet q codes in
-      let e : length v ≤ 65536 = let i = initial-length q codes in omega (arith, i, room) in
-      ap (λ (x : List ℕ). put setAt v x) (zeros-put stateLength state ∙ blank-bytes rest)
-      ∙ put-set (twoBytes 0) (flagBytes (λ k. unset)) (numberBytes (λ k. unset)) (padded 512 []) (markBytes (λ k. unset)) (padded 65536 []) rest
-      (long [] (λ k. unset) [] (omega arith) (λ m. omega arith) (omega arith)) v e
+      let e : length v ≤ 65536 = omega (arith, initial-length q codes) in
+      ap (put setAt v) (zeros-put stateLength state ∙ blank-bytes rest)
+      ∙ put-set rest (long {marks = λ k. unset} 0 (λ k. unset) (λ k. unset) (record { few = omega arith; low = λ m. omega arith; narrow = omega arith })) v e
       ∙ ap (λ (x : List ℕ). laid (twoBytes 0) (flagBytes (λ k. unset)) (numberBytes (λ k. unset)) (padded 512 []) (markBytes (λ k. unset)) x rest)
       (ap (put 0 v) (padded-none 65536) ∙ padded-zeros 65536 v e ∙ ap (padded 65536) (sym (afresh-none q codes ts)))
 
   -- the set worked out afresh over the letters that are there
-  refresh-leaves : (letters : List ℕ) (marks : ℕ → Moment) (set rest : List ℕ) → length letters ≤ 512 → ((m : ℕ) → length (lettersAt (marks m)) ≤ 512) → length set ≡ length codes
+  refresh-leaves : {letters : List ℕ} {marks : ℕ → Moment} {set : List ℕ} (rest : List ℕ) → Held letters marks set → length set ≡ length codes
       → refreshed q codes ts (bytesOf letters marks set rest) ≡ bytesOf letters marks (afresh q codes ts letters) rest
   unfolding refreshed withSet
-  refresh-leaves letters marks set rest few low e =
-      let narrow : length set ≤ 65536 = omega (arith, e, room) in
-      ap (λ (l : List ℕ). put setAt (afresh q codes ts l) (bytesOf letters marks set rest)) (letters-held letters marks set rest few low narrow)
-      ∙ put-other letters marks set rest few low narrow (afresh q codes ts letters) (afresh-length q codes ts letters ∙ sym e)
+  refresh-leaves {letters} {marks} {set} rest H e =
+      ap (λ (l : List ℕ). put setAt (afresh q codes ts l) (bytesOf letters marks set rest)) (letters-held rest H)
+      ∙ put-other rest H (afresh q codes ts letters) (afresh-length q codes ts letters ∙ sym e)
 
   module _ (letters : List ℕ) (marks : ℕ → Moment) (rest : List ℕ) (few : length letters ≤ 512) (low : (m : ℕ) → length (lettersAt (marks m)) ≤ 512) where
     abbrev set : List ℕ
@@ -293,8 +247,8 @@ module _ (q : ℕ) (codes ts : List ℕ) (room : length codes ≤ 65536) (inside
     set-length : length set ≡ length codes
     set-length = afresh-length q codes ts letters
 
-    narrow : length set ≤ 65536
-    narrow = let e = set-length in omega (arith, e, room)
+    held : (other : List ℕ) → length other ≤ 512 → Held other marks set
+    held other l = record { few = l; low = low; narrow = omega (arith, set-length) }
 
     abbrev state : List ℕ
     state = bytesOf letters marks set rest
@@ -304,19 +258,15 @@ module _ (q : ℕ) (codes ts : List ℕ) (room : length codes ≤ 65536) (inside
     unfolding arrived withSet
     arrive-leaves a h =
         let n = length letters in
-        let longer : length (letters ++ (a ∷ [])) ≡ n + 1 = length-append letters (a ∷ []) in
-        let next : stepped (length codes) ts a (setBytes state) ≡ afresh q codes ts (letters ++ (a ∷ [])) =
-        stepped-same (length codes) ts a (setBytes state) set (λ t m. set-at letters marks set rest few low narrow (sourceOf t) (let i = inside t m in let e = set-length in omega (arith, i, e)))
+        let more = letters ++ (a ∷ []) in
+        let longer : length more ≡ n + 1 = length-append letters (a ∷ []) in
+        let next : stepped (length codes) ts a (setBytes state) ≡ afresh q codes ts more =
+        stepped-same (length codes) ts a (setBytes state) set (λ t m. set-at rest (held letters few) (sourceOf t) (omega (arith, inside t m, set-length)))
         ∙ sym (afresh-next q codes ts letters a) in
-        let log : put (lettersAtByte + numberIn state) (a ∷ []) (numbered (numberIn state + 1) state) ≡ bytesOf (letters ++ (a ∷ [])) marks set rest =
-        ap (λ (k : ℕ). put (lettersAtByte + k) (a ∷ []) (numbered (k + 1) state)) (number-held letters marks set rest few low narrow)
-        ∙ ap (put (lettersAtByte + n) (a ∷ [])) (ap (numbered (n + 1)) (sym (tight letters marks set rest)) ∙ loose-number n letters marks set rest few low narrow (n + 1))
-        ∙ loose-letters (n + 1) letters marks set rest few low narrow n (a ∷ []) (letters ++ (a ∷ [])) (omega (arith, h)) (padded-next 512 letters a h)
-        ∙ ap (λ (k : ℕ). loose k (letters ++ (a ∷ [])) marks set rest) (sym longer)
-        ∙ tight (letters ++ (a ∷ [])) marks set rest in
-        ap₂ (put setAt) next log
-        ∙ put-other (letters ++ (a ∷ [])) marks set rest (omega (arith, longer, h)) low narrow (afresh q codes ts (letters ++ (a ∷ [])))
-        (afresh-length q codes ts (letters ++ (a ∷ [])) ∙ sym set-length)
+        let log : put (lettersAtByte + numberIn state) (a ∷ []) (numbered (numberIn state + 1) state) ≡ bytesOf more marks set rest =
+        ap (λ (k : ℕ). put (lettersAtByte + k) (a ∷ []) (numbered (k + 1) state)) (number-held rest (held letters few))
+        ∙ put-log rest (held letters few) (n + 1) n (a ∷ []) more (sym longer) (omega arith) (padded-next 512 letters a h) in
+        ap₂ (put setAt) next log ∙ put-other rest (held more (omega arith)) (afresh q codes ts more) (afresh-length q codes ts more ∙ sym set-length)
 
     -- a withdrawal
     pub withdraw-leaves : 0 < length letters
@@ -327,66 +277,40 @@ module _ (q : ℕ) (codes ts : List ℕ) (room : length codes ≤ 65536) (inside
         let left = take (n - 1) letters in
         let shorter : length left ≡ n - 1 = length-take-le (n - 1) letters (omega arith) in
         let log : put (lettersAtByte + (numberIn state - 1)) (0 ∷ []) (numbered (numberIn state - 1) state) ≡ bytesOf left marks set rest =
-        ap (λ (k : ℕ). put (lettersAtByte + (k - 1)) (0 ∷ []) (numbered (k - 1) state)) (number-held letters marks set rest few low narrow)
-        ∙ ap (put (lettersAtByte + (n - 1)) (0 ∷ [])) (ap (numbered (n - 1)) (sym (tight letters marks set rest)) ∙ loose-number n letters marks set rest few low narrow (n - 1))
-        ∙ loose-letters (n - 1) letters marks set rest few low narrow (n - 1) (0 ∷ []) left (omega (arith, h, few)) (padded-last 512 letters h few)
-        ∙ ap (λ (k : ℕ). loose k left marks set rest) (sym shorter)
-        ∙ tight left marks set rest in
-        ap (refreshed q codes ts) log ∙ refresh-leaves left marks set rest (omega (arith, shorter, few)) low set-length
+        ap (λ (k : ℕ). put (lettersAtByte + (k - 1)) (0 ∷ []) (numbered (k - 1) state)) (number-held rest (held letters few))
+        ∙ put-log rest (held letters few) (n - 1) (n - 1) (0 ∷ []) left (sym shorter) (omega arith) (padded-last 512 letters h few) in
+        ap (refreshed q codes ts) log ∙ refresh-leaves rest (held left (omega arith)) set-length
 
     -- a return
     pub return-leaves : (m : ℕ) → m < 16 → returned q codes ts m state ≡ bytesOf (lettersAt (marks m)) marks (afresh q codes ts (lettersAt (marks m))) rest
     unfolding returned
     return-leaves m h =
-        let n = length letters in
         let back = lettersAt (marks m) in
-        let k = length back in
+        let H = held letters few in
         let full : length (padded 512 back) ≡ 512 = padded-length 512 back (low m) in
-        let old : length (padded 512 letters) ≡ 512 = padded-length 512 letters few in
         let log : put lettersAtByte (take 512 (drop (markLettersAt m) state)) (numbered (numberAt state (markNumberAt m)) state) ≡ bytesOf back marks set rest =
-        ap₂ (λ (v : List ℕ) (j : ℕ). put lettersAtByte v (numbered j state)) (mark-letters letters marks set rest few low narrow m h) (mark-number letters marks set rest few low narrow m h)
-        ∙ ap (put lettersAtByte (padded 512 back)) (ap (numbered k) (sym (tight letters marks set rest)) ∙ loose-number n letters marks set rest few low narrow k)
-        ∙ loose-letters k letters marks set rest few low narrow 0 (padded 512 back) back (omega (arith, full)) (put-all (padded 512 back) (padded 512 letters) (full ∙ sym old))
-        ∙ tight back marks set rest in
-        ap (refreshed q codes ts) log ∙ refresh-leaves back marks set rest (low m) low set-length
+        ap₂ (λ (v : List ℕ) (j : ℕ). put lettersAtByte v (numbered j state)) (mark-letters rest H m h) (mark-number rest H m h)
+        ∙ put-log rest H (length back) 0 (padded 512 back) back refl (omega arith) (put-all (padded 512 back) (padded 512 letters) (full ∙ sym (padded-length 512 letters few))) in
+        ap (refreshed q codes ts) log ∙ refresh-leaves rest (held back (low m)) set-length
 
     -- a mark
     pub mark-leaves : (m : ℕ) → m < 16 → marked m state ≡ bytesOf letters (remark m letters marks) set rest
     unfolding marked bytesOf
     mark-leaves m h =
-        let t = twoBytes (length letters) in
-        let f = flagBytes marks in
+        let n = length letters in
+        let t = twoBytes n in
         let k = numberBytes marks in
         let l = padded 512 letters in
         let b = markBytes marks in
         let s = padded 65536 set in
         let marks′ = remark m letters marks in
-        let L = long letters marks set few low narrow in
-        let L₁ : Long t (flagBytes marks′) k l b s = record {
-          number-long = L .number-long;
-          flags-long = flags-long marks′;
-          numbers-long = L .numbers-long;
-          letters-long =
-              L .letters-long;
-          marks-long = L .marks-long;
-          set-long = L .set-long;
-        } in
-        let L₂ : Long t (flagBytes marks′) (numberBytes marks′) l b s =
-        record {
-          number-long = L .number-long;
-          flags-long = flags-long marks′;
-          numbers-long = numbers-long marks′;
-          letters-long = L .letters-long;
-          marks-long = L .marks-long;
-          set-long =
-              L .set-long;
-        } in
+        let H = held letters few in
         let flagged : put (2 + m) (1 ∷ []) state ≡ laid t (flagBytes marks′) k l b s rest =
-        put-flag t f k l b s rest L m (1 ∷ []) (omega (arith, h)) ∙ ap (λ (x : List ℕ). laid t x k l b s rest) (flag-put m letters marks h) in
+        put-flag rest (long n marks marks H) m (1 ∷ []) (omega arith) ∙ ap (λ (x : List ℕ). laid t x k l b s rest) (flag-put m letters marks h) in
         let counted : put (markNumberAt m) (twoBytes (numberIn state)) (put (2 + m) (1 ∷ []) state) ≡ laid t (flagBytes marks′) (numberBytes marks′) l b s rest =
-        ap₂ (λ (j : ℕ) (x : List ℕ). put (markNumberAt m) (twoBytes j) x) (number-held letters marks set rest few low narrow) flagged
-        ∙ put-numbers t (flagBytes marks′) k l b s rest L₁ (2 * m) (twoBytes (length letters)) (let e = two-long (length letters) in omega (arith, h, e))
+        ap₂ (λ (j : ℕ) (x : List ℕ). put (markNumberAt m) (twoBytes j) x) (number-held rest H) flagged
+        ∙ put-numbers rest (long n marks′ marks H) (2 * m) t (omega (arith, two-long n))
         ∙ ap (λ (x : List ℕ). laid t (flagBytes marks′) x l b s rest) (number-put m letters marks h) in
-        ap₂ (λ (v x : List ℕ). put (markLettersAt m) v x) (letters-whole letters marks set rest few low narrow) counted
-        ∙ put-marks t (flagBytes marks′) (numberBytes marks′) l b s rest L₂ (512 * m) l (let e = L .letters-long in omega (arith, h, e))
+        ap₂ (put (markLettersAt m)) (letters-whole rest H) counted
+        ∙ put-marks rest (long n marks′ marks′ H) (512 * m) l (omega (arith, padded-length 512 letters few))
         ∙ ap (λ (x : List ℕ). laid t (flagBytes marks′) (numberBytes marks′) l x s rest) (letters-put m letters marks h few low)
