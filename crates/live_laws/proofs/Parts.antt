@@ -17,38 +17,25 @@ use Rattle.live_spec.specs.Effects.{put}
 pub put-front : (at : ℕ) (v A B : List ℕ) → at + length v ≤ length A → put at v (A ++ B) ≡ put at v A ++ B
 unfolding put
 put-front at v A B h =
-    let e : take at (A ++ B) ≡ take at A = take-append-le at A B (omega arith) in
-    let f : drop (at + length v) (A ++ B) ≡ drop (at + length v) A ++ B = drop-append-le (at + length v) A B h in
-    rw (e, f) (ap (λ (l : List ℕ). take at A ++ l) (sym (append-assoc v (drop (at + length v) A) B)) ∙ sym (append-assoc (take at A) (v ++ drop (at + length v) A) B))
+    let l : at ≤ length A = omega arith in
+    simp (take-append-le at A B l, drop-append-le (at + length v) A B h, append-assoc)
 
 pub put-behind : (at i : ℕ) (v A B : List ℕ) → at ≡ length A + i → put at v (A ++ B) ≡ A ++ put i v B
 unfolding put
-put-behind at i v A B e =
-    let f : take (length A + i) (A ++ B) ≡ A ++ take i B = take-append-add A B i in
-    let g : drop (length A + i + length v) (A ++ B) ≡ drop (i + length v) B = ap (λ (k : ℕ). drop k (A ++ B)) (add-assoc (length A) i (length v)) ∙ drop-append-add A B (i + length v) in
-    ap (λ (k : ℕ). put k v (A ++ B)) e ∙ rw (f, g) (append-assoc A (take i B) (v ++ drop (i + length v) B))
+put-behind at i v A B e = rw (e, take-append-add A B i, add-assoc, drop-append-add A B (i + length v)) (append-assoc A (take i B) (v ++ drop (i + length v) B))
 
 -- a part in place of one as long
 pub put-part : (v A B : List ℕ) → length v ≡ length A → put 0 v (A ++ B) ≡ v ++ B
 unfolding put
-put-part v A B e = ap (λ (k : ℕ). v ++ drop k (A ++ B)) (zero-add (length v) ∙ e) ∙ ap (λ (l : List ℕ). v ++ l) (drop-append-seam A B)
-
-pub put-length : (at : ℕ) (v s : List ℕ) → at + length v ≤ length s → length (put at v s) ≡ length s
-unfolding put
-put-length at v s h =
-    let e = length-append (take at s) (v ++ drop (at + length v) s) in
-    let f = length-append v (drop (at + length v) s) in
-    let g = length-drop (at + length v) s in
-    let k = length-take-le at s (omega arith) in
-    omega (arith, e, f, g, k)
+put-part v A B e = rw (zero-add, e, drop-append-seam)
 
 -- ---- parts read
 
 pub part-front : (at k : ℕ) (A B : List ℕ) → at + k ≤ length A → take k (drop at (A ++ B)) ≡ take k (drop at A)
-part-front at k A B h = ap (take k) (drop-append-le at A B (omega arith)) ∙ take-append-le k (drop at A) B (let e = length-drop at A in omega (arith, e))
+part-front at k A B h = ap (take k) (drop-append-le at A B (omega arith)) ∙ take-append-le k (drop at A) B (omega (arith, length-drop at A))
 
 pub drop-behind : (at i : ℕ) (A B : List ℕ) → at ≡ length A + i → drop at (A ++ B) ≡ drop i B
-drop-behind at i A B e = ap (λ (k : ℕ). drop k (A ++ B)) e ∙ drop-append-add A B i
+drop-behind at i A B e = rw (e, drop-append-add A B i)
 
 -- ---- parts of one length
 
@@ -59,20 +46,18 @@ parts n a f = flat (tabulate n (λ m. m) a) f
 pub parts-length : (n a k : ℕ) (f : ℕ → List ℕ) → ((j : ℕ) → length (f j) ≡ k) → length (parts n a f) ≡ n * k
 unfolding tabulate flat
 parts-length zero a k f e = sym (zero-mul k)
-parts-length (suc n) a k f e = length-append (f a) (parts n (suc a) f) ∙ (let h = e a in let i = parts-length n (suc a) k f e in let j = suc-mul n k in omega (arith, h, i, j))
+parts-length (suc n) a k f e = length-append (f a) (parts n (suc a) f) ∙ omega (arith, e a, parts-length n (suc a) k f e, suc-mul n k)
 
 -- the part at place m
 pub parts-read : (n a k : ℕ) (f : ℕ → List ℕ) (m : ℕ) → ((j : ℕ) → length (f j) ≡ k) → m < n → take k (drop (k * m) (parts n a f)) ≡ f (a + m)
 unfolding tabulate flat
 parts-read zero a k f m e l = absurd (omega arith)
 parts-read (suc n) a k f zero e l =
-    ap (λ (i : ℕ). take k (drop i (f a ++ parts n (suc a) f))) (mul-zero k)
-    ∙ ap (λ (i : ℕ). take i (f a ++ parts n (suc a) f)) (sym (e a)) ∙ take-append-seam (f a) (parts n (suc a) f) ∙ ap f (sym (add-zero a))
+    rw (mul-zero k, add-zero a) (ap (λ (i : ℕ). take i (f a ++ parts n (suc a) f)) (sym (e a)) ∙ take-append-seam (f a) (parts n (suc a) f))
 parts-read (suc n) a k f (suc m) e l =
-    let h : k * suc m ≡ length (f a) + k * m = mul-suc k m ∙ (let i = e a in omega (arith, i)) in
-    ap (take k) (drop-behind (k * suc m) (k * m) (f a) (parts n (suc a) f) h)
-    ∙ parts-read n (suc a) k f m e (omega arith)
-    ∙ ap f (let i : suc a + m ≡ a + suc m = omega arith in i)
+    let h : k * suc m ≡ length (f a) + k * m = mul-suc k m ∙ omega (arith, e a) in
+    let i : suc a + m ≡ a + suc m = omega arith in
+    ap (take k) (drop-behind (k * suc m) (k * m) (f a) (parts n (suc a) f) h) ∙ parts-read n (suc a) k f m e (omega arith) ∙ ap f i
 
 parts-same : (n a : ℕ) (f g : ℕ → List ℕ) → ((j : ℕ) → a ≤ j → f j ≡ g j) → parts n a f ≡ parts n a g
 unfolding tabulate flat
@@ -85,11 +70,10 @@ pub parts-put : (n a k : ℕ) (f g : ℕ → List ℕ) (m : ℕ) → ((j : ℕ) 
 unfolding tabulate flat
 parts-put zero a k f g m e l w h = absurd (omega arith)
 parts-put (suc n) a k f g zero e l w h =
-    ap (λ (i : ℕ). put i (g (a + 0)) (f a ++ parts n (suc a) f)) (mul-zero k)
-    ∙ put-part (g (a + 0)) (f a) (parts n (suc a) f) (w ∙ sym (e a))
-    ∙ ap₂ (λ (x y : List ℕ). x ++ y) (ap g (add-zero a)) (parts-same n (suc a) f g (λ j b. h j (λ c. omega (arith, b, c))))
+    rw (mul-zero k) (put-part (g (a + 0)) (f a) (parts n (suc a) f) (w ∙ sym (e a))
+    ∙ ap₂ (λ (x y : List ℕ). x ++ y) (ap g (add-zero a)) (parts-same n (suc a) f g (λ j b. h j (λ c. omega (arith, b, c)))))
 parts-put (suc n) a k f g (suc m) e l w h =
-    let i : k * suc m ≡ length (f a) + k * m = mul-suc k m ∙ (let j = e a in omega (arith, j)) in
+    let i : k * suc m ≡ length (f a) + k * m = mul-suc k m ∙ omega (arith, e a) in
     let s : a + suc m ≡ suc a + m = omega arith in
     put-behind (k * suc m) (k * m) (g (a + suc m)) (f a) (parts n (suc a) f) i
     ∙ ap₂ (λ (x y : List ℕ). x ++ y) (h a (λ c. omega (arith, c)))
@@ -105,10 +89,7 @@ zeros-length n = length-replicate {A = ℕ} n 0
 
 pub padded-length : (long : ℕ) (l : List ℕ) → length l ≤ long → length (padded long l) ≡ long
 unfolding padded
-padded-length long l h =
-    let e = length-append l (zeros (long - length l)) in
-    let f = zeros-length (long - length l) in
-    omega (arith, e, f, h)
+padded-length long l h = simp (length-append, length-replicate) (omega arith)
 
 -- the list itself
 pub padded-read : (long : ℕ) (l : List ℕ) → take (length l) (padded long l) ≡ l
@@ -118,7 +99,7 @@ padded-read long l = take-append-seam l (zeros (long - length l))
 -- another list as long
 pub padded-put : (long : ℕ) (v l : List ℕ) → length v ≡ length l → put 0 v (padded long l) ≡ padded long v
 unfolding padded
-padded-put long v l e = put-part v l (zeros (long - length l)) e ∙ ap (λ (k : ℕ). v ++ zeros (long - k)) (sym e)
+padded-put long v l e = rw e (put-part v l (zeros (long - length l)) e)
 
 -- zeros are a list with nothing before them
 pub padded-none : (long : ℕ) → padded long [] ≡ zeros long
@@ -129,22 +110,18 @@ padded-none long = ap zeros (let i : long - 0 ≡ long = omega arith in i)
 pub padded-zeros : (long : ℕ) (v : List ℕ) → length v ≤ long → put 0 v (zeros long) ≡ padded long v
 unfolding put padded
 padded-zeros long v h =
-    let e : zeros long ≡ zeros (length v) ++ zeros (long - length v) =
-    ap (λ (k : ℕ). zeros k) (let i : long ≡ length v + (long - length v) = omega (arith, h) in i) ∙ sym (replicate-append-replicate {A = ℕ} (length v) (long - length v) 0) in
-    ap (λ (l : List ℕ). put 0 v l) e ∙ put-part v (zeros (length v)) (zeros (long - length v)) (sym (zeros-length (length v)))
+    let i : long ≡ length v + (long - length v) = omega arith in
+    ap (λ (k : ℕ). put 0 v (zeros k)) i
+    ∙ ap (put 0 v) (sym (replicate-append-replicate {A = ℕ} (length v) (long - length v) 0))
+    ∙ put-part v (zeros (length v)) (zeros (long - length v)) (sym (zeros-length (length v)))
 
 -- one more element behind the list
 pub padded-next : (long : ℕ) (l : List ℕ) (a : ℕ) → length l < long → put (length l) (a ∷ []) (padded long l) ≡ padded long (l ++ (a ∷ []))
 unfolding padded
 padded-next long l a h =
-    let e : zeros (long - length l) ≡ zeros 1 ++ zeros (long - length l - 1) =
-    ap (λ (k : ℕ). zeros k) (let i : long - length l ≡ 1 + (long - length l - 1) = omega (arith, h) in i) ∙ sym (replicate-append-replicate {A = ℕ} 1 (long - length l - 1) 0) in
-    let f : long - length l - 1 ≡ long - length (l ++ (a ∷ [])) = let i = length-append l (a ∷ []) in omega (arith, i) in
-    put-behind (length l) 0 (a ∷ []) l (zeros (long - length l)) (sym (add-zero (length l)))
-    ∙ ap (λ (z : List ℕ). l ++ put 0 (a ∷ []) z) e
-    ∙ ap (λ (z : List ℕ). l ++ z) (put-part (a ∷ []) (zeros 1) (zeros (long - length l - 1)) refl)
-    ∙ ap (λ (k : ℕ). l ++ (a ∷ zeros k)) f
-    ∙ sym (append-assoc l (a ∷ []) (zeros (long - length (l ++ (a ∷ [])))))
+    let rest = long - length (l ++ (a ∷ [])) in
+    let i : long - length l ≡ suc rest = simp length-append (omega arith) in
+    rw (i, append-assoc) (put-behind (length l) 0 (a ∷ []) l (0 ∷ zeros rest) (sym (add-zero (length l))) ∙ ap (λ (z : List ℕ). l ++ z) (put-part (a ∷ []) (0 ∷ []) (zeros rest) refl))
 
 -- the last element of the list becomes 0
 pub padded-last : (long : ℕ) (l : List ℕ) → 0 < length l → length l ≤ long → put (length l - 1) (0 ∷ []) (padded long l) ≡ padded long (take (length l - 1) l)
@@ -166,10 +143,10 @@ padded-last long l h b =
 pub number-read : (s : List ℕ) (at : ℕ) → numberAt s at ≡ numberAt (take 2 (drop at s)) 0
 unfolding numberAt
 number-read s at =
-    let e : getD (take 2 (drop at s)) 0 0 ≡ getD s at 0 = getD-take 2 (drop at s) 0 0 (omega arith) ∙ getD-drop at s 0 0 ∙ ap (λ (k : ℕ). getD s k 0) (add-zero at) in
-    let f : getD (take 2 (drop at s)) 1 0 ≡ getD s (suc at) 0 = getD-take 2 (drop at s) 1 0 (omega arith) ∙ getD-drop at s 1 0
-    ∙ ap (λ (k : ℕ). getD s k 0) (let i : at + 1 ≡ suc at = omega arith in i) in
-    ap₂ (λ (x y : ℕ). min 512 (x + 256 * y)) (sym e) (sym f)
+    let l : 0 < 2 = omega arith in
+    let h : 1 < 2 = omega arith in
+    let i : at + 1 ≡ suc at = omega arith in
+    rw (getD-take 2 (drop at s) 0 0 l, getD-take 2 (drop at s) 1 0 h, getD-drop, getD-drop, add-zero at, i)
 
 pub number-two : (n : ℕ) → n ≤ 512 → numberAt (twoBytes n) 0 ≡ n
 unfolding numberAt twoBytes
