@@ -12,10 +12,8 @@ use borrow.Author.Tests.{eq-eqb, le-ltb, not-true}
 use Rattle.sets.specs.Lists.{anyOf}
 use Rattle.sets.proofs.Bools.{bif, and-r}
 use Rattle.sets.proofs.Lists.{none-any, any-none, place-of}
-use Rattle.sets.proofs.Ascending.{asc-at}
 use Rattle.refusals.specs.Rows.{firstRow}
 use Rattle.slice_search.specs.Places.{ascends}
-use Rattle.slice_search.proofs.Ascends.{ascends-asc}
 use Rattle.table_lent.specs.Lent.{wordsIn, inBytes, isHigh, isAstray, isFaulty, tableRows, tableRow}
 use Rattle.table_rows.proofs.Faults.{not-high, range}
 use Rattle.trim_spec.specs.Graph.{Inside}
@@ -27,8 +25,10 @@ use Rattle.live_spec.specs.Effects.{put, numbered, withSet, arrived}
 use Rattle.live_spec.specs.Rows.{arrivalRows, liveCallRow}
 use Rattle.live_spec.specs.Called.{effect}
 use Rattle.live_set.proofs.Puts.{put-long, put-before, put-in, put-behind, put-ext, put-mid, put-back}
-use Rattle.live_state.proofs.Replays.{step-long, step-part}
+use Rattle.live_state.proofs.Replays.{step-part}
+use Rattle.live_spec.proofs.Steps.{stepped-length}
 use Rattle.live_rows.proofs.Checks.{letter-known, log-free, long-enough, table-refuses, slice-answers}
+use Rattle.live_arrive.proofs.Rises.{below-last}
 use Rattle.live_arrive.specs.Tried.{passes, Stepped}
 use Rattle.live_arrive.specs.declared.Quick.{Quick}
 use Rattle.live_arrive.specs.declared.Quick.the-variants.{Served, Refused, Untried}
@@ -43,15 +43,7 @@ pub coded-last : (codes : List ℕ) → ascends codes ≡ true → 0 < length co
 coded-last codes e h z =
     record {
       ascending = e;
-      narrow = none-any codes isHigh
-          (λ c m.
-          let p = place-of codes c m in
-          let top = length codes - 1 in
-          let below : getD codes (p .0) 0 ≤ getD codes top 0 =
-          by-cases (ℕ-discrete (p .0) top)
-          (λ q. rw q (omega arith))
-          (λ q. let a = asc-at codes (ascends-asc codes e) (p .0) top (omega (arith, p .1)) (omega arith) in omega arith) in
-          not-high c (omega (arith, p .2, below, z)));
+      narrow = none-any codes isHigh (λ c m. not-high c (omega (arith, below-last codes e c m)));
     }
 
 -- ---- row 15
@@ -132,7 +124,7 @@ pub made : (q a : ℕ) (codes ts state : List ℕ) → stateLength ≤ length st
 unfolding effect arrived numbered withSet twoBytes
 made q a codes ts state long few free k n e f =
     let set = stepped (length codes) ts a (setBytes state) in
-    let m : length set ≡ length codes = step-long (length codes) ts a (setBytes state) in
+    let m : length set ≡ length codes = stepped-length (length codes) ts a (setBytes state) in
     let i = numberIn state in
     let two = twoBytes (i + 1) in
     let first : put 0 two (put setAt set state) ≡ put setAt set (put 0 two state) = put-comm 0 two setAt set state (omega arith) (omega arith) in
@@ -161,7 +153,7 @@ part-stepped at k n s a ts bytes last r e f fits d =
       verdict = verdict;
       yes = λ y.
           let step : last ≡ stepped n ts a (drop at bytes) = d .yes y ∙ step-part at k n a ts bytes e fits (passes-in n s ts (sym verdict ∙ y)) in
-          put-mid at k last bytes (ap (λ (l : List ℕ). length l) step ∙ step-long n ts a (drop at bytes) ∙ sym e)
+          put-mid at k last bytes (ap (λ (l : List ℕ). length l) step ∙ stepped-length n ts a (drop at bytes) ∙ sym e)
           ∙ ap (λ (l : List ℕ). put at l bytes) step
           ∙ ap (λ (i : ℕ). put i (stepped n ts a (drop i bytes)) bytes) f;
       no = λ y. put-mid at k last bytes (ap (λ (l : List ℕ). length l) (d .no y) ∙ long ∙ sym e) ∙ ap (λ (l : List ℕ). put at l bytes) (d .no y) ∙ put-back at k bytes (omega arith);

@@ -1,8 +1,13 @@
 -- Ascending numbers, one and four a turn.
 use mathlib.Core.Path.{_≡_, refl, sym, _∙_, ap, ap₂}
 use mathlib.Core.Bool.{Bool, true, false, _&&_, and-assoc}
-use mathlib.Core.List.{List, [], _∷_}
-use Prim.Native.Nat.{ℕ, _+_, _≤_, _<_}
+use mathlib.Core.List.{List, [], _∷_, List·Memᴰ}
+use Prim.Native.Nat.{ℕ, _+_, _-_, _≤_, _<_}
+use mathlib.Core.Logic.{by-cases}
+use native.Mathlib.Decide.{ℕ-discrete}
+use Rattle.sets.proofs.Lists.{place-of}
+use Rattle.sets.proofs.Ascending.{asc-at}
+use Rattle.slice_search.proofs.Ascends.{ascends-asc}
 use native.Mathlib.Omega.{arith}
 use lib.Dec.{ltb}
 use lib.ListN.{length, getD, drop, drop-of-length-le}
@@ -20,6 +25,12 @@ pub rises-start : (xs : List ℕ) → 0 < length xs → ascends xs ≡ ascendsFr
 unfolding ascends ascendsFrom
 rises-start [] h = absurd (omega arith)
 rises-start (x ∷ xs) h = refl
+
+-- no element is above the last
+pub below-last : (xs : List ℕ) → ascends xs ≡ true → (x : ℕ) → List·Memᴰ x xs → x ≤ getD xs (length xs - 1) 0
+below-last xs e x m =
+    let (i, l, f) = place-of xs x m in
+    by-cases (ℕ-discrete i (length xs - 1)) (λ q. rw (sym q) (omega arith)) (λ q. omega (arith, asc-at xs (ascends-asc xs e) i (length xs - 1) (omega arith) (omega arith)))
 
 module _ (xs : List ℕ) where
   turn : (x i : ℕ) → i < length xs → ascendsFrom x (drop i xs) ≡ ltb x (getD xs i 0) && ascendsFrom (getD xs i 0) (drop (i + 1) xs)

@@ -14,15 +14,14 @@ use Rattle.sets.specs.Lists.{anyOf}
 use Rattle.sets.proofs.Bools.{bif}
 use Rattle.sets.proofs.Lists.{any-in, mem-at, place-of}
 use Rattle.sets.proofs.Walks.{any-next, any-end}
-use Rattle.sets.proofs.Ascending.{asc-at}
 use Rattle.theory.specs.Run.{sourceOf, letterOf, targetOf}
 use Rattle.slice_search.specs.Places.{ascends}
-use Rattle.slice_search.proofs.Ascends.{ascends-asc}
 use Rattle.table_lent.specs.Lent.{isAstray}
 use Rattle.table_rows.proofs.Faults.{source-astray, letter-astray, target-astray, in-range, range}
 use Rattle.live_spec.specs.Afresh.{stepped}
 use Rattle.live_set.specs.Sweeps.{flagOf, moved, Swept}
 use Rattle.live_set.proofs.Sets.{moved-other, swept-start, swept-next, swept-end, mapped, arrived}
+use Rattle.live_arrive.proofs.Rises.{below-last}
 use Rattle.live_arrive.specs.Tried.{passes, limitOf, Sourced, Told, Tried, Stepped}
 
 -- ---- one transition
@@ -134,13 +133,7 @@ pub sourced-last : (n : ℕ) (ts : List ℕ) → ascends ts ≡ true → 0 < len
 sourced-last n ts e h x d =
     let top = getD ts (length ts - 1) 0 in
     record {
-      yes = λ r t m.
-          let p = place-of ts t m in
-          let below : getD ts (p .0) 0 ≤ top =
-          by-cases (ℕ-discrete (p .0) (length ts - 1))
-          (λ q. rw q (omega arith))
-          (λ q. let a = asc-at ts (ascends-asc ts e) (p .0) (length ts - 1) (omega (arith, p .1)) (omega arith) in omega arith) in
-          omega (arith, ltb-true x n r, p .2, below);
+      yes = λ r t m. let below = below-last ts e t m in omega (arith, ltb-true x n r);
       no = λ r s. any-in ts (isAstray n s) top (mem-at ts (length ts - 1) (omega arith)) (source-astray n s top (omega (arith, ltb-false x n r)));
     }
 

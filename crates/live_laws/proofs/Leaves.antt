@@ -23,9 +23,10 @@ use Rattle.live_spec.specs.History.{History, atStart, later, isSet, Log, empty,
 use Rattle.live_spec.specs.State.{stateLength, stateOf, numberIn, isMarked, setBytes}
 use Rattle.live_spec.specs.Effects.{put, shown}
 use Rattle.live_spec.specs.Called.{effect, answerBy, leftBy, CalledBy, Gets, TrimmedTable, Leaves}
+use Rattle.live_spec.proofs.Steps.{in-one, table-at}
 use Rattle.live_laws.proofs.Empty.{some-left, none-left}
 use Rattle.live_laws.proofs.Histories.{Onward, Small, small, held-by, state-bytes, state-long, start-goes, call-goes}
-use Rattle.live_laws.proofs.Reached.{Bytes, in-one, afresh-length, afresh-bytes, reached-iff}
+use Rattle.live_laws.proofs.Reached.{Bytes, afresh-length, afresh-bytes, reached-iff}
 use Rattle.live_laws.proofs.States.{bytesOf, Held, number-held, flag-held, set-at}
 
 -- ---- what is told of a state's bytes
@@ -65,7 +66,7 @@ module _ (q : ℕ) (codes ts : List ℕ) (room : length codes ≤ 65536) (g : Lo
       let e : length (tabulate n f 0) ≡ n = length-tabulate n f 0 in
       ext-getD 0 (tabulate n f 0) set (e ∙ sym set-length) (λ y l.
       let k : y < n = rw e at l in
-      tabulate-at n f 0 y k ∙ ap f (zero-add y) ∙ ap (λ (v : ℕ). one (ltb 0 v)) (byte-at y k) ∙ afresh-bytes q codes ts (g .letters) y (let i = set-length in omega (arith, k, i)))
+      table-at n f y k ∙ ap (λ (v : ℕ). one (ltb 0 v)) (byte-at y k) ∙ afresh-bytes q codes ts (g .letters) y (let i = set-length in omega (arith, k, i)))
 
 -- ---- the call
 

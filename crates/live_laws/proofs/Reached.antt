@@ -17,15 +17,9 @@ use Rattle.sets.proofs.Lists.{any-cons, any-out, any-in, length-tabulate, tabul
 use Rattle.theory.specs.Macrostate.{begun, isInitial}
 use Rattle.theory.specs.Rule.{Rule}
 use Rattle.theory.specs.Run.{sourceOf, letterOf, targetOf, Leads}
+use Rattle.live_spec.proofs.Steps.{in-one, table-at, initial-length, stepped-length, over-length, over-more}
 use Rattle.live_spec.specs.Reached.{Walks, here, step, ReachedOver}
 use Rattle.live_spec.specs.Afresh.{isIn, enters, stepped, steppedOver, initialSet, afresh, membersOf}
-
--- ---- bytes 0 and 1
-
--- a byte made of a test is not 0 exactly if the test holds
-pub in-one : (b : Bool) → ltb 0 (one b) ≡ b
-in-one true = refl
-in-one false = refl
 
 -- past the end nothing is in
 pub in-low : (set : List ℕ) (x : ℕ) → isIn set x ≡ true → x < length set
@@ -35,16 +29,9 @@ in-low (v ∷ set) (suc x) e = let l = in-low set x e in omega (arith, l)
 
 -- ---- one step
 
-pub stepped-length : (n : ℕ) (ts : List ℕ) (a : ℕ) (set : List ℕ) → length (stepped n ts a set) ≡ n
-unfolding stepped
-stepped-length n ts a set = length-tabulate n (λ y. one (anyOf ts (enters set a y))) 0
-
 stepped-at : (n : ℕ) (ts : List ℕ) (a : ℕ) (set : List ℕ) (y : ℕ) → y < n → isIn (stepped n ts a set) y ≡ anyOf ts (enters set a y)
 unfolding stepped
-stepped-at n ts a set y l =
-    let f : ℕ → ℕ = λ z. one (anyOf ts (enters set a z)) in
-    let e : getD (tabulate n f 0) y 0 ≡ f y = tabulate-at n f 0 y l ∙ ap f (zero-add y) in
-    ap (ltb 0) e ∙ in-one (anyOf ts (enters set a y))
+stepped-at n ts a set y l = ap (ltb 0) (table-at n (λ z. one (anyOf ts (enters set a z))) y l) ∙ in-one (anyOf ts (enters set a y))
 
 pub stepped-in : (n : ℕ) (ts : List ℕ) (a : ℕ) (set : List ℕ) (t x y : ℕ) → y < n → List·Memᴰ t ts → Leads t x a y → isIn set x ≡ true → isIn (stepped n ts a set) y ≡ true
 unfolding enters
@@ -70,40 +57,7 @@ stepped-out n ts a set y e =
       and-l (isIn set (sourceOf t)) (eqb (targetOf t) y) k,
     )
 
-any-same : (ts : List ℕ) (f g : ℕ → Bool) → ((t : ℕ) → List·Memᴰ t ts → f t ≡ g t) → anyOf ts f ≡ anyOf ts g
-unfolding anyOf
-any-same [] f g h = refl
-any-same (t ∷ ts) f g h =
-    any-cons f t ts ∙ ap₂ (λ (x y : Bool). x || y) (h t (List·Memᴰ·head refl)) (any-same ts f g (λ u m. h u (List·Memᴰ·tail m))) ∙ sym (any-cons g t ts)
-
-tabulate-same : (k : ℕ) (f g : ℕ → ℕ) (a : ℕ) → ((y : ℕ) → f y ≡ g y) → tabulate k f a ≡ tabulate k g a
-unfolding tabulate
-tabulate-same zero f g a h = refl
-tabulate-same (suc k) f g a h = ap₂ (λ (x : ℕ) (l : List ℕ). x ∷ l) (h a) (tabulate-same k f g (suc a) h)
-
-enters-same : (set other : List ℕ) (a y t : ℕ) → getD set (sourceOf t) 0 ≡ getD other (sourceOf t) 0 → enters set a y t ≡ enters other a y t
-unfolding enters
-enters-same set other a y t e = ap (λ (v : ℕ). eqb (letterOf t) a && (ltb 0 v && eqb (targetOf t) y)) e
-
--- the set is read at the sources alone
-pub stepped-same : (n : ℕ) (ts : List ℕ) (a : ℕ) (set other : List ℕ) → ((t : ℕ) → List·Memᴰ t ts → getD set (sourceOf t) 0 ≡ getD other (sourceOf t) 0)
-    → stepped n ts a set ≡ stepped n ts a other
-unfolding stepped
-stepped-same n ts a set other h = tabulate-same n (λ y. one (anyOf ts (enters set a y))) (λ y. one (anyOf ts (enters other a y))) 0
-    (λ y. ap one (any-same ts (enters set a y) (enters other a y) (λ t m. enters-same set other a y t (h t m))))
-
 -- ---- over letters
-
-pub over-length : (n : ℕ) (ts l set : List ℕ) → length set ≡ n → length (steppedOver n ts l set) ≡ n
-unfolding steppedOver
-over-length n ts [] set e = e
-over-length n ts (a ∷ l) set e = over-length n ts l (stepped n ts a set) (stepped-length n ts a set)
-
--- one more letter is one more step
-pub over-next : (n : ℕ) (ts l set : List ℕ) (a : ℕ) → steppedOver n ts (l ++ (a ∷ [])) set ≡ stepped n ts a (steppedOver n ts l set)
-unfolding steppedOver
-over-next n ts [] set a = refl
-over-next n ts (b ∷ l) set a = over-next n ts l (stepped n ts b set) a
 
 pub over-out : (n : ℕ) (ts l set : List ℕ) (y : ℕ) → isIn (steppedOver n ts l set) y ≡ true → (x : ℕ) × (isIn set x ≡ true) × Walks ts x l y
 unfolding steppedOver
@@ -122,10 +76,6 @@ over-in n ts low set (step {x = x} {z = z} t a m k w) e =
 
 -- ---- from the initial macrostates
 
-pub initial-length : (q : ℕ) (codes : List ℕ) → length (initialSet q codes) ≡ length codes
-unfolding initialSet
-initial-length q codes = length-map codes (λ c. one (begun (λ d. bit d q) c))
-
 initial-at : (q : ℕ) (codes : List ℕ) (x : ℕ) → x < length codes → isIn (initialSet q codes) x ≡ begun (λ d. bit d q) (getD codes x 0)
 unfolding initialSet
 initial-at q [] x l = absurd (omega arith)
@@ -139,7 +89,7 @@ afresh-length q codes ts l = over-length (length codes) ts l (initialSet q codes
 -- the set after one more letter is one step from the set before
 pub afresh-next : (q : ℕ) (codes ts l : List ℕ) (a : ℕ) → afresh q codes ts (l ++ (a ∷ [])) ≡ stepped (length codes) ts a (afresh q codes ts l)
 unfolding afresh
-afresh-next q codes ts l a = over-next (length codes) ts l (initialSet q codes) a
+afresh-next q codes ts l a = over-more (length codes) ts l (initialSet q codes) a
 
 pub afresh-none : (q : ℕ) (codes ts : List ℕ) → afresh q codes ts [] ≡ initialSet q codes
 unfolding afresh steppedOver
@@ -158,10 +108,6 @@ reached-iff r codes ts low l y = (
 
 -- ---- bytes of the set are 0 or 1
 
-one-one : (b : Bool) → one (ltb 0 (one b)) ≡ one b
-one-one true = refl
-one-one false = refl
-
 -- bytes that are 0 or 1 are shown as they are
 abbrev pub Bytes : List ℕ → Type 0
 Bytes set = (y : ℕ) → y < length set → one (isIn set y) ≡ getD set y 0
@@ -169,10 +115,8 @@ Bytes set = (y : ℕ) → y < length set → one (isIn set y) ≡ getD set y 0
 stepped-bytes : (n : ℕ) (ts : List ℕ) (a : ℕ) (set : List ℕ) → Bytes (stepped n ts a set)
 unfolding stepped
 stepped-bytes n ts a set y l =
-    let f : ℕ → ℕ = λ z. one (anyOf ts (enters set a z)) in
-    let k : y < n = rw (length-tabulate n f 0) at l in
-    let e : getD (tabulate n f 0) y 0 ≡ f y = tabulate-at n f 0 y k ∙ ap f (zero-add y) in
-    ap (λ (v : ℕ). one (ltb 0 v)) e ∙ one-one (anyOf ts (enters set a y)) ∙ sym e
+    let e = table-at n (λ z. one (anyOf ts (enters set a z))) y (rw (length-tabulate n _ 0) at l) in
+    ap (λ (v : ℕ). one (ltb 0 v)) e ∙ ap one (in-one (anyOf ts (enters set a y))) ∙ sym e
 
 over-bytes : (n : ℕ) (ts l set : List ℕ) → Bytes set → Bytes (steppedOver n ts l set)
 unfolding steppedOver
@@ -182,7 +126,7 @@ over-bytes n ts (a ∷ l) set b = over-bytes n ts l (stepped n ts a set) (steppe
 initial-bytes : (q : ℕ) (codes : List ℕ) → Bytes (initialSet q codes)
 unfolding initialSet
 initial-bytes q [] y l = absurd (omega arith)
-initial-bytes q (c ∷ codes) zero l = one-one (begun (λ d. bit d q) c)
+initial-bytes q (c ∷ codes) zero l = ap one (in-one (begun (λ d. bit d q) c))
 initial-bytes q (c ∷ codes) (suc y) l = initial-bytes q codes y (le-of-suc-le-suc l)
 
 pub afresh-bytes : (q : ℕ) (codes ts l : List ℕ) → Bytes (afresh q codes ts l)

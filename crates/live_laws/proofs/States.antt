@@ -5,7 +5,7 @@ use mathlib.Core.List.{List, [], _∷_, _++_, append-assoc, List·Memᴰ}
 use Prim.Native.Nat.{ℕ, zero, suc, _+_, _*_, _-_, _≤_, _<_}
 use native.Mathlib.Omega.{arith}
 use native.Mathlib.Nat.{zero-add}
-use lib.Dec.{eqb}
+use lib.Dec.{eqb, ltb}
 use lib.ListN.{length, getD, take, drop, replicate, length-append, List·getD-append}
 use lib.Seq.{length-take-le, take-length, take-all, getD-take, getD-drop}
 use borrow.Author.Tests.{eq-eqb, ne-eqb}
@@ -17,7 +17,8 @@ use Rattle.live_spec.specs.Afresh.{isIn, stepped, initialSet, afresh}
 use Rattle.live_spec.specs.History.{Moment, unset, at, isSet, lettersAt, Log}
 use Rattle.live_spec.specs.State.{markNumberAt, lettersAtByte, markLettersAt, setAt, stateLength, twoBytes, padded, forMarks, logBytes, numberAt, numberIn, lettersIn, isMarked, setBytes}
 use Rattle.live_spec.specs.Effects.{put, numbered, withSet, refreshed, started, arrived, withdrawn, marked, returned, shown}
-use Rattle.live_laws.proofs.Reached.{stepped-length, initial-length, afresh-length, afresh-next, afresh-none, stepped-same}
+use Rattle.live_spec.proofs.Steps.{initial-length, step-ext}
+use Rattle.live_laws.proofs.Reached.{afresh-length, afresh-next, afresh-none}
 use Rattle.live_laws.proofs.Parts.{parts-length, parts-read, parts-put, padded-length, padded-read, padded-put, padded-none, padded-zeros, padded-next, padded-last, put-all, zeros}
 use Rattle.live_laws.proofs.Parts.{zeros-length, zeros-put, zeros-parts, zeros-split, number-read, number-two}
 use Rattle.live_laws.proofs.Laid.{laid, Long, put-number, put-flag, put-numbers, put-letters, put-marks, put-set, read-number, read-numbers, read-letters, read-marks, read-set, read-flag}
@@ -261,7 +262,7 @@ module _ (q : ℕ) (codes ts : List ℕ) (room : length codes ≤ 65536) (inside
         let more = letters ++ (a ∷ []) in
         let longer : length more ≡ n + 1 = length-append letters (a ∷ []) in
         let next : stepped (length codes) ts a (setBytes state) ≡ afresh q codes ts more =
-        stepped-same (length codes) ts a (setBytes state) set (λ t m. set-at rest (held letters few) (sourceOf t) (omega (arith, inside t m, set-length)))
+        step-ext (length codes) ts a (setBytes state) set (λ t m. ap (ltb 0) (set-at rest (held letters few) (sourceOf t) (omega (arith, inside t m, set-length))))
         ∙ sym (afresh-next q codes ts letters a) in
         let log : put (lettersAtByte + numberIn state) (a ∷ []) (numbered (numberIn state + 1) state) ≡ bytesOf more marks set rest =
         ap (λ (k : ℕ). put (lettersAtByte + k) (a ∷ []) (numbered (k + 1) state)) (number-held rest (held letters few))

@@ -21,8 +21,7 @@ module _ (at : ℕ) (part bytes : List ℕ) (fits : at + length part ≤ length 
 
   pub put-long : length (put at part bytes) ≡ length bytes
   unfolding put
-  put-long =
-      omega (arith, front, length-append (take at bytes) (part ++ drop (at + length part) bytes), length-append part (drop (at + length part) bytes), length-drop (at + length part) bytes)
+  put-long = simp (length-append, length-drop, front) (omega arith)
 
   pub put-before : (j : ℕ) → j < at → getD (put at part bytes) j 0 ≡ getD bytes j 0
   unfolding put
@@ -32,8 +31,7 @@ module _ (at : ℕ) (part bytes : List ℕ) (fits : at + length part ≤ length 
   unfolding put
   behind-front j =
       let e : at + j ≡ length (take at bytes) + j = omega (arith, front) in
-      ap (λ (k : ℕ). getD (take at bytes ++ (part ++ drop (at + length part) bytes)) k 0) e
-      ∙ getD-append-add (take at bytes) (part ++ drop (at + length part) bytes) j 0
+      rw (e, getD-append-add)
 
   pub put-in : (j : ℕ) → j < length part → getD (put at part bytes) (at + j) 0 ≡ getD part j 0
   put-in j l = behind-front j ∙ List·getD-append part (drop (at + length part) bytes) 0 j l
@@ -42,12 +40,8 @@ module _ (at : ℕ) (part bytes : List ℕ) (fits : at + length part ≤ length 
   put-behind j l =
       let k = j - (at + length part) in
       let e : j ≡ at + (length part + k) = omega arith in
-      let f : at + length part + k ≡ j = omega arith in
-      ap (λ (i : ℕ). getD (put at part bytes) i 0) e
-      ∙ behind-front (length part + k)
-      ∙ getD-append-add part (drop (at + length part) bytes) k 0
-      ∙ getD-drop (at + length part) bytes k 0
-      ∙ ap (λ (i : ℕ). getD bytes i 0) f
+      let f : at + length part + k ≡ at + (length part + k) = omega arith in
+      rw e (behind-front (length part + k) ∙ rw (getD-append-add, getD-drop, f))
 
   -- a list with the same bytes is this one
   pub put-ext : (xs : List ℕ) → length xs ≡ length bytes
@@ -60,9 +54,7 @@ module _ (at : ℕ) (part bytes : List ℕ) (fits : at + length part ≤ length 
       (λ j l. by-cases (decLt j at)
       (λ b. before j b ∙ sym (put-before j b))
       (λ n. by-cases (decLt j (at + length part))
-      (λ i. let k = j - at in
-      let e : j ≡ at + k = omega arith in
-      ap (λ (x : ℕ). getD xs x 0) e ∙ inside k (omega arith) ∙ sym (put-in k (omega arith)) ∙ ap (λ (x : ℕ). getD (put at part bytes) x 0) (sym e))
+      (λ i. let e : j ≡ at + (j - at) = omega arith in rw e (inside (j - at) (omega arith) ∙ sym (put-in (j - at) (omega arith))))
       (λ m. behind j (omega arith) ∙ sym (put-behind j (omega arith)))))
 
   -- what stands behind it

@@ -20,6 +20,7 @@ use Rattle.sets.specs.Masks.{bit}
 use Rattle.theory.specs.Macrostate.{begun}
 use Rattle.theory.specs.Run.{sourceOf, letterOf, targetOf}
 use Rattle.live_spec.specs.Afresh.{isIn, enters, stepped, initialSet}
+use Rattle.live_spec.proofs.Steps.{one-low, in-one, table-at, step-ext, stepped-length}
 use Rattle.live_set.specs.Sweeps.{flagOf, moved, Swept}
 
 -- ---- loops that put f of each element of a list into another, or into its own place
@@ -162,37 +163,12 @@ module _ (a : ℕ) (ts before : List ℕ) (low : (y : ℕ) → getD before y 0 �
 
 -- ---- a letter
 
-any-ext : (xs : List ℕ) (f g : Set) → ((x : ℕ) → List·Memᴰ x xs → f x ≡ g x) → anyOf xs f ≡ anyOf xs g
-unfolding anyOf
-any-ext [] f g h = refl
-any-ext (x ∷ xs) f g h = any-cons f x xs ∙ ap₂ (λ (u v : Bool). u || v) (h x (List·Memᴰ·head refl)) (any-ext xs f g (λ y m. h y (List·Memᴰ·tail m))) ∙ sym (any-cons g x xs)
-
-tabulate-ext : (n k : ℕ) (f g : ℕ → ℕ) → ((y : ℕ) → f y ≡ g y) → tabulate n f k ≡ tabulate n g k
-unfolding tabulate
-tabulate-ext zero k f g h = refl
-tabulate-ext (suc n) k f g h = ap₂ (λ (u : ℕ) (v : List ℕ). u ∷ v) (h k) (tabulate-ext n (suc k) f g h)
-
--- sets that agree on the sources step to the same
-pub step-ext : (n a : ℕ) (ts xs ys : List ℕ) → ((t : ℕ) → List·Memᴰ t ts → isIn xs (sourceOf t) ≡ isIn ys (sourceOf t)) → stepped n ts a xs ≡ stepped n ts a ys
-unfolding stepped enters
-step-ext n a ts xs ys h = tabulate-ext n 0 (λ y. one (anyOf ts (enters xs a y))) (λ y. one (anyOf ts (enters ys a y))) (λ y. ap one (any-ext ts (enters xs a y) (enters ys a y) (λ t m. rw (h t m))))
-
 -- a list whose halves tell what is entered
 stepped-map : (n a : ℕ) (ts xs after : List ℕ) → length after ≡ n → ((y : ℕ) → y < n → getD after y 0 / 2 ≡ one (anyOf ts (enters xs a y))) → stepped n ts a xs ≡ map (λ v. v / 2) after
 unfolding stepped
 stepped-map n a ts xs after e h =
-    mapped (λ v. v / 2) after (tabulate n (λ y. one (anyOf ts (enters xs a y))) 0) (length-tabulate n (λ y. one (anyOf ts (enters xs a y))) 0 ∙ sym e)
-    (λ j l.
-    let m : j < n = omega arith in
-    tabulate-at n (λ y. one (anyOf ts (enters xs a y))) 0 j m ∙ ap (λ (y : ℕ). one (anyOf ts (enters xs a y))) (zero-add j) ∙ sym (h j m))
-
-one-low : (b : Bool) → one b ≤ 1
-one-low true = omega arith
-one-low false = omega arith
-
-flag-twice : (b : Bool) → ltb 0 (one b) ≡ b
-flag-twice true = refl
-flag-twice false = refl
+    mapped (λ v. v / 2) after (stepped n ts a xs) (stepped-length n ts a xs ∙ sym e)
+    (λ j l. let m : j < n = omega arith in table-at n (λ y. one (anyOf ts (enters xs a y))) j m ∙ sym (h j m))
 
 module _ (a : ℕ) (ts before : List ℕ) where
   flags-at : (y : ℕ) → getD (map flagOf before) y 0 ≡ flagOf (getD before y 0)
@@ -202,7 +178,7 @@ module _ (a : ℕ) (ts before : List ℕ) where
   flags-low y = rw (flags-at y) (one-low (ltb 0 (getD before y 0)))
 
   same-set : (x : ℕ) → isIn (map flagOf before) x ≡ isIn before x
-  same-set x = ap (λ (v : ℕ). ltb 0 v) (flags-at x) ∙ flag-twice (ltb 0 (getD before x 0))
+  same-set x = ap (λ (v : ℕ). ltb 0 v) (flags-at x) ∙ in-one (ltb 0 (getD before x 0))
 
   pub arrived : (after : List ℕ) → Swept a ts (map flagOf before) after → map (λ v. v / 2) after ≡ stepped (length before) ts a before
   arrived after s =
@@ -212,4 +188,4 @@ module _ (a : ℕ) (ts before : List ℕ) where
       (λ y l.
       let e = s .at y (omega (arith, length-map before flagOf)) in
       omega (arith, e, flags-low y)))
-      ∙ step-ext (length before) a ts flags before (λ t m. same-set (sourceOf t))
+      ∙ step-ext (length before) ts a flags before (λ t m. same-set (sourceOf t))

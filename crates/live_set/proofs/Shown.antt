@@ -17,12 +17,9 @@ use Rattle.sets.proofs.Lists.{tabulate-at, length-tabulate}
 use Rattle.live_spec.specs.Afresh.{isIn}
 use Rattle.live_spec.specs.State.{setAt, setBytes}
 use Rattle.live_spec.specs.Effects.{put, shown}
+use Rattle.live_spec.proofs.Steps.{one-low, table-at}
 use Rattle.live_set.proofs.Puts.{put-ext}
 use Rattle.live_set.specs.Sweeps.{flagOf}
-
-one-low : (b : Bool) → one b ≤ 1
-one-low true = omega arith
-one-low false = omega arith
 
 -- the first i are written and counted
 pub record Showing (f : Set) (before after : List ℕ) (members i : ℕ) : Type 0 where
@@ -57,7 +54,7 @@ module _ (f : Set) (before : List ℕ) where
       let long : length part ≡ n = length-tabulate n (λ y. one (f y)) 0 in
       put-ext 0 part before (omega arith) after (s .long)
       (λ j k. absurd (omega arith))
-      (λ j k. let m : j < n = omega arith in ap (λ (x : ℕ). getD after x 0) (zero-add j) ∙ s .done j m ∙ sym (tabulate-at n (λ y. one (f y)) 0 j m ∙ ap (λ (x : ℕ). one (f x)) (zero-add j)))
+      (λ j k. let m : j < n = omega arith in ap (λ (x : ℕ). getD after x 0) (zero-add j) ∙ s .done j m ∙ sym (table-at n (λ y. one (f y)) j m))
       (λ j k. s .rest j (omega arith))
 
 -- the byte of a macrostate

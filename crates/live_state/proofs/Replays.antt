@@ -14,34 +14,17 @@ use Rattle.live_spec.specs.Afresh.{stepped, steppedOver, initialSet, afresh}
 use Rattle.live_spec.specs.State.{setAt, setBytes, lettersAtByte, numberAt, numberIn, lettersIn}
 use Rattle.live_spec.specs.Effects.{put, withSet, refreshed}
 use Rattle.live_set.proofs.Puts.{put-long, put-before, put-in, put-over, put-back, put-mid, part-before, part-there, number-before}
-use Rattle.live_set.proofs.Sets.{step-ext}
+use Rattle.live_spec.proofs.Steps.{step-ext, initial-length, over-length, over-more}
 
--- ---- a list of letters
-
-module _ (n : ℕ) (ts : List ℕ) where
-  pub step-long : (a : ℕ) (s : List ℕ) → length (stepped n ts a s) ≡ n
-  unfolding stepped
-  step-long a s = length-tabulate n _ 0
-
-  pub over-long : (l s : List ℕ) → length s ≡ n → length (steppedOver n ts l s) ≡ n
-  unfolding steppedOver
-  over-long [] s e = e
-  over-long (a ∷ l) s e = over-long l (stepped n ts a s) (step-long a s)
-
-  -- one letter more
-  pub over-snoc : (l : List ℕ) (a : ℕ) (s : List ℕ) → steppedOver n ts (l ++ (a ∷ [])) s ≡ stepped n ts a (steppedOver n ts l s)
-  unfolding steppedOver
-  over-snoc [] a s = refl
-  over-snoc (b ∷ l) a s = over-snoc l a (stepped n ts b s)
-
-  over-next : (l s : List ℕ) (i : ℕ) → i < length l → steppedOver n ts (take (i + 1) l) s ≡ stepped n ts (getD l i 0) (steppedOver n ts (take i l) s)
-  over-next l s i h = rw (add-one i, take-suc l i 0 h) (over-snoc (take i l) (getD l i 0) s)
+-- one letter more of a list
+over-next : (n : ℕ) (ts l s : List ℕ) (i : ℕ) → i < length l → steppedOver n ts (take (i + 1) l) s ≡ stepped n ts (getD l i 0) (steppedOver n ts (take i l) s)
+over-next n ts l s i h = rw (add-one i, take-suc l i 0 h) (over-more n ts (take i l) s (getD l i 0))
 
 -- ---- a part of a list, and a list that begins with a set
 
 -- sources are in the first n
 within : (n : ℕ) (ts xs ys : List ℕ) (a : ℕ) → Inside n ts → ((x : ℕ) → x < n → getD xs x 0 ≡ getD ys x 0) → stepped n ts a xs ≡ stepped n ts a ys
-within n ts xs ys a inside h = step-ext n a ts xs ys (λ t m. ap (λ (v : ℕ). ltb 0 v) (h (sourceOf t) (inside .sources t m)))
+within n ts xs ys a inside h = step-ext n ts a xs ys (λ t m. ap (λ (v : ℕ). ltb 0 v) (h (sourceOf t) (inside .sources t m)))
 
 pub step-part : (at k n a : ℕ) (ts bytes : List ℕ) → k ≡ n → at + n ≤ length bytes → Inside n ts
     → stepped (length (take k (drop at bytes))) ts a (take k (drop at bytes)) ≡ stepped n ts a (drop at bytes)
@@ -77,7 +60,7 @@ module _ (n : ℕ) (ts bytes : List ℕ) (fits : setAt + n ≤ length bytes) whe
   set-long = length-take-le n (setBytes bytes) (omega (arith, length-drop setAt bytes))
 
   after-long : (i : ℕ) → length (after n ts bytes i) ≡ n
-  after-long i = over-long n ts (take i (lettersIn bytes)) (take n (setBytes bytes)) set-long
+  after-long i = over-length n ts (take i (lettersIn bytes)) (take n (setBytes bytes)) set-long
 
   pub replay-start : bytes ≡ withSet (after n ts bytes 0) bytes
   unfolding withSet steppedOver
@@ -109,13 +92,9 @@ module _ (n : ℕ) (ts bytes : List ℕ) (fits : setAt + n ≤ length bytes) whe
 
 -- ---- worked out afresh
 
-pub initial-long : (q : ℕ) (codes : List ℕ) → length (initialSet q codes) ≡ length codes
-unfolding initialSet
-initial-long q codes = length-map codes _
-
 module _ (q : ℕ) (codes ts bytes : List ℕ) (fits : setAt + length codes ≤ length bytes) where
   room : setAt + length (initialSet q codes) ≤ length bytes
-  room = omega (arith, initial-long q codes)
+  room = omega (arith, initial-length q codes)
 
   pub begun-long : length (withSet (initialSet q codes) bytes) ≡ length bytes
   unfolding withSet
@@ -130,7 +109,7 @@ module _ (q : ℕ) (codes ts bytes : List ℕ) (fits : setAt + length codes ≤ 
 
   begun-set : take (length codes) (setBytes (withSet (initialSet q codes) bytes)) ≡ initialSet q codes
   unfolding withSet
-  begun-set = part-there setAt (initialSet q codes) bytes room (length codes) (initial-long q codes)
+  begun-set = part-there setAt (initialSet q codes) bytes room (length codes) (initial-length q codes)
 
   pub refresh-end : (n : ℕ) → n ≡ length codes
       → (let begun = withSet (initialSet q codes) bytes in withSet (steppedOver n ts (lettersIn begun) (take n (setBytes begun))) begun) ≡ refreshed q codes ts bytes
@@ -138,4 +117,4 @@ module _ (q : ℕ) (codes ts bytes : List ℕ) (fits : setAt + length codes ≤ 
   refresh-end n e =
       rw (e, begun-letters, begun-set)
       (put-over setAt (initialSet q codes) bytes room (steppedOver (length codes) ts (lettersIn bytes) (initialSet q codes))
-      (over-long (length codes) ts (lettersIn bytes) (initialSet q codes) (initial-long q codes) ∙ sym (initial-long q codes)))
+      (over-length (length codes) ts (lettersIn bytes) (initialSet q codes) (initial-length q codes) ∙ sym (initial-length q codes)))

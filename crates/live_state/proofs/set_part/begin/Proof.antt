@@ -10,7 +10,7 @@ use Rattle.table_lent.proofs.Reading.{words-in-length}
 use Rattle.live_spec.specs.State.{setAt}
 use Rattle.live_spec.specs.Effects.{put, withSet}
 use Rattle.live_set.proofs.Puts.{put-mid}
-use Rattle.live_state.proofs.Replays.{initial-long}
+use Rattle.live_spec.proofs.Steps.{initial-length}
 use borrow.Author.Needs.{needs}
 use Rattle.live_state.proofs.set_part.begin.Statement.{statement}
 use Rattle.live_state.proofs.set_part.begin.Tie as tie
@@ -29,7 +29,7 @@ returns c =
     let a = c .before .before .before .before .before .before .args in
     let w = words-in-length (a .codes .now) in
     let e = c .before .before .begin-set .ensures in
-    let long = ap (λ (l : List ℕ). length l) e ∙ initial-long (a .initial) (wordsIn (a .codes .now)) in
+    let long = ap (λ (l : List ℕ). length l) e ∙ initial-length (a .initial) (wordsIn (a .codes .now)) in
     let same : length (wordsIn (a .codes .now)) ≡ setAt + length (a .codes .now) / 8 - setAt = omega arith in
     put-mid setAt _ _ (a .state .now) (long ∙ same) ∙ ap (λ (s : List ℕ). put setAt s (a .state .now)) e
 

@@ -9,7 +9,8 @@ use Rattle.table_lent.specs.Lent.{wordsIn}
 use Rattle.live_spec.specs.State.{setAt}
 use Rattle.live_spec.specs.Effects.{put, withSet}
 use Rattle.live_set.proofs.Puts.{put-mid}
-use Rattle.live_state.proofs.Replays.{step-part, step-long}
+use Rattle.live_state.proofs.Replays.{step-part}
+use Rattle.live_spec.proofs.Steps.{stepped-length}
 use borrow.Author.Needs.{needs}
 use Rattle.live_state.proofs.set_part.step.Statement.{statement}
 use Rattle.live_state.proofs.set_part.step.Tie as tie
@@ -29,7 +30,7 @@ returns c =
     let ts = wordsIn (a .transitions .now) in
     let same : setAt + a .n - setAt ≡ a .n = omega arith in
     let e = c .before .before .step-set .ensures ∙ step-part setAt (setAt + a .n - setAt) (a .n) (a .letter) ts (a .state .now) same (pre .1) (pre .0) in
-    let long = ap (λ (l : List ℕ). length l) e ∙ step-long (a .n) ts (a .letter) (drop setAt (a .state .now)) in
+    let long = ap (λ (l : List ℕ). length l) e ∙ stepped-length (a .n) ts (a .letter) (drop setAt (a .state .now)) in
     put-mid setAt _ _ (a .state .now) (long ∙ sym same) ∙ ap (λ (s : List ℕ). put setAt s (a .state .now)) e
 
 pub step-spec : {M : Type 1} → statement M
