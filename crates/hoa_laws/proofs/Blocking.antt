@@ -30,7 +30,7 @@ use Rattle.hoa_laws.proofs.Lists.{asc-append, keep-asc, sets-append}
 
 -- ---- a state line, and how many numbers are accepting up to it
 
-module _ (text : List ℕ) (p i accepting : ℕ) (h : accepting ≤ i) (x r : ℕ) (T : TookOne text p (λ x. x ≤ 1) (λ x. stateLine i (eqb x 1)) x r) where
+module _ {text : List ℕ} {p : ℕ} (i accepting : ℕ) (h : accepting ≤ i) {x r : ℕ} (T : TookOne text p (λ x. x ≤ 1) (λ x. stateLine i (eqb x 1)) x r) where
   -- a state line is accepting or not
   line-yes : (a : ℕ) → a ≡ suc i → (rest : List ℕ) → drop p text ≡ stateLine i (ltb i a) ++ rest → drop p text ≡ stateLine i true ++ rest
   line-yes a e rest f = f ∙ ap (λ (b : Bool). stateLine i b ++ rest) (lt-ltb i a (omega arith))
@@ -129,9 +129,9 @@ first-more accepting i a h (inr (e, q)) =
 
 -- ---- one block after the other
 
-pub blocking-none : (text : List ℕ) (p b n : ℕ) → p ≤ length text → Blocking text p b n 0 0 [] p
+pub blocking-none : {text : List ℕ} {p b n : ℕ} → p ≤ length text → Blocking text p b n 0 0 [] p
 unfolding lines
-blocking-none text p b n h = record {
+blocking-none h = record {
   first = omega arith;
   source = λ t m. absurd (List·Memᴰ·not-nil m);
   letter = λ t m. absurd (List·Memᴰ·not-nil m);
@@ -150,7 +150,7 @@ module _ {text : List ℕ} {p b n : ℕ} {old : List ℕ} {accepting count r : �
       → TookBlocks text p b n old accepting count r new
   blocks-none e h = record { found = λ l. absurd (omega arith); absent = λ z. h }
 
-module _ (text : List ℕ) (p b n i accepting : ℕ) (moves : List ℕ) (r : ℕ) (B : Blocking text p b n i accepting moves r) (h : i < n) where
+module _ {text : List ℕ} {p b n i accepting : ℕ} {moves : List ℕ} {r : ℕ} (B : Blocking text p b n i accepting moves r) (h : i < n) where
   -- what comes next in any lines of macrostates that stand there
   module _ (fs ts rest : List ℕ) (P : Shaped b fs ts) (l : length fs ≡ n) (N : NoEdge rest) (e : drop p text ≡ lines (blockOf b ts) 0 fs ++ rest) where
     same : Same b moves ts 0 (acceptingFirst accepting i) fs (drop r text) rest
@@ -209,7 +209,7 @@ module _ (text : List ℕ) (p b n i accepting : ℕ) (moves : List ℕ) (r : ℕ
     unfolding leaving
     leaving-asc = keep-asc (λ u. eqb (sourceOf u) i) ts (P .ascend)
 
-  module _ (x c : ℕ) (T : TookOne text r (Onward accepting i) (λ a. stateLine i (ltb i a)) x c) where
+  module _ {x c : ℕ} (T : TookOne text r (Onward accepting i) (λ a. stateLine i (ltb i a)) x c) where
     pub blocks-no-state : c ≡ 0 → {old : List ℕ} {a count e : ℕ} {new : List ℕ} → e ≡ 0 → TookBlocks text p b n old a count e new
     blocks-no-state z k = blocks-none k (λ fs ts rest P l N e.
         let o = onward fs ts rest P l N e in
@@ -223,7 +223,7 @@ module _ (text : List ℕ) (p b n i accepting : ℕ) (moves : List ℕ) (r : ℕ
         let z : length (stateLine i (ltb i x) ++ []) ≡ suc (length (d .0)) = ap length (d .1) in
         later text r (stateLine i (ltb i x)) c (omega (arith, length-append (stateLine i (ltb i x)) [])) (f .1) (f .2)
 
-    module _ (g : 0 < c) (m : ℕ) (now : List ℕ) (count q : ℕ) (new : List ℕ) (E : TookEdges text c b n i m now count q new) where
+    module _ (g : 0 < c) {m : ℕ} {now : List ℕ} {count q : ℕ} {new : List ℕ} (E : TookEdges text c b n i m now count q new) where
       pub blocks-no-edges : q ≡ 0 → {old : List ℕ} {a k e : ℕ} {left : List ℕ} → e ≡ 0 → TookBlocks text p b n old a k e left
       blocks-no-edges z k = blocks-none k (λ fs ts rest P l N e.
           let s = state-once i (ltb i x) (bit (getD fs i 0) 1) (sym (T .found g .2) ∙ here fs ts rest P l N e) in
@@ -268,9 +268,6 @@ moves-stored old moves edges count h e w =
     ∙ sym (sets-append old 0 moves edges)
 
 -- all numbers
-pub blocked : (text : List ℕ) (p b n : ℕ) (old : List ℕ) (i accepting : ℕ) (moves : List ℕ) (count r : ℕ) {new : List ℕ} → i ≡ n → Blocking text p b n i accepting moves r
+pub blocked : {text : List ℕ} {p b n : ℕ} {old : List ℕ} {i accepting : ℕ} {moves : List ℕ} {count r : ℕ} {new : List ℕ} → i ≡ n → Blocking text p b n i accepting moves r
     → count ≡ length moves → new ≡ sets old 0 moves → BlocksOf text p b n old accepting count r new
-blocked text p b n old i accepting moves count r e B h w = record { moves = moves; read = moved n e B; counted = h; stored = w }
-  where
-    moved : (k : ℕ) → i ≡ k → Blocking text p b n i accepting moves r → Blocking text p b n k accepting moves r
-    moved k q P = rw (sym q) P
+blocked {moves = moves} e B h w = record { moves = moves; read = rw e at B; counted = h; stored = w }

@@ -19,9 +19,9 @@ use Rattle.hoa_laws.proofs.Taking.{byte-here, later}
 from-leaves : (b n i : ℕ) (ts : List ℕ) → ((t : ℕ) → List·Memᴰ t ts → Leaves b n i t) → From b i ts
 from-leaves b n i ts h = record { source = λ t m. h t m .source; letter = λ t m. h t m .letter }
 
-pub edging-none : (text : List ℕ) (p b n i : ℕ) → p ≤ length text → Edging text p b n i [] 0 p
+pub edging-none : {text : List ℕ} {p b n i : ℕ} → p ≤ length text → Edging text p b n i [] 0 p
 unfolding lines
-edging-none text p b n i h = record {
+edging-none h = record {
   leaves = λ t m. absurd (List·Memᴰ·not-nil m);
   ascending = none;
   below = λ t m. absurd (List·Memᴰ·not-nil m);
@@ -37,14 +37,16 @@ pub no-edge-here : (text : List ℕ) (r : ℕ) → r < length text → (getD tex
 no-edge-here text r h n others e = other-heads (sym (byte-here text r h) ∙ e) n
 
 module _ {text : List ℕ} {p b n i m : ℕ} {old : List ℕ} {count r : ℕ} {new : List ℕ} where
-  pub edges-some : 0 < r → EdgesOf text p b n i m old count r new → TookEdges text p b n i m old count r new
-  edges-some l E = record { found = λ z. E; absent = λ z. absurd (omega arith) }
+  pub edges-some : {edges : List ℕ} {low : ℕ} → 0 < r → Edging text p b n i edges low r → NoEdge (drop r text) → count ≤ r → count ≡ m + length edges → new ≡ sets old m edges
+      → TookEdges text p b n i m old count r new
+  edges-some {edges} {low} l E N f c s =
+      record { found = λ z. record { edges = edges; low = low; read = E; next = N; few = f; counted = c; stored = s }; absent = λ z. absurd (omega arith) }
 
   pub edges-none : r ≡ 0 → ((us rest : List ℕ) → ((t : ℕ) → List·Memᴰ t us → Leaves b n i t) → Ascending us → NoEdge rest → drop p text ≡ lines (edgeOf b) 0 us ++ rest → ⊥)
       → TookEdges text p b n i m old count r new
   edges-none e h = record { found = λ l. absurd (omega arith); absent = λ z. h }
 
-module _ (text : List ℕ) (p b n i : ℕ) (edges : List ℕ) (low r : ℕ) (E : Edging text p b n i edges low r) where
+module _ {text : List ℕ} {p b n i : ℕ} {edges : List ℕ} {low r : ℕ} (E : Edging text p b n i edges low r) where
   -- an edge line comes next in any edge lines that stand there
   module _ (h : r < length text) (bracket : getD text r 0 ≡ 91) (us rest : List ℕ) (L : (t : ℕ) → List·Memᴰ t us → Leaves b n i t) (N : NoEdge rest)
       (e : drop p text ≡ lines (edgeOf b) 0 us ++ rest) where
@@ -57,7 +59,7 @@ module _ (text : List ℕ) (p b n i : ℕ) (edges : List ℕ) (low r : ℕ) (E :
         cased ([], f, g) = absurd (N (drop (r + 1) text) (sym g ∙ byte-here text r h ∙ ap (λ (x : ℕ). x ∷ drop (r + 1) text) bracket))
         cased (v ∷ vs, f, g) = (v, vs, f, g ∙ edges-cons b v vs rest)
 
-  module _ (h : r < length text) (bracket : getD text r 0 ≡ 91) (x q : ℕ) (T : TookOne text r (λ t. Leaves b n i t) (λ t. edgeOf b 0 t) x q) where
+  module _ (h : r < length text) (bracket : getD text r 0 ≡ 91) {x q : ℕ} (T : TookOne text r (λ t. Leaves b n i t) (λ t. edgeOf b 0 t) x q) where
     pub edges-no-line : q ≡ 0 → {m : ℕ} {old : List ℕ} {count e : ℕ} {new : List ℕ} → e ≡ 0 → TookEdges text p b n i m old count e new
     edges-no-line z k = edges-none k (λ us rest L A N e.
         let w = next-edge h bracket us rest L N e in

@@ -23,7 +23,7 @@ unfolding word
 no-word text a h y rest e = let f : [] ≡ 32 ∷ (decimal y ++ rest) = sym (drop-of-length-le text {i = a} h) ∙ e in let z : _≡_ {A = ℕ} 0 1 = cc in omega arith
 
 -- a heading, a number and a newline
-module _ (text : List ℕ) (p : ℕ) (s : List ℕ) (a : ℕ) (T : Took text p s a) where
+module _ {text : List ℕ} {p : ℕ} {s : List ℕ} {a : ℕ} (T : Took text p s a) where
   pub numbered-no-head : a ≡ 0 → {x r : ℕ} → r ≡ 0 → TookOne text p (λ x. x ≤ 65536) (λ x. s ++ (word x ++ newline)) x r
   numbered-no-head z e = one-none e (λ y l rest f. T .absent z (word y ++ (newline ++ rest)) (f ∙ number-line s y rest))
 
@@ -34,12 +34,12 @@ module _ (text : List ℕ) (p : ℕ) (s : List ℕ) (a : ℕ) (T : Took text p s
   pub numbered-cut : 0 < a → length text ≤ a → {x r : ℕ} → r ≡ 0 → TookOne text p (λ x. x ≤ 65536) (λ x. s ++ (word x ++ newline)) x r
   numbered-cut l h e = one-none e (λ y m rest f. no-word text a h y (newline ++ rest) (number-part l y rest f))
 
-  module _ (l : 0 < a) (w b : ℕ) (W : TookWord text a w b) where
+  module _ (l : 0 < a) {w b : ℕ} (W : TookWord text a w b) where
     pub numbered-no-number : b ≡ 0 → {x r : ℕ} → r ≡ 0 → TookOne text p (λ x. x ≤ 65536) (λ x. s ++ (word x ++ newline)) x r
     numbered-no-number z e = one-none e (λ y h rest f. W .absent z y h (newline ++ rest) (at-newline rest) (number-part l y rest f))
 
-    pub numbered : 0 < b → (e : ℕ) → Took text b newline e → TookOne text p (λ x. x ≤ 65536) (λ x. s ++ (word x ++ newline)) w e
-    numbered m e E =
+    pub numbered : 0 < b → {e : ℕ} → Took text b newline e → TookOne text p (λ x. x ≤ 65536) (λ x. s ++ (word x ++ newline)) w e
+    numbered m {e} E =
         let f = W .found m in
         record {
           found = λ z. let g = E .found z in (
@@ -53,7 +53,7 @@ module _ (text : List ℕ) (p : ℕ) (s : List ℕ) (a : ℕ) (T : Took text p s
         }
 
 -- a start line
-module _ (text : List ℕ) (p i x r : ℕ) (h : i ≤ 65536)
+module _ {text : List ℕ} {p : ℕ} (i : ℕ) {x r : ℕ} (h : i ≤ 65536)
     (N : TookOne text p (λ x. x ≤ 65536) (λ x. (83 ∷ 116 ∷ 97 ∷ 114 ∷ 116 ∷ 58 ∷ []) ++ (word x ++ newline)) x r) where
   pub start-other : (x ≡ i → ⊥) → Took text p (startLine i) 0
   unfolding startLine
@@ -90,27 +90,27 @@ pub ap-4 : apLine 4 ≡ 65 ∷ 80 ∷ 58 ∷ 32 ∷ 52 ∷ 32 ∷ 34 ∷ 101 ∷
 unfolding apLine names word decimal digitsIn
 ap-4 = refl
 
-module _ (text : List ℕ) (p : ℕ) where
-  pub ap-found : (b r : ℕ) {s : List ℕ} → apLine b ≡ s → b ≤ 4 → Took text p s r → 0 < r → TookOne text p (λ b. b ≤ 4) apLine b r
-  ap-found b r e h T l = let f = T .found l in one-some l h (f .0) (f .1 ∙ ap (λ (s : List ℕ). s ++ drop r text) (sym e))
+module _ {text : List ℕ} {p : ℕ} where
+  pub ap-found : (b : ℕ) {r : ℕ} {s : List ℕ} → apLine b ≡ s → b ≤ 4 → Took text p s r → 0 < r → TookOne text p (λ b. b ≤ 4) apLine b r
+  ap-found b {r} e h T l = let f = T .found l in one-some l h (f .0) (f .1 ∙ ap (λ (s : List ℕ). s ++ drop r text) (sym e))
 
-  ap-absent : (b r : ℕ) {s : List ℕ} → apLine b ≡ s → Took text p s r → r ≡ 0 → (rest : List ℕ) → drop p text ≡ apLine b ++ rest → ⊥
-  ap-absent b r e T z rest f = T .absent z rest (f ∙ ap (λ (s : List ℕ). s ++ rest) e)
+  ap-absent : (b : ℕ) {r : ℕ} {s : List ℕ} → apLine b ≡ s → Took text p s r → r ≡ 0 → (rest : List ℕ) → drop p text ≡ apLine b ++ rest → ⊥
+  ap-absent b e T z rest f = T .absent z rest (f ∙ ap (λ (s : List ℕ). s ++ rest) e)
 
-  pub ap-last : (q r s t u : ℕ) {x y z v w : List ℕ} → apLine 0 ≡ x → apLine 1 ≡ y → apLine 2 ≡ z → apLine 3 ≡ v → apLine 4 ≡ w
+  pub ap-last : {q r s t u : ℕ} {x y z v w : List ℕ} → apLine 0 ≡ x → apLine 1 ≡ y → apLine 2 ≡ z → apLine 3 ≡ v → apLine 4 ≡ w
       → Took text p x q → q ≡ 0 → Took text p y r → r ≡ 0 → Took text p z s → s ≡ 0 → Took text p v t → t ≡ 0 → Took text p w u
       → TookOne text p (λ b. b ≤ 4) apLine 4 u
-  ap-last q r s t u i0 i1 i2 i3 i4 Q q0 R r0 S s0 T t0 U = record {
+  ap-last {u = u} i0 i1 i2 i3 i4 Q q0 R r0 S s0 T t0 U = record {
     found = λ l. let f = U .found l in (omega arith, f .0, f .1 ∙ ap (λ (s : List ℕ). s ++ drop u text) (sym i4));
     absent = λ e. none e;
   }
     where
       none : u ≡ 0 → (b : ℕ) → b ≤ 4 → (rest : List ℕ) → drop p text ≡ apLine b ++ rest → ⊥
-      none e zero h = ap-absent 0 q i0 Q q0
-      none e (suc zero) h = ap-absent 1 r i1 R r0
-      none e (suc (suc zero)) h = ap-absent 2 s i2 S s0
-      none e (suc (suc (suc zero))) h = ap-absent 3 t i3 T t0
-      none e (suc (suc (suc (suc zero)))) h = ap-absent 4 u i4 U e
+      none e zero h = ap-absent 0 i0 Q q0
+      none e (suc zero) h = ap-absent 1 i1 R r0
+      none e (suc (suc zero)) h = ap-absent 2 i2 S s0
+      none e (suc (suc (suc zero))) h = ap-absent 3 i3 T t0
+      none e (suc (suc (suc (suc zero)))) h = ap-absent 4 i4 U e
       none e (suc (suc (suc (suc (suc b))))) h = absurd (omega arith)
 
 -- a state line
@@ -118,7 +118,7 @@ after-state : (b : Bool) (rest : List ℕ) → Stops (acceptanceMark b ++ (newli
 after-state true rest = record { byte = 32; others = _; low = omega arith; is = refl }
 after-state false rest = at-newline rest
 
-module _ (text : List ℕ) (p i : ℕ) (h : i ≤ 65536) (a : ℕ) (T : Took text p (83 ∷ 116 ∷ 97 ∷ 116 ∷ 101 ∷ 58 ∷ []) a) where
+module _ {text : List ℕ} {p : ℕ} (i : ℕ) (h : i ≤ 65536) {a : ℕ} (T : Took text p (83 ∷ 116 ∷ 97 ∷ 116 ∷ 101 ∷ 58 ∷ []) a) where
   pub state-no-head : a ≡ 0 → {x r : ℕ} → r ≡ 0 → TookOne text p (λ x. x ≤ 1) (λ x. stateLine i (eqb x 1)) x r
   state-no-head z e = one-none e (λ y l rest f. T .absent z (word i ++ (acceptanceMark (eqb y 1) ++ (newline ++ rest))) (f ∙ state-line i (eqb y 1) rest))
 
@@ -128,7 +128,7 @@ module _ (text : List ℕ) (p i : ℕ) (h : i ≤ 65536) (a : ℕ) (T : Took tex
   pub state-cut : 0 < a → length text ≤ a → {x r : ℕ} → r ≡ 0 → TookOne text p (λ x. x ≤ 1) (λ x. stateLine i (eqb x 1)) x r
   state-cut l g e = one-none e (λ y m rest f. no-word text a g i (acceptanceMark (eqb y 1) ++ (newline ++ rest)) (word-part l (eqb y 1) rest f))
 
-  module _ (l : 0 < a) (w b : ℕ) (W : TookWord text a w b) where
+  module _ (l : 0 < a) {w b : ℕ} (W : TookWord text a w b) where
     pub state-no-number : b ≡ 0 → {x r : ℕ} → r ≡ 0 → TookOne text p (λ x. x ≤ 1) (λ x. stateLine i (eqb x 1)) x r
     state-no-number z e =
         one-none e (λ y m rest f. W .absent z i h (acceptanceMark (eqb y 1) ++ (newline ++ rest)) (after-state (eqb y 1) rest) (word-part l (eqb y 1) rest f))
@@ -148,12 +148,12 @@ module _ (text : List ℕ) (p i : ℕ) (h : i ≤ 65536) (a : ℕ) (T : Took tex
             (W .found m .3 ∙ ap (λ (j : ℕ). word j ++ drop b text) q ∙ ap (λ (d : List ℕ). word i ++ d) e)
             ∙ sym (state-line i k (drop r text))
 
-        module _ (c : ℕ) (C : Took text b (32 ∷ 123 ∷ 48 ∷ 125 ∷ 10 ∷ []) c) where
+        module _ {c : ℕ} (C : Took text b (32 ∷ 123 ∷ 48 ∷ 125 ∷ 10 ∷ []) c) where
           pub state-accepting : 0 < c → TookOne text p (λ x. x ≤ 1) (λ x. stateLine i (eqb x 1)) 1 c
           state-accepting g = let f = C .found g in one-some g (omega arith) (f .0) (state-here true c (f .1))
 
-          pub state-rejecting : c ≡ 0 → (d : ℕ) → Took text b newline d → TookOne text p (λ x. x ≤ 1) (λ x. stateLine i (eqb x 1)) 0 d
-          state-rejecting z d D = record {
+          pub state-rejecting : c ≡ 0 → {d : ℕ} → Took text b newline d → TookOne text p (λ x. x ≤ 1) (λ x. stateLine i (eqb x 1)) 0 d
+          state-rejecting z {d} D = record {
             found = λ g. let f = D .found g in (omega arith, f .0, state-here false d (f .1));
             absent = λ e y k rest f. bif (eqb y 1)
                 (λ t. C .absent z rest (mark-part true rest (f ∙ ap (λ (o : Bool). stateLine i o ++ rest) t) .1))

@@ -33,11 +33,11 @@ literal-set i x e = literal-yes x i (ap (λ (y : ℕ). bit y i) e ∙ bit-shl-on
 literal-unset : (i x : ℕ) → x ≡ 0 → literal x i ≡ 33 ∷ digit i ∷ []
 literal-unset i x e = literal-no x i (ap (λ (y : ℕ). bit y i) e ∙ bit-none i)
 
-module _ (text : List ℕ) (p i a : ℕ) (A : Took text p (digit i ∷ []) a) where
+module _ {text : List ℕ} {p : ℕ} (i : ℕ) {a : ℕ} (A : Took text p (digit i ∷ []) a) where
   pub literal-plain : 0 < a → {v : ℕ} → v ≡ 2 ^ i → TookOne text p (Single i) (λ x. literal x i) v a
   literal-plain l {v} e = let f = A .found l in one-some l (inr e) (f .0) (f .1 ∙ ap (λ (s : List ℕ). s ++ drop a text) (sym (literal-set i v e)))
 
-  module _ (z : a ≡ 0) (b : ℕ) (B : Took text p (33 ∷ []) b) where
+  module _ (z : a ≡ 0) {b : ℕ} (B : Took text p (33 ∷ []) b) where
     not-plain : (y : ℕ) → y ≡ 2 ^ i → (rest : List ℕ) → drop p text ≡ literal y i ++ rest → ⊥
     not-plain y e rest f = A .absent z rest (f ∙ ap (λ (s : List ℕ). s ++ rest) (literal-set i y e))
 
@@ -46,8 +46,8 @@ module _ (text : List ℕ) (p i a : ℕ) (A : Took text p (digit i ∷ []) a) wh
         (λ k. B .absent n (digit i ∷ rest) (f ∙ ap (λ (s : List ℕ). s ++ rest) (literal-unset i y k)))
         (λ k. not-plain y k rest f) m)
 
-    pub literal-negated : 0 < b → (c : ℕ) → Took text b (digit i ∷ []) c → TookOne text p (Single i) (λ x. literal x i) 0 c
-    literal-negated l c C =
+    pub literal-negated : 0 < b → {c : ℕ} → Took text b (digit i ∷ []) c → TookOne text p (Single i) (λ x. literal x i) 0 c
+    literal-negated l {c} C =
         let g = B .found l .1 in
         record {
           found = λ h. let f = C .found h in
@@ -167,16 +167,16 @@ pub record Labelled (text : List ℕ) (p i l q : ℕ) : Type 0 where
   pub go-on : 0 < q
   pub is : drop p text ≡ label i l ++ drop q text
 
-pub label-none : (text : List ℕ) (p a : ℕ) → Took text p (116 ∷ []) a → (b : ℕ) → b ≡ 0 → TookOne text p (λ x. x < 2 ^ b) (label b) 0 a
+pub label-none : {text : List ℕ} {p a : ℕ} → Took text p (116 ∷ []) a → (b : ℕ) → b ≡ 0 → TookOne text p (λ x. x < 2 ^ b) (label b) 0 a
 unfolding label
-label-none text p a A zero e = record {
+label-none A zero e = record {
   found = λ h. let f = A .found h in (omega arith, f .0, f .1);
   absent = λ z y m rest f. A .absent z rest f;
 }
-label-none text p a A (suc b) e = absurd (omega arith)
+label-none A (suc b) e = absurd (omega arith)
 
-module _ (text : List ℕ) (p b : ℕ) (h : b ≤ 4) where
-  module _ (g : 1 ≤ b) (v r : ℕ) (L : TookOne text p (Single 0) (λ x. literal x 0) v r) where
+module _ {text : List ℕ} {p : ℕ} (b : ℕ) (h : b ≤ 4) where
+  module _ (g : 1 ≤ b) {v r : ℕ} (L : TookOne text p (Single 0) (λ x. literal x 0) v r) where
     pub label-no-first : r ≡ 0 → {x e : ℕ} → e ≡ 0 → TookOne text p (λ x. x < 2 ^ b) (label b) x e
     label-no-first z k = one-none k (λ y m rest f.
         let t = label-first b y rest g in
@@ -195,7 +195,7 @@ module _ (text : List ℕ) (p b : ℕ) (h : b ≤ 4) where
           is = f .2;
         }
 
-  module _ (i l q : ℕ) (I : Labelled text p i l q) (k : i < b) (c : ℕ) (C : Took text q (38 ∷ []) c) where
+  module _ {i l q : ℕ} (I : Labelled text p i l q) (k : i < b) {c : ℕ} (C : Took text q (38 ∷ []) c) where
     -- what stands after the label so far
     next-part : (y : ℕ) (rest : List ℕ) → drop p text ≡ label b y ++ rest → (more : List ℕ) × (drop q text ≡ 38 ∷ (literal y i ++ more))
     next-part y rest f =
@@ -205,7 +205,7 @@ module _ (text : List ℕ) (p b : ℕ) (h : b ≤ 4) where
     pub label-no-sign : c ≡ 0 → {x e : ℕ} → e ≡ 0 → TookOne text p (λ x. x < 2 ^ b) (label b) x e
     label-no-sign z n = one-none n (λ y m rest f. let t = next-part y rest f in C .absent z (literal y i ++ t .0) (t .1))
 
-    module _ (g : 0 < c) (v r : ℕ) (L : TookOne text c (Single i) (λ x. literal x i) v r) where
+    module _ (g : 0 < c) {v r : ℕ} (L : TookOne text c (Single i) (λ x. literal x i) v r) where
       pub label-no-literal : r ≡ 0 → {x e : ℕ} → e ≡ 0 → TookOne text p (λ x. x < 2 ^ b) (label b) x e
       label-no-literal z n = one-none n (λ y m rest f.
           let t = next-part y rest f in
@@ -226,8 +226,8 @@ module _ (text : List ℕ) (p b : ℕ) (h : b ≤ 4) where
                 ∙ ap (λ (s : List ℕ). s ++ drop r text) (sym (label-grown i l v (omega arith) (I .small) (f .0) (I .some)));
           }
 
-  pub label-done : (i l q : ℕ) → Labelled text p i l q → i ≡ b → TookOne text p (λ x. x < 2 ^ b) (label b) l q
-  label-done i l q I e =
+  pub label-done : {i l q : ℕ} → Labelled text p i l q → i ≡ b → TookOne text p (λ x. x < 2 ^ b) (label b) l q
+  label-done {l = l} {q = q} I e =
       one-some (I .go-on) (rw (sym e) (I .small)) (let w = I .within in omega arith) (I .is ∙ ap (λ (k : ℕ). label k l ++ drop q text) e)
 
 -- ---- edge lines
@@ -250,12 +250,12 @@ module _ (i l w : ℕ) (h : l < 256) (k : w < 65536) where
   pub target-of : targetOf (i * 16777216 + l * 65536 + w) ≡ w
   target-of = omega arith
 
-module _ (text : List ℕ) (p b n i : ℕ) (h : b ≤ 4) (few : n ≤ 65536) (a : ℕ) (A : Took text p (91 ∷ []) a) where
+module _ {text : List ℕ} {p : ℕ} (b n i : ℕ) (h : b ≤ 4) (few : n ≤ 65536) {a : ℕ} (A : Took text p (91 ∷ []) a) where
   pub edge-no-head : a ≡ 0 → {x r : ℕ} → r ≡ 0 → TookOne text p (Leaves b n i) (edgeOf b 0) x r
   edge-no-head z e =
       one-none e (λ t m rest f. A .absent z (label b (letterOf t) ++ ((93 ∷ []) ++ (word (targetOf t) ++ (newline ++ rest)))) (f ∙ edge-line b (letterOf t) (targetOf t) rest))
 
-  module _ (g : 0 < a) (l c : ℕ) (L : TookOne text a (λ x. x < 2 ^ b) (label b) l c) where
+  module _ (g : 0 < a) {l c : ℕ} (L : TookOne text a (λ x. x < 2 ^ b) (label b) l c) where
     label-part : (t : ℕ) (rest : List ℕ) → drop p text ≡ edgeOf b 0 t ++ rest
         → drop a text ≡ label b (letterOf t) ++ ((93 ∷ []) ++ (word (targetOf t) ++ (newline ++ rest)))
     label-part t rest f = after (91 ∷ []) (A .found g .1) (f ∙ edge-line b (letterOf t) (targetOf t) rest)
@@ -263,7 +263,7 @@ module _ (text : List ℕ) (p b n i : ℕ) (h : b ≤ 4) (few : n ≤ 65536) (a 
     pub edge-no-label : c ≡ 0 → {x r : ℕ} → r ≡ 0 → TookOne text p (Leaves b n i) (edgeOf b 0) x r
     edge-no-label z e = one-none e (λ t m rest f. L .absent z (letterOf t) (m .letter) ((93 ∷ []) ++ (word (targetOf t) ++ (newline ++ rest))) (label-part t rest f))
 
-    module _ (j : 0 < c) (w e : ℕ) (W : TookOne text c (λ x. x ≤ 65536) (λ x. (93 ∷ []) ++ (word x ++ newline)) w e) where
+    module _ (j : 0 < c) {w e : ℕ} (W : TookOne text c (λ x. x ≤ 65536) (λ x. (93 ∷ []) ++ (word x ++ newline)) w e) where
       target-part : (t : ℕ) → Leaves b n i t → (rest : List ℕ) → drop p text ≡ edgeOf b 0 t ++ rest
           → drop c text ≡ ((93 ∷ []) ++ (word (targetOf t) ++ newline)) ++ rest
       target-part t m rest f =

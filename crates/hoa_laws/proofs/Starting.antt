@@ -29,9 +29,9 @@ pub bit-0 : bit 0 0 ≡ false
 unfolding bit
 bit-0 = refl
 
-pub starting-none : (text : List ℕ) (p n : ℕ) → p ≤ length text → Starting text p n 0 [] 0 p
+pub starting-none : {text : List ℕ} {p n : ℕ} → p ≤ length text → Starting text p n 0 [] 0 p
 unfolding lines
-starting-none text p n h = record {
+starting-none h = record {
   long = refl;
   each = λ j. omega arith;
   beyond = λ j l. refl;
@@ -42,7 +42,7 @@ starting-none text p n h = record {
   only = λ fs rest l m e. (e, λ j k. absurd (omega arith));
 }
 
-module _ (text : List ℕ) (p n i : ℕ) (starts : List ℕ) (last r : ℕ) (S : Starting text p n i starts last r) where
+module _ {text : List ℕ} {p n i : ℕ} {starts : List ℕ} {last r : ℕ} (S : Starting text p n i starts last r) where
   module _ (x : ℕ) (small : x ≤ 1) where
     each-more : (j : ℕ) → getD (starts ++ (x ∷ [])) j 0 ≤ 1
     each-more j =
@@ -65,7 +65,7 @@ module _ (text : List ℕ) (p n i : ℕ) (starts : List ℕ) (last r : ℕ) (S :
     lines-more : lines startOf 0 (starts ++ (x ∷ [])) ≡ lines startOf 0 starts ++ startOf i x
     lines-more = let e : 0 + length starts ≡ i = omega (arith, S .long) in lines-snoc startOf 0 starts x ∙ ap (λ (k : ℕ). lines startOf 0 starts ++ startOf k x) e
 
-  module _ (h : i < n) (q : ℕ) (T : Took text r (startLine i) q) where
+  module _ (h : i < n) {q : ℕ} (T : Took text r (startLine i) q) where
     -- no start line of i
     pub starting-no : q ≡ 0 → Starting text p n (i + 1) (starts ++ (0 ∷ [])) last r
     starting-no z =
@@ -127,9 +127,6 @@ unfolding flagsFrom
 none-stored old accepting = refl
 
 -- all numbers
-pub started : (text : List ℕ) (p n accepting : ℕ) (old : List ℕ) (i : ℕ) (starts : List ℕ) (last r : ℕ) {new : List ℕ} → i ≡ n → Starting text p n i starts last r
+pub started : {text : List ℕ} {p n accepting : ℕ} {old : List ℕ} {i : ℕ} {starts : List ℕ} {last r : ℕ} {new : List ℕ} → i ≡ n → Starting text p n i starts last r
     → new ≡ sets old 0 (flagsFrom accepting 0 starts) → Started text p n accepting old last r new
-started text p n accepting old i starts last r e S w = record { starts = starts; read = moved n e S; stored = w }
-  where
-    moved : (k : ℕ) → i ≡ k → Starting text p n i starts last r → Starting text p n k starts last r
-    moved k q P = rw (sym q) P
+started {starts = starts} e S w = record { starts = starts; read = rw e at S; stored = w }

@@ -119,7 +119,7 @@ module _ (text : List ℕ) (p v : ℕ) where
           let k : 10 * x + (getD text q 0 - 48) ≡ x * 10 + (getD text q 0 - 48) = omega arith in
           grown x e (getD text q 0) (drop (q + 1) text) here g l (omega arith) ∙ ap (λ (y : ℕ). decimal y ++ drop (q + 1) text) k
 
-module _ (text : List ℕ) (p a : ℕ) (T : Took text p (32 ∷ []) a) where
+module _ {text : List ℕ} {p a : ℕ} (T : Took text p (32 ∷ []) a) where
   word-none : {x r : ℕ} → r ≡ 0 → ((y : ℕ) → y ≤ 65536 → (rest : List ℕ) → Stops rest → drop p text ≡ 32 ∷ (decimal y ++ rest) → ⊥) → TookWord text p x r
   unfolding word
   word-none e h = record { found = λ l. absurd (omega arith); absent = λ z. h }

@@ -44,12 +44,12 @@ start-same (suc x) zero h k e = absurd (other x h (sym e))
     other (suc y) k e = omega arith
 start-same (suc x) (suc y) h k e = omega arith
 
-module _ (text : List ℕ) (n b accepting m starts blocks : ℕ) (W : Whole text n b accepting m starts blocks) where
+module _ {text : List ℕ} {n b accepting m starts blocks : ℕ} (W : Whole text n b accepting m starts blocks) where
   abbrev M : Marked (W .flags)
   M = W .shaped .marked
 
   -- the flags
-  module _ (old : List ℕ) (last r : ℕ) (new : List ℕ) (S : Started text starts n accepting old last r new) where
+  module _ {old : List ℕ} {last r : ℕ} {new : List ℕ} (S : Started text starts n accepting old last r new) where
     starts-same : S .starts ≡ M .starts
     starts-same =
         let R = S .read in
@@ -78,7 +78,7 @@ module _ (text : List ℕ) (n b accepting m starts blocks : ℕ) (W : Whole text
         ∙ ap (λ (k : ℕ). W .flags ++ drop k old) (zero-add (length (W .flags)))
 
   -- the transitions
-  module _ (old : List ℕ) (accepting′ count r : ℕ) (new : List ℕ) (B : TookBlocks text blocks b n old accepting′ count r new) where
+  module _ {old : List ℕ} {accepting′ count r : ℕ} {new : List ℕ} (B : TookBlocks text blocks b n old accepting′ count r new) where
     goes-well : 0 < r
     goes-well = by-cases (decLt 0 r) (λ l. l) (λ z. absurd (B .absent (omega arith) (W .flags) (W .moves) endLine (W .shaped) (sym (W .macrostates)) end-no-edge (W .body)))
 
@@ -102,9 +102,9 @@ module _ (text : List ℕ) (n b accepting m starts blocks : ℕ) (W : Whole text
         ∙ sets-eq (W .moves) old 0 (omega arith)
         ∙ ap (λ (k : ℕ). W .moves ++ drop k old) (zero-add (length (W .moves)))
 
-  pub all-read : (flags transitions : List ℕ) {flags′ transitions′ : List ℕ} → n ≤ length flags → m ≤ length transitions
+  pub all-read : {flags transitions : List ℕ} {flags′ transitions′ : List ℕ} → n ≤ length flags → m ≤ length transitions
       → flags′ ≡ W .flags ++ drop (length (W .flags)) flags → transitions′ ≡ W .moves ++ drop (length (W .moves)) transitions
       → ReadBack text flags transitions (Table record { macrostates = n; transitions = m }) flags′ transitions′
-  all-read flags transitions h k e f =
+  all-read h k e f =
       rw (e, f, W .macrostates, W .transitions)
       (table (whole-carries W) (let c = W .macrostates in omega arith) (let c = W .transitions in omega arith))

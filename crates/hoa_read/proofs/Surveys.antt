@@ -31,7 +31,7 @@ use Rattle.hoa_read.specs.Survey.{NoShape, HeadOf, TookHead, Surveyed}
 
 -- ---- the lines before those of the macrostates
 
-module _ (text : List ℕ) where
+module _ {text : List ℕ} where
   pub no-head : {n b last starts blocks : ℕ} → blocks ≡ 0 → NoShape text → TookHead text n b last starts blocks
   no-head e h = record { found = λ l. absurd (omega arith); absent = λ z. h }
 
@@ -50,11 +50,11 @@ module _ (text : List ℕ) where
   pub no-newline : (getD text (length text - 1) 0 ≡ 10 → ⊥) → NoShape text
   no-newline n b fs ts P e = n (text-ended b fs ts e)
 
-  module _ (a : ℕ) (A : Took text 0 hoaLine a) where
+  module _ {a : ℕ} (A : Took text 0 hoaLine a) where
     pub head-no-name : a ≡ 0 → NoShape text
     head-no-name z c fs ts P e = A .absent z (statesLine (length fs) ++ highText c fs ts) (e ∙ text-parts c fs ts)
 
-    module _ (l : 0 < a) (n s : ℕ) (N : TookOne text a (λ x. x ≤ 65536) (λ x. (83 ∷ 116 ∷ 97 ∷ 116 ∷ 101 ∷ 115 ∷ 58 ∷ []) ++ (word x ++ newline)) n s) where
+    module _ (l : 0 < a) {n s : ℕ} (N : TookOne text a (λ x. x ≤ 65536) (λ x. (83 ∷ 116 ∷ 97 ∷ 116 ∷ 101 ∷ 115 ∷ 58 ∷ []) ++ (word x ++ newline)) n s) where
       after-name : (c : ℕ) (fs ts : List ℕ) → text ≡ automatonText c fs ts → drop a text ≡ statesLine (length fs) ++ highText c fs ts
       after-name c fs ts e = after hoaLine (A .found l .1) (e ∙ text-parts c fs ts)
 
@@ -73,7 +73,7 @@ module _ (text : List ℕ) where
             let r = states-once n (length fs) (sym states-here ∙ after-name c fs ts e) in
             (sym (r .0), r .1)
 
-        module _ (initial : List ℕ) (last r : ℕ) (S : Starting text s n n initial last r) where
+        module _ {initial : List ℕ} {last r : ℕ} (S : Starting text s n n initial last r) where
           -- the text after the start lines
           low-part : (c : ℕ) (fs ts : List ℕ) → text ≡ automatonText c fs ts → drop r text ≡ lowText c fs ts
           unfolding lines
@@ -82,12 +82,12 @@ module _ (text : List ℕ) where
               let o = S .only fs (lowText c fs ts) (h .0) (ap-no-start c _) (h .1) in
               o .0 ∙ ap (λ (gs : List ℕ). lines startOf n gs ++ lowText c fs ts) (drop-of-length-le fs {i = n} (omega arith))
 
-          module _ (b q : ℕ) (B : TookOne text r (λ b. b ≤ 4) apLine b q) where
+          module _ {b q : ℕ} (B : TookOne text r (λ b. b ≤ 4) apLine b q) where
             pub head-no-ap : q ≡ 0 → NoShape text
             head-no-ap z c fs ts P e = B .absent z c (P .propositions) (acceptanceLines ++ bodyText c fs ts) (low-part c fs ts e)
 
-            pub head-read : 0 < q → (d : ℕ) → Took text q acceptanceLines d → TookHead text n b last s d
-            head-read k d D =
+            pub head-read : 0 < q → {d : ℕ} → Took text q acceptanceLines d → TookHead text n b last s d
+            head-read k D =
                 let f = B .found k in
                 let g = N .found m in
                 record {
@@ -124,7 +124,7 @@ starts-bits i (f ∷ fs) (g ∷ gs) h e =
     (λ t. start-no i f (e 0 (omega arith) ∙ t) ∙ sym (start-no i g t)) in
     cc
 
-module _ (text : List ℕ) (n b last starts blocks : ℕ) (H : HeadOf text n b last starts blocks) where
+module _ {text : List ℕ} {n b last starts blocks : ℕ} (H : HeadOf text n b last starts blocks) where
   -- the text after `--BODY--`
   body-part : (c : ℕ) (fs ts : List ℕ) → Shaped c fs ts → text ≡ automatonText c fs ts
       → (length fs ≡ n) × (c ≡ b) × (drop blocks text ≡ bodyText c fs ts) × ((j : ℕ) → j < n → bit (getD fs j 0) 0 ≡ bit (getD (H .initial) j 0) 0)
@@ -137,7 +137,7 @@ module _ (text : List ℕ) (n b last starts blocks : ℕ) (H : HeadOf text n b l
       let a = ap-once b c (H .propositions) (P .propositions) (sym (H .low-text) ∙ low) in
       (sym (h .0), sym (a .0), append-cancel-left acceptanceLines _ _ (a .1), o .1)
 
-  module _ (old : List ℕ) (accepting m q : ℕ) (new : List ℕ) (B : TookBlocks text blocks b n old accepting m q new) where
+  module _ {old : List ℕ} {accepting m q : ℕ} {new : List ℕ} (B : TookBlocks text blocks b n old accepting m q new) where
     -- over the same number of propositions
     same-b : (c : ℕ) (fs ts : List ℕ) → c ≡ b → Shaped c fs ts → Shaped b fs ts
     same-b c fs ts e P = rw (sym e) P
@@ -193,7 +193,7 @@ module _ (text : List ℕ) (n b last starts blocks : ℕ) (H : HeadOf text n b l
           ∙ ap (λ (gs : List ℕ). lines (blockOf b ts) (0 + length (acceptingFirst accepting n)) gs ++ endLine)
           (drop-of-length-le fs {i = length (acceptingFirst accepting n)} (omega (arith, k .0)))
 
-      module _ (r : ℕ) (E : Took text q endLine r) where
+      module _ {r : ℕ} (E : Took text q endLine r) where
         pub survey-no-end : r ≡ 0 → NoShape text
         survey-no-end z c fs ts P e = E .absent z [] (end-part c fs ts P e)
 

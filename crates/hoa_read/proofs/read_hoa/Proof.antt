@@ -19,28 +19,24 @@ returns-3 c = let W = c .before .before .before .before .take-text .ensures .fou
 
 take-starts-requires : tie.Need-take-starts-requires
 take-starts-requires c κs =
-    let start = c .before .before .before .before .before .before .before .before .before in
     let W = c .before .before .before .before .before .take-text .ensures .found (omega arith) in let n = W .macrostates in let f = W .shaped .few in
-    (text-ended (start .args .text .now) _ (W .flags) (W .moves) (W .text-is), W .within, omega arith)
+    (text-ended _ (W .flags) (W .moves) (W .text-is), W .within, omega arith)
 
 take-blocks-requires : tie.Need-take-blocks-requires
 take-blocks-requires c κs =
     let at-take-text = c .before .before .before .before .before .before .before .before .before in
     let start = at-take-text .before .before .before .before in
     let W = at-take-text .take-text .ensures .found (omega arith) in let n = W .macrostates in let f = W .shaped .few in
-    (text-ended (start .args .text .now) _ (W .flags) (W .moves) (W .text-is), W .some, W .goes-on, W .shaped .propositions, omega arith)
+    (text-ended _ (W .flags) (W .moves) (W .text-is), W .some, W .goes-on, W .shaped .propositions, omega arith)
 
 returns-4 : tie.Need-returns-4
 returns-4 c =
-    let a = c .before .before .before .before .before .before .before .before .before .before .before .before .before .before .before .before .args in
-    let r = c .before .before .before .before .before .before .before .before .before .before .before .before .take-text .result in
     let W = c .before .before .before .before .before .before .before .before .before .before .before .before .take-text .ensures .found (omega arith) in
     let S = c .before .before .before .before .before .before .take-starts in let B = c .before .before .take-blocks in
-    all-read (a .text .now) (r .macrostates) (r .propositions) (r .accepting) (r .transitions) (r .starts) (r .blocks) W (a .flags .now) (a .transitions .now) (omega arith) (omega arith)
-    (flags-stored (a .text .now) (r .macrostates) (r .propositions) (r .accepting) (r .transitions) (r .starts) (r .blocks) W (a .flags .now) (S .result .last) (S .result .end) _ (S .ensures)
+    all-read W (omega arith) (omega arith)
+    (flags-stored W (S .ensures)
     (omega arith))
-    (moves-stored (a .text .now) (r .macrostates) (r .propositions) (r .accepting) (r .transitions) (r .starts) (r .blocks) W (a .transitions .now) (B .result .accepting) (B .result .count)
-    (B .result .end) _ (B .ensures) (omega arith))
+    (moves-stored W (B .ensures) (omega arith))
 
 pub read-hoa-spec : {M : Type 1} → statement M
 read-hoa-spec =

@@ -6,9 +6,7 @@ use Rattle.hoa_read.proofs.take_head.Statement.{statement}
 use Rattle.hoa_read.proofs.take_head.Tie as tie
 
 returns : tie.Need-returns
-returns c =
-    let t = c .before .before .before .before .before .args .text .now in let A = c .before .before .take in
-    no-head t (c .no-head .ensures) (head-no-name t (A .result) (A .ensures) (c .before .if1 .taken))
+returns c = no-head (c .no-head .ensures) (head-no-name (c .before .before .take .ensures) (c .before .if1 .taken))
 
 take-numbered-requires : tie.Need-take-numbered-requires
 take-numbered-requires c κs = (c .before .before .before .before .before .pre, c .before .before .take .ensures .found (omega arith) .0, omega arith)
@@ -17,7 +15,7 @@ returns-2 : tie.Need-returns-2
 returns-2 c =
     let start = c .before .before .before .before .before .before .before .before in let t = start .args .text .now in
     let A = c .before .before .before .before .before .take in let N = c .before .before .take-numbered in
-    no-head t (c .no-head2 .ensures) (head-no-states t (A .result) (A .ensures) (omega (arith, c .before .before .before .before .if1 .left)) (N .result .value) (N .result .end) (N .ensures)
+    no-head (c .no-head2 .ensures) (head-no-states (A .ensures) (omega (arith, c .before .before .before .before .if1 .left)) (N .ensures)
     (c .before .if2 .taken))
 
 take-starts-requires : tie.Need-take-starts-requires
@@ -32,8 +30,8 @@ returns-3 c =
     let start = at-take .before .before .before in let t = start .args .text .now in let A = at-take .take in
     let N = at-take-numbered .take-numbered in let S = c .before .before .before .before .take-starts in
     let B = c .before .before .take-ap in
-    no-head t (c .no-head3 .ensures) (head-no-ap t (A .result) (A .ensures) (omega (arith, at-if1 .if1 .left)) (N .result .value) (N .result .end) (N .ensures)
-    (omega (arith, c .before .before .before .before .before .before .if2 .left)) (S .ensures .starts) (S .result .last) (S .result .end) (S .ensures .read) (B .result .value) (B .result .end)
+    no-head (c .no-head3 .ensures) (head-no-ap (A .ensures) (omega (arith, at-if1 .if1 .left)) (N .ensures)
+    (omega (arith, c .before .before .before .before .before .before .if2 .left)) (S .ensures .read)
     (B .ensures) (c .before .if3 .taken))
 
 take-requires-2 : tie.Need-take-requires-2
@@ -42,12 +40,10 @@ take-requires-2 c κs = (c .before .before .take-ap .ensures .found (omega arith
 returns-4 : tie.Need-returns-4
 returns-4 c =
     let at-if2 = c .before .before .before .before .before .before .before in let at-take-numbered = at-if2 .before in
-    let at-if1 = at-take-numbered .before .before in let at-take = at-if1 .before in
-    let start = at-take .before .before .before in let t = start .args .text .now in let A = at-take .take in
-    let N = at-take-numbered .take-numbered in let S = c .before .before .before .before .before .take-starts in
-    let B = c .before .before .before .take-ap in
-    head-read t (A .result) (A .ensures) (omega (arith, at-if1 .if1 .left)) (N .result .value) (N .result .end) (N .ensures) (omega (arith, at-if2 .if2 .left)) (S .ensures .starts) (S .result .last)
-    (S .result .end) (S .ensures .read) (B .result .value) (B .result .end) (B .ensures) (omega (arith, c .before .before .if3 .left)) (c .take2 .result) (c .take2 .ensures)
+    let at-if1 = at-take-numbered .before .before in
+    head-read (at-if1 .before .take .ensures) (omega (arith, at-if1 .if1 .left)) (at-take-numbered .take-numbered .ensures)
+    (omega (arith, at-if2 .if2 .left)) (c .before .before .before .before .before .take-starts .ensures .read)
+    (c .before .before .before .take-ap .ensures) (omega (arith, c .before .before .if3 .left)) (c .take2 .ensures)
 
 pub take-head-spec : {M : Type 1} → statement M
 take-head-spec =

@@ -7,13 +7,10 @@ use Rattle.hoa_read.proofs.take_text.Statement.{statement}
 use Rattle.hoa_read.proofs.take_text.Tie as tie
 
 returns : tie.Need-returns
-returns c = let t = c .before .before .before .before .args .text .now in no-survey t (c .no-survey .ensures) (no-newline t (λ e. c .before .if1 .taken (c .before .before .last-byte .ensures ∙ e)))
+returns c = no-survey (c .no-survey .ensures) (no-newline (λ e. c .before .if1 .taken (c .before .before .last-byte .ensures ∙ e)))
 
 returns-2 : tie.Need-returns-2
-returns-2 c =
-    let t = c .before .before .before .before .before .before .args .text .now in
-    let R = c .before .before .take-head in let r = R .result in
-    no-survey t (c .no-survey2 .ensures) (R .ensures .absent (c .before .if2 .taken))
+returns-2 c = no-survey (c .no-survey2 .ensures) (c .before .before .take-head .ensures .absent (c .before .if2 .taken))
 
 take-blocks-requires : tie.Need-take-blocks-requires
 take-blocks-requires c κs =
@@ -25,8 +22,8 @@ returns-3 c =
     let start = c .before .before .before .before .before .before .before .before .before .before in
     let t = start .args .text .now in let R = c .before .before .before .before .before .before .take-head in
     let r = R .result in let B = c .before .before .before .take-blocks in
-    no-survey t (c .no-survey3 .ensures) (survey-no-blocks t (r .macrostates) (r .propositions) (r .last) (r .starts) (r .blocks)
-    (R .ensures .found (omega (arith, c .before .before .before .before .before .if2 .left))) _ (B .result .accepting) (B .result .count) (B .result .end) _ (B .ensures) (c .before .if3 .taken))
+    no-survey (c .no-survey3 .ensures) (survey-no-blocks
+    (R .ensures .found (omega (arith, c .before .before .before .before .before .if2 .left))) (B .ensures) (c .before .if3 .taken))
 
 returns-4 : tie.Need-returns-4
 returns-4 c =
@@ -34,8 +31,7 @@ returns-4 c =
     let at-take-head = at-if2 .before in let start = at-take-head .before .before .before .before in
     let t = start .args .text .now in let R = at-take-head .take-head in let r = R .result in
     let B = c .before .before .before .before .before .before .take-blocks in
-    no-survey t (c .no-survey4 .ensures) (survey-rejecting t (r .macrostates) (r .propositions) (r .last) (r .starts) (r .blocks) (R .ensures .found (omega (arith, at-if2 .if2 .left))) _
-    (B .result .accepting) (B .result .count) (B .result .end) _ (B .ensures) (omega (arith, c .before .before .before .before .if3 .left)) (c .before .if4 .taken))
+    no-survey (c .no-survey4 .ensures) (survey-rejecting (R .ensures .found (omega (arith, at-if2 .if2 .left))) (B .ensures) (omega (arith, c .before .before .before .before .if3 .left)) (c .before .if4 .taken))
 
 take-requires : tie.Need-take-requires
 take-requires c κs = (c .before .before .before .before .before .before .take-blocks .ensures .found (omega arith) .read .within, omega arith)
@@ -47,8 +43,7 @@ returns-5 c =
     let at-take-head = at-if2 .before in let start = at-take-head .before .before .before .before in
     let t = start .args .text .now in let R = at-take-head .take-head in let r = R .result in
     let B = at-take-blocks .take-blocks in let E = c .before .before .take in
-    no-survey t (c .no-survey5 .ensures) (survey-no-end t (r .macrostates) (r .propositions) (r .last) (r .starts) (r .blocks) (R .ensures .found (omega (arith, at-if2 .if2 .left))) _
-    (B .result .accepting) (B .result .count) (B .result .end) _ (B .ensures) (omega (arith, at-if3 .if3 .left)) (E .result) (E .ensures) (c .before .if5 .taken))
+    no-survey (c .no-survey5 .ensures) (survey-no-end (R .ensures .found (omega (arith, at-if2 .if2 .left))) (B .ensures) (omega (arith, at-if3 .if3 .left)) (E .ensures) (c .before .if5 .taken))
 
 returns-6 : tie.Need-returns-6
 returns-6 c =
@@ -57,20 +52,16 @@ returns-6 c =
     let at-take-head = at-if2 .before in let start = at-take-head .before .before .before .before in
     let t = start .args .text .now in let R = at-take-head .take-head in let r = R .result in
     let B = at-take-blocks .take-blocks in let E = c .before .before .before .take in
-    no-survey t (c .no-survey6 .ensures) (survey-more t (r .macrostates) (r .propositions) (r .last) (r .starts) (r .blocks) (R .ensures .found (omega (arith, at-if2 .if2 .left))) _
-    (B .result .accepting) (B .result .count) (B .result .end) _ (B .ensures) (omega (arith, at-if3 .if3 .left)) (E .result) (E .ensures) (omega (arith, c .before .before .if5 .left))
+    no-survey (c .no-survey6 .ensures) (survey-more (R .ensures .found (omega (arith, at-if2 .if2 .left))) (B .ensures) (omega (arith, at-if3 .if3 .left)) (E .ensures) (omega (arith, c .before .before .if5 .left))
     (λ e. omega (arith, e, c .before .if6 .taken)))
 
 returns-7 : tie.Need-returns-7
 returns-7 c =
-    let at-if3 = c .before .before .before .before .before .before .before in
-    let at-take-blocks = at-if3 .before .before in let at-if2 = at-take-blocks .before .before in
-    let at-take-head = at-if2 .before in let start = at-take-head .before .before .before .before in
-    let t = start .args .text .now in let R = at-take-head .take-head in let r = R .result in
-    let B = at-take-blocks .take-blocks in let E = c .before .before .take in
-    survey-done t (r .macrostates) (r .propositions) (r .last) (r .starts) (r .blocks) (R .ensures .found (omega (arith, at-if2 .if2 .left))) _ (B .result .accepting) (B .result .count)
-    (B .result .end) _ (B .ensures) (omega (arith, at-if3 .if3 .left)) (E .result) (E .ensures) (omega (arith, c .before .if5 .left)) (c .before .before .before .before .if4 .left)
-    (omega (arith, c .if6 .left)) (omega (arith, at-if2 .if2 .left))
+    let at-if3 = c .before .before .before .before .before .before .before in let at-take-blocks = at-if3 .before .before in
+    let at-if2 = at-take-blocks .before .before in
+    survey-done (at-if2 .before .take-head .ensures .found (omega (arith, at-if2 .if2 .left))) (at-take-blocks .take-blocks .ensures)
+    (omega (arith, at-if3 .if3 .left)) (c .before .before .take .ensures) (omega (arith, c .before .if5 .left))
+    (c .before .before .before .before .if4 .left) (omega (arith, c .if6 .left)) (omega (arith, at-if2 .if2 .left))
 
 pub take-text-spec : {M : Type 1} → statement M
 take-text-spec =

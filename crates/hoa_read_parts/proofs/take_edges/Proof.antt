@@ -20,66 +20,32 @@ abbrev μ-loop : tie.MeasureT-loop
 μ-loop text p b n i transitions₀ m count₀ low₀ end₀ transitions count low end = length text - end
 
 loop-holds : tie.Need-loop-holds Inv-loop μ-loop
-loop-holds c = let a = c .before .before .args in (omega arith, omega arith, [], edging-none (a .text .now) (a .p) (a .b) (a .n) (a .i) (omega arith), omega arith, refl)
-
-same-length : tie.Need-same-length Inv-loop μ-loop
-same-length c =
-    let a = c .before .before .before .before .before .before .args in let l = c .before .before .before .loop in
-    ap length (l .inv .5) ∙ length-sets (a .transitions .now) (a .m) (l .inv .2)
+loop-holds c = (omega arith, omega arith, [], edging-none (omega arith), omega arith, refl)
 
 returns : tie.Need-returns Inv-loop μ-loop
 returns c =
-    let a = c .before .before .before .before .before .before .args in let l = c .before .before .before .loop in
-    edges-some (omega arith) record {
-      edges = l .inv .2;
-      low = l .low;
-      read = l .inv .3;
-      next = no-edge-here (a .text .now) (l .end) (omega arith) (c .if1 .taken);
-      few = l .inv .1;
-      counted = l .inv .4;
-      stored = l .inv .5;
-    }
+    let l = c .before .before .before .loop in
+    let next = no-edge-here (c .before .before .before .before .before .before .args .text .now) (l .end) (omega arith) (c .if1 .taken) in
+    edges-some (omega arith) (l .inv .3) next (l .inv .1) (l .inv .4) (l .inv .5)
 
 take-edge-requires : tie.Need-take-edge-requires Inv-loop μ-loop
 take-edge-requires c κs = (c .before .before .before .before .before .before .pre .0, omega arith, omega arith, omega arith, omega arith)
 
-same-length-2 : tie.Need-same-length-2 Inv-loop μ-loop
-same-length-2 c =
-    let start = c .before .before .before .before .before .before .before .before in let a = start .args in
-    let l = c .before .before .before .before .before .loop in
-    ap length (l .inv .5) ∙ length-sets (a .transitions .now) (a .m) (l .inv .2)
-
 returns-2 : tie.Need-returns-2 Inv-loop μ-loop
 returns-2 c =
-    let start = c .before .before .before .before .before .before .before .before in let a = start .args in
-    let l = c .before .before .before .before .before .loop in let T = c .before .take-edge in
-    edges-no-line (a .text .now) (a .p) (a .b) (a .n) (a .i) (l .inv .2) (l .low) (l .end) (l .inv .3) (omega arith) (c .before .before .if1 .left) (T .result .value) (T .result .end) (T .ensures)
-    (c .if2 .taken) refl
-
-same-length-3 : tie.Need-same-length-3 Inv-loop μ-loop
-same-length-3 c =
-    let start = c .before .before .before .before .before .before .before .before .before in let a = start .args in
-    let l = c .before .before .before .before .before .before .loop in
-    ap length (l .inv .5) ∙ length-sets (a .transitions .now) (a .m) (l .inv .2)
+    edges-no-line (c .before .before .before .before .before .loop .inv .3) (omega arith) (c .before .before .if1 .left)
+    (c .before .take-edge .ensures) (c .if2 .taken) refl
 
 returns-3 : tie.Need-returns-3 Inv-loop μ-loop
 returns-3 c =
-    let start = c .before .before .before .before .before .before .before .before .before in let a = start .args in
-    let l = c .before .before .before .before .before .before .loop in let T = c .before .before .take-edge in
-    edges-no-order (a .text .now) (a .p) (a .b) (a .n) (a .i) (l .inv .2) (l .low) (l .end) (l .inv .3) (omega arith) (c .before .before .before .if1 .left) (T .result .value) (T .result .end)
-    (T .ensures) (omega arith) (c .if3 .taken) refl
+    edges-no-order (c .before .before .before .before .before .before .loop .inv .3) (omega arith) (c .before .before .before .if1 .left)
+    (c .before .before .take-edge .ensures) (omega arith) (c .if3 .taken) refl
 
 add-low : tie.Need-add-low Inv-loop μ-loop
 add-low c =
     let at-if1 = c .before .before .before .before .before .before .before in
-    let at-loop = at-if1 .before .before .before in let start = at-loop .before .before .before in
-    let a = start .args in let l = at-loop .loop in
     let T = c .before .before .before .before .before .before .take-edge in
-    omega (
-      arith,
-      move-small (a .text .now) (a .p) (a .b) (a .n) (a .i) (l .inv .2) (l .low) (l .end) (l .inv .3) (omega arith) (at-if1 .if1 .left) (T .result .value) (T .result .end) (T .ensures)
-          (omega arith) (omega arith),
-    )
+    omega (arith, move-small (at-if1 .before .before .before .loop .inv .3) (omega arith) (at-if1 .if1 .left) (T .ensures) (omega arith) (omega arith))
 
 abbrev start-of-after-slice-known2 : tie.After-slice-known2 Inv-loop μ-loop → tie.Start Inv-loop μ-loop
 start-of-after-slice-known2 c = c .before .before .before .before .before .before .before .before .before .before .before .before .before
@@ -88,14 +54,8 @@ start-of-after-slice-known2 c = c .before .before .before .before .before .befor
 later-now : (c : tie.After-slice-known2 Inv-loop μ-loop) → (c .before .before .before .before .before .before .before .before .before .before .loop .end < c .before .before .before .before .before
     .before .take-edge .result .end) × (c .before .before .before .before .before .before .take-edge .result .end ≤ length (start-of-after-slice-known2 c .args .text .now))
 later-now c =
-    let at-if1 = c .before .before .before .before .before .before .before in
-    let at-loop = at-if1 .before .before .before in
-    let a = start-of-after-slice-known2 c .args in
-    let l = at-loop .loop in
-    let T = c .before .before .before .before .before .before .take-edge in (
-      edge-later (a .text .now) (a .p) (a .b) (a .n) (a .i) (l .inv .2) (l .low) (l .end) (l .inv .3) (omega arith) (at-if1 .if1 .left) (T .result .value) (T .result .end) (T .ensures) (omega arith),
-      T .ensures .found (omega arith) .1,
-    )
+    let at-if1 = c .before .before .before .before .before .before .before in let T = c .before .before .before .before .before .before .take-edge in
+    (edge-later (at-if1 .before .before .before .loop .inv .3) (omega arith) (at-if1 .if1 .left) (T .ensures) (omega arith), T .ensures .found (omega arith) .1)
 
 loop-again : tie.Need-loop-again Inv-loop μ-loop
 loop-again c =
@@ -106,32 +66,21 @@ loop-again c =
       omega (arith, later-now c),
       omega (arith, later-now c),
       l .inv .2 ++ (T .result .value ∷ []),
-      edging-next (a .text .now) (a .p) (a .b) (a .n) (a .i) (l .inv .2) (l .low) (l .end) (l .inv .3) (omega arith) (at-if1 .if1 .left) (T .result .value) (T .result .end) (T .ensures) (omega arith)
+      edging-next (l .inv .3) (omega arith) (at-if1 .if1 .left) (T .ensures) (omega arith)
           (c .before .before .before .before .if3 .left),
       omega (arith, length-append (l .inv .2) (T .result .value ∷ [])),
       move-stored (a .transitions .now) (a .m) (l .inv .2) (l .count) (T .result .value) (l .inv .4) (l .inv .5) (c .before .before .store-move .ensures),
     )
 
-same-length-4 : tie.Need-same-length-4 Inv-loop μ-loop
-same-length-4 c =
-    let a = c .before .before .before .before .args in let l = c .before .loop in
-    ap length (l .inv .5) ∙ length-sets (a .transitions .now) (a .m) (l .inv .2)
-
 returns-4 : tie.Need-returns-4 Inv-loop μ-loop
 returns-4 c =
-    let a = c .before .before .before .before .args in let l = c .before .loop in
-    edges-some (omega arith) record {
-      edges = l .inv .2;
-      low = l .low;
-      read = l .inv .3;
-      next = no-edge-end (a .text .now) (l .end) (c .loop-test .left);
-      few = l .inv .1;
-      counted = l .inv .4;
-      stored = l .inv .5;
-    }
+    let l = c .before .loop in
+    edges-some (omega arith) (l .inv .3) (no-edge-end (c .before .before .before .before .args .text .now) (l .end) (c .loop-test .left)) (l .inv .1) (l .inv .4) (l .inv .5)
 
 pub take-edges-spec : {M : Type 1} → statement M
 take-edges-spec =
     tie.close (tie.spec
-    Inv-loop μ-loop loop-holds (λ c. omega arith) same-length returns take-edge-requires same-length-2 returns-2 same-length-3 returns-3
-    (λ c κs. search needs) (λ c. omega arith) add-low (λ c. omega (arith, later-now c)) loop-again same-length-4 returns-4)
+    Inv-loop μ-loop loop-holds (λ c. omega arith) (λ c. ap length (c .before .before .before .loop .inv .5) ∙ simp length-sets) returns take-edge-requires
+    (λ c. ap length (c .before .before .before .before .before .loop .inv .5) ∙ simp length-sets) returns-2
+    (λ c. ap length (c .before .before .before .before .before .before .loop .inv .5) ∙ simp length-sets) returns-3 (λ c κs. search needs) (λ c. omega arith)
+    add-low (λ c. omega (arith, later-now c)) loop-again (λ c. ap length (c .before .loop .inv .5) ∙ simp length-sets) returns-4)

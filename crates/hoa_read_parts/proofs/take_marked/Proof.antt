@@ -7,22 +7,21 @@ use Rattle.hoa_read_parts.proofs.take_marked.Tie as tie
 
 returns : tie.Need-returns
 returns c = let a = c .before .before .before .before .args in let S = c .before .before .take-state in
-    marked-none (a .text .now) (a .p) (a .i) (a .accepting) (omega arith) (S .result .value) (S .result .end) (S .ensures) (c .before .if1 .taken) (c .nothing .ensures .1)
+    marked-none (a .i) (a .accepting) (omega arith) (S .ensures) (c .before .if1 .taken) (c .nothing .ensures .1)
 
 returns-2 : tie.Need-returns-2
 returns-2 c = let a = c .before .before .before .before .before .args in let S = c .before .before .before .take-state in
-    marked-rejecting (a .text .now) (a .p) (a .i) (a .accepting) (omega arith) (S .result .value) (S .result .end) (S .ensures) (omega arith) (c .if2 .taken)
+    marked-rejecting (a .i) (a .accepting) (omega arith) (S .ensures) (omega arith) (c .if2 .taken)
 
 returns-3 : tie.Need-returns-3
 returns-3 c =
-    let start = c .before .before .before .before .before .before .before in
-    let a = start .args in let S = c .before .before .before .before .before .take-state in
-    marked-late (a .text .now) (a .p) (a .i) (a .accepting) (omega arith) (S .result .value) (S .result .end) (S .ensures) (omega arith) (c .before .before .if2 .left) (omega arith)
-    (c .nothing2 .ensures .1)
+    let a = c .before .before .before .before .before .before .before .args in
+    marked-late (a .i) (a .accepting) (omega arith) (c .before .before .before .before .before .take-state .ensures) (omega arith)
+    (c .before .before .if2 .left) (omega arith) (c .nothing2 .ensures .1)
 
 returns-4 : tie.Need-returns-4
 returns-4 c = let a = c .before .before .before .before .before .before .args in let S = c .before .before .before .before .take-state in
-    marked-accepting (a .text .now) (a .p) (a .i) (a .accepting) (omega arith) (S .result .value) (S .result .end) (S .ensures) (omega arith) (c .before .if2 .left) (omega arith)
+    marked-accepting (a .i) (a .accepting) (omega arith) (S .ensures) (omega arith) (c .before .if2 .left) (omega arith)
 
 pub take-marked-spec : {M : Type 1} → statement M
 take-marked-spec =

@@ -19,10 +19,10 @@ abbrev μ-loop : tie.MeasureT-loop
 μ-loop text p n accepting flags₀ last₀ end₀ i₀ flags last end i = n - i
 
 loop-holds : tie.Need-loop-holds Inv-loop μ-loop
-loop-holds c = let a = c .before .before .args in (omega arith, [], starting-none (a .text .now) (a .p) (a .n) (omega arith), none-stored (a .flags .now) (a .accepting))
+loop-holds c = let a = c .before .before .args in (omega arith, [], starting-none (omega arith), none-stored (a .flags .now) (a .accepting))
 
 take-start-requires : tie.Need-take-start-requires Inv-loop μ-loop
-take-start-requires c κs = let I = c .before .loop .inv in (c .before .before .before .before .pre .0, I .2 .within, omega arith)
+take-start-requires c κs = (c .before .before .before .before .pre .0, c .before .loop .inv .2 .within, omega arith)
 
 loop-again : tie.Need-loop-again Inv-loop μ-loop
 loop-again c =
@@ -32,32 +32,25 @@ loop-again c =
     let F = c .before .before .before .before .flag-of in (
       omega arith,
       l .inv .1 ++ (0 ∷ []),
-      starting-no (a .text .now) (a .p) (a .n) (l .i) (l .inv .1) (l .last) (l .end) (l .inv .2) (omega arith) (T .result) (T .ensures) (c .before .before .before .before .before .if1 .taken),
+      starting-no (l .inv .2) (omega arith) (T .ensures) (c .before .before .before .before .before .if1 .taken),
       flag-stored (a .flags .now) (a .accepting) (l .inv .1) (l .i) 0 (F .result) (l .inv .2 .long) (l .inv .3) (F .ensures) (c .before .before .store-flag .ensures),
     )
 
 loop-again-2 : tie.Need-loop-again-2 Inv-loop μ-loop
 loop-again-2 c =
-    let at-loop = c .before .before .before .before .before .before .before .before in
-    let start = at-loop .before .before .before in let a = start .args in let l = at-loop .loop in
-    let T = c .before .before .before .before .before .before .take-start in
-    let F = c .before .before .before .before .flag-of2 in (
+    let at-loop = c .before .before .before .before .before .before .before .before in let a = at-loop .before .before .before .args in
+    let l = at-loop .loop in let F = c .before .before .before .before .flag-of2 in (
       omega arith,
       l .inv .1 ++ (1 ∷ []),
-      starting-yes (a .text .now) (a .p) (a .n) (l .i) (l .inv .1) (l .last) (l .end) (l .inv .2) (omega arith) (T .result) (T .ensures) (omega arith),
+      starting-yes (l .inv .2) (omega arith) (c .before .before .before .before .before .before .take-start .ensures) (omega arith),
       flag-stored (a .flags .now) (a .accepting) (l .inv .1) (l .i) 1 (F .result) (l .inv .2 .long) (l .inv .3) (F .ensures) (c .before .before .store-flag2 .ensures),
     )
 
-same-length : tie.Need-same-length Inv-loop μ-loop
-same-length c = let a = c .before .before .before .before .args in let l = c .before .loop in ap length (l .inv .3) ∙ length-sets (a .flags .now) 0 (flagsFrom (a .accepting) 0 (l .inv .1))
-
 returns : tie.Need-returns Inv-loop μ-loop
-returns c =
-    let a = c .before .before .before .before .args in let l = c .before .loop in
-    started (a .text .now) (a .p) (a .n) (a .accepting) (a .flags .now) (l .i) (l .inv .1) (l .last) (l .end) (omega arith) (l .inv .2) (l .inv .3)
+returns c = let l = c .before .loop in started (omega arith) (l .inv .2) (l .inv .3)
 
 pub take-starts-spec : {M : Type 1} → statement M
 take-starts-spec =
     tie.close (tie.spec
     Inv-loop μ-loop loop-holds take-start-requires (λ c κs. omega arith) (λ c κs. search needs) (λ c. omega arith) (λ c. omega arith) loop-again
-    (λ c κs. omega arith) (λ c κs. search needs) (λ c. omega arith) (λ c. omega arith) loop-again-2 same-length returns)
+    (λ c κs. omega arith) (λ c κs. search needs) (λ c. omega arith) (λ c. omega arith) loop-again-2 (λ c. ap length (c .before .loop .inv .3) ∙ simp length-sets) returns)

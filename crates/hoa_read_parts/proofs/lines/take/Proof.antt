@@ -25,8 +25,7 @@ returns-2 c = let a = c .before .before .before .before .before .before .args in
 
 loop-again : tie.Need-loop-again Inv-loop μ-loop
 loop-again c =
-    let a = c .before .before .before .before .before .before .args in
-    let l = c .before .before .before .before .loop in
+    let a = c .before .before .before .before .before .before .args in let l = c .before .before .before .before .loop in
     (omega arith, take-next (a .text .now) (a .p) (a .s .now) (l .i) (omega arith) (omega arith) (c .if2 .left) (l .inv .1))
 
 returns-3 : tie.Need-returns-3 Inv-loop μ-loop

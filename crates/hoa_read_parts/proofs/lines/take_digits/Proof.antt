@@ -26,8 +26,7 @@ returns-2 c = let a = c .before .before .before .before .before .before .args in
 
 returns-3 : tie.Need-returns-3 Inv-loop μ-loop
 returns-3 c =
-    let start = c .before .before .before .before .before .before .before in
-    let a = start .args in let l = c .before .before .before .before .before .loop in
+    let a = c .before .before .before .before .before .before .before .args in let l = c .before .before .before .before .before .loop in
     digits-zero (a .text .now) (a .p) (a .v) (l .x) (l .q) (l .inv .3) (omega arith) (c .before .before .before .if1 .left) (c .before .if3 .taken) (c .nothing2 .ensures .1)
 
 returns-4 : tie.Need-returns-4 Inv-loop μ-loop

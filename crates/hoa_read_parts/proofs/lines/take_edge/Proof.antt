@@ -10,7 +10,7 @@ use Rattle.hoa_read_parts.proofs.lines.take_edge.Tie as tie
 returns : tie.Need-returns
 returns c =
     let a = c .before .before .before .before .args in let A = c .before .before .take-byte in
-    edge-no-head (a .text .now) (a .p) (a .b) (a .n) (a .i) (omega arith) (omega arith) (A .result) (A .ensures .0) (c .before .if1 .taken) (c .nothing .ensures .1)
+    edge-no-head (a .b) (a .n) (a .i) (omega arith) (omega arith) (A .ensures .0) (c .before .if1 .taken) (c .nothing .ensures .1)
 
 take-label-requires : tie.Need-take-label-requires
 take-label-requires c κs = (c .before .before .before .pre .0, c .before .take-byte .ensures .1 (omega arith) (omega arith), omega arith)
@@ -18,9 +18,8 @@ take-label-requires c κs = (c .before .before .before .pre .0, c .before .take-
 returns-2 : tie.Need-returns-2
 returns-2 c =
     let a = c .before .before .before .before .before .before .args in
-    let A = c .before .before .before .before .take-byte in let L = c .before .before .take-label in
-    edge-no-label (a .text .now) (a .p) (a .b) (a .n) (a .i) (omega arith) (omega arith) (A .result) (A .ensures .0) (omega arith) (L .result .value) (L .result .end) (L .ensures .0)
-    (c .before .if2 .taken) (c .nothing2 .ensures .1)
+    edge-no-label (a .b) (a .n) (a .i) (omega arith) (omega arith) (c .before .before .before .before .take-byte .ensures .0) (omega arith)
+    (c .before .before .take-label .ensures .0) (c .before .if2 .taken) (c .nothing2 .ensures .1)
 
 take-target-requires : tie.Need-take-target-requires
 take-target-requires c κs = (c .before .before .before .before .before .pre .0, c .before .take-label .ensures .1 (omega arith))
@@ -28,10 +27,9 @@ take-target-requires c κs = (c .before .before .before .before .before .pre .0,
 returns-3 : tie.Need-returns-3
 returns-3 c =
     let a = c .before .before .before .before .before .before .before .before .before .args in
-    let A = c .before .before .before .before .before .before .before .take-byte in
-    let L = c .before .before .before .before .before .take-label in let W = c .before .before .before .take-target in
-    edge-far (a .text .now) (a .p) (a .b) (a .n) (a .i) (omega arith) (omega arith) (A .result) (A .ensures .0) (omega arith) (L .result .value) (L .result .end) (L .ensures .0) (omega arith)
-    (W .result .value) (W .result .end) (W .ensures) (c .before .if3 .taken) (c .nothing3 .ensures .1)
+    edge-far (a .b) (a .n) (a .i) (omega arith) (omega arith) (c .before .before .before .before .before .before .before .take-byte .ensures .0)
+    (omega arith) (c .before .before .before .before .before .take-label .ensures .0) (omega arith) (c .before .before .before .take-target .ensures)
+    (c .before .if3 .taken) (c .nothing3 .ensures .1)
 
 small : (c : tie.Else3) → c .before .before .before .before .take-label .result .value < 16
 small c =
@@ -41,11 +39,10 @@ small c =
 returns-4 : tie.Need-returns-4
 returns-4 c =
     let a = c .before .before .before .before .before .before .before .before .before .before .args in
-    let A = c .before .before .before .before .before .before .before .before .take-byte in
-    let L = c .before .before .before .before .before .before .take-label in
-    let W = c .before .before .before .before .take-target in
-    edge-read (a .text .now) (a .p) (a .b) (a .n) (a .i) (omega arith) (omega arith) (A .result) (A .ensures .0) (omega arith) (L .result .value) (L .result .end) (L .ensures .0) (omega arith)
-    (W .result .value) (W .result .end) (W .ensures) (c .before .before .if3 .left) refl
+    edge-read (a .b) (a .n) (a .i) (omega arith) (omega arith)
+    (c .before .before .before .before .before .before .before .before .take-byte .ensures .0) (omega arith)
+    (c .before .before .before .before .before .before .take-label .ensures .0) (omega arith)
+    (c .before .before .before .before .take-target .ensures) (c .before .before .if3 .left) refl
 
 pub take-edge-spec : {M : Type 1} → statement M
 take-edge-spec =

@@ -14,14 +14,14 @@ abbrev μ-loop : tie.MeasureT-loop
 
 returns : tie.Need-returns Inv-loop μ-loop
 returns c =
-    let a = c .before .before .before .args in let A = c .take-byte in
-    (label-none (a .text .now) (a .p) (A .result) (A .ensures .0) (a .b) (c .before .if1 .taken), λ l. A .ensures .1 (omega arith) l)
+    let A = c .take-byte in
+    (label-none (A .ensures .0) (c .before .before .before .args .b) (c .before .if1 .taken), λ l. A .ensures .1 (omega arith) l)
 
 returns-2 : tie.Need-returns-2 Inv-loop μ-loop
 returns-2 c =
     let a = c .before .before .before .before .before .args in
     let L = c .before .before .take-literal in (
-      label-no-first (a .text .now) (a .p) (a .b) (omega arith) (omega arith) (L .result .value) (L .result .end) (L .ensures .0) (c .before .if2 .taken) (c .nothing .ensures .1),
+      label-no-first (a .b) (omega arith) (omega arith) (L .ensures .0) (c .before .if2 .taken) (c .nothing .ensures .1),
       λ l. absurd (omega (arith, c .nothing .ensures .1)),
     )
 
@@ -30,7 +30,7 @@ loop-holds c =
     let a = c .before .before .before .before .args in
     let L = c .before .take-literal in (
       omega arith,
-      labelled-first (a .text .now) (a .p) (a .b) (omega arith) (omega arith) (L .result .value) (L .result .end) (L .ensures .0) (omega arith) (L .ensures .1 (omega arith)),
+      labelled-first (a .b) (omega arith) (omega arith) (L .ensures .0) (omega arith) (L .ensures .1 (omega arith)),
     )
 
 take-byte-requires-2 : tie.Need-take-byte-requires-2 Inv-loop μ-loop
@@ -41,7 +41,7 @@ returns-3 c =
     let start = c .before .before .before .before .before .before .before .before .before in let a = start .args in
     let l = c .before .before .before .before .loop in
     let A = c .before .before .take-byte2 in (
-      label-no-sign (a .text .now) (a .p) (a .b) (omega arith) (l .i) (l .letter) (l .end) (l .inv .1) (omega arith) (A .result) (A .ensures .0) (c .before .if3 .taken) (c .nothing2 .ensures .1),
+      label-no-sign (a .b) (omega arith) (l .inv .1) (omega arith) (A .ensures .0) (c .before .if3 .taken) (c .nothing2 .ensures .1),
       λ l. absurd (omega (arith, c .nothing2 .ensures .1)),
     )
 
@@ -56,8 +56,7 @@ returns-4 c =
     let a = start .args in let l = c .before .before .before .before .before .before .loop in
     let A = c .before .before .before .before .take-byte2 in
     let L = c .before .before .take-literal2 in (
-      label-no-literal (a .text .now) (a .p) (a .b) (omega arith) (l .i) (l .letter) (l .end) (l .inv .1) (omega arith) (A .result) (A .ensures .0) (omega arith)
-          (L .result .value) (L .result .end) (L .ensures .0) (c .before .if4 .taken) (c .nothing3 .ensures .1),
+      label-no-literal (a .b) (omega arith) (l .inv .1) (omega arith) (A .ensures .0) (omega arith) (L .ensures .0) (c .before .if4 .taken) (c .nothing3 .ensures .1),
       λ l. absurd (omega (arith, c .nothing3 .ensures .1)),
     )
 
@@ -71,8 +70,7 @@ next c =
     let a = start-of-after-struct-known c .args in
     let l = c .before .before .before .before .before .before .loop in
     let A = c .before .before .before .before .take-byte2 in let L = c .before .before .take-literal2 in
-    labelled-next (a .text .now) (a .p) (a .b) (omega arith) (l .i) (l .letter) (l .end) (l .inv .1) (omega arith) (A .result) (A .ensures .0) (omega arith)
-    (L .result .value) (L .result .end) (L .ensures .0) (omega arith) (L .ensures .1 (omega arith))
+    labelled-next (a .b) (omega arith) (l .inv .1) (omega arith) (A .ensures .0) (omega arith) (L .ensures .0) (omega arith) (L .ensures .1 (omega arith))
 
 add-letter : tie.Need-add-letter Inv-loop μ-loop
 add-letter c = let I = next c in omega (
@@ -83,8 +81,8 @@ add-letter c = let I = next c in omega (
 
 returns-5 : tie.Need-returns-5 Inv-loop μ-loop
 returns-5 c =
-    let a = c .before .before .before .before .before .before .args in let l = c .before .loop in
-    (label-done (a .text .now) (a .p) (a .b) (omega arith) (l .i) (l .letter) (l .end) (l .inv .1) (omega arith), λ z. l .inv .1 .within)
+    let l = c .before .loop in
+    (label-done (c .before .before .before .before .before .before .args .b) (omega arith) (l .inv .1) (omega arith), λ z. l .inv .1 .within)
 
 pub take-label-spec : {M : Type 1} → statement M
 take-label-spec =

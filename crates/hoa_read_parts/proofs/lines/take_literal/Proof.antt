@@ -17,14 +17,14 @@ shifted (suc (suc (suc (suc i)))) h = absurd (omega arith)
 returns : tie.Need-returns
 returns c =
     let a = c .before .before .before .args in let A = c .before .take-byte in
-    (literal-plain (a .text .now) (a .p) (a .i) (A .result) (A .ensures .0) (omega arith) (shifted (a .i) (omega arith)), λ l. A .ensures .1 (omega arith) l)
+    (literal-plain (a .i) (A .ensures .0) (omega arith) (shifted (a .i) (omega arith)), λ l. A .ensures .1 (omega arith) l)
 
 returns-2 : tie.Need-returns-2
 returns-2 c =
     let a = c .before .before .before .before .before .before .args in
     let A = c .before .before .before .before .take-byte in
     let B = c .before .before .take-byte2 in (
-      literal-none (a .text .now) (a .p) (a .i) (A .result) (A .ensures .0) (c .before .before .before .if1 .left) (B .result) (B .ensures .0) (c .before .if2 .taken) (c .nothing .ensures .1),
+      literal-none (a .i) (A .ensures .0) (c .before .before .before .if1 .left) (B .ensures .0) (c .before .if2 .taken) (c .nothing .ensures .1),
       λ l. absurd (omega (arith, c .nothing .ensures .1)),
     )
 
@@ -36,7 +36,7 @@ returns-3 c =
     let a = c .before .before .before .before .before .before .args in
     let A = c .before .before .before .before .take-byte in let B = c .before .before .take-byte2 in
     let D = c .take-byte3 in (
-      literal-negated (a .text .now) (a .p) (a .i) (A .result) (A .ensures .0) (c .before .before .before .if1 .left) (B .result) (B .ensures .0) (omega arith) (D .result) (D .ensures .0),
+      literal-negated (a .i) (A .ensures .0) (c .before .before .before .if1 .left) (B .ensures .0) (omega arith) (D .ensures .0),
       λ l. D .ensures .1 (omega arith) l,
     )
 

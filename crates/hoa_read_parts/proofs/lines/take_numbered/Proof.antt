@@ -7,18 +7,15 @@ use Rattle.hoa_read_parts.proofs.lines.take_numbered.Statement.{stateme
 use Rattle.hoa_read_parts.proofs.lines.take_numbered.Tie as tie
 
 returns : tie.Need-returns
-returns c = let a = c .before .before .before .before .before .args in let T = c .before .before .take in
-    numbered-no-head (a .text .now) (a .p) (a .s .now) (T .result) (T .ensures) (c .before .if1 .taken) (c .nothing .ensures .1)
+returns c = numbered-no-head (c .before .before .take .ensures) (c .before .if1 .taken) (c .nothing .ensures .1)
 
 returns-2 : tie.Need-returns-2
-returns-2 c = let a = c .before .before .before .before .before .before .args in let T = c .before .before .before .take in
-    numbered-cut (a .text .now) (a .p) (a .s .now) (T .result) (T .ensures) (omega arith) (c .before .if2 .taken) (c .nothing2 .ensures .1)
+returns-2 c = numbered-cut (c .before .before .before .take .ensures) (omega arith) (c .before .if2 .taken) (c .nothing2 .ensures .1)
 
 returns-3 : tie.Need-returns-3
 returns-3 c =
-    let start = c .before .before .before .before .before .before .before .before in let a = start .args in
-    let T = c .before .before .before .before .before .take in let W = c .before .before .take-word in
-    numbered-no-number (a .text .now) (a .p) (a .s .now) (T .result) (T .ensures) (omega arith) (W .result .value) (W .result .end) (W .ensures) (c .before .if3 .taken) (c .nothing3 .ensures .1)
+    numbered-no-number (c .before .before .before .before .before .take .ensures) (omega arith) (c .before .before .take-word .ensures)
+    (c .before .if3 .taken) (c .nothing3 .ensures .1)
 
 take-byte-requires : tie.Need-take-byte-requires
 take-byte-requires c κs =
@@ -27,9 +24,8 @@ take-byte-requires c κs =
 
 returns-4 : tie.Need-returns-4
 returns-4 c =
-    let start = c .before .before .before .before .before .before .before .before in let a = start .args in
-    let T = c .before .before .before .before .before .take in let W = c .before .before .take-word in
-    numbered (a .text .now) (a .p) (a .s .now) (T .result) (T .ensures) (omega arith) (W .result .value) (W .result .end) (W .ensures) (omega arith) (c .take-byte .result) (c .take-byte .ensures .0)
+    numbered (c .before .before .before .before .before .take .ensures) (omega arith) (c .before .before .take-word .ensures) (omega arith)
+    (c .take-byte .ensures .0)
 
 pub take-numbered-spec : {M : Type 1} → statement M
 take-numbered-spec =

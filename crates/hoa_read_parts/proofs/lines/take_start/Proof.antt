@@ -6,12 +6,10 @@ use Rattle.hoa_read_parts.proofs.lines.take_start.Statement.{statement}
 use Rattle.hoa_read_parts.proofs.lines.take_start.Tie as tie
 
 returns : tie.Need-returns
-returns c = let a = c .before .before .before .before .before .args in let N = c .before .before .take-numbered in
-    start-other (a .text .now) (a .p) (a .i) (N .result .value) (N .result .end) (omega arith) (N .ensures) (c .if1 .taken)
+returns c = start-other (c .before .before .before .before .before .args .i) (omega arith) (c .before .before .take-numbered .ensures) (c .if1 .taken)
 
 returns-2 : tie.Need-returns-2
-returns-2 c = let a = c .before .before .before .before .before .args in let N = c .before .before .take-numbered in
-    start-same (a .text .now) (a .p) (a .i) (N .result .value) (N .result .end) (omega arith) (N .ensures) (c .if1 .left)
+returns-2 c = start-same (c .before .before .before .before .before .args .i) (omega arith) (c .before .before .take-numbered .ensures) (c .if1 .left)
 
 pub take-start-spec : {M : Type 1} → statement M
 take-start-spec = tie.close (tie.spec (λ c. search needs) (λ c κs. (c .before .before .pre .0, omega arith, omega arith)) returns returns-2)

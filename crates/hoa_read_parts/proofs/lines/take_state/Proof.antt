@@ -8,27 +8,25 @@ use Rattle.hoa_read_parts.proofs.lines.take_state.Tie as tie
 
 returns : tie.Need-returns
 returns c =
-    let a = c .before .before .before .before .before .args in let T = c .before .before .take in
-    state-no-head (a .text .now) (a .p) (a .i) (omega arith) (T .result) (T .ensures) (c .before .if1 .taken) (c .nothing .ensures .1)
+    state-no-head (c .before .before .before .before .before .args .i) (omega arith) (c .before .before .take .ensures) (c .before .if1 .taken)
+    (c .nothing .ensures .1)
 
 returns-2 : tie.Need-returns-2
 returns-2 c =
-    let a = c .before .before .before .before .before .before .args in let T = c .before .before .before .take in
-    state-cut (a .text .now) (a .p) (a .i) (omega arith) (T .result) (T .ensures) (omega arith) (c .before .if2 .taken) (c .nothing2 .ensures .1)
+    state-cut (c .before .before .before .before .before .before .args .i) (omega arith) (c .before .before .before .take .ensures) (omega arith)
+    (c .before .if2 .taken) (c .nothing2 .ensures .1)
 
 returns-3 : tie.Need-returns-3
 returns-3 c =
-    let start = c .before .before .before .before .before .before .before .before in let a = start .args in
-    let T = c .before .before .before .before .before .take in let W = c .before .before .take-word in
-    state-no-number (a .text .now) (a .p) (a .i) (omega arith) (T .result) (T .ensures) (omega arith) (W .result .value) (W .result .end) (W .ensures) (c .before .if3 .taken) (c .nothing3 .ensures .1)
+    state-no-number (c .before .before .before .before .before .before .before .before .args .i) (omega arith)
+    (c .before .before .before .before .before .take .ensures) (omega arith) (c .before .before .take-word .ensures) (c .before .if3 .taken)
+    (c .nothing3 .ensures .1)
 
 returns-4 : tie.Need-returns-4
 returns-4 c =
     let at-take = c .before .before .before .before .before .before .before in
-    let start = at-take .before .before .before in let a = start .args in let T = at-take .take in
-    let W = c .before .before .before .before .take-word in
-    state-other (a .text .now) (a .p) (a .i) (omega arith) (T .result) (T .ensures) (omega arith) (W .result .value) (W .result .end) (W .ensures) (omega arith) (c .before .if4 .taken)
-    (c .nothing4 .ensures .1)
+    state-other (at-take .before .before .before .args .i) (omega arith) (at-take .take .ensures) (omega arith)
+    (c .before .before .before .before .take-word .ensures) (omega arith) (c .before .if4 .taken) (c .nothing4 .ensures .1)
 
 take-requires-2 : tie.Need-take-requires-2
 take-requires-2 c κs = (c .before .before .before .before .take-word .ensures .found (omega arith) .1, omega arith)
@@ -36,10 +34,9 @@ take-requires-2 c κs = (c .before .before .before .before .take-word .ensures .
 returns-5 : tie.Need-returns-5
 returns-5 c =
     let at-take = c .before .before .before .before .before .before .before .before .before in
-    let start = at-take .before .before .before in let a = start .args in let T = at-take .take in
-    let W = c .before .before .before .before .before .before .take-word in let K = c .before .take2 in
-    state-accepting (a .text .now) (a .p) (a .i) (omega arith) (T .result) (T .ensures) (omega arith) (W .result .value) (W .result .end) (W .ensures) (omega arith)
-    (c .before .before .before .if4 .left) (K .result) (K .ensures) (omega arith)
+    state-accepting (at-take .before .before .before .args .i) (omega arith) (at-take .take .ensures) (omega arith)
+    (c .before .before .before .before .before .before .take-word .ensures) (omega arith) (c .before .before .before .if4 .left)
+    (c .before .take2 .ensures) (omega arith)
 
 take-byte-requires : tie.Need-take-byte-requires
 take-byte-requires c κs =
@@ -49,11 +46,10 @@ take-byte-requires c κs =
 
 returns-6 : tie.Need-returns-6
 returns-6 c =
-    let a = c .before .before .before .before .before .before .before .before .before .before .before .before .before .args in
-    let T = c .before .before .before .before .before .before .before .before .before .before .take in
-    let W = c .before .before .before .before .before .before .before .take-word in let K = c .before .before .take2 in
-    state-rejecting (a .text .now) (a .p) (a .i) (omega arith) (T .result) (T .ensures) (omega arith) (W .result .value) (W .result .end) (W .ensures) (omega arith)
-    (c .before .before .before .before .if4 .left) (K .result) (K .ensures) (c .before .if5 .left) (c .take-byte .result) (c .take-byte .ensures .0)
+    state-rejecting (c .before .before .before .before .before .before .before .before .before .before .before .before .before .args .i) (omega arith)
+    (c .before .before .before .before .before .before .before .before .before .before .take .ensures) (omega arith)
+    (c .before .before .before .before .before .before .before .take-word .ensures) (omega arith) (c .before .before .before .before .if4 .left)
+    (c .before .before .take2 .ensures) (c .before .if5 .left) (c .take-byte .ensures .0)
 
 pub take-state-spec : {M : Type 1} → statement M
 take-state-spec =

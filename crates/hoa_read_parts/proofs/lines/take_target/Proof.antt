@@ -8,17 +8,15 @@ use Rattle.hoa_read_parts.proofs.lines.take_target.Statement.{statement
 use Rattle.hoa_read_parts.proofs.lines.take_target.Tie as tie
 
 returns : tie.Need-returns
-returns c = let a = c .before .before .before .before .args in let T = c .before .before .take-byte in
-    numbered-no-head (a .text .now) (a .p) (93 ∷ []) (T .result) (T .ensures .0) (c .before .if1 .taken) (c .nothing .ensures .1)
+returns c = numbered-no-head (c .before .before .take-byte .ensures .0) (c .before .if1 .taken) (c .nothing .ensures .1)
 
 take-word-requires : tie.Need-take-word-requires
 take-word-requires c κs = (c .before .before .before .pre .0, c .before .take-byte .ensures .1 (omega arith) (omega arith))
 
 returns-2 : tie.Need-returns-2
 returns-2 c =
-    let a = c .before .before .before .before .before .before .args in
-    let T = c .before .before .before .before .take-byte in let W = c .before .before .take-word in
-    numbered-no-number (a .text .now) (a .p) (93 ∷ []) (T .result) (T .ensures .0) (omega arith) (W .result .value) (W .result .end) (W .ensures) (c .before .if2 .taken) (c .nothing2 .ensures .1)
+    numbered-no-number (c .before .before .before .before .take-byte .ensures .0) (omega arith) (c .before .before .take-word .ensures)
+    (c .before .if2 .taken) (c .nothing2 .ensures .1)
 
 take-byte-requires-2 : tie.Need-take-byte-requires-2
 take-byte-requires-2 c κs =
@@ -27,9 +25,7 @@ take-byte-requires-2 c κs =
 
 returns-3 : tie.Need-returns-3
 returns-3 c =
-    let a = c .before .before .before .before .before .before .args in
-    let T = c .before .before .before .before .take-byte in let W = c .before .before .take-word in
-    numbered (a .text .now) (a .p) (93 ∷ []) (T .result) (T .ensures .0) (omega arith) (W .result .value) (W .result .end) (W .ensures) (omega arith) (c .take-byte2 .result)
+    numbered (c .before .before .before .before .take-byte .ensures .0) (omega arith) (c .before .before .take-word .ensures) (omega arith)
     (c .take-byte2 .ensures .0)
 
 pub take-target-spec : {M : Type 1} → statement M

@@ -13,20 +13,17 @@ inside : (c : tie.Else1) → c .before .take-byte .result < length (c .before .b
 inside c = c .before .take-byte .ensures .1 (omega arith) (omega arith)
 
 returns : tie.Need-returns
-returns c = let a = c .before .before .before .before .args in let T = c .before .before .take-byte in
-    word-no-blank (a .text .now) (a .p) (T .result) (T .ensures .0) (c .before .if1 .taken) (c .nothing .ensures .1)
+returns c = word-no-blank (c .before .before .take-byte .ensures .0) (c .before .if1 .taken) (c .nothing .ensures .1)
 
 returns-2 : tie.Need-returns-2
 returns-2 c =
-    let a = c .before .before .before .before .before .before .args in
-    let T = c .before .before .before .before .take-byte in
-    word-no-digit (a .text .now) (a .p) (T .result) (T .ensures .0) (omega arith) (inside (c .before .before .before)) (inl (c .before .if2 .taken)) (c .nothing2 .ensures .1)
+    word-no-digit (c .before .before .before .before .take-byte .ensures .0) (omega arith) (inside (c .before .before .before))
+    (inl (c .before .if2 .taken)) (c .nothing2 .ensures .1)
 
 returns-3 : tie.Need-returns-3
 returns-3 c =
-    let start = c .before .before .before .before .before .before .before in let a = start .args in
-    let T = c .before .before .before .before .before .take-byte in
-    word-no-digit (a .text .now) (a .p) (T .result) (T .ensures .0) (omega arith) (inside (c .before .before .before .before)) (inr (c .before .if3 .taken)) (c .nothing3 .ensures .1)
+    word-no-digit (c .before .before .before .before .before .take-byte .ensures .0) (omega arith) (inside (c .before .before .before .before))
+    (inr (c .before .if3 .taken)) (c .nothing3 .ensures .1)
 
 take-digits-requires : tie.Need-take-digits-requires
 take-digits-requires c κs =
@@ -39,10 +36,8 @@ take-digits-requires c κs =
 
 returns-4 : tie.Need-returns-4
 returns-4 c =
-    let start = c .before .before .before .before .before .before .before in let a = start .args in
-    let T = c .before .before .before .before .before .take-byte in
-    word-digits (a .text .now) (a .p) (T .result) (T .ensures .0) (omega arith) (inside (c .before .before .before .before)) (c .before .before .if2 .left) (c .before .if3 .left)
-    (c .take-digits .ensures)
+    word-digits (c .before .before .before .before .before .take-byte .ensures .0) (omega arith) (inside (c .before .before .before .before))
+    (c .before .before .if2 .left) (c .before .if3 .left) (c .take-digits .ensures)
 
 pub take-word-spec : {M : Type 1} → statement M
 take-word-spec =
