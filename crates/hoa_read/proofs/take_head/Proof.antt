@@ -13,10 +13,8 @@ take-numbered-requires c κs = (c .before .before .before .before .before .pre, 
 
 returns-2 : tie.Need-returns-2
 returns-2 c =
-    let start = c .before .before .before .before .before .before .before .before in let t = start .args .text .now in
-    let A = c .before .before .before .before .before .take in let N = c .before .before .take-numbered in
-    no-head (c .no-head2 .ensures) (head-no-states (A .ensures) (omega (arith, c .before .before .before .before .if1 .left)) (N .ensures)
-    (c .before .if2 .taken))
+    no-head (c .no-head2 .ensures) (head-no-states (c .before .before .before .before .before .take .ensures)
+    (omega (arith, c .before .before .before .before .if1 .left)) (c .before .before .take-numbered .ensures) (c .before .if2 .taken))
 
 take-starts-requires : tie.Need-take-starts-requires
 take-starts-requires c κs =
@@ -25,14 +23,10 @@ take-starts-requires c κs =
 
 returns-3 : tie.Need-returns-3
 returns-3 c =
-    let at-take-numbered = c .before .before .before .before .before .before .before in
-    let at-if1 = at-take-numbered .before .before in let at-take = at-if1 .before in
-    let start = at-take .before .before .before in let t = start .args .text .now in let A = at-take .take in
-    let N = at-take-numbered .take-numbered in let S = c .before .before .before .before .take-starts in
-    let B = c .before .before .take-ap in
-    no-head (c .no-head3 .ensures) (head-no-ap (A .ensures) (omega (arith, at-if1 .if1 .left)) (N .ensures)
-    (omega (arith, c .before .before .before .before .before .before .if2 .left)) (S .ensures .read)
-    (B .ensures) (c .before .if3 .taken))
+    let at-take-numbered = c .before .before .before .before .before .before .before in let at-if1 = at-take-numbered .before .before in
+    no-head (c .no-head3 .ensures) (head-no-ap (at-if1 .before .take .ensures) (omega (arith, at-if1 .if1 .left))
+    (at-take-numbered .take-numbered .ensures) (omega (arith, c .before .before .before .before .before .before .if2 .left))
+    (c .before .before .before .before .take-starts .ensures .read) (c .before .before .take-ap .ensures) (c .before .if3 .taken))
 
 take-requires-2 : tie.Need-take-requires-2
 take-requires-2 c κs = (c .before .before .take-ap .ensures .found (omega arith) .1, omega arith)

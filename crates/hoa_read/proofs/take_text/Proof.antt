@@ -19,41 +19,34 @@ take-blocks-requires c κs =
 
 returns-3 : tie.Need-returns-3
 returns-3 c =
-    let start = c .before .before .before .before .before .before .before .before .before .before in
-    let t = start .args .text .now in let R = c .before .before .before .before .before .before .take-head in
-    let r = R .result in let B = c .before .before .before .take-blocks in
-    no-survey (c .no-survey3 .ensures) (survey-no-blocks
-    (R .ensures .found (omega (arith, c .before .before .before .before .before .if2 .left))) (B .ensures) (c .before .if3 .taken))
+    let R = c .before .before .before .before .before .before .take-head in let B = c .before .before .before .take-blocks in
+    no-survey (c .no-survey3 .ensures) (survey-no-blocks (R .ensures .found (omega (arith, c .before .before .before .before .before .if2 .left)))
+    (B .ensures) (c .before .if3 .taken))
 
 returns-4 : tie.Need-returns-4
 returns-4 c =
-    let at-if2 = c .before .before .before .before .before .before .before .before in
-    let at-take-head = at-if2 .before in let start = at-take-head .before .before .before .before in
-    let t = start .args .text .now in let R = at-take-head .take-head in let r = R .result in
-    let B = c .before .before .before .before .before .before .take-blocks in
-    no-survey (c .no-survey4 .ensures) (survey-rejecting (R .ensures .found (omega (arith, at-if2 .if2 .left))) (B .ensures) (omega (arith, c .before .before .before .before .if3 .left)) (c .before .if4 .taken))
+    let at-if2 = c .before .before .before .before .before .before .before .before in let at-take-head = at-if2 .before in
+    let R = at-take-head .take-head in let B = c .before .before .before .before .before .before .take-blocks in
+    no-survey (c .no-survey4 .ensures) (survey-rejecting (R .ensures .found (omega (arith, at-if2 .if2 .left))) (B .ensures)
+    (omega (arith, c .before .before .before .before .if3 .left)) (c .before .if4 .taken))
 
 take-requires : tie.Need-take-requires
 take-requires c κs = (c .before .before .before .before .before .before .take-blocks .ensures .found (omega arith) .read .within, omega arith)
 
 returns-5 : tie.Need-returns-5
 returns-5 c =
-    let at-if3 = c .before .before .before .before .before .before .before in
-    let at-take-blocks = at-if3 .before .before in let at-if2 = at-take-blocks .before .before in
-    let at-take-head = at-if2 .before in let start = at-take-head .before .before .before .before in
-    let t = start .args .text .now in let R = at-take-head .take-head in let r = R .result in
-    let B = at-take-blocks .take-blocks in let E = c .before .before .take in
-    no-survey (c .no-survey5 .ensures) (survey-no-end (R .ensures .found (omega (arith, at-if2 .if2 .left))) (B .ensures) (omega (arith, at-if3 .if3 .left)) (E .ensures) (c .before .if5 .taken))
+    let at-if3 = c .before .before .before .before .before .before .before in let at-take-blocks = at-if3 .before .before in
+    let at-if2 = at-take-blocks .before .before in
+    no-survey (c .no-survey5 .ensures) (survey-no-end (at-if2 .before .take-head .ensures .found (omega (arith, at-if2 .if2 .left)))
+    (at-take-blocks .take-blocks .ensures) (omega (arith, at-if3 .if3 .left)) (c .before .before .take .ensures) (c .before .if5 .taken))
 
 returns-6 : tie.Need-returns-6
 returns-6 c =
-    let at-if3 = c .before .before .before .before .before .before .before .before in
-    let at-take-blocks = at-if3 .before .before in let at-if2 = at-take-blocks .before .before in
-    let at-take-head = at-if2 .before in let start = at-take-head .before .before .before .before in
-    let t = start .args .text .now in let R = at-take-head .take-head in let r = R .result in
+    let at-if3 = c .before .before .before .before .before .before .before .before in let at-take-blocks = at-if3 .before .before in
+    let at-if2 = at-take-blocks .before .before in let at-take-head = at-if2 .before in let R = at-take-head .take-head in
     let B = at-take-blocks .take-blocks in let E = c .before .before .before .take in
-    no-survey (c .no-survey6 .ensures) (survey-more (R .ensures .found (omega (arith, at-if2 .if2 .left))) (B .ensures) (omega (arith, at-if3 .if3 .left)) (E .ensures) (omega (arith, c .before .before .if5 .left))
-    (λ e. omega (arith, e, c .before .if6 .taken)))
+    no-survey (c .no-survey6 .ensures) (survey-more (R .ensures .found (omega (arith, at-if2 .if2 .left))) (B .ensures)
+    (omega (arith, at-if3 .if3 .left)) (E .ensures) (omega (arith, c .before .before .if5 .left)) (λ e. omega (arith, e, c .before .if6 .taken)))
 
 returns-7 : tie.Need-returns-7
 returns-7 c =

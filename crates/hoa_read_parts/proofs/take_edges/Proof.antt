@@ -59,9 +59,8 @@ later-now c =
 
 loop-again : tie.Need-loop-again Inv-loop μ-loop
 loop-again c =
-    let at-if1 = c .before .before .before .before .before .before .before in
-    let at-loop = at-if1 .before .before .before in let start = at-loop .before .before .before in
-    let a = start .args in let l = at-loop .loop in
+    let at-if1 = c .before .before .before .before .before .before .before in let at-loop = at-if1 .before .before .before in
+    let start = at-loop .before .before .before in let a = start .args in let l = at-loop .loop in
     let T = c .before .before .before .before .before .before .take-edge in (
       omega (arith, later-now c),
       omega (arith, later-now c),

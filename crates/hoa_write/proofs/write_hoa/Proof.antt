@@ -23,29 +23,25 @@ read c = sym (c .before .before .read-rule .ensures) ∙ c .l .given .1
 
 cast-write-read : tie.Need-cast-write-read
 cast-write-read c =
-    let start = c .before .before .before .before .before .before .before .before .before in
-    let f = start .args .file .now in let l = c .before .before .l .given .0 .0 in
-    omega (arith, initial-low f l (served f l (read (c .before .before))))
+    let start = c .before .before .before .before .before .before .before .before .before in let f = start .args .file .now in
+    let l = c .before .before .l .given .0 .0 in omega (arith, initial-low f l (served f l (read (c .before .before))))
 
 write-read-requires : tie.Need-write-read-requires
 write-read-requires c κs =
     let at-l = c .before .before .before in let start = at-l .before .before .before .before .before .before .before in
-    let f = start .args .file .now in let l = at-l .l .given .0 .0 in
-    (served-letters f l (read (at-l)), initial-low f l (served f l (read (at-l))))
+    let f = start .args .file .now in let l = at-l .l .given .0 .0 in (served-letters f l (read (at-l)), initial-low f l (served f l (read (at-l))))
 
 returns : tie.Need-returns
 returns c =
-    let start = c .before .before .before .before .before .before .before .before .before .before .before .before .before in
-    let a = start .args in let l = c .before .before .before .before .before .before .l .given .0 .0 in
-    let v = served (a .file .now) l (read (c .before .before .before .before .before .before)) in
+    let a = c .before .before .before .before .before .before .before .before .before .before .before .before .before .args in
+    let v = served (a .file .now) (c .before .before .before .before .before .before .l .given .0 .0) (read (c .before .before .before .before .before .before)) in
     let w = c .before .before .write-read in
     accepted (a .file .now) (inBytes (a .codes .now)) (inBytes (a .transitions .now)) (a .text .now) (w .last .1 .1 .1 .1 .0) (w .result) (v .row)
     (subst (λ (r : Rule). Called (r .s) (r .initial) (inBytes (a .codes .now)) (inBytes (a .transitions .now)) (a .text .now) (w .last .1 .1 .1 .1 .0) (w .result)) (v .rule) (w .ensures))
 
 returns-2 : tie.Need-returns-2
 returns-2 c =
-    let start = c .before .before .before .before .before .before .before .before in let a = start .args in
-    let k = c .before .k .given .0 .0 in
+    let a = c .before .before .before .before .before .before .before .before .args in let k = c .before .k .given .0 .0 in
     let t = turned-away (a .file .now) k (sym (c .before .before .before .read-rule .ensures) ∙ c .before .k .given .1) in
     refused (a .file .now) (inBytes (a .codes .now)) (inBytes (a .transitions .now)) k (a .text .now) (λ e. t .1 (t .0 ∙ e)) (sym (t .0))
 

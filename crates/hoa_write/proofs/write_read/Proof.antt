@@ -35,9 +35,7 @@ passes : (c : tie.Else1) → let a = start-of-else1 c .args in tableRow (a .s) (
 passes c = sym (row-is (c .before)) ∙ c .if1 .left
 
 propositions-of-requires : tie.Need-propositions-of-requires
-propositions-of-requires c κs =
-    let start = c .before .before .before .before .before .before .before in
-    start .pre .0
+propositions-of-requires c κs = let start = c .before .before .before .before .before .before .before in start .pre .0
 
 fits-requires : tie.Need-fits-requires
 fits-requires c κs =
@@ -55,8 +53,7 @@ text c = let a = start-of-after-propositions-of c .args in text-is (a .s) (a .co
 
 returns-2 : tie.Need-returns-2
 returns-2 c =
-    let start = c .before .before .before .before .before .before .before .before .before .before in
-    let a = start .args in
+    let start = c .before .before .before .before .before .before .before .before .before .before in let a = start .args in
     let room : length (a .text .now) < length (lentText (a .s) (a .initial) (inBytes (a .codes .now)) (inBytes (a .moves .now))) =
     rw (text (c .before .before)) (leb-false _ _ (sym (c .before .fits2 .ensures) ∙ not-true _ (c .if2 .taken))) in
     called-refused (a .s) (a .initial) (inBytes (a .codes .now)) (inBytes (a .moves .now)) (a .text .now) 16 (λ z. omega arith)
@@ -72,8 +69,7 @@ fitting c = leb-true _ _ (sym (c .before .fits2 .ensures) ∙ not-false _ (c .if
 
 put-text-requires : tie.Need-put-text-requires
 put-text-requires c κs =
-    let start = c .before .before .before .before .before .before .before .before .before .before .before in
-    let a = start .args in (
+    let start = c .before .before .before .before .before .before .before .before .before .before .before in let a = start .args in (
       c .before .before .before .propositions-of .ensures .1,
       start .pre .1,
       bytes-passed (a .s) (a .codes .now) (a .moves .now) (passes (c .before .before .before .before)) .transitions-ascend,

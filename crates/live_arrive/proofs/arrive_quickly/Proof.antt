@@ -31,9 +31,8 @@ returns c =
 
 step-part-requires : tie.Need-step-part-requires
 step-part-requires c κs =
-    let start = c .before .before .before .before .before .before .before .before .before in let a = start .args in
     let t = tried (c .before .before .before) in
-    let w = words-in-length (a .codes .now) in
+    let w = words-in-length (c .before .before .before .before .before .before .before .before .before .args .codes .now) in
     (t .known, omega (arith, t .few), omega (arith, t .few, t .long), λ y l. t .flags y (omega arith))
 
 returns-2 : tie.Need-returns-2
@@ -55,21 +54,18 @@ add-put-number c =
 
 put-number-requires : tie.Need-put-number-requires
 put-number-requires c κs =
-    let earlier = c .before .before .before .before .before .before .before .before in
-    let t = tried (earlier) in
+    let t = tried (c .before .before .before .before .before .before .before .before) in
     (omega (arith, t .free, c .before .before .before .before .before .before .number-at .ensures), omega (arith, t .long, c .before .before .before .before .step-part .kept .1 .1 .1 .1 .0))
 
 add-put-byte : tie.Need-add-put-byte
 add-put-byte c =
     let at-number-at = c .before .before .before .before .before .before .before .before .before .before in
-    let earlier = at-number-at .before .before in
-    omega (arith, tried (earlier) .free, at-number-at .number-at .ensures)
+    let earlier = at-number-at .before .before in omega (arith, tried (earlier) .free, at-number-at .number-at .ensures)
 
 cast-put-byte : tie.Need-cast-put-byte
 cast-put-byte c =
     let earlier = c .before .before .before .before .before .before .before .before .before .before .before .before in
-    let start = earlier .before .before .before .before .before .before in
-    omega (arith, tried (earlier) .known, start .pre)
+    let start = earlier .before .before .before .before .before .before in omega (arith, tried (earlier) .known, start .pre)
 
 put-byte-requires : tie.Need-put-byte-requires
 put-byte-requires c κs =
@@ -80,10 +76,9 @@ put-byte-requires c κs =
 
 returns-3 : tie.Need-returns-3
 returns-3 c =
-    let at-if2 = c .before .before .before .before .before .before .before .before in
-    let at-step-part = at-if2 .before .before .before in let at-number-at = at-step-part .before .before in
-    let earlier = at-number-at .before .before in let start = earlier .before .before .before .before .before .before in
-    let a = start .args in
+    let at-if2 = c .before .before .before .before .before .before .before .before in let at-step-part = at-if2 .before .before .before in
+    let at-number-at = at-step-part .before .before in let earlier = at-number-at .before .before in
+    let start = earlier .before .before .before .before .before .before in let a = start .args in
     let t = tried (earlier) in
     let d = at-step-part .step-part .ensures in
     let yes = not-false (at-step-part .step-part .result) (at-if2 .if2 .left) in

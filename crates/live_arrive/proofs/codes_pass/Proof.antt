@@ -36,5 +36,4 @@ returns-3 c =
 
 pub codes-pass-spec : {M : Type 1} → statement M
 codes-pass-spec =
-    tie.close (tie.spec
-    (λ c κs. search needs) (λ c e. absurd (true-false (sym e))) returns-2 (λ c. search needs) element-requires returns-3)
+    tie.close (tie.spec (λ c κs. search needs) (λ c e. absurd (true-false (sym e))) returns-2 (λ c. search needs) element-requires returns-3)

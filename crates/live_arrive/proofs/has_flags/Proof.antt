@@ -22,9 +22,7 @@ loop-again c =
     (omega arith, λ j k. by-cases (ℕ-discrete j (l .i)) (λ x. rw x (e .1)) (λ x. omega (arith, l .inv .1 j (omega arith), e .0)))
 
 returns : tie.Need-returns Inv-loop μ-loop
-returns c =
-    let l = c .before .loop in
-    λ e y k. omega (arith, l .inv .1 y (omega arith), leb-true)
+returns c = let l = c .before .loop in λ e y k. omega (arith, l .inv .1 y (omega arith), leb-true)
 
 pub has-flags-spec : {M : Type 1} → statement M
 has-flags-spec =

@@ -19,8 +19,7 @@ returns c =
 
 serve-requires : tie.Need-serve-requires
 serve-requires c κs =
-    let start = c .before .before .before .before .before .before .before .before .before .before in
-    let a = start .args in
+    let start = c .before .before .before .before .before .before .before .before .before .before in let a = start .args in
     let e = sym (c .before .before .before .before .call-row .ensures) ∙ c .before .before .before .if1 .left in (
       start .pre .0,
       ready (a .call) (a .h .s) (a .codes .now) (a .transitions .now) (a .state .now) (length (a .set .now)) e,
@@ -30,9 +29,8 @@ serve-requires c κs =
 
 returns-2 : tie.Need-returns-2
 returns-2 c =
-    let at-if1 = c .before .before .before .before .before .before .before .before in
-    let at-call-row = at-if1 .before in let start = at-call-row .before .before .before .before .before .before in
-    let a = start .args in
+    let at-if1 = c .before .before .before .before .before .before .before .before in let at-call-row = at-if1 .before in
+    let start = at-call-row .before .before .before .before .before .before in let a = start .args in
     served-by _ (a .call) (a .h .initial) (wordsIn (a .codes .now)) (wordsIn (a .transitions .now)) (a .state .now) (a .set .now) _ _ (c .before .before .before .before .serve .result)
     (sym (at-call-row .call-row .ensures) ∙ at-if1 .if1 .left) (c .before .before .before .before .serve .ensures)
 

@@ -16,8 +16,7 @@ use Rattle.live_call.proofs.call_read.Tie as tie
 
 count-requires : tie.Need-count-requires
 count-requires c κs =
-    let start = c .before .before .before .before .before .before .before .before .before .before .before .before in
-    let a = start .args in
+    let start = c .before .before .before .before .before .before .before .before .before .before .before .before in let a = start .args in
     let e = c .before .before .before .before .before .before .try-quickly .ensures .served (c .before .before .enum-told .given .1) in
     let R = ready (a .call) (a .h .s) (a .codes .now) (a .transitions .now) (a .state .now) (length (a .set .now)) e in (
       omega (arith, R .few, R .long, c .before .before .before .before .before .before .try-quickly .kept .1 .1 .1 .1 .0),
@@ -36,9 +35,8 @@ returns c =
 
 returns-2 : tie.Need-returns-2
 returns-2 c =
-    let start = c .before .before .before .before .before .before .before .before .before .before in
-    let a = start .args in let t = c .before .before .before .before .try-quickly in
-    let told = c .enum-told2 .given .1 in
+    let start = c .before .before .before .before .before .before .before .before .before .before in let a = start .args in
+    let t = c .before .before .before .before .try-quickly in let told = c .enum-told2 .given .1 in
     subst (λ (k : ℕ). CalledBy k (a .call) (a .h .initial) (wordsIn (a .codes .now)) (wordsIn (a .transitions .now)) (a .state .now) (a .set .now) (t .last .1 .1 .1 .1 .0) (a .set .now) (Refused 15))
     (sym (t .ensures .refused told))
     (subst (λ (left : List ℕ). CalledBy 15 (a .call) (a .h .initial) (wordsIn (a .codes .now)) (wordsIn (a .transitions .now)) (a .state .now) (a .set .now) left (a .set .now) (Refused 15))

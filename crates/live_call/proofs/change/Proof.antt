@@ -43,10 +43,9 @@ returns c =
 
 returns-2 : tie.Need-returns-2
 returns-2 c =
-    let start = c .before .before .before .before .before .before .before .before .before .before in
-    let a = start .args in
-    arrive-effect (a .call) (a .state .now) (a .initial) (wordsIn (a .codes .now)) (wordsIn (a .transitions .now)) _ _ (c .before .before .before .before .before .call .given .1)
-    (c .before .before .arrive .ensures (a .initial))
+    let start = c .before .before .before .before .before .before .before .before .before .before in let a = start .args in
+    arrive-effect (a .call) (a .state .now) (a .initial) (wordsIn (a .codes .now)) (wordsIn (a .transitions .now)) _ _
+    (c .before .before .before .before .before .call .given .1) (c .before .before .arrive .ensures (a .initial))
 
 returns-3 : tie.Need-returns-3
 returns-3 c =
@@ -56,17 +55,15 @@ returns-3 c =
 
 returns-4 : tie.Need-returns-4
 returns-4 c =
-    let start = c .before .before .before .before .before .before .before .before .before .before in
-    let a = start .args in
-    mark-effect (a .call) (a .state .now) (a .initial) (wordsIn (a .codes .now)) (wordsIn (a .transitions .now)) _ _ (c .before .before .before .before .before .call2 .given .1)
-    (c .before .before .mark .ensures)
+    let start = c .before .before .before .before .before .before .before .before .before .before in let a = start .args in
+    mark-effect (a .call) (a .state .now) (a .initial) (wordsIn (a .codes .now)) (wordsIn (a .transitions .now)) _ _
+    (c .before .before .before .before .before .call2 .given .1) (c .before .before .mark .ensures)
 
 returns-5 : tie.Need-returns-5
 returns-5 c =
-    let start = c .before .before .before .before .before .before .before .before .before .before in
-    let a = start .args in
-    return-effect (a .call) (a .state .now) (a .initial) (wordsIn (a .codes .now)) (wordsIn (a .transitions .now)) _ _ (c .before .before .before .before .before .call3 .given .1)
-    (c .before .before .return-to .ensures)
+    let start = c .before .before .before .before .before .before .before .before .before .before in let a = start .args in
+    return-effect (a .call) (a .state .now) (a .initial) (wordsIn (a .codes .now)) (wordsIn (a .transitions .now)) _ _
+    (c .before .before .before .before .before .call3 .given .1) (c .before .before .return-to .ensures)
 
 pub change-spec : {M : Type 1} → statement M
 change-spec =

@@ -14,17 +14,14 @@ call-read-requires c κs =
 
 returns : tie.Need-returns
 returns c =
-    let at-l = c .before .before .before .before .before .before .before .before .before in
-    let at-read-rule = at-l .before .before in
-    let start = at-read-rule .before .before .before .before .before .before in let a = start .args in
-    let l = at-l .l .given .0 .0 in
+    let at-l = c .before .before .before .before .before .before .before .before .before in let at-read-rule = at-l .before .before in
+    let start = at-read-rule .before .before .before .before .before .before in let a = start .args in let l = at-l .l .given .0 .0 in
     file-served (a .call) (a .file .now) (a .codes .now) (a .transitions .now) (a .state .now) (a .set .now) l _ _ (c .before .before .before .before .call-read .result)
     (served (a .file .now) l (sym (at-read-rule .read-rule .ensures) ∙ at-l .l .given .1)) (c .before .before .before .before .call-read .ensures)
 
 returns-2 : tie.Need-returns-2
 returns-2 c =
-    let start = c .before .before .before .before .before .before .before .before .before in let a = start .args in
-    let k = c .before .row .given .0 .0 in
+    let a = c .before .before .before .before .before .before .before .before .before .args in let k = c .before .row .given .0 .0 in
     let t = turned-away (a .file .now) k (sym (c .before .before .before .read-rule .ensures) ∙ c .before .row .given .1) in
     file-refused (a .call) (a .file .now) (a .codes .now) (a .transitions .now) (a .state .now) (a .set .now) k (λ e. t .1 (t .0 ∙ e)) (sym (t .0))
 

@@ -24,8 +24,7 @@ returns-2 c =
 
 returns-3 : tie.Need-returns-3
 returns-3 c =
-    let start = c .before .before .before .before .before .before .before .before .before .before in
-    let a = start .args in
+    let start = c .before .before .before .before .before .before .before .before .before .before in let a = start .args in
     log-refuses (a .call) (a .s) (inBytes (a .codes .now)) (inBytes (a .transitions .now)) (a .state .now) (a .room)
     (sym (c .before .before .before .before .before .before .letter-row .ensures) ∙ c .before .before .before .before .before .if1 .left)
     (sym (rw (both-bytes (a .codes .now), both-bytes (a .transitions .now)) at (c .before .before .before .table-row .ensures)) ∙ c .before .before .if2 .left)

@@ -20,9 +20,7 @@ loop-again c =
     (omega arith, through-next flagOf (c .before .before .before .before .before .args .set .now) (l .set) (l .i) _ (omega arith) (c .flag .ensures) (l .inv .1))
 
 returns : tie.Need-returns Inv-loop μ-loop
-returns c =
-    let l = c .before .loop in
-    through-end flagOf (c .before .before .before .args .set .now) (l .set) (l .i) (omega arith) (l .inv .1)
+returns c = let l = c .before .loop in through-end flagOf (c .before .before .before .args .set .now) (l .set) (l .i) (omega arith) (l .inv .1)
 
 pub flag-all-spec : {M : Type 1} → statement M
 flag-all-spec =

@@ -17,9 +17,7 @@ abbrev μ-loop : tie.MeasureT-loop
 μ-loop n state set₀ members₀ i₀ set members i = n - i
 
 loop-holds : tie.Need-loop-holds Inv-loop μ-loop
-loop-holds c =
-    let a = c .before .before .args in
-    (omega arith, showing-start (isIn (setBytes (a .state .now))) (a .set .now))
+loop-holds c = let a = c .before .before .args in (omega arith, showing-start (isIn (setBytes (a .state .now))) (a .set .now))
 
 loop-again : tie.Need-loop-again Inv-loop μ-loop
 loop-again c =

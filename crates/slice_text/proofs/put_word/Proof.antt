@@ -8,14 +8,11 @@ use Rattle.slice_text.proofs.put_word.Statement.{statement}
 use Rattle.slice_text.proofs.put_word.Tie as tie
 
 put-decimal-requires : tie.Need-put-decimal-requires
-put-decimal-requires c κs =
-    let a = c .before .before .before .before .before .before .args in
-    omega (arith, word-length (a .x))
+put-decimal-requires c κs = let a = c .before .before .before .before .before .before .args in omega (arith, word-length (a .x))
 
 returns : tie.Need-returns
 unfolding word
-returns c =
-    put-then (c .before .before .before .before .before .before .put-byte .ensures) (c .before .before .put-decimal .ensures)
+returns c = put-then (c .before .before .before .before .before .before .put-byte .ensures) (c .before .before .put-decimal .ensures)
 
 pub put-word-spec : {M : Type 1} → statement M
 put-word-spec =

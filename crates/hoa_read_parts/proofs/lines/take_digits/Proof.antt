@@ -37,8 +37,7 @@ returns-4 c =
 
 loop-again : tie.Need-loop-again Inv-loop μ-loop
 loop-again c =
-    let start = c .before .before .before .before .before .before .before in
-    let l = c .before .before .before .before .before .loop in
+    let start = c .before .before .before .before .before .before .before in let l = c .before .before .before .before .before .loop in
     let a = start .args in (
       omega arith,
       not-last (a .text .now) (l .q) (start .pre .0) (omega arith) (omega arith),

@@ -19,16 +19,14 @@ returns c =
 
 returns-2 : tie.Need-returns-2 Inv-loop μ-loop
 returns-2 c =
-    let a = c .before .before .before .before .before .args in
-    let L = c .before .before .take-literal in (
+    let a = c .before .before .before .before .before .args in let L = c .before .before .take-literal in (
       label-no-first (a .b) (omega arith) (omega arith) (L .ensures .0) (c .before .if2 .taken) (c .nothing .ensures .1),
       λ l. absurd (omega (arith, c .nothing .ensures .1)),
     )
 
 loop-holds : tie.Need-loop-holds Inv-loop μ-loop
 loop-holds c =
-    let a = c .before .before .before .before .args in
-    let L = c .before .take-literal in (
+    let a = c .before .before .before .before .args in let L = c .before .take-literal in (
       omega arith,
       labelled-first (a .b) (omega arith) (omega arith) (L .ensures .0) (omega arith) (L .ensures .1 (omega arith)),
     )

@@ -19,5 +19,4 @@ returns c =
 
 pub edge-length-spec : {M : Type 1} → statement M
 edge-length-spec =
-    tie.close (tie.spec
-    (λ c κs. search needs) (λ c κs. search needs) (λ c. omega (arith, short c)) (λ c. omega (arith, short c)) returns)
+    tie.close (tie.spec (λ c κs. search needs) (λ c κs. search needs) (λ c. omega (arith, short c)) (λ c. omega (arith, short c)) returns)

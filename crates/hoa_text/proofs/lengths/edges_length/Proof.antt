@@ -43,8 +43,7 @@ add-total c =
 
 loop-again : tie.Need-loop-again Inv-loop μ-loop
 loop-again c =
-    let start = c .before .before .before .before .before .before .before in let a = start .args in
-    let l = c .before .before .before .before .before .loop in
+    let a = c .before .before .before .before .before .before .before .args in let l = c .before .before .before .before .before .loop in
     let among : l .i < length (wordsIn (a .moves .now)) = omega (arith, words-in-length (a .moves .now)) in
     let t = c .before .before .before .number-at .ensures in
     let text : edgeLine (a .b) (c .before .before .letter-of .result) (c .before .target-of .result) ≡ edgeOf (a .b) (l .i) (getD (wordsIn (a .moves .now)) (l .i) 0) =

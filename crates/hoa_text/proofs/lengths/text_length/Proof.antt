@@ -33,14 +33,10 @@ put-ap-requires c κs = (
 )
 
 macrostates-length-requires : tie.Need-macrostates-length-requires
-macrostates-length-requires c κs =
-    let start = c .before .before .before .before .before .before .before .before in
-    (start .pre .1, start .pre .2)
+macrostates-length-requires c κs = let start = c .before .before .before .before .before .before .before .before in (start .pre .1, start .pre .2)
 
 edges-length-requires : tie.Need-edges-length-requires
-edges-length-requires c κs =
-    let start = c .before .before .before .before .before .before .before .before .before in
-    (start .pre .0, start .pre .3)
+edges-length-requires c κs = let start = c .before .before .before .before .before .before .before .before .before in (start .pre .0, start .pre .3)
 
 abbrev start-of-after-edges-length : tie.After-edges-length → tie.Start
 start-of-after-edges-length c = c .before .before .before .before .before .before .before .before .before .before
@@ -68,8 +64,7 @@ bounds c =
 
 returns : tie.Need-returns
 returns c =
-    let start = c .before .before .before .before .before .before .before .before .before .before in
-    let a = start .args in
+    let start = c .before .before .before .before .before .before .before .before .before .before in let a = start .args in
     let initial = initialAt (a .initial) in
     let flags = flagsOf initial (wordsIn (a .codes .now)) in
     omega (

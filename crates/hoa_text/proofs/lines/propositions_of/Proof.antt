@@ -18,5 +18,4 @@ returns-5 c = (four-needed (c .before .before .before .before .args .s) (omega a
 
 pub propositions-of-spec : {M : Type 1} → statement M
 propositions-of-spec =
-    tie.close (tie.spec
-    (λ c. (none-needed (c .before .args .s) (c .if1 .taken), omega arith)) returns-2 returns-3 returns-4 returns-5)
+    tie.close (tie.spec (λ c. (none-needed (c .before .args .s) (c .if1 .taken), omega arith)) returns-2 returns-3 returns-4 returns-5)

@@ -32,8 +32,7 @@ returns-3 c = put-as (ap apLine (c .before .before .before .before .before .if3 
 
 put-requires-4 : tie.Need-put-requires-4
 put-requires-4 c κs =
-    let start = c .before .before .before .before .before .before .before in
-    omega (arith, ap-length (start .args .b) (start .pre .0))
+    let start = c .before .before .before .before .before .before .before in omega (arith, ap-length (start .args .b) (start .pre .0))
 
 returns-4 : tie.Need-returns-4
 unfolding apLine names word decimal digitsIn
@@ -41,8 +40,7 @@ returns-4 c = put-as (ap apLine (c .before .before .before .before .before .if4 
 
 put-requires-5 : tie.Need-put-requires-5
 put-requires-5 c κs =
-    let start = c .before .before .before .before .before .before .before in
-    omega (arith, ap-length (start .args .b) (start .pre .0))
+    let start = c .before .before .before .before .before .before .before in omega (arith, ap-length (start .args .b) (start .pre .0))
 
 returns-5 : tie.Need-returns-5
 unfolding apLine names word decimal digitsIn

@@ -43,5 +43,4 @@ returns c =
 
 pub put-edge-spec : {M : Type 1} → statement M
 put-edge-spec =
-    tie.close (tie.spec
-    put-byte-requires put-label-requires put-byte-requires-2 put-number-requires put-byte-requires-3 (λ c. search needs) returns)
+    tie.close (tie.spec put-byte-requires put-label-requires put-byte-requires-2 put-number-requires put-byte-requires-3 (λ c. search needs) returns)

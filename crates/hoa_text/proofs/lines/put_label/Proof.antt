@@ -41,8 +41,7 @@ so-far c = let a = start-of-at-loop c .args in c .loop .inv .2 (a .out .now) (a 
 
 put-byte-requires-2 : tie.Need-put-byte-requires-2 Inv-loop μ-loop
 put-byte-requires-2 c κs =
-    let start = c .before .before .before .before .before .before .before .before .before in let a = start .args in
-    let l = c .before .before .loop in
+    let a = c .before .before .before .before .before .before .before .before .before .args in let l = c .before .before .loop in
     let P = so-far (c .before .before) in
     omega (arith, P .ends, put-length P, next-length (a .letter) (l .i) (a .b) (l .inv .0) (omega arith))
 

@@ -20,36 +20,31 @@ put-requires c κs = let a = c .before .before .before .args in omega (arith, st
 
 put-number-requires : tie.Need-put-number-requires
 put-number-requires c κs =
-    let start = c .before .before .before .before .before .before .before in
-    let a = start .args in omega (arith, state-length (a .number) (a .accepting))
+    let a = c .before .before .before .before .before .before .before .args in omega (arith, state-length (a .number) (a .accepting))
 
 put-requires-2 : tie.Need-put-requires-2
 put-requires-2 c κs =
-    let start = c .before .before .before .before .before .before .before .before .before .before .before .before .before in
-    let a = start .args in
+    let a = c .before .before .before .before .before .before .before .before .before .before .before .before .before .args in
     omega (arith, state-length (a .number) true, ap length (line-is (a .accepting) true (a .number) (c .before .before .if1 .taken)))
 
 returns : tie.Need-returns
 unfolding stateLine
 returns c =
     let at-put-number = c .before .before .before .before .before .before .before .before in
-    let at-put = at-put-number .before .before .before .before in let start = at-put .before .before .before .before in
-    let a = start .args in
+    let at-put = at-put-number .before .before .before .before in let a = at-put .before .before .before .before .args in
     put-as (line-is (a .accepting) true (a .number) (c .before .before .before .before .before .if1 .taken))
     (put-then (at-put .put .ensures) (put-then (at-put-number .put-number .ensures) (c .before .before .put2 .ensures)))
 
 put-byte-requires : tie.Need-put-byte-requires
 put-byte-requires c κs =
-    let start = c .before .before .before .before .before .before .before .before .before .before .before .before in
-    let a = start .args in
+    let start = c .before .before .before .before .before .before .before .before .before .before .before .before in let a = start .args in
     omega (arith, state-length (a .number) false, ap length (line-is (a .accepting) false (a .number) (c .before .if1 .left)))
 
 returns-2 : tie.Need-returns-2
 unfolding stateLine
 returns-2 c =
     let at-put-number = c .before .before .before .before .before .before .before in
-    let at-put = at-put-number .before .before .before .before in let start = at-put .before .before .before .before in
-    let a = start .args in
+    let at-put = at-put-number .before .before .before .before in let a = at-put .before .before .before .before .args in
     put-as (line-is (a .accepting) false (a .number) (c .before .before .before .before .if1 .left))
     (put-then (at-put .put .ensures) (put-then (at-put-number .put-number .ensures) (c .before .before .put-byte .ensures)))
 

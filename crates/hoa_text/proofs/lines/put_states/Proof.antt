@@ -8,14 +8,11 @@ use Rattle.hoa_text.proofs.lines.put_states.Statement.{statement}
 use Rattle.hoa_text.proofs.lines.put_states.Tie as tie
 
 put-number-requires : tie.Need-put-number-requires
-put-number-requires c κs =
-    let start = c .before .before .before .before .before .before .before in
-    omega (arith, states-length (start .args .states))
+put-number-requires c κs = let start = c .before .before .before .before .before .before .before in omega (arith, states-length (start .args .states))
 
 put-byte-requires : tie.Need-put-byte-requires
 put-byte-requires c κs =
-    let start = c .before .before .before .before .before .before .before .before .before .before .before in
-    omega (arith, states-length (start .args .states))
+    omega (arith, states-length (c .before .before .before .before .before .before .before .before .before .before .before .args .states))
 
 returns : tie.Need-returns
 unfolding statesLine

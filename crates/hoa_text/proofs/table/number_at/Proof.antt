@@ -7,8 +7,7 @@ use Rattle.hoa_text.proofs.table.number_at.Tie as tie
 
 returns : tie.Need-returns
 returns c =
-    let a = c .before .before .args in
-    c .word-at .ensures ∙ sym (words-in-at (a .bytes .now) (a .i) (omega (arith, words-in-length (a .bytes .now))))
+    let a = c .before .before .args in c .word-at .ensures ∙ sym (words-in-at (a .bytes .now) (a .i) (omega (arith, words-in-length (a .bytes .now))))
 
 pub number-at-spec : {M : Type 1} → statement M
 number-at-spec =

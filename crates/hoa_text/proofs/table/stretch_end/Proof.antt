@@ -40,8 +40,7 @@ returns c =
 
 loop-again : tie.Need-loop-again Inv-loop μ-loop
 loop-again c =
-    let a = c .before .before .before .before .before .before .args in
-    let l = c .before .before .before .before .loop in
+    let a = c .before .before .before .before .before .before .args in let l = c .before .before .before .before .loop in
     (omega arith, omega arith, stretch-more (wordsIn (a .moves .now)) (a .i) (a .j) (l .k) (l .inv .2) (sym (source (c .before)) ∙ c .if1 .left))
 
 returns-2 : tie.Need-returns-2 Inv-loop μ-loop

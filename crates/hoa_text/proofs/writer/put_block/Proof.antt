@@ -18,8 +18,7 @@ put-state-requires c κs =
 
 put-edges-requires : tie.Need-put-edges-requires
 put-edges-requires c κs =
-    let start = c .before .before .before .before .before .before .before in let a = start .args in
-    let p = start .pre in
+    let start = c .before .before .before .before .before .before .before in let a = start .args in let p = start .pre in
     let P = c .before .before .before .put-state .ensures in (
       p .0,
       p .1,

@@ -56,8 +56,7 @@ text-is c =
 put-block-requires : tie.Need-put-block-requires Inv-loop μ-loop
 put-block-requires c κs =
     let start = c .before .before .before .before .before .before .before .before .before in let a = start .args in
-    let l = c .before .before .before .before .before .loop in
-    let R = c .before .stretch-end .ensures in (
+    let l = c .before .before .before .before .before .loop in let R = c .before .stretch-end .ensures in (
       start .pre .0,
       R .from,
       R .within,
@@ -67,10 +66,8 @@ put-block-requires c κs =
 
 loop-again : tie.Need-loop-again Inv-loop μ-loop
 loop-again c =
-    let at-stretch-end = c .before .before .before .before in
-    let at-loop = at-stretch-end .before .before .before .before in
-    let start = at-loop .before .before .before .before in let a = start .args in
-    let l = at-loop .loop in (
+    let at-stretch-end = c .before .before .before .before in let at-loop = at-stretch-end .before .before .before .before in
+    let start = at-loop .before .before .before .before in let a = start .args in let l = at-loop .loop in (
       omega arith,
       cursor-next (wordsIn (a .moves .now)) (start .pre .1) (l .i) (l .j) (at-stretch-end .stretch-end .result) (l .inv .1) (at-stretch-end .stretch-end .ensures),
       put-line (blockOf (a .b) (wordsIn (a .moves .now))) (flagsOf (initialAt (a .initial)) (wordsIn (a .codes .now))) (l .i) (omega (arith, flags-count (initialAt (a .initial)) (a .codes .now)))

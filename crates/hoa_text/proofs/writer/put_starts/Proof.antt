@@ -50,9 +50,8 @@ put-start-requires c κs =
 
 loop-again : tie.Need-loop-again Inv-loop μ-loop
 loop-again c =
-    let at-loop = c .before .before .before .before .before .before .before in
-    let start = at-loop .before .before .before in let a = start .args in
-    let l = at-loop .loop in (
+    let at-loop = c .before .before .before .before .before .before .before in let start = at-loop .before .before .before in
+    let a = start .args in let l = at-loop .loop in (
       omega arith,
       put-line startOf (flagsOf (initialAt (a .initial)) (wordsIn (a .codes .now))) (l .i) (omega (arith, flags-count (initialAt (a .initial)) (a .codes .now))) (l .inv .1) _
           (text-is (c .before .before .before .before)) (c .before .before .put-start .ensures),

@@ -22,8 +22,7 @@ put-requires c κs = let a = c .before .before .before .before .before .args in
 
 put-states-requires : tie.Need-put-states-requires
 put-states-requires c κs =
-    let start = c .before .before .before .before .before .before .before .before .before in
-    let a = start .args in omega (
+    let start = c .before .before .before .before .before .before .before .before .before in let a = start .args in omega (
       arith,
       text-sum (a .b) (flagsOf (initialAt (a .initial)) (wordsIn (a .codes .now))) (wordsIn (a .moves .now)),
       ap length (states-is (initialAt (a .initial)) (a .codes .now)),

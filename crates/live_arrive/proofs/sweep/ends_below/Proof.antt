@@ -13,8 +13,7 @@ use Rattle.live_arrive.proofs.sweep.ends_below.Tie as tie
 
 returns : tie.Need-returns
 returns c =
-    let a = c .before .before .args in
-    sourced-none (a .n) (wordsIn (a .transitions .now)) (omega (arith, words-in-length (a .transitions .now)))
+    let a = c .before .before .args in sourced-none (a .n) (wordsIn (a .transitions .now)) (omega (arith, words-in-length (a .transitions .now)))
 
 element-requires : tie.Need-element-requires
 element-requires c κs = omega (arith, words-in-length (c .before .before .args .transitions .now))

@@ -41,24 +41,19 @@ returns-2 c =
     falls-four (wordsIn bytes) (l .last) (l .i) (omega (arith, words-in-length bytes)) (sym (c .before .rise-four .ensures) ∙ not-true r (c .if2 .taken)) (l .inv .1)
 
 element-requires-2 : tie.Need-element-requires-2 Inv-loop μ-loop Inv-loop2 μ-loop2
-element-requires-2 c κs =
-    let start = c .before .before .before .before .before .before .before in
-    omega (arith, words-in-length (start .args .bytes .now))
+element-requires-2 c κs = omega (arith, words-in-length (c .before .before .before .before .before .before .before .args .bytes .now))
 
 loop-again : tie.Need-loop-again Inv-loop μ-loop Inv-loop2 μ-loop2
 loop-again c =
-    let start = c .before .before .before .before .before .before .before .before in
-    let bytes = start .args .bytes .now in let l = c .before .before .before .before .loop in
-    let r = c .before .before .rise-four .result in (
+    let start = c .before .before .before .before .before .before .before .before in let bytes = start .args .bytes .now in
+    let l = c .before .before .before .before .loop in let r = c .before .before .rise-four .result in (
       omega arith,
       rw (c .element2 .ensures) (rises-four (wordsIn bytes) (l .last) (l .i) (omega (arith, words-in-length bytes))
           (sym (c .before .before .rise-four .ensures) ∙ not-false r (c .before .if2 .left)) (l .inv .1)),
     )
 
 element-requires-3 : tie.Need-element-requires-3 Inv-loop μ-loop Inv-loop2 μ-loop2
-element-requires-3 c κs =
-    let start = c .before .before .before .before .before .before .before in
-    omega (arith, words-in-length (start .args .bytes .now))
+element-requires-3 c κs = omega (arith, words-in-length (c .before .before .before .before .before .before .before .args .bytes .now))
 
 returns-3 : tie.Need-returns-3 Inv-loop μ-loop Inv-loop2 μ-loop2
 returns-3 c =
@@ -68,8 +63,7 @@ returns-3 c =
 
 loop2-again : tie.Need-loop2-again Inv-loop μ-loop Inv-loop2 μ-loop2
 loop2-again c =
-    let start = c .before .before .before .before .before .before .before .before .before in
-    let bytes = start .args .bytes .now in
+    let start = c .before .before .before .before .before .before .before .before .before in let bytes = start .args .bytes .now in
     let l = c .before .before .before .loop2 in (
       omega arith,
       rw (c .before .element3 .ensures) (rises-one (wordsIn bytes) (l .last) (l .i) (omega (arith, words-in-length bytes)) (omega (arith, c .if3 .left, c .before .element3 .ensures))
@@ -79,8 +73,7 @@ loop2-again c =
 returns-4 : tie.Need-returns-4 Inv-loop μ-loop Inv-loop2 μ-loop2
 returns-4 c =
     let start = c .before .before .before .before .before .before .before in let bytes = start .args .bytes .now in
-    let l = c .before .loop2 in
-    rises-end (wordsIn bytes) (l .last) (l .i) (omega (arith, words-in-length bytes)) (l .inv .1)
+    let l = c .before .loop2 in rises-end (wordsIn bytes) (l .last) (l .i) (omega (arith, words-in-length bytes)) (l .inv .1)
 
 pub is-ascending-spec : {M : Type 1} → statement M
 is-ascending-spec =

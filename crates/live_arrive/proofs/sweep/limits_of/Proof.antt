@@ -17,8 +17,7 @@ abbrev μ-loop : tie.MeasureT-loop
 
 loop-again : tie.Need-loop-again Inv-loop μ-loop
 loop-again c =
-    let a = c .before .before .before .args in
-    let l = c .before .before .loop in (
+    let a = c .before .before .before .args in let l = c .before .before .loop in (
       omega (arith, c .before .loop-test .taken),
       length-set (l .limits) (l .l) (c .limit-of .result) ∙ l .inv .1,
       put-next (λ z. limitOf (a .s) (a .n) (a .letter) z) (l .limits) (l .l) (c .limit-of .result) (omega (arith, l .inv .1, c .before .loop-test .taken)) (c .limit-of .ensures) (l .inv .2),

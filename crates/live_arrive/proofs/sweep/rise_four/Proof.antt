@@ -13,8 +13,7 @@ use Rattle.live_arrive.proofs.sweep.rise_four.Tie as tie
 
 returns : tie.Need-returns
 returns c =
-    let a = c .before .before .before .args in
-    four-first (a .last) (wordsIn (a .bytes .now)) (a .i) (omega (arith, c .before .element .ensures))
+    let a = c .before .before .before .args in four-first (a .last) (wordsIn (a .bytes .now)) (a .i) (omega (arith, c .before .element .ensures))
 
 add-element : tie.Need-add-element
 add-element c = omega (arith, words-in-length (c .before .before .before .args .bytes .now))
@@ -36,16 +35,13 @@ returns-3 c =
     four-third (a .last) (wordsIn (a .bytes .now)) (a .i) (omega (arith, first)) (omega (arith, first, second)) (omega (arith, second, c .before .element3 .ensures))
 
 add-element-3 : tie.Need-add-element-3
-add-element-3 c =
-    let start = c .before .before .before .before .before .before .before in
-    omega (arith, words-in-length (start .args .bytes .now))
+add-element-3 c = let start = c .before .before .before .before .before .before .before in omega (arith, words-in-length (start .args .bytes .now))
 
 returns-4 : tie.Need-returns-4
 returns-4 c =
     let start = c .before .before .before .before .before .before .before .before in let a = start .args in
     let first = c .before .before .before .before .before .before .element .ensures in
-    let second = c .before .before .before .before .element2 .ensures in
-    let third = c .before .before .element3 .ensures in
+    let second = c .before .before .before .before .element2 .ensures in let third = c .before .before .element3 .ensures in
     ap₂ (λ (x y : ℕ). ltb x y) third (c .element4 .ensures)
     ∙ four-last (a .last) (wordsIn (a .bytes .now)) (a .i) (omega (arith, first)) (omega (arith, first, second)) (omega (arith, second, third))
 

@@ -16,8 +16,7 @@ loop-holds c = (omega arith, let p = c .pre in copied-start 512 (c .args .from) 
 
 loop-again : tie.Need-loop-again Inv-loop μ-loop
 loop-again c =
-    let a = c .before .before .before .args in let p = c .before .before .before .pre in
-    let l = c .before .before .loop in
+    let a = c .before .before .before .args in let p = c .before .before .before .pre in let l = c .before .before .loop in
     (omega arith, copied-next 512 (a .from) (a .to) (a .state .now) (p .0) (p .1) (p .2) (l .state) (l .i) (omega arith) (l .inv .1))
 
 returns : tie.Need-returns Inv-loop μ-loop

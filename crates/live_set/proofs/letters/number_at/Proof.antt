@@ -11,9 +11,7 @@ use Rattle.live_set.proofs.letters.number_at.Tie as tie
 
 -- the second byte
 high : (c : tie.After-byte-at2) → c .byte-at2 .result ≡ getD (c .before .before .before .args .state .now) (suc (c .before .before .before .args .at)) 0
-high c =
-    let a = c .before .before .before .args in
-    c .byte-at2 .ensures ∙ ap (λ (k : ℕ). getD (a .state .now) k 0) (add-one (a .at))
+high c = let a = c .before .before .before .args in c .byte-at2 .ensures ∙ ap (λ (k : ℕ). getD (a .state .now) k 0) (add-one (a .at))
 
 returns : tie.Need-returns
 unfolding numberAt

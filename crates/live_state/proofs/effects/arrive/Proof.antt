@@ -16,8 +16,7 @@ use Rattle.live_state.proofs.effects.arrive.Tie as tie
 step-requires : tie.Need-step-requires
 step-requires c κs =
     let at-put-number = c .before .before .before .before .before .before .before in
-    let start = at-put-number .before .before .before .before .before .before .before in let a = start .args in
-    let pre = start .pre .0 in
+    let start = at-put-number .before .before .before .before .before .before .before in let a = start .args in let pre = start .pre .0 in
     let w = words-in-length (a .codes .now) in
     (rw (sym w) (pre .inside), omega (arith, w, pre .few, pre .long, c .before .before .before .put-byte .kept .0, at-put-number .put-number .kept .0))
 

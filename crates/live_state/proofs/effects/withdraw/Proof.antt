@@ -36,8 +36,7 @@ returns : tie.Need-returns
 unfolding withdrawn numbered
 returns c =
     let at-put-number = c .before .before .before .before .before .before .before .before .before .before in
-    let at-number-at = at-put-number .before .before in
-    let start = at-number-at .before .before .before .before .before in let a = start .args in
+    let at-number-at = at-put-number .before .before in let a = at-number-at .before .before .before .before .before .args in
     let n = ap (λ (k : ℕ). k - 1) (at-number-at .number-at .ensures) in
     let written =
     c .before .before .before .before .before .before .put-byte .ensures

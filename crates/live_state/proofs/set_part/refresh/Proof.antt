@@ -16,8 +16,7 @@ use Rattle.live_state.proofs.set_part.refresh.Tie as tie
 
 replay-requires : tie.Need-replay-requires
 replay-requires c κs =
-    let start = c .before .before .before .before .before .before .before .before in let a = start .args in
-    let pre = start .pre .1 in
+    let start = c .before .before .before .before .before .before .before .before in let a = start .args in let pre = start .pre .1 in
     let codes = wordsIn (a .codes .now) in
     let w = words-in-length (a .codes .now) in
     let fits : setAt + length codes ≤ length (a .state .now) = omega (arith, pre .few, pre .long) in

@@ -25,8 +25,7 @@ step-set-requires c κs =
 returns : tie.Need-returns
 unfolding withSet
 returns c =
-    let a = c .before .before .before .before .before .before .args in
-    let pre = c .before .before .before .before .before .before .pre in
+    let a = c .before .before .before .before .before .before .args in let pre = c .before .before .before .before .before .before .pre in
     let ts = wordsIn (a .transitions .now) in
     let same : setAt + a .n - setAt ≡ a .n = omega arith in
     let e = c .before .before .step-set .ensures ∙ step-part setAt (setAt + a .n - setAt) (a .n) (a .letter) ts (a .state .now) same (pre .1) (pre .0) in
