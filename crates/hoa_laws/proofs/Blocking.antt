@@ -13,6 +13,7 @@ use lib.Seq.{sets, drop-cons, getD-append-add}
 use borrow.Author.Tests.{lt-ltb, le-ltb, ltb-true, ltb-false, eqb-true}
 use Rattle.sets.specs.Masks.{bit}
 use Rattle.sets.specs.Lists.{Ascending, none}
+use Rattle.sets.proofs.Bits.{bit-none}
 use Rattle.sets.proofs.Bools.{bif}
 use Rattle.sets.proofs.Lists.{keep-out}
 use Rattle.theory.specs.Run.{sourceOf}
@@ -92,40 +93,22 @@ bit-2 : bit 2 1 ≡ true
 unfolding bit
 bit-2 = refl
 
-bit-0 : bit 0 1 ≡ false
-unfolding bit
-bit-0 = refl
-
 pub first-bit : (a i j : ℕ) → j < i → bit (getD (acceptingFirst a i) j 0) 1 ≡ ltb j a
 first-bit a i j h =
     by-cases (decLt j a)
     (λ l. ap (λ (x : ℕ). bit x 1) (first-low a i j l) ∙ bit-2 ∙ sym (lt-ltb j a l))
-    (λ n. ap (λ (x : ℕ). bit x 1) (first-high a i j (omega arith) h) ∙ bit-0 ∙ sym (le-ltb j a (omega arith)))
+    (λ n. ap (λ (x : ℕ). bit x 1) (first-high a i j (omega arith) h) ∙ bit-none 1 ∙ sym (le-ltb j a (omega arith)))
 
 -- one number more
 first-more : (accepting i a : ℕ) → accepting ≤ i → Onward accepting i a → (f : ℕ) × (acceptingFirst a (i + 1) ≡ acceptingFirst accepting i ++ (f ∷ [])) × (bit f 1 ≡ ltb i a)
 first-more accepting i a h (inl e) =
-    let k : i + 1 - a ≡ (i - accepting) + 1 = omega arith in (
-      0,
-      ap (λ (c : ℕ). replicate c 2 ++ replicate (i + 1 - a) 0) e
-          ∙ ap (λ (c : ℕ). replicate accepting 2 ++ replicate c 0) k
-          ∙ ap (λ (s : List ℕ). replicate accepting 2 ++ s) (sym (replicate-append-replicate (i - accepting) 1 0))
-          ∙ sym (append-assoc (replicate accepting 2) (replicate (i - accepting) 0) (0 ∷ [])),
-      bit-0 ∙ sym (le-ltb i a (omega arith)),
-    )
+    let k : i + 1 - accepting ≡ (i - accepting) + 1 = omega arith in
+    (0, rw (e, k, ← replicate-append-replicate {A = ℕ} (i - accepting) 1 0, append-assoc), bit-none 1 ∙ sym (le-ltb i a (omega arith)))
 first-more accepting i a h (inr (e, q)) =
-    let k : i + 1 - a ≡ 0 = omega arith in
+    let k : i + 1 - (accepting + 1) ≡ 0 = omega arith in
     let l : a ≡ accepting + 1 = omega arith in
-    let z : i - accepting ≡ 0 = omega arith in (
-      2,
-      ap (λ (c : ℕ). replicate a 2 ++ replicate c 0) k
-          ∙ append-nil (replicate a 2)
-          ∙ ap (λ (c : ℕ). replicate c 2) l
-          ∙ sym (replicate-append-replicate accepting 1 2)
-          ∙ ap (λ (s : List ℕ). s ++ (2 ∷ [])) (sym (append-nil (replicate accepting 2)))
-          ∙ ap (λ (c : ℕ). (replicate accepting 2 ++ replicate c 0) ++ (2 ∷ [])) (sym z),
-      bit-2 ∙ sym (lt-ltb i a (omega arith)),
-    )
+    let z : i - accepting ≡ 0 = omega arith in
+    (2, rw (l, k, z, append-nil, append-nil, ← replicate-append-replicate {A = ℕ} accepting 1 2), bit-2 ∙ sym (lt-ltb i a (omega arith)))
 
 -- ---- one block after the other
 

@@ -20,6 +20,7 @@ use Rattle.listing_lines_spec.proofs.Lines.{lines-length}
 use Rattle.hoa_spec.specs.Lines.{hoaLine, statesLine, startLine, apLine, acceptanceLines, stateLine, edgeLine, endLine}
 use Rattle.hoa_spec.specs.Text.{startOf, stateOf, edgeOf, leaving, blockOf, automatonText}
 use Rattle.hoa_laws.proofs.Lengths.{word-short, states-length, ap-length, start-short, state-short, edge-short}
+use Rattle.hoa_laws.proofs.Edges.{any-number}
 use Rattle.hoa_laws.proofs.Leaving.{keep-yes, keep-no}
 
 -- ---- the edge lines of all numbers are those of the list
@@ -29,16 +30,11 @@ module _ (b : ℕ) where
   abbrev edges : List ℕ → ℕ
   edges ts = length (lines (edgeOf b) 0 ts)
 
-  any-number : (i j : ℕ) (ts : List ℕ) → lines (edgeOf b) i ts ≡ lines (edgeOf b) j ts
-  unfolding lines
-  any-number i j [] = refl
-  any-number i j (t ∷ ts) = ap (λ (s : List ℕ). edgeLine b (letterOf t) (targetOf t) ++ s) (any-number (suc i) (suc j) ts)
-
   edges-cons : (t : ℕ) (ts : List ℕ) → edges (t ∷ ts) ≡ length (edgeLine b (letterOf t) (targetOf t)) + edges ts
   unfolding lines
   edges-cons t ts =
       length-append (edgeLine b (letterOf t) (targetOf t)) (lines (edgeOf b) 1 ts)
-      ∙ ap (λ (s : List ℕ). length (edgeLine b (letterOf t) (targetOf t)) + length s) (any-number 1 0 ts)
+      ∙ ap (λ (s : List ℕ). length (edgeLine b (letterOf t) (targetOf t)) + length s) (any-number b 1 0 ts)
 
   -- the transitions from numbers below i
   abbrev below : List ℕ → ℕ → List ℕ
@@ -76,15 +72,7 @@ module _ (b : ℕ) where
       let ih = blocks-from ts flags (suc i) in
       let e : suc i + length flags ≡ i + suc (length flags) = omega arith in
       let last = ap (λ (k : ℕ). edges (below ts k)) e in
-      omega (
-        arith,
-        ih,
-        last,
-        below-next ts i,
-        length-append (stateLine i (bit f 1) ++ lines (edgeOf b) 0 (leaving ts i)) (lines (blockOf b ts) (suc i) flags),
-        length-append (stateLine i (bit f 1)) (lines (edgeOf b) 0 (leaving ts i)),
-        length-append (stateLine i (bit f 1)) (lines stateOf (suc i) flags),
-      )
+      simp length-append (omega (arith, ih, last, below-next ts i))
 
   below-none : (ts : List ℕ) → below ts 0 ≡ []
   unfolding keep
@@ -103,12 +91,7 @@ module _ (b : ℕ) where
       → length (lines (blockOf b ts) 0 flags) ≡ length (lines stateOf 0 flags) + length (lines (edgeOf b) 0 ts)
   unfolding lines
   blocks-length ts flags h =
-      omega (
-        arith,
-        blocks-from ts flags 0,
-        ap edges (below-none ts),
-        ap (λ (k : ℕ). edges (below ts k)) (zero-add (length flags)) ∙ ap edges (below-all ts (length flags) h),
-      )
+      omega (arith, blocks-from ts flags 0, ap edges (below-none ts), ap (λ (k : ℕ). edges (below ts k)) (zero-add (length flags)) ∙ ap edges (below-all ts (length flags) h))
 
 -- ---- the whole text
 
@@ -122,20 +105,16 @@ few-members n [] none h = omega arith
 few-members n (x ∷ xs) (from a) h = omega (arith, few-from n x xs a (λ z m. h z (List·Memᴰ·tail m)) (h x (List·Memᴰ·head refl)))
 
 module _ (b : ℕ) (flags ts : List ℕ) where
-  -- its parts
+  -- its parts, line by line
+  pub text-sum : length (automatonText b flags ts)
+      ≡ length (statesLine (length flags)) + length (lines startOf 0 flags) + length (apLine b) + length (lines (blockOf b ts) 0 flags) + 113
+  unfolding automatonText
+  text-sum = simp length-append (omega arith)
+
   pub text-length : ((t : ℕ) → List·Memᴰ t ts → sourceOf t < length flags)
       → length (automatonText b flags ts)
       ≡ length (statesLine (length flags)) + length (lines startOf 0 flags) + length (apLine b) + length (lines stateOf 0 flags) + length (lines (edgeOf b) 0 ts) + 113
-  unfolding automatonText
-  text-length h =
-      omega (
-        arith,
-        length-append (statesLine (length flags)) (lines startOf 0 flags ++ (apLine b ++ (acceptanceLines ++ (lines (blockOf b ts) 0 flags ++ endLine)))),
-        length-append (lines startOf 0 flags) (apLine b ++ (acceptanceLines ++ (lines (blockOf b ts) 0 flags ++ endLine))),
-        length-append (apLine b) (acceptanceLines ++ (lines (blockOf b ts) 0 flags ++ endLine)),
-        length-append (lines (blockOf b ts) 0 flags) endLine,
-        blocks-length b ts flags h,
-      )
+  text-length h = omega (arith, text-sum, blocks-length b ts flags h)
 
   -- every table that row 15 lets through
   module _ (four : b ≤ 4) (few : length flags ≤ 65536) (source : (t : ℕ) → List·Memᴰ t ts → sourceOf t < length flags) where
@@ -155,13 +134,4 @@ module _ (b : ℕ) (flags ts : List ℕ) where
     -- MULGREDDI_HOA_BOUND
     pub text-bound : length (automatonText b flags ts) ≤ 30 * length flags + 20 * length ts + 153
     text-bound =
-        omega (
-          arith,
-          text-length source,
-          starts-bound,
-          states-bound,
-          edges-bound,
-          states-length (length flags),
-          word-short (length flags) few,
-          ap-length b four,
-        )
+        omega (arith, text-length source, starts-bound, states-bound, edges-bound, states-length (length flags), word-short (length flags) few, ap-length b four)

@@ -91,10 +91,6 @@ unfolding lowCount
 low-no c codes h = rw (le-ltb c (2 ^ 44) h, lowCount)
 
 module _ (initial : Set) where
-  starts-length : (codes : List ℕ) → length (startsOf initial codes) ≡ length codes
-  starts-length [] = refl
-  starts-length (c ∷ codes) = ap suc (starts-length codes)
-
   one-small : (b : Bool) → one b ≤ 1
   one-small true = omega arith
   one-small false = omega arith

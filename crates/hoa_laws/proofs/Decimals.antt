@@ -167,8 +167,7 @@ pub decimal-once : (x x′ : ℕ) {rest rest′ : List ℕ} → Stops rest → S
 decimal-once x x′ {rest} {rest′} S T e = cased (left x′ T e x refl)
   where
     cased : (zs : List ℕ) × (decimal x′ ≡ decimal x ++ zs) × (rest ≡ zs ++ (T .byte ∷ T .others)) → (x ≡ x′) × (rest ≡ rest′)
-    cased ([], f, g) =
-        (sym (decimal-value x) ∙ ap (value 0) (sym (append-nil (decimal x)) ∙ sym f) ∙ decimal-value x′, g ∙ sym (T .is))
+    cased ([], f, g) = (sym (decimal-value x) ∙ ap (value 0) (sym (append-nil (decimal x)) ∙ sym f) ∙ decimal-value x′, g ∙ sym (T .is))
     cased (z ∷ zs, f, g) =
         let d : Digits (decimal x ++ (z ∷ zs)) = rw f at (decimal-digits x′) in
         let k = digits-head (digits-after (decimal x) d) in

@@ -18,7 +18,7 @@ from-tail : {b i t : ℕ} {ts : List ℕ} → From b i (t ∷ ts) → From b i t
 from-tail F = record { source = λ u m. F .source u (List·Memᴰ·tail m); letter = λ u m. F .letter u (List·Memᴰ·tail m) }
 
 -- how the edge lines are numbered makes no difference
-any-number : (b i j : ℕ) (ts : List ℕ) → lines (edgeOf b) i ts ≡ lines (edgeOf b) j ts
+pub any-number : (b i j : ℕ) (ts : List ℕ) → lines (edgeOf b) i ts ≡ lines (edgeOf b) j ts
 unfolding lines
 any-number b i j [] = refl
 any-number b i j (t ∷ ts) = ap (λ (s : List ℕ). edgeOf b 0 t ++ s) (any-number b (suc i) (suc j) ts)
@@ -26,8 +26,7 @@ any-number b i j (t ∷ ts) = ap (λ (s : List ℕ). edgeOf b 0 t ++ s) (any-num
 pub edges-cons : (b t : ℕ) (ts rest : List ℕ) → lines (edgeOf b) 0 (t ∷ ts) ++ rest ≡ edgeOf b 0 t ++ (lines (edgeOf b) 0 ts ++ rest)
 unfolding lines
 edges-cons b t ts rest =
-    append-assoc (edgeOf b 0 t) (lines (edgeOf b) 1 ts) rest
-    ∙ ap (λ (s : List ℕ). edgeOf b 0 t ++ (s ++ rest)) (any-number b 1 0 ts)
+    append-assoc (edgeOf b 0 t) (lines (edgeOf b) 1 ts) rest ∙ ap (λ (s : List ℕ). edgeOf b 0 t ++ (s ++ rest)) (any-number b 1 0 ts)
 
 pub edges-snoc : (b : ℕ) (ts : List ℕ) (t : ℕ) → lines (edgeOf b) 0 (ts ++ (t ∷ [])) ≡ lines (edgeOf b) 0 ts ++ edgeOf b 0 t
 unfolding lines

@@ -111,7 +111,4 @@ module _ {text : List ℕ} {p b n i : ℕ} {edges : List ℕ} {low r : ℕ} (E :
 pub move-stored : (old : List ℕ) (m : ℕ) (edges : List ℕ) (count x : ℕ) {now new : List ℕ} → count ≡ m + length edges → now ≡ sets old m edges → new ≡ set now count x →
     new ≡ sets old m (edges ++ (x ∷ []))
 move-stored old m edges count x h e w =
-    w
-    ∙ ap (λ (xs : List ℕ). set xs count x) e
-    ∙ ap (λ (k : ℕ). set (sets old m edges) k x) h
-    ∙ sym (sets-append old m edges (x ∷ []))
+    w ∙ ap (λ (xs : List ℕ). set xs count x) e ∙ ap (λ (k : ℕ). set (sets old m edges) k x) h ∙ sym (sets-append old m edges (x ∷ []))

@@ -4,13 +4,15 @@ use mathlib.Core.List.{List, [], _∷_, _++_, append-assoc}
 use mathlib.Core.Logic.{by-cases, _⊎_, inl, inr, ⊎-elim}
 use Prim.Native.Nat.{ℕ, zero, suc, _+_, _*_, _/_, _%_, _^_, _≤_, _<_}
 use native.Mathlib.Omega.{arith}
+use native.Mathlib.Nat.{add-zero, pow-suc, mod-eq-of-lt, add-mod-right, div-eq-of-lt, zero-div, add-div-right, div-self, pow-le-pow-right}
+use native.Mathlib.Numerals.{add-one}
 use native.Mathlib.Decide.{decLt}
 use lib.Dec.{eqb}
 use lib.ListN.{length, drop}
 use borrow.Author.Tests.{eq-eqb}
 use Rattle.sets.specs.Masks.{bit}
 use Rattle.sets.proofs.Bools.{bif}
-use Rattle.sets.proofs.Bits.{bit-none, bit-mod, bit-shl-one}
+use Rattle.sets.proofs.Bits.{bit-none, bit-mod, bit-shl-one, shl-one}
 use Rattle.theory.specs.Run.{sourceOf, letterOf, targetOf}
 use Rattle.slice_text.specs.Decimal.{digit, word}
 use Rattle.listing_lines_spec.specs.Lines.{newline}
@@ -57,6 +59,10 @@ module _ {text : List ℕ} {p : ℕ} (i : ℕ) {a : ℕ} (A : Took text p (digit
               (λ k. not-plain y k rest f) m;
         }
 
+-- as it is shifted in a word
+pub shifted : (i : ℕ) → i < 4 → 1 * 2 ^ i % 2 ^ 64 ≡ 2 ^ i
+shifted i h = shl-one 64 i (omega arith)
+
 -- ---- labels
 
 literal-ext : (l m i : ℕ) → bit l i ≡ bit m i → literal l i ≡ literal m i
@@ -80,7 +86,7 @@ label-ext (suc (suc b)) l m h =
     ap (λ (s : List ℕ). s ++ (38 ∷ literal l (suc b))) (label-ext (suc b) l m (λ q k. h q (omega arith)))
     ∙ ap (λ (s : List ℕ). label (suc b) m ++ (38 ∷ s)) (literal-ext l m (suc b) (h (suc b) (omega arith)))
 
-label-add : (i l : ℕ) → 1 ≤ i → label (i + 1) l ≡ label i l ++ (38 ∷ literal l i)
+pub label-add : (i l : ℕ) → 1 ≤ i → label (i + 1) l ≡ label i l ++ (38 ∷ literal l i)
 unfolding label
 label-add zero l h = absurd (omega arith)
 label-add (suc i) l h = let e : suc i + 1 ≡ suc (suc i) = omega arith in ap (λ (k : ℕ). label k l) e
@@ -124,34 +130,27 @@ label-inner i (suc c) l rest h k = gap (diff i c (omega arith))
         (r .0, ap (λ (j : ℕ). label j l ++ rest) (sym f) ∙ r .1)
 
 -- a letter below 2 ^ i and the bit i, or not
-fits-more : (i l v : ℕ) → i < 4 → l < 2 ^ i → Single i v → l + v < 2 ^ (i + 1)
-fits-more zero l v h k s = ⊎-elim (λ e. omega arith) (λ e. omega arith) s
-fits-more (suc zero) l v h k s = ⊎-elim (λ e. omega arith) (λ e. omega arith) s
-fits-more (suc (suc zero)) l v h k s = ⊎-elim (λ e. omega arith) (λ e. omega arith) s
-fits-more (suc (suc (suc zero))) l v h k s = ⊎-elim (λ e. omega arith) (λ e. omega arith) s
-fits-more (suc (suc (suc (suc i)))) l v h k s = absurd (omega arith)
+fits-more : (i l v : ℕ) → l < 2 ^ i → Single i v → l + v < 2 ^ (i + 1)
+fits-more i l v k s = rw (add-one i, pow-suc 2 i) (⊎-elim (λ e. omega arith) (λ e. omega arith) s)
 
-low-part : (i l v : ℕ) → i < 4 → l < 2 ^ i → Single i v → (l + v) % 2 ^ i ≡ l
-low-part zero l v h k s = ⊎-elim (λ e. omega arith) (λ e. omega arith) s
-low-part (suc zero) l v h k s = ⊎-elim (λ e. omega arith) (λ e. omega arith) s
-low-part (suc (suc zero)) l v h k s = ⊎-elim (λ e. omega arith) (λ e. omega arith) s
-low-part (suc (suc (suc zero))) l v h k s = ⊎-elim (λ e. omega arith) (λ e. omega arith) s
-low-part (suc (suc (suc (suc i)))) l v h k s = absurd (omega arith)
+low-part : (i l v : ℕ) → l < 2 ^ i → Single i v → (l + v) % 2 ^ i ≡ l
+low-part i l v k s =
+    let m : l % 2 ^ i ≡ l = mod-eq-of-lt k in
+    ⊎-elim (λ e. cc (add-zero l)) (λ e. cc (add-mod-right l (2 ^ i))) s
 
-high-part : (i l v : ℕ) → i < 4 → l < 2 ^ i → Single i v → (l + v) / 2 ^ i ≡ v / 2 ^ i
-high-part zero l v h k s = ⊎-elim (λ e. omega arith) (λ e. omega arith) s
-high-part (suc zero) l v h k s = ⊎-elim (λ e. omega arith) (λ e. omega arith) s
-high-part (suc (suc zero)) l v h k s = ⊎-elim (λ e. omega arith) (λ e. omega arith) s
-high-part (suc (suc (suc zero))) l v h k s = ⊎-elim (λ e. omega arith) (λ e. omega arith) s
-high-part (suc (suc (suc (suc i)))) l v h k s = absurd (omega arith)
+high-part : (i l v : ℕ) → l < 2 ^ i → Single i v → (l + v) / 2 ^ i ≡ v / 2 ^ i
+high-part i l v k s =
+    let z : l / 2 ^ i ≡ 0 = div-eq-of-lt k in
+    let o : 0 < 2 ^ i = omega arith in
+    ⊎-elim (λ e. cc (add-zero l, zero-div (2 ^ i))) (λ e. cc (add-div-right l o, div-self o)) s
 
-module _ (i l v : ℕ) (h : i < 4) (k : l < 2 ^ i) (s : Single i v) where
+module _ (i l v : ℕ) (k : l < 2 ^ i) (s : Single i v) where
   high-bit : bit (l + v) i ≡ bit v i
   unfolding bit
-  high-bit = ap (λ (x : ℕ). eqb (x % 2) 1) (high-part i l v h k s)
+  high-bit = ap (λ (x : ℕ). eqb (x % 2) 1) (high-part i l v k s)
 
   low-bits : (q : ℕ) → q < i → bit (l + v) q ≡ bit l q
-  low-bits q g = sym (bit-mod (l + v) i q g) ∙ ap (λ (x : ℕ). bit x q) (low-part i l v h k s)
+  low-bits q g = sym (bit-mod (l + v) i q g) ∙ ap (λ (x : ℕ). bit x q) (low-part i l v k s)
 
   label-grown : 1 ≤ i → label (i + 1) (l + v) ≡ label i l ++ (38 ∷ literal v i)
   label-grown g =
@@ -217,13 +216,13 @@ module _ {text : List ℕ} {p : ℕ} (b : ℕ) (h : b ≤ 4) where
           let f = L .found j in
           record {
             some = omega arith;
-            small = fits-more i l v (omega arith) (I .small) (f .0);
+            small = fits-more i l v (I .small) (f .0);
             within = w;
             go-on = j;
             is = I .is
                 ∙ ap (λ (s : List ℕ). label i l ++ s) (C .found g .1 ∙ ap (λ (s : List ℕ). 38 ∷ s) (f .2))
                 ∙ sym (append-assoc (label i l) (38 ∷ literal v i) (drop r text))
-                ∙ ap (λ (s : List ℕ). s ++ drop r text) (sym (label-grown i l v (omega arith) (I .small) (f .0) (I .some)));
+                ∙ ap (λ (s : List ℕ). s ++ drop r text) (sym (label-grown i l v (I .small) (f .0) (I .some)));
           }
 
   pub label-done : {i l q : ℕ} → Labelled text p i l q → i ≡ b → TookOne text p (λ x. x < 2 ^ b) (label b) l q
@@ -233,12 +232,7 @@ module _ {text : List ℕ} {p : ℕ} (b : ℕ) (h : b ≤ 4) where
 -- ---- edge lines
 
 pub letter-small : (b l : ℕ) → b ≤ 4 → l < 2 ^ b → l < 16
-letter-small zero l h k = omega arith
-letter-small (suc zero) l h k = omega arith
-letter-small (suc (suc zero)) l h k = omega arith
-letter-small (suc (suc (suc zero))) l h k = omega arith
-letter-small (suc (suc (suc (suc zero)))) l h k = omega arith
-letter-small (suc (suc (suc (suc (suc b))))) l h k = absurd (omega arith)
+letter-small b l h k = omega (arith, pow-le-pow-right {n = 2} (omega arith) h)
 
 module _ (i l w : ℕ) (h : l < 256) (k : w < 65536) where
   pub source-of : sourceOf (i * 16777216 + l * 65536 + w) ≡ i

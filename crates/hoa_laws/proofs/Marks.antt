@@ -12,7 +12,7 @@ use lib.ListN.{length, getD}
 use lib.Seq.{ext-getD}
 use borrow.Author.Tests.{lt-ltb, le-ltb}
 use Rattle.sets.specs.Masks.{bit}
-use Rattle.sets.proofs.Bits.{bit-ext}
+use Rattle.sets.proofs.Bits.{bit-ext, bit-none}
 use Rattle.hoa_spec.specs.Shape.{flagsFrom, Marked}
 
 module _ (accepting : ℕ) where
@@ -51,12 +51,6 @@ low-bit zero h = refl
 low-bit (suc zero) h = refl
 low-bit (suc (suc s)) h = absurd (omega arith)
 
-no-bit : (q : ℕ) → q < 2 → bit 0 q ≡ false
-unfolding bit
-no-bit zero h = refl
-no-bit (suc zero) h = refl
-no-bit (suc (suc q)) h = absurd (omega arith)
-
 module _ (accepting : ℕ) (starts : List ℕ) (each : (i : ℕ) → getD starts i 0 ≤ 1) (begins : (i : ℕ) → accepting ≤ i → getD starts i 0 ≡ 0) (j : ℕ) (h : j < length starts) where
   -- the accepting flag, and the initial one
   pub accepting-bit : bit (getD (flagsFrom accepting 0 starts) j 0) 1 ≡ ltb j accepting
@@ -64,7 +58,7 @@ module _ (accepting : ℕ) (starts : List ℕ) (each : (i : ℕ) → getD starts
       by-cases (decLt j accepting)
       (λ l. ap (λ (f : ℕ). bit f 1) (flag-accepting accepting starts j h l) ∙ high-bit (getD starts j 0) (each j) ∙ sym (lt-ltb j accepting l))
       (λ n. let l : accepting ≤ j = omega arith in
-      ap (λ (f : ℕ). bit f 1) (flag-other accepting starts j h l) ∙ no-bit 1 (omega arith) ∙ sym (le-ltb j accepting l))
+      ap (λ (f : ℕ). bit f 1) (flag-other accepting starts j h l) ∙ bit-none 1 ∙ sym (le-ltb j accepting l))
 
   pub initial-bit : bit (getD (flagsFrom accepting 0 starts) j 0) 0 ≡ bit (getD starts j 0) 0
   initial-bit =

@@ -9,6 +9,7 @@ use native.Mathlib.Decide.{decLt, ℕ-discrete}
 use lib.Dec.{ltb}
 use lib.ListN.{length, getD, drop, set}
 use lib.Seq.{sets}
+use Rattle.sets.proofs.Bits.{bit-none}
 use Rattle.sets.specs.Masks.{bit}
 use Rattle.listing_lines_spec.specs.Lines.{lines}
 use Rattle.hoa_spec.specs.Lines.{startLine}
@@ -24,10 +25,6 @@ use Rattle.hoa_laws.proofs.Marks.{flags-length}
 pub bit-1 : bit 1 0 ≡ true
 unfolding bit
 bit-1 = refl
-
-pub bit-0 : bit 0 0 ≡ false
-unfolding bit
-bit-0 = refl
 
 pub starting-none : {text : List ℕ} {p n : ℕ} → p ≤ length text → Starting text p n 0 [] 0 p
 unfolding lines
@@ -79,12 +76,12 @@ module _ {text : List ℕ} {p n i : ℕ} {starts : List ℕ} {last r : ℕ} (S :
           reached = λ l. let g = S .high in snoc-before starts 0 (last - 1) (omega arith) ∙ S .reached l;
           high = let g = S .high in omega arith;
           within = S .within;
-          is = S .is ∙ ap (λ (s : List ℕ). s ++ drop r text) (sym (lines-more 0 (omega arith) ∙ ap (λ (s : List ℕ). lines startOf 0 starts ++ s) (start-no i 0 bit-0)
+          is = S .is ∙ ap (λ (s : List ℕ). s ++ drop r text) (sym (lines-more 0 (omega arith) ∙ ap (λ (s : List ℕ). lines startOf 0 starts ++ s) (start-no i 0 (bit-none 0))
               ∙ append-nil (lines startOf 0 starts)));
           only = λ fs rest l m e.
               let o = S .only fs rest l m e in
               let k = start-missing (drop r text) fs rest m i (omega arith) (o .0) (T .absent z) in
-              (k .1, bits-more 0 (omega arith) fs (k .0 ∙ sym bit-0) (o .1));
+              (k .1, bits-more 0 (omega arith) fs (k .0 ∙ sym (bit-none 0)) (o .1));
         }
 
     -- the start line of i

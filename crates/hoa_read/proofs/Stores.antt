@@ -9,6 +9,7 @@ use native.Mathlib.Nat.{zero-add}
 use native.Mathlib.Decide.{decLt}
 use lib.ListN.{length, getD, drop}
 use lib.Seq.{sets, sets-eq, ext-getD}
+use Rattle.sets.proofs.Bits.{bit-ext}
 use Rattle.sets.specs.Masks.{bit}
 use Rattle.hoa_spec.specs.Lines.{endLine}
 use Rattle.hoa_spec.specs.declared.HoaRead.the-variants.{Table}
@@ -30,19 +31,7 @@ whole-carries W = rw (W .text-is) (carries (W .shaped))
 
 -- a start is told by its bit
 start-same : (x y : ℕ) → x ≤ 1 → y ≤ 1 → bit x 0 ≡ bit y 0 → x ≡ y
-unfolding bit
-start-same zero zero h k e = refl
-start-same zero (suc y) h k e = absurd (other y k e)
-  where
-    other : (y : ℕ) → suc y ≤ 1 → bit 0 0 ≡ bit (suc y) 0 → ⊥
-    other zero k e = let z : false ≡ true = e in let w : _≡_ {A = ℕ} 0 1 = cc in omega arith
-    other (suc y) k e = omega arith
-start-same (suc x) zero h k e = absurd (other x h (sym e))
-  where
-    other : (y : ℕ) → suc y ≤ 1 → bit 0 0 ≡ bit (suc y) 0 → ⊥
-    other zero k e = let z : false ≡ true = e in let w : _≡_ {A = ℕ} 0 1 = cc in omega arith
-    other (suc y) k e = omega arith
-start-same (suc x) (suc y) h k e = omega arith
+start-same x y h k e = bit-ext 1 x y (omega arith) (omega arith) (λ q l. let z : q ≡ 0 = omega arith in rw z e)
 
 module _ {text : List ℕ} {n b accepting m starts blocks : ℕ} (W : Whole text n b accepting m starts blocks) where
   abbrev M : Marked (W .flags)
@@ -65,9 +54,7 @@ module _ {text : List ℕ} {n b accepting m starts blocks : ℕ} (W : Whole text
 
     flags-same : flagsFrom accepting 0 (S .starts) ≡ W .flags
     flags-same =
-        ap (λ (a : ℕ). flagsFrom a 0 (S .starts)) (W .first)
-        ∙ ap (λ (ss : List ℕ). flagsFrom (M .accepting) 0 ss) starts-same
-        ∙ sym (M .flags-are)
+        ap (λ (a : ℕ). flagsFrom a 0 (S .starts)) (W .first) ∙ ap (λ (ss : List ℕ). flagsFrom (M .accepting) 0 ss) starts-same ∙ sym (M .flags-are)
 
     pub flags-stored : n ≤ length old → new ≡ W .flags ++ drop (length (W .flags)) old
     flags-stored h =

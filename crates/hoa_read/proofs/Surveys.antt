@@ -10,6 +10,7 @@ use lib.Dec.{ltb}
 use lib.ListN.{length, getD, drop, length-append, length-drop, drop-of-length-le}
 use lib.Seq.{getD-append-add}
 use borrow.Author.Tests.{lt-ltb, ltb-true}
+use Rattle.sets.proofs.Bits.{bit-none}
 use Rattle.sets.specs.Masks.{bit}
 use Rattle.sets.proofs.Bools.{bif}
 use Rattle.slice_text.specs.Decimal.{word}
@@ -25,7 +26,7 @@ use Rattle.hoa_laws.proofs.Marks.{flags-length, accepting-bit, initial-bit, mar
 use Rattle.hoa_laws.proofs.Once.{ap-no-start, end-no-edge, text-parts, bodyText, lowText, highText}
 use Rattle.hoa_laws.proofs.Taking.{after}
 use Rattle.hoa_laws.specs.Parts.{Starting, acceptingFirst, BlocksOf, TookBlocks}
-use Rattle.hoa_laws.proofs.Starting.{bit-0, bit-1}
+use Rattle.hoa_laws.proofs.Starting.{bit-1}
 use Rattle.hoa_laws.proofs.Blocking.{first-length, first-bit}
 use Rattle.hoa_read.specs.Survey.{NoShape, HeadOf, TookHead, Surveyed}
 
@@ -180,7 +181,7 @@ module _ {text : List ℕ} {n b last starts blocks : ℕ} (H : HeadOf text n b l
           (λ a. let t = same c fs ts P e .bits j (omega arith) in
           let u : ltb j accepting ≡ true = sym (first-bit accepting n j jn) ∙ t ∙ marked-bit M j (omega arith) ∙ lt-ltb j (M .accepting) a in
           let v = ltb-true j accepting u in omega arith)
-          (λ a. let t : true ≡ false = sym start ∙ ap (λ (x : ℕ). bit x 0) (M .begins j (omega arith)) ∙ bit-0 in
+          (λ a. let t : true ≡ false = sym start ∙ ap (λ (x : ℕ). bit x 0) (M .begins j (omega arith)) ∙ bit-none 0 in
           let z : _≡_ {A = ℕ} 0 1 = cc in omega arith)
 
       end-part : (c : ℕ) (fs ts : List ℕ) → Shaped c fs ts → text ≡ automatonText c fs ts → drop q text ≡ endLine

@@ -12,6 +12,7 @@ use Rattle.slice_text.specs.Decimal.{digit}
 use Rattle.slice_text.specs.Put.{Put}
 use Rattle.slice_text.proofs.Puts.{put-as, put-then, put-length}
 use Rattle.hoa_spec.specs.Lines.{literal, label}
+use Rattle.hoa_laws.proofs.Labels.{label-add}
 use Rattle.hoa_laws.proofs.Lengths.{literal-yes, literal-no}
 
 module _ (letter i : ℕ) where
@@ -34,22 +35,15 @@ module _ (letter : ℕ) where
 
   -- one literal more
   pub label-next : (i : ℕ) → 1 ≤ i → label (i + 1) letter ≡ label i letter ++ (38 ∷ literal letter i)
-  unfolding label
-  label-next zero h = absurd (omega arith)
-  label-next (suc i) h = let e : suc i + 1 ≡ suc (suc i) = omega arith in ap (λ (k : ℕ). label k letter) e
+  label-next i h = label-add i letter h
 
   -- a label is no longer than one over more propositions
   longer : (i d : ℕ) → 1 ≤ i → length (label i letter) ≤ length (label (i + d) letter)
   longer i zero h = let e : i + zero ≡ i = omega arith in omega (arith, ap (λ (k : ℕ). length (label k letter)) e)
   longer i (suc d) h =
       let e : i + suc d ≡ i + d + 1 = omega arith in
-      omega (
-        arith,
-        longer i d h,
-        ap (λ (k : ℕ). length (label k letter)) e,
-        ap length (label-next (i + d) (omega arith)),
-        length-append (label (i + d) letter) (38 ∷ literal letter (i + d)),
-      )
+      let f = ap length (label-next (i + d) (omega arith)) in
+      omega (arith, longer i d h, ap (λ (k : ℕ). length (label k letter)) e, f, length-append (label (i + d) letter) (38 ∷ literal letter (i + d)))
 
   pub label-grows : (i b : ℕ) → 1 ≤ i → i ≤ b → length (label i letter) ≤ length (label b letter)
   label-grows i b h l = let e : i + (b - i) ≡ b = omega arith in omega (arith, longer i (b - i) h, ap (λ (k : ℕ). length (label k letter)) e)
@@ -57,13 +51,7 @@ module _ (letter : ℕ) where
   -- the next literal and the `&` before it
   module _ (i b : ℕ) (h : 1 ≤ i) (l : i < b) where
     pub next-length : length (label i letter) + 1 + length (literal letter i) ≤ length (label b letter)
-    next-length =
-        omega (
-          arith,
-          label-grows (i + 1) b (omega arith) (omega arith),
-          ap length (label-next i h),
-          length-append (label i letter) (38 ∷ literal letter i),
-        )
+    next-length = omega (arith, label-grows (i + 1) b (omega arith) (omega arith), ap length (label-next i h), length-append (label i letter) (38 ∷ literal letter i))
 
   module _ {d : List ℕ} {at : ℕ} {d₁ : List ℕ} {e : ℕ} (i : ℕ) (h : 1 ≤ i) (P : Put d at (label i letter) d₁ e) where
     pub put-next : {d₂ d₃ : List ℕ} {a r : ℕ} → Put d₁ e (38 ∷ []) d₂ a → Put d₂ a (literal letter i) d₃ r → Put d at (label (i + 1) letter) d₃ r

@@ -66,19 +66,6 @@ module _ (ts : List ℕ) (j k : ℕ) (h : j ≤ k) (l : k ≤ length ts) where
 
 -- ---- the whole text
 
--- its parts, line by line
-pub text-sum : (b : ℕ) (flags ts : List ℕ)
-    → length (automatonText b flags ts) ≡ length (statesLine (length flags)) + length (lines startOf 0 flags) + length (apLine b) + length (lines (blockOf b ts) 0 flags) + 113
-unfolding automatonText
-text-sum b flags ts =
-    omega (
-      arith,
-      length-append (statesLine (length flags)) (lines startOf 0 flags ++ (apLine b ++ (acceptanceLines ++ (lines (blockOf b ts) 0 flags ++ endLine)))),
-      length-append (lines startOf 0 flags) (apLine b ++ (acceptanceLines ++ (lines (blockOf b ts) 0 flags ++ endLine))),
-      length-append (apLine b) (acceptanceLines ++ (lines (blockOf b ts) 0 flags ++ endLine)),
-      length-append (lines (blockOf b ts) 0 flags) endLine,
-    )
-
 -- the states line of codes that are lent in bytes
 pub states-is : (initial : Set) (codes : List ℕ) → statesLine (length (flagsOf initial (wordsIn codes))) ≡ statesLine (length codes / 8)
 states-is initial codes = ap statesLine (flags-count initial codes)

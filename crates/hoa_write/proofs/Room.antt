@@ -15,23 +15,11 @@ use Rattle.table_rows.specs.Passed.{Passed}
 use Rattle.table_rows.proofs.Passed.{passed, transition-low}
 use Rattle.hoa_spec.specs.Lines.{propositions}
 use Rattle.hoa_spec.specs.Text.{flagsOf, automatonText, textOf}
+use Rattle.hoa_laws.proofs.Carried.{few-propositions}
 use Rattle.hoa_laws.proofs.Flags.{flags-length}
 use Rattle.hoa_laws.proofs.Bound.{few-members, text-bound}
 use Rattle.hoa_text.proofs.Propositions.{none-needed, one-needed, two-needed, three-needed, four-needed}
 use Rattle.hoa_write.specs.Written.{lentText, bound}
-
--- at most 16 letters need at most four propositions
-pub few-needed : (s : ℕ) → s ≤ 16 → propositions s ≤ 4
-few-needed s h =
-    by-cases (decLt 8 s)
-    (λ l. omega (arith, four-needed s l h))
-    (λ n. by-cases (decLt 4 s)
-    (λ l. omega (arith, three-needed s l (omega arith)))
-    (λ m. by-cases (decLt 2 s)
-    (λ l. omega (arith, two-needed s l (omega arith)))
-    (λ k. by-cases (decLt 1 s)
-    (λ l. omega (arith, one-needed s l (omega arith)))
-    (λ j. omega (arith, none-needed s (omega arith))))))
 
 module _ (s : ℕ) (codes ts : List ℕ) (P : Passed s codes ts) where
   -- at most 2 to the power 40 transitions
@@ -52,7 +40,7 @@ pub bound-suffices : (s initial : ℕ) (codes transitions : Lent) → s ≤ 16 �
     → length (lentText s initial codes transitions) ≤ bound (length (codes .numbers)) (length (transitions .numbers))
 unfolding textOf
 bound-suffices s initial codes transitions h e =
-    text-within s (codes .numbers) (transitions .numbers) (passed s codes transitions e) (initialAt initial) (propositions s) (few-needed s h)
+    text-within s (codes .numbers) (transitions .numbers) (passed s codes transitions e) (initialAt initial) (propositions s) (few-propositions s h)
 
 -- ---- a table in bytes
 

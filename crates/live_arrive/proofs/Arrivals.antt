@@ -40,11 +40,7 @@ pub coded-none : (codes : List ℕ) → ascends codes ≡ true → length codes 
 coded-none codes e z = record { ascending = e; narrow = none-any codes isHigh (λ c m. let p = place-of codes c m in absurd (omega (arith, p .1))) }
 
 pub coded-last : (codes : List ℕ) → ascends codes ≡ true → 0 < length codes → getD codes (length codes - 1) 0 / 2 ^ 48 ≡ 0 → Coded codes
-coded-last codes e h z =
-    record {
-      ascending = e;
-      narrow = none-any codes isHigh (λ c m. not-high c (omega (arith, below-last codes e c m)));
-    }
+coded-last codes e h z = record { ascending = e; narrow = none-any codes isHigh (λ c m. not-high c (omega (arith, below-last codes e c m))) }
 
 -- ---- row 15
 
@@ -57,9 +53,7 @@ module _ (s a : ℕ) (codes transitions state : List ℕ) (room : ℕ) (t : Tria
   unfolding isFaulty passes
   faulty-by =
       rw (le-ltb 65536 n (t .few), t .coded .ascending, t .coded .narrow)
-      (bif (ascends (wordsIn transitions))
-      (λ u. rw u (bif (anyOf (wordsIn transitions) (isAstray n s)) (λ v. rw v) (λ v. rw v)))
-      (λ u. rw u))
+      (bif (ascends (wordsIn transitions)) (λ u. rw u (bif (anyOf (wordsIn transitions) (isAstray n s)) (λ v. rw v) (λ v. rw v))) (λ u. rw u))
 
   table-by : tableRow s (inBytes codes) (inBytes transitions) ≡ cond (not (passes n s (wordsIn transitions))) 15 0
   unfolding tableRow tableRows firstRow inBytes

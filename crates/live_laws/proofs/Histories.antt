@@ -118,8 +118,7 @@ mark-kept m [] h k = refl
 mark-kept m (Start ∷ cs) h k = absurd k
 mark-kept m (Arrive a ∷ cs) h k = mark-kept m cs (later h (Arrive a)) k
 mark-kept m (Withdraw ∷ cs) h k = mark-kept m cs (later h Withdraw) k
-mark-kept m (Mark j ∷ cs) h k =
-    mark-kept m cs (later h (Mark j)) (k .1) ∙ ap (λ (b : Bool). cond b (at (held h)) (markOf h m)) (ne-eqb m j (k .0))
+mark-kept m (Mark j ∷ cs) h k = mark-kept m cs (later h (Mark j)) (k .1) ∙ ap (λ (b : Bool). cond b (at (held h)) (markOf h m)) (ne-eqb m j (k .0))
 mark-kept m (Return j ∷ cs) h k = mark-kept m cs (later h (Return j)) k
 
 pub mark-set : (m : ℕ) (h : History) → markOf (later h (Mark m)) m ≡ at (held h)

@@ -2,17 +2,10 @@
 use Prim.Native.Nat.{ℕ, zero, suc, _*_, _%_, _^_, _<_}
 use mathlib.Core.Path.{_≡_, refl}
 use native.Mathlib.Omega.{arith}
-use Rattle.hoa_laws.proofs.Labels.{literal-plain, literal-none, literal-negated}
+use Rattle.hoa_laws.proofs.Labels.{shifted, literal-plain, literal-none, literal-negated}
 use borrow.Author.Needs.{needs}
 use Rattle.hoa_read_parts.proofs.lines.take_literal.Statement.{statement}
 use Rattle.hoa_read_parts.proofs.lines.take_literal.Tie as tie
-
-shifted : (i : ℕ) → i < 4 → 1 * 2 ^ i % 2 ^ 64 ≡ 2 ^ i
-shifted zero h = refl
-shifted (suc zero) h = refl
-shifted (suc (suc zero)) h = refl
-shifted (suc (suc (suc zero))) h = refl
-shifted (suc (suc (suc (suc i)))) h = absurd (omega arith)
 
 returns : tie.Need-returns
 returns c =

@@ -7,7 +7,8 @@ use Rattle.slice_text.proofs.Puts.{put-as, put-then}
 use Rattle.listing_lines_spec.specs.Lines.{initialAt}
 use Rattle.table_lent.specs.Lent.{wordsIn}
 use Rattle.hoa_spec.specs.Text.{flagsOf, automatonText}
-use Rattle.hoa_text.proofs.Parts.{text-sum, states-is}
+use Rattle.hoa_text.proofs.Parts.{states-is}
+use Rattle.hoa_laws.proofs.Bound.{text-sum}
 use Rattle.hoa_text.proofs.writer.put_text.Statement.{statement}
 use Rattle.hoa_text.proofs.writer.put_text.Tie as tie
 
