@@ -245,10 +245,7 @@ module _ {text : List ℕ} {p b n i accepting : ℕ} {moves : List ℕ} {r : ℕ
 pub moves-stored : (old moves edges : List ℕ) (count : ℕ) {now new : List ℕ} → count ≡ length moves → now ≡ sets old 0 moves → new ≡ sets now count edges → new ≡ sets old 0 (moves ++ edges)
 moves-stored old moves edges count h e w =
     let z : count ≡ 0 + length moves = omega arith in
-    w
-    ∙ ap (λ (xs : List ℕ). sets xs count edges) e
-    ∙ ap (λ (k : ℕ). sets (sets old 0 moves) k edges) z
-    ∙ sym (sets-append old 0 moves edges)
+    w ∙ rw (e, z, sets-append old 0 moves edges)
 
 -- all numbers
 pub blocked : {text : List ℕ} {p b n : ℕ} {old : List ℕ} {i accepting : ℕ} {moves : List ℕ} {count r : ℕ} {new : List ℕ} → i ≡ n → Blocking text p b n i accepting moves r

@@ -31,16 +31,21 @@ digits-head (next l h p) = (l, h)
 digits-one : (x : ℕ) → x < 10 → Digits (digit x ∷ [])
 digits-one x h = next {d = digit x} (omega arith) (omega arith) none
 
-digits-in : (n x : ℕ) → x ≤ n → Digits (decimal x)
-digits-in zero x h = rw (one-digit x (omega arith)) (digits-one x (omega arith))
-digits-in (suc n) x h =
+-- what holds of one digit, and of more digits if it holds of those before the last, holds of every number
+by-digits-in : (P : ℕ → Type 0) → ((x : ℕ) → x < 10 → P x) → ((x : ℕ) → 10 ≤ x → P (x / 10) → P x) → (n x : ℕ) → x ≤ n → P x
+by-digits-in P one more zero x h = one x (omega arith)
+by-digits-in P one more (suc n) x h =
     bif (ltb x 10)
-    (λ t. let l = ltb-true x 10 t in rw (one-digit x l) (digits-one x l))
-    (λ t. let l = ltb-false x 10 t in
-    rw (more-digits x l) (digits-append (digits-in n (x / 10) (omega arith)) (digits-one (x % 10) (omega arith))))
+    (λ t. one x (ltb-true x 10 t))
+    (λ t. let l = ltb-false x 10 t in more x l (by-digits-in P one more n (x / 10) (omega arith)))
+
+by-digits : (P : ℕ → Type 0) → ((x : ℕ) → x < 10 → P x) → ((x : ℕ) → 10 ≤ x → P (x / 10) → P x) → (x : ℕ) → P x
+by-digits P one more x = by-digits-in P one more x x (omega arith)
 
 pub decimal-digits : (x : ℕ) → Digits (decimal x)
-decimal-digits x = digits-in x x (omega arith)
+decimal-digits = by-digits (λ x. Digits (decimal x))
+    (λ x l. rw (one-digit x l) (digits-one x l))
+    (λ x l ih. rw (more-digits x l) (digits-append ih (digits-one (x % 10) (omega arith))))
 
 -- the number that digits tell after those of a
 unfoldable pub value : ℕ → List ℕ → ℕ
@@ -61,21 +66,10 @@ value-one : (a x : ℕ) → value a (digit x ∷ []) ≡ 10 * a + x
 unfolding value
 value-one a x = omega arith
 
-value-in : (n x : ℕ) → x ≤ n → value 0 (decimal x) ≡ x
-value-in zero x h = rw (one-digit x (omega arith), value-one 0 x) (omega arith)
-value-in (suc n) x h =
-    bif (ltb x 10)
-    (λ t. let l = ltb-true x 10 t in rw (one-digit x l, value-one 0 x) (omega arith))
-    (λ t. let l = ltb-false x 10 t in
-    let ih = value-in n (x / 10) (omega arith) in
-    ap (value 0) (more-digits x l)
-    ∙ value-append 0 (decimal (x / 10)) (digit (x % 10) ∷ [])
-    ∙ ap (λ (a : ℕ). value a (digit (x % 10) ∷ [])) ih
-    ∙ value-one (x / 10) (x % 10)
-    ∙ omega arith)
-
 pub decimal-value : (x : ℕ) → value 0 (decimal x) ≡ x
-decimal-value x = value-in x x (omega arith)
+decimal-value = by-digits (λ x. value 0 (decimal x) ≡ x)
+    (λ x l. rw (one-digit x l, value-one 0 x) (omega arith))
+    (λ x l ih. rw (more-digits x l, value-append 0 (decimal (x / 10)) (digit (x % 10) ∷ []), ih, value-one (x / 10) (x % 10)) (omega arith))
 
 -- digits that come first come first in any digits before a lower byte
 pub span : {xs ys : List ℕ} (y : ℕ) (qs rs : List ℕ) → Digits xs → Digits ys → y < 48 → xs ++ qs ≡ ys ++ (y ∷ rs)
@@ -90,14 +84,10 @@ span y qs rs (next {d = d} {ds = ds} a b p) (next {d = d′} {ds = ds′} a′ b
     (r .0, cc, r .2)
 
 -- a number above 0 has no leading zero
-lead-in : (n x : ℕ) → x ≤ n → 1 ≤ x → (d : ℕ) × (ds : List ℕ) × (49 ≤ d) × (decimal x ≡ d ∷ ds)
-lead-in zero x h l = absurd (omega arith)
-lead-in (suc n) x h l =
-    bif (ltb x 10)
-    (λ t. (digit x, [], omega arith, one-digit x (ltb-true x 10 t)))
-    (λ t. let m = ltb-false x 10 t in
-    let ih = lead-in n (x / 10) (omega arith) (omega arith) in
-    (ih .0, ih .1 ++ (digit (x % 10) ∷ []), ih .2, more-digits x m ∙ ap (λ (ds : List ℕ). ds ++ (digit (x % 10) ∷ [])) (ih .3)))
+lead : (x : ℕ) → 1 ≤ x → (d : ℕ) × (ds : List ℕ) × (49 ≤ d) × (decimal x ≡ d ∷ ds)
+lead = by-digits (λ x. 1 ≤ x → (d : ℕ) × (ds : List ℕ) × (49 ≤ d) × (decimal x ≡ d ∷ ds))
+    (λ x l h. (digit x, [], omega arith, one-digit x l))
+    (λ x l ih h. let (d, ds, g, e) = ih (omega arith) in (d, ds ++ (digit (x % 10) ∷ []), g, more-digits x l ∙ ap (λ (s : List ℕ). s ++ (digit (x % 10) ∷ [])) e))
 
 -- a number has a first digit
 pub first-digit : (x : ℕ) → (d : ℕ) × (ds : List ℕ) × (48 ≤ d) × (d ≤ 57) × (decimal x ≡ d ∷ ds)
@@ -106,7 +96,7 @@ first-digit x = cased (decimal x) refl (decimal-digits x)
     cased : (s : List ℕ) → decimal x ≡ s → Digits s → (d : ℕ) × (ds : List ℕ) × (48 ≤ d) × (d ≤ 57) × (decimal x ≡ d ∷ ds)
     cased [] e p =
         by-cases (decLt 0 x)
-        (λ l. let k = lead-in x x (omega arith) l in absurd (nil≢cons (sym e ∙ k .3)))
+        (λ l. let k = lead x l in absurd (nil≢cons (sym e ∙ k .3)))
         (λ n. let g : x ≡ 0 = omega arith in absurd (nil≢cons (sym e ∙ ap decimal g ∙ one-digit 0 (omega arith))))
     cased (d ∷ ds) e p = let h = digits-head p in (d, ds, h .0, h .1, e)
 
@@ -140,7 +130,7 @@ module _ {s : List ℕ} (x : ℕ) {rest : List ℕ} (S : Stops rest) (is : s ≡
         let m = one-more in
         let f : decimal x ≡ 48 ∷ (c ∷ m .0) = m .1 ∙ ap (λ (w : ℕ). decimal w ++ (c ∷ m .0)) z ∙ ap (λ (w : List ℕ). w ++ (c ∷ m .0)) (one-digit 0 (omega arith)) in
         by-cases (decLt 0 x)
-        (λ p. let k = lead-in x x (omega arith) p in let g : 48 ≡ k .0 = cc (k .3) in omega (arith, k .2))
+        (λ p. let k = lead x p in let g : 48 ≡ k .0 = cc (k .3) in omega (arith, k .2))
         (λ n. let g : x ≡ 0 = omega arith in
         let k : decimal x ≡ 48 ∷ [] = ap decimal g ∙ one-digit 0 (omega arith) in nil≢cons (let j : [] ≡ c ∷ m .0 = cc in j))
 

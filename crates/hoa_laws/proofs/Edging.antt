@@ -6,14 +6,14 @@ use Prim.Native.Nat.{ℕ, suc, _+_, _≤_, _<_}
 use native.Mathlib.Omega.{arith}
 use lib.ListN.{length, getD, drop, set, drop-of-length-le, length-append}
 use lib.Seq.{sets}
-use Rattle.sets.specs.Lists.{Ascending, none}
+use Rattle.sets.specs.Lists.{Ascending, none, from, end}
 use Rattle.listing_lines_spec.specs.Lines.{lines}
 use Rattle.hoa_spec.specs.Text.{edgeOf}
 use Rattle.hoa_laws.specs.Took.{TookOne, NoEdge, Leaves}
 use Rattle.hoa_laws.specs.Parts.{Edging, EdgesOf, TookEdges}
 use Rattle.hoa_laws.proofs.Lines.{other-heads, moves-once}
 use Rattle.hoa_laws.proofs.Edges.{From, edges-left, edges-cons, edges-snoc, edge-head}
-use Rattle.hoa_laws.proofs.Lists.{asc-append, asc-alone, asc-as, asc-before, in-middle, in-list, sets-append}
+use Rattle.hoa_laws.proofs.Lists.{asc-append, asc-before, in-middle, in-list, sets-append}
 use Rattle.hoa_laws.proofs.Taking.{byte-here, later}
 
 from-leaves : (b n i : ℕ) (ts : List ℕ) → ((t : ℕ) → List·Memᴰ t ts → Leaves b n i t) → From b i ts
@@ -77,7 +77,7 @@ module _ {text : List ℕ} {p b n i : ℕ} {edges : List ℕ} {low r : ℕ} (E :
           let v = w .0 in
           let mem : List·Memᴰ v us = in-list us edges v (w .1) (w .2) in
           let o = moves-once b i x v (leaves-now .source) (L v mem .source) (leaves-now .letter) (L v mem .letter) (sym (T .found l .2) ∙ w .3) in
-          let A′ : Ascending (edges ++ (v ∷ w .1)) = asc-as us (edges ++ (v ∷ w .1)) (w .2) A in
+          let A′ : Ascending (edges ++ (v ∷ w .1)) = rw (w .2) at A in
           ⊎-elim (λ z. omega arith) (λ u. let k = asc-before edges v (w .1) A′ (u .0) (u .1) in let s = u .2 in omega (arith, o .0)) (E .last))
 
       pub edging-next : low ≤ x → Edging text p b n i (edges ++ (x ∷ [])) (x + 1) q
@@ -86,7 +86,7 @@ module _ {text : List ℕ} {p b n i : ℕ} {edges : List ℕ} {low r : ℕ} (E :
           let one : (t : ℕ) → List·Memᴰ t (x ∷ []) → t ≡ x = λ t m. List·Memᴰ·eq-of-singleton m in
           record {
             leaves = λ t m. ⊎-elim (λ k. E .leaves t k) (λ k. rw (one t k) (f .0)) (List·Memᴰ·append-cases edges m);
-            ascending = asc-append (E .ascending) (asc-alone x) (λ u m y k. let c = E .below u m in omega (arith, one y k));
+            ascending = asc-append (E .ascending) (from end) (λ u m y k. let c = E .below u m in omega (arith, one y k));
             below = λ t m. ⊎-elim (λ k. let c = E .below t k in omega arith) (λ k. omega (arith, one t k)) (List·Memᴰ·append-cases edges m);
             last = inr (x, in-middle edges x [], omega arith);
             within = f .1;

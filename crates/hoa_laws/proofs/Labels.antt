@@ -2,7 +2,7 @@
 use mathlib.Core.Path.{_≡_, refl, sym, _∙_, ap}
 use mathlib.Core.List.{List, [], _∷_, _++_, append-assoc}
 use mathlib.Core.Logic.{by-cases, _⊎_, inl, inr, ⊎-elim}
-use Prim.Native.Nat.{ℕ, zero, suc, _+_, _*_, _/_, _%_, _^_, _≤_, _<_}
+use Prim.Native.Nat.{ℕ, zero, suc, _+_, _-_, _*_, _/_, _%_, _^_, _≤_, _<_}
 use native.Mathlib.Omega.{arith}
 use native.Mathlib.Nat.{add-zero, pow-suc, mod-eq-of-lt, add-mod-right, div-eq-of-lt, zero-div, add-div-right, div-self, pow-le-pow-right}
 use native.Mathlib.Numerals.{add-one}
@@ -93,18 +93,12 @@ label-add (suc i) l h = let e : suc i + 1 ≡ suc (suc i) = omega arith in ap (�
 
 -- a label of more propositions begins with that of fewer
 label-begins : (i d l : ℕ) (rest : List ℕ) → 1 ≤ i → (more : List ℕ) × (label (i + suc d) l ++ rest ≡ label i l ++ (38 ∷ (literal l i ++ more)))
-label-begins i zero l rest h =
-    let e : i + suc zero ≡ i + 1 = omega arith in
-    (rest, ap (λ (k : ℕ). label k l ++ rest) e ∙ ap (λ (s : List ℕ). s ++ rest) (label-add i l h) ∙ append-assoc (label i l) (38 ∷ literal l i) rest)
+label-begins i zero l rest h = let e : i + suc zero ≡ i + 1 = omega arith in (rest, rw (e, label-add i l h, append-assoc))
 label-begins i (suc d) l rest h =
     let e : i + suc (suc d) ≡ (i + suc d) + 1 = omega arith in
-    let r = label-begins i d l (38 ∷ (literal l (i + suc d) ++ rest)) h in (
-      r .0,
-      ap (λ (k : ℕ). label k l ++ rest) e
-          ∙ ap (λ (s : List ℕ). s ++ rest) (label-add (i + suc d) l (omega arith))
-          ∙ append-assoc (label (i + suc d) l) (38 ∷ literal l (i + suc d)) rest
-          ∙ r .1,
-    )
+    let f : 1 ≤ i + suc d = omega arith in
+    let r = label-begins i d l (38 ∷ (literal l (i + suc d) ++ rest)) h in
+    (r .0, rw (e, label-add (i + suc d) l f, append-assoc) (r .1))
 
 label-first : (b l : ℕ) (rest : List ℕ) → 1 ≤ b → (more : List ℕ) × (label b l ++ rest ≡ literal l 0 ++ more)
 unfolding label
@@ -116,18 +110,10 @@ label-first (suc (suc d)) l rest h =
     (38 ∷ (literal l 1 ++ r .0), ap (λ (k : ℕ). label k l ++ rest) (sym e) ∙ r .1)
 
 label-inner : (i b l : ℕ) (rest : List ℕ) → 1 ≤ i → i < b → (more : List ℕ) × (label b l ++ rest ≡ label i l ++ (38 ∷ (literal l i ++ more)))
-label-inner i zero l rest h k = absurd (omega arith)
-label-inner i (suc c) l rest h k = gap (diff i c (omega arith))
-  where
-    diff : (i c : ℕ) → i ≤ c → (d : ℕ) × (i + d ≡ c)
-    diff i zero g = (0, omega arith)
-    diff i (suc c) g = by-cases (decLt i (suc c)) (λ m. let r = diff i c (omega arith) in (suc (r .0), omega (arith, r .1))) (λ n. (0, omega arith))
-
-    gap : (d : ℕ) × (i + d ≡ c) → (more : List ℕ) × (label (suc c) l ++ rest ≡ label i l ++ (38 ∷ (literal l i ++ more)))
-    gap (d, e) =
-        let f : i + suc d ≡ suc c = omega arith in
-        let r = label-begins i d l rest h in
-        (r .0, ap (λ (j : ℕ). label j l ++ rest) (sym f) ∙ r .1)
+label-inner i b l rest h k =
+    let e : b ≡ i + suc (b - i - 1) = omega arith in
+    let r = label-begins i (b - i - 1) l rest h in
+    (r .0, ap (λ (j : ℕ). label j l ++ rest) e ∙ r .1)
 
 -- a letter below 2 ^ i and the bit i, or not
 fits-more : (i l v : ℕ) → l < 2 ^ i → Single i v → l + v < 2 ^ (i + 1)

@@ -27,18 +27,12 @@ pub asc-append : {xs ys : List ℕ} → Ascending xs → Ascending ys → ((u : 
 asc-append none B h = B
 asc-append (from A) B h = from (above-append A B h)
 
-pub asc-alone : (t : ℕ) → Ascending (t ∷ [])
-asc-alone t = from end
-
 pub in-middle : (xs : List ℕ) (t : ℕ) (ys : List ℕ) → List·Memᴰ t (xs ++ (t ∷ ys))
 in-middle [] t ys = List·Memᴰ·head refl
 in-middle (x ∷ xs) t ys = List·Memᴰ·tail (in-middle xs t ys)
 
 pub in-list : (us xs : List ℕ) (t : ℕ) (ys : List ℕ) → us ≡ xs ++ (t ∷ ys) → List·Memᴰ t us
 in-list us xs t ys e = rw e (in-middle xs t ys)
-
-pub asc-as : (us vs : List ℕ) → us ≡ vs → Ascending us → Ascending vs
-asc-as us vs e A = rw (sym e) A
 
 -- what comes before a member is less
 pub asc-before : (xs : List ℕ) (t : ℕ) (ys : List ℕ) → Ascending (xs ++ (t ∷ ys)) → (u : ℕ) → List·Memᴰ u xs → u < t

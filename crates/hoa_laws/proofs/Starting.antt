@@ -112,12 +112,7 @@ pub flag-stored : (old : List ℕ) (accepting : ℕ) (starts : List ℕ) (i s f 
     → new ≡ sets old 0 (flagsFrom accepting 0 (starts ++ (s ∷ [])))
 flag-stored old accepting starts i s f h e q w =
     let z : 0 + length (flagsFrom accepting 0 starts) ≡ i = omega (arith, flags-length accepting 0 starts) in
-    w
-    ∙ ap (λ (xs : List ℕ). set xs i f) e
-    ∙ ap (λ (x : ℕ). set (sets old 0 (flagsFrom accepting 0 starts)) i x) q
-    ∙ ap (λ (j : ℕ). set (sets old 0 (flagsFrom accepting 0 starts)) j (cond (ltb i accepting) (2 + s) 0)) (sym z)
-    ∙ sym (sets-append old 0 (flagsFrom accepting 0 starts) (cond (ltb i accepting) (2 + s) 0 ∷ []))
-    ∙ ap (λ (fs : List ℕ). sets old 0 fs) (sym (flags-snoc accepting starts s i h))
+    w ∙ rw (e, q, flags-snoc accepting starts s i h, sets-append old 0 (flagsFrom accepting 0 starts), z)
 
 pub none-stored : (old : List ℕ) (accepting : ℕ) → old ≡ sets old 0 (flagsFrom accepting 0 [])
 unfolding flagsFrom

@@ -77,13 +77,7 @@ module _ (text : List ℕ) (p : ℕ) (s : List ℕ) where
       → drop p text ≡ take i s ++ drop (p + i) text → drop p text ≡ take (i + 1) s ++ drop (p + (i + 1)) text
   take-next i h l g e =
       let k : p + (i + 1) ≡ suc (p + i) = omega arith in
-      let t : take (i + 1) s ≡ take i s ++ (getD s i 0 ∷ []) = ap (λ (j : ℕ). take j s) (add-one i) ∙ take-suc s i 0 h in
-      e
-      ∙ ap (λ (d : List ℕ). take i s ++ d) (drop-cons text (p + i) 0 l)
-      ∙ ap (λ (y : ℕ). take i s ++ (y ∷ drop (suc (p + i)) text)) g
-      ∙ sym (append-assoc (take i s) (getD s i 0 ∷ []) (drop (suc (p + i)) text))
-      ∙ ap (λ (d : List ℕ). d ++ drop (suc (p + i)) text) (sym t)
-      ∙ ap (λ (j : ℕ). take (i + 1) s ++ drop j text) (sym k)
+      e ∙ rw (drop-cons text (p + i) 0 l, g, k, add-one i, take-suc s i 0 h, append-assoc)
 
   pub take-done : (i : ℕ) → i ≡ length s → 0 < length s → p + length s ≤ length text → drop p text ≡ take i s ++ drop (p + i) text → Took text p s (p + length s)
   take-done i h l g e =

@@ -27,36 +27,38 @@ module _ (s initial : ℕ) (codes transitions : Lent) where
   table-numbered = refl
 
   module _ (room : ℕ) where
-    -- row 15
-    pub table-refuses : (k : ℕ) → (k ≡ 0 → ⊥) → k ≡ tableRow s codes transitions → k ≡ textRow s initial codes transitions room
-    unfolding textRow textRows tableRow
-    table-refuses k n e = first-left (tableRows s codes transitions) (check (ltb room (length text)) 16 ∷ []) k n e
-
     table-passes : tableRow s codes transitions ≡ 0 → textRow s initial codes transitions room ≡ firstRow (check (ltb room (length text)) 16 ∷ [])
     unfolding textRow textRows tableRow
     table-passes e = first-right (tableRows s codes transitions) (check (ltb room (length text)) 16 ∷ []) table-numbered e
-
-    -- row 16
-    pub slice-refuses : tableRow s codes transitions ≡ 0 → room < length text → 16 ≡ textRow s initial codes transitions room
-    unfolding firstRow
-    slice-refuses e l = sym (table-passes e ∙ rw (lt-ltb room (length text) l))
 
     pub call-served : tableRow s codes transitions ≡ 0 → length text ≤ room → textRow s initial codes transitions room ≡ 0
     unfolding firstRow
     call-served e l = table-passes e ∙ rw (le-ltb room (length text) l)
 
-  -- ---- a rule of s letters that is read
+-- ---- a rule of s letters that is read
 
-  module _ (old : List ℕ) where
-    pub called-refused : (k : ℕ) → (k ≡ 0 → ⊥) → k ≡ textRow s initial codes transitions (length old) → Called s initial codes transitions old old (Refused k)
-    unfolding answer after
-    called-refused zero n e = absurd (n refl)
-    called-refused (suc k) n e = record { answers = rw (sym e) refl; written = rw (sym e) refl }
+module _ {s initial : ℕ} {codes transitions : Lent} {old : List ℕ} where
+  called-refused : (k : ℕ) → (k ≡ 0 → ⊥) → k ≡ textRow s initial codes transitions (length old) → Called s initial codes transitions old old (Refused k)
+  unfolding answer after
+  called-refused zero n e = absurd (n refl)
+  called-refused (suc k) n e = record { answers = rw (sym e) refl; written = rw (sym e) refl }
 
-    pub called-served : textRow s initial codes transitions (length old) ≡ 0 → (n : ℕ) (new : List ℕ) → n ≡ length text → new ≡ text ++ drop (length text) old
-        → Called s initial codes transitions old new (Length n)
-    unfolding answer after
-    called-served e n new l w = record { answers = rw (e, l) refl; written = rw e w }
+  -- row 15
+  pub called-table : {k : ℕ} → (k ≡ 0 → ⊥) → k ≡ tableRow s codes transitions → Called s initial codes transitions old old (Refused k)
+  unfolding textRow textRows tableRow
+  called-table {k} n e = called-refused k n (first-left (tableRows s codes transitions) (check (ltb (length old) (length (text s initial codes transitions))) 16 ∷ []) k n e)
+
+  -- row 16
+  pub called-slice : tableRow s codes transitions ≡ 0 → length old < length (text s initial codes transitions) → Called s initial codes transitions old old (Refused 16)
+  unfolding firstRow
+  called-slice e l =
+      called-refused 16 (λ z. omega arith) (sym (table-passes s initial codes transitions (length old) e ∙ rw (lt-ltb (length old) (length (text s initial codes transitions)) l)))
+
+  -- no row
+  pub called-served : tableRow s codes transitions ≡ 0 → length (text s initial codes transitions) ≤ length old → {n : ℕ} {new : List ℕ} → n ≡ length (text s initial codes transitions)
+      → new ≡ text s initial codes transitions ++ drop (length (text s initial codes transitions)) old → Called s initial codes transitions old new (Length n)
+  unfolding answer after
+  called-served t h l w = let e = call-served s initial codes transitions (length old) t h in record { answers = rw (e, l) refl; written = rw e w }
 
 -- ---- a file
 

@@ -37,15 +37,10 @@ module _ (q s : ℕ) (codes ts : List ℕ) (few : length codes ≤ 65536) (h : H
 -- "30, arrival at 512 letters; 31, withdrawal from none"; "32, mark number above 15; 33, return to a mark not set since the start"
 pub refused-by-log : (q s : ℕ) (codes ts : List ℕ) → length codes ≤ 65536 → (h : History) → Served s h → (c : LiveCall) (state : List ℕ) → Gets c q codes ts h state
     → firstRow (logRows c state) ≡ firstRow (heldRows c (logOf h))
-unfolding logRows heldRows
+unfolding logRows heldRows firstRow
 refused-by-log q s codes ts few h S Start state e = refl
 refused-by-log q s codes ts few h S (Arrive a) state e = ap (λ (n : ℕ). firstRow (check (leb 512 n) 30 ∷ [])) (number-of q s codes ts few h S state e)
 refused-by-log q s codes ts few h S Withdraw state e = ap (λ (n : ℕ). firstRow (check (eqb n 0) 31 ∷ [])) (number-of q s codes ts few h S state e)
 refused-by-log q s codes ts few h S (Mark m) state e = refl
 refused-by-log q s codes ts few h S (Return m) state e =
-    bif (ltb 15 m)
-    (λ t. row-yes (check (ltb 15 m) 32) (check (not (isMarked state m)) 33 ∷ []) t ∙ sym (row-yes (check (ltb 15 m) 32) (check (not (isSet (logOf h .marks m))) 33 ∷ []) t))
-    (λ t. let l : m ≤ 15 = ltb-false 15 m t in
-    row-no (check (ltb 15 m) 32) (check (not (isMarked state m)) 33 ∷ []) t
-    ∙ ap (λ (b : Bool). firstRow (check (not b) 33 ∷ [])) (mark-of q s codes ts few h S state e m (omega (arith, l)))
-    ∙ sym (row-no (check (ltb 15 m) 32) (check (not (isSet (logOf h .marks m))) 33 ∷ []) t))
+    bif (ltb 15 m) (λ t. rw t) (λ t. rw (mark-of q s codes ts few h S state e m (omega (arith, ltb-false 15 m t))))

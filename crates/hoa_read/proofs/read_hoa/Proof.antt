@@ -8,9 +8,6 @@ use borrow.Author.Needs.{needs}
 use Rattle.hoa_read.proofs.read_hoa.Statement.{statement}
 use Rattle.hoa_read.proofs.read_hoa.Tie as tie
 
-returns : tie.Need-returns
-returns c = no-table (no-shape (c .before .before .take-text .ensures .absent (c .if1 .taken)))
-
 returns-2 : tie.Need-returns-2
 returns-2 c = let W = c .before .before .before .take-text .ensures .found (omega arith) in let n = W .macrostates in short (whole-carries W) (inl (omega arith))
 
@@ -41,4 +38,5 @@ returns-4 c =
 pub read-hoa-spec : {M : Type 1} → statement M
 read-hoa-spec =
     tie.close (tie.spec
-    (λ c κs. search needs) returns returns-2 returns-3 take-starts-requires take-blocks-requires (λ c. search needs) (λ c. search needs) returns-4)
+    (λ c κs. search needs) (λ c. no-table (no-shape (c .before .before .take-text .ensures .absent (c .if1 .taken)))) returns-2 returns-3
+    take-starts-requires take-blocks-requires (λ c. search needs) (λ c. search needs) returns-4)

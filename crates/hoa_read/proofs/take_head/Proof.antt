@@ -28,9 +28,6 @@ returns-3 c =
     (at-take-numbered .take-numbered .ensures) (omega (arith, c .before .before .before .before .before .before .if2 .left))
     (c .before .before .before .before .take-starts .ensures .read) (c .before .before .take-ap .ensures) (c .before .if3 .taken))
 
-take-requires-2 : tie.Need-take-requires-2
-take-requires-2 c κs = (c .before .before .take-ap .ensures .found (omega arith) .1, omega arith)
-
 returns-4 : tie.Need-returns-4
 returns-4 c =
     let at-if2 = c .before .before .before .before .before .before .before in let at-take-numbered = at-if2 .before in
@@ -44,4 +41,4 @@ take-head-spec =
     tie.close (tie.spec
     (λ c. search needs) (λ c κs. omega arith) (λ c κs. search needs) returns (λ c. search needs) take-numbered-requires (λ c κs. search needs)
     returns-2 (λ c. search needs) take-starts-requires (λ c κs. c .before .take-starts .ensures .read .within) (λ c κs. search needs) returns-3
-    (λ c. search needs) take-requires-2 returns-4)
+    (λ c. search needs) (λ c κs. (c .before .before .take-ap .ensures .found (omega arith) .1, omega arith)) returns-4)

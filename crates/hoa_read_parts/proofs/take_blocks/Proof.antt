@@ -18,9 +18,6 @@ Inv-loop text p b n transitions₀ accepting₀ count₀ end₀ i₀ transitions
 abbrev μ-loop : tie.MeasureT-loop
 μ-loop text p b n transitions₀ accepting₀ count₀ end₀ i₀ transitions accepting count end i = n - i
 
-loop-holds : tie.Need-loop-holds Inv-loop μ-loop
-loop-holds c = (omega arith, omega arith, omega arith, [], blocking-none (omega arith), refl, refl)
-
 take-marked-requires : tie.Need-take-marked-requires Inv-loop μ-loop
 take-marked-requires c κs = let I = c .before .loop .inv in (c .before .before .before .before .pre .0, I .4 .within, omega arith, I .4 .first)
 
@@ -63,6 +60,7 @@ returns-3 c = let l = c .before .loop in blocks-some (omega arith) (blocked (ome
 pub take-blocks-spec : {M : Type 1} → statement M
 take-blocks-spec =
     tie.close (tie.spec
-    Inv-loop μ-loop loop-holds take-marked-requires (λ c. ap length (c .before .before .before .loop .inv .6) ∙ simp length-sets) returns take-edges-requires
+    Inv-loop μ-loop (λ c. (omega arith, omega arith, omega arith, [], blocking-none (omega arith), refl, refl)) take-marked-requires
+    (λ c. ap length (c .before .before .before .loop .inv .6) ∙ simp length-sets) returns take-edges-requires
     (λ c. c .before .before .before .take-edges .kept .1 .1 .1 .1 .1 .0 ∙ ap length (c .before .before .before .before .before .before .before .before .loop .inv .6) ∙ simp length-sets)
     returns-2 (λ c. omega arith) (λ c. omega arith) loop-again (λ c. ap length (c .before .loop .inv .6) ∙ simp length-sets) returns-3)

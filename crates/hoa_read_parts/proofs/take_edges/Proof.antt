@@ -19,9 +19,6 @@ Inv-loop text p b n i transitions₀ m count₀ low₀ end₀ transitions count 
 abbrev μ-loop : tie.MeasureT-loop
 μ-loop text p b n i transitions₀ m count₀ low₀ end₀ transitions count low end = length text - end
 
-loop-holds : tie.Need-loop-holds Inv-loop μ-loop
-loop-holds c = (omega arith, omega arith, [], edging-none (omega arith), omega arith, refl)
-
 returns : tie.Need-returns Inv-loop μ-loop
 returns c =
     let l = c .before .before .before .loop in
@@ -79,7 +76,8 @@ returns-4 c =
 pub take-edges-spec : {M : Type 1} → statement M
 take-edges-spec =
     tie.close (tie.spec
-    Inv-loop μ-loop loop-holds (λ c. omega arith) (λ c. ap length (c .before .before .before .loop .inv .5) ∙ simp length-sets) returns take-edge-requires
+    Inv-loop μ-loop (λ c. (omega arith, omega arith, [], edging-none (omega arith), omega arith, refl)) (λ c. omega arith)
+    (λ c. ap length (c .before .before .before .loop .inv .5) ∙ simp length-sets) returns take-edge-requires
     (λ c. ap length (c .before .before .before .before .before .loop .inv .5) ∙ simp length-sets) returns-2
-    (λ c. ap length (c .before .before .before .before .before .before .loop .inv .5) ∙ simp length-sets) returns-3 (λ c κs. search needs) (λ c. omega arith)
-    add-low (λ c. omega (arith, later-now c)) loop-again (λ c. ap length (c .before .loop .inv .5) ∙ simp length-sets) returns-4)
+    (λ c. ap length (c .before .before .before .before .before .before .loop .inv .5) ∙ simp length-sets) returns-3 (λ c κs. search needs)
+    (λ c. omega arith) add-low (λ c. omega (arith, later-now c)) loop-again (λ c. ap length (c .before .loop .inv .5) ∙ simp length-sets) returns-4)

@@ -21,9 +21,6 @@ abbrev μ-loop : tie.MeasureT-loop
 loop-holds : tie.Need-loop-holds Inv-loop μ-loop
 loop-holds c = let a = c .before .before .args in (omega arith, [], starting-none (omega arith), none-stored (a .flags .now) (a .accepting))
 
-take-start-requires : tie.Need-take-start-requires Inv-loop μ-loop
-take-start-requires c κs = (c .before .before .before .before .pre .0, c .before .loop .inv .2 .within, omega arith)
-
 loop-again : tie.Need-loop-again Inv-loop μ-loop
 loop-again c =
     let at-loop = c .before .before .before .before .before .before .before .before in
@@ -46,11 +43,10 @@ loop-again-2 c =
       flag-stored (a .flags .now) (a .accepting) (l .inv .1) (l .i) 1 (F .result) (l .inv .2 .long) (l .inv .3) (F .ensures) (c .before .before .store-flag2 .ensures),
     )
 
-returns : tie.Need-returns Inv-loop μ-loop
-returns c = let l = c .before .loop in started (omega arith) (l .inv .2) (l .inv .3)
-
 pub take-starts-spec : {M : Type 1} → statement M
 take-starts-spec =
     tie.close (tie.spec
-    Inv-loop μ-loop loop-holds take-start-requires (λ c κs. omega arith) (λ c κs. search needs) (λ c. omega arith) (λ c. omega arith) loop-again
-    (λ c κs. omega arith) (λ c κs. search needs) (λ c. omega arith) (λ c. omega arith) loop-again-2 (λ c. ap length (c .before .loop .inv .3) ∙ simp length-sets) returns)
+    Inv-loop μ-loop loop-holds (λ c κs. (c .before .before .before .before .pre .0, c .before .loop .inv .2 .within, omega arith))
+    (λ c κs. omega arith) (λ c κs. search needs) (λ c. omega arith) (λ c. omega arith) loop-again (λ c κs. omega arith) (λ c κs. search needs)
+    (λ c. omega arith) (λ c. omega arith) loop-again-2 (λ c. ap length (c .before .loop .inv .3) ∙ simp length-sets)
+    (λ c. let l = c .before .loop in started (omega arith) (l .inv .2) (l .inv .3)))

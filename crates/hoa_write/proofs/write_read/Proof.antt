@@ -12,7 +12,7 @@ use Rattle.table_lent.proofs.Reading.{both-bytes}
 use Rattle.hoa_spec.specs.Text.{flagsOf, automatonText}
 use Rattle.hoa_write.specs.Written.{lentText}
 use Rattle.hoa_write.proofs.Room.{bytes-passed, text-is}
-use Rattle.hoa_write.proofs.Rows.{table-refuses, slice-refuses, call-served, called-refused, called-served}
+use Rattle.hoa_write.proofs.Rows.{called-table, called-slice, called-served}
 use borrow.Author.Needs.{needs}
 use Rattle.hoa_write.proofs.write_read.Statement.{statement}
 use Rattle.hoa_write.proofs.write_read.Tie as tie
@@ -22,10 +22,7 @@ row-is : (c : tie.After-table-row) → let a = c .before .before .before .before
 row-is c = let a = c .before .before .before .before .before .before .args in rw (both-bytes (a .codes .now), both-bytes (a .moves .now)) at (c .table-row .ensures)
 
 returns : tie.Need-returns
-returns c =
-    let start = c .before .before .before .before .before .before .before in let a = start .args in
-    called-refused (a .s) (a .initial) (inBytes (a .codes .now)) (inBytes (a .moves .now)) (a .text .now) (c .before .table-row .result) (c .if1 .taken)
-    (table-refuses (a .s) (a .initial) (inBytes (a .codes .now)) (inBytes (a .moves .now)) (length (a .text .now)) (c .before .table-row .result) (c .if1 .taken) (row-is (c .before)))
+returns c = called-table (c .if1 .taken) (row-is (c .before))
 
 abbrev start-of-else1 : tie.Else1 → tie.Start
 start-of-else1 c = c .before .before .before .before .before .before .before
@@ -33,9 +30,6 @@ start-of-else1 c = c .before .before .before .before .before .before .before
 -- row 15 lets the table through
 passes : (c : tie.Else1) → let a = start-of-else1 c .args in tableRow (a .s) (inBytes (a .codes .now)) (inBytes (a .moves .now)) ≡ 0
 passes c = sym (row-is (c .before)) ∙ c .if1 .left
-
-propositions-of-requires : tie.Need-propositions-of-requires
-propositions-of-requires c κs = let start = c .before .before .before .before .before .before .before in start .pre .0
 
 fits-requires : tie.Need-fits-requires
 fits-requires c κs =
@@ -53,11 +47,7 @@ text c = let a = start-of-after-propositions-of c .args in text-is (a .s) (a .co
 
 returns-2 : tie.Need-returns-2
 returns-2 c =
-    let start = c .before .before .before .before .before .before .before .before .before .before in let a = start .args in
-    let room : length (a .text .now) < length (lentText (a .s) (a .initial) (inBytes (a .codes .now)) (inBytes (a .moves .now))) =
-    rw (text (c .before .before)) (leb-false _ _ (sym (c .before .fits2 .ensures) ∙ not-true _ (c .if2 .taken))) in
-    called-refused (a .s) (a .initial) (inBytes (a .codes .now)) (inBytes (a .moves .now)) (a .text .now) 16 (λ z. omega arith)
-    (slice-refuses (a .s) (a .initial) (inBytes (a .codes .now)) (inBytes (a .moves .now)) (length (a .text .now)) (passes (c .before .before .before)) room)
+    called-slice (passes (c .before .before .before)) (rw (text (c .before .before)) (leb-false _ _ (sym (c .before .fits2 .ensures) ∙ not-true _ (c .if2 .taken))))
 
 abbrev start-of-else2 : tie.Else2 → tie.Start
 start-of-else2 c = c .before .before .before .before .before .before .before .before .before .before
@@ -79,16 +69,15 @@ put-text-requires c κs =
 returns-3 : tie.Need-returns-3
 returns-3 c =
     let earlier = c .before .before .before .before .before .before .before in
-    let start = earlier .before .before .before .before .before .before .before in let a = start .args in
     let P = put-first (c .before .before .put-text .ensures) in
     let e = text (c .before .before .before .before .before .before) in
-    let room : length (lentText (a .s) (a .initial) (inBytes (a .codes .now)) (inBytes (a .moves .now))) ≤ length (a .text .now) = rw e (fitting (c .before .before .before .before)) in
-    called-served (a .s) (a .initial) (inBytes (a .codes .now)) (inBytes (a .moves .now)) (a .text .now)
-    (call-served (a .s) (a .initial) (inBytes (a .codes .now)) (inBytes (a .moves .now)) (length (a .text .now)) (passes (earlier)) room)
-    _ _ (P .0 ∙ ap length (sym e)) (P .1 ∙ ap (λ (s : List ℕ). s ++ drop (length s) (a .text .now)) (sym e))
+    let a = earlier .before .before .before .before .before .before .before .args in
+    called-served (passes (earlier)) (rw e (fitting (c .before .before .before .before))) (P .0 ∙ ap length (sym e))
+    (P .1 ∙ ap (λ (s : List ℕ). s ++ drop (length s) (a .text .now)) (sym e))
 
 pub write-read-spec : {M : Type 1} → statement M
 write-read-spec =
     tie.close (tie.spec
-    (λ c. search needs) (λ c. search needs) (λ c. search needs) (λ c. search needs) (λ c κs. search needs) returns propositions-of-requires fits-requires
-    returns-2 put-text-requires (λ c. search needs) returns-3)
+    (λ c. search needs) (λ c. search needs) (λ c. search needs) (λ c. search needs) (λ c κs. search needs) returns
+    (λ c κs. let start = c .before .before .before .before .before .before .before in start .pre .0) fits-requires returns-2 put-text-requires
+    (λ c. search needs) returns-3)

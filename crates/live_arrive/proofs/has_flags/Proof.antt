@@ -21,11 +21,8 @@ loop-again c =
     let l = c .before .before .before .loop in let e = c .larger .ensures in
     (omega arith, λ j k. by-cases (ℕ-discrete j (l .i)) (λ x. rw x (e .1)) (λ x. omega (arith, l .inv .1 j (omega arith), e .0)))
 
-returns : tie.Need-returns Inv-loop μ-loop
-returns c = let l = c .before .loop in λ e y k. omega (arith, l .inv .1 y (omega arith), leb-true)
-
 pub has-flags-spec : {M : Type 1} → statement M
 has-flags-spec =
     tie.close (tie.spec
     Inv-loop μ-loop (λ c. (omega arith, λ j l. absurd (omega arith))) (λ c. omega arith) (λ c. omega arith) (λ c κs. search needs) (λ c. omega arith)
-    (λ c. omega arith) loop-again returns)
+    (λ c. omega arith) loop-again (λ c. let l = c .before .loop in λ e y k. omega (arith, l .inv .1 y (omega arith), leb-true)))

@@ -20,12 +20,6 @@ Inv-loop initial codes set₀ i₀ set i =
 abbrev μ-loop : tie.MeasureT-loop
 μ-loop initial codes set₀ i₀ set i = length set₀ - i
 
-mul-word-at : tie.Need-mul-word-at Inv-loop μ-loop
-mul-word-at c = omega (arith, words-in-length (c .before .before .before .before .args .codes .now))
-
-word-at-requires : tie.Need-word-at-requires Inv-loop μ-loop
-word-at-requires c κs = omega (arith, words-in-length (c .before .before .before .before .args .codes .now))
-
 loop-again : tie.Need-loop-again Inv-loop μ-loop
 loop-again c =
     let a = c .before .before .before .before .before .before .args in let l = c .before .before .before .loop in
@@ -46,6 +40,8 @@ returns c =
 pub begin-set-spec : {M : Type 1} → statement M
 begin-set-spec =
     tie.close (tie.spec
-    Inv-loop μ-loop (λ c. (refl, omega arith, λ j l. absurd (omega arith))) mul-word-at word-at-requires
+    Inv-loop μ-loop (λ c. (refl, omega arith, λ j l. absurd (omega arith)))
+    (λ c. omega (arith, words-in-length (c .before .before .before .before .args .codes .now)))
+    (λ c κs. omega (arith, words-in-length (c .before .before .before .before .args .codes .now)))
     (λ c κs. c .before .before .before .before .before .pre .0) (λ c. omega arith) (λ c. omega arith) (λ c. omega arith) loop-again
     (λ c. c .before .loop .inv .0) returns)

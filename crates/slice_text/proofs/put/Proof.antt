@@ -15,9 +15,6 @@ Inv-loop out₀ at text i₀ out i = (i ≤ length text) × (out ≡ paste out�
 abbrev μ-loop : tie.MeasureT-loop
 μ-loop out₀ at text i₀ out i = length text - i
 
-loop-holds : tie.Need-loop-holds Inv-loop μ-loop
-loop-holds c = (omega arith, paste-zero (c .args .out .now) (c .args .at) (c .args .text .now))
-
 -- the slice keeps its length
 long : (c : tie.At-loop Inv-loop μ-loop) → length (c .loop .out) ≡ length (c .before .args .out .now)
 long c =
@@ -38,5 +35,5 @@ returns c =
 pub put-spec : {M : Type 1} → statement M
 put-spec =
     tie.close (tie.spec
-    Inv-loop μ-loop loop-holds (λ c. omega arith) (λ c. omega arith) (λ c. omega (arith, long (c .before .before))) (λ c. omega arith)
-    (λ c. omega arith) loop-again (λ c. omega arith) (λ c. long (c .before)) returns)
+    Inv-loop μ-loop (λ c. (omega arith, paste-zero (c .args .out .now) (c .args .at) (c .args .text .now))) (λ c. omega arith) (λ c. omega arith)
+    (λ c. omega (arith, long (c .before .before))) (λ c. omega arith) (λ c. omega arith) loop-again (λ c. omega arith) (λ c. long (c .before)) returns)

@@ -14,12 +14,6 @@ Inv-loop text p s i₀ i = (i ≤ length s) × (drop p text ≡ take i s ++ drop
 abbrev μ-loop : tie.MeasureT-loop
 μ-loop text p s i₀ i = length s - i
 
-returns : tie.Need-returns Inv-loop μ-loop
-returns c = let a = c .before .args in take-short (a .text .now) (a .p) (a .s .now) (c .if1 .taken)
-
-loop-holds : tie.Need-loop-holds Inv-loop μ-loop
-loop-holds c = let a = c .before .args in (omega arith, take-none (a .text .now) (a .p) (a .s .now))
-
 returns-2 : tie.Need-returns-2 Inv-loop μ-loop
 returns-2 c = let a = c .before .before .before .before .before .before .args in take-other (a .text .now) (a .p) (a .s .now) (c .before .before .before .before .loop .i) (omega arith) (c .if2 .taken)
 
@@ -34,5 +28,6 @@ returns-3 c = let a = c .before .before .before .args in take-done (a .text .now
 pub take-spec : {M : Type 1} → statement M
 take-spec =
     tie.close (tie.spec
-    Inv-loop μ-loop (λ c. omega arith) returns loop-holds (λ c. omega arith) (λ c. omega arith) (λ c. omega arith) returns-2 (λ c. omega arith)
-    (λ c. omega arith) loop-again (λ c. omega arith) returns-3)
+    Inv-loop μ-loop (λ c. omega arith) (λ c. let a = c .before .args in take-short (a .text .now) (a .p) (a .s .now) (c .if1 .taken))
+    (λ c. let a = c .before .args in (omega arith, take-none (a .text .now) (a .p) (a .s .now))) (λ c. omega arith) (λ c. omega arith)
+    (λ c. omega arith) returns-2 (λ c. omega arith) (λ c. omega arith) loop-again (λ c. omega arith) returns-3)

@@ -5,18 +5,6 @@ use borrow.Author.Needs.{needs}
 use Rattle.hoa_read_parts.proofs.lines.take_ap.Statement.{statement}
 use Rattle.hoa_read_parts.proofs.lines.take_ap.Tie as tie
 
-returns : tie.Need-returns
-returns c = ap-found 0 ap-0 (omega arith) (c .before .take .ensures) (omega arith)
-
-returns-2 : tie.Need-returns-2
-returns-2 c = ap-found 1 ap-1 (omega arith) (c .before .take2 .ensures) (omega arith)
-
-returns-3 : tie.Need-returns-3
-returns-3 c = ap-found 2 ap-2 (omega arith) (c .before .take3 .ensures) (omega arith)
-
-returns-4 : tie.Need-returns-4
-returns-4 c = ap-found 3 ap-3 (omega arith) (c .before .take4 .ensures) (omega arith)
-
 returns-5 : tie.Need-returns-5
 returns-5 c =
     let at-if2 = c .before .before .before .before .before .before .before .before in let at-take2 = at-if2 .before in
@@ -28,5 +16,7 @@ returns-5 c =
 pub take-ap-spec : {M : Type 1} → statement M
 take-ap-spec =
     tie.close (tie.spec
-    (λ c. search needs) (λ c κs. omega arith) returns (λ c. search needs) (λ c κs. omega arith) returns-2 (λ c. search needs) (λ c κs. omega arith) returns-3
-    (λ c. search needs) (λ c κs. omega arith) returns-4 (λ c. search needs) (λ c κs. omega arith) returns-5)
+    (λ c. search needs) (λ c κs. omega arith) (λ c. ap-found 0 ap-0 (omega arith) (c .before .take .ensures) (omega arith)) (λ c. search needs)
+    (λ c κs. omega arith) (λ c. ap-found 1 ap-1 (omega arith) (c .before .take2 .ensures) (omega arith)) (λ c. search needs) (λ c κs. omega arith)
+    (λ c. ap-found 2 ap-2 (omega arith) (c .before .take3 .ensures) (omega arith)) (λ c. search needs) (λ c κs. omega arith)
+    (λ c. ap-found 3 ap-3 (omega arith) (c .before .take4 .ensures) (omega arith)) (λ c. search needs) (λ c κs. omega arith) returns-5)

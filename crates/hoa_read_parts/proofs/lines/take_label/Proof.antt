@@ -31,9 +31,6 @@ loop-holds c =
       labelled-first (a .b) (omega arith) (omega arith) (L .ensures .0) (omega arith) (L .ensures .1 (omega arith)),
     )
 
-take-byte-requires-2 : tie.Need-take-byte-requires-2 Inv-loop μ-loop
-take-byte-requires-2 c κs = (c .before .before .before .before .before .before .pre .0, c .before .loop .inv .1 .within)
-
 returns-3 : tie.Need-returns-3 Inv-loop μ-loop
 returns-3 c =
     let start = c .before .before .before .before .before .before .before .before .before in let a = start .args in
@@ -86,5 +83,6 @@ pub take-label-spec : {M : Type 1} → statement M
 take-label-spec =
     tie.close (tie.spec
     Inv-loop μ-loop (λ c κs. (c .before .before .pre .0, omega arith)) returns (λ c κs. (c .before .before .pre .0, omega arith, omega arith))
-    (λ c κs. search needs) returns-2 loop-holds take-byte-requires-2 (λ c κs. search needs) returns-3 take-literal-requires-2 (λ c κs. search needs)
-    returns-4 add-letter (λ c. omega arith) (λ c. omega arith) (λ c. (omega arith, next c)) returns-5)
+    (λ c κs. search needs) returns-2 loop-holds (λ c κs. (c .before .before .before .before .before .before .pre .0, c .before .loop .inv .1 .within))
+    (λ c κs. search needs) returns-3 take-literal-requires-2 (λ c κs. search needs) returns-4 add-letter (λ c. omega arith) (λ c. omega arith)
+    (λ c. (omega arith, next c)) returns-5)

@@ -28,9 +28,6 @@ returns-4 c =
     state-other (at-take .before .before .before .args .i) (omega arith) (at-take .take .ensures) (omega arith)
     (c .before .before .before .before .take-word .ensures) (omega arith) (c .before .if4 .taken) (c .nothing4 .ensures .1)
 
-take-requires-2 : tie.Need-take-requires-2
-take-requires-2 c κs = (c .before .before .before .before .take-word .ensures .found (omega arith) .1, omega arith)
-
 returns-5 : tie.Need-returns-5
 returns-5 c =
     let at-take = c .before .before .before .before .before .before .before .before .before in
@@ -56,4 +53,5 @@ take-state-spec =
     tie.close (tie.spec
     (λ c. search needs) (λ c κs. omega arith) (λ c κs. search needs) returns (λ c κs. search needs) returns-2
     (λ c κs. (c .before .before .before .before .before .pre .0, omega arith)) (λ c κs. search needs) returns-3 (λ c κs. search needs) returns-4
-    (λ c. search needs) take-requires-2 returns-5 take-byte-requires returns-6)
+    (λ c. search needs) (λ c κs. (c .before .before .before .before .take-word .ensures .found (omega arith) .1, omega arith)) returns-5
+    take-byte-requires returns-6)

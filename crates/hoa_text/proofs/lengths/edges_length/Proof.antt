@@ -25,9 +25,6 @@ abbrev μ-loop : tie.MeasureT-loop
 loop-holds : tie.Need-loop-holds Inv-loop μ-loop
 loop-holds c = let a = c .before .args in (omega arith, sum-none (edgeOf (a .b)) (wordsIn (a .moves .now)), omega arith)
 
-number-at-requires : tie.Need-number-at-requires Inv-loop μ-loop
-number-at-requires c κs = omega (arith, words-in-length (c .before .before .before .args .moves .now))
-
 -- its line is short
 short : (c : tie.After-target-of Inv-loop μ-loop) → length (edgeLine (c .before .before .before .before .before .before .args .b) (c .before .letter-of .result) (c .target-of .result)) ≤ 20
 short c = edge-short (c .before .before .before .before .before .before .args .b) (c .before .letter-of .result) (c .target-of .result) (c .before .before .before .before .before .before .pre .0)
@@ -59,5 +56,5 @@ returns c =
 pub edges-length-spec : {M : Type 1} → statement M
 edges-length-spec =
     tie.close (tie.spec
-    Inv-loop μ-loop loop-holds number-at-requires (λ c κs. search needs) (λ c κs. search needs) edge-length-requires add-total (λ c. omega arith)
-    (λ c. omega arith) loop-again returns)
+    Inv-loop μ-loop loop-holds (λ c κs. omega (arith, words-in-length (c .before .before .before .args .moves .now))) (λ c κs. search needs)
+    (λ c κs. search needs) edge-length-requires add-total (λ c. omega arith) (λ c. omega arith) loop-again returns)

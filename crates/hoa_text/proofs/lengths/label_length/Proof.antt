@@ -18,14 +18,8 @@ Inv-loop b letter total₀ i₀ total i = (1 ≤ i) × (i ≤ b) × (total ≡ l
 abbrev μ-loop : tie.MeasureT-loop
 μ-loop b letter total₀ i₀ total i = b - i
 
-returns : tie.Need-returns Inv-loop μ-loop
-returns c = sym (ap length (label-none (c .before .args .letter) (c .before .args .b) (c .if1 .taken)))
-
 loop-holds : tie.Need-loop-holds Inv-loop μ-loop
 loop-holds c = (omega arith, omega (arith, c .if1 .left), omega (arith, first-counts (c .before .args .letter)))
-
-sub-total-2 : tie.Need-sub-total-2 Inv-loop μ-loop
-sub-total-2 c = omega (arith, and-mask (c .before .before .before .args .letter / 2 ^ c .before .loop .i) 1)
 
 add-total : tie.Need-add-total Inv-loop μ-loop
 add-total c =
@@ -46,5 +40,7 @@ returns-2 c =
 pub label-length-spec : {M : Type 1} → statement M
 label-length-spec =
     tie.close (tie.spec
-    Inv-loop μ-loop returns (λ c. omega (arith, and-mask (c .before .args .letter) 1)) loop-holds (λ c. omega (arith, c .before .before .before .pre))
-    sub-total-2 add-total (λ c. omega arith) (λ c. omega arith) loop-again returns-2)
+    Inv-loop μ-loop (λ c. sym (ap length (label-none (c .before .args .letter) (c .before .args .b) (c .if1 .taken))))
+    (λ c. omega (arith, and-mask (c .before .args .letter) 1)) loop-holds (λ c. omega (arith, c .before .before .before .pre))
+    (λ c. omega (arith, and-mask (c .before .before .before .args .letter / 2 ^ c .before .loop .i) 1)) add-total (λ c. omega arith)
+    (λ c. omega arith) loop-again returns-2)

@@ -35,9 +35,6 @@ loop-holds c =
     let flags = flagsOf (initialAt (a .initial)) (wordsIn (a .codes .now)) in
     (omega arith, sum-none startOf flags, sum-none stateOf flags, omega arith, omega arith)
 
-number-at-requires : tie.Need-number-at-requires Inv-loop μ-loop
-number-at-requires c κs = omega (arith, words-in-length (c .before .before .before .args .codes .now))
-
 -- a number is small
 small : (c : tie.In-loop Inv-loop μ-loop) → c .before .loop .i ≤ 65536
 small c = omega (arith, c .loop-test .taken, c .before .before .before .pre .1, words-in-length (c .before .before .before .args .codes .now))
@@ -94,6 +91,6 @@ returns c =
 pub macrostates-length-spec : {M : Type 1} → statement M
 macrostates-length-spec =
     tie.close (tie.spec
-    Inv-loop μ-loop loop-holds number-at-requires (λ c κs. c .before .before .before .before .pre .0) (λ c κs. search needs)
-    (λ c κs. small (c .before .before .before)) add-starts (λ c κs. small (c .before .before .before .before)) add-states (λ c. omega arith)
-    (λ c. omega arith) loop-again add-result returns)
+    Inv-loop μ-loop loop-holds (λ c κs. omega (arith, words-in-length (c .before .before .before .args .codes .now)))
+    (λ c κs. c .before .before .before .before .pre .0) (λ c κs. search needs) (λ c κs. small (c .before .before .before)) add-starts
+    (λ c κs. small (c .before .before .before .before)) add-states (λ c. omega arith) (λ c. omega arith) loop-again add-result returns)

@@ -4,12 +4,6 @@ use Rattle.hoa_text.proofs.Propositions.{none-needed, one-needed, two-n
 use Rattle.hoa_text.proofs.lines.propositions_of.Statement.{statement}
 use Rattle.hoa_text.proofs.lines.propositions_of.Tie as tie
 
-returns-2 : tie.Need-returns-2
-returns-2 c = (one-needed (c .before .before .args .s) (omega arith) (c .if2 .taken), omega arith)
-
-returns-3 : tie.Need-returns-3
-returns-3 c = (two-needed (c .before .before .before .args .s) (omega arith) (c .if3 .taken), omega arith)
-
 returns-4 : tie.Need-returns-4
 returns-4 c = (three-needed (c .before .before .before .before .args .s) (omega arith) (c .if4 .taken), omega arith)
 
@@ -18,4 +12,7 @@ returns-5 c = (four-needed (c .before .before .before .before .args .s) (omega a
 
 pub propositions-of-spec : {M : Type 1} → statement M
 propositions-of-spec =
-    tie.close (tie.spec (λ c. (none-needed (c .before .args .s) (c .if1 .taken), omega arith)) returns-2 returns-3 returns-4 returns-5)
+    tie.close (tie.spec
+    (λ c. (none-needed (c .before .args .s) (c .if1 .taken), omega arith))
+    (λ c. (one-needed (c .before .before .args .s) (omega arith) (c .if2 .taken), omega arith))
+    (λ c. (two-needed (c .before .before .before .args .s) (omega arith) (c .if3 .taken), omega arith)) returns-4 returns-5)

@@ -20,9 +20,6 @@ abbrev μ-loop : tie.MeasureT-loop
 loop-holds : tie.Need-loop-holds Inv-loop μ-loop
 loop-holds c = (omega arith, omega (arith, words-in-length (c .before .args .moves .now)), λ p l m. absurd (omega arith))
 
-number-at-requires : tie.Need-number-at-requires Inv-loop μ-loop
-number-at-requires c κs = omega (arith, words-in-length (c .before .before .before .args .moves .now))
-
 -- the source of the transition at place k
 source : (c : tie.After-source-of Inv-loop μ-loop) → c .source-of .result
     ≡ sourceOf (getD (wordsIn (c .before .before .before .before .before .args .moves .now)) (c .before .before .before .loop .k) 0)
@@ -56,4 +53,5 @@ returns-2 c =
 pub stretch-end-spec : {M : Type 1} → statement M
 stretch-end-spec =
     tie.close (tie.spec
-    Inv-loop μ-loop loop-holds number-at-requires (λ c κs. search needs) returns (λ c. omega arith) (λ c. omega arith) loop-again returns-2)
+    Inv-loop μ-loop loop-holds (λ c κs. omega (arith, words-in-length (c .before .before .before .args .moves .now))) (λ c κs. search needs) returns
+    (λ c. omega arith) (λ c. omega arith) loop-again returns-2)

@@ -36,9 +36,6 @@ loop-holds c =
           (c .before .before .before .pre .2),
     )
 
-number-at-requires : tie.Need-number-at-requires Inv-loop μ-loop
-number-at-requires c κs = omega (arith, words-in-length (c .before .before .before .before .before .args .codes .now))
-
 abbrev start-of-after-stretch-end : tie.After-stretch-end Inv-loop μ-loop → tie.Start Inv-loop μ-loop
 start-of-after-stretch-end c = c .before .before .before .before .before .before .before .before
 
@@ -83,5 +80,6 @@ returns c =
 pub put-blocks-spec : {M : Type 1} → statement M
 put-blocks-spec =
     tie.close (tie.spec
-    Inv-loop μ-loop loop-holds number-at-requires (λ c κs. search needs) (λ c κs. c .before .before .before .loop .inv .1 .within) put-block-requires
-    (λ c. omega arith) (λ c. omega arith) loop-again (λ c. put-length (c .before .loop .inv .2)) returns)
+    Inv-loop μ-loop loop-holds (λ c κs. omega (arith, words-in-length (c .before .before .before .before .before .args .codes .now)))
+    (λ c κs. search needs) (λ c κs. c .before .before .before .loop .inv .1 .within) put-block-requires (λ c. omega arith) (λ c. omega arith)
+    loop-again (λ c. put-length (c .before .loop .inv .2)) returns)

@@ -30,9 +30,6 @@ loop-holds c =
     let a = c .before .before .args in
     (omega arith, put-no-lines startOf (flagsOf (initialAt (a .initial)) (wordsIn (a .codes .now))) (a .out .now) (a .at) (c .before .before .pre .1))
 
-number-at-requires : tie.Need-number-at-requires Inv-loop μ-loop
-number-at-requires c κs = omega (arith, words-in-length (c .before .before .before .before .args .codes .now))
-
 -- the line that is written
 text-is : (c : tie.After-is-initial Inv-loop μ-loop) → let a = c .before .before .before .before .before .before .args in let i = c .before .before .before .loop .i in
     cond (c .is-initial .result) (startLine i) [] ≡ startOf i (getD (flagsOf (initialAt (a .initial)) (wordsIn (a .codes .now))) i 0)
@@ -65,5 +62,6 @@ returns c =
 pub put-starts-spec : {M : Type 1} → statement M
 put-starts-spec =
     tie.close (tie.spec
-    Inv-loop μ-loop loop-holds number-at-requires (λ c κs. c .before .before .before .before .before .pre .0) put-start-requires (λ c. omega arith)
-    (λ c. omega arith) loop-again (λ c. put-length (c .before .loop .inv .1)) returns)
+    Inv-loop μ-loop loop-holds (λ c κs. omega (arith, words-in-length (c .before .before .before .before .args .codes .now)))
+    (λ c κs. c .before .before .before .before .before .pre .0) put-start-requires (λ c. omega arith) (λ c. omega arith) loop-again
+    (λ c. put-length (c .before .loop .inv .1)) returns)

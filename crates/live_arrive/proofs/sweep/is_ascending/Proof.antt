@@ -31,9 +31,6 @@ loop-holds c =
     let bytes = c .before .before .before .args .bytes .now in
     (omega arith, rw (c .element .ensures) (rises-start (wordsIn bytes) (omega (arith, words-in-length bytes))))
 
-rise-four-requires : tie.Need-rise-four-requires Inv-loop μ-loop Inv-loop2 μ-loop2
-rise-four-requires c κs = omega (arith, words-in-length (c .before .before .before .before .before .args .bytes .now))
-
 returns-2 : tie.Need-returns-2 Inv-loop μ-loop Inv-loop2 μ-loop2
 returns-2 c =
     let start = c .before .before .before .before .before .before .before in let bytes = start .args .bytes .now in
@@ -79,5 +76,6 @@ pub is-ascending-spec : {M : Type 1} → statement M
 is-ascending-spec =
     tie.close (tie.spec
     Inv-loop μ-loop Inv-loop2 μ-loop2 returns (λ c κs. omega (arith, words-in-length (c .before .before .args .bytes .now))) loop-holds
-    (λ c. omega arith) rise-four-requires returns-2 (λ c. omega arith) element-requires-2 (λ c. omega arith) (λ c. omega arith) loop-again
-    (λ c. c .before .loop .inv) element-requires-3 returns-3 (λ c. omega arith) (λ c. omega arith) loop2-again returns-4)
+    (λ c. omega arith) (λ c κs. omega (arith, words-in-length (c .before .before .before .before .before .args .bytes .now))) returns-2
+    (λ c. omega arith) element-requires-2 (λ c. omega arith) (λ c. omega arith) loop-again (λ c. c .before .loop .inv) element-requires-3 returns-3
+    (λ c. omega arith) (λ c. omega arith) loop2-again returns-4)

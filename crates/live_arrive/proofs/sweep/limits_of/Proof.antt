@@ -23,12 +23,10 @@ loop-again c =
       put-next (λ z. limitOf (a .s) (a .n) (a .letter) z) (l .limits) (l .l) (c .limit-of .result) (omega (arith, l .inv .1, c .before .loop-test .taken)) (c .limit-of .ensures) (l .inv .2),
     )
 
-returns : tie.Need-returns Inv-loop μ-loop
-returns c = let l = c .before .loop in λ z k. l .inv .2 z (omega (arith, l .inv .0, c .loop-test .left))
-
 pub limits-of-spec : {M : Type 1} → statement M
 limits-of-spec =
     tie.close (tie.spec
     Inv-loop μ-loop (λ c. (omega arith, refl, λ z k. absurd (omega arith))) (λ c κs. c .before .before .pre)
     (λ c. omega (arith, c .before .loop-test .taken)) (λ c. omega (arith, c .before .loop-test .taken))
-    (λ c. omega (arith, c .before .loop-test .taken)) (λ c. omega (arith, c .before .loop-test .taken)) loop-again returns)
+    (λ c. omega (arith, c .before .loop-test .taken)) (λ c. omega (arith, c .before .loop-test .taken)) loop-again
+    (λ c. let l = c .before .loop in λ z k. l .inv .2 z (omega (arith, l .inv .0, c .loop-test .left))))

@@ -15,17 +15,11 @@ returns : tie.Need-returns
 returns c =
     let a = c .before .before .before .args in four-first (a .last) (wordsIn (a .bytes .now)) (a .i) (omega (arith, c .before .element .ensures))
 
-add-element : tie.Need-add-element
-add-element c = omega (arith, words-in-length (c .before .before .before .args .bytes .now))
-
 returns-2 : tie.Need-returns-2
 returns-2 c =
     let a = c .before .before .before .before .before .args in
     four-second (a .last) (wordsIn (a .bytes .now)) (a .i) (omega (arith, c .before .before .before .element .ensures))
     (omega (arith, c .before .before .before .element .ensures, c .before .element2 .ensures))
-
-add-element-2 : tie.Need-add-element-2
-add-element-2 c = omega (arith, words-in-length (c .before .before .before .before .before .args .bytes .now))
 
 returns-3 : tie.Need-returns-3
 returns-3 c =
@@ -48,5 +42,6 @@ returns-4 c =
 pub rise-four-spec : {M : Type 1} → statement M
 rise-four-spec =
     tie.close (tie.spec
-    (λ c κs. search needs) returns add-element (λ c κs. search needs) returns-2 add-element-2 (λ c κs. search needs) returns-3 add-element-3
-    (λ c κs. search needs) returns-4)
+    (λ c κs. search needs) returns (λ c. omega (arith, words-in-length (c .before .before .before .args .bytes .now))) (λ c κs. search needs)
+    returns-2 (λ c. omega (arith, words-in-length (c .before .before .before .before .before .args .bytes .now))) (λ c κs. search needs) returns-3
+    add-element-3 (λ c κs. search needs) returns-4)
