@@ -36,15 +36,15 @@ use Rattle.live_arrive.specs.Quickly.{Coded, Triable, PartStepped, Quick
 
 -- ---- codes
 
-pub coded-none : (codes : List ℕ) → ascends codes ≡ true → length codes ≡ 0 → Coded codes
-coded-none codes e z = record { ascending = e; narrow = none-any codes isHigh (λ c m. let p = place-of codes c m in absurd (omega (arith, p .1))) }
+pub coded-none : {codes : List ℕ} → ascends codes ≡ true → length codes ≡ 0 → Coded codes
+coded-none {codes} e z = record { ascending = e; narrow = none-any codes isHigh (λ c m. let p = place-of codes c m in absurd (omega (arith, p .1))) }
 
-pub coded-last : (codes : List ℕ) → ascends codes ≡ true → 0 < length codes → getD codes (length codes - 1) 0 / 2 ^ 48 ≡ 0 → Coded codes
-coded-last codes e h z = record { ascending = e; narrow = none-any codes isHigh (λ c m. not-high c (omega (arith, below-last codes e c m))) }
+pub coded-last : {codes : List ℕ} → ascends codes ≡ true → 0 < length codes → getD codes (length codes - 1) 0 / 2 ^ 48 ≡ 0 → Coded codes
+coded-last {codes} e h z = record { ascending = e; narrow = none-any codes isHigh (λ c m. not-high c (omega (arith, below-last codes e c m))) }
 
 -- ---- row 15
 
-module _ (s a : ℕ) (codes transitions state : List ℕ) (room : ℕ) (t : Triable s a codes transitions state room) where
+module _ {s a : ℕ} {codes transitions state : List ℕ} {room : ℕ} (t : Triable s a codes transitions state room) where
   abbrev n : ℕ
   n = length (wordsIn codes)
 
@@ -164,7 +164,7 @@ served-untried e = let z : _≡_ {A = ℕ} 0 1 = cc in omega arith
 refused-untried : Refused ≡ Untried → ⊥
 refused-untried e = let z : _≡_ {A = ℕ} 0 1 = cc in omega arith
 
-module _ (c : LiveCall) (s : ℕ) (codes transitions state : List ℕ) (room : ℕ) where
+module _ {c : LiveCall} {s : ℕ} {codes transitions state : List ℕ} {room : ℕ} where
   pub quickly-untried : Quickly c s codes transitions state room state Untried
   quickly-untried =
       record {
@@ -175,9 +175,9 @@ module _ (c : LiveCall) (s : ℕ) (codes transitions state : List ℕ) (room : �
         untried = λ e. refl;
       }
 
-  pub quickly-refused : (after : List ℕ) → liveCallRow c s (inBytes codes) (inBytes transitions) state room ≡ 15 → after ≡ state
+  pub quickly-refused : {after : List ℕ} → liveCallRow c s (inBytes codes) (inBytes transitions) state room ≡ 15 → after ≡ state
       → Quickly c s codes transitions state room after Refused
-  quickly-refused after row back =
+  quickly-refused row back =
       record {
         served = λ e. absurd (served-refused (sym e));
         made = λ e. absurd (served-refused (sym e));
@@ -186,9 +186,9 @@ module _ (c : LiveCall) (s : ℕ) (codes transitions state : List ℕ) (room : �
         untried = λ e. absurd (refused-untried e);
       }
 
-  pub quickly-served : (after : List ℕ) → liveCallRow c s (inBytes codes) (inBytes transitions) state room ≡ 0
+  pub quickly-served : {after : List ℕ} → liveCallRow c s (inBytes codes) (inBytes transitions) state room ≡ 0
       → ((q : ℕ) → after ≡ effect c q (wordsIn codes) (wordsIn transitions) state) → Quickly c s codes transitions state room after Served
-  quickly-served after row left =
+  quickly-served row left =
       record {
         served = λ e. row;
         made = λ e. left;

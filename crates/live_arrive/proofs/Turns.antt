@@ -43,7 +43,7 @@ module _ (s n a l : ℕ) where
   unfolding limitOf
   limit-high b = rw (le-ltb l s b)
 
-module _ (s a t : ℕ) (before : List ℕ) where
+module _ {s a t : ℕ} {before : List ℕ} where
   told-in : (after : List ℕ) → isAstray (length before) s t ≡ false → after ≡ moved a t before → Told s a t before after true
   told-in after e h = record { verdict = rw e; yes = λ r. h; no = λ r. absurd (true-false r) }
 
@@ -51,8 +51,8 @@ module _ (s a t : ℕ) (before : List ℕ) where
   told-out e = record { verdict = rw e; yes = λ r. absurd (true-false (sym r)); no = λ r. refl }
 
   -- a transition that the limit passes is one over another letter
-  pub told-quickly : (limit : ℕ) → limit ≡ limitOf s (length before) a (letterOf t) → sourceOf t < length before → targetOf t < limit → Told s a t before before true
-  told-quickly limit e x l =
+  pub told-quickly : {limit : ℕ} → limit ≡ limitOf s (length before) a (letterOf t) → sourceOf t < length before → targetOf t < limit → Told s a t before before true
+  told-quickly e x l =
       let n = length before in
       let other : letterOf t ≡ a → ⊥ = λ q. omega (arith, limit-same s n a (letterOf t) q) in
       let low : letterOf t < s = by-cases (decLt (letterOf t) s) (λ b. b) (λ q. absurd (omega (arith, limit-high s n a (letterOf t) (omega arith)))) in
@@ -69,8 +69,8 @@ module _ (s a t : ℕ) (before : List ℕ) where
   pub told-target : length before ≤ targetOf t → Told s a t before before false
   told-target l = told-out (target-astray (length before) s t l)
 
-  pub told-yes : (after : List ℕ) → a < s → letterOf t ≡ a → sourceOf t < length before → targetOf t < length before → after ≡ moved a t before → Told s a t before after true
-  told-yes after b e f g h = told-in after (in-range (length before) s t f (omega arith) g) h
+  pub told-yes : {after : List ℕ} → a < s → letterOf t ≡ a → sourceOf t < length before → targetOf t < length before → after ≡ moved a t before → Told s a t before after true
+  told-yes {after} b e f g h = told-in after (in-range (length before) s t f (omega arith) g) h
 
 -- ---- the turns
 
@@ -79,18 +79,18 @@ pub record Turn (s a : ℕ) (ts before after : List ℕ) (i : ℕ) : Type 0 wher
   pub swept : Swept a (take i ts) before after
   pub inside : anyOf ts (isAstray (length before) s) ≡ anyOf (drop i ts) (isAstray (length before) s)
 
-module _ (s a : ℕ) (ts before : List ℕ) (low : (y : ℕ) → getD before y 0 ≤ 1) where
+module _ {s a : ℕ} {ts before : List ℕ} (low : (y : ℕ) → getD before y 0 ≤ 1) where
   pub turn-start : Turn s a ts before before 0
   turn-start = record { swept = swept-start a ts before low; inside = refl }
 
-  low-bits : (after : List ℕ) (i : ℕ) → Turn s a ts before after i → (y : ℕ) → y < length before → getD after y 0 % 2 ≡ getD before y 0
-  low-bits after i u y l = omega (arith, u .swept .at y l, low y)
+  low-bits : {after : List ℕ} {i : ℕ} → Turn s a ts before after i → (y : ℕ) → y < length before → getD after y 0 % 2 ≡ getD before y 0
+  low-bits u y l = omega (arith, u .swept .at y l, low y)
 
-  module _ (after then : List ℕ) (i t : ℕ) (l : i < length ts) (e : t ≡ getD ts i 0) (u : Turn s a ts before after i) where
+  module _ {after : List ℕ} {i t : ℕ} (l : i < length ts) (e : t ≡ getD ts i 0) (u : Turn s a ts before after i) where
     same : isAstray (length after) s t ≡ isAstray (length before) s (getD ts i 0)
     same = ap₂ (λ (k x : ℕ). isAstray k s x) (u .swept .long) e
 
-    pub turn-told : sourceOf t < length after → Told s a t after then true → Turn s a ts before then (i + 1)
+    pub turn-told : {then : List ℕ} → sourceOf t < length after → Told s a t after then true → Turn s a ts before then (i + 1)
     turn-told x d =
         let in-it : isAstray (length before) s (getD ts i 0) ≡ false = sym same ∙ not-true (isAstray (length after) s t) (sym (d .verdict)) in
         record {
@@ -100,7 +100,7 @@ module _ (s a : ℕ) (ts before : List ℕ) (low : (y : ℕ) → getD before y 0
           inside = u .inside ∙ any-next (isAstray (length before) s) ts i l in-it;
         }
 
-    pub turn-refused : Told s a t after then false → Tried s a ts before then false
+    pub turn-refused : {then : List ℕ} → Told s a t after then false → Tried s a ts before then false
     turn-refused d =
         let out : isAstray (length before) s (getD ts i 0) ≡ true = sym same ∙ not-false (isAstray (length after) s t) (sym (d .verdict)) in
         rw (d .no refl)
@@ -108,29 +108,29 @@ module _ (s a : ℕ) (ts before : List ℕ) (low : (y : ℕ) → getD before y 0
           verdict = rw (any-in ts (isAstray (length before) s) (getD ts i 0) (mem-at ts i l) out);
           swept = λ r. absurd (true-false (sym r));
           long = u .swept .long;
-          low = low-bits after i u;
+          low = low-bits u;
         })
 
-  pub turn-end : (after : List ℕ) (i : ℕ) → length ts ≤ i → Turn s a ts before after i → Tried s a ts before after true
-  turn-end after i l u =
+  pub turn-end : {after : List ℕ} {i : ℕ} → length ts ≤ i → Turn s a ts before after i → Tried s a ts before after true
+  turn-end {after} {i} l u =
       record {
         verdict = rw (u .inside ∙ any-end (isAstray (length before) s) ts i l);
         swept = λ r. swept-end a ts before low after i l (u .swept);
         long = u .swept .long;
-        low = low-bits after i u;
+        low = low-bits u;
       }
 
 -- ---- sources
 
-pub sourced-none : (n : ℕ) (ts : List ℕ) → length ts ≡ 0 → Sourced n ts true
-sourced-none n ts z =
+pub sourced-none : {n : ℕ} {ts : List ℕ} → length ts ≡ 0 → Sourced n ts true
+sourced-none {ts = ts} z =
     record {
       yes = λ r t m. let p = place-of ts t m in absurd (omega (arith, p .1));
       no = λ r. absurd (true-false r);
     }
 
-pub sourced-last : (n : ℕ) (ts : List ℕ) → ascends ts ≡ true → 0 < length ts → (x : ℕ) → x ≡ sourceOf (getD ts (length ts - 1) 0) → Sourced n ts (ltb x n)
-sourced-last n ts e h x d =
+pub sourced-last : {n : ℕ} {ts : List ℕ} → ascends ts ≡ true → 0 < length ts → {x : ℕ} → x ≡ sourceOf (getD ts (length ts - 1) 0) → Sourced n ts (ltb x n)
+sourced-last {n} {ts} e h {x} d =
     let top = getD ts (length ts - 1) 0 in
     record {
       yes = λ r t m. let below = below-last ts e t m in omega (arith, ltb-true x n r);
@@ -152,8 +152,8 @@ strays n s ts e h = passes-by n s ts false e (rw h)
 
 -- ---- the step
 
-pub stepped-not : (s a : ℕ) (ts before : List ℕ) → false ≡ passes (length before) s ts → Stepped s a ts before before false
-stepped-not s a ts before e = record { verdict = e; yes = λ r. absurd (true-false (sym r)); no = λ r. refl }
+pub stepped-not : {s a : ℕ} {ts before : List ℕ} → false ≡ passes (length before) s ts → Stepped s a ts before before false
+stepped-not e = record { verdict = e; yes = λ r. absurd (true-false (sym r)); no = λ r. refl }
 
 low-flag : (v : ℕ) → v ≤ 1 → flagOf v ≡ v
 low-flag v l =
@@ -161,12 +161,13 @@ low-flag v l =
     (λ z. ap one (le-ltb 0 v (omega arith)) ∙ sym z)
     (λ x. let e : v ≡ 1 = omega arith in ap one (lt-ltb 0 v (omega arith)) ∙ sym e)
 
-module _ (a : ℕ) (ts before : List ℕ) (low : (y : ℕ) → getD before y 0 ≤ 1) where
-  flags-same : map flagOf before ≡ before
-  flags-same = sym (mapped flagOf before before refl (λ j l. sym (low-flag (getD before j 0) (low j))))
+module _ {s a : ℕ} {ts before mid after : List ℕ} (low : (y : ℕ) → getD before y 0 ≤ 1) (rises : ascends ts ≡ true) where
+  pub stepped-yes : Tried s a ts before mid true → after ≡ map (λ v. v / 2) mid → Stepped s a ts before after true
+  stepped-yes T h =
+      let same : map flagOf before ≡ before = sym (mapped flagOf before before refl (λ j l. sym (low-flag (getD before j 0) (low j)))) in
+      record { verdict = passes-by (length before) s ts true rises (T .verdict); yes = λ r. h ∙ arrived a ts before mid (rw same (T .swept refl)); no = λ r. absurd (true-false r) }
 
-  pub step-end : (after : List ℕ) → Swept a ts before after → map (λ v. v / 2) after ≡ stepped (length before) ts a before
-  step-end after s = arrived a ts before after (rw flags-same s)
-
-  pub step-back : (after : List ℕ) → length after ≡ length before → ((y : ℕ) → y < length before → getD after y 0 % 2 ≡ getD before y 0) → map (λ v. v % 2) after ≡ before
-  step-back after e h = sym (mapped (λ v. v % 2) after before (sym e) (λ j l. sym (h j (omega arith))))
+  pub stepped-back : Tried s a ts before mid false → after ≡ map (λ v. v % 2) mid → Stepped s a ts before after false
+  stepped-back T h =
+      let back : before ≡ map (λ v. v % 2) mid = mapped (λ v. v % 2) mid before (sym (T .long)) (λ j l. sym (T .low j (omega (arith, T .long)))) in
+      record { verdict = passes-by (length before) s ts false rises (T .verdict); yes = λ r. absurd (true-false (sym r)); no = λ r. h ∙ sym back }

@@ -25,9 +25,7 @@ tried : (c : tie.Else1) → Triable (c .before .before .before .before .before .
 tried c = c .before .can-try .ensures (not-false (c .before .can-try .result) (c .if1 .left))
 
 returns : tie.Need-returns
-returns c =
-    let a = c .before .before .before .before .before .before .args in
-    quickly-untried (Arrive (a .letter)) (a .s) (a .codes .now) (a .transitions .now) (a .state .now) (a .room)
+returns c = quickly-untried
 
 step-part-requires : tie.Need-step-part-requires
 step-part-requires c κs =
@@ -44,8 +42,8 @@ returns-2 c =
     let no = not-true (c .before .before .before .step-part .result) (c .if2 .taken) in
     let fails : passes (length (wordsIn (a .codes .now))) (a .s) (wordsIn (a .transitions .now)) ≡ false =
     ap (λ (n : ℕ). passes n (a .s) (wordsIn (a .transitions .now))) (words-in-length (a .codes .now)) ∙ sym (d .verdict) ∙ no in
-    quickly-refused (Arrive (a .letter)) (a .s) (a .codes .now) (a .transitions .now) (a .state .now) (a .room) _
-    (fifteen (a .s) (a .letter) (a .codes .now) (a .transitions .now) (a .state .now) (a .room) t fails) (d .no no)
+    quickly-refused
+    (fifteen t fails) (d .no no)
 
 add-put-number : tie.Need-add-put-number
 add-put-number c =
@@ -91,8 +89,8 @@ returns-3 c =
     c .before .before .put-byte .ensures
     ∙ ap (λ (x : List ℕ). put (lettersAtByte + k) (a .letter ∷ []) x) (c .before .before .before .before .before .before .put-number .ensures
     ∙ ap (λ (x : List ℕ). put 0 (twoBytes (k + 1)) x) (d .yes yes)) in
-    quickly-served (Arrive (a .letter)) (a .s) (a .codes .now) (a .transitions .now) (a .state .now) (a .room) _
-    (no-row (a .s) (a .letter) (a .codes .now) (a .transitions .now) (a .state .now) (a .room) t holds)
+    quickly-served
+    (no-row t holds)
     (λ q. written ∙ made q (a .letter) (wordsIn (a .codes .now)) (wordsIn (a .transitions .now)) (a .state .now) (t .long) (t .few) (t .free) k n (at-number-at .number-at .ensures) (sym w))
 
 pub arrive-quickly-spec : {M : Type 1} → statement M

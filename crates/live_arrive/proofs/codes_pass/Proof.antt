@@ -19,9 +19,7 @@ rises : (c : tie.Else1) → ascends (wordsIn (c .before .before .before .args .c
 rises c = sym (c .before .is-ascending .ensures) ∙ not-false (c .before .is-ascending .result) (c .if1 .left)
 
 returns-2 : tie.Need-returns-2
-returns-2 c =
-    let bytes = c .before .before .before .before .args .codes .now in
-    λ e. coded-none (wordsIn bytes) (rises (c .before)) (omega (arith, words-in-length bytes))
+returns-2 c = λ e. coded-none (rises (c .before)) (omega (arith, words-in-length (c .before .before .before .before .args .codes .now)))
 
 element-requires : tie.Need-element-requires
 element-requires c κs = omega (arith, words-in-length (c .before .before .before .before .args .codes .now))
@@ -32,7 +30,7 @@ returns-3 c =
     let cs = wordsIn bytes in
     let w = words-in-length bytes in
     let last : c .element .result ≡ getD cs (length cs - 1) 0 = c .element .ensures ∙ ap (λ (k : ℕ). getD cs (k - 1) 0) (sym w) in
-    λ e. coded-last cs (rises (c .before .before)) (omega arith) (ap (λ (x : ℕ). x / 2 ^ 48) (sym last) ∙ eqb-true (c .element .result / 2 ^ 48) 0 e)
+    λ e. coded-last (rises (c .before .before)) (omega arith) (ap (λ (x : ℕ). x / 2 ^ 48) (sym last) ∙ eqb-true (c .element .result / 2 ^ 48) 0 e)
 
 pub codes-pass-spec : {M : Type 1} → statement M
 codes-pass-spec =

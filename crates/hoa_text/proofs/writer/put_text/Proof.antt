@@ -4,92 +4,47 @@ use native.Mathlib.Omega.{arith}
 use borrow.Author.Needs.{needs}
 use lib.ListN.{length}
 use Rattle.slice_text.proofs.Puts.{put-as, put-then}
-use Rattle.listing_lines_spec.specs.Lines.{initialAt}
+use Prim.Native.Nat.{ℕ, _+_, _/_, _≤_}
+use Rattle.listing_lines_spec.specs.Lines.{initialAt, lines}
+use Rattle.hoa_spec.specs.Lines.{statesLine, apLine}
 use Rattle.table_lent.specs.Lent.{wordsIn}
-use Rattle.hoa_spec.specs.Text.{flagsOf, automatonText}
+use Rattle.hoa_spec.specs.Text.{flagsOf, startOf, blockOf, automatonText}
 use Rattle.hoa_text.proofs.Parts.{states-is}
 use Rattle.hoa_laws.proofs.Bound.{text-sum}
 use Rattle.hoa_text.proofs.writer.put_text.Statement.{statement}
 use Rattle.hoa_text.proofs.writer.put_text.Tie as tie
 
-put-requires : tie.Need-put-requires
-put-requires c κs = let a = c .before .before .before .before .before .args in
-    omega (
-      arith,
-      text-sum (a .b) (flagsOf (initialAt (a .initial)) (wordsIn (a .codes .now))) (wordsIn (a .moves .now)),
-      ap length (states-is (initialAt (a .initial)) (a .codes .now)),
-      c .before .before .before .before .before .pre .3,
-    )
-
-put-states-requires : tie.Need-put-states-requires
-put-states-requires c κs =
-    let start = c .before .before .before .before .before .before .before .before .before in let a = start .args in omega (
-      arith,
-      text-sum (a .b) (flagsOf (initialAt (a .initial)) (wordsIn (a .codes .now))) (wordsIn (a .moves .now)),
-      ap length (states-is (initialAt (a .initial)) (a .codes .now)),
-      start .pre .3,
-    )
+-- all parts fit
+room : (s : tie.Start) → let a = s .args in let flags = flagsOf (initialAt (a .initial)) (wordsIn (a .codes .now)) in
+    length (statesLine (length (a .codes .now) / 8)) + length (lines startOf 0 flags) + length (apLine (a .b)) + length (lines (blockOf (a .b) (wordsIn (a .moves .now))) 0 flags) + 113
+    ≤ length (a .out .now)
+room s =
+    let a = s .args in
+    omega (arith, text-sum (a .b) (flagsOf (initialAt (a .initial)) (wordsIn (a .codes .now))) (wordsIn (a .moves .now)), ap length (states-is (initialAt (a .initial)) (a .codes .now)), s .pre .3)
 
 put-starts-requires : tie.Need-put-starts-requires
-put-starts-requires c κs =
-    let start = c .before .before .before .before .before .before .before .before .before .before .before .before .before in
-    let a = start .args in (
-      start .pre .1,
-      omega (
-        arith,
-        text-sum (a .b) (flagsOf (initialAt (a .initial)) (wordsIn (a .codes .now))) (wordsIn (a .moves .now)),
-        ap length (states-is (initialAt (a .initial)) (a .codes .now)),
-        start .pre .3,
-      ),
-    )
+put-starts-requires c κs = let start = c .before .before .before .before .before .before .before .before .before .before .before .before .before in (start .pre .1, omega (arith, room start))
 
 put-ap-requires : tie.Need-put-ap-requires
 put-ap-requires c κs =
     let start = c .before .before .before .before .before .before .before .before .before .before .before .before .before .before .before .before .before in
-    let a = start .args in (
-      start .pre .0,
-      omega (
-        arith,
-        text-sum (a .b) (flagsOf (initialAt (a .initial)) (wordsIn (a .codes .now))) (wordsIn (a .moves .now)),
-        ap length (states-is (initialAt (a .initial)) (a .codes .now)),
-        start .pre .3,
-      ),
-    )
+    (start .pre .0, omega (arith, room start))
 
 put-acceptance-requires : tie.Need-put-acceptance-requires
-put-acceptance-requires c κs =
-    let start = c .before .before .before .before .before .before .before .before .before .before .before .before .before .before .before .before .before .before .before .before .before in
-    let a = start .args in omega (
-      arith,
-      text-sum (a .b) (flagsOf (initialAt (a .initial)) (wordsIn (a .codes .now))) (wordsIn (a .moves .now)),
-      ap length (states-is (initialAt (a .initial)) (a .codes .now)),
-      start .pre .3,
-    )
+put-acceptance-requires c κs = omega (arith, room (c .before .before .before .before .before .before .before .before .before .before .before .before .before .before .before .before .before .before .before .before .before))
 
 put-blocks-requires : tie.Need-put-blocks-requires
 put-blocks-requires c κs =
     let start = c .before .before .before .before .before .before .before .before .before .before .before .before .before .before .before .before .before .before .before .before .before .before
     .before .before .before in
-    let a = start .args in (
-      start .pre .0,
-      start .pre .2,
-      omega (
-        arith,
-        text-sum (a .b) (flagsOf (initialAt (a .initial)) (wordsIn (a .codes .now))) (wordsIn (a .moves .now)),
-        ap length (states-is (initialAt (a .initial)) (a .codes .now)),
-        start .pre .3,
-      ),
-    )
+    (start .pre .0, start .pre .2, omega (arith, room start))
 
 put-requires-2 : tie.Need-put-requires-2
-put-requires-2 c κs = let a = c .before .before .before .before .before .before .before .before .before .before .before .before .before .before .before .before .before .before .before .before .before
-    .before .before .before .before .before .before .before .before .before .args in
+put-requires-2 c κs =
     omega (
       arith,
-      text-sum (a .b) (flagsOf (initialAt (a .initial)) (wordsIn (a .codes .now))) (wordsIn (a .moves .now)),
-      ap length (states-is (initialAt (a .initial)) (a .codes .now)),
-      c .before .before .before .before .before .before .before .before .before .before .before .before .before .before .before .before .before .before .before .before .before .before .before .before
-          .before .before .before .before .before .before .pre .3,
+      room (c .before .before .before .before .before .before .before .before .before .before .before .before .before .before .before .before .before .before .before .before .before .before
+          .before .before .before .before .before .before .before .before),
     )
 
 returns : tie.Need-returns
@@ -113,5 +68,6 @@ returns c =
 pub put-text-spec : {M : Type 1} → statement M
 put-text-spec =
     tie.close (tie.spec
-    (λ c. search needs) put-requires put-states-requires put-starts-requires put-ap-requires put-acceptance-requires put-blocks-requires (λ c. search needs)
-    put-requires-2 (λ c. search needs) returns)
+    (λ c. search needs) (λ c κs. omega (arith, room (c .before .before .before .before .before)))
+    (λ c κs. omega (arith, room (c .before .before .before .before .before .before .before .before .before))) put-starts-requires put-ap-requires
+    put-acceptance-requires put-blocks-requires (λ c. search needs) put-requires-2 (λ c. search needs) returns)

@@ -5,7 +5,7 @@ use borrow.Author.Tests.{not-true, not-false}
 use lib.ListN.{length}
 use Rattle.slice_search.specs.Places.{ascends}
 use Rattle.table_lent.specs.Lent.{wordsIn}
-use Rattle.live_arrive.proofs.Turns.{true-false, passes-not, passes-by, strays, stepped-not, step-end, step-back}
+use Rattle.live_arrive.proofs.Turns.{passes-not, strays, stepped-not, stepped-yes, stepped-back}
 use borrow.Author.Needs.{needs}
 use Rattle.live_arrive.proofs.sweep.step_tried.Statement.{statement}
 use Rattle.live_arrive.proofs.sweep.step_tried.Tie as tie
@@ -19,14 +19,14 @@ returns c =
     let a = c .before .before .before .before .args in
     let ts = wordsIn (a .transitions .now) in
     let falls = sym (c .before .is-ascending .ensures) ∙ not-true (c .before .is-ascending .result) (c .if1 .taken) in
-    stepped-not (a .s) (a .letter) ts (a .set .now) (passes-not (length (a .set .now)) (a .s) ts falls)
+    stepped-not (passes-not (length (a .set .now)) (a .s) ts falls)
 
 returns-2 : tie.Need-returns-2
 returns-2 c =
     let a = c .before .before .before .before .before .before .args in
     let ts = wordsIn (a .transitions .now) in
     let far = c .before .ends-below .ensures .no (not-true (c .before .ends-below .result) (c .if2 .taken)) (a .s) in
-    stepped-not (a .s) (a .letter) ts (a .set .now) (strays (length (a .set .now)) (a .s) ts (rises (c .before .before)) far)
+    stepped-not (strays (length (a .set .now)) (a .s) ts (rises (c .before .before)) far)
 
 sweep-tried-requires : tie.Need-sweep-tried-requires
 sweep-tried-requires c κs =
@@ -35,30 +35,15 @@ sweep-tried-requires c κs =
 
 returns-3 : tie.Need-returns-3
 returns-3 c =
-    let at-sweep-tried = c .before .before .before .before .before .before .before in
-    let earlier = at-sweep-tried .before .before .before .before in
-    let start = earlier .before .before .before .before in let a = start .args in
-    let ts = wordsIn (a .transitions .now) in
-    let e = at-sweep-tried .sweep-tried .ensures in
-    record {
-      verdict = passes-by (length (a .set .now)) (a .s) ts true (rises (earlier)) (sym (c .before .before .before .before .if3 .taken) ∙ e .verdict);
-      yes = λ r. c .before .before .halve-all .ensures ∙ step-end (a .letter) ts (a .set .now) (start .pre .2) (at-sweep-tried .sweep-tried .last .1 .1 .1 .0)
-          (e .swept (c .before .before .before .before .if3 .taken));
-      no = λ r. absurd (true-false r);
-    }
+    let at-sweep-tried = c .before .before .before .before .before .before .before in let earlier = at-sweep-tried .before .before .before .before in
+    stepped-yes (earlier .before .before .before .before .pre .2) (rises (earlier)) (rw (c .before .before .before .before .if3 .taken) at (at-sweep-tried .sweep-tried .ensures))
+    (c .before .before .halve-all .ensures)
 
 returns-4 : tie.Need-returns-4
 returns-4 c =
-    let at-sweep-tried = c .before .before .before .before .before .before .before in
-    let earlier = at-sweep-tried .before .before .before .before in
-    let start = earlier .before .before .before .before in let a = start .args in
-    let ts = wordsIn (a .transitions .now) in
-    let e = at-sweep-tried .sweep-tried .ensures in
-    record {
-      verdict = passes-by (length (a .set .now)) (a .s) ts false (rises (earlier)) (sym (c .before .before .before .before .if3 .left) ∙ e .verdict);
-      yes = λ r. absurd (true-false (sym r));
-      no = λ r. c .before .before .keep-low .ensures ∙ step-back (a .letter) ts (a .set .now) (start .pre .2) (at-sweep-tried .sweep-tried .last .1 .1 .1 .0) (e .long) (e .low);
-    }
+    let at-sweep-tried = c .before .before .before .before .before .before .before in let earlier = at-sweep-tried .before .before .before .before in
+    stepped-back (earlier .before .before .before .before .pre .2) (rises (earlier)) (rw (c .before .before .before .before .if3 .left) at (at-sweep-tried .sweep-tried .ensures))
+    (c .before .before .keep-low .ensures)
 
 pub step-tried-spec : {M : Type 1} → statement M
 step-tried-spec =

@@ -14,7 +14,7 @@ returns : tie.Need-returns
 returns c =
     let a = c .before .before .before .args in
     let quick : targetOf (a .t) < a .limit = omega arith in
-    λ s b e. told-quickly s (a .letter) (a .t) (a .set .now) (a .limit) e (c .before .before .before .pre) quick
+    λ s b e. told-quickly e (c .before .before .before .pre) quick
 
 returns-2 : tie.Need-returns-2
 returns-2 c =

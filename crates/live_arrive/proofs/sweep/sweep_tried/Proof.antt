@@ -40,9 +40,7 @@ told c =
     c .sweep-one .ensures (a .s) (start .pre .0) limit
 
 loop-holds : tie.Need-loop-holds Inv-loop μ-loop
-loop-holds c =
-    let a = c .before .before .before .args in
-    (omega arith, turn-start (a .s) (a .letter) (wordsIn (a .transitions .now)) (a .set .now) (c .before .before .before .pre .2))
+loop-holds c = (omega arith, turn-start (c .before .before .before .pre .2))
 
 element-requires : tie.Need-element-requires Inv-loop μ-loop
 element-requires c κs = omega (arith, words-in-length (c .before .before .before .before .before .args .transitions .now))
@@ -59,7 +57,7 @@ returns c =
     let ts = wordsIn (a .transitions .now) in
     let inside : l .i < length ts = omega (arith, words-in-length (a .transitions .now)) in
     let none = not-true (c .before .before .before .sweep-one .result) (c .if1 .taken) in
-    turn-refused (a .s) (a .letter) ts (a .set .now) (start .pre .2) (l .set) _ (l .i) (c .before .before .before .before .before .before .element .result) inside
+    turn-refused (start .pre .2) inside
     (c .before .before .before .before .before .before .element .ensures) (l .inv .1)
     (rw none at (told (c .before .before .before)))
 
@@ -71,7 +69,7 @@ loop-again c =
     let inside : l .i < length ts = omega (arith, words-in-length (a .transitions .now)) in
     let some = not-false (c .before .before .before .sweep-one .result) (c .if1 .left) in (
       omega arith,
-      turn-told (a .s) (a .letter) ts (a .set .now) (start .pre .2) (l .set) _ (l .i) (at-element .element .result) inside (at-element .element .ensures) (l .inv .1)
+      turn-told (start .pre .2) inside (at-element .element .ensures) (l .inv .1)
           (source (at-element)) (rw some at (told (c .before .before .before))),
     )
 
@@ -79,7 +77,7 @@ returns-2 : tie.Need-returns-2 Inv-loop μ-loop
 returns-2 c =
     let a = c .before .before .before .before .before .args in let l = c .before .loop in
     let ts = wordsIn (a .transitions .now) in
-    turn-end (a .s) (a .letter) ts (a .set .now) (c .before .before .before .before .before .pre .2) (l .set) (l .i) (omega (arith, words-in-length (a .transitions .now))) (l .inv .1)
+    turn-end (c .before .before .before .before .before .pre .2) (omega (arith, words-in-length (a .transitions .now))) (l .inv .1)
 
 pub sweep-tried-spec : {M : Type 1} → statement M
 sweep-tried-spec =
