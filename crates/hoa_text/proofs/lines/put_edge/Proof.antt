@@ -1,33 +1,19 @@
 -- `hoa_text::lines::put_edge` meets its contract: its parts one after the other.
+use mathlib.Core.Path.{_≡_}
+use Prim.Native.Nat.{ℕ, _+_}
 use native.Mathlib.Omega.{arith}
+use lib.ListN.{length}
 use borrow.Author.Needs.{needs}
-use Rattle.hoa_spec.specs.Lines.{edgeLine}
+use Rattle.hoa_spec.specs.Lines.{label, edgeLine}
 use Rattle.hoa_laws.proofs.Lengths.{edge-length}
+use Rattle.slice_text.specs.Decimal.{word}
 use Rattle.slice_text.proofs.Puts.{put-then}
 use Rattle.hoa_text.proofs.lines.put_edge.Statement.{statement}
 use Rattle.hoa_text.proofs.lines.put_edge.Tie as tie
 
-put-byte-requires : tie.Need-put-byte-requires
-put-byte-requires c κs = let a = c .before .before .args in omega (arith, edge-length (a .b) (a .letter) (a .target))
-
-put-label-requires : tie.Need-put-label-requires
-put-label-requires c κs = let a = c .before .before .before .before .before .before .args in
-    (c .before .before .before .before .before .before .pre .0, omega (arith, edge-length (a .b) (a .letter) (a .target)))
-
-put-byte-requires-2 : tie.Need-put-byte-requires-2
-put-byte-requires-2 c κs =
-    let start = c .before .before .before .before .before .before .before .before .before .before in
-    let a = start .args in omega (arith, edge-length (a .b) (a .letter) (a .target))
-
-put-number-requires : tie.Need-put-number-requires
-put-number-requires c κs =
-    let start = c .before .before .before .before .before .before .before .before .before .before .before .before .before .before in
-    let a = start .args in omega (arith, edge-length (a .b) (a .letter) (a .target))
-
-put-byte-requires-3 : tie.Need-put-byte-requires-3
-put-byte-requires-3 c κs =
-    let start = c .before .before .before .before .before .before .before .before .before .before .before .before .before .before .before .before .before .before in
-    let a = start .args in omega (arith, edge-length (a .b) (a .letter) (a .target))
+-- how long the line is
+long : (s : tie.Start) → let a = s .args in length (edgeLine (a .b) (a .letter) (a .target)) ≡ length (label (a .b) (a .letter)) + length (word (a .target)) + 3
+long s = edge-length (s .args .b) (s .args .letter) (s .args .target)
 
 returns : tie.Need-returns
 unfolding edgeLine
@@ -43,4 +29,9 @@ returns c =
 
 pub put-edge-spec : {M : Type 1} → statement M
 put-edge-spec =
-    tie.close (tie.spec put-byte-requires put-label-requires put-byte-requires-2 put-number-requires put-byte-requires-3 (λ c. search needs) returns)
+    tie.close (tie.spec
+    (λ c κs. omega (arith, long (c .before .before))) (λ c κs. (c .before .before .before .before .before .before .pre .0, omega (arith, long (c .before .before .before .before .before .before))))
+    (λ c κs. omega (arith, long (c .before .before .before .before .before .before .before .before .before .before)))
+    (λ c κs. omega (arith, long (c .before .before .before .before .before .before .before .before .before .before .before .before .before .before)))
+    (λ c κs. omega (arith, long (c .before .before .before .before .before .before .before .before .before .before .before .before .before .before .before .before .before .before)))
+    (λ c. search needs) returns)
