@@ -1,5 +1,5 @@
 -- What a text can carry, told with no code and no rule.
-use mathlib.Core.Path.{_≡_, refl, sym, _∙_, ap}
+use mathlib.Core.Path.{_≡_, refl, sym, _∙_, ap, ap₂}
 use mathlib.Core.Bool.{Bool, true, false, cond, _&&_}
 use mathlib.Core.List.{List, [], _∷_, List·Memᴰ, List·Memᴰ·head, List·Memᴰ·tail, List·Memᴰ·cases-cons, List·Memᴰ·not-nil}
 use mathlib.Core.Logic.{by-cases, ⊎-elim}
@@ -9,7 +9,7 @@ use native.Mathlib.Decide.{decLt}
 use native.Mathlib.Nat.{zero-add}
 use lib.Dec.{ltb, eqb, leb}
 use lib.ListN.{length, getD}
-use borrow.Author.Tests.{lt-ltb, le-ltb, le-leb, leb-true, eq-eqb, ne-eqb}
+use borrow.Author.Tests.{ltb-true, ltb-false, lt-ltb, le-ltb, le-leb, leb-true, eq-eqb, ne-eqb}
 use Rattle.sets.specs.Tests.{Set, one, first}
 use Rattle.sets.specs.Masks.{bit}
 use Rattle.sets.specs.Lists.{Above, end, more, Ascending, none, from}
@@ -131,8 +131,7 @@ module _ (initial : Set) where
     highs [] h a i l = refl
     highs (c ∷ codes) h a i l =
         let p = h c (List·Memᴰ·head refl) in
-        ap (λ (f : ℕ). f ∷ flagsOf initial codes) (high-flag c (p .0) (p .1) ∙ ap (λ (t : Bool). cond t (2 + one (initial c)) 0) (sym (le-ltb i a l)))
-        ∙ ap (λ (fs : List ℕ). cond (ltb i a) (2 + one (initial c)) 0 ∷ fs) (highs codes (λ d m. h d (List·Memᴰ·tail m)) a (suc i) (omega arith))
+        rw (le-ltb i a l) (ap₂ (λ (f : ℕ) (fs : List ℕ). f ∷ fs) (high-flag c (p .0) (p .1)) (highs codes (λ d m. h d (List·Memᴰ·tail m)) a (suc i) (omega arith)))
 
     module _ (c : ℕ) (codes : List ℕ) (A : Above c codes) (narrow : (d : ℕ) → List·Memᴰ d (c ∷ codes) → d < 2 ^ 48) (l : 2 ^ 44 ≤ c) where
       rest-high : (d : ℕ) → List·Memᴰ d (c ∷ codes) → (d < 2 ^ 48) × (2 ^ 44 ≤ d)
@@ -211,40 +210,33 @@ module _ (accepting : ℕ) where
   codes-length i [] = refl
   codes-length i (s ∷ starts) = ap suc (codes-length (suc i) starts)
 
-  code-yes : (i s : ℕ) → i < accepting → cond (ltb i accepting) (2 * i + s) (2 ^ 44 + i) ≡ 2 * i + s
-  code-yes i s l = ap (λ (t : Bool). cond t (2 * i + s) (2 ^ 44 + i)) (lt-ltb i accepting l)
+  abbrev code : ℕ → ℕ → ℕ
+  code i s = cond (ltb i accepting) (2 * i + s) (2 ^ 44 + i)
 
-  code-no : (i s : ℕ) → accepting ≤ i → cond (ltb i accepting) (2 * i + s) (2 ^ 44 + i) ≡ 2 ^ 44 + i
-  code-no i s l = ap (λ (t : Bool). cond t (2 * i + s) (2 ^ 44 + i)) (le-ltb i accepting l)
-
-  code-range : (i s : ℕ) → s ≤ 1 → i < 65536 → cond (ltb i accepting) (2 * i + s) (2 ^ 44 + i) < 2 ^ 48
-  code-range i s h l =
-      by-cases (decLt i accepting)
-      (λ a. omega (arith, code-yes i s a))
-      (λ n. omega (arith, code-no i s (omega arith)))
+  -- a code is above what those before it are below, and the next ones are above it
+  code-bounds : (i s : ℕ) → s ≤ 1 → i < 65536
+      → (code i s < 2 ^ 48) × (suc i < accepting → code i s < 2 * suc i) × (code i s < 2 ^ 44 + suc i) × ((x : ℕ) → (i < accepting → x < 2 * i) → x < 2 ^ 44 + i → x < code i s)
+  code-bounds i s h l =
+      bif (ltb i accepting)
+      (λ t. rw t (omega arith, λ g. omega arith, omega arith, λ x low high. let k = low (ltb-true i accepting t) in omega arith))
+      (λ t. let k = ltb-false i accepting t in rw t (omega arith, λ g. absurd (omega arith), omega arith, λ x low high. high))
 
   codes-above : (x i : ℕ) (starts : List ℕ) → ((j : ℕ) → getD starts j 0 ≤ 1) → i + length starts ≤ 65536 → (i < accepting → x < 2 * i) → x < 2 ^ 44 + i → Above x (codesFrom accepting i starts)
   codes-above x i [] each few low high = end
   codes-above x i (s ∷ starts) each few low high =
-      by-cases (decLt i accepting)
-      (λ a. let e = code-yes i s a in let h = each 0 in let l = low a in
-      more (omega arith) (codes-above (cond (ltb i accepting) (2 * i + s) (2 ^ 44 + i)) (suc i) starts (λ j. each (suc j)) (omega arith) (λ g. omega arith) (omega arith)))
-      (λ n. let e = code-no i s (omega arith) in
-      more (omega arith) (codes-above (cond (ltb i accepting) (2 * i + s) (2 ^ 44 + i)) (suc i) starts (λ j. each (suc j)) (omega arith) (λ g. absurd (omega arith)) (omega arith)))
+      let (k, p, q, r) = code-bounds i s (each 0) (omega arith) in
+      more (r x low high) (codes-above (code i s) (suc i) starts (λ j. each (suc j)) (omega arith) p q)
 
   codes-ascend : (starts : List ℕ) → ((j : ℕ) → getD starts j 0 ≤ 1) → length starts ≤ 65536 → Ascending (codesFrom accepting 0 starts)
   codes-ascend [] each few = none
   codes-ascend (s ∷ starts) each few =
-      let h = each 0 in
-      let x = cond (ltb 0 accepting) (2 * 0 + s) (2 ^ 44 + 0) in
-      by-cases (decLt 0 accepting)
-      (λ a. let e = code-yes 0 s a in from (codes-above x 1 starts (λ j. each (suc j)) (omega arith) (λ g. omega arith) (omega arith)))
-      (λ n. let e = code-no 0 s (omega arith) in from (codes-above x 1 starts (λ j. each (suc j)) (omega arith) (λ g. absurd (omega arith)) (omega arith)))
+      let (k, p, q, r) = code-bounds 0 s (each 0) (omega arith) in
+      from (codes-above (code 0 s) 1 starts (λ j. each (suc j)) (omega arith) p q)
 
   codes-narrow : (i : ℕ) (starts : List ℕ) → ((j : ℕ) → getD starts j 0 ≤ 1) → i + length starts ≤ 65536 → (c : ℕ) → List·Memᴰ c (codesFrom accepting i starts) → c < 2 ^ 48
   codes-narrow i [] each few c m = absurd (List·Memᴰ·not-nil m)
   codes-narrow i (s ∷ starts) each few c m =
-      ⊎-elim (λ e. rw e (code-range i s (each 0) (omega arith))) (λ k. codes-narrow (suc i) starts (λ j. each (suc j)) (omega arith) c k) (List·Memᴰ·cases-cons m)
+      ⊎-elim (λ e. rw e (code-bounds i s (each 0) (omega arith) .0)) (λ k. codes-narrow (suc i) starts (λ j. each (suc j)) (omega arith) c k) (List·Memᴰ·cases-cons m)
 
   -- the flags of these codes, where state 0 is initial
   low-initial : (i s : ℕ) → i < 65536 → s ≤ 1 → one (initialAt 0 (2 * i + s)) ≡ s
@@ -260,25 +252,16 @@ module _ (accepting : ℕ) where
       rw (a, b, c)
   low-initial i (suc (suc s)) l h = absurd (omega arith)
 
+  code-flag : (i s : ℕ) → s ≤ 1 → i < 65536 → flagOf (initialAt 0) (code i s) ≡ cond (ltb i accepting) (2 + s) 0
+  code-flag i s h l =
+      bif (ltb i accepting)
+      (λ t. rw t (low-flag (initialAt 0) (initial-accepting 0) (2 * i + s) (omega arith) ∙ ap (λ (k : ℕ). 2 + k) (low-initial i s l h)))
+      (λ t. rw t (high-flag (initialAt 0) (initial-accepting 0) (2 ^ 44 + i) (omega arith) (omega arith)))
+
   codes-flags : (i : ℕ) (starts : List ℕ) → ((j : ℕ) → getD starts j 0 ≤ 1) → i + length starts ≤ 65536 → flagsOf (initialAt 0) (codesFrom accepting i starts) ≡ flagsFrom accepting i starts
   unfolding flagsOf flagsFrom
   codes-flags i [] each few = refl
-  codes-flags i (s ∷ starts) each few =
-      let ih = codes-flags (suc i) starts (λ j. each (suc j)) (omega arith) in
-      let h = each 0 in
-      by-cases (decLt i accepting)
-      (λ a. let f : flagOf (initialAt 0) (cond (ltb i accepting) (2 * i + s) (2 ^ 44 + i)) ≡ cond (ltb i accepting) (2 + s) 0 =
-      ap (flagOf (initialAt 0)) (code-yes i s a)
-      ∙ low-flag (initialAt 0) (initial-accepting 0) (2 * i + s) (omega arith)
-      ∙ ap (λ (k : ℕ). 2 + k) (low-initial i s (omega arith) h)
-      ∙ ap (λ (t : Bool). cond t (2 + s) 0) (sym (lt-ltb i accepting a)) in
-      cc)
-      (λ n. let a : accepting ≤ i = omega arith in
-      let f : flagOf (initialAt 0) (cond (ltb i accepting) (2 * i + s) (2 ^ 44 + i)) ≡ cond (ltb i accepting) (2 + s) 0 =
-      ap (flagOf (initialAt 0)) (code-no i s a)
-      ∙ high-flag (initialAt 0) (initial-accepting 0) (2 ^ 44 + i) (omega arith) (omega arith)
-      ∙ ap (λ (t : Bool). cond t (2 + s) 0) (sym (le-ltb i accepting a)) in
-      cc)
+  codes-flags i (s ∷ starts) each few = ap₂ (λ (f : ℕ) (fs : List ℕ). f ∷ fs) (code-flag i s (each 0) (omega arith)) (codes-flags (suc i) starts (λ j. each (suc j)) (omega arith))
 
 -- flags and transitions of the shape are those of a table
 pub carries : {b : ℕ} {fs ts : List ℕ} → Shaped b fs ts → Carries (automatonText b fs ts) fs ts
