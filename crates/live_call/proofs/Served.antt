@@ -103,15 +103,16 @@ module _ (c : LiveCall) (s : ℕ) (codes transitions state : List ℕ) (room : �
 
 -- ---- the answer, by the row
 
-pub refused-by : (row : ℕ) (c : LiveCall) (q : ℕ) (codes ts state set : List ℕ) → (row ≡ 0 → ⊥) → CalledBy row c q codes ts state set state set (Refused row)
-unfolding answerBy leftBy
-refused-by zero c q codes ts state set n = absurd (n refl)
-refused-by (suc k) c q codes ts state set n = record { answered = refl; state-left = refl; set-left = refl }
+module _ {row : ℕ} {c : LiveCall} {q : ℕ} {codes ts state set : List ℕ} where
+  pub refused-by : (k : ℕ) {after : List ℕ} → row ≡ k → (k ≡ 0 → ⊥) → after ≡ state → CalledBy row c q codes ts state set after set (Refused k)
+  unfolding answerBy leftBy
+  refused-by zero e n b = absurd (n refl)
+  refused-by (suc k) e n b = rw (e, b) (record { answered = refl; state-left = refl; set-left = refl })
 
-pub served-by : (row : ℕ) (c : LiveCall) (q : ℕ) (codes ts state set state′ set′ : List ℕ) (v : LiveCounts) → row ≡ 0
-    → Counted (length codes) (effect c q codes ts state) set state′ set′ v → CalledBy row c q codes ts state set state′ set′ (Live v)
-unfolding answerBy leftBy
-served-by row c q codes ts state set state′ set′ v e C = rw e (record { answered = ap Live (C .counts); state-left = C .state-left; set-left = C .set-left })
+  pub served-by : {left state′ set′ : List ℕ} {v : LiveCounts} → row ≡ 0 → left ≡ effect c q codes ts state → Counted (length codes) left set state′ set′ v
+      → CalledBy row c q codes ts state set state′ set′ (Live v)
+  unfolding answerBy leftBy
+  served-by e l C = let D = rw l at C in rw e (record { answered = ap Live (D .counts); state-left = D .state-left; set-left = D .set-left })
 
 -- ---- for the file
 
@@ -177,9 +178,7 @@ module _ (c : LiveCall) (f codes transitions state set : List ℕ) where
   pub file-refused : (k : ℕ) → (k ≡ 0 → ⊥) → k ≡ fileRow f → LiveCalled c f (inBytes codes) (inBytes transitions) state set state set (Refused k)
   file-refused k n e =
       let i = file-refuses c f (inBytes codes) (inBytes transitions) state (length set) k n e in
-      called-whole state set (Refused k)
-      (subst (λ (j : ℕ). CalledBy j c (ruleIn f .initial) (wordsIn codes) (wordsIn transitions) state set state set (Refused k)) i
-      (refused-by k c (ruleIn f .initial) (wordsIn codes) (wordsIn transitions) state set n))
+      called-whole state set (Refused k) (refused-by k (sym i) n refl)
 
   -- what the answer for the head that was read is for the file
   pub file-served : (l : Layout) (state′ set′ : List ℕ) (v : LiveAnswer) → read.Served f l

@@ -1,5 +1,5 @@
 -- `live_call::call_by_rows` meets its contract: the rows, then the call.
-use mathlib.Core.Path.{sym, subst, _∙_}
+use mathlib.Core.Path.{refl, sym, _∙_}
 use Prim.Native.Nat.{ℕ}
 use lib.ListN.{length}
 use Rattle.table_lent.specs.Lent.{wordsIn}
@@ -11,11 +11,7 @@ use Rattle.live_call.proofs.call_by_rows.Statement.{statement}
 use Rattle.live_call.proofs.call_by_rows.Tie as tie
 
 returns : tie.Need-returns
-returns c =
-    let start = c .before .before .before .before .before .before .before in let a = start .args in
-    subst (λ (k : ℕ). CalledBy k (a .call) (a .h .initial) (wordsIn (a .codes .now)) (wordsIn (a .transitions .now)) (a .state .now) (a .set .now) (a .state .now) (a .set .now)
-    (Refused (c .before .call-row .result))) (c .before .call-row .ensures)
-    (refused-by (c .before .call-row .result) (a .call) (a .h .initial) (wordsIn (a .codes .now)) (wordsIn (a .transitions .now)) (a .state .now) (a .set .now) (c .if1 .taken))
+returns c = refused-by _ (sym (c .before .call-row .ensures)) (c .if1 .taken) refl
 
 serve-requires : tie.Need-serve-requires
 serve-requires c κs =
@@ -29,10 +25,8 @@ serve-requires c κs =
 
 returns-2 : tie.Need-returns-2
 returns-2 c =
-    let at-if1 = c .before .before .before .before .before .before .before .before in let at-call-row = at-if1 .before in
-    let start = at-call-row .before .before .before .before .before .before in let a = start .args in
-    served-by _ (a .call) (a .h .initial) (wordsIn (a .codes .now)) (wordsIn (a .transitions .now)) (a .state .now) (a .set .now) _ _ (c .before .before .before .before .serve .result)
-    (sym (at-call-row .call-row .ensures) ∙ at-if1 .if1 .left) (c .before .before .before .before .serve .ensures)
+    let at-if1 = c .before .before .before .before .before .before .before .before in
+    served-by (sym (at-if1 .before .call-row .ensures) ∙ at-if1 .if1 .left) refl (c .before .before .before .before .serve .ensures)
 
 pub call-by-rows-spec : {M : Type 1} → statement M
 call-by-rows-spec =

@@ -28,20 +28,12 @@ returns c =
     let at-try-quickly = c .before .before .before .before .before .before .before .before .before in
     let start = at-try-quickly .before .before .before .before .before .before in let a = start .args in
     let t = at-try-quickly .try-quickly in let told = c .before .before .before .before .before .enum-told .given .1 in
-    served-by _ (a .call) (a .h .initial) (wordsIn (a .codes .now)) (wordsIn (a .transitions .now)) (a .state .now) (a .set .now) (t .last .1 .1 .1 .1 .0) (c .before .before .count .last .1 .1 .0)
-    (c .before .before .count .result) (t .ensures .served told)
-    (subst (λ (left : List ℕ). Counted (length (wordsIn (a .codes .now))) left (a .set .now) (t .last .1 .1 .1 .1 .0) (c .before .before .count .last .1 .1 .0) (c .before .before .count .result))
-    (t .ensures .made told (a .h .initial)) (c .before .before .count .ensures))
+    served-by (t .ensures .served told) (t .ensures .made told (a .h .initial)) (c .before .before .count .ensures)
 
 returns-2 : tie.Need-returns-2
 returns-2 c =
-    let start = c .before .before .before .before .before .before .before .before .before .before in let a = start .args in
     let t = c .before .before .before .before .try-quickly in let told = c .enum-told2 .given .1 in
-    subst (λ (k : ℕ). CalledBy k (a .call) (a .h .initial) (wordsIn (a .codes .now)) (wordsIn (a .transitions .now)) (a .state .now) (a .set .now) (t .last .1 .1 .1 .1 .0) (a .set .now) (Refused 15))
-    (sym (t .ensures .refused told))
-    (subst (λ (left : List ℕ). CalledBy 15 (a .call) (a .h .initial) (wordsIn (a .codes .now)) (wordsIn (a .transitions .now)) (a .state .now) (a .set .now) left (a .set .now) (Refused 15))
-    (sym (t .ensures .taken-back told))
-    (refused-by 15 (a .call) (a .h .initial) (wordsIn (a .codes .now)) (wordsIn (a .transitions .now)) (a .state .now) (a .set .now) (λ z. omega arith)))
+    refused-by 15 (t .ensures .refused told) (λ z. omega arith) (t .ensures .taken-back told)
 
 returns-3 : tie.Need-returns-3
 returns-3 c =
