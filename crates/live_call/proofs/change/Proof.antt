@@ -1,69 +1,47 @@
 -- `live_call::change` meets its contract: what each call needs and leaves.
 use native.Mathlib.Omega.{arith}
 use Rattle.table_lent.specs.Lent.{wordsIn}
-use Rattle.live_call.proofs.Effects.{arrive-callable, withdraw-callable, mark-callable, return-callable, start-effect, arrive-effect, withdraw-effect, mark-effect, return-effect}
+use Rattle.live_spec.specs.Called.{effect}
 use borrow.Author.Needs.{needs}
 use Rattle.live_call.proofs.change.Statement.{statement}
 use Rattle.live_call.proofs.change.Tie as tie
 
 cast-arrive : tie.Need-cast-arrive
-cast-arrive c =
-    let a = c .before .before .before .before .before .before .args in
-    let l = arrive-callable (a .call) (a .state .now) _ (c .before .call .given .1) (c .before .before .before .before .before .before .pre .2) .0 in
-    omega (arith, l)
+cast-arrive c = let k = rw (c .before .call .given .1) at (c .before .before .before .before .before .before .pre .2) in omega (arith, k .0)
 
 arrive-requires : tie.Need-arrive-requires
 arrive-requires c κs =
-    let start = c .before .before .before .before .before .before .before in let a = start .args in
-    (start .pre .1, arrive-callable (a .call) (a .state .now) _ (c .before .before .call .given .1) (start .pre .2) .1)
+    let start = c .before .before .before .before .before .before .before in let k = rw (c .before .before .call .given .1) at (start .pre .2) in (start .pre .1, k .1)
 
 withdraw-requires : tie.Need-withdraw-requires
-withdraw-requires c κs =
-    let a = c .before .before .before .before .before .before .args in (
-      c .before .before .before .before .before .before .pre .0,
-      c .before .before .before .before .before .before .pre .1,
-      withdraw-callable (a .call) (a .state .now) (c .before .enum-told2 .given .1) (c .before .before .before .before .before .before .pre .2),
-    )
+withdraw-requires c κs = let start = c .before .before .before .before .before .before in (start .pre .0, start .pre .1, rw (c .before .enum-told2 .given .1) at (start .pre .2))
 
 mark-requires : tie.Need-mark-requires
-mark-requires c κs =
-    let start = c .before .before .before .before .before .before .before in let a = start .args in
-    (mark-callable (a .call) (a .state .now) _ (c .before .before .call2 .given .1) (start .pre .2), start .pre .1 .long)
+mark-requires c κs = let start = c .before .before .before .before .before .before .before in (rw (c .before .before .call2 .given .1) at (start .pre .2), start .pre .1 .long)
 
 return-to-requires : tie.Need-return-to-requires
 return-to-requires c κs =
-    let start = c .before .before .before .before .before .before .before in let a = start .args in
-    (return-callable (a .call) (a .state .now) _ (c .before .before .call3 .given .1) (start .pre .2), start .pre .0, start .pre .1)
+    let start = c .before .before .before .before .before .before .before in (rw (c .before .before .call3 .given .1) at (start .pre .2), start .pre .0, start .pre .1)
 
 returns : tie.Need-returns
-returns c =
-    let start = c .before .before .before .before .before .before .before .before .before in let a = start .args in
-    start-effect (a .call) (a .state .now) (a .initial) (wordsIn (a .codes .now)) (wordsIn (a .transitions .now)) _ (c .before .before .before .before .enum-told .given .1)
-    (c .before .before .start .ensures (wordsIn (a .transitions .now)))
+unfolding effect
+returns c = rw (c .before .before .before .before .enum-told .given .1) (c .before .before .start .ensures (wordsIn (c .before .before .before .before .before .before .before .before .before .args .transitions .now)))
 
 returns-2 : tie.Need-returns-2
-returns-2 c =
-    let start = c .before .before .before .before .before .before .before .before .before .before in let a = start .args in
-    arrive-effect (a .call) (a .state .now) (a .initial) (wordsIn (a .codes .now)) (wordsIn (a .transitions .now)) _ _
-    (c .before .before .before .before .before .call .given .1) (c .before .before .arrive .ensures (a .initial))
+unfolding effect
+returns-2 c = rw (c .before .before .before .before .before .call .given .1) (c .before .before .arrive .ensures (c .before .before .before .before .before .before .before .before .before .before .args .initial))
 
 returns-3 : tie.Need-returns-3
-returns-3 c =
-    let start = c .before .before .before .before .before .before .before .before .before in let a = start .args in
-    withdraw-effect (a .call) (a .state .now) (a .initial) (wordsIn (a .codes .now)) (wordsIn (a .transitions .now)) _ (c .before .before .before .before .enum-told2 .given .1)
-    (c .before .before .withdraw .ensures)
+unfolding effect
+returns-3 c = rw (c .before .before .before .before .enum-told2 .given .1) (c .before .before .withdraw .ensures)
 
 returns-4 : tie.Need-returns-4
-returns-4 c =
-    let start = c .before .before .before .before .before .before .before .before .before .before in let a = start .args in
-    mark-effect (a .call) (a .state .now) (a .initial) (wordsIn (a .codes .now)) (wordsIn (a .transitions .now)) _ _
-    (c .before .before .before .before .before .call2 .given .1) (c .before .before .mark .ensures)
+unfolding effect
+returns-4 c = rw (c .before .before .before .before .before .call2 .given .1) (c .before .before .mark .ensures)
 
 returns-5 : tie.Need-returns-5
-returns-5 c =
-    let start = c .before .before .before .before .before .before .before .before .before .before in let a = start .args in
-    return-effect (a .call) (a .state .now) (a .initial) (wordsIn (a .codes .now)) (wordsIn (a .transitions .now)) _ _
-    (c .before .before .before .before .before .call3 .given .1) (c .before .before .return-to .ensures)
+unfolding effect
+returns-5 c = rw (c .before .before .before .before .before .call3 .given .1) (c .before .before .return-to .ensures)
 
 pub change-spec : {M : Type 1} → statement M
 change-spec =
