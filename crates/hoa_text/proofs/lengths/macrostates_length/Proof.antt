@@ -40,22 +40,14 @@ small : (c : tie.In-loop Inv-loop μ-loop) → c .before .loop .i ≤ 65536
 small c = omega (arith, c .loop-test .taken, c .before .before .before .pre .1, words-in-length (c .before .before .before .args .codes .now))
 
 add-starts : tie.Need-add-starts Inv-loop μ-loop
-add-starts c = omega (
-  arith,
-  c .start-length .ensures,
-  start-room (c .before .before .is-initial .result) (c .before .before .before .before .before .loop .i)
-      (small (c .before .before .before .before)),
-  small (c .before .before .before .before),
-)
+add-starts c =
+    let small-now = small (c .before .before .before .before) in
+    omega (arith, c .start-length .ensures, start-room (c .before .before .is-initial .result) (c .before .before .before .before .before .loop .i) small-now)
 
 add-states : tie.Need-add-states Inv-loop μ-loop
-add-states c = omega (
-  arith,
-  c .state-length .ensures,
-  state-short (c .before .before .before .before .before .before .loop .i) (c .before .before .is-accepting .result)
-      (small (c .before .before .before .before .before)),
-  small (c .before .before .before .before .before),
-)
+add-states c =
+    let small-now = small (c .before .before .before .before .before) in
+    omega (arith, c .state-length .ensures, state-short (c .before .before .before .before .before .before .loop .i) (c .before .before .is-accepting .result) small-now)
 
 loop-again : tie.Need-loop-again Inv-loop μ-loop
 loop-again c =

@@ -23,14 +23,7 @@ put-edges-requires c κs =
       p .0,
       p .1,
       p .2,
-      omega (
-        arith,
-        p .3,
-        P .ends,
-        put-length P,
-        length-append (stateLine (a .i) (a .accepting))
-            (lines (edgeOf (a .b)) 0 (take (a .k - a .j) (drop (a .j) (wordsIn (a .moves .now))))),
-      ),
+      omega (arith, p .3, P .ends, put-length P, length-append (stateLine (a .i) (a .accepting)) (lines (edgeOf (a .b)) 0 (take (a .k - a .j) (drop (a .j) (wordsIn (a .moves .now)))))),
     )
 
 returns : tie.Need-returns

@@ -31,21 +31,19 @@ put-ap-requires c κs =
     (start .pre .0, omega (arith, room start))
 
 put-acceptance-requires : tie.Need-put-acceptance-requires
-put-acceptance-requires c κs = omega (arith, room (c .before .before .before .before .before .before .before .before .before .before .before .before .before .before .before .before .before .before .before .before .before))
+put-acceptance-requires c κs =
+    omega (arith, room (c .before .before .before .before .before .before .before .before .before .before .before .before .before .before .before .before .before .before .before .before .before))
 
 put-blocks-requires : tie.Need-put-blocks-requires
 put-blocks-requires c κs =
-    let start = c .before .before .before .before .before .before .before .before .before .before .before .before .before .before .before .before .before .before .before .before .before .before
-    .before .before .before in
+    let earlier = c .before .before .before .before .before .before .before .before .before .before .before .before in
+    let start = earlier .before .before .before .before .before .before .before .before .before .before .before .before .before in
     (start .pre .0, start .pre .2, omega (arith, room start))
 
 put-requires-2 : tie.Need-put-requires-2
 put-requires-2 c κs =
-    omega (
-      arith,
-      room (c .before .before .before .before .before .before .before .before .before .before .before .before .before .before .before .before .before .before .before .before .before .before
-          .before .before .before .before .before .before .before .before),
-    )
+    let earlier = c .before .before .before .before .before .before .before .before .before .before .before .before .before .before .before in
+    omega (arith, room (earlier .before .before .before .before .before .before .before .before .before .before .before .before .before .before .before))
 
 returns : tie.Need-returns
 unfolding automatonText
