@@ -166,33 +166,30 @@ refused-untried e = let z : _≡_ {A = ℕ} 0 1 = cc in omega arith
 
 module _ {c : LiveCall} {s : ℕ} {codes transitions state : List ℕ} {room : ℕ} where
   pub quickly-untried : Quickly c s codes transitions state room state Untried
-  quickly-untried =
-      record {
-        served = λ e. absurd (served-untried (sym e));
-        made = λ e. absurd (served-untried (sym e));
-        refused = λ e. absurd (refused-untried (sym e));
-        taken-back = λ e. absurd (refused-untried (sym e));
-        untried = λ e. refl;
-      }
+  quickly-untried = record {
+    served = λ e. absurd (served-untried (sym e));
+    made = λ e. absurd (served-untried (sym e));
+    refused = λ e. absurd (refused-untried (sym e));
+    taken-back = λ e. absurd (refused-untried (sym e));
+    untried = λ e. refl;
+  }
 
   pub quickly-refused : {after : List ℕ} → liveCallRow c s (inBytes codes) (inBytes transitions) state room ≡ 15 → after ≡ state
       → Quickly c s codes transitions state room after Refused
-  quickly-refused row back =
-      record {
-        served = λ e. absurd (served-refused (sym e));
-        made = λ e. absurd (served-refused (sym e));
-        refused = λ e. row;
-        taken-back = λ e. back;
-        untried = λ e. absurd (refused-untried e);
-      }
+  quickly-refused row back = record {
+    served = λ e. absurd (served-refused (sym e));
+    made = λ e. absurd (served-refused (sym e));
+    refused = λ e. row;
+    taken-back = λ e. back;
+    untried = λ e. absurd (refused-untried e);
+  }
 
   pub quickly-served : {after : List ℕ} → liveCallRow c s (inBytes codes) (inBytes transitions) state room ≡ 0
       → ((q : ℕ) → after ≡ effect c q (wordsIn codes) (wordsIn transitions) state) → Quickly c s codes transitions state room after Served
-  quickly-served row left =
-      record {
-        served = λ e. row;
-        made = λ e. left;
-        refused = λ e. absurd (served-refused e);
-        taken-back = λ e. absurd (served-refused e);
-        untried = λ e. absurd (served-untried e);
-      }
+  quickly-served row left = record {
+    served = λ e. row;
+    made = λ e. left;
+    refused = λ e. absurd (served-refused e);
+    taken-back = λ e. absurd (served-refused e);
+    untried = λ e. absurd (served-untried e);
+  }

@@ -112,22 +112,20 @@ module _ {s a : ℕ} {ts before : List ℕ} (low : (y : ℕ) → getD before y 0
         })
 
   pub turn-end : {after : List ℕ} {i : ℕ} → length ts ≤ i → Turn s a ts before after i → Tried s a ts before after true
-  turn-end {after} {i} l u =
-      record {
-        verdict = rw (u .inside ∙ any-end (isAstray (length before) s) ts i l);
-        swept = λ r. swept-end a ts before low after i l (u .swept);
-        long = u .swept .long;
-        low = low-bits u;
-      }
+  turn-end {after} {i} l u = record {
+    verdict = rw (u .inside ∙ any-end (isAstray (length before) s) ts i l);
+    swept = λ r. swept-end a ts before low after i l (u .swept);
+    long = u .swept .long;
+    low = low-bits u;
+  }
 
 -- ---- sources
 
 pub sourced-none : {n : ℕ} {ts : List ℕ} → length ts ≡ 0 → Sourced n ts true
-sourced-none {ts = ts} z =
-    record {
-      yes = λ r t m. let p = place-of ts t m in absurd (omega (arith, p .1));
-      no = λ r. absurd (true-false r);
-    }
+sourced-none {ts = ts} z = record {
+  yes = λ r t m. let p = place-of ts t m in absurd (omega (arith, p .1));
+  no = λ r. absurd (true-false r);
+}
 
 pub sourced-last : {n : ℕ} {ts : List ℕ} → ascends ts ≡ true → 0 < length ts → {x : ℕ} → x ≡ sourceOf (getD ts (length ts - 1) 0) → Sourced n ts (ltb x n)
 sourced-last {n} {ts} e h {x} d =

@@ -52,15 +52,14 @@ module _ (f : ℕ → ℕ) (before : List ℕ) where
   through-start = record { long = refl; done = λ j l. absurd (omega arith); rest = λ j l. refl }
 
   pub through-next : (after : List ℕ) (i v : ℕ) → i < length before → v ≡ f (getD after i 0) → Through f before after i → Through f before (set after i v) (i + 1)
-  through-next after i v l e t =
-      record {
-        long = length-set after i v ∙ t .long;
-        done = λ j k.
-            by-cases (ℕ-discrete j i)
-            (λ x. rw x (getD-set-same after i v 0 (omega (arith, t .long)) ∙ e ∙ ap f (t .rest i (omega arith))))
-            (λ x. getD-set-other after i j v 0 x ∙ t .done j (omega arith));
-        rest = λ j k. getD-set-other after i j v 0 (λ x. omega arith) ∙ t .rest j (omega arith);
-      }
+  through-next after i v l e t = record {
+    long = length-set after i v ∙ t .long;
+    done = λ j k.
+        by-cases (ℕ-discrete j i)
+        (λ x. rw x (getD-set-same after i v 0 (omega (arith, t .long)) ∙ e ∙ ap f (t .rest i (omega arith))))
+        (λ x. getD-set-other after i j v 0 x ∙ t .done j (omega arith));
+    rest = λ j k. getD-set-other after i j v 0 (λ x. omega arith) ∙ t .rest j (omega arith);
+  }
 
   pub through-end : (after : List ℕ) (i : ℕ) → length before ≤ i → Through f before after i → after ≡ map f before
   through-end after i l t = mapped f before after (t .long) (λ j k. t .done j (omega arith))

@@ -36,17 +36,16 @@ module _ (f : Set) (before : List ℕ) where
 
   pub showing-next : (after : List ℕ) (members i v : ℕ) → i < length before → v ≡ one (f i) → Showing f before after members i → Showing f before (set after i v) (members + v) (i + 1)
   unfolding count
-  showing-next after members i v l e s =
-      record {
-        long = length-set after i v ∙ s .long;
-        counted = rw add-one (omega (arith, s .counted, e));
-        few = omega (arith, s .few, e, one-low (f i));
-        done = λ j k.
-            by-cases (ℕ-discrete j i)
-            (λ x. rw x (getD-set-same after i v 0 (omega (arith, s .long)) ∙ e))
-            (λ x. getD-set-other after i j v 0 x ∙ s .done j (omega arith));
-        rest = λ j k. getD-set-other after i j v 0 (λ x. omega arith) ∙ s .rest j (omega arith);
-      }
+  showing-next after members i v l e s = record {
+    long = length-set after i v ∙ s .long;
+    counted = rw add-one (omega (arith, s .counted, e));
+    few = omega (arith, s .few, e, one-low (f i));
+    done = λ j k.
+        by-cases (ℕ-discrete j i)
+        (λ x. rw x (getD-set-same after i v 0 (omega (arith, s .long)) ∙ e))
+        (λ x. getD-set-other after i j v 0 x ∙ s .done j (omega arith));
+    rest = λ j k. getD-set-other after i j v 0 (λ x. omega arith) ∙ s .rest j (omega arith);
+  }
 
   pub showing-end : (after : List ℕ) (members n : ℕ) → n ≤ length before → Showing f before after members n → after ≡ put 0 (tabulate n (λ y. one (f y)) 0) before
   showing-end after members n l s =
