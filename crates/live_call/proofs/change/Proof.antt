@@ -25,11 +25,15 @@ return-to-requires c κs =
 
 returns : tie.Need-returns
 unfolding effect
-returns c = rw (c .before .before .before .before .enum-told .given .1) (c .before .before .start .ensures (wordsIn (c .before .before .before .before .before .before .before .before .before .args .transitions .now)))
+returns c =
+    let a = c .before .before .before .before .before .before .before .before .before .args in
+    rw (c .before .before .before .before .enum-told .given .1) (c .before .before .start .ensures (wordsIn (a .transitions .now)))
 
 returns-2 : tie.Need-returns-2
 unfolding effect
-returns-2 c = rw (c .before .before .before .before .before .call .given .1) (c .before .before .arrive .ensures (c .before .before .before .before .before .before .before .before .before .before .args .initial))
+returns-2 c =
+    let a = c .before .before .before .before .before .before .before .before .before .before .args in
+    rw (c .before .before .before .before .before .call .given .1) (c .before .before .arrive .ensures (a .initial))
 
 returns-3 : tie.Need-returns-3
 unfolding effect
