@@ -68,11 +68,9 @@ next c =
     labelled-next (a .b) (omega arith) (l .inv .1) (omega arith) (A .ensures .0) (omega arith) (L .ensures .0) (omega arith) (L .ensures .1 (omega arith))
 
 add-letter : tie.Need-add-letter Inv-loop μ-loop
-add-letter c = let I = next c in omega (
-  arith,
-  letter-small (c .before .before .before .before .before .before .loop .i + 1)
-      (c .before .before .before .before .before .before .loop .letter + c .before .before .take-literal2 .result .value) (omega arith) (I .small),
-)
+add-letter c =
+    let l = c .before .before .before .before .before .before .loop in let L = c .before .before .take-literal2 .result in
+    omega (arith, letter-small (l .i + 1) (l .letter + L .value) (omega arith) (next c .small))
 
 returns-5 : tie.Need-returns-5 Inv-loop μ-loop
 returns-5 c =
