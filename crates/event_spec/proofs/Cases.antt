@@ -5,15 +5,9 @@ use mathlib.Core.List.{List, [], _∷_}
 use Prim.Native.Nat.{ℕ}
 use lib.ListN.{length}
 use Rattle.sets.specs.Tests.{every, someBelow, count, first}
-use Rattle.sets.specs.Masks.{bit, inside}
-use Rattle.sets.specs.Lists.{anyOf, sum, tabulate, flat}
+use Rattle.sets.specs.Lists.{tabulate, flat}
 use Rattle.refusals.specs.Rows.{firstRow}
-use Rattle.theory.specs.Rule.{entry}
-use Rattle.theory.specs.Components.{named, leads, within, reaches, together, mixed}
-use Rattle.file_spec.specs.File.{tagged, clausesOf, countsOf}
-use Rattle.file_spec.specs.Names.{hasNames, namesBefore, repeatsName}
-use Rattle.file_spec.specs.Rows.{trailerRows, layoutRows, bodyRows, nameRows, prefaceRows, fileRows}
-use Rattle.file_spec.specs.RuleRows.{numberRows, listRows, nested, someNested, clauseRows, componentRows, formedRows}
+use Rattle.file_spec.proofs.Examples.{rowsComputed}
 use Rattle.event_spec.specs.declared.Translated.{Translated}
 use Rattle.event_spec.specs.declared.Translated.the-variants.{Letters, Refused}
 use Rattle.event_spec.specs.Events.{spans, holds, firstLine, eventLetter, covered, known, lettersOf}
@@ -31,19 +25,17 @@ record Case (t log : List ℕ) (v : Translated) (old new : List ℕ) : Type 0 wh
 two : List ℕ
 two = 0 ∷ 3 ∷ 0 ∷ 3 ∷ 1 ∷ 2 ∷ 5 ∷ 1 ∷ 5 ∷ 0 ∷ []
 
--- "The first line that holds an event's two bytes gives its letter"; "an odd last byte is no event yet"; the byte after the letters stays
-served : Case two (2 ∷ 2 ∷ 2 ∷ 4 ∷ 0 ∷ 0 ∷ 9 ∷ []) (Letters 3) (7 ∷ 7 ∷ 7 ∷ 7 ∷ []) (1 ∷ 0 ∷ 1 ∷ 7 ∷ [])
-unfolding F two translatedOf lettersAfter translateRow filled firstRow fileRows bodyRows layoutRows trailerRows numberRows listRows formedRows clauseRows componentRows prefaceRows nameRows hasNames
-    namesBefore repeatsName someNested nested tagged clausesOf countsOf anyOf sum mixed together reaches within leads named entry translationRows faultyTable hasCovered hasUnknown faulty covered known
-    lettersOf eventLetter firstLine holds spans tabulate first bit inside every someBelow count
-served = record { answers = refl; writes = refl }
-
--- ---- the row that refuses first, under two letters
-
--- what an evaluation of it unfolds
+-- what an evaluation of the deciding row unfolds
 unfoldable deciding : ℕ
 unfolding translationRow translationRows firstRow faultyTable hasCovered hasUnknown faulty covered known holds spans every someBelow
 deciding = 0
+
+-- "The first line that holds an event's two bytes gives its letter"; "an odd last byte is no event yet"; the byte after the letters stays
+served : Case two (2 ∷ 2 ∷ 2 ∷ 4 ∷ 0 ∷ 0 ∷ 9 ∷ []) (Letters 3) (7 ∷ 7 ∷ 7 ∷ 7 ∷ []) (1 ∷ 0 ∷ 1 ∷ 7 ∷ [])
+unfolding F two translatedOf lettersAfter translateRow filled rowsComputed deciding lettersOf eventLetter firstLine tabulate first count
+served = record { answers = refl; writes = refl }
+
+-- ---- the row that refuses first, under two letters
 
 -- 26: a line covered by one earlier line, by two together, by three together; a line partly covered is served
 abbrev table-26 : List ℕ → Type 0

@@ -10,30 +10,22 @@ use lib.Dec.{eqb}
 use Rattle.sets.proofs.Bools.{and-l, and-r}
 use Rattle.sets.proofs.Lists.{mem-at}
 use Rattle.file_spec.specs.File.{trailer, tagged, clauseCount, entryCount, clausesAt, clausesOf, countsOf, ruleIn, trailerOf, bodyOf}
-use Rattle.file_spec.specs.Names.{namesTag, hasNames, namesBefore, repeatsName}
-use Rattle.file_spec.specs.Rows.{fileRow, trailerRows, layoutRows, bodyRows, nameRows, prefaceRows, fileRows}
-use Rattle.file_spec.specs.RuleRows.{numberRows, listRows, nested, someNested, clauseRows, componentRows, formedRows}
+use Rattle.file_spec.specs.Rows.{fileRow}
 use Rattle.file_spec.specs.Reading.{unrefused, prefaceOf}
+use Rattle.file_spec.proofs.Examples.{rowsComputed}
 use Rattle.file_spec.proofs.FileParts.{clauses-length}
 use Rattle.file_read.proofs.FileRows.{accepted-placed}
-use Rattle.sets.specs.Tests.{every, someBelow}
-use Rattle.sets.specs.Masks.{bit, mask, inside}
-use Rattle.sets.specs.Lists.{anyOf, sum}
-use Rattle.refusals.specs.Rows.{firstRow}
-use Rattle.theory.specs.Rule.{entry}
-use Rattle.theory.specs.Components.{named, leads, within, reaches, together, mixed}
 
 -- ---- prefaces
 
 -- 07 08 before F is the preface
 pub preface-F : prefaceOf (0x07 ∷ 0x08 ∷ 0x01 ∷ 0x00 ∷ 0x01 ∷ 0x01 ∷ 0x01 ∷ 0x02 ∷ 0x00 ∷ 0x00 ∷ 0x02 ∷ 0x00 ∷ 0x41 ∷ 0x57 ∷ []) ≡ 0x07 ∷ 0x08 ∷ []
-unfolding prefaceOf unrefused fileRow fileRows bodyRows layoutRows trailerRows numberRows listRows formedRows clauseRows componentRows prefaceRows nameRows hasNames namesBefore repeatsName firstRow
-    tagged clausesOf countsOf anyOf sum someNested nested inside every mixed together reaches within leads named entry someBelow bit mask
+unfolding prefaceOf unrefused rowsComputed
 preface-F = refl
 
 -- nothing of a refused file: 07 before the example of row 9
 pub preface-9 : prefaceOf (0x07 ∷ 0x01 ∷ 0x01 ∷ 0x01 ∷ 0x00 ∷ 0x00 ∷ 0x00 ∷ 0x00 ∷ 0x41 ∷ 0x57 ∷ []) ≡ []
-unfolding prefaceOf unrefused fileRow fileRows bodyRows layoutRows trailerRows numberRows listRows firstRow tagged clausesOf countsOf anyOf sum
+unfolding prefaceOf unrefused rowsComputed
 preface-9 = refl
 
 pub preface-accepted : (f : List ℕ) → fileRow f ≡ 0 → prefaceOf f ≡ take (clausesAt f) f

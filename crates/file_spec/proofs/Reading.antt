@@ -2,23 +2,13 @@
 use mathlib.Core.Path.{_≡_, refl}
 use mathlib.Core.List.{List, [], _∷_}
 use Prim.Native.Nat.{ℕ}
-use Rattle.sets.specs.Tests.{every, someBelow}
-use Rattle.sets.specs.Masks.{bit, mask, inside}
-use Rattle.sets.specs.Lists.{anyOf, sum}
-use Rattle.refusals.specs.Rows.{firstRow}
-use Rattle.theory.specs.Rule.{entry}
-use Rattle.theory.specs.Components.{named, leads, within, reaches, together, mixed}
 use Rattle.file_spec.specs.declared.Read.the-variants.{Accepted, Refused}
-use Rattle.file_spec.specs.File.{tagged, clausesOf, countsOf, namesOf}
-use Rattle.file_spec.specs.Names.{hasNames, namesBefore, repeatsName}
-use Rattle.file_spec.specs.Rows.{trailerRows, layoutRows, bodyRows, nameRows, prefaceRows, fileRows, fileRow}
-use Rattle.file_spec.specs.RuleRows.{numberRows, listRows, nested, someNested, clauseRows, componentRows, formedRows}
 use Rattle.file_spec.specs.Reading.{answer, readOf, unrefused, prefaceOf}
+use Rattle.file_spec.proofs.Examples.{rowsComputed}
 
 -- what an evaluation unfolds
 unfoldable computed : ℕ
-unfolding readOf answer prefaceOf unrefused fileRow fileRows bodyRows layoutRows trailerRows numberRows listRows formedRows clauseRows componentRows prefaceRows nameRows hasNames namesBefore
-    repeatsName firstRow tagged clausesOf countsOf anyOf sum someNested nested inside every mixed together reaches within leads named entry someBelow bit mask
+unfolding readOf answer prefaceOf unrefused rowsComputed
 computed = 0
 
 -- rule Z behind three bytes and the name of its letter
