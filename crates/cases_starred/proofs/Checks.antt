@@ -61,10 +61,7 @@ buildTests r codeCount moveCount lines moves =
 
 abbrev judgeTests : Rule → List ℕ → List ℕ → Bool → List ℕ → List Bool
 judgeTests r lead cycle accepted masks =
-    eqb (wordRow (r .s) lead cycle) 0
-    ∷ equal (truthMasks r lead cycle) masks
-    ∷ Bool·beq accepted (bit (getD masks 0 0) (r .initial))
-    ∷ []
+    eqb (wordRow (r .s) lead cycle) 0 ∷ equal (truthMasks r lead cycle) masks ∷ Bool·beq accepted (bit (getD masks 0 0) (r .initial)) ∷ []
 
 abbrev runTests : Rule → List ℕ → List ℕ → ℕ → ℕ → List ℕ → List ℕ → List Bool
 runTests r lead cycle number code first loop =
@@ -91,49 +88,32 @@ said : (b : Bool) {A : Type 0} → (b ≡ true) ↔ A → Said b A
 said true h = h .0 refl
 said false h = λ a. false≢true (h .1 a)
 
-marked : (r : Rule) (ls : List Line) → allMarks r ls ≡ true → (l : Line) → List·Memᴰ l ls → marks r l ≡ true
+marked : (r : Rule) (ls : List Line) → allMarks r ls ≡ true → (l : Line) → List·Memᴰ l ls
+    → (l .initial ≡ isInitial r (l .code)) × (l .accepting ≡ isAccepting (l .code))
 unfolding allMarks
 marked r [] e l m = absurd (List·Memᴰ·not-nil m)
 marked r (k ∷ ls) e l m =
+    let told = and-l (marks r k) (allMarks r ls) e in
     ⊎-elim
-    (λ h. rw h (and-l (marks r k) (allMarks r ls) e))
+    (λ h. rw h (beq-true _ _ (and-l _ (Bool·beq (k .accepting) (isAccepting (k .code))) told), beq-true _ _ (and-r (Bool·beq (k .initial) (isInitial r (k .code))) _ told)))
     (λ h. marked r ls (and-r (marks r k) (allMarks r ls) e) l h)
     (List·Memᴰ·cases-cons m)
 
 module _ (r : Rule) (P : Passing r) where
-  -- lists that are those of the definitions
-  record Listed (codes moves : List ℕ) : Type 0 where
-    codes-ascend : Ascending codes
-    codes-reachable : (c : ℕ) → List·Memᴰ c codes ↔ Reachable (automaton r) (r .s) (holdsInitial r) c
-    moves-ascend : Ascending moves
-    moves-there : (t : ℕ) → List·Memᴰ t moves ↔ Transition (automaton r) (r .s) codes t
-
-  listed-built : length (macrostates r) ≤ 65536 → Listed (macrostates r) (transitions r)
-  listed-built room = record {
-    codes-ascend = macrostates-ascending r P (holdsInitial r);
-    codes-reachable = reachable-iff r P (holdsInitial r);
-    moves-ascend = transitions-ascending r P (holdsInitial r);
-    moves-there = transition-iff r P (holdsInitial r) room;
-  }
-
-  listed : (codes moves : List ℕ) → macrostates r ≡ codes → transitions r ≡ moves → length codes ≤ 65536 → Listed codes moves
-  listed codes moves e d room = rw (e, d) at (listed-built (rw e room))
-
   builds-so : (codeCount moveCount : ℕ) (lines : List Line) (moves : List ℕ) → conj (buildTests r codeCount moveCount lines moves) ≡ true → Builds r codeCount moveCount lines moves
   builds-so codeCount moveCount lines moves e =
       let test = conj-at (buildTests r codeCount moveCount lines moves) e in
-      let L = listed (codesOf lines) moves (lists-equal _ _ (test 0)) (lists-equal _ _ (test 1)) (leb-true _ _ (test 5)) in
+      let coded : macrostates r ≡ codesOf lines = lists-equal _ _ (test 0) in
+      let moved : transitions r ≡ moves = lists-equal _ _ (test 1) in
       record {
         codes-counted = eqb-true _ _ (test 2);
         moves-counted = eqb-true _ _ (test 3);
-        codes-ascend = L .codes-ascend;
-        codes-reachable = L .codes-reachable;
-        initial-marked = λ l m. beq-true (l .initial) (isInitial r (l .code))
-            (and-l (Bool·beq (l .initial) (isInitial r (l .code))) (Bool·beq (l .accepting) (isAccepting (l .code))) (marked r lines (test 4) l m));
-        accepting-marked = λ l m. beq-true (l .accepting) (isAccepting (l .code))
-            (and-r (Bool·beq (l .initial) (isInitial r (l .code))) (Bool·beq (l .accepting) (isAccepting (l .code))) (marked r lines (test 4) l m));
-        moves-ascend = L .moves-ascend;
-        moves-there = L .moves-there;
+        codes-ascend = rw coded at (macrostates-ascending r P (holdsInitial r));
+        codes-reachable = rw coded at (reachable-iff r P (holdsInitial r));
+        initial-marked = λ l m. marked r lines (test 4) l m .0;
+        accepting-marked = λ l m. marked r lines (test 4) l m .1;
+        moves-ascend = rw moved at (transitions-ascending r P (holdsInitial r));
+        moves-there = rw (coded, moved) at (transition-iff r P (holdsInitial r) (rw coded (leb-true _ _ (test 5))));
       }
 
   pairs-so : (lead cycle : List ℕ) → WordOver (r .s) lead cycle → (q p : ℕ) → p < places lead cycle → (bit (getD (truthMasks r lead cycle) p 0) q ≡ true) ↔ ((q < r .n) × AcceptsFrom r lead cycle q p)
@@ -147,10 +127,9 @@ module _ (r : Rule) (P : Passing r) where
       let test = conj-at (judgeTests r lead cycle accepted masks) e in
       let word : wordRow (r .s) lead cycle ≡ 0 = eqb-true _ _ (test 0) in
       let W = word-over (r .s) lead cycle word in
-      let there = W .repeats in
       let m : truthMasks r lead cycle ≡ masks = lists-equal _ _ (test 1) in
       let y : accepted ≡ bit (getD masks 0 0) (r .initial) = beq-true _ _ (test 2) in
-      let s : (bit (getD masks 0 0) (r .initial) ≡ true) ↔ AcceptsWord r lead cycle = rw m at (truth-accepts r P lead cycle there 0 (r .initial) (omega arith) (P .formed .initial-state)) in
+      let s : (bit (getD masks 0 0) (r .initial) ≡ true) ↔ AcceptsWord r lead cycle = rw m at (truth-accepts r P lead cycle (W .repeats) 0 (r .initial) (omega arith) (P .formed .initial-state)) in
       record {
         word-served = word;
         verdict = said accepted (rw y s);
@@ -177,10 +156,8 @@ module _ (r : Rule) (P : Passing r) where
   meets : (x : Expected) → passes r x ≡ true → Meets r x
   unfolding passes
   meets (builds codeCount moveCount lines moves) e = builds-so codeCount moveCount lines moves e
-  meets (judges lead cycle accepted masks start) e = (
-    judges-so lead cycle accepted masks (and-l (conj (judgeTests r lead cycle accepted masks)) (startPasses r lead cycle start) e),
-    starts-so lead cycle start (and-r (conj (judgeTests r lead cycle accepted masks)) (startPasses r lead cycle start) e),
-  )
+  meets (judges lead cycle accepted masks start) e =
+      (judges-so lead cycle accepted masks (and-l _ (startPasses r lead cycle start) e), starts-so lead cycle start (and-r (conj (judgeTests r lead cycle accepted masks)) _ e))
 
 pub claim : (c : Case) → casePasses c ≡ true → Claim c
 unfolding casePasses

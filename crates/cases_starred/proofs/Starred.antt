@@ -9,7 +9,6 @@ use lib.ListN.{length, getD}
 use Rattle.sets.specs.Digits.{num}
 use Rattle.sets.specs.Lists.{keep, among, anyOf, sum, tabulate, flat, insertAscending, sorted}
 use Rattle.sets.specs.Masks.{bit, mask, inside}
-use Rattle.refusals.specs.Rows.{firstRow}
 use Rattle.sets.specs.Tests.{every, someBelow, count, first, largest}
 use Rattle.sets.proofs.Bools.{and-l, and-r}
 use Rattle.theory.specs.Automaton.{automaton}
@@ -23,10 +22,7 @@ use Rattle.theory.specs.Rule.{entry, satisfies}
 use Rattle.theory.specs.TableComputed.{reachedIn, reached, digitals, candidates, cores, codesFrom, transitionsOf, macrostatesFrom, transitionsFrom}
 use Rattle.theory.specs.Truth.{heightOf, layer, roundsAt, solvedBelow, truthMasks}
 use Rattle.theory.specs.Word.{nextPlace, letterAt, place}
-use Rattle.file_spec.specs.File.{tagged, clausesOf, countsOf}
-use Rattle.file_spec.specs.Names.{hasNames, namesBefore, repeatsName}
-use Rattle.file_spec.specs.Rows.{trailerRows, layoutRows, bodyRows, nameRows, prefaceRows, fileRows, fileRow}
-use Rattle.file_spec.specs.RuleRows.{numberRows, listRows, nested, someNested, clauseRows, componentRows, formedRows}
+use Rattle.file_spec.proofs.Examples.{rowsComputed}
 use Rattle.word_rows.specs.Words.{lengthRows, letterRows, wordRows, wordRow}
 use Rattle.slice_search.specs.Same.{sameLists}
 use Rattle.cases_starred.specs.Files.{F, D, E, I, Z}
@@ -38,8 +34,7 @@ use Rattle.cases_starred.proofs.Checks.{allMarks, startPasses, passes, 
 
 -- what the evaluation unfolds: the rows of a file and of a word, the masks, the lists of the build, the checks, the table
 unfoldable rows : ℕ
-unfolding fileRow fileRows bodyRows prefaceRows nameRows hasNames namesBefore repeatsName layoutRows trailerRows numberRows listRows formedRows clauseRows someNested nested componentRows firstRow
-    tagged clausesOf countsOf mixed wordRow wordRows lengthRows letterRows
+unfolding rowsComputed wordRow wordRows lengthRows letterRows
 rows = 0
 
 unfoldable computed : ℕ
@@ -65,10 +60,7 @@ claims : (cs : List Case) → allPass cs ≡ true → (c : Case) → List·Mem�
 unfolding allPass
 claims [] e c m = absurd (List·Memᴰ·not-nil m)
 claims (d ∷ cs) e c m =
-    ⊎-elim
-    (λ h. rw h (claim d (and-l (casePasses d) (allPass cs) e)))
-    (λ h. claims cs (and-r (casePasses d) (allPass cs) e) c h)
-    (List·Memᴰ·cases-cons m)
+    ⊎-elim (λ h. rw h (claim d (and-l _ (allPass cs) e))) (λ h. claims cs (and-r (casePasses d) _ e) c h) (List·Memᴰ·cases-cons m)
 
 -- every starred case meets the claim
 pub starred-claims : (c : Case) → List·Memᴰ c starred → Claim c

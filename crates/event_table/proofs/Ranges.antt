@@ -20,9 +20,7 @@ pub within-in : (a b x : ℕ) → a ≤ x → x ≤ b → within a b x ≡ true
 within-in a b x l h = and-i (le-leb a x l) (le-leb x b h)
 
 pub between-at : (a b : ℕ) (f : Set) → between a b f ≡ true → (x : ℕ) → a ≤ x → x ≤ b → f x ≡ true
-between-at a b f e x l h =
-    let z : x ≡ a + (x - a) = omega arith in
-    ap f z ∙ every-at (b + 1 - a) (λ i. f (a + i)) e (x - a) (omega arith)
+between-at a b f e x l h = let z : x ≡ a + (x - a) = omega arith in ap f z ∙ every-at (b + 1 - a) (λ i. f (a + i)) e (x - a) (omega arith)
 
 pub between-not : (a b : ℕ) (f : Set) → between a b f ≡ false → (x : ℕ) × (a ≤ x) × (x ≤ b) × (f x ≡ false)
 between-not a b f e = let r = every-not (b + 1 - a) (λ i. f (a + i)) e in (a + r .0, omega arith, omega (arith, r .1), r .2)
@@ -39,9 +37,7 @@ module _ (n : ℕ) (f : Set) where
 
   -- there is none before it
   pub none-before : someBelow (first n f 0) f ≡ false
-  none-before =
-      some-none (first n f 0) f
-      (λ q l. bif (f q) (λ t. let k = first-le n f 0 q (omega arith) t in absurd (omega arith)) (λ t. t))
+  none-before = some-none (first n f 0) f (λ q l. bif (f q) (λ t. let k = first-le n f 0 q (omega arith) t in absurd (omega arith)) (λ t. t))
 
   pub first-found : someBelow n f ≡ true → (first n f 0 < n) × (f (first n f 0) ≡ true)
   first-found e =

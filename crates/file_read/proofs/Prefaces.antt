@@ -157,16 +157,11 @@ preface-brings p f n₁ n₇ =
 
 -- where no name is refused, rows 1 to 11 and 20 decide
 pub unnamed-row : (f : List ℕ) → prefaceRow f ≡ 0 → fileRow f ≡ bodyRow f
-unnamed-row f u =
-    by-cases (ℕ-discrete (bodyRow f) 0)
-    (λ e. rows-preface f e ∙ u ∙ sym e)
-    (λ n. sym (rows-body f (bodyRow f) n refl))
+unnamed-row f u = by-cases (ℕ-discrete (bodyRow f) 0) (λ e. rows-preface f e ∙ u ∙ sym e) (λ n. sym (rows-body f (bodyRow f) n refl))
 
 -- Bytes before a file that bring no refusal of names leave its row as it is.
 pub preface-no-effect : (p f : List ℕ) → (fileRow f ≡ 1 → ⊥) → (fileRow f ≡ 7 → ⊥) → prefaceRow f ≡ 0 → prefaceRow (p ++ f) ≡ 0 → fileRow (p ++ f) ≡ fileRow f
-preface-no-effect p f n₁ n₇ u v =
-    let e = unnamed-row f u in
-    unnamed-row (p ++ f) v ∙ body-after p f (λ z. n₁ (e ∙ z)) (λ z. n₇ (e ∙ z)) ∙ sym e
+preface-no-effect p f n₁ n₇ u v = let e = unnamed-row f u in unnamed-row (p ++ f) v ∙ body-after p f (λ z. n₁ (e ∙ z)) (λ z. n₇ (e ∙ z)) ∙ sym e
 
 -- An accepted file stays accepted after any preface whose names are not refused, as the same rule, and the preface grows by those bytes.
 pub accepted-after : (p f : List ℕ) → fileRow f ≡ 0 → prefaceRow (p ++ f) ≡ 0 → (fileRow (p ++ f) ≡ 0) × (ruleIn (p ++ f) ≡ ruleIn f) × (prefaceOf (p ++ f) ≡ p ++ prefaceOf f)

@@ -139,7 +139,4 @@ module _ (R : Rule) (few : R .n ≤ 8) where
     pub turn-passed : (trailingZeros 8 k ≡ q → ⊥) → masks′ ≡ masks → c′ ≡ c → Found (q + 1) c′ masks′
     turn-passed h x y =
         let t = passed q k l e h in
-        record {
-          number = y ∙ f .number ∙ sym (count-passed q t);
-          laid = x ∙ f .laid ∙ ap (λ (z : ℕ). table z maskOf) (sym y);
-        }
+        record { number = y ∙ f .number ∙ sym (count-passed q t); laid = x ∙ f .laid ∙ ap (λ (z : ℕ). table z maskOf) (sym y) }

@@ -5,7 +5,8 @@ use mathlib.Core.List.{List, [], _∷_, List·Memᴰ, List·Memᴰ·head, List·
 use Prim.Native.Nat.{ℕ, zero, suc, _+_, _-_, _/_, _^_, _<_, _≤_, _%_}
 use native.Mathlib.Numerals.{add-one}
 use native.Mathlib.Nat.{add-zero}
-use lib.Bits.{bitAnd, and-mask}
+use lib.Bits.{bitAnd, and-mask, and-le-r}
+use lib.Dec.{eqb}
 use lib.Count.{trailingZeros}
 use lib.ListN.{length, drop, getD, drop-of-length-le}
 use lib.Seq.{drop-cons}
@@ -22,13 +23,9 @@ use Rattle.sets.proofs.Bits.{bit-none}
 use Rattle.sets.proofs.Members.{members-cons, inside-members, inside-all, inside-trim}
 
 -- the test of a bit in the code
-bit-clear : (m q : ℕ) → bitAnd (m / 2 ^ q) 1 ≡ 0 → bit m q ≡ false
+bit-tested : (m q : ℕ) → bit m q ≡ eqb (bitAnd (m / 2 ^ q) 1) 1
 unfolding bit
-bit-clear m q e = let d : m / 2 ^ q % 2 ≡ 0 = sym (and-mask (m / 2 ^ q) 1) ∙ e in rw d
-
-bit-set : (m q : ℕ) → (bitAnd (m / 2 ^ q) 1 ≡ 0 → ⊥) → bit m q ≡ true
-unfolding bit
-bit-set m q e = let b : bitAnd (m / 2 ^ q) 1 ≡ m / 2 ^ q % 2 = and-mask (m / 2 ^ q) 1 in let d : m / 2 ^ q % 2 ≡ 1 = omega arith in eq-eqb _ _ d
+bit-tested m q = rw (and-mask (m / 2 ^ q) 1)
 
 -- ---- evaluated
 
@@ -62,11 +59,11 @@ inside-step X m p h = inside-members X m ∙ ap (λ (s : List ℕ). allOf s X) (
 
 -- a clause of which the least state is not in the set
 pub missing : (s m : ℕ) → 0 < m → m < 256 → bitAnd (s / 2 ^ least m) 1 ≡ 0 → inside 8 (bit s) m ≡ false
-missing s m p h e = rw (inside-step (bit s) m p h, bit-clear s (least m) e)
+missing s m p h e = rw (inside-step (bit s) m p h, bit-tested s (least m), e)
 
 -- a clause of which the least state is in the set
 pub present : (s m : ℕ) → 0 < m → m < 256 → (bitAnd (s / 2 ^ least m) 1 ≡ 0 → ⊥) → inside 8 (bit s) m ≡ inside 8 (bit s) (rest m)
-present s m p h e = rw (inside-step (bit s) m p h, bit-set s (least m) e)
+present s m p h e = let b = and-le-r (s / 2 ^ least m) 1 in rw (inside-step (bit s) m p h, bit-tested s (least m), eq-eqb (bitAnd (s / 2 ^ least m) 1) 1 (omega arith))
 
 -- the empty clause
 pub no-state : (X : Set) → inside 8 X 0 ≡ true

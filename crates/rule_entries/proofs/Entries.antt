@@ -1,7 +1,7 @@
 -- Where an entry's clauses stand, and the states that they name.
 use mathlib.Core.Path.{_≡_, refl, sym, _∙_, ap}
 use mathlib.Core.Bool.{false, _||_, or-false, or-assoc}
-use mathlib.Core.List.{List, [], _∷_, List·Memᴰ, List·Memᴰ·head, List·Memᴰ·tail, List·Memᴰ·not-nil, List·Memᴰ·cases-cons}
+use mathlib.Core.List.{List, [], _∷_, List·Memᴰ, List·Memᴰ·head, List·Memᴰ·tail, Memᴰ·append-left, Memᴰ·append-right}
 use Prim.Native.Nat.{ℕ, suc, _+_, _*_, _^_, _<_, _≤_, zero}
 use native.Mathlib.Omega.{arith}
 use native.Mathlib.Numerals.{add-one}
@@ -12,7 +12,6 @@ use lib.Bits.{bitOr}
 use lib.ListN.{length, drop, take, getD, drop-of-length-le, take-append-drop}
 use lib.Seq.{drop-cons}
 use borrow.Author.Tests.{lt-ltb}
-use mathlib.Core.Logic.{⊎-elim}
 use Rattle.sets.specs.Masks.{bit}
 use Rattle.sets.specs.Lists.{sum}
 use Rattle.theory.specs.Rule.{Rule, entry}
@@ -24,14 +23,10 @@ use Rattle.sets.proofs.Walks.{sum-take, sum-append}
 -- ---- parts of lists
 
 mem-take : (k : ℕ) (xs : List ℕ) {x : ℕ} → List·Memᴰ x (take k xs) → List·Memᴰ x xs
-mem-take zero xs m = absurd (List·Memᴰ·not-nil m)
-mem-take (suc k) [] m = m
-mem-take (suc k) (y ∷ ys) m = ⊎-elim (λ e. List·Memᴰ·head e) (λ t. List·Memᴰ·tail (mem-take k ys t)) (List·Memᴰ·cases-cons m)
+mem-take k xs m = rw (take-append-drop k xs) at (Memᴰ·append-left (drop k xs) m)
 
 mem-drop : (k : ℕ) (xs : List ℕ) {x : ℕ} → List·Memᴰ x (drop k xs) → List·Memᴰ x xs
-mem-drop zero xs m = m
-mem-drop (suc k) [] m = m
-mem-drop (suc k) (y ∷ ys) m = List·Memᴰ·tail (mem-drop k ys m)
+mem-drop k xs m = rw (take-append-drop k xs) at (Memᴰ·append-right (take k xs) m)
 
 sum-part : (xs : List ℕ) (i : ℕ) → sum (take i xs) ≤ sum xs
 sum-part xs i = let e : sum (take i xs) + sum (drop i xs) ≡ sum xs = sym (sum-append (take i xs) (drop i xs)) ∙ ap sum (take-append-drop i xs) in omega arith

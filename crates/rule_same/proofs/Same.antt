@@ -218,8 +218,7 @@ module _ (f g : List ℕ) (l m : Layout) (p : readOf f ≡ Accepted l) (q : read
     second-as = numbers-equal (l .head) (m .head) e (countsOf g) (clausesOf g) ∙ second-rule
 
     pub both-formed : WellFormed (ruleOf (l .head) c₁ k₁) × WellFormed (ruleOf (l .head) c₂ k₂)
-    both-formed =
-        (rw (x, y, first-rule) (served f l p .passing .formed), rw (z, w, second-as) (served g m q .passing .formed))
+    both-formed = (rw (x, y, first-rule) (served f l p .passing .formed), rw (z, w, second-as) (served g m q .passing .formed))
 
     pub same-told : (b : Bool) → b ≡ sameEntries (ruleOf (l .head) c₁ k₁) (ruleOf (l .head) c₂ k₂) → verdict b ≡ sameBodies f g
     same-told b h =

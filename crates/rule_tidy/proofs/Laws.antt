@@ -34,9 +34,7 @@ contains-and c d l =
 properly-other : (c d : ℕ) → c < 256 → d < 256 → (c ≡ d → ⊥) → contains 8 c d ≡ properlyContains 8 c d
 unfolding properlyContains
 properly-other c d k l n =
-    bif (contains 8 c d)
-    (λ t. bif (contains 8 d c) (λ v. absurd (n (contains-antisym 8 c d k l t v))) (λ v. rw (t, v)))
-    (λ t. rw t)
+    bif (contains 8 c d) (λ t. bif (contains 8 d c) (λ v. absurd (n (contains-antisym 8 c d k l t v))) (λ v. rw (t, v))) (λ t. rw t)
 
 pub containing-same : (properly : Bool) (c d : ℕ) → c ≡ d → not properly ≡ containing properly c d
 containing-same true c d e = rw (← e) (sym (properly-irrefl 8 c))

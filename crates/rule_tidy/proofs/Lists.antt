@@ -45,8 +45,7 @@ part-sum counts i = let e : sum (take i counts) + sum (drop i counts) ≡ sum co
 
 -- the clauses of the entries up to i are among the rule's
 pub entry-room : (counts clauses : List ℕ) (i : ℕ) → sum counts ≡ length clauses → i < length counts → sum (take i counts) + getD counts i 0 ≤ length clauses
-entry-room counts clauses i e l =
-    omega (arith, sum-take counts i l, part-sum counts (i + 1))
+entry-room counts clauses i e l = omega (arith, sum-take counts i l, part-sum counts (i + 1))
 
 module _ (counts clauses oldcounts oldclauses counts2 clauses2 : List ℕ) (from to i : ℕ) (P : Passed counts clauses oldcounts oldclauses counts2 clauses2 from to i)
     (l : i < length counts) where

@@ -1,15 +1,17 @@
 -- Clauses inside one another, and the sets that satisfy an entry.
 use mathlib.Core.Path.{_≡_, refl, sym, _∙_, ap}
-use mathlib.Core.Logic.{⊎-elim, by-cases}
+use mathlib.Core.Logic.{by-cases}
 use mathlib.Core.Bool.{true, false, not}
-use mathlib.Core.List.{List, [], _∷_, List·Memᴰ, List·Memᴰ·head, List·Memᴰ·tail, List·Memᴰ·cases-cons, List·Memᴰ·not-nil}
+use mathlib.Core.List.{List, [], _∷_, List·Memᴰ}
 use Prim.Native.Nat.{ℕ, _^_, _<_}
 use native.Mathlib.Omega.{arith}
 use native.Mathlib.Decide.{ℕ-discrete}
 use Rattle.sets.specs.Tests.{Set}
 use Rattle.sets.specs.Masks.{bit, inside}
-use Rattle.sets.proofs.Bools.{bif, clash, and-l, and-r, and-i, or-l, or-r, or-cases, not-t, iff}
+use Rattle.sets.proofs.Bools.{bif, clash, and-l, and-r, and-i, not-t, iff}
 use Rattle.sets.proofs.Bits.{bit-ext, subset-le}
+use Rattle.sets.specs.Lists.{anyOf}
+use Rattle.sets.proofs.Lists.{any-cons, any-out, any-in}
 use Rattle.sets.proofs.Members.{inside-at, inside-all}
 use Rattle.theory.specs.Rule.{satisfies}
 use Rattle.rule_tidy_spec.specs.Tidy.{contains, properlyContains}
@@ -23,12 +25,11 @@ inside-trans n X c d e h = inside-all n X d (λ q l b. inside-at n X c e q l (in
 
 -- clauses over n states that contain each other are equal
 pub contains-antisym : (n c d : ℕ) → c < 2 ^ n → d < 2 ^ n → contains n c d ≡ true → contains n d c ≡ true → c ≡ d
-contains-antisym n c d k l e h =
-    bit-ext n c d k l (λ q m. iff (bit c q) (bit d q) (inside-at n (bit d) c h q m) (inside-at n (bit c) d e q m))
+contains-antisym n c d k l e h = bit-ext n c d k l (λ q m. iff (bit c q) (bit d q) (inside-at n (bit d) c h q m) (inside-at n (bit c) d e q m))
 
 pub properly-out : (n c d : ℕ) → properlyContains n c d ≡ true → (contains n c d ≡ true) × (contains n d c ≡ false)
 unfolding properlyContains
-properly-out n c d e = (and-l (contains n c d) (not (contains n d c)) e, not-t (contains n d c) (and-r (contains n c d) (not (contains n d c)) e))
+properly-out n c d e = (and-l (contains n c d) _ e, not-t _ (and-r (contains n c d) (not (contains n d c)) e))
 
 -- a clause that is contained, and not properly, contains in turn
 pub not-properly : (n c d : ℕ) → properlyContains n c d ≡ false → contains n c d ≡ true → contains n d c ≡ true
@@ -48,26 +49,18 @@ properly-none n c d e = rw e
 -- a clause over n states is smaller than one that contains it properly
 pub properly-lt : (n c d : ℕ) → d < 2 ^ n → properlyContains n c d ≡ true → d < c
 properly-lt n c d l e =
-    let r = properly-out n c d e in
-    let h = subset-le n d c l (inside-at n (bit c) d (r .0)) in
+    let r = properly-out n c d e in let h = subset-le n d c l (inside-at n (bit c) d (r .0)) in
     by-cases (ℕ-discrete d c) (λ x. clash (rw x (contains-refl n c)) (r .1)) (λ x. omega arith)
 
 -- ---- the clause that a set contains
 
+satisfies-any : (n : ℕ) (X : Set) (cs : List ℕ) → satisfies n X cs ≡ anyOf cs (inside n X)
+unfolding satisfies anyOf
+satisfies-any n X [] = refl
+satisfies-any n X (c ∷ cs) = rw (satisfies-any n X cs) (sym (any-cons (inside n X) c cs))
+
 pub met-out : (n : ℕ) (X : Set) (cs : List ℕ) → satisfies n X cs ≡ true → (c : ℕ) × List·Memᴰ c cs × (inside n X c ≡ true)
-unfolding satisfies
-met-out n X [] e = clash e refl
-met-out n X (c ∷ cs) e =
-    ⊎-elim
-    (λ t. (c, List·Memᴰ·head refl, t))
-    (λ t. let r = met-out n X cs t in (r .0, List·Memᴰ·tail (r .1), r .2))
-    (or-cases (inside n X c) (satisfies n X cs) e)
+met-out n X cs e = any-out cs (inside n X) (sym (satisfies-any n X cs) ∙ e)
 
 pub met-in : (n : ℕ) (X : Set) (cs : List ℕ) (c : ℕ) → List·Memᴰ c cs → inside n X c ≡ true → satisfies n X cs ≡ true
-unfolding satisfies
-met-in n X [] c m e = absurd (List·Memᴰ·not-nil m)
-met-in n X (d ∷ cs) c m e =
-    ⊎-elim
-    (λ p. or-l (inside n X d) (satisfies n X cs) (ap (inside n X) (sym p) ∙ e))
-    (λ k. or-r (inside n X d) (satisfies n X cs) (met-in n X cs c k e))
-    (List·Memᴰ·cases-cons m)
+met-in n X cs c m e = satisfies-any n X cs ∙ any-in cs (inside n X) c m e

@@ -2,7 +2,7 @@
 use mathlib.Core.Path.{_≡_, refl, sym, _∙_, ap, ap₂}
 use mathlib.Core.Logic.{⊎-elim}
 use mathlib.Core.Bool.{Bool, _&&_, _||_, not}
-use mathlib.Core.List.{List, [], _∷_, _++_, List·Memᴰ, List·Memᴰ·head, List·Memᴰ·tail, List·Memᴰ·cases-cons, List·Memᴰ·not-nil, List·Memᴰ·append-cases}
+use mathlib.Core.List.{List, [], _∷_, _++_, List·Memᴰ, List·Memᴰ·head, List·Memᴰ·tail, List·Memᴰ·eq-of-singleton, List·Memᴰ·not-nil, List·Memᴰ·append-cases}
 use Prim.Native.Nat.{ℕ, _^_, _≤_, _<_}
 use lib.ListN.{length, take, drop}
 use Rattle.sets.specs.Tests.{Set}
@@ -36,9 +36,10 @@ module _ (n : ℕ) (few : n ≤ 8) where
   drops-eight : (all kept : List ℕ) (c : ℕ) → Small all → Small kept → c < 2 ^ n → drops 8 all kept c ≡ drops n all kept c
   unfolding drops
   drops-eight all kept c a b l =
-      ap₂ (λ (x y : Bool). x || y)
-      (any-ext kept (contains 8 c) (contains n c) (λ d m. contains-eight c d (b d m)))
-      (any-ext all (properlyContains 8 c) (properlyContains n c) (λ d m. properly-eight c d l (a d m)))
+      rw (
+        any-ext kept (contains 8 c) (contains n c) (λ d m. contains-eight c d (b d m)),
+        any-ext all (properlyContains 8 c) (properlyContains n c) (λ d m. properly-eight c d l (a d m)),
+      )
 
   from-eight : (all kept cs : List ℕ) → Small all → Small kept → Small cs → tidyFrom 8 all kept cs ≡ tidyFrom n all kept cs
   unfolding tidyFrom
@@ -46,7 +47,7 @@ module _ (n : ℕ) (few : n ≤ 8) where
   from-eight all kept (c ∷ cs) a b s =
       let e = drops-eight all kept c a b (s c (List·Memᴰ·head refl)) in
       let t : Small cs = λ x m. s x (List·Memᴰ·tail m) in
-      let k : Small (kept ++ (c ∷ [])) = λ x m. ⊎-elim (b x) (λ j. ⊎-elim (λ p. s x (List·Memᴰ·head p)) (λ z. absurd (List·Memᴰ·not-nil z)) (List·Memᴰ·cases-cons j)) (List·Memᴰ·append-cases kept m) in
+      let k : Small (kept ++ (c ∷ [])) = λ x m. ⊎-elim (b x) (λ j. s x (List·Memᴰ·head (List·Memᴰ·eq-of-singleton j))) (List·Memᴰ·append-cases kept m) in
       bif (drops 8 all kept c)
       (λ v. tidy-drop 8 all kept c cs v ∙ from-eight all kept cs a b t ∙ sym (tidy-drop n all kept c cs (sym e ∙ v)))
       (λ v. tidy-keep 8 all kept c cs v ∙ from-eight all (kept ++ (c ∷ [])) cs a k t ∙ sym (tidy-keep n all kept c cs (sym e ∙ v)))
@@ -59,14 +60,10 @@ module _ (n : ℕ) (few : n ≤ 8) where
   unfolding tidyCounts
   counts-eight [] clauses s = refl
   counts-eight (k ∷ counts) clauses s =
-      ap₂ (λ (x : ℕ) (xs : List ℕ). x ∷ xs)
-      (ap length (entry-eight (take k clauses) (λ x m. s x (mem-take k clauses m))))
-      (counts-eight counts (drop k clauses) (λ x m. s x (mem-drop k clauses m)))
+      rw (entry-eight (take k clauses) (λ x m. s x (mem-take k clauses m)), counts-eight counts (drop k clauses) (λ x m. s x (mem-drop k clauses m)))
 
   pub clauses-eight : (counts clauses : List ℕ) → Small clauses → tidyClauses 8 counts clauses ≡ tidyClauses n counts clauses
   unfolding tidyClauses
   clauses-eight [] clauses s = refl
   clauses-eight (k ∷ counts) clauses s =
-      ap₂ (λ (xs ys : List ℕ). xs ++ ys)
-      (entry-eight (take k clauses) (λ x m. s x (mem-take k clauses m)))
-      (clauses-eight counts (drop k clauses) (λ x m. s x (mem-drop k clauses m)))
+      rw (entry-eight (take k clauses) (λ x m. s x (mem-take k clauses m)), clauses-eight counts (drop k clauses) (λ x m. s x (mem-drop k clauses m)))

@@ -3,10 +3,11 @@ use mathlib.Core.Path.{_≡_, refl, sym, _∙_, ap}
 use mathlib.Core.Logic.{_⊎_, inl, inr, ⊎-elim}
 use mathlib.Core.Bool.{Bool, true, false, cond}
 use mathlib.Core.List.{List, [], _∷_, _++_, List·Memᴰ, List·Memᴰ·head, List·Memᴰ·tail, List·Memᴰ·cases-cons, List·Memᴰ·not-nil, List·Memᴰ·append-cases}
+use mathlib.Core.List.{List·Memᴰ·eq-of-singleton, Memᴰ·append-left, Memᴰ·append-right}
 use Prim.Native.Nat.{ℕ, zero, suc, _+_, _*_, _≤_}
 use native.Mathlib.Omega.{arith}
 use lib.Dec.{ltb}
-use lib.ListN.{length, getD, take, drop, length-append, length-take}
+use lib.ListN.{length, getD, take, drop, length-append, length-take, take-append-drop}
 use lib.Seq.{take-append-seam, drop-append-add, drop-drop}
 use Rattle.sets.specs.Lists.{sum}
 use Rattle.sets.proofs.Bools.{bif}
@@ -17,21 +18,16 @@ use Rattle.rule_tidy_spec.proofs.Minimal.{tidy-drop, tidy-keep}
 -- ---- parts of lists
 
 pub mem-take : (k : ℕ) (xs : List ℕ) {x : ℕ} → List·Memᴰ x (take k xs) → List·Memᴰ x xs
-mem-take zero xs m = absurd (List·Memᴰ·not-nil m)
-mem-take (suc k) [] m = m
-mem-take (suc k) (y ∷ ys) m = ⊎-elim (λ e. List·Memᴰ·head e) (λ t. List·Memᴰ·tail (mem-take k ys t)) (List·Memᴰ·cases-cons m)
+mem-take k xs m = rw (take-append-drop k xs) at (Memᴰ·append-left (drop k xs) m)
 
 pub mem-drop : (k : ℕ) (xs : List ℕ) {x : ℕ} → List·Memᴰ x (drop k xs) → List·Memᴰ x xs
-mem-drop zero xs m = m
-mem-drop (suc k) [] m = m
-mem-drop (suc k) (y ∷ ys) m = List·Memᴰ·tail (mem-drop k ys m)
+mem-drop k xs m = rw (take-append-drop k xs) at (Memᴰ·append-right (take k xs) m)
 
 -- the clauses of an entry are among the rule's
 pub entry-listed : (r : Rule) (q a c : ℕ) → List·Memᴰ c (entry r q a) → List·Memᴰ c (r .clauses)
 unfolding entry
 entry-listed r q a c m =
-    let i = q * r .s + a in
-    part (ltb a (r .s)) (getD (r .counts) i 0) (sum (take i (r .counts))) m
+    let i = q * r .s + a in part (ltb a (r .s)) (getD (r .counts) i 0) (sum (take i (r .counts))) m
   where
     part : (b : Bool) (k j : ℕ) → List·Memᴰ c (cond b (take k (drop j (r .clauses))) []) → List·Memᴰ c (r .clauses)
     part true k j m = mem-drop j (r .clauses) (mem-take k (drop j (r .clauses)) m)
@@ -59,8 +55,7 @@ from-listed n all kept (c ∷ cs) x m =
     bif (drops n all kept c)
     (λ t. ⊎-elim (λ k. inl k) (λ k. inr (List·Memᴰ·tail k)) (from-listed n all kept cs x (rw (tidy-drop n all kept c cs t) at m)))
     (λ t. ⊎-elim
-    (λ k. ⊎-elim (λ j. inl j) (λ j. ⊎-elim (λ e. inr (List·Memᴰ·head e)) (λ z. absurd (List·Memᴰ·not-nil z)) (List·Memᴰ·cases-cons j)) (List·Memᴰ·append-cases kept k))
-    (λ k. inr (List·Memᴰ·tail k))
+    (λ k. ⊎-elim (λ j. inl j) (λ j. inr (List·Memᴰ·head (List·Memᴰ·eq-of-singleton j))) (List·Memᴰ·append-cases kept k)) (λ k. inr (List·Memᴰ·tail k))
     (from-listed n all (kept ++ (c ∷ [])) cs x (rw (tidy-keep n all kept c cs t) at m)))
 
 pub tidy-length : (n : ℕ) (cs : List ℕ) → length (tidyEntry n cs) ≤ length cs
@@ -83,9 +78,7 @@ module _ (n : ℕ) where
   unfolding tidyCounts tidyClauses sum
   counts-sum [] clauses = refl
   counts-sum (k ∷ counts) clauses =
-      let ih = counts-sum counts (drop k clauses) in
-      let e = length-append (tidyEntry n (take k clauses)) (tidyClauses n counts (drop k clauses)) in
-      omega arith
+      omega (arith, counts-sum counts (drop k clauses), length-append (tidyEntry n (take k clauses)) (tidyClauses n counts (drop k clauses)))
 
   pub clauses-listed : (counts clauses : List ℕ) (x : ℕ) → List·Memᴰ x (tidyClauses n counts clauses) → List·Memᴰ x clauses
   unfolding tidyClauses
@@ -113,10 +106,8 @@ module _ (n : ℕ) where
   unfolding tidyClauses sum
   clauses-length [] clauses = omega arith
   clauses-length (k ∷ counts) clauses =
-      let ih = clauses-length counts (drop k clauses) in
-      let l = part-length k clauses in
       let e = length-append (tidyEntry n (take k clauses)) (tidyClauses n counts (drop k clauses)) in
-      omega arith
+      omega (arith, clauses-length counts (drop k clauses), part-length k clauses)
 
   -- entry number i
   pub entry-at : (counts clauses : List ℕ) (i : ℕ)
@@ -126,17 +117,12 @@ module _ (n : ℕ) where
   entry-at [] clauses i = sym (tidy-none n)
   entry-at (k ∷ counts) clauses zero = take-append-seam (tidyEntry n (take k clauses)) (tidyClauses n counts (drop k clauses))
   entry-at (k ∷ counts) clauses (suc i) =
-      let T = tidyEntry n (take k clauses) in
-      let rest = tidyClauses n counts (drop k clauses) in
       let tidied = tidyCounts n counts (drop k clauses) in
-      ap (take (getD tidied i 0)) (drop-append-add T rest (sum (take i tidied)))
+      ap (take (getD tidied i 0)) (drop-append-add (tidyEntry n (take k clauses)) (tidyClauses n counts (drop k clauses)) (sum (take i tidied)))
       ∙ entry-at counts (drop k clauses) i
       ∙ ap (λ (l : List ℕ). tidyEntry n (take (getD counts i 0) l)) (drop-drop (sum (take i counts)) k clauses)
 
 -- The entry of state q at letter a of the tidied rule is what stays of the rule's entry.
 pub entry-tidy : (r : Rule) (q a : ℕ) → entry (tidyRule r) q a ≡ tidyEntry (r .n) (entry r q a)
 unfolding entry tidyRule
-entry-tidy r q a =
-    bif (ltb a (r .s))
-    (λ t. rw t (entry-at (r .n) (r .counts) (r .clauses) (q * r .s + a)))
-    (λ t. rw t (sym (tidy-none (r .n))))
+entry-tidy r q a = bif (ltb a (r .s)) (λ t. rw t (entry-at (r .n) (r .counts) (r .clauses) (q * r .s + a))) (λ t. rw t (sym (tidy-none (r .n))))

@@ -3,7 +3,7 @@ use mathlib.Core.Path.{_≡_, refl, sym, _∙_, ap}
 use mathlib.Core.Logic.{_↔_, ⊎-elim, by-cases}
 use mathlib.Core.Bool.{true, false, _&&_, not, or-true}
 use mathlib.Core.List.{List, [], _∷_, _++_, append-assoc, append-nil, List·Memᴰ, List·Memᴰ·head, List·Memᴰ·tail, List·Memᴰ·cases-cons, List·Memᴰ·not-nil, List·Memᴰ·append-cases}
-use mathlib.Core.List.{Memᴰ·append-left, Memᴰ·append-right}
+use mathlib.Core.List.{List·Memᴰ·eq-of-singleton, Memᴰ·append-left, Memᴰ·append-right}
 use Prim.Native.Nat.{ℕ, zero, suc, _^_, _<_}
 use native.Mathlib.Omega.{arith}
 use native.Mathlib.Decide.{ℕ-discrete}
@@ -46,15 +46,6 @@ pub minimal-in : (n : ℕ) (all : List ℕ) (c : ℕ) → ((d : ℕ) → List·M
 unfolding minimal
 minimal-in n all c h = ap not (none-any all (properlyContains n c) h)
 
--- a clause that is not minimal
-not-minimal : (n : ℕ) (all : List ℕ) (c : ℕ) → minimal n all c ≡ false → anyOf all (properlyContains n c) ≡ true
-unfolding minimal
-not-minimal n all c e = not-f (anyOf all (properlyContains n c)) e
-
-minimal-any : (n : ℕ) (all : List ℕ) (c : ℕ) → minimal n all c ≡ true → anyOf all (properlyContains n c) ≡ false
-unfolding minimal
-minimal-any n all c e = not-t (anyOf all (properlyContains n c)) e
-
 -- of the clauses of the entry all, over n states
 module _ (n : ℕ) (all : List ℕ) (small : (c : ℕ) → List·Memᴰ c all → c < 2 ^ n) where
   -- kept are the minimal clauses among those seen
@@ -69,22 +60,20 @@ module _ (n : ℕ) (all : List ℕ) (small : (c : ℕ) → List·Memᴰ c all �
 
   -- the clause c, in the three cases
   drops-large : (kept : List ℕ) (c : ℕ) → minimal n all c ≡ false → drops n all kept c ≡ true
-  unfolding drops
-  drops-large kept c e = rw (not-minimal n all c e) (or-true (anyOf kept (contains n c)))
+  unfolding drops minimal
+  drops-large kept c e = rw (not-f (anyOf all (properlyContains n c)) e) (or-true (anyOf kept (contains n c)))
 
   drops-copy : (kept : List ℕ) (c : ℕ) → List·Memᴰ c kept → drops n all kept c ≡ true
   unfolding drops
   drops-copy kept c m = rw (any-in kept (contains n c) c m (contains-refl n c))
 
   keeps-first : (seen kept : List ℕ) (c : ℕ) → Kept seen kept → List·Memᴰ c all → minimal n all c ≡ true → among seen c ≡ false → drops n all kept c ≡ false
-  unfolding drops
+  unfolding drops minimal
   keeps-first seen kept c K m e a =
       rw (none-any kept (contains n c) (λ x k. bif (contains n c x)
-      (λ t. let s = K .from x k in
-      let y : x ≡ c = sym (minimal-only c x m (K .listed x s) e t) in
-      absurd (no-among seen c a (rw y at s)))
+      (λ t. let s = K .from x k in absurd (no-among seen c a (rw (sym (minimal-only c x m (K .listed x s) e t)) at s)))
       (λ t. t)))
-      (minimal-any n all c e)
+      (not-t (anyOf all (properlyContains n c)) e)
 
   seen-more : (seen kept : List ℕ) (c : ℕ) → Kept seen kept → List·Memᴰ c all → (minimal n all c ≡ true → List·Memᴰ c kept) → Kept (c ∷ seen) kept
   seen-more seen kept c K m h = record {
@@ -96,9 +85,7 @@ module _ (n : ℕ) (all : List ℕ) (small : (c : ℕ) → List·Memᴰ c all �
   kept-more : (seen kept : List ℕ) (c : ℕ) → Kept seen kept → List·Memᴰ c all → Kept (c ∷ seen) (kept ++ (c ∷ []))
   kept-more seen kept c K m = record {
     listed = λ x k. ⊎-elim (λ p. rw p m) (λ j. K .listed x j) (List·Memᴰ·cases-cons k);
-    from = λ x k. ⊎-elim (λ j. List·Memᴰ·tail (K .from x j))
-        (λ j. ⊎-elim (λ p. List·Memᴰ·head p) (λ z. absurd (List·Memᴰ·not-nil z)) (List·Memᴰ·cases-cons j))
-        (List·Memᴰ·append-cases kept k);
+    from = λ x k. ⊎-elim (λ j. List·Memᴰ·tail (K .from x j)) (λ j. List·Memᴰ·head (List·Memᴰ·eq-of-singleton j)) (List·Memᴰ·append-cases kept k);
     least = λ x k e. ⊎-elim (λ p. Memᴰ·append-right kept (List·Memᴰ·head p)) (λ j. Memᴰ·append-left (c ∷ []) (K .least x j e)) (List·Memᴰ·cases-cons k);
   }
 
@@ -125,10 +112,7 @@ module _ (n : ℕ) (all : List ℕ) (small : (c : ℕ) → List·Memᴰ c all �
   -- The clauses that stay are exactly the minimal ones, each at its first place, in their order.
   pub tidy-minimal : tidyEntry n all ≡ firstMinimal n all [] all
   unfolding tidyEntry
-  tidy-minimal =
-      walk [] [] all
-      (record { listed = λ x k. absurd (List·Memᴰ·not-nil k); from = λ x k. k; least = λ x k e. k })
-      (λ x k. k)
+  tidy-minimal = walk [] [] all (record { listed = λ x k. absurd (List·Memᴰ·not-nil k); from = λ x k. k; least = λ x k e. k }) (λ x k. k)
 
 -- ---- members of what stays
 
@@ -191,11 +175,12 @@ module _ (n : ℕ) (cs : List ℕ) (small : (c : ℕ) → List·Memᴰ c cs → 
 
   -- each clause contains one that stays
   below : (k c : ℕ) → c < k → List·Memᴰ c cs → (d : ℕ) × List·Memᴰ d (tidyEntry n cs) × (contains n c d ≡ true)
+  unfolding minimal
   below zero c l m = absurd (omega arith)
   below (suc k) c l m =
       bif (minimal n cs c)
       (λ t. (c, tidy-member c .1 (m, t), contains-refl n c))
-      (λ t. let r = any-out cs (properlyContains n c) (not-minimal n cs c t) in
+      (λ t. let r = any-out cs (properlyContains n c) (not-f _ t) in
       let p = properly-lt n c (r .0) (small (r .0) (r .1)) (r .2) in
       let b = below k (r .0) (omega arith) (r .1) in
       (b .0, b .1, inside-trans n (bit c) (r .0) (b .0) (properly-out n c (r .0) (r .2) .0) (b .2)))

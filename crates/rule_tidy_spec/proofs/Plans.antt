@@ -13,7 +13,7 @@ use Rattle.sets.proofs.Bits.{bit-ext}
 use Rattle.sets.proofs.Members.{inside-at}
 use Rattle.theory.specs.Rule.{Rule, entry}
 use Rattle.theory.specs.Passing.{Passing}
-use Rattle.theory.specs.Automaton.{automaton}
+use Rattle.theory.specs.Automaton.{Automaton, automaton}
 use Rattle.theory.specs.Word.{places, nextPlace, letterAt, WordOver}
 use Rattle.theory.specs.Plan.{Reach, here, on, Accepts, AcceptsFrom, AcceptsWord}
 use Rattle.theory.specs.Truth.{truthMasks}
@@ -48,26 +48,21 @@ smaller-listed n (x ∷ cs) c d m e =
 
 module _ (r : Rule) (small : (c : ℕ) → List·Memᴰ c (r .clauses) → c < 2 ^ r .n) (next letter : ℕ → ℕ) where
   -- what a plan reaches whose clauses are inside those of another
-  reach-more : (small large : ℕ → ℕ → ℕ) → ((q p y : ℕ) → y < r .n → bit (small q p) y ≡ true → bit (large q p) y ≡ true)
-      → (a x q p : ℕ) → Reach (automaton (tidyRule r)) next letter small a x q p → Reach (automaton r) next letter large a x q p
-  unfolding automaton tidyRule
-  reach-more f g h a x q p here = here
-  reach-more f g h a x q p (on {q = t} {p = z} y w k l b e) = on y w (reach-more f g h a x t z k) l (h t z y l b) e
-
-  -- what a plan reaches in the rule, it reaches in the tidied rule
-  reach-same : (pick : ℕ → ℕ → ℕ) (a x q p : ℕ) → Reach (automaton r) next letter pick a x q p → Reach (automaton (tidyRule r)) next letter pick a x q p
-  unfolding automaton tidyRule
-  reach-same f a x q p here = here
-  reach-same f a x q p (on {q = t} {p = z} y w k l b e) = on y w (reach-same f a x t z k) l b e
+  reach-more : (A B : Automaton) (small large : ℕ → ℕ → ℕ) → A .n ≡ B .n → ((q p y : ℕ) → y < A .n → bit (small q p) y ≡ true → bit (large q p) y ≡ true)
+      → (a x q p : ℕ) → Reach A next letter small a x q p → Reach B next letter large a x q p
+  reach-more A B f g s h a x q p here = here
+  reach-more A B f g s h a x q p (on {q = t} {p = z} y w k l b e) = on y w (reach-more A B f g s h a x t z k) (omega arith) (h t z y l b) e
 
   -- a plan of the tidied rule is a plan of the rule
   tidied-accepts : (a x : ℕ) → Accepts (automaton (tidyRule r)) next letter a x → Accepts (automaton r) next letter a x
   unfolding automaton tidyRule
-  tidied-accepts a x A = record {
-    pick = A .pick;
-    valid = λ q p w. entry-less r q (letter p) (A .pick q p) (A .valid q p (reach-same (A .pick) a x q p w));
-    fair = λ q p w e y l b z. A .fair q p (reach-same (A .pick) a x q p w) e y l b (reach-same (A .pick) y (next p) q p z);
-  }
+  tidied-accepts a x A =
+      let same = reach-more (automaton r) (automaton (tidyRule r)) (A .pick) (A .pick) refl (λ q p y l b. b) in
+      record {
+        pick = A .pick;
+        valid = λ q p w. entry-less r q (letter p) (A .pick q p) (A .valid q p (same a x q p w));
+        fair = λ q p w e y l b z. A .fair q p (same a x q p w) e y l b (same y (next p) q p z);
+      }
 
   -- the plan with each clause replaced by one that stays
   under : (ℕ → ℕ → ℕ) → ℕ → ℕ → ℕ
@@ -86,7 +81,7 @@ module _ (r : Rule) (small : (c : ℕ) → List·Memᴰ c (r .clauses) → c < 2
   accepts-tidied : (a x : ℕ) → Accepts (automaton r) next letter a x → Accepts (automaton (tidyRule r)) next letter a x
   unfolding automaton tidyRule
   accepts-tidied a x A =
-      let more = reach-more (under (A .pick)) (A .pick) (under-inside (A .pick)) in
+      let more = reach-more (automaton (tidyRule r)) (automaton r) (under (A .pick)) (A .pick) refl (under-inside (A .pick)) in
       record {
         pick = under (A .pick);
         valid = λ q p w. under-listed (A .pick) q p (A .valid q p (more a x q p w));

@@ -87,10 +87,7 @@ module _ (r : Rule) where
   -- A rule that passes rows 3 to 11 passes them tidied.
   pub tidy-passing : Passing r → Passing (tidyRule r)
   unfolding tidyRule
-  tidy-passing P = record {
-    formed = tidy-formed (P .formed);
-    unmixed = λ q p l m t. P .unmixed q p l m (together-less q p t);
-  }
+  tidy-passing P = record { formed = tidy-formed (P .formed); unmixed = λ q p l m t. P .unmixed q p l m (together-less q p t) }
 
 -- ---- a rule that has no clause inside another
 

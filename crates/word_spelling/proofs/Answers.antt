@@ -88,8 +88,4 @@ module _ (l c old : List ℕ) where
         let a : tidyLetters l c ≡ take (m + p) (l ++ c) = tidy-letters l c repeats ∙ rw (e, f) in
         let b = e ∙ sym (tidy-lead-length l c repeats) in
         let d = f ∙ sym (tidy-cycle-length l c repeats) in
-        record {
-          answered = rw none (rw (b, d));
-          written = rw none (w ∙ rw (← a, s));
-          meant = λ z. tidied l c repeats;
-        }
+        record { answered = rw none (rw (b, d)); written = rw none (w ∙ rw (← a, s)); meant = λ z. tidied l c repeats }

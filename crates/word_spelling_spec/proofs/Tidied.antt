@@ -104,8 +104,7 @@ module _ (lead cycle : List ℕ) (repeats : 0 < length cycle) where
   pub cycle-least : (m p : ℕ) → 0 < p → Repeats w m p → cycleLength cycle ≤ p
   unfolding cycleLength
   cycle-least m p h R =
-      first-le (length cycle) (comesAgain cycle) 1 p h
-      (repeats-again p (repeats-sooner w (length lead) (length cycle) m p repeats own R))
+      first-le (length cycle) (comesAgain cycle) 1 p h (repeats-again p (repeats-sooner w (length lead) (length cycle) m p repeats own R))
 
 -- a cycle's letters come again after the whole cycle
 pub own-again : (cycle : List ℕ) → 0 < length cycle → comesAgain cycle (length cycle) ≡ true
@@ -126,9 +125,7 @@ module _ (w : ℕ → ℕ) (p : ℕ) where
   unfolding shortened
   shortened-max zero = omega arith
   shortened-max (suc m) =
-      by-cases (ℕ-discrete (w m) (w (m + p)))
-      (λ e. omega (arith, shortened-same m e, shortened-max m))
-      (λ n. omega (arith, shortened-other m n))
+      by-cases (ℕ-discrete (w m) (w (m + p))) (λ e. omega (arith, shortened-same m e, shortened-max m)) (λ n. omega (arith, shortened-other m n))
 
   -- w repeats from there on
   pub shortened-repeats : (m : ℕ) → Repeats w m p → Repeats w (shortened w p m) p
@@ -222,6 +219,4 @@ same-tidy l₁ c₁ l₂ c₂ h k = (
 -- 02: "tidying twice changes nothing further"
 pub tidy-twice : (l c : List ℕ) → 0 < length c
     → (tidyLead (tidyLead l c) (tidyCycle l c) ≡ tidyLead l c) × (tidyCycle (tidyLead l c) (tidyCycle l c) ≡ tidyCycle l c)
-tidy-twice l c h =
-    let t = tidied l c h in
-    same-tidy (tidyLead l c) (tidyCycle l c) l c (t .spells .repeats) h .0 (t .spells .agrees)
+tidy-twice l c h = let t = tidied l c h in same-tidy (tidyLead l c) (tidyCycle l c) l c (t .spells .repeats) h .0 (t .spells .agrees)

@@ -8,14 +8,10 @@ use Rattle.event_table.proofs.is_faulty.Statement.{statement}
 use Rattle.event_table.proofs.is_faulty.Tie as tie
 
 returns : tie.Need-returns
-returns c =
-    let a = c .before .before .before .args in
-    sym (fault-kinds (a .s) (a .events .now) (a .j) (c .if1 .taken))
+returns c = let a = c .before .before .before .args in sym (fault-kinds (a .s) (a .events .now) (a .j) (c .if1 .taken))
 
 returns-2 : tie.Need-returns-2
-returns-2 c =
-    let a = c .before .before .before .before .before .before .args in
-    sym (fault-drives (a .s) (a .events .now) (a .j) (c .if2 .taken))
+returns-2 c = let a = c .before .before .before .before .before .before .args in sym (fault-drives (a .s) (a .events .now) (a .j) (c .if2 .taken))
 
 cast-result : tie.Need-cast-result
 cast-result c =

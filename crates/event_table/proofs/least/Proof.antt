@@ -11,10 +11,8 @@ use Rattle.event_table.proofs.least.Tie as tie
 below : (c : tie.Else1) → trailingZeros 64 (c .before .args .m) < 64
 below c = least-lt 64 (c .before .args .m) (omega (arith, c .if1 .left)) (omega arith)
 
-returns-2 : tie.Need-returns-2
-returns-2 c = least-mask (c .before .args .m) (omega (arith, c .if1 .left)) (omega arith)
-
 pub least-spec : {M : Type 1} → statement M
 least-spec =
     tie.close (tie.spec
-    (λ c. least-empty (c .before .args .m) (c .if1 .taken)) (λ c. omega (arith, below c)) (λ c. omega (arith, below c)) returns-2)
+    (λ c. least-empty (c .before .args .m) (c .if1 .taken)) (λ c. omega (arith, below c)) (λ c. omega (arith, below c))
+    (λ c. least-mask (c .before .args .m) (omega (arith, c .if1 .left)) (omega arith)))

@@ -30,5 +30,4 @@ returns-2 c =
 
 pub preface-row-spec : {M : Type 1} → statement M
 preface-row-spec =
-    tie.close (tie.spec
-    (λ c κs. search needs) returns (λ c κs. (c .before .before .before .pre, kept c)) (λ c κs. search needs) returns-2)
+    tie.close (tie.spec (λ c κs. search needs) returns (λ c κs. (c .before .before .before .pre, kept c)) (λ c κs. search needs) returns-2)

@@ -8,9 +8,6 @@ use Rattle.file_read.proofs.counts_of.Tie as tie
 add-start : tie.Need-add-start
 add-start c = let a = c .before .args in let s = served (a .f .now) (a .l) (c .before .pre) in omega (arith, s .bounds)
 
-sub-end : tie.Need-sub-end
-sub-end c = let a = c .before .args in served (a .f .now) (a .l) (c .before .pre) .long
-
 sub-result : tie.Need-sub-result
 sub-result c = let a = c .before .args in let s = served (a .f .now) (a .l) (c .before .pre) in omega (arith, s .bounds)
 
@@ -21,4 +18,7 @@ returns : tie.Need-returns
 returns c = let a = c .before .before .args in served (a .f .now) (a .l) (c .before .before .pre) .counts
 
 pub counts-of-spec : {M : Type 1} → statement M
-counts-of-spec = tie.close (tie.spec add-start sub-end sub-result part-result-start (λ c. search needs) returns)
+counts-of-spec =
+    tie.close (tie.spec
+    add-start (λ c. let a = c .before .args in served (a .f .now) (a .l) (c .before .pre) .long) sub-result part-result-start (λ c. search needs)
+    returns)

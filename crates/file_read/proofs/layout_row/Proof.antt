@@ -19,5 +19,4 @@ lay-out-requires c κs = let p = placed (c .before .before .before .args .f .now
 
 pub layout-row-spec : {M : Type 1} → statement M
 layout-row-spec =
-    tie.close (tie.spec
-    (λ c κs. search needs) returns lay-out-requires (λ c κs. (pass (c .before), c .lay-out .ensures)) (λ c. search needs))
+    tie.close (tie.spec (λ c κs. search needs) returns lay-out-requires (λ c κs. (pass (c .before), c .lay-out .ensures)) (λ c. search needs))

@@ -37,9 +37,6 @@ none c = sym (c .before .laid-row .ensures) ∙ c .if2 .left
 bound : (c : tie.After-lay-out) → c .lay-out .result .at ≤ length (c .before .before .before .before .args .f .now)
 bound c = rw (c .lay-out .ensures) (omega (arith, known (c .before)))
 
-slice-aggregate-names-in : tie.Need-slice-aggregate-names-in
-slice-aggregate-names-in c = simp length-take (omega (arith, bound (c .before .before .before .before)))
-
 names-in-requires : tie.Need-names-in-requires
 names-in-requires c κs =
     let l = c .before .before .before .before in let f = l .before .before .before .before .args .f .now in
@@ -54,4 +51,4 @@ pub read-rule-spec : {M : Type 1} → statement M
 read-rule-spec =
     tie.close (tie.spec
     (λ c κs. search needs) returns (λ c κs. (known c .long, known c .fits)) (λ c κs. (pass (c .before), c .lay-out .ensures)) returns-2
-    slice-aggregate-names-in names-in-requires returns-3)
+    (λ c. simp length-take (omega (arith, bound (c .before .before .before .before)))) names-in-requires returns-3)

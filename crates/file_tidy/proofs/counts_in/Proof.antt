@@ -6,8 +6,7 @@ use Rattle.file_tidy.proofs.counts_in.Statement.{statement}
 use Rattle.file_tidy.proofs.counts_in.Tie as tie
 
 returns : tie.Need-returns
-returns c =
-    rw (c .before .read-head .ensures) (counts-end (c .before .before .before .args .f .now) (c .before .before .before .pre .1))
+returns c = rw (c .before .read-head .ensures) (counts-end (c .before .before .before .args .f .now) (c .before .before .before .pre .1))
 
 pub counts-in-spec : {M : Type 1} → statement M
 counts-in-spec =

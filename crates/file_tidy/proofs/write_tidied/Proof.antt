@@ -38,9 +38,7 @@ known c =
     (start-of-after-tidy-rule c .pre .0) (t .0) (t .1 .0) (t .1 .1)
 
 preface-length-requires : tie.Need-preface-length-requires
-preface-length-requires c κs =
-    let start = c .before .before .before .before .before .before .before .before .before in
-    start .pre .1
+preface-length-requires c κs = let start = c .before .before .before .before .before .before .before .before .before in start .pre .1
 
 abbrev start-of-after-preface-length : tie.After-preface-length → tie.Start
 start-of-after-preface-length c = c .before .before .before .before .before .before .before .before .before .before

@@ -30,9 +30,7 @@ loop-again c =
     )
 
 returns : tie.Need-returns Inv-loop μ-loop
-returns c =
-    let e : c .before .loop .p ≡ c .before .before .args .n = omega arith in
-    rw (sym e) (c .before .loop .inv .1)
+returns c = let e : c .before .loop .p ≡ c .before .before .args .n = omega arith in rw (sym e) (c .before .loop .inv .1)
 
 pub class-of-spec : {M : Type 1} → statement M
 class-of-spec =

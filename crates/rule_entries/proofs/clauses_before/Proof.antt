@@ -18,12 +18,6 @@ loop-holds : tie.Need-loop-holds Inv-loop μ-loop
 unfolding sum
 loop-holds c = (omega arith, omega arith, refl)
 
-cast-total : tie.Need-cast-total Inv-loop μ-loop
-cast-total c = omega (arith, c .shared-slice-known .given (c .before .before .loop .k))
-
-add-total : tie.Need-add-total Inv-loop μ-loop
-add-total c = omega (arith, c .shared-slice-known .given (c .before .before .loop .k))
-
 loop-again : tie.Need-loop-again Inv-loop μ-loop
 loop-again c =
     let l = c .before .before .loop in
@@ -34,11 +28,10 @@ loop-again c =
     )
 
 returns : tie.Need-returns Inv-loop μ-loop
-returns c =
-    let e : c .before .loop .k ≡ c .before .before .args .i = omega arith in
-    rw (sym e) (c .before .loop .inv .2)
+returns c = let e : c .before .loop .k ≡ c .before .before .args .i = omega arith in rw (sym e) (c .before .loop .inv .2)
 
 pub clauses-before-spec : {M : Type 1} → statement M
 clauses-before-spec =
     tie.close (tie.spec
-    Inv-loop μ-loop loop-holds (λ c. omega arith) cast-total add-total (λ c. omega arith) (λ c. omega arith) loop-again returns)
+    Inv-loop μ-loop loop-holds (λ c. omega arith) (λ c. omega (arith, c .shared-slice-known .given (c .before .before .loop .k)))
+    (λ c. omega (arith, c .shared-slice-known .given (c .before .before .loop .k))) (λ c. omega arith) (λ c. omega arith) loop-again returns)

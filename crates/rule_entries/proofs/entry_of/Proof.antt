@@ -20,9 +20,6 @@ number c =
 few : (c : tie.After-struct-known) → length (c .before .before .before .args .counts .now) ≤ 128
 few c = let a = c .before .before .before .args in entries-few (ruleOf (a .h) (a .counts .now) (a .clauses .now)) (c .before .before .before .pre .0)
 
-add-i : tie.Need-add-i
-add-i c = omega (arith, number c, few c, c .before .before .before .pre .0 .few-states)
-
 -- its clauses are among the rule's
 fits : (c : tie.After-shared-slice-known3) → c .before .clauses-before .result + getD (c .before .before .before .before .before .args .counts .now)
     (c .before .before .before .before .before .args .q * c .before .before .before .before .before .args .h .s + c .before .before .before .before .before .args .a) 0 ≤ length
@@ -53,5 +50,6 @@ returns c =
 pub entry-of-spec : {M : Type 1} → statement M
 entry-of-spec =
     tie.close (tie.spec
-    (λ c. omega (arith, number c, few c)) add-i (λ c κs. (omega (arith, number c), omega (arith, number c, few c))) (λ c. number (c .before .before))
-    cast-end add-end (λ c. search needs) (λ c. search needs) (λ c. let h = fits c in search needs) returns)
+    (λ c. omega (arith, number c, few c)) (λ c. omega (arith, number c, few c, c .before .before .before .pre .0 .few-states))
+    (λ c κs. (omega (arith, number c), omega (arith, number c, few c))) (λ c. number (c .before .before)) cast-end add-end (λ c. search needs)
+    (λ c. search needs) (λ c. let h = fits c in search needs) returns)

@@ -39,9 +39,6 @@ fits c =
     let a = c .before .before .before .args in let p = c .before .before .before .pre in
     rw (p .1 .at (a .q * a .h .s + a .a) (listed c)) (entry-fits (ruleOf (a .h) (a .counts .now) (a .clauses .now)) (p .0) (a .q) (a .a) (p .2) (p .3))
 
-cast-start : tie.Need-cast-start
-cast-start c = omega (arith, fits (c .before), c .before .before .before .before .good)
-
 cast-end : tie.Need-cast-end
 cast-end c = let a = c .before .before .before .before .before .args in omega (arith, c .shared-slice-known3 .given (a .q * a .h .s + a .a))
 
@@ -63,6 +60,6 @@ returns c =
 pub met-at-spec : {M : Type 1} → statement M
 met-at-spec =
     tie.close (tie.spec
-    (λ c. omega (arith, number c)) (λ c. omega (arith, number c)) (λ c. omega (arith, number c)) (λ c. number c) cast-start
-    (λ c. listed (c .before .before)) cast-end add-end (λ c. search needs) (λ c. search needs) (λ c. let h = fits (c .before .before) in search needs)
-    (λ c κs. search needs) returns)
+    (λ c. omega (arith, number c)) (λ c. omega (arith, number c)) (λ c. omega (arith, number c)) (λ c. number c)
+    (λ c. omega (arith, fits (c .before), c .before .before .before .before .good)) (λ c. listed (c .before .before)) cast-end add-end
+    (λ c. search needs) (λ c. search needs) (λ c. let h = fits (c .before .before) in search needs) (λ c κs. search needs) returns)

@@ -19,12 +19,6 @@ loop-holds : tie.Need-loop-holds Inv-loop μ-loop
 unfolding sum
 loop-holds c = (refl, omega arith, refl, omega arith, λ j l. absurd (omega arith))
 
-cast-total : tie.Need-cast-total Inv-loop μ-loop
-cast-total c = omega (arith, c .shared-slice-known .given (c .before .before .loop .i))
-
-add-total : tie.Need-add-total Inv-loop μ-loop
-add-total c = omega (arith, c .shared-slice-known .given (c .before .before .loop .i))
-
 loop-again : tie.Need-loop-again Inv-loop μ-loop
 loop-again c =
     let l = c .before .before .loop in let xs = c .before .before .before .args .counts .now in
@@ -39,5 +33,7 @@ loop-again c =
 pub starts-of-spec : {M : Type 1} → statement M
 starts-of-spec =
     tie.close (tie.spec
-    Inv-loop μ-loop loop-holds (λ c. omega arith) (λ c. omega arith) (λ c. omega arith) cast-total add-total (λ c. omega arith) (λ c. omega arith)
-    loop-again (λ c. record { at = λ i l. c .before .loop .inv .4 i (omega arith) }))
+    Inv-loop μ-loop loop-holds (λ c. omega arith) (λ c. omega arith) (λ c. omega arith)
+    (λ c. omega (arith, c .shared-slice-known .given (c .before .before .loop .i)))
+    (λ c. omega (arith, c .shared-slice-known .given (c .before .before .loop .i))) (λ c. omega arith) (λ c. omega arith) loop-again
+    (λ c. record { at = λ i l. c .before .loop .inv .4 i (omega arith) }))

@@ -22,11 +22,7 @@ abbrev μ-loop : tie.MeasureT-loop
 loop-holds : tie.Need-loop-holds Inv-loop μ-loop
 loop-holds c =
     let q = c .args .q in
-    let e = shl-one 8 q (c .pre) in (
-      rw e (pow-lt (c .pre)),
-      rw e (alone-bit q),
-      λ X x k t l y. rw (sym (alone-only q t (rw e at y))) x,
-    )
+    let e = shl-one 8 q (c .pre) in (rw e (pow-lt (c .pre)), rw e (alone-bit q), λ X x k t l y. rw (sym (alone-only q t (rw e at y))) x)
 
 returns : tie.Need-returns Inv-loop μ-loop
 returns c =

@@ -18,14 +18,10 @@ abbrev μ-loop : tie.MeasureT-loop
 μ-loop h counts clauses es table₀ q₀ table q = h .n - q
 
 closure-requires : tie.Need-closure-requires Inv-loop μ-loop
-closure-requires c κs =
-    let start = c .before .before .before .before .before .before .before in
-    omega (arith, start .pre .few-states)
+closure-requires c κs = let start = c .before .before .before .before .before .before .before in omega (arith, start .pre .few-states)
 
 array-write-table : tie.Need-array-write-table Inv-loop μ-loop
-array-write-table c =
-    let start = c .before .before .before .before .before .before .before .before in
-    omega (arith, start .pre .few-states)
+array-write-table c = let start = c .before .before .before .before .before .before .before .before in omega (arith, start .pre .few-states)
 
 loop-again : tie.Need-loop-again Inv-loop μ-loop
 loop-again c =

@@ -52,5 +52,4 @@ returns c =
 
 pub successors-spec : {M : Type 1} → statement M
 successors-spec =
-    tie.close (tie.spec
-    Inv-loop μ-loop loop-holds entry-of-requires (λ c κs. search needs) (λ c. omega arith) (λ c. omega arith) loop-again returns)
+    tie.close (tie.spec Inv-loop μ-loop loop-holds entry-of-requires (λ c κs. search needs) (λ c. omega arith) (λ c. omega arith) loop-again returns)

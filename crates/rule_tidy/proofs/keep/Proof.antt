@@ -8,9 +8,7 @@ use Rattle.rule_tidy.proofs.keep.Statement.{statement}
 use Rattle.rule_tidy.proofs.keep.Tie as tie
 
 slice-aggregate-is-dropped : tie.Need-slice-aggregate-is-dropped
-slice-aggregate-is-dropped c =
-    let a = c .before .before .before .args in
-    sym (length-take-le (a .k) (a .out .now) (omega arith))
+slice-aggregate-is-dropped c = let a = c .before .before .before .args in sym (length-take-le (a .k) (a .out .now) (omega arith))
 
 returns : tie.Need-returns
 returns c =

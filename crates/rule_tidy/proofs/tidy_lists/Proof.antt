@@ -23,9 +23,6 @@ room c l =
     let a = c .before .before .before .before .before .args in
     omega (arith, entry-room (a .counts .now) (a .clauses .now) (c .loop .i) (c .before .before .before .before .before .pre .0) l, c .loop .inv .taken)
 
-cast-next : tie.Need-cast-next Inv-loop μ-loop
-cast-next c = omega (arith, c .shared-slice-known3 .given (c .before .before .loop .i))
-
 sub-tidy-entry-2 : tie.Need-sub-tidy-entry-2 Inv-loop μ-loop
 sub-tidy-entry-2 c = omega (arith, room (c .before .before .before) (c .before .before .loop-test .taken), c .before .before .before .loop .inv .fewer, c .before .before .before .loop .inv .broad)
 
@@ -57,9 +54,7 @@ cast-counts2 c =
     )
 
 slice-write-counts2 : tie.Need-slice-write-counts2 Inv-loop μ-loop
-slice-write-counts2 c =
-    let at-loop = c .before .before .before .before .before .before .before in
-    omega (arith, at-loop .loop .inv .long)
+slice-write-counts2 c = let at-loop = c .before .before .before .before .before .before .before in omega (arith, at-loop .loop .inv .long)
 
 add-to : tie.Need-add-to Inv-loop μ-loop
 add-to c =
@@ -93,7 +88,8 @@ returns c =
 pub tidy-lists-spec : {M : Type 1} → statement M
 tidy-lists-spec =
     tie.close (tie.spec
-    Inv-loop μ-loop loop-holds (λ c. omega arith) cast-next (λ c. omega (arith, room (c .before .before) (c .before .loop-test .taken)))
-    (λ c. omega arith) (λ c. search needs) (λ c. room (c .before .before) (c .before .loop-test .taken)) sub-tidy-entry-2 part-tidy-entry-start-2
-    (λ c. search needs) tidy-entry-requires cast-counts2 slice-write-counts2 add-to (λ c. omega arith) (λ c. omega arith) loop-again
-    (λ c. c .before .loop .inv .long) (λ c. c .before .loop .inv .broad) returns)
+    Inv-loop μ-loop loop-holds (λ c. omega arith) (λ c. omega (arith, c .shared-slice-known3 .given (c .before .before .loop .i)))
+    (λ c. omega (arith, room (c .before .before) (c .before .loop-test .taken))) (λ c. omega arith) (λ c. search needs)
+    (λ c. room (c .before .before) (c .before .loop-test .taken)) sub-tidy-entry-2 part-tidy-entry-start-2 (λ c. search needs) tidy-entry-requires
+    cast-counts2 slice-write-counts2 add-to (λ c. omega arith) (λ c. omega arith) loop-again (λ c. c .before .loop .inv .long)
+    (λ c. c .before .loop .inv .broad) returns)

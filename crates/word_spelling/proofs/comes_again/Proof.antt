@@ -12,8 +12,7 @@ use Rattle.word_spelling.proofs.comes_again.Statement.{statement}
 use Rattle.word_spelling.proofs.comes_again.Tie as tie
 
 abbrev Inv-loop : tie.InvT-loop
-Inv-loop cycle d n j₀ later₀ j later =
-    (j ≤ length cycle) × (later < length cycle) × (later ≡ laterOf cycle d j) × AgainTo cycle d j
+Inv-loop cycle d n j₀ later₀ j later = (j ≤ length cycle) × (later < length cycle) × (later ≡ laterOf cycle d j) × AgainTo cycle d j
 
 abbrev μ-loop : tie.MeasureT-loop
 μ-loop cycle d n j₀ later₀ j later = length cycle - j

@@ -17,9 +17,6 @@ Inv-loop cycle d₀ d = (1 ≤ d) × (d ≤ length cycle) × NoneTo cycle d
 abbrev μ-loop : tie.MeasureT-loop
 μ-loop cycle d₀ d = length cycle - d
 
-loop-holds : tie.Need-loop-holds Inv-loop μ-loop
-loop-holds c = (omega arith, c .before .pre, none-first (c .before .args .cycle .now))
-
 returns : tie.Need-returns Inv-loop μ-loop
 returns c =
     let v = c .before .before .before .before .before .args .cycle .now in let l = c .before .before .before .loop in
@@ -37,4 +34,7 @@ returns-2 c =
     sym (found v (l .d) (omega arith) (rw e (own-again v (c .before .before .before .pre))) (l .inv .2))
 
 pub cycle-length-spec : {M : Type 1} → statement M
-cycle-length-spec = tie.close (tie.spec Inv-loop μ-loop loop-holds (λ c κs. omega arith) returns (λ c. omega arith) (λ c. omega arith) loop-again returns-2)
+cycle-length-spec =
+    tie.close (tie.spec
+    Inv-loop μ-loop (λ c. (omega arith, c .before .pre, none-first (c .before .args .cycle .now))) (λ c κs. omega arith) returns (λ c. omega arith)
+    (λ c. omega arith) loop-again returns-2)

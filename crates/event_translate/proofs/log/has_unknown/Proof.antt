@@ -13,8 +13,7 @@ use Rattle.event_translate.proofs.log.has_unknown.Statement.{statement}
 use Rattle.event_translate.proofs.log.has_unknown.Tie as tie
 
 abbrev Inv-loop : tie.InvT-loop
-Inv-loop kinds drives log n k₀ k =
-    (k ≤ eventCount log) × ((t : List ℕ) → Masks t kinds drives → someBelow k (λ z. not (known t log z)) ≡ false)
+Inv-loop kinds drives log n k₀ k = (k ≤ eventCount log) × ((t : List ℕ) → Masks t kinds drives → someBelow k (λ z. not (known t log z)) ≡ false)
 
 abbrev μ-loop : tie.MeasureT-loop
 μ-loop kinds drives log n k₀ k = eventCount log - k

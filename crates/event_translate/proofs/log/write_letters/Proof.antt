@@ -13,8 +13,7 @@ use Rattle.event_translate.proofs.log.write_letters.Statement.{statemen
 use Rattle.event_translate.proofs.log.write_letters.Tie as tie
 
 abbrev Inv-loop : tie.InvT-loop
-Inv-loop events kinds drives log letters₀ n k₀ letters k =
-    (k ≤ eventCount log) × (letters ≡ take k (lettersOf events log) ++ drop k letters₀)
+Inv-loop events kinds drives log letters₀ n k₀ letters k = (k ≤ eventCount log) × (letters ≡ take k (lettersOf events log) ++ drop k letters₀)
 
 abbrev μ-loop : tie.MeasureT-loop
 μ-loop events kinds drives log letters₀ n k₀ letters k = eventCount log - k

@@ -14,12 +14,6 @@ Inv-loop xs t₀ i₀ t i = (i ≤ length xs) × (t ≤ 255 * i) × (t + sum (dr
 abbrev μ-loop : tie.MeasureT-loop
 μ-loop xs t₀ i₀ t i = length xs - i
 
-cast-t : tie.Need-cast-t Inv-loop μ-loop
-cast-t c = omega (arith, c .shared-slice-known .given (c .before .before .loop .i))
-
-add-t : tie.Need-add-t Inv-loop μ-loop
-add-t c = omega (arith, c .shared-slice-known .given (c .before .before .loop .i))
-
 loop-again : tie.Need-loop-again Inv-loop μ-loop
 loop-again c =
     let l = c .before .before .loop in
@@ -29,4 +23,7 @@ returns : tie.Need-returns Inv-loop μ-loop
 returns c = omega (arith, sum-end (c .before .before .args .xs .now) (c .before .loop .i) (omega arith))
 
 pub total-spec : {M : Type 1} → statement M
-total-spec = tie.close (tie.spec Inv-loop μ-loop (λ c. omega arith) (λ c. omega arith) cast-t add-t (λ c. omega arith) (λ c. omega arith) loop-again returns)
+total-spec =
+    tie.close (tie.spec
+    Inv-loop μ-loop (λ c. omega arith) (λ c. omega arith) (λ c. omega (arith, c .shared-slice-known .given (c .before .before .loop .i)))
+    (λ c. omega (arith, c .shared-slice-known .given (c .before .before .loop .i))) (λ c. omega arith) (λ c. omega arith) loop-again returns)

@@ -17,9 +17,6 @@ returns c = let a = c .before .before .before .args in fill-none (a .out .now) (
 room : (c : tie.Else1) → length (c .before .before .before .args .names .now) + 2 ≤ length (c .before .before .before .args .out .now)
 room c = omega (arith, c .before .before .before .pre, length-preface (c .before .before .before .args .names .now) .1 (c .if1 .left))
 
-put-requires-2 : tie.Need-put-requires-2
-put-requires-2 c κs = omega (arith, room (c .before .before .before .before .before .before))
-
 returns-2 : tie.Need-returns-2
 returns-2 c =
     let at-put = c .before .before .before .before .before .before .before in let earlier = at-put .before .before in
@@ -29,4 +26,5 @@ returns-2 c =
 pub fill-names-spec : {M : Type 1} → statement M
 fill-names-spec =
     tie.close (tie.spec
-    returns (λ c κs. omega (arith, room (c .before))) (λ c. search needs) put-requires-2 (λ c. search needs) returns-2)
+    returns (λ c κs. omega (arith, room (c .before))) (λ c. search needs)
+    (λ c κs. omega (arith, room (c .before .before .before .before .before .before))) (λ c. search needs) returns-2)

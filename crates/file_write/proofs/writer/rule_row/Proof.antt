@@ -21,9 +21,6 @@ returns c =
 pass : (c : tie.Else1) → firstRow (numberRows (c .before .before .before .before .args .h)) ≡ 0
 pass c = sym (c .before .numbers-row .ensures) ∙ c .if1 .left
 
-mul-if2 : tie.Need-mul-if2
-mul-if2 c = omega (arith, ranges (c .before .before .before .before .args .h) (pass c))
-
 returns-2 : tie.Need-returns-2
 returns-2 c =
     let a = c .before .before .before .before .before .args in
@@ -63,4 +60,7 @@ returns-4 c =
     c .formed-row .ensures ∙ sym (by-formed (a .h) (a .counts .now) (a .clauses .now) (pass (c .before .before .before .before)) (entries-are (c .before .before .before)) (listed (c .before)))
 
 pub rule-row-spec : {M : Type 1} → statement M
-rule-row-spec = tie.close (tie.spec (λ c κs. search needs) returns mul-if2 returns-2 lists-row-requires returns-3 formed-row-requires returns-4)
+rule-row-spec =
+    tie.close (tie.spec
+    (λ c κs. search needs) returns (λ c. omega (arith, ranges (c .before .before .before .before .args .h) (pass c))) returns-2 lists-row-requires
+    returns-3 formed-row-requires returns-4)

@@ -25,5 +25,4 @@ returns-5 c =
 
 pub same-numbers-spec : {M : Type 1} → statement M
 same-numbers-spec =
-    tie.close (tie.spec
-    (λ c. let a = c .before .args in differ-n (a .g) (a .h) (c .if1 .taken)) returns-2 returns-3 returns-4 returns-5)
+    tie.close (tie.spec (λ c. let a = c .before .args in differ-n (a .g) (a .h) (c .if1 .taken)) returns-2 returns-3 returns-4 returns-5)
