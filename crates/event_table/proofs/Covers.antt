@@ -9,10 +9,10 @@ use lib.ListN.{getD}
 use lib.Bits.{bitAnd}
 use lib.Count.{ones, trailingZeros}
 use borrow.Author.Tests.{lt-ltb, le-ltb}
-use Rattle.sets.specs.Tests.{Set, one, someBelow, count}
+use Rattle.sets.specs.Tests.{Set, someBelow, count}
 use Rattle.sets.specs.Masks.{bit, mask}
-use Rattle.sets.proofs.Bools.{bif, clash, and-l, and-r, and-i, not-t}
-use Rattle.sets.proofs.Tests.{some-at, some-get, some-none, count-ext, count-trim, count-more, count-max}
+use Rattle.sets.proofs.Bools.{bif, and-l, and-r, and-i, not-t}
+use Rattle.sets.proofs.Tests.{some-at, some-get, some-none, some-no, count-ext, count-trim, count-more, count-max}
 use Rattle.sets.proofs.Masks.{mask-lt, bit-mask}
 use Rattle.sets.proofs.Bits.{ones-count}
 use Rattle.event_spec.specs.Events.{lineCount, lineByte, holds, covered}
@@ -23,15 +23,13 @@ use Rattle.event_table.proofs.Meets.{meet, least-at, least-out}
 
 -- ---- counting the numbers that fail a test
 
+all-counted : (n : ℕ) → count n (λ j. true) ≡ n
+unfolding count
+all-counted zero = refl
+all-counted (suc n) = omega (arith, all-counted n)
+
 all-left : (n : ℕ) (f : Set) → someBelow n f ≡ false → count n (λ j. not (f j)) ≡ n
-unfolding someBelow count
-all-left zero f e = refl
-all-left (suc n) f e =
-    bif (f n)
-    (λ t. clash (some-at (suc n) f n (omega arith) t) e)
-    (λ t. bif (someBelow n f)
-    (λ s. let r = some-get n f s in clash (some-at (suc n) f (r .0) (omega (arith, r .1)) (r .2)) e)
-    (λ s. let ih = all-left n f s in let z : one (not (f n)) ≡ 1 = rw t in omega arith))
+all-left n f e = count-ext n (λ j. not (f j)) (λ j. true) (λ q l. ap not (some-no n f e q l)) ∙ all-counted n
 
 fewer-left : (n : ℕ) (f : Set) → someBelow n f ≡ true → count n (λ j. not (f j)) < n
 fewer-left n f e =

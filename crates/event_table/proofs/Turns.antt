@@ -23,10 +23,6 @@ use Rattle.event_spec.specs.Events.{lineCount, spans}
 use Rattle.event_table.specs.Masks.{masksOf, leastOf}
 use Rattle.event_table.proofs.Meets.{masks-at}
 
-pub some-next : (k : ℕ) (f : Set) → someBelow k f ≡ false → f k ≡ false → someBelow (k + 1) f ≡ false
-unfolding someBelow
-some-next k f h e = rw (add-one k, h, e)
-
 -- ---- a mask, from number 0 up
 
 pub mask-start : (f : Set) → 0 ≡ mask 0 f

@@ -20,7 +20,7 @@ use Rattle.event_spec.specs.Translation.{hasUnknown}
 use Rattle.event_table.proofs.Ranges.{first-found}
 use Rattle.event_table.specs.Masks.{Masks}
 use Rattle.event_table.proofs.Meets.{meet, none-of, empty-of, least-first}
-use Rattle.event_table.proofs.Turns.{some-next}
+use Rattle.file_spec.proofs.Walks.{some-next}
 
 module _ (t kinds drives log : List ℕ) (m : Masks t kinds drives) (k : ℕ) (lx : kindAt log k < 256) (ly : driveAt log k < 256) where
   -- the lines of event k, as the masks give them

@@ -31,22 +31,6 @@ module _ (r : Rule) where
   unfolding tagged trailerOf
   tagged-body = rw (trailer-body 6, trailer-body 7)
 
-  n-body : trailer (bodyOf r) 0 ≡ r .n
-  unfolding trailerOf
-  n-body = trailer-body 0
-
-  s-body : trailer (bodyOf r) 1 ≡ r .s
-  unfolding trailerOf
-  s-body = trailer-body 1
-
-  initial-body : trailer (bodyOf r) 2 ≡ r .initial
-  unfolding trailerOf
-  initial-body = trailer-body 2
-
-  accepting-body : trailer (bodyOf r) 3 ≡ r .accepting
-  unfolding trailerOf
-  accepting-body = trailer-body 3
-
   clause-count-body : clauseCount (bodyOf r) ≡ length (r .clauses)
   unfolding trailerOf
   clause-count-body =
@@ -54,13 +38,14 @@ module _ (r : Rule) where
       let high : trailer (bodyOf r) 5 ≡ length (r .clauses) / 256 = trailer-body 5 in
       omega arith
 
-  length-body : length (bodyOf r) ≡ length (r .clauses) + length (r .counts) + 8
+  pub length-body : length (bodyOf r) ≡ length (r .clauses) + length (r .counts) + 8
   unfolding bodyOf trailerOf
   length-body = simp length-append (omega arith)
 
   module _ (entries : length (r .counts) ≡ r .n * r .s) where
     entry-count-body : entryCount (bodyOf r) ≡ length (r .counts)
-    entry-count-body = rw (n-body, s-body) (sym entries)
+    unfolding trailerOf
+    entry-count-body = rw (trailer-body 0, trailer-body 1) (sym entries)
 
     clauses-at-body : clausesAt (bodyOf r) ≡ 0
     clauses-at-body = omega (arith, length-body, clause-count-body, entry-count-body)
@@ -79,7 +64,8 @@ module _ (r : Rule) where
         ∙ take-at (r .counts) (trailerOf r) (length (r .counts)) refl
 
     pub rule-body : ruleIn (bodyOf r) ≡ r
-    rule-body = rw (counts-body, clauses-body, n-body, s-body, initial-body, accepting-body)
+    unfolding trailerOf
+    rule-body = rw (counts-body, clauses-body, trailer-body 0, trailer-body 1, trailer-body 2, trailer-body 3)
 
   module _ (pass : Passing r) (apart : someNested r ≡ false) where
     formed-long : 8 ≤ length (bodyOf r)
@@ -114,7 +100,8 @@ module _ (r : Rule) where
 
     module _ (p : List ℕ) where
       letters-after : trailer (p ++ bodyOf r) 1 ≡ r .s
-      letters-after = trailer-after p (bodyOf r) formed-long 1 ∙ s-body
+      unfolding trailerOf
+      letters-after = trailer-after p (bodyOf r) formed-long 1 ∙ trailer-body 1
 
       before-after : partBefore (p ++ bodyOf r) ≡ p
       before-after = part-after p (bodyOf r) formed-long formed-fits ∙ ap (λ (l : List ℕ). p ++ l) part-body ∙ append-nil p

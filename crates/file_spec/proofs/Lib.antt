@@ -7,3 +7,4 @@ pub mod Formed
 pub mod Names
 pub mod Walks
 pub mod Reading
+pub mod Clauses

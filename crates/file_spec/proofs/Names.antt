@@ -166,14 +166,6 @@ pub no-preface : (s : ℕ) → firstRow (prefaceRows s []) ≡ 0
 unfolding firstRow prefaceRows nameRows hasNames namesBefore repeatsName anyOf someBelow
 no-preface s = refl
 
-no-bytes : anyOf [] (outside 0x20 0x7E) ≡ false
-unfolding anyOf
-no-bytes = refl
-
-no-repeats : repeatsName [] ≡ false
-unfolding repeatsName someBelow
-no-repeats = refl
-
 -- ---- the preface that is written
 
 module _ (s : ℕ) where
@@ -184,7 +176,7 @@ module _ (s : ℕ) where
 
   pub written-row : (names : List ℕ) → (length names ≡ 0) ⊎ (length names ≡ 8 * s) → firstRow (prefaceRows s (prefaceFrom names)) ≡ firstRow (nameRows names)
   unfolding prefaceFrom
-  written-row [] e = no-preface s ∙ pass-23 [] no-bytes no-repeats
+  written-row [] e = no-preface s ∙ unfold firstRow nameRows anyOf repeatsName someBelow in refl
   written-row (x ∷ xs) e =
       ⊎-elim (λ z. absurd (omega arith))
       (λ l. past-21 s ((x ∷ xs) ++ namesTag) (with-fit s [] (x ∷ xs) l) ∙ ap (λ (names : List ℕ). firstRow (nameRows names)) (with-before s [] (x ∷ xs) l)) e

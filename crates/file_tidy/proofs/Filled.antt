@@ -14,7 +14,8 @@ use Rattle.rule_tidy.specs.Filled.{filled}
 use Rattle.file_spec.specs.File.{bodyOf}
 use Rattle.file_spec.specs.Names.{prefaceFrom}
 use Rattle.file_write_spec.specs.Written.{fileOf}
-use Rattle.file_tidy_spec.proofs.Laws.{length-tidied, clauses-few, tidied-entries, tidied-clauses}
+use Rattle.file_write_spec.proofs.Laws.{clauses-few}
+use Rattle.file_tidy_spec.proofs.Laws.{length-tidied, tidied-entries, tidied-clauses}
 
 front-of : (front old new : List ℕ) (k : ℕ) → new ≡ filled front old → k ≡ length front → (take k new ≡ front) × (k ≤ length new)
 front-of front old new k e h =

@@ -3,19 +3,15 @@ use Prim.Native.Nat.{ℕ, zero, suc, _+_, _-_, _*_, _≤_, _<_}
 use mathlib.Core.Path.{_≡_, refl, ap, sym, _∙_}
 use mathlib.Core.Logic.{_⊎_, inl, inr, ⊎-elim}
 use mathlib.Core.Bool.{true, false}
-use mathlib.Core.List.{List, [], _∷_, _++_, List·Memᴰ, List·Memᴰ·head, List·Memᴰ·tail}
+use mathlib.Core.List.{List, [], _∷_, _++_, List·Memᴰ}
 use native.Mathlib.Omega.{arith}
 use borrow.Author.Tests.{le-ltb, lt-ltb}
 use lib.ListN.{length, length-append}
-use Rattle.sets.specs.Lists.{sum}
 use Rattle.refusals.specs.Rows.{firstRow}
 use Rattle.sets.proofs.Bools.{bif}
 use Rattle.refusals.proofs.Rows.{numbered, first-left, first-right, first-parts}
 use Rattle.theory.specs.Rule.{Rule}
 use Rattle.theory.specs.Passing.{WellFormed, Passing}
-use Rattle.rule_entries.proofs.Entries.{entries-few, accepting-small}
-use Rattle.rule_entries.specs.declared.Head.{Head}
-use Rattle.rule_entries.specs.Entries.{ruleOf}
 use Rattle.rule_tidy_spec.specs.Tidy.{tidyRule}
 use Rattle.rule_tidy_spec.proofs.Entries.{counts-length, clauses-length}
 use Rattle.file_spec.specs.File.{trailer, partBefore, namesOf, ruleIn, bodyOf, trailerOf}
@@ -24,8 +20,9 @@ use Rattle.file_spec.specs.Rows.{trailerRows, layoutRows, nameRows, prefaceRows
 use Rattle.file_spec.specs.RuleRows.{numberRows, listRows, componentRows}
 use Rattle.file_spec.proofs.Formed.{passing}
 use Rattle.file_spec.proofs.Names.{fit-21, past-21, no-names, names-room, names-long, names-length, written-row}
+use Rattle.file_read.proofs.Layouts.{length-body}
 use Rattle.file_read.proofs.FileRows.{layout-numbered, laid-formed}
-use Rattle.file_write_spec.specs.Written.{InBytes, sliceRows, after}
+use Rattle.file_write_spec.specs.Written.{sliceRows, after}
 use Rattle.file_tidy_spec.specs.declared.Tidied.the-variants.{Length, Refused}
 use Rattle.file_tidy_spec.specs.Tidied.{tidyRows, tidyFile, tidyRow, answer, tidiedOf, sliceTidied}
 
@@ -135,18 +132,9 @@ module _ (s : ℕ) (p : List ℕ) (e : firstRow (prefaceRows s p) ≡ 0) where
 -- ---- sizes
 
 pub length-tidied : (p : List ℕ) (r : Rule) → length (p ++ bodyOf r) ≡ length p + length (r .clauses) + length (r .counts) + 8
-unfolding bodyOf trailerOf
-length-tidied p r = simp length-append (omega arith)
-
-sum-le : (xs : List ℕ) → ((x : ℕ) → List·Memᴰ x xs → x ≤ 8) → sum xs ≤ 8 * length xs
-unfolding sum
-sum-le [] h = omega arith
-sum-le (x ∷ xs) h = let a = h x (List·Memᴰ·head refl) in let b = sum-le xs (λ y m. h y (List·Memᴰ·tail m)) in omega arith
+length-tidied p r = omega (arith, length-append p (bodyOf r), length-body r)
 
 module _ (r : Rule) (w : WellFormed r) where
-  pub clauses-few : length (r .clauses) ≤ 1024
-  clauses-few = omega (arith, sum-le (r .counts) (w .few-clauses), entries-few r w, w .all-clauses)
-
   -- the tidied rule has as many entries and no more clauses
   pub tidied-entries : length (tidyRule r .counts) ≡ length (r .counts)
   unfolding tidyRule
@@ -155,15 +143,6 @@ module _ (r : Rule) (w : WellFormed r) where
   pub tidied-clauses : length (tidyRule r .clauses) ≤ length (r .clauses)
   unfolding tidyRule
   tidied-clauses = omega (arith, clauses-length (r .n) (r .counts) (r .clauses), w .all-clauses)
-
-pub in-bytes : (h : Head) (counts clauses : List ℕ) → WellFormed (ruleOf h counts clauses) → (c : ℕ) → c ≤ 1024 → InBytes h c
-in-bytes h counts clauses w c l = record {
-  n = omega (arith, w .few-states);
-  s = omega (arith, w .few-letters);
-  initial = omega (arith, w .initial-state, w .few-states);
-  accepting = accepting-small (ruleOf h counts clauses) w;
-  count = omega arith;
-}
 
 -- where nothing refuses, the rule's rows but 20 pass
 pub rows-passed : (f : List ℕ) (room : ℕ) → tidyRow f room ≡ 0 → firstRow (tidyRows f) ≡ 0

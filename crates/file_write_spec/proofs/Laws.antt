@@ -4,22 +4,24 @@ use mathlib.Core.Path.{_≡_, refl, ap, ap₂, sym, _∙_}
 use mathlib.Core.Bool.{true, false, not}
 use mathlib.Core.List.{List, [], _∷_, _++_, append-assoc, List·Memᴰ, List·Memᴰ·head, List·Memᴰ·tail}
 use native.Mathlib.Omega.{arith}
-use native.Mathlib.Nat.{lt-of-lt-of-le, mul-le-mul, zero-add}
+use native.Mathlib.Nat.{zero-add}
 use borrow.Author.Tests.{le-ltb, lt-ltb, eq-eqb, ne-eqb, eqb-true, not-false}
 use lib.Dec.{eqb}
-use lib.Pow.{pow-mono}
 use lib.ListN.{length, take, drop, length-append}
 use lib.Seq.{paste, take-paste, drop-paste, drop-drop, take-length}
 use Rattle.sets.specs.Lists.{sum}
 use Rattle.refusals.specs.Rows.{firstRow}
 use Rattle.refusals.proofs.Rows.{numbered, first-left, first-right, first-parts, first-pass}
-use Rattle.theory.specs.Passing.{Passing}
+use Rattle.theory.specs.Rule.{Rule}
+use Rattle.theory.specs.Passing.{WellFormed, Passing}
+use Rattle.rule_entries.proofs.Entries.{entries-few, accepting-small}
 use Rattle.rule_entries.specs.declared.Head.{Head}
 use Rattle.rule_entries.specs.Entries.{ruleOf}
 use Rattle.file_spec.specs.File.{bodyOf, trailerOf}
 use Rattle.file_spec.specs.Names.{namesTag, prefaceFrom}
 use Rattle.file_spec.specs.Rows.{nameRows, givenRows}
 use Rattle.file_spec.specs.RuleRows.{numberRows, listRows, someNested, clauseRows, componentRows, formedRows}
+use Rattle.file_read.proofs.Layouts.{length-body}
 use Rattle.file_spec.proofs.Formed.{formed, formed-passing, formed-apart}
 use Rattle.file_write_spec.specs.declared.Written.the-variants.{Length, Refused}
 use Rattle.file_write_spec.specs.Written.{InBytes, ruleRows, givenRuleRows, sliceRows, fileOf, writeRow, answer, writtenOf, after, sliceAfter}
@@ -60,17 +62,13 @@ pub paste-start : (d x : List ℕ) → paste d 0 x (length x) ≡ after 0 x d
 unfolding after
 paste-start d x = rw (take-length x, zero-add (length x))
 
-pub length-body : (h : Head) (counts clauses : List ℕ) → length (bodyOf (ruleOf h counts clauses)) ≡ length clauses + length counts + 8
-unfolding bodyOf trailerOf
-length-body h counts clauses = simp length-append (omega arith)
-
 pub length-preface : (names : List ℕ) → (length names ≡ 0 → length (prefaceFrom names) ≡ 0) × ((length names ≡ 0 → ⊥) → length (prefaceFrom names) ≡ length names + 2)
 unfolding prefaceFrom
 length-preface [] = (λ e. refl, λ n. absurd (n refl))
 length-preface (x ∷ xs) = (λ e. absurd (omega arith), λ n. length-append (x ∷ xs) namesTag)
 
 pub length-file : (h : Head) (counts clauses names : List ℕ) → length (fileOf h counts clauses names) ≡ length (prefaceFrom names) + length clauses + length counts + 8
-length-file h counts clauses names = omega (arith, length-append (prefaceFrom names) (bodyOf (ruleOf h counts clauses)), length-body h counts clauses)
+length-file h counts clauses names = omega (arith, length-append (prefaceFrom names) (bodyOf (ruleOf h counts clauses)), length-body (ruleOf h counts clauses))
 
 -- ---- the rows of the rule
 
@@ -181,22 +179,21 @@ unfolding sum
 sum-le [] h = omega arith
 sum-le (x ∷ xs) h = let a = h x (List·Memᴰ·head refl) in let b = sum-le xs (λ y m. h y (List·Memᴰ·tail m)) in omega arith
 
+pub clauses-few : (r : Rule) → WellFormed r → length (r .clauses) ≤ 1024
+clauses-few r w = omega (arith, sum-le (r .counts) (w .few-clauses), entries-few r w, w .all-clauses)
+
+pub head-in-bytes : (h : Head) (counts clauses : List ℕ) → WellFormed (ruleOf h counts clauses) → (c : ℕ) → c ≤ 1024 → InBytes h c
+head-in-bytes h counts clauses w c l = record {
+  n = omega (arith, w .few-states);
+  s = omega (arith, w .few-letters);
+  initial = omega (arith, w .initial-state, w .few-states);
+  accepting = accepting-small (ruleOf h counts clauses) w;
+  count = omega arith;
+}
+
 module _ (h : Head) (counts clauses : List ℕ) (e : firstRow (ruleRows h counts clauses) ≡ 0) where
   pub few-counts : length counts ≤ 128
-  few-counts =
-      let w = rule-passing h counts clauses e .formed in
-      let m : h .n * h .s ≤ 128 = mul-le-mul (w .few-states) (w .few-letters) in
-      omega (arith, w .all-entries)
+  few-counts = entries-few (ruleOf h counts clauses) (rule-passing h counts clauses e .formed)
 
   pub in-bytes : InBytes h (length clauses)
-  in-bytes =
-      let w = rule-passing h counts clauses e .formed in
-      let b : h .accepting < 2 ^ 8 = lt-of-lt-of-le (w .accepting-states) (pow-mono (w .few-states)) in
-      let c : sum counts ≤ 8 * length counts = sum-le counts (w .few-clauses) in
-      record {
-        n = omega (arith, w .few-states);
-        s = omega (arith, w .few-letters);
-        initial = omega (arith, w .initial-state, w .few-states);
-        accepting = b;
-        count = omega (arith, c, few-counts, w .all-clauses);
-      }
+  in-bytes = let w = rule-passing h counts clauses e .formed in head-in-bytes h counts clauses w (length clauses) (clauses-few (ruleOf h counts clauses) w)

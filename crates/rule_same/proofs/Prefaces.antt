@@ -2,26 +2,19 @@
 use Prim.Native.Nat.{ℕ, zero, suc}
 use mathlib.Core.Path.{_≡_, refl, ap, ap₂, _∙_}
 use mathlib.Core.List.{List, _++_}
-use mathlib.Core.Logic.{by-cases}
-use native.Mathlib.Decide.{ℕ-discrete}
 use Rattle.theory.specs.Rule.{Rule}
 use Rattle.file_spec.specs.File.{NamedRule, namesOf, ruleIn, namedIn}
 use Rattle.file_spec.specs.Rows.{prefaceRow, fileRow}
 use Rattle.file_read.proofs.Prefaces.{preface-no-effect, accepted-after}
+use Rattle.file_read.proofs.RowAndRule.{plain-alike}
 use Rattle.rule_same.specs.declared.entries.SameRules.{SameRules}
 use Rattle.rule_same.specs.Same.{sameNamed, verdict, answer, sameFiles, sameRulesOf}
 
--- where a row refuses, the rules do not matter
-first-refused : (k j : ℕ) (v w : SameRules) → (k ≡ 0 → ⊥) → answer k j v ≡ answer k j w
+-- where the second row refuses, the rules do not matter
+second-refused : (i k : ℕ) (v w : SameRules) → answer i (suc k) v ≡ answer i (suc k) w
 unfolding answer
-first-refused zero j v w n = absurd (n refl)
-first-refused (suc k) j v w n = refl
-
-second-refused : (i k : ℕ) (v w : SameRules) → (k ≡ 0 → ⊥) → answer i k v ≡ answer i k w
-unfolding answer
-second-refused zero zero v w n = absurd (n refl)
-second-refused zero (suc k) v w n = refl
-second-refused (suc i) k v w n = refl
+second-refused zero k v w = refl
+second-refused (suc i) k v w = refl
 
 abbrev with-names : Rule → List ℕ → NamedRule
 with-names r names = record { rule = r; names = names }
@@ -32,18 +25,13 @@ named-after p f e v n = ap₂ with-names (accepted-after p f e v .1) n
 
 pub same-after-first : (p f g : List ℕ) → (fileRow f ≡ 1 → ⊥) → (fileRow f ≡ 7 → ⊥) → prefaceRow f ≡ 0 → prefaceRow (p ++ f) ≡ 0 → namesOf (p ++ f) ≡ namesOf f
     → sameRulesOf (p ++ f) g ≡ sameRulesOf f g
-unfolding sameRulesOf
+unfolding sameRulesOf answer
 same-after-first p f g n₁ n₇ u v n =
-    ap (λ (k : ℕ). answer k (fileRow g) (sameFiles (p ++ f) g)) (preface-no-effect p f n₁ n₇ u v)
-    ∙ by-cases (ℕ-discrete (fileRow f) 0)
-    (λ e. ap (λ (r : NamedRule). answer (fileRow f) (fileRow g) (verdict (sameNamed r (namedIn g)))) (named-after p f e v n))
-    (λ z. first-refused (fileRow f) (fileRow g) (sameFiles (p ++ f) g) (sameFiles f g) z)
+    plain-alike (λ k r. answer k (fileRow g) (verdict (sameNamed r (namedIn g)))) (λ k r t. refl) (preface-no-effect p f n₁ n₇ u v) (λ e. named-after p f e v n)
 
 pub same-after-second : (p f g : List ℕ) → (fileRow g ≡ 1 → ⊥) → (fileRow g ≡ 7 → ⊥) → prefaceRow g ≡ 0 → prefaceRow (p ++ g) ≡ 0 → namesOf (p ++ g) ≡ namesOf g
     → sameRulesOf f (p ++ g) ≡ sameRulesOf f g
 unfolding sameRulesOf
 same-after-second p f g n₁ n₇ u v n =
-    ap (λ (k : ℕ). answer (fileRow f) k (sameFiles f (p ++ g))) (preface-no-effect p g n₁ n₇ u v)
-    ∙ by-cases (ℕ-discrete (fileRow g) 0)
-    (λ e. ap (λ (r : NamedRule). answer (fileRow f) (fileRow g) (verdict (sameNamed (namedIn f) r))) (named-after p g e v n))
-    (λ z. second-refused (fileRow f) (fileRow g) (sameFiles f (p ++ g)) (sameFiles f g) z)
+    plain-alike (λ k r. answer (fileRow f) k (verdict (sameNamed (namedIn f) r))) (λ k r t. second-refused (fileRow f) k _ _)
+    (preface-no-effect p g n₁ n₇ u v) (λ e. named-after p g e v n)

@@ -25,6 +25,7 @@ use Rattle.file_spec.specs.Rows.{fileRow}
 use Rattle.slice_search.specs.Same.{sameLists}
 use Rattle.slice_search.proofs.Same.{lists-told}
 use Rattle.file_spec.specs.Reading.{readOf}
+use Rattle.file_spec.proofs.Clauses.{met-out, met-in, inside-trans}
 use Rattle.file_read.proofs.Answer.{served}
 use Rattle.rule_same.specs.declared.entries.SameRules.the-variants.{Different, Refused}
 use Rattle.rule_same.specs.Same.{agree, sameEntry, sameEntries, sameRules, sameNamed, verdict, answer, sameFiles, sameBodies, sameRulesOf}
@@ -57,27 +58,11 @@ agree-equal true b e = sym e
 agree-equal false true e = e
 agree-equal false false e = refl
 
-equal-agree : (a b : Bool) → a ≡ b → agree a b ≡ true
+pub equal-agree : (a b : Bool) → a ≡ b → agree a b ≡ true
 equal-agree true b e = sym e
 equal-agree false b e = rw (sym e)
 
--- ---- the clause that a set contains
-
-found : (n : ℕ) (X : Set) (cs : List ℕ) → satisfies n X cs ≡ true → (c : ℕ) × List·Memᴰ c cs × (inside n X c ≡ true)
-unfolding satisfies
-found n X [] e = clash e refl
-found n X (c ∷ cs) e =
-    ⊎-elim (λ t. (c, List·Memᴰ·head refl, t)) (λ t. let r = found n X cs t in (r .0, List·Memᴰ·tail (r .1), r .2)) (or-cases (inside n X c) (satisfies n X cs) e)
-
-given : (n : ℕ) (X : Set) (cs : List ℕ) (c : ℕ) → List·Memᴰ c cs → inside n X c ≡ true → satisfies n X cs ≡ true
-unfolding satisfies
-given n X [] c m e = absurd (List·Memᴰ·not-nil m)
-given n X (d ∷ cs) c m e =
-    ⊎-elim (λ p. or-l (inside n X d) (satisfies n X cs) (ap (inside n X) (sym p) ∙ e)) (λ k. or-r (inside n X d) (satisfies n X cs) (given n X cs c k e)) (List·Memᴰ·cases-cons m)
-
--- a set that contains a clause contains what the clause, as a set, contains
-inside-trans : (n : ℕ) (X : Set) (c d : ℕ) → inside n X c ≡ true → inside n (bit c) d ≡ true → inside n X d ≡ true
-inside-trans n X c d e h = inside-all n X d (λ q l b. inside-at n X c e q l (inside-at n (bit c) d h q l b))
+-- ---- clauses as sets
 
 -- each clause of cs, as a set, satisfies ds
 abbrev pub Each : ℕ → List ℕ → List ℕ → Bool
@@ -86,13 +71,13 @@ Each k cs ds = allOf cs (λ c. satisfies k (bit c) ds)
 -- then each set that satisfies cs satisfies ds
 pub each-satisfies : (n : ℕ) (cs ds : List ℕ) → Each n cs ds ≡ true → (X : Set) → satisfies n X cs ≡ true → satisfies n X ds ≡ true
 each-satisfies n cs ds e X s =
-    let c = found n X cs s in
-    let d = found n (bit (c .0)) ds (all-of-at cs (λ c. satisfies n (bit c) ds) e (c .0) (c .1)) in
-    given n X ds (d .0) (d .1) (inside-trans n X (c .0) (d .0) (c .2) (d .2))
+    let c = met-out n X cs s in
+    let d = met-out n (bit (c .0)) ds (all-of-at cs (λ c. satisfies n (bit c) ds) e (c .0) (c .1)) in
+    met-in n X ds (d .0) (d .1) (inside-trans n X (c .0) (d .0) (c .2) (d .2))
 
 -- a clause satisfies its own entry
 own : (n : ℕ) (cs : List ℕ) (c : ℕ) → List·Memᴰ c cs → satisfies n (bit c) cs ≡ true
-own n cs c m = given n (bit c) cs c m (inside-all n (bit c) c (λ q l b. b))
+own n cs c m = met-in n (bit c) cs c m (inside-all n (bit c) c (λ q l b. b))
 
 module _ (n : ℕ) (cs ds : List ℕ) (small-c : (c : ℕ) → List·Memᴰ c cs → c < 2 ^ n) (small-d : (c : ℕ) → List·Memᴰ c ds → c < 2 ^ n) where
   wide : n ≤ 8 → (xs ys : List ℕ) → ((c : ℕ) → List·Memᴰ c ys → c < 2 ^ n) → Each 8 xs ys ≡ Each n xs ys

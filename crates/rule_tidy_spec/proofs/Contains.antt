@@ -1,4 +1,4 @@
--- Clauses inside one another, and the sets that satisfy an entry.
+-- Clauses inside one another.
 use mathlib.Core.Path.{_≡_, refl, sym, _∙_, ap}
 use mathlib.Core.Logic.{by-cases}
 use mathlib.Core.Bool.{true, false, not}
@@ -10,18 +10,11 @@ use Rattle.sets.specs.Tests.{Set}
 use Rattle.sets.specs.Masks.{bit, inside}
 use Rattle.sets.proofs.Bools.{bif, clash, and-l, and-r, and-i, not-t, iff}
 use Rattle.sets.proofs.Bits.{bit-ext, subset-le}
-use Rattle.sets.specs.Lists.{anyOf}
-use Rattle.sets.proofs.Lists.{any-cons, any-out, any-in}
 use Rattle.sets.proofs.Members.{inside-at, inside-all}
-use Rattle.theory.specs.Rule.{satisfies}
 use Rattle.rule_tidy_spec.specs.Tidy.{contains, properlyContains}
 
 pub contains-refl : (n c : ℕ) → contains n c c ≡ true
 contains-refl n c = inside-all n (bit c) c (λ q l b. b)
-
--- what contains c contains what c contains
-pub inside-trans : (n : ℕ) (X : Set) (c d : ℕ) → inside n X c ≡ true → contains n c d ≡ true → inside n X d ≡ true
-inside-trans n X c d e h = inside-all n X d (λ q l b. inside-at n X c e q l (inside-at n (bit c) d h q l b))
 
 -- clauses over n states that contain each other are equal
 pub contains-antisym : (n c d : ℕ) → c < 2 ^ n → d < 2 ^ n → contains n c d ≡ true → contains n d c ≡ true → c ≡ d
@@ -51,16 +44,3 @@ pub properly-lt : (n c d : ℕ) → d < 2 ^ n → properlyContains n c d ≡ tru
 properly-lt n c d l e =
     let r = properly-out n c d e in let h = subset-le n d c l (inside-at n (bit c) d (r .0)) in
     by-cases (ℕ-discrete d c) (λ x. clash (rw x (contains-refl n c)) (r .1)) (λ x. omega arith)
-
--- ---- the clause that a set contains
-
-satisfies-any : (n : ℕ) (X : Set) (cs : List ℕ) → satisfies n X cs ≡ anyOf cs (inside n X)
-unfolding satisfies anyOf
-satisfies-any n X [] = refl
-satisfies-any n X (c ∷ cs) = rw (satisfies-any n X cs) (sym (any-cons (inside n X) c cs))
-
-pub met-out : (n : ℕ) (X : Set) (cs : List ℕ) → satisfies n X cs ≡ true → (c : ℕ) × List·Memᴰ c cs × (inside n X c ≡ true)
-met-out n X cs e = any-out cs (inside n X) (sym (satisfies-any n X cs) ∙ e)
-
-pub met-in : (n : ℕ) (X : Set) (cs : List ℕ) (c : ℕ) → List·Memᴰ c cs → inside n X c ≡ true → satisfies n X cs ≡ true
-met-in n X cs c m e = satisfies-any n X cs ∙ any-in cs (inside n X) c m e

@@ -14,8 +14,9 @@ use Rattle.sets.specs.Lists.{anyOf, among}
 use Rattle.sets.proofs.Bools.{bif, clash, and-l, and-r, and-i, not-t, not-f, iff}
 use Rattle.sets.proofs.Lists.{any-in, any-out, any-none, none-any, among-in, among-out, among-no, no-among, mem-at}
 use Rattle.theory.specs.Rule.{satisfies}
+use Rattle.file_spec.proofs.Clauses.{met-out, met-in, inside-trans}
 use Rattle.rule_tidy_spec.specs.Tidy.{contains, properlyContains, drops, tidyFrom, tidyEntry, minimal, firstMinimal}
-use Rattle.rule_tidy_spec.proofs.Contains.{contains-refl, inside-trans, contains-antisym, properly-out, not-properly, properly-lt, met-out, met-in}
+use Rattle.rule_tidy_spec.proofs.Contains.{contains-refl, contains-antisym, properly-out, not-properly, properly-lt}
 
 -- ---- one clause more
 

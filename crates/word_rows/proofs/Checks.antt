@@ -12,28 +12,22 @@ use Rattle.sets.specs.Lists.{anyOf}
 use Rattle.refusals.specs.Rows.{Check, firstRow}
 use Rattle.sets.proofs.Bools.{bif, or-fl, or-fr, or-l, or-r}
 use Rattle.sets.proofs.Lists.{any-none, none-any}
-use Rattle.refusals.proofs.Rows.{row-yes, row-no, numbered, first-left, first-right}
+use Rattle.refusals.proofs.Rows.{numbered, first-left, first-right, first-parts, first-pass}
 use Rattle.theory.specs.Word.{WordOver}
 use Rattle.word_rows.specs.Words.{lengthRows, letterRows, lengthRow, wordRows, wordRow}
 
 abbrev over : List ℕ → List ℕ → Bool
 over lead cycle = ltb 32 (length lead) || ltb 32 (length cycle)
 
-abbrev empty-row : List ℕ → Check
-empty-row cycle = record { applies = eqb (length cycle) 0; number = 12 }
-
-abbrev over-row : List ℕ → List ℕ → Check
-over-row lead cycle = record { applies = over lead cycle; number = 13 }
-
 module _ (lead cycle : List ℕ) where
   -- 12
   pub empty-cycle : length cycle ≡ 0 → lengthRow lead cycle ≡ 12
-  unfolding lengthRow lengthRows
-  empty-cycle e = row-yes (empty-row cycle) (over-row lead cycle ∷ []) (eq-eqb (length cycle) 0 e)
+  unfolding lengthRow lengthRows firstRow
+  empty-cycle e = rw (eq-eqb (length cycle) 0 e)
 
   long : 0 < length cycle → over lead cycle ≡ true → lengthRow lead cycle ≡ 13
-  unfolding lengthRow lengthRows
-  long h e = row-no (empty-row cycle) (over-row lead cycle ∷ []) (ne-eqb (length cycle) 0 (λ z. omega arith)) ∙ row-yes (over-row lead cycle) [] e
+  unfolding lengthRow lengthRows firstRow
+  long h e = rw (ne-eqb (length cycle) 0 (λ z. omega arith), e)
 
   -- 13
   pub long-lead : 0 < length cycle → 32 < length lead → lengthRow lead cycle ≡ 13
@@ -42,13 +36,9 @@ module _ (lead cycle : List ℕ) where
   pub long-cycle : 0 < length cycle → 32 < length cycle → lengthRow lead cycle ≡ 13
   long-cycle h l = long h (or-r (ltb 32 (length lead)) (ltb 32 (length cycle)) (lt-ltb 32 (length cycle) l))
 
-  short : length lead ≤ 32 → length cycle ≤ 32 → over lead cycle ≡ false
-  short a b = rw (le-ltb 32 (length lead) a, le-ltb 32 (length cycle) b)
-
   pub no-length-row : 0 < length cycle → length lead ≤ 32 → length cycle ≤ 32 → lengthRow lead cycle ≡ 0
   unfolding lengthRow lengthRows firstRow
-  no-length-row h a b =
-      row-no (empty-row cycle) (over-row lead cycle ∷ []) (ne-eqb (length cycle) 0 (λ z. omega arith)) ∙ row-no (over-row lead cycle) [] (short a b)
+  no-length-row h a b = rw (ne-eqb (length cycle) 0 (λ z. omega arith), le-ltb 32 (length lead) a, le-ltb 32 (length cycle) b)
 
   -- a word that rows 12 and 13 let pass
   pub record Short : Type 0 where
@@ -57,18 +47,15 @@ module _ (lead cycle : List ℕ) where
     pub cycle-short : length cycle ≤ 32
 
   pub short-of : lengthRow lead cycle ≡ 0 → Short
+  unfolding lengthRow lengthRows
   short-of e =
-      bif (eqb (length cycle) 0)
-      (λ t. let x : 12 ≡ 0 = sym (empty-cycle (eqb-true (length cycle) 0 t)) ∙ e in absurd (omega arith))
-      (λ t. let n = eqb-false (length cycle) 0 t in
-      let pos : 0 < length cycle = omega arith in
-      bif (over lead cycle)
-      (λ o. let x : 13 ≡ 0 = sym (long pos o) ∙ e in absurd (omega arith))
-      (λ o. record {
-        repeats = pos;
-        lead-short = ltb-false 32 (length lead) (or-fl (ltb 32 (length lead)) (ltb 32 (length cycle)) o);
-        cycle-short = ltb-false 32 (length cycle) (or-fr (ltb 32 (length lead)) (ltb 32 (length cycle)) o);
-      }))
+      let r₁₂ = first-pass (eqb (length cycle) 0) 11 _ e in
+      let r₁₃ = first-pass (over lead cycle) 12 [] (r₁₂ .1) in
+      record {
+        repeats = let n = eqb-false (length cycle) 0 (r₁₂ .0) in omega arith;
+        lead-short = ltb-false 32 (length lead) (or-fl (ltb 32 (length lead)) (ltb 32 (length cycle)) (r₁₃ .0));
+        cycle-short = ltb-false 32 (length cycle) (or-fr (ltb 32 (length lead)) (ltb 32 (length cycle)) (r₁₃ .0));
+      }
 
 -- rows 12 and 13 have numbers
 pub lengths-numbered : (lead cycle : List ℕ) → numbered (lengthRows lead cycle) ≡ true
@@ -109,21 +96,16 @@ module _ (s : ℕ) (lead cycle : List ℕ) where
     pub lengths : Short lead cycle
     pub over-letters : WordOver s lead cycle
 
-  passed : (k : ℕ) → lengthRow lead cycle ≡ k → wordRow s lead cycle ≡ 0 → k ≡ 0
-  passed zero f e = refl
-  passed (suc k) f e = let x : suc k ≡ 0 = sym (word-lengths (suc k) (omega arith) f) ∙ e in omega arith
-
   pub passing-of : wordRow s lead cycle ≡ 0 → PassingWord
+  unfolding wordRow wordRows lengthRow letterRows
   passing-of e =
-      let none : lengthRow lead cycle ≡ 0 = passed (lengthRow lead cycle) refl e in
-      bif (anyOf lead (λ a. leb s a))
-      (λ t. let x : 14 ≡ 0 = sym (lead-letter none t) ∙ e in absurd (omega arith))
-      (λ t. bif (anyOf cycle (λ a. leb s a))
-      (λ v. let x : 14 ≡ 0 = sym (cycle-letter none v) ∙ e in absurd (omega arith))
-      (λ v. record {
-        lengths = short-of lead cycle none;
-        over-letters = record { repeats = short-of lead cycle none .repeats; lead-letters = all-below lead t; cycle-letters = all-below cycle v };
-      }))
+      let r = first-parts (lengthRows lead cycle) _ (lengths-numbered lead cycle) e in
+      let l = short-of lead cycle (r .0) in
+      let low = first-pass (anyOf lead (λ a. leb s a) || anyOf cycle (λ a. leb s a)) 13 [] (r .1) .0 in
+      record {
+        lengths = l;
+        over-letters = record { repeats = l .repeats; lead-letters = all-below lead (or-fl _ (anyOf cycle (λ a. leb s a)) low); cycle-letters = all-below cycle (or-fr (anyOf lead (λ a. leb s a)) _ low) };
+      }
 
   -- a word that passes is a word over s letters with at most 32 letters in lead-in and cycle, and conversely
   pub passing-iff : (wordRow s lead cycle ≡ 0) ↔ PassingWord

@@ -7,7 +7,7 @@ use Rattle.sets.specs.Tests.{someBelow}
 use Rattle.event_spec.specs.Events.{lineCount}
 use Rattle.event_spec.specs.Translation.{faulty}
 use Rattle.event_table.proofs.Faults.{table-ragged, table-long, table-line, table-sound}
-use Rattle.event_table.proofs.Turns.{some-next}
+use Rattle.file_spec.proofs.Walks.{some-next}
 use Rattle.event_table.proofs.is_faulty_table.Statement.{statement}
 use Rattle.event_table.proofs.is_faulty_table.Tie as tie
 

@@ -14,7 +14,8 @@ use Rattle.file_spec.specs.Names.{prefaceFrom}
 use Rattle.file_write.proofs.Names.{preface-most}
 use Rattle.file_write_spec.specs.Written.{after}
 use Rattle.file_tidy_spec.specs.declared.Tidied.the-variants.{Length}
-use Rattle.file_tidy_spec.proofs.Laws.{clauses-few, in-bytes, short, enough}
+use Rattle.file_write_spec.proofs.Laws.{clauses-few, head-in-bytes}
+use Rattle.file_tidy_spec.proofs.Laws.{short, enough}
 use Rattle.file_tidy.proofs.Filled.{Fronts, fronts}
 use Rattle.file_tidy.proofs.write_tidied.Statement.{statement}
 use Rattle.file_tidy.proofs.write_tidied.Tie as tie
@@ -73,7 +74,7 @@ fill-requires c κs =
     let t = at-tidy-rule .tidy-rule in
     let x = length-take-le (t .result) (t .last .1 .1 .1 .1 .0) (k .clauses-room) in
     let y = length-take-le (length (a .counts .now)) (t .last .1 .1 .1 .0) (k .counts-room) in (
-      in-bytes (a .h) (a .counts .now) (a .clauses .now) (start .pre .0) _ (omega (arith, x, k .few-clauses)),
+      head-in-bytes (a .h) (a .counts .now) (a .clauses .now) (start .pre .0) _ (omega (arith, x, k .few-clauses)),
       c .before .before .before .before .preface-length .ensures,
       omega (arith, x, y, c .before .before .before .if1 .left),
     )

@@ -6,7 +6,7 @@ use lib.ListN.{length}
 use Rattle.rule_entries.specs.Entries.{ruleOf}
 use Rattle.file_spec.specs.File.{bodyOf}
 use Rattle.file_spec.specs.Names.{prefaceFrom}
-use Rattle.file_write_spec.proofs.Laws.{length-body}
+use Rattle.file_read.proofs.Layouts.{length-body}
 use Rattle.file_write.proofs.Names.{fill-both}
 use Rattle.file_write.proofs.layout.fill.Statement.{statement}
 use Rattle.file_write.proofs.layout.fill.Tie as tie
@@ -18,7 +18,7 @@ returns c =
     let f = bodyOf (ruleOf (a .h) (a .counts .now) (a .clauses .now)) in
     c .before .before .fill-rule .ensures
     ∙ rw (c .before .before .before .before .before .before .fill-names .ensures)
-    (fill-both (a .out .now) (prefaceFrom (a .names .now)) f (a .at) (p .1) (omega (arith, p .2, length-body (a .h) (a .counts .now) (a .clauses .now))))
+    (fill-both (a .out .now) (prefaceFrom (a .names .now)) f (a .at) (p .1) (omega (arith, p .2, length-body (ruleOf (a .h) (a .counts .now) (a .clauses .now)))))
 
 pub fill-spec : {M : Type 1} → statement M
 fill-spec = tie.close (tie.spec (λ c κs. search needs) (λ c κs. search needs) (λ c. search needs) returns)
