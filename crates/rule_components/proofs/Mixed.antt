@@ -32,9 +32,7 @@ low : (m q : ℕ) → bitAnd (m / 2 ^ q) 1 ≡ one (bit m q)
 unfolding bit
 low m q =
     let e : bitAnd (m / 2 ^ q) 1 ≡ m / 2 ^ q % 2 = and-mask (m / 2 ^ q) 1 in
-    by-cases (ℕ-discrete (m / 2 ^ q % 2) 1)
-    (λ h. rw (eq-eqb (m / 2 ^ q % 2) 1 h) (e ∙ h))
-    (λ h. let z : m / 2 ^ q % 2 ≡ 0 = omega arith in rw z (e ∙ z))
+    by-cases (ℕ-discrete (m / 2 ^ q % 2) 1) (λ h. rw (eq-eqb _ _ h) (e ∙ h)) (λ h. let z : m / 2 ^ q % 2 ≡ 0 = omega arith in rw z (e ∙ z))
 
 -- the bits of a pair of states, as the code joins them
 pub both-bits : (x y p q : ℕ) → bitAnd (bitAnd (x / 2 ^ p) (y / 2 ^ q)) 1 ≡ one (bit x p && bit y q)
@@ -101,9 +99,7 @@ module _ (R : Rule) (few : R .n ≤ 8) (acc : ℕ) (same : acc ≡ R .accepting)
       let b = member q z (and-l (bit (class q) z) (not (bit acc z)) v) in
       let c : bit (R .accepting) y ≡ true = rw (sym same) (and-r (bit (class q) y) (bit acc y) u) in
       let d : not (bit (R .accepting) z) ≡ true = rw (sym same) (and-r (bit (class q) z) (not (bit acc z)) v) in
-      some-at (R .n) (λ q. someBelow (R .n) (λ p. together R q p && (bit (R .accepting) q && not (bit (R .accepting) p)))) y (a .0)
-      (some-at (R .n) (λ p. together R y p && (bit (R .accepting) y && not (bit (R .accepting) p))) z (b .0)
-      (and-i (together-trans R y q z (a .0) l (b .0) (together-sym R q y (a .1)) (b .1)) (and-i c d)))
+      some-at _ _ y (a .0) (some-at _ _ z (b .0) (and-i (together-trans R y q z (a .0) l (b .0) (together-sym R q y (a .1)) (b .1)) (and-i c d)))
 
   there : (q p : ℕ) → q < R .n → p < R .n → (together R q p && (bit (R .accepting) q && not (bit (R .accepting) p))) ≡ true → someBelow (R .n) both ≡ true
   there q p l m e =
@@ -166,5 +162,4 @@ both-next reach n acc q k b h e u v =
 pub both-here : (R : Rule) → R .n ≤ 8 → (acc : ℕ) → acc ≡ R .accepting → (q k : ℕ) (b : Bool) → q < R .n → k ≡ classBy (closuresOf R) (R .n) q
     → b ≡ (someBelow 8 (accepted k acc) && someBelow 8 (rejected k acc)) → b ≡ true → mixed R ≡ true
 both-here R few acc same q k b l e u v =
-    sym (mixed-by R few acc same)
-    ∙ some-at (R .n) (bothBy (closuresOf R) (R .n) acc) q l (ap (λ (x : ℕ). someBelow 8 (accepted x acc) && someBelow 8 (rejected x acc)) (sym e) ∙ sym u ∙ v)
+    sym (mixed-by R few acc same) ∙ some-at _ _ q l (ap (λ (x : ℕ). someBelow 8 (accepted x acc) && someBelow 8 (rejected x acc)) (sym e) ∙ sym u ∙ v)

@@ -46,8 +46,7 @@ module _ (es : List ℕ) (found u : ℕ) (e : u ≡ unionOver es (members found)
   -- nothing new: found is closed
   pub round-closed : bitOr found u ≡ found → Closed es (bit found)
   round-closed k p t l m x y =
-      sym (ap (λ (z : ℕ). bit z t) k) ∙ bit-or found u t
-      ∙ or-r (bit found t) (bit u t) (added t ∙ any-in (members found) (λ p. bit (getD es p 0) t) p (members-in found p l x) y)
+      sym (ap (λ (z : ℕ). bit z t) k) ∙ bit-or found u t ∙ or-r (bit found t) (bit u t) (added t ∙ any-in _ _ _ (members-in found p l x) y)
 
   -- a closed set that holds found holds the round too
   pub round-least : (X : Set) → Closed es X → ((t : ℕ) → t < 8 → bit found t ≡ true → X t ≡ true) → (t : ℕ) → t < 8 → bit (bitOr found u) t ≡ true → X t ≡ true

@@ -23,26 +23,14 @@ loop-holds c = (omega arith, refl)
 
 returns : tie.Need-returns Inv-loop μ-loop
 unfolding someNested
-returns c =
-    let start = c .before .before .before .before .before .before .before in let a = start .args in
-    let l = c .before .before .before .before .loop in
-    some-stop (a .h .n) (λ p. someBelow (a .h .s) (λ b. nested (a .h .n) (entry (ruleOf (a .h) (a .counts .now) (a .clauses .now)) p b))) (l .q) (c .before .before .if1 .taken)
-    (sym (c .before .nested-state .ensures) ∙ c .if2 .taken)
+returns c = some-stop _ _ (c .before .before .before .before .loop .q) (c .before .before .if1 .taken) (sym (c .before .nested-state .ensures) ∙ c .if2 .taken)
 
 loop-again : tie.Need-loop-again Inv-loop μ-loop
-loop-again c =
-    let start = c .before .before .before .before .before .before .before in let a = start .args in
-    let l = c .before .before .before .before .loop in (
-      omega arith,
-      some-next (l .q) (λ p. someBelow (a .h .s) (λ b. nested (a .h .n) (entry (ruleOf (a .h) (a .counts .now) (a .clauses .now)) p b))) (l .inv .1)
-          (sym (c .before .nested-state .ensures) ∙ c .if2 .left),
-    )
+loop-again c = (omega arith, some-next _ _ (c .before .before .before .before .loop .inv .1) (sym (c .before .nested-state .ensures) ∙ c .if2 .left))
 
 returns-2 : tie.Need-returns-2 Inv-loop μ-loop
 unfolding someNested
-returns-2 c =
-    let a = c .before .before .before .before .before .args in let l = c .before .before .loop in
-    some-end (l .q) (a .h .n) (λ p. someBelow (a .h .s) (λ b. nested (a .h .n) (entry (ruleOf (a .h) (a .counts .now) (a .clauses .now)) p b))) (omega arith) (l .inv .1)
+returns-2 c = some-end (c .before .before .loop .q) _ _ (omega arith) (c .before .before .loop .inv .1)
 
 pub any-nested-spec : {M : Type 1} → statement M
 any-nested-spec =

@@ -21,19 +21,13 @@ unfolding someBelow
 loop-holds c = (omega arith, refl)
 
 returns : tie.Need-returns Inv-loop μ-loop
-returns c =
-    let a = c .before .before .before .before .before .args in let l = c .before .before .before .loop in
-    some-stop (length (a .clauses .now)) (λ k. containsAt 8 (a .clauses .now) (a .i) k) (l .j) (omega arith) (sym (c .before .contains-at .ensures) ∙ c .if1 .taken)
+returns c = some-stop _ _ (c .before .before .before .loop .j) (omega arith) (sym (c .before .contains-at .ensures) ∙ c .if1 .taken)
 
 loop-again : tie.Need-loop-again Inv-loop μ-loop
-loop-again c =
-    let a = c .before .before .before .before .before .args in let l = c .before .before .before .loop in
-    (omega arith, some-next (l .j) (λ k. containsAt 8 (a .clauses .now) (a .i) k) (l .inv .1) (sym (c .before .contains-at .ensures) ∙ c .if1 .left))
+loop-again c = (omega arith, some-next _ _ (c .before .before .before .loop .inv .1) (sym (c .before .contains-at .ensures) ∙ c .if1 .left))
 
 returns-2 : tie.Need-returns-2 Inv-loop μ-loop
-returns-2 c =
-    let a = c .before .before .before .args in let l = c .before .loop in
-    some-end (l .j) (length (a .clauses .now)) (λ k. containsAt 8 (a .clauses .now) (a .i) k) (omega arith) (l .inv .1)
+returns-2 c = some-end (c .before .loop .j) _ _ (omega arith) (c .before .loop .inv .1)
 
 pub contains-another-spec : {M : Type 1} → statement M
 contains-another-spec =

@@ -22,21 +22,14 @@ loop-holds c = (omega arith, refl)
 
 returns : tie.Need-returns Inv-loop μ-loop
 unfolding nested
-returns c =
-    let a = c .before .before .before .before .before .args in let l = c .before .before .before .loop in
-    some-stop (length (a .clauses .now)) (λ k. someBelow (length (a .clauses .now)) (λ j. containsAt 8 (a .clauses .now) k j)) (l .i) (omega arith)
-    (sym (c .before .contains-another .ensures) ∙ c .if1 .taken)
+returns c = some-stop _ _ (c .before .before .before .loop .i) (omega arith) (sym (c .before .contains-another .ensures) ∙ c .if1 .taken)
 
 loop-again : tie.Need-loop-again Inv-loop μ-loop
-loop-again c =
-    let a = c .before .before .before .before .before .args in let l = c .before .before .before .loop in
-    (omega arith, some-next (l .i) (λ k. someBelow (length (a .clauses .now)) (λ j. containsAt 8 (a .clauses .now) k j)) (l .inv .1) (sym (c .before .contains-another .ensures) ∙ c .if1 .left))
+loop-again c = (omega arith, some-next _ _ (c .before .before .before .loop .inv .1) (sym (c .before .contains-another .ensures) ∙ c .if1 .left))
 
 returns-2 : tie.Need-returns-2 Inv-loop μ-loop
 unfolding nested
-returns-2 c =
-    let a = c .before .before .before .args in let l = c .before .loop in
-    some-end (l .i) (length (a .clauses .now)) (λ k. someBelow (length (a .clauses .now)) (λ j. containsAt 8 (a .clauses .now) k j)) (omega arith) (l .inv .1)
+returns-2 c = some-end (c .before .loop .i) _ _ (omega arith) (c .before .loop .inv .1)
 
 pub is-nested-spec : {M : Type 1} → statement M
 is-nested-spec = tie.close (tie.spec Inv-loop μ-loop loop-holds (λ c κs. omega arith) returns (λ c. omega arith) (λ c. omega arith) loop-again returns-2)

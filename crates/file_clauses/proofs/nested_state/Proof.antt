@@ -40,22 +40,13 @@ told c =
     c .is-nested .ensures ∙ ap (nested 8) (c .before .entry-of .ensures) ∙ nested-entry r (p .0) (a .q) k (p .1) (c .before .before .if1 .taken)
 
 returns : tie.Need-returns Inv-loop μ-loop
-returns c =
-    let start = c .before .before .before .before .before .before .before .before in let a = start .args in
-    let l = c .before .before .before .before .before .loop in
-    some-stop (a .h .s) (λ b. nested (a .h .n) (entry (ruleOf (a .h) (a .counts .now) (a .clauses .now)) (a .q) b)) (l .a) (c .before .before .before .if1 .taken)
-    (sym (told (c .before)) ∙ c .if2 .taken)
+returns c = some-stop _ _ (c .before .before .before .before .before .loop .a) (c .before .before .before .if1 .taken) (sym (told (c .before)) ∙ c .if2 .taken)
 
 loop-again : tie.Need-loop-again Inv-loop μ-loop
-loop-again c =
-    let start = c .before .before .before .before .before .before .before .before in let a = start .args in
-    let l = c .before .before .before .before .before .loop in
-    (omega arith, some-next (l .a) (λ b. nested (a .h .n) (entry (ruleOf (a .h) (a .counts .now) (a .clauses .now)) (a .q) b)) (l .inv .1) (sym (told (c .before)) ∙ c .if2 .left))
+loop-again c = (omega arith, some-next _ _ (c .before .before .before .before .before .loop .inv .1) (sym (told (c .before)) ∙ c .if2 .left))
 
 returns-2 : tie.Need-returns-2 Inv-loop μ-loop
-returns-2 c =
-    let a = c .before .before .before .before .before .args in let l = c .before .before .loop in
-    some-end (l .a) (a .h .s) (λ b. nested (a .h .n) (entry (ruleOf (a .h) (a .counts .now) (a .clauses .now)) (a .q) b)) (omega arith) (l .inv .1)
+returns-2 c = some-end (c .before .before .loop .a) _ _ (omega arith) (c .before .before .loop .inv .1)
 
 pub nested-state-spec : {M : Type 1} → statement M
 nested-state-spec =

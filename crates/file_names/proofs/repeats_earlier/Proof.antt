@@ -20,19 +20,13 @@ unfolding someBelow
 loop-holds c = (omega arith, refl)
 
 returns : tie.Need-returns Inv-loop μ-loop
-returns c =
-    let a = c .before .before .before .before .before .args in let l = c .before .before .before .loop in
-    some-stop (a .b) (λ k. sameName (a .names .now) k (a .b)) (l .a) (omega arith) (sym (c .before .same-name .ensures) ∙ c .if1 .taken)
+returns c = some-stop _ _ (c .before .before .before .loop .a) (omega arith) (sym (c .before .same-name .ensures) ∙ c .if1 .taken)
 
 loop-again : tie.Need-loop-again Inv-loop μ-loop
-loop-again c =
-    let a = c .before .before .before .before .before .args in let l = c .before .before .before .loop in
-    (omega arith, some-next (l .a) (λ k. sameName (a .names .now) k (a .b)) (l .inv .1) (sym (c .before .same-name .ensures) ∙ c .if1 .left))
+loop-again c = (omega arith, some-next _ _ (c .before .before .before .loop .inv .1) (sym (c .before .same-name .ensures) ∙ c .if1 .left))
 
 returns-2 : tie.Need-returns-2 Inv-loop μ-loop
-returns-2 c =
-    let a = c .before .before .before .args in let l = c .before .loop in
-    some-end (l .a) (a .b) (λ k. sameName (a .names .now) k (a .b)) (omega arith) (l .inv .1)
+returns-2 c = some-end (c .before .loop .a) _ _ (omega arith) (c .before .loop .inv .1)
 
 pub repeats-earlier-spec : {M : Type 1} → statement M
 repeats-earlier-spec =

@@ -22,20 +22,14 @@ loop-holds c = (omega arith, refl)
 
 returns : tie.Need-returns Inv-loop μ-loop
 unfolding repeatsName
-returns c =
-    let a = c .before .before .before .before .before .args in let l = c .before .before .before .loop in
-    some-stop (length (a .names .now) / 8) (λ k. someBelow k (λ b. sameName (a .names .now) b k)) (l .b) (omega arith) (sym (c .before .repeats-earlier .ensures) ∙ c .if1 .taken)
+returns c = some-stop _ _ (c .before .before .before .loop .b) (omega arith) (sym (c .before .repeats-earlier .ensures) ∙ c .if1 .taken)
 
 loop-again : tie.Need-loop-again Inv-loop μ-loop
-loop-again c =
-    let a = c .before .before .before .before .before .args in let l = c .before .before .before .loop in
-    (omega arith, some-next (l .b) (λ k. someBelow k (λ b. sameName (a .names .now) b k)) (l .inv .1) (sym (c .before .repeats-earlier .ensures) ∙ c .if1 .left))
+loop-again c = (omega arith, some-next _ _ (c .before .before .before .loop .inv .1) (sym (c .before .repeats-earlier .ensures) ∙ c .if1 .left))
 
 returns-2 : tie.Need-returns-2 Inv-loop μ-loop
 unfolding repeatsName
-returns-2 c =
-    let a = c .before .before .before .args in let l = c .before .loop in
-    some-end (l .b) (length (a .names .now) / 8) (λ k. someBelow k (λ b. sameName (a .names .now) b k)) (omega arith) (l .inv .1)
+returns-2 c = some-end (c .before .loop .b) _ _ (omega arith) (c .before .loop .inv .1)
 
 pub repeats-name-spec : {M : Type 1} → statement M
 repeats-name-spec = tie.close (tie.spec Inv-loop μ-loop loop-holds (λ c κs. omega arith) returns (λ c. omega arith) (λ c. omega arith) loop-again returns-2)

@@ -22,14 +22,10 @@ unfolding every
 loop-holds c = (omega arith, refl)
 
 returns : tie.Need-returns Inv-loop μ-loop
-returns c =
-    let a = c .before .before .before .before .before .args in let l = c .before .before .before .before .loop in
-    sym (every-stop 8 (λ k. eqb (getD (a .names .now) (8 * a .a + k) 0) (getD (a .names .now) (8 * a .b + k) 0)) (l .i) (omega arith) (ne-eqb _ _ (c .if1 .taken)))
+returns c = sym (every-stop 8 _ (c .before .before .before .before .loop .i) (omega arith) (ne-eqb _ _ (c .if1 .taken)))
 
 loop-again : tie.Need-loop-again Inv-loop μ-loop
-loop-again c =
-    let a = c .before .before .before .before .before .args in let l = c .before .before .before .before .loop in
-    (omega arith, every-next (l .i) (λ k. eqb (getD (a .names .now) (8 * a .a + k) 0) (getD (a .names .now) (8 * a .b + k) 0)) (l .inv .1) (eq-eqb _ _ (c .if1 .left)))
+loop-again c = (omega arith, every-next _ _ (c .before .before .before .before .loop .inv .1) (eq-eqb _ _ (c .if1 .left)))
 
 returns-2 : tie.Need-returns-2 Inv-loop μ-loop
 returns-2 c =
