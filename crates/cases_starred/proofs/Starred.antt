@@ -59,8 +59,7 @@ starred-passes = refl
 claims : (cs : List Case) → allPass cs ≡ true → (c : Case) → List·Memᴰ c cs → Claim c
 unfolding allPass
 claims [] e c m = absurd (List·Memᴰ·not-nil m)
-claims (d ∷ cs) e c m =
-    ⊎-elim (λ h. rw h (claim d (and-l _ (allPass cs) e))) (λ h. claims cs (and-r (casePasses d) _ e) c h) (List·Memᴰ·cases-cons m)
+claims (d ∷ cs) e c m = ⊎-elim (λ h. rw h (claim d (and-l _ (allPass cs) e))) (λ h. claims cs (and-r (casePasses d) _ e) c h) (List·Memᴰ·cases-cons m)
 
 -- every starred case meets the claim
 pub starred-claims : (c : Case) → List·Memᴰ c starred → Claim c

@@ -87,8 +87,7 @@ module _ (t kinds drives : List ℕ) (bytes : (i : ℕ) → getD t i 0 < 256) (m
   firsts-count =
       ones-count 64 (firstsOf kinds drives) (mask-lt 64 isFirst)
       ∙ count-ext 64 (bit (firstsOf kinds drives)) isFirst (λ q l. bit-mask 64 isFirst q l)
-      ∙ count-trim 64 (lineCount t) isFirst (m .lines) none-out
-      ∙ count-ext (lineCount t) isFirst (λ j. not (covered t j)) first-uncovered
+      ∙ count-trim 64 (lineCount t) isFirst (m .lines) none-out ∙ count-ext (lineCount t) isFirst (λ j. not (covered t j)) first-uncovered
 
   -- a line is covered exactly if fewer lines are first for some event than there are lines
   pub covered-is : ltb (ones (firstsOf kinds drives)) (lineCount t) ≡ hasCovered t

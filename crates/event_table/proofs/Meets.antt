@@ -53,8 +53,7 @@ module _ (n : ℕ) (f : Set) where
     least-first e =
         let r = first-found n f e in
         let l = r .0 in
-        least-is 64 (mask n f)
-        ∙ first-is 64 (bit (mask n f)) (first n f 0) (omega arith) (bit-mask n f (first n f 0) l ∙ r .1)
+        least-is 64 (mask n f) ∙ first-is 64 (bit (mask n f)) (first n f 0) (omega arith) (bit-mask n f (first n f 0) l ∙ r .1)
         (some-ext (first n f 0) (bit (mask n f)) f (λ q k. bit-mask n f q (omega arith)) ∙ none-before n f)
 
     least-none : someBelow n f ≡ false → trailingZeros 64 (mask n f) ≡ 64

@@ -27,8 +27,7 @@ module _ (s : ℕ) (p : List ℕ) (fit : cutOff s p ≡ false) where
       let room = names-room s p h fit in
       let long = names-long s p h in
       ap (λ (n : ℕ). take n (drop (length p - 2 - n) (p ++ q))) (names-length s p h fit)
-      ∙ ap (take (8 * s)) (drop-append-le k p q (omega arith))
-      ∙ take-append-le (8 * s) (drop k p) q (omega (arith, length-drop k p))
+      ∙ ap (take (8 * s)) (drop-append-le k p q (omega arith)) ∙ take-append-le (8 * s) (drop k p) q (omega (arith, length-drop k p))
       ∙ sym (names-there s p h))
       (λ h. rw (no-names s p h))
 

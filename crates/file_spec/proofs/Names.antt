@@ -111,8 +111,7 @@ module _ (s : ℕ) (p : List ℕ) where
       let i₁ : length p - 2 + 1 ≡ length p - 1 = omega arith in
       let d₁ : drop (length p - 1) p ≡ getD p (length p - 1) 0 ∷ drop (length p - 1 + 1) p = drop-next p (length p - 1) (omega arith) in
       let d₂ : drop (length p - 1 + 1) p ≡ [] = drop-of-length-le p {i = length p - 1 + 1} (omega arith) in
-      drop-next p (length p - 2) (omega arith)
-      ∙ ap₂ (λ (x i : ℕ). x ∷ drop i p) t₀ i₁
+      drop-next p (length p - 2) (omega arith) ∙ ap₂ (λ (x i : ℕ). x ∷ drop i p) t₀ i₁
       ∙ ap (λ (l : List ℕ). 0x4E ∷ l) (d₁ ∙ ap₂ (λ (x : ℕ) (l : List ℕ). x ∷ l) t₁ d₂)
 
   pub names-split : hasNames p ≡ true → cutOff ≡ false → p ≡ take (length p - 2 - 8 * s) p ++ (namesBefore s p ++ namesTag)
@@ -122,8 +121,7 @@ module _ (s : ℕ) (p : List ℕ) where
       let i : k + 8 * s ≡ length p - 2 = omega arith in
       let t : drop (8 * s) (drop k p) ≡ namesTag = drop-drop (8 * s) k p ∙ ap (λ (j : ℕ). drop j p) i ∙ tag-ends h in
       sym (ap (λ (l : List ℕ). take k p ++ l)
-      (ap₂ (λ (l m : List ℕ). l ++ m) (names-there h) (sym t) ∙ take-append-drop (8 * s) (drop k p))
-      ∙ take-append-drop k p)
+      (ap₂ (λ (l m : List ℕ). l ++ m) (names-there h) (sym t) ∙ take-append-drop (8 * s) (drop k p)) ∙ take-append-drop k p)
 
   pub names-length : hasNames p ≡ true → cutOff ≡ false → length (namesBefore s p) ≡ 8 * s
   names-length h e = let room = names-room h e in let l = names-long h in
@@ -156,10 +154,8 @@ module _ (s : ℕ) (q names : List ℕ) (l : length names ≡ 8 * s) where
   pub with-before : namesBefore s withNames ≡ names
   with-before =
       let i : length withNames - 2 - 8 * s ≡ length q + 0 = omega (arith, with-length) in
-      names-there s withNames with-names
-      ∙ ap (λ (k : ℕ). take (8 * s) (drop k withNames)) i
-      ∙ ap (take (8 * s)) (drop-append-add q (names ++ namesTag) 0)
-      ∙ take-at names namesTag (8 * s) l
+      names-there s withNames with-names ∙ ap (λ (k : ℕ). take (8 * s) (drop k withNames)) i
+      ∙ ap (take (8 * s)) (drop-append-add q (names ++ namesTag) 0) ∙ take-at names namesTag (8 * s) l
 
 -- a preface of no byte has no names
 pub no-preface : (s : ℕ) → firstRow (prefaceRows s []) ≡ 0

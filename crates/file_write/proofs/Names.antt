@@ -30,8 +30,7 @@ fill-some d (x ∷ xs) n l =
 -- a part at the start of a slice, and another after it
 pub fill-both : (d p f : List ℕ) (at : ℕ) → at ≡ length p → at + length f ≤ length d → paste (paste d 0 p (length p)) at f (length f) ≡ after 0 (p ++ f) d
 fill-both d p f at e l =
-    ap (λ (k : ℕ). paste (paste d 0 p (length p)) k f (length f)) (e ∙ sym (zero-add (length p)))
-    ∙ paste-two d 0 p f (omega arith)
+    ap (λ (k : ℕ). paste (paste d 0 p (length p)) k f (length f)) (e ∙ sym (zero-add (length p))) ∙ paste-two d 0 p f (omega arith)
     ∙ paste-start d (p ++ f)
 
 -- ---- lengths

@@ -37,10 +37,8 @@ paste-two d at a b l =
     take-paste d at a (length a) (omega arith) (omega arith) ∙ ap (λ (t : List ℕ). take at d ++ t) (take-length a) in
     let same : at + length a + length b ≡ at + length (a ++ b) = omega (arith, length-append a b) in
     let back : drop (at + length a + length b) e ≡ drop (at + length (a ++ b)) d =
-    sym (drop-drop (length b) (at + length a) e)
-    ∙ ap (drop (length b)) (drop-paste d at a (length a) (omega arith) (omega arith))
-    ∙ drop-drop (length b) (at + length a) d
-    ∙ ap (λ (k : ℕ). drop k d) same in
+    sym (drop-drop (length b) (at + length a) e) ∙ ap (drop (length b)) (drop-paste d at a (length a) (omega arith) (omega arith))
+    ∙ drop-drop (length b) (at + length a) d ∙ ap (λ (k : ℕ). drop k d) same in
     ap₂ (λ (x y : List ℕ). (x ++ take (length b) b) ++ y) front back
     ∙ ap (λ (t : List ℕ). ((take at d ++ a) ++ t) ++ drop (at + length (a ++ b)) d) (take-length b)
     ∙ ap (λ (t : List ℕ). t ++ drop (at + length (a ++ b)) d) (append-assoc (take at d) a b ∙ ap (λ (t : List ℕ). take at d ++ t) (sym (take-length (a ++ b))))
@@ -53,8 +51,7 @@ paste-three d at a b t l =
     let m : length (a ++ b) ≡ length a + length b = length-append a b in
     let k : at + length a + length b ≡ at + length (a ++ b) = omega arith in
     ap (λ (e : List ℕ). paste e (at + length a + length b) t (length t)) (paste-two d at a b (omega arith))
-    ∙ ap (λ (i : ℕ). paste (paste d at (a ++ b) (length (a ++ b))) i t (length t)) k
-    ∙ paste-two d at (a ++ b) t (omega arith)
+    ∙ ap (λ (i : ℕ). paste (paste d at (a ++ b) (length (a ++ b))) i t (length t)) k ∙ paste-two d at (a ++ b) t (omega arith)
     ∙ ap (λ (x : List ℕ). paste d at x (length x)) (append-assoc a b t)
 
 -- at the start of a slice

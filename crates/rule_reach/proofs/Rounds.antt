@@ -51,8 +51,7 @@ module _ (es : List ℕ) (found u : ℕ) (e : u ≡ unionOver es (members found)
   -- a closed set that holds found holds the round too
   pub round-least : (X : Set) → Closed es X → ((t : ℕ) → t < 8 → bit found t ≡ true → X t ≡ true) → (t : ℕ) → t < 8 → bit (bitOr found u) t ≡ true → X t ≡ true
   round-least X k h t l x =
-      ⊎-elim
-      (λ y. h t l y)
+      ⊎-elim (λ y. h t l y)
       (λ y. let s = any-out (members found) (λ p. bit (getD es p 0) t) (sym (added t) ∙ y) in
       let m = members-out found (s .0) (s .1) in
       k (s .0) t (m .0) l (h (s .0) (m .0) (m .1)) (s .2))

@@ -96,8 +96,7 @@ module _ (n : ℕ) (cs ds : List ℕ) (small-c : (c : ℕ) → List·Memᴰ c cs
       (each-satisfies n ds cs (and-r (Each n cs ds) (Each n ds cs) e) (bit X)))))
       (λ e. let at : (X : ℕ) → X < 2 ^ n → satisfies n (bit X) cs ≡ satisfies n (bit X) ds =
       λ X l. agree-equal (satisfies n (bit X) cs) (satisfies n (bit X) ds) (every-at (2 ^ n) (λ X. agree (satisfies n (bit X) cs) (satisfies n (bit X) ds)) e X l) in
-      and-i
-      (all-of-all cs (λ c. satisfies n (bit c) ds) (λ c m. sym (at c (small-c c m)) ∙ own n cs c m))
+      and-i (all-of-all cs (λ c. satisfies n (bit c) ds) (λ c m. sym (at c (small-c c m)) ∙ own n cs c m))
       (all-of-all ds (λ c. satisfies n (bit c) cs) (λ c m. at c (small-d c m) ∙ own n ds c m)))
 
   pub same-clauses : n ≤ 8 → (Each 8 cs ds && Each 8 ds cs) ≡ sameEntry n cs ds

@@ -75,8 +75,7 @@ pub tidy-next : (all kept : List ℕ) (i : ℕ) → i < length all → tidyFrom 
 unfolding keptWith
 tidy-next all kept i l =
     let c = getD all i 0 in
-    ap (tidyFrom 8 all kept) (drop-next all i l)
-    ∙ bif (drops 8 all kept c)
+    ap (tidyFrom 8 all kept) (drop-next all i l) ∙ bif (drops 8 all kept c)
     (λ t. tidy-drop 8 all kept c (drop (i + 1) all) t ∙ rw t)
     (λ t. tidy-keep 8 all kept c (drop (i + 1) all) t ∙ rw t)
 

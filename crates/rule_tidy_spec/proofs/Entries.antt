@@ -84,8 +84,7 @@ module _ (n : ℕ) where
   unfolding tidyClauses
   clauses-listed [] clauses x m = absurd (List·Memᴰ·not-nil m)
   clauses-listed (k ∷ counts) clauses x m =
-      ⊎-elim
-      (λ j. mem-take k clauses (tidy-listed n (take k clauses) x j))
+      ⊎-elim (λ j. mem-take k clauses (tidy-listed n (take k clauses) x j))
       (λ j. mem-drop k clauses (clauses-listed counts (drop k clauses) x j))
       (List·Memᴰ·append-cases (tidyEntry n (take k clauses)) m)
 
@@ -97,8 +96,7 @@ module _ (n : ℕ) where
   unfolding tidyCounts
   counts-few [] clauses b h x m = absurd (List·Memᴰ·not-nil m)
   counts-few (k ∷ counts) clauses b h x m =
-      ⊎-elim
-      (λ e. let l = part-length k clauses in let j = h k (List·Memᴰ·head refl) in omega arith)
+      ⊎-elim (λ e. let l = part-length k clauses in let j = h k (List·Memᴰ·head refl) in omega arith)
       (λ j. counts-few counts (drop k clauses) b (λ y z. h y (List·Memᴰ·tail z)) x j)
       (List·Memᴰ·cases-cons m)
 

@@ -99,12 +99,10 @@ module _ (n : ℕ) (all : List ℕ) (small : (c : ℕ) → List·Memᴰ c all �
       bif (minimal n all c)
       (λ e. bif (among seen c)
       (λ a. let k = K .least c (among-out seen c a) e in
-      tidy-drop n all kept c cs (drops-copy kept c k)
-      ∙ walk (c ∷ seen) kept cs (seen-more seen kept c K m (λ z. k)) t
+      tidy-drop n all kept c cs (drops-copy kept c k) ∙ walk (c ∷ seen) kept cs (seen-more seen kept c K m (λ z. k)) t
       ∙ ap (λ (l : List ℕ). kept ++ l) (sym (first-drop n all seen c cs (rw (e, a)))))
       (λ a. tidy-keep n all kept c cs (keeps-first seen kept c K m e a)
-      ∙ walk (c ∷ seen) (kept ++ (c ∷ [])) cs (kept-more seen kept c K m) t
-      ∙ append-assoc kept (c ∷ []) (firstMinimal n all (c ∷ seen) cs)
+      ∙ walk (c ∷ seen) (kept ++ (c ∷ [])) cs (kept-more seen kept c K m) t ∙ append-assoc kept (c ∷ []) (firstMinimal n all (c ∷ seen) cs)
       ∙ ap (λ (l : List ℕ). kept ++ l) (sym (first-keep n all seen c cs (rw (e, a))))))
       (λ e. tidy-drop n all kept c cs (drops-large kept c e)
       ∙ walk (c ∷ seen) kept cs (seen-more seen kept c K m (λ z. clash z e)) t

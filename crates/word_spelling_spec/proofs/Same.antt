@@ -26,15 +26,9 @@ module _ (l₁ c₁ l₂ c₂ : List ℕ) (h₁ : 0 < length c₁) (h₂ : 0 < l
       let j = i - length c₁ - length c₂ in
       let one : j + length c₂ + length c₁ ≡ i = omega arith in
       let two : j + length c₁ + length c₂ ≡ i = omega arith in
-      ap (letters l₁ c₁) (sym one)
-      ∙ letters-again l₁ c₁ h₁ (j + length c₂) (omega arith)
-      ∙ beyond e b (j + length c₂) (omega arith)
-      ∙ letters-again l₂ c₂ h₂ j (omega arith)
-      ∙ sym (beyond e b j (omega arith))
-      ∙ sym (letters-again l₁ c₁ h₁ j (omega arith))
-      ∙ beyond e b (j + length c₁) (omega arith)
-      ∙ sym (letters-again l₂ c₂ h₂ (j + length c₁) (omega arith))
-      ∙ ap (letters l₂ c₂) two)
+      ap (letters l₁ c₁) (sym one) ∙ letters-again l₁ c₁ h₁ (j + length c₂) (omega arith) ∙ beyond e b (j + length c₂) (omega arith)
+      ∙ letters-again l₂ c₂ h₂ j (omega arith) ∙ sym (beyond e b j (omega arith)) ∙ sym (letters-again l₁ c₁ h₁ j (omega arith))
+      ∙ beyond e b (j + length c₁) (omega arith) ∙ sym (letters-again l₂ c₂ h₂ (j + length c₁) (omega arith)) ∙ ap (letters l₂ c₂) two)
 
   -- 02: "Two words are from now on the same if they agree at every step."
   pub same-word-iff : (sameWord l₁ c₁ l₂ c₂ ≡ true) ↔ Agree l₁ c₁ l₂ c₂

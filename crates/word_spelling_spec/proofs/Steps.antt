@@ -31,8 +31,7 @@ module _ (lead cycle : List ℕ) (repeats : 0 < length cycle) where
       ap (place (nextPlace lead cycle)) (sym e) ∙ place-turn (places lead cycle - 1) (omega arith)
       ∙ sym (ap (place (nextPlace lead cycle)) (add-zero (length lead)) ∙ place-is (length lead) (omega arith))
   place-again (suc k) =
-      ap (place (nextPlace lead cycle)) (add-suc (places lead cycle) k)
-      ∙ ap (nextPlace lead cycle) (place-again k)
+      ap (place (nextPlace lead cycle)) (add-suc (places lead cycle) k) ∙ ap (nextPlace lead cycle) (place-again k)
       ∙ sym (ap (place (nextPlace lead cycle)) (add-suc (length lead) k))
 
   -- from the lead-in on each letter comes again after a cycle

@@ -62,8 +62,7 @@ returns-2 c =
     let e : l .q ≡ a .h .n = omega arith in
     sym (sym (mixed-by r (w .few-states) (a .h .accepting) refl)
     ∙ ap (λ (t : List ℕ). someBelow (a .h .n) (bothBy t (a .h .n) (a .h .accepting))) (sym (c .before .before .before .closures .ensures))
-    ∙ ap (λ (x : ℕ). someBelow x (bothBy (c .before .before .before .closures .result) (a .h .n) (a .h .accepting))) (sym e)
-    ∙ l .inv .1)
+    ∙ ap (λ (x : ℕ). someBelow x (bothBy (c .before .before .before .closures .result) (a .h .n) (a .h .accepting))) (sym e) ∙ l .inv .1)
 
 pub is-mixed-spec : {M : Type 1} → statement M
 is-mixed-spec =
