@@ -41,8 +41,7 @@ module _ (f g : ℕ → ℕ) where
     right : place g i ≡ place g j
 
   next-alike : (i j : ℕ) → Alike i j → Alike (suc i) (suc j)
-  unfolding place
-  next-alike i j h = record { left = ap f (h .left); right = ap g (h .right) }
+  next-alike i j h = unfold place in record { left = ap f (h .left); right = ap g (h .right) }
 
   join : (i j k : ℕ) → Alike i j → Alike j k → Alike i k
   join i j k h l = record { left = h .left ∙ l .left; right = h .right ∙ l .right }
@@ -109,8 +108,7 @@ module _ (codes moves : List ℕ) (start : Set) (lead cycle first loop : List �
 
   module _ (e : loops ≡ true) where
     test : (i : ℕ) → getD tests i true ≡ true
-    unfolding loops
-    test = conj-at tests e
+    test = unfold loops in conj-at tests e
 
     there : 0 < length loop
     there = ltb-true 0 (length loop) (test 0)

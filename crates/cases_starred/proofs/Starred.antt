@@ -53,8 +53,7 @@ allPass [] = true
 allPass (c ∷ cs) = casePasses c && allPass cs
 
 starred-passes : allPass starred ≡ true
-unfolding allPass rows computed checks
-starred-passes = refl
+starred-passes = unfold allPass rows computed checks in refl
 
 claims : (cs : List Case) → allPass cs ≡ true → (c : Case) → List·Memᴰ c cs → Claim c
 unfolding allPass
@@ -73,41 +72,31 @@ nth (c ∷ cs) zero d l = List·Memᴰ·head refl
 nth (c ∷ cs) (suc i) d l = List·Memᴰ·tail (nth cs i d (omega arith))
 
 claim-at : (i : ℕ) → i - 1 < 9 → Claim (getD starred (i - 1) case1)
-unfolding starred
-claim-at i l = starred-claims (getD starred (i - 1) case1) (nth starred (i - 1) case1 l)
+claim-at i l = unfold starred in starred-claims (getD starred (i - 1) case1) (nth starred (i - 1) case1 l)
 
 pub case-1 : Claim case1
-unfolding starred
-case-1 = claim-at 1 (omega arith)
+case-1 = unfold starred in claim-at 1 (omega arith)
 
 pub case-2 : Claim case2
-unfolding starred
-case-2 = claim-at 2 (omega arith)
+case-2 = unfold starred in claim-at 2 (omega arith)
 
 pub case-3 : Claim case3
-unfolding starred
-case-3 = claim-at 3 (omega arith)
+case-3 = unfold starred in claim-at 3 (omega arith)
 
 pub case-4 : Claim case4
-unfolding starred
-case-4 = claim-at 4 (omega arith)
+case-4 = unfold starred in claim-at 4 (omega arith)
 
 pub case-5 : Claim case5
-unfolding starred
-case-5 = claim-at 5 (omega arith)
+case-5 = unfold starred in claim-at 5 (omega arith)
 
 pub case-6 : Claim case6
-unfolding starred
-case-6 = claim-at 6 (omega arith)
+case-6 = unfold starred in claim-at 6 (omega arith)
 
 pub case-7 : Claim case7
-unfolding starred
-case-7 = claim-at 7 (omega arith)
+case-7 = unfold starred in claim-at 7 (omega arith)
 
 pub case-8 : Claim case8
-unfolding starred
-case-8 = claim-at 8 (omega arith)
+case-8 = unfold starred in claim-at 8 (omega arith)
 
 pub case-9 : Claim case9
-unfolding starred
-case-9 = claim-at 9 (omega arith)
+case-9 = unfold starred in claim-at 9 (omega arith)

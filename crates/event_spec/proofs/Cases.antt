@@ -43,31 +43,25 @@ table-26 t = translationRow 2 t [] 0 ≡ 26
 
 -- an exact repeat, in the same table with another letter
 repeated : table-26 (0 ∷ 1 ∷ 0 ∷ 1 ∷ 0 ∷ 0 ∷ 1 ∷ 0 ∷ 1 ∷ 1 ∷ [])
-unfolding deciding
-repeated = refl
+repeated = unfold deciding in refl
 
 -- "in earlier lines": kinds 0 to 1 in the first and 2 to 3 in the second
 by-two : table-26 (0 ∷ 1 ∷ 0 ∷ 1 ∷ 0 ∷ 2 ∷ 3 ∷ 0 ∷ 1 ∷ 1 ∷ 0 ∷ 3 ∷ 0 ∷ 1 ∷ 0 ∷ [])
-unfolding deciding
-by-two = refl
+by-two = unfold deciding in refl
 
 by-three : table-26 (0 ∷ 0 ∷ 0 ∷ 2 ∷ 0 ∷ 1 ∷ 2 ∷ 0 ∷ 0 ∷ 1 ∷ 1 ∷ 2 ∷ 1 ∷ 2 ∷ 0 ∷ 0 ∷ 2 ∷ 0 ∷ 2 ∷ 1 ∷ [])
-unfolding deciding
-by-three = refl
+by-three = unfold deciding in refl
 
 partly : translationRow 2 (0 ∷ 1 ∷ 0 ∷ 1 ∷ 0 ∷ 0 ∷ 2 ∷ 0 ∷ 1 ∷ 1 ∷ []) (2 ∷ 1 ∷ []) 1 ≡ 0
-unfolding deciding
-partly = refl
+partly = unfold deciding in refl
 
 -- kind 1 and drive 5 are in the line, kind 5 and drive 1 in none
 kind-and-drive : (translationRow 2 (0 ∷ 1 ∷ 5 ∷ 6 ∷ 1 ∷ []) (1 ∷ 5 ∷ []) 1 ≡ 0) × (translationRow 2 (0 ∷ 1 ∷ 5 ∷ 6 ∷ 1 ∷ []) (5 ∷ 1 ∷ []) 1 ≡ 27)
-unfolding deciding
-kind-and-drive = (refl, refl)
+kind-and-drive = unfold deciding in (refl, refl)
 
 -- an odd last byte of a kind in no line: no event, nothing refused, no letter wanted
 odd-byte : (translationRow 2 two (9 ∷ []) 0 ≡ 0) × (translationRow 2 two (0 ∷ 0 ∷ 9 ∷ []) 1 ≡ 0) × (translationRow 2 two (0 ∷ 0 ∷ 9 ∷ 9 ∷ []) 2 ≡ 27)
-unfolding two deciding
-odd-byte = (refl, refl, refl)
+odd-byte = unfold two deciding in (refl, refl, refl)
 
 -- "They come in this order .. and before 16": 25 before 26, 26 before 27, 27 before 16
 order :
@@ -75,8 +69,7 @@ order :
     × (translationRow 2 (0 ∷ 1 ∷ 0 ∷ 1 ∷ 0 ∷ 0 ∷ 1 ∷ 0 ∷ 1 ∷ 1 ∷ []) (9 ∷ 9 ∷ []) 0 ≡ 26)
     × (translationRow 2 two (9 ∷ 9 ∷ []) 0 ≡ 27)
     × (translationRow 2 two (0 ∷ 0 ∷ []) 0 ≡ 16)
-unfolding two deciding
-order = (refl, refl, refl, refl)
+order = unfold two deciding in (refl, refl, refl, refl)
 
 -- 25: a kind, then a drive, with lowest above highest; letter 2; a last line of four bytes, one of a single byte
 table-25 :
@@ -85,8 +78,7 @@ table-25 :
     × (translationRow 2 (0 ∷ 0 ∷ 0 ∷ 0 ∷ 2 ∷ []) [] 0 ≡ 25)
     × (translationRow 2 (0 ∷ 0 ∷ 0 ∷ 0 ∷ []) [] 0 ≡ 25)
     × (translationRow 2 (0 ∷ 0 ∷ 0 ∷ 0 ∷ 0 ∷ 0 ∷ []) [] 0 ≡ 25)
-unfolding deciding
-table-25 = (refl, refl, refl, refl, refl)
+table-25 = unfold deciding in (refl, refl, refl, refl, refl)
 
 -- n lines, each for its own kind
 lines : ℕ → List ℕ
@@ -95,10 +87,8 @@ lines n = flat (tabulate n (λ j. j) 0) (λ j. j ∷ j ∷ 0 ∷ 0 ∷ 1 ∷ [])
 
 -- 64 lines are no fault by their number
 lines-64 : (t : List ℕ) → length t ≡ 320 → someBelow 64 (faulty 2 t) ≡ false → faultyTable 2 t ≡ false
-unfolding faultyTable
-lines-64 t e f = rw (e, f) refl
+lines-64 t e f = unfold faultyTable in rw (e, f) refl
 
 -- no line at all, 64 lines, 65 lines
 line-counts : (translationRow 2 [] [] 0 ≡ 0) × (translationRow 2 (lines 64) (63 ∷ 0 ∷ []) 1 ≡ 0) × (translationRow 2 (lines 65) [] 0 ≡ 25)
-unfolding lines flat tabulate deciding
-line-counts = (refl, refl, refl)
+line-counts = unfold lines flat tabulate deciding in (refl, refl, refl)

@@ -91,5 +91,4 @@ module _ (t kinds drives : List ℕ) (bytes : (i : ℕ) → getD t i 0 < 256) (m
 
   -- a line is covered exactly if fewer lines are first for some event than there are lines
   pub covered-is : ltb (ones (firstsOf kinds drives)) (lineCount t) ≡ hasCovered t
-  unfolding hasCovered
-  covered-is = ap (λ (k : ℕ). ltb k (lineCount t)) firsts-count ∙ left-over (lineCount t) (covered t)
+  covered-is = unfold hasCovered in ap (λ (k : ℕ). ltb k (lineCount t)) firsts-count ∙ left-over (lineCount t) (covered t)

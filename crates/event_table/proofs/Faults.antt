@@ -16,8 +16,7 @@ use Rattle.event_spec.specs.Translation.{faulty, faultyTable}
 
 module _ (s : ℕ) (t : List ℕ) (j : ℕ) where
   pub fault-kinds : getD t (5 * j + 1) 0 < getD t (5 * j) 0 → faulty s t j ≡ true
-  unfolding faulty
-  fault-kinds l = rw (add-zero (5 * j), lt-ltb (getD t (5 * j + 1) 0) (getD t (5 * j) 0) l)
+  fault-kinds l = unfold faulty in rw (add-zero (5 * j), lt-ltb (getD t (5 * j + 1) 0) (getD t (5 * j) 0) l)
 
   pub fault-drives : getD t (5 * j + 3) 0 < getD t (5 * j + 2) 0 → faulty s t j ≡ true
   unfolding faulty
@@ -50,16 +49,13 @@ module _ (s : ℕ) (t : List ℕ) where
   table-line j l e = or-l lineFault (ragged || ltb 64 (lineCount t)) (some-at (lineCount t) (faulty s t) j l e)
 
   pub table-sound : length t % 5 ≡ 0 → lineCount t ≤ 64 → someBelow (lineCount t) (faulty s t) ≡ false → faultyTable s t ≡ false
-  unfolding faultyTable
-  table-sound z l e = rw (e, eq-eqb (length t % 5) 0 z, le-ltb 64 (lineCount t) l)
+  table-sound z l e = unfold faultyTable in rw (e, eq-eqb (length t % 5) 0 z, le-ltb 64 (lineCount t) l)
 
 -- ---- the two bounds of a line
 
 module _ (t : List ℕ) (i x j : ℕ) where
   pub span-below : x < getD t (5 * j + i) 0 → spans t i x j ≡ false
-  unfolding spans
-  span-below l = rw (lt-leb (getD t (5 * j + i) 0) x l)
+  span-below l = unfold spans in rw (lt-leb (getD t (5 * j + i) 0) x l)
 
   pub span-above : getD t (5 * j + i) 0 ≤ x → leb x (getD t (5 * j + i + 1) 0) ≡ spans t i x j
-  unfolding spans
-  span-above l = let e : 5 * j + (i + 1) ≡ 5 * j + i + 1 = omega arith in rw (le-leb (getD t (5 * j + i) 0) x l, e)
+  span-above l = unfold spans in let e : 5 * j + (i + 1) ≡ 5 * j + i + 1 = omega arith in rw (le-leb (getD t (5 * j + i) 0) x l, e)

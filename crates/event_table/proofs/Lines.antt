@@ -49,8 +49,7 @@ module _ (t : List ℕ) where
       )
 
   pub first-line : (kind drive j : ℕ) → IsFirst kind drive j → firstLine t kind drive ≡ j
-  unfolding firstLine
-  first-line x y j r = first-is (lineCount t) (holds t x y) j (r .line) (r .held) (r .none-earlier)
+  first-line x y j r = unfold firstLine in first-is (lineCount t) (holds t x y) j (r .line) (r .held) (r .none-earlier)
 
   -- ---- row 26
 

@@ -20,27 +20,22 @@ use Rattle.event_spec.specs.Translation.{faultyTable, hasCovered, hasUnknown, t
 module _ (s : ℕ) (t log : List ℕ) (m : ℕ) where
   -- 25
   pub table-refuses : faultyTable s t ≡ true → translationRow s t log m ≡ 25
-  unfolding translationRow translationRows firstRow
-  table-refuses e = rw e
+  table-refuses e = unfold translationRow translationRows firstRow in rw e
 
   -- 26
   pub cover-refuses : faultyTable s t ≡ false → hasCovered t ≡ true → translationRow s t log m ≡ 26
-  unfolding translationRow translationRows firstRow
-  cover-refuses e c = rw (e, c)
+  cover-refuses e c = unfold translationRow translationRows firstRow in rw (e, c)
 
   -- 27
   pub log-refuses : faultyTable s t ≡ false → hasCovered t ≡ false → hasUnknown t log ≡ true → translationRow s t log m ≡ 27
-  unfolding translationRow translationRows firstRow
-  log-refuses e c u = rw (e, c, u)
+  log-refuses e c u = unfold translationRow translationRows firstRow in rw (e, c, u)
 
   -- 16
   pub slice-refuses : faultyTable s t ≡ false → hasCovered t ≡ false → hasUnknown t log ≡ false → m < eventCount log → translationRow s t log m ≡ 16
-  unfolding translationRow translationRows firstRow
-  slice-refuses e c u l = rw (e, c, u, lt-ltb m (eventCount log) l)
+  slice-refuses e c u l = unfold translationRow translationRows firstRow in rw (e, c, u, lt-ltb m (eventCount log) l)
 
   pub call-served : faultyTable s t ≡ false → hasCovered t ≡ false → hasUnknown t log ≡ false → eventCount log ≤ m → translationRow s t log m ≡ 0
-  unfolding translationRow translationRows firstRow
-  call-served e c u l = rw (e, c, u, le-ltb m (eventCount log) l)
+  call-served e c u l = unfold translationRow translationRows firstRow in rw (e, c, u, le-ltb m (eventCount log) l)
 
   -- what a call passes that is served
   pub record Passes : Type 0 where
@@ -66,19 +61,16 @@ module _ (s : ℕ) (t log old : List ℕ) where
   called-refused k e = let kept : old ≡ filled (suc k) (lettersOf t log) old = refl in record { answers = rw e; written = rw e kept }
 
   pub called-served : translationRow s t log (length old) ≡ 0 → (new : List ℕ) → new ≡ lettersOf t log ++ drop (length (lettersOf t log)) old → Called s t log old new (Letters (eventCount log))
-  unfolding filled
-  called-served e new w = record { answers = rw e; written = rw e w }
+  called-served e new w = unfold filled in record { answers = rw e; written = rw e w }
 
 -- ---- a file
 
 module _ (f t log : List ℕ) where
   pub file-passes : (m : ℕ) → fileRow f ≡ 0 → translateRow f t log m ≡ translationRow (ruleIn f .s) t log m
-  unfolding translateRow translationRow fileRow
-  file-passes m e = first-right (fileRows f) _ (file-numbered f) e
+  file-passes m e = unfold translateRow translationRow fileRow in first-right (fileRows f) _ (file-numbered f) e
 
   file-refuses : (m k : ℕ) → (k ≡ 0 → ⊥) → k ≡ fileRow f → k ≡ translateRow f t log m
-  unfolding translateRow fileRow
-  file-refuses m k n e = first-left (fileRows f) _ k n e
+  file-refuses m k n e = unfold translateRow fileRow in first-left (fileRows f) _ k n e
 
   -- the answer and the slice of a file that is refused
   pub refused : (k : ℕ) (old : List ℕ) → (k ≡ 0 → ⊥) → k ≡ fileRow f → (Refused k ≡ translatedOf f t log (length old)) × (old ≡ lettersAfter f t log old)

@@ -26,12 +26,10 @@ use Rattle.event_table.proofs.Meets.{masks-at}
 -- ---- a mask, from number 0 up
 
 pub mask-start : (f : Set) → 0 ≡ mask 0 f
-unfolding mask
-mask-start f = refl
+mask-start f = unfold mask in refl
 
 pub mask-more : (k : ℕ) (f : Set) → mask k f + one (f k) * 2 ^ k ≡ mask (k + 1) f
-unfolding mask
-mask-more k f = rw (add-one k) (omega arith)
+mask-more k f = unfold mask in rw (add-one k) (omega arith)
 
 pub mask-fits : (k : ℕ) (f : Set) → k < 64 → mask (k + 1) f < 18446744073709551616
 mask-fits k f l = lt-of-lt-of-le (mask-lt (k + 1) f) (pow-mono {i = k + 1} {j = 64} (omega arith))
@@ -57,8 +55,7 @@ least-mask m p h =
 -- ---- a union, from number 0 up
 
 pub union-start : (g : ℕ → Set) → 0 ≡ mask 64 (λ j. someBelow 0 (λ z. g z j))
-unfolding someBelow
-union-start g = sym (mask-none 64 (λ j. someBelow 0 (λ z. g z j)) (λ j l. refl))
+union-start g = unfold someBelow in sym (mask-none 64 (λ j. someBelow 0 (λ z. g z j)) (λ j l. refl))
 
 pub union-more : (g : ℕ → Set) (k : ℕ) → bitOr (mask 64 (λ j. someBelow k (λ z. g z j))) (mask 64 (g k)) ≡ mask 64 (λ j. someBelow (k + 1) (λ z. g z j))
 unfolding someBelow

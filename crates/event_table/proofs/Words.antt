@@ -30,8 +30,7 @@ module _ (s : ℕ) (t : List ℕ) (sound : faultyTable s t ≡ false) where
 
   -- an event in some line has a letter of the rule
   pub letter-below : (kind drive : ℕ) → someBelow (lineCount t) (holds t kind drive) ≡ true → eventLetter t kind drive < s
-  unfolding eventLetter firstLine
-  letter-below x y e = line-letter (firstLine t x y) (first-found (lineCount t) (holds t x y) e .0)
+  letter-below x y e = unfold eventLetter firstLine in line-letter (firstLine t x y) (first-found (lineCount t) (holds t x y) e .0)
 
   pub letters-below : (log : List ℕ) → hasUnknown t log ≡ false → (a : ℕ) → List·Memᴰ a (lettersOf t log) → a < s
   unfolding hasUnknown known lettersOf

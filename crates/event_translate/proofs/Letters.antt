@@ -31,8 +31,7 @@ module _ (t kinds drives log : List ℕ) (m : Masks t kinds drives) (k : ℕ) (l
   lines-are = meet t kinds drives m (kindAt log k) (driveAt log k) lx ly
 
   pub in-none : lines ≡ 0 → known t log k ≡ false
-  unfolding known
-  in-none e = none-of (lineCount t) (holds t (kindAt log k) (driveAt log k)) (sym lines-are ∙ e)
+  in-none e = unfold known in none-of (lineCount t) (holds t (kindAt log k) (driveAt log k)) (sym lines-are ∙ e)
 
   pub in-some : (lines ≡ 0 → ⊥) → known t log k ≡ true
   unfolding known
@@ -57,23 +56,19 @@ module _ (t kinds drives log : List ℕ) (m : Masks t kinds drives) (k : ℕ) (l
 -- ---- the loop over the events
 
 pub unknown-here : (t log : List ℕ) (k : ℕ) → k < eventCount log → known t log k ≡ false → hasUnknown t log ≡ true
-unfolding hasUnknown
-unknown-here t log k l e = some-at (eventCount log) (λ z. not (known t log z)) k l (ap not e)
+unknown-here t log k l e = unfold hasUnknown in some-at (eventCount log) (λ z. not (known t log z)) k l (ap not e)
 
 pub known-next : (t log : List ℕ) (k : ℕ) → someBelow k (λ z. not (known t log z)) ≡ false → known t log k ≡ true → someBelow (k + 1) (λ z. not (known t log z)) ≡ false
 known-next t log k h e = some-next k (λ z. not (known t log z)) h (ap not e)
 
 pub known-all : (t log : List ℕ) (k : ℕ) → eventCount log ≡ k → someBelow k (λ z. not (known t log z)) ≡ false → hasUnknown t log ≡ false
-unfolding hasUnknown
-known-all t log k e h = ap (λ (n : ℕ). someBelow n (λ z. not (known t log z))) e ∙ h
+known-all t log k e h = unfold hasUnknown in ap (λ (n : ℕ). someBelow n (λ z. not (known t log z))) e ∙ h
 
 pub known-at : (t log : List ℕ) (k : ℕ) → hasUnknown t log ≡ false → k < eventCount log → known t log k ≡ true
-unfolding hasUnknown
-known-at t log k h l = not-f (known t log k) (some-no (eventCount log) (λ z. not (known t log z)) h k l)
+known-at t log k h l = unfold hasUnknown in not-f (known t log k) (some-no (eventCount log) (λ z. not (known t log z)) h k l)
 
 pub letters-length : (t log : List ℕ) → length (lettersOf t log) ≡ eventCount log
-unfolding lettersOf
-letters-length t log = length-tabulate (eventCount log) (λ k. eventLetter t (kindAt log k) (driveAt log k)) 0
+letters-length t log = unfold lettersOf in length-tabulate (eventCount log) (λ k. eventLetter t (kindAt log k) (driveAt log k)) 0
 
 -- ---- the slice, with k letters written
 

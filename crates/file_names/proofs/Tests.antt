@@ -15,17 +15,14 @@ use Rattle.file_spec.proofs.Names.{cutOff}
 
 module _ (p : List ℕ) where
   pub few-bytes : length p < 2 → false ≡ hasNames p
-  unfolding hasNames
-  few-bytes l = rw (lt-leb 2 (length p) l)
+  few-bytes l = unfold hasNames in rw (lt-leb 2 (length p) l)
 
   module _ (l : 2 ≤ length p) where
     pub first-differs : (getD p (length p - 2) 0 ≡ 0x4E → ⊥) → false ≡ hasNames p
-    unfolding hasNames
-    first-differs n = rw (le-leb 2 (length p) l, ne-eqb (getD p (length p - 2) 0) 0x4E n)
+    first-differs n = unfold hasNames in rw (le-leb 2 (length p) l, ne-eqb (getD p (length p - 2) 0) 0x4E n)
 
     pub last-decides : getD p (length p - 2) 0 ≡ 0x4E → eqb (getD p (length p - 1) 0) 0x4D ≡ hasNames p
-    unfolding hasNames
-    last-decides e = rw (le-leb 2 (length p) l, eq-eqb (getD p (length p - 2) 0) 0x4E e)
+    last-decides e = unfold hasNames in rw (le-leb 2 (length p) l, eq-eqb (getD p (length p - 2) 0) 0x4E e)
 
 -- ---- bytes
 

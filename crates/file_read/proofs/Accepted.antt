@@ -20,17 +20,14 @@ use Rattle.file_read.proofs.FileRows.{accepted-placed}
 
 -- 07 08 before F is the preface
 pub preface-F : prefaceOf (0x07 ∷ 0x08 ∷ 0x01 ∷ 0x00 ∷ 0x01 ∷ 0x01 ∷ 0x01 ∷ 0x02 ∷ 0x00 ∷ 0x00 ∷ 0x02 ∷ 0x00 ∷ 0x41 ∷ 0x57 ∷ []) ≡ 0x07 ∷ 0x08 ∷ []
-unfolding prefaceOf unrefused rowsComputed
-preface-F = refl
+preface-F = unfold prefaceOf unrefused rowsComputed in refl
 
 -- nothing of a refused file: 07 before the example of row 9
 pub preface-9 : prefaceOf (0x07 ∷ 0x01 ∷ 0x01 ∷ 0x01 ∷ 0x00 ∷ 0x00 ∷ 0x00 ∷ 0x00 ∷ 0x41 ∷ 0x57 ∷ []) ≡ []
-unfolding prefaceOf unrefused rowsComputed
-preface-9 = refl
+preface-9 = unfold prefaceOf unrefused rowsComputed in refl
 
 pub preface-accepted : (f : List ℕ) → fileRow f ≡ 0 → prefaceOf f ≡ take (clausesAt f) f
-unfolding prefaceOf unrefused
-preface-accepted f e = rw e
+preface-accepted f e = unfold prefaceOf unrefused in rw e
 
 -- each number is a byte
 abbrev pub Bytes : List ℕ → Type 0

@@ -24,8 +24,7 @@ refused f zero n e = absurd (n refl)
 refused f (suc k) n e = rw (← e)
 
 pub accepted : (f : List ℕ) → fileRow f ≡ 0 → Accepted (layoutOf f) ≡ readOf f
-unfolding readOf answer
-accepted f e = rw e
+accepted f e = unfold readOf answer in rw e
 
 from-accepted : (k : ℕ) (m l : Layout) → answer k m ≡ Accepted l → (k ≡ 0) × (l ≡ m)
 unfolding answer
@@ -52,8 +51,7 @@ pub record Served (f : List ℕ) (l : Layout) : Type 0 where
 
 -- names that row 21 passes
 pub names-kept : (f : List ℕ) → prefaceRow f ≡ 0 → cutOff (trailer f 1) (partBefore f) ≡ false
-unfolding prefaceRow
-names-kept f e = fit-21 (trailer f 1) (partBefore f) e
+names-kept f e = unfold prefaceRow in fit-21 (trailer f 1) (partBefore f) e
 
 served-layout : (f : List ℕ) → fileRow f ≡ 0 → Served f (layoutOf f)
 served-layout f e =
@@ -74,8 +72,7 @@ served-layout f e =
 
 -- what a caller knows of a file that was accepted
 pub served : (f : List ℕ) (l : Layout) → readOf f ≡ Accepted l → Served f l
-unfolding readOf
-served f l e = let p = from-accepted (fileRow f) (layoutOf f) l e in rw (p .1) (served-layout f (p .0))
+served f l e = unfold readOf in let p = from-accepted (fileRow f) (layoutOf f) l e in rw (p .1) (served-layout f (p .0))
 
 pub served-letters : (f : List ℕ) (l : Layout) → readOf f ≡ Accepted l → l .head .s ≤ 16
 served-letters f l e = let s = served f l e in rw (s .layout) (s .passing .formed .few-letters)
@@ -105,8 +102,7 @@ module _ (f : List ℕ) (l : Layout) (e : readOf f ≡ Accepted l) (counts claus
 
 -- what a caller knows of a file that was refused
 pub turned-away : (f : List ℕ) (k : ℕ) → readOf f ≡ Refused k → (fileRow f ≡ k) × (fileRow f ≡ 0 → ⊥)
-unfolding readOf
-turned-away f k e = from-refused (fileRow f) k (layoutOf f) e
+turned-away f k e = unfold readOf in from-refused (fileRow f) k (layoutOf f) e
 
 pub preface-served : (f : List ℕ) (l : Layout) → readOf f ≡ Accepted l → take (l .at) f ≡ prefaceOf f
 preface-served f l e = let s = served f l e in rw (s .layout) (sym (preface-accepted f (s .row)))
@@ -117,5 +113,4 @@ no-preface zero part n = absurd (n refl)
 no-preface (suc k) part n = refl
 
 pub preface-refused : (f : List ℕ) (k : ℕ) → readOf f ≡ Refused k → [] ≡ prefaceOf f
-unfolding prefaceOf
-preface-refused f k e = no-preface (fileRow f) (take (clausesAt f) f) (turned-away f k e .1)
+preface-refused f k e = unfold prefaceOf in no-preface (fileRow f) (take (clausesAt f) f) (turned-away f k e .1)

@@ -16,26 +16,22 @@ use Rattle.file_spec.proofs.FileParts.{counts-length}
 use Rattle.file_spec.proofs.Formed.{formed, formed-parts, formed-passing, formed-apart}
 
 pub layout-numbered : (f : List ℕ) → numbered (layoutRows f) ≡ true
-unfolding numbered layoutRows trailerRows numberRows listRows
-layout-numbered f = refl
+layout-numbered f = unfold numbered layoutRows trailerRows numberRows listRows in refl
 
 pub body-numbered : (f : List ℕ) → numbered (bodyRows f) ≡ true
-unfolding numbered bodyRows layoutRows trailerRows numberRows listRows formedRows clauseRows componentRows
-body-numbered f = refl
+body-numbered f = unfold numbered bodyRows layoutRows trailerRows numberRows listRows formedRows clauseRows componentRows in refl
 
 pub file-numbered : (f : List ℕ) → numbered (fileRows f) ≡ true
 unfolding numbered fileRows bodyRows layoutRows trailerRows numberRows listRows formedRows clauseRows componentRows prefaceRows nameRows
 file-numbered f = refl
 
 pub old-numbered : (f : List ℕ) → numbered (oldRows f) ≡ true
-unfolding numbered oldRows layoutRows trailerRows numberRows listRows componentRows
-old-numbered f = refl
+old-numbered f = unfold numbered oldRows layoutRows trailerRows numberRows listRows componentRows in refl
 
 module _ (f : List ℕ) where
   -- what rows 1 to 10 give
   pub laid : firstRow (layoutRows f) ≡ 0 → (firstRow (trailerRows f) ≡ 0) × (firstRow (listRows (trailer f 0) (countsOf f) (clausesOf f)) ≡ 0)
-  unfolding layoutRows
-  laid e = first-parts (trailerRows f) _ (trailer-numbered f) e
+  laid e = unfold layoutRows in first-parts (trailerRows f) _ (trailer-numbered f) e
 
   pub laid-formed : firstRow (layoutRows f) ≡ 0 → WellFormed (ruleIn f)
   laid-formed e =
@@ -44,18 +40,15 @@ module _ (f : List ℕ) where
       formed (headOf f) (countsOf f) (clausesOf f) (trailer-numbers f (r .0)) (counts-length f (p .fits)) (r .1)
 
   pub rows-layout : (k : ℕ) → (k ≡ 0 → ⊥) → k ≡ firstRow (layoutRows f) → k ≡ bodyRow f
-  unfolding bodyRow bodyRows
-  rows-layout k n e = first-left (layoutRows f) _ k n e
+  rows-layout k n e = unfold bodyRow bodyRows in first-left (layoutRows f) _ k n e
 
   pub rows-formed : firstRow (layoutRows f) ≡ 0 → bodyRow f ≡ firstRow (formedRows (ruleIn f))
-  unfolding bodyRow bodyRows
-  rows-formed e = first-right (layoutRows f) _ (layout-numbered f) e
+  rows-formed e = unfold bodyRow bodyRows in first-right (layoutRows f) _ (layout-numbered f) e
 
   -- ---- what rows 1 to 11 and 20 pass
 
   body-parts : bodyRow f ≡ 0 → (firstRow (layoutRows f) ≡ 0) × (firstRow (formedRows (ruleIn f)) ≡ 0)
-  unfolding bodyRow bodyRows
-  body-parts e = first-parts (layoutRows f) _ (layout-numbered f) e
+  body-parts e = unfold bodyRow bodyRows in first-parts (layoutRows f) _ (layout-numbered f) e
 
   pub body-placed : bodyRow f ≡ 0 → Placed f
   body-placed e = placed f (laid (body-parts e .0) .0)
@@ -66,18 +59,15 @@ module _ (f : List ℕ) where
   -- ---- then rows 21 to 23
 
   pub rows-body : (k : ℕ) → (k ≡ 0 → ⊥) → k ≡ bodyRow f → k ≡ fileRow f
-  unfolding bodyRow fileRow fileRows
-  rows-body k n e = first-left (bodyRows f) _ k n e
+  rows-body k n e = unfold bodyRow fileRow fileRows in first-left (bodyRows f) _ k n e
 
   pub rows-preface : bodyRow f ≡ 0 → fileRow f ≡ prefaceRow f
-  unfolding bodyRow prefaceRow fileRow fileRows
-  rows-preface e = first-right (bodyRows f) _ (body-numbered f) e
+  rows-preface e = unfold bodyRow prefaceRow fileRow fileRows in first-right (bodyRows f) _ (body-numbered f) e
 
   -- ---- an accepted file
 
   pub accepted-rows : fileRow f ≡ 0 → (bodyRow f ≡ 0) × (prefaceRow f ≡ 0)
-  unfolding bodyRow prefaceRow fileRow fileRows
-  accepted-rows e = first-parts (bodyRows f) _ (body-numbered f) e
+  accepted-rows e = unfold bodyRow prefaceRow fileRow fileRows in first-parts (bodyRows f) _ (body-numbered f) e
 
   pub accepted-placed : fileRow f ≡ 0 → Placed f
   accepted-placed e = body-placed (accepted-rows e .0)
@@ -98,10 +88,8 @@ module _ (f : List ℕ) where
 
   -- A row's number is answered exactly if the row applies and none before it.
   pub file-row-iff : (k : ℕ) → 0 < k → (fileRow f ≡ k) ↔ FirstApplies (fileRows f) k
-  unfolding fileRow
-  file-row-iff k p = first-row-iff (fileRows f) k p
+  file-row-iff k p = unfold fileRow in first-row-iff (fileRows f) k p
 
   -- A file is accepted exactly if no row applies.
   pub file-accepted-iff : (fileRow f ≡ 0) ↔ NoneApplies (fileRows f)
-  unfolding fileRow
-  file-accepted-iff = no-row-iff (fileRows f) (numbered-rows (fileRows f) (file-numbered f))
+  file-accepted-iff = unfold fileRow in no-row-iff (fileRows f) (numbered-rows (fileRows f) (file-numbered f))

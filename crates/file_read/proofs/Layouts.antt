@@ -28,8 +28,7 @@ module _ (r : Rule) where
   trailer-body i = rw (← append-assoc (r .clauses) (r .counts) (trailerOf r)) (trailer-after (r .clauses ++ r .counts) (trailerOf r) (omega arith) i)
 
   tagged-body : tagged (bodyOf r) ≡ true
-  unfolding tagged trailerOf
-  tagged-body = rw (trailer-body 6, trailer-body 7)
+  tagged-body = unfold tagged trailerOf in rw (trailer-body 6, trailer-body 7)
 
   clause-count-body : clauseCount (bodyOf r) ≡ length (r .clauses)
   unfolding trailerOf
@@ -39,13 +38,11 @@ module _ (r : Rule) where
       omega arith
 
   pub length-body : length (bodyOf r) ≡ length (r .clauses) + length (r .counts) + 8
-  unfolding bodyOf trailerOf
-  length-body = simp length-append (omega arith)
+  length-body = unfold bodyOf trailerOf in simp length-append (omega arith)
 
   module _ (entries : length (r .counts) ≡ r .n * r .s) where
     entry-count-body : entryCount (bodyOf r) ≡ length (r .counts)
-    unfolding trailerOf
-    entry-count-body = rw (trailer-body 0, trailer-body 1) (sym entries)
+    entry-count-body = unfold trailerOf in rw (trailer-body 0, trailer-body 1) (sym entries)
 
     clauses-at-body : clausesAt (bodyOf r) ≡ 0
     clauses-at-body = omega (arith, length-body, clause-count-body, entry-count-body)
@@ -64,8 +61,7 @@ module _ (r : Rule) where
         ∙ take-at (r .counts) (trailerOf r) (length (r .counts)) refl
 
     pub rule-body : ruleIn (bodyOf r) ≡ r
-    unfolding trailerOf
-    rule-body = rw (counts-body, clauses-body, trailer-body 0, trailer-body 1, trailer-body 2, trailer-body 3)
+    rule-body = unfold trailerOf in rw (counts-body, clauses-body, trailer-body 0, trailer-body 1, trailer-body 2, trailer-body 3)
 
   module _ (pass : Passing r) (apart : someNested r ≡ false) where
     formed-long : 8 ≤ length (bodyOf r)
@@ -100,15 +96,13 @@ module _ (r : Rule) where
 
     module _ (p : List ℕ) where
       letters-after : trailer (p ++ bodyOf r) 1 ≡ r .s
-      unfolding trailerOf
-      letters-after = trailer-after p (bodyOf r) formed-long 1 ∙ trailer-body 1
+      letters-after = unfold trailerOf in trailer-after p (bodyOf r) formed-long 1 ∙ trailer-body 1
 
       before-after : partBefore (p ++ bodyOf r) ≡ p
       before-after = part-after p (bodyOf r) formed-long formed-fits ∙ ap (λ (l : List ℕ). p ++ l) part-body ∙ append-nil p
 
       names-after : prefaceRow (p ++ bodyOf r) ≡ firstRow (prefaceRows (r .s) p)
-      unfolding prefaceRow
-      names-after = ap₂ (λ (s : ℕ) (q : List ℕ). firstRow (prefaceRows s q)) letters-after before-after
+      names-after = unfold prefaceRow in ap₂ (λ (s : ℕ) (q : List ℕ). firstRow (prefaceRows s q)) letters-after before-after
 
       -- The layout of a rule that passes every check of 01 and row 20, after any preface that rows 21 to 23 pass, is accepted, is read as that rule,
       -- and has that preface and its names.

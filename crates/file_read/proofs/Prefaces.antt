@@ -34,8 +34,7 @@ module _ (p f : List ℕ) (long : 8 ≤ length f) where
       ap (λ (j : ℕ). getD (p ++ f) j 0) e ∙ getD-append-add p f (length f - 8 + i) 0
 
   pub tagged-after : tagged (p ++ f) ≡ tagged f
-  unfolding tagged
-  tagged-after = rw (trailer-after 6, trailer-after 7)
+  tagged-after = unfold tagged in rw (trailer-after 6, trailer-after 7)
 
   pub head-after : headOf (p ++ f) ≡ headOf f
   head-after = rw (trailer-after 0, trailer-after 1, trailer-after 2, trailer-after 3)

@@ -22,32 +22,25 @@ rowsComputed = 0
 -- ---- the table of refusals
 
 pub example-1 : fileRow (0x41 ∷ 0x57 ∷ []) ≡ 1
-unfolding fileRow fileRows bodyRows layoutRows trailerRows firstRow
-example-1 = refl
+example-1 = unfold fileRow fileRows bodyRows layoutRows trailerRows firstRow in refl
 
 pub example-2 : fileRow (0x01 ∷ 0x01 ∷ 0x00 ∷ 0x00 ∷ 0x00 ∷ 0x00 ∷ 0x57 ∷ 0x41 ∷ []) ≡ 2
-unfolding fileRow fileRows bodyRows layoutRows trailerRows firstRow tagged
-example-2 = refl
+example-2 = unfold fileRow fileRows bodyRows layoutRows trailerRows firstRow tagged in refl
 
 pub example-3 : fileRow (0x00 ∷ 0x01 ∷ 0x00 ∷ 0x00 ∷ 0x00 ∷ 0x00 ∷ 0x41 ∷ 0x57 ∷ []) ≡ 3
-unfolding fileRow fileRows bodyRows layoutRows trailerRows numberRows firstRow tagged
-example-3 = refl
+example-3 = unfold fileRow fileRows bodyRows layoutRows trailerRows numberRows firstRow tagged in refl
 
 pub example-4 : fileRow (0x01 ∷ 0x11 ∷ 0x00 ∷ 0x00 ∷ 0x00 ∷ 0x00 ∷ 0x41 ∷ 0x57 ∷ []) ≡ 4
-unfolding fileRow fileRows bodyRows layoutRows trailerRows numberRows firstRow tagged
-example-4 = refl
+example-4 = unfold fileRow fileRows bodyRows layoutRows trailerRows numberRows firstRow tagged in refl
 
 pub example-5 : fileRow (0x01 ∷ 0x01 ∷ 0x01 ∷ 0x00 ∷ 0x00 ∷ 0x00 ∷ 0x41 ∷ 0x57 ∷ []) ≡ 5
-unfolding fileRow fileRows bodyRows layoutRows trailerRows numberRows firstRow tagged
-example-5 = refl
+example-5 = unfold fileRow fileRows bodyRows layoutRows trailerRows numberRows firstRow tagged in refl
 
 pub example-6 : fileRow (0x01 ∷ 0x01 ∷ 0x00 ∷ 0x02 ∷ 0x00 ∷ 0x00 ∷ 0x41 ∷ 0x57 ∷ []) ≡ 6
-unfolding fileRow fileRows bodyRows layoutRows trailerRows numberRows firstRow tagged
-example-6 = refl
+example-6 = unfold fileRow fileRows bodyRows layoutRows trailerRows numberRows firstRow tagged in refl
 
 pub example-7 : fileRow (0x01 ∷ 0x01 ∷ 0x00 ∷ 0x00 ∷ 0x00 ∷ 0x00 ∷ 0x41 ∷ 0x57 ∷ []) ≡ 7
-unfolding fileRow fileRows bodyRows layoutRows trailerRows numberRows firstRow tagged
-example-7 = refl
+example-7 = unfold fileRow fileRows bodyRows layoutRows trailerRows numberRows firstRow tagged in refl
 
 pub example-8 : fileRow (0x09 ∷ 0x01 ∷ 0x01 ∷ 0x00 ∷ 0x00 ∷ 0x00 ∷ 0x00 ∷ 0x41 ∷ 0x57 ∷ []) ≡ 8
 unfolding fileRow fileRows bodyRows layoutRows trailerRows numberRows listRows firstRow tagged clausesOf countsOf anyOf sum
@@ -62,142 +55,116 @@ unfolding fileRow fileRows bodyRows layoutRows trailerRows numberRows listRows f
 example-10 = refl
 
 pub example-11 : fileRow (0x02 ∷ 0x01 ∷ 0x01 ∷ 0x01 ∷ 0x02 ∷ 0x01 ∷ 0x00 ∷ 0x01 ∷ 0x02 ∷ 0x00 ∷ 0x41 ∷ 0x57 ∷ []) ≡ 11
-unfolding rowsComputed
-example-11 = refl
+example-11 = unfold rowsComputed in refl
 
 -- rows 5 and 6 both apply
 pub order-5-6 : fileRow (0x01 ∷ 0x01 ∷ 0x01 ∷ 0x02 ∷ 0x00 ∷ 0x00 ∷ 0x41 ∷ 0x57 ∷ []) ≡ 5
-unfolding fileRow fileRows bodyRows layoutRows trailerRows numberRows firstRow tagged
-order-5-6 = refl
+order-5-6 = unfold fileRow fileRows bodyRows layoutRows trailerRows numberRows firstRow tagged in refl
 
 -- ---- row 20
 
 -- a repeat: 01 01
 pub repeat-20 : fileRow (0x01 ∷ 0x01 ∷ 0x02 ∷ 0x01 ∷ 0x01 ∷ 0x00 ∷ 0x00 ∷ 0x02 ∷ 0x00 ∷ 0x41 ∷ 0x57 ∷ []) ≡ 20
-unfolding rowsComputed
-repeat-20 = refl
+repeat-20 = unfold rowsComputed in refl
 
 -- the earlier clause 03 contains the later 01
 pub earlier-20 : fileRow (0x03 ∷ 0x01 ∷ 0x02 ∷ 0x00 ∷ 0x02 ∷ 0x01 ∷ 0x00 ∷ 0x00 ∷ 0x02 ∷ 0x00 ∷ 0x41 ∷ 0x57 ∷ []) ≡ 20
-unfolding rowsComputed
-earlier-20 = refl
+earlier-20 = unfold rowsComputed in refl
 
 -- the later clause 03 contains the earlier 01
 pub later-20 : fileRow (0x01 ∷ 0x03 ∷ 0x02 ∷ 0x00 ∷ 0x02 ∷ 0x01 ∷ 0x00 ∷ 0x00 ∷ 0x02 ∷ 0x00 ∷ 0x41 ∷ 0x57 ∷ []) ≡ 20
-unfolding rowsComputed
-later-20 = refl
+later-20 = unfold rowsComputed in refl
 
 -- they need not be neighbours: 01 02 01
 pub apart-20 : fileRow (0x01 ∷ 0x02 ∷ 0x01 ∷ 0x03 ∷ 0x00 ∷ 0x02 ∷ 0x01 ∷ 0x00 ∷ 0x00 ∷ 0x03 ∷ 0x00 ∷ 0x41 ∷ 0x57 ∷ []) ≡ 20
-unfolding rowsComputed
-apart-20 = refl
+apart-20 = unfold rowsComputed in refl
 
 -- every clause contains the empty one
 pub empty-20 : fileRow (0x01 ∷ 0x00 ∷ 0x02 ∷ 0x01 ∷ 0x01 ∷ 0x00 ∷ 0x00 ∷ 0x02 ∷ 0x00 ∷ 0x41 ∷ 0x57 ∷ []) ≡ 20
-unfolding rowsComputed
-empty-20 = refl
+empty-20 = unfold rowsComputed in refl
 
 -- one clause may stand in several entries, of two letters and of two states
 pub entries-0 : fileRow (0x01 ∷ 0x01 ∷ 0x01 ∷ 0x01 ∷ 0x01 ∷ 0x01 ∷ 0x01 ∷ 0x01 ∷ 0x02 ∷ 0x02 ∷ 0x00 ∷ 0x00 ∷ 0x04 ∷ 0x00 ∷ 0x41 ∷ 0x57 ∷ []) ≡ 0
-unfolding rowsComputed
-entries-0 = refl
+entries-0 = unfold rowsComputed in refl
 
 -- none of 01 02 04 contains another
 pub antichain-0 : fileRow (0x01 ∷ 0x02 ∷ 0x04 ∷ 0x03 ∷ 0x00 ∷ 0x00 ∷ 0x03 ∷ 0x01 ∷ 0x00 ∷ 0x00 ∷ 0x03 ∷ 0x00 ∷ 0x41 ∷ 0x57 ∷ []) ≡ 0
-unfolding rowsComputed
-antichain-0 = refl
+antichain-0 = unfold rowsComputed in refl
 
 -- rows 10 and 20 both apply
 pub order-10-20 : fileRow (0x02 ∷ 0x02 ∷ 0x02 ∷ 0x01 ∷ 0x01 ∷ 0x00 ∷ 0x00 ∷ 0x02 ∷ 0x00 ∷ 0x41 ∷ 0x57 ∷ []) ≡ 10
-unfolding rowsComputed
-order-10-20 = refl
+order-10-20 = unfold rowsComputed in refl
 
 -- rows 20 and 11 both apply
 pub order-20-11 : fileRow (0x02 ∷ 0x02 ∷ 0x01 ∷ 0x02 ∷ 0x01 ∷ 0x02 ∷ 0x01 ∷ 0x00 ∷ 0x01 ∷ 0x03 ∷ 0x00 ∷ 0x41 ∷ 0x57 ∷ []) ≡ 20
-unfolding rowsComputed
-order-20-11 = refl
+order-20-11 = unfold rowsComputed in refl
 
 -- ---- rows 21 to 23
 
 -- one name before Z
 pub named-0 : fileRow (0x47 ∷ 0x4f ∷ 0x20 ∷ 0x20 ∷ 0x20 ∷ 0x20 ∷ 0x20 ∷ 0x20 ∷ 0x4e ∷ 0x4d ∷ 0x00 ∷ 0x01 ∷ 0x01 ∷ 0x00 ∷ 0x01 ∷ 0x00 ∷ 0x00 ∷ 0x41 ∷ 0x57 ∷ []) ≡ 0
-unfolding rowsComputed
-named-0 = refl
+named-0 = unfold rowsComputed in refl
 
 -- other bytes stand before the names
 pub named-after-0 : fileRow (0x01 ∷ 0x02 ∷ 0x03 ∷ 0x47 ∷ 0x4f ∷ 0x20 ∷ 0x20 ∷ 0x20 ∷ 0x20 ∷ 0x20 ∷ 0x20 ∷ 0x53 ∷ 0x54 ∷ 0x4f ∷ 0x50 ∷ 0x20 ∷ 0x20 ∷ 0x20 ∷ 0x20 ∷ 0x4e ∷ 0x4d ∷ 0x00 ∷ 0x00 ∷ 0x01
     ∷ 0x02 ∷ 0x00 ∷ 0x01 ∷ 0x00 ∷ 0x00 ∷ 0x41 ∷ 0x57 ∷ []) ≡ 0
-unfolding rowsComputed
-named-after-0 = refl
+named-after-0 = unfold rowsComputed in refl
 
 -- 4E 4D not right before the clauses: no names
 pub off-0 : fileRow (0x4e ∷ 0x4d ∷ 0x00 ∷ 0x00 ∷ 0x01 ∷ 0x01 ∷ 0x00 ∷ 0x01 ∷ 0x00 ∷ 0x00 ∷ 0x41 ∷ 0x57 ∷ []) ≡ 0
-unfolding rowsComputed
-off-0 = refl
+off-0 = unfold rowsComputed in refl
 
 -- 4E 4D alone
 pub alone-21 : fileRow (0x4e ∷ 0x4d ∷ 0x00 ∷ 0x01 ∷ 0x01 ∷ 0x00 ∷ 0x01 ∷ 0x00 ∷ 0x00 ∷ 0x41 ∷ 0x57 ∷ []) ≡ 21
-unfolding rowsComputed
-alone-21 = refl
+alone-21 = unfold rowsComputed in refl
 
 -- seven bytes before 4E 4D
 pub short-21 : fileRow (0x47 ∷ 0x4f ∷ 0x20 ∷ 0x20 ∷ 0x20 ∷ 0x20 ∷ 0x20 ∷ 0x4e ∷ 0x4d ∷ 0x00 ∷ 0x01 ∷ 0x01 ∷ 0x00 ∷ 0x01 ∷ 0x00 ∷ 0x00 ∷ 0x41 ∷ 0x57 ∷ []) ≡ 21
-unfolding rowsComputed
-short-21 = refl
+short-21 = unfold rowsComputed in refl
 
 -- one name for two letters
 pub second-21 : fileRow (0x47 ∷ 0x4f ∷ 0x20 ∷ 0x20 ∷ 0x20 ∷ 0x20 ∷ 0x20 ∷ 0x20 ∷ 0x4e ∷ 0x4d ∷ 0x00 ∷ 0x00 ∷ 0x01 ∷ 0x02 ∷ 0x00 ∷ 0x01 ∷ 0x00 ∷ 0x00 ∷ 0x41 ∷ 0x57 ∷ []) ≡ 21
-unfolding rowsComputed
-second-21 = refl
+second-21 = unfold rowsComputed in refl
 
 -- 1F in a name
 pub low-22 : fileRow (0x47 ∷ 0x4f ∷ 0x20 ∷ 0x20 ∷ 0x20 ∷ 0x20 ∷ 0x20 ∷ 0x1f ∷ 0x4e ∷ 0x4d ∷ 0x00 ∷ 0x01 ∷ 0x01 ∷ 0x00 ∷ 0x01 ∷ 0x00 ∷ 0x00 ∷ 0x41 ∷ 0x57 ∷ []) ≡ 22
-unfolding rowsComputed
-low-22 = refl
+low-22 = unfold rowsComputed in refl
 
 -- 20 throughout a name
 pub lowest-0 : fileRow (0x20 ∷ 0x20 ∷ 0x20 ∷ 0x20 ∷ 0x20 ∷ 0x20 ∷ 0x20 ∷ 0x20 ∷ 0x4e ∷ 0x4d ∷ 0x00 ∷ 0x01 ∷ 0x01 ∷ 0x00 ∷ 0x01 ∷ 0x00 ∷ 0x00 ∷ 0x41 ∷ 0x57 ∷ []) ≡ 0
-unfolding rowsComputed
-lowest-0 = refl
+lowest-0 = unfold rowsComputed in refl
 
 -- 7E throughout a name
 pub highest-0 : fileRow (0x7e ∷ 0x7e ∷ 0x7e ∷ 0x7e ∷ 0x7e ∷ 0x7e ∷ 0x7e ∷ 0x7e ∷ 0x4e ∷ 0x4d ∷ 0x00 ∷ 0x01 ∷ 0x01 ∷ 0x00 ∷ 0x01 ∷ 0x00 ∷ 0x00 ∷ 0x41 ∷ 0x57 ∷ []) ≡ 0
-unfolding rowsComputed
-highest-0 = refl
+highest-0 = unfold rowsComputed in refl
 
 -- 7F in a name
 pub high-22 : fileRow (0x7f ∷ 0x4f ∷ 0x20 ∷ 0x20 ∷ 0x20 ∷ 0x20 ∷ 0x20 ∷ 0x20 ∷ 0x4e ∷ 0x4d ∷ 0x00 ∷ 0x01 ∷ 0x01 ∷ 0x00 ∷ 0x01 ∷ 0x00 ∷ 0x00 ∷ 0x41 ∷ 0x57 ∷ []) ≡ 22
-unfolding rowsComputed
-high-22 = refl
+high-22 = unfold rowsComputed in refl
 
 -- two equal names
 pub equal-23 : fileRow (0x47 ∷ 0x4f ∷ 0x20 ∷ 0x20 ∷ 0x20 ∷ 0x20 ∷ 0x20 ∷ 0x20 ∷ 0x47 ∷ 0x4f ∷ 0x20 ∷ 0x20 ∷ 0x20 ∷ 0x20 ∷ 0x20 ∷ 0x20 ∷ 0x4e ∷ 0x4d ∷ 0x00 ∷ 0x00 ∷ 0x01 ∷ 0x02 ∷ 0x00 ∷ 0x01 ∷ 0x00
     ∷ 0x00 ∷ 0x41 ∷ 0x57 ∷ []) ≡ 23
-unfolding rowsComputed
-equal-23 = refl
+equal-23 = unfold rowsComputed in refl
 
 -- names that differ in their last byte
 pub unequal-0 : fileRow (0x47 ∷ 0x4f ∷ 0x20 ∷ 0x20 ∷ 0x20 ∷ 0x20 ∷ 0x20 ∷ 0x20 ∷ 0x47 ∷ 0x4f ∷ 0x20 ∷ 0x20 ∷ 0x20 ∷ 0x20 ∷ 0x20 ∷ 0x21 ∷ 0x4e ∷ 0x4d ∷ 0x00 ∷ 0x00 ∷ 0x01 ∷ 0x02 ∷ 0x00 ∷ 0x01 ∷ 0x00
     ∷ 0x00 ∷ 0x41 ∷ 0x57 ∷ []) ≡ 0
-unfolding rowsComputed
-unequal-0 = refl
+unequal-0 = unfold rowsComputed in refl
 
 -- rows 22 and 23 both apply
 pub order-22-23 : fileRow (0x1f ∷ 0x1f ∷ 0x1f ∷ 0x1f ∷ 0x1f ∷ 0x1f ∷ 0x1f ∷ 0x1f ∷ 0x1f ∷ 0x1f ∷ 0x1f ∷ 0x1f ∷ 0x1f ∷ 0x1f ∷ 0x1f ∷ 0x1f ∷ 0x4e ∷ 0x4d ∷ 0x00 ∷ 0x00 ∷ 0x01 ∷ 0x02 ∷ 0x00 ∷ 0x01 ∷ 0x00
     ∷ 0x00 ∷ 0x41 ∷ 0x57 ∷ []) ≡ 22
-unfolding rowsComputed
-order-22-23 = refl
+order-22-23 = unfold rowsComputed in refl
 
 -- rows 11 and 21 both apply
 pub order-11-21 : fileRow (0x4e ∷ 0x4d ∷ 0x02 ∷ 0x01 ∷ 0x01 ∷ 0x01 ∷ 0x02 ∷ 0x01 ∷ 0x00 ∷ 0x01 ∷ 0x02 ∷ 0x00 ∷ 0x41 ∷ 0x57 ∷ []) ≡ 11
-unfolding rowsComputed
-order-11-21 = refl
+order-11-21 = unfold rowsComputed in refl
 
 -- the names of a file are those right before 4E 4D, letter 0 first
 pub names-read : namesOf (0x01 ∷ 0x02 ∷ 0x03 ∷ 0x47 ∷ 0x4f ∷ 0x20 ∷ 0x20 ∷ 0x20 ∷ 0x20 ∷ 0x20 ∷ 0x20 ∷ 0x53 ∷ 0x54 ∷ 0x4f ∷ 0x50 ∷ 0x20 ∷ 0x20 ∷ 0x20 ∷ 0x20 ∷ 0x4e ∷ 0x4d ∷ 0x00 ∷ 0x00 ∷ 0x01 ∷ 0x02
     ∷ 0x00 ∷ 0x01 ∷ 0x00 ∷ 0x00 ∷ 0x41 ∷ 0x57 ∷ []) ≡ 0x47 ∷ 0x4f ∷ 0x20 ∷ 0x20 ∷ 0x20 ∷ 0x20 ∷ 0x20 ∷ 0x20 ∷ 0x53 ∷ 0x54 ∷ 0x4f ∷ 0x50 ∷ 0x20 ∷ 0x20 ∷ 0x20 ∷ 0x20 ∷ []
-unfolding hasNames namesBefore
-names-read = refl
+names-read = unfold hasNames namesBefore in refl
 
 -- ---- the rules
 
@@ -208,8 +175,7 @@ pub rule-F : Rule
 rule-F = record { n = 1; s = 2; initial = 0; accepting = 0; counts = 1 ∷ 1 ∷ []; clauses = 1 ∷ 0 ∷ [] }
 
 pub reads-F : (fileRow file-F ≡ 0) × (ruleIn file-F ≡ rule-F)
-unfolding file-F rule-F rowsComputed
-reads-F = (refl, refl)
+reads-F = unfold file-F rule-F rowsComputed in (refl, refl)
 
 pub file-D : List ℕ
 file-D = 0x02 ∷ 0x00 ∷ 0x01 ∷ 0x01 ∷ 0x00 ∷ 0x01 ∷ 0x01 ∷ 0x02 ∷ 0x02 ∷ 0x00 ∷ 0x00 ∷ 0x03 ∷ 0x00 ∷ 0x41 ∷ 0x57 ∷ []
@@ -218,8 +184,7 @@ pub rule-D : Rule
 rule-D = record { n = 2; s = 2; initial = 0; accepting = 0; counts = 1 ∷ 0 ∷ 1 ∷ 1 ∷ []; clauses = 2 ∷ 0 ∷ 1 ∷ [] }
 
 pub reads-D : (fileRow file-D ≡ 0) × (ruleIn file-D ≡ rule-D)
-unfolding file-D rule-D rowsComputed
-reads-D = (refl, refl)
+reads-D = unfold file-D rule-D rowsComputed in (refl, refl)
 
 pub file-E : List ℕ
 file-E = 0x01 ∷ 0x01 ∷ 0x00 ∷ 0x01 ∷ 0x02 ∷ 0x00 ∷ 0x01 ∷ 0x01 ∷ 0x00 ∷ 0x41 ∷ 0x57 ∷ []
@@ -228,8 +193,7 @@ pub rule-E : Rule
 rule-E = record { n = 1; s = 2; initial = 0; accepting = 1; counts = 1 ∷ 0 ∷ []; clauses = 1 ∷ [] }
 
 pub reads-E : (fileRow file-E ≡ 0) × (ruleIn file-E ≡ rule-E)
-unfolding file-E rule-E rowsComputed
-reads-E = (refl, refl)
+reads-E = unfold file-E rule-E rowsComputed in (refl, refl)
 
 pub file-I : List ℕ
 file-I = 0x03 ∷ 0x01 ∷ 0x02 ∷ 0x00 ∷ 0x01 ∷ 0x01 ∷ 0x01 ∷ 0x01 ∷ 0x02 ∷ 0x02 ∷ 0x00 ∷ 0x01 ∷ 0x04 ∷ 0x00 ∷ 0x41 ∷ 0x57 ∷ []
@@ -238,8 +202,7 @@ pub rule-I : Rule
 rule-I = record { n = 2; s = 2; initial = 0; accepting = 1; counts = 1 ∷ 1 ∷ 1 ∷ 1 ∷ []; clauses = 3 ∷ 1 ∷ 2 ∷ 0 ∷ [] }
 
 pub reads-I : (fileRow file-I ≡ 0) × (ruleIn file-I ≡ rule-I)
-unfolding file-I rule-I rowsComputed
-reads-I = (refl, refl)
+reads-I = unfold file-I rule-I rowsComputed in (refl, refl)
 
 pub file-Z : List ℕ
 file-Z = 0x00 ∷ 0x01 ∷ 0x01 ∷ 0x00 ∷ 0x01 ∷ 0x00 ∷ 0x00 ∷ 0x41 ∷ 0x57 ∷ []
@@ -248,11 +211,9 @@ pub rule-Z : Rule
 rule-Z = record { n = 1; s = 1; initial = 0; accepting = 1; counts = 0 ∷ []; clauses = [] }
 
 pub reads-Z : (fileRow file-Z ≡ 0) × (ruleIn file-Z ≡ rule-Z)
-unfolding file-Z rule-Z rowsComputed
-reads-Z = (refl, refl)
+reads-Z = unfold file-Z rule-Z rowsComputed in (refl, refl)
 
 -- ---- the layout of a rule
 
 pub body-D : bodyOf rule-D ≡ file-D
-unfolding bodyOf trailerOf rule-D file-D
-body-D = refl
+body-D = unfold bodyOf trailerOf rule-D file-D in refl

@@ -8,17 +8,13 @@ use Rattle.file_spec.specs.File.{clauseCount, entryCount, clausesAt, cla
 
 module _ (f : List ℕ) (fits : clauseCount f + entryCount f ≤ length f - 8) where
   pub clauses-part : take (clausesAt f + clauseCount f - clausesAt f) (drop (clausesAt f) f) ≡ clausesOf f
-  unfolding clausesOf
-  clauses-part = let e : clausesAt f + clauseCount f - clausesAt f ≡ clauseCount f = omega arith in rw e
+  clauses-part = unfold clausesOf in let e : clausesAt f + clauseCount f - clausesAt f ≡ clauseCount f = omega arith in rw e
 
   pub counts-part : take (length f - 8 - (clausesAt f + clauseCount f)) (drop (clausesAt f + clauseCount f) f) ≡ countsOf f
-  unfolding countsOf
-  counts-part = let e : length f - 8 - (clausesAt f + clauseCount f) ≡ entryCount f = omega arith in rw e
+  counts-part = unfold countsOf in let e : length f - 8 - (clausesAt f + clauseCount f) ≡ entryCount f = omega arith in rw e
 
   pub clauses-length : length (clausesOf f) ≡ clauseCount f
-  unfolding clausesOf
-  clauses-length = simp (length-take, length-drop) (omega arith)
+  clauses-length = unfold clausesOf in simp (length-take, length-drop) (omega arith)
 
   pub counts-length : length (countsOf f) ≡ entryCount f
-  unfolding countsOf
-  counts-length = simp (length-take, length-drop) (omega arith)
+  counts-length = unfold countsOf in simp (length-take, length-drop) (omega arith)

@@ -55,42 +55,33 @@ module _ (h : Head) (counts clauses : List ℕ) where
 module _ (r : Rule) where
   -- a well-formed rule that row 11 passes, passes every check
   pub passing : WellFormed r → firstRow (componentRows r) ≡ 0 → Passing r
-  unfolding componentRows
-  passing w e = record { formed = w; unmixed = unmixed-iff r .0 (first-pass (mixed r) 10 [] e .0) }
+  passing w e = unfold componentRows in record { formed = w; unmixed = unmixed-iff r .0 (first-pass (mixed r) 10 [] e .0) }
 
   pub passing-components : Passing r → firstRow (componentRows r) ≡ 0
-  unfolding componentRows firstRow
-  passing-components p = rw (unmixed-iff r .1 (p .unmixed))
+  passing-components p = unfold componentRows firstRow in rw (unmixed-iff r .1 (p .unmixed))
 
   pub row-20 : someNested r ≡ true → 20 ≡ firstRow (clauseRows r)
-  unfolding clauseRows firstRow
-  row-20 e = rw e
+  row-20 e = unfold clauseRows firstRow in rw e
 
   pub pass-20 : someNested r ≡ false → 0 ≡ firstRow (clauseRows r)
-  unfolding clauseRows firstRow
-  pass-20 e = rw e
+  pass-20 e = unfold clauseRows firstRow in rw e
 
   -- what row 20 passes has no nested entry
   pub passed-20 : firstRow (clauseRows r) ≡ 0 → someNested r ≡ false
-  unfolding clauseRows
-  passed-20 e = first-pass (someNested r) 19 [] e .0
+  passed-20 e = unfold clauseRows in first-pass (someNested r) 19 [] e .0
 
   clauses-numbered : numbered (clauseRows r) ≡ true
-  unfolding numbered clauseRows
-  clauses-numbered = refl
+  clauses-numbered = unfold numbered clauseRows in refl
 
   -- row 20, then row 11
   pub by-clauses : (k : ℕ) → (k ≡ 0 → ⊥) → k ≡ firstRow (clauseRows r) → k ≡ firstRow (formedRows r)
-  unfolding formedRows
-  by-clauses k n e = first-left (clauseRows r) _ k n e
+  by-clauses k n e = unfold formedRows in first-left (clauseRows r) _ k n e
 
   pub past-clauses : firstRow (clauseRows r) ≡ 0 → firstRow (formedRows r) ≡ firstRow (componentRows r)
-  unfolding formedRows
-  past-clauses e = first-right (clauseRows r) _ clauses-numbered e
+  past-clauses e = unfold formedRows in first-right (clauseRows r) _ clauses-numbered e
 
   pub formed-parts : firstRow (formedRows r) ≡ 0 → (firstRow (clauseRows r) ≡ 0) × (firstRow (componentRows r) ≡ 0)
-  unfolding formedRows
-  formed-parts e = first-parts (clauseRows r) _ clauses-numbered e
+  formed-parts e = unfold formedRows in first-parts (clauseRows r) _ clauses-numbered e
 
   -- what rows 20 and 11 pass, of a well-formed rule
   pub formed-passing : WellFormed r → firstRow (formedRows r) ≡ 0 → Passing r
@@ -104,9 +95,7 @@ module _ (r : Rule) where
   passing-formed p e = past-clauses (sym (pass-20 e)) ∙ passing-components p
 
   pub row-11 : mixed r ≡ true → 11 ≡ firstRow (componentRows r)
-  unfolding componentRows firstRow
-  row-11 e = rw e
+  row-11 e = unfold componentRows firstRow in rw e
 
   pub pass-11 : mixed r ≡ false → 0 ≡ firstRow (componentRows r)
-  unfolding componentRows firstRow
-  pass-11 e = rw e
+  pass-11 e = unfold componentRows firstRow in rw e

@@ -12,17 +12,13 @@ use Rattle.file_spec.specs.RuleRows.{listRows}
 
 module _ (n : ℕ) (counts clauses : List ℕ) where
   pub row-8 : anyOf counts (leb 9) ≡ true → 8 ≡ firstRow (listRows n counts clauses)
-  unfolding firstRow listRows
-  row-8 a = rw a
+  row-8 a = unfold firstRow listRows in rw a
 
   pub row-9 : anyOf counts (leb 9) ≡ false → (sum counts ≡ length clauses → ⊥) → 9 ≡ firstRow (listRows n counts clauses)
-  unfolding firstRow listRows
-  row-9 a b = rw (a, ne-eqb _ _ b)
+  row-9 a b = unfold firstRow listRows in rw (a, ne-eqb _ _ b)
 
   pub row-10 : anyOf counts (leb 9) ≡ false → sum counts ≡ length clauses → anyOf clauses (leb (2 ^ n)) ≡ true → 10 ≡ firstRow (listRows n counts clauses)
-  unfolding firstRow listRows
-  row-10 a b d = rw (a, eq-eqb _ _ b, d)
+  row-10 a b d = unfold firstRow listRows in rw (a, eq-eqb _ _ b, d)
 
   pub pass-10 : anyOf counts (leb 9) ≡ false → sum counts ≡ length clauses → anyOf clauses (leb (2 ^ n)) ≡ false → 0 ≡ firstRow (listRows n counts clauses)
-  unfolding firstRow listRows
-  pass-10 a b d = rw (a, eq-eqb _ _ b, d)
+  pass-10 a b d = unfold firstRow listRows in rw (a, eq-eqb _ _ b, d)

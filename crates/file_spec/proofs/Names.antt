@@ -23,16 +23,13 @@ use Rattle.file_spec.specs.RuleRows.{outside}
 
 module _ (names : List ℕ) where
   pub row-22 : anyOf names (outside 0x20 0x7E) ≡ true → 22 ≡ firstRow (nameRows names)
-  unfolding firstRow nameRows
-  row-22 a = rw a
+  row-22 a = unfold firstRow nameRows in rw a
 
   pub row-23 : anyOf names (outside 0x20 0x7E) ≡ false → repeatsName names ≡ true → 23 ≡ firstRow (nameRows names)
-  unfolding firstRow nameRows
-  row-23 a b = rw (a, b)
+  row-23 a b = unfold firstRow nameRows in rw (a, b)
 
   pub pass-23 : anyOf names (outside 0x20 0x7E) ≡ false → repeatsName names ≡ false → 0 ≡ firstRow (nameRows names)
-  unfolding firstRow nameRows
-  pass-23 a b = rw (a, b)
+  pass-23 a b = unfold firstRow nameRows in rw (a, b)
 
 module _ (s : ℕ) (names : List ℕ) where
   -- none, or 8 for each letter
@@ -40,16 +37,13 @@ module _ (s : ℕ) (names : List ℕ) where
   whole = eqb (length names) 0 || eqb (length names) (8 * s)
 
   pub given-21 : whole ≡ false → 21 ≡ firstRow (givenRows s names)
-  unfolding firstRow givenRows
-  given-21 e = rw e
+  given-21 e = unfold firstRow givenRows in rw e
 
   pub past-given : whole ≡ true → firstRow (givenRows s names) ≡ firstRow (nameRows names)
-  unfolding firstRow givenRows
-  past-given e = rw e
+  past-given e = unfold firstRow givenRows in rw e
 
   pub given-numbered : numbered (givenRows s names) ≡ true
-  unfolding numbered givenRows nameRows
-  given-numbered = refl
+  given-numbered = unfold numbered givenRows nameRows in refl
 
   pub given-whole : firstRow (givenRows s names) ≡ 0 → (length names ≡ 0) ⊎ (length names ≡ 8 * s)
   unfolding givenRows
@@ -58,8 +52,7 @@ module _ (s : ℕ) (names : List ℕ) where
       (or-cases (eqb (length names) 0) (eqb (length names) (8 * s)) (not-false whole (first-pass (not whole) 20 _ e .0)))
 
   pub given-names : firstRow (givenRows s names) ≡ 0 → firstRow (nameRows names) ≡ 0
-  unfolding givenRows
-  given-names e = first-pass (not whole) 20 _ e .1
+  given-names e = unfold givenRows in first-pass (not whole) 20 _ e .1
 
 module _ (s : ℕ) (p : List ℕ) where
   -- the names do not fit
@@ -67,38 +60,31 @@ module _ (s : ℕ) (p : List ℕ) where
   cutOff = hasNames p && ltb (length p - 2) (8 * s)
 
   pub row-21 : cutOff ≡ true → 21 ≡ firstRow (prefaceRows s p)
-  unfolding firstRow prefaceRows
-  row-21 e = rw e
+  row-21 e = unfold firstRow prefaceRows in rw e
 
   pub past-21 : cutOff ≡ false → firstRow (prefaceRows s p) ≡ firstRow (nameRows (namesBefore s p))
-  unfolding firstRow prefaceRows
-  past-21 e = rw e
+  past-21 e = unfold firstRow prefaceRows in rw e
 
   pub fit-21 : firstRow (prefaceRows s p) ≡ 0 → cutOff ≡ false
-  unfolding prefaceRows
-  fit-21 e = first-pass cutOff 20 _ e .0
+  fit-21 e = unfold prefaceRows in first-pass cutOff 20 _ e .0
 
   pub preface-numbered : numbered (prefaceRows s p) ≡ true
-  unfolding numbered prefaceRows nameRows
-  preface-numbered = refl
+  preface-numbered = unfold numbered prefaceRows nameRows in refl
 
   -- ---- the names
 
   pub no-names : hasNames p ≡ false → namesBefore s p ≡ []
-  unfolding namesBefore
-  no-names e = rw e
+  no-names e = unfold namesBefore in rw e
 
   pub names-there : hasNames p ≡ true → namesBefore s p ≡ take (8 * s) (drop (length p - 2 - 8 * s) p)
-  unfolding namesBefore
-  names-there e = rw e
+  names-there e = unfold namesBefore in rw e
 
   pub names-room : hasNames p ≡ true → cutOff ≡ false → 8 * s ≤ length p - 2
   names-room h e = ltb-false (length p - 2) (8 * s) (bif (ltb (length p - 2) (8 * s)) (λ t. clash (rw (h, t)) e) (λ t. t))
 
   -- a preface that ends with 4E 4D has two bytes
   pub names-long : hasNames p ≡ true → 2 ≤ length p
-  unfolding hasNames
-  names-long e = leb-true 2 (length p) (and-l (leb 2 (length p)) _ e)
+  names-long e = unfold hasNames in leb-true 2 (length p) (and-l (leb 2 (length p)) _ e)
 
   -- a preface with names is any bytes, then 8 bytes a letter, then 4E 4D
   tag-ends : hasNames p ≡ true → drop (length p - 2) p ≡ namesTag
@@ -159,8 +145,7 @@ module _ (s : ℕ) (q names : List ℕ) (l : length names ≡ 8 * s) where
 
 -- a preface of no byte has no names
 pub no-preface : (s : ℕ) → firstRow (prefaceRows s []) ≡ 0
-unfolding firstRow prefaceRows nameRows hasNames namesBefore repeatsName anyOf someBelow
-no-preface s = refl
+no-preface s = unfold firstRow prefaceRows nameRows hasNames namesBefore repeatsName anyOf someBelow in refl
 
 -- ---- the preface that is written
 

@@ -22,26 +22,21 @@ pub record Ranges (h : Head) : Type 0 where
 
 module _ (h : Head) where
   pub under-3 : h .n < 1 → 3 ≡ firstRow (numberRows h)
-  unfolding firstRow numberRows
-  under-3 l = rw (lt-ltb _ _ l)
+  under-3 l = unfold firstRow numberRows in rw (lt-ltb _ _ l)
 
   pub over-3 : 1 ≤ h .n → 8 < h .n → 3 ≡ firstRow (numberRows h)
-  unfolding firstRow numberRows
-  over-3 a l = rw (le-ltb _ _ a, lt-ltb _ _ l)
+  over-3 a l = unfold firstRow numberRows in rw (le-ltb _ _ a, lt-ltb _ _ l)
 
   module _ (a : 1 ≤ h .n) (b : h .n ≤ 8) where
     pub under-4 : h .s < 1 → 4 ≡ firstRow (numberRows h)
-    unfolding firstRow numberRows
-    under-4 l = rw (le-ltb _ _ a, le-ltb _ _ b, lt-ltb _ _ l)
+    under-4 l = unfold firstRow numberRows in rw (le-ltb _ _ a, le-ltb _ _ b, lt-ltb _ _ l)
 
     pub over-4 : 1 ≤ h .s → 16 < h .s → 4 ≡ firstRow (numberRows h)
-    unfolding firstRow numberRows
-    over-4 d l = rw (le-ltb _ _ a, le-ltb _ _ b, le-ltb _ _ d, lt-ltb _ _ l)
+    over-4 d l = unfold firstRow numberRows in rw (le-ltb _ _ a, le-ltb _ _ b, le-ltb _ _ d, lt-ltb _ _ l)
 
     module _ (d : 1 ≤ h .s) (e : h .s ≤ 16) where
       pub row-5 : h .n ≤ h .initial → 5 ≡ firstRow (numberRows h)
-      unfolding firstRow numberRows
-      row-5 l = rw (le-ltb _ _ a, le-ltb _ _ b, le-ltb _ _ d, le-ltb _ _ e, le-leb _ _ l)
+      row-5 l = unfold firstRow numberRows in rw (le-ltb _ _ a, le-ltb _ _ b, le-ltb _ _ d, le-ltb _ _ e, le-leb _ _ l)
 
       pub row-6 : h .initial < h .n → 2 ^ h .n ≤ h .accepting → 6 ≡ firstRow (numberRows h)
       unfolding firstRow numberRows

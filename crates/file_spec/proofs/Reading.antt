@@ -17,18 +17,15 @@ named-Z = 0x01 ∷ 0x02 ∷ 0x03 ∷ 0x47 ∷ 0x4f ∷ 0x20 ∷ 0x20 ∷ 0x20 �
 
 -- its names are eight bytes, and its clauses would begin behind their tag
 named-read : readOf named-Z ≡ Accepted (record { head = record { n = 1; s = 1; initial = 0; accepting = 1 }; at = 13; clauses = 0; names = 8 })
-unfolding computed
-named-read = refl
+named-read = unfold computed in refl
 
 -- the preface is all that stands before the first clause
 named-preface : prefaceOf named-Z ≡ 0x01 ∷ 0x02 ∷ 0x03 ∷ 0x47 ∷ 0x4f ∷ 0x20 ∷ 0x20 ∷ 0x20 ∷ 0x20 ∷ 0x20 ∷ 0x20 ∷ 0x4e ∷ 0x4d ∷ []
-unfolding computed
-named-preface = refl
+named-preface = unfold computed in refl
 
 -- 01's example of row 11 behind one byte: refused, and "From a refused file that part is empty."
 abbrev mixed-behind : List ℕ
 mixed-behind = 0x07 ∷ 0x02 ∷ 0x01 ∷ 0x01 ∷ 0x01 ∷ 0x02 ∷ 0x01 ∷ 0x00 ∷ 0x01 ∷ 0x02 ∷ 0x00 ∷ 0x41 ∷ 0x57 ∷ []
 
 mixed-read : (readOf mixed-behind ≡ Refused 11) × (prefaceOf mixed-behind ≡ [])
-unfolding computed
-mixed-read = (refl, refl)
+mixed-read = unfold computed in (refl, refl)

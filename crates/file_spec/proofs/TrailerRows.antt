@@ -14,12 +14,10 @@ use Rattle.file_spec.specs.RuleRows.{numberRows, listRows}
 use Rattle.file_spec.proofs.Numbers.{Ranges, ranges}
 
 pub numbers-numbered : (f : List ℕ) → numbered (numberRows (headOf f)) ≡ true
-unfolding numbered numberRows
-numbers-numbered f = refl
+numbers-numbered f = unfold numbered numberRows in refl
 
 pub trailer-numbered : (f : List ℕ) → numbered (trailerRows f) ≡ true
-unfolding numbered trailerRows numberRows
-trailer-numbered f = refl
+trailer-numbered f = unfold numbered trailerRows numberRows in refl
 
 -- what rows 1 to 7 ask
 pub record Placed (f : List ℕ) : Type 0 where
@@ -30,18 +28,15 @@ pub record Placed (f : List ℕ) : Type 0 where
 
 module _ (f : List ℕ) where
   pub row-1 : length f < 8 → 1 ≡ firstRow (trailerRows f)
-  unfolding firstRow trailerRows
-  row-1 l = rw (lt-ltb _ _ l)
+  row-1 l = unfold firstRow trailerRows in rw (lt-ltb _ _ l)
 
   module _ (long : 8 ≤ length f) where
     pub row-2 : tagged f ≡ false → 2 ≡ firstRow (trailerRows f)
-    unfolding firstRow trailerRows
-    row-2 e = rw (le-ltb _ _ long, e)
+    row-2 e = unfold firstRow trailerRows in rw (le-ltb _ _ long, e)
 
     module _ (e : tagged f ≡ true) where
       pub row-numbers : (k : ℕ) → (k ≡ 0 → ⊥) → k ≡ firstRow (numberRows (headOf f)) → k ≡ firstRow (trailerRows f)
-      unfolding firstRow trailerRows
-      row-numbers k n r = rw (le-ltb _ _ long, e) (first-left (numberRows (headOf f)) _ k n r)
+      row-numbers k n r = unfold firstRow trailerRows in rw (le-ltb _ _ long, e) (first-left (numberRows (headOf f)) _ k n r)
 
       module _ (r : firstRow (numberRows (headOf f)) ≡ 0) where
         pub row-7 : length f - 8 < clauseCount f + entryCount f → 7 ≡ firstRow (trailerRows f)
@@ -75,9 +70,7 @@ module _ (f : List ℕ) where
       first-parts (numberRows (headOf f)) _ (numbers-numbered f) (r₂ .1) .0
 
   pub rows-trailer : (k : ℕ) → (k ≡ 0 → ⊥) → k ≡ firstRow (trailerRows f) → k ≡ firstRow (layoutRows f)
-  unfolding layoutRows
-  rows-trailer k n e = first-left (trailerRows f) _ k n e
+  rows-trailer k n e = unfold layoutRows in first-left (trailerRows f) _ k n e
 
   pub rows-lists : firstRow (trailerRows f) ≡ 0 → firstRow (layoutRows f) ≡ firstRow (listRows (trailer f 0) (countsOf f) (clausesOf f))
-  unfolding layoutRows
-  rows-lists e = first-right (trailerRows f) _ (trailer-numbered f) e
+  rows-lists e = unfold layoutRows in first-right (trailerRows f) _ (trailer-numbered f) e

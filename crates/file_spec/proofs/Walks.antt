@@ -8,8 +8,7 @@ use Rattle.sets.proofs.Tests.{some-at}
 
 -- no number below k + 1
 pub some-next : (k : ℕ) (f : Set) → someBelow k f ≡ false → f k ≡ false → someBelow (k + 1) f ≡ false
-unfolding someBelow
-some-next k f h e = rw (add-one k, h, e)
+some-next k f h e = unfold someBelow in rw (add-one k, h, e)
 
 -- where the walk has come to the end
 pub some-end : (k n : ℕ) (f : Set) → k ≡ n → someBelow k f ≡ false → false ≡ someBelow n f

@@ -24,23 +24,19 @@ loose a = 0xff ∷ 0x03 ∷ 0x01 ∷ 0x00 ∷ 0x01 ∷ 0x02 ∷ 0x02 ∷ 0x01 �
 pub tidies : (fileRow (loose 0) ≡ 20) × (tidiedOf (loose 0) 14 ≡ Length 12)
     × (sliceTidied (loose 0) (7 ∷ 7 ∷ 7 ∷ 7 ∷ 7 ∷ 7 ∷ 7 ∷ 7 ∷ 7 ∷ 7 ∷ 7 ∷ 7 ∷ 8 ∷ 9 ∷ [])
     ≡ 0x03 ∷ 0x00 ∷ 0x01 ∷ 0x01 ∷ 0x02 ∷ 0x01 ∷ 0x00 ∷ 0x00 ∷ 0x02 ∷ 0x00 ∷ 0x41 ∷ 0x57 ∷ 8 ∷ 9 ∷ [])
-unfolding tidying
-tidies = (refl, refl, refl)
+tidies = unfold tidying in (refl, refl, refl)
 
 -- the file that it wrote is accepted
 pub tidied-accepted : fileRow (0x03 ∷ 0x00 ∷ 0x01 ∷ 0x01 ∷ 0x02 ∷ 0x01 ∷ 0x00 ∷ 0x00 ∷ 0x02 ∷ 0x00 ∷ 0x41 ∷ 0x57 ∷ []) ≡ 0
-unfolding tidying
-tidied-accepted = refl
+tidied-accepted = unfold tidying in refl
 
 -- eleven bytes are too few, and stay as they were
 pub short-16 : (tidiedOf (loose 0) 11 ≡ Refused 16) × (sliceTidied (loose 0) (7 ∷ 7 ∷ 7 ∷ 7 ∷ 7 ∷ 7 ∷ 7 ∷ 7 ∷ 7 ∷ 7 ∷ 8 ∷ []) ≡ 7 ∷ 7 ∷ 7 ∷ 7 ∷ 7 ∷ 7 ∷ 7 ∷ 7 ∷ 7 ∷ 7 ∷ 8 ∷ [])
-unfolding tidying
-short-16 = (refl, refl)
+short-16 = unfold tidying in (refl, refl)
 
 -- with state 0 accepting, the clause 01 makes a mixed component: 11, though the tidied rule has none, and before 16
 pub stands-11 : (tidiedOf (loose 1) 14 ≡ Refused 11) × (tidyRow (loose 1) 0 ≡ 11)
-unfolding tidying
-stands-11 = (refl, refl)
+stands-11 = unfold tidying in (refl, refl)
 
 -- the rule of `loose 0` after one byte and the name of its letter, which begins with x
 abbrev pub lettered : ℕ → List ℕ
@@ -50,11 +46,9 @@ lettered x = 0xff ∷ x ∷ 0x4f ∷ 0x20 ∷ 0x20 ∷ 0x20 ∷ 0x20 ∷ 0x20 �
 pub tidies-named : (tidiedOf (lettered 0x47) 23 ≡ Length 22)
     × (sliceTidied (lettered 0x47) (7 ∷ 7 ∷ 7 ∷ 7 ∷ 7 ∷ 7 ∷ 7 ∷ 7 ∷ 7 ∷ 7 ∷ 7 ∷ 7 ∷ 7 ∷ 7 ∷ 7 ∷ 7 ∷ 7 ∷ 7 ∷ 7 ∷ 7 ∷ 7 ∷ 7 ∷ 8 ∷ [])
     ≡ 0x47 ∷ 0x4f ∷ 0x20 ∷ 0x20 ∷ 0x20 ∷ 0x20 ∷ 0x20 ∷ 0x20 ∷ 0x4e ∷ 0x4d ∷ 0x03 ∷ 0x00 ∷ 0x01 ∷ 0x01 ∷ 0x02 ∷ 0x01 ∷ 0x00 ∷ 0x00 ∷ 0x02 ∷ 0x00 ∷ 0x41 ∷ 0x57 ∷ 8 ∷ [])
-unfolding tidying
-tidies-named = (refl, refl)
+tidies-named = unfold tidying in (refl, refl)
 
 -- 1F in the name: 22, before 16; too few bytes before 4E 4D: 21
 pub refuses-names : (tidyRow (lettered 0x1f) 0 ≡ 22)
     × (tidyRow (0x4e ∷ 0x4d ∷ 0x03 ∷ 0x01 ∷ 0x00 ∷ 0x01 ∷ 0x02 ∷ 0x02 ∷ 0x01 ∷ 0x00 ∷ 0x00 ∷ 0x03 ∷ 0x00 ∷ 0x41 ∷ 0x57 ∷ []) 0 ≡ 21)
-unfolding tidying
-refuses-names = (refl, refl)
+refuses-names = unfold tidying in (refl, refl)

@@ -30,16 +30,13 @@ use Rattle.file_tidy_spec.specs.Tidied.{tidyRows, tidyFile, tidyRow, ans
 
 module _ (f : List ℕ) where
   rows-numbered : numbered (tidyRows f) ≡ true
-  unfolding numbered tidyRows layoutRows trailerRows numberRows listRows componentRows prefaceRows nameRows
-  rows-numbered = refl
+  rows-numbered = unfold numbered tidyRows layoutRows trailerRows numberRows listRows componentRows prefaceRows nameRows in refl
 
   components-numbered : numbered (componentRows (ruleIn f)) ≡ true
-  unfolding numbered componentRows
-  components-numbered = refl
+  components-numbered = unfold numbered componentRows in refl
 
   pub by-layout : (k : ℕ) → (k ≡ 0 → ⊥) → k ≡ firstRow (layoutRows f) → k ≡ firstRow (tidyRows f)
-  unfolding tidyRows
-  by-layout k n e = first-left (layoutRows f) _ k n e
+  by-layout k n e = unfold tidyRows in first-left (layoutRows f) _ k n e
 
   pub by-components : firstRow (layoutRows f) ≡ 0 → (k : ℕ) → (k ≡ 0 → ⊥) → k ≡ firstRow (componentRows (ruleIn f)) → k ≡ firstRow (tidyRows f)
   unfolding tidyRows
@@ -52,8 +49,7 @@ module _ (f : List ℕ) where
 
   -- what they pass
   pub tidy-laid : firstRow (tidyRows f) ≡ 0 → firstRow (layoutRows f) ≡ 0
-  unfolding tidyRows
-  tidy-laid e = first-parts (layoutRows f) _ (layout-numbered f) e .0
+  tidy-laid e = unfold tidyRows in first-parts (layoutRows f) _ (layout-numbered f) e .0
 
   past-laid : firstRow (tidyRows f) ≡ 0 → (firstRow (componentRows (ruleIn f)) ≡ 0) × (firstRow (prefaceRows (trailer f 1) (partBefore f)) ≡ 0)
   unfolding tidyRows
@@ -74,31 +70,26 @@ module _ (f : List ℕ) where
     said (suc k) n e = rw (← e) (refl, refl)
 
     pub refused-by : (k : ℕ) → (k ≡ 0 → ⊥) → k ≡ firstRow (tidyRows f) → (Refused k ≡ tidiedOf f (length old)) × (old ≡ sliceTidied f old)
-    unfolding tidyRow
-    refused-by k n e = said k n (first-left (tidyRows f) _ k n e)
+    refused-by k n e = unfold tidyRow in said k n (first-left (tidyRows f) _ k n e)
 
     -- where they pass, the slice alone decides
     pub past-rows : firstRow (tidyRows f) ≡ 0 → tidyRow f (length old) ≡ firstRow (sliceRows (length old) (tidyFile f))
-    unfolding tidyRow
-    past-rows e = first-right (tidyRows f) _ rows-numbered e
+    past-rows e = unfold tidyRow in first-right (tidyRows f) _ rows-numbered e
 
     pub served-by : firstRow (tidyRows f) ≡ 0
         → (answer (firstRow (sliceRows (length old) (tidyFile f))) (tidyFile f) ≡ tidiedOf f (length old))
         × (after (firstRow (sliceRows (length old) (tidyFile f))) (tidyFile f) old ≡ sliceTidied f old)
-    unfolding tidiedOf sliceTidied
-    served-by e = rw (past-rows e) (refl, refl)
+    served-by e = unfold tidiedOf sliceTidied in rw (past-rows e) (refl, refl)
 
 -- ---- row 16
 
 module _ (file old : List ℕ) where
   pub short : length old < length file → (Refused 16 ≡ answer (firstRow (sliceRows (length old) file)) file) × (old ≡ after (firstRow (sliceRows (length old) file)) file old)
-  unfolding sliceRows firstRow answer after
-  short l = rw (lt-ltb _ _ l) (refl, refl)
+  short l = unfold sliceRows firstRow answer after in rw (lt-ltb _ _ l) (refl, refl)
 
   pub enough : length file ≤ length old
       → (Length (length file) ≡ answer (firstRow (sliceRows (length old) file)) file) × (after 0 file old ≡ after (firstRow (sliceRows (length old) file)) file old)
-  unfolding sliceRows firstRow answer
-  enough l = rw (le-ltb _ _ l) (refl, refl)
+  enough l = unfold sliceRows firstRow answer in rw (le-ltb _ _ l) (refl, refl)
 
 -- ---- the names of a preface that rows 21 to 23 pass
 
@@ -115,8 +106,7 @@ module _ (s : ℕ) (p : List ℕ) (e : firstRow (prefaceRows s p) ≡ 0) where
 
   -- and are no longer than the preface
   none-long : (names : List ℕ) → names ≡ [] → length (prefaceFrom names) ≡ 0
-  unfolding prefaceFrom
-  none-long names z = rw z
+  none-long names z = unfold prefaceFrom in rw z
 
   some-long : (names : List ℕ) → length (prefaceFrom names) ≤ length names + 2
   unfolding prefaceFrom
@@ -137,14 +127,11 @@ length-tidied p r = omega (arith, length-append p (bodyOf r), length-body r)
 module _ (r : Rule) (w : WellFormed r) where
   -- the tidied rule has as many entries and no more clauses
   pub tidied-entries : length (tidyRule r .counts) ≡ length (r .counts)
-  unfolding tidyRule
-  tidied-entries = counts-length (r .n) (r .counts) (r .clauses)
+  tidied-entries = unfold tidyRule in counts-length (r .n) (r .counts) (r .clauses)
 
   pub tidied-clauses : length (tidyRule r .clauses) ≤ length (r .clauses)
-  unfolding tidyRule
-  tidied-clauses = omega (arith, clauses-length (r .n) (r .counts) (r .clauses), w .all-clauses)
+  tidied-clauses = unfold tidyRule in omega (arith, clauses-length (r .n) (r .counts) (r .clauses), w .all-clauses)
 
 -- where nothing refuses, the rule's rows but 20 pass
 pub rows-passed : (f : List ℕ) (room : ℕ) → tidyRow f room ≡ 0 → firstRow (tidyRows f) ≡ 0
-unfolding tidyRow
-rows-passed f room e = first-parts (tidyRows f) _ (rows-numbered f) e .0
+rows-passed f room e = unfold tidyRow in first-parts (tidyRows f) _ (rows-numbered f) e .0

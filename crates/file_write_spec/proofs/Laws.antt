@@ -56,8 +56,7 @@ paste-three d at a b t l =
 
 -- at the start of a slice
 pub paste-start : (d x : List ℕ) → paste d 0 x (length x) ≡ after 0 x d
-unfolding after
-paste-start d x = rw (take-length x, zero-add (length x))
+paste-start d x = unfold after in rw (take-length x, zero-add (length x))
 
 pub length-preface : (names : List ℕ) → (length names ≡ 0 → length (prefaceFrom names) ≡ 0) × ((length names ≡ 0 → ⊥) → length (prefaceFrom names) ≡ length names + 2)
 unfolding prefaceFrom
@@ -71,30 +70,24 @@ length-file h counts clauses names = omega (arith, length-append (prefaceFrom na
 
 module _ (h : Head) (counts clauses : List ℕ) where
   numbers-numbered : numbered (numberRows h) ≡ true
-  unfolding numbered numberRows
-  numbers-numbered = refl
+  numbers-numbered = unfold numbered numberRows in refl
 
   lists-numbered : numbered (listRows (h .n) counts clauses) ≡ true
-  unfolding numbered listRows
-  lists-numbered = refl
+  lists-numbered = unfold numbered listRows in refl
 
   pub rows-numbered : numbered (ruleRows h counts clauses) ≡ true
-  unfolding numbered ruleRows numberRows listRows formedRows clauseRows componentRows
-  rows-numbered = refl
+  rows-numbered = unfold numbered ruleRows numberRows listRows formedRows clauseRows componentRows in refl
 
   pub by-numbers : (k : ℕ) → (k ≡ 0 → ⊥) → k ≡ firstRow (numberRows h) → k ≡ firstRow (ruleRows h counts clauses)
-  unfolding ruleRows
-  by-numbers k n e = first-left (numberRows h) _ k n e
+  by-numbers k n e = unfold ruleRows in first-left (numberRows h) _ k n e
 
   module _ (e : firstRow (numberRows h) ≡ 0) where
     pub by-entries : (length counts ≡ h .n * h .s → ⊥) → 7 ≡ firstRow (ruleRows h counts clauses)
-    unfolding ruleRows firstRow
-    by-entries n = rw (first-right (numberRows h) _ numbers-numbered e, ne-eqb _ _ n)
+    by-entries n = unfold ruleRows firstRow in rw (first-right (numberRows h) _ numbers-numbered e, ne-eqb _ _ n)
 
     module _ (l : length counts ≡ h .n * h .s) where
       past-entries : firstRow (ruleRows h counts clauses) ≡ firstRow (listRows (h .n) counts clauses ++ formedRows (ruleOf h counts clauses))
-      unfolding ruleRows firstRow
-      past-entries = rw (first-right (numberRows h) _ numbers-numbered e, eq-eqb _ _ l)
+      past-entries = unfold ruleRows firstRow in rw (first-right (numberRows h) _ numbers-numbered e, eq-eqb _ _ l)
 
       pub by-lists : (k : ℕ) → (k ≡ 0 → ⊥) → k ≡ firstRow (listRows (h .n) counts clauses) → k ≡ firstRow (ruleRows h counts clauses)
       by-lists k n r = first-left (listRows (h .n) counts clauses) _ k n r ∙ sym past-entries
@@ -123,12 +116,10 @@ module _ (h : Head) (counts clauses : List ℕ) where
     given-rows-numbered = refl
 
     given-both : firstRow (ruleRows h counts clauses) ≡ 0 → firstRow (givenRows (h .s) names) ≡ 0 → firstRow (givenRuleRows h counts clauses names) ≡ 0
-    unfolding givenRuleRows
-    given-both a b = first-right (ruleRows h counts clauses) _ rows-numbered a ∙ b
+    given-both a b = unfold givenRuleRows in first-right (ruleRows h counts clauses) _ rows-numbered a ∙ b
 
     pub given-parts : firstRow (givenRuleRows h counts clauses names) ≡ 0 → (firstRow (ruleRows h counts clauses) ≡ 0) × (firstRow (givenRows (h .s) names) ≡ 0)
-    unfolding givenRuleRows
-    given-parts e = first-parts (ruleRows h counts clauses) _ rows-numbered e
+    given-parts e = unfold givenRuleRows in first-parts (ruleRows h counts clauses) _ rows-numbered e
 
     module _ (old : List ℕ) where
       -- a refusal by row k
@@ -141,17 +132,14 @@ module _ (h : Head) (counts clauses : List ℕ) where
       said (suc k) n e = rw (← e) (refl, refl)
 
       by-given : (k : ℕ) → (k ≡ 0 → ⊥) → k ≡ firstRow (givenRuleRows h counts clauses names) → Said k
-      unfolding writeRow
-      by-given k n e = said k n (first-left (givenRuleRows h counts clauses names) _ k n e)
+      by-given k n e = unfold writeRow in said k n (first-left (givenRuleRows h counts clauses names) _ k n e)
 
       pub by-rule : (k : ℕ) → (k ≡ 0 → ⊥) → k ≡ firstRow (ruleRows h counts clauses) → Said k
-      unfolding givenRuleRows
-      by-rule k n e = by-given k n (first-left (ruleRows h counts clauses) _ k n e)
+      by-rule k n e = unfold givenRuleRows in by-given k n (first-left (ruleRows h counts clauses) _ k n e)
 
       module _ (e : firstRow (ruleRows h counts clauses) ≡ 0) where
         pub by-names : (k : ℕ) → (k ≡ 0 → ⊥) → k ≡ firstRow (givenRows (h .s) names) → Said k
-        unfolding givenRuleRows
-        by-names k n f = by-given k n (f ∙ sym (first-right (ruleRows h counts clauses) _ rows-numbered e))
+        by-names k n f = unfold givenRuleRows in by-given k n (f ∙ sym (first-right (ruleRows h counts clauses) _ rows-numbered e))
 
         module _ (f : firstRow (givenRows (h .s) names) ≡ 0) where
           pub by-room : length old < length (prefaceFrom names) + length clauses + length counts + 8 → Said 16

@@ -39,8 +39,7 @@ three = record { n = 3; s = 1; initial = 0; accepting = 0; counts = 1 ∷ (1 ∷
 
 -- 0 and 1 are component 0, 2 is component 1
 three-components : componentsOf three ≡ record { masks = 3 ∷ (4 ∷ (0 ∷ (0 ∷ (0 ∷ (0 ∷ (0 ∷ (0 ∷ []))))))); count = 2 }
-unfolding componentsOf three
-three-components = refl
+three-components = unfold componentsOf three in refl
 
 -- ---- classes and their numbers
 
@@ -85,16 +84,13 @@ module _ (R : Rule) (few : R .n ≤ 8) where
 
     -- q is not
     pub passed : (trailingZeros 8 k ≡ q → ⊥) → isSmallest R q ≡ false
-    unfolding isSmallest
-    passed h = ne-eqb (smallest R q) q (λ s. h (least-of ∙ s))
+    passed h = unfold isSmallest in ne-eqb (smallest R q) q (λ s. h (least-of ∙ s))
 
   pub count-taken : (q : ℕ) → isSmallest R q ≡ true → count (q + 1) (isSmallest R) ≡ count q (isSmallest R) + 1
-  unfolding count
-  count-taken q e = rw (add-one q, e)
+  count-taken q e = unfold count in rw (add-one q, e)
 
   pub count-passed : (q : ℕ) → isSmallest R q ≡ false → count (q + 1) (isSmallest R) ≡ count q (isSmallest R)
-  unfolding count
-  count-passed q e = rw (add-one q, e) (omega arith)
+  count-passed q e = unfold count in rw (add-one q, e) (omega arith)
 
   -- fewer than q smallest states come before q
   pub count-few : (q : ℕ) → count q (isSmallest R) ≤ q

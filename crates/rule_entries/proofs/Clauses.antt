@@ -24,25 +24,21 @@ use Rattle.sets.proofs.Members.{members-cons, inside-members, inside-all, insid
 
 -- the test of a bit in the code
 bit-tested : (m q : ℕ) → bit m q ≡ eqb (bitAnd (m / 2 ^ q) 1) 1
-unfolding bit
-bit-tested m q = rw (and-mask (m / 2 ^ q) 1)
+bit-tested m q = unfold bit in rw (and-mask (m / 2 ^ q) 1)
 
 -- ---- evaluated
 
 -- 01: "No clause: never satisfied."
 no-clause : metOf 255 [] ≡ Nothing
-unfolding metFrom
-no-clause = refl
+no-clause = unfold metFrom in refl
 
 -- 01: "An empty clause: always."
 empty-clause : metOf 0 (0 ∷ []) ≡ Clause 0
-unfolding metFrom inside every bit
-empty-clause = refl
+empty-clause = unfold metFrom inside every bit in refl
 
 -- the first clause is not met, the second is
 second-clause : metOf 5 (3 ∷ (4 ∷ [])) ≡ Clause 1
-unfolding metFrom inside every bit
-second-clause = refl
+second-clause = unfold metFrom inside every bit in refl
 
 -- ---- one clause
 
@@ -72,16 +68,13 @@ no-state X = inside-all 8 X 0 (λ q l e. clash e (bit-none q))
 -- ---- the walk over the clauses
 
 pub met-next : (s : ℕ) (cl : List ℕ) (j : ℕ) → j < length cl → inside 8 (bit s) (getD cl j 0) ≡ false → metFrom s (drop j cl) j ≡ metFrom s (drop (j + 1) cl) (j + 1)
-unfolding metFrom
-met-next s cl j h e = rw (drop-cons cl j 0 h, e, add-one)
+met-next s cl j h e = unfold metFrom in rw (drop-cons cl j 0 h, e, add-one)
 
 pub met-here : (s : ℕ) (cl : List ℕ) (j : ℕ) → j < length cl → inside 8 (bit s) (getD cl j 0) ≡ true → metFrom s (drop j cl) j ≡ Clause j
-unfolding metFrom
-met-here s cl j h e = rw (drop-cons cl j 0 h, e)
+met-here s cl j h e = unfold metFrom in rw (drop-cons cl j 0 h, e)
 
 pub met-none : (s : ℕ) (cl : List ℕ) (j : ℕ) → length cl ≤ j → metFrom s (drop j cl) j ≡ Nothing
-unfolding metFrom
-met-none s cl j h = rw (drop-of-length-le cl {i = j} h)
+met-none s cl j h = unfold metFrom in rw (drop-of-length-le cl {i = j} h)
 
 -- ---- a clause is met exactly if the set satisfies the entry
 

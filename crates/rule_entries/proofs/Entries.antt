@@ -41,8 +41,7 @@ module _ (r : Rule) (w : WellFormed r) (q a : ℕ) (l : q < r .n) (m : a < r .s)
   entry-fits = omega (arith, sum-take (r .counts) (q * r .s + a) entry-number, sum-part (r .counts) (q * r .s + a + 1), w .all-clauses)
 
   pub entry-part : entry r q a ≡ take (getD (r .counts) (q * r .s + a) 0) (drop (sum (take (q * r .s + a) (r .counts))) (r .clauses))
-  unfolding entry
-  entry-part = rw (lt-ltb a (r .s) m)
+  entry-part = unfold entry in rw (lt-ltb a (r .s) m)
 
   pub entry-states : (c : ℕ) → List·Memᴰ c (entry r q a) → c < 2 ^ r .n
   entry-states c h =
@@ -65,8 +64,7 @@ named-next cl j found p l =
     rw (drop-cons cl j 0 l, add-one j, bit-or found (getD cl j 0) p) (sym (or-assoc (bit found p) (bit (getD cl j 0) p) (named (drop (suc j) cl) p)))
 
 pub named-all : (cl : List ℕ) (j found p : ℕ) → length cl ≤ j → (bit found p || named (drop j cl) p) ≡ bit found p
-unfolding named
-named-all cl j found p l = rw (drop-of-length-le cl {i = j} l) (or-false (bit found p))
+named-all cl j found p l = unfold named in rw (drop-of-length-le cl {i = j} l) (or-false (bit found p))
 
 -- clauses over n states name no other
 pub named-high : (n : ℕ) (cl : List ℕ) → ((c : ℕ) → List·Memᴰ c cl → c < 2 ^ n) → (p : ℕ) → n ≤ p → named cl p ≡ false

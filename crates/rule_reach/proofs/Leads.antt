@@ -17,8 +17,7 @@ use Rattle.rule_entries.proofs.Entries.{entry-states, named-high}
 -- the states named at the letters before a, and at a
 pub leads-next : (r : Rule) (q a found m p : ℕ) → p < 8 → m ≡ mask 8 (named (entry r q a)) → bit found p ≡ someBelow a (λ b. named (entry r q b) p)
     → bit (bitOr found m) p ≡ someBelow (a + 1) (λ b. named (entry r q b) p)
-unfolding someBelow
-leads-next r q a found m p l e h = rw (add-one a, bit-or found m p, h, e, bit-mask 8 (named (entry r q a)) p l)
+leads-next r q a found m p l e h = unfold someBelow in rw (add-one a, bit-or found m p, h, e, bit-mask 8 (named (entry r q a)) p l)
 
 pub leads-high : (r : Rule) → WellFormed r → (q : ℕ) → q < r .n → (p : ℕ) → r .n ≤ p → leads r q p ≡ false
 unfolding leads

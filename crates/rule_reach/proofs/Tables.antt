@@ -15,12 +15,10 @@ use Rattle.rule_reach.specs.Tables.{table}
 use Rattle.sets.proofs.Lists.{tabulate-at, length-tabulate}
 
 pub table-length : (n : ℕ) (f : ℕ → ℕ) → length (table n f) ≡ 8
-unfolding table
-table-length n f = length-tabulate 8 (λ q. cond (ltb q n) (f q) 0) 0
+table-length n f = unfold table in length-tabulate 8 (λ q. cond (ltb q n) (f q) 0) 0
 
 at : (n : ℕ) (f : ℕ → ℕ) (q : ℕ) → q < 8 → getD (table n f) q 0 ≡ cond (ltb q n) (f q) 0
-unfolding table
-at n f q l = tabulate-at 8 (λ q. cond (ltb q n) (f q) 0) 0 q l ∙ rw zero-add
+at n f q l = unfold table in tabulate-at 8 (λ q. cond (ltb q n) (f q) 0) 0 q l ∙ rw zero-add
 
 pub table-at : (n : ℕ) (f : ℕ → ℕ) (q : ℕ) → q < n → q < 8 → getD (table n f) q 0 ≡ f q
 table-at n f q h l = at n f q l ∙ rw (lt-ltb q n h)
@@ -29,8 +27,7 @@ pub table-out : (n : ℕ) (f : ℕ → ℕ) (q : ℕ) → n ≤ q → q < 8 → 
 table-out n f q h l = at n f q l ∙ rw (le-ltb q n h)
 
 pub table-none : (f : ℕ → ℕ) → replicate 8 0 ≡ table 0 f
-unfolding table tabulate
-table-none f = refl
+table-none f = unfold table tabulate in refl
 
 -- one element more
 pub table-set : (n : ℕ) (f : ℕ → ℕ) (v : ℕ) → n < 8 → v ≡ f n → set (table n f) n v ≡ table (n + 1) f

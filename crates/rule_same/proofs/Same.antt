@@ -38,18 +38,15 @@ one accepting counts clauses = record { n = 1; s = 1; initial = 0; accepting = a
 
 -- a clause that another makes superfluous: other clauses, the same sets
 superfluous : sameRules (one 0 (2 ∷ []) (0 ∷ (1 ∷ []))) (one 0 (1 ∷ []) (0 ∷ [])) ≡ true
-unfolding sameRules sameEntries sameEntry every entry sum satisfies inside bit one
-superfluous = refl
+superfluous = unfold sameRules sameEntries sameEntry every entry sum satisfies inside bit one in refl
 
 -- no clause and an empty clause
 opposite : sameRules (one 0 (0 ∷ []) []) (one 0 (1 ∷ []) (0 ∷ [])) ≡ false
-unfolding sameRules sameEntries sameEntry every entry sum satisfies inside bit one
-opposite = refl
+opposite = unfold sameRules sameEntries sameEntry every entry sum satisfies inside bit one in refl
 
 -- another accepting mask
 other-mask : sameRules (one 0 (1 ∷ []) (1 ∷ [])) (one 1 (1 ∷ []) (1 ∷ [])) ≡ false
-unfolding sameRules sameEntries sameEntry every entry sum satisfies inside bit one
-other-mask = refl
+other-mask = unfold sameRules sameEntries sameEntry every entry sum satisfies inside bit one in refl
 
 -- ---- both hold, or neither
 
@@ -161,16 +158,13 @@ module _ (f g : List ℕ) where
   second (suc k) n = refl
 
   pub refused-first : (k : ℕ) → (fileRow f ≡ k) × (fileRow f ≡ 0 → ⊥) → Refused k ≡ sameRulesOf f g
-  unfolding sameRulesOf
-  refused-first k e = rw (e .0) (first k (λ z. e .1 (e .0 ∙ z)))
+  refused-first k e = unfold sameRulesOf in rw (e .0) (first k (λ z. e .1 (e .0 ∙ z)))
 
   pub refused-second : (k : ℕ) → fileRow f ≡ 0 → (fileRow g ≡ k) × (fileRow g ≡ 0 → ⊥) → Refused k ≡ sameRulesOf f g
-  unfolding sameRulesOf
-  refused-second k z e = rw (z, e .0) (second k (λ y. e .1 (e .0 ∙ y)))
+  refused-second k z e = unfold sameRulesOf in rw (z, e .0) (second k (λ y. e .1 (e .0 ∙ y)))
 
   pub served-both : fileRow f ≡ 0 → fileRow g ≡ 0 → sameFiles f g ≡ sameRulesOf f g
-  unfolding sameRulesOf answer
-  served-both y z = rw (y, z)
+  served-both y z = unfold sameRulesOf answer in rw (y, z)
 
 -- what the two walks over the clauses of two entries say of the entries
 pub entries-told : (r t : Rule) → WellFormed r → WellFormed t → r .n ≡ t .n → r .s ≡ t .s → (q a : ℕ) → q < r .n → a < r .s → {xs ys : List ℕ} {b : Bool}
@@ -194,8 +188,7 @@ module _ (f g : List ℕ) (l m : Layout) (p : readOf f ≡ Accepted l) (q : read
       ∙ ap (λ (t : Rule). verdict (sameRules (ruleOf (l .head) (countsOf f) (clausesOf f)) t)) (sym second-rule)
 
   pub numbers-differ : Numbers (l .head) (m .head) ≡ false → Different ≡ sameBodies f g
-  unfolding verdict
-  numbers-differ e = sym (same-by ∙ rw e)
+  numbers-differ e = unfold verdict in sym (same-by ∙ rw e)
 
   module _ (e : Numbers (l .head) (m .head) ≡ true) {c₁ k₁ c₂ k₂ : List ℕ} (x : c₁ ≡ countsOf f) (y : k₁ ≡ clausesOf f) (z : c₂ ≡ countsOf g) (w : k₂ ≡ clausesOf g) where
     second-as : ruleOf (l .head) (countsOf g) (clausesOf g) ≡ ruleIn g
@@ -222,9 +215,7 @@ module _ (f g : List ℕ) {xs ys : List ℕ} {b : Bool} (x : xs ≡ namesOf f) (
   names-are = sym (lists-told b (namesOf f) (namesOf g) (λ t. sym x ∙ e .0 t ∙ y) (λ p. e .1 (x ∙ p ∙ sym y)))
 
   pub names-differ : b ≡ false → Different ≡ sameFiles f g
-  unfolding sameNamed verdict
-  names-differ t = rw (names-are ∙ t, and-false (sameRules (ruleIn f) (ruleIn g)))
+  names-differ t = unfold sameNamed verdict in rw (names-are ∙ t, and-false (sameRules (ruleIn f) (ruleIn g)))
 
   pub names-agree : b ≡ true → sameBodies f g ≡ sameFiles f g
-  unfolding sameNamed
-  names-agree t = rw (names-are ∙ t, and-true (sameRules (ruleIn f) (ruleIn g)))
+  names-agree t = unfold sameNamed in rw (names-are ∙ t, and-true (sameRules (ruleIn f) (ruleIn g)))

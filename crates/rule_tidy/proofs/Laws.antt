@@ -47,12 +47,10 @@ containing-other false c d k l n = contains-and c d l
 -- ---- one clause of an entry
 
 pub drops-kept : (all kept : List ℕ) (c : ℕ) → anyOf kept (contains 8 c) ≡ true → true ≡ drops 8 all kept c
-unfolding drops
-drops-kept all kept c e = rw e
+drops-kept all kept c e = unfold drops in rw e
 
 pub drops-rest : (all kept : List ℕ) (c : ℕ) → anyOf kept (contains 8 c) ≡ false → anyOf all (properlyContains 8 c) ≡ drops 8 all kept c
-unfolding drops
-drops-rest all kept c e = rw e
+drops-rest all kept c e = unfold drops in rw e
 
 -- a clause that is dropped leaves the slice as it was
 pub kept-drop : (all old : List ℕ) (k c : ℕ) → drops 8 all (take k old) c ≡ true → Kept all old k c old k
@@ -80,8 +78,7 @@ tidy-next all kept i l =
     (λ t. tidy-keep 8 all kept c (drop (i + 1) all) t ∙ rw t)
 
 pub tidy-end : (all kept : List ℕ) (i : ℕ) → length all ≤ i → tidyFrom 8 all kept (drop i all) ≡ kept
-unfolding tidyFrom
-tidy-end all kept i l = rw (drop-of-length-le all {i = i} l)
+tidy-end all kept i l = unfold tidyFrom in rw (drop-of-length-le all {i = i} l)
 
 -- lists that agree from place k on
 pub drop-later : (xs ys : List ℕ) (k m : ℕ) → k ≤ m → drop k xs ≡ drop k ys → drop m xs ≡ drop m ys

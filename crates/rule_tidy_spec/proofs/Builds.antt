@@ -25,9 +25,7 @@ unfolding macrostatesFrom codesFrom cores candidates digitals tabulate flat keep
 built = 0
 
 pub macrostates-glued : macrostates glued ≡ 257 ∷ 4355 ∷ 4611 ∷ 8451 ∷ 17592186048771 ∷ 35184372093443 ∷ 35184372097283 ∷ []
-unfolding built
-macrostates-glued = refl
+macrostates-glued = unfold built in refl
 
 pub macrostates-split : macrostates split ≡ 257 ∷ 4355 ∷ 1099511632131 ∷ 17592186048771 ∷ 18691697676547 ∷ []
-unfolding built
-macrostates-split = refl
+macrostates-split = unfold built in refl

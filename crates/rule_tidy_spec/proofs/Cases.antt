@@ -14,33 +14,27 @@ use Rattle.file_spec.specs.RuleRows.{nested, someNested}
 
 -- of two equal clauses the first stays
 pub copy-goes : tidyEntry 3 (1 ∷ 2 ∷ 1 ∷ []) ≡ 1 ∷ 2 ∷ []
-unfolding tidyEntry tidyFrom drops properlyContains anyOf inside every bit
-copy-goes = refl
+copy-goes = unfold tidyEntry tidyFrom drops properlyContains anyOf inside every bit in refl
 
 -- a clause that properly contains a later one goes
 pub superset-before : tidyEntry 3 (3 ∷ 4 ∷ 1 ∷ []) ≡ 4 ∷ 1 ∷ []
-unfolding tidyEntry tidyFrom drops properlyContains anyOf inside every bit
-superset-before = refl
+superset-before = unfold tidyEntry tidyFrom drops properlyContains anyOf inside every bit in refl
 
 -- and one that contains an earlier one
 pub superset-after : tidyEntry 3 (1 ∷ 4 ∷ 5 ∷ []) ≡ 1 ∷ 4 ∷ []
-unfolding tidyEntry tidyFrom drops properlyContains anyOf inside every bit
-superset-after = refl
+superset-after = unfold tidyEntry tidyFrom drops properlyContains anyOf inside every bit in refl
 
 -- every clause contains the empty one
 pub empty-stays : tidyEntry 3 (7 ∷ 0 ∷ 2 ∷ 0 ∷ []) ≡ 0 ∷ []
-unfolding tidyEntry tidyFrom drops properlyContains anyOf inside every bit
-empty-stays = refl
+empty-stays = unfold tidyEntry tidyFrom drops properlyContains anyOf inside every bit in refl
 
 -- clauses none of which contains another stay, in their order
 pub antichain-stays : tidyEntry 3 (6 ∷ 3 ∷ 5 ∷ []) ≡ 6 ∷ 3 ∷ 5 ∷ []
-unfolding tidyEntry tidyFrom drops properlyContains anyOf inside every bit
-antichain-stays = refl
+antichain-stays = unfold tidyEntry tidyFrom drops properlyContains anyOf inside every bit in refl
 
 -- the first copies of the minimal clauses
 pub minimal-first : firstMinimal 3 (3 ∷ 1 ∷ 4 ∷ 1 ∷ []) [] (3 ∷ 1 ∷ 4 ∷ 1 ∷ []) ≡ 1 ∷ 4 ∷ []
-unfolding firstMinimal minimal among properlyContains anyOf inside every bit
-minimal-first = refl
+minimal-first = unfold firstMinimal minimal among properlyContains anyOf inside every bit in refl
 
 -- ---- rules
 
@@ -53,8 +47,7 @@ abbrev pub split : Rule
 split = record { n = 2; s = 1; initial = 0; accepting = 0; counts = 1 ∷ 1 ∷ []; clauses = 3 ∷ 0 ∷ [] }
 
 pub split-by-tidying : tidyRule glued ≡ split
-unfolding tidyRule tidyCounts tidyClauses tidyEntry tidyFrom drops properlyContains anyOf inside every bit
-split-by-tidying = refl
+split-by-tidying = unfold tidyRule tidyCounts tidyClauses tidyEntry tidyFrom drops properlyContains anyOf inside every bit in refl
 
 -- 02: "such a clause can glue components together"
 pub glued-components : (components glued ≡ 1) × (components split ≡ 2)
@@ -64,11 +57,9 @@ glued-components = (refl, refl)
 -- clauses of different entries are not compared: the clause 01 stays in the entry after 01, and 03 in the entry before 01
 pub entries-apart : tidyRule (record { n = 2; s = 2; initial = 0; accepting = 0; counts = 1 ∷ 1 ∷ 1 ∷ 1 ∷ []; clauses = 1 ∷ 1 ∷ 3 ∷ 1 ∷ [] })
     ≡ record { n = 2; s = 2; initial = 0; accepting = 0; counts = 1 ∷ 1 ∷ 1 ∷ 1 ∷ []; clauses = 1 ∷ 1 ∷ 3 ∷ 1 ∷ [] }
-unfolding tidyRule tidyCounts tidyClauses tidyEntry tidyFrom drops properlyContains anyOf inside every bit
-entries-apart = refl
+entries-apart = unfold tidyRule tidyCounts tidyClauses tidyEntry tidyFrom drops properlyContains anyOf inside every bit in refl
 
 -- ---- clauses inside one another
 
 pub nested-cases : (nested 3 (1 ∷ 2 ∷ 1 ∷ []) ≡ true) × (nested 3 (3 ∷ 4 ∷ 1 ∷ []) ≡ true) × (nested 3 (6 ∷ 3 ∷ 5 ∷ []) ≡ false) × (someNested glued ≡ true) × (someNested split ≡ false)
-unfolding nested someNested entry sum someBelow inside every bit
-nested-cases = (refl, refl, refl, refl, refl)
+nested-cases = unfold nested someNested entry sum someBelow inside every bit in (refl, refl, refl, refl, refl)

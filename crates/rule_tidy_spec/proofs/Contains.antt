@@ -26,18 +26,15 @@ properly-out n c d e = (and-l (contains n c d) _ e, not-t _ (and-r (contains n c
 
 -- a clause that is contained, and not properly, contains in turn
 pub not-properly : (n c d : ℕ) → properlyContains n c d ≡ false → contains n c d ≡ true → contains n d c ≡ true
-unfolding properlyContains
-not-properly n c d e h = bif (contains n d c) (λ t. t) (λ t. clash (and-i h (ap not t)) e)
+not-properly n c d e h = unfold properlyContains in bif (contains n d c) (λ t. t) (λ t. clash (and-i h (ap not t)) e)
 
 -- no clause contains itself properly
 pub properly-irrefl : (n c : ℕ) → properlyContains n c c ≡ false
-unfolding properlyContains
-properly-irrefl n c = rw (contains-refl n c)
+properly-irrefl n c = unfold properlyContains in rw (contains-refl n c)
 
 -- what is not contained is not contained properly
 pub properly-none : (n c d : ℕ) → contains n c d ≡ false → properlyContains n c d ≡ false
-unfolding properlyContains
-properly-none n c d e = rw e
+properly-none n c d e = unfold properlyContains in rw e
 
 -- a clause over n states is smaller than one that contains it properly
 pub properly-lt : (n c d : ℕ) → d < 2 ^ n → properlyContains n c d ≡ true → d < c

@@ -30,8 +30,7 @@ module _ (n : ℕ) (few : n ≤ 8) where
   contains-eight c d l = inside-trim n 8 (bit c) d few l
 
   properly-eight : (c d : ℕ) → c < 2 ^ n → d < 2 ^ n → properlyContains 8 c d ≡ properlyContains n c d
-  unfolding properlyContains
-  properly-eight c d k l = ap₂ (λ (x y : Bool). x && not y) (contains-eight c d l) (contains-eight d c k)
+  properly-eight c d k l = unfold properlyContains in ap₂ (λ (x y : Bool). x && not y) (contains-eight c d l) (contains-eight d c k)
 
   drops-eight : (all kept : List ℕ) (c : ℕ) → Small all → Small kept → c < 2 ^ n → drops 8 all kept c ≡ drops n all kept c
   unfolding drops
@@ -53,8 +52,7 @@ module _ (n : ℕ) (few : n ≤ 8) where
       (λ v. tidy-keep 8 all kept c cs v ∙ from-eight all (kept ++ (c ∷ [])) cs a k t ∙ sym (tidy-keep n all kept c cs (sym e ∙ v)))
 
   entry-eight : (cs : List ℕ) → Small cs → tidyEntry 8 cs ≡ tidyEntry n cs
-  unfolding tidyEntry
-  entry-eight cs s = from-eight cs [] cs s (λ x m. absurd (List·Memᴰ·not-nil m)) s
+  entry-eight cs s = unfold tidyEntry in from-eight cs [] cs s (λ x m. absurd (List·Memᴰ·not-nil m)) s
 
   pub counts-eight : (counts clauses : List ℕ) → Small clauses → tidyCounts 8 counts clauses ≡ tidyCounts n counts clauses
   unfolding tidyCounts

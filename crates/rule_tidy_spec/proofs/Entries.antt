@@ -36,8 +36,7 @@ entry-listed r q a c m =
 -- ---- one entry
 
 pub tidy-none : (n : ℕ) → tidyEntry n [] ≡ []
-unfolding tidyEntry tidyFrom
-tidy-none n = refl
+tidy-none n = unfold tidyEntry tidyFrom in refl
 
 -- what stays of cs, with what is kept: no more, and nothing else
 from-length : (n : ℕ) (all kept cs : List ℕ) → length (tidyFrom n all kept cs) ≤ length kept + length cs
@@ -59,12 +58,10 @@ from-listed n all kept (c ∷ cs) x m =
     (from-listed n all (kept ++ (c ∷ [])) cs x (rw (tidy-keep n all kept c cs t) at m)))
 
 pub tidy-length : (n : ℕ) (cs : List ℕ) → length (tidyEntry n cs) ≤ length cs
-unfolding tidyEntry
-tidy-length n cs = let h = from-length n cs [] cs in omega arith
+tidy-length n cs = unfold tidyEntry in let h = from-length n cs [] cs in omega arith
 
 pub tidy-listed : (n : ℕ) (cs : List ℕ) (x : ℕ) → List·Memᴰ x (tidyEntry n cs) → List·Memᴰ x cs
-unfolding tidyEntry
-tidy-listed n cs x m = ⊎-elim (λ k. absurd (List·Memᴰ·not-nil k)) (λ k. k) (from-listed n cs [] cs x m)
+tidy-listed n cs x m = unfold tidyEntry in ⊎-elim (λ k. absurd (List·Memᴰ·not-nil k)) (λ k. k) (from-listed n cs [] cs x m)
 
 -- ---- counts and clauses
 

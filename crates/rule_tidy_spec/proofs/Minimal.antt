@@ -21,31 +21,25 @@ use Rattle.rule_tidy_spec.proofs.Contains.{contains-refl, contains-anti
 -- ---- one clause more
 
 pub tidy-drop : (n : ℕ) (all kept : List ℕ) (c : ℕ) (cs : List ℕ) → drops n all kept c ≡ true → tidyFrom n all kept (c ∷ cs) ≡ tidyFrom n all kept cs
-unfolding tidyFrom
-tidy-drop n all kept c cs e = rw (e, tidyFrom)
+tidy-drop n all kept c cs e = unfold tidyFrom in rw (e, tidyFrom)
 
 pub tidy-keep : (n : ℕ) (all kept : List ℕ) (c : ℕ) (cs : List ℕ) → drops n all kept c ≡ false → tidyFrom n all kept (c ∷ cs) ≡ tidyFrom n all (kept ++ (c ∷ [])) cs
-unfolding tidyFrom
-tidy-keep n all kept c cs e = rw (e, tidyFrom)
+tidy-keep n all kept c cs e = unfold tidyFrom in rw (e, tidyFrom)
 
 first-drop : (n : ℕ) (all seen : List ℕ) (c : ℕ) (cs : List ℕ) → (minimal n all c && not (among seen c)) ≡ false → firstMinimal n all seen (c ∷ cs) ≡ firstMinimal n all (c ∷ seen) cs
-unfolding firstMinimal
-first-drop n all seen c cs e = rw (e, firstMinimal)
+first-drop n all seen c cs e = unfold firstMinimal in rw (e, firstMinimal)
 
 pub first-keep : (n : ℕ) (all seen : List ℕ) (c : ℕ) (cs : List ℕ) → (minimal n all c && not (among seen c)) ≡ true → firstMinimal n all seen (c ∷ cs) ≡ c ∷ firstMinimal n all (c ∷ seen) cs
-unfolding firstMinimal
-first-keep n all seen c cs e = rw (e, firstMinimal)
+first-keep n all seen c cs e = unfold firstMinimal in rw (e, firstMinimal)
 
 -- ---- minimal clauses
 
 -- a minimal clause contains no clause of the entry properly
 pub minimal-out : (n : ℕ) (all : List ℕ) (c d : ℕ) → minimal n all c ≡ true → List·Memᴰ d all → properlyContains n c d ≡ false
-unfolding minimal
-minimal-out n all c d e m = any-none all (properlyContains n c) d (not-t (anyOf all (properlyContains n c)) e) m
+minimal-out n all c d e m = unfold minimal in any-none all (properlyContains n c) d (not-t (anyOf all (properlyContains n c)) e) m
 
 pub minimal-in : (n : ℕ) (all : List ℕ) (c : ℕ) → ((d : ℕ) → List·Memᴰ d all → properlyContains n c d ≡ false) → minimal n all c ≡ true
-unfolding minimal
-minimal-in n all c h = ap not (none-any all (properlyContains n c) h)
+minimal-in n all c h = unfold minimal in ap not (none-any all (properlyContains n c) h)
 
 -- of the clauses of the entry all, over n states
 module _ (n : ℕ) (all : List ℕ) (small : (c : ℕ) → List·Memᴰ c all → c < 2 ^ n) where
@@ -65,8 +59,7 @@ module _ (n : ℕ) (all : List ℕ) (small : (c : ℕ) → List·Memᴰ c all �
   drops-large kept c e = rw (not-f (anyOf all (properlyContains n c)) e) (or-true (anyOf kept (contains n c)))
 
   drops-copy : (kept : List ℕ) (c : ℕ) → List·Memᴰ c kept → drops n all kept c ≡ true
-  unfolding drops
-  drops-copy kept c m = rw (any-in kept (contains n c) c m (contains-refl n c))
+  drops-copy kept c m = unfold drops in rw (any-in kept (contains n c) c m (contains-refl n c))
 
   keeps-first : (seen kept : List ℕ) (c : ℕ) → Kept seen kept → List·Memᴰ c all → minimal n all c ≡ true → among seen c ≡ false → drops n all kept c ≡ false
   unfolding drops minimal

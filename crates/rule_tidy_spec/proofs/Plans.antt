@@ -98,8 +98,7 @@ module _ (r : Rule) (small : (c : ℕ) → List·Memᴰ c (r .clauses) → c < 2
 
   -- It accepts the same words.
   pub tidy-accepts : AcceptsWord (tidyRule r) lead cycle ↔ AcceptsWord r lead cycle
-  unfolding tidyRule
-  tidy-accepts = tidy-accepts-from (r .initial) 0
+  tidy-accepts = unfold tidyRule in tidy-accepts-from (r .initial) 0
 
 -- 02: "The tidied rule must give equal truth masks on all words": of any lead-in and any cycle but the empty one.
 module _ (r : Rule) (P : Passing r) (lead cycle : List ℕ) (W : WordOver (r .s) lead cycle) where

@@ -22,12 +22,10 @@ over lead cycle = ltb 32 (length lead) || ltb 32 (length cycle)
 module _ (lead cycle : List ℕ) where
   -- 12
   pub empty-cycle : length cycle ≡ 0 → lengthRow lead cycle ≡ 12
-  unfolding lengthRow lengthRows firstRow
-  empty-cycle e = rw (eq-eqb (length cycle) 0 e)
+  empty-cycle e = unfold lengthRow lengthRows firstRow in rw (eq-eqb (length cycle) 0 e)
 
   long : 0 < length cycle → over lead cycle ≡ true → lengthRow lead cycle ≡ 13
-  unfolding lengthRow lengthRows firstRow
-  long h e = rw (ne-eqb (length cycle) 0 (λ z. omega arith), e)
+  long h e = unfold lengthRow lengthRows firstRow in rw (ne-eqb (length cycle) 0 (λ z. omega arith), e)
 
   -- 13
   pub long-lead : 0 < length cycle → 32 < length lead → lengthRow lead cycle ≡ 13
@@ -59,8 +57,7 @@ module _ (lead cycle : List ℕ) where
 
 -- rows 12 and 13 have numbers
 pub lengths-numbered : (lead cycle : List ℕ) → numbered (lengthRows lead cycle) ≡ true
-unfolding numbered lengthRows
-lengths-numbered lead cycle = refl
+lengths-numbered lead cycle = unfold numbered lengthRows in refl
 
 module _ (s : ℕ) (lead cycle : List ℕ) where
   -- rows 12 and 13 come first
@@ -74,16 +71,13 @@ module _ (s : ℕ) (lead cycle : List ℕ) where
 
   -- 14
   pub lead-letter : lengthRow lead cycle ≡ 0 → anyOf lead (λ a. leb s a) ≡ true → wordRow s lead cycle ≡ 14
-  unfolding letterRows firstRow
-  lead-letter e t = after e ∙ rw t
+  lead-letter e t = unfold letterRows firstRow in after e ∙ rw t
 
   pub cycle-letter : lengthRow lead cycle ≡ 0 → anyOf cycle (λ a. leb s a) ≡ true → wordRow s lead cycle ≡ 14
-  unfolding letterRows firstRow
-  cycle-letter e t = after e ∙ rw (or-r (anyOf lead (λ a. leb s a)) (anyOf cycle (λ a. leb s a)) t)
+  cycle-letter e t = unfold letterRows firstRow in after e ∙ rw (or-r (anyOf lead (λ a. leb s a)) (anyOf cycle (λ a. leb s a)) t)
 
   pub no-word-row : lengthRow lead cycle ≡ 0 → anyOf lead (λ a. leb s a) ≡ false → anyOf cycle (λ a. leb s a) ≡ false → wordRow s lead cycle ≡ 0
-  unfolding letterRows firstRow
-  no-word-row e t v = after e ∙ rw (t, v)
+  no-word-row e t v = unfold letterRows firstRow in after e ∙ rw (t, v)
 
   all-below : (xs : List ℕ) → anyOf xs (λ a. leb s a) ≡ false → (a : ℕ) → List·Memᴰ a xs → a < s
   all-below xs e a m = leb-false s a (any-none xs (λ b. leb s b) a e m)

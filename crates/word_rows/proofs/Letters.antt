@@ -9,8 +9,7 @@ use Rattle.theory.specs.Word.{letterAt}
 
 module _ (lead cycle : List ℕ) (p : ℕ) where
   pub in-lead : p < length lead → getD lead p 0 ≡ letterAt lead cycle p
-  unfolding letterAt
-  in-lead h = sym (List·getD-append lead cycle 0 p h)
+  in-lead h = unfold letterAt in sym (List·getD-append lead cycle 0 p h)
 
   pub in-cycle : length lead ≤ p → getD cycle (p - length lead) 0 ≡ letterAt lead cycle p
   unfolding letterAt

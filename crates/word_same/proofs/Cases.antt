@@ -18,15 +18,12 @@ computed = 0
 
 -- 02: "the same endless sequence many times, as lead-in 0 with cycle 1 0 and as cycle 0 1"
 pub duty : sameWordsOf (0 ∷ []) (1 ∷ 0 ∷ []) [] (0 ∷ 1 ∷ []) ≡ Same
-unfolding computed
-duty = refl
+duty = unfold computed in refl
 
 -- a rotation of a cycle is another word
 pub rotation : sameWordsOf [] (0 ∷ 1 ∷ []) [] (1 ∷ 0 ∷ []) ≡ Different
-unfolding computed
-rotation = refl
+rotation = unfold computed in refl
 
 -- the first word is refused first
 pub first-word-first : sameWordsOf [] [] (replicate 33 0) (1 ∷ []) ≡ Refused 12
-unfolding computed
-first-word-first = refl
+first-word-first = unfold computed in refl

@@ -31,8 +31,7 @@ AgreeTo l₁ c₁ l₂ c₂ i = every i (λ x. eqb (letters l₁ c₁ x) (letter
 
 -- the place of the next step
 pub place-next : (l c : List ℕ) (i p : ℕ) → p ≡ place (nextPlace l c) i → nextPlace l c p ≡ place (nextPlace l c) (i + 1)
-unfolding place
-place-next l c i p e = ap (nextPlace l c) e ∙ sym (ap (place (nextPlace l c)) (add-one i))
+place-next l c i p e = unfold place in ap (nextPlace l c) e ∙ sym (ap (place (nextPlace l c)) (add-one i))
 
 module _ (l₁ c₁ l₂ c₂ : List ℕ) (i p q : ℕ) (e : p ≡ place (nextPlace l₁ c₁) i) (f : q ≡ place (nextPlace l₂ c₂) i) where
   pub step-agrees : letterAt l₁ c₁ p ≡ letterAt l₂ c₂ q → AgreeTo l₁ c₁ l₂ c₂ i → AgreeTo l₁ c₁ l₂ c₂ (i + 1)
@@ -46,8 +45,7 @@ module _ (l₁ c₁ l₂ c₂ : List ℕ) (i p q : ℕ) (e : p ≡ place (nextPl
       (ne-eqb _ _ (λ g. n (ap (letterAt l₁ c₁) e ∙ g ∙ sym (ap (letterAt l₂ c₂) f))))
 
 pub steps-end : (l₁ c₁ l₂ c₂ : List ℕ) (i : ℕ) → i ≡ places l₁ c₁ + places l₂ c₂ → AgreeTo l₁ c₁ l₂ c₂ i → sameWord l₁ c₁ l₂ c₂ ≡ true
-unfolding sameWord
-steps-end l₁ c₁ l₂ c₂ i e t = ap (λ (n : ℕ). every n (λ x. eqb (letters l₁ c₁ x) (letters l₂ c₂ x))) (sym e) ∙ t
+steps-end l₁ c₁ l₂ c₂ i e t = unfold sameWord in ap (λ (n : ℕ). every n (λ x. eqb (letters l₁ c₁ x) (letters l₂ c₂ x))) (sym e) ∙ t
 
 -- ---- the answer
 
@@ -63,8 +61,7 @@ module _ (l₁ c₁ l₂ c₂ : List ℕ) where
   first-refused k p e = refused k p (sym (first-left (lengthRows l₁ c₁) (lengthRows l₂ c₂) k (λ z. omega arith) e))
 
   then-second : lengthRow l₁ c₁ ≡ 0 → sameRow l₁ c₁ l₂ c₂ ≡ lengthRow l₂ c₂
-  unfolding sameRow lengthRow
-  then-second e = first-right (lengthRows l₁ c₁) (lengthRows l₂ c₂) (lengths-numbered l₁ c₁) e
+  then-second e = unfold sameRow lengthRow in first-right (lengthRows l₁ c₁) (lengthRows l₂ c₂) (lengths-numbered l₁ c₁) e
 
   -- the second word is refused
   pub second-refused : (k : ℕ) → lengthRow l₁ c₁ ≡ 0 → 0 < k → k ≡ lengthRow l₂ c₂ → Compared l₁ c₁ l₂ c₂ (Refused k)
@@ -72,8 +69,7 @@ module _ (l₁ c₁ l₂ c₂ : List ℕ) where
 
   module _ (one : lengthRow l₁ c₁ ≡ 0) (two : lengthRow l₂ c₂ ≡ 0) where
     decided : (b : Bool) → sameWord l₁ c₁ l₂ c₂ ≡ b → verdict 0 b ≡ sameWordsOf l₁ c₁ l₂ c₂
-    unfolding sameWordsOf
-    decided b t = rw (then-second one ∙ two, t)
+    decided b t = unfold sameWordsOf in rw (then-second one ∙ two, t)
 
     agree-iff : (sameWord l₁ c₁ l₂ c₂ ≡ true) ↔ Agree l₁ c₁ l₂ c₂
     agree-iff = same-word-iff l₁ c₁ l₂ c₂ (short-of l₁ c₁ one .repeats) (short-of l₂ c₂ two .repeats)

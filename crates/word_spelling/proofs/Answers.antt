@@ -62,8 +62,7 @@ module _ (l c old : List ℕ) where
     size = omega (arith, length-append (tidyLead l c) (tidyCycle l c), tidy-lead-length l c repeats, tidy-cycle-length l c repeats)
 
     then-slice : tidyRow l c (length old) ≡ firstRow (sliceRows l c (length old))
-    unfolding tidyRow lengthRow
-    then-slice = first-right (lengthRows l c) (sliceRows l c (length old)) (lengths-numbered l c) passed
+    then-slice = unfold tidyRow lengthRow in first-right (lengthRows l c) (sliceRows l c (length old)) (lengths-numbered l c) passed
 
     -- 16
     pub slice-refused : length old < leadLength l c + cycleLength c → Tidied l c old old (Refused 16)

@@ -36,8 +36,7 @@ module _ (cycle : List ℕ) (repeats : 0 < length cycle) (d : ℕ) where
   later-next j later e = let f : j + 1 + d ≡ suc (j + d) = omega arith in ap (nextPlace [] cycle) e ∙ sym (ap (place (nextPlace [] cycle)) f)
 
   there : (j later : ℕ) → later ≡ laterOf cycle d j → letters [] cycle (j + d) ≡ getD cycle later 0
-  unfolding letterAt
-  there j later e = ap (letterAt [] cycle) (sym e)
+  there j later e = unfold letterAt in ap (letterAt [] cycle) (sym e)
 
   here : (j : ℕ) → j < length cycle → letters [] cycle j ≡ getD cycle j 0
   here j h = letter-is [] cycle repeats j (omega arith)
@@ -85,8 +84,7 @@ module _ (lead cycle : List ℕ) (repeats : 0 < length cycle) (p m : ℕ) (some-
   w = letters lead cycle
 
   at : (i : ℕ) → i < places lead cycle → w i ≡ letterAt lead cycle i
-  unfolding letterAt
-  at i l = letter-is lead cycle repeats i l
+  at i l = unfold letterAt in letter-is lead cycle repeats i l
 
   whole : suc (m - 1) ≡ m
   whole = omega arith

@@ -15,46 +15,36 @@ computed = 0
 
 -- 02: "lead-in 0 with cycle 1 0" and "cycle 0 1"
 pub duty-lead : tidyLead (0 ∷ []) (1 ∷ 0 ∷ []) ≡ []
-unfolding computed
-duty-lead = refl
+duty-lead = unfold computed in refl
 
 pub duty-cycle : tidyCycle (0 ∷ []) (1 ∷ 0 ∷ []) ≡ (0 ∷ 1 ∷ [])
-unfolding computed
-duty-cycle = refl
+duty-cycle = unfold computed in refl
 
 pub duty-same : sameWord (0 ∷ []) (1 ∷ 0 ∷ []) [] (0 ∷ 1 ∷ []) ≡ true
-unfolding computed
-duty-same = refl
+duty-same = unfold computed in refl
 
 -- a cycle that repeats in itself, after a lead-in of which part belongs to the cycle
 pub twice-lead : tidyLead (2 ∷ 1 ∷ []) (0 ∷ 1 ∷ 0 ∷ 1 ∷ []) ≡ (2 ∷ [])
-unfolding computed
-twice-lead = refl
+twice-lead = unfold computed in refl
 
 pub twice-cycle : tidyCycle (2 ∷ 1 ∷ []) (0 ∷ 1 ∷ 0 ∷ 1 ∷ []) ≡ (1 ∷ 0 ∷ [])
-unfolding computed
-twice-cycle = refl
+twice-cycle = unfold computed in refl
 
 -- a cycle whose first letters come again, but not the last, is not cut
 pub begun-cycle : tidyCycle [] (0 ∷ 1 ∷ 0 ∷ []) ≡ (0 ∷ 1 ∷ 0 ∷ [])
-unfolding computed
-begun-cycle = refl
+begun-cycle = unfold computed in refl
 
 -- 0 0 1 0 0 comes again after three letters at its start, but not where the cycle turns
 pub begun-longer : cycleLength (0 ∷ 0 ∷ 1 ∷ 0 ∷ 0 ∷ []) ≡ 5
-unfolding computed
-begun-longer = refl
+begun-longer = unfold computed in refl
 
 -- a rotation of a cycle is another word
 pub rotation-differs : sameWord [] (0 ∷ 1 ∷ []) [] (1 ∷ 0 ∷ []) ≡ false
-unfolding computed
-rotation-differs = refl
+rotation-differs = unfold computed in refl
 
 pub rotation-tidy : tidyCycle [] (1 ∷ 0 ∷ []) ≡ (1 ∷ 0 ∷ [])
-unfolding computed
-rotation-tidy = refl
+rotation-tidy = unfold computed in refl
 
 -- two words within the limits that agree at their first 93 steps and differ at the next
 pub late-difference : sameWord (replicate 32 0) (replicate 30 0 ++ (1 ∷ [])) (replicate 32 0) (replicate 30 0 ++ (1 ∷ 0 ∷ [])) ≡ false
-unfolding computed
-late-difference = refl
+late-difference = unfold computed in refl

@@ -16,13 +16,11 @@ module _ (lead cycle : List ℕ) (repeats : 0 < length cycle) where
   place-is (suc i) l = ap (nextPlace lead cycle) (place-is i (omega arith)) ∙ next-place-other lead cycle i (λ e. omega arith)
 
   pub letter-is : (i : ℕ) → i < places lead cycle → letters lead cycle i ≡ getD (lead ++ cycle) i 0
-  unfolding letterAt
-  letter-is i l = ap (letterAt lead cycle) (place-is i l)
+  letter-is i l = unfold letterAt in ap (letterAt lead cycle) (place-is i l)
 
   -- after the last place comes the cycle's first
   place-turn : (j : ℕ) → suc j ≡ places lead cycle → place (nextPlace lead cycle) (suc j) ≡ length lead
-  unfolding place
-  place-turn j e = ap (nextPlace lead cycle) (place-is j (omega arith)) ∙ next-place-last lead cycle j e
+  place-turn j e = unfold place in ap (nextPlace lead cycle) (place-is j (omega arith)) ∙ next-place-last lead cycle j e
 
   place-again : (k : ℕ) → place (nextPlace lead cycle) (places lead cycle + k) ≡ place (nextPlace lead cycle) (length lead + k)
   unfolding place

@@ -86,8 +86,7 @@ module _ (lead cycle : List ℕ) (repeats : 0 < length cycle) where
       eq-eqb _ _ (sym (letters-behind lead cycle repeats (j + d)) ∙ ap w e ∙ R (length lead + j) (omega arith) ∙ letters-behind lead cycle repeats j))
 
   pub cycle-pos : 0 < cycleLength cycle
-  unfolding cycleLength
-  cycle-pos = omega (arith, first-ge (length cycle) (comesAgain cycle) 1)
+  cycle-pos = unfold cycleLength in omega (arith, first-ge (length cycle) (comesAgain cycle) 1)
 
   pub cycle-max : cycleLength cycle ≤ length cycle
   unfolding cycleLength
@@ -114,12 +113,10 @@ own-again cycle h = repeats-again [] cycle h (length cycle) (letters-again [] cy
 
 module _ (w : ℕ → ℕ) (p : ℕ) where
   pub shortened-same : (m : ℕ) → w m ≡ w (m + p) → shortened w p (suc m) ≡ shortened w p m
-  unfolding shortened
-  shortened-same m e = rw (eq-eqb (w m) (w (m + p)) e, shortened)
+  shortened-same m e = unfold shortened in rw (eq-eqb (w m) (w (m + p)) e, shortened)
 
   pub shortened-other : (m : ℕ) → (w m ≡ w (m + p) → ⊥) → shortened w p (suc m) ≡ suc m
-  unfolding shortened
-  shortened-other m n = bif (eqb (w m) (w (m + p))) (λ t. absurd (n (eqb-true _ _ t))) (λ t. rw (t, shortened))
+  shortened-other m n = unfold shortened in bif (eqb (w m) (w (m + p))) (λ t. absurd (n (eqb-true _ _ t))) (λ t. rw (t, shortened))
 
   pub shortened-max : (m : ℕ) → shortened w p m ≤ m
   unfolding shortened
@@ -155,12 +152,10 @@ module _ (lead cycle : List ℕ) (repeats : 0 < length cycle) where
   p = cycleLength cycle
 
   pub lead-max : leadLength lead cycle ≤ length lead
-  unfolding leadLength
-  lead-max = shortened-max (letters lead cycle) (cycleLength cycle) (length lead)
+  lead-max = unfold leadLength in shortened-max (letters lead cycle) (cycleLength cycle) (length lead)
 
   lead-repeats : Repeats (letters lead cycle) m p
-  unfolding leadLength
-  lead-repeats = shortened-repeats (letters lead cycle) p (length lead) (cycle-repeats lead cycle repeats)
+  lead-repeats = unfold leadLength in shortened-repeats (letters lead cycle) p (length lead) (cycle-repeats lead cycle repeats)
 
   fits : m + p ≤ length (lead ++ cycle)
   fits = omega (arith, length-append lead cycle, lead-max, cycle-max lead cycle repeats)
@@ -169,8 +164,7 @@ module _ (lead cycle : List ℕ) (repeats : 0 < length cycle) where
   at i l = sym (letter-is lead cycle repeats i (omega (arith, lead-max, cycle-max lead cycle repeats)))
 
   lead-is : take m (lead ++ cycle) ≡ tidyLead lead cycle
-  unfolding tidyLead
-  lead-is = take-append-le m lead cycle lead-max
+  lead-is = unfold tidyLead in take-append-le m lead cycle lead-max
 
   pub tidy-lead-length : length (tidyLead lead cycle) ≡ leadLength lead cycle
   tidy-lead-length = ap length (sym lead-is) ∙ lead-length (letters lead cycle) m p (cycle-pos lead cycle repeats) lead-repeats (lead ++ cycle) fits at

@@ -50,8 +50,7 @@ module _ (l₁ c₁ l₂ c₂ : List ℕ) (same : Agree l₁ c₁ l₂ c₂) whe
 
     -- the verdict
     pub verdict-spelled : AcceptsWord r l₁ c₁ ↔ AcceptsWord r l₂ c₂
-    unfolding place
-    verdict-spelled = truth-spelled 0 (r .initial) (P .formed .initial-state)
+    verdict-spelled = unfold place in truth-spelled 0 (r .initial) (P .formed .initial-state)
 
   -- an accepting run of a table over one spelling is one over the other
   pub run-spelled : (codes transitions : List ℕ) (start : Set) (x : ℕ → ℕ)

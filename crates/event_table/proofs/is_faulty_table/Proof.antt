@@ -23,10 +23,6 @@ returns c = let a = c .before .before .args in sym (table-ragged (a .s) (a .even
 returns-2 : tie.Need-returns-2 Inv-loop μ-loop
 returns-2 c = let a = c .before .before .before .args in sym (table-long (a .s) (a .events .now) (c .if2 .taken))
 
-loop-holds : tie.Need-loop-holds Inv-loop μ-loop
-unfolding someBelow
-loop-holds c = (omega arith, refl)
-
 returns-3 : tie.Need-returns-3 Inv-loop μ-loop
 returns-3 c =
     let start = c .before .before .before .before .before .before .before in let a = start .args in
@@ -48,5 +44,5 @@ returns-4 c =
 pub is-faulty-table-spec : {M : Type 1} → statement M
 is-faulty-table-spec =
     tie.close (tie.spec
-    Inv-loop μ-loop returns returns-2 loop-holds (λ c κs. c .loop-test .taken) returns-3 (λ c. omega (arith, c .before .before .loop-test .taken))
-    (λ c. omega (arith, c .before .before .loop-test .taken)) loop-again returns-4)
+    Inv-loop μ-loop returns returns-2 (λ c. unfold someBelow in (omega arith, refl)) (λ c κs. c .loop-test .taken) returns-3
+    (λ c. omega (arith, c .before .before .loop-test .taken)) (λ c. omega (arith, c .before .before .loop-test .taken)) loop-again returns-4)

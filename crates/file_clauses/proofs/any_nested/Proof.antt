@@ -17,10 +17,6 @@ Inv-loop h counts clauses q₀ q = (q ≤ h .n) × (someBelow q (λ p. someBelow
 abbrev μ-loop : tie.MeasureT-loop
 μ-loop h counts clauses q₀ q = h .n - q
 
-loop-holds : tie.Need-loop-holds Inv-loop μ-loop
-unfolding someBelow
-loop-holds c = (omega arith, refl)
-
 returns : tie.Need-returns Inv-loop μ-loop
 unfolding someNested
 returns c = some-stop _ _ (c .before .before .before .before .loop .q) (c .before .before .if1 .taken) (sym (c .before .nested-state .ensures) ∙ c .if2 .taken)
@@ -29,11 +25,10 @@ loop-again : tie.Need-loop-again Inv-loop μ-loop
 loop-again c = (omega arith, some-next _ _ (c .before .before .before .before .loop .inv .1) (sym (c .before .nested-state .ensures) ∙ c .if2 .left))
 
 returns-2 : tie.Need-returns-2 Inv-loop μ-loop
-unfolding someNested
-returns-2 c = some-end (c .before .before .loop .q) _ _ (omega arith) (c .before .before .loop .inv .1)
+returns-2 c = unfold someNested in some-end (c .before .before .loop .q) _ _ (omega arith) (c .before .before .loop .inv .1)
 
 pub any-nested-spec : {M : Type 1} → statement M
 any-nested-spec =
     tie.close (tie.spec
-    Inv-loop μ-loop loop-holds (λ c κs. (c .before .before .before .before .before .pre, c .if1 .taken)) returns (λ c. omega arith) (λ c. omega arith)
-    loop-again returns-2)
+    Inv-loop μ-loop (λ c. unfold someBelow in (omega arith, refl)) (λ c κs. (c .before .before .before .before .before .pre, c .if1 .taken)) returns
+    (λ c. omega arith) (λ c. omega arith) loop-again returns-2)

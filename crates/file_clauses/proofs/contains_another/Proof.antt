@@ -16,10 +16,6 @@ Inv-loop clauses i j₀ j = (j ≤ length clauses) × (someBelow j (λ k. contai
 abbrev μ-loop : tie.MeasureT-loop
 μ-loop clauses i j₀ j = length clauses - j
 
-loop-holds : tie.Need-loop-holds Inv-loop μ-loop
-unfolding someBelow
-loop-holds c = (omega arith, refl)
-
 returns : tie.Need-returns Inv-loop μ-loop
 returns c = some-stop _ _ (c .before .before .before .loop .j) (omega arith) (sym (c .before .contains-at .ensures) ∙ c .if1 .taken)
 
@@ -32,4 +28,5 @@ returns-2 c = some-end (c .before .loop .j) _ _ (omega arith) (c .before .loop .
 pub contains-another-spec : {M : Type 1} → statement M
 contains-another-spec =
     tie.close (tie.spec
-    Inv-loop μ-loop loop-holds (λ c κs. (omega arith, omega arith)) returns (λ c. omega arith) (λ c. omega arith) loop-again returns-2)
+    Inv-loop μ-loop (λ c. unfold someBelow in (omega arith, refl)) (λ c κs. (omega arith, omega arith)) returns (λ c. omega arith) (λ c. omega arith)
+    loop-again returns-2)

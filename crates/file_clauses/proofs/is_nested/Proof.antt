@@ -16,10 +16,6 @@ Inv-loop clauses i₀ i = (i ≤ length clauses) × (someBelow i (λ k. someBelo
 abbrev μ-loop : tie.MeasureT-loop
 μ-loop clauses i₀ i = length clauses - i
 
-loop-holds : tie.Need-loop-holds Inv-loop μ-loop
-unfolding someBelow
-loop-holds c = (omega arith, refl)
-
 returns : tie.Need-returns Inv-loop μ-loop
 unfolding nested
 returns c = some-stop _ _ (c .before .before .before .loop .i) (omega arith) (sym (c .before .contains-another .ensures) ∙ c .if1 .taken)
@@ -28,8 +24,10 @@ loop-again : tie.Need-loop-again Inv-loop μ-loop
 loop-again c = (omega arith, some-next _ _ (c .before .before .before .loop .inv .1) (sym (c .before .contains-another .ensures) ∙ c .if1 .left))
 
 returns-2 : tie.Need-returns-2 Inv-loop μ-loop
-unfolding nested
-returns-2 c = some-end (c .before .loop .i) _ _ (omega arith) (c .before .loop .inv .1)
+returns-2 c = unfold nested in some-end (c .before .loop .i) _ _ (omega arith) (c .before .loop .inv .1)
 
 pub is-nested-spec : {M : Type 1} → statement M
-is-nested-spec = tie.close (tie.spec Inv-loop μ-loop loop-holds (λ c κs. omega arith) returns (λ c. omega arith) (λ c. omega arith) loop-again returns-2)
+is-nested-spec =
+    tie.close (tie.spec
+    Inv-loop μ-loop (λ c. unfold someBelow in (omega arith, refl)) (λ c κs. omega arith) returns (λ c. omega arith) (λ c. omega arith) loop-again
+    returns-2)

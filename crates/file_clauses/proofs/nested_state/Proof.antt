@@ -19,10 +19,6 @@ Inv-loop h counts clauses q a₀ a = (a ≤ h .s) × (someBelow a (λ b. nested 
 abbrev μ-loop : tie.MeasureT-loop
 μ-loop h counts clauses q a₀ a = h .s - a
 
-loop-holds : tie.Need-loop-holds Inv-loop μ-loop
-unfolding someBelow
-loop-holds c = (omega arith, refl)
-
 entry-of-requires : tie.Need-entry-of-requires Inv-loop μ-loop
 entry-of-requires c κs = let p = c .before .before .before .before .before .pre in (p .0, p .1, c .if1 .taken)
 
@@ -51,4 +47,5 @@ returns-2 c = some-end (c .before .before .loop .a) _ _ (omega arith) (c .before
 pub nested-state-spec : {M : Type 1} → statement M
 nested-state-spec =
     tie.close (tie.spec
-    Inv-loop μ-loop loop-holds entry-of-requires (λ c κs. search needs) returns (λ c. omega arith) (λ c. omega arith) loop-again returns-2)
+    Inv-loop μ-loop (λ c. unfold someBelow in (omega arith, refl)) entry-of-requires (λ c κs. search needs) returns (λ c. omega arith)
+    (λ c. omega arith) loop-again returns-2)

@@ -15,10 +15,6 @@ Inv-loop names b a₀ a = (a ≤ b) × (someBelow a (λ k. sameName names k b) �
 abbrev μ-loop : tie.MeasureT-loop
 μ-loop names b a₀ a = b - a
 
-loop-holds : tie.Need-loop-holds Inv-loop μ-loop
-unfolding someBelow
-loop-holds c = (omega arith, refl)
-
 returns : tie.Need-returns Inv-loop μ-loop
 returns c = some-stop _ _ (c .before .before .before .loop .a) (omega arith) (sym (c .before .same-name .ensures) ∙ c .if1 .taken)
 
@@ -31,4 +27,5 @@ returns-2 c = some-end (c .before .loop .a) _ _ (omega arith) (c .before .loop .
 pub repeats-earlier-spec : {M : Type 1} → statement M
 repeats-earlier-spec =
     tie.close (tie.spec
-    Inv-loop μ-loop loop-holds (λ c κs. (omega arith, omega arith)) returns (λ c. omega arith) (λ c. omega arith) loop-again returns-2)
+    Inv-loop μ-loop (λ c. unfold someBelow in (omega arith, refl)) (λ c κs. (omega arith, omega arith)) returns (λ c. omega arith) (λ c. omega arith)
+    loop-again returns-2)

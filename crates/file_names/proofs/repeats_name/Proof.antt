@@ -16,10 +16,6 @@ Inv-loop names count b₀ b = (b ≤ count) × (someBelow b (λ k. someBelow k (
 abbrev μ-loop : tie.MeasureT-loop
 μ-loop names count b₀ b = count - b
 
-loop-holds : tie.Need-loop-holds Inv-loop μ-loop
-unfolding someBelow
-loop-holds c = (omega arith, refl)
-
 returns : tie.Need-returns Inv-loop μ-loop
 unfolding repeatsName
 returns c = some-stop _ _ (c .before .before .before .loop .b) (omega arith) (sym (c .before .repeats-earlier .ensures) ∙ c .if1 .taken)
@@ -28,8 +24,10 @@ loop-again : tie.Need-loop-again Inv-loop μ-loop
 loop-again c = (omega arith, some-next _ _ (c .before .before .before .loop .inv .1) (sym (c .before .repeats-earlier .ensures) ∙ c .if1 .left))
 
 returns-2 : tie.Need-returns-2 Inv-loop μ-loop
-unfolding repeatsName
-returns-2 c = some-end (c .before .loop .b) _ _ (omega arith) (c .before .loop .inv .1)
+returns-2 c = unfold repeatsName in some-end (c .before .loop .b) _ _ (omega arith) (c .before .loop .inv .1)
 
 pub repeats-name-spec : {M : Type 1} → statement M
-repeats-name-spec = tie.close (tie.spec Inv-loop μ-loop loop-holds (λ c κs. omega arith) returns (λ c. omega arith) (λ c. omega arith) loop-again returns-2)
+repeats-name-spec =
+    tie.close (tie.spec
+    Inv-loop μ-loop (λ c. unfold someBelow in (omega arith, refl)) (λ c κs. omega arith) returns (λ c. omega arith) (λ c. omega arith) loop-again
+    returns-2)

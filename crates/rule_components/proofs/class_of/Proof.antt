@@ -16,10 +16,6 @@ Inv-loop reach n q class₀ p₀ class p = (p ≤ n) × (class ≡ mask p (λ t.
 abbrev μ-loop : tie.MeasureT-loop
 μ-loop reach n q class₀ p₀ class p = n - p
 
-loop-holds : tie.Need-loop-holds Inv-loop μ-loop
-unfolding mask
-loop-holds c = (omega arith, refl)
-
 loop-again : tie.Need-loop-again Inv-loop μ-loop
 loop-again c =
     let l = c .before .before .before .loop in let es = c .before .before .before .before .args .reach .now in
@@ -35,5 +31,5 @@ returns c = let e : c .before .loop .p ≡ c .before .before .args .n = omega ar
 pub class-of-spec : {M : Type 1} → statement M
 class-of-spec =
     tie.close (tie.spec
-    Inv-loop μ-loop loop-holds (λ c. omega arith) (λ c. omega arith) (λ c. omega arith) (λ c. omega arith) (λ c. omega arith) (λ c. omega arith)
-    (λ c. omega arith) (λ c. omega arith) (λ c. omega arith) (λ c. omega arith) loop-again returns)
+    Inv-loop μ-loop (λ c. unfold mask in (omega arith, refl)) (λ c. omega arith) (λ c. omega arith) (λ c. omega arith) (λ c. omega arith)
+    (λ c. omega arith) (λ c. omega arith) (λ c. omega arith) (λ c. omega arith) (λ c. omega arith) (λ c. omega arith) loop-again returns)

@@ -24,10 +24,6 @@ cast-accepting c =
     let a = c .before .before .before .before .args in
     omega (arith, accepting-small (ruleOf (a .h) (a .counts .now) (a .clauses .now)) (c .before .before .before .before .pre))
 
-loop-holds : tie.Need-loop-holds Inv-loop μ-loop
-unfolding someBelow
-loop-holds c = (omega arith, refl)
-
 class-of-requires : tie.Need-class-of-requires Inv-loop μ-loop
 class-of-requires c κs =
     let start = c .before .before .before .before .before .before .before in
@@ -67,5 +63,5 @@ returns-2 c =
 pub is-mixed-spec : {M : Type 1} → statement M
 is-mixed-spec =
     tie.close (tie.spec
-    Inv-loop μ-loop (λ c κs. c .before .before .pre) cast-accepting loop-holds class-of-requires (λ c κs. search needs) returns (λ c. omega arith)
-    (λ c. omega arith) loop-again returns-2)
+    Inv-loop μ-loop (λ c κs. c .before .before .pre) cast-accepting (λ c. unfold someBelow in (omega arith, refl)) class-of-requires
+    (λ c κs. search needs) returns (λ c. omega arith) (λ c. omega arith) loop-again returns-2)

@@ -24,10 +24,6 @@ Inv-loop h counts clauses reach masks₀ count₀ q₀ masks count q = (q ≤ h 
 abbrev μ-loop : tie.MeasureT-loop
 μ-loop h counts clauses reach masks₀ count₀ q₀ masks count q = h .n - q
 
-loop-holds : tie.Need-loop-holds Inv-loop μ-loop
-unfolding countOf
-loop-holds c = (omega arith, refl, table-none _)
-
 class-of-requires : tie.Need-class-of-requires Inv-loop μ-loop
 class-of-requires c κs =
     let start = c .before .before .before .before .before .before .before in
@@ -72,5 +68,5 @@ returns c =
 pub split-spec : {M : Type 1} → statement M
 split-spec =
     tie.close (tie.spec
-    Inv-loop μ-loop (λ c κs. c .before .before .pre) loop-holds class-of-requires (λ c. omega (arith, trailing-le 8 (c .class-of .result)))
-    array-write-masks add-count (λ c. omega arith) (λ c. omega arith) loop-again returns)
+    Inv-loop μ-loop (λ c κs. c .before .before .pre) (λ c. unfold countOf in (omega arith, refl, table-none _)) class-of-requires
+    (λ c. omega (arith, trailing-le 8 (c .class-of .result))) array-write-masks add-count (λ c. omega arith) (λ c. omega arith) loop-again returns)

@@ -14,10 +14,6 @@ Inv-loop counts i total₀ k₀ total k = (k ≤ i) × (total ≤ 255 * k) × (t
 abbrev μ-loop : tie.MeasureT-loop
 μ-loop counts i total₀ k₀ total k = i - k
 
-loop-holds : tie.Need-loop-holds Inv-loop μ-loop
-unfolding sum
-loop-holds c = (omega arith, omega arith, refl)
-
 loop-again : tie.Need-loop-again Inv-loop μ-loop
 loop-again c =
     let l = c .before .before .loop in
@@ -33,5 +29,6 @@ returns c = let e : c .before .loop .k ≡ c .before .before .args .i = omega ar
 pub clauses-before-spec : {M : Type 1} → statement M
 clauses-before-spec =
     tie.close (tie.spec
-    Inv-loop μ-loop loop-holds (λ c. omega arith) (λ c. omega (arith, c .shared-slice-known .given (c .before .before .loop .k)))
+    Inv-loop μ-loop (λ c. unfold sum in (omega arith, omega arith, refl)) (λ c. omega arith)
+    (λ c. omega (arith, c .shared-slice-known .given (c .before .before .loop .k)))
     (λ c. omega (arith, c .shared-slice-known .given (c .before .before .loop .k))) (λ c. omega arith) (λ c. omega arith) loop-again returns)

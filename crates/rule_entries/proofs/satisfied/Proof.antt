@@ -22,12 +22,10 @@ answer c =
     ∙ met-entry (a .h .n) (a .set) (entry r (a .q) (a .a)) (p .0 .few-states) (entry-states r (p .0) (a .q) (a .a) (p .2) (p .3))
 
 returns : tie.Need-returns
-unfolding isMet
-returns c = sym (ap isMet (c .enum-told .given .1)) ∙ answer (c .before .before)
+returns c = unfold isMet in sym (ap isMet (c .enum-told .given .1)) ∙ answer (c .before .before)
 
 returns-2 : tie.Need-returns-2
-unfolding isMet
-returns-2 c = sym (ap isMet (c .enum-told2 .given .1)) ∙ answer (c .before .before)
+returns-2 c = unfold isMet in sym (ap isMet (c .enum-told2 .given .1)) ∙ answer (c .before .before)
 
 pub satisfied-spec : {M : Type 1} → statement M
 satisfied-spec = tie.close (tie.spec (λ c κs. search needs) (λ c. search needs) (λ c. search needs) returns returns-2)

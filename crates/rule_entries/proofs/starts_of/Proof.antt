@@ -16,8 +16,7 @@ abbrev μ-loop : tie.MeasureT-loop
 μ-loop counts starts₀ total₀ i₀ starts total i = length counts - i
 
 loop-holds : tie.Need-loop-holds Inv-loop μ-loop
-unfolding sum
-loop-holds c = (refl, omega arith, refl, omega arith, λ j l. absurd (omega arith))
+loop-holds c = unfold sum in (refl, omega arith, refl, omega arith, λ j l. absurd (omega arith))
 
 loop-again : tie.Need-loop-again Inv-loop μ-loop
 loop-again c =

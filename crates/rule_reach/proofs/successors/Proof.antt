@@ -22,8 +22,7 @@ abbrev μ-loop : tie.MeasureT-loop
 μ-loop h counts clauses q found₀ a₀ found a = h .s - a
 
 loop-holds : tie.Need-loop-holds Inv-loop μ-loop
-unfolding someBelow
-loop-holds c = (omega arith, omega arith, λ p l. bit-none p)
+loop-holds c = unfold someBelow in (omega arith, omega arith, λ p l. bit-none p)
 
 entry-of-requires : tie.Need-entry-of-requires Inv-loop μ-loop
 entry-of-requires c κs = (c .before .before .before .before .before .pre .0, c .before .before .before .before .before .pre .1, c .if1 .taken)

@@ -17,8 +17,7 @@ abbrev μ-loop : tie.MeasureT-loop
 μ-loop clauses out₀ k₀ i₀ out k i = length clauses - i
 
 loop-holds : tie.Need-loop-holds Inv-loop μ-loop
-unfolding tidyEntry
-loop-holds c = (omega arith, omega arith, refl, refl, refl)
+loop-holds c = unfold tidyEntry in (omega arith, omega arith, refl, refl, refl)
 
 loop-again : tie.Need-loop-again Inv-loop μ-loop
 loop-again c =

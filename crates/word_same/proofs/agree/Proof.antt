@@ -31,10 +31,6 @@ low c =
       rw (l .inv .2) (places-low (s .args .lead2 .now) (s .args .cycle2 .now) (s .pre .0 .1) (l .i)),
     )
 
-loop-holds : tie.Need-loop-holds Inv-loop μ-loop
-unfolding every place
-loop-holds c = (omega arith, refl, refl, refl)
-
 returns : tie.Need-returns Inv-loop μ-loop
 returns c =
     let start = c .before .before .before .before .before .before .before .before .before in let a = start .args in
@@ -73,5 +69,6 @@ returns-2 c =
 pub agree-spec : {M : Type 1} → statement M
 agree-spec =
     tie.close (tie.spec
-    Inv-loop μ-loop (λ c. omega arith) (λ c. omega arith) (λ c. omega arith) loop-holds (λ c κs. low c .0) (λ c κs. low (c .before) .1) returns
-    next-place-requires next-place-requires-2 (λ c. omega arith) (λ c. omega arith) loop-again returns-2)
+    Inv-loop μ-loop (λ c. omega arith) (λ c. omega arith) (λ c. omega arith) (λ c. unfold every place in (omega arith, refl, refl, refl))
+    (λ c κs. low c .0) (λ c κs. low (c .before) .1) returns next-place-requires next-place-requires-2 (λ c. omega arith) (λ c. omega arith) loop-again
+    returns-2)

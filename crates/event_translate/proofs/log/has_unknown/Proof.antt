@@ -18,10 +18,6 @@ Inv-loop kinds drives log n k₀ k = (k ≤ eventCount log) × ((t : List ℕ) �
 abbrev μ-loop : tie.MeasureT-loop
 μ-loop kinds drives log n k₀ k = eventCount log - k
 
-loop-holds : tie.Need-loop-holds Inv-loop μ-loop
-unfolding someBelow
-loop-holds c = (omega arith, λ t m. refl)
-
 returns : tie.Need-returns Inv-loop μ-loop
 returns c =
     let start = c .before .before .before .before .before .before .before in
@@ -49,8 +45,8 @@ returns-2 c = λ t m.
 pub has-unknown-spec : {M : Type 1} → statement M
 has-unknown-spec =
     tie.close (tie.spec
-    Inv-loop μ-loop loop-holds (λ c. omega (arith, c .loop-test .taken)) (λ c. omega (arith, c .before .loop-test .taken))
+    Inv-loop μ-loop (λ c. unfold someBelow in (omega arith, λ t m. refl)) (λ c. omega (arith, c .loop-test .taken))
     (λ c. omega (arith, c .before .loop-test .taken)) (λ c. omega (arith, c .before .loop-test .taken))
-    (λ c. omega (arith, c .before .before .loop-test .taken)) (λ c κs. search needs) returns
+    (λ c. omega (arith, c .before .loop-test .taken)) (λ c. omega (arith, c .before .before .loop-test .taken)) (λ c κs. search needs) returns
     (λ c. omega (arith, c .before .before .before .before .loop-test .taken))
     (λ c. omega (arith, c .before .before .before .before .loop-test .taken)) loop-again returns-2)

@@ -19,10 +19,6 @@ Inv-loop h counts clauses counts2 clauses2 q₀ q = (q ≤ h .n) × (every q (λ
 abbrev μ-loop : tie.MeasureT-loop
 μ-loop h counts clauses counts2 clauses2 q₀ q = h .n - q
 
-loop-holds : tie.Need-loop-holds Inv-loop μ-loop
-unfolding every
-loop-holds c = (omega arith, refl)
-
 same-state-requires : tie.Need-same-state-requires Inv-loop μ-loop
 same-state-requires c κs =
     let start = c .before .before .before .before .before .before .before in
@@ -56,4 +52,6 @@ returns-2 c =
     sym (ap (λ (x : ℕ). every x (λ p. every (a .h .s) (λ b. sameEntry (a .h .n) (entry r p b) (entry t p b)))) (sym e) ∙ l .inv .1)
 
 pub same-entries-spec : {M : Type 1} → statement M
-same-entries-spec = tie.close (tie.spec Inv-loop μ-loop loop-holds same-state-requires returns (λ c. omega arith) (λ c. omega arith) loop-again returns-2)
+same-entries-spec =
+    tie.close (tie.spec
+    Inv-loop μ-loop (λ c. unfold every in (omega arith, refl)) same-state-requires returns (λ c. omega arith) (λ c. omega arith) loop-again returns-2)

@@ -20,10 +20,6 @@ Inv-loop h counts clauses counts2 clauses2 q a₀ a = (a ≤ h .s) × (every a (
 abbrev μ-loop : tie.MeasureT-loop
 μ-loop h counts clauses counts2 clauses2 q a₀ a = h .s - a
 
-loop-holds : tie.Need-loop-holds Inv-loop μ-loop
-unfolding every
-loop-holds c = (omega arith, refl)
-
 entry-of-requires : tie.Need-entry-of-requires Inv-loop μ-loop
 entry-of-requires c κs =
     let start = c .before .before .before .before .before .before .before in
@@ -74,4 +70,5 @@ returns-2 c =
 pub same-state-spec : {M : Type 1} → statement M
 same-state-spec =
     tie.close (tie.spec
-    Inv-loop μ-loop loop-holds entry-of-requires entry-of-requires-2 (λ c κs. search needs) returns (λ c. omega arith) (λ c. omega arith) loop-again returns-2)
+    Inv-loop μ-loop (λ c. unfold every in (omega arith, refl)) entry-of-requires entry-of-requires-2 (λ c κs. search needs) returns (λ c. omega arith)
+    (λ c. omega arith) loop-again returns-2)

@@ -35,12 +35,10 @@ told c =
     (c .same-entries .result) (c .same-entries .ensures)
 
 returns-2 : tie.Need-returns-2
-unfolding verdict
-returns-2 c = ap verdict (sym (c .if2 .taken)) ∙ told (c .before)
+returns-2 c = unfold verdict in ap verdict (sym (c .if2 .taken)) ∙ told (c .before)
 
 returns-3 : tie.Need-returns-3
-unfolding verdict
-returns-3 c = ap verdict (sym (c .if2 .left)) ∙ told (c .before)
+returns-3 c = unfold verdict in ap verdict (sym (c .if2 .left)) ∙ told (c .before)
 
 pub same-bodies-spec : {M : Type 1} → statement M
 same-bodies-spec =
