@@ -3,30 +3,22 @@ use Prim.Native.Nat.{ℕ, _<_, _≤_, _^_}
 use mathlib.Core.Path.{_≡_, ap}
 use mathlib.Core.Bool.{Bool, false, _&&_, not}
 use mathlib.Core.List.{List, List·Memᴰ}
-use borrow.Author.Tests.{eqb-true, eq-eqb, ne-eqb}
+use borrow.Author.Tests.{eq-eqb, ne-eqb}
 use lib.Bits.{bitAnd}
 use lib.Dec.{eqb}
 use lib.ListN.{length, getD}
 use Rattle.sets.specs.Tests.{someBelow}
 use Rattle.sets.specs.Masks.{bit, inside}
-use Rattle.sets.proofs.Bools.{iff}
 use Rattle.sets.proofs.Tests.{some-ext}
-use Rattle.sets.proofs.Bits.{subset-and}
 use Rattle.sets.proofs.Lists.{mem-at}
-use Rattle.sets.proofs.Members.{inside-at, inside-all, inside-trim}
+use Rattle.sets.proofs.Members.{inside-trim}
 use Rattle.theory.specs.Rule.{Rule, entry}
 use Rattle.theory.specs.Passing.{WellFormed}
+use Rattle.rule_entries.proofs.Clauses.{inside-and}
 use Rattle.rule_entries.proofs.Entries.{entry-states}
 use Rattle.file_spec.specs.RuleRows.{containsAt, nested}
 
 -- ---- one clause
-
--- d is inside c exactly if c leaves d as it is
-inside-and : (c d : ℕ) → d < 256 → eqb (bitAnd d c) d ≡ inside 8 (bit c) d
-inside-and c d l =
-    iff (eqb (bitAnd d c) d) (inside 8 (bit c) d)
-    (λ e. inside-all 8 (bit c) d (subset-and 8 d c l .1 (eqb-true (bitAnd d c) d e)))
-    (λ e. eq-eqb (bitAnd d c) d (subset-and 8 d c l .0 (inside-at 8 (bit c) d e)))
 
 module _ (cs : List ℕ) (i j : ℕ) where
   -- a clause is not compared with itself

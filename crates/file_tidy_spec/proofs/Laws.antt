@@ -22,6 +22,7 @@ use Rattle.file_spec.proofs.Formed.{passing}
 use Rattle.file_spec.proofs.Names.{fit-21, past-21, no-names, names-room, names-long, names-length, written-row}
 use Rattle.file_read.proofs.Layouts.{length-body}
 use Rattle.file_read.proofs.FileRows.{layout-numbered, laid-formed}
+use Rattle.file_write_spec.proofs.Laws.{length-preface, preface-most}
 use Rattle.file_write_spec.specs.Written.{sliceRows, after}
 use Rattle.file_tidy_spec.specs.declared.Tidied.the-variants.{Length, Refused}
 use Rattle.file_tidy_spec.specs.Tidied.{tidyRows, tidyFile, tidyRow, answer, tidiedOf, sliceTidied}
@@ -105,19 +106,11 @@ module _ (s : ℕ) (p : List ℕ) (e : firstRow (prefaceRows s p) ≡ 0) where
   names-pass = written-row s (namesBefore s p) names-whole ∙ (sym (past-21 s p (fit-21 s p e)) ∙ e)
 
   -- and are no longer than the preface
-  none-long : (names : List ℕ) → names ≡ [] → length (prefaceFrom names) ≡ 0
-  none-long names z = unfold prefaceFrom in rw z
-
-  some-long : (names : List ℕ) → length (prefaceFrom names) ≤ length names + 2
-  unfolding prefaceFrom
-  some-long [] = omega arith
-  some-long (x ∷ xs) = omega (arith, length-append (x ∷ xs) namesTag)
-
   pub names-shorter : length (prefaceFrom (namesBefore s p)) ≤ length p
   names-shorter =
       bif (hasNames p)
-      (λ h. omega (arith, some-long (namesBefore s p), names-length s p h (fit-21 s p e), names-room s p h (fit-21 s p e), names-long s p h))
-      (λ h. omega (arith, none-long (namesBefore s p) (no-names s p h)))
+      (λ h. omega (arith, preface-most (namesBefore s p), names-length s p h (fit-21 s p e), names-room s p h (fit-21 s p e), names-long s p h))
+      (λ h. omega (arith, length-preface (namesBefore s p) .0 (ap length (no-names s p h))))
 
 -- ---- sizes
 

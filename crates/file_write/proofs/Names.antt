@@ -37,8 +37,3 @@ fill-both d p f at e l =
 
 pub names-few : (s : ℕ) (names : List ℕ) → s ≤ 16 → firstRow (givenRows s names) ≡ 0 → length names ≤ 128
 names-few s names l e = ⊎-elim (λ z. omega arith) (λ z. omega arith) (given-whole s names e)
-
-pub preface-most : (names : List ℕ) → length (prefaceFrom names) ≤ length names + 2
-unfolding prefaceFrom
-preface-most [] = omega arith
-preface-most (x ∷ xs) = omega (arith, length-append (x ∷ xs) namesTag)

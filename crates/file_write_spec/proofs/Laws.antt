@@ -63,6 +63,11 @@ unfolding prefaceFrom
 length-preface [] = (λ e. refl, λ n. absurd (n refl))
 length-preface (x ∷ xs) = (λ e. absurd (omega arith), λ n. length-append (x ∷ xs) namesTag)
 
+pub preface-most : (names : List ℕ) → length (prefaceFrom names) ≤ length names + 2
+unfolding prefaceFrom
+preface-most [] = omega arith
+preface-most (x ∷ xs) = omega (arith, length-append (x ∷ xs) namesTag)
+
 pub length-file : (h : Head) (counts clauses names : List ℕ) → length (fileOf h counts clauses names) ≡ length (prefaceFrom names) + length clauses + length counts + 8
 length-file h counts clauses names = omega (arith, length-append (prefaceFrom names) (bodyOf (ruleOf h counts clauses)), length-body (ruleOf h counts clauses))
 

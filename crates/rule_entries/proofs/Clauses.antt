@@ -11,16 +11,16 @@ use lib.Count.{trailingZeros}
 use lib.ListN.{length, drop, getD, drop-of-length-le}
 use lib.Seq.{drop-cons}
 use native.Mathlib.Omega.{arith}
-use borrow.Author.Tests.{eq-eqb}
+use borrow.Author.Tests.{eq-eqb, eqb-true}
 use Rattle.sets.specs.Tests.{Set, every}
 use Rattle.sets.specs.Lists.{allOf}
 use Rattle.sets.specs.Masks.{bit, inside}
-use Rattle.sets.proofs.Bools.{bif, clash, or-rt}
+use Rattle.sets.proofs.Bools.{bif, clash, or-rt, iff}
 use Rattle.theory.specs.Rule.{satisfies}
 use Rattle.rule_entries.specs.declared.Met.the-variants.{Clause, Nothing}
 use Rattle.rule_entries.specs.Met.{metFrom, metOf, isMet}
-use Rattle.sets.proofs.Bits.{bit-none}
-use Rattle.sets.proofs.Members.{members-cons, inside-members, inside-all, inside-trim}
+use Rattle.sets.proofs.Bits.{bit-none, subset-and}
+use Rattle.sets.proofs.Members.{members-cons, inside-members, inside-at, inside-all, inside-trim}
 
 -- the test of a bit in the code
 bit-tested : (m q : ℕ) → bit m q ≡ eqb (bitAnd (m / 2 ^ q) 1) 1
@@ -60,6 +60,11 @@ missing s m p h e = rw (inside-step (bit s) m p h, bit-tested s (least m), e)
 -- a clause of which the least state is in the set
 pub present : (s m : ℕ) → 0 < m → m < 256 → (bitAnd (s / 2 ^ least m) 1 ≡ 0 → ⊥) → inside 8 (bit s) m ≡ inside 8 (bit s) (rest m)
 present s m p h e = let b = and-le-r (s / 2 ^ least m) 1 in rw (inside-step (bit s) m p h, bit-tested s (least m), eq-eqb (bitAnd (s / 2 ^ least m) 1) 1 (omega arith))
+
+-- d is inside c exactly if c leaves d as it is
+pub inside-and : (c d : ℕ) → d < 256 → eqb (bitAnd d c) d ≡ inside 8 (bit c) d
+inside-and c d l =
+    iff _ _ (λ e. inside-all 8 (bit c) d (subset-and 8 d c l .1 (eqb-true _ _ e))) (λ e. eq-eqb _ _ (subset-and 8 d c l .0 (inside-at 8 (bit c) d e)))
 
 -- the empty clause
 pub no-state : (X : Set) → inside 8 X 0 ≡ true

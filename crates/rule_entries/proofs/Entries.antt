@@ -28,7 +28,7 @@ mem-take k xs m = rw (take-append-drop k xs) at (Memᴰ·append-left (drop k xs)
 mem-drop : (k : ℕ) (xs : List ℕ) {x : ℕ} → List·Memᴰ x (drop k xs) → List·Memᴰ x xs
 mem-drop k xs m = rw (take-append-drop k xs) at (Memᴰ·append-right (take k xs) m)
 
-sum-part : (xs : List ℕ) (i : ℕ) → sum (take i xs) ≤ sum xs
+pub sum-part : (xs : List ℕ) (i : ℕ) → sum (take i xs) ≤ sum xs
 sum-part xs i = let e : sum (take i xs) + sum (drop i xs) ≡ sum xs = sym (sum-append (take i xs) (drop i xs)) ∙ ap sum (take-append-drop i xs) in omega arith
 
 module _ (r : Rule) (w : WellFormed r) (q a : ℕ) (l : q < r .n) (m : a < r .s) where

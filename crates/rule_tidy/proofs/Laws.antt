@@ -9,26 +9,17 @@ use lib.Dec.{eqb}
 use lib.Bits.{bitAnd}
 use lib.ListN.{length, getD, take, drop, set, drop-of-length-le, take-append-drop, length-take, length-set}
 use lib.Seq.{take-suc-set, drop-set-lt, drop-drop}
-use borrow.Author.Tests.{eqb-true, eq-eqb}
 use Rattle.sets.specs.Masks.{bit}
 use Rattle.sets.specs.Lists.{anyOf}
-use Rattle.sets.proofs.Bools.{bif, iff}
-use Rattle.sets.proofs.Bits.{subset-and}
-use Rattle.sets.proofs.Members.{inside-at, inside-all}
+use Rattle.sets.proofs.Bools.{bif}
 use Rattle.sets.proofs.Walks.{drop-next}
+use Rattle.rule_entries.proofs.Clauses.{inside-and}
 use Rattle.rule_tidy_spec.specs.Tidy.{contains, properlyContains, drops, tidyFrom}
 use Rattle.rule_tidy_spec.proofs.Contains.{contains-refl, contains-antisym, properly-irrefl}
 use Rattle.rule_tidy_spec.proofs.Minimal.{tidy-drop, tidy-keep}
 use Rattle.rule_tidy.specs.Filled.{containing, filled, keptWith, Kept}
 
 -- ---- one clause in another
-
--- c contains d exactly if c leaves d as it is
-contains-and : (c d : ℕ) → d < 256 → eqb (bitAnd d c) d ≡ contains 8 c d
-contains-and c d l =
-    iff (eqb (bitAnd d c) d) (contains 8 c d)
-    (λ e. inside-all 8 (bit c) d (subset-and 8 d c l .1 (eqb-true (bitAnd d c) d e)))
-    (λ e. eq-eqb (bitAnd d c) d (subset-and 8 d c l .0 (inside-at 8 (bit c) d e)))
 
 -- two clauses: containment is proper
 properly-other : (c d : ℕ) → c < 256 → d < 256 → (c ≡ d → ⊥) → contains 8 c d ≡ properlyContains 8 c d
@@ -41,8 +32,8 @@ containing-same true c d e = rw (← e) (sym (properly-irrefl 8 c))
 containing-same false c d e = rw (← e) (sym (contains-refl 8 c))
 
 pub containing-other : (properly : Bool) (c d : ℕ) → c < 256 → d < 256 → (c ≡ d → ⊥) → eqb (bitAnd d c) d ≡ containing properly c d
-containing-other true c d k l n = contains-and c d l ∙ properly-other c d k l n
-containing-other false c d k l n = contains-and c d l
+containing-other true c d k l n = inside-and c d l ∙ properly-other c d k l n
+containing-other false c d k l n = inside-and c d l
 
 -- ---- one clause of an entry
 

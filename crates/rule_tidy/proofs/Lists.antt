@@ -9,6 +9,7 @@ use lib.Seq.{take-suc-set, drop-set-lt, drop-drop, take-at, drop-at, take-all, d
 use borrow.Rule.Slice.PartMut.{putMid, post-is}
 use Rattle.sets.specs.Lists.{sum}
 use Rattle.sets.proofs.Walks.{drop-next, sum-take, sum-append}
+use Rattle.rule_entries.proofs.Entries.{sum-part}
 use Rattle.rule_tidy_spec.specs.Tidy.{tidyEntry, tidyCounts, tidyClauses}
 use Rattle.rule_tidy_spec.proofs.Entries.{tidy-length}
 use Rattle.rule_tidy.specs.Filled.{filled}
@@ -40,12 +41,9 @@ passed-none counts clauses oldcounts oldclauses = record {
   unkept = refl;
 }
 
-pub part-sum : (counts : List ℕ) (i : ℕ) → sum (take i counts) ≤ sum counts
-part-sum counts i = let e : sum (take i counts) + sum (drop i counts) ≡ sum counts = sym (sum-append (take i counts) (drop i counts)) ∙ ap sum (take-append-drop i counts) in omega arith
-
 -- the clauses of the entries up to i are among the rule's
 pub entry-room : (counts clauses : List ℕ) (i : ℕ) → sum counts ≡ length clauses → i < length counts → sum (take i counts) + getD counts i 0 ≤ length clauses
-entry-room counts clauses i e l = omega (arith, sum-take counts i l, part-sum counts (i + 1))
+entry-room counts clauses i e l = omega (arith, sum-take counts i l, sum-part counts (i + 1))
 
 module _ (counts clauses oldcounts oldclauses counts2 clauses2 : List ℕ) (from to i : ℕ) (P : Passed counts clauses oldcounts oldclauses counts2 clauses2 from to i)
     (l : i < length counts) where

@@ -66,16 +66,12 @@ module _ (l c old : List ℕ) where
 
     -- 16
     pub slice-refused : length old < leadLength l c + cycleLength c → Tidied l c old old (Refused 16)
-    unfolding sliceRows
-    slice-refused h =
-        by-row 16 (omega arith) (then-slice
-        ∙ row-yes (check (ltb (length old) (length (tidyLetters l c))) 16) [] (lt-ltb (length old) (length (tidyLetters l c)) (omega (arith, size))))
+    unfolding sliceRows firstRow
+    slice-refused h = by-row 16 (omega arith) (then-slice ∙ rw (lt-ltb (length old) (length (tidyLetters l c)) (omega (arith, size))))
 
     no-row : leadLength l c + cycleLength c ≤ length old → tidyRow l c (length old) ≡ 0
     unfolding sliceRows firstRow
-    no-row h =
-        then-slice
-        ∙ row-no (check (ltb (length old) (length (tidyLetters l c))) 16) [] (le-ltb (length old) (length (tidyLetters l c)) (omega (arith, size)))
+    no-row h = then-slice ∙ rw (le-ltb (length old) (length (tidyLetters l c)) (omega (arith, size)))
 
     -- served
     pub served : (m p : ℕ) (new : List ℕ) → m ≡ leadLength l c → p ≡ cycleLength c → m + p ≤ length old

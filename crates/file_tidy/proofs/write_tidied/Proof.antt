@@ -11,10 +11,9 @@ use Rattle.rule_entries.proofs.Entries.{entries-few}
 use Rattle.rule_tidy_spec.specs.Tidy.{tidyRule}
 use Rattle.file_spec.specs.File.{bodyOf}
 use Rattle.file_spec.specs.Names.{prefaceFrom}
-use Rattle.file_write.proofs.Names.{preface-most}
 use Rattle.file_write_spec.specs.Written.{after}
 use Rattle.file_tidy_spec.specs.declared.Tidied.the-variants.{Length}
-use Rattle.file_write_spec.proofs.Laws.{clauses-few, head-in-bytes}
+use Rattle.file_write_spec.proofs.Laws.{preface-most, clauses-few, head-in-bytes}
 use Rattle.file_tidy_spec.proofs.Laws.{short, enough}
 use Rattle.file_tidy.proofs.Filled.{Fronts, fronts}
 use Rattle.file_tidy.proofs.write_tidied.Statement.{statement}

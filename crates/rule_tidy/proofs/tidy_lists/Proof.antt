@@ -3,7 +3,8 @@ use Prim.Native.Nat.{_+_, _-_, _≤_, _<_}
 use native.Mathlib.Omega.{arith}
 use borrow.Author.Needs.{needs}
 use lib.ListN.{length, getD, length-take, length-drop}
-use Rattle.rule_tidy.proofs.Lists.{Passed, passed-none, passed-entry, passed-all, part-sum, entry-room, kept-few}
+use Rattle.rule_tidy.proofs.Lists.{Passed, passed-none, passed-entry, passed-all, entry-room, kept-few}
+use Rattle.rule_entries.proofs.Entries.{sum-part}
 use Rattle.rule_tidy.proofs.tidy_lists.Statement.{statement}
 use Rattle.rule_tidy.proofs.tidy_lists.Tie as tie
 
@@ -81,7 +82,7 @@ returns : tie.Need-returns Inv-loop μ-loop
 returns c =
     let a = c .before .before .before .before .before .before .args in
     let p = c .before .before .before .before .before .before .pre in let l = c .before .loop in
-    let f : l .from ≤ length (a .clauses .now) = omega (arith, l .inv .taken, part-sum (a .counts .now) (l .i), p .0) in
+    let f : l .from ≤ length (a .clauses .now) = omega (arith, l .inv .taken, sum-part (a .counts .now) (l .i), p .0) in
     passed-all (a .counts .now) (a .clauses .now) (a .counts2 .now) (a .clauses2 .now) (l .counts2) (l .clauses2) (l .from) (l .to) (l .i) (l .inv)
     (c .loop-test .left) (omega (arith, f, p .2, l .inv .broad)) (omega (arith, p .1, l .inv .long))
 

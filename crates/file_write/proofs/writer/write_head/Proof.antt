@@ -8,8 +8,8 @@ use Rattle.refusals.specs.Rows.{firstRow}
 use Rattle.file_spec.specs.Names.{prefaceFrom}
 use Rattle.file_spec.specs.Rows.{givenRows}
 use Rattle.file_write_spec.specs.Written.{ruleRows}
-use Rattle.file_write_spec.proofs.Laws.{by-rule, by-names, by-room, done, few-counts, in-bytes, rule-passing}
-use Rattle.file_write.proofs.Names.{names-few, preface-most}
+use Rattle.file_write_spec.proofs.Laws.{preface-most, by-rule, by-names, by-room, done, few-counts, in-bytes, rule-passing}
+use Rattle.file_write.proofs.Names.{names-few}
 use Rattle.file_write.proofs.writer.write_head.Statement.{statement}
 use Rattle.file_write.proofs.writer.write_head.Tie as tie
 
