@@ -19,9 +19,7 @@ cast-result c =
     omega (arith, c .shared-slice-known5 .given (5 * start .args .j + 4))
 
 returns-3 : tie.Need-returns-3
-returns-3 c =
-    let start = c .before .before .before .before .before .before .before in let a = start .args in
-    fault-letter (a .s) (a .events .now) (a .j) (c .before .before .before .before .if1 .left) (c .before .if2 .left)
+returns-3 c = fault-letter _ _ _ (c .before .before .before .before .if1 .left) (c .before .if2 .left)
 
 pub is-faulty-spec : {M : Type 1} → statement M
 is-faulty-spec =

@@ -24,10 +24,7 @@ returns-2 : tie.Need-returns-2 Inv-loop μ-loop
 returns-2 c = let a = c .before .before .before .args in sym (table-long (a .s) (a .events .now) (c .if2 .taken))
 
 returns-3 : tie.Need-returns-3 Inv-loop μ-loop
-returns-3 c =
-    let start = c .before .before .before .before .before .before .before in let a = start .args in
-    let l = c .before .before .before .loop in
-    sym (table-line (a .s) (a .events .now) (l .j) (c .before .before .loop-test .taken) (sym (c .before .is-faulty .ensures) ∙ c .if3 .taken))
+returns-3 c = sym (table-line _ _ _ (c .before .before .loop-test .taken) (sym (c .before .is-faulty .ensures) ∙ c .if3 .taken))
 
 loop-again : tie.Need-loop-again Inv-loop μ-loop
 loop-again c =

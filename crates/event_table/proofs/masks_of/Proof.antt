@@ -28,9 +28,7 @@ loop-again c =
     )
 
 returns : tie.Need-returns Inv-loop μ-loop
-returns c =
-    let a = c .before .before .before .args in let l = c .before .loop in
-    masks-whole (a .events .now) (a .i) (l .masks) (l .inv .1) (λ z k. l .inv .2 z (omega (arith, l .inv .0, c .loop-test .left)))
+returns c = let l = c .before .loop in masks-whole _ _ _ (l .inv .1) (λ z k. l .inv .2 z (omega (arith, l .inv .0, c .loop-test .left)))
 
 pub masks-of-spec : {M : Type 1} → statement M
 masks-of-spec =

@@ -20,8 +20,7 @@ returns c =
     let read : readOf (a .file .now) ≡ Accepted l = sym (at-read-rule .read-rule .ensures) ∙ c .before .before .before .before .before .before .l .given .1 in
     let v = served (a .file .now) l read in
     let t = c .before .before .translate-read in
-    accepted (a .file .now) (a .events .now) (a .log .now) (a .letters .now) (t .last .1 .1 .1 .0) (t .result) (v .row)
-    (rw (ap (λ (x : Layout). x .head .s) (v .layout)) at (t .ensures))
+    accepted _ _ _ _ (t .last .1 .1 .1 .0) (t .result) (v .row) (rw (ap (λ (x : Layout). x .head .s) (v .layout)) at (t .ensures))
 
 returns-2 : tie.Need-returns-2
 returns-2 c =

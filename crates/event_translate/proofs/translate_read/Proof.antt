@@ -16,10 +16,7 @@ use Rattle.event_translate.proofs.translate_read.Statement.{statement}
 use Rattle.event_translate.proofs.translate_read.Tie as tie
 
 returns : tie.Need-returns
-returns c =
-    let a = c .before .before .before .before .before .args in
-    called-refused (a .s) (a .events .now) (a .log .now) (a .letters .now) 24
-    (table-refuses (a .s) (a .events .now) (a .log .now) (length (a .letters .now)) (sym (c .before .is-faulty-table .ensures) ∙ c .if1 .taken))
+returns c = called-refused _ _ _ _ 24 (table-refuses _ _ _ _ (sym (c .before .is-faulty-table .ensures) ∙ c .if1 .taken))
 
 -- row 25 lets the table through
 sound : (c : tie.Else1) → faultyTable (c .before .before .before .before .before .args .s) (c .before .before .before .before .before .args .events .now) ≡ false

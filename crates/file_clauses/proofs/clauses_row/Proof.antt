@@ -6,15 +6,8 @@ use Rattle.file_spec.proofs.Formed.{row-20, pass-20}
 use Rattle.file_clauses.proofs.clauses_row.Statement.{statement}
 use Rattle.file_clauses.proofs.clauses_row.Tie as tie
 
-returns : tie.Need-returns
-returns c =
-    let a = c .before .before .before .before .args in
-    row-20 (ruleOf (a .h) (a .counts .now) (a .clauses .now)) (sym (c .before .any-nested .ensures) ∙ c .if1 .taken)
-
-returns-2 : tie.Need-returns-2
-returns-2 c =
-    let a = c .before .before .before .before .args in
-    pass-20 (ruleOf (a .h) (a .counts .now) (a .clauses .now)) (sym (c .before .any-nested .ensures) ∙ c .if1 .left)
-
 pub clauses-row-spec : {M : Type 1} → statement M
-clauses-row-spec = tie.close (tie.spec (λ c κs. search needs) returns returns-2)
+clauses-row-spec =
+    tie.close (tie.spec
+    (λ c κs. search needs) (λ c. row-20 _ (sym (c .before .any-nested .ensures) ∙ c .if1 .taken))
+    (λ c. pass-20 _ (sym (c .before .any-nested .ensures) ∙ c .if1 .left)))

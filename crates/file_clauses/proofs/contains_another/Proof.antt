@@ -22,11 +22,8 @@ returns c = some-stop _ _ (c .before .before .before .loop .j) (omega arith) (sy
 loop-again : tie.Need-loop-again Inv-loop μ-loop
 loop-again c = (omega arith, some-next _ _ (c .before .before .before .loop .inv .1) (sym (c .before .contains-at .ensures) ∙ c .if1 .left))
 
-returns-2 : tie.Need-returns-2 Inv-loop μ-loop
-returns-2 c = some-end (c .before .loop .j) _ _ (omega arith) (c .before .loop .inv .1)
-
 pub contains-another-spec : {M : Type 1} → statement M
 contains-another-spec =
     tie.close (tie.spec
     Inv-loop μ-loop (λ c. unfold someBelow in (omega arith, refl)) (λ c κs. (omega arith, omega arith)) returns (λ c. omega arith) (λ c. omega arith)
-    loop-again returns-2)
+    loop-again (λ c. some-end (c .before .loop .j) _ _ (omega arith) (c .before .loop .inv .1)))

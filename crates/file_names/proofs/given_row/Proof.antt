@@ -6,15 +6,10 @@ use Rattle.file_spec.proofs.Names.{given-21, past-given}
 use Rattle.file_names.proofs.given_row.Statement.{statement}
 use Rattle.file_names.proofs.given_row.Tie as tie
 
-returns : tie.Need-returns
-returns c =
-    let a = c .before .before .before .args in
-    given-21 (a .s) (a .names .now) (sym (c .before .is-whole .ensures) ∙ not-true _ (c .if1 .taken))
-
 returns-2 : tie.Need-returns-2
-returns-2 c =
-    let a = c .before .before .before .before .args in
-    c .names-row .ensures ∙ sym (past-given (a .s) (a .names .now) (sym (c .before .before .is-whole .ensures) ∙ not-false _ (c .before .if1 .left)))
+returns-2 c = c .names-row .ensures ∙ sym (past-given _ _ (sym (c .before .before .is-whole .ensures) ∙ not-false _ (c .before .if1 .left)))
 
 pub given-row-spec : {M : Type 1} → statement M
-given-row-spec = tie.close (tie.spec (λ c κs. search needs) returns (λ c κs. search needs) returns-2)
+given-row-spec =
+    tie.close (tie.spec
+    (λ c κs. search needs) (λ c. given-21 _ _ (sym (c .before .is-whole .ensures) ∙ not-true _ (c .if1 .taken))) (λ c κs. search needs) returns-2)

@@ -12,9 +12,7 @@ use Rattle.file_names.proofs.names_in.Statement.{statement}
 use Rattle.file_names.proofs.names_in.Tie as tie
 
 returns : tie.Need-returns
-returns c =
-    let a = c .before .before .before .before .args in
-    sym (no-names (a .s) (a .p .now) (sym (c .before .before .has-names .ensures) ∙ not-true _ (c .before .if1 .taken)))
+returns c = sym (no-names _ _ (sym (c .before .before .has-names .ensures) ∙ not-true _ (c .before .if1 .taken)))
 
 -- the preface ends with 4E 4D
 there : (c : tie.Else1) → hasNames (c .before .before .before .args .p .now) ≡ true

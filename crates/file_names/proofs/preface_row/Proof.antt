@@ -13,15 +13,11 @@ use Rattle.file_names.proofs.preface_row.Statement.{statement}
 use Rattle.file_names.proofs.preface_row.Tie as tie
 
 returns : tie.Need-returns
-returns c =
-    let a = c .before .before .before .args in
-    row-21 (a .s) (a .p .now) (not-f (cutOff (a .s) (a .p .now)) (sym (c .before .names-fit .ensures) ∙ not-true _ (c .if1 .taken)))
+returns c = row-21 _ _ (not-f (cutOff _ _) (sym (c .before .names-fit .ensures) ∙ not-true _ (c .if1 .taken)))
 
 -- row 21 does not refuse
 kept : (c : tie.Else1) → cutOff (c .before .before .before .args .s) (c .before .before .before .args .p .now) ≡ false
-kept c =
-    let a = c .before .before .before .args in
-    not-t (cutOff (a .s) (a .p .now)) (sym (c .before .names-fit .ensures) ∙ not-false _ (c .if1 .left))
+kept c = not-t (cutOff _ _) (sym (c .before .names-fit .ensures) ∙ not-false _ (c .if1 .left))
 
 returns-2 : tie.Need-returns-2
 returns-2 c =

@@ -21,11 +21,8 @@ returns c = some-stop _ _ (c .before .before .before .loop .a) (omega arith) (sy
 loop-again : tie.Need-loop-again Inv-loop μ-loop
 loop-again c = (omega arith, some-next _ _ (c .before .before .before .loop .inv .1) (sym (c .before .same-name .ensures) ∙ c .if1 .left))
 
-returns-2 : tie.Need-returns-2 Inv-loop μ-loop
-returns-2 c = some-end (c .before .loop .a) _ _ (omega arith) (c .before .loop .inv .1)
-
 pub repeats-earlier-spec : {M : Type 1} → statement M
 repeats-earlier-spec =
     tie.close (tie.spec
     Inv-loop μ-loop (λ c. unfold someBelow in (omega arith, refl)) (λ c κs. (omega arith, omega arith)) returns (λ c. omega arith) (λ c. omega arith)
-    loop-again returns-2)
+    loop-again (λ c. some-end (c .before .loop .a) _ _ (omega arith) (c .before .loop .inv .1)))

@@ -6,16 +6,10 @@ use Rattle.file_spec.proofs.Formed.{by-clauses, past-clauses}
 use Rattle.file_read.proofs.formed_row.Statement.{statement}
 use Rattle.file_read.proofs.formed_row.Tie as tie
 
-returns : tie.Need-returns
-returns c =
-    let a = c .before .before .before .before .args in
-    by-clauses (ruleOf (a .h) (a .counts .now) (a .clauses .now)) (c .before .clauses-row .result) (c .if1 .taken) (c .before .clauses-row .ensures)
-
 returns-2 : tie.Need-returns-2
-returns-2 c =
-    let a = c .before .before .before .before .before .args in
-    c .components-row .ensures
-    ∙ sym (past-clauses (ruleOf (a .h) (a .counts .now) (a .clauses .now)) (sym (c .before .before .clauses-row .ensures) ∙ c .before .if1 .left))
+returns-2 c = c .components-row .ensures ∙ sym (past-clauses _ (sym (c .before .before .clauses-row .ensures) ∙ c .before .if1 .left))
 
 pub formed-row-spec : {M : Type 1} → statement M
-formed-row-spec = tie.close (tie.spec (λ c κs. search needs) returns (λ c κs. search needs) returns-2)
+formed-row-spec =
+    tie.close (tie.spec
+    (λ c κs. search needs) (λ c. by-clauses _ _ (c .if1 .taken) (c .before .clauses-row .ensures)) (λ c κs. search needs) returns-2)

@@ -43,12 +43,9 @@ returns c =
 loop-again : tie.Need-loop-again Inv-loop μ-loop
 loop-again c =
     let at-closures = c .before .before .before .before .before .before .before in
-    let start = at-closures .before .before .before in let a = start .args in
     let l = c .before .before .before .before .before .loop in let k = c .before .before .class-of in
-    let t = at-closures .closures .result in (
-      omega arith,
-      both-next t (a .h .n) (a .h .accepting) (l .q) (k .result) (c .before .both-kinds .result) (l .inv .1) (k .ensures) (c .before .both-kinds .ensures) (c .if1 .left),
-    )
+    let t = at-closures .closures .result in
+    (omega arith, both-next t _ _ _ _ _ (l .inv .1) (k .ensures) (c .before .both-kinds .ensures) (c .if1 .left))
 
 returns-2 : tie.Need-returns-2 Inv-loop μ-loop
 returns-2 c =

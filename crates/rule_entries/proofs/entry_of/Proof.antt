@@ -13,9 +13,7 @@ use Rattle.rule_entries.proofs.entry_of.Tie as tie
 -- the entry's number is below that of the counts
 number : (c : tie.After-struct-known) → c .before .before .before .args .q * c .before .before .before .args .h .s + c .before .before .before .args .a < length
     (c .before .before .before .args .counts .now)
-number c =
-    let a = c .before .before .before .args in let p = c .before .before .before .pre in
-    entry-number (ruleOf (a .h) (a .counts .now) (a .clauses .now)) (p .0) (a .q) (a .a) (p .1) (p .2)
+number c = let p = c .before .before .before .pre in entry-number _ (p .0) _ _ (p .1) (p .2)
 
 few : (c : tie.After-struct-known) → length (c .before .before .before .args .counts .now) ≤ 128
 few c = let a = c .before .before .before .args in entries-few (ruleOf (a .h) (a .counts .now) (a .clauses .now)) (c .before .before .before .pre .0)
@@ -43,9 +41,9 @@ returns c =
     let a = c .before .before .before .before .before .before .args in
     let r = ruleOf (a .h) (a .counts .now) (a .clauses .now) in
     let p = c .before .before .before .before .before .before .pre in
-    let n : c .before .before .clauses-before .result + getD (a .counts .now) (a .q * a .h .s + a .a) 0 - c .before .before .clauses-before .result ≡ getD (a .counts .now) (a .q * a .h .s + a .a) 0 =
-    omega arith in
-    rw (n, c .before .before .clauses-before .ensures) (sym (entry-part r (p .0) (a .q) (a .a) (p .1) (p .2)))
+    let n : c .before .before .clauses-before .result + getD (a .counts .now) (a .q * a .h .s + a .a) 0 - c .before .before .clauses-before .result ≡ getD (a .counts .now) (a .q * a .h .s + a .a) 0
+    = omega arith in
+    rw (n, c .before .before .clauses-before .ensures) (sym (entry-part r (p .0) _ _ (p .1) (p .2)))
 
 pub entry-of-spec : {M : Type 1} → statement M
 entry-of-spec =

@@ -29,9 +29,7 @@ number c =
     omega arith
 
 listed : (c : At) → c .before .before .before .args .q * c .before .before .before .args .h .s + c .before .before .before .args .a < length (c .before .before .before .args .counts .now)
-listed c =
-    let a = c .before .before .before .args in let p = c .before .before .before .pre in
-    entry-number (ruleOf (a .h) (a .counts .now) (a .clauses .now)) (p .0) (a .q) (a .a) (p .2) (p .3)
+listed c = let p = c .before .before .before .pre in entry-number _ (p .0) _ _ (p .2) (p .3)
 
 -- its clauses are among the rule's
 fits : (c : At) → let a = c .before .before .before .args in getD (a .starts .now) (a .q * a .h .s + a .a) 0 + getD (a .counts .now) (a .q * a .h .s + a .a) 0 ≤ length (a .clauses .now)

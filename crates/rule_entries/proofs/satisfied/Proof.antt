@@ -18,8 +18,7 @@ answer c =
     let a = c .before .before .before .args in
     let r = ruleOf (a .h) (a .counts .now) (a .clauses .now) in
     let p = c .before .before .before .pre in
-    ap isMet (c .met-at .ensures)
-    ∙ met-entry (a .h .n) (a .set) (entry r (a .q) (a .a)) (p .0 .few-states) (entry-states r (p .0) (a .q) (a .a) (p .2) (p .3))
+    ap isMet (c .met-at .ensures) ∙ met-entry _ _ (entry r _ _) (p .0 .few-states) (entry-states r (p .0) _ _ (p .2) (p .3))
 
 returns : tie.Need-returns
 returns c = unfold isMet in sym (ap isMet (c .enum-told .given .1)) ∙ answer (c .before .before)

@@ -25,16 +25,13 @@ array-write-table c = let start = c .before .before .before .before .before .bef
 
 loop-again : tie.Need-loop-again Inv-loop μ-loop
 loop-again c =
-    let start = c .before .before .before .before .before .before .before .before in
-    let l = c .before .before .before .before .loop in let a = start .args in
+    let start = c .before .before .before .before .before .before .before .before in let l = c .before .before .before .before .loop in
+    let a = start .args in
     let r = ruleOf (a .h) (a .counts .now) (a .clauses .now) in
     let w = start .pre in
     let least : LeastClosed (successorsOf r) (l .q) (c .closure .result) = rw (sym (l .inv .1)) (c .closure .ensures) in
-    let e : c .closure .result ≡ mask (a .h .n) (reaches r (l .q)) = least-reaches r (w .few-states) (l .q) (c .before .before .if1 .taken) (c .closure .result) (c .closure .ok) least in (
-      omega arith,
-      l .inv .1,
-      rw (l .inv .2) (table-set (l .q) (λ p. mask (a .h .n) (reaches r p)) (c .closure .result) (omega (arith, w .few-states)) e),
-    )
+    let e : c .closure .result ≡ mask (a .h .n) (reaches r (l .q)) = least-reaches r (w .few-states) (l .q) (c .before .before .if1 .taken) (c .closure .result) (c .closure .ok) least in
+    (omega arith, l .inv .1, rw (l .inv .2) (table-set _ (λ p. mask _ (reaches r p)) _ (omega (arith, w .few-states)) e))
 
 returns : tie.Need-returns Inv-loop μ-loop
 returns c =

@@ -21,12 +21,8 @@ array-write-table c = omega (arith, c .before .before .before .before .before .b
 
 loop-again : tie.Need-loop-again Inv-loop μ-loop
 loop-again c =
-    let l = c .before .before .before .loop in let a = c .before .before .before .before .before .before .args in
-    let w = c .before .before .before .before .before .before .pre in (
-      omega arith,
-      rw (l .inv .1) (table-set (l .q) (λ p. mask (a .h .n) (leads (ruleOf (a .h) (a .counts .now) (a .clauses .now)) p)) (c .successors .result) (omega (arith, w .few-states))
-          (c .successors .ensures)),
-    )
+    let l = c .before .before .before .loop in let w = c .before .before .before .before .before .before .pre in
+    (omega arith, rw (l .inv .1) (table-set _ (λ p. mask _ (leads _ p)) _ (omega (arith, w .few-states)) (c .successors .ensures)))
 
 returns : tie.Need-returns Inv-loop μ-loop
 returns c =

@@ -21,22 +21,16 @@ Inv-loop h counts clauses q found₀ a₀ found a = (a ≤ h .s) × (found < 256
 abbrev μ-loop : tie.MeasureT-loop
 μ-loop h counts clauses q found₀ a₀ found a = h .s - a
 
-loop-holds : tie.Need-loop-holds Inv-loop μ-loop
-loop-holds c = unfold someBelow in (omega arith, omega arith, λ p l. bit-none p)
-
 entry-of-requires : tie.Need-entry-of-requires Inv-loop μ-loop
 entry-of-requires c κs = (c .before .before .before .before .before .pre .0, c .before .before .before .before .before .pre .1, c .if1 .taken)
 
 loop-again : tie.Need-loop-again Inv-loop μ-loop
 loop-again c =
-    let start = c .before .before .before .before .before .before .before in
-    let l = c .before .before .before .before .loop in let a = start .args in
+    let start = c .before .before .before .before .before .before .before in let l = c .before .before .before .before .loop in
+    let a = start .args in
     let r = ruleOf (a .h) (a .counts .now) (a .clauses .now) in
-    let e : c .named-in .result ≡ mask 8 (named (entry r (a .q) (l .a))) = c .named-in .ensures ∙ ap (λ (x : List ℕ). mask 8 (named x)) (c .before .entry-of .ensures) in (
-      omega arith,
-      or-lt 8 (l .found) (c .named-in .result) (l .inv .1) (c .named-in .ok),
-      λ p m. leads-next r (a .q) (l .a) (l .found) (c .named-in .result) p m e (l .inv .2 p m),
-    )
+    let e : c .named-in .result ≡ mask 8 (named (entry r (a .q) (l .a))) = c .named-in .ensures ∙ ap (λ (x : List ℕ). mask 8 (named x)) (c .before .entry-of .ensures) in
+    (omega arith, or-lt 8 _ _ (l .inv .1) (c .named-in .ok), λ p m. leads-next r _ _ _ _ p m e (l .inv .2 p m))
 
 returns : tie.Need-returns Inv-loop μ-loop
 unfolding leads
@@ -51,4 +45,6 @@ returns c =
 
 pub successors-spec : {M : Type 1} → statement M
 successors-spec =
-    tie.close (tie.spec Inv-loop μ-loop loop-holds entry-of-requires (λ c κs. search needs) (λ c. omega arith) (λ c. omega arith) loop-again returns)
+    tie.close (tie.spec
+    Inv-loop μ-loop (λ c. unfold someBelow in (omega arith, omega arith, λ p l. bit-none p)) entry-of-requires (λ c κs. search needs)
+    (λ c. omega arith) (λ c. omega arith) loop-again returns)

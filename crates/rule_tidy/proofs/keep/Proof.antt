@@ -10,18 +10,12 @@ use Rattle.rule_tidy.proofs.keep.Tie as tie
 slice-aggregate-is-dropped : tie.Need-slice-aggregate-is-dropped
 slice-aggregate-is-dropped c = let a = c .before .before .before .args in sym (length-take-le (a .k) (a .out .now) (omega arith))
 
-returns : tie.Need-returns
-returns c =
-    let a = c .before .before .before .before .before .args in
-    kept-drop (a .clauses .now) (a .out .now) (a .k) (a .c) (sym (c .before .is-dropped .ensures) ∙ c .if1 .taken)
-
 returns-2 : tie.Need-returns-2
-returns-2 c =
-    let a = c .before .before .before .before .before .args in
-    kept-put (a .clauses .now) (a .out .now) (a .k) (a .c) (omega arith) (sym (c .before .is-dropped .ensures) ∙ c .if1 .left)
+returns-2 c = kept-put _ _ _ _ (omega arith) (sym (c .before .is-dropped .ensures) ∙ c .if1 .left)
 
 pub keep-spec : {M : Type 1} → statement M
 keep-spec =
     tie.close (tie.spec
-    (λ c. search needs) slice-aggregate-is-dropped (λ c κs. search needs) (λ c. search needs) returns (λ c. search needs) (λ c. search needs)
-    (λ c. search needs) returns-2)
+    (λ c. search needs) slice-aggregate-is-dropped (λ c κs. search needs) (λ c. search needs)
+    (λ c. kept-drop _ _ _ _ (sym (c .before .is-dropped .ensures) ∙ c .if1 .taken)) (λ c. search needs) (λ c. search needs) (λ c. search needs)
+    returns-2)

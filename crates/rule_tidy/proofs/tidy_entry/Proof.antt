@@ -16,9 +16,6 @@ Inv-loop clauses out₀ k₀ i₀ out k i =
 abbrev μ-loop : tie.MeasureT-loop
 μ-loop clauses out₀ k₀ i₀ out k i = length clauses - i
 
-loop-holds : tie.Need-loop-holds Inv-loop μ-loop
-loop-holds c = unfold tidyEntry in (omega arith, omega arith, refl, refl, refl)
-
 loop-again : tie.Need-loop-again Inv-loop μ-loop
 loop-again c =
     let start = c .before .before .before .before .before .before .before .before .before in let a = start .args in
@@ -41,4 +38,5 @@ returns c =
 pub tidy-entry-spec : {M : Type 1} → statement M
 tidy-entry-spec =
     tie.close (tie.spec
-    Inv-loop μ-loop loop-holds (λ c. omega arith) (λ c κs. omega arith) (λ c. omega arith) (λ c. omega arith) loop-again (λ c. c .before .loop .inv .2) returns)
+    Inv-loop μ-loop (λ c. unfold tidyEntry in (omega arith, omega arith, refl, refl, refl)) (λ c. omega arith) (λ c κs. omega arith)
+    (λ c. omega arith) (λ c. omega arith) loop-again (λ c. c .before .loop .inv .2) returns)

@@ -80,11 +80,10 @@ loop-again c =
 
 returns : tie.Need-returns Inv-loop μ-loop
 returns c =
-    let a = c .before .before .before .before .before .before .args in
-    let p = c .before .before .before .before .before .before .pre in let l = c .before .loop in
+    let a = c .before .before .before .before .before .before .args in let p = c .before .before .before .before .before .before .pre in
+    let l = c .before .loop in
     let f : l .from ≤ length (a .clauses .now) = omega (arith, l .inv .taken, sum-part (a .counts .now) (l .i), p .0) in
-    passed-all (a .counts .now) (a .clauses .now) (a .counts2 .now) (a .clauses2 .now) (l .counts2) (l .clauses2) (l .from) (l .to) (l .i) (l .inv)
-    (c .loop-test .left) (omega (arith, f, p .2, l .inv .broad)) (omega (arith, p .1, l .inv .long))
+    passed-all _ _ _ _ _ _ _ _ _ (l .inv) (c .loop-test .left) (omega (arith, f, p .2, l .inv .broad)) (omega (arith, p .1, l .inv .long))
 
 pub tidy-lists-spec : {M : Type 1} → statement M
 tidy-lists-spec =

@@ -8,9 +8,7 @@ use Rattle.word_rows.proofs.word_row.Statement.{statement}
 use Rattle.word_rows.proofs.word_row.Tie as tie
 
 returns : tie.Need-returns
-returns c =
-    let a = c .before .before .before .before .args in let row = c .before .length-row in
-    sym (word-lengths (a .s) (a .lead .now) (a .cycle .now) (row .result) (omega arith) (sym (row .ensures)))
+returns c = let row = c .before .length-row in sym (word-lengths _ _ _ _ (omega arith) (sym (row .ensures)))
 
 returns-2 : tie.Need-returns-2
 returns-2 c =

@@ -25,11 +25,8 @@ low : (c : tie.In-loop Inv-loop μ-loop)
     → (c .before .loop .p < places (c .before .before .before .before .before .before .args .lead1 .now) (c .before .before .before .before .before .before .args .cycle1 .now))
     × (c .before .loop .q < places (c .before .before .before .before .before .before .args .lead2 .now) (c .before .before .before .before .before .before .args .cycle2 .now))
 low c =
-    let s = c .before .before .before .before .before .before in
-    let l = c .before .loop in (
-      rw (l .inv .1) (places-low (s .args .lead1 .now) (s .args .cycle1 .now) (s .pre .0 .0) (l .i)),
-      rw (l .inv .2) (places-low (s .args .lead2 .now) (s .args .cycle2 .now) (s .pre .0 .1) (l .i)),
-    )
+    let s = c .before .before .before .before .before .before in let l = c .before .loop in
+    (rw (l .inv .1) (places-low _ _ (s .pre .0 .0) _), rw (l .inv .2) (places-low _ _ (s .pre .0 .1) _))
 
 returns : tie.Need-returns Inv-loop μ-loop
 returns c =
@@ -37,7 +34,7 @@ returns c =
     let l = c .before .before .before .before .loop in
     let n : letterAt (a .lead1 .now) (a .cycle1 .now) (l .p) ≡ letterAt (a .lead2 .now) (a .cycle2 .now) (l .q) → ⊥
     = λ e. c .if1 .taken (c .before .before .letter-at .ensures ∙ e ∙ sym (c .before .letter-at2 .ensures)) in
-    sym (step-differs (a .lead1 .now) (a .cycle1 .now) (a .lead2 .now) (a .cycle2 .now) (l .i) (l .p) (l .q) (l .inv .1) (l .inv .2) (omega arith) n)
+    sym (step-differs _ _ _ _ _ _ _ (l .inv .1) (l .inv .2) (omega arith) n)
 
 next-place-requires : tie.Need-next-place-requires Inv-loop μ-loop
 next-place-requires c κs =
@@ -62,9 +59,7 @@ loop-again c =
     )
 
 returns-2 : tie.Need-returns-2 Inv-loop μ-loop
-returns-2 c =
-    let a = c .before .before .before .before .before .before .args in let l = c .before .loop in
-    sym (steps-end (a .lead1 .now) (a .cycle1 .now) (a .lead2 .now) (a .cycle2 .now) (l .i) (omega arith) (l .inv .3))
+returns-2 c = let l = c .before .loop in sym (steps-end _ _ _ _ _ (omega arith) (l .inv .3))
 
 pub agree-spec : {M : Type 1} → statement M
 agree-spec =

@@ -11,9 +11,7 @@ use Rattle.word_same.proofs.same_words.Statement.{statement}
 use Rattle.word_same.proofs.same_words.Tie as tie
 
 returns : tie.Need-returns
-returns c =
-    let a = c .before .before .before .before .before .before .args in let row = c .before .length-row in
-    first-refused (a .lead1 .now) (a .cycle1 .now) (a .lead2 .now) (a .cycle2 .now) (row .result) (omega arith) (row .ensures)
+returns c = let row = c .before .length-row in first-refused _ _ _ _ _ (omega arith) (row .ensures)
 
 returns-2 : tie.Need-returns-2
 returns-2 c =
@@ -39,19 +37,17 @@ agree-requires c κs =
 
 returns-3 : tie.Need-returns-3
 returns-3 c =
-    let start = c .before .before .before .before .before .before .before .before .before .before in
-    let a = start .args in
+    let start = c .before .before .before .before .before .before .before .before .before .before in let a = start .args in
     let p = passed (c .before .before) in
     let t : sameWord (a .lead1 .now) (a .cycle1 .now) (a .lead2 .now) (a .cycle2 .now) ≡ true = sym (c .before .agree .ensures) ∙ c .if3 .taken in
-    answered-same (a .lead1 .now) (a .cycle1 .now) (a .lead2 .now) (a .cycle2 .now) (p .0) (p .1) t
+    answered-same _ _ _ _ (p .0) (p .1) t
 
 returns-4 : tie.Need-returns-4
 returns-4 c =
-    let start = c .before .before .before .before .before .before .before .before .before .before in
-    let a = start .args in
+    let start = c .before .before .before .before .before .before .before .before .before .before in let a = start .args in
     let p = passed (c .before .before) in
     let t : sameWord (a .lead1 .now) (a .cycle1 .now) (a .lead2 .now) (a .cycle2 .now) ≡ false = sym (c .before .agree .ensures) ∙ c .if3 .left in
-    answered-different (a .lead1 .now) (a .cycle1 .now) (a .lead2 .now) (a .cycle2 .now) (p .0) (p .1) t
+    answered-different _ _ _ _ (p .0) (p .1) t
 
 pub same-words-spec : {M : Type 1} → statement M
 same-words-spec = tie.close (tie.spec (λ c κs. search needs) returns (λ c κs. search needs) returns-2 agree-requires returns-3 returns-4)

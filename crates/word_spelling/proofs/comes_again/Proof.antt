@@ -19,16 +19,13 @@ abbrev μ-loop : tie.MeasureT-loop
 
 loop-holds : tie.Need-loop-holds Inv-loop μ-loop
 unfolding every
-loop-holds c =
-    let a = c .before .args in
-    (omega arith, c .before .pre, later-first (a .cycle .now) (omega (arith, c .before .pre)) (a .d) (c .before .pre), refl)
+loop-holds c = (omega arith, c .before .pre, later-first _ (omega (arith, c .before .pre)) _ (c .before .pre), refl)
 
 returns : tie.Need-returns Inv-loop μ-loop
 returns c =
-    let a = c .before .before .before .before .before .before .args in
-    let l = c .before .before .before .before .loop in
+    let a = c .before .before .before .before .before .before .args in let l = c .before .before .before .before .loop in
     let h : 0 < length (a .cycle .now) = omega arith in
-    sym (again-stop (a .cycle .now) h (a .d) (l .j) (l .later) (omega arith) (l .inv .2) (c .if1 .taken))
+    sym (again-stop _ h _ _ _ (omega arith) (l .inv .2) (c .if1 .taken))
 
 loop-again : tie.Need-loop-again Inv-loop μ-loop
 loop-again c =

@@ -17,21 +17,21 @@ abbrev μ-loop : tie.MeasureT-loop
 
 returns : tie.Need-returns Inv-loop μ-loop
 returns c =
-    let earlier = c .before .before .before .before .before .before .before in let s = earlier in let a = s .args in
-    let l = c .before .before .before .before .loop in
+    let earlier = c .before .before .before .before .before .before .before in let s = earlier in
+    let a = s .args in let l = c .before .before .before .before .loop in
     let fits : l .m - 1 + a .p < places (a .lead .now) (a .cycle .now) = omega arith in
     let n : letterAt (a .lead .now) (a .cycle .now) (l .m - 1) ≡ letterAt (a .lead .now) (a .cycle .now) (l .m - 1 + a .p) → ⊥
     = λ e. c .if1 .taken (c .before .before .letter-at .ensures ∙ e ∙ sym (c .before .letter-at2 .ensures)) in
-    sym (l .inv .1 ∙ shortest (a .lead .now) (a .cycle .now) (s .pre .0) (a .p) (l .m) (omega arith) fits n)
+    sym (l .inv .1 ∙ shortest _ _ (s .pre .0) _ _ (omega arith) fits n)
 
 loop-again : tie.Need-loop-again Inv-loop μ-loop
 loop-again c =
-    let earlier = c .before .before .before .before .before .before .before in let s = earlier in let a = s .args in
-    let l = c .before .before .before .before .loop in
+    let earlier = c .before .before .before .before .before .before .before in let s = earlier in
+    let a = s .args in let l = c .before .before .before .before .loop in
     let fits : l .m - 1 + a .p < places (a .lead .now) (a .cycle .now) = omega arith in
     let e : letterAt (a .lead .now) (a .cycle .now) (l .m - 1) ≡ letterAt (a .lead .now) (a .cycle .now) (l .m - 1 + a .p)
     = sym (c .before .before .letter-at .ensures) ∙ c .if1 .left ∙ c .before .letter-at2 .ensures in
-    (omega arith, l .inv .1 ∙ shorter (a .lead .now) (a .cycle .now) (s .pre .0) (a .p) (l .m) (omega arith) fits e)
+    (omega arith, l .inv .1 ∙ shorter _ _ (s .pre .0) _ _ (omega arith) fits e)
 
 returns-2 : tie.Need-returns-2 Inv-loop μ-loop
 unfolding shortened

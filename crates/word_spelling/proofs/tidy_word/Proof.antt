@@ -12,14 +12,7 @@ use Rattle.word_spelling.proofs.tidy_word.Statement.{statement}
 use Rattle.word_spelling.proofs.tidy_word.Tie as tie
 
 returns : tie.Need-returns
-returns c =
-    let a = c .before .before .before .before .before .args in let row = c .before .length-row in
-    word-refused (a .lead .now) (a .cycle .now) (a .out .now) (row .result) (omega arith) (row .ensures)
-
-cycle-length-requires : tie.Need-cycle-length-requires
-cycle-length-requires c κs =
-    let a = c .before .before .before .before .before .args in
-    short-of (a .lead .now) (a .cycle .now) (sym (c .before .length-row .ensures) ∙ c .if1 .left) .repeats
+returns c = let row = c .before .length-row in word-refused _ _ _ _ (omega arith) (row .ensures)
 
 lead-length-requires : tie.Need-lead-length-requires
 lead-length-requires c κs =
@@ -58,5 +51,6 @@ returns-3 c =
 pub tidy-word-spec : {M : Type 1} → statement M
 tidy-word-spec =
     tie.close (tie.spec
-    (λ c κs. search needs) returns cycle-length-requires lead-length-requires (λ c. let f = lengths c in omega (arith, f)) returns-2
-    (λ c. let f = lengths (c .before) in omega (arith, f)) write-letters-requires (λ c. search needs) returns-3)
+    (λ c κs. search needs) returns (λ c κs. short-of _ _ (sym (c .before .length-row .ensures) ∙ c .if1 .left) .repeats) lead-length-requires
+    (λ c. let f = lengths c in omega (arith, f)) returns-2 (λ c. let f = lengths (c .before) in omega (arith, f)) write-letters-requires
+    (λ c. search needs) returns-3)

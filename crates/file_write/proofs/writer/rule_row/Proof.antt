@@ -13,9 +13,7 @@ use Rattle.file_write.proofs.writer.rule_row.Statement.{statement}
 use Rattle.file_write.proofs.writer.rule_row.Tie as tie
 
 returns : tie.Need-returns
-returns c =
-    let a = c .before .before .before .before .args in
-    by-numbers (a .h) (a .counts .now) (a .clauses .now) (c .before .numbers-row .result) (c .if1 .taken) (c .before .numbers-row .ensures)
+returns c = by-numbers _ _ _ _ (c .if1 .taken) (c .before .numbers-row .ensures)
 
 -- no row of the numbers refuses
 pass : (c : tie.Else1) → firstRow (numberRows (c .before .before .before .before .args .h)) ≡ 0

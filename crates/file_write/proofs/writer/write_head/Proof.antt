@@ -14,9 +14,7 @@ use Rattle.file_write.proofs.writer.write_head.Statement.{statement}
 use Rattle.file_write.proofs.writer.write_head.Tie as tie
 
 returns : tie.Need-returns
-returns c =
-    let a = c .before .before .before .before .before .before .args in
-    by-rule (a .h) (a .counts .now) (a .clauses .now) (a .names .now) (a .out .now) (c .before .rule-row .result) (c .if1 .taken) (c .before .rule-row .ensures)
+returns c = by-rule _ _ _ _ _ _ (c .if1 .taken) (c .before .rule-row .ensures)
 
 -- no row of the rule refuses
 pass : (c : tie.Else1) → let a = c .before .before .before .before .before .before .args in firstRow (ruleRows (a .h) (a .counts .now) (a .clauses .now)) ≡ 0

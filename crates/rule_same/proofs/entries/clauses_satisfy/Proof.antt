@@ -24,9 +24,7 @@ abbrev μ-loop : tie.MeasureT-loop
 met : (c : tie.After-first-met Inv-loop μ-loop) →
     let a = c .before .before .before .before .before .before .args in
     isMet (c .first-met .result) ≡ satisfies 8 (bit (getD (a .first .now) (c .before .before .before .loop .j) 0)) (a .second .now)
-met c =
-    let a = c .before .before .before .before .before .before .args in
-    ap isMet (c .first-met .ensures) ∙ met-satisfies (getD (a .first .now) (c .before .before .before .loop .j) 0) (a .second .now)
+met c = ap isMet (c .first-met .ensures) ∙ met-satisfies _ _
 
 loop-again : tie.Need-loop-again Inv-loop μ-loop
 unfolding isMet
@@ -45,9 +43,7 @@ returns c =
     sym (l .inv .1 ∙ all-stop (λ x. satisfies 8 (bit x) (a .second .now)) (a .first .now) (l .j) (omega arith) e)
 
 returns-2 : tie.Need-returns-2 Inv-loop μ-loop
-returns-2 c =
-    let a = c .before .before .before .before .args in let l = c .before .loop in
-    sym (l .inv .1 ∙ all-end (λ x. satisfies 8 (bit x) (a .second .now)) (a .first .now) (l .j) (c .loop-test .left))
+returns-2 c = let l = c .before .loop in sym (l .inv .1 ∙ all-end (λ x. satisfies 8 (bit x) _) _ _ (c .loop-test .left))
 
 pub clauses-satisfy-spec : {M : Type 1} → statement M
 clauses-satisfy-spec =

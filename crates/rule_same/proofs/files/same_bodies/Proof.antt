@@ -9,9 +9,8 @@ use Rattle.rule_same.proofs.files.same_bodies.Tie as tie
 
 returns : tie.Need-returns
 returns c =
-    let a = c .before .before .before .before .before .before .args in
     let p = c .before .before .before .before .before .before .pre in
-    numbers-differ (a .first .now) (a .second .now) (a .l) (a .m) (p .0) (p .1) (sym (c .before .same-numbers .ensures) ∙ not-t _ (c .if1 .taken))
+    numbers-differ _ _ _ _ (p .0) (p .1) (sym (c .before .same-numbers .ensures) ∙ not-t _ (c .if1 .taken))
 
 same-entries-requires : tie.Need-same-entries-requires
 same-entries-requires c κs =
@@ -34,14 +33,9 @@ told c =
     (c .before .before .before .before .counts-of .ensures) (c .before .before .before .clauses-of .ensures) (c .before .before .counts-of2 .ensures) (c .before .clauses-of2 .ensures)
     (c .same-entries .result) (c .same-entries .ensures)
 
-returns-2 : tie.Need-returns-2
-returns-2 c = unfold verdict in ap verdict (sym (c .if2 .taken)) ∙ told (c .before)
-
-returns-3 : tie.Need-returns-3
-returns-3 c = unfold verdict in ap verdict (sym (c .if2 .left)) ∙ told (c .before)
-
 pub same-bodies-spec : {M : Type 1} → statement M
 same-bodies-spec =
     tie.close (tie.spec
-    (λ c κs. search needs) returns (λ c κs. search needs) (λ c κs. search needs) (λ c κs. search needs) (λ c κs. search needs) same-entries-requires returns-2
-    returns-3)
+    (λ c κs. search needs) returns (λ c κs. search needs) (λ c κs. search needs) (λ c κs. search needs) (λ c κs. search needs) same-entries-requires
+    (λ c. unfold verdict in ap verdict (sym (c .if2 .taken)) ∙ told (c .before))
+    (λ c. unfold verdict in ap verdict (sym (c .if2 .left)) ∙ told (c .before)))

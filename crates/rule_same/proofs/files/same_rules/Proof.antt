@@ -21,22 +21,20 @@ returns c =
 
 returns-2 : tie.Need-returns-2
 returns-2 c =
-    let at-read-rule = c .before .before .before .before .before .before .before in
-    let start = at-read-rule .before .before .before in let a = start .args in
-    let l = c .before .before .before .before .before .l .given .0 .0 in
+    let at-read-rule = c .before .before .before .before .before .before .before in let start = at-read-rule .before .before .before in
+    let a = start .args in let l = c .before .before .before .before .before .l .given .0 .0 in
     let p : readOf (a .first .now) ≡ Accepted l = sym (at-read-rule .read-rule .ensures) ∙ c .before .before .before .before .before .l .given .1 in
     let e : readOf (a .second .now) ≡ Refused (c .before .second-row .given .0 .0) = sym (c .before .before .before .read-rule2 .ensures) ∙ c .before .second-row .given .1 in
-    refused-second (a .first .now) (a .second .now) (c .before .second-row .given .0 .0) (served (a .first .now) l p .row) (turned-away (a .second .now) (c .before .second-row .given .0 .0) e)
+    refused-second _ _ (c .before .second-row .given .0 .0) (served _ l p .row) (turned-away _ (c .before .second-row .given .0 .0) e)
 
 returns-3 : tie.Need-returns-3
 returns-3 c =
     let at-read-rule = c .before .before .before .before .before .before .before .before in
     let start = at-read-rule .before .before .before in let a = start .args in
-    let l = c .before .before .before .before .before .before .l .given .0 .0 in
-    let m = c .before .before .m .given .0 .0 in
+    let l = c .before .before .before .before .before .before .l .given .0 .0 in let m = c .before .before .m .given .0 .0 in
     let p : readOf (a .first .now) ≡ Accepted l = sym (at-read-rule .read-rule .ensures) ∙ c .before .before .before .before .before .before .l .given .1 in
     let q : readOf (a .second .now) ≡ Accepted m = sym (c .before .before .before .before .read-rule2 .ensures) ∙ c .before .before .m .given .1 in
-    c .same-files .ensures ∙ served-both (a .first .now) (a .second .now) (served (a .first .now) l p .row) (served (a .second .now) m q .row)
+    c .same-files .ensures ∙ served-both _ _ (served _ l p .row) (served _ m q .row)
 
 pub same-rules-spec : {M : Type 1} → statement M
 same-rules-spec =
