@@ -55,8 +55,7 @@ module _ (t kinds drives : List ℕ) (bytes : (i : ℕ) → getD t i 0 < 256) (m
   isFirst j = someBelow 256 (λ x. someBelow 256 (λ y. leads x y j))
 
   leads-is : (x y j : ℕ) → x < 256 → y < 256 → j < lineCount t → leads x y j ≡ holds t x y j && not (someBelow j (holds t x y))
-  leads-is x y j lx ly l =
-      ap (λ (k : ℕ). eqb (trailingZeros 64 k) j) (meet t kinds drives m x y lx ly) ∙ least-at (lineCount t) (holds t x y) (m .lines) j l
+  leads-is x y j lx ly l = ap (λ (k : ℕ). eqb (trailingZeros 64 k) j) (meet t kinds drives m x y lx ly) ∙ least-at _ _ (m .lines) j l
 
   first-uncovered : (j : ℕ) → j < lineCount t → isFirst j ≡ not (covered t j)
   first-uncovered j l =

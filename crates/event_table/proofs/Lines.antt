@@ -30,8 +30,7 @@ module _ (t : List ℕ) where
 
   pub holds-of : (kind drive j : ℕ) → Bounds kind drive j → holds t kind drive j ≡ true
   unfolding holds spans
-  holds-of x y j b =
-      and-i (within-in (lineByte t j 0) (lineByte t j 1) x (b .kind-low) (b .kind-high)) (within-in (lineByte t j 2) (lineByte t j 3) y (b .drive-low) (b .drive-high))
+  holds-of x y j b = and-i (within-in _ _ x (b .kind-low) (b .kind-high)) (within-in _ _ y (b .drive-low) (b .drive-high))
 
   -- "The first line that holds an event's two bytes"
   pub record IsFirst (kind drive j : ℕ) : Type 0 where

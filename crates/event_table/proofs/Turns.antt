@@ -38,8 +38,7 @@ mask-fits k f l = lt-of-lt-of-le (mask-lt (k + 1) f) (pow-mono {i = k + 1} {j = 
 pub masks-whole : (t : List ℕ) (i : ℕ) (ms : List ℕ) → length ms ≡ 256 → ((x : ℕ) → x < 256 → getD ms x 0 ≡ mask (lineCount t) (spans t i x)) → ms ≡ masksOf t i
 unfolding masksOf
 masks-whole t i ms n h =
-    ext-getD 0 ms (masksOf t i) (n ∙ sym (length-tabulate 256 (λ x. mask (lineCount t) (spans t i x)) 0))
-    (λ x l. h x (omega arith) ∙ sym (masks-at t i x (omega arith)))
+    ext-getD 0 ms _ (n ∙ sym (length-tabulate 256 (λ x. mask _ _) 0)) (λ x l. h x (omega arith) ∙ sym (masks-at t i x (omega arith)))
 
 -- ---- the least number of a mask
 

@@ -82,9 +82,7 @@ module _ (f : List ℕ) where
   -- 02: "On a file that the new readers accept, both must reach equal verdicts.": the reader of 01 accepts it too
   pub old-accepts : fileRow f ≡ 0 → oldRow f ≡ 0
   unfolding oldRow oldRows
-  old-accepts e =
-      let r = body-parts (accepted-rows e .0) in
-      first-right (layoutRows f) _ (layout-numbered f) (r .0) ∙ formed-parts (ruleIn f) (r .1) .1
+  old-accepts e = let r = body-parts (accepted-rows e .0) in first-right _ _ (layout-numbered f) (r .0) ∙ formed-parts _ (r .1) .1
 
   -- A row's number is answered exactly if the row applies and none before it.
   pub file-row-iff : (k : ℕ) → 0 < k → (fileRow f ≡ k) ↔ FirstApplies (fileRows f) k

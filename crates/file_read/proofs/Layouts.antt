@@ -49,8 +49,7 @@ module _ (r : Rule) where
 
     clauses-body : clausesOf (bodyOf r) ≡ r .clauses
     unfolding clausesOf bodyOf
-    clauses-body =
-        ap₂ (λ (c i : ℕ). take c (drop i (bodyOf r))) clause-count-body clauses-at-body ∙ take-at (r .clauses) (r .counts ++ trailerOf r) (length (r .clauses)) refl
+    clauses-body = ap₂ (λ (c i : ℕ). take c (drop i (bodyOf r))) clause-count-body clauses-at-body ∙ take-at _ _ _ refl
 
     counts-body : countsOf (bodyOf r) ≡ r .counts
     unfolding countsOf bodyOf

@@ -196,8 +196,7 @@ module _ (rest : Rule → List Check) where
   -- on a file that the new reader accepts, the reader of 01 leads to the same first row
   pub old-first : (f : List ℕ) → fileRow f ≡ 0 → firstRow (oldRows f ++ rest (ruleIn f)) ≡ firstRow (fileRows f ++ rest (ruleIn f))
   unfolding fileRow oldRow
-  old-first f e =
-      row-alike rest (oldRows f) (fileRows f) (old-numbered f) (file-numbered f) (ruleIn f) (ruleIn f) (old-accepts f e ∙ sym e) (λ z. refl)
+  old-first f e = row-alike rest _ _ (old-numbered f) (file-numbered f) _ _ (old-accepts f e ∙ sym e) (λ z. refl)
 
   module _ {X : Type 0} (answer : ℕ → Rule → X) where
     -- 02: "On a file that the new readers accept, both must reach equal verdicts."

@@ -122,8 +122,7 @@ module _ (s : ℕ) (q names : List ℕ) (l : length names ≡ 8 * s) where
   with-length = omega (arith, length-append q (names ++ namesTag), length-append names namesTag)
 
   with-byte : (i j : ℕ) → i ≡ length q + (length names + j) → getD withNames i 0 ≡ getD namesTag j 0
-  with-byte i j e =
-      ap (λ (k : ℕ). getD withNames k 0) e ∙ getD-append-add q (names ++ namesTag) (length names + j) 0 ∙ getD-append-add names namesTag j 0
+  with-byte i j e = ap (λ (k : ℕ). getD withNames k 0) e ∙ getD-append-add q _ _ 0 ∙ getD-append-add names namesTag j 0
 
   pub with-names : hasNames withNames ≡ true
   unfolding hasNames

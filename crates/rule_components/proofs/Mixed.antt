@@ -87,10 +87,7 @@ module _ (R : Rule) (few : R .n ≤ 8) (acc : ℕ) (same : acc ≡ R .accepting)
   both q = someBelow 8 (accepted (class q) acc) && someBelow 8 (rejected (class q) acc)
 
   member : (q p : ℕ) → bit (class q) p ≡ true → (p < R .n) × (together R q p ≡ true)
-  member q p e =
-      by-cases (decLt p (R .n))
-      (λ l. (l, sym (bit-mask (R .n) (together R q) p l) ∙ e))
-      (λ l. clash e (bit-high (R .n) (class q) p (mask-lt (R .n) (together R q)) (omega arith)))
+  member q p e = by-cases (decLt p (R .n)) (λ l. (l, sym (bit-mask _ _ p l) ∙ e)) (λ l. clash e (bit-high _ (class q) p (mask-lt _ _) (omega arith)))
 
   pair : (q y z : ℕ) → q < R .n → accepted (class q) acc y ≡ true → rejected (class q) acc z ≡ true → mixed R ≡ true
   unfolding mixed

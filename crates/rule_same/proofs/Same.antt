@@ -104,8 +104,7 @@ module _ (n : ℕ) (cs ds : List ℕ) (small-c : (c : ℕ) → List·Memᴰ c cs
 pub entries-same : (r t : Rule) → WellFormed r → WellFormed t → r .n ≡ t .n → r .s ≡ t .s → (q a : ℕ) → q < r .n → a < r .s
     → (Each 8 (entry r q a) (entry t q a) && Each 8 (entry t q a) (entry r q a)) ≡ sameEntry (r .n) (entry r q a) (entry t q a)
 entries-same r t w v e f q a l m =
-    same-clauses (r .n) (entry r q a) (entry t q a) (entry-states r w q a l m)
-    (λ c h. rw e (entry-states t v q a (rw (sym e) l) (rw (sym f) m) c h)) (w .few-states)
+    same-clauses _ _ _ (entry-states r w q a l m) (λ c h. rw e (entry-states t v q a (rw (sym e) l) (rw (sym f) m) c h)) (w .few-states)
 
 -- ---- the numbers of two rules
 

@@ -81,9 +81,7 @@ module _ (n : ℕ) where
   unfolding tidyClauses
   clauses-listed [] clauses x m = absurd (List·Memᴰ·not-nil m)
   clauses-listed (k ∷ counts) clauses x m =
-      ⊎-elim (λ j. mem-take k clauses (tidy-listed n (take k clauses) x j))
-      (λ j. mem-drop k clauses (clauses-listed counts (drop k clauses) x j))
-      (List·Memᴰ·append-cases (tidyEntry n (take k clauses)) m)
+      ⊎-elim (λ j. mem-take k clauses (tidy-listed n _ x j)) (λ j. mem-drop k clauses (clauses-listed counts _ x j)) (List·Memᴰ·append-cases _ m)
 
   -- an entry keeps at most as many clauses as it had
   part-length : (k : ℕ) (clauses : List ℕ) → length (tidyEntry n (take k clauses)) ≤ k

@@ -93,8 +93,7 @@ module _ (r : Rule) (small : (c : ℕ) → List·Memᴰ c (r .clauses) → c < 2
 module _ (r : Rule) (small : (c : ℕ) → List·Memᴰ c (r .clauses) → c < 2 ^ r .n) (lead cycle : List ℕ) where
   -- The tidied rule accepts from the same pairs.
   pub tidy-accepts-from : (q p : ℕ) → AcceptsFrom (tidyRule r) lead cycle q p ↔ AcceptsFrom r lead cycle q p
-  tidy-accepts-from q p =
-      (tidied-accepts r small (nextPlace lead cycle) (letterAt lead cycle) q p, accepts-tidied r small (nextPlace lead cycle) (letterAt lead cycle) q p)
+  tidy-accepts-from q p = (tidied-accepts r small _ _ q p, accepts-tidied r small _ _ q p)
 
   -- It accepts the same words.
   pub tidy-accepts : AcceptsWord (tidyRule r) lead cycle ↔ AcceptsWord r lead cycle

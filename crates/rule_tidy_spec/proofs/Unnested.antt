@@ -22,9 +22,7 @@ use Rattle.rule_tidy_spec.proofs.Minimal.{minimal-in, minimal-only, tid
 pub unnested-at : (n : ℕ) (cs : List ℕ) → nested n cs ≡ false → (i j : ℕ) → i < length cs → j < length cs → (i ≡ j → ⊥) → contains n (getD cs i 0) (getD cs j 0) ≡ false
 unfolding nested
 unnested-at n cs e i j l m d =
-    bif (contains n (getD cs i 0) (getD cs j 0))
-    (λ t. clash (and-i (ap not (ne-eqb i j d)) t) (some-no (length cs) _ (some-no (length cs) _ e i l) j m))
-    (λ t. t)
+    bif (contains n (getD cs i 0) (getD cs j 0)) (λ t. clash (and-i (ap not (ne-eqb i j d)) t) (some-no _ _ (some-no _ _ e i l) j m)) (λ t. t)
 
 pub unnested-all : (n : ℕ) (cs : List ℕ) → ((i j : ℕ) → i < length cs → j < length cs → (i ≡ j → ⊥) → contains n (getD cs i 0) (getD cs j 0) ≡ false) → nested n cs ≡ false
 unfolding nested

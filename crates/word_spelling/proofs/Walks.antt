@@ -93,8 +93,7 @@ module _ (lead cycle : List ℕ) (repeats : 0 < length cycle) (p m : ℕ) (some-
   shorter e = ap (shortened w p) (sym whole) ∙ shortened-same w p (m - 1) (at (m - 1) (omega arith) ∙ e ∙ sym (at (m - 1 + p) fits))
 
   pub shortest : (letterAt lead cycle (m - 1) ≡ letterAt lead cycle (m - 1 + p) → ⊥) → shortened w p m ≡ m
-  shortest n =
-      ap (shortened w p) (sym whole) ∙ shortened-other w p (m - 1) (λ e. n (sym (at (m - 1) (omega arith)) ∙ e ∙ at (m - 1 + p) fits)) ∙ whole
+  shortest n = ap (shortened w p) (sym whole) ∙ shortened-other w p _ (λ e. n (sym (at _ (omega arith)) ∙ e ∙ at _ fits)) ∙ whole
 
 -- ---- letters written in order
 

@@ -53,8 +53,7 @@ module _ (w : ℕ → ℕ) (m p : ℕ) (some-step : 0 < p) (R : Repeats w m p) (
 
   again : Repeats (letters (take m s) (take p (drop m s))) m p
   again i l =
-      ap (λ (x : ℕ). letters (take m s) (take p (drop m s)) (i + x)) (sym cycle-length)
-      ∙ letters-again (take m s) (take p (drop m s)) repeats i (omega (arith, lead-length))
+      ap (λ (x : ℕ). letters (take m s) (take p (drop m s)) (i + x)) (sym cycle-length) ∙ letters-again _ _ repeats i (omega (arith, lead-length))
 
   pub repeats-spells : Spells w (take m s) (take p (drop m s))
   repeats-spells = record { repeats = repeats; agrees = λ i. agree-on (letters (take m s) (take p (drop m s))) w m p some-step again R first-letters (suc i) i (omega arith) }

@@ -102,8 +102,7 @@ module _ (lead cycle : List ℕ) (repeats : 0 < length cycle) where
   -- and after no fewer steps, from wherever on
   pub cycle-least : (m p : ℕ) → 0 < p → Repeats w m p → cycleLength cycle ≤ p
   unfolding cycleLength
-  cycle-least m p h R =
-      first-le (length cycle) (comesAgain cycle) 1 p h (repeats-again p (repeats-sooner w (length lead) (length cycle) m p repeats own R))
+  cycle-least m p h R = first-le _ _ 1 p h (repeats-again p (repeats-sooner w _ _ m p repeats own R))
 
 -- a cycle's letters come again after the whole cycle
 pub own-again : (cycle : List ℕ) → 0 < length cycle → comesAgain cycle (length cycle) ≡ true
