@@ -22,33 +22,16 @@ returns c = called-refused _ _ _ _ 24 (table-refuses _ _ _ _ (sym (c .before .is
 sound : (c : tie.Else1) → faultyTable (c .before .before .before .before .before .args .s) (c .before .before .before .before .before .args .events .now) ≡ false
 sound c = sym (c .before .is-faulty-table .ensures) ∙ c .if1 .left
 
-masks-of-requires : tie.Need-masks-of-requires
-masks-of-requires c κs = (omega arith, few-lines (c .before .before .before .before .before .args .s) (c .before .before .before .before .before .args .events .now) (sound c))
-
-masks-of-requires-2 : tie.Need-masks-of-requires-2
-masks-of-requires-2 c κs = (
-  omega arith,
-  few-lines (c .before .before .before .before .before .before .args .s) (c .before .before .before .before .before .before .args .events .now)
-      (sound (c .before)),
-)
-
 abbrev start-of-after-masks-of2 : tie.After-masks-of2 → tie.Start
 start-of-after-masks-of2 c = c .before .before .before .before .before .before .before
 
 -- the masks are the table's
 masks : (c : tie.After-masks-of2) → Masks (start-of-after-masks-of2 c .args .events .now) (c .before .masks-of .result) (c .masks-of2 .result)
-masks c = record {
-  lines = few-lines (start-of-after-masks-of2 c .args .s) (start-of-after-masks-of2 c .args .events .now) (sound (c .before .before));
-  of-kinds = c .before .masks-of .ensures;
-  of-drives = c .masks-of2 .ensures;
-}
+masks c = record { lines = few-lines _ _ (sound (c .before .before)); of-kinds = c .before .masks-of .ensures; of-drives = c .masks-of2 .ensures }
 
 returns-2 : tie.Need-returns-2
 returns-2 c =
-    let start = c .before .before .before .before .before .before .before .before .before .before .before in
-    let a = start .args in
-    called-refused (a .s) (a .events .now) (a .log .now) (a .letters .now) 25
-    (cover-refuses (a .s) (a .events .now) (a .log .now) (length (a .letters .now)) (sound (c .before .before .before .before .before .before)) (sym (c .before .has-covered .ensures) ∙ c .if2 .taken))
+    called-refused _ _ _ _ 25 (cover-refuses _ _ _ _ (sound (c .before .before .before .before .before .before)) (sym (c .before .has-covered .ensures) ∙ c .if2 .taken))
 
 abbrev start-of-else2 : tie.Else2 → tie.Start
 start-of-else2 c = c .before .before .before .before .before .before .before .before .before .before .before
@@ -60,27 +43,20 @@ uncovered c = sym (c .before .has-covered .ensures) ∙ c .if2 .left
 returns-3 : tie.Need-returns-3
 returns-3 c =
     let earlier = c .before .before .before .before .before .before .before .before in
-    let earlier-2 = earlier .before .before in let start = earlier-2 .before .before .before .before .before in
-    let a = start .args in
-    called-refused (a .s) (a .events .now) (a .log .now) (a .letters .now) 26
-    (log-refuses (a .s) (a .events .now) (a .log .now) (length (a .letters .now)) (sound (earlier-2)) (uncovered (c .before .before .before .before))
-    (sym (c .before .has-unknown .ensures (a .events .now) (masks (earlier))) ∙ c .if3 .taken))
+    called-refused _ _ _ _ 26
+    (log-refuses _ _ _ _ (sound (earlier .before .before)) (uncovered (c .before .before .before .before)) (sym (c .before .has-unknown .ensures _ (masks earlier)) ∙ c .if3 .taken))
 
 abbrev start-of-else3 : tie.Else3 → tie.Start
 start-of-else3 c = c .before .before .before .before .before .before .before .before .before .before .before .before .before .before .before
 
 -- row 27 lets the log through
 known : (c : tie.Else3) → hasUnknown (start-of-else3 c .args .events .now) (start-of-else3 c .args .log .now) ≡ false
-known c =
-    let earlier = c .before .before .before .before .before .before .before .before in
-    sym (c .before .has-unknown .ensures (start-of-else3 c .args .events .now) (masks (earlier))) ∙ c .if3 .left
+known c = let earlier = c .before .before .before .before .before .before .before .before in sym (c .before .has-unknown .ensures _ (masks earlier)) ∙ c .if3 .left
 
 returns-4 : tie.Need-returns-4
 returns-4 c =
     let earlier = c .before .before .before .before .before .before .before .before .before .before .before in
-    let start = earlier .before .before .before .before .before in let a = start .args in
-    called-refused (a .s) (a .events .now) (a .log .now) (a .letters .now) 15
-    (slice-refuses (a .s) (a .events .now) (a .log .now) (length (a .letters .now)) (sound (earlier)) (uncovered (c .before .before .before .before .before)) (known (c .before)) (c .if4 .taken))
+    called-refused _ _ _ _ 15 (slice-refuses _ _ _ _ (sound earlier) (uncovered (c .before .before .before .before .before)) (known (c .before)) (c .if4 .taken))
 
 write-letters-requires : tie.Need-write-letters-requires
 write-letters-requires c κs =
@@ -94,14 +70,11 @@ returns-5 c =
     let earlier-3 = earlier-2 .before .before .before .before .before .before in
     let start = earlier-3 .before .before .before .before .before in let a = start .args in
     let w = c .before .before .write-letters in
-    called-served (a .s) (a .events .now) (a .log .now) (a .letters .now)
-    (call-served (a .s) (a .events .now) (a .log .now) (length (a .letters .now)) (sound (earlier-3)) (uncovered (earlier-2)) (known (earlier))
-    (c .before .before .before .before .before .before .if4 .left))
-    (w .last .1 .1 .1 .1 .0)
+    called-served _ _ _ _ (call-served _ _ _ _ (sound earlier-3) (uncovered earlier-2) (known earlier) (c .before .before .before .before .before .before .if4 .left)) _
     (w .ensures ∙ ap (λ (n : ℕ). lettersOf (a .events .now) (a .log .now) ++ drop n (a .letters .now)) (sym (letters-length (a .events .now) (a .log .now))))
 
 pub translate-read-spec : {M : Type 1} → statement M
 translate-read-spec =
     tie.close (tie.spec
-    (λ c κs. search needs) returns masks-of-requires masks-of-requires-2 (λ c κs. masks (c .before .before)) returns-2 (λ c κs. search needs)
-    returns-3 returns-4 write-letters-requires (λ c. search needs) returns-5)
+    (λ c κs. search needs) returns (λ c κs. (omega arith, few-lines _ _ (sound c))) (λ c κs. (omega arith, few-lines _ _ (sound (c .before))))
+    (λ c κs. masks (c .before .before)) returns-2 (λ c κs. search needs) returns-3 returns-4 write-letters-requires (λ c. search needs) returns-5)

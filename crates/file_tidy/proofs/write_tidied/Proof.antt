@@ -20,10 +20,7 @@ use Rattle.file_tidy.proofs.write_tidied.Statement.{statement}
 use Rattle.file_tidy.proofs.write_tidied.Tie as tie
 
 tidy-rule-requires : tie.Need-tidy-rule-requires
-tidy-rule-requires c κs =
-    let a = c .before .before .before .before .before .before .args in
-    let w = c .before .before .before .before .before .before .pre .0 in
-    (w, entries-few (ruleOf (a .h) (a .counts .now) (a .clauses .now)) w, clauses-few (ruleOf (a .h) (a .counts .now) (a .clauses .now)) w)
+tidy-rule-requires c κs = let w = c .before .before .before .before .before .before .pre .0 in (w, entries-few _ w, clauses-few _ w)
 
 abbrev start-of-after-tidy-rule : tie.After-tidy-rule → tie.Start
 start-of-after-tidy-rule c = c .before .before .before .before .before .before .before
