@@ -7,12 +7,6 @@ use borrow.Author.Needs.{needs}
 use Rattle.event_table.proofs.is_faulty.Statement.{statement}
 use Rattle.event_table.proofs.is_faulty.Tie as tie
 
-returns : tie.Need-returns
-returns c = let a = c .before .before .before .args in sym (fault-kinds (a .s) (a .events .now) (a .j) (c .if1 .taken))
-
-returns-2 : tie.Need-returns-2
-returns-2 c = let a = c .before .before .before .before .before .before .args in sym (fault-drives (a .s) (a .events .now) (a .j) (c .if2 .taken))
-
 cast-result : tie.Need-cast-result
 cast-result c =
     let start = c .before .before .before .before .before .before .before in
@@ -24,5 +18,6 @@ returns-3 c = fault-letter _ _ _ (c .before .before .before .before .if1 .left) 
 pub is-faulty-spec : {M : Type 1} → statement M
 is-faulty-spec =
     tie.close (tie.spec
-    (λ c. search needs) (λ c. search needs) (λ c. search needs) (λ c. search needs) returns (λ c. search needs) (λ c. search needs) (λ c. search needs)
-    (λ c. search needs) returns-2 (λ c. search needs) (λ c. search needs) cast-result returns-3)
+    (λ c. search needs) (λ c. search needs) (λ c. search needs) (λ c. search needs) (λ c. sym (fault-kinds _ _ _ (c .if1 .taken))) (λ c. search needs)
+    (λ c. search needs) (λ c. search needs) (λ c. search needs) (λ c. sym (fault-drives _ _ _ (c .if2 .taken))) (λ c. search needs)
+    (λ c. search needs) cast-result returns-3)

@@ -17,12 +17,6 @@ Inv-loop s events n j₀ j = (j ≤ lineCount events) × (someBelow j (faulty s 
 abbrev μ-loop : tie.MeasureT-loop
 μ-loop s events n j₀ j = lineCount events - j
 
-returns : tie.Need-returns Inv-loop μ-loop
-returns c = let a = c .before .before .args in sym (table-ragged (a .s) (a .events .now) (c .if1 .taken))
-
-returns-2 : tie.Need-returns-2 Inv-loop μ-loop
-returns-2 c = let a = c .before .before .before .args in sym (table-long (a .s) (a .events .now) (c .if2 .taken))
-
 returns-3 : tie.Need-returns-3 Inv-loop μ-loop
 returns-3 c = sym (table-line _ _ _ (c .before .before .loop-test .taken) (sym (c .before .is-faulty .ensures) ∙ c .if3 .taken))
 
@@ -41,5 +35,6 @@ returns-4 c =
 pub is-faulty-table-spec : {M : Type 1} → statement M
 is-faulty-table-spec =
     tie.close (tie.spec
-    Inv-loop μ-loop returns returns-2 (λ c. unfold someBelow in (omega arith, refl)) (λ c κs. c .loop-test .taken) returns-3
-    (λ c. omega (arith, c .before .before .loop-test .taken)) (λ c. omega (arith, c .before .before .loop-test .taken)) loop-again returns-4)
+    Inv-loop μ-loop (λ c. sym (table-ragged _ _ (c .if1 .taken))) (λ c. sym (table-long _ _ (c .if2 .taken)))
+    (λ c. unfold someBelow in (omega arith, refl)) (λ c κs. c .loop-test .taken) returns-3 (λ c. omega (arith, c .before .before .loop-test .taken))
+    (λ c. omega (arith, c .before .before .loop-test .taken)) loop-again returns-4)

@@ -16,9 +16,6 @@ Inv-loop events i x n lines₀ j₀ lines j = (j ≤ lineCount events) × (lines
 abbrev μ-loop : tie.MeasureT-loop
 μ-loop events i x n lines₀ j₀ lines j = lineCount events - j
 
-loop-holds : tie.Need-loop-holds Inv-loop μ-loop
-loop-holds c = let a = c .before .args in (omega arith, mask-start (spans (a .events .now) (a .i) (a .x)))
-
 marked-requires : tie.Need-marked-requires Inv-loop μ-loop
 marked-requires c κs = omega (arith, c .before .loop-test .taken, c .before .before .before .before .pre .1)
 
@@ -43,6 +40,6 @@ returns c =
 pub spanning-spec : {M : Type 1} → statement M
 spanning-spec =
     tie.close (tie.spec
-    Inv-loop μ-loop loop-holds (λ c κs. (c .before .before .before .pre .0, c .loop-test .taken)) marked-requires add-lines
-    (λ c. omega (arith, c .before .before .loop-test .taken)) (λ c. omega (arith, c .before .before .loop-test .taken))
+    Inv-loop μ-loop (λ c. (omega arith, mask-start (spans _ _ _))) (λ c κs. (c .before .before .before .pre .0, c .loop-test .taken)) marked-requires
+    add-lines (λ c. omega (arith, c .before .before .loop-test .taken)) (λ c. omega (arith, c .before .before .loop-test .taken))
     (λ c. (omega (arith, c .before .before .loop-test .taken), more c)) returns)
