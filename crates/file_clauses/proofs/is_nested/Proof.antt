@@ -23,11 +23,8 @@ returns c = some-stop _ _ (c .before .before .before .loop .i) (omega arith) (sy
 loop-again : tie.Need-loop-again Inv-loop μ-loop
 loop-again c = (omega arith, some-next _ _ (c .before .before .before .loop .inv .1) (sym (c .before .contains-another .ensures) ∙ c .if1 .left))
 
-returns-2 : tie.Need-returns-2 Inv-loop μ-loop
-returns-2 c = unfold nested in some-end (c .before .loop .i) _ _ (omega arith) (c .before .loop .inv .1)
-
 pub is-nested-spec : {M : Type 1} → statement M
 is-nested-spec =
     tie.close (tie.spec
     Inv-loop μ-loop (λ c. unfold someBelow in (omega arith, refl)) (λ c κs. omega arith) returns (λ c. omega arith) (λ c. omega arith) loop-again
-    returns-2)
+    (λ c. unfold nested in some-end _ _ _ (omega arith) (c .before .loop .inv .1)))

@@ -41,11 +41,8 @@ returns c = some-stop _ _ (c .before .before .before .before .before .loop .a) (
 loop-again : tie.Need-loop-again Inv-loop μ-loop
 loop-again c = (omega arith, some-next _ _ (c .before .before .before .before .before .loop .inv .1) (sym (told (c .before)) ∙ c .if2 .left))
 
-returns-2 : tie.Need-returns-2 Inv-loop μ-loop
-returns-2 c = some-end (c .before .before .loop .a) _ _ (omega arith) (c .before .before .loop .inv .1)
-
 pub nested-state-spec : {M : Type 1} → statement M
 nested-state-spec =
     tie.close (tie.spec
     Inv-loop μ-loop (λ c. unfold someBelow in (omega arith, refl)) entry-of-requires (λ c κs. search needs) returns (λ c. omega arith)
-    (λ c. omega arith) loop-again returns-2)
+    (λ c. omega arith) loop-again (λ c. some-end _ _ _ (omega arith) (c .before .before .loop .inv .1)))

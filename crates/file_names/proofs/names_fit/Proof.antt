@@ -24,8 +24,5 @@ there c = sym (c .before .has-names .ensures) ∙ not-false _ (c .if1 .left)
 sub-result : tie.Need-sub-result
 sub-result c = let a = c .before .before .before .args in names-long (a .s) (a .p .now) (there c)
 
-returns-2 : tie.Need-returns-2
-returns-2 c = let a = c .before .before .before .args in fit-decides (a .p .now) (a .s) (there c)
-
 pub names-fit-spec : {M : Type 1} → statement M
-names-fit-spec = tie.close (tie.spec (λ c κs. search needs) returns (λ c. search needs) sub-result returns-2)
+names-fit-spec = tie.close (tie.spec (λ c κs. search needs) returns (λ c. search needs) sub-result (λ c. fit-decides _ _ (there c)))

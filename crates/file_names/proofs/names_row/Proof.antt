@@ -8,9 +8,6 @@ use Rattle.file_spec.proofs.Names.{row-22, row-23, pass-23}
 use Rattle.file_names.proofs.names_row.Statement.{statement}
 use Rattle.file_names.proofs.names_row.Tie as tie
 
-returns : tie.Need-returns
-returns c = row-22 (c .before .before .before .args .names .now) (sym (c .before .any-outside .ensures) ∙ c .if1 .taken)
-
 -- row 22 does not refuse
 printable : (c : tie.Else1) → anyOf (c .before .before .before .args .names .now) (outside 0x20 0x7E) ≡ false
 printable c = sym (c .before .any-outside .ensures) ∙ c .if1 .left
@@ -22,4 +19,6 @@ returns-3 : tie.Need-returns-3
 returns-3 c = pass-23 (c .before .before .before .before .before .args .names .now) (printable (c .before .before)) (sym (c .before .repeats-name .ensures) ∙ c .if2 .left)
 
 pub names-row-spec : {M : Type 1} → statement M
-names-row-spec = tie.close (tie.spec (λ c κs. search needs) returns (λ c κs. search needs) returns-2 returns-3)
+names-row-spec =
+    tie.close (tie.spec
+    (λ c κs. search needs) (λ c. row-22 _ (sym (c .before .any-outside .ensures) ∙ c .if1 .taken)) (λ c κs. search needs) returns-2 returns-3)

@@ -23,11 +23,8 @@ returns c = some-stop _ _ (c .before .before .before .loop .b) (omega arith) (sy
 loop-again : tie.Need-loop-again Inv-loop μ-loop
 loop-again c = (omega arith, some-next _ _ (c .before .before .before .loop .inv .1) (sym (c .before .repeats-earlier .ensures) ∙ c .if1 .left))
 
-returns-2 : tie.Need-returns-2 Inv-loop μ-loop
-returns-2 c = unfold repeatsName in some-end (c .before .loop .b) _ _ (omega arith) (c .before .loop .inv .1)
-
 pub repeats-name-spec : {M : Type 1} → statement M
 repeats-name-spec =
     tie.close (tie.spec
     Inv-loop μ-loop (λ c. unfold someBelow in (omega arith, refl)) (λ c κs. omega arith) returns (λ c. omega arith) (λ c. omega arith) loop-again
-    returns-2)
+    (λ c. unfold repeatsName in some-end _ _ _ (omega arith) (c .before .loop .inv .1)))

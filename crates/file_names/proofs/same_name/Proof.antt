@@ -17,9 +17,6 @@ Inv-loop names a b i₀ i = (i ≤ 8) × (every i (λ k. eqb (getD names (8 * a 
 abbrev μ-loop : tie.MeasureT-loop
 μ-loop names a b i₀ i = 8 - i
 
-returns : tie.Need-returns Inv-loop μ-loop
-returns c = sym (every-stop 8 _ (c .before .before .before .before .loop .i) (omega arith) (ne-eqb _ _ (c .if1 .taken)))
-
 loop-again : tie.Need-loop-again Inv-loop μ-loop
 loop-again c = (omega arith, every-next _ _ (c .before .before .before .before .loop .inv .1) (eq-eqb _ _ (c .if1 .left)))
 
@@ -33,4 +30,5 @@ pub same-name-spec : {M : Type 1} → statement M
 same-name-spec =
     tie.close (tie.spec
     Inv-loop μ-loop (λ c. unfold every in (omega arith, refl)) (λ c. omega arith) (λ c. omega arith) (λ c. omega arith) (λ c. omega arith)
-    (λ c. omega arith) (λ c. omega arith) returns (λ c. omega arith) (λ c. omega arith) loop-again returns-2)
+    (λ c. omega arith) (λ c. omega arith) (λ c. sym (every-stop 8 _ _ (omega arith) (ne-eqb _ _ (c .if1 .taken)))) (λ c. omega arith)
+    (λ c. omega arith) loop-again returns-2)
