@@ -71,31 +71,22 @@ module _ (letter here there : ℕ) where
   unfolding enteredBy
   by-none t ms e = rw e refl
 
-  by-more : (t : ℕ) (ms : List ℕ) (x : ℕ) → here + sourceOf t < length ms → 0 < getD ms x 0 → 0 < getD (by t ms) x 0
-  by-more t ms x l k =
-      bif (eqb (letterOf t) letter && ltb 0 (getD ms (there + targetOf t) 0))
+  -- the transition leads into the node, or leaves its mark
+  into-or-not : (t : ℕ) (ms : List ℕ) (x : ℕ) → Into t ms x ⊎ (getD (by t ms) x 0 ≡ getD ms x 0)
+  into-or-not t ms x =
+      let o = eqb (letterOf t) letter in
+      let m = ltb 0 (getD ms (there + targetOf t) 0) in
+      bif (o && m)
       (λ e. by-cases (ℕ-discrete (here + sourceOf t) x)
-      (λ f. by-in t ms x l (record {
-        over = eqb-true (letterOf t) letter (and-l (eqb (letterOf t) letter) (ltb 0 (getD ms (there + targetOf t) 0)) e);
-        from = f;
-        marked =
-            ltb-true 0 (getD ms (there + targetOf t) 0) (and-r (eqb (letterOf t) letter) (ltb 0 (getD ms (there + targetOf t) 0)) e);
-      }))
-      (λ f. rw (by-stays t ms x f) k))
-      (λ e. rw (by-none t ms e) k)
+      (λ f. inl (record { over = eqb-true (letterOf t) letter (and-l o m e); from = f; marked = ltb-true 0 (getD ms (there + targetOf t) 0) (and-r o m e) }))
+      (λ f. inr (by-stays t ms x f)))
+      (λ e. inr (rw (by-none t ms e)))
+
+  by-more : (t : ℕ) (ms : List ℕ) (x : ℕ) → here + sourceOf t < length ms → 0 < getD ms x 0 → 0 < getD (by t ms) x 0
+  by-more t ms x l k = ⊎-elim (by-in t ms x l) (λ e. rw e k) (into-or-not t ms x)
 
   by-out : (t : ℕ) (ms : List ℕ) (x : ℕ) → 0 < getD (by t ms) x 0 → (0 < getD ms x 0) ⊎ Into t ms x
-  by-out t ms x k =
-      bif (eqb (letterOf t) letter && ltb 0 (getD ms (there + targetOf t) 0))
-      (λ e. by-cases (ℕ-discrete (here + sourceOf t) x)
-      (λ f. inr (record {
-        over = eqb-true (letterOf t) letter (and-l (eqb (letterOf t) letter) (ltb 0 (getD ms (there + targetOf t) 0)) e);
-        from = f;
-        marked =
-            ltb-true 0 (getD ms (there + targetOf t) 0) (and-r (eqb (letterOf t) letter) (ltb 0 (getD ms (there + targetOf t) 0)) e);
-      }))
-      (λ f. inl (rw (sym (by-stays t ms x f)) k)))
-      (λ e. inl (rw (sym (by-none t ms e)) k))
+  by-out t ms x k = ⊎-elim (λ i. inr i) (λ (e : getD (by t ms) x 0 ≡ getD ms x 0). inl (rw e at k)) (into-or-not t ms x)
 
   -- ---- one after the other
 

@@ -60,9 +60,8 @@ module _ (a : ℕ) (lead cycle : List ℕ) (repeats : 0 < length cycle) (codes t
 
 -- ---- marks
 
-module _ (codes transitions lead cycle : List ℕ) (repeats : 0 < length cycle)
-    (sources : (t : ℕ) → List·Memᴰ t transitions → sourceOf t < length codes) (targets : (t : ℕ) → List·Memᴰ t transitions → targetOf t < length codes)
-    (old new : List ℕ) (N : Entered (length codes) lead transitions old new)
+module _ (codes transitions lead cycle old new : List ℕ) (repeats : 0 < length cycle) (targets : (t : ℕ) → List·Memᴰ t transitions → targetOf t < length codes)
+    (N : Entered (length codes) lead transitions old new)
     (solved : (m : ℕ) → m < length codes → (0 < getD old (length lead * length codes + m) 0) ↔ TrackFrom codes transitions [] cycle m) where
   -- number m is marked at place p exactly if a run goes on from it there
   abbrev At : ℕ → ℕ → Type 0
@@ -71,16 +70,13 @@ module _ (codes transitions lead cycle : List ℕ) (repeats : 0 < length cycle)
   at-cycle : (m : ℕ) → m < length codes → At (length lead) m
   at-cycle m low = rw (N .later (length lead * length codes + m) (omega arith), drop-of-length-le lead {i = length lead} (omega arith)) (solved m low)
 
-  at-front : (p m : ℕ) → p < length lead → m < length codes → ((y : ℕ) → y < length codes → At (suc p) y)
-      → (0 < getD new (p * length codes + m) 0) ↔ TrackFrom codes transitions (getD lead p 0 ∷ drop (suc p) lead) cycle m
-  at-front p m l low next =
-      let i = N .each p m l low in (
-        λ h. let (t, listed, s, a, k) = i .0 h in in-front (getD lead p 0) (drop (suc p) lead) cycle repeats codes transitions m low t listed s a (next (targetOf t) (targets t listed) .0 k),
-        λ h. let (t, listed, s, a, k) = behind (getD lead p 0) (drop (suc p) lead) cycle repeats codes transitions m h in i .1 (t, listed, s, a, next (targetOf t) (targets t listed) .1 k),
-      )
-
   at-lead : (p m : ℕ) → p < length lead → m < length codes → ((y : ℕ) → y < length codes → At (suc p) y) → At p m
-  at-lead p m l low next = rw (drop-next lead p l ∙ ap (λ (k : ℕ). getD lead p 0 ∷ drop k lead) (add-one p)) (at-front p m l low next)
+  at-lead p m l low next =
+      let i = N .each p m l low in
+      rw (drop-next lead p l ∙ ap (λ (k : ℕ). getD lead p 0 ∷ drop k lead) (add-one p)) (
+        λ h. let (t, listed, s, a, k) = i .0 h in in-front _ _ _ repeats _ _ m low t listed s a (next (targetOf t) (targets t listed) .0 k),
+        λ h. let (t, listed, s, a, k) = behind _ _ _ repeats _ _ m h in i .1 (t, listed, s, a, next (targetOf t) (targets t listed) .1 k),
+      )
 
   -- d places before the cycle
   from-end : (d p m : ℕ) → p + d ≡ length lead → m < length codes → At p m

@@ -1,5 +1,4 @@
 pub mod Cycles
-pub mod Solution
 pub mod LeadIns
 pub mod Entering
 pub mod Flagging

@@ -1,6 +1,6 @@
 -- `table_runs::fill` meets its contract: the marks of the cycle, then those of the lead-in.
 use mathlib.Core.Path.{_≡_, sym, ap, _∙_}
-use Prim.Native.Nat.{ℕ, _-_, _*_, _≤_}
+use Prim.Native.Nat.{ℕ, _+_, _-_, _*_, _≤_}
 use native.Mathlib.Omega.{arith}
 use lib.ListN.{length, take, drop, getD-replicate}
 use borrow.Author.Needs.{needs}
@@ -11,85 +11,66 @@ use borrow.Author.Needs.{needs}
 use Rattle.table_runs.proofs.fill.Statement.{statement}
 use Rattle.table_runs.proofs.fill.Tie as tie
 
-mul-at : tie.Need-mul-at
-mul-at c =
-    let start = c .before .before .before .before .before .before .before .before in
-    omega (
-      arith,
-      parts-sum (length (start .args .lead .now)) (length (start .args .cycle .now)) (length (inBoth (start .args .codes .now) (start .args .codebytes .now) .numbers)) (c .count .result)
-          (length (start .args .marks .now)) (c .count .ensures) (start .pre .marked),
-      start .good,
-    )
+abbrev start-of : tie.After-count → tie.Start
+start-of c = c .before .before .before .before .before .before .before .before
 
-sub-fill-cycle : tie.Need-sub-fill-cycle
-sub-fill-cycle c =
-    let start = c .before .before .before .before .before .before .before .before .before .before .before .before in
-    omega (
-      arith,
-      parts-sum (length (start .args .lead .now)) (length (start .args .cycle .now)) (length (inBoth (start .args .codes .now) (start .args .codebytes .now) .numbers))
-          (c .before .before .before .before .count .result) (length (start .args .marks .now)) (c .before .before .before .before .count .ensures) (start .pre .marked),
-      c .before .before .fill-with .kept .0,
-    )
+-- the marks of the lead-in, and those of the cycle
+sizes : (c : tie.After-count) → let a = start-of c .args in length (a .lead .now) * c .count .result + length (a .cycle .now) * c .count .result ≡ length (a .marks .now)
+sizes c =
+    let a = start-of c .args in
+    parts-sum (length (a .lead .now)) (length (a .cycle .now)) (length (inBoth (a .codes .now) (a .codebytes .now) .numbers)) (c .count .result)
+    (length (a .marks .now)) (c .count .ensures) (start-of c .pre .marked)
 
 part-fill-cycle-start : tie.Need-part-fill-cycle-start
-part-fill-cycle-start c =
-    let start = c .before .before .before .before .before .before .before .before .before .before .before .before in
-    let h = parts-sum (length (start .args .lead .now)) (length (start .args .cycle .now)) (length (inBoth (start .args .codes .now) (start .args .codebytes .now) .numbers))
-    (c .before .before .before .before .count .result) (length (start .args .marks .now)) (c .before .before .before .before .count .ensures) (start .pre .marked) in let k =
-    c .before .before .fill-with .kept .0 in search needs
+part-fill-cycle-start c = let h = sizes (c .before .before .before .before) in let k = c .before .before .fill-with .kept .0 in search needs
 
 fill-cycle-requires : tie.Need-fill-cycle-requires
 fill-cycle-requires c κs =
-    let at-count = c .before .before .before .before .before in
-    let start = at-count .before .before .before .before .before .before .before .before in let a = start .args in
-    let p = start .pre in let w = c .before .before .before .fill-with in let n = at-count .count .result in
-    let h = parts-sum (length (start .args .lead .now)) (length (start .args .cycle .now)) (length (inBoth (start .args .codes .now) (start .args .codebytes .now) .numbers)) (at-count .count .result)
-    (length (start .args .marks .now)) (at-count .count .ensures) (start .pre .marked) in
-    let e : length (take (length (w .last .0) - length (a .lead .now) * n) (drop (length (a .lead .now) * n) (w .last .0))) ≡ length (a .cycle .now) * n =
-    end-length (w .last .0) (length (a .lead .now) * n) (omega (arith, h, w .kept .0)) ∙ omega (arith, h, w .kept .0) in
+    let at-count = c .before .before .before .before .before in let a = start-of at-count .args in let p = start-of at-count .pre in
+    let w = c .before .before .before .fill-with in let at = length (a .lead .now) * at-count .count .result in
+    let e : length (take (length (w .last .0) - at) (drop at (w .last .0))) ≡ length (a .cycle .now) * at-count .count .result =
+    end-length (w .last .0) at (omega (arith, sizes at-count, w .kept .0)) ∙ omega (arith, sizes at-count, w .kept .0) in
     record { repeats = p .repeats; marked = e ∙ ap (λ (k : ℕ). length (a .cycle .now) * k) (at-count .count .ensures); sources = p .sources; targets = p .targets }
+
+abbrev count-of : tie.After-fill-cycle → tie.After-count
+count-of c = c .before .before .before .before .before .before
+
+-- the marks of the cycle are as many as are left behind those of the lead-in
+long : (c : tie.After-fill-cycle) → let w = c .before .before .before .before .fill-with .last .0 in
+    let at = length (start-of (count-of c) .args .lead .now) * count-of c .count .result in (at ≤ length w) × (length (c .fill-cycle .last .1 .1 .1 .1 .1 .0) ≡ length w - at)
+long c =
+    let w = c .before .before .before .before .fill-with in let at = length (start-of (count-of c) .args .lead .now) * count-of c .count .result in
+    let fits : at ≤ length (w .last .0) = omega (arith, sizes (count-of c), w .kept .0) in
+    (fits, c .fill-cycle .kept .1 .1 .1 .1 .1 .0 ∙ end-length (w .last .0) at fits)
+
+-- there is room for a place behind them
+room : (c : tie.After-count) → let a = start-of c .args in length (a .lead .now) * c .count .result + c .count .result ≤ length (a .marks .now)
+room c =
+    let a = start-of c .args in
+    cycle-room (length (a .lead .now)) (length (a .cycle .now)) (length (inBoth (a .codes .now) (a .codebytes .now) .numbers)) (c .count .result)
+    (length (a .marks .now)) (c .count .ensures) (start-of c .pre .marked) (start-of c .pre .repeats)
 
 enter-lead-requires : tie.Need-enter-lead-requires
 enter-lead-requires c κs =
-    let at-fill-with = c .before .before .before .before .before .before .before in
-    let at-count = at-fill-with .before .before in
-    let start = at-count .before .before .before .before .before .before .before .before in let a = start .args in
-    let p = start .pre in let w = at-fill-with .fill-with in let f = c .before .before .before .fill-cycle in
-    let n = at-count .count .result in
-    let h = parts-sum (length (start .args .lead .now)) (length (start .args .cycle .now)) (length (inBoth (start .args .codes .now) (start .args .codebytes .now) .numbers)) (at-count .count .result)
-    (length (start .args .marks .now)) (at-count .count .ensures) (start .pre .marked) in
-    let at : ℕ = length (a .lead .now) * n in
-    let fits : at ≤ length (w .last .0) = omega (arith, h, w .kept .0) in
-    let long : length (f .last .1 .1 .1 .1 .1 .0) ≡ length (w .last .0) - at = f .kept .1 .1 .1 .1 .1 .0 ∙ end-length (w .last .0) at fits in (
-      rw (whole-length (w .last .0) (f .last .1 .1 .1 .1 .1 .0) at fits long, w .kept .0)
-          (cycle-room (length (start .args .lead .now)) (length (start .args .cycle .now)) (length (inBoth (start .args .codes .now) (start .args .codebytes .now) .numbers)) (at-count .count .result)
-          (length (start .args .marks .now)) (at-count .count .ensures) (start .pre .marked) (p .repeats)),
+    let at-fill-cycle = c .before .before .before in let at-count = count-of at-fill-cycle in let p = start-of at-count .pre in
+    let w = at-fill-cycle .before .before .before .before .fill-with in let f = at-fill-cycle .fill-cycle in let l = long at-fill-cycle in (
+      rw (whole-length (w .last .0) (f .last .1 .1 .1 .1 .1 .0) _ (l .0) (l .1), w .kept .0) (room at-count),
       λ t m. rw (at-count .count .ensures) (p .sources t m, p .targets t m),
-      λ x l. whole-front (w .last .0) (f .last .1 .1 .1 .1 .1 .0) at fits long x l ∙ rw (w .ensures) (getD-replicate (length (a .marks .now)) x 0 0 (omega (arith, h))),
+      λ x k. whole-front (w .last .0) (f .last .1 .1 .1 .1 .1 .0) _ (l .0) (l .1) x k
+          ∙ rw (w .ensures) (getD-replicate (length (start-of at-count .args .marks .now)) x 0 0 (omega (arith, sizes at-count))),
     )
 
 returns : tie.Need-returns
 returns c =
-    let at-fill-with = c .before .before .before .before .before .before .before .before .before .before in
-    let at-count = at-fill-with .before .before in
-    let start = at-count .before .before .before .before .before .before .before .before in let a = start .args in
-    let p = start .pre in let w = at-fill-with .fill-with in
-    let f = c .before .before .before .before .before .before .fill-cycle in let n = at-count .count .result in
-    let h = parts-sum (length (start .args .lead .now)) (length (start .args .cycle .now)) (length (inBoth (start .args .codes .now) (start .args .codebytes .now) .numbers)) (at-count .count .result)
-    (length (start .args .marks .now)) (at-count .count .ensures) (start .pre .marked) in
-    let at : ℕ = length (a .lead .now) * n in
-    let fits : at ≤ length (w .last .0) = omega (arith, h, w .kept .0) in
-    let long : length (f .last .1 .1 .1 .1 .1 .0) ≡ length (w .last .0) - at = f .kept .1 .1 .1 .1 .1 .0 ∙ end-length (w .last .0) at fits in
-    let e = at-count .count .ensures in
-    let room = cycle-room (length (start .args .lead .now)) (length (start .args .cycle .now)) (length (inBoth (start .args .codes .now) (start .args .codebytes .now) .numbers))
-    (at-count .count .result) (length (start .args .marks .now)) (at-count .count .ensures) (start .pre .marked) (p .repeats) in
-    tracked (inBoth (a .codes .now) (a .codebytes .now) .numbers) (inBoth (a .moves .now) (a .movebytes .now) .numbers) (a .lead .now) (a .cycle .now) (p .repeats) (p .sources) (p .targets) _
-    (c .before .before .enter-lead .last .1 .1 .1 .1 .0)
-    (rw e at (c .before .before .enter-lead .ensures))
-    (λ m low. rw (sym e, whole-end (w .last .0) (f .last .1 .1 .1 .1 .1 .0) at fits long m (omega (arith, room, e, w .kept .0, long, low))) (f .ensures m low))
+    let at-fill-cycle = c .before .before .before .before .before .before in let at-count = count-of at-fill-cycle in
+    let p = start-of at-count .pre in let w = at-fill-cycle .before .before .before .before .fill-with in let f = at-fill-cycle .fill-cycle in
+    let e = at-count .count .ensures in let l = long at-fill-cycle in
+    tracked _ _ _ _ _ _ (p .repeats) (p .targets) (rw e at (c .before .before .enter-lead .ensures))
+    (λ m low. rw (sym e, whole-end (w .last .0) (f .last .1 .1 .1 .1 .1 .0) _ (l .0) (l .1) m (omega (arith, room at-count, e, w .kept .0, l .1, low))) (f .ensures m low))
 
 pub fill-spec : {M : Type 1} → statement M
 fill-spec =
     tie.close (tie.spec
-    (λ c κs. search needs) mul-at (λ c κs. search needs) sub-fill-cycle part-fill-cycle-start (λ c. search needs) fill-cycle-requires enter-lead-requires
+    (λ c κs. search needs) (λ c. omega (arith, sizes c, start-of c .good)) (λ c κs. search needs)
+    (λ c. omega (arith, sizes (c .before .before .before .before), c .before .before .fill-with .kept .0)) part-fill-cycle-start (λ c. search needs) fill-cycle-requires enter-lead-requires
     (λ c. search needs) returns)

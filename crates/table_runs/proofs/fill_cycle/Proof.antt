@@ -2,7 +2,7 @@
 use lib.ListN.{length, getD-replicate}
 use Rattle.table_lent.specs.Lent.{inBoth}
 use Rattle.table_fixpoints_spec.proofs.Places.{fits-long}
-use Rattle.table_runs.proofs.Solution.{all-two, solution}
+use Rattle.table_runs.proofs.Cycles.{all-two, solution}
 use borrow.Author.Needs.{needs}
 use Rattle.table_runs.proofs.fill_cycle.Statement.{statement}
 use Rattle.table_runs.proofs.fill_cycle.Tie as tie

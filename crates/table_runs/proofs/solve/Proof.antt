@@ -1,5 +1,6 @@
 -- `table_runs::solve` meets its contract: each round but the last takes an accepting node out, and after the last all that is left is sound.
 use mathlib.Core.Path.{refl, _∙_}
+use mathlib.Core.Logic.{inl, inr}
 use native.Mathlib.Omega.{arith}
 use borrow.Author.Needs.{needs}
 use borrow.Author.Tests.{not-true, not-false}
@@ -8,7 +9,7 @@ use Rattle.sets.specs.Lists.{sum}
 use Rattle.table_lent.specs.Lent.{inBoth}
 use Rattle.table_fixpoints_spec.specs.Product.{NodeEdge}
 use Rattle.table_fixpoints_spec.proofs.Places.{fits-long}
-use Rattle.table_runs.proofs.Thinning.{thinned-low, thinned-sum, thinned-round, Going, going-start, going-on, going-long, going-begun, going-thinned}
+use Rattle.table_runs.proofs.Thinning.{thinned-low, thinned-sum, thinned-round, Going, going-long, going-begun, going-thinned}
 use Rattle.table_runs.proofs.solve.Statement.{statement}
 use Rattle.table_runs.proofs.solve.Tie as tie
 
@@ -23,32 +24,32 @@ thin-requires : tie.Need-thin-requires Inv-loop μ-loop
 thin-requires c κs =
     let start = c .before .before .before .before .before .before .before .before .before in let pre = start .pre in
     let g = c .before .loop .inv in
-    (fits-long _ _ _ _ _ (going-long _ _ _ _ _ g) (pre .0), going-begun _ _ _ _ _ (pre .1) g)
+    (fits-long _ _ _ _ _ (going-long g) (pre .0), going-begun (pre .1) g)
 
 solve-round-requires : tie.Need-solve-round-requires Inv-loop μ-loop
 solve-round-requires c κs =
     let start = c .before .before .before .before .before .before .before .before .before .before .before .before .before in
     let n = c .before .before .before .before .before .before .count .ensures in
     let g = c .before .before .before .before .before .loop .inv in
-    let t = going-thinned _ _ _ _ _ _ g (c .before .before .before .thin .ensures) in
-    rw n (fits-long _ _ _ _ _ (t .long) (start .pre .0), thinned-low _ _ _ _ t)
+    let t = going-thinned g (c .before .before .before .thin .ensures) in
+    rw n (fits-long _ _ _ _ _ (t .long) (start .pre .0), thinned-low t)
 
 same-length : tie.Need-same-length Inv-loop μ-loop
 same-length c =
     let at-thin = c .before .before .before .before .before .before .before in let at-loop = at-thin .before .before in
     let g = at-loop .loop .inv in
-    let t = going-thinned _ _ _ _ _ _ g (at-thin .thin .ensures) in
+    let t = going-thinned g (at-thin .thin .ensures) in
     c .before .before .before .solve-round .ensures .long ∙ t .long
 
 returns : tie.Need-returns Inv-loop μ-loop
 returns c =
     let at-thin = c .before .before .before .before .before .before .before in let at-loop = at-thin .before .before in
     let at-count = at-loop .before in let n = at-count .count .ensures in let g = at-loop .loop .inv in
-    let t = going-thinned _ _ _ _ _ _ g (at-thin .thin .ensures) in
+    let t = going-thinned g (at-thin .thin .ensures) in
     let s = c .before .before .before .solve-round in
     let none = not-true (s .result) (c .if1 .taken) in
     let r = rw (none, n) at (s .ensures) in
-    record { thinned = thinned-round _ _ _ _ _ _ t r; sound = r .sound refl }
+    record { thinned = thinned-round t r; sound = r .sound refl }
 
 loop-less : tie.Need-loop-less Inv-loop μ-loop
 loop-less c =
@@ -57,7 +58,7 @@ loop-less c =
     let start = at-loop .before .before .before .before .before .before .before .before in let two = start .pre .1 in
     let l = at-loop .loop in let s = c .before .before .before .before .solve-round in
     let some = not-false (s .result) (c .before .if1 .left) in
-    let sum = thinned-sum _ _ (l .round) _ _ (going-begun _ _ _ _ _ two (l .inv)) (at-thin .thin .ensures) in
+    let sum = thinned-sum (going-begun two (l .inv)) (at-thin .thin .ensures) in
     omega (arith, s .ensures .less some, sum)
 
 loop-again : tie.Need-loop-again Inv-loop μ-loop
@@ -65,12 +66,12 @@ loop-again c =
     let at-thin = c .before .before .before .before .before .before .before .before in
     let at-loop = at-thin .before .before in let at-count = at-loop .before in let n = at-count .count .ensures in
     let g = at-loop .loop .inv in
-    let t = going-thinned _ _ _ _ _ _ g (at-thin .thin .ensures) in
+    let t = going-thinned g (at-thin .thin .ensures) in
     let r = c .before .before .before .before .solve-round .ensures in
-    going-on _ _ _ _ _ (thinned-round _ _ _ _ _ _ t (rw n at r))
+    inr (thinned-round t (rw n at r))
 
 pub solve-spec : {M : Type 1} → statement M
 solve-spec =
     tie.close (tie.spec
-    Inv-loop μ-loop (λ c κs. search needs) (λ c. going-start _ _ _) thin-requires solve-round-requires same-length returns (λ c κs. search needs)
+    Inv-loop μ-loop (λ c κs. search needs) (λ c. inl (refl, refl)) thin-requires solve-round-requires same-length returns (λ c κs. search needs)
     loop-less loop-again)

@@ -10,23 +10,17 @@ use Rattle.table_runs.proofs.thin.Statement.{statement}
 use Rattle.table_runs.proofs.thin.Tie as tie
 
 returns : tie.Need-returns
-returns c =
-    let start = c .before .before .before .before .before .before .before in let a = start .args in
-    let begun = start .pre .1 in
-    thinned-none _ (inBoth (a .codes .now) (a .codebytes .now) .numbers) (a .round) (a .marks .now) (λ e. absurd (omega arith)) begun
+returns c = let begun = c .before .before .before .before .before .before .before .pre .1 in thinned-none (λ e. absurd (omega arith)) begun
 
 returns-2 : tie.Need-returns-2
-returns-2 c =
-    let start = c .before .before .before .before .before .before .before .before in let a = start .args in
-    let begun = start .pre .1 in
-    thinned-none _ (inBoth (a .codes .now) (a .codebytes .now) .numbers) (a .round) (a .marks .now) (λ e. absurd (omega arith)) begun
+returns-2 c = let begun = c .before .before .before .before .before .before .before .before .pre .1 in thinned-none (λ e. absurd (omega arith)) begun
 
 prune-requires : tie.Need-prune-requires
 prune-requires c κs =
     let start = c .before .before .before .before .before .before .before .before .before .before .before .before .before .before in
     let r = c .before .before .before .raise .ensures in
     let n = c .before .before .before .before .before .count .ensures in
-    rw n (fits-long _ _ _ _ _ (r .long) (start .pre .0), raised-two _ _ r)
+    rw n (fits-long _ _ _ _ _ (r .long) (start .pre .0), raised-two r)
 
 flag-requires : tie.Need-flag-requires
 flag-requires c κs =
@@ -41,7 +35,7 @@ returns-3 c =
     let at-raise = c .before .before .before .before .before .before .before .before .before .before in
     let at-count = at-raise .before .before in let n = at-count .count .ensures in let r = at-raise .raise .ensures in
     let p = c .before .before .before .before .before .before .prune .ensures in
-    thinned _ _ _ _ _ _ r (rw n at p) (c .before .before .flag .ensures)
+    thinned r (rw n at p) (c .before .before .flag .ensures)
 
 pub thin-spec : {M : Type 1} → statement M
 thin-spec = tie.close (tie.spec returns returns-2 (λ c κs. search needs) (λ c κs. search needs) prune-requires flag-requires (λ c. search needs) returns-3)
