@@ -4,9 +4,9 @@ use mathlib.Core.Logic.{_⊎_, ⊎-elim}
 use mathlib.Core.Bool.{Bool, true, false, _&&_, _||_, cond, false≢true, or-assoc}
 use mathlib.Core.List.{List, [], _∷_}
 use Prim.Native.Nat.{ℕ, zero, suc, _<_}
-use lib.Dec.{eqb, ltb}
+use lib.Dec.{eqb}
 use lib.ListN.{length}
-use borrow.Author.Tests.{eqb-true, eq-eqb, lt-ltb, ltb-true}
+use borrow.Author.Tests.{eqb-true, eq-eqb}
 use Rattle.sets.specs.Tests.{Set, someBelow}
 use Rattle.sets.specs.Masks.{bit}
 use Rattle.sets.specs.Lists.{anyOf, allOf}
@@ -17,7 +17,7 @@ use Rattle.sets.proofs.Bits.{bit-shl-one, bit-none}
 use Rattle.sets.proofs.Lists.{any-cons}
 use Rattle.loop_spec.specs.Loops.{along, allBelow}
 use Rattle.loop_spec.specs.Search.{leadsBy, sources, stepBack, ways}
-use Rattle.loop_spec.proofs.Walks.{below-cons}
+use Rattle.loop_spec.proofs.Walks.{below-parts, below-i}
 
 module _ (n : ℕ) (es : List ℕ) where
   source-out : (m q : ℕ) → q < n → bit (sources n es m) q ≡ true → (p : ℕ) × (p < n) × (leadsBy es q p ≡ true) × (bit m p ≡ true)
@@ -65,26 +65,18 @@ module _ (n : ℕ) (es : List ℕ) where
 
     leads-cons : (q p : ℕ) (ps : List ℕ) → p < n → leadsBy es q p ≡ true → Leads p ps → Leads q (p ∷ ps)
     unfolding along
-    leads-cons q p ps l e w = record { states = rw below-cons (and-i (lt-ltb p n l) (w .states)); steps = and-i e (w .steps) }
+    leads-cons q p ps l e w = record { states = below-i n p ps l (w .states); steps = and-i e (w .steps) }
 
     leads-last : (q : ℕ) → Leads q [] → leadsBy es q t ≡ true
     unfolding along
     leads-last q w = w .steps
 
-    leads-state : (q p : ℕ) (ps : List ℕ) → Leads q (p ∷ ps) → p < n
-    leads-state q p ps w = ltb-true p n (and-l (ltb p n) (allBelow n ps) (rw below-cons at (w .states)))
-
-    leads-step : (q p : ℕ) (ps : List ℕ) → Leads q (p ∷ ps) → leadsBy es q p ≡ true
+    leads-parts : (q p : ℕ) (ps : List ℕ) → Leads q (p ∷ ps) → (p < n) × (leadsBy es q p ≡ true) × Leads p ps
     unfolding along
-    leads-step q p ps w = and-l (leadsBy es q p) (along (leadsBy es) p ps t) (w .steps)
-
-    leads-rest : (q p : ℕ) (ps : List ℕ) → Leads q (p ∷ ps) → Leads p ps
-    unfolding along
-    leads-rest q p ps w =
-        record {
-          states = and-r (ltb p n) (allBelow n ps) (rw below-cons at (w .states));
-          steps = and-r (leadsBy es q p) (along (leadsBy es) p ps t) (w .steps);
-        }
+    leads-parts q p ps w =
+        let (l, b) = below-parts n p ps (w .states) in
+        let e = leadsBy es q p in let f = along (leadsBy es) p ps t in
+        (l, and-l e f (w .steps), record { states = b; steps = and-r e f (w .steps) })
 
     -- ---- any walk
 
@@ -101,8 +93,7 @@ module _ (n : ℕ) (es : List ℕ) where
     walk-any : (q : ℕ) (ps : List ℕ) → q < n → Leads q ps → bit (any (suc (length ps))) q ≡ true
     walk-any q [] l w = rw any-suc (source-in (any zero) q t l t-state (leads-last q w) (any-zero t ∙ eq-eqb t t refl))
     walk-any q (p ∷ ps) l w =
-        let k = leads-state q p ps w in
-        rw any-suc (source-in (any (suc (length ps))) q p l k (leads-step q p ps w) (walk-any p ps k (leads-rest q p ps w)))
+        let (k, s, v) = leads-parts q p ps w in rw any-suc (source-in (any (suc (length ps))) q p l k s (walk-any p ps k v))
 
     -- ---- walks that pass a state of the other kind
 
@@ -140,11 +131,10 @@ module _ (n : ℕ) (es : List ℕ) where
     walk-mixed q (p ∷ ps) l w e =
         ⊎-elim
         (λ o. mixed-here q (p ∷ ps) l w o)
-        (λ o. let k = leads-state q p ps w in
-        let m = walk-mixed p ps k (leads-rest q p ps w) o in
+        (λ o. let (k, s, v) = leads-parts q p ps w in
         mixed-suc (suc (length ps)) q l
         ∙ or-l (bit (sources n es (mixed (suc (length ps)))) q) (bit (any (suc (suc (length ps)))) q && other q)
-        (source-in (mixed (suc (length ps))) q p l k (leads-step q p ps w) m))
+        (source-in (mixed (suc (length ps))) q p l k s (walk-mixed p ps k v o)))
         (or-cases (other q) (anyOf (p ∷ ps) other) (sym (any-cons other q (p ∷ ps)) ∙ e))
 
     -- ---- by whether a state of the other kind was passed before
@@ -166,15 +156,10 @@ module _ (n : ℕ) (es : List ℕ) where
     walk-can false q ps l g = walk-mixed q ps l (g .leads) (g .passes)
 
     -- one state further
-    pub goes-state : (passed : Bool) (q p : ℕ) (ps : List ℕ) → Goes passed q (p ∷ ps) → p < n
-    goes-state passed q p ps g = leads-state q p ps (g .leads)
-
-    pub goes-step : (passed : Bool) (q p : ℕ) (ps : List ℕ) → Goes passed q (p ∷ ps) → leadsBy es q p ≡ true
-    goes-step passed q p ps g = leads-step q p ps (g .leads)
-
-    pub goes-rest : (passed : Bool) (q p : ℕ) (ps : List ℕ) → Goes passed q (p ∷ ps) → Goes (passed || other q) p ps
-    goes-rest passed q p ps g =
-        record { leads = leads-rest q p ps (g .leads); passes = or-assoc passed (other q) (anyOf (p ∷ ps) other) ∙ ap (λ (b : Bool). passed || b) (sym (any-cons other q (p ∷ ps))) ∙ g .passes }
+    pub goes-parts : (passed : Bool) (q p : ℕ) (ps : List ℕ) → Goes passed q (p ∷ ps) → (p < n) × (leadsBy es q p ≡ true) × Goes (passed || other q) p ps
+    goes-parts passed q p ps g =
+        let (l, e, w) = leads-parts q p ps (g .leads) in
+        (l, e, record { leads = w; passes = or-assoc passed (other q) (anyOf (p ∷ ps) other) ∙ ap (λ (b : Bool). passed || b) (sym (any-cons other q (p ∷ ps))) ∙ g .passes })
 
     pub goes-cons : (passed : Bool) (q p : ℕ) (ps : List ℕ) → p < n → leadsBy es q p ≡ true → Goes (passed || other q) p ps → Goes passed q (p ∷ ps)
     goes-cons passed q p ps l e g =

@@ -1,7 +1,7 @@
 -- The computed list is the reported one, and there is no other.
 use mathlib.Core.Path.{_≡_, refl, sym, _∙_}
 use mathlib.Core.Logic.{_⊎_, inl, inr, by-cases, ⊎-elim}
-use mathlib.Core.Bool.{true, false, _&&_, not, false≢true}
+use mathlib.Core.Bool.{true, false, _&&_, false≢true}
 use mathlib.Core.List.{List, [], _∷_, List·Memᴰ, List·Memᴰ·head}
 use Prim.Native.Nat.{ℕ, zero, suc, _+_, _<_, _≤_}
 use native.Mathlib.Omega.{arith}
@@ -24,7 +24,7 @@ use Rattle.rule_reach.specs.Tables.{successorsOf}
 use Rattle.rule_reach.proofs.Tables.{table-at}
 use Rattle.loop_spec.specs.Loops.{allBelow, atMost, passesBoth, isMixedLoop, Shortest, Reported, none, loop}
 use Rattle.loop_spec.specs.Search.{leadsBy, othersOf, route, begins, further, loopBy, loopOf}
-use Rattle.loop_spec.proofs.Walks.{along-ext, below-cons, closed-i, closed-below, closed-along, mixed-i, mixed-closed, mixed-both, no-empty, few}
+use Rattle.loop_spec.proofs.Walks.{along-ext, below-parts, below-i, accepts, rejects, closed-i, closed-parts, mixed-i, mixed-parts, no-empty, few}
 use Rattle.loop_spec.proofs.Masks.{Goes, walk-can}
 use Rattle.loop_spec.proofs.Routes.{Best, best}
 
@@ -40,23 +40,20 @@ first-found (suc k) f a l =
 -- ---- both kinds of states are passed exactly if one is of the other kind than the first
 
 module _ (r : Rule) (t : ℕ) (ps : List ℕ) (states : allBelow (r .n) (t ∷ ps) ≡ true) where
-  abbrev acc : Set
-  acc q = bit (r .accepting) q
-
   abbrev others : Set
   others = bit (othersOf (r .n) (r .accepting) t)
 
   -- of a state of the list
-  others-at : (x : ℕ) → List·Memᴰ x (t ∷ ps) → others x ≡ exclusive (acc t) (acc x)
+  others-at : (x : ℕ) → List·Memᴰ x (t ∷ ps) → others x ≡ exclusive (accepts r t) (accepts r x)
   unfolding othersOf allBelow
-  others-at x m = bit-mask (r .n) (λ p. exclusive (acc t) (acc p)) x (ltb-true x (r .n) (all-of-at (t ∷ ps) (λ p. ltb p (r .n)) states x m))
+  others-at x m = bit-mask (r .n) (λ p. exclusive (accepts r t) (accepts r p)) x (ltb-true x (r .n) (all-of-at (t ∷ ps) (λ p. ltb p (r .n)) states x m))
 
   pub both-other : passesBoth r (t ∷ ps) ≡ true → anyOf (t ∷ ps) others ≡ true
   unfolding passesBoth
   both-other e =
-      let y = any-out (t ∷ ps) acc (and-l (anyOf (t ∷ ps) acc) (anyOf (t ∷ ps) (λ q. not (acc q))) e) in
-      let z = any-out (t ∷ ps) (λ q. not (acc q)) (and-r (anyOf (t ∷ ps) acc) (anyOf (t ∷ ps) (λ q. not (acc q))) e) in
-      bif (acc t)
+      let y = any-out (t ∷ ps) (accepts r) (and-l (anyOf (t ∷ ps) (accepts r)) (anyOf (t ∷ ps) (rejects r)) e) in
+      let z = any-out (t ∷ ps) (rejects r) (and-r (anyOf (t ∷ ps) (accepts r)) (anyOf (t ∷ ps) (rejects r)) e) in
+      bif (accepts r t)
       (λ b. any-in (t ∷ ps) others (z .0) (z .1) (others-at (z .0) (z .1) ∙ rw b (z .2)))
       (λ b. any-in (t ∷ ps) others (y .0) (y .1) (others-at (y .0) (y .1) ∙ rw b (y .2)))
 
@@ -64,10 +61,10 @@ module _ (r : Rule) (t : ℕ) (ps : List ℕ) (states : allBelow (r .n) (t ∷ p
   unfolding passesBoth
   other-both e =
       let y = any-out (t ∷ ps) others e in
-      let d : exclusive (acc t) (acc (y .0)) ≡ true = sym (others-at (y .0) (y .1)) ∙ y .2 in
-      bif (acc t)
-      (λ b. and-i (any-in (t ∷ ps) acc t (List·Memᴰ·head refl) b) (any-in (t ∷ ps) (λ q. not (acc q)) (y .0) (y .1) (rw b at d)))
-      (λ b. and-i (any-in (t ∷ ps) acc (y .0) (y .1) (rw b at d)) (any-in (t ∷ ps) (λ q. not (acc q)) t (List·Memᴰ·head refl) (rw b)))
+      let d : exclusive (accepts r t) (accepts r (y .0)) ≡ true = sym (others-at (y .0) (y .1)) ∙ y .2 in
+      bif (accepts r t)
+      (λ b. and-i (any-in (t ∷ ps) (accepts r) t (List·Memᴰ·head refl) b) (any-in (t ∷ ps) (rejects r) (y .0) (y .1) (rw b at d)))
+      (λ b. and-i (any-in (t ∷ ps) (accepts r) (y .0) (y .1) (rw b at d)) (any-in (t ∷ ps) (rejects r) t (List·Memᴰ·head refl) (rw b)))
 
 -- ---- the rule's loops by the masks
 
@@ -82,20 +79,17 @@ module _ (r : Rule) (small : r .n ≤ 8) where
   agree q p l m = sym (rw (table-at (r .n) (λ q. mask (r .n) (leads r q)) q l (omega arith)) (bit-mask (r .n) (leads r q) p m))
 
   first-state : (t : ℕ) (ps : List ℕ) → isMixedLoop r (t ∷ ps) ≡ true → t < r .n
-  first-state t ps e = ltb-true t (r .n) (and-l (ltb t (r .n)) (allBelow (r .n) ps) (rw below-cons at (closed-below r t ps (mixed-closed r (t ∷ ps) e))))
+  first-state t ps e = below-parts (r .n) t ps (closed-parts r t ps (mixed-parts r (t ∷ ps) e .0) .0) .0
 
   loop-goes : (t : ℕ) (ps : List ℕ) → isMixedLoop r (t ∷ ps) ≡ true → (l : t < r .n) → Goes (r .n) es (kind t) t l false t ps
   loop-goes t ps e l =
-      let c = mixed-closed r (t ∷ ps) e in
-      let b = and-r (ltb t (r .n)) (allBelow (r .n) ps) (rw below-cons at (closed-below r t ps c)) in
-      record {
-        leads = record { states = b; steps = sym (along-ext (r .n) (leads r) (leadsBy es) agree t ps t l b l) ∙ closed-along r t ps c };
-        passes = both-other r t ps (closed-below r t ps c) (mixed-both r (t ∷ ps) e);
-      }
+      let m = mixed-parts r (t ∷ ps) e in let c = closed-parts r t ps (m .0) in
+      let b = below-parts (r .n) t ps (c .0) .1 in
+      record { leads = record { states = b; steps = sym (along-ext (r .n) (leads r) (leadsBy es) agree t ps t l b l) ∙ c .1 }; passes = both-other r t ps (c .0) (m .1) }
 
   goes-loop : (t : ℕ) (ps : List ℕ) (l : t < r .n) → Goes (r .n) es (kind t) t l false t ps → isMixedLoop r (t ∷ ps) ≡ true
   goes-loop t ps l g =
-      let b : allBelow (r .n) (t ∷ ps) ≡ true = rw below-cons (and-i (lt-ltb t (r .n) l) (g .leads .states)) in
+      let b = below-i (r .n) t ps l (g .leads .states) in
       mixed-i r (t ∷ ps)
       (closed-i r t ps b
       (along-ext (r .n) (leads r) (leadsBy es) agree t ps t l (g .leads .states) l ∙ g .leads .steps))
@@ -123,7 +117,7 @@ module _ (r : Rule) (small : r .n ≤ 8) where
   more-found l = first-found (r .n) (λ k. someBelow (r .n) (start k)) 0 (omega arith)
 
   none-found : r .n ≤ more → (qs : List ℕ) → isMixedLoop r qs ≡ false
-  none-found l qs = bif (isMixedLoop r qs) (λ e. let f = few r (length qs) qs (omega arith) e in absurd (beyond (f .states) (f .loop) (f .few))) (λ e. e)
+  none-found l qs = bif (isMixedLoop r qs) (λ e. let f = few r (suc (length qs)) qs (omega arith) e in absurd (beyond (f .states) (f .loop) (f .few))) (λ e. e)
     where
       beyond : (us : List ℕ) → isMixedLoop r us ≡ true → length us ≤ r .n → ⊥
       beyond [] e k = false≢true (sym (no-empty r) ∙ e)
@@ -206,12 +200,9 @@ both-ways (x ∷ xs) (y ∷ ys) h e f =
     (at-most-cons y ys x xs f))
     (at-most-cons x xs y ys e)
 
-one-shortest : (r : Rule) (ps qs : List ℕ) → Shortest r ps → Shortest r qs → length ps ≡ length qs
-one-shortest r ps qs s t = omega (arith, s .fewest qs (t .loop), t .fewest ps (s .loop))
-
 -- No other list is reported.
 pub one-report : (r : Rule) (ps qs : List ℕ) → Reported r ps → Reported r qs → ps ≡ qs
 one-report r ps qs (none f) (none g) = refl
 one-report r ps qs (none f) (loop {ps = us} s h) = clash (s .loop) (f us)
 one-report r ps qs (loop {ps = us} s h) (none g) = clash (s .loop) (g us)
-one-report r ps qs (loop {ps = us} s h) (loop {ps = vs} t k) = both-ways us vs (one-shortest r us vs s t) (h vs t) (k us s)
+one-report r ps qs (loop {ps = us} s h) (loop {ps = vs} t k) = both-ways us vs (omega (arith, s .fewest vs (t .loop), t .fewest us (s .loop))) (h vs t) (k us s)

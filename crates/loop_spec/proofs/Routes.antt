@@ -14,7 +14,7 @@ use Rattle.sets.proofs.Bools.{and-l, and-r, and-i, or-l, or-r}
 use Rattle.sets.proofs.Tests.{first-at, first-le}
 use Rattle.loop_spec.specs.Loops.{atMost}
 use Rattle.loop_spec.specs.Search.{leadsBy, route}
-use Rattle.loop_spec.proofs.Masks.{can, Goes, can-walk, walk-can, goes-state, goes-step, goes-rest, goes-cons}
+use Rattle.loop_spec.proofs.Masks.{can, Goes, can-walk, walk-can, goes-parts, goes-cons}
 
 module _ (n : ℕ) (es : List ℕ) (other : Set) (t : ℕ) (l : t < n) where
   -- the states may follow q, and no list of their number that may is less
@@ -32,10 +32,9 @@ module _ (n : ℕ) (es : List ℕ) (other : Set) (t : ℕ) (l : t < n) where
       → (p : ℕ) × (p < n) × (next k passed q p ≡ true)
   next-state k passed q m [] h g = absurd (omega arith)
   next-state k passed q m (p ∷ ps) h g =
-      let s = goes-state n es other t l passed q p ps g in
+      let (s, e, r) = goes-parts n es other t l passed q p ps g in
       let j : length ps ≡ k = omega arith in
-      let c = walk-can n es other t l (passed || other q) p ps s (goes-rest n es other t l passed q p ps g) in
-      (p, s, and-i (goes-step n es other t l passed q p ps g) (rw j at c))
+      (p, s, and-i e (rw j at (walk-can n es other t l (passed || other q) p ps s r)))
 
   -- a list that begins with the smallest state that may follow, and goes on with the least
   least-next : (k : ℕ) (passed : Bool) (q p : ℕ) (ps : List ℕ) → ((x : ℕ) → next k passed q x ≡ true → p ≤ x) → Best k (passed || other q) p ps → q < n
@@ -43,15 +42,12 @@ module _ (n : ℕ) (es : List ℕ) (other : Set) (t : ℕ) (l : t < n) where
   unfolding atMost
   least-next k passed q p ps low b m [] h g = absurd (omega arith)
   least-next k passed q p ps low b m (x ∷ qs) h g =
-      let le = low x (and-i (goes-step n es other t l passed q x qs g) (followed (omega arith))) in
+      let (s, e, r) = goes-parts n es other t l passed q x qs g in
+      let j : length qs ≡ k = omega arith in
+      let le = low x (and-i e (rw j at (walk-can n es other t l (passed || other q) x qs s r))) in
       by-cases (decLt p x)
       (λ y. or-l (ltb p x) (eqb p x && atMost ps qs) (lt-ltb p x y))
-      (λ y. let i : x ≡ p = omega arith in
-      or-r (ltb p x) (eqb p x && atMost ps qs)
-      (and-i (eq-eqb p x (sym i)) (b .least qs (omega arith) (rw i at (goes-rest n es other t l passed q x qs g)))))
-    where
-      followed : length qs ≡ k → can n es other t l k (passed || other q) x ≡ true
-      followed j = rw j at (walk-can n es other t l (passed || other q) x qs (goes-state n es other t l passed q x qs g) (goes-rest n es other t l passed q x qs g))
+      (λ y. let i : x ≡ p = omega arith in or-r (ltb p x) (eqb p x && atMost ps qs) (and-i (eq-eqb p x (sym i)) (b .least qs j (rw i at r))))
 
   empty : (ps : List ℕ) → length ps ≡ 0 → ps ≡ []
   empty [] h = refl

@@ -3,11 +3,11 @@ use mathlib.Core.Path.{_≡_, refl, sym, _∙_, ap}
 use mathlib.Core.Logic.{_⊎_, inl, inr, ⊎-elim}
 use mathlib.Core.Bool.{Bool, true, false, _&&_, _||_, not, false≢true, and-assoc, or-comm}
 use mathlib.Core.List.{List, [], _∷_, _++_, List·Memᴰ·head, List·Memᴰ·tail}
-use Prim.Native.Nat.{ℕ, zero, suc, _+_, _≤_, _<_}
+use Prim.Native.Nat.{ℕ, zero, suc, _≤_, _<_}
 use native.Mathlib.Omega.{arith}
 use lib.Dec.{eqb, ltb}
 use lib.ListN.{length, length-append}
-use borrow.Author.Tests.{eqb-true, ltb-true}
+use borrow.Author.Tests.{eqb-true, lt-ltb, ltb-true}
 use Rattle.sets.specs.Tests.{Set, count}
 use Rattle.sets.specs.Masks.{bit}
 use Rattle.sets.specs.Lists.{anyOf, allOf, among}
@@ -24,9 +24,13 @@ unfolding along
 along-append lead q [] x cs t = refl
 along-append lead q (p ∷ bs) x cs t = ap (λ (b : Bool). lead q p && b) (along-append lead p bs x cs t) ∙ sym (and-assoc (lead q p) (along lead p bs x) (along lead x cs t))
 
-pub below-cons : (n p : ℕ) (ps : List ℕ) → allBelow n (p ∷ ps) ≡ ltb p n && allBelow n ps
+pub below-parts : (n p : ℕ) (ps : List ℕ) → allBelow n (p ∷ ps) ≡ true → (p < n) × (allBelow n ps ≡ true)
 unfolding allBelow allOf
-below-cons n p ps = refl
+below-parts n p ps e = (ltb-true p n (and-l (ltb p n) (allBelow n ps) e), and-r (ltb p n) (allBelow n ps) e)
+
+pub below-i : (n p : ℕ) (ps : List ℕ) → p < n → allBelow n ps ≡ true → allBelow n (p ∷ ps) ≡ true
+unfolding allBelow allOf
+below-i n p ps l b = and-i (lt-ltb p n l) b
 
 pub below-append : (n : ℕ) (hs bs : List ℕ) → allBelow n (hs ++ bs) ≡ allBelow n hs && allBelow n bs
 unfolding allBelow allOf
@@ -39,9 +43,7 @@ pub along-ext : (n : ℕ) (lead lead′ : ℕ → Set) → ((q p : ℕ) → q < 
 unfolding along
 along-ext n lead lead′ h q [] t l b m = h q t l m
 along-ext n lead lead′ h q (p ∷ ps) t l b m =
-    let c = rw (below-cons n p ps) at b in
-    let k = ltb-true p n (and-l (ltb p n) (allBelow n ps) c) in
-    rw (h q p l k, along-ext n lead lead′ h p ps t k (and-r (ltb p n) (allBelow n ps) c) m)
+    let (k, c) = below-parts n p ps b in rw (h q p l k, along-ext n lead lead′ h p ps t k c m)
 
 -- ---- lists where a state stands twice
 
@@ -74,10 +76,10 @@ places : (n : ℕ) (ws : List ℕ) → allBelow n ws ≡ true → repeats ws ≡
 unfolding repeats
 places n [] b e = omega arith
 places n (x ∷ xs) b e =
-    let c = rw (below-cons n x xs) at b in
-    let l = places n xs (and-r (ltb x n) (allBelow n xs) c) (or-fr (among xs x) (repeats xs) e) in
+    let c = below-parts n x xs b in
+    let l = places n xs (c .1) (or-fr (among xs x) (repeats xs) e) in
     let m = count-more n (among xs) (among (x ∷ xs)) (λ y k t. among-in (x ∷ xs) y (List·Memᴰ·tail (among-out xs y t)))
-    x (ltb-true x n (and-l (ltb x n) (allBelow n xs) c)) (or-fl (among xs x) (repeats xs) e) (among-in (x ∷ xs) x (List·Memᴰ·head refl)) in
+    x (c .0) (or-fl (among xs x) (repeats xs) e) (among-in (x ∷ xs) x (List·Memᴰ·head refl)) in
     omega arith
 
 -- a list of states below n in which none stands twice has at most n
@@ -102,13 +104,9 @@ module _ (r : Rule) where
   unfolding isClosedWalk
   closed-i q ps b w = and-i b w
 
-  pub closed-below : (q : ℕ) (ps : List ℕ) → isClosedWalk r (q ∷ ps) ≡ true → below (q ∷ ps) ≡ true
+  pub closed-parts : (q : ℕ) (ps : List ℕ) → isClosedWalk r (q ∷ ps) ≡ true → (below (q ∷ ps) ≡ true) × (along (leads r) q ps q ≡ true)
   unfolding isClosedWalk
-  closed-below q ps e = and-l (below (q ∷ ps)) (along (leads r) q ps q) e
-
-  pub closed-along : (q : ℕ) (ps : List ℕ) → isClosedWalk r (q ∷ ps) ≡ true → along (leads r) q ps q ≡ true
-  unfolding isClosedWalk
-  closed-along q ps e = and-r (below (q ∷ ps)) (along (leads r) q ps q) e
+  closed-parts q ps e = (and-l (below (q ∷ ps)) (along (leads r) q ps q) e, and-r (below (q ∷ ps)) (along (leads r) q ps q) e)
 
   -- the parts of a list of states
   pub split-below : (ps qs : List ℕ) → below (ps ++ qs) ≡ true → (below ps ≡ true) × (below qs ≡ true)
@@ -131,20 +129,19 @@ module _ (r : Rule) where
   cut : (hs : List ℕ) (x : ℕ) (bs cs : List ℕ) → isClosedWalk r (hs ++ (x ∷ (bs ++ (x ∷ cs)))) ≡ true
       → (isClosedWalk r (x ∷ bs) ≡ true) × (isClosedWalk r (hs ++ (x ∷ cs)) ≡ true)
   cut [] x bs cs e =
-      let b = split-below (x ∷ bs) (x ∷ cs) (closed-below x (bs ++ (x ∷ cs)) e) in
-      let w = split-along x bs x cs x (closed-along x (bs ++ (x ∷ cs)) e) in
+      let c = closed-parts x (bs ++ (x ∷ cs)) e in
+      let b = split-below (x ∷ bs) (x ∷ cs) (c .0) in let w = split-along x bs x cs x (c .1) in
       (closed-i x bs (b .0) (w .0), closed-i x cs (b .1) (w .1))
   cut (y ∷ hs) x bs cs e =
-      let b = split-below (y ∷ hs) ((x ∷ bs) ++ (x ∷ cs)) (closed-below y (hs ++ (x ∷ (bs ++ (x ∷ cs)))) e) in
-      let c = split-below (x ∷ bs) (x ∷ cs) (b .1) in
-      let v = split-along y hs x (bs ++ (x ∷ cs)) y (closed-along y (hs ++ (x ∷ (bs ++ (x ∷ cs)))) e) in
-      let w = split-along x bs x cs y (v .1) in
+      let p = closed-parts y (hs ++ (x ∷ (bs ++ (x ∷ cs)))) e in
+      let b = split-below (y ∷ hs) ((x ∷ bs) ++ (x ∷ cs)) (p .0) in let c = split-below (x ∷ bs) (x ∷ cs) (b .1) in
+      let v = split-along y hs x (bs ++ (x ∷ cs)) y (p .1) in let w = split-along x bs x cs y (v .1) in
       (closed-i x bs (c .0) (w .0), closed-i y (hs ++ (x ∷ cs)) (join-below (y ∷ hs) (x ∷ cs) (b .0) (c .1)) (join-along y hs x cs y (v .0) (w .1)))
 
-  abbrev accepts : Set
+  abbrev pub accepts : Set
   accepts q = bit (r .accepting) q
 
-  abbrev rejects : Set
+  abbrev pub rejects : Set
   rejects q = not (bit (r .accepting) q)
 
   any-twice : (hs : List ℕ) (x : ℕ) (bs cs : List ℕ) (f : Set)
@@ -166,17 +163,13 @@ module _ (r : Rule) where
   unfolding isMixedLoop
   mixed-i ps c b = and-i c b
 
-  pub mixed-closed : (ps : List ℕ) → isMixedLoop r ps ≡ true → isClosedWalk r ps ≡ true
+  pub mixed-parts : (ps : List ℕ) → isMixedLoop r ps ≡ true → (isClosedWalk r ps ≡ true) × (passesBoth r ps ≡ true)
   unfolding isMixedLoop
-  mixed-closed ps e = and-l (isClosedWalk r ps) (passesBoth r ps) e
+  mixed-parts ps e = (and-l (isClosedWalk r ps) (passesBoth r ps) e, and-r (isClosedWalk r ps) (passesBoth r ps) e)
 
   pub no-empty : isMixedLoop r [] ≡ false
   unfolding isMixedLoop isClosedWalk
   no-empty = refl
-
-  pub mixed-both : (ps : List ℕ) → isMixedLoop r ps ≡ true → passesBoth r ps ≡ true
-  unfolding isMixedLoop
-  mixed-both ps e = and-r (isClosedWalk r ps) (passesBoth r ps) e
 
   -- a mixed loop in which a state stands twice has a shorter one within
   pub record Shorter (ws : List ℕ) : Type 0 where
@@ -190,19 +183,19 @@ module _ (r : Rule) where
       of : Twice ws → Shorter ws
       of t =
           let hs = t .before in let x = t .state in let bs = t .between in let cs = t .after in
-          let m = rw (t .whole) at e in
-          let c = cut hs x bs cs (mixed-closed (hs ++ (x ∷ (bs ++ (x ∷ cs)))) m) in
+          let m = mixed-parts (hs ++ (x ∷ (bs ++ (x ∷ cs)))) (rw (t .whole) at e) in
+          let c = cut hs x bs cs (m .0) in
           let l = ap length (t .whole) ∙ length-append hs (x ∷ (bs ++ (x ∷ cs))) in
           let k = length-append bs (x ∷ cs) in
           ⊎-elim
           (λ b. record { states = x ∷ bs; loop = mixed-i (x ∷ bs) (c .0) b; less = omega arith })
           (λ b. record { states = hs ++ (x ∷ cs); loop = mixed-i (hs ++ (x ∷ cs)) (c .1) b; less = omega (arith, length-append hs (x ∷ cs)) })
-          (cut-both hs x bs cs (mixed-both (hs ++ (x ∷ (bs ++ (x ∷ cs)))) m))
+          (cut-both hs x bs cs (m .1))
 
   pub mixed-below : (ws : List ℕ) → isMixedLoop r ws ≡ true → below ws ≡ true
   unfolding allBelow allOf
   mixed-below [] e = refl
-  mixed-below (q ∷ ps) e = closed-below q ps (mixed-closed (q ∷ ps) e)
+  mixed-below (q ∷ ps) e = closed-parts q ps (mixed-parts (q ∷ ps) e .0) .0
 
   -- where there is a mixed loop there is one of at most n states
   pub record Few : Type 0 where
@@ -210,11 +203,8 @@ module _ (r : Rule) where
     pub loop : isMixedLoop r states ≡ true
     pub few : length states ≤ r .n
 
-  pub few : (m : ℕ) (ws : List ℕ) → length ws ≤ m → isMixedLoop r ws ≡ true → Few
-  few zero ws l e =
-      bif (repeats ws)
-      (λ t. let s = shorter ws e t in absurd (omega (arith, s .less)))
-      (λ t. record { states = ws; loop = e; few = once-few (r .n) ws (mixed-below ws e) t })
+  pub few : (m : ℕ) (ws : List ℕ) → length ws < m → isMixedLoop r ws ≡ true → Few
+  few zero ws l e = absurd (omega arith)
   few (suc m) ws l e =
       bif (repeats ws)
       (λ t. let s = shorter ws e t in few m (s .states) (omega (arith, s .less)) (s .loop))
@@ -224,12 +214,11 @@ module _ (r : Rule) where
   pub rotated : (q : ℕ) (ps : List ℕ) (x : ℕ) (qs : List ℕ) → isMixedLoop r (q ∷ (ps ++ (x ∷ qs))) ≡ true → isMixedLoop r (x ∷ (qs ++ (q ∷ ps))) ≡ true
   unfolding passesBoth
   rotated q ps x qs e =
-      let c = mixed-closed (q ∷ (ps ++ (x ∷ qs))) e in
-      let b = split-below (q ∷ ps) (x ∷ qs) (closed-below q (ps ++ (x ∷ qs)) c) in
-      let w = split-along q ps x qs q (closed-along q (ps ++ (x ∷ qs)) c) in
+      let m = mixed-parts (q ∷ (ps ++ (x ∷ qs))) e in let c = closed-parts q (ps ++ (x ∷ qs)) (m .0) in
+      let b = split-below (q ∷ ps) (x ∷ qs) (c .0) in let w = split-along q ps x qs q (c .1) in
       mixed-i (x ∷ (qs ++ (q ∷ ps)))
       (closed-i x (qs ++ (q ∷ ps)) (join-below (x ∷ qs) (q ∷ ps) (b .1) (b .0)) (join-along x qs q ps x (w .1) (w .0)))
-      (rw (turned accepts, turned rejects) (mixed-both (q ∷ (ps ++ (x ∷ qs))) e))
+      (rw (turned accepts, turned rejects) (m .1))
     where
       turned : (f : Set) → anyOf (x ∷ (qs ++ (q ∷ ps))) f ≡ anyOf (q ∷ (ps ++ (x ∷ qs))) f
       turned f = any-append (x ∷ qs) (q ∷ ps) f ∙ or-comm (anyOf (x ∷ qs) f) (anyOf (q ∷ ps) f) ∙ sym (any-append (q ∷ ps) (x ∷ qs) f)

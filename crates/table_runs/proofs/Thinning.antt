@@ -3,16 +3,16 @@ use mathlib.Core.Path.{_≡_, refl, sym, ap, _∙_}
 use mathlib.Core.Bool.{Bool, true}
 use mathlib.Core.Logic.{_⊎_, inl, inr, ⊎-elim, by-cases}
 use mathlib.Core.List.{List}
-use Prim.Native.Nat.{ℕ, _+_, _%_, _<_, _≤_}
+use Prim.Native.Nat.{ℕ, _%_, _<_, _≤_}
 use native.Mathlib.Omega.{arith}
-use native.Mathlib.Decide.{decLt, ℕ-discrete}
-use lib.ListN.{length, getD, set, length-set, List·getD-eq-default}
+use native.Mathlib.Decide.{ℕ-discrete}
+use lib.ListN.{length, getD}
 use borrow.Author.Tests.{eq-eqb, ne-eqb}
 use Rattle.sets.specs.Lists.{sum}
 use Rattle.theory.specs.Macrostate.{isAccepting}
 use Rattle.graph_walks.specs.Walks.{Pruned}
 use Rattle.graph_walks.specs.Rounds.{SolveRound}
-use Rattle.graph_walks.proofs.Sums.{split-set, sum-le}
+use Rattle.graph_walks.proofs.Sums.{sum-le}
 use Rattle.table_runs.specs.Tracks.{flagOf, Flagged, Flags, raised, Raised, Begun, Thinned}
 use Rattle.table_runs.proofs.Flagging.{flag-accepting, flag-low}
 

@@ -3,7 +3,6 @@ use mathlib.Core.Path.{_∙_}
 use native.Mathlib.Omega.{arith}
 use lib.ListN.{length}
 use borrow.Author.Needs.{needs}
-use Rattle.table_lent.specs.Lent.{inBoth}
 use Rattle.table_fixpoints_spec.proofs.Places.{fits-long}
 use Rattle.table_runs.proofs.Thinning.{raised-two, thinned-none, thinned}
 use Rattle.table_runs.proofs.thin.Statement.{statement}
