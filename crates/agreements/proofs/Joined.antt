@@ -38,22 +38,15 @@ one-answer zero B No (Refused j) l k = absurd k
 one-answer zero B (Refused j) b l k = absurd l
 one-answer (suc i) B a b l k = l ∙ sym k
 
-module _ (r : Rule) (codes transitions lead cycle : List ℕ) (D : Demand3 r codes transitions) (W : WordOver (r .s) lead cycle) where
-  abbrev B : ℕ → Type 0
-  B = Begins (holdsInitial r) codes transitions lead cycle
-
+module _ {r : Rule} {codes transitions lead cycle : List ℕ} (D : Demand3 r codes transitions) (W : WordOver (r .s) lead cycle) where
   -- yes exactly if the rule accepts
-  yes-accepts : (a : Start) → Answered 0 B a → ((m : ℕ) × (a ≡ Yes m)) → AcceptsWord r lead cycle
+  yes-accepts : (a : Start) → Answered 0 (Begins (holdsInitial r) codes transitions lead cycle) a → ((m : ℕ) × (a ≡ Yes m)) → AcceptsWord r lead cycle
   yes-accepts a A (m, e) = let (x, f, y) = (rw e at A) .0 in D .exact lead cycle W .1 (x, y)
 
-  accepts-yes : (a : Start) → Answered 0 B a → AcceptsWord r lead cycle → ((m : ℕ) × (a ≡ Yes m))
+  accepts-yes : (a : Start) → Answered 0 (Begins (holdsInitial r) codes transitions lead cycle) a → AcceptsWord r lead cycle → ((m : ℕ) × (a ≡ Yes m))
   accepts-yes (Yes m) A w = (m, refl)
   accepts-yes No A w = let (x, y) = D .exact lead cycle W .0 w in absurd (A (x 0) (x, refl, y))
   accepts-yes (Refused k) A w = absurd A
-
-  -- its number is where the one accepting run begins
-  yes-only : (a : Start) → Answered 0 B a → (m : ℕ) → a ≡ Yes m → (x : ℕ → ℕ) → AcceptingRun codes transitions (holdsInitial r) (letters lead cycle) x → x 0 ≡ m
-  yes-only a A m e x y = let (z, f, w) = (rw e at A) .0 in D .unambiguous (letters lead cycle) x z y w 0 ∙ f
 
 -- the answers v on the rule and a on the table
 pub record Agree (f lead cycle codes transitions : List ℕ) (v : Verdict) (a : Start) : Type 0 where
@@ -72,10 +65,8 @@ both-judges f lead cycle codes transitions masks filled scratch cleared v a J e 
     let A : Answered 0 (Begins (holdsInitial (ruleIn f)) (codes .numbers) (transitions .numbers) lead cycle) a = rw t at (T .answer) in
     let y = J .meant e .yes in
     record {
-      both = (
-        λ h. accepts-yes (ruleIn f) (codes .numbers) (transitions .numbers) lead cycle D W a A (y .0 h),
-        λ h. y .1 (yes-accepts (ruleIn f) (codes .numbers) (transitions .numbers) lead cycle D W a A h),
-      );
+      both = (λ h. accepts-yes D W a A (y .0 h), λ h. y .1 (yes-accepts D W a A h));
       begins = λ m h. (rw h at A) .0;
-      only = yes-only (ruleIn f) (codes .numbers) (transitions .numbers) lead cycle D W a A;
+      -- its number is where the one accepting run begins
+      only = λ m h x r. let (z, b, w) = (rw h at A) .0 in D .unambiguous (letters lead cycle) x z r w 0 ∙ b;
     }

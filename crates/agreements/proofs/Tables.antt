@@ -1,14 +1,11 @@
 -- The trimmed build, the build of the words that a rule rejects, and the writer of a table's text.
-use Prim.Native.Nat.{ℕ, suc}
+use Prim.Native.Nat.{ℕ}
 use mathlib.Core.Path.{_≡_}
-use mathlib.Core.List.{List, _++_}
-use mathlib.Core.Logic.{_↔_}
+use mathlib.Core.List.{List}
 use lib.ListN.{length}
-use Rattle.refusals.specs.Rows.{Check, firstRow}
+use Rattle.refusals.specs.Rows.{Check}
 use Rattle.theory.specs.Rule.{Rule}
 use Rattle.theory.specs.TableComputed.{macrostates, transitions}
-use Rattle.file_spec.specs.File.{ruleIn}
-use Rattle.file_spec.specs.Rows.{fileRows}
 use Rattle.file_write_spec.specs.declared.Written.{Written}
 use Rattle.file_write_spec.specs.Written.{answer, after}
 use Rattle.table_lent.specs.Lent.{Lent}
@@ -26,10 +23,6 @@ module _ (xs zs : List ℕ) (b : Built) (ys ws : List ℕ) where
   abbrev BuiltBy : ℕ → List ℕ → List ℕ → Type 0
   BuiltBy k codes moves = (b ≡ builtBy k codes moves) × (ys ≡ sliceAfter k codes xs) × (ws ≡ sliceAfter k moves zs)
 
-  built-alone : (k : ℕ) (codes moves others more : List ℕ) → BuiltBy (suc k) codes moves → BuiltBy (suc k) others more
-  unfolding builtBy roomAfter
-  built-alone k codes moves others more h = h
-
   -- ---- the trimmed build
 
   abbrev Trimmed : List ℕ → Type 0
@@ -41,12 +34,9 @@ module _ (xs zs : List ℕ) (b : Built) (ys ws : List ℕ) where
   abbrev TrimmedBy : ℕ → Rule → Type 0
   TrimmedBy k r = BuiltBy k (trimmedCodes r) (trimmedTransitions r)
 
-  trimmed-by : (f : List ℕ) → Trimmed f ↔ TrimmedBy (firstRow (fileRows f ++ trimmedRest (ruleIn f))) (ruleIn f)
-  unfolding trimmedOf trimmedCodesAfter trimmedTransitionsAfter rowFrom
-  trimmed-by f = (λ h. h, λ h. h)
-
   pub trimmed-same : SameVerdicts Trimmed trimmedRest TrimmedBy
-  trimmed-same = same-verdicts Trimmed trimmedRest TrimmedBy (λ k r t. built-alone k (trimmedCodes r) (trimmedTransitions r) (trimmedCodes t) (trimmedTransitions t)) trimmed-by
+  unfolding trimmedOf trimmedCodesAfter trimmedTransitionsAfter rowFrom builtBy roomAfter
+  trimmed-same = same-verdicts (λ k r t h. h) (λ f. (λ h. h, λ h. h))
 
   -- ---- the build of the words that a rule rejects
 
@@ -59,14 +49,9 @@ module _ (xs zs : List ℕ) (b : Built) (ys ws : List ℕ) where
   abbrev RejectingBy : ℕ → Rule → Type 0
   RejectingBy k r = BuiltBy k (rejectingMacrostates r) (rejectingTransitions r)
 
-  rejecting-by : (f : List ℕ) → Rejecting f ↔ RejectingBy (firstRow (fileRows f ++ rejectingRest (ruleIn f))) (ruleIn f)
-  unfolding builtFrom codesAfterFrom transitionsAfterFrom rowFrom
-  rejecting-by f = (λ h. h, λ h. h)
-
   pub rejecting-same : SameVerdicts Rejecting rejectingRest RejectingBy
-  rejecting-same =
-      same-verdicts Rejecting rejectingRest RejectingBy
-      (λ k r t. built-alone k (rejectingMacrostates r) (rejectingTransitions r) (rejectingMacrostates t) (rejectingTransitions t)) rejecting-by
+  unfolding builtFrom codesAfterFrom transitionsAfterFrom rowFrom builtBy roomAfter
+  rejecting-same = same-verdicts (λ k r t h. h) (λ f. (λ h. h, λ h. h))
 
 -- ---- the writer of a table's text
 
@@ -80,13 +65,6 @@ module _ (codes transitions : Lent) (old new : List ℕ) (v : Written) where
   abbrev WroteBy : ℕ → Rule → Type 0
   WroteBy k r = (v ≡ answer k (hoa.lentText (r .s) (r .initial) codes transitions)) × (new ≡ after k (hoa.lentText (r .s) (r .initial) codes transitions) old)
 
-  wrote-alone : (k : ℕ) (r t : Rule) → WroteBy (suc k) r → WroteBy (suc k) t
-  unfolding answer after
-  wrote-alone k r t h = h
-
-  wrote-by : (f : List ℕ) → Wrote f ↔ WroteBy (firstRow (fileRows f ++ wroteRest (ruleIn f))) (ruleIn f)
-  unfolding hoa.hoaWritten hoa.hoaAfter hoa.writeRow
-  wrote-by f = (λ h. h, λ h. h)
-
   pub wrote-same : SameVerdicts Wrote wroteRest WroteBy
-  wrote-same = same-verdicts Wrote wroteRest WroteBy wrote-alone wrote-by
+  unfolding hoa.hoaWritten hoa.hoaAfter hoa.writeRow answer after
+  wrote-same = same-verdicts (λ k r t h. h) (λ f. (λ h. h, λ h. h))

@@ -37,13 +37,11 @@ module _ (C : List ℕ → Type 0) (rest : Rule → List Check) (By : ℕ → Ru
     -- 02: "On a file that the new readers accept, both must reach equal verdicts."
     pub in-the-field : (f : List ℕ) → fileRow f ≡ 0 → By (firstRow (oldRows f ++ rest (ruleIn f))) (ruleIn f) ↔ C f
 
-  module _ (alone : (k : ℕ) (r t : Rule) → By (suc k) r → By (suc k) t) (by : (f : List ℕ) → C f ↔ By (firstRow (fileRows f ++ rest (ruleIn f))) (ruleIn f)) where
-    old-by : (f : List ℕ) → fileRow f ≡ 0 → By (firstRow (oldRows f ++ rest (ruleIn f))) (ruleIn f) ↔ By (firstRow (fileRows f ++ rest (ruleIn f))) (ruleIn f)
-    old-by f e = rw (old-first rest f e) (λ h. h, λ h. h)
-
-    pub same-verdicts : SameVerdicts
-    same-verdicts = record {
-      preface = λ p f B. let h = holds-after rest p f (B .long) (B .fits) (B .names) (B .names-after) By alone in
-          (λ x. by f .1 (h .0 (by (p ++ f) .0 x)), λ x. by (p ++ f) .1 (h .1 (by f .0 x)));
-      in-the-field = λ f e. let h = old-by f e in (λ x. by f .1 (h .0 x), λ x. h .1 (by f .0 x));
-    }
+module _ {C : List ℕ → Type 0} {rest : Rule → List Check} {By : ℕ → Rule → Type 0}
+    (alone : (k : ℕ) (r t : Rule) → By (suc k) r → By (suc k) t) (by : (f : List ℕ) → C f ↔ By (firstRow (fileRows f ++ rest (ruleIn f))) (ruleIn f)) where
+  pub same-verdicts : SameVerdicts C rest By
+  same-verdicts = record {
+    preface = λ p f B. let h = holds-after rest p f (B .long) (B .fits) (B .names) (B .names-after) By alone in
+        (λ x. by f .1 (h .0 (by (p ++ f) .0 x)), λ x. by (p ++ f) .1 (h .1 (by f .0 x)));
+    in-the-field = λ f e. rw (old-first rest f e) (by f .1, by f .0);
+  }

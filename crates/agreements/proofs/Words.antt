@@ -1,16 +1,13 @@
 -- The judge that shows the choice, the judge of a sheet and the judge on a table.
 use Prim.Native.Nat.{ℕ, suc}
-use mathlib.Core.Path.{_≡_, sym, _∙_}
+use mathlib.Core.Path.{_≡_}
 use mathlib.Core.List.{List, _++_}
-use mathlib.Core.Logic.{_↔_}
 use native.Mathlib.Omega.{arith}
 use lib.ListN.{length}
-use Rattle.refusals.specs.Rows.{Check, firstRow}
+use Rattle.refusals.specs.Rows.{Check}
 use Rattle.theory.specs.Rule.{Rule}
 use Rattle.theory.specs.Macrostate.{holdsInitial}
 use Rattle.theory.specs.Truth.{truthMasks}
-use Rattle.file_spec.specs.File.{ruleIn}
-use Rattle.file_spec.specs.Rows.{fileRows}
 use Rattle.word_rows.specs.Words.{wordRows}
 use Rattle.judge_spec.specs.declared.Verdict.{Verdict}
 use Rattle.judge_spec.specs.Judge.{sliceRows, verdict, holdsStart, after, Meant}
@@ -42,19 +39,15 @@ module _ (lead cycle masks masks′ choices choices′ : List ℕ) (v : Verdict)
       (v ≡ verdict k (holdsStart r lead cycle)) × (masks′ ≡ after k (truthMasks r lead cycle) masks) × (choices′ ≡ after k (choicesOf r lead cycle) choices)
       × (k ≡ 0 → Meant r lead cycle masks′ v) × (k ≡ 0 → Written r lead cycle choices′)
 
-  choices-alone : (k : ℕ) (r t : Rule) → ChoicesBy (suc k) r → ChoicesBy (suc k) t
-  unfolding after
-  choices-alone k r t h = (h .0, h .1, h .2, never k, never k)
-
-  choices-by : (f : List ℕ) → JudgedChoices f lead cycle masks masks′ choices choices′ v ↔ ChoicesBy (firstRow (fileRows f ++ choicesRest (ruleIn f))) (ruleIn f)
-  unfolding choicesRow
-  choices-by f = (
-    λ J. (J .answer, J .masks-written, J .choices-written, J .meant, J .chosen),
-    λ h. record { answer = h .0; masks-written = h .1; choices-written = h .2; meant = h .3; chosen = h .4 },
-  )
-
   pub choices-same : SameVerdicts (λ f. JudgedChoices f lead cycle masks masks′ choices choices′ v) choicesRest ChoicesBy
-  choices-same = same-verdicts (λ f. JudgedChoices f lead cycle masks masks′ choices choices′ v) choicesRest ChoicesBy choices-alone choices-by
+  unfolding choicesRow after
+  choices-same =
+      same-verdicts
+      (λ k r t h. (h .0, h .1, h .2, never k, never k))
+      (λ f. (
+        λ J. (J .answer, J .masks-written, J .choices-written, J .meant, J .chosen),
+        λ h. record { answer = h .0; masks-written = h .1; choices-written = h .2; meant = h .3; chosen = h .4 },
+      ))
 
 module _ (sheet answers masks answers′ masks′ : List ℕ) (v : SheetAnswer) where
   abbrev sheetRest : Rule → List Check
@@ -65,15 +58,9 @@ module _ (sheet answers masks answers′ masks′ : List ℕ) (v : SheetAnswer) 
       (k ≡ 0 → SheetServed r (wordsOf sheet) answers masks answers′ masks′ v)
       × ((j : ℕ) → k ≡ suc j → (v ≡ sheets.Refused (suc j)) × (answers′ ≡ answers) × (masks′ ≡ masks))
 
-  sheet-alone : (k : ℕ) (r t : Rule) → SheetBy (suc k) r → SheetBy (suc k) t
-  sheet-alone k r t h = (never k, h .1)
-
-  sheet-by : (f : List ℕ) → SheetJudged f sheet answers masks answers′ masks′ v ↔ SheetBy (firstRow (fileRows f ++ sheetRest (ruleIn f))) (ruleIn f)
-  unfolding sheetRow
-  sheet-by f = (λ J. (J .served, J .refused), λ h. record { served = h .0; refused = h .1 })
-
   pub sheet-same : SameVerdicts (λ f. SheetJudged f sheet answers masks answers′ masks′ v) sheetRest SheetBy
-  sheet-same = same-verdicts (λ f. SheetJudged f sheet answers masks answers′ masks′ v) sheetRest SheetBy sheet-alone sheet-by
+  unfolding sheetRow
+  sheet-same = same-verdicts (λ k r t h. (never k, h .1)) (λ f. (λ J. (J .served, J .refused), λ h. record { served = h .0; refused = h .1 }))
 
 module _ (lead cycle : List ℕ) (codes transitions : Lent) (old new : List ℕ) (a : Start) where
   abbrev tableRest : Rule → List Check
@@ -82,9 +69,6 @@ module _ (lead cycle : List ℕ) (codes transitions : Lent) (old new : List ℕ)
   abbrev TableBy : ℕ → Rule → Type 0
   TableBy k r = Answered k (Begins (holdsInitial r) (codes .numbers) (transitions .numbers) lead cycle) a × (new ≡ scratchAfter k old)
 
-  table-by : (f : List ℕ) → JudgedTable f lead cycle codes transitions old new a ↔ TableBy (firstRow (fileRows f ++ tableRest (ruleIn f))) (ruleIn f)
-  unfolding judgeTableRow
-  table-by f = (λ J. (J .answer, J .scratch), λ h. record { answer = h .0; scratch = h .1 })
-
   pub table-same : SameVerdicts (λ f. JudgedTable f lead cycle codes transitions old new a) tableRest TableBy
-  table-same = same-verdicts (λ f. JudgedTable f lead cycle codes transitions old new a) tableRest TableBy (λ k r t h. h) table-by
+  unfolding judgeTableRow
+  table-same = same-verdicts (λ k r t h. h) (λ f. (λ J. (J .answer, J .scratch), λ h. record { answer = h .0; scratch = h .1 }))
