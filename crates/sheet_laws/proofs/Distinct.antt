@@ -1,7 +1,7 @@
 -- The cycles that are counted: the tidy cycles of the words that are not faulty, each once.
 use mathlib.Core.Path.{_≡_, refl, sym, _∙_, ap}
 use mathlib.Core.Logic.{_↔_, _⊎_, inl, inr, ⊎-elim, by-cases}
-use mathlib.Core.Bool.{Bool, true, false, false≢true}
+use mathlib.Core.Bool.{true, false, false≢true}
 use mathlib.Core.List.{List, [], _∷_, _++_, List·Memᴰ, List·Memᴰ·head, List·Memᴰ·tail, List·Memᴰ·cases-cons, List·Memᴰ·not-nil, List·Memᴰ·append-cases, List·Memᴰ·eq-of-singleton, Memᴰ·cast}
 use mathlib.Core.List.{Memᴰ·append-left, Memᴰ·append-right}
 use Prim.Native.Nat.{ℕ, zero, suc, _+_, _<_}
@@ -13,7 +13,7 @@ use Rattle.sets.proofs.Bools.{bif}
 use Rattle.slice_search.specs.Same.{sameLists}
 use Rattle.slice_search.proofs.Same.{lists-equal, lists-iff}
 use Rattle.sheet_spec.specs.Words.{SheetWord, faultOf}
-use Rattle.sheet_spec.specs.Computed.{isKnown, learn, learnBy, cyclesAfter, tidyOf, Counted}
+use Rattle.sheet_spec.specs.Computed.{isKnown, learn, cyclesAfter, tidyOf, Counted}
 use Rattle.sheet_spec.specs.Judged.{Once}
 
 pub known-yes : (c k : List ℕ) (ks : List (List ℕ)) → sameLists k c ≡ true → isKnown c (k ∷ ks) ≡ true
@@ -45,10 +45,10 @@ pub learn-new : (ks : List (List ℕ)) (c : List ℕ) → isKnown c ks ≡ false
 unfolding learn
 learn-new ks c e = rw (e, learn)
 
-mem-of : (ks : List (List ℕ)) (i : ℕ) → i < length ks → List·Memᴰ (getD ks i []) ks
-mem-of [] i l = absurd (omega arith)
-mem-of (k ∷ ks) zero l = List·Memᴰ·head refl
-mem-of (k ∷ ks) (suc i) l = List·Memᴰ·tail (mem-of ks i (omega arith))
+pub mem-of : {A : Type 0} (xs : List A) (i : ℕ) (d : A) → i < length xs → List·Memᴰ (getD xs i d) xs
+mem-of [] i d l = absurd (omega arith)
+mem-of (x ∷ xs) zero d l = List·Memᴰ·head refl
+mem-of (x ∷ xs) (suc i) d l = List·Memᴰ·tail (mem-of xs i d (omega arith))
 
 once-learn : (ks : List (List ℕ)) (c : List ℕ) → Once ks → Once (learn ks c)
 once-learn ks c o =
@@ -61,7 +61,7 @@ once-learn ks c o =
     (λ k. o i j h k (sym first ∙ q ∙ List·getD-append ks (c ∷ []) [] j k))
     (λ k. let f : j ≡ length ks = omega arith in
     let last : getD (ks ++ (c ∷ [])) j [] ≡ c = ap (λ (x : ℕ). getD (ks ++ (c ∷ [])) x []) f ∙ getD-append-seam ks c [] [] in
-    let m : List·Memᴰ c ks = Memᴰ·cast (sym (sym first ∙ q ∙ last)) (mem-of ks i (omega arith)) in
+    let m : List·Memᴰ c ks = Memᴰ·cast (sym (sym first ∙ q ∙ last)) (mem-of ks i [] (omega arith)) in
     false≢true (sym e ∙ known-iff c ks .1 m))))
 
 mem-learn : (ks : List (List ℕ)) (c x : List ℕ) → List·Memᴰ x (learn ks c) ↔ (List·Memᴰ x ks ⊎ (x ≡ c))

@@ -1,30 +1,29 @@
 -- What the judge of a sheet answers and writes, as it is computed, is what plans and tidy spellings say.
-use mathlib.Core.Path.{_≡_, refl, sym, _∙_, ap, ap₂}
+use mathlib.Core.Path.{_≡_, refl, _∙_, ap}
 use mathlib.Core.Logic.{⊎-elim, by-cases}
-use mathlib.Core.List.{List, [], _∷_, _++_, map, append-assoc, List·Memᴰ, List·Memᴰ·head, List·Memᴰ·tail, List·Memᴰ·cases-cons, List·Memᴰ·not-nil, Memᴰ·cast}
+use mathlib.Core.List.{List, [], _∷_, _++_, map, append-assoc, List·Memᴰ, List·Memᴰ·cases-cons, List·Memᴰ·not-nil, Memᴰ·cast}
 use Prim.Native.Nat.{ℕ, zero, suc, _+_, _-_, _*_, _≤_, _<_}
 use native.Mathlib.Omega.{arith}
 use native.Mathlib.Decide.{decLt}
-use lib.ListN.{length, getD, take, drop, replicate, length-take, length-append, length-replicate, getD-replicate, List·getD-append, List·getD-eq-default}
+use lib.ListN.{length, length-map, getD, take, drop, replicate, length-take, length-append, length-replicate, getD-replicate, List·getD-eq-default}
 use lib.Seq.{getD-append-add, drop-append-add, take-at, drop-at}
 use Rattle.theory.specs.Rule.{Rule}
 use Rattle.theory.specs.Passing.{Passing}
 use Rattle.theory.specs.Truth.{truthMasks}
 use Rattle.theory.specs.Word.{places, letters, WordOver}
 use Rattle.theory_laws.proofs.Truth.{truth-length}
-use Rattle.judge_spec.specs.Judge.{holdsStart, verdict, after, Meant}
-use Rattle.judge_spec.specs.declared.Verdict.{Verdict}
+use Rattle.judge_spec.specs.Judge.{holdsStart, verdict, after}
 use Rattle.judge_spec.proofs.Meaning.{meaning}
 use Rattle.word_spelling_spec.specs.Spelling.{Tidy}
-use Rattle.word_spelling_spec.specs.SpellingComputed.{tidyLead, tidyCycle}
+use Rattle.word_spelling_spec.specs.SpellingComputed.{tidyLead}
 use Rattle.word_spelling_spec.proofs.Tidied.{tidied, tidy-unique}
 use Rattle.sheet_spec.specs.Words.{SheetWord, lone, spelled, wordsIn, wordsOf, leadOf, cycleOf, faultOf}
 use Rattle.sheet_spec.specs.Sheet.{byteOf}
-use Rattle.sheet_spec.specs.Computed.{answerOf, masksOf, allMasks, cyclesAfter, cycleCount, totals, tidyOf, Counted}
+use Rattle.sheet_spec.specs.Computed.{answerOf, masksOf, allMasks, cyclesAfter, cycleCount, totals, tidyOf}
 use Rattle.sheet_spec.specs.Judged.{WordMeant, TidyCycles, SheetServed}
 use Rattle.sheet_spec.specs.declared.SheetAnswer.{SheetAnswer}
-use Rattle.sheet_laws.proofs.Distinct.{zero-or-suc, counted}
-use Rattle.sheet_laws.proofs.Alone.{Sound, sound, lead-size, cycle-size, verdict-byte}
+use Rattle.sheet_laws.proofs.Distinct.{mem-of, zero-or-suc, counted}
+use Rattle.sheet_laws.proofs.Alone.{sound, lead-size, cycle-size, verdict-byte}
 
 -- ---- the words of a sheet
 
@@ -44,11 +43,6 @@ pub sheet-sized : (s : List ℕ) (w : SheetWord) → List·Memᴰ w (wordsOf s) 
 unfolding wordsOf
 sheet-sized s w m = words-sized (length s) s w m
 
-member : (ws : List SheetWord) (i : ℕ) → i < length ws → List·Memᴰ (getD ws i (lone 0)) ws
-member [] i l = absurd (omega arith)
-member (w ∷ ws) zero l = List·Memᴰ·head refl
-member (w ∷ ws) (suc i) l = List·Memᴰ·tail (member ws i (omega arith))
-
 -- ---- one word
 
 -- n times a, and a where nothing stands
@@ -59,21 +53,14 @@ repeated-at a n i =
     (λ l. List·getD-eq-default (replicate n a) a {n = i} (omega (arith, length-replicate {A = ℕ} n a)))
 
 module _ (r : Rule) where
-  answer-served : (w : SheetWord) → faultOf (r .s) w ≡ 0 → answerOf r w ≡ byteOf (verdict 0 (holdsStart r (leadOf w) (cycleOf w)))
-  unfolding answerOf
-  answer-served w e = rw e (verdict-byte (holdsStart r (leadOf w) (cycleOf w)))
+  word-served : (w : SheetWord) → faultOf (r .s) w ≡ 0 → (answerOf r w ≡ byteOf (verdict 0 (holdsStart r (leadOf w) (cycleOf w))))
+      × (masksOf r w ≡ truthMasks r (leadOf w) (cycleOf w) ++ replicate (64 - places (leadOf w) (cycleOf w)) 0)
+  unfolding answerOf masksOf
+  word-served w e = rw e (verdict-byte (holdsStart r (leadOf w) (cycleOf w)), refl)
 
-  masks-served : (w : SheetWord) → faultOf (r .s) w ≡ 0 → masksOf r w ≡ truthMasks r (leadOf w) (cycleOf w) ++ replicate (64 - places (leadOf w) (cycleOf w)) 0
-  unfolding masksOf
-  masks-served w e = rw e
-
-  answer-faulty : (w : SheetWord) (k : ℕ) → faultOf (r .s) w ≡ suc k → answerOf r w ≡ suc k
-  unfolding answerOf
-  answer-faulty w k e = rw e
-
-  masks-faulty : (w : SheetWord) (k : ℕ) → faultOf (r .s) w ≡ suc k → masksOf r w ≡ replicate 64 0
-  unfolding masksOf
-  masks-faulty w k e = rw e
+  word-faulty : (w : SheetWord) (k : ℕ) → faultOf (r .s) w ≡ suc k → (answerOf r w ≡ suc k) × (masksOf r w ≡ replicate 64 0)
+  unfolding answerOf masksOf
+  word-faulty w k e = rw e (refl, refl)
 
 -- a word that is not faulty is over the rule's letters and has at most 64 places
 fine : (s : ℕ) (w : SheetWord) → Sized w → faultOf s w ≡ 0 → WordOver s (leadOf w) (cycleOf w) × (places (leadOf w) (cycleOf w) ≤ 64)
@@ -88,9 +75,9 @@ module _ (r : Rule) (P : Passing r) (w : SheetWord) (z : Sized w) where
   masks-long =
       ⊎-elim
       (λ e. let few = fine (r .s) w z e .1 in
-      ap length (masks-served r w e) ∙ length-append (truthMasks r (leadOf w) (cycleOf w)) (replicate (64 - places (leadOf w) (cycleOf w)) 0)
+      ap length (word-served r w e .1) ∙ length-append (truthMasks r (leadOf w) (cycleOf w)) (replicate (64 - places (leadOf w) (cycleOf w)) 0)
       ∙ omega (arith, truth-length r (leadOf w) (cycleOf w), length-replicate {A = ℕ} (64 - places (leadOf w) (cycleOf w)) 0))
-      (λ k. ap length (masks-faulty r w (k .0) (k .1)))
+      (λ k. ap length (word-faulty r w (k .0) (k .1) .1))
       (zero-or-suc (faultOf (r .s) w))
 
   masks-past : faultOf (r .s) w ≡ 0 → (p : ℕ) → places (leadOf w) (cycleOf w) ≤ p → getD (masksOf r w) p 0 ≡ 0
@@ -98,7 +85,7 @@ module _ (r : Rule) (P : Passing r) (w : SheetWord) (z : Sized w) where
       let T = truthMasks r (leadOf w) (cycleOf w) in
       let n = 64 - places (leadOf w) (cycleOf w) in
       let at : p ≡ length T + (p - places (leadOf w) (cycleOf w)) = omega (arith, truth-length r (leadOf w) (cycleOf w)) in
-      ap (λ (m : List ℕ). getD m p 0) (masks-served r w e)
+      ap (λ (m : List ℕ). getD m p 0) (word-served r w e .1)
       ∙ ap (λ (i : ℕ). getD (T ++ replicate n 0) i 0) at
       ∙ getD-append-add T (replicate n 0) (p - places (leadOf w) (cycleOf w)) 0
       ∙ repeated-at 0 n (p - places (leadOf w) (cycleOf w))
@@ -108,11 +95,11 @@ module _ (r : Rule) (P : Passing r) (w : SheetWord) (z : Sized w) where
     long = masks-long;
     alone = λ e. (
       verdict 0 (holdsStart r (leadOf w) (cycleOf w)),
-      answer-served r w e,
-      rw (masks-served r w e) (meaning r P (leadOf w) (cycleOf w) (fine (r .s) w z e .0) (replicate (64 - places (leadOf w) (cycleOf w)) 0)),
+      word-served r w e .0,
+      rw (word-served r w e .1) (meaning r P (leadOf w) (cycleOf w) (fine (r .s) w z e .0) (replicate (64 - places (leadOf w) (cycleOf w)) 0)),
     );
     past = masks-past;
-    faulty = λ k e. (answer-faulty r w k e, masks-faulty r w k e);
+    faulty = word-faulty r w;
   }
 
 -- ---- the words in their order
@@ -123,10 +110,6 @@ module _ (r : Rule) where
   answers-at [] rest i l = absurd (omega arith)
   answers-at (w ∷ ws) rest zero l = refl
   answers-at (w ∷ ws) rest (suc i) l = answers-at ws rest i (omega arith)
-
-  answers-long : (ws : List SheetWord) → length (map (answerOf r) ws) ≡ length ws
-  answers-long [] = refl
-  answers-long (w ∷ ws) = ap suc (answers-long ws)
 
   -- 64 mask bytes each
   abbrev Longs : List SheetWord → Type 0
@@ -175,7 +158,7 @@ module _ (r : Rule) (P : Passing r) (sheet answers masks answers′ masks′ : L
   unfolding after cycleCount
   sheet-meant =
       let ws = wordsOf sheet in
-      let sized : (i : ℕ) → i < length ws → Sized (getD ws i (lone 0)) = λ i l. sheet-sized sheet (getD ws i (lone 0)) (member ws i l) in
+      let sized : (i : ℕ) → i < length ws → Sized (getD ws i (lone 0)) = λ i l. sheet-sized sheet (getD ws i (lone 0)) (mem-of ws i (lone 0) l) in
       let long : (i : ℕ) → i < length ws → length (masksOf r (getD ws i (lone 0))) ≡ 64 = λ i l. masks-long r P (getD ws i (lone 0)) (sized i l) in
       let A = drop (length (map (answerOf r) ws)) answers in
       let M = drop (length (allMasks r ws)) masks in
@@ -184,6 +167,6 @@ module _ (r : Rule) (P : Passing r) (sheet answers masks answers′ masks′ : L
         distinct = tidy-cycles (r .s) ws (sheet-sized sheet);
         answered = a;
         words = λ i l. rw (b, c, answers-at r ws A i l, masks-at r ws long M i l) (word-meant r P (getD ws i (lone 0)) (sized i l));
-        answers-rest = rw b (drop-at (map (answerOf r) ws) A (length ws) (answers-long r ws) ∙ ap (λ (n : ℕ). drop n answers) (answers-long r ws));
+        answers-rest = rw b (drop-at (map (answerOf r) ws) A (length ws) (length-map ws (answerOf r)) ∙ ap (λ (n : ℕ). drop n answers) (length-map ws (answerOf r)));
         masks-rest = rw c (drop-at (allMasks r ws) M (64 * length ws) (all-long r ws long) ∙ ap (λ (n : ℕ). drop n masks) (all-long r ws long));
       }
