@@ -1,13 +1,13 @@
 -- The search for a known cycle.
 use mathlib.Core.Path.{_≡_, refl, sym, _∙_, ap, ap₂}
-use mathlib.Core.Bool.{Bool, true, false, false≢true}
+use mathlib.Core.Bool.{false, false≢true}
 use mathlib.Core.Logic.{⊎-elim, by-cases}
-use mathlib.Core.List.{List, [], _∷_, _++_, List·Memᴰ, List·Memᴰ·head, List·Memᴰ·append-cases, List·Memᴰ·eq-of-singleton, List·Memᴰ·not-nil, Memᴰ·cast, Memᴰ·append-left, Memᴰ·append-right}
+use mathlib.Core.List.{List, [], _∷_, _++_, List·Memᴰ, List·Memᴰ·head, List·Memᴰ·append-cases, List·Memᴰ·eq-of-singleton, Memᴰ·cast, Memᴰ·append-left, Memᴰ·append-right}
 use Prim.Native.Nat.{ℕ, zero, suc, _+_, _≤_, _<_}
 use native.Mathlib.Omega.{arith}
 use native.Mathlib.Decide.{decLt}
 use native.Mathlib.Numerals.{add-one}
-use lib.ListN.{length, getD, take, drop, set, length-append}
+use lib.ListN.{length, take, drop, set, length-append}
 use lib.Seq.{getD-set-same, getD-set-other}
 use Rattle.sets.proofs.Bools.{bif}
 use Rattle.sheet_spec.specs.Computed.{isKnown}
@@ -36,32 +36,27 @@ module _ (sheet from size : List ℕ) where
     unfolding knownOf isKnown
     not-start = refl
 
-    not-more : (k : ℕ) → (partAt sheet from size k ≡ c → ⊥) → NotTo k → NotTo (suc k)
-    unfolding knownOf
-    not-more k e t =
-        bif (isKnown c (knownOf sheet from size k ++ (partAt sheet from size k ∷ [])))
-        (λ y. absurd (⊎-elim
-        (λ m. false≢true (sym t ∙ known-iff c (knownOf sheet from size k) .1 m))
-        (λ m. e (sym (List·Memᴰ·eq-of-singleton m)))
-        (List·Memᴰ·append-cases (knownOf sheet from size k) (known-iff c (knownOf sheet from size k ++ (partAt sheet from size k ∷ [])) .0 y))))
-        (λ y. y)
-
     pub not-next : (k : ℕ) → (partAt sheet from size k ≡ c → ⊥) → NotTo k → NotTo (k + 1)
-    not-next k e t = ap (λ (x : ℕ). isKnown c (knownOf sheet from size x)) (add-one k) ∙ not-more k e t
+    unfolding knownOf
+    not-next k e t =
+        let ks = knownOf sheet from size k in let p = partAt sheet from size k in
+        rw (add-one k) (bif (isKnown c (ks ++ (p ∷ [])))
+        (λ y. absurd (⊎-elim
+        (λ m. false≢true (sym t ∙ known-iff c ks .1 m))
+        (λ m. e (sym (List·Memᴰ·eq-of-singleton m)))
+        (List·Memᴰ·append-cases ks (known-iff c (ks ++ (p ∷ [])) .0 y))))
+        (λ y. y))
 
-    pub found-here : (n k : ℕ) → k < n → partAt sheet from size k ≡ c → Found sheet from size n c k
-    found-here n k l e = record {
-      most = omega arith;
-      same = λ h. (known-iff c (knownOf sheet from size n) .1 (Memᴰ·cast (sym e) (known-in n k l)), e);
-      none = λ h. absurd (omega arith);
-    }
+module _ {sheet from size c : List ℕ} {n k : ℕ} where
+  pub found-here : k < n → partAt sheet from size k ≡ c → Found sheet from size n c k
+  found-here l e = record {
+    most = omega arith;
+    same = λ h. (known-iff c (knownOf sheet from size n) .1 (Memᴰ·cast (sym e) (known-in sheet from size n k l)), e);
+    none = λ h. absurd (omega arith);
+  }
 
-    pub found-none : (n k : ℕ) → k ≡ n → NotTo k → Found sheet from size n c k
-    found-none n k e t = record {
-      most = omega arith;
-      same = λ h. absurd (omega arith);
-      none = λ h. ap (λ (x : ℕ). isKnown c (knownOf sheet from size x)) (sym h) ∙ t;
-    }
+  pub found-none : k ≡ n → NotTo sheet from size c k → Found sheet from size n c k
+  found-none e t = record { most = omega arith; same = λ h. absurd (omega arith); none = λ h. ap (λ (x : ℕ). isKnown c (knownOf sheet from size x)) (sym h) ∙ t }
 
 -- ---- one more part
 

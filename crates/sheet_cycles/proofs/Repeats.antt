@@ -1,9 +1,8 @@
 -- The bytes of a block that repeats a cycle.
 use mathlib.Core.Path.{_≡_, refl, sym, _∙_, ap, ap₂}
 use mathlib.Core.List.{List, [], _++_}
-use Prim.Native.Nat.{ℕ, zero, suc, _+_, _-_, _≤_, _<_}
+use Prim.Native.Nat.{ℕ, suc, _+_, _-_, _≤_, _<_}
 use native.Mathlib.Omega.{arith}
-use native.Mathlib.Numerals.{add-one}
 use lib.ListN.{length, getD, take, drop, set, replicate, length-append, length-take, length-replicate, getD-replicate, length-set, List·getD-append}
 use lib.Seq.{ext-getD, getD-take, getD-append-add, drop-at}
 use Rattle.sets.proofs.Lists.{length-tabulate, tabulate-at}
@@ -23,8 +22,9 @@ module _ (cycle : List ℕ) (n : ℕ) where
       tabulate-at n (λ x. getD cycle (place (nextPlace [] cycle) x) 0) 0 j l ∙ ap (λ (x : ℕ). getD cycle (place (nextPlace [] cycle) x) 0) e
 
 -- the first i bytes of the block so far are as they should be
-abbrev pub Right : List ℕ → ℕ → ℕ → List ℕ → List ℕ → ℕ → Type 0
-Right cycle first end block now i = (length now ≡ length block) × ((j : ℕ) → j < i → getD now j 0 ≡ getD (spreadOf cycle first end block) j 0)
+pub record Right (cycle : List ℕ) (first end : ℕ) (block now : List ℕ) (i : ℕ) : Type 0 where
+  pub long : length now ≡ length block
+  pub each : (j : ℕ) → j < i → getD now j 0 ≡ getD (spreadOf cycle first end block) j 0
 
 -- the place of the next step
 pub step-next : (cycle : List ℕ) (first i p r : ℕ) → first ≤ i → p ≡ place (nextPlace [] cycle) (i - first) → r ≡ nextPlace [] cycle p → r ≡ place (nextPlace [] cycle) (i + 1 - first)
@@ -79,20 +79,22 @@ module _ (cycle : List ℕ) (first end : ℕ) (block : List ℕ) (order : first 
       ∙ getD-append-add (repeated cycle (end - first)) zeros (j - end) 0
       ∙ getD-replicate (length block - end) (j - end) 0 0 (omega arith))
 
-  pub right-next : (now : List ℕ) (i x : ℕ) → i < length block → x ≡ getD goal i 0 → Right cycle first end block now i → Right cycle first end block (set now i x) (i + 1)
-  right-next now i x l e r = (simp length-set (r .0), put-next (λ j. getD goal j 0) now i x (omega (arith, r .0)) e (r .1))
+module _ {cycle : List ℕ} {first end : ℕ} {block : List ℕ} (order : first ≤ end) (room : end ≤ length block) {now : List ℕ} {i : ℕ} (r : Right cycle first end block now i) where
+  pub right-next : {x : ℕ} → i < length block → x ≡ getD (spreadOf cycle first end block) i 0 → Right cycle first end block (set now i x) (i + 1)
+  right-next {x} l e = record { long = simp length-set (r .long); each = put-next (λ j. getD (spreadOf cycle first end block) j 0) now i x (omega (arith, r .long)) e (r .each) }
 
-  pub right-end : (now : List ℕ) (i : ℕ) → length block ≤ i → Right cycle first end block now i → now ≡ goal
-  right-end now i l r = ext-getD 0 now goal (r .0 ∙ sym spread-length) (λ j h. r .1 j (omega (arith, r .0)))
+  pub right-end : length block ≤ i → now ≡ spreadOf cycle first end block
+  right-end l = ext-getD 0 now (spreadOf cycle first end block) (r .long ∙ sym (spread-length cycle first end block order room)) (λ j h. r .each j (omega (arith, r .long)))
 
   -- a block whose first bytes are right leads to the same
-  pub same-goal : (now : List ℕ) (i : ℕ) → first ≤ i → Right cycle first end block now i → spreadOf cycle first end now ≡ goal
+  pub same-goal : first ≤ i → spreadOf cycle first end now ≡ spreadOf cycle first end block
   unfolding spreadOf
-  same-goal now i h r =
+  same-goal h =
+      let front = spread-front cycle first end block order room in
       let fronts : take first now ≡ take first block
-      = ext-getD 0 (take first now) (take first block) (simp length-take (omega (arith, r .0)))
-      (λ j l. let k : j < first = omega (arith, simp length-take at l) in getD-take first now j 0 k ∙ r .1 j (omega arith) ∙ sym (spread-front j k) ∙ sym (getD-take first block j 0 k)) in
-      ap₂ (λ (x : List ℕ) (n : ℕ). x ++ (repeated cycle (end - first) ++ replicate (n - end) 0)) fronts (r .0)
+      = ext-getD 0 (take first now) (take first block) (simp length-take (omega (arith, r .long)))
+      (λ j l. let k : j < first = omega (arith, simp length-take at l) in getD-take first now j 0 k ∙ r .each j (omega arith) ∙ sym (front j k) ∙ sym (getD-take first block j 0 k)) in
+      ap₂ (λ (x : List ℕ) (n : ℕ). x ++ (repeated cycle (end - first) ++ replicate (n - end) 0)) fronts (r .long)
 
-  pub right-again : (now : List ℕ) (i : ℕ) → first ≤ i → Right cycle first end block now i → Right cycle first end now now i
-  right-again now i h r = (refl, λ j l. r .1 j l ∙ ap (λ (x : List ℕ). getD x j 0) (sym (same-goal now i h r)))
+  pub right-again : first ≤ i → Right cycle first end now now i
+  right-again h = record { long = refl; each = λ j l. r .each j l ∙ ap (λ (x : List ℕ). getD x j 0) (sym (same-goal h)) }

@@ -1,9 +1,9 @@
 -- `sheet_cycles::learning::find_cycle` meets its contract: none of the first k is the cycle.
-use Prim.Native.Nat.{ℕ, _+_, _-_, _≤_, _<_}
-use mathlib.Core.Path.{_≡_, refl, sym, _∙_, ap}
+use Prim.Native.Nat.{_+_, _-_, _≤_}
+use mathlib.Core.Path.{_≡_, sym, _∙_}
 use mathlib.Core.Bool.{true≢false}
 use native.Mathlib.Omega.{arith}
-use lib.ListN.{length, getD, take, drop}
+use lib.ListN.{getD, take, drop}
 use borrow.Author.Needs.{needs}
 use Rattle.sheet_cycles.specs.Known.{partAt}
 use Rattle.sheet_cycles.proofs.Known.{NotTo, not-start, not-next, found-here, found-none}
@@ -16,63 +16,33 @@ Inv-loop sheet from size n cycle k₀ k = (k ≤ n) × NotTo sheet from size cyc
 abbrev μ-loop : tie.MeasureT-loop
 μ-loop sheet from size n cycle k₀ k = n - k
 
-loop-holds : tie.Need-loop-holds Inv-loop μ-loop
-loop-holds c = let a = c .before .before .before .before .args in (omega arith, not-start (a .sheet .now) (a .from .now) (a .size .now) (a .cycle .now))
+abbrev start-of : tie.In-loop Inv-loop μ-loop → tie.Start Inv-loop μ-loop
+start-of c = c .before .before .before .before .before .before
 
-mul-start : tie.Need-mul-start Inv-loop μ-loop
-mul-start c = omega (arith, c .before .before .before .before .before .before .pre .few)
+abbrev turn-of : tie.After-same Inv-loop μ-loop → tie.In-loop Inv-loop μ-loop
+turn-of c = c .before .before .before .before
 
-shared-slice-read-start : tie.Need-shared-slice-read-start Inv-loop μ-loop
-shared-slice-read-start c =
-    let start = c .before .before .before .before .before .before .before in
-    omega (arith, start .pre .few, start .pre .froms)
-
-mul-end : tie.Need-mul-end Inv-loop μ-loop
-mul-end c =
-    let start = c .before .before .before .before .before .before .before in
-    omega (arith, start .pre .few)
-
-shared-slice-read-end : tie.Need-shared-slice-read-end Inv-loop μ-loop
-shared-slice-read-end c =
-    let start = c .before .before .before .before .before .before .before .before in
-    omega (arith, start .pre .few, start .pre .sizes)
-
-add-end : tie.Need-add-end Inv-loop μ-loop
-add-end c =
-    let start = c .before .before .before .before .before .before .before .before in
-    omega (arith, start .pre .within (c .before .before .before .loop .k) (omega arith))
-
-part-same-end : tie.Need-part-same-end Inv-loop μ-loop
-part-same-end c =
-    let start = c .before .before .before .before .before .before .before .before in
-    omega (arith, start .pre .within (c .before .before .before .loop .k) (omega arith))
-
-returns : tie.Need-returns Inv-loop μ-loop
-returns c =
-    let start = c .before .before .before .before .before .before .before .before .before .before .before in
-    let a = start .args in let k = c .before .before .before .before .before .before .loop .k in
-    let s = getD (a .from .now) k 0 in
-    let q : s + getD (a .size .now) k 0 - s ≡ getD (a .size .now) k 0 = omega arith in
-    let e : partAt (a .sheet .now) (a .from .now) (a .size .now) k ≡ a .cycle .now = ap (λ (x : ℕ). take x (drop s (a .sheet .now))) (sym q) ∙ c .before .same .ensures .0 (c .if1 .taken) in
-    found-here (a .sheet .now) (a .from .now) (a .size .now) (a .cycle .now) (a .n) k (omega arith) e
+-- the part that is compared
+compared : (c : tie.After-same Inv-loop μ-loop) → let a = start-of (turn-of c) .args in let k = turn-of c .before .loop .k in let s = getD (a .from .now) k 0 in
+    take (s + getD (a .size .now) k 0 - s) (drop s (a .sheet .now)) ≡ partAt (a .sheet .now) (a .from .now) (a .size .now) k
+compared c =
+    let a = start-of (turn-of c) .args in let k = turn-of c .before .loop .k in let s = getD (a .from .now) k 0 in
+    let q : s + getD (a .size .now) k 0 - s ≡ getD (a .size .now) k 0 = omega arith in rw q
 
 loop-again : tie.Need-loop-again Inv-loop μ-loop
 loop-again c =
-    let start = c .before .before .before .before .before .before .before .before .before .before .before in
-    let a = start .args in let k = c .before .before .before .before .before .before .loop .k in
-    let s = getD (a .from .now) k 0 in
-    let q : s + getD (a .size .now) k 0 - s ≡ getD (a .size .now) k 0 = omega arith in
-    let e : partAt (a .sheet .now) (a .from .now) (a .size .now) k ≡ a .cycle .now → ⊥
-    = λ h. true≢false (sym (c .before .same .ensures .1 (ap (λ (x : ℕ). take x (drop s (a .sheet .now))) q ∙ h)) ∙ c .if1 .left) in
-    (omega arith, not-next (a .sheet .now) (a .from .now) (a .size .now) (a .cycle .now) k e (c .before .before .before .before .before .before .loop .inv .1))
-
-returns-2 : tie.Need-returns-2 Inv-loop μ-loop
-returns-2 c =
-    let a = c .before .before .before .before .before .before .args in let l = c .before .loop in
-    found-none (a .sheet .now) (a .from .now) (a .size .now) (a .cycle .now) (a .n) (l .k) (omega arith) (l .inv .1)
+    let t = turn-of (c .before) in let a = start-of t .args in
+    let other : partAt (a .sheet .now) (a .from .now) (a .size .now) (t .before .loop .k) ≡ a .cycle .now → ⊥
+    = λ h. true≢false (sym (c .before .same .ensures .1 (compared (c .before) ∙ h)) ∙ c .if1 .left) in
+    (omega arith, not-next (a .sheet .now) (a .from .now) (a .size .now) (a .cycle .now) (t .before .loop .k) other (t .before .loop .inv .1))
 
 pub find-cycle-spec : {M : Type 1} → statement M
 find-cycle-spec =
     tie.close (tie.spec
-    Inv-loop μ-loop loop-holds mul-start shared-slice-read-start mul-end shared-slice-read-end add-end (λ c. omega arith) (λ c. omega arith)
-    part-same-end (λ c κs. search needs) returns (λ c. omega arith) (λ c. omega arith) loop-again returns-2)
+    Inv-loop μ-loop (λ c. (omega arith, not-start _ _ _ _)) (λ c. omega (arith, start-of c .pre .few))
+    (λ c. let z = start-of (c .before) .pre in omega (arith, z .few, z .froms)) (λ c. omega (arith, start-of (c .before) .pre .few))
+    (λ c. let z = start-of (c .before .before) .pre in omega (arith, z .few, z .sizes))
+    (λ c. omega (arith, start-of (c .before .before) .pre .within (c .before .before .before .loop .k) (omega arith))) (λ c. omega arith) (λ c. omega arith)
+    (λ c. omega (arith, start-of (c .before .before) .pre .within (c .before .before .before .loop .k) (omega arith))) (λ c κs. search needs)
+    (λ c. found-here (omega arith) (sym (compared (c .before)) ∙ c .before .same .ensures .0 (c .if1 .taken))) (λ c. omega arith) (λ c. omega arith)
+    loop-again (λ c. found-none (omega arith) (c .before .loop .inv .1)))

@@ -4,7 +4,6 @@ use mathlib.Core.Path.{_≡_, refl, sym, _∙_, ap}
 use mathlib.Core.List.{[]}
 use native.Mathlib.Omega.{arith}
 use lib.ListN.{length, getD}
-use borrow.Author.Needs.{needs}
 use Rattle.theory.specs.Word.{nextPlace, place}
 use Rattle.theory_laws.proofs.Places.{places-low}
 use Rattle.sheet_cycles.proofs.Repeats.{Right, step-next, spread-front, spread-cycle, spread-zero, right-next, right-end, same-goal, right-again}
@@ -29,60 +28,52 @@ unfolding place
 loop-holds c =
     let a = c .before .before .args in let z = c .before .before .pre in
     let none : a .first - a .first ≡ 0 = omega arith in
-    (omega arith, z .1, z .0, sym (ap (place (nextPlace [] (a .cycle .now))) none), (refl, spread-front (a .cycle .now) (a .first) (a .end) (a .block .now) (z .1) (z .2)))
-
-slice-write-block : tie.Need-slice-write-block Inv-loop μ-loop Inv-loop2 μ-loop2
-slice-write-block c = omega (arith, c .before .before .loop .inv .4 .0, c .before .before .before .before .before .pre .2)
+    (omega arith, z .1, z .0, sym (ap (place (nextPlace [] (a .cycle .now))) none), record { long = refl; each = spread-front _ _ _ _ (z .1) (z .2) })
 
 loop-again : tie.Need-loop-again Inv-loop μ-loop Inv-loop2 μ-loop2
 loop-again c =
-    let a = c .before .before .before .before .before .before .args in
-    let z = c .before .before .before .before .before .before .pre in let l = c .before .before .before .loop in
-    let v = a .cycle .now in
-    let next : c .next-place .result ≡ place (nextPlace [] v) (l .i + 1 - a .first) =
-    step-next v (a .first) (l .i) (l .p) (c .next-place .result) (l .inv .0) (l .inv .3) (c .next-place .ensures [] v refl refl) in
+    let start = c .before .before .before .before .before .before in let a = start .args in let z = start .pre in
+    let l = c .before .before .before .loop in let v = a .cycle .now in
+    let next = step-next v (a .first) (l .i) (l .p) (c .next-place .result) (l .inv .0) (l .inv .3) (c .next-place .ensures [] v refl refl) in
     let byte : getD v (l .p) 0 ≡ getD v (place (nextPlace [] v) (l .i - a .first)) 0 = ap (λ (x : ℕ). getD v x 0) (l .inv .3) in (
       omega arith,
       omega arith,
       omega (arith, next, places-low [] v (z .0) (l .i + 1 - a .first)),
       next,
-      right-next v (a .first) (a .end) (a .block .now) (z .1) (z .2) (l .block) (l .i) (getD v (l .p) 0) (omega (arith, z .2))
-          (byte ∙ spread-cycle v (a .first) (a .end) (a .block .now) (z .1) (z .2) (l .i) (l .inv .0) (omega arith)) (l .inv .4),
+      right-next (z .1) (z .2) (l .inv .4) (omega (arith, z .2)) (byte ∙ spread-cycle v (a .first) (a .end) (a .block .now) (z .1) (z .2) (l .i) (l .inv .0) (omega arith)),
     )
 
 loop2-holds : tie.Need-loop2-holds Inv-loop μ-loop Inv-loop2 μ-loop2
 loop2-holds c =
-    let a = c .before .before .before .before .args in let z = c .before .before .before .before .pre in
-    let l = c .before .loop in
-    (omega arith, omega (arith, z .2, l .inv .4 .0), right-again (a .cycle .now) (a .first) (a .end) (a .block .now) (z .1) (z .2) (l .block) (l .i) (l .inv .0) (l .inv .4))
+    let z = c .before .before .before .before .pre in let l = c .before .loop in
+    (omega arith, omega (arith, z .2, l .inv .4 .long), right-again (z .1) (z .2) (l .inv .4) (l .inv .0))
+
+abbrev first-loop : tie.At-loop2 Inv-loop μ-loop Inv-loop2 μ-loop2 → tie.At-loop Inv-loop μ-loop Inv-loop2 μ-loop2
+first-loop c = c .before .before
+
+-- the end lies in the block as the first loop left it
+room : (c : tie.At-loop2 Inv-loop μ-loop Inv-loop2 μ-loop2) → first-loop c .before .before .before .args .end ≤ length (first-loop c .loop .block)
+room c = omega (arith, first-loop c .before .before .before .pre .2, first-loop c .loop .inv .4 .long)
 
 loop2-again : tie.Need-loop2-again Inv-loop μ-loop Inv-loop2 μ-loop2
 loop2-again c =
-    let a = c .before .before .before .before .before .before .args in
-    let z = c .before .before .before .before .before .before .pre in let l = c .before .loop2 in
-    let b = c .before .before .before .loop .block in
-    let room : a .end ≤ length b = omega (arith, z .2, c .before .before .before .loop .inv .4 .0) in (
+    let z = first-loop (c .before) .before .before .before .pre in let l = c .before .loop2 in (
       omega arith,
-      omega (arith, l .inv .2 .0),
-      right-next (a .cycle .now) (a .first) (a .end) b (z .1) room (l .block) (l .i) 0 (omega (arith, l .inv .2 .0))
-          (spread-zero (a .cycle .now) (a .first) (a .end) b (z .1) room (l .i) (l .inv .0) (omega (arith, l .inv .2 .0))) (l .inv .2),
+      omega (arith, l .inv .2 .long),
+      right-next (z .1) (room (c .before)) (l .inv .2) (omega (arith, l .inv .2 .long))
+          (spread-zero _ _ _ _ (z .1) (room (c .before)) (l .i) (l .inv .0) (omega (arith, l .inv .2 .long))),
     )
-
-same-length : tie.Need-same-length Inv-loop μ-loop Inv-loop2 μ-loop2
-same-length c = c .before .loop2 .inv .2 .0 ∙ c .before .before .before .loop .inv .4 .0
 
 returns : tie.Need-returns Inv-loop μ-loop Inv-loop2 μ-loop2
 returns c =
-    let a = c .before .before .before .before .before .before .args in
-    let z = c .before .before .before .before .before .before .pre in let l = c .before .loop2 in
-    let f = c .before .before .before .loop in
-    let room : a .end ≤ length (f .block) = omega (arith, z .2, f .inv .4 .0) in
-    right-end (a .cycle .now) (a .first) (a .end) (f .block) (z .1) room (l .block) (l .i) (omega (arith, l .inv .2 .0)) (l .inv .2)
-    ∙ same-goal (a .cycle .now) (a .first) (a .end) (a .block .now) (z .1) (z .2) (f .block) (f .i) (f .inv .0) (f .inv .4)
+    let f = first-loop (c .before) in let z = f .before .before .before .pre in let l = c .before .loop2 in
+    right-end (z .1) (room (c .before)) (l .inv .2) (omega (arith, l .inv .2 .long)) ∙ same-goal (z .1) (z .2) (f .loop .inv .4) (f .loop .inv .0)
 
 pub repeat-cycle-spec : {M : Type 1} → statement M
 repeat-cycle-spec =
     tie.close (tie.spec
-    Inv-loop μ-loop Inv-loop2 μ-loop2 loop-holds (λ c. omega arith) slice-write-block (λ c κs. (omega arith, omega arith)) (λ c. omega arith)
-    (λ c. omega arith) loop-again loop2-holds (λ c. omega arith) (λ c. omega arith) (λ c. omega (arith, c .before .loop2 .inv .2 .0)) loop2-again
-    same-length returns)
+    Inv-loop μ-loop Inv-loop2 μ-loop2 loop-holds (λ c. omega arith)
+    (λ c. omega (arith, c .before .before .loop .inv .4 .long, c .before .before .before .before .before .pre .2)) (λ c κs. (omega arith, omega arith))
+    (λ c. omega arith) (λ c. omega arith) loop-again loop2-holds (λ c. omega arith) (λ c. omega arith)
+    (λ c. omega (arith, c .before .loop2 .inv .2 .long)) loop2-again
+    (λ c. c .before .loop2 .inv .2 .long ∙ first-loop (c .before) .loop .inv .4 .long) returns)
