@@ -1,20 +1,18 @@
 -- The loop over the words of a sheet.
 use mathlib.Core.Path.{_≡_, refl, sym, _∙_, ap}
 use mathlib.Core.Logic.{by-cases}
-use mathlib.Core.List.{List, [], _∷_, _++_, map}
-use Prim.Native.Nat.{ℕ, zero, suc, _+_, _-_, _*_, _≤_, _<_}
+use mathlib.Core.List.{List, [], _∷_, _++_, map, List·Memᴰ·head}
+use Prim.Native.Nat.{ℕ, _+_, _-_, _*_, _≤_, _<_}
 use native.Mathlib.Omega.{arith}
 use native.Mathlib.Decide.{decLt}
-use lib.ListN.{length, drop, set, take, replicate, length-append, length-take, length-drop, length-replicate}
+use lib.ListN.{length, drop, set, take}
 use Rattle.theory.specs.Rule.{Rule}
-use Rattle.theory.specs.Truth.{truthMasks}
-use Rattle.theory.specs.Word.{places}
-use Rattle.theory_laws.proofs.Truth.{truth-length}
-use Rattle.sheet_spec.specs.Words.{SheetWord, wordsOf, leadOf, cycleOf, faultOf}
-use Rattle.sheet_spec.specs.Computed.{answerOf, masksBy, masksOf, allMasks, learnBy, cyclesAfter, cycleCount}
+use Rattle.sheet_spec.specs.Words.{wordsOf}
+use Rattle.sheet_spec.specs.Computed.{answerOf, allMasks, cyclesAfter, cycleCount}
 use Rattle.sheet_laws.proofs.Walk.{words-end, words-last, words-next}
+use Rattle.sheet_laws.proofs.Meaning.{sheet-sized, masks-long}
 use Rattle.sheet_words.specs.Places.{wordFrom, Next}
-use Rattle.sheet_words.proofs.Places.{CountedTo, counted-next, sound-at}
+use Rattle.sheet_words.proofs.Places.{CountedTo, counted-next}
 use Rattle.sheet_cycles.specs.Known.{knownOf}
 use Rattle.sheet_cycles.specs.Filled.{Filled}
 use Rattle.sheet_cycles.proofs.Known.{known-length}
@@ -29,22 +27,6 @@ some-left sheet at h =
     by-cases (decLt (at + 1) (length sheet))
     (λ l. rw (words-next sheet at l) (omega arith))
     (λ l. rw (words-last sheet at (omega arith)) (omega arith))
-
--- the masks of a word have 64 bytes
-masks-by : (r : Rule) (k : ℕ) (w : SheetWord) → (k ≡ 0 → places (leadOf w) (cycleOf w) ≤ 64) → length (masksBy r k w) ≡ 64
-masks-by r zero w h =
-    length-append (truthMasks r (leadOf w) (cycleOf w)) (replicate (64 - places (leadOf w) (cycleOf w)) 0)
-    ∙ omega (arith, truth-length r (leadOf w) (cycleOf w), length-replicate {A = ℕ} (64 - places (leadOf w) (cycleOf w)) 0, h refl)
-masks-by r (suc k) w h = length-replicate {A = ℕ} 64 0
-
-masks-long : (r : Rule) (sheet : List ℕ) (at : ℕ) → at < length sheet → length (masksOf r (wordFrom sheet at)) ≡ 64
-unfolding masksOf
-masks-long r sheet at l =
-    masks-by r (faultOf (r .s) (wordFrom sheet at)) (wordFrom sheet at)
-    (λ e. let S = sound-at sheet at (r .s) l e in
-    let a : length (leadOf (wordFrom sheet at)) ≤ 32 = rw (S .lead) (simp (length-take, length-drop) (omega (arith, S .lead-short))) in
-    let b : length (cycleOf (wordFrom sheet at)) ≤ 32 = rw (S .cycle) (simp (length-take, length-drop) (omega (arith, S .cycle-short))) in
-    omega (arith, a, b))
 
 -- i words are judged, those from byte at on left
 pub record Done (r : Rule) (sheet answers masks answers′ masks′ from size filled : List ℕ) (cycles at i : ℕ) : Type 0 where
@@ -96,7 +78,8 @@ module _ {r : Rule} {sheet answers masks answers′ masks′ from size filled : 
         → Done r sheet answers masks (set answers′ i (v .answer)) (take (64 * i) masks′ ++ (block ++ drop (64 * i + 64 - 64 * i) (drop (64 * i) masks′))) from′ size′ filled′ (v .cycles) next (i + 1)
     done-next room space =
         let end : 64 * i + 64 ≡ 64 * (i + 1) = omega arith in
-        let long : length block ≡ 64 = ap length (J .served .masks) ∙ masks-long r sheet at more in
+        let sized = sheet-sized (drop at sheet) (wordFrom sheet at) (rw (N .words) (List·Memᴰ·head refl)) in
+        let long : length block ≡ 64 = ap length (J .served .masks) ∙ masks-long r (wordFrom sheet at) sized in
         let F = front-block {e = 64 * i + 64} block (rw masks-left at (D .masked)) (omega (arith, long)) (omega (arith, words-more more)) in
         record {
           within = N .within;

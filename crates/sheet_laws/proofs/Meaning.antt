@@ -70,8 +70,8 @@ fine s (spelled a b t) z e =
     let S = sound s a b t z e in
     (S .word, omega (arith, S .lead-short, S .cycle-short, lead-size a b t (S .whole), cycle-size a b t (S .whole)))
 
-module _ (r : Rule) (P : Passing r) (w : SheetWord) (z : Sized w) where
-  masks-long : length (masksOf r w) ≡ 64
+module _ (r : Rule) (w : SheetWord) (z : Sized w) where
+  pub masks-long : length (masksOf r w) ≡ 64
   masks-long =
       ⊎-elim
       (λ e. let few = fine (r .s) w z e .1 in
@@ -90,8 +90,8 @@ module _ (r : Rule) (P : Passing r) (w : SheetWord) (z : Sized w) where
       ∙ getD-append-add T (replicate n 0) (p - places (leadOf w) (cycleOf w)) 0
       ∙ repeated-at 0 n (p - places (leadOf w) (cycleOf w))
 
-  word-meant : WordMeant r w (answerOf r w) (masksOf r w)
-  word-meant = record {
+  word-meant : Passing r → WordMeant r w (answerOf r w) (masksOf r w)
+  word-meant P = record {
     long = masks-long;
     alone = λ e. (
       verdict 0 (holdsStart r (leadOf w) (cycleOf w)),
@@ -159,14 +159,14 @@ module _ (r : Rule) (P : Passing r) (sheet answers masks answers′ masks′ : L
   sheet-meant =
       let ws = wordsOf sheet in
       let sized : (i : ℕ) → i < length ws → Sized (getD ws i (lone 0)) = λ i l. sheet-sized sheet (getD ws i (lone 0)) (mem-of ws i (lone 0) l) in
-      let long : (i : ℕ) → i < length ws → length (masksOf r (getD ws i (lone 0))) ≡ 64 = λ i l. masks-long r P (getD ws i (lone 0)) (sized i l) in
+      let long : (i : ℕ) → i < length ws → length (masksOf r (getD ws i (lone 0))) ≡ 64 = λ i l. masks-long r (getD ws i (lone 0)) (sized i l) in
       let A = drop (length (map (answerOf r) ws)) answers in
       let M = drop (length (allMasks r ws)) masks in
       record {
         cycles = cyclesAfter (r .s) [] ws;
         distinct = tidy-cycles (r .s) ws (sheet-sized sheet);
         answered = a;
-        words = λ i l. rw (b, c, answers-at r ws A i l, masks-at r ws long M i l) (word-meant r P (getD ws i (lone 0)) (sized i l));
+        words = λ i l. rw (b, c, answers-at r ws A i l, masks-at r ws long M i l) (word-meant r (getD ws i (lone 0)) (sized i l) P);
         answers-rest = rw b (drop-at (map (answerOf r) ws) A (length ws) (length-map ws (answerOf r)) ∙ ap (λ (n : ℕ). drop n answers) (length-map ws (answerOf r)));
         masks-rest = rw c (drop-at (allMasks r ws) M (64 * length ws) (all-long r ws long) ∙ ap (λ (n : ℕ). drop n masks) (all-long r ws long));
       }
