@@ -19,29 +19,24 @@ pub record Least (n : ℕ) (g : ℕ → ℕ) (t at k : ℕ) : Type 0 where
   pub low : (u : ℕ) → u < t → k ≤ g u
   pub hit : k < n → (at < t) × (g at ≡ k) × ((u : ℕ) → u < at → k < g u)
 
-module _ (n : ℕ) (g : ℕ → ℕ) where
+module _ {n : ℕ} {g : ℕ → ℕ} where
   pub least-none : Least n g 0 0 n
   least-none = record { bound = omega arith; low = λ u l. absurd (omega arith); hit = λ l. absurd (omega arith) }
 
-  pub least-less : (t at k v : ℕ) → v ≡ g t → v < k → Least n g t at k → Least n g (t + 1) t v
-  least-less t at k v e l h =
-      record {
-        bound = omega (arith, h .bound);
-        low = λ u m. by-cases (decLt u t)
-            (λ x. omega (arith, h .low u x))
-            (λ x. let i : u ≡ t = omega arith in rw i (omega arith));
-        hit = λ m. (omega arith, sym e, λ u x. omega (arith, h .low u x));
-      }
+  module _ {t at k v : ℕ} (e : v ≡ g t) (h : Least n g t at k) where
+    pub least-less : v < k → Least n g (t + 1) t v
+    least-less l = record {
+      bound = omega (arith, h .bound);
+      low = λ u m. by-cases (decLt u t) (λ x. omega (arith, h .low u x)) (λ x. let i : u ≡ t = omega arith in rw i (omega arith));
+      hit = λ m. (omega arith, sym e, λ u x. omega (arith, h .low u x));
+    }
 
-  pub least-kept : (t at k v : ℕ) → v ≡ g t → k ≤ v → Least n g t at k → Least n g (t + 1) at k
-  least-kept t at k v e l h =
-      record {
-        bound = h .bound;
-        low = λ u m. by-cases (decLt u t)
-            (λ x. h .low u x)
-            (λ x. let i : u ≡ t = omega arith in rw i (omega arith));
-        hit = λ m. let x = h .hit m in (omega (arith, x .0), x .1, x .2);
-      }
+    pub least-kept : k ≤ v → Least n g (t + 1) at k
+    least-kept l = record {
+      bound = h .bound;
+      low = λ u m. by-cases (decLt u t) (h .low u) (λ x. let i : u ≡ t = omega arith in rw i (omega arith));
+      hit = λ m. let x = h .hit m in (omega (arith, x .0), x .1, x .2);
+    }
 
 -- ---- at the end
 

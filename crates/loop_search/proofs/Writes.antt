@@ -34,87 +34,74 @@ least-common n x m h e =
     ∙ first-ext 8 0 (bit (bitAnd x m)) (λ p. bit x p && bit m p) (λ j a b. bit-and x m j)
     ∙ first-narrow 8 n (λ p. bit x p && bit m p) (s .0) h (s .1) (s .2)
 
-module _ (n : ℕ) (es : List ℕ) (others t : ℕ) (l : t < n) where
+module _ (n : ℕ) (es : List ℕ) (others t : ℕ) where
   -- the test for the state after q, where j + 1 steps are left from it
   abbrev pub next : ℕ → Bool → ℕ → Set
   next k passed q p = leadsBy es q p && bit (wayBy n es (bit others) t k passed) p
 
+  pub record Written (k : ℕ) (old : List ℕ) (i : ℕ) (out : List ℕ) (q : ℕ) (passed : Bool) : Type 0 where
+    pub far : i ≤ k
+    pub state : q < n
+    pub may : bit (wayBy n es (bit others) t (suc (k - i)) passed) q ≡ true
+    pub front : List ℕ
+    pub long : length front ≡ i
+    pub slice : out ≡ front ++ drop i old
+    pub whole : route n es (bit others) t k false t ≡ front ++ route n es (bit others) t (k - i) passed q
+
+-- the list with one state more
+put : (old : List ℕ) (i : ℕ) (front : List ℕ) (q : ℕ) → length front ≡ i → i < length old → set (front ++ drop i old) i q ≡ front ++ (q ∷ drop (suc i) old)
+put old i front q e m = rw (drop-cons old i 0 m) (set-at front (getD old i 0) (drop (suc i) old) q i e)
+
+pub written-none : {n : ℕ} {es : List ℕ} {others t k : ℕ} {old : List ℕ} → t < n → bit (ways n es (bit others) t (suc k) .mixed) t ≡ true
+    → Written n es others t k old 0 old t false
+written-none {k = k} l e =
+    let z : k - 0 ≡ k = omega arith in
+    record { far = omega arith; state = l; may = rw z e; front = []; long = refl; slice = refl; whole = rw z refl }
+
+module _ {n : ℕ} {es : List ℕ} {others t k : ℕ} {old : List ℕ} {i : ℕ} {out : List ℕ} {q : ℕ} {passed : Bool} (w : Written n es others t k old i out q passed) where
   -- a state may follow
-  pub follows : (j : ℕ) (passed : Bool) (q : ℕ) → q < n → bit (wayBy n es (bit others) t (suc (suc j)) passed) q ≡ true
-      → someBelow n (next (suc j) (passed || bit others q) q) ≡ true
-  follows j passed q m e =
-      let w = can-walk n es (bit others) t l (suc j) passed q m e in
-      let s = next-state n es (bit others) t l j passed q m (w .0) (w .1) (w .2) in
-      some-at n (next (suc j) (passed || bit others q) q) (s .0) (s .1) (s .2)
+  pub may-follow : t < n → i < k → someBelow n (next n es others t (k - i) (passed || bit others q) q) ≡ true
+  may-follow l m =
+      let x : k - i ≡ suc (k - suc i) = omega arith in
+      let v = can-walk n es (bit others) t l (suc (k - suc i)) passed q (w .state) (rw x at (w .may)) in
+      let s = next-state n es (bit others) t l (k - suc i) passed q (w .state) (v .0) (v .1) (v .2) in
+      rw x (some-at n (next n es others t (suc (k - suc i)) (passed || bit others q) q) (s .0) (s .1) (s .2))
 
-  module _ (k : ℕ) (old : List ℕ) (room : k < length old) where
-    pub record Written (i : ℕ) (out : List ℕ) (q : ℕ) (passed : Bool) : Type 0 where
-      pub far : i ≤ k
-      pub state : q < n
-      pub may : bit (wayBy n es (bit others) t (suc (k - i)) passed) q ≡ true
-      pub front : List ℕ
-      pub long : length front ≡ i
-      pub slice : out ≡ front ++ drop i old
-      pub whole : route n es (bit others) t k false t ≡ front ++ route n es (bit others) t (k - i) passed q
+  further : t < n → k < length old → i < k
+      → Written n es others t k old (i + 1) (set out i q) (first n (next n es others t (k - i) (passed || bit others q) q) 0) (passed || bit others q)
+  unfolding route
+  further l room m =
+      let x : k - i ≡ suc (k - (i + 1)) = omega arith in
+      let f = next n es others t (k - i) (passed || bit others q) q in
+      let s = some-get n f (may-follow l m) in
+      let p = first n f 0 in
+      let g : f p ≡ true = first-at n f 0 (s .0) (omega arith) (omega (arith, s .1)) (s .2) in
+      let b = and-r (leadsBy es q p) (bit (wayBy n es (bit others) t (k - i) (passed || bit others q)) p) g in
+      -- one state less of the route
+      let r : route n es (bit others) t (k - i) passed q ≡ q ∷ route n es (bit others) t (k - (i + 1)) (passed || bit others q) p = rw x refl in
+      record {
+        far = omega arith;
+        state = omega (arith, first-le n f 0 (s .0) (omega arith) (s .2), s .1);
+        may = rw (sym x) b;
+        front = w .front ++ (q ∷ []);
+        long = length-append (w .front) (q ∷ []) ∙ ap (λ (y : ℕ). y + 1) (w .long);
+        slice = ap (λ (l : List ℕ). set l i q) (w .slice) ∙ put old i (w .front) q (w .long) (omega arith) ∙ rw (add-one i, append-assoc);
+        whole = w .whole ∙ ap (λ (l : List ℕ). w .front ++ l) r ∙ sym (append-assoc (w .front) (q ∷ []) (route n es (bit others) t (k - (i + 1)) (passed || bit others q) p));
+      }
 
-    pub written-none : bit (ways n es (bit others) t (suc k) .mixed) t ≡ true → Written 0 old t false
-    written-none e =
-        let z : k - 0 ≡ k = omega arith in
-        record { far = omega arith; state = l; may = rw z e; front = []; long = refl; slice = refl; whole = rw z refl }
+  pub written-next : t < n → k < length old → i < k → {p : ℕ} {now : Bool} → now ≡ passed || bit others q → p ≡ first n (next n es others t (k - i) now q) 0
+      → Written n es others t k old (i + 1) (set out i q) p now
+  written-next l room m e f = rw (f, e) (further l room m)
 
-    -- the list with one state more
-    put : (i : ℕ) (front : List ℕ) (q : ℕ) → length front ≡ i → i < length old → set (front ++ drop i old) i q ≡ front ++ (q ∷ drop (suc i) old)
-    put i front q e m = rw (drop-cons old i 0 m) (set-at front (getD old i 0) (drop (suc i) old) q i e)
+  pub written-all : k < length old → i ≡ k → set out k q ≡ route n es (bit others) t k false t ++ drop (k + 1) old
+  unfolding route
+  written-all room e =
+      let z : k - i ≡ 0 = omega arith in
+      let h : route n es (bit others) t k false t ≡ w .front ++ (q ∷ []) = w .whole ∙ rw z refl in
+      ap (λ (l : List ℕ). set l k q) (w .slice ∙ ap (λ (x : ℕ). w .front ++ drop x old) e)
+      ∙ put old k (w .front) q (w .long ∙ e) room
+      ∙ rw (h, add-one k, append-assoc)
 
-    pub may-follow : (i : ℕ) (out : List ℕ) (q : ℕ) (passed : Bool) → i < k → Written i out q passed → someBelow n (next (k - i) (passed || bit others q) q) ≡ true
-    may-follow i out q passed m w =
-        let x : k - i ≡ suc (k - suc i) = omega arith in
-        rw x (follows (k - suc i) passed q (w .state) (rw x at (w .may)))
-
-    -- one state less of the route
-    route-step : (j : ℕ) (passed : Bool) (q : ℕ) → route n es (bit others) t (suc j) passed q
-        ≡ q ∷ route n es (bit others) t j (passed || bit others q) (first n (next (suc j) (passed || bit others q) q) 0)
-    unfolding route
-    route-step j passed q = refl
-
-    further : (i : ℕ) (out : List ℕ) (q : ℕ) (passed : Bool) → i < k → Written i out q passed
-        → Written (i + 1) (set out i q) (first n (next (k - i) (passed || bit others q) q) 0) (passed || bit others q)
-    further i out q passed m w =
-        let x : k - i ≡ suc (k - (i + 1)) = omega arith in
-        let f = next (k - i) (passed || bit others q) q in
-        let s = some-get n f (may-follow i out q passed m w) in
-        let p = first n f 0 in
-        let g : f p ≡ true = first-at n f 0 (s .0) (omega arith) (omega (arith, s .1)) (s .2) in
-        let b = and-r (leadsBy es q p) (bit (wayBy n es (bit others) t (k - i) (passed || bit others q)) p) g in
-        let r : route n es (bit others) t (k - i) passed q ≡ q ∷ route n es (bit others) t (k - (i + 1)) (passed || bit others q) p = rw x (route-step (k - (i + 1)) passed q) in
-        record {
-          far = omega arith;
-          state = omega (arith, first-le n f 0 (s .0) (omega arith) (s .2), s .1);
-          may = rw (sym x) b;
-          front = w .front ++ (q ∷ []);
-          long = length-append (w .front) (q ∷ []) ∙ ap (λ (y : ℕ). y + 1) (w .long);
-          slice = ap (λ (l : List ℕ). set l i q) (w .slice) ∙ put i (w .front) q (w .long) (omega arith) ∙ rw (add-one i, append-assoc);
-          whole = w .whole ∙ ap (λ (l : List ℕ). w .front ++ l) r ∙ sym (append-assoc (w .front) (q ∷ []) (route n es (bit others) t (k - (i + 1)) (passed || bit others q) p));
-        }
-
-    pub written-next : (i : ℕ) (out : List ℕ) (q p : ℕ) (passed now : Bool) → i < k → Written i out q passed → now ≡ passed || bit others q
-        → p ≡ first n (next (k - i) now q) 0 → Written (i + 1) (set out i q) p now
-    written-next i out q p passed now m w e f = rw (f, e) (further i out q passed m w)
-
-    last : (passed : Bool) (q : ℕ) → route n es (bit others) t 0 passed q ≡ q ∷ []
-    unfolding route
-    last passed q = refl
-
-    pub written-all : (i : ℕ) (out : List ℕ) (q : ℕ) (passed : Bool) → i ≡ k → Written i out q passed
-        → set out k q ≡ route n es (bit others) t k false t ++ drop (k + 1) old
-    written-all i out q passed e w =
-        let z : k - i ≡ 0 = omega arith in
-        let h : route n es (bit others) t k false t ≡ w .front ++ (q ∷ []) = w .whole ∙ rw (z, last passed q) in
-        ap (λ (l : List ℕ). set l k q) (w .slice ∙ ap (λ (x : ℕ). w .front ++ drop x old) e)
-        ∙ put k (w .front) q (w .long ∙ e) room
-        ∙ rw (h, add-one k, append-assoc)
-
-    -- the slice keeps its length
-    pub written-length : (i : ℕ) (out : List ℕ) (q : ℕ) (passed : Bool) → Written i out q passed → length out ≡ length old
-    written-length i out q passed w =
-        ap length (w .slice) ∙ length-append (w .front) (drop i old) ∙ omega (arith, length-drop i old, w .long, w .far)
+  -- the slice keeps its length
+  pub written-length : k < length old → length out ≡ length old
+  written-length room = ap length (w .slice) ∙ length-append (w .front) (drop i old) ∙ omega (arith, length-drop i old, w .long, w .far)

@@ -13,22 +13,16 @@ Inv-loop es n accepting at₀ further₀ t₀ at further t = (t ≤ n) × Least 
 abbrev μ-loop : tie.MeasureT-loop
 μ-loop es n accepting at₀ further₀ t₀ at further t = n - t
 
-loop-holds : tie.Need-loop-holds Inv-loop μ-loop
-loop-holds c = let a = c .args in (omega arith, least-none (a .n) (from (a .n) (a .es .now) (a .accepting)))
-
-others-of-requires : tie.Need-others-of-requires Inv-loop μ-loop
-others-of-requires c κs = (c .before .before .pre .0, c .loop-test .taken, c .before .before .pre .1)
-
 loop-again : tie.Need-loop-again Inv-loop μ-loop
 loop-again c =
     let a = c .before .before .before .before .before .args in let l = c .before .before .before .before .loop in
-    let g = from (a .n) (a .es .now) (a .accepting) in
     let v = c .before .further-from .result in let o = c .before .before .others-of in
-    let e : v ≡ g (l .t) = c .before .further-from .ensures ∙ from-is (a .n) (a .es .now) (a .accepting) (o .result) (l .t) (o .ensures) in (
+    let e : v ≡ from (a .n) (a .es .now) (a .accepting) (l .t)
+    = c .before .further-from .ensures ∙ from-is (a .n) (a .es .now) (a .accepting) (o .result) (l .t) (o .ensures) in (
       omega arith,
       ⊎-elim
-          (λ s. rw (s .1, s .2) (least-less (a .n) g (l .t) (l .at) (l .further) v e (omega (arith, s .0 .taken)) (l .inv .1)))
-          (λ s. rw (s .1, s .2) (least-kept (a .n) g (l .t) (l .at) (l .further) v e (omega (arith, s .0 .left)) (l .inv .1)))
+          (λ s. rw (s .1, s .2) (least-less e (l .inv .1) (omega (arith, s .0 .taken))))
+          (λ s. rw (s .1, s .2) (least-kept e (l .inv .1) (omega (arith, s .0 .left))))
           (c .if1 .came),
     )
 
@@ -41,5 +35,5 @@ returns c =
 pub start-of-spec : {M : Type 1} → statement M
 start-of-spec =
     tie.close (tie.spec
-    Inv-loop μ-loop loop-holds others-of-requires (λ c κs. (c .before .before .before .pre .0, c .before .loop-test .taken)) (λ c. omega arith)
-    (λ c. omega arith) loop-again returns)
+    Inv-loop μ-loop (λ c. (omega arith, least-none)) (λ c κs. (c .before .before .pre .0, c .loop-test .taken, c .before .before .pre .1))
+    (λ c κs. (c .before .before .before .pre .0, c .before .loop-test .taken)) (λ c. omega arith) (λ c. omega arith) loop-again returns)
