@@ -23,21 +23,18 @@ kept = refl
 
 -- ---- the answer by the row
 
-module _ (s : ℕ) (start : Set) (lead cycle : List ℕ) (codes transitions : Lent) (old : List ℕ) where
-  abbrev row : ℕ
-  row = callRow s lead cycle codes transitions (length old)
-
-  pub called-refused : (k : ℕ) → (k ≡ 0 → ⊥) → k ≡ row → TableCalled s start lead cycle codes transitions old old (Refused k)
+module _ {s : ℕ} {start : Set} {lead cycle : List ℕ} {codes transitions : Lent} {old : List ℕ} where
+  pub called-refused : (k : ℕ) → (k ≡ 0 → ⊥) → k ≡ callRow s lead cycle codes transitions (length old) → TableCalled s start lead cycle codes transitions old old (Refused k)
   unfolding scratchAfter
   called-refused zero n e = absurd (n refl)
   called-refused (suc k) n e = record { answer = rw (sym e) refl; scratch = rw (sym e) refl }
 
-  pub called-yes : row ≡ 0 → (m : ℕ) → m < length (codes .numbers) → Earliest (length (codes .numbers)) (Begins start (codes .numbers) (transitions .numbers) lead cycle) m
-      → TableCalled s start lead cycle codes transitions old (replicate (length old) 0) (Yes m)
-  unfolding scratchAfter
-  called-yes e m low b = record { answer = rw e (b .found low, λ l k. b .none l (omega arith)); scratch = rw e refl }
+  module _ (e : callRow s lead cycle codes transitions (length old) ≡ 0) {m : ℕ}
+      (b : Earliest (length (codes .numbers)) (Begins start (codes .numbers) (transitions .numbers) lead cycle) m) where
+    pub called-yes : m < length (codes .numbers) → TableCalled s start lead cycle codes transitions old (replicate (length old) 0) (Yes m)
+    unfolding scratchAfter
+    called-yes low = record { answer = rw e (b .found low, λ l k. b .none l (omega arith)); scratch = rw e refl }
 
-  pub called-no : row ≡ 0 → (m : ℕ) → length (codes .numbers) ≤ m → Earliest (length (codes .numbers)) (Begins start (codes .numbers) (transitions .numbers) lead cycle) m
-      → TableCalled s start lead cycle codes transitions old (replicate (length old) 0) No
-  unfolding scratchAfter
-  called-no e m high b = record { answer = rw e (λ l k. let w = b .within l k in b .none l (omega arith) k); scratch = rw e refl }
+    pub called-no : length (codes .numbers) ≤ m → TableCalled s start lead cycle codes transitions old (replicate (length old) 0) No
+    unfolding scratchAfter
+    called-no high = record { answer = rw e (λ l k. let w = b .within l k in b .none l (omega arith) k); scratch = rw e refl }

@@ -1,112 +1,87 @@
 -- `table_call::judge_lent` meets its contract.
 use mathlib.Core.Path.{_≡_, sym, ap, _∙_}
-use Prim.Native.Nat.{ℕ, _*_, _<_, _≤_}
+use Prim.Native.Nat.{ℕ, _*_}
 use native.Mathlib.Omega.{arith}
 use lib.ListN.{length, replicate}
 use lib.Seq.{length-take-le}
-use Rattle.sets.specs.Masks.{bit}
 use Rattle.theory.specs.Word.{places}
-use Rattle.table_lent.specs.Lent.{inBoth}
+use Rattle.word_rows.specs.Words.{wordRow}
+use Rattle.table_lent.specs.Lent.{inBoth, tableRow}
+use Rattle.table_call.specs.Calls.{callRow}
 use Rattle.table_call.proofs.Calls.{called-refused, called-yes, called-no}
 use Rattle.table_call.proofs.CallRows.{word-refuses, table-refuses, scratch-refuses, call-served, few-marks, ready}
 use borrow.Author.Needs.{needs}
 use Rattle.table_call.proofs.judge_lent.Statement.{statement}
 use Rattle.table_call.proofs.judge_lent.Tie as tie
 
-returns : tie.Need-returns
-returns c =
-    let start = c .before .before .before .before .before .before .before .before .before in
-    let a = start .args in called-refused (a .h .s) (λ x. bit x (a .h .initial)) (a .lead .now) (a .cycle .now) (inBoth (a .codes .now) (a .codebytes .now))
-    (inBoth (a .moves .now) (a .movebytes .now)) (a .scratch .now) (c .before .word-row .result) (c .if1 .taken)
-    (word-refuses (a .h .s) (a .lead .now) (a .cycle .now) (inBoth (a .codes .now) (a .codebytes .now)) (inBoth (a .moves .now) (a .movebytes .now)) (length (a .scratch .now))
-    (c .before .word-row .result) (c .if1 .taken) (c .before .word-row .ensures))
+abbrev first-of : tie.Else1 → tie.Start
+first-of c = c .before .before .before .before .before .before .before .before .before
 
-returns-2 : tie.Need-returns-2
-returns-2 c =
-    let start = c .before .before .before .before .before .before .before .before .before .before .before in
-    let a = start .args in called-refused (a .h .s) (λ x. bit x (a .h .initial)) (a .lead .now) (a .cycle .now) (inBoth (a .codes .now) (a .codebytes .now))
-    (inBoth (a .moves .now) (a .movebytes .now)) (a .scratch .now) (c .before .table-row .result) (c .if2 .taken)
-    (table-refuses (a .h .s) (a .lead .now) (a .cycle .now) (inBoth (a .codes .now) (a .codebytes .now)) (inBoth (a .moves .now) (a .movebytes .now)) (length (a .scratch .now))
-    (sym (c .before .before .before .word-row .ensures) ∙ c .before .before .if1 .left) (c .before .table-row .result) (c .if2 .taken) (c .before .table-row .ensures))
+abbrev start-of : tie.Else2 → tie.Start
+start-of c = first-of (c .before .before)
+
+-- rows 12 to 14 pass, and row 15
+word : (c : tie.Else1) → let a = first-of c .args in wordRow (a .h .s) (a .lead .now) (a .cycle .now) ≡ 0
+word c = sym (c .before .word-row .ensures) ∙ c .if1 .left
+
+table : (c : tie.Else2) → let a = start-of c .args in tableRow (a .h .s) (inBoth (a .codes .now) (a .codebytes .now)) (inBoth (a .moves .now) (a .movebytes .now)) ≡ 0
+table c = sym (c .before .table-row .ensures) ∙ c .if2 .left
+
+-- as many bytes as the marks take
+used : (c : tie.After-count) → let a = start-of (c .before) .args in let n = length (inBoth (a .codes .now) (a .codebytes .now) .numbers) in
+    c .count .result * places (a .lead .now) (a .cycle .now) ≡ n * places (a .lead .now) (a .cycle .now)
+used c = let a = start-of (c .before) .args in ap (λ (n : ℕ). n * places (a .lead .now) (a .cycle .now)) (c .count .ensures)
 
 mul-used : tie.Need-mul-used
 mul-used c =
-    let start = c .before .before .before .before .before .before .before .before .before .before .before .before in
-    let a = start .args in rw (c .count .ensures) (omega (
-      arith,
-      few-marks (a .h .s) (a .lead .now) (a .cycle .now) (inBoth (a .codes .now) (a .codebytes .now))
-          (inBoth (a .moves .now) (a .movebytes .now)) (sym (c .before .before .before .before .word-row .ensures) ∙ c .before .before .before .if1 .left)
-          (sym (c .before .before .table-row .ensures) ∙ c .before .if2 .left),
-    ))
-
-returns-3 : tie.Need-returns-3
-returns-3 c =
-    let start = c .before .before .before .before .before .before .before .before .before .before .before .before .before in
-    let a = start .args in
-    let used = ap (λ (n : ℕ). n * places (a .lead .now) (a .cycle .now)) (c .before .count .ensures) in
-    let short : length (a .scratch .now) < length (inBoth (a .codes .now) (a .codebytes .now) .numbers) * places (a .lead .now) (a .cycle .now) = omega (arith, used, c .if3 .taken) in
-    called-refused (a .h .s) (λ x. bit x (a .h .initial)) (a .lead .now) (a .cycle .now) (inBoth (a .codes .now) (a .codebytes .now)) (inBoth (a .moves .now) (a .movebytes .now)) (a .scratch .now) 16
-    (λ e. omega arith) (scratch-refuses (a .h .s) (a .lead .now) (a .cycle .now) (inBoth (a .codes .now) (a .codebytes .now)) (inBoth (a .moves .now) (a .movebytes .now))
-    (length (a .scratch .now)) (sym (c .before .before .before .before .before .word-row .ensures) ∙ c .before .before .before .before .if1 .left)
-    (sym (c .before .before .before .table-row .ensures) ∙ c .before .before .if2 .left) short)
-
-slice-aggregate-search : tie.Need-slice-aggregate-search
-slice-aggregate-search c =
-    let start = c .before .before .before .before .before .before .before .before .before .before .before .before .before .before .before in
-    sym (length-take-le _ (start .args .scratch .now) (c .before .before .if3 .left))
+    let a = start-of (c .before) .args in
+    rw (c .count .ensures) (omega (arith, few-marks (a .h .s) (a .lead .now) (a .cycle .now) _ _ (word (c .before .before .before)) (table (c .before))))
 
 search-requires : tie.Need-search-requires
 search-requires c κs =
-    let at-word-row = c .before .before .before .before .before .before .before in
-    let start = at-word-row .before .before .before .before .before .before .before .before in
-    let a = start .args in (
+    let at-count = c .before .before .before in let start = start-of (at-count .before) in let a = start .args in (
       start .pre,
-      ready (a .h .s) (a .lead .now) (a .cycle .now) (inBoth (a .codes .now) (a .codebytes .now)) (inBoth (a .moves .now) (a .movebytes .now))
-          (sym (at-word-row .word-row .ensures) ∙ c .before .before .before .before .before .before .if1 .left)
-          (sym (c .before .before .before .before .before .table-row .ensures) ∙ c .before .before .before .before .if2 .left) _
-          (length-take-le _ (a .scratch .now) (c .before .before .if3 .left) ∙ ap (λ (n : ℕ). n * places (a .lead .now) (a .cycle .now)) (c .before .before .before .count .ensures)),
+      ready (a .h .s) (a .lead .now) (a .cycle .now) _ _ (word (at-count .before .before .before)) (table (at-count .before)) _
+          (length-take-le _ (a .scratch .now) (c .before .before .if3 .left) ∙ used at-count),
     )
+
+abbrev count-of : tie.After-slice-known3 → tie.After-count
+count-of c = c .before .before .before .before .before .before .before .before .before .before
+
+-- the call is served
+served : (c : tie.After-slice-known3) → let a = start-of (count-of c .before) .args in
+    callRow (a .h .s) (a .lead .now) (a .cycle .now) (inBoth (a .codes .now) (a .codebytes .now)) (inBoth (a .moves .now) (a .movebytes .now)) (length (a .scratch .now)) ≡ 0
+served c =
+    let at-count = count-of c in let a = start-of (at-count .before) .args in
+    call-served (a .h .s) (a .lead .now) (a .cycle .now) _ _ (length (a .scratch .now)) (word (at-count .before .before .before)) (table (at-count .before))
+    (omega (arith, used at-count, c .before .before .before .before .before .before .before .before .before .if3 .left))
+
+-- and leaves zeros
+cleared : (c : tie.After-slice-known3) → c .before .before .fill-with .last .0 ≡ replicate (length (start-of (count-of c .before) .args .scratch .now)) 0
+cleared c =
+    let f = c .before .before .fill-with in
+    let k : length (f .last .0) ≡ length (start-of (count-of c .before) .args .scratch .now) = search needs in
+    f .ensures ∙ ap (λ (n : ℕ). replicate n 0) (sym (f .kept .0) ∙ k)
 
 returns-4 : tie.Need-returns-4
 returns-4 c =
-    let a = c .before .before .before .before .before .before .before .before .before .before .before .before .before .before .before .before .before .before .before .before .before .before
-    .before .args in
-    let f = c .before .before .before .fill-with in
-    let k : length (f .last .0) ≡ length (a .scratch .now) = search needs in
-    let at-search = c .before .before .before .before .before .before .before in let at-if3 = at-search .before .before .before in let at-count = at-if3 .before in let at-if2 = at-count .before in
-    let at-table = at-if2 .before in let at-if1 = at-table .before in let at-word = at-if1 .before in
-    let used = ap (λ (n : ℕ). n * places (a .lead .now) (a .cycle .now)) (at-count .count .ensures) in
-    let room : length (inBoth (a .codes .now) (a .codebytes .now) .numbers) * places (a .lead .now) (a .cycle .now) ≤ length (a .scratch .now) =
-    omega (arith, used, at-if3 .if3 .left) in
-    let low : at-search .search .result < length (inBoth (a .codes .now) (a .codebytes .now) .numbers) =
-    omega (arith, at-count .count .ensures, c .if4 .taken) in
-    let e = call-served (a .h .s) (a .lead .now) (a .cycle .now) (inBoth (a .codes .now) (a .codebytes .now)) (inBoth (a .moves .now) (a .movebytes .now)) (length (a .scratch .now))
-    (sym (at-word .word-row .ensures) ∙ at-if1 .if1 .left) (sym (at-table .table-row .ensures) ∙ at-if2 .if2 .left) room in
-    rw (f .ensures ∙ ap (λ (n : ℕ). replicate n 0) (sym (f .kept .0) ∙ k))
-    (called-yes (a .h .s) (λ x. bit x (a .h .initial)) (a .lead .now) (a .cycle .now) (inBoth (a .codes .now) (a .codebytes .now)) (inBoth (a .moves .now) (a .movebytes .now)) (a .scratch .now) e
-    (at-search .search .result) low (at-search .search .ensures))
+    let s = c .before .before .before .before .before .before .before .search .ensures in
+    rw (cleared (c .before)) (called-yes (served (c .before)) s (omega (arith, count-of (c .before) .count .ensures, c .if4 .taken)))
 
 returns-5 : tie.Need-returns-5
 returns-5 c =
-    let a = c .before .before .before .before .before .before .before .before .before .before .before .before .before .before .before .before .before .before .before .before .before .before
-    .before .args in
-    let f = c .before .before .before .fill-with in
-    let k : length (f .last .0) ≡ length (a .scratch .now) = search needs in
-    let at-search = c .before .before .before .before .before .before .before in let at-if3 = at-search .before .before .before in let at-count = at-if3 .before in let at-if2 = at-count .before in
-    let at-table = at-if2 .before in let at-if1 = at-table .before in let at-word = at-if1 .before in
-    let used = ap (λ (n : ℕ). n * places (a .lead .now) (a .cycle .now)) (at-count .count .ensures) in
-    let room : length (inBoth (a .codes .now) (a .codebytes .now) .numbers) * places (a .lead .now) (a .cycle .now) ≤ length (a .scratch .now) =
-    omega (arith, used, at-if3 .if3 .left) in
-    let high : length (inBoth (a .codes .now) (a .codebytes .now) .numbers) ≤ at-search .search .result =
-    omega (arith, at-count .count .ensures, c .if4 .left) in
-    let e = call-served (a .h .s) (a .lead .now) (a .cycle .now) (inBoth (a .codes .now) (a .codebytes .now)) (inBoth (a .moves .now) (a .movebytes .now)) (length (a .scratch .now))
-    (sym (at-word .word-row .ensures) ∙ at-if1 .if1 .left) (sym (at-table .table-row .ensures) ∙ at-if2 .if2 .left) room in
-    rw (f .ensures ∙ ap (λ (n : ℕ). replicate n 0) (sym (f .kept .0) ∙ k))
-    (called-no (a .h .s) (λ x. bit x (a .h .initial)) (a .lead .now) (a .cycle .now) (inBoth (a .codes .now) (a .codebytes .now)) (inBoth (a .moves .now) (a .movebytes .now)) (a .scratch .now) e
-    (at-search .search .result) high (at-search .search .ensures))
+    let s = c .before .before .before .before .before .before .before .search .ensures in
+    rw (cleared (c .before)) (called-no (served (c .before)) s (omega (arith, count-of (c .before) .count .ensures, c .if4 .left)))
 
 pub judge-lent-spec : {M : Type 1} → statement M
 judge-lent-spec =
     tie.close (tie.spec
-    (λ c κs. search needs) returns (λ c κs. search needs) returns-2 (λ c κs. search needs) (λ c. search needs) mul-used returns-3 (λ c. search needs)
-    (λ c. search needs) slice-aggregate-search search-requires (λ c κs. search needs) (λ c. search needs) returns-4 (λ c. search needs) returns-5)
+    (λ c κs. search needs) (λ c. called-refused _ (c .if1 .taken) (word-refuses _ _ _ _ _ _ _ (c .if1 .taken) (c .before .word-row .ensures)))
+    (λ c κs. search needs)
+    (λ c. called-refused _ (c .if2 .taken) (table-refuses _ _ _ _ _ _ (word (c .before .before)) _ (c .if2 .taken) (c .before .table-row .ensures)))
+    (λ c κs. search needs) (λ c. search needs) mul-used
+    (λ c. called-refused 16 (λ e. omega arith)
+    (scratch-refuses _ _ _ _ _ _ (word (c .before .before .before .before)) (table (c .before .before)) (omega (arith, used (c .before), c .if3 .taken))))
+    (λ c. search needs) (λ c. search needs)
+    (λ c. sym (length-take-le _ (start-of (c .before .before .before .before) .args .scratch .now) (c .before .before .if3 .left))) search-requires
+    (λ c κs. search needs) (λ c. search needs) returns-4 (λ c. search needs) returns-5)

@@ -25,10 +25,8 @@ lowest-start-requires c κs =
 
 returns : tie.Need-returns
 returns c =
-    let start = c .before .before .before .before .before .before .before .before .before .before .before .before .before in
-    let a = start .args in
-    earliest (λ x. bit x (a .initial)) (inBoth (a .codes .now) (a .codebytes .now) .numbers) (inBoth (a .moves .now) (a .movebytes .now) .numbers) (a .lead .now) (a .cycle .now)
-    (c .before .before .before .before .fill .last .1 .1 .1 .1 .1 .1 .0) (c .before .before .before .before .fill .ensures) (c .lowest-start .result) (c .lowest-start .ensures)
+    let a = c .before .before .before .before .before .before .before .before .before .before .before .before .before .args in
+    earliest (λ x. bit x (a .initial)) _ _ _ _ _ (c .before .before .before .before .fill .ensures) _ (c .lowest-start .ensures)
 
 pub search-spec : {M : Type 1} → statement M
 search-spec = tie.close (tie.spec (λ c κs. search needs) lowest-start-requires (λ c. search needs) returns)
