@@ -59,33 +59,19 @@ pub ordered-in : (back : Bool) (ts : List ℕ) (t : ℕ) → List·Memᴰ t ts �
 ordered-in true ts t m = turned-in ts t m
 ordered-in false ts t m = m
 
-module _ (n : ℕ) (cycle ts : List ℕ) (back : Bool) where
-  abbrev pub edge-in : (x y : ℕ) → NodeEdge n cycle ts x y → NodeEdge n cycle (ordered back ts) x y
-  edge-in x y e = record {
-    place = e .place;
-    transition = e .transition;
-    inside = e .inside;
-    listed = ordered-in back ts (e .transition) (e .listed);
-    letter = e .letter;
-    source = e .source;
-    target = e .target;
-  }
+-- an edge stays one where its transition is listed too
+abbrev pub edge-listed : {n : ℕ} {cycle ts us : List ℕ} → ((t : ℕ) → List·Memᴰ t ts → List·Memᴰ t us) → {x y : ℕ} → NodeEdge n cycle ts x y → NodeEdge n cycle us x y
+edge-listed h e = record {
+  place = e .place;
+  transition = e .transition;
+  inside = e .inside;
+  listed = h (e .transition) (e .listed);
+  letter = e .letter;
+  source = e .source;
+  target = e .target;
+}
 
-  pub edge-from : (x y : ℕ) → NodeEdge n cycle (ordered back ts) x y → NodeEdge n cycle ts x y
-  edge-from x y e = record {
-    place = e .place;
-    transition = e .transition;
-    inside = e .inside;
-    listed = ordered-from back ts (e .transition) (e .listed);
-    letter = e .letter;
-    source = e .source;
-    target = e .target;
-  }
-
-  pub fits-ordered : (ms : List ℕ) → Fits n cycle ts ms → Fits n cycle (ordered back ts) ms
-  fits-ordered ms f = record {
-    repeats = f .repeats;
-    marked = f .marked;
-    sources = λ t m. f .sources t (ordered-from back ts t m);
-    targets = λ t m. f .targets t (ordered-from back ts t m);
-  }
+pub fits-ordered : {n : ℕ} {cycle ts ms : List ℕ} (back : Bool) → Fits n cycle ts ms → Fits n cycle (ordered back ts) ms
+fits-ordered {ts = ts} back f =
+    let from = ordered-from back ts in
+    record { repeats = f .repeats; marked = f .marked; sources = λ t m. f .sources t (from t m); targets = λ t m. f .targets t (from t m) }

@@ -80,14 +80,14 @@ module _ (cycle : List ℕ) (p : ℕ) where
 
 -- ---- marks fit a table
 
-module _ (n : ℕ) (cycle ts : List ℕ) where
-  pub fits-long : (ms new : List ℕ) → length new ≡ length ms → Fits n cycle ts ms → Fits n cycle ts new
-  fits-long ms new e f = record { repeats = f .repeats; marked = e ∙ f .marked; sources = f .sources; targets = f .targets }
+module _ {n : ℕ} {cycle ts ms : List ℕ} where
+  pub fits-long : {new : List ℕ} → length new ≡ length ms → Fits n cycle ts ms → Fits n cycle ts new
+  fits-long e f = record { repeats = f .repeats; marked = e ∙ f .marked; sources = f .sources; targets = f .targets }
 
   -- both ends of a transition have marks
-  pub ends-fit : (ms : List ℕ) (p : ℕ) → Fits n cycle ts ms → p < length cycle → (t : ℕ) → List·Memᴰ t ts
+  pub ends-fit : Fits n cycle ts ms → (p : ℕ) → p < length cycle → (t : ℕ) → List·Memᴰ t ts
       → (p * n + sourceOf t < length ms) × (nextPlace [] cycle p * n + targetOf t < length ms)
-  ends-fit ms p f l t m = (
+  ends-fit f p l t m = (
     rw (f .marked) (digits-lt {q = p} {m = length cycle} {c = n} l (f .sources t m)),
     rw (f .marked) (digits-lt {q = nextPlace [] cycle p} {m = length cycle} {c = n} (let k = next-place-low [] cycle (f .repeats) p (omega arith) in omega arith) (f .targets t m)),
   )

@@ -44,16 +44,12 @@ turns-stay new s = (s .keeps turns walk members again 0, s .keeps turns walk mem
 
 -- ---- one place
 
-module _ (n : ℕ) (cycle ts : List ℕ) where
+module _ {n : ℕ} {cycle ts ms new : List ℕ} {changed : Bool} where
   -- the nodes at place p without an edge to a node that is in go out
-  pub prune-at : (ms new : List ℕ) (p : ℕ) (changed : Bool) → Fits n cycle ts ms → ((x : ℕ) → (getD ms x 0 ≡ 0) ⊎ (getD ms x 0 ≡ 2)) → p < length cycle
+  pub prune-at : (p : ℕ) → Fits n cycle ts ms → ((x : ℕ) → (getD ms x 0 ≡ 0) ⊎ (getD ms x 0 ≡ 2)) → p < length cycle
       → Settling (p * n) (p * n + n) (markedAt n cycle ts p ms) new changed → PruneRound (NodeEdge n cycle ts) ms new changed
-  prune-at ms new p changed f even l s = record {
-    pruned = record {
-      long = s .long ∙ m .long;
-      each = each;
-      keeps = keeps;
-    };
+  prune-at p f even l s = record {
+    pruned = record { long = s .long ∙ m .long; each = each; keeps = keeps };
     even = λ x. ⊎-elim (λ e. inl e) (λ e. ⊎-elim (λ k. inl (e ∙ k)) (λ k. inr (e ∙ k)) (even x)) (each x);
     less = back-less (At n cycle ts p) ms mid new (p * n) (p * n + n) changed low m s out;
   }

@@ -1,6 +1,6 @@
 -- Going round the cycle: at places that do not wait nothing is left to mark, and when none waits all is marked.
-use mathlib.Core.Path.{_≡_, refl, sym, ap, _∙_}
-use mathlib.Core.Logic.{_⊎_, inl, inr, ⊎-elim, by-cases}
+use mathlib.Core.Path.{_≡_, refl, sym}
+use mathlib.Core.Logic.{inl, inr, ⊎-elim, by-cases}
 use mathlib.Core.Bool.{Bool, true, false, not, true≢false, false≢true}
 use mathlib.Core.List.{List, []}
 use Prim.Native.Nat.{ℕ, zero, suc, _+_, _-_, _*_, _≤_, _<_}
@@ -21,7 +21,7 @@ use Rattle.table_fixpoints_spec.specs.Product.{NodeEdge, Fits}
 use Rattle.table_fixpoints_spec.specs.Marks.{markedAt, isNewAt, ordered}
 use Rattle.table_fixpoints_spec.specs.Waiting.{placeBefore, Waits, waitingAfter}
 use Rattle.table_fixpoints_spec.proofs.Places.{At, same-place, elsewhere, round-at, marking-at}
-use Rattle.table_fixpoints_spec.proofs.Orders.{edge-in, edge-from, fits-ordered}
+use Rattle.table_fixpoints_spec.proofs.Orders.{ordered-in, edge-listed, ordered-from, fits-ordered}
 
 -- ---- how many wait
 
@@ -39,13 +39,10 @@ after-many : (w : ℕ) → 2 ≤ w → waitingAfter true w ≡ w - 1
 unfolding waitingAfter
 after-many w l = rw (le-ltb w 2 l)
 
-after-old : (w : ℕ) → waitingAfter false w ≡ w - 1
-unfolding waitingAfter
-after-old w = refl
-
 pub waits-old : (new : Bool) (w : ℕ) → not new ≡ true → w - 1 ≡ waitingAfter new w
+unfolding waitingAfter
 waits-old true w e = absurd (false≢true e)
-waits-old false w e = sym (after-old w)
+waits-old false w e = refl
 
 pub waits-few : (new : Bool) (w : ℕ) → not new ≡ false → w < 2 → 1 ≡ waitingAfter new w
 waits-few true w e l = sym (after-few w l)
@@ -61,7 +58,7 @@ left-after true w h =
     (λ l. let e = after-few w l in record { least = omega arith; most = omega arith; some = λ t. omega arith; none = λ t. absurd (true≢false t) })
     (λ l. let e = after-many w (omega arith) in record { least = omega arith; most = omega arith; some = λ t. omega arith; none = λ t. absurd (true≢false t) })
 left-after false w h =
-    let e = after-old w in record { least = omega arith; most = omega arith; some = λ t. absurd (false≢true t); none = λ t. omega arith }
+    let e = waits-old false w refl in record { least = omega arith; most = omega arith; some = λ t. absurd (false≢true t); none = λ t. omega arith }
 
 -- ---- which wait
 
@@ -99,9 +96,6 @@ module _ (n : ℕ) (cycle ts b : List ℕ) where
     pub marking : Marking (NodeEdge n cycle ts) b ms
     pub closed : (x y : ℕ) (e : NodeEdge n cycle ts x y) → (Waits (length cycle) p waiting (e .place) → ⊥) → 1 < getD ms y 0 → 0 < getD b x 0 → 2 < getD ms x 0
 
-  pub around-start : 0 < length cycle → Around b 0 (length cycle)
-  around-start l = record { inside = l; marking = marking-start (NodeEdge n cycle ts) b; closed = λ x y e free. absurd (free (inr (omega arith))) }
-
   module _ (ms : List ℕ) (back : Bool) (p w v : ℕ) (f : Fits n cycle ts ms) (a : Around ms p w)
       (s : Left (isNewAt n cycle (ordered back ts) (placeBefore (length cycle) p) ms) w v) where
     abbrev k : ℕ
@@ -123,7 +117,7 @@ module _ (n : ℕ) (cycle ts b : List ℕ) where
         (λ t. let other : nextPlace [] cycle (e .place) ≡ k → ⊥ = λ i. free (rw (sym i) (waits-before cycle v (e .place) (e .inside) (s .some t))) in
         where-cases (k * n) (k * n + n) y
         (λ i j. absurd (other (same-place n k (nextPlace [] cycle (e .place)) (targetOf (e .transition)) (f .targets _ (e .listed)) (rw (sym (e .target)) i) (rw (sym (e .target)) j))))
-        (λ o. let u = elsewhere n cycle (ordered back ts) ms k (fits-ordered n cycle ts back ms f) low y o in omega arith))
+        (λ o. let u = elsewhere n cycle (ordered back ts) ms k (fits-ordered back f) low y o in omega arith))
         (λ t. round .still t y h)
 
     member : (x : ℕ) → 0 < getD b x 0 → 0 < getD ms x 0
@@ -132,28 +126,32 @@ module _ (n : ℕ) (cycle ts b : List ℕ) where
     around-swept : Around new k v
     around-swept = record {
       inside = low;
-      marking = marking-at n cycle (ordered back ts) (NodeEdge n cycle ts) b k low (λ x y e. edge-from n cycle ts back x y (e .0)) ms (a .marking);
+      marking = marking-at n cycle (ordered back ts) (NodeEdge n cycle ts) b k low (λ x y e. edge-listed (ordered-from back ts) (e .0)) ms (a .marking);
       closed = λ x y e free h m. by-cases (ℕ-discrete (e .place) k)
-          (λ q. round .closed x y (edge-in n cycle ts back x y e, q) (known x y e free h) (member x m))
+          (λ q. round .closed x y (edge-listed (ordered-in back ts) e, q) (known x y e free h) (member x m))
           (λ q. let o = a .closed x y e (λ u. free (waits-on (length cycle) p w v (e .place) (a .inside) (e .inside) q (s .least) u)) (known x y e free h) m in
           omega (arith, round .more x));
     }
 
-  -- a sweep over the place before p, in either order
-  pub around-next : (ms new : List ℕ) (back r : Bool) (p k w v : ℕ) → Fits n cycle ts ms → Around ms p w → k ≡ placeBefore (length cycle) p → new ≡ markedAt n cycle (ordered back ts) k ms
-      → r ≡ isNewAt n cycle (ordered back ts) k ms → Left r w v → Around new k v
-  around-next ms new back r p k w v f a q e g s = rw (e, q) (around-swept ms back p w v f a (rw (sym (rw q at g)) s))
+pub around-start : {n : ℕ} {cycle ts b : List ℕ} → 0 < length cycle → Around n cycle ts b b 0 (length cycle)
+around-start {n} {cycle} {ts} {b} l = record { inside = l; marking = marking-start (NodeEdge n cycle ts) b; closed = λ x y e free. absurd (free (inr (omega arith))) }
 
-  pub around-end : (ms : List ℕ) (p : ℕ) → Around ms p 0 → Stable (NodeEdge n cycle ts) b ms
-  around-end ms p a = record {
+module _ {n : ℕ} {cycle ts b : List ℕ} where
+  -- a sweep over the place before p, in either order
+  pub around-next : {ms new : List ℕ} (back : Bool) {r : Bool} {p k w v : ℕ} → Fits n cycle ts ms → Around n cycle ts b ms p w → k ≡ placeBefore (length cycle) p
+      → new ≡ markedAt n cycle (ordered back ts) k ms → r ≡ isNewAt n cycle (ordered back ts) k ms → Left r w v → Around n cycle ts b new k v
+  around-next {ms} back {r} {p} {k} {w} {v} f a q e g s = rw (e, q) (around-swept n cycle ts b ms back p w v f a (rw (sym (rw q at g)) s))
+
+  pub around-end : {ms : List ℕ} {p : ℕ} → Around n cycle ts b ms p 0 → Stable (NodeEdge n cycle ts) b ms
+  around-end a = record {
     marking = a .marking;
     closed = λ x y e h m. a .closed x y e (λ s. ⊎-elim (λ t. omega (arith, t .0, t .1)) (λ t. omega (arith, e .inside)) s) h m;
   }
 
   -- each sweep marks a node or leaves one place less that waits
-  pub around-less : (ms new : List ℕ) (back r : Bool) (p k w v : ℕ) → ((x : ℕ) → getD b x 0 ≤ 2) → Around new p v → new ≡ markedAt n cycle (ordered back ts) k ms
+  pub around-less : (ms : List ℕ) {new : List ℕ} (back : Bool) {r : Bool} {k w v : ℕ} → ((x : ℕ) → getD b x 0 ≤ 2) → Around n cycle ts b new k v → new ≡ markedAt n cycle (ordered back ts) k ms
       → r ≡ isNewAt n cycle (ordered back ts) k ms → Left r w v → 4 * length b - sum new + v < 4 * length b - sum ms + w
-  around-less ms new back r p k w v low a e g s =
+  around-less ms {new} back {r} {k} low a e g s =
       let d : Round (At n cycle (ordered back ts) k) ms new r = rw (e, g) (round-at n cycle (ordered back ts) k ms) in
       let most = marking-sum (NodeEdge n cycle ts) b new low (a .marking) in
       bif r
@@ -161,8 +159,8 @@ module _ (n : ℕ) (cycle ts b : List ℕ) where
       (λ t. omega (arith, sum-le ms new (sym (d .long)) (d .more), s .none t))
 
 -- each place that is pruned loses a node, or one place less waits
-pub prune-less : (E : ℕ → ℕ → Type 0) (old new : List ℕ) (r : Bool) (w v : ℕ) → PruneRound E old new r → Left r w v → sum new + v < sum old + w
-prune-less E old new r w v p s =
+pub prune-less : {E : ℕ → ℕ → Type 0} {old new : List ℕ} {r : Bool} {w v : ℕ} → PruneRound E old new r → Left r w v → sum new + v < sum old + w
+prune-less {E} {old} {new} {r} p s =
     bif r
     (λ t. omega (arith, p .less t, s .most))
     (λ t. omega (arith, pruned-sum E old new (p .pruned), s .none t))

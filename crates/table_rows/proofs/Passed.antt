@@ -61,14 +61,8 @@ module _ (s : ℕ) (codes transitions : List ℕ) (p : Passed s codes transition
   pub code-at : (i : ℕ) → i < length codes → getD codes i 0 < 2 ^ 48
   code-at i l = p .narrow (getD codes i 0) (mem-at codes i l)
 
-  pub source-at : (i : ℕ) → i < length transitions → sourceOf (getD transitions i 0) < length codes
-  source-at i l = p .source (getD transitions i 0) (mem-at transitions i l)
-
   pub letter-at : (i : ℕ) → i < length transitions → letterOf (getD transitions i 0) < s
   letter-at i l = p .letter (getD transitions i 0) (mem-at transitions i l)
-
-  pub target-at : (i : ℕ) → i < length transitions → targetOf (getD transitions i 0) < length codes
-  target-at i l = p .target (getD transitions i 0) (mem-at transitions i l)
 
 -- ---- 65,536 codes pass: the numbers from 0 on, and a transition from the last to the last
 

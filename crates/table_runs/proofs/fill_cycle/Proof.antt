@@ -11,7 +11,7 @@ solve-requires : tie.Need-solve-requires
 solve-requires c κs =
     let start = c .before .before .before .before .before .before .before .before .before .before .before in
     let a = start .args in let w = c .before .before .before .fill-with in
-    (fits-long _ _ _ _ _ (w .kept .0) (start .pre), rw (w .ensures) (all-two (length (a .marks .now))))
+    (fits-long (w .kept .0) (start .pre), rw (w .ensures) (all-two (length (a .marks .now))))
 
 returns : tie.Need-returns
 returns c =

@@ -24,7 +24,7 @@ thin-requires : tie.Need-thin-requires Inv-loop μ-loop
 thin-requires c κs =
     let start = c .before .before .before .before .before .before .before .before .before in let pre = start .pre in
     let g = c .before .loop .inv in
-    (fits-long _ _ _ _ _ (going-long g) (pre .0), going-begun (pre .1) g)
+    (fits-long (going-long g) (pre .0), going-begun (pre .1) g)
 
 solve-round-requires : tie.Need-solve-round-requires Inv-loop μ-loop
 solve-round-requires c κs =
@@ -32,7 +32,7 @@ solve-round-requires c κs =
     let n = c .before .before .before .before .before .before .count .ensures in
     let g = c .before .before .before .before .before .loop .inv in
     let t = going-thinned g (c .before .before .before .thin .ensures) in
-    rw n (fits-long _ _ _ _ _ (t .long) (start .pre .0), thinned-low t)
+    rw n (fits-long (t .long) (start .pre .0), thinned-low t)
 
 same-length : tie.Need-same-length Inv-loop μ-loop
 same-length c =

@@ -19,7 +19,7 @@ prune-requires c κs =
     let start = c .before .before .before .before .before .before .before .before .before .before .before .before .before .before in
     let r = c .before .before .before .raise .ensures in
     let n = c .before .before .before .before .before .count .ensures in
-    rw n (fits-long _ _ _ _ _ (r .long) (start .pre .0), raised-two r)
+    rw n (fits-long (r .long) (start .pre .0), raised-two r)
 
 flag-requires : tie.Need-flag-requires
 flag-requires c κs =

@@ -27,10 +27,10 @@ prune-place-requires : tie.Need-prune-place-requires Inv-loop μ-loop
 prune-place-requires c κs =
     let start = c .before .before .before .before .before .before .before .before in
     let v = c .before .before .before .loop .inv in
-    (fits-long _ _ _ _ _ (v .1 .long) (start .pre .0), v .2, rw (c .before .place-before .ensures) (before-low _ _ (v .0)))
+    (fits-long (v .1 .long) (start .pre .0), v .2, rw (c .before .place-before .ensures) (before-low _ _ (v .0)))
 
 loop-less : tie.Need-loop-less Inv-loop μ-loop
-loop-less c = prune-less _ _ _ _ _ _ (c .before .before .before .prune-place .ensures)
+loop-less c = prune-less (c .before .before .before .prune-place .ensures)
     (rw (c .waiting-after .ensures) (left-after _ _ (c .before .before .before .before .before .before .loop-test .taken)))
 
 loop-again : tie.Need-loop-again Inv-loop μ-loop

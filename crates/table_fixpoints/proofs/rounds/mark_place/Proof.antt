@@ -7,7 +7,6 @@ use native.Mathlib.Omega.{arith}
 use borrow.Author.Needs.{needs}
 use lib.ListN.{length}
 use Rattle.theory.specs.Word.{nextPlace, letterAt}
-use Rattle.table_lent.specs.Lent.{inBoth}
 use Rattle.table_fixpoints_spec.proofs.Places.{place-room, there-last, there-other, ends-fit}
 use Rattle.table_fixpoints_spec.proofs.Loops.{all-same}
 use Rattle.table_fixpoints.proofs.rounds.mark_place.Statement.{statement}
@@ -27,8 +26,7 @@ cast-mark-all : tie.Need-cast-mark-all
 cast-mark-all c = omega (arith, c .shared-slice-known4 .given (c .before .before .before .before .before .before .args .p))
 
 -- the nodes of the place that follows begin there
-follows : (c : tie.Joined1) → c .if1 .there ≡ nextPlace [] (c .before .before .before .before .before .args .cycle .now)
-    (c .before .before .before .before .before .args .p) * c .before .before .before .before .before .args .n
+follows : (c : tie.Joined1) → let a = c .before .before .before .before .before .args in c .if1 .there ≡ nextPlace [] (a .cycle .now) (a .p) * a .n
 follows c =
     let a = c .before .before .before .before .before .args in
     ⊎-elim
@@ -38,10 +36,8 @@ follows c =
 
 mark-all-requires : tie.Need-mark-all-requires
 mark-all-requires c κs =
-    let start = c .before .before .before .before .before .before .before in let a = start .args in
-    let pre = start .pre in
-    λ t m. let q = ends-fit (a .n) (a .cycle .now) (inBoth (a .moves .now) (a .movebytes .now) .numbers) (a .marks .now) (a .p) (pre .0) (pre .1) t m in
-    (q .0, rw (follows (c .before .before)) (q .1))
+    let start = c .before .before .before .before .before .before .before in
+    λ t m. let q = ends-fit (start .pre .0) (start .args .p) (start .pre .1) t m in (q .0, rw (follows (c .before .before)) (q .1))
 
 returns : tie.Need-returns
 unfolding letterAt

@@ -1,8 +1,9 @@
 -- `has_astray` meets its contract. The loop's invariant: the test of the whole list is that of what is left of it.
-use Prim.Native.Nat.{_-_}
+use Prim.Native.Nat.{ℕ, _-_}
+use mathlib.Core.Bool.{Bool}
 use mathlib.Core.Path.{_≡_, refl, sym, _∙_, ap}
 use native.Mathlib.Omega.{arith}
-use lib.ListN.{drop}
+use lib.ListN.{drop, getD}
 use borrow.Author.Needs.{needs}
 use Rattle.sets.specs.Lists.{anyOf}
 use Rattle.sets.proofs.Walks.{any-next, any-stop, any-end}
@@ -16,31 +17,19 @@ Inv-loop words bytes n s m i₀ i = anyOf (inBoth words bytes .numbers) (isAstra
 abbrev μ-loop : tie.MeasureT-loop
 μ-loop words bytes n s m i₀ i = m - i
 
-returns : tie.Need-returns Inv-loop μ-loop
-returns c =
-    let start = c .before .before .before .before .before .before .before .before in let a = start .args in
-    let xs = inBoth (a .words .now) (a .bytes .now) .numbers in
-    let l = c .before .before .before .before .loop in
-    let f = isAstray (a .n) (a .s) in
-    sym (l .inv ∙ any-stop f xs (l .i) (omega arith) (ap f (sym (c .before .before .element .ensures)) ∙ sym (c .before .is-astray .ensures) ∙ c .if1 .taken))
+abbrev test-of : tie.After-is-astray Inv-loop μ-loop → ℕ → Bool
+test-of c = let a = c .before .before .before .before .before .before .before .args in isAstray (a .n) (a .s)
 
-loop-again : tie.Need-loop-again Inv-loop μ-loop
-loop-again c =
-    let start = c .before .before .before .before .before .before .before .before in let a = start .args in
-    let xs = inBoth (a .words .now) (a .bytes .now) .numbers in
-    let l = c .before .before .before .before .loop in
-    let f = isAstray (a .n) (a .s) in
-    l .inv ∙ any-next f xs (l .i) (omega arith) (ap f (sym (c .before .before .element .ensures)) ∙ sym (c .before .is-astray .ensures) ∙ c .if1 .left)
-
-returns-2 : tie.Need-returns-2 Inv-loop μ-loop
-returns-2 c =
-    let a = c .before .before .before .before .before .args in
-    let xs = inBoth (a .words .now) (a .bytes .now) .numbers in
-    let l = c .before .loop in
-    sym (l .inv ∙ any-end (isAstray (a .n) (a .s)) xs (l .i) (omega arith))
+-- the element that is read tests as the call told
+told : (c : tie.After-is-astray Inv-loop μ-loop) → let a = c .before .before .before .before .before .before .before .args in
+    test-of c (getD (inBoth (a .words .now) (a .bytes .now) .numbers) (c .before .before .before .loop .i) 0) ≡ c .is-astray .result
+told c = ap (test-of c) (sym (c .before .element .ensures)) ∙ sym (c .is-astray .ensures)
 
 pub has-astray-spec : {M : Type 1} → statement M
 has-astray-spec =
     tie.close (tie.spec
-    Inv-loop μ-loop (λ c κs. search needs) (λ c. refl) (λ c κs. omega arith) (λ c κs. search needs) returns (λ c. search needs) (λ c. search needs) loop-again
-    returns-2)
+    Inv-loop μ-loop (λ c κs. search needs) (λ c. refl) (λ c κs. omega arith) (λ c κs. search needs)
+    (λ c. let l = c .before .before .before .before .loop in sym (l .inv ∙ any-stop (test-of (c .before)) _ (l .i) (omega arith) (told (c .before) ∙ c .if1 .taken)))
+    (λ c. search needs) (λ c. search needs)
+    (λ c. let l = c .before .before .before .before .loop in l .inv ∙ any-next (test-of (c .before)) _ (l .i) (omega arith) (told (c .before) ∙ c .if1 .left))
+    (λ c. sym (c .before .loop .inv ∙ any-end _ _ (c .before .loop .i) (omega arith))))

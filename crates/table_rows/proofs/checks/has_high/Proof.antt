@@ -19,28 +19,18 @@ abbrev μ-loop : tie.MeasureT-loop
 
 returns : tie.Need-returns Inv-loop μ-loop
 returns c =
-    let start = c .before .before .before .before .before .before .before in let a = start .args in
-    let xs = inBoth (a .words .now) (a .bytes .now) .numbers in
     let l = c .before .before .before .loop in let x = c .before .element .result in
     let above : 2 ^ 48 ≤ x = omega arith in
-    sym (l .inv ∙ any-stop isHigh xs (l .i) (omega arith) (ap isHigh (sym (c .before .element .ensures)) ∙ high x above))
+    sym (l .inv ∙ any-stop isHigh _ (l .i) (omega arith) (ap isHigh (sym (c .before .element .ensures)) ∙ high x above))
 
 loop-again : tie.Need-loop-again Inv-loop μ-loop
 loop-again c =
-    let start = c .before .before .before .before .before .before .before in let a = start .args in
-    let xs = inBoth (a .words .now) (a .bytes .now) .numbers in
     let l = c .before .before .before .loop in let x = c .before .element .result in
     let below : x < 2 ^ 48 = omega arith in
-    l .inv ∙ any-next isHigh xs (l .i) (omega arith) (ap isHigh (sym (c .before .element .ensures)) ∙ not-high x below)
-
-returns-2 : tie.Need-returns-2 Inv-loop μ-loop
-returns-2 c =
-    let a = c .before .before .before .before .before .args in
-    let xs = inBoth (a .words .now) (a .bytes .now) .numbers in
-    let l = c .before .loop in
-    sym (l .inv ∙ any-end isHigh xs (l .i) (omega arith))
+    l .inv ∙ any-next isHigh _ (l .i) (omega arith) (ap isHigh (sym (c .before .element .ensures)) ∙ not-high x below)
 
 pub has-high-spec : {M : Type 1} → statement M
 has-high-spec =
     tie.close (tie.spec
-    Inv-loop μ-loop (λ c κs. search needs) (λ c. refl) (λ c κs. omega arith) returns (λ c. search needs) (λ c. search needs) loop-again returns-2)
+    Inv-loop μ-loop (λ c κs. search needs) (λ c. refl) (λ c κs. omega arith) returns (λ c. search needs) (λ c. search needs) loop-again
+    (λ c. sym (c .before .loop .inv ∙ any-end isHigh _ (c .before .loop .i) (omega arith))))

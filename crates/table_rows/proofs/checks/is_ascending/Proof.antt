@@ -1,6 +1,7 @@
 -- `is_ascending` meets its contract. The loop's invariant: the test of the whole list is that of what is left of it, after `last`.
-use Prim.Native.Nat.{_-_, _<_}
+use Prim.Native.Nat.{ℕ, _-_, _<_}
 use mathlib.Core.Path.{_≡_, _∙_, ap}
+use mathlib.Core.List.{List}
 use native.Mathlib.Omega.{arith}
 use lib.ListN.{take, drop}
 use lib.Seq.{take-all}
@@ -18,47 +19,37 @@ Inv-loop words bytes n last₀ i₀ last i =
 abbrev μ-loop : tie.MeasureT-loop
 μ-loop words bytes n last₀ i₀ last i = n - i
 
-returns : tie.Need-returns Inv-loop μ-loop
-returns c =
-    let a = c .before .before .before .before .args in
-    let xs = inBoth (a .words .now) (a .bytes .now) .numbers in
-    let n = c .before .count .result in
-    ascends-none xs n (c .if1 .taken) ∙ ap ascends (take-all n xs (omega arith))
+-- the numbers that are lent, all of which are counted
+abbrev numbers-of : tie.After-count Inv-loop μ-loop → List ℕ
+numbers-of c = let a = c .before .before .before .args in inBoth (a .words .now) (a .bytes .now) .numbers
+
+whole : (c : tie.After-count Inv-loop μ-loop) → ascends (take (c .count .result) (numbers-of c)) ≡ ascends (numbers-of c)
+whole c = ap ascends (take-all (c .count .result) (numbers-of c) (omega arith))
 
 loop-holds : tie.Need-loop-holds Inv-loop μ-loop
-loop-holds c =
-    let a = c .before .before .before .before .before .args in
-    let xs = inBoth (a .words .now) (a .bytes .now) .numbers in
-    let n = c .before .before .count .result in
-    (omega arith, rw (c .element .ensures) (ascends-start xs n (omega arith) (omega arith)))
+loop-holds c = (omega arith, rw (c .element .ensures) (ascends-start (numbers-of (c .before .before)) (c .before .before .count .result) (omega arith) (omega arith)))
+
+abbrev count-of : tie.After-element2 Inv-loop μ-loop → tie.After-count Inv-loop μ-loop
+count-of c = c .before .before .before .before .before
 
 returns-2 : tie.Need-returns-2 Inv-loop μ-loop
 returns-2 c =
-    let start = c .before .before .before .before .before .before .before .before .before in let a = start .args in
-    let l = c .before .before .before .loop in
-    let xs = inBoth (a .words .now) (a .bytes .now) .numbers in
-    let n = c .before .before .before .before .before .before .count .result in
-    ascends-not xs n (omega arith) (l .last) (l .i) (omega arith) (omega (arith, c .if2 .taken)) (l .inv .1) ∙ ap ascends (take-all n xs (omega arith))
+    let l = c .before .before .before .loop in let k = count-of (c .before) in
+    ascends-not (numbers-of k) (k .count .result) (omega arith) (l .last) (l .i) (omega arith) (omega (arith, c .if2 .taken)) (l .inv .1) ∙ whole k
 
 loop-again : tie.Need-loop-again Inv-loop μ-loop
 loop-again c =
-    let start = c .before .before .before .before .before .before .before .before .before in let a = start .args in
-    let l = c .before .before .before .loop in
-    let xs = inBoth (a .words .now) (a .bytes .now) .numbers in
-    let n = c .before .before .before .before .before .before .count .result in let x = c .before .element2 .result in
-    let above : l .last < x = omega arith in
-    (omega arith, rw (c .before .element2 .ensures) (ascends-on xs n (omega arith) (l .last) (l .i) (omega arith) (omega (arith, above)) (l .inv .1)))
+    let l = c .before .before .before .loop in let k = count-of (c .before) in
+    let above : l .last < c .before .element2 .result = omega arith in
+    (omega arith, rw (c .before .element2 .ensures) (ascends-on (numbers-of k) (k .count .result) (omega arith) (l .last) (l .i) (omega arith) (omega (arith, above)) (l .inv .1)))
 
 returns-3 : tie.Need-returns-3 Inv-loop μ-loop
 returns-3 c =
-    let start = c .before .before .before .before .before .before .before in let a = start .args in
-    let l = c .before .loop in
-    let xs = inBoth (a .words .now) (a .bytes .now) .numbers in
-    let n = c .before .before .before .before .count .result in
-    ascends-end xs n (omega arith) (l .last) (l .i) (omega arith) (l .inv .1) ∙ ap ascends (take-all n xs (omega arith))
+    let l = c .before .loop in let k = c .before .before .before .before in
+    ascends-end (numbers-of k) (k .count .result) (omega arith) (l .last) (l .i) (omega arith) (l .inv .1) ∙ whole k
 
 pub is-ascending-spec : {M : Type 1} → statement M
 is-ascending-spec =
     tie.close (tie.spec
-    Inv-loop μ-loop (λ c κs. search needs) returns (λ c κs. omega arith) loop-holds (λ c κs. omega arith) returns-2 (λ c. search needs) (λ c. search needs)
-    loop-again returns-3)
+    Inv-loop μ-loop (λ c κs. search needs) (λ c. ascends-none (numbers-of (c .before)) (c .before .count .result) (c .if1 .taken) ∙ whole (c .before))
+    (λ c κs. omega arith) loop-holds (λ c κs. omega arith) returns-2 (λ c. search needs) (λ c. search needs) loop-again returns-3)

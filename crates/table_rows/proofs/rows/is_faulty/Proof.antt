@@ -14,36 +14,6 @@ use Rattle.table_rows.proofs.Faults.{faulty, by-transitions}
 use Rattle.table_rows.proofs.rows.is_faulty.Statement.{statement}
 use Rattle.table_rows.proofs.rows.is_faulty.Tie as tie
 
-returns : tie.Need-returns
-returns c =
-    let a = c .before .before .before .before .before .before .args in
-    let codes = inBoth (a .codes .now) (a .codebytes .now) .numbers in
-    let transitions = inBoth (a .moves .now) (a .movebytes .now) .numbers in
-    faulty (a .s) codes transitions (λ p. let few = p .few in omega (arith, c .if1 .taken))
-
-returns-2 : tie.Need-returns-2
-returns-2 c =
-    let start = c .before .before .before .before .before .before .before .before in let a = start .args in
-    let codes = inBoth (a .codes .now) (a .codebytes .now) .numbers in
-    let transitions = inBoth (a .moves .now) (a .movebytes .now) .numbers in
-    faulty (a .s) codes transitions (λ p. clash (p .codes-ascend) (sym (c .before .is-ascending .ensures) ∙ not-true _ (c .if2 .taken)))
-
-returns-3 : tie.Need-returns-3
-returns-3 c =
-    let start = c .before .before .before .before .before .before .before .before .before .before in
-    let a = start .args in
-    let codes = inBoth (a .codes .now) (a .codebytes .now) .numbers in
-    let transitions = inBoth (a .moves .now) (a .movebytes .now) .numbers in
-    faulty (a .s) codes transitions (λ p. clash (p .transitions-ascend) (sym (c .before .is-ascending2 .ensures) ∙ not-true _ (c .if3 .taken)))
-
-returns-4 : tie.Need-returns-4
-returns-4 c =
-    let start = c .before .before .before .before .before .before .before .before .before .before .before .before in
-    let a = start .args in
-    let codes = inBoth (a .codes .now) (a .codebytes .now) .numbers in
-    let transitions = inBoth (a .moves .now) (a .movebytes .now) .numbers in
-    faulty (a .s) codes transitions (λ p. clash (sym (c .before .has-high .ensures) ∙ c .if4 .taken) (p .none-high))
-
 returns-5 : tie.Need-returns-5
 returns-5 c =
     let at-count = c .before .before .before .before .before .before .before .before in
@@ -60,5 +30,7 @@ returns-5 c =
 pub is-faulty-spec : {M : Type 1} → statement M
 is-faulty-spec =
     tie.close (tie.spec
-    (λ c κs. search needs) returns (λ c κs. search needs) returns-2 (λ c κs. search needs) returns-3 (λ c κs. search needs) returns-4 (λ c κs. search needs)
-    returns-5)
+    (λ c κs. search needs) (λ c. faulty _ _ _ (λ p. let few = p .few in omega (arith, c .if1 .taken))) (λ c κs. search needs)
+    (λ c. faulty _ _ _ (λ p. clash (p .codes-ascend) (sym (c .before .is-ascending .ensures) ∙ not-true _ (c .if2 .taken)))) (λ c κs. search needs)
+    (λ c. faulty _ _ _ (λ p. clash (p .transitions-ascend) (sym (c .before .is-ascending2 .ensures) ∙ not-true _ (c .if3 .taken)))) (λ c κs. search needs)
+    (λ c. faulty _ _ _ (λ p. clash (sym (c .before .has-high .ensures) ∙ c .if4 .taken) (p .none-high))) (λ c κs. search needs) returns-5)
