@@ -52,8 +52,7 @@ module _ (states : List ℕ) (old : List ℕ) where
 
   pub report-states : (k : ℕ) → length states ≡ k + 1 → k < length old → (States (k + 1) ≡ answer row states) × (states ++ drop (k + 1) old ≡ after row states old)
   unfolding after
-  report-states k e l =
-      rw (row-fits states (length old) (omega arith)) (sym (answer-states states k e), ap (λ (x : ℕ). states ++ drop x old) (sym e))
+  report-states k e l = rw (row-fits states (length old) (omega arith)) (sym (answer-states states k e), ap (λ (x : ℕ). states ++ drop x old) (sym e))
 
 -- ---- the loop of the rule
 
@@ -68,8 +67,7 @@ module _ (r : Rule) (s : Start) (b : Begins (r .n) (successorsOf r) (r .acceptin
   module _ (l : s .further < r .n) where
     pub found-route : loopOf r ≡ route (r .n) (successorsOf r) (bit others) (s .at) (s .further) false (s .at)
     unfolding loopOf loopBy
-    found-route =
-        rw (sym (b .length), sym (b .smallest l), lt-ltb (s .further) (r .n) l)
+    found-route = rw (sym (b .length), sym (b .smallest l), lt-ltb (s .further) (r .n) l)
 
     some-begins : someBelow (r .n) (begins (r .n) (successorsOf r) (r .accepting) (s .further)) ≡ true
     unfolding further

@@ -78,8 +78,7 @@ module _ (f : List ℕ) where
   -- the answer and the slice of a file that rows 1 to 10 refuse
   pub refused : (old : List ℕ) (k : ℕ) → (k ≡ 0 → ⊥) → k ≡ firstRow (layoutRows f) → (Refused k ≡ reportOf f (length old)) × (old ≡ sliceAfter f old)
   unfolding reportOf sliceAfter
-  refused old k n e =
-      rw (sym (row-layout (length old) k n e)) (answer-refused k (loopOf (ruleIn f)) n, after-refused k (loopOf (ruleIn f)) old n)
+  refused old k n e = rw (sym (row-layout (length old) k n e)) (answer-refused k (loopOf (ruleIn f)) n, after-refused k (loopOf (ruleIn f)) old n)
 
   -- of one that they pass
   pub passed : (old new : List ℕ) (a : Report) → firstRow (layoutRows f) ≡ 0 → a ≡ answer (firstRow (formedRows (ruleIn f) (length old))) (loopOf (ruleIn f))

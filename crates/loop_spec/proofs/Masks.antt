@@ -92,8 +92,7 @@ module _ (n : ℕ) (es : List ℕ) where
 
     walk-any : (q : ℕ) (ps : List ℕ) → q < n → Leads q ps → bit (any (suc (length ps))) q ≡ true
     walk-any q [] l w = rw any-suc (source-in (any zero) q t l t-state (leads-last q w) (any-zero t ∙ eq-eqb t t refl))
-    walk-any q (p ∷ ps) l w =
-        let (k, s, v) = leads-parts q p ps w in rw any-suc (source-in (any (suc (length ps))) q p l k s (walk-any p ps k v))
+    walk-any q (p ∷ ps) l w = let (k, s, v) = leads-parts q p ps w in rw any-suc (source-in (any (suc (length ps))) q p l k s (walk-any p ps k v))
 
     -- ---- walks that pass a state of the other kind
 

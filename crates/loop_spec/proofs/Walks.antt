@@ -42,8 +42,7 @@ pub along-ext : (n : ℕ) (lead lead′ : ℕ → Set) → ((q p : ℕ) → q < 
     → (q : ℕ) (ps : List ℕ) (t : ℕ) → q < n → allBelow n ps ≡ true → t < n → along lead q ps t ≡ along lead′ q ps t
 unfolding along
 along-ext n lead lead′ h q [] t l b m = h q t l m
-along-ext n lead lead′ h q (p ∷ ps) t l b m =
-    let (k, c) = below-parts n p ps b in rw (h q p l k, along-ext n lead lead′ h p ps t k c m)
+along-ext n lead lead′ h q (p ∷ ps) t l b m = let (k, c) = below-parts n p ps b in rw (h q p l k, along-ext n lead lead′ h p ps t k c m)
 
 -- ---- lists where a state stands twice
 

@@ -116,15 +116,7 @@ module _ (n : ℕ) (cycle ts : List ℕ) where
 
   over-edge : (p : ℕ) → p < length cycle → (x y : ℕ) → OverAt p x y → At p x y
   over-edge p l x y o = (
-    record {
-      place = p;
-      transition = o .transition;
-      inside = l;
-      listed = o .listed;
-      letter = o .over;
-      source = o .source;
-      target = o .target;
-    },
+    record { place = p; transition = o .transition; inside = l; listed = o .listed; letter = o .over; source = o .source; target = o .target },
     refl,
   )
 

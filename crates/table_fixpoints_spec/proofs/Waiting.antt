@@ -160,7 +160,4 @@ module _ {n : ℕ} {cycle ts b : List ℕ} where
 
 -- each place that is pruned loses a node, or one place less waits
 pub prune-less : {E : ℕ → ℕ → Type 0} {old new : List ℕ} {r : Bool} {w v : ℕ} → PruneRound E old new r → Left r w v → sum new + v < sum old + w
-prune-less {E} {old} {new} {r} p s =
-    bif r
-    (λ t. omega (arith, p .less t, s .most))
-    (λ t. omega (arith, pruned-sum E old new (p .pruned), s .none t))
+prune-less {E} {old} {new} {r} p s = bif r (λ t. omega (arith, p .less t, s .most)) (λ t. omega (arith, pruned-sum E old new (p .pruned), s .none t))

@@ -67,13 +67,7 @@ module _ (s : ℕ) (codes transitions : List ℕ) where
   unfolding isFaulty
   clear h =
       let p = five (ltb 65536 (length codes)) (ascends codes) (ascends transitions) (anyOf codes isHigh) (anyOf transitions (isAstray (length codes) s)) h in
-      record {
-        few = ltb-false 65536 (length codes) (p .0);
-        codes-ascend = p .1;
-        transitions-ascend = p .2;
-        none-high = p .3;
-        none-astray = p .4;
-      }
+      record { few = ltb-false 65536 (length codes) (p .0); codes-ascend = p .1; transitions-ascend = p .2; none-high = p .3; none-astray = p .4 }
 
   pub faulty : (Clear s codes transitions → ⊥) → true ≡ isFaulty s codes transitions
   faulty n = bif (isFaulty s codes transitions) (λ t. sym t) (λ f. absurd (n (clear f)))

@@ -22,9 +22,7 @@ abbrev rule : (c : tie.After-start-of) → Rule
 rule c = let a = c .before .before .before .before .before .before .before .args in ruleOf (a .h) (a .counts .now) (a .clauses .now)
 
 formed : (c : tie.After-start-of) → WellFormed (rule c)
-formed c =
-    let start = c .before .before .before .before .before .before .before in
-    start .pre
+formed c = let start = c .before .before .before .before .before .before .before in start .pre
 
 -- where its loop begins
 begun : (c : tie.After-start-of) → Begins (rule c .n) (successorsOf (rule c)) (rule c .accepting) (c .start-of .result)
@@ -39,9 +37,7 @@ cast-accepting c =
     omega (arith, accepting-small (ruleOf (a .h) (a .counts .now) (a .clauses .now)) (c .before .before .before .before .before .pre))
 
 returns : tie.Need-returns
-returns c =
-    let p = c .before in
-    report-none (loopOf (rule p)) (slice p) (found-none (rule p) (p .start-of .result) (begun p) (c .if1 .taken))
+returns c = let p = c .before in report-none (loopOf (rule p)) (slice p) (found-none (rule p) (p .start-of .result) (begun p) (c .if1 .taken))
 
 returns-2 : tie.Need-returns-2
 returns-2 c =

@@ -29,15 +29,6 @@ start-of c = c .before .before .before .before .before .before .before .before .
 more : (c : tie.In-loop Inv-loop μ-loop) → c .before .loop .i < length (wordsOf (start-of c .args .sheet .now))
 more c = words-more (c .before .loop .inv) (c .loop-test .taken)
 
-slice-aggregate-judge-word : tie.Need-slice-aggregate-judge-word Inv-loop μ-loop
-slice-aggregate-judge-word c = omega (arith, c .before .before .before .loop .inv .held .parts .froms)
-
-slice-aggregate-judge-word-2 : tie.Need-slice-aggregate-judge-word-2 Inv-loop μ-loop
-slice-aggregate-judge-word-2 c = omega (arith, c .before .before .before .before .loop .inv .held .parts .sizes)
-
-slice-aggregate-judge-word-3 : tie.Need-slice-aggregate-judge-word-3 Inv-loop μ-loop
-slice-aggregate-judge-word-3 c = omega (arith, c .before .before .before .before .before .loop .inv .held .room)
-
 part-judge-word-end : tie.Need-part-judge-word-end Inv-loop μ-loop
 part-judge-word-end c = let t = c .before .before .before .before in omega (arith, more t, start-of t .pre .3, t .before .loop .inv .masked .long)
 
@@ -63,9 +54,7 @@ slice-write-answers c =
     omega (arith, more t, start-of t .pre .2, t .before .loop .inv .answered .long)
 
 next-word-requires : tie.Need-next-word-requires Inv-loop μ-loop
-next-word-requires c κs =
-    let t = c .before .before .before .before .before .before .before .before .before .before .before in
-    t .loop-test .taken
+next-word-requires c κs = let t = c .before .before .before .before .before .before .before .before .before .before .before in t .loop-test .taken
 
 abbrev turn-of : tie.After-next-word Inv-loop μ-loop → tie.In-loop Inv-loop μ-loop
 turn-of c = c .before .before .before .before .before .before .before .before .before .before .before .before
@@ -80,8 +69,9 @@ pub judge-words-spec : {M : Type 1} → statement M
 judge-words-spec =
     tie.close (tie.spec
     Inv-loop μ-loop starts-of-requires (λ c κs. search needs) (λ c. done-start refl refl refl) (λ c. omega (arith, more c, start-of c .pre .1))
-    (λ c. omega (arith, more c, start-of c .pre .1)) slice-aggregate-judge-word slice-aggregate-judge-word-2 slice-aggregate-judge-word-3
-    (λ c. omega arith) (λ c. omega arith) part-judge-word-end judge-word-requires slice-write-answers next-word-requires
-    (λ c. omega (arith, more (turn-of c), start-of (turn-of c) .pre .1)) (λ c. omega (arith, c .next-word .ensures, turn-of c .loop-test .taken))
-    loop-again (λ c. c .before .loop .inv .answered .long) (λ c. c .before .loop .inv .masked .long)
-    (λ c. done-end (c .before .loop .inv) (omega (arith, c .loop-test .left))))
+    (λ c. omega (arith, more c, start-of c .pre .1)) (λ c. omega (arith, c .before .before .before .loop .inv .held .parts .froms))
+    (λ c. omega (arith, c .before .before .before .before .loop .inv .held .parts .sizes))
+    (λ c. omega (arith, c .before .before .before .before .before .loop .inv .held .room)) (λ c. omega arith) (λ c. omega arith) part-judge-word-end
+    judge-word-requires slice-write-answers next-word-requires (λ c. omega (arith, more (turn-of c), start-of (turn-of c) .pre .1))
+    (λ c. omega (arith, c .next-word .ensures, turn-of c .loop-test .taken)) loop-again (λ c. c .before .loop .inv .answered .long)
+    (λ c. c .before .loop .inv .masked .long) (λ c. done-end (c .before .loop .inv) (omega (arith, c .loop-test .left))))

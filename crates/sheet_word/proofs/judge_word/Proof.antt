@@ -19,11 +19,6 @@ use Rattle.sheet_word.proofs.judge_word.Tie as tie
 abbrev start-of : tie.After-word-fault → tie.Start
 start-of c = c .before .before .before .before .before .before .before .before .before
 
-word-fault-requires : tie.Need-word-fault-requires
-word-fault-requires c κs =
-    let start = c .before .before .before .before .before .before .before .before in
-    start .pre .1
-
 returns : tie.Need-returns
 returns c =
     let w = c .before .before .before .before .before in
@@ -76,5 +71,6 @@ returns-3 c =
 pub judge-word-spec : {M : Type 1} → statement M
 judge-word-spec =
     tie.close (tie.spec
-    word-fault-requires (λ c κs. search needs) (λ c. search needs) returns serve-word-requires slice-read-contains cast-contains contains-requires (λ c. search needs)
-    (λ c. search needs) (λ c. search needs) (λ c. search needs) returns-2 (λ c. search needs) (λ c. search needs) (λ c. search needs) (λ c. search needs) returns-3)
+    (λ c κs. let start = c .before .before .before .before .before .before .before .before in start .pre .1) (λ c κs. search needs)
+    (λ c. search needs) returns serve-word-requires slice-read-contains cast-contains contains-requires (λ c. search needs) (λ c. search needs)
+    (λ c. search needs) (λ c. search needs) returns-2 (λ c. search needs) (λ c. search needs) (λ c. search needs) (λ c. search needs) returns-3)

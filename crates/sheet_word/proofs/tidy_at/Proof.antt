@@ -15,18 +15,6 @@ use Rattle.sheet_word.proofs.tidy_at.Tie as tie
 sound : (c : tie.Start) → SoundAt (c .args .sheet .now) (c .args .at) (c .pre .1 .0)
 sound c = sound-at (c .args .sheet .now) (c .args .at) (c .pre .1 .0) (c .pre .0) (c .pre .1 .1)
 
-cast-middle : tie.Need-cast-middle
-cast-middle c = omega (arith, c .shared-slice-known2 .given (c .before .before .args .at))
-
-cast-last : tie.Need-cast-last
-cast-last c = omega (arith, c .shared-slice-known3 .given (c .before .before .before .args .at + 1))
-
-cycle-length-requires : tie.Need-cycle-length-requires
-cycle-length-requires c κs = simp (length-take, length-drop) (omega (arith, sound (c .before .before .before .before)))
-
-part-lead-length-end-2 : tie.Need-part-lead-length-end-2
-part-lead-length-end-2 c = omega (arith, sound (c .before .before .before .before .before .before))
-
 lead-length-requires : tie.Need-lead-length-requires
 lead-length-requires c κs =
     let s = sound (c .before .before .before .before .before .before .before) in (
@@ -41,8 +29,12 @@ returns c = tidy-there (sound (c .before .before .before .before .before .before
 pub tidy-at-spec : {M : Type 1} → statement M
 tidy-at-spec =
     tie.close (tie.spec
-    (λ c. search needs) (λ c. search needs) cast-middle (λ c. omega (arith, sound (c .before .before))) (λ c. search needs)
-    (λ c. sound (c .before .before .before) .two) cast-last (λ c. omega (arith, sound (c .before .before .before))) (λ c. omega arith)
-    (λ c. omega arith) (λ c. omega (arith, sound (c .before .before .before))) cycle-length-requires (λ c. omega arith) (λ c. omega arith)
-    (λ c. omega (arith, sound (c .before .before .before .before .before))) (λ c. omega arith) (λ c. omega arith) part-lead-length-end-2
-    lead-length-requires (λ c. omega (arith, returns c .within)) (λ c. omega arith) returns)
+    (λ c. search needs) (λ c. search needs) (λ c. omega (arith, c .shared-slice-known2 .given (c .before .before .args .at)))
+    (λ c. omega (arith, sound (c .before .before))) (λ c. search needs) (λ c. sound (c .before .before .before) .two)
+    (λ c. omega (arith, c .shared-slice-known3 .given (c .before .before .before .args .at + 1)))
+    (λ c. omega (arith, sound (c .before .before .before))) (λ c. omega arith) (λ c. omega arith)
+    (λ c. omega (arith, sound (c .before .before .before)))
+    (λ c κs. simp (length-take, length-drop) (omega (arith, sound (c .before .before .before .before)))) (λ c. omega arith) (λ c. omega arith)
+    (λ c. omega (arith, sound (c .before .before .before .before .before))) (λ c. omega arith) (λ c. omega arith)
+    (λ c. omega (arith, sound (c .before .before .before .before .before .before))) lead-length-requires (λ c. omega (arith, returns c .within))
+    (λ c. omega arith) returns)

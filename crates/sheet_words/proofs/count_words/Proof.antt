@@ -19,9 +19,7 @@ loop-again c =
     (omega (arith, e), e .within, counted-next (c .before .before .before .before .args .sheet .now) (l .at) (c .next-word .result) (l .n) e (l .inv .2))
 
 returns : tie.Need-returns Inv-loop μ-loop
-returns c =
-    let l = c .before .loop in
-    counted-end (c .before .before .before .args .sheet .now) (l .at) (l .n) (omega arith) (l .inv .2)
+returns c = let l = c .before .loop in counted-end (c .before .before .before .args .sheet .now) (l .at) (l .n) (omega arith) (l .inv .2)
 
 pub count-words-spec : {M : Type 1} → statement M
 count-words-spec =

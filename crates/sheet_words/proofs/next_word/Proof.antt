@@ -9,17 +9,6 @@ use Rattle.sheet_words.proofs.Places.{next-lone, next-whole, next-cut}
 use Rattle.sheet_words.proofs.next_word.Statement.{statement}
 use Rattle.sheet_words.proofs.next_word.Tie as tie
 
-returns : tie.Need-returns
-returns c =
-    let a = c .before .args in
-    next-lone (a .sheet .now) (a .at) (omega arith)
-
-cast-size : tie.Need-cast-size
-cast-size c = omega (arith, c .shared-slice-known .given (c .before .before .args .at))
-
-cast-size-2 : tie.Need-cast-size-2
-cast-size-2 c = omega (arith, c .shared-slice-known2 .given (c .before .before .before .args .at + 1))
-
 add-size-2 : tie.Need-add-size-2
 add-size-2 c = let a = c .before .before .before .args in omega (arith, c .before .shared-slice-known .given (a .at), c .shared-slice-known2 .given (a .at + 1))
 
@@ -40,5 +29,7 @@ returns-3 c =
 pub next-word-spec : {M : Type 1} → statement M
 next-word-spec =
     tie.close (tie.spec
-    (λ c. search needs) returns (λ c. search needs) cast-size (λ c. search needs) (λ c. search needs) cast-size-2 add-size-2 (λ c. search needs)
-    (λ c. search needs) returns-2 (λ c. search needs) (λ c. search needs) returns-3)
+    (λ c. search needs) (λ c. let a = c .before .args in next-lone (a .sheet .now) (a .at) (omega arith)) (λ c. search needs)
+    (λ c. omega (arith, c .shared-slice-known .given (c .before .before .args .at))) (λ c. search needs) (λ c. search needs)
+    (λ c. omega (arith, c .shared-slice-known2 .given (c .before .before .before .args .at + 1))) add-size-2 (λ c. search needs) (λ c. search needs)
+    returns-2 (λ c. search needs) (λ c. search needs) returns-3)

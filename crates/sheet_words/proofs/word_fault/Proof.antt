@@ -10,17 +10,6 @@ use Rattle.sheet_words.proofs.Places.{lone-fault, cut-fault, cut-no-cyc
 use Rattle.sheet_words.proofs.word_fault.Statement.{statement}
 use Rattle.sheet_words.proofs.word_fault.Tie as tie
 
-returns : tie.Need-returns
-returns c =
-    let a = c .before .before .args in
-    sym (lone-fault (a .sheet .now) (a .at) (a .s) (omega arith))
-
-cast-lead : tie.Need-cast-lead
-cast-lead c = omega (arith, c .shared-slice-known2 .given (c .before .before .before .args .at))
-
-cast-cycle : tie.Need-cast-cycle
-cast-cycle c = omega (arith, c .shared-slice-known3 .given (c .before .before .before .before .args .at + 1))
-
 add-if2 : tie.Need-add-if2
 add-if2 c = let a = c .before .before .before .before .args in omega (arith, c .before .shared-slice-known2 .given (a .at), c .shared-slice-known3 .given (a .at + 1))
 
@@ -50,6 +39,8 @@ returns-4 c =
 pub word-fault-spec : {M : Type 1} → statement M
 word-fault-spec =
     tie.close (tie.spec
-    (λ c. search needs) returns (λ c. search needs) cast-lead (λ c. search needs) (λ c. search needs) cast-cycle (λ c. search needs) (λ c. search needs) add-if2
-    returns-2 returns-3 (λ c. search needs) (λ c. search needs) (λ c. search needs) (λ c. search needs) (λ c. search needs) (λ c. search needs)
-    (λ c. search needs) (λ c. search needs) (λ c. search needs) (λ c κs. search needs) returns-4)
+    (λ c. search needs) (λ c. let a = c .before .before .args in sym (lone-fault (a .sheet .now) (a .at) (a .s) (omega arith))) (λ c. search needs)
+    (λ c. omega (arith, c .shared-slice-known2 .given (c .before .before .before .args .at))) (λ c. search needs) (λ c. search needs)
+    (λ c. omega (arith, c .shared-slice-known3 .given (c .before .before .before .before .args .at + 1))) (λ c. search needs) (λ c. search needs)
+    add-if2 returns-2 returns-3 (λ c. search needs) (λ c. search needs) (λ c. search needs) (λ c. search needs) (λ c. search needs)
+    (λ c. search needs) (λ c. search needs) (λ c. search needs) (λ c. search needs) (λ c κs. search needs) returns-4)

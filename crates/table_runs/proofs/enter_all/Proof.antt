@@ -26,11 +26,6 @@ enter-requires c κs =
     let h = start .pre (getD k (l .i) 0) (mem-at k (l .i) (omega (arith, c .before .before .before .before .count .ensures))) in
     rw (c .before .element .ensures, l .inv .1) h
 
-loop-less : tie.Need-loop-less Inv-loop μ-loop
-loop-less c =
-    let at-count = c .before .before .before .before .before .before .before in
-    omega (arith, at-count .count .ensures)
-
 loop-again : tie.Need-loop-again Inv-loop μ-loop
 loop-again c =
     let at-count = c .before .before .before .before .before .before .before in
@@ -53,4 +48,5 @@ pub enter-all-spec : {M : Type 1} → statement M
 enter-all-spec =
     tie.close (tie.spec
     Inv-loop μ-loop (λ c κs. search needs) (λ c. (omega arith, refl, refl)) (λ c κs. omega (arith, c .before .before .count .ensures)) enter-requires
-    (λ c. search needs) loop-less loop-again (λ c. c .before .loop .inv .1) returns)
+    (λ c. search needs) (λ c. let at-count = c .before .before .before .before .before .before .before in omega (arith, at-count .count .ensures))
+    loop-again (λ c. c .before .loop .inv .1) returns)

@@ -26,9 +26,6 @@ mul-here : tie.Need-mul-here Inv-loop μ-loop
 mul-here c = let l = c .before .loop in let a = c .before .before .before .before .before .before .args in let h : (l .p - 1) * a .n ≤ length (a .lead .now) * a .n =
     mul-le-mul-right (a .n) (omega arith) in omega (arith, h, c .before .before .before .before .before .before .pre .0, c .before .before .before .before .before .before .good)
 
-cast-enter-all : tie.Need-cast-enter-all Inv-loop μ-loop
-cast-enter-all c = omega (arith, c .shared-slice-known4 .given (c .before .before .loop .p - 1))
-
 add-enter-all : tie.Need-add-enter-all Inv-loop μ-loop
 add-enter-all c =
     let start = c .before .before .before .before .before .before .before .before in
@@ -61,5 +58,6 @@ returns c =
 pub enter-lead-spec : {M : Type 1} → statement M
 enter-lead-spec =
     tie.close (tie.spec
-    Inv-loop μ-loop loop-holds (λ c. search needs) mul-here (λ c. omega arith) cast-enter-all add-enter-all enter-all-requires (λ c. omega arith) loop-again
-    (λ c. c .before .loop .inv .1 .long) returns)
+    Inv-loop μ-loop loop-holds (λ c. search needs) mul-here (λ c. omega arith)
+    (λ c. omega (arith, c .shared-slice-known4 .given (c .before .before .loop .p - 1))) add-enter-all enter-all-requires (λ c. omega arith)
+    loop-again (λ c. c .before .loop .inv .1 .long) returns)

@@ -21,9 +21,6 @@ sizes c =
     parts-sum (length (a .lead .now)) (length (a .cycle .now)) (length (inBoth (a .codes .now) (a .codebytes .now) .numbers)) (c .count .result)
     (length (a .marks .now)) (c .count .ensures) (start-of c .pre .marked)
 
-part-fill-cycle-start : tie.Need-part-fill-cycle-start
-part-fill-cycle-start c = let h = sizes (c .before .before .before .before) in let k = c .before .before .fill-with .kept .0 in search needs
-
 fill-cycle-requires : tie.Need-fill-cycle-requires
 fill-cycle-requires c κs =
     let at-count = c .before .before .before .before .before in let a = start-of at-count .args in let p = start-of at-count .pre in
@@ -72,5 +69,6 @@ pub fill-spec : {M : Type 1} → statement M
 fill-spec =
     tie.close (tie.spec
     (λ c κs. search needs) (λ c. omega (arith, sizes c, start-of c .good)) (λ c κs. search needs)
-    (λ c. omega (arith, sizes (c .before .before .before .before), c .before .before .fill-with .kept .0)) part-fill-cycle-start (λ c. search needs) fill-cycle-requires enter-lead-requires
-    (λ c. search needs) returns)
+    (λ c. omega (arith, sizes (c .before .before .before .before), c .before .before .fill-with .kept .0))
+    (λ c. let h = sizes (c .before .before .before .before) in let k = c .before .before .fill-with .kept .0 in search needs) (λ c. search needs)
+    fill-cycle-requires enter-lead-requires (λ c. search needs) returns)

@@ -5,11 +5,8 @@ use borrow.Author.Needs.{needs}
 use Rattle.table_runs.proofs.flag_of.Statement.{statement}
 use Rattle.table_runs.proofs.flag_of.Tie as tie
 
-returns : tie.Need-returns
-returns c = sym (flag-accepting (c .before .before .args .code) (sym (c .before .is-accepting .ensures) ∙ c .if1 .taken))
-
-returns-2 : tie.Need-returns-2
-returns-2 c = sym (flag-other (c .before .before .args .code) (sym (c .before .is-accepting .ensures) ∙ c .if1 .left))
-
 pub flag-of-spec : {M : Type 1} → statement M
-flag-of-spec = tie.close (tie.spec (λ c κs. search needs) returns returns-2)
+flag-of-spec =
+    tie.close (tie.spec
+    (λ c κs. search needs) (λ c. sym (flag-accepting (c .before .before .args .code) (sym (c .before .is-accepting .ensures) ∙ c .if1 .taken)))
+    (λ c. sym (flag-other (c .before .before .args .code) (sym (c .before .is-accepting .ensures) ∙ c .if1 .left))))

@@ -4,11 +4,8 @@ use Rattle.rule_components.proofs.Mixed.{none-accepted, some-accepted}
 use Rattle.loop_search.proofs.ways.meets.Statement.{statement}
 use Rattle.loop_search.proofs.ways.meets.Tie as tie
 
-returns : tie.Need-returns
-returns c = let a = c .before .args in rw (none-accepted (a .a) (a .b) (c .if1 .taken))
-
-returns-2 : tie.Need-returns-2
-returns-2 c = let a = c .before .args in rw (some-accepted (a .a) (a .b) (omega arith) (omega arith) (c .if1 .left))
-
 pub meets-spec : {M : Type 1} → statement M
-meets-spec = tie.close (tie.spec returns returns-2)
+meets-spec =
+    tie.close (tie.spec
+    (λ c. let a = c .before .args in rw (none-accepted (a .a) (a .b) (c .if1 .taken)))
+    (λ c. let a = c .before .args in rw (some-accepted (a .a) (a .b) (omega arith) (omega arith) (c .if1 .left))))

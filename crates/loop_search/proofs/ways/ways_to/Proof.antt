@@ -14,9 +14,6 @@ Inv-loop es n others t k w₀ i₀ w i = (i ≤ k) × (w ≡ ways n es (bit othe
 abbrev μ-loop : tie.MeasureT-loop
 μ-loop es n others t k w₀ i₀ w i = k - i
 
-loop-holds : tie.Need-loop-holds Inv-loop μ-loop
-loop-holds c = let a = c .args in (omega arith, ways-none (a .n) (a .es .now) (a .others) (a .t) (c .pre .0) (c .pre .1))
-
 step-back-requires : tie.Need-step-back-requires Inv-loop μ-loop
 step-back-requires c κs =
     let a = c .before .before .args in let w = c .before .before .pre in let l = c .before .loop in
@@ -37,4 +34,6 @@ returns c =
 pub ways-to-spec : {M : Type 1} → statement M
 ways-to-spec =
     tie.close (tie.spec
-    Inv-loop μ-loop (λ c. omega arith) (λ c. omega arith) loop-holds step-back-requires (λ c. omega arith) (λ c. omega arith) loop-again returns)
+    Inv-loop μ-loop (λ c. omega arith) (λ c. omega arith)
+    (λ c. let a = c .args in (omega arith, ways-none (a .n) (a .es .now) (a .others) (a .t) (c .pre .0) (c .pre .1))) step-back-requires
+    (λ c. omega arith) (λ c. omega arith) loop-again returns)

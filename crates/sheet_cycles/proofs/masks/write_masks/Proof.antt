@@ -10,9 +10,6 @@ use Rattle.sheet_cycles.proofs.Repeats.{spread-length, spread-drop}
 use Rattle.sheet_cycles.proofs.masks.write_masks.Statement.{statement}
 use Rattle.sheet_cycles.proofs.masks.write_masks.Tie as tie
 
-repeat-cycle-requires : tie.Need-repeat-cycle-requires
-repeat-cycle-requires c κs = let z = c .before .before .before .before .before .before .pre in (z .3, omega (arith, z .4), z .5)
-
 fill-lead-requires : tie.Need-fill-lead-requires
 fill-lead-requires c κs =
     let start = c .before .before .before .before .before .before .before .before .before .before in
@@ -32,4 +29,7 @@ returns c =
     ∙ spread-drop (a .cycle .now) (length (a .lead .now)) (a .places) (a .block .now) order (z .5))
 
 pub write-masks-spec : {M : Type 1} → statement M
-write-masks-spec = tie.close (tie.spec repeat-cycle-requires fill-lead-requires (λ c. search needs) returns)
+write-masks-spec =
+    tie.close (tie.spec
+    (λ c κs. let z = c .before .before .before .before .before .before .pre in (z .3, omega (arith, z .4), z .5)) fill-lead-requires
+    (λ c. search needs) returns)

@@ -5,8 +5,8 @@ use borrow.Author.Needs.{needs}
 use Rattle.table_call.proofs.starts.is_start.Statement.{statement}
 use Rattle.table_call.proofs.starts.is_start.Tie as tie
 
-returns-2 : tie.Need-returns-2
-returns-2 c = rw (lt-ltb 0 (c .before .before .args .mark) (omega (arith, c .before .if1 .left))) (c .is-initial .ensures)
-
 pub is-start-spec : {M : Type 1} → statement M
-is-start-spec = tie.close (tie.spec (λ c. rw (le-ltb 0 (c .before .args .mark) (omega (arith, c .if1 .taken)))) (λ c κs. search needs) returns-2)
+is-start-spec =
+    tie.close (tie.spec
+    (λ c. rw (le-ltb 0 (c .before .args .mark) (omega (arith, c .if1 .taken)))) (λ c κs. search needs)
+    (λ c. rw (lt-ltb 0 (c .before .before .args .mark) (omega (arith, c .before .if1 .left))) (c .is-initial .ensures)))

@@ -20,9 +20,6 @@ Inv-loop moves movebytes cycle n marks₀ waiting₀ p₀ marks waiting p =
 abbrev μ-loop : tie.MeasureT-loop
 μ-loop moves movebytes cycle n marks₀ waiting₀ p₀ marks waiting p = sum marks + waiting
 
-loop-holds : tie.Need-loop-holds Inv-loop μ-loop
-loop-holds c = let pre = c .before .before .before .before .pre in (pre .0 .repeats, pruned-start _ _, pre .1)
-
 prune-place-requires : tie.Need-prune-place-requires Inv-loop μ-loop
 prune-place-requires c κs =
     let start = c .before .before .before .before .before .before .before .before in
@@ -42,6 +39,6 @@ loop-again c =
 pub prune-spec : {M : Type 1} → statement M
 prune-spec =
     tie.close (tie.spec
-    Inv-loop μ-loop loop-holds (λ c κs. c .before .loop .inv .0) prune-place-requires
-    (λ c κs. c .before .before .before .before .before .loop-test .taken) loop-less loop-again (λ c. c .before .loop .inv .1 .long)
-    (λ c. c .before .loop .inv .1))
+    Inv-loop μ-loop (λ c. let pre = c .before .before .before .before .pre in (pre .0 .repeats, pruned-start _ _, pre .1))
+    (λ c κs. c .before .loop .inv .0) prune-place-requires (λ c κs. c .before .before .before .before .before .loop-test .taken) loop-less loop-again
+    (λ c. c .before .loop .inv .1 .long) (λ c. c .before .loop .inv .1))

@@ -18,9 +18,7 @@ room c =
     omega (arith, place-room (a .n) (a .p) (length (a .cycle .now)) (pre .2), pre .0 .marked)
 
 settle-requires : tie.Need-settle-requires
-settle-requires c κs =
-    let long = at-long _ _ _ _ _ _ (c .before .before .before .mark-place .ensures .0) in
-    (omega arith, omega (arith, room c))
+settle-requires c κs = let long = at-long _ _ _ _ _ _ (c .before .before .before .mark-place .ensures .0) in (omega arith, omega (arith, room c))
 
 returns : tie.Need-returns
 returns c =

@@ -7,15 +7,6 @@ use Rattle.graph_walks.proofs.Marking.{mark-yes, mark-no}
 use Rattle.table_fixpoints.proofs.marks.mark.Statement.{statement}
 use Rattle.table_fixpoints.proofs.marks.mark.Tie as tie
 
-returns : tie.Need-returns
-returns c = let a = c .before .before .args in mark-no (a .x) (a .y) (a .marks .now) (λ d. omega arith)
-
-returns-2 : tie.Need-returns-2
-returns-2 c = let a = c .before .before .before .before .args in mark-no (a .x) (a .y) (a .marks .now) (λ d. omega arith)
-
-returns-3 : tie.Need-returns-3
-returns-3 c = let a = c .before .before .before .before .before .args in mark-no (a .x) (a .y) (a .marks .now) (λ d. omega arith)
-
 returns-4 : tie.Need-returns-4
 returns-4 c =
     let a = c .before .before .before .before .before .args in let ms = a .marks .now in
@@ -27,4 +18,7 @@ returns-4 c =
 pub mark-spec : {M : Type 1} → statement M
 mark-spec =
     tie.close (tie.spec
-    (λ c. search needs) returns (λ c. search needs) returns-2 returns-3 (λ c. search needs) (λ c. search needs) (λ c. search needs) returns-4)
+    (λ c. search needs) (λ c. let a = c .before .before .args in mark-no (a .x) (a .y) (a .marks .now) (λ d. omega arith)) (λ c. search needs)
+    (λ c. let a = c .before .before .before .before .args in mark-no (a .x) (a .y) (a .marks .now) (λ d. omega arith))
+    (λ c. let a = c .before .before .before .before .before .args in mark-no (a .x) (a .y) (a .marks .now) (λ d. omega arith)) (λ c. search needs)
+    (λ c. search needs) (λ c. search needs) returns-4)

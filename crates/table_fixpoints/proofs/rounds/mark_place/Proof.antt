@@ -22,9 +22,6 @@ add-there c =
     let a = c .before .before .before .before .args in let pre = c .before .before .before .before .pre in
     omega (arith, place-room (a .n) (a .p) (length (a .cycle .now)) (pre .1), pre .0 .marked)
 
-cast-mark-all : tie.Need-cast-mark-all
-cast-mark-all c = omega (arith, c .shared-slice-known4 .given (c .before .before .before .before .before .before .args .p))
-
 -- the nodes of the place that follows begin there
 follows : (c : tie.Joined1) → let a = c .before .before .before .before .before .args in c .if1 .there ≡ nextPlace [] (a .cycle .now) (a .p) * a .n
 follows c =
@@ -44,4 +41,8 @@ unfolding letterAt
 returns c = all-same _ _ _ _ _ _ _ _ (follows (c .before .before .before .before .before)) (c .before .before .mark-all .ensures)
 
 pub mark-place-spec : {M : Type 1} → statement M
-mark-place-spec = tie.close (tie.spec mul-here add-there (λ c. search needs) (λ c. search needs) cast-mark-all mark-all-requires (λ c. search needs) returns)
+mark-place-spec =
+    tie.close (tie.spec
+    mul-here add-there (λ c. search needs) (λ c. search needs)
+    (λ c. omega (arith, c .shared-slice-known4 .given (c .before .before .before .before .before .before .args .p))) mark-all-requires
+    (λ c. search needs) returns)

@@ -16,9 +16,6 @@ Inv-loop moves movebytes cycle n marks₀ back₀ waiting₀ p₀ marks back wai
 abbrev μ-loop : tie.MeasureT-loop
 μ-loop moves movebytes cycle n marks₀ back₀ waiting₀ p₀ marks back waiting p = 4 * length marks₀ - sum marks + waiting
 
-loop-holds : tie.Need-loop-holds Inv-loop μ-loop
-loop-holds c = around-start (c .before .before .before .before .pre .0 .repeats)
-
 mark-place-requires : tie.Need-mark-place-requires Inv-loop μ-loop
 mark-place-requires c κs =
     let start = c .before .before .before .before .before .before .before .before in
@@ -56,5 +53,6 @@ returns c =
 pub mark-until-stable-spec : {M : Type 1} → statement M
 mark-until-stable-spec =
     tie.close (tie.spec
-    Inv-loop μ-loop loop-holds (λ c κs. c .before .loop .inv .inside) mark-place-requires
-    (λ c κs. c .before .before .before .before .before .loop-test .taken) loop-less (λ c. swept c) (λ c. c .before .loop .inv .marking .long) returns)
+    Inv-loop μ-loop (λ c. around-start (c .before .before .before .before .pre .0 .repeats)) (λ c κs. c .before .loop .inv .inside)
+    mark-place-requires (λ c κs. c .before .before .before .before .before .loop-test .taken) loop-less (λ c. swept c)
+    (λ c. c .before .loop .inv .marking .long) returns)

@@ -5,14 +5,9 @@ use Rattle.table_fixpoints_spec.proofs.Waiting.{waits-old, waits-few, waits-man
 use Rattle.table_fixpoints.proofs.rounds.waiting_after.Statement.{statement}
 use Rattle.table_fixpoints.proofs.rounds.waiting_after.Tie as tie
 
-returns : tie.Need-returns
-returns c = waits-old (c .before .args .new) (c .before .args .waiting) (c .if1 .taken)
-
-returns-2 : tie.Need-returns-2
-returns-2 c = waits-few (c .before .before .args .new) (c .before .before .args .waiting) (c .before .if1 .left) (c .if2 .taken)
-
-returns-3 : tie.Need-returns-3
-returns-3 c = waits-many (c .before .before .args .new) (c .before .before .args .waiting) (c .before .if1 .left) (omega arith)
-
 pub waiting-after-spec : {M : Type 1} → statement M
-waiting-after-spec = tie.close (tie.spec (λ c. search needs) returns returns-2 (λ c. search needs) returns-3)
+waiting-after-spec =
+    tie.close (tie.spec
+    (λ c. search needs) (λ c. waits-old (c .before .args .new) (c .before .args .waiting) (c .if1 .taken))
+    (λ c. waits-few (c .before .before .args .new) (c .before .before .args .waiting) (c .before .if1 .left) (c .if2 .taken)) (λ c. search needs)
+    (λ c. waits-many (c .before .before .args .new) (c .before .before .args .waiting) (c .before .if1 .left) (omega arith)))

@@ -8,20 +8,8 @@ use Rattle.table_rows.proofs.Faults.{source-astray, letter-astray, targ
 use Rattle.table_rows.proofs.checks.is_astray.Statement.{statement}
 use Rattle.table_rows.proofs.checks.is_astray.Tie as tie
 
-returns : tie.Need-returns
-returns c =
-    let a = c .before .before .args in
-    sym (source-astray (a .n) (a .s) (a .t) (omega arith))
-
-returns-2 : tie.Need-returns-2
-returns-2 c =
-    let a = c .before .before .before .before .args in
-    sym (letter-astray (a .n) (a .s) (a .t) (omega arith))
-
 returns-3 : tie.Need-returns-3
-returns-3 c =
-    let a = c .before .before .before .before .before .before .args in
-    sym (target-astray (a .n) (a .s) (a .t) (omega arith))
+returns-3 c = let a = c .before .before .before .before .before .before .args in sym (target-astray (a .n) (a .s) (a .t) (omega arith))
 
 returns-4 : tie.Need-returns-4
 returns-4 c =
@@ -32,4 +20,8 @@ returns-4 c =
     sym (in-range (a .n) (a .s) (a .t) source letter target)
 
 pub is-astray-spec : {M : Type 1} → statement M
-is-astray-spec = tie.close (tie.spec (λ c κs. search needs) returns (λ c κs. search needs) returns-2 (λ c κs. search needs) returns-3 returns-4)
+is-astray-spec =
+    tie.close (tie.spec
+    (λ c κs. search needs) (λ c. let a = c .before .before .args in sym (source-astray (a .n) (a .s) (a .t) (omega arith))) (λ c κs. search needs)
+    (λ c. let a = c .before .before .before .before .args in sym (letter-astray (a .n) (a .s) (a .t) (omega arith))) (λ c κs. search needs) returns-3
+    returns-4)
