@@ -5,16 +5,10 @@ use Rattle.mulgreddi_answers.specs.Answers.{startAnswer}
 use Rattle.mulgreddi_answers_tables.proofs.start.Statement.{statement}
 use Rattle.mulgreddi_answers_tables.proofs.start.Tie as tie
 
-returns : tie.Need-returns
-returns c = c .served .ensures ∙ sym (ap startAnswer (c .before .before .answer .given .1))
-
-returns-2 : tie.Need-returns-2
-returns-2 c = c .served2 .ensures ∙ sym (ap startAnswer (c .before .enum-told .given .1))
-
-returns-3 : tie.Need-returns-3
-returns-3 c = c .refused .ensures ∙ sym (ap startAnswer (c .before .before .answer2 .given .1))
-
 pub start-spec : {M : Type 1} → statement M
 start-spec =
     tie.close (tie.spec
-    (λ c. search needs) (λ c κs. search needs) (λ c. search needs) (λ c κs. search needs) (λ c. search needs) (λ c κs. search needs) returns returns-2 returns-3)
+    (λ c. search needs) (λ c κs. search needs) (λ c. search needs) (λ c κs. search needs) (λ c. search needs) (λ c κs. search needs)
+    (λ c. c .served .ensures ∙ sym (ap startAnswer (c .before .before .answer .given .1)))
+    (λ c. c .served2 .ensures ∙ sym (ap startAnswer (c .before .enum-told .given .1)))
+    (λ c. c .refused .ensures ∙ sym (ap startAnswer (c .before .before .answer2 .given .1))))
