@@ -72,8 +72,7 @@ module _ {n : ℕ} {es : List ℕ} {others t k : ℕ} {old : List ℕ} {i : ℕ}
   unfolding route
   further l room m =
       let x : k - i ≡ suc (k - (i + 1)) = omega arith in
-      let f = next n es others t (k - i) (passed || bit others q) q in
-      let s = some-get n f (may-follow l m) in
+      let f = next n es others t (k - i) (passed || bit others q) q in let s = some-get n f (may-follow l m) in
       let p = first n f 0 in
       let g : f p ≡ true = first-at n f 0 (s .0) (omega arith) (omega (arith, s .1)) (s .2) in
       let b = and-r (leadsBy es q p) (bit (wayBy n es (bit others) t (k - i) (passed || bit others q)) p) g in

@@ -51,8 +51,7 @@ module _ (r : Rule) where
       let y = any-out (q ∷ ps) (accepts r) (and-l (anyOf (q ∷ ps) (accepts r)) (anyOf (q ∷ ps) (rejects r)) b) in
       let z = any-out (q ∷ ps) (rejects r) (and-r (anyOf (q ∷ ps) (accepts r)) (anyOf (q ∷ ps) (rejects r)) b) in
       let k = below-parts (r .n) q ps (closed-parts r q ps c .0) .0 in
-      let i = walk-together q ps c (y .0) (y .1) in let j = walk-together q ps c (z .0) (z .1) in
-      let same = unmixed-iff r .0 u in
+      let i = walk-together q ps c (y .0) (y .1) in let j = walk-together q ps c (z .0) (z .1) in let same = unmixed-iff r .0 u in
       clash (y .2) (sym (same q (y .0) k (i .0) (i .1)) ∙ same q (z .0) k (j .0) (j .1) ∙ not-t (accepts r (z .0)) (z .2)))
       (λ e. e)
 

@@ -83,8 +83,7 @@ module _ (r : Rule) (small : r .n ≤ 8) where
 
   loop-goes : (t : ℕ) (ps : List ℕ) → isMixedLoop r (t ∷ ps) ≡ true → (l : t < r .n) → Goes (r .n) es (kind t) t l false t ps
   loop-goes t ps e l =
-      let m = mixed-parts r (t ∷ ps) e in let c = closed-parts r t ps (m .0) in
-      let b = below-parts (r .n) t ps (c .0) .1 in
+      let m = mixed-parts r (t ∷ ps) e in let c = closed-parts r t ps (m .0) in let b = below-parts (r .n) t ps (c .0) .1 in
       record { leads = record { states = b; steps = sym (along-ext (r .n) (leads r) (leadsBy es) agree t ps t l b l) ∙ c .1 }; passes = both-other r t ps (c .0) (m .1) }
 
   goes-loop : (t : ℕ) (ps : List ℕ) (l : t < r .n) → Goes (r .n) es (kind t) t l false t ps → isMixedLoop r (t ∷ ps) ≡ true

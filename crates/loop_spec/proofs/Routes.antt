@@ -60,8 +60,7 @@ module _ (n : ℕ) (es : List ℕ) (other : Set) (t : ℕ) (l : t < n) where
       let w = can-walk n es other t l zero passed q m e in
       ([], refl, record { long = refl; goes = rw (empty (w .0) (w .1)) at (w .2); least = λ qs h g. refl })
   best (suc k) passed q m e =
-      let w = can-walk n es other t l (suc k) passed q m e in
-      let s = next-state k passed q m (w .0) (w .1) (w .2) in
+      let w = can-walk n es other t l (suc k) passed q m e in let s = next-state k passed q m (w .0) (w .1) (w .2) in
       let p = first n (next k passed q) 0 in
       let f = first-at n (next k passed q) 0 (s .0) (omega arith) (omega (arith, s .1)) (s .2) in
       let j : p < n = omega (arith, s .1, first-le n (next k passed q) 0 (s .0) (omega arith) (s .2)) in

@@ -1,16 +1,16 @@
 -- Each word is answered as if it were judged alone.
 use mathlib.Core.Path.{_≡_, refl, sym, _∙_, ap}
-use mathlib.Core.Logic.{_⊎_, inl, inr, ⊎-elim}
+use mathlib.Core.Logic.{⊎-elim}
 use mathlib.Core.Bool.{Bool, true, false, _||_}
-use mathlib.Core.List.{List, [], _∷_, _++_}
+use mathlib.Core.List.{List, [], _++_}
 use Prim.Native.Nat.{ℕ, zero, suc, _+_, _-_, _≤_, _<_}
 use native.Mathlib.Omega.{arith}
 use lib.Dec.{eqb, ltb}
 use lib.ListN.{length, take, drop, replicate, length-take, length-drop}
 use borrow.Author.Tests.{eqb-false, ltb-false, le-ltb}
-use Rattle.refusals.specs.Rows.{Check, check, firstRow}
+use Rattle.refusals.specs.Rows.{Check, firstRow}
 use Rattle.sets.specs.Tests.{one}
-use Rattle.sets.proofs.Bools.{bif, or-fl, or-fr}
+use Rattle.sets.proofs.Bools.{or-fl, or-fr}
 use Rattle.refusals.proofs.Rows.{first-pass, first-parts, numbered}
 use Rattle.theory.specs.Rule.{Rule}
 use Rattle.theory.specs.Truth.{truthMasks}
@@ -20,9 +20,9 @@ use Rattle.file_spec.specs.File.{ruleIn}
 use Rattle.file_spec.specs.Rows.{fileRow}
 use Rattle.word_rows.specs.Words.{lengthRows, letterRows, wordRows, wordRow}
 use Rattle.word_rows.proofs.Checks.{word-over}
-use Rattle.judge_spec.specs.Judge.{judgeRow, judgeOf, judgeCallRow, holdsStart, verdict, after}
+use Rattle.judge_spec.specs.Judge.{judgeRow, judgeOf, holdsStart, verdict, after}
 use Rattle.judge_spec.proofs.Rows.{word-refuses, call-served, file-passes}
-use Rattle.sheet_spec.specs.Words.{SheetWord, lone, spelled, leadOf, cycleOf, lengthFaults, faultOf}
+use Rattle.sheet_spec.specs.Words.{SheetWord, spelled, leadOf, cycleOf, lengthFaults, faultOf}
 use Rattle.sheet_spec.specs.Sheet.{byteOf}
 use Rattle.sheet_spec.specs.Computed.{answerBy, answerOf, masksBy, masksOf, Alone}
 use Rattle.sheet_laws.proofs.Distinct.{zero-or-suc}
@@ -63,8 +63,7 @@ unfolding faultOf lengthFaults
 sound s a b t most e =
     let p = first-parts (lengthFaults a b t) (letterRows s (take a t) (drop a t)) (faults-numbered a b t) e in
     let x = first-pass (eqb b 0) 11 _ (p .0) in
-    let y = first-pass (ltb (length t) (a + b) || (ltb 32 a || ltb 32 b)) 12 [] (x .1) in
-    let n = eqb-false b 0 (x .0) in
+    let y = first-pass (ltb (length t) (a + b) || (ltb 32 a || ltb 32 b)) 12 [] (x .1) in let n = eqb-false b 0 (x .0) in
     let there = ltb-false (length t) (a + b) (or-fl (ltb (length t) (a + b)) (ltb 32 a || ltb 32 b) (y .0)) in
     let short = or-fr (ltb (length t) (a + b)) (ltb 32 a || ltb 32 b) (y .0) in
     let whole : length t ≡ a + b = omega arith in

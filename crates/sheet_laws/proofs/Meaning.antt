@@ -82,8 +82,7 @@ module _ (r : Rule) (w : SheetWord) (z : Sized w) where
 
   masks-past : faultOf (r .s) w ≡ 0 → (p : ℕ) → places (leadOf w) (cycleOf w) ≤ p → getD (masksOf r w) p 0 ≡ 0
   masks-past e p l =
-      let T = truthMasks r (leadOf w) (cycleOf w) in
-      let n = 64 - places (leadOf w) (cycleOf w) in
+      let T = truthMasks r (leadOf w) (cycleOf w) in let n = 64 - places (leadOf w) (cycleOf w) in
       let at : p ≡ length T + (p - places (leadOf w) (cycleOf w)) = omega (arith, truth-length r (leadOf w) (cycleOf w)) in
       ap (λ (m : List ℕ). getD m p 0) (word-served r w e .1)
       ∙ ap (λ (i : ℕ). getD (T ++ replicate n 0) i 0) at
@@ -160,8 +159,7 @@ module _ (r : Rule) (P : Passing r) (sheet answers masks answers′ masks′ : L
       let ws = wordsOf sheet in
       let sized : (i : ℕ) → i < length ws → Sized (getD ws i (lone 0)) = λ i l. sheet-sized sheet (getD ws i (lone 0)) (mem-of ws i (lone 0) l) in
       let long : (i : ℕ) → i < length ws → length (masksOf r (getD ws i (lone 0))) ≡ 64 = λ i l. masks-long r (getD ws i (lone 0)) (sized i l) in
-      let A = drop (length (map (answerOf r) ws)) answers in
-      let M = drop (length (allMasks r ws)) masks in
+      let A = drop (length (map (answerOf r) ws)) answers in let M = drop (length (allMasks r ws)) masks in
       record {
         cycles = cyclesAfter (r .s) [] ws;
         distinct = tidy-cycles (r .s) ws (sheet-sized sheet);

@@ -53,8 +53,7 @@ module _ (s : List ℕ) (at : ℕ) where
 
   pub words-next : at + 1 < length s → wordsOf (drop at s) ≡ wordAt ∷ wordsOf (drop (at + 2 + (getD s at 0 + getD s (at + 1) 0)) s)
   words-next h =
-      let a = getD s at 0 in
-      let b = getD s (at + 1) 0 in
+      let a = getD s at 0 in let b = getD s (at + 1) 0 in
       let three : suc (at + 1) ≡ at + 2 = omega arith in
       let two : drop at s ≡ a ∷ (b ∷ drop (at + 2) s)
       = drop-cons s at 0 (omega arith) ∙ ap (λ (l : List ℕ). a ∷ l) (ap (λ (n : ℕ). drop n s) (sym (add-one at)) ∙ drop-cons s (at + 1) 0 h ∙ ap (λ (n : ℕ). b ∷ drop n s) three) in

@@ -1,7 +1,7 @@
 -- The tidy spelling of a word of a sheet as parts of the sheet, and the masks of the word from those of its tidy cycle.
-use mathlib.Core.Path.{_≡_, refl, sym, _∙_, ap}
+use mathlib.Core.Path.{_≡_, sym, _∙_, ap}
 use mathlib.Core.List.{List, [], _++_}
-use Prim.Native.Nat.{ℕ, _+_, _-_, _≤_, _<_}
+use Prim.Native.Nat.{ℕ, _+_, _-_, _<_}
 use native.Mathlib.Omega.{arith}
 use lib.ListN.{length, getD, take, drop, replicate, length-take, length-drop}
 use lib.Seq.{getD-take}
@@ -47,8 +47,7 @@ module _ {sheet : List ℕ} {at s : ℕ} (S : SoundAt sheet at s) where
       → TidyAt sheet at (record { first = at + 2; begin = at + 2 + m; size = p; places = at + 2 + leadAt sheet at + cycleAt sheet at - (at + 2) })
   unfolding leadLength tidyLead
   tidy-there {p} {m} hp hm =
-      let a = leadAt sheet at in
-      let b = cycleAt sheet at in
+      let a = leadAt sheet at in let b = cycleAt sheet at in
       let ex : x ≡ a = omega arith in
       let ey : y ≡ b = omega arith in
       let ep : p ≡ cycleLength (v b) = hp ∙ ap (λ (z : ℕ). cycleLength (v z)) ey in

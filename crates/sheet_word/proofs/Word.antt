@@ -1,7 +1,7 @@
 -- One word of a sheet, faulty or served.
 use mathlib.Core.Path.{_≡_, refl, sym, _∙_, ap}
 use mathlib.Core.Bool.{Bool}
-use mathlib.Core.List.{List, _++_}
+use mathlib.Core.List.{List}
 use Prim.Native.Nat.{ℕ, zero, suc, _+_, _≤_, _<_}
 use native.Mathlib.Omega.{arith}
 use lib.ListN.{length, getD, replicate, length-append, List·getD-append}
@@ -47,8 +47,7 @@ module _ {r : Rule} {sheet : List ℕ} {at : ℕ} {from size : List ℕ} {n : �
       pub judged-served : (b : Bool) → bit (getD block 0 0) (r .initial) ≡ b → WordJudged r sheet at from size n from′ size′ filled′ block (record { answer = one b; cycles = cycles })
       unfolding answerOf
       judged-served b e =
-          let u = leadOf (wordFrom sheet at) in
-          let v = cycleOf (wordFrom sheet at) in
+          let u = leadOf (wordFrom sheet at) in let v = cycleOf (wordFrom sheet at) in
           let first : getD block 0 0 ≡ getD (truthMasks r u v) 0 0
           = ap (λ (l : List ℕ). getD l 0 0) all-masks ∙ List·getD-append (truthMasks r u v) _ 0 0 (omega (arith, truth-length r u v)) in
           let holds : holdsStart r u v ≡ b = ap (λ (x : ℕ). bit x (r .initial)) (sym first) ∙ e in

@@ -4,13 +4,10 @@ use mathlib.Core.Path.{_≡_, sym, _∙_}
 use native.Mathlib.Omega.{arith}
 use lib.ListN.{length}
 use Rattle.refusals.specs.Rows.{firstRow}
-use Rattle.file_spec.specs.File.{ruleIn}
 use Rattle.file_spec.specs.Rows.{layoutRows}
 use Rattle.file_spec.proofs.FileParts.{clauses-part, counts-part}
 use Rattle.file_spec.proofs.TrailerRows.{Placed, placed}
 use Rattle.file_read.proofs.FileRows.{laid, laid-formed}
-use Rattle.loop_spec.specs.Search.{loopOf}
-use Rattle.loop_spec.specs.Reported.{formedRows, answer, after}
 use Rattle.loop_report.proofs.Rows.{refused, passed, meant}
 use borrow.Author.Needs.{needs}
 use Rattle.loop_report.proofs.mixed_loop.Statement.{statement}
@@ -36,8 +33,7 @@ bounds c = rw (c .lay-out .ensures) (omega (arith, known (c .before)))
 
 report-requires : tie.Need-report-requires
 report-requires c κs =
-    let start = c .before .before .before .before .before .before .before .before .before in
-    let f = start .args .file .now in
+    let start = c .before .before .before .before .before .before .before .before .before in let f = start .args .file .now in
     let p = known (c .before .before .before .before .before) in
     rw (c .before .before .before .before .lay-out .ensures, counts-part f (p .fits), clauses-part f (p .fits)) (laid-formed f (pass (c .before .before .before .before .before)))
 
@@ -45,8 +41,7 @@ returns-2 : tie.Need-returns-2
 returns-2 c =
     let at-lay-out = c .before .before .before .before .before .before .before in let earlier = at-lay-out .before in
     let start = earlier .before .before .before .before in let a = start .args in let f = a .file .now in
-    let old = a .out .now in let q = earlier in
-    let p = known q in
+    let old = a .out .now in let q = earlier in let p = known q in
     let w = rw (at-lay-out .lay-out .ensures, counts-part f (p .fits), clauses-part f (p .fits)) at (c .before .before .report .ensures) in
     let e = passed f old _ (c .before .before .report .result) (pass q) (w .0) (w .1) in
     (e .0, (e .1, meant f old _ (c .before .before .report .result) (e .0) (e .1)))

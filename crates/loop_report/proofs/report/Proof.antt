@@ -12,8 +12,7 @@ use Rattle.loop_report.proofs.report.Tie as tie
 
 returns : tie.Need-returns
 returns c =
-    let a = c .before .before .before .before .before .args in
-    let r = ruleOf (a .h) (a .counts .now) (a .clauses .now) in
+    let a = c .before .before .before .before .before .args in let r = ruleOf (a .h) (a .counts .now) (a .clauses .now) in
     let k = c .before .clauses-row .result in let old = a .out .now in
     rw (sym (row-clauses r (length old) k (c .if1 .taken) (c .before .clauses-row .ensures)))
     (answer-refused k (loopOf r) (c .if1 .taken), after-refused k (loopOf r) old (c .if1 .taken))

@@ -22,8 +22,7 @@ cast-result c = omega (
 returns : tie.Need-returns
 returns c =
     let a = c .before .before .before .before .args in let w = c .before .before .before .before .pre in
-    let v = c .before .before .before .ways-to in
-    let x = getD (a .es .now) (a .q) 0 in
+    let v = c .before .before .before .ways-to in let x = getD (a .es .now) (a .q) 0 in
     let m = ways (a .n) (a .es .now) (bit (a .others)) (a .t) (a .k) .any in
     let e : v .result .any ≡ m = ap (λ (y : Ways). y .any) (v .ensures) in
     rw (e, c .before .before .if1 .taken) (least-common (a .n) x m (w .0 .0) (rw (c .before .before .if1 .taken) at (w .1)))
@@ -38,8 +37,7 @@ cast-result-2 c = omega (
 returns-2 : tie.Need-returns-2
 returns-2 c =
     let a = c .before .before .before .before .args in let w = c .before .before .before .before .pre in
-    let v = c .before .before .before .ways-to in
-    let x = getD (a .es .now) (a .q) 0 in
+    let v = c .before .before .before .ways-to in let x = getD (a .es .now) (a .q) 0 in
     let m = ways (a .n) (a .es .now) (bit (a .others)) (a .t) (a .k) .mixed in
     let e : v .result .mixed ≡ m = ap (λ (y : Ways). y .mixed) (v .ensures) in
     rw (e, c .before .before .if1 .left) (least-common (a .n) x m (w .0 .0) (rw (c .before .before .if1 .left) at (w .1)))

@@ -1,6 +1,6 @@
 -- `sheet_judge::judge_words` meets its contract: the words before byte at are judged.
-use Prim.Native.Nat.{ℕ, _+_, _-_, _*_, _≤_, _<_}
-use mathlib.Core.Path.{_≡_, refl}
+use Prim.Native.Nat.{_-_, _<_}
+use mathlib.Core.Path.{refl}
 use native.Mathlib.Omega.{arith}
 use lib.ListN.{length, length-take, length-drop}
 use borrow.Author.Needs.{needs}
@@ -34,8 +34,7 @@ part-judge-word-end c = let t = c .before .before .before .before in omega (arit
 
 judge-word-requires : tie.Need-judge-word-requires Inv-loop μ-loop
 judge-word-requires c κs =
-    let t = c .before .before .before .before .before in
-    let z = start-of t .pre in
+    let t = c .before .before .before .before .before in let z = start-of t .pre in
     let D = t .before .loop .inv in (
       record {
         passing = z .0;
@@ -61,8 +60,7 @@ turn-of c = c .before .before .before .before .before .before .before .before .b
 
 loop-again : tie.Need-loop-again Inv-loop μ-loop
 loop-again c =
-    let t = turn-of c in
-    let z = start-of t .pre in
+    let t = turn-of c in let z = start-of t .pre in
     done-next (t .before .loop .inv) (t .loop-test .taken) (c .next-word .ensures) (c .before .before .before .before .before .before .judge-word .ensures) (z .2) (z .3)
 
 pub judge-words-spec : {M : Type 1} → statement M

@@ -1,16 +1,12 @@
 -- `sheet_word::judge_word` meets its contract: a faulty word has its number and zeros, another its masks and the verdict of the first.
-use Prim.Native.Nat.{ℕ, _+_, _≤_, _<_}
+use Prim.Native.Nat.{ℕ, _<_}
 use mathlib.Core.Path.{_≡_, sym, _∙_, ap}
-use mathlib.Core.Bool.{Bool, true, false}
+use mathlib.Core.Bool.{true, false}
 use native.Mathlib.Omega.{arith}
-use lib.ListN.{length, getD, replicate}
+use lib.ListN.{length, replicate}
 use borrow.Author.Needs.{needs}
-use Rattle.sets.specs.Masks.{bit}
-use Rattle.sets.specs.Tests.{one}
-use Rattle.rule_entries.specs.Entries.{ruleOf}
 use Rattle.sheet_spec.specs.Words.{cycleOf, faultOf}
 use Rattle.sheet_words.specs.Places.{wordFrom}
-use Rattle.sheet_word.specs.Word.{WordJudged}
 use Rattle.sheet_word.proofs.Serve.{word-at}
 use Rattle.sheet_word.proofs.Word.{first-there, judged-faulty, judged-served}
 use Rattle.sheet_word.proofs.judge_word.Statement.{statement}
@@ -21,8 +17,7 @@ start-of c = c .before .before .before .before .before .before .before .before .
 
 returns : tie.Need-returns
 returns c =
-    let w = c .before .before .before .before .before in
-    let z = start-of w .pre in
+    let w = c .before .before .before .before .before in let z = start-of w .pre in
     judged-faulty (w .word-fault .result) (c .before .before .before .before .if1 .taken) (w .word-fault .ensures) (z .0 .cycles)
     (c .before .before .fill-with .ensures ∙ ap (λ (x : ℕ). replicate x 0) (z .2))
 
@@ -37,8 +32,7 @@ repeats c = let start = start-of (c .before) in
 
 serve-word-requires : tie.Need-serve-word-requires
 serve-word-requires c κs =
-    let e = c .before .before .before .before in
-    let z = start-of (e .before) .pre in
+    let e = c .before .before .before .before in let z = start-of (e .before) .pre in
     (z .0, z .1, sound e, z .2)
 
 abbrev else-of : tie.After-serve-word → tie.Else1

@@ -1,9 +1,9 @@
 -- `sheet_word::serve_word` meets its contract: the tidy spelling, its cycle, then the masks of the word.
-use Prim.Native.Nat.{ℕ, _+_, _-_, _*_, _≤_, _<_}
+use Prim.Native.Nat.{ℕ, _+_, _-_, _*_, _≤_}
 use mathlib.Core.Path.{_≡_, sym, _∙_, ap}
 use mathlib.Core.List.{[]}
 use native.Mathlib.Omega.{arith}
-use lib.ListN.{length, take, drop, length-take, length-drop}
+use lib.ListN.{take, drop, length-take, length-drop}
 use borrow.Author.Needs.{needs}
 use Rattle.theory.specs.Truth.{truthMasks}
 use Rattle.theory.specs.Word.{WordOver}
@@ -37,8 +37,7 @@ tidy-at-requires c κs =
 
 learn-cycle-requires : tie.Need-learn-cycle-requires
 learn-cycle-requires c κs =
-    let t = c .before .before .before in let T = t .tidy-at .ensures in
-    let z = start-of t .pre .0 in
+    let t = c .before .before .before in let T = t .tidy-at .ensures in let z = start-of t .pre .0 in
     (record { passing = z .passing; beginnings = z .beginnings; word = part-over T (over (start-of t)) }, z .closed, z .cycles, z .room, T .short, T .within)
 
 -- the masks of the cycle are a part of those filled
@@ -52,9 +51,7 @@ part-write-masks-end-2 c =
 
 write-masks-requires : tie.Need-write-masks-requires
 write-masks-requires c κs =
-    let known = c .before .before .before .before in
-    let t = tidy-of (learnt-of known) in
-    let T = t .tidy-at .ensures in
+    let known = c .before .before .before .before in let t = tidy-of (learnt-of known) in let T = t .tidy-at .ensures in
     let W = over (start-of t) in
     let z = start-of t .pre in (
       z .0 .passing .formed,
@@ -68,10 +65,7 @@ write-masks-requires c κs =
 returns : tie.Need-returns
 returns c =
     let l = c .before .before .before .before .before .before .before .before .before .before .before .before .before .before in
-    let t = tidy-of l in
-    let T = t .tidy-at .ensures in
-    let W = over (start-of t) in
-    let a = start-of t .args in
+    let t = tidy-of l in let T = t .tidy-at .ensures in let W = over (start-of t) in let a = start-of t .args in
     let z = start-of t .pre in
     let r = ruleOf (a .rule .head) (a .counts .now) (a .clauses .now) in
     let L = l .learn-cycle .ensures in let k = l .learn-cycle .result .number in

@@ -1,10 +1,7 @@
 -- `sheet_words::next_word` meets its contract.
-use Prim.Native.Nat.{_+_, _≤_, _<_}
-use mathlib.Core.Path.{_≡_}
+use Prim.Native.Nat.{_+_}
 use native.Mathlib.Omega.{arith}
-use lib.ListN.{length}
 use borrow.Author.Needs.{needs}
-use Rattle.sheet_words.specs.Places.{leadAt, cycleAt}
 use Rattle.sheet_words.proofs.Places.{next-lone, next-whole, next-cut}
 use Rattle.sheet_words.proofs.next_word.Statement.{statement}
 use Rattle.sheet_words.proofs.next_word.Tie as tie
@@ -13,18 +10,10 @@ add-size-2 : tie.Need-add-size-2
 add-size-2 c = let a = c .before .before .before .args in omega (arith, c .before .shared-slice-known .given (a .at), c .shared-slice-known2 .given (a .at + 1))
 
 returns-2 : tie.Need-returns-2
-returns-2 c =
-    let a = c .before .before .before .before .args in
-    let two : a .at + 1 < length (a .sheet .now) = omega arith in
-    let h : length (a .sheet .now) < a .at + 2 + (leadAt (a .sheet .now) (a .at) + cycleAt (a .sheet .now) (a .at)) = omega (arith, c .if2) in
-    next-cut (a .sheet .now) (a .at) two h
+returns-2 c = let a = c .before .before .before .before .args in next-cut (a .sheet .now) (a .at) (omega arith) (omega (arith, c .if2))
 
 returns-3 : tie.Need-returns-3
-returns-3 c =
-    let a = c .before .before .before .before .args in
-    let two : a .at + 1 < length (a .sheet .now) = omega arith in
-    let h : a .at + 2 + (leadAt (a .sheet .now) (a .at) + cycleAt (a .sheet .now) (a .at)) ≤ length (a .sheet .now) = omega (arith, c .if2) in
-    next-whole (a .sheet .now) (a .at) two h
+returns-3 c = let a = c .before .before .before .before .args in next-whole (a .sheet .now) (a .at) (omega arith) (omega (arith, c .if2))
 
 pub next-word-spec : {M : Type 1} → statement M
 next-word-spec =

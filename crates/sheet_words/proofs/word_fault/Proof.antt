@@ -1,7 +1,6 @@
 -- `sheet_words::word_fault` meets its contract.
 use Prim.Native.Nat.{ℕ, _+_, _-_, _≤_, _<_}
-use mathlib.Core.Path.{_≡_, refl, sym, _∙_, ap}
-use mathlib.Core.List.{List}
+use mathlib.Core.Path.{_≡_, sym, _∙_, ap}
 use native.Mathlib.Omega.{arith}
 use lib.ListN.{length, take, drop}
 use borrow.Author.Needs.{needs}
@@ -21,9 +20,7 @@ returns-2 c =
 returns-3 : tie.Need-returns-3
 returns-3 c =
     let a = c .before .before .before .before .before .before .args in
-    let h : length (a .sheet .now) < a .at + 2 + (leadAt (a .sheet .now) (a .at) + cycleAt (a .sheet .now) (a .at)) = omega (arith, c .before .if2) in
-    let p : 0 < cycleAt (a .sheet .now) (a .at) = omega (arith, c .if3) in
-    sym (cut-fault (a .sheet .now) (a .at) (omega arith) (a .s) h p)
+    sym (cut-fault (a .sheet .now) (a .at) (omega arith) (a .s) (omega (arith, c .before .if2)) (omega (arith, c .if3)))
 
 returns-4 : tie.Need-returns-4
 returns-4 c =
