@@ -99,8 +99,7 @@ module _ (s : ℕ) (lead cycle : List ℕ) (codes transitions : Lent) (word : wo
   -- the marks are few
   pub few-marks : length (codes .numbers) * places lead cycle ≤ 4194304
   few-marks =
-      let p = passed s codes transitions table in
-      let w = passing-of s lead cycle word .lengths in
+      let p = passed s codes transitions table in let w = passing-of s lead cycle word .lengths in
       let a : places lead cycle ≤ 64 = omega (arith, w .lead-short, w .cycle-short) in
       mul-le-mul (p .few) a
 

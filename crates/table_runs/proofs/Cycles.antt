@@ -76,8 +76,7 @@ module _ (codes transitions cycle : List ℕ) (repeats : 0 < length cycle)
         ∙ ap (λ (k : ℕ). k / n) (sym (zero-add (z 0)) ∙ ap (λ (k : ℕ). k + z 0) (sym (zero-mul n)))
         ∙ digits-div 0 low
     walk-place (suc i) =
-        let e = walk i in
-        let f = walk (suc i) in
+        let e = walk i in let f = walk (suc i) in
         sym (ap (λ (k : ℕ). k / n) (f .source) ∙ digits-div (f .place) (sources (f .transition) (f .listed)))
         ∙ ap (λ (k : ℕ). k / n) (e .target)
         ∙ digits-div (nextPlace [] cycle (e .place)) (targets (e .transition) (e .listed))

@@ -74,8 +74,7 @@ module _ (letter here there : ℕ) where
   -- the transition leads into the node, or leaves its mark
   into-or-not : (t : ℕ) (ms : List ℕ) (x : ℕ) → Into t ms x ⊎ (getD (by t ms) x 0 ≡ getD ms x 0)
   into-or-not t ms x =
-      let o = eqb (letterOf t) letter in
-      let m = ltb 0 (getD ms (there + targetOf t) 0) in
+      let o = eqb (letterOf t) letter in let m = ltb 0 (getD ms (there + targetOf t) 0) in
       bif (o && m)
       (λ e. by-cases (ℕ-discrete (here + sourceOf t) x)
       (λ f. inl (record { over = eqb-true (letterOf t) letter (and-l o m e); from = f; marked = ltb-true 0 (getD ms (there + targetOf t) 0) (and-r o m e) }))

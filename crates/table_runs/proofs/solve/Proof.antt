@@ -37,24 +37,21 @@ solve-round-requires c κs =
 same-length : tie.Need-same-length Inv-loop μ-loop
 same-length c =
     let at-thin = c .before .before .before .before .before .before .before in let at-loop = at-thin .before .before in
-    let g = at-loop .loop .inv in
-    let t = going-thinned g (at-thin .thin .ensures) in
+    let g = at-loop .loop .inv in let t = going-thinned g (at-thin .thin .ensures) in
     c .before .before .before .solve-round .ensures .long ∙ t .long
 
 returns : tie.Need-returns Inv-loop μ-loop
 returns c =
     let at-thin = c .before .before .before .before .before .before .before in let at-loop = at-thin .before .before in
     let at-count = at-loop .before in let n = at-count .count .ensures in let g = at-loop .loop .inv in
-    let t = going-thinned g (at-thin .thin .ensures) in
-    let s = c .before .before .before .solve-round in
+    let t = going-thinned g (at-thin .thin .ensures) in let s = c .before .before .before .solve-round in
     let none = not-true (s .result) (c .if1 .taken) in
     let r = rw (none, n) at (s .ensures) in
     record { thinned = thinned-round t r; sound = r .sound refl }
 
 loop-less : tie.Need-loop-less Inv-loop μ-loop
 loop-less c =
-    let at-thin = c .before .before .before .before .before .before .before .before in
-    let at-loop = at-thin .before .before in
+    let at-thin = c .before .before .before .before .before .before .before .before in let at-loop = at-thin .before .before in
     let start = at-loop .before .before .before .before .before .before .before .before in let two = start .pre .1 in
     let l = at-loop .loop in let s = c .before .before .before .before .solve-round in
     let some = not-false (s .result) (c .before .if1 .left) in
@@ -65,8 +62,7 @@ loop-again : tie.Need-loop-again Inv-loop μ-loop
 loop-again c =
     let at-thin = c .before .before .before .before .before .before .before .before in
     let at-loop = at-thin .before .before in let at-count = at-loop .before in let n = at-count .count .ensures in
-    let g = at-loop .loop .inv in
-    let t = going-thinned g (at-thin .thin .ensures) in
+    let g = at-loop .loop .inv in let t = going-thinned g (at-thin .thin .ensures) in
     let r = c .before .before .before .before .solve-round .ensures in
     inr (thinned-round t (rw n at r))
 

@@ -21,8 +21,7 @@ abbrev μ-loop : tie.MeasureT-loop
 loop-again : tie.Need-loop-again Inv-loop μ-loop
 loop-again c =
     let start = c .before .before .before .before .before .before .before in let a = start .args in
-    let l = c .before .before .before .before .before .loop in let s = l .inv .2 in
-    let v = getD (l .marks) (l .i) 0 in
+    let l = c .before .before .before .before .before .loop in let s = l .inv .2 in let v = getD (l .marks) (l .i) 0 in
     let told : goesOut v ≡ true = sym (c .before .goes-out .ensures) ∙ c .if1 .taken in
     let mark : c .before .before .settled-mark .result ≡ settled v = c .before .before .settled-mark .ensures in (
       omega arith,
@@ -33,8 +32,7 @@ loop-again c =
 loop-again-2 : tie.Need-loop-again-2 Inv-loop μ-loop
 loop-again-2 c =
     let start = c .before .before .before .before .before .before .before in let a = start .args in
-    let l = c .before .before .before .before .before .loop in let s = l .inv .2 in
-    let v = getD (l .marks) (l .i) 0 in
+    let l = c .before .before .before .before .before .loop in let s = l .inv .2 in let v = getD (l .marks) (l .i) 0 in
     let told : goesOut v ≡ false = sym (c .before .goes-out .ensures) ∙ c .if1 .left in
     let mark : c .before .before .settled-mark .result ≡ settled v = c .before .before .settled-mark .ensures in (
       omega arith,

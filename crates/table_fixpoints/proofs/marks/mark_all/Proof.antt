@@ -25,8 +25,7 @@ mark-over-requires : tie.Need-mark-over-requires Inv-loop μ-loop
 mark-over-requires c κs =
     let start = c .before .before .before .before .before .before .before .before in let a = start .args in
     let l = c .before .before .before .loop in
-    let ts = inBoth (a .moves .now) (a .movebytes .now) .numbers in
-    let us = ordered (a .back) ts in
+    let ts = inBoth (a .moves .now) (a .movebytes .now) .numbers in let us = ordered (a .back) ts in
     let inside : l .i < length us = omega (arith, ordered-long (a .back) ts) in
     let e : c .before .element-from .result ≡ getD us (l .i) 0 = c .before .element-from .ensures in
     let q = start .pre (getD us (l .i) 0) (ordered-from (a .back) ts _ (mem-at us (l .i) inside)) in
@@ -58,8 +57,7 @@ loop-again-2 c =
 returns : tie.Need-returns Inv-loop μ-loop
 returns c =
     let a = c .before .before .before .before .before .before .args in let l = c .before .loop in
-    let ts = inBoth (a .moves .now) (a .movebytes .now) .numbers in
-    let long = ordered-long (a .back) ts in
+    let ts = inBoth (a .moves .now) (a .movebytes .now) .numbers in let long = ordered-long (a .back) ts in
     passed-all (pass-over (a .letter) (a .here) (a .there)) (ordered (a .back) ts) (a .marks .now) (l .marks) (l .changed) (l .i) (omega arith) (l .inv .1)
 
 pub mark-all-spec : {M : Type 1} → statement M
