@@ -80,5 +80,4 @@ module _ (xs : List ℕ) (x : ℕ) (asc : Ascending xs) (m : ℕ) where
       ⊎-elim (λ (e : k ≡ m). rw e l) (λ (p : k < m). omega (arith, asc-at xs asc k m p h)) (eq-or-lt-of-le k≤m)
 
   pub go-down : x ≤ getD xs m 0 → (k : ℕ) → m ≤ k → k < length xs → x ≤ getD xs k 0
-  go-down l k b t =
-      ⊎-elim (λ (e : m ≡ k). rw (← e) l) (λ (p : m < k). omega (arith, asc-at xs asc m k p t)) (eq-or-lt-of-le b)
+  go-down l k b t = ⊎-elim (λ (e : m ≡ k). rw (← e) l) (λ (p : m < k). omega (arith, asc-at xs asc m k p t)) (eq-or-lt-of-le b)

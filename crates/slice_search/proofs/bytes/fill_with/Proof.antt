@@ -19,11 +19,8 @@ loop-again c =
     let l = c .before .loop in
     (length-set (l .xs) (l .i) _ ∙ l .inv .0, omega arith, put-next (λ j. c .before .before .args .v) (l .xs) (l .i) _ (omega arith) refl (l .inv .2))
 
-returns : tie.Need-returns Inv-loop μ-loop
-returns c = let l = c .before .loop in filled (l .xs) _ (λ j k. l .inv .2 j (omega arith)) _ (l .inv .0)
-
 pub fill-with-spec : {M : Type 1} → statement M
 fill-with-spec =
     tie.close (tie.spec
     Inv-loop μ-loop (λ c. (refl, omega arith, λ j l. absurd (omega arith))) (λ c. omega arith) (λ c. omega arith) (λ c. omega arith) loop-again
-    (λ c. c .before .loop .inv .0) returns)
+    (λ c. c .before .loop .inv .0) (λ c. let l = c .before .loop in filled (l .xs) _ (λ j k. l .inv .2 j (omega arith)) _ (l .inv .0)))

@@ -5,8 +5,8 @@ use borrow.Author.Tests.{ltb-true, ltb-false}
 use Rattle.slice_search.proofs.bytes.is_between.Statement.{statement}
 use Rattle.slice_search.proofs.bytes.is_between.Tie as tie
 
-returns : tie.Need-returns
-returns c = (λ e. absurd (false≢true e), λ e l. absurd (omega (arith, c .if1 .taken)))
-
 pub is-between-spec : {M : Type 1} → statement M
-is-between-spec = tie.close (tie.spec returns (λ c. (λ e. (c .if1 .left, ltb-true _ _ e), λ e l. ltb-false _ _ e)))
+is-between-spec =
+    tie.close (tie.spec
+    (λ c. (λ e. absurd (false≢true e), λ e l. absurd (omega (arith, c .if1 .taken))))
+    (λ c. (λ e. (c .if1 .left, ltb-true _ _ e), λ e l. ltb-false _ _ e)))

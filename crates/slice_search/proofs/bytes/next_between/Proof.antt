@@ -28,9 +28,6 @@ returns c =
     let l = c .before .before .before .before .loop in
     record { ordered = l .inv .0; within = l .inv .1; none = l .inv .2; found = λ h. c .before .is-between .ensures .0 (c .if1 .taken) }
 
-loop-less : tie.Need-loop-less Inv-loop μ-loop
-loop-less c = omega (arith, c .next-set2 .ensures .before .ordered, c .before .before .before .before .loop-test .taken)
-
 loop-again : tie.Need-loop-again Inv-loop μ-loop
 loop-again c =
     let s = c .before .before .before .before .before .before .before .before in
@@ -50,5 +47,5 @@ returns-2 c =
 pub next-between-spec : {M : Type 1} → statement M
 next-between-spec =
     tie.close (tie.spec
-    Inv-loop μ-loop (λ c κs. search needs) loop-holds (λ c. search needs) (λ c κs. search needs) returns (λ c. search needs) (λ c κs. search needs) loop-less
-    loop-again returns-2)
+    Inv-loop μ-loop (λ c κs. search needs) loop-holds (λ c. search needs) (λ c κs. search needs) returns (λ c. search needs) (λ c κs. search needs)
+    (λ c. omega (arith, c .next-set2 .ensures .before .ordered, c .before .before .before .before .loop-test .taken)) loop-again returns-2)

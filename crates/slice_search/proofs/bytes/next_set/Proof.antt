@@ -14,9 +14,7 @@ abbrev μ-loop : tie.MeasureT-loop
 μ-loop xs from to i₀ i = to - i
 
 returns : tie.Need-returns Inv-loop μ-loop
-returns c =
-    let l = c .before .before .before .loop in
-    record { before = l .inv .0; within = l .inv .1; set = λ h. omega (arith, c .if1 .taken) }
+returns c = let l = c .before .before .before .loop in record { before = l .inv .0; within = l .inv .1; set = λ h. omega (arith, c .if1 .taken) }
 
 loop-again : tie.Need-loop-again Inv-loop μ-loop
 loop-again c =
@@ -24,9 +22,7 @@ loop-again c =
     (zeros-next _ _ (l .i) (l .inv .0) (omega (arith, c .if1 .left)), omega (arith, c .before .before .loop-test .taken))
 
 returns-2 : tie.Need-returns-2 Inv-loop μ-loop
-returns-2 c =
-    let l = c .before .loop in
-    record { before = l .inv .0; within = l .inv .1; set = λ h. absurd (omega (arith, c .loop-test .left)) }
+returns-2 c = let l = c .before .loop in record { before = l .inv .0; within = l .inv .1; set = λ h. absurd (omega (arith, c .loop-test .left)) }
 
 pub next-set-spec : {M : Type 1} → statement M
 next-set-spec =
