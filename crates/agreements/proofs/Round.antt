@@ -31,7 +31,7 @@ use Rattle.build_lists.specs.Room.{codesRoom}
 use Rattle.build_lists.proofs.Room.{room-cap}
 use Rattle.build.specs.declared.Counts.{Counts}
 use Rattle.build.specs.declared.Built.the-variants as build
-use Rattle.build.specs.Built.{roomRows, builtBy, rowFrom, builtFrom, buildRow, builtOf}
+use Rattle.build.specs.Built.{roomRows, builtBy, rowFrom, builtFrom, buildRow}
 use Rattle.build.specs.Entry.{TableBuilt}
 use Rattle.build.proofs.ByLists.{codes-same, moves-same}
 use Rattle.agreements.proofs.BuiltTables.{built-passes, codes-in-bytes, transitions-in-bytes, built-served-bytes}

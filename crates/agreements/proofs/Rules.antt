@@ -14,7 +14,7 @@ use Rattle.file_spec.specs.File.{NamedRule, trailer, partBefore, namesOf, ruleI
 use Rattle.file_spec.specs.Names.{prefaceFrom}
 use Rattle.file_spec.specs.Rows.{trailerRows, layoutRows, nameRows, prefaceRows, prefaceRow, fileRow, oldRows, oldRow}
 use Rattle.file_spec.specs.RuleRows.{numberRows, listRows, componentRows}
-use Rattle.file_read.proofs.FileRows.{layout-numbered, old-numbered, old-accepts, accepted-rows}
+use Rattle.file_read.proofs.FileRows.{layout-numbered, old-numbered, accepted-rows}
 use Rattle.file_read.proofs.Prefaces.{layout-after, laid-after, old-after}
 use Rattle.rule_tidy_spec.specs.Tidy.{tidyRule}
 use Rattle.file_write_spec.specs.Written.{sliceRows, after}

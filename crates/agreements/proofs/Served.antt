@@ -1,17 +1,14 @@
 -- What the trimmed build answers is the M-104 table of the live calls, also in bytes, and a start on it is served.
-use mathlib.Core.Path.{_≡_, refl, sym, ap, ap₂, _∙_}
-use mathlib.Core.Bool.{true, false, _||_}
-use mathlib.Core.List.{List, [], _∷_, _++_}
-use Prim.Native.Nat.{ℕ, _≤_, _<_}
+use mathlib.Core.Path.{_≡_, refl, _∙_}
+use mathlib.Core.Bool.{true}
+use mathlib.Core.List.{List, _++_}
+use Prim.Native.Nat.{ℕ, _≤_}
 use native.Mathlib.Omega.{arith}
-use lib.Dec.{ltb}
 use lib.ListN.{length, take, length-take}
 use borrow.Author.Tests.{le-ltb}
 use Rattle.sets.proofs.Lists.{mem-at}
-use Rattle.refusals.specs.Rows.{Check, check, firstRow}
+use Rattle.refusals.specs.Rows.{firstRow}
 use Rattle.refusals.proofs.Rows.{numbered, first-right}
-use Rattle.theory.specs.Passing.{Passing}
-use Rattle.theory.specs.Rule.{Rule}
 use Rattle.codes.specs.Bytes.{bytesOfAll}
 use Rattle.file_spec.specs.File.{ruleIn}
 use Rattle.file_spec.specs.Rows.{fileRow, fileRows}

@@ -1,10 +1,8 @@
 -- Letter by letter into one core, and core by core.
 use mathlib.Core.Path.{_≡_, refl, ap, sym, _∙_}
-use mathlib.Core.Bool.{Bool, true, false}
 use mathlib.Core.List.{List}
-use Prim.Native.Nat.{ℕ, _+_, _*_, _/_, _%_, _^_, _≤_, _<_}
+use Prim.Native.Nat.{ℕ, _/_, _%_, _≤_, _<_}
 use native.Mathlib.Omega.{arith}
-use lib.ListN.{length}
 use Rattle.sets.proofs.Masks.{mask-lt}
 use Rattle.theory.specs.Automaton.{Automaton, automaton}
 use Rattle.theory.specs.Macrostate.{Macrostate}
@@ -12,7 +10,6 @@ use Rattle.theory.specs.Rule.{Rule}
 use Rattle.theory.specs.Run.{letterOf, targetOf}
 use Rattle.theory_laws.proofs.Layers.{layered}
 use Rattle.theory_laws.proofs.Tables.{few-states, components-there, reachable-macrostate, target-is, letter-is}
-use Rattle.codes.specs.Codes.{transitionOf}
 use Rattle.build_cores.specs.Parts.{setOf}
 use Rattle.build_step_back.specs.Earlier.{coreOf}
 use Rattle.build_step_back.proofs.Codes.{pair-low}
@@ -23,7 +20,7 @@ use Rattle.build_spec.specs.Tables.{RuleTables}
 use Rattle.build_spec.specs.declared.Shape.{Shape}
 use Rattle.build_spec.proofs.Keys.{key-core}
 use Rattle.build_spec.proofs.Link.{vector, vector-cored, vector-core, onto-low, key-paired, reached-in}
-use Rattle.build_spec.specs.Emission.{Emitted, Over, Into, vectorAt, Done}
+use Rattle.build_spec.specs.Emission.{Over, Into, vectorAt, Done}
 
 pub core-vector : (A : Automaton) (v : ℕ) → coreOf A v / 256 ≡ v
 unfolding coreOf

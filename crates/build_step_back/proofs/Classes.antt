@@ -8,7 +8,7 @@ use native.Mathlib.Decide.{decLt, ℕ-discrete}
 use native.Mathlib.Nat.{le-trans, le-antisymm}
 use native.Mathlib.Numerals.{add-one}
 use lib.Dec.{eqb, leb, ltb}
-use borrow.Author.Tests.{eqb-true, eq-eqb, ne-eqb, lt-ltb, le-ltb, ltb-true, leb-true, leb-false, le-leb, lt-leb}
+use borrow.Author.Tests.{eqb-true, eq-eqb, lt-ltb, le-ltb, ltb-true, leb-true, leb-false, le-leb, lt-leb}
 use Rattle.sets.specs.Tests.{Set, someBelow, count, largest, one}
 use Rattle.sets.specs.Masks.{bit}
 use Rattle.sets.specs.Digits.{num}

@@ -3,12 +3,10 @@ use mathlib.Core.Path.{_≡_, refl, sym, ap, ap₂, _∙_, subst}
 use mathlib.Core.List.{List, [], _∷_, _++_, append-assoc}
 use Prim.Native.Nat.{ℕ, zero, suc, _+_, _-_, _≤_}
 use native.Mathlib.Omega.{arith}
-use lib.ListN.{length, take, drop, replicate, length-replicate, length-append, replicate-append-replicate}
+use lib.ListN.{length, take, drop, replicate, length-append, replicate-append-replicate}
 use lib.Seq.{take-append-seam, drop-append-seam}
-use Rattle.refusals.specs.Rows.{firstRow}
 use Rattle.sets.proofs.Bools.{bif}
 use Rattle.refusals.proofs.Rows.{first-parts}
-use Rattle.theory.specs.Automaton.{automaton}
 use Rattle.theory.specs.Demand.{Demand3}
 use Rattle.theory.specs.Macrostate.{holdsInitial}
 use Rattle.theory.specs.Passing.{Passing}
@@ -31,7 +29,7 @@ use Rattle.build.proofs.Answer.{table-by, build-row}
 use Rattle.build.proofs.ByLists.{codes-same, moves-same, row-same, filled-same}
 use Rattle.build.proofs.RoomRows.{room-few}
 use Rattle.trim_spec.specs.Matters.{ListsMattering, RunsSurvive}
-use Rattle.trim_spec.specs.Trimmed.{liveMarks, picked, isLeft, renumbered, trimmedCodes, trimmedTransitions}
+use Rattle.trim_spec.specs.Trimmed.{liveMarks, isLeft, renumbered, trimmedCodes, trimmedTransitions}
 use Rattle.theory_laws.proofs.Mattering.{table-inside, narrow-at}
 use Rattle.theory_laws.proofs.Numbers.{picked-length, number-max}
 use Rattle.theory_laws.proofs.Renumbering.{renumbered-yes, renumbered-no, renumbered-are}

@@ -1,10 +1,9 @@
 -- The steps of trimming, put together.
-use mathlib.Core.Path.{_≡_, refl, sym, ap, ap₂, _∙_}
-use mathlib.Core.List.{List, [], _++_, append-nil}
-use Prim.Native.Nat.{ℕ, _-_, _≤_, _<_}
+use mathlib.Core.Path.{_≡_, sym, ap, ap₂, _∙_}
+use mathlib.Core.List.{List, _++_, append-nil}
+use Prim.Native.Nat.{ℕ, _-_, _<_}
 use native.Mathlib.Omega.{arith}
 use lib.ListN.{length, replicate}
-use Rattle.trim_spec.specs.Graph.{Inside}
 use Rattle.trim_spec.specs.Trimmed.{newNumber, liveMarks, picked, renumbered}
 use Rattle.trim_spec.specs.Tagged.{highs, lows, Numbered, compacted, rewritten}
 use Rattle.theory_laws.proofs.Numbers.{number-max}

@@ -3,22 +3,19 @@ use mathlib.Core.Path.{_≡_, refl}
 use mathlib.Core.Logic.{_↔_, ⊎-elim}
 use mathlib.Core.Bool.{Bool, true, false, _&&_, Bool·beq, false≢true}
 use mathlib.Core.List.{List, [], _∷_, List·Memᴰ, List·Memᴰ·cases-cons, List·Memᴰ·not-nil}
-use Prim.Native.Nat.{ℕ, _≤_, _<_}
+use Prim.Native.Nat.{ℕ, _<_}
 use native.Mathlib.Omega.{arith}
 use lib.Dec.{eqb, leb}
 use lib.ListN.{length, getD}
 use borrow.Author.Tests.{eqb-true, leb-true}
 use Rattle.sets.specs.Masks.{bit}
-use Rattle.sets.specs.Lists.{Ascending}
 use Rattle.sets.proofs.Bits.{bit-below}
 use Rattle.sets.proofs.Bools.{and-l, and-r, beq-true}
 use Rattle.theory.specs.Rule.{Rule}
 use Rattle.theory.specs.Passing.{Passing}
-use Rattle.theory.specs.Automaton.{automaton}
 use Rattle.theory.specs.Word.{places, WordOver, letters}
 use Rattle.theory.specs.Plan.{AcceptsFrom, AcceptsWord}
-use Rattle.theory.specs.Macrostate.{holdsInitial, isInitial, isAccepting, Reachable}
-use Rattle.theory.specs.Table.{Transition}
+use Rattle.theory.specs.Macrostate.{holdsInitial, isInitial, isAccepting}
 use Rattle.theory.specs.TableComputed.{macrostates, transitions}
 use Rattle.theory.specs.Truth.{truthMasks}
 use Rattle.theory_laws.proofs.Tables.{reachable-iff, macrostates-ascending, transitions-ascending, transition-iff}

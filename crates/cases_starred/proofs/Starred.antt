@@ -13,7 +13,7 @@ use Rattle.sets.specs.Tests.{every, someBelow, count, first, largest}
 use Rattle.sets.proofs.Bools.{and-l, and-r}
 use Rattle.theory.specs.Automaton.{automaton}
 use Rattle.theory.specs.Code.{fields, pack, componentIn, classesIn, setIn, rankIn, wellCoded}
-use Rattle.theory.specs.Components.{named, leads, within, reaches, together, smallest, isSmallest, component, components, mixed}
+use Rattle.theory.specs.Components.{named, leads, within, reaches, together, smallest, isSmallest, component, components}
 use Rattle.theory.specs.Core.{isOpen, mix, rejectingSettled, acceptingSettled, settled, settledUpTo, openOf, nextComponent}
 use Rattle.theory.specs.CoreComputed.{levelOf, taken, rankOf, isCore}
 use Rattle.theory.specs.Macrostate.{begun, isAccepting}

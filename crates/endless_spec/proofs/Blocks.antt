@@ -4,11 +4,10 @@ use mathlib.Core.List.{List·Memᴰ, List·Memᴰ·head, List·Memᴰ·tail}
 use Prim.Native.Nat.{ℕ, zero, suc, _+_, _≤_, _<_}
 use native.Mathlib.Omega.{arith}
 use native.Mathlib.Nat.{zero-add, suc-add}
-use lib.ListN.{length, getD}
-use Rattle.theory.specs.Code.{classesIn}
+use lib.ListN.{getD}
 use Rattle.theory.specs.Examples.{F}
-use Rattle.theory.specs.Macrostate.{begun, isAccepting, holdsInitial}
-use Rattle.theory.specs.Run.{Leads, Run, AcceptingRun}
+use Rattle.theory.specs.Macrostate.{isAccepting, holdsInitial}
+use Rattle.theory.specs.Run.{Leads, AcceptingRun}
 use Rattle.endless_spec.proofs.Cases.{codesF, transitionsF, initial-1, accepting-1, never-two-F}
 
 -- ---- the sequence

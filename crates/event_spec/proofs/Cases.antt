@@ -9,7 +9,7 @@ use Rattle.sets.specs.Lists.{tabulate, flat}
 use Rattle.refusals.specs.Rows.{firstRow}
 use Rattle.file_spec.proofs.Examples.{rowsComputed}
 use Rattle.event_spec.specs.declared.Translated.{Translated}
-use Rattle.event_spec.specs.declared.Translated.the-variants.{Letters, Refused}
+use Rattle.event_spec.specs.declared.Translated.the-variants.{Letters}
 use Rattle.event_spec.specs.Events.{spans, holds, firstLine, eventLetter, covered, known, lettersOf}
 use Rattle.event_spec.specs.Translation.{faulty, faultyTable, hasCovered, hasUnknown, translationRows, translationRow, translateRow, translatedOf, filled, lettersAfter}
 

@@ -1,6 +1,6 @@
 -- The lines that are first for some event: a line is covered exactly if it is none of them.
 use mathlib.Core.Path.{_≡_, refl, sym, _∙_, ap}
-use mathlib.Core.Bool.{Bool, true, false, _&&_, not}
+use mathlib.Core.Bool.{true, false, _&&_, not}
 use mathlib.Core.List.{List}
 use Prim.Native.Nat.{ℕ, zero, suc, _+_, _*_, _≤_, _<_}
 use native.Mathlib.Omega.{arith}
@@ -10,12 +10,12 @@ use lib.Bits.{bitAnd}
 use lib.Count.{ones, trailingZeros}
 use borrow.Author.Tests.{lt-ltb, le-ltb}
 use Rattle.sets.specs.Tests.{Set, someBelow, count}
-use Rattle.sets.specs.Masks.{bit, mask}
-use Rattle.sets.proofs.Bools.{bif, and-l, and-r, and-i, not-t}
+use Rattle.sets.specs.Masks.{bit}
+use Rattle.sets.proofs.Bools.{bif, and-i}
 use Rattle.sets.proofs.Tests.{some-at, some-get, some-none, some-no, count-ext, count-trim, count-more, count-max}
 use Rattle.sets.proofs.Masks.{mask-lt, bit-mask}
 use Rattle.sets.proofs.Bits.{ones-count}
-use Rattle.event_spec.specs.Events.{lineCount, lineByte, holds, covered}
+use Rattle.event_spec.specs.Events.{lineCount, holds, covered}
 use Rattle.event_spec.specs.Translation.{hasCovered}
 use Rattle.event_table.proofs.Lines.{bounds-of, uncovered, covered-iff}
 use Rattle.event_table.specs.Masks.{firstsOf, Masks}

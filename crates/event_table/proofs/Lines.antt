@@ -1,15 +1,15 @@
 -- The lines of an event table: the first that holds an event, and what row 26 lets through.
-use mathlib.Core.Path.{_≡_, refl, sym, _∙_, ap}
+use mathlib.Core.Path.{_≡_}
 use mathlib.Core.Logic.{_↔_}
-use mathlib.Core.Bool.{Bool, true, false, _&&_}
+use mathlib.Core.Bool.{true, false}
 use mathlib.Core.List.{List}
 use Prim.Native.Nat.{ℕ, _+_, _*_, _≤_, _<_}
 use native.Mathlib.Omega.{arith}
-use lib.ListN.{length, getD}
+use lib.ListN.{getD}
 use Rattle.sets.specs.Tests.{someBelow, first}
 use Rattle.sets.proofs.Bools.{bif, clash, and-l, and-r, and-i}
 use Rattle.sets.proofs.Tests.{some-no}
-use Rattle.event_spec.specs.Events.{within, between, lineCount, lineByte, spans, holds, firstLine, covered}
+use Rattle.event_spec.specs.Events.{between, lineCount, lineByte, spans, holds, firstLine, covered}
 use Rattle.event_spec.specs.Translation.{hasCovered}
 use Rattle.event_table.proofs.Ranges.{within-out, within-in, between-at, between-not, first-is, none-before, first-found}
 

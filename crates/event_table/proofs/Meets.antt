@@ -2,7 +2,7 @@
 use mathlib.Core.Path.{_≡_, sym, _∙_, ap, ap₂}
 use mathlib.Core.Bool.{Bool, true, false, _&&_, not}
 use mathlib.Core.List.{List}
-use Prim.Native.Nat.{ℕ, _^_, _≤_, _<_}
+use Prim.Native.Nat.{ℕ, _≤_, _<_}
 use native.Mathlib.Omega.{arith}
 use native.Mathlib.Nat.{lt-of-le-of-lt, zero-add}
 use lib.Dec.{eqb}
@@ -12,7 +12,7 @@ use lib.Count.{trailingZeros, trailing-of-zero}
 use borrow.Author.Tests.{eqb-true, eq-eqb}
 use Rattle.sets.specs.Tests.{Set, someBelow, first}
 use Rattle.sets.specs.Masks.{bit, mask}
-use Rattle.sets.proofs.Bools.{bif, clash, and-l, and-r, and-i, not-t, iff}
+use Rattle.sets.proofs.Bools.{bif, and-l, and-r, and-i, not-t, iff}
 use Rattle.sets.proofs.Tests.{some-at, some-no, some-none, some-ext}
 use Rattle.sets.proofs.Masks.{mask-lt, bit-mask, mask-none}
 use Rattle.sets.proofs.Bits.{bit-and, bit-none, mask-unique}

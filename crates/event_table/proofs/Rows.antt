@@ -1,21 +1,20 @@
 -- The rows of a call: which refuses first, and what a call that is served passes.
-use mathlib.Core.Path.{_≡_, refl, sym, _∙_, ap}
-use mathlib.Core.Bool.{Bool, true, false}
-use mathlib.Core.List.{List, [], _∷_, _++_}
+use mathlib.Core.Path.{_≡_, refl, sym}
+use mathlib.Core.Bool.{true, false}
+use mathlib.Core.List.{List, [], _++_}
 use Prim.Native.Nat.{ℕ, zero, suc, _≤_, _<_}
-use native.Mathlib.Omega.{arith}
 use lib.Dec.{ltb}
 use lib.ListN.{length, drop}
 use borrow.Author.Tests.{lt-ltb, le-ltb, ltb-false}
-use Rattle.refusals.specs.Rows.{Check, firstRow, check}
-use Rattle.refusals.proofs.Rows.{row-yes, row-no, first-left, first-right, first-pass}
+use Rattle.refusals.specs.Rows.{firstRow}
+use Rattle.refusals.proofs.Rows.{first-left, first-right, first-pass}
 use Rattle.file_spec.specs.File.{ruleIn}
 use Rattle.file_spec.specs.Rows.{fileRows, fileRow}
 use Rattle.file_read.proofs.FileRows.{file-numbered}
 use Rattle.event_spec.specs.declared.Translated.{Translated}
 use Rattle.event_spec.specs.declared.Translated.the-variants.{Letters, Refused}
 use Rattle.event_spec.specs.Events.{eventCount, lettersOf}
-use Rattle.event_spec.specs.Translation.{faultyTable, hasCovered, hasUnknown, translationRows, translationRow, translateRow, answer, translatedOf, filled, lettersAfter, Called}
+use Rattle.event_spec.specs.Translation.{faultyTable, hasCovered, hasUnknown, translationRows, translationRow, translateRow, translatedOf, filled, lettersAfter, Called}
 
 module _ (s : ℕ) (t log : List ℕ) (m : ℕ) where
   -- 25

@@ -1,6 +1,6 @@
 -- The letters of a translated log are letters of the rule, so what is cut from them is a word of the rule.
 use mathlib.Core.Path.{_≡_}
-use mathlib.Core.Bool.{Bool, true, false, _||_, not}
+use mathlib.Core.Bool.{true, false, _||_, not}
 use mathlib.Core.List.{List, List·Memᴰ, Memᴰ·append-left, Memᴰ·append-right}
 use Prim.Native.Nat.{ℕ, _%_, _<_}
 use lib.Dec.{eqb, leb, ltb}

@@ -1,7 +1,7 @@
 -- One event more: whether some line holds it, and its letter.
-use mathlib.Core.Path.{_≡_, refl, sym, _∙_, ap}
-use mathlib.Core.Bool.{Bool, true, false, not}
-use mathlib.Core.List.{List, [], _∷_, _++_}
+use mathlib.Core.Path.{_≡_, sym, _∙_, ap}
+use mathlib.Core.Bool.{true, false, not}
+use mathlib.Core.List.{List, _++_}
 use Prim.Native.Nat.{ℕ, suc, _+_, _*_, _≤_, _<_}
 use native.Mathlib.Omega.{arith}
 use native.Mathlib.Nat.{zero-add}
@@ -10,12 +10,12 @@ use lib.ListN.{length, getD, take, drop, set}
 use lib.Seq.{take-all, paste-suc, length-paste}
 use lib.Bits.{bitAnd}
 use lib.Count.{trailingZeros}
-use Rattle.sets.specs.Tests.{someBelow, first}
+use Rattle.sets.specs.Tests.{someBelow}
 use Rattle.sets.specs.Masks.{mask}
 use Rattle.sets.proofs.Bools.{bif, not-f}
 use Rattle.sets.proofs.Tests.{some-at, some-no}
 use Rattle.sets.proofs.Lists.{tabulate-at, length-tabulate}
-use Rattle.event_spec.specs.Events.{lineCount, lineByte, holds, firstLine, eventLetter, eventCount, kindAt, driveAt, known, lettersOf}
+use Rattle.event_spec.specs.Events.{lineCount, holds, firstLine, eventLetter, eventCount, kindAt, driveAt, known, lettersOf}
 use Rattle.event_spec.specs.Translation.{hasUnknown}
 use Rattle.event_table.proofs.Ranges.{first-found}
 use Rattle.event_table.specs.Masks.{Masks}

@@ -8,7 +8,7 @@ use lib.Bits.{bitAnd}
 use lib.Dec.{eqb}
 use lib.ListN.{length, getD}
 use Rattle.sets.specs.Tests.{someBelow}
-use Rattle.sets.specs.Masks.{bit, inside}
+use Rattle.sets.specs.Masks.{bit}
 use Rattle.sets.proofs.Tests.{some-ext}
 use Rattle.sets.proofs.Lists.{mem-at}
 use Rattle.sets.proofs.Members.{inside-trim}

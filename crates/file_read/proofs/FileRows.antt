@@ -7,7 +7,7 @@ use mathlib.Core.Logic.{_↔_}
 use Rattle.refusals.specs.Rows.{firstRow}
 use Rattle.refusals.proofs.Rows.{FirstApplies, NoneApplies, first-row-iff, no-row-iff, numbered, numbered-rows, first-left, first-right, first-parts}
 use Rattle.theory.specs.Passing.{WellFormed, Passing}
-use Rattle.file_spec.specs.File.{headOf, trailer, partBefore, ruleIn, clausesOf, countsOf}
+use Rattle.file_spec.specs.File.{headOf, trailer, ruleIn, clausesOf, countsOf}
 use Rattle.file_spec.specs.Rows.{trailerRows, layoutRows, bodyRows, bodyRow}
 use Rattle.file_spec.specs.RuleRows.{numberRows, listRows, someNested, clauseRows, componentRows, formedRows}
 use Rattle.file_spec.specs.Rows.{nameRows, prefaceRows, prefaceRow, fileRows, fileRow, oldRows, oldRow}

@@ -1,9 +1,9 @@
 -- Laws of the tidy tool's definitions: the answer by the tests that led there.
-use Prim.Native.Nat.{ℕ, zero, suc, _+_, _-_, _*_, _≤_, _<_}
+use Prim.Native.Nat.{ℕ, zero, suc, _+_, _*_, _≤_, _<_}
 use mathlib.Core.Path.{_≡_, refl, ap, sym, _∙_}
 use mathlib.Core.Logic.{_⊎_, inl, inr, ⊎-elim}
-use mathlib.Core.Bool.{true, false}
-use mathlib.Core.List.{List, [], _∷_, _++_, List·Memᴰ}
+use mathlib.Core.Bool.{true}
+use mathlib.Core.List.{List, _++_}
 use native.Mathlib.Omega.{arith}
 use borrow.Author.Tests.{le-ltb, lt-ltb}
 use lib.ListN.{length, length-append}
@@ -14,8 +14,8 @@ use Rattle.theory.specs.Rule.{Rule}
 use Rattle.theory.specs.Passing.{WellFormed, Passing}
 use Rattle.rule_tidy_spec.specs.Tidy.{tidyRule}
 use Rattle.rule_tidy_spec.proofs.Entries.{counts-length, clauses-length}
-use Rattle.file_spec.specs.File.{trailer, partBefore, namesOf, ruleIn, bodyOf, trailerOf}
-use Rattle.file_spec.specs.Names.{namesTag, hasNames, namesBefore, prefaceFrom}
+use Rattle.file_spec.specs.File.{trailer, partBefore, ruleIn, bodyOf}
+use Rattle.file_spec.specs.Names.{hasNames, namesBefore, prefaceFrom}
 use Rattle.file_spec.specs.Rows.{trailerRows, layoutRows, nameRows, prefaceRows}
 use Rattle.file_spec.specs.RuleRows.{numberRows, listRows, componentRows}
 use Rattle.file_spec.proofs.Formed.{passing}

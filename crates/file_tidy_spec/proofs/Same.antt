@@ -1,7 +1,7 @@
 -- The tidied rule and the rule are the same, and so are the tool's file and the file, names included.
 use Prim.Native.Nat.{ℕ, _^_, _<_}
 use mathlib.Core.Path.{_≡_, refl, sym}
-use mathlib.Core.Bool.{Bool, true, false}
+use mathlib.Core.Bool.{true}
 use mathlib.Core.List.{List, List·Memᴰ}
 use borrow.Author.Tests.{eq-eqb}
 use Rattle.sets.specs.Masks.{bit}
@@ -11,7 +11,7 @@ use Rattle.sets.proofs.Tests.{every-all}
 use Rattle.theory.specs.Rule.{Rule, entry, satisfies}
 use Rattle.file_spec.specs.File.{namedIn, namesOf, ruleIn}
 use Rattle.rule_same.proofs.Same.{equal-agree}
-use Rattle.rule_same.specs.Same.{agree, sameEntry, sameEntries, sameRules, sameNamed}
+use Rattle.rule_same.specs.Same.{sameEntry, sameEntries, sameRules, sameNamed}
 use Rattle.rule_tidy_spec.specs.Tidy.{tidyRule}
 use Rattle.rule_tidy_spec.proofs.Rules.{entry-satisfies}
 use Rattle.file_tidy_spec.specs.Tidied.{tidyRows, tidyFile}

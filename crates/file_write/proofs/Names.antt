@@ -1,11 +1,11 @@
 -- Names at the start of a slice, then the rest of the file; and how long names are that no row refuses.
-use Prim.Native.Nat.{ℕ, _+_, _*_, _≤_}
+use Prim.Native.Nat.{ℕ, _+_, _≤_}
 use mathlib.Core.Path.{_≡_, refl, ap, sym, _∙_}
 use mathlib.Core.Logic.{⊎-elim}
 use mathlib.Core.List.{List, [], _∷_, _++_}
 use native.Mathlib.Omega.{arith}
 use native.Mathlib.Nat.{zero-add}
-use lib.ListN.{length, length-append}
+use lib.ListN.{length}
 use lib.Seq.{paste, paste-zero}
 use Rattle.refusals.specs.Rows.{firstRow}
 use Rattle.file_spec.specs.Names.{namesTag, prefaceFrom}

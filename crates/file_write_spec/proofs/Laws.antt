@@ -1,5 +1,5 @@
 -- Laws of the writer's definitions: the file in three parts, and the answer by the tests that led there.
-use Prim.Native.Nat.{ℕ, zero, suc, _+_, _*_, _^_, _≤_, _<_}
+use Prim.Native.Nat.{ℕ, zero, suc, _+_, _*_, _≤_, _<_}
 use mathlib.Core.Path.{_≡_, refl, ap, ap₂, sym, _∙_}
 use mathlib.Core.Bool.{true, false, not}
 use mathlib.Core.List.{List, [], _∷_, _++_, append-assoc, List·Memᴰ, List·Memᴰ·head, List·Memᴰ·tail}
@@ -17,7 +17,7 @@ use Rattle.theory.specs.Passing.{WellFormed, Passing}
 use Rattle.rule_entries.proofs.Entries.{entries-few, accepting-small}
 use Rattle.rule_entries.specs.declared.Head.{Head}
 use Rattle.rule_entries.specs.Entries.{ruleOf}
-use Rattle.file_spec.specs.File.{bodyOf, trailerOf}
+use Rattle.file_spec.specs.File.{bodyOf}
 use Rattle.file_spec.specs.Names.{namesTag, prefaceFrom}
 use Rattle.file_spec.specs.Rows.{nameRows, givenRows}
 use Rattle.file_spec.specs.RuleRows.{numberRows, listRows, someNested, clauseRows, componentRows, formedRows}

@@ -7,15 +7,14 @@ use Prim.Native.Nat.{ℕ, zero, suc, _+_, _-_, _*_, _≤_, _<_}
 use native.Mathlib.Omega.{arith}
 use native.Mathlib.Decide.{decLe, decLt, ℕ-discrete}
 use lib.ListN.{length, getD, set, length-set, List·getD-eq-default}
-use lib.Seq.{ext-getD}
 use borrow.Author.Tests.{eqb-true, eq-eqb, lt-ltb, le-ltb}
 use Rattle.sets.specs.Lists.{sum}
 use Rattle.sets.proofs.Bools.{clash}
 use Rattle.graph_walks.specs.Walks.{Walk, Toward, Pruned, Solved}
 use Rattle.graph_walks.specs.Marks.{settled, goesOut}
-use Rattle.graph_walks.specs.Rounds.{Settling, Marking, Stable, PruneRound, SolveRound}
+use Rattle.graph_walks.specs.Rounds.{Settling, Marking, Stable, SolveRound}
 use Rattle.graph_walks.proofs.Sums.{split-set, has-place, sum-le, sum-lt, sum-most}
-use Rattle.graph_walks.proofs.Marking.{Round, marking-start}
+use Rattle.graph_walks.proofs.Marking.{Round}
 
 -- ---- examples
 

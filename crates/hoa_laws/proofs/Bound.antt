@@ -1,9 +1,8 @@
 -- How long a text is: the sum of its lines, and a bound.
-use mathlib.Core.Path.{_≡_, refl, sym, _∙_, ap}
-use mathlib.Core.Bool.{true, false}
-use mathlib.Core.List.{List, [], _∷_, _++_, List·Memᴰ, List·Memᴰ·head, List·Memᴰ·tail}
+use mathlib.Core.Path.{_≡_, refl, _∙_, ap}
+use mathlib.Core.List.{List, [], _∷_, List·Memᴰ, List·Memᴰ·head, List·Memᴰ·tail}
 use mathlib.Core.Logic.{by-cases}
-use Prim.Native.Nat.{ℕ, zero, suc, _+_, _*_, _^_, _≤_, _<_}
+use Prim.Native.Nat.{ℕ, suc, _+_, _*_, _≤_, _<_}
 use native.Mathlib.Omega.{arith}
 use native.Mathlib.Decide.{decLt, ℕ-discrete}
 use native.Mathlib.Nat.{add-zero, zero-add}
@@ -13,11 +12,10 @@ use borrow.Author.Tests.{eq-eqb, ne-eqb, lt-ltb, le-ltb}
 use Rattle.sets.specs.Masks.{bit}
 use Rattle.sets.specs.Lists.{keep, Above, end, more, Ascending, none, from}
 use Rattle.sets.proofs.Bools.{bif}
-use Rattle.sets.proofs.Lists.{mem-at}
 use Rattle.theory.specs.Run.{sourceOf, letterOf, targetOf}
 use Rattle.listing_lines_spec.specs.Lines.{lines}
 use Rattle.listing_lines_spec.proofs.Lines.{lines-length}
-use Rattle.hoa_spec.specs.Lines.{hoaLine, statesLine, startLine, apLine, acceptanceLines, stateLine, edgeLine, endLine}
+use Rattle.hoa_spec.specs.Lines.{statesLine, apLine, edgeLine}
 use Rattle.hoa_spec.specs.Text.{startOf, stateOf, edgeOf, leaving, blockOf, automatonText}
 use Rattle.hoa_laws.proofs.Lengths.{word-short, states-length, ap-length, start-short, state-short, edge-short}
 use Rattle.hoa_laws.proofs.Edges.{any-number}

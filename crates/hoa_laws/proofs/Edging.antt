@@ -10,7 +10,7 @@ use Rattle.sets.specs.Lists.{Ascending, none, from, end}
 use Rattle.listing_lines_spec.specs.Lines.{lines}
 use Rattle.hoa_spec.specs.Text.{edgeOf}
 use Rattle.hoa_laws.specs.Took.{TookOne, NoEdge, Leaves}
-use Rattle.hoa_laws.specs.Parts.{Edging, EdgesOf, TookEdges}
+use Rattle.hoa_laws.specs.Parts.{Edging, TookEdges}
 use Rattle.hoa_laws.proofs.Lines.{other-heads, moves-once}
 use Rattle.hoa_laws.proofs.Edges.{From, edges-left, edges-cons, edges-snoc, edge-head}
 use Rattle.hoa_laws.proofs.Lists.{asc-append, asc-before, in-middle, in-list, sets-append}

@@ -7,7 +7,7 @@ use native.Mathlib.Nat.{zero-add}
 use lib.ListN.{length, getD}
 use Rattle.sets.specs.Masks.{bit}
 use Rattle.listing_lines_spec.specs.Lines.{lines}
-use Rattle.hoa_spec.specs.Lines.{hoaLine, statesLine, propositions, apLine, acceptanceLines, endLine}
+use Rattle.hoa_spec.specs.Lines.{hoaLine, statesLine, apLine, acceptanceLines, endLine}
 use Rattle.hoa_spec.specs.Text.{startOf, blockOf, automatonText}
 use Rattle.hoa_spec.specs.Shape.{Shaped}
 use Rattle.hoa_laws.specs.Took.{NoStart, NoEdge}

@@ -1,7 +1,7 @@
 -- Lines and texts, computed from the definitions.
 use mathlib.Core.Path.{_≡_, refl}
 use mathlib.Core.List.{[], _∷_}
-use Prim.Native.Nat.{ℕ, _^_}
+use Prim.Native.Nat.{ℕ}
 use Rattle.sets.specs.Tests.{first}
 use Rattle.sets.specs.Masks.{bit}
 use Rattle.sets.specs.Lists.{keep}

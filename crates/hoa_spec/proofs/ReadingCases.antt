@@ -6,7 +6,6 @@ use Prim.Native.Nat.{ℕ, zero, suc, _+_}
 use native.Mathlib.Omega.{arith}
 use lib.ListN.{length}
 use borrow.Author.Tests.{lt-ltb}
-use Rattle.sets.specs.Tests.{first}
 use Rattle.sets.specs.Masks.{bit}
 use Rattle.sets.specs.Lists.{anyOf, more, Ascending, from}
 use Rattle.refusals.specs.Rows.{firstRow}
@@ -16,7 +15,6 @@ use Rattle.slice_search.specs.Places.{ascends, ascendsFrom}
 use Rattle.table_lent.specs.Lent.{inWords, isFaulty, tableRows, tableRow}
 use Rattle.table_rows.specs.Passed.{Passed}
 use Rattle.table_rows.proofs.Passed.{passed}
-use Rattle.hoa_spec.specs.Lines.{propositions}
 use Rattle.hoa_spec.specs.Text.{flagOf, flagsOf, automatonText, textOf}
 use Rattle.hoa_spec.specs.declared.HoaRead.{HoaRead}
 use Rattle.hoa_spec.specs.declared.HoaRead.the-variants.{Table, Refused}

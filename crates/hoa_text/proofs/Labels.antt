@@ -1,6 +1,5 @@
 -- Labels, literal by literal.
 use mathlib.Core.Path.{_≡_, refl, sym, _∙_, ap}
-use mathlib.Core.Bool.{true, false}
 use mathlib.Core.List.{List, [], _∷_, _++_}
 use Prim.Native.Nat.{ℕ, zero, suc, _+_, _-_, _/_, _%_, _^_, _≤_, _<_}
 use native.Mathlib.Omega.{arith}
@@ -10,7 +9,7 @@ use borrow.Author.Tests.{eq-eqb, ne-eqb}
 use Rattle.sets.specs.Masks.{bit}
 use Rattle.slice_text.specs.Decimal.{digit}
 use Rattle.slice_text.specs.Put.{Put}
-use Rattle.slice_text.proofs.Puts.{put-as, put-then, put-length}
+use Rattle.slice_text.proofs.Puts.{put-as, put-then}
 use Rattle.hoa_spec.specs.Lines.{literal, label}
 use Rattle.hoa_laws.proofs.Labels.{label-add}
 use Rattle.hoa_laws.proofs.Lengths.{literal-yes, literal-no}

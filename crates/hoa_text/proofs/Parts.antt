@@ -1,22 +1,21 @@
 -- The lines of a table, one macrostate and one transition at a time.
-use mathlib.Core.Path.{_≡_, refl, sym, _∙_, ap, ap₂}
+use mathlib.Core.Path.{_≡_, sym, _∙_, ap, ap₂}
 use mathlib.Core.Bool.{Bool, true, false, cond}
 use mathlib.Core.List.{List, [], _++_}
 use mathlib.Core.Logic.{by-cases}
 use Prim.Native.Nat.{ℕ, _+_, _-_, _/_, _≤_, _<_}
 use native.Mathlib.Omega.{arith}
 use native.Mathlib.Decide.{ℕ-discrete}
-use lib.ListN.{length, take, drop, getD, length-drop, length-append}
+use lib.ListN.{length, take, drop, getD, length-drop}
 use lib.Seq.{length-take-le, getD-take, getD-drop}
 use Rattle.sets.specs.Tests.{Set}
-use Rattle.sets.specs.Masks.{bit}
 use Rattle.theory.specs.Macrostate.{isAccepting}
 use Rattle.theory.specs.Run.{sourceOf}
 use Rattle.listing_lines_spec.specs.Lines.{lines}
 use Rattle.table_lent.specs.Lent.{wordsIn}
 use Rattle.table_lent.proofs.Reading.{words-in-length}
-use Rattle.hoa_spec.specs.Lines.{statesLine, startLine, apLine, acceptanceLines, stateLine, endLine}
-use Rattle.hoa_spec.specs.Text.{flagsOf, startOf, stateOf, edgeOf, leaving, blockOf, automatonText}
+use Rattle.hoa_spec.specs.Lines.{statesLine, startLine, stateLine}
+use Rattle.hoa_spec.specs.Text.{flagsOf, startOf, stateOf, edgeOf, leaving, blockOf}
 use Rattle.hoa_laws.proofs.Flags.{flags-length, initial-at, accepting-at}
 use Rattle.hoa_laws.proofs.Lengths.{start-short}
 

@@ -1,13 +1,10 @@
 -- The text of a table that row 15 lets through: where it stands in a slice, and that its length is at most the bound.
-use mathlib.Core.Path.{_≡_, refl, sym, _∙_, ap}
+use mathlib.Core.Path.{_≡_, sym, ap}
 use mathlib.Core.List.{List, List·Memᴰ}
-use mathlib.Core.Logic.{by-cases}
 use Prim.Native.Nat.{ℕ, _+_, _*_, _^_, _≤_, _<_}
 use native.Mathlib.Omega.{arith}
-use native.Mathlib.Decide.{decLt}
 use lib.ListN.{length}
 use Rattle.sets.specs.Tests.{Set}
-use Rattle.sets.specs.Lists.{Ascending}
 use Rattle.theory.specs.Run.{sourceOf}
 use Rattle.listing_lines_spec.specs.Lines.{initialAt}
 use Rattle.table_lent.specs.Lent.{Lent, wordsIn, inBytes, tableRow}
@@ -18,7 +15,6 @@ use Rattle.hoa_spec.specs.Text.{flagsOf, automatonText, textOf}
 use Rattle.hoa_laws.proofs.Carried.{few-propositions}
 use Rattle.hoa_laws.proofs.Flags.{flags-length}
 use Rattle.hoa_laws.proofs.Bound.{few-members, text-bound}
-use Rattle.hoa_text.proofs.Propositions.{none-needed, one-needed, two-needed, three-needed, four-needed}
 use Rattle.hoa_write.specs.Written.{lentText, bound}
 
 module _ (s : ℕ) (codes ts : List ℕ) (P : Passed s codes ts) where

@@ -7,7 +7,7 @@ use native.Mathlib.Omega.{arith}
 use lib.Dec.{ltb}
 use lib.ListN.{length, drop}
 use borrow.Author.Tests.{lt-ltb, le-ltb}
-use Rattle.refusals.specs.Rows.{Check, check, firstRow}
+use Rattle.refusals.specs.Rows.{check, firstRow}
 use Rattle.refusals.proofs.Rows.{numbered, first-left, first-right}
 use Rattle.file_spec.specs.File.{ruleIn}
 use Rattle.file_spec.specs.Rows.{fileRows, fileRow}
@@ -16,7 +16,7 @@ use Rattle.file_write_spec.specs.declared.Written.{Written}
 use Rattle.file_write_spec.specs.declared.Written.the-variants.{Length, Refused}
 use Rattle.file_write_spec.specs.Written.{answer, after}
 use Rattle.table_lent.specs.Lent.{Lent, tableRows, tableRow}
-use Rattle.hoa_write.specs.Written.{lentText, textRows, textRow, writeRow, fileText, hoaWritten, hoaAfter, Called}
+use Rattle.hoa_write.specs.Written.{lentText, textRows, textRow, writeRow, hoaWritten, hoaAfter, Called}
 
 module _ (s initial : ℕ) (codes transitions : Lent) where
   abbrev text : List ℕ

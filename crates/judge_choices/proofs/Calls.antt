@@ -1,18 +1,16 @@
 -- The rows of a call, and what a call answers and writes.
 use mathlib.Core.Path.{_≡_, refl, sym, _∙_, ap}
-use mathlib.Core.Bool.{Bool, false}
+use mathlib.Core.Bool.{Bool}
 use mathlib.Core.List.{List, _++_}
 use Prim.Native.Nat.{ℕ, zero, suc, _+_, _*_, _≤_, _<_}
 use native.Mathlib.Omega.{arith}
 use native.Mathlib.Nat.{mul-le-mul}
-use lib.Dec.{ltb}
-use lib.ListN.{length, getD, take, drop, List·getD-append}
-use borrow.Author.Tests.{lt-ltb, le-ltb, ltb-false}
+use lib.ListN.{length, getD, drop, List·getD-append}
+use borrow.Author.Tests.{lt-ltb, le-ltb}
 use Rattle.sets.specs.Masks.{bit}
 use Rattle.refusals.specs.Rows.{firstRow}
-use Rattle.sets.specs.Lists.{tabulate}
 use Rattle.sets.proofs.Lists.{length-tabulate}
-use Rattle.refusals.proofs.Rows.{first-left, first-right, first-parts, first-pass}
+use Rattle.refusals.proofs.Rows.{first-left, first-right, first-parts}
 use Rattle.theory.specs.Rule.{Rule}
 use Rattle.theory.specs.Passing.{Passing}
 use Rattle.theory.specs.Word.{places, WordOver}
@@ -27,7 +25,7 @@ use Rattle.judge_spec.specs.declared.Verdict.{Verdict}
 use Rattle.judge_spec.specs.declared.Verdict.the-variants.{Refused}
 use Rattle.judge_spec.specs.Judge.{sliceRows, verdict, holdsStart, after, Meant}
 use Rattle.judge_spec.proofs.Meaning.{meaning as masks-meaning}
-use Rattle.judge_choices_spec.specs.ChoicesComputed.{choiceAt, choicesBy, choicesOf}
+use Rattle.judge_choices_spec.specs.ChoicesComputed.{choicesBy, choicesOf}
 use Rattle.judge_choices_spec.specs.Choice.{Written}
 use Rattle.judge_choices_place.proofs.Meaning.{meaning as choices-meaning}
 use Rattle.judge_choices.specs.Judge.{choiceRows, choicesCallRow, choicesRow, CalledChoices, JudgedChoices}

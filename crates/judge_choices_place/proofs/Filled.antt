@@ -1,28 +1,26 @@
 -- The accepting states' choices, place by place, and all choices together.
 use mathlib.Core.Path.{_≡_, refl, sym, _∙_, ap}
-use mathlib.Core.Logic.{_⊎_, inl, inr, by-cases}
-use mathlib.Core.Bool.{_&&_, not, cond, and-true}
+use mathlib.Core.Logic.{inr, by-cases}
+use mathlib.Core.Bool.{_&&_, cond, and-true}
 use mathlib.Core.List.{List, _++_}
-use Prim.Native.Nat.{ℕ, suc, _+_, _-_, _*_, _/_, _%_, _≤_, _<_}
+use Prim.Native.Nat.{ℕ, _+_, _-_, _*_, _/_, _%_, _≤_, _<_}
 use native.Mathlib.Omega.{arith}
 use native.Mathlib.Decide.{ℕ-discrete, decLt}
 use native.Mathlib.Nat.{mod-lt, div-lt-iff-lt-mul, div-add-mod', zero-add}
 use lib.Arith.{digits-lt}
 use lib.ListN.{length, getD, drop, replicate, length-append, length-replicate, length-drop, getD-replicate, List·getD-append}
 use lib.Seq.{ext-getD, getD-append-add}
-use Rattle.sets.specs.Masks.{bit, mask}
-use Rattle.sets.specs.Lists.{tabulate}
+use Rattle.sets.specs.Masks.{bit}
 use Rattle.sets.proofs.Bools.{bif}
 use Rattle.sets.proofs.Lists.{length-tabulate, tabulate-at}
 use Rattle.theory.specs.Rule.{Rule, entry, satisfies}
-use Rattle.theory.specs.Automaton.{automaton}
 use Rattle.theory.specs.Passing.{Passing}
 use Rattle.theory.specs.Word.{places, nextPlace, letterAt, WordOver}
 use Rattle.theory.specs.Truth.{truthMasks}
 use Rattle.theory_laws.proofs.Satisfies.{satisfies-ext}
 use Rattle.theory_laws.proofs.Truth.{truth-exact}
 use Rattle.judge_choices_spec.specs.ChoicesComputed.{aimOf, choiceAt, choicesBy, choicesOf}
-use Rattle.judge_choices_spec.specs.Rounds.{metNumber, Tried, Started, Ended}
+use Rattle.judge_choices_spec.specs.Rounds.{Tried, Started, Ended}
 use Rattle.judge_choices_place.proofs.Meaning.{aim-bit, mix-same, choice-accepting, choice-false}
 use Rattle.judge_choices_place.proofs.Rounds.{apart}
 

@@ -1,20 +1,19 @@
 -- The distance by plans is the number of rounds after which the pair is discharged, and a plan whose clauses come nearer leaves within it.
 use mathlib.Core.Path.{_≡_, refl, sym, _∙_, ap}
 use mathlib.Core.Logic.{_⊎_, ⊎-elim}
-use mathlib.Core.Bool.{true, false, cond}
+use mathlib.Core.Bool.{true, false}
 use mathlib.Core.List.{List, _∷_, List·Memᴰ, List·Memᴰ·head, List·Memᴰ·tail}
 use Prim.Native.Nat.{ℕ, zero, suc, _+_, _-_, _≤_, _<_}
 use native.Mathlib.Omega.{arith}
-use lib.Dec.{eqb, leb}
-use lib.ListN.{length, getD}
-use borrow.Author.Tests.{leb-true, le-leb, eqb-true, eqb-false}
+use lib.Dec.{eqb}
+use borrow.Author.Tests.{leb-true, le-leb, eqb-true}
 use Rattle.sets.specs.Tests.{Set}
 use Rattle.sets.specs.Masks.{bit, inside}
-use Rattle.sets.proofs.Bools.{bif, and-i, or-l, or-r, clash}
+use Rattle.sets.proofs.Bools.{bif, and-i, or-l, or-r}
 use Rattle.sets.proofs.Members.{inside-at, inside-all}
 use Rattle.theory.specs.Automaton.{Automaton}
 use Rattle.theory.specs.Layered.{Layered}
-use Rattle.theory.specs.Core.{isOpen, mix}
+use Rattle.theory.specs.Core.{isOpen}
 use Rattle.theory.specs.Plan.{Reach, Accepts}
 use Rattle.theory.specs.Plan.Reach.{here, on}
 use Rattle.theory.specs.Rule.{satisfies}
@@ -22,7 +21,7 @@ use Rattle.theory_laws.proofs.Certified.{discharged}
 use Rattle.theory_laws.proofs.Pursuit.{open-kind, mix-in, mix-out, settled-kind}
 use Rattle.theory_laws.proofs.PlanOfSet.{δ, δ-leb, δ-pos, aim, Good, Aimed, nearer, good-on, lower, aimed-valid, aimed-fair, aim-nearer, aim-true}
 use Rattle.judge_choices_spec.specs.Distance as dist
-use Rattle.judge_choices_spec.specs.Distance.{After, Left, Leaves, Distance, Nearer}
+use Rattle.judge_choices_spec.specs.Distance.{After, Left, Distance}
 use Rattle.judge_choices_spec.specs.Choice.{Suits}
 
 -- a clause of an entry inside a set satisfies it

@@ -1,9 +1,9 @@
 -- The computed choices are those by plans, and they are a plan that accepts.
 use mathlib.Core.Path.{_≡_, refl, sym, _∙_, ap}
-use mathlib.Core.Logic.{_↔_, ⊎-elim}
-use mathlib.Core.Bool.{Bool, true, false, _&&_, not, cond}
+use mathlib.Core.Logic.{⊎-elim}
+use mathlib.Core.Bool.{Bool, true, false, _&&_, not}
 use mathlib.Core.List.{List, _++_, List·Memᴰ, List·Memᴰ·append-cases}
-use Prim.Native.Nat.{ℕ, zero, suc, _+_, _-_, _*_, _/_, _%_, _^_, _≤_, _<_}
+use Prim.Native.Nat.{ℕ, zero, suc, _+_, _-_, _*_, _/_, _%_, _<_}
 use native.Mathlib.Omega.{arith}
 use native.Mathlib.Nat.{zero-add}
 use lib.Dec.{eqb, leb}
@@ -11,8 +11,7 @@ use lib.Arith.{digits-div, digits-mod, digits-lt}
 use lib.ListN.{length, getD, length-append, List·getD-append}
 use borrow.Author.Tests.{eqb-true, leb-true, leb-false, le-leb}
 use Rattle.sets.specs.Tests.{Set, first}
-use Rattle.sets.specs.Masks.{bit, mask, inside}
-use Rattle.sets.specs.Lists.{tabulate}
+use Rattle.sets.specs.Masks.{bit, inside}
 use Rattle.sets.proofs.Bools.{bif, clash, iff, and-i, and-l, and-r, not-t}
 use Rattle.sets.proofs.Bits.{bit-none}
 use Rattle.sets.proofs.Masks.{bit-mask}
@@ -35,12 +34,10 @@ use Rattle.theory_laws.proofs.Pursuit.{open-kind, mix-in, mix-out, settled-kind
 use Rattle.theory_laws.proofs.PlanOfSet.{δ, δ-leb, aim, Good, Aimed, aim-sat}
 use Rattle.theory_laws.proofs.Satisfies.{satisfies-ext}
 use Rattle.theory_laws.proofs.Truth.{heights, certain, truth-certain, truth-accepts}
-use Rattle.rule_entries.specs.declared.Met.the-variants.{Clause}
-use Rattle.rule_entries.specs.Met.{metOf}
-use Rattle.rule_entries.proofs.Clauses.{Met-at, met-first, satisfies-wide}
+use Rattle.rule_entries.proofs.Clauses.{met-first, satisfies-wide}
 use Rattle.rule_entries.proofs.Entries.{entry-states}
 use Rattle.judge_choices_spec.specs.ChoicesComputed.{noChoice, numberOf, aimOf, nearer, nearAt, distanceAt, aimAt, choiceAt, choicesBy, choicesOf}
-use Rattle.judge_choices_spec.specs.Choice.{Choice, planOf, Written}
+use Rattle.judge_choices_spec.specs.Choice.{planOf, Written}
 use Rattle.judge_choices_spec.specs.Rounds.{metNumber}
 use Rattle.judge_choices_place.proofs.Leaving.{plan-of, inside-suits, suits-inside}
 

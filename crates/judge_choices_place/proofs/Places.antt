@@ -2,7 +2,7 @@
 use mathlib.Core.Path.{_≡_, refl, sym, _∙_, ap}
 use mathlib.Core.Logic.{by-cases}
 use mathlib.Core.Bool.{Bool, true, false, _&&_, _||_, not, or-false, and-true, and-false}
-use mathlib.Core.List.{List, List·Memᴰ, List·Memᴰ·head}
+use mathlib.Core.List.{List, List·Memᴰ·head}
 use Prim.Native.Nat.{ℕ, suc, _+_, _-_, _*_, _/_, _%_, _^_, _≤_, _<_}
 use native.Mathlib.Omega.{arith}
 use native.Mathlib.Decide.{ℕ-discrete}
@@ -13,7 +13,7 @@ use lib.Dec.{eqb}
 use lib.ListN.{length, getD}
 use lib.Pow.{pow-lt, shr-lt, shr-shr}
 use borrow.Author.Tests.{eq-eqb, ne-eqb, eqb-false, lt-ltb, eqb-true}
-use Rattle.sets.specs.Masks.{bit, mask}
+use Rattle.sets.specs.Masks.{bit}
 use Rattle.sets.proofs.Bools.{and-l, or-fl, or-fr, iff}
 use Rattle.sets.proofs.Bits.{bit-or, bit-half, bit-high, bit-shl-one, shl-one, bit-ext-all, bit-full}
 use Rattle.sets.proofs.Masks.{mask-lt, mask-trim}

@@ -1,32 +1,30 @@
 -- Laws of the rounds that count the distance.
 use mathlib.Core.Path.{_≡_, refl, sym, _∙_, ap}
-use mathlib.Core.Logic.{_⊎_, inl, inr, ⊎-elim, by-cases}
-use mathlib.Core.Bool.{Bool, true, false, _&&_, _||_, not, cond, or-false, or-true, and-false, true≢false, false≢true, and-comm, and-assoc, not-and-self}
+use mathlib.Core.Logic.{_⊎_, inl, inr, by-cases}
+use mathlib.Core.Bool.{Bool, true, false, _&&_, _||_, not, cond, or-false, and-comm, and-assoc, not-and-self}
 use mathlib.Core.List.{List}
-use Prim.Native.Nat.{ℕ, zero, suc, _+_, _-_, _*_, _/_, _%_, _^_, _≤_, _<_}
+use Prim.Native.Nat.{ℕ, zero, suc, _+_, _-_, _*_, _^_, _≤_, _<_}
 use native.Mathlib.Omega.{arith}
 use native.Mathlib.Decide.{ℕ-discrete, decLt}
 use native.Mathlib.Nat.{add-zero, add-suc, mul-le-mul-right}
 use lib.Arith.{digits-lt}
-use lib.Bits.{bitAnd, bitOr, or-lt}
-use lib.Dec.{eqb, leb}
+use lib.Bits.{bitOr, or-lt}
+use lib.Dec.{eqb}
 use lib.ListN.{length, getD, set}
 use lib.Pow.{pow-pos}
 use lib.Seq.{getD-set-same, getD-set-other}
-use borrow.Author.Tests.{eq-eqb, ne-eqb, leb-true, leb-false, le-leb, eqb-true}
+use borrow.Author.Tests.{eq-eqb, ne-eqb, eqb-true}
 use Rattle.sets.specs.Tests.{Set}
-use Rattle.sets.specs.Masks.{bit, mask}
-use Rattle.sets.proofs.Bools.{bif, clash, and-l, and-r, and-i, not-t, not-f, or-fl, or-fr, iff, and-fl}
-use Rattle.sets.proofs.Bits.{bit-and, bit-or, bit-none, bit-ext}
-use Rattle.sets.proofs.Masks.{bit-mask, mask-lt, mask-ext}
+use Rattle.sets.specs.Masks.{bit}
+use Rattle.sets.proofs.Bools.{bif, clash, not-f, or-fl, or-fr, iff, and-fl}
+use Rattle.sets.proofs.Bits.{bit-or, bit-none, bit-ext}
+use Rattle.sets.proofs.Masks.{bit-mask, mask-lt}
 use Rattle.theory.specs.Rule.{Rule, entry, satisfies}
-use Rattle.theory.specs.Automaton.{automaton}
 use Rattle.theory.specs.Passing.{Passing}
 use Rattle.theory.specs.Word.{places, nextPlace, letterAt, WordOver}
 use Rattle.theory.specs.Truth.{truthMasks}
 use Rattle.theory_laws.proofs.Places.{next-place-low}
-use Rattle.rule_entries.specs.Met.{metOf}
-use Rattle.judge_choices_spec.specs.ChoicesComputed.{numberOf, aimOf, nearer, nearAt, distanceAt, aimAt, choiceAt}
+use Rattle.judge_choices_spec.specs.ChoicesComputed.{aimOf, nearer, nearAt, choiceAt}
 use Rattle.judge_choices_spec.specs.Rounds.{roundNumber, fresh, Tried, Place, Round, Rounds, Ended}
 use Rattle.judge_choices_place.proofs.Meaning.{near-grows, choice-now, near-all}
 

@@ -2,26 +2,25 @@
 use mathlib.Core.Path.{_≡_, refl, sym, _∙_, ap}
 use mathlib.Core.Logic.{_⊎_, ⊎-elim, by-cases}
 use mathlib.Core.Bool.{Bool, true, false, _&&_, _||_, not, cond, or-false, or-true, false≢true, true≢false, and-true, and-false}
-use mathlib.Core.List.{List, List·Memᴰ}
-use Prim.Native.Nat.{ℕ, zero, suc, _+_, _*_, _^_, _≤_, _<_}
+use mathlib.Core.List.{List}
+use Prim.Native.Nat.{ℕ, _+_, _*_, _^_, _≤_, _<_}
 use native.Mathlib.Omega.{arith}
 use native.Mathlib.Decide.{ℕ-discrete}
 use native.Mathlib.Nat.{zero-add, lt-of-lt-of-le}
 use lib.Bits.{bitAnd, bitOr, or-lt, and-lt}
 use lib.Dec.{eqb}
-use lib.ListN.{length, getD, set, take, drop, length-set, length-take}
+use lib.ListN.{length, getD, take, drop, length-set, length-take}
 use lib.Pow.{pow-mono}
 use lib.Seq.{getD-set-same, getD-set-other}
 use borrow.Author.Tests.{eq-eqb, ne-eqb}
-use Rattle.sets.specs.Tests.{Set}
 use Rattle.sets.specs.Masks.{bit, mask}
 use Rattle.sets.specs.Lists.{sum}
-use Rattle.sets.proofs.Bools.{bif, clash}
+use Rattle.sets.proofs.Bools.{bif}
 use Rattle.sets.proofs.Bits.{bit-and, bit-or, bit-high, bit-shl-one, mask-of}
 use Rattle.sets.proofs.Lists.{mem-at}
 use Rattle.sets.proofs.Masks.{bit-mask, mask-lt}
 use Rattle.set_masks.specs.Sets.{differenceOf}
-use Rattle.theory.specs.Rule.{Rule, entry, satisfies}
+use Rattle.theory.specs.Rule.{Rule, entry}
 use Rattle.theory.specs.Automaton.{automaton}
 use Rattle.theory.specs.Components.{component}
 use Rattle.theory.specs.Core.{mix}
@@ -32,7 +31,7 @@ use Rattle.rule_entries.specs.Met.{metOf, isMet}
 use Rattle.rule_entries.proofs.Clauses.{met-first, met-satisfies}
 use Rattle.rule_entries.proofs.Entries.{entry-number, entry-part}
 use Rattle.judge_choices_spec.specs.ChoicesComputed.{numberOf, aimOf}
-use Rattle.judge_choices_spec.specs.Rounds.{putMet, metNumber}
+use Rattle.judge_choices_spec.specs.Rounds.{putMet}
 
 -- ---- the set that a state's clause has to meet
 

@@ -1,7 +1,6 @@
 -- Choices, evaluated.
 use mathlib.Core.Path.{_≡_, refl}
-use mathlib.Core.List.{List, [], _∷_}
-use Prim.Native.Nat.{ℕ}
+use mathlib.Core.List.{[], _∷_}
 use Rattle.sets.specs.Tests.{every, someBelow, count, first}
 use Rattle.sets.specs.Masks.{bit, mask, inside}
 use Rattle.sets.specs.Lists.{sum, tabulate}

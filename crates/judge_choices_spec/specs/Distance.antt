@@ -1,6 +1,6 @@
 -- Distances, by plans.
 use mathlib.Core.Path.{_≡_}
-use mathlib.Core.Bool.{true, false}
+use mathlib.Core.Bool.{true}
 use Prim.Native.Nat.{ℕ, suc, _≤_, _<_}
 use Rattle.sets.specs.Masks.{bit}
 use Rattle.theory.specs.Automaton.{Automaton}

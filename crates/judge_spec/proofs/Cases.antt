@@ -31,9 +31,9 @@ D = 0x02 ∷ 0x00 ∷ 0x01 ∷ 0x01 ∷ 0x00 ∷ 0x01 ∷ 0x01 ∷ 0x02 ∷ 0x02
 
 -- what an evaluation unfolds
 unfoldable computed : ℕ
-unfolding F I D judgeOf judgeRow after firstRow fileRows bodyRows prefaceRows nameRows hasNames namesBefore repeatsName layoutRows trailerRows numberRows listRows formedRows clauseRows someNested nested
-    componentRows wordRows sliceRows lengthRows letterRows tagged clausesOf countsOf anyOf sum mixed together truthMasks solvedBelow roundsAt layer heightOf nextPlace letterAt reaches within leads
-    named entry satisfies tabulate bit mask inside every someBelow count
+unfolding F I D judgeOf judgeRow after firstRow fileRows bodyRows prefaceRows nameRows hasNames namesBefore repeatsName layoutRows trailerRows numberRows listRows
+    formedRows clauseRows someNested nested componentRows wordRows sliceRows lengthRows letterRows tagged clausesOf countsOf anyOf sum mixed together truthMasks
+    solvedBelow roundsAt layer heightOf nextPlace letterAt reaches within leads named entry satisfies tabulate bit mask inside every someBelow count
 computed = 0
 
 -- the judge answers v and makes new of the slice old

@@ -1,5 +1,5 @@
 -- The listing as it is computed is that of any lists of the rule's reachable macrostates and transitions.
-use mathlib.Core.Path.{_≡_, refl, sym, _∙_, ap, subst}
+use mathlib.Core.Path.{_≡_, refl, sym, _∙_, ap}
 use mathlib.Core.Logic.{by-cases}
 use mathlib.Core.List.{List, _++_}
 use Prim.Native.Nat.{ℕ, zero, suc, _≤_, _<_}
@@ -14,7 +14,7 @@ use Rattle.file_spec.specs.Rows.{fileRow, fileRows}
 use Rattle.refusals.proofs.Rows.{first-left, first-right}
 use Rattle.file_read.proofs.FileRows.{file-numbered, accepted-passing}
 use Rattle.build_lists.specs.Room.{roomOf}
-use Rattle.build.specs.Built.{roomRows, roomRow, builtBy, rowFrom, builtFrom, buildRow, builtOf}
+use Rattle.build.specs.Built.{roomRows, roomRow, builtBy, rowFrom, builtFrom, buildRow}
 use Rattle.build.proofs.ByLists.{codes-same, moves-same}
 use Rattle.build.proofs.RoomRows.{row-codes}
 use Rattle.listing_lines_spec.specs.Lines.{refusedLine}

@@ -16,7 +16,7 @@ use Rattle.theory.specs.CoreComputed.{levelOf, taken, rankOf, isCore}
 use Rattle.theory.specs.Macrostate.{begun, isAccepting}
 use Rattle.theory.specs.MacrostateComputed.{before, onward, goes}
 use Rattle.theory.specs.Rule.{entry, satisfies}
-use Rattle.theory.specs.TableComputed.{reachedIn, reached, digitals, candidates, cores, codesFrom, transitionsOf, macrostatesFrom, transitionsFrom, macrostates}
+use Rattle.theory.specs.TableComputed.{reachedIn, reached, digitals, candidates, cores, codesFrom, transitionsOf, macrostatesFrom, transitionsFrom}
 use Rattle.file_spec.specs.File.{tagged, clausesOf, countsOf}
 use Rattle.file_spec.specs.Names.{hasNames, namesBefore, repeatsName}
 use Rattle.file_spec.specs.Rows.{trailerRows, layoutRows, bodyRows, nameRows, prefaceRows, fileRows}

@@ -4,7 +4,7 @@ use mathlib.Core.Logic.{by-cases}
 use mathlib.Core.Bool.{Bool, true, false, not, cond}
 use mathlib.Core.List.{List, [], _∷_, _++_, List·Memᴰ}
 use Prim.Native.Nat.{ℕ, _+_, _-_, _/_, _%_, _^_, _≤_, _<_}
-use native.Mathlib.Decide.{ℕ-discrete, decLt}
+use native.Mathlib.Decide.{decLt}
 use native.Mathlib.Omega.{arith}
 use lib.ListN.{length, getD, take, drop, length-take, length-drop, List·getD-eq-default}
 use lib.Seq.{getD-take, getD-drop, length-take-le}
@@ -30,7 +30,6 @@ use Rattle.live_spec.proofs.Steps.{stepped-length}
 use Rattle.live_rows.proofs.Checks.{letter-known, log-free, long-enough, table-refuses, slice-answers}
 use Rattle.live_arrive.proofs.Rises.{below-last}
 use Rattle.live_arrive.specs.Tried.{passes, Stepped}
-use Rattle.live_arrive.specs.declared.Quick.{Quick}
 use Rattle.live_arrive.specs.declared.Quick.the-variants.{Served, Refused, Untried}
 use Rattle.live_arrive.specs.Quickly.{Coded, Triable, PartStepped, Quickly}
 

@@ -18,7 +18,6 @@ use Rattle.theory.specs.Run.{sourceOf, letterOf, targetOf}
 use Rattle.slice_search.specs.Places.{ascends}
 use Rattle.table_lent.specs.Lent.{isAstray}
 use Rattle.table_rows.proofs.Faults.{source-astray, letter-astray, target-astray, in-range, range}
-use Rattle.live_spec.specs.Afresh.{stepped}
 use Rattle.live_set.specs.Sweeps.{flagOf, moved, Swept}
 use Rattle.live_set.proofs.Sets.{moved-other, swept-start, swept-next, swept-end, mapped, arrived}
 use Rattle.live_arrive.proofs.Rises.{below-last}

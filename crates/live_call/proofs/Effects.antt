@@ -1,14 +1,11 @@
 -- What is left by the call that was asked.
 use mathlib.Core.Path.{_≡_, ap, ap₂, _∙_}
 use mathlib.Core.List.{List}
-use Prim.Native.Nat.{ℕ, _<_}
-use Rattle.live_spec.specs.declared.LiveCall.{LiveCall}
-use Rattle.live_spec.specs.declared.LiveCall.the-variants.{Start, Arrive, Withdraw, Mark, Return}
-use Rattle.live_spec.specs.Called.{effect}
+use Prim.Native.Nat.{ℕ}
 use Rattle.live_spec.specs.Afresh.{membersOf}
-use Rattle.live_spec.specs.Effects.{put, started, arrived, withdrawn, marked, returned, shown}
+use Rattle.live_spec.specs.Effects.{put, shown}
 use Rattle.live_spec.specs.State.{numberIn, setBytes}
-use Rattle.live_call.specs.Callable.{Callable, Counted}
+use Rattle.live_call.specs.Callable.{Counted}
 
 -- both counts and the slice of the set, of the bytes that are left
 pub counted : (n k : ℕ) (left set state′ set′ : List ℕ) (letters macrostates : ℕ) → k ≡ n → state′ ≡ left → set′ ≡ put 0 (shown k state′) set → macrostates ≡ membersOf k (setBytes state′)

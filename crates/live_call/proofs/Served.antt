@@ -1,27 +1,24 @@
 -- What a call that no row refuses has passed, and what the answer is for the file.
-use mathlib.Core.Path.{_≡_, refl, sym, ap, ap₂, subst, _∙_}
-use mathlib.Core.Bool.{Bool, true, false, not}
-use mathlib.Core.List.{List, [], _∷_, _++_, List·Memᴰ}
+use mathlib.Core.Path.{_≡_, refl, sym, ap, subst, _∙_}
+use mathlib.Core.Bool.{true, not}
+use mathlib.Core.List.{List, [], _∷_, _++_}
 use Prim.Native.Nat.{ℕ, zero, suc, _+_, _≤_, _<_}
 use native.Mathlib.Omega.{arith}
 use lib.Dec.{eqb, leb, ltb}
-use lib.ListN.{length, getD, take, drop, take-append-drop}
+use lib.ListN.{length, take, drop, take-append-drop}
 use borrow.Author.Tests.{leb-false, ltb-false, eqb-false, not-false}
-use Rattle.sets.specs.Tests.{one}
 use Rattle.sets.proofs.Bools.{or-fl, or-fr}
 use Rattle.refusals.specs.Rows.{firstRow, check}
 use Rattle.refusals.proofs.Rows.{first-left, first-right, first-parts, first-pass}
 use Rattle.theory.specs.Passing.{Passing}
 use Rattle.theory.specs.Rule.{Rule}
-use Rattle.theory.specs.Run.{sourceOf, targetOf}
 use Rattle.rule_entries.specs.Entries.{ruleOf}
-use Rattle.trim_spec.specs.Graph.{Inside}
 use Rattle.file_spec.specs.declared.Layout.{Layout}
 use Rattle.file_spec.specs.File.{countsOf, clausesOf, ruleIn}
 use Rattle.file_spec.specs.Rows.{fileRows, fileRow}
 use Rattle.file_read.proofs.Answer as read
 use Rattle.file_read.proofs.FileRows.{file-numbered, accepted-passing}
-use Rattle.table_lent.specs.Lent.{Lent, tableRow, inBytes, wordsIn}
+use Rattle.table_lent.specs.Lent.{Lent, inBytes, wordsIn}
 use Rattle.table_rows.specs.Passed.{Passed}
 use Rattle.table_rows.proofs.Passed.{passed}
 use Rattle.live_spec.specs.declared.LiveAnswer.{LiveAnswer}
@@ -29,12 +26,10 @@ use Rattle.live_spec.specs.declared.LiveAnswer.the-variants.{Live, Refused}
 use Rattle.live_spec.specs.declared.LiveCall.{LiveCall}
 use Rattle.live_spec.specs.declared.LiveCall.the-variants.{Start, Arrive, Withdraw, Mark, Return}
 use Rattle.live_spec.specs.declared.LiveCounts.{LiveCounts}
-use Rattle.live_spec.specs.Afresh.{afresh, membersOf}
-use Rattle.live_spec.specs.Called.{effect, answerBy, leftBy, CalledBy, Gets, Leaves, LiveCalled}
-use Rattle.live_spec.specs.Effects.{put, shown}
-use Rattle.live_spec.specs.History.{History, later, isSet, Log, logOf, Serves, Served}
-use Rattle.live_spec.specs.Rows.{sliceRows, arrivalRows, logRows, liveCallRows, liveCallRow, liveRow}
-use Rattle.live_spec.specs.State.{stateLength, stateOf, numberIn, isMarked, setBytes}
+use Rattle.live_spec.specs.Called.{effect, answerBy, leftBy, CalledBy, Gets, LiveCalled}
+use Rattle.live_spec.specs.History.{History, Log, logOf, Serves, Served}
+use Rattle.live_spec.specs.Rows.{sliceRows, arrivalRows, logRows, liveCallRow, liveRow}
+use Rattle.live_spec.specs.State.{stateLength, stateOf, numberIn, isMarked}
 use Rattle.live_laws.proofs.Histories.{Small, small, state-bytes}
 use Rattle.live_laws.proofs.Leaves.{number-told, mark-told, leaves}
 use Rattle.live_rows.proofs.Checks.{parts}

@@ -1,10 +1,9 @@
 -- What histories leave: letters and marks, and the bytes of state.
-use mathlib.Core.Path.{_≡_, refl, sym, ap, ap₂, _∙_}
-use mathlib.Core.Bool.{Bool, true, false, cond}
+use mathlib.Core.Path.{_≡_, refl, sym, ap, _∙_}
+use mathlib.Core.Bool.{Bool, cond}
 use mathlib.Core.List.{List, [], _∷_, _++_, List·Memᴰ}
-use Prim.Native.Nat.{ℕ, zero, suc, _+_, _-_, _≤_, _<_}
+use Prim.Native.Nat.{ℕ, _+_, _-_, _≤_, _<_}
 use native.Mathlib.Omega.{arith}
-use lib.Dec.{eqb}
 use lib.ListN.{length, take, drop, length-append}
 use lib.Seq.{length-take-le, take-append-seam}
 use borrow.Author.Tests.{eq-eqb, ne-eqb}
@@ -12,8 +11,8 @@ use Rattle.theory.specs.Run.{sourceOf}
 use Rattle.live_spec.specs.declared.LiveCall.{LiveCall}
 use Rattle.live_spec.specs.declared.LiveCall.the-variants.{Start, Arrive, Withdraw, Mark, Return}
 use Rattle.live_spec.specs.Afresh.{afresh}
-use Rattle.live_spec.specs.History.{History, atStart, later, Moment, unset, at, isSet, lettersAt, Log, empty, called, logOf, held, markOf, Serves, Served, followed, Keeps}
-use Rattle.live_spec.specs.State.{stateLength, twoBytes, logBytes, stateOf, padded}
+use Rattle.live_spec.specs.History.{History, atStart, later, unset, at, lettersAt, Log, empty, called, logOf, held, markOf, Serves, Served, followed, Keeps}
+use Rattle.live_spec.specs.State.{stateLength, logBytes, stateOf, padded}
 use Rattle.live_spec.specs.Called.{effect}
 use Rattle.live_laws.proofs.Reached.{afresh-length}
 use Rattle.live_laws.proofs.States.{flagBytes, numberBytes, markBytes, bytesOf, Held, long, log-bytes, remark-low, start-leaves, arrive-leaves, withdraw-leaves, return-leaves, mark-leaves}

@@ -1,12 +1,11 @@
 -- Parts written and read in the bytes of state.
-use mathlib.Core.Path.{_≡_, refl, sym, ap, ap₂, _∙_}
-use mathlib.Core.List.{List, [], _∷_, _++_, append-assoc}
-use Prim.Native.Nat.{ℕ, zero, suc, _+_, _*_, _-_, _≤_, _<_, min}
+use mathlib.Core.Path.{_≡_, refl, sym, ap, _∙_}
+use mathlib.Core.List.{List, [], _++_, append-assoc}
+use Prim.Native.Nat.{ℕ, _+_, _≤_, _<_}
 use native.Mathlib.Omega.{arith}
-use native.Mathlib.Nat.{add-zero, zero-add, add-assoc}
 use lib.ListN.{length, getD, take, drop, length-append, List·getD-append}
-use lib.Seq.{take-append-le, take-append-seam, drop-append-le, getD-append-add}
-use Rattle.live_spec.specs.State.{markNumberAt, lettersAtByte, markLettersAt, setAt, numberAt}
+use lib.Seq.{getD-append-add}
+use Rattle.live_spec.specs.State.{setAt, numberAt}
 use Rattle.live_spec.specs.Effects.{put}
 use Rattle.live_laws.proofs.Parts.{put-front, put-behind, put-part, part-front, drop-behind, number-read}
 

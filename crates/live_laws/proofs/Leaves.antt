@@ -1,32 +1,32 @@
 -- A served call that gets what a history left leaves what the longer history leaves.
-use mathlib.Core.Path.{_≡_, refl, sym, ap, ap₂, _∙_}
-use mathlib.Core.List.{List, [], _∷_, _++_, List·Memᴰ}
-use Prim.Native.Nat.{ℕ, zero, suc, _+_, _≤_, _<_}
+use mathlib.Core.Path.{_≡_, sym, ap, ap₂, _∙_}
+use mathlib.Core.List.{List, _++_}
+use Prim.Native.Nat.{ℕ, _+_, _≤_, _<_}
 use native.Mathlib.Omega.{arith}
 use native.Mathlib.Nat.{zero-add}
 use lib.Dec.{ltb}
 use lib.ListN.{length, getD, take, drop, take-append-drop}
 use lib.Seq.{ext-getD, take-at}
 use Rattle.sets.specs.Lists.{tabulate}
-use Rattle.sets.specs.Tests.{one, count}
-use Rattle.sets.proofs.Lists.{length-tabulate, tabulate-at}
+use Rattle.sets.specs.Tests.{one}
+use Rattle.sets.proofs.Lists.{length-tabulate}
 use Rattle.sets.proofs.Tests.{count-ext}
 use Rattle.theory.specs.Passing.{Passing}
 use Rattle.theory.specs.Rule.{Rule}
 use Rattle.trim_spec.specs.Graph.{Inside}
 use Rattle.live_spec.specs.declared.LiveAnswer.{LiveAnswer}
-use Rattle.live_spec.specs.declared.LiveAnswer.the-variants.{Live, Refused}
+use Rattle.live_spec.specs.declared.LiveAnswer.the-variants.{Live}
 use Rattle.live_spec.specs.declared.LiveCall.{LiveCall}
 use Rattle.live_spec.specs.declared.LiveCall.the-variants.{Start, Arrive, Withdraw, Mark, Return}
 use Rattle.live_spec.specs.Afresh.{isIn, afresh, membersOf}
-use Rattle.live_spec.specs.History.{History, atStart, later, isSet, Log, empty, called, logOf, held, markOf, Serves, Served}
+use Rattle.live_spec.specs.History.{History, later, isSet, Log, empty, logOf, Serves, Served}
 use Rattle.live_spec.specs.State.{stateLength, stateOf, numberIn, isMarked, setBytes}
 use Rattle.live_spec.specs.Effects.{put, shown}
-use Rattle.live_spec.specs.Called.{effect, answerBy, leftBy, CalledBy, Gets, TrimmedTable, Leaves}
+use Rattle.live_spec.specs.Called.{effect, answerBy, leftBy, CalledBy, Gets, Leaves}
 use Rattle.live_spec.proofs.Steps.{in-one, table-at}
 use Rattle.live_laws.proofs.Empty.{some-left, none-left}
 use Rattle.live_laws.proofs.Histories.{Onward, Small, small, held-by, state-bytes, state-long, start-goes, call-goes}
-use Rattle.live_laws.proofs.Reached.{Bytes, afresh-length, afresh-bytes, reached-iff}
+use Rattle.live_laws.proofs.Reached.{afresh-length, afresh-bytes, reached-iff}
 use Rattle.live_laws.proofs.States.{bytesOf, Held, number-held, flag-held, set-at}
 
 -- ---- what is told of a state's bytes

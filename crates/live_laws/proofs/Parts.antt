@@ -1,13 +1,12 @@
 -- Parts written and read in a list that is joined from parts.
 use mathlib.Core.Path.{_≡_, refl, sym, ap, ap₂, _∙_}
-use mathlib.Core.Logic.{by-cases}
 use mathlib.Core.List.{List, [], _∷_, _++_, append-assoc, append-nil}
 use Prim.Native.Nat.{ℕ, zero, suc, _+_, _*_, _-_, _/_, _%_, _≤_, _<_, min}
 use native.Mathlib.Omega.{arith}
 use native.Mathlib.Nat.{add-zero, zero-add, add-assoc, zero-mul, suc-mul, mul-zero, mul-suc}
 use lib.ListN.{length, getD, take, drop, replicate, length-append, length-drop, length-replicate, replicate-append-replicate, drop-of-length-le}
-use lib.Seq.{length-take-le, take-all, take-length, drop-length, take-append-le, drop-append-le, take-append-add, drop-append-add, take-append-seam, take-suc, drop-append-seam, getD-take}
-use lib.Seq.{getD-drop, getD-append-add}
+use lib.Seq.{length-take-le, take-length, take-append-le, drop-append-le, take-append-add, drop-append-add, take-append-seam, take-suc, drop-append-seam, getD-take}
+use lib.Seq.{getD-drop}
 use Rattle.sets.specs.Lists.{tabulate, flat}
 use Rattle.live_spec.specs.State.{twoBytes, padded, numberAt}
 use Rattle.live_spec.specs.Effects.{put}

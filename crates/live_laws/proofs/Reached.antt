@@ -1,25 +1,25 @@
 -- The set worked out afresh holds the macrostates that are reached over the letters, and no others.
-use mathlib.Core.Path.{_≡_, refl, sym, ap, ap₂, _∙_}
+use mathlib.Core.Path.{_≡_, refl, sym, ap, _∙_}
 use mathlib.Core.Logic.{_↔_}
-use mathlib.Core.Bool.{Bool, true, false, _&&_, _||_, false≢true}
-use mathlib.Core.List.{List, [], _∷_, _++_, map, List·Memᴰ, List·Memᴰ·head, List·Memᴰ·tail}
-use Prim.Native.Nat.{ℕ, zero, suc, _+_, _<_, _≤_}
+use mathlib.Core.Bool.{true, false, _&&_, false≢true}
+use mathlib.Core.List.{List, [], _∷_, _++_, List·Memᴰ}
+use Prim.Native.Nat.{ℕ, zero, suc, _+_, _<_}
 use native.Mathlib.Omega.{arith}
-use native.Mathlib.Nat.{zero-add, le-of-suc-le-suc}
+use native.Mathlib.Nat.{le-of-suc-le-suc}
 use lib.Dec.{eqb, ltb}
-use lib.ListN.{length, getD, length-map, List·getD-eq-default}
+use lib.ListN.{length, getD}
 use borrow.Author.Tests.{eqb-true, eq-eqb}
-use Rattle.sets.specs.Lists.{anyOf, tabulate}
+use Rattle.sets.specs.Lists.{anyOf}
 use Rattle.sets.specs.Masks.{bit}
-use Rattle.sets.specs.Tests.{one, count}
-use Rattle.sets.proofs.Bools.{bif, clash, and-l, and-r, and-i}
-use Rattle.sets.proofs.Lists.{any-cons, any-out, any-in, length-tabulate, tabulate-at}
-use Rattle.theory.specs.Macrostate.{begun, isInitial}
+use Rattle.sets.specs.Tests.{one}
+use Rattle.sets.proofs.Bools.{and-l, and-r, and-i}
+use Rattle.sets.proofs.Lists.{any-out, any-in, length-tabulate}
+use Rattle.theory.specs.Macrostate.{begun}
 use Rattle.theory.specs.Rule.{Rule}
 use Rattle.theory.specs.Run.{sourceOf, letterOf, targetOf, Leads}
 use Rattle.live_spec.proofs.Steps.{in-one, table-at, initial-length, stepped-length, over-length, over-more}
 use Rattle.live_spec.specs.Reached.{Walks, here, step, ReachedOver}
-use Rattle.live_spec.specs.Afresh.{isIn, enters, stepped, steppedOver, initialSet, afresh, membersOf}
+use Rattle.live_spec.specs.Afresh.{isIn, enters, stepped, steppedOver, initialSet, afresh}
 
 -- past the end nothing is in
 pub in-low : (set : List ℕ) (x : ℕ) → isIn set x ≡ true → x < length set

@@ -1,7 +1,5 @@
 -- What is refused of what a history left: 30 to 33 by the letters held and the marks.
 use mathlib.Core.Path.{_≡_, refl, sym, ap, _∙_}
-use mathlib.Core.Logic.{_↔_}
-use mathlib.Core.Bool.{Bool, true, false, not}
 use mathlib.Core.List.{List, [], _∷_, _++_}
 use Prim.Native.Nat.{ℕ, _≤_, _<_}
 use native.Mathlib.Omega.{arith}
@@ -9,12 +7,11 @@ use lib.Dec.{eqb, leb, ltb}
 use lib.ListN.{length, take, drop, take-append-drop}
 use borrow.Author.Tests.{ltb-false}
 use Rattle.sets.proofs.Bools.{bif}
-use Rattle.refusals.specs.Rows.{Check, check, firstRow}
-use Rattle.refusals.proofs.Rows.{row-yes, row-no}
+use Rattle.refusals.specs.Rows.{check, firstRow}
 use Rattle.live_spec.specs.declared.LiveCall.{LiveCall}
 use Rattle.live_spec.specs.declared.LiveCall.the-variants.{Start, Arrive, Withdraw, Mark, Return}
 use Rattle.live_spec.specs.Called.{Gets}
-use Rattle.live_spec.specs.History.{History, isSet, Log, logOf, Served}
+use Rattle.live_spec.specs.History.{History, isSet, logOf, Served}
 use Rattle.live_spec.specs.Rows.{logRows, heldRows}
 use Rattle.live_spec.specs.State.{stateLength, stateOf, numberIn, isMarked}
 use Rattle.live_laws.proofs.Histories.{small, state-bytes}

@@ -1,26 +1,26 @@
 -- The bytes that a call leaves, of the bytes of a log and a set.
 use mathlib.Core.Path.{_≡_, refl, sym, ap, ap₂, _∙_}
-use mathlib.Core.Bool.{Bool, true, false, cond}
+use mathlib.Core.Bool.{Bool, cond}
 use mathlib.Core.List.{List, [], _∷_, _++_, append-assoc, List·Memᴰ}
-use Prim.Native.Nat.{ℕ, zero, suc, _+_, _*_, _-_, _≤_, _<_}
+use Prim.Native.Nat.{ℕ, _+_, _*_, _-_, _≤_, _<_}
 use native.Mathlib.Omega.{arith}
 use native.Mathlib.Nat.{zero-add}
 use lib.Dec.{eqb, ltb}
-use lib.ListN.{length, getD, take, drop, replicate, length-append, List·getD-append}
-use lib.Seq.{length-take-le, take-length, take-all, getD-take, getD-drop}
+use lib.ListN.{length, getD, take, drop, length-append, List·getD-append}
+use lib.Seq.{length-take-le, take-all, getD-take, getD-drop}
 use borrow.Author.Tests.{eq-eqb, ne-eqb}
-use Rattle.sets.specs.Lists.{anyOf, tabulate, flat}
+use Rattle.sets.specs.Lists.{tabulate, flat}
 use Rattle.sets.specs.Tests.{one}
 use Rattle.sets.proofs.Bools.{bif}
-use Rattle.theory.specs.Run.{sourceOf, targetOf}
-use Rattle.live_spec.specs.Afresh.{isIn, stepped, initialSet, afresh}
+use Rattle.theory.specs.Run.{sourceOf}
+use Rattle.live_spec.specs.Afresh.{stepped, initialSet, afresh}
 use Rattle.live_spec.specs.History.{Moment, unset, at, isSet, lettersAt, Log}
-use Rattle.live_spec.specs.State.{markNumberAt, lettersAtByte, markLettersAt, setAt, stateLength, twoBytes, padded, forMarks, logBytes, numberAt, numberIn, lettersIn, isMarked, setBytes}
-use Rattle.live_spec.specs.Effects.{put, numbered, withSet, refreshed, started, arrived, withdrawn, marked, returned, shown}
+use Rattle.live_spec.specs.State.{markNumberAt, lettersAtByte, markLettersAt, setAt, stateLength, twoBytes, padded, forMarks, logBytes, numberAt, numberIn, lettersIn, setBytes}
+use Rattle.live_spec.specs.Effects.{put, numbered, withSet, refreshed, started, arrived, withdrawn, marked, returned}
 use Rattle.live_spec.proofs.Steps.{initial-length, step-ext}
 use Rattle.live_laws.proofs.Reached.{afresh-length, afresh-next, afresh-none}
 use Rattle.live_laws.proofs.Parts.{parts-length, parts-read, parts-put, padded-length, padded-read, padded-put, padded-none, padded-zeros, padded-next, padded-last, put-all, zeros}
-use Rattle.live_laws.proofs.Parts.{zeros-length, zeros-put, zeros-parts, zeros-split, number-read, number-two}
+use Rattle.live_laws.proofs.Parts.{zeros-put, zeros-parts, zeros-split, number-read, number-two}
 use Rattle.live_laws.proofs.Laid.{laid, Long, put-number, put-flag, put-numbers, put-letters, put-marks, put-set, read-number, read-numbers, read-letters, read-marks, read-set, read-flag}
 
 -- ---- the parts of a log

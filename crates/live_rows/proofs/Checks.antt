@@ -1,14 +1,12 @@
 -- The rows of each call, test by test, and joined.
-use mathlib.Core.Path.{_≡_, refl, sym, ap, _∙_}
-use mathlib.Core.Bool.{Bool, true, false, not, _||_}
-use mathlib.Core.List.{List, [], _∷_, _++_}
+use mathlib.Core.Path.{_≡_, refl, sym, _∙_}
+use mathlib.Core.Bool.{true, false}
+use mathlib.Core.List.{List, _++_}
 use Prim.Native.Nat.{ℕ, _≤_, _<_}
-use native.Mathlib.Omega.{arith}
-use lib.Dec.{eqb, leb, ltb}
 use lib.ListN.{length}
-use borrow.Author.Tests.{le-leb, lt-leb, lt-ltb, le-ltb, eq-eqb, ne-eqb, leb-false, ltb-false, eqb-false, not-false}
+use borrow.Author.Tests.{le-leb, lt-leb, lt-ltb, le-ltb, eq-eqb, ne-eqb}
 use Rattle.refusals.specs.Rows.{firstRow}
-use Rattle.refusals.proofs.Rows.{numbered, first-left, first-right, first-parts, first-pass}
+use Rattle.refusals.proofs.Rows.{numbered, first-left, first-right, first-parts}
 use Rattle.table_lent.specs.Lent.{Lent, tableRows, tableRow}
 use Rattle.live_spec.specs.declared.LiveCall.{LiveCall}
 use Rattle.live_spec.specs.declared.LiveCall.the-variants.{Start, Arrive, Withdraw, Mark, Return}

@@ -1,11 +1,10 @@
 -- The set over a table, one turn of a loop at a time.
-use mathlib.Core.Path.{_≡_, refl, sym, _∙_, ap, ap₂}
+use mathlib.Core.Path.{_≡_, refl, sym, _∙_, ap}
 use mathlib.Core.Logic.{by-cases}
 use mathlib.Core.Bool.{Bool, true, false, _||_, or-true, or-false}
-use mathlib.Core.List.{List, [], _∷_, map, List·Memᴰ, List·Memᴰ·head, List·Memᴰ·tail}
+use mathlib.Core.List.{List, [], _∷_, map}
 use Prim.Native.Nat.{ℕ, zero, suc, _+_, _/_, _%_, _≤_, _<_}
 use native.Mathlib.Decide.{ℕ-discrete}
-use native.Mathlib.Nat.{zero-add}
 use native.Mathlib.Numerals.{add-one}
 use native.Mathlib.Omega.{arith}
 use lib.Dec.{eqb, ltb}
@@ -13,9 +12,9 @@ use lib.ListN.{length, getD, set, take, length-set, length-map, List·getD-map}
 use lib.Seq.{ext-getD, getD-set-same, getD-set-other, take-suc, take-all}
 use borrow.Author.Tests.{eq-eqb, ne-eqb, lt-ltb, le-ltb}
 use Rattle.sets.specs.Tests.{Set, one}
-use Rattle.sets.specs.Lists.{anyOf, tabulate}
+use Rattle.sets.specs.Lists.{anyOf}
 use Rattle.sets.proofs.Bools.{bif}
-use Rattle.sets.proofs.Lists.{tabulate-at, length-tabulate, any-cons, any-append}
+use Rattle.sets.proofs.Lists.{any-cons, any-append}
 use Rattle.sets.specs.Masks.{bit}
 use Rattle.theory.specs.Macrostate.{begun}
 use Rattle.theory.specs.Run.{sourceOf, letterOf, targetOf}

@@ -1,22 +1,20 @@
 -- The set handed out, one byte a turn.
 use mathlib.Core.Path.{_≡_, refl, sym, _∙_, ap}
 use mathlib.Core.Logic.{by-cases}
-use mathlib.Core.Bool.{Bool, true, false}
 use mathlib.Core.List.{List}
 use Prim.Native.Nat.{ℕ, _+_, _≤_, _<_}
 use native.Mathlib.Decide.{ℕ-discrete}
 use native.Mathlib.Nat.{zero-add}
 use native.Mathlib.Numerals.{add-one}
 use native.Mathlib.Omega.{arith}
-use lib.Dec.{ltb}
 use lib.ListN.{length, getD, set, length-set}
 use lib.Seq.{getD-set-same, getD-set-other, getD-drop}
 use Rattle.sets.specs.Tests.{Set, one, count}
 use Rattle.sets.specs.Lists.{tabulate}
-use Rattle.sets.proofs.Lists.{tabulate-at, length-tabulate}
+use Rattle.sets.proofs.Lists.{length-tabulate}
 use Rattle.live_spec.specs.Afresh.{isIn}
 use Rattle.live_spec.specs.State.{setAt, setBytes}
-use Rattle.live_spec.specs.Effects.{put, shown}
+use Rattle.live_spec.specs.Effects.{put}
 use Rattle.live_spec.proofs.Steps.{one-low, table-at}
 use Rattle.live_set.proofs.Puts.{put-ext}
 use Rattle.live_set.specs.Sweeps.{flagOf}

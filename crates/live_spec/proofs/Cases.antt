@@ -1,8 +1,8 @@
 -- What the definitions give for examples: rule F, "some time letter 1", and rule E, "letter 0 for ever", with their trimmed tables.
 use mathlib.Core.Path.{_≡_, refl, _∙_, ap}
-use mathlib.Core.List.{List, [], _∷_, _++_, map}
+use mathlib.Core.List.{List, [], _∷_, _++_}
 use Prim.Native.Nat.{ℕ}
-use lib.ListN.{length, getD, take, drop, replicate}
+use lib.ListN.{take, drop, replicate}
 use Rattle.sets.specs.Digits.{num}
 use Rattle.sets.specs.Lists.{keep, among, anyOf, sum, tabulate, flat, insertAscending, sorted}
 use Rattle.sets.specs.Masks.{bit, mask, inside}
@@ -28,7 +28,7 @@ use Rattle.live_spec.specs.Afresh.{enters, stepped, steppedOver, initial
 use Rattle.live_spec.specs.declared.LiveCall.{LiveCall}
 use Rattle.live_spec.specs.declared.LiveCall.the-variants.{Start, Arrive, Withdraw, Mark, Return}
 use Rattle.live_spec.specs.History.{History, atStart, later, unset, at, empty, called, logOf, held, markOf}
-use Rattle.live_spec.specs.State.{twoBytes, padded, forMarks, logBytes, stateOf, numberAt, numberIn, lettersIn, isMarked, setBytes}
+use Rattle.live_spec.specs.State.{twoBytes, padded, forMarks, logBytes, stateOf, numberAt, lettersIn, isMarked, setBytes}
 use Rattle.live_spec.specs.Effects.{put, numbered, withSet, refreshed, started, arrived, withdrawn, marked, returned, shown}
 use Rattle.live_spec.specs.Rows.{sliceRows, arrivalRows, logRows, liveCallRows, liveCallRow}
 

@@ -1,19 +1,18 @@
 -- The set in its part of state, a letter a turn.
-use mathlib.Core.Path.{_≡_, refl, sym, _∙_, ap}
-use mathlib.Core.List.{List, [], _∷_, _++_}
+use mathlib.Core.Path.{_≡_, sym, _∙_, ap}
+use mathlib.Core.List.{List}
 use Prim.Native.Nat.{ℕ, _+_, _≤_, _<_}
 use native.Mathlib.Numerals.{add-one}
 use native.Mathlib.Omega.{arith}
 use lib.Dec.{ltb}
-use lib.ListN.{length, getD, take, drop, length-drop, length-map}
+use lib.ListN.{length, getD, take, drop, length-drop}
 use lib.Seq.{length-take-le, getD-take, getD-drop, take-suc, take-all}
-use Rattle.sets.proofs.Lists.{length-tabulate}
 use Rattle.theory.specs.Run.{sourceOf}
 use Rattle.trim_spec.specs.Graph.{Inside}
 use Rattle.live_spec.specs.Afresh.{stepped, steppedOver, initialSet, afresh}
 use Rattle.live_spec.specs.State.{setAt, setBytes, lettersAtByte, numberAt, numberIn, lettersIn}
 use Rattle.live_spec.specs.Effects.{put, withSet, refreshed}
-use Rattle.live_set.proofs.Puts.{put-long, put-before, put-in, put-over, put-back, put-mid, part-before, part-there, number-before}
+use Rattle.live_set.proofs.Puts.{put-long, put-before, put-in, put-over, put-back, part-before, part-there, number-before}
 use Rattle.live_spec.proofs.Steps.{step-ext, initial-length, over-length, over-more}
 
 -- one letter more of a list

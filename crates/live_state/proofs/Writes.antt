@@ -1,12 +1,12 @@
 -- What the writes of each effect come to.
 use mathlib.Core.Path.{_≡_, sym, _∙_, ap}
 use mathlib.Core.List.{List, [], _∷_, _++_}
-use Prim.Native.Nat.{ℕ, _+_, _*_, _≤_, _<_}
+use Prim.Native.Nat.{ℕ, _+_, _≤_, _<_}
 use native.Mathlib.Nat.{zero-add}
 use native.Mathlib.Omega.{arith}
 use lib.ListN.{length, take, drop}
 use Rattle.live_spec.specs.Afresh.{stepped}
-use Rattle.live_spec.specs.State.{setAt, stateLength, markNumberAt, markLettersAt, lettersAtByte, twoBytes, numberAt, numberIn, setBytes}
+use Rattle.live_spec.specs.State.{setAt, stateLength, markNumberAt, markLettersAt, lettersAtByte, twoBytes, numberIn, setBytes}
 use Rattle.live_spec.specs.Effects.{put, numbered, withSet, arrived, marked}
 use Rattle.live_set.proofs.Puts.{put-long, drop-put}
 

@@ -4,17 +4,15 @@ use mathlib.Core.Bool.{true, false}
 use mathlib.Core.List.{List, [], _∷_, _++_}
 use Prim.Native.Nat.{ℕ, suc, _+_, _≤_, _<_}
 use native.Mathlib.Omega.{arith}
-use lib.Dec.{ltb}
 use lib.ListN.{length, drop}
 use borrow.Author.Tests.{lt-ltb, le-ltb}
-use Rattle.sets.specs.Tests.{someBelow, first}
+use Rattle.sets.specs.Tests.{someBelow}
 use Rattle.sets.specs.Masks.{bit}
 use Rattle.refusals.specs.Rows.{firstRow}
 use Rattle.sets.proofs.Tests.{first-at, first-le, some-get}
 use Rattle.theory.specs.Rule.{Rule}
 use Rattle.rule_reach.specs.Tables.{successorsOf}
 use Rattle.loop_spec.specs.Search.{othersOf, ways, route, begins, further, loopBy, loopOf}
-use Rattle.loop_spec.specs.declared.Report.{Report}
 use Rattle.loop_spec.specs.declared.Report.the-variants.{States, Nothing, Refused}
 use Rattle.loop_spec.proofs.Reported.{first-found}
 use Rattle.loop_spec.proofs.Routes.{best}

@@ -2,8 +2,7 @@
 use mathlib.Core.Path.{_≡_, refl, sym, _∙_, ap}
 use mathlib.Core.Bool.{true}
 use mathlib.Core.List.{List, [], _∷_, _++_}
-use Prim.Native.Nat.{ℕ, zero, suc, _≤_}
-use native.Mathlib.Omega.{arith}
+use Prim.Native.Nat.{ℕ, zero, suc}
 use lib.ListN.{length, take, drop}
 use lib.Seq.{take-append-seam}
 use Rattle.refusals.specs.Rows.{firstRow}
@@ -16,7 +15,7 @@ use Rattle.file_read.proofs.FileRows.{layout-numbered, laid-formed}
 use Rattle.loop_spec.specs.Loops.{Reported}
 use Rattle.loop_spec.specs.Search.{loopOf}
 use Rattle.loop_spec.specs.declared.Report.{Report}
-use Rattle.loop_spec.specs.declared.Report.the-variants.{States, Nothing, Refused}
+use Rattle.loop_spec.specs.declared.Report.the-variants.{Refused}
 use Rattle.loop_spec.proofs.Reported.{reported}
 use Rattle.loop_spec.specs.Reported.{sliceRows, formedRows, reportRow, answer, reportOf, after, sliceAfter, told}
 

@@ -6,7 +6,7 @@ use mathlib.Core.List.{List, [], _∷_}
 use Prim.Native.Nat.{ℕ, zero, suc, _<_}
 use Rattle.sets.specs.Tests.{Set, every, someBelow}
 use Rattle.sets.specs.Masks.{bit, inside}
-use Rattle.sets.proofs.Bools.{bif, clash, not-t}
+use Rattle.sets.proofs.Bools.{bif, not-t}
 use Rattle.theory.specs.Automaton.{Automaton}
 use Rattle.theory.specs.Rule.{satisfies}
 use Rattle.theory_laws.proofs.Satisfies.{satisfies-ext}

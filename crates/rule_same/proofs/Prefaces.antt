@@ -1,14 +1,14 @@
 -- A preface of either file that leaves its names as they are, and has none that is refused, has no effect on the sameness of two rules.
 use Prim.Native.Nat.{ℕ, zero, suc}
-use mathlib.Core.Path.{_≡_, refl, ap, ap₂, _∙_}
+use mathlib.Core.Path.{_≡_, refl, ap₂}
 use mathlib.Core.List.{List, _++_}
 use Rattle.theory.specs.Rule.{Rule}
-use Rattle.file_spec.specs.File.{NamedRule, namesOf, ruleIn, namedIn}
+use Rattle.file_spec.specs.File.{NamedRule, namesOf, namedIn}
 use Rattle.file_spec.specs.Rows.{prefaceRow, fileRow}
 use Rattle.file_read.proofs.Prefaces.{preface-no-effect, accepted-after}
 use Rattle.file_read.proofs.RowAndRule.{plain-alike}
 use Rattle.rule_same.specs.declared.entries.SameRules.{SameRules}
-use Rattle.rule_same.specs.Same.{sameNamed, verdict, answer, sameFiles, sameRulesOf}
+use Rattle.rule_same.specs.Same.{sameNamed, verdict, answer, sameRulesOf}
 
 -- where the second row refuses, the rules do not matter
 second-refused : (i k : ℕ) (v w : SameRules) → answer i (suc k) v ≡ answer i (suc k) w

@@ -1,17 +1,16 @@
 -- Entries whose clauses satisfy each other are satisfied by the same sets.
 use mathlib.Core.Path.{_≡_, refl, ap, sym, _∙_}
 use mathlib.Core.Bool.{Bool, true, false, _&&_, and-true, and-false}
-use mathlib.Core.List.{List, [], _∷_, List·Memᴰ, List·Memᴰ·head, List·Memᴰ·tail, List·Memᴰ·cases-cons, List·Memᴰ·not-nil}
-use mathlib.Core.Logic.{⊎-elim}
+use mathlib.Core.List.{List, [], _∷_, List·Memᴰ}
 use Prim.Native.Nat.{ℕ, zero, suc, _^_, _<_, _≤_}
 use borrow.Author.Tests.{eq-eqb, ne-eqb, eqb-true}
 use lib.Dec.{eqb}
 use Rattle.sets.specs.Tests.{Set, every}
 use Rattle.sets.specs.Masks.{bit, inside}
 use Rattle.sets.specs.Lists.{allOf, sum}
-use Rattle.sets.proofs.Bools.{clash, and-l, and-r, and-i, or-l, or-r, or-cases, iff}
+use Rattle.sets.proofs.Bools.{and-l, and-r, and-i, iff}
 use Rattle.sets.proofs.Tests.{every-at, every-all}
-use Rattle.sets.proofs.Members.{inside-at, inside-all, all-of-at, all-of-all}
+use Rattle.sets.proofs.Members.{inside-all, all-of-at, all-of-all}
 use Rattle.theory.specs.Rule.{Rule, entry, satisfies}
 use Rattle.theory.specs.Passing.{WellFormed}
 use Rattle.rule_entries.proofs.Clauses.{satisfies-wide}
@@ -20,7 +19,7 @@ use Rattle.rule_entries.specs.declared.Head.{Head}
 use Rattle.rule_entries.specs.Entries.{ruleOf}
 use Rattle.file_spec.specs.declared.Layout.{Layout}
 use Rattle.file_spec.specs.declared.Read.the-variants.{Accepted}
-use Rattle.file_spec.specs.File.{countsOf, clausesOf, namesOf, ruleIn, namedIn}
+use Rattle.file_spec.specs.File.{countsOf, clausesOf, namesOf, ruleIn}
 use Rattle.file_spec.specs.Rows.{fileRow}
 use Rattle.slice_search.specs.Same.{sameLists}
 use Rattle.slice_search.proofs.Same.{lists-told}

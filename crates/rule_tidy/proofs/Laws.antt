@@ -9,7 +9,6 @@ use lib.Dec.{eqb}
 use lib.Bits.{bitAnd}
 use lib.ListN.{length, getD, take, drop, set, drop-of-length-le, take-append-drop, length-take, length-set}
 use lib.Seq.{take-suc-set, drop-set-lt, drop-drop}
-use Rattle.sets.specs.Masks.{bit}
 use Rattle.sets.specs.Lists.{anyOf}
 use Rattle.sets.proofs.Bools.{bif}
 use Rattle.sets.proofs.Walks.{drop-next}

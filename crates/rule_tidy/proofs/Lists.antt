@@ -4,11 +4,11 @@ use mathlib.Core.List.{List, [], _∷_, _++_, append-assoc, append-nil}
 use Prim.Native.Nat.{ℕ, suc, _+_, _-_, _≤_, _<_}
 use native.Mathlib.Omega.{arith}
 use native.Mathlib.Numerals.{add-one}
-use lib.ListN.{length, getD, take, drop, set, drop-of-length-le, take-append-drop, length-append, length-take, length-drop, length-set}
+use lib.ListN.{length, getD, take, drop, set, drop-of-length-le, length-append, length-take, length-drop, length-set}
 use lib.Seq.{take-suc-set, drop-set-lt, drop-drop, take-at, drop-at, take-all, drop-length, length-take-le}
 use borrow.Rule.Slice.PartMut.{putMid, post-is}
 use Rattle.sets.specs.Lists.{sum}
-use Rattle.sets.proofs.Walks.{drop-next, sum-take, sum-append}
+use Rattle.sets.proofs.Walks.{drop-next, sum-take}
 use Rattle.rule_entries.proofs.Entries.{sum-part}
 use Rattle.rule_tidy_spec.specs.Tidy.{tidyEntry, tidyCounts, tidyClauses}
 use Rattle.rule_tidy_spec.proofs.Entries.{tidy-length}

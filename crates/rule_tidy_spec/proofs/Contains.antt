@@ -1,13 +1,11 @@
 -- Clauses inside one another.
-use mathlib.Core.Path.{_≡_, refl, sym, _∙_, ap}
+use mathlib.Core.Path.{_≡_, ap}
 use mathlib.Core.Logic.{by-cases}
 use mathlib.Core.Bool.{true, false, not}
-use mathlib.Core.List.{List, [], _∷_, List·Memᴰ}
 use Prim.Native.Nat.{ℕ, _^_, _<_}
 use native.Mathlib.Omega.{arith}
 use native.Mathlib.Decide.{ℕ-discrete}
-use Rattle.sets.specs.Tests.{Set}
-use Rattle.sets.specs.Masks.{bit, inside}
+use Rattle.sets.specs.Masks.{bit}
 use Rattle.sets.proofs.Bools.{bif, clash, and-l, and-r, and-i, not-t, iff}
 use Rattle.sets.proofs.Bits.{bit-ext, subset-le}
 use Rattle.sets.proofs.Members.{inside-at, inside-all}

@@ -14,7 +14,7 @@ use Rattle.sets.proofs.Members.{inside-at}
 use Rattle.theory.specs.Rule.{Rule, entry}
 use Rattle.theory.specs.Passing.{Passing}
 use Rattle.theory.specs.Automaton.{Automaton, automaton}
-use Rattle.theory.specs.Word.{places, nextPlace, letterAt, WordOver}
+use Rattle.theory.specs.Word.{places, WordOver}
 use Rattle.theory.specs.Plan.{Reach, here, on, Accepts, AcceptsFrom, AcceptsWord}
 use Rattle.theory.specs.Truth.{truthMasks}
 use Rattle.theory_laws.proofs.Truth.{truth-bit, truth-length, truth-lt}

@@ -1,16 +1,16 @@
 -- The masks of the known cycles after one more is filled.
-use mathlib.Core.Path.{_≡_, refl, sym, _∙_, ap, ap₂}
+use mathlib.Core.Path.{_≡_, sym, _∙_, ap}
 use mathlib.Core.Logic.{by-cases}
-use mathlib.Core.Bool.{true, false}
-use mathlib.Core.List.{List, [], _∷_, _++_}
-use Prim.Native.Nat.{ℕ, zero, suc, _+_, _*_, _≤_, _<_}
+use mathlib.Core.Bool.{false}
+use mathlib.Core.List.{List, [], _++_}
+use Prim.Native.Nat.{ℕ, _+_, _*_, _≤_, _<_}
 use native.Mathlib.Omega.{arith}
 use native.Mathlib.Decide.{decLt}
-use lib.ListN.{length, getD, take, drop, set, length-append, length-take, length-drop, length-set, take-append-drop}
+use lib.ListN.{length, getD, take, drop, set, length-take, length-drop, length-set, take-append-drop}
 use lib.Seq.{getD-set-same, getD-set-other, take-append-le, drop-append-le, take-at, drop-at}
 use Rattle.theory.specs.Rule.{Rule}
 use Rattle.theory.specs.Truth.{truthMasks}
-use Rattle.sheet_spec.specs.Computed.{isKnown, learn}
+use Rattle.sheet_spec.specs.Computed.{isKnown}
 use Rattle.sheet_laws.proofs.Distinct.{learn-known, learn-new}
 use Rattle.sheet_cycles.specs.Known.{partAt, knownOf, Parts, Found}
 use Rattle.sheet_cycles.specs.Filled.{Filled, Learnt}

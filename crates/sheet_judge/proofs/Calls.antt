@@ -1,13 +1,10 @@
 -- The rows of a sheet, and what a call answers and writes.
-use mathlib.Core.Path.{_≡_, refl, sym, _∙_, ap}
-use mathlib.Core.Bool.{Bool, true, false, _||_}
-use mathlib.Core.List.{List, [], _∷_, _++_, map}
+use mathlib.Core.Path.{_≡_, refl, sym, _∙_}
+use mathlib.Core.List.{List, map}
 use Prim.Native.Nat.{ℕ, zero, suc, _*_, _≤_, _<_}
-use native.Mathlib.Omega.{arith}
-use lib.Dec.{ltb}
 use lib.ListN.{length}
 use borrow.Author.Tests.{lt-ltb, le-ltb}
-use Rattle.refusals.specs.Rows.{check, firstRow}
+use Rattle.refusals.specs.Rows.{firstRow}
 use Rattle.refusals.proofs.Rows.{first-left, first-right, first-parts}
 use Rattle.theory.specs.Rule.{Rule}
 use Rattle.file_spec.specs.File.{ruleIn}
@@ -16,7 +13,7 @@ use Rattle.file_read.proofs.FileRows.{file-numbered, accepted-passing}
 use Rattle.judge_spec.specs.Judge.{after}
 use Rattle.sheet_spec.specs.Words.{wordsOf}
 use Rattle.sheet_spec.specs.Sheet.{sheetRows, sheetRow}
-use Rattle.sheet_spec.specs.Computed.{answerOf, allMasks, cycleCount, sheetOf, totals, SheetComputed}
+use Rattle.sheet_spec.specs.Computed.{answerOf, allMasks, sheetOf, SheetComputed}
 use Rattle.sheet_spec.specs.Judged.{SheetJudged}
 use Rattle.sheet_spec.specs.declared.SheetAnswer.{SheetAnswer}
 use Rattle.sheet_spec.specs.declared.SheetAnswer.the-variants.{Judged, Refused}

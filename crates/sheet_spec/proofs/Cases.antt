@@ -18,7 +18,7 @@ use Rattle.file_spec.specs.RuleRows.{numberRows, listRows, nested, someNested, 
 use Rattle.word_rows.specs.Words.{letterRows}
 use Rattle.slice_search.specs.Same.{sameLists}
 use Rattle.word_spelling_spec.specs.SpellingComputed.{comesAgain, cycleLength, shortened, leadLength, tidyCycle}
-use Rattle.sheet_spec.specs.Words.{SheetWord, lone, spelled, wordsIn, wordsOf, leadOf, cycleOf, lengthFaults, faultOf}
+use Rattle.sheet_spec.specs.Words.{lone, spelled, wordsIn, wordsOf, leadOf, cycleOf, lengthFaults, faultOf}
 use Rattle.sheet_spec.specs.Sheet.{sheetRows, sheetRow}
 use Rattle.sheet_spec.specs.Computed.{answerOf, masksOf, allMasks, isKnown, learn, cyclesAfter, cycleCount, sheetOf}
 use Rattle.sheet_spec.specs.declared.SheetAnswer.the-variants.{Judged, Refused}

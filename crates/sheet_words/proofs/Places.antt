@@ -1,20 +1,17 @@
 -- The word that begins at a byte, and the next.
-use mathlib.Core.Path.{_≡_, refl, sym, _∙_, ap}
+use mathlib.Core.Path.{_≡_, sym, _∙_, ap}
 use mathlib.Core.Logic.{by-cases}
-use mathlib.Core.Bool.{true, false}
-use mathlib.Core.List.{List, [], _∷_, _++_}
-use Prim.Native.Nat.{ℕ, zero, suc, _+_, _-_, _≤_, _<_}
+use mathlib.Core.List.{List}
+use Prim.Native.Nat.{ℕ, suc, _+_, _≤_, _<_}
 use native.Mathlib.Omega.{arith}
 use native.Mathlib.Decide.{decLt}
-use lib.Dec.{eqb, ltb}
-use lib.ListN.{length, getD, take, drop, length-take, length-drop, drop-of-length-le}
+use lib.ListN.{length, getD, take, drop, length-take, length-drop}
 use lib.Seq.{take-take, take-add, take-at, drop-at, drop-drop}
 use borrow.Author.Tests.{lt-ltb, le-ltb, eq-eqb, ne-eqb}
-use Rattle.refusals.specs.Rows.{check, firstRow}
-use Rattle.refusals.proofs.Rows.{row-yes, row-no, first-left}
-use Rattle.word_rows.specs.Words.{letterRows, wordRow}
+use Rattle.refusals.specs.Rows.{firstRow}
+use Rattle.word_rows.specs.Words.{wordRow}
 use Rattle.theory.specs.Word.{WordOver}
-use Rattle.sheet_spec.specs.Words.{SheetWord, lone, spelled, wordsOf, leadOf, cycleOf, lengthFaults, faultOf}
+use Rattle.sheet_spec.specs.Words.{lone, spelled, wordsOf, leadOf, cycleOf, lengthFaults, faultOf}
 use Rattle.sheet_laws.proofs.Walk.{words-end, words-last, words-next}
 use Rattle.sheet_laws.proofs.Alone.{fault-alone, sound}
 use Rattle.sheet_words.specs.Places.{leadAt, cycleAt, lettersAt, wordFrom, Next}

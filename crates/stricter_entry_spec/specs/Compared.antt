@@ -2,7 +2,7 @@
 use mathlib.Core.Path.{_≡_}
 use mathlib.Core.List.{List, _++_}
 use Prim.Native.Nat.{ℕ, zero, suc, _+_, _*_, _≤_}
-use lib.ListN.{length, take, drop}
+use lib.ListN.{length, drop}
 use Rattle.theory.specs.Rule.{Rule}
 use Rattle.theory.specs.Table.{ListsReachable}
 use Rattle.theory.specs.TableComputed.{macrostates, transitions}

@@ -13,7 +13,6 @@ use Rattle.sets.specs.Tests.{Set}
 use Rattle.sets.proofs.Lists.{mem-at}
 use Rattle.theory.specs.Automaton.{automaton}
 use Rattle.theory.specs.Code.{setIn}
-use Rattle.theory.specs.Components.{components}
 use Rattle.theory.specs.Demand.{DemandFrom, Demand3}
 use Rattle.theory.specs.CodeRuns.{WordRun}
 use Rattle.theory.specs.Macrostate.{holdsInitial}

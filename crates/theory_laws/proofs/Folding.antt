@@ -10,7 +10,7 @@ use lib.ListN.{length, getD, take, drop, length-drop, take-append-drop}
 use lib.Seq.{length-take-le}
 use Rattle.sets.specs.Lists.{tabulate}
 use Rattle.sets.proofs.Lists.{length-tabulate, tabulate-at, tabulate-out}
-use Rattle.theory.specs.Word.{places, nextPlace, letterAt, place, letters, WordOver}
+use Rattle.theory.specs.Word.{nextPlace, letterAt, place, letters, WordOver}
 use Rattle.theory_laws.proofs.Places.{next-place-last, next-place-other, places-low}
 
 -- z k is the node and a k the letter of step k; step j is at the node of step i again

@@ -1,10 +1,10 @@
 -- The lists of a kind of macrostates and of their transitions: there are no two, and every rule that passes the checks has those of its reachable
 -- macrostates, however many these are.
-use mathlib.Core.Path.{_≡_, refl, sym, subst}
+use mathlib.Core.Path.{_≡_, sym, subst}
 use mathlib.Core.List.{List, [], _∷_, List·Memᴰ, List·Memᴰ·head, List·Memᴰ·eq-of-singleton}
 use Prim.Native.Nat.{ℕ, _+_, _*_}
 use lib.ListN.{length, getD}
-use Rattle.sets.specs.Lists.{keep, tabulate, flat, sorted, Ascending}
+use Rattle.sets.specs.Lists.{keep, tabulate, flat, sorted}
 use Rattle.sets.specs.Tests.{Set}
 use Rattle.sets.proofs.Ascending.{asc-ext, sorted-asc, sorted-in, sorted-out}
 use Rattle.sets.proofs.Lists.{keep-in, keep-out, tabulate-0, flat-in, flat-out}

@@ -1,11 +1,7 @@
 -- A code has no bit above 47, so the marks have room there.
-use mathlib.Core.Path.{_≡_}
-use mathlib.Core.Bool.{true}
-use Prim.Native.Nat.{ℕ, _+_, _*_, _/_, _%_, _^_, _<_}
+use Prim.Native.Nat.{ℕ, _^_, _<_}
 use native.Mathlib.Omega.{arith}
 use borrow.Author.Tests.{eqb-true}
-use Rattle.sets.specs.Digits.{num}
-use Rattle.sets.specs.Masks.{mask}
 use Rattle.sets.proofs.Digits.{num-lt}
 use Rattle.sets.proofs.Masks.{mask-lt}
 use Rattle.theory.specs.Automaton.{Automaton}

@@ -1,5 +1,5 @@
 -- The table begun where the set lacks the initial state has an accepting run exactly over the words that the rule rejects, and never two.
-use Prim.Native.Nat.{ℕ, _≤_}
+use Prim.Native.Nat.{_≤_}
 use lib.ListN.{length}
 use Rattle.sets.specs.Masks.{bit}
 use Rattle.sets.proofs.Bools.{bif, clash, not-t}

@@ -1,9 +1,9 @@
 -- Marks, the numbers that take their place, and what is made of codes and transitions by these.
 use mathlib.Core.Path.{_≡_, refl, sym, ap, ap₂, _∙_}
 use mathlib.Core.Logic.{by-cases}
-use mathlib.Core.Bool.{Bool, true, false, _&&_}
+use mathlib.Core.Bool.{Bool, true, _&&_}
 use mathlib.Core.List.{List, [], _∷_, List·Memᴰ, List·Memᴰ·head, List·Memᴰ·tail}
-use Prim.Native.Nat.{ℕ, zero, suc, _+_, _-_, _*_, _/_, _%_, _^_, _≤_, _<_}
+use Prim.Native.Nat.{ℕ, zero, suc, _+_, _-_, _/_, _%_, _^_, _≤_, _<_}
 use native.Mathlib.Omega.{arith}
 use native.Mathlib.Decide.{decLt, ℕ-discrete}
 use native.Mathlib.Numerals.{add-one}
@@ -11,7 +11,7 @@ use lib.ListN.{length, getD, set, length-set, List·getD-eq-default}
 use Rattle.sets.specs.Tests.{Set, one, count}
 use Rattle.sets.proofs.Bools.{bif, clash, and-i, and-l, and-r}
 use Rattle.sets.proofs.Tests.{count-max}
-use Rattle.theory.specs.Run.{sourceOf, letterOf, targetOf}
+use Rattle.theory.specs.Run.{sourceOf, targetOf}
 use Rattle.graph_walks.proofs.Sums.{split-set}
 use Rattle.trim_spec.specs.Graph.{Inside}
 use Rattle.trim_spec.specs.Trimmed.{picked, isLive, newNumber, isLeft, renumber, renumbered}

@@ -1,10 +1,9 @@
 -- The trimmed table of a rule that passes the checks.
-use mathlib.Core.Path.{_≡_, refl}
+use mathlib.Core.Path.{_≡_}
 use mathlib.Core.Logic.{_↔_}
 use mathlib.Core.List.{List, []}
 use Prim.Native.Nat.{ℕ, _≤_}
 use lib.ListN.{length, getD}
-use Rattle.theory.specs.Automaton.{automaton}
 use Rattle.theory.specs.Demand.{Demand3}
 use Rattle.theory.specs.Macrostate.{holdsInitial}
 use Rattle.theory.specs.Passing.{Passing}

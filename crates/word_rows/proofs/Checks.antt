@@ -2,15 +2,15 @@
 use mathlib.Core.Path.{_≡_, refl, sym, _∙_}
 use mathlib.Core.Logic.{_↔_}
 use mathlib.Core.Bool.{Bool, true, false, _||_}
-use mathlib.Core.List.{List, [], _∷_, List·Memᴰ}
-use Prim.Native.Nat.{ℕ, zero, suc, _≤_, _<_}
+use mathlib.Core.List.{List, [], List·Memᴰ}
+use Prim.Native.Nat.{ℕ, _≤_, _<_}
 use native.Mathlib.Omega.{arith}
 use lib.Dec.{eqb, leb, ltb}
 use lib.ListN.{length}
-use borrow.Author.Tests.{eqb-true, eqb-false, eq-eqb, ne-eqb, ltb-false, lt-ltb, le-ltb, leb-false, lt-leb}
+use borrow.Author.Tests.{eqb-false, eq-eqb, ne-eqb, ltb-false, lt-ltb, le-ltb, leb-false, lt-leb}
 use Rattle.sets.specs.Lists.{anyOf}
-use Rattle.refusals.specs.Rows.{Check, firstRow}
-use Rattle.sets.proofs.Bools.{bif, or-fl, or-fr, or-l, or-r}
+use Rattle.refusals.specs.Rows.{firstRow}
+use Rattle.sets.proofs.Bools.{or-fl, or-fr, or-l, or-r}
 use Rattle.sets.proofs.Lists.{any-none, none-any}
 use Rattle.refusals.proofs.Rows.{numbered, first-left, first-right, first-parts, first-pass}
 use Rattle.theory.specs.Word.{WordOver}
@@ -96,10 +96,9 @@ module _ (s : ℕ) (lead cycle : List ℕ) where
       let r = first-parts (lengthRows lead cycle) _ (lengths-numbered lead cycle) e in
       let l = short-of lead cycle (r .0) in
       let low = first-pass (anyOf lead (λ a. leb s a) || anyOf cycle (λ a. leb s a)) 13 [] (r .1) .0 in
-      record {
-        lengths = l;
-        over-letters = record { repeats = l .repeats; lead-letters = all-below lead (or-fl _ (anyOf cycle (λ a. leb s a)) low); cycle-letters = all-below cycle (or-fr (anyOf lead (λ a. leb s a)) _ low) };
-      }
+      let lead-low = all-below lead (or-fl _ (anyOf cycle (λ a. leb s a)) low) in
+      let cycle-low = all-below cycle (or-fr (anyOf lead (λ a. leb s a)) _ low) in
+      record { lengths = l; over-letters = record { repeats = l .repeats; lead-letters = lead-low; cycle-letters = cycle-low } }
 
   -- a word that passes is a word over s letters with at most 32 letters in lead-in and cycle, and conversely
   pub passing-iff : (wordRow s lead cycle ≡ 0) ↔ PassingWord

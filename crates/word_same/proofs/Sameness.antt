@@ -1,18 +1,17 @@
 -- The sameness of words: the loop over the steps, the answer of each path, and what it means.
-use mathlib.Core.Path.{_≡_, refl, sym, _∙_, ap, ap₂}
+use mathlib.Core.Path.{_≡_, refl, sym, _∙_, ap}
 use mathlib.Core.Logic.{_↔_}
 use mathlib.Core.Bool.{Bool, true, false, false≢true}
 use mathlib.Core.List.{List}
-use Prim.Native.Nat.{ℕ, zero, suc, _+_, _≤_, _<_}
+use Prim.Native.Nat.{ℕ, zero, suc, _+_, _<_}
 use native.Mathlib.Omega.{arith}
 use native.Mathlib.Numerals.{add-one}
 use lib.Dec.{eqb}
-use lib.ListN.{length}
 use borrow.Author.Tests.{eq-eqb, ne-eqb}
 use Rattle.sets.specs.Tests.{every}
 use Rattle.sets.proofs.Bools.{bif}
 use Rattle.sets.proofs.Tests.{every-next, every-stop}
-use Rattle.refusals.proofs.Rows.{first-left, first-right, first-parts}
+use Rattle.refusals.proofs.Rows.{first-left, first-right}
 use Rattle.theory.specs.Word.{places, nextPlace, letterAt, place, letters}
 use Rattle.word_rows.specs.Words.{lengthRows, lengthRow}
 use Rattle.word_rows.proofs.Checks.{lengths-numbered, short-of}

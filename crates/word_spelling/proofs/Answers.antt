@@ -1,22 +1,19 @@
 -- The answer of each path of tidying.
-use mathlib.Core.Path.{_≡_, refl, sym, _∙_, ap}
-use mathlib.Core.Bool.{true, false}
-use mathlib.Core.List.{List, [], _∷_, _++_}
+use mathlib.Core.Path.{_≡_, sym, _∙_, ap}
+use mathlib.Core.List.{List, _++_}
 use Prim.Native.Nat.{ℕ, zero, suc, _+_, _≤_, _<_}
 use native.Mathlib.Omega.{arith}
-use lib.Dec.{ltb}
 use lib.ListN.{length, take, drop, length-append}
 use borrow.Author.Tests.{lt-ltb, le-ltb}
-use Rattle.refusals.specs.Rows.{check, firstRow}
-use Rattle.refusals.proofs.Rows.{row-yes, row-no, first-left, first-right}
+use Rattle.refusals.specs.Rows.{firstRow}
+use Rattle.refusals.proofs.Rows.{first-left, first-right}
 use Rattle.theory.specs.Word.{letters}
 use Rattle.word_rows.specs.Words.{lengthRows, lengthRow}
 use Rattle.word_rows.proofs.Checks.{lengths-numbered, short-of}
 use Rattle.word_spelling_spec.specs.SpellingComputed.{cycleLength, shortened, leadLength, tidyLead, tidyCycle}
 use Rattle.word_spelling_spec.proofs.Tidied.{cycle-max, lead-max, tidied, tidy-letters, tidy-lead-length, tidy-cycle-length}
-use Rattle.word_spelling.specs.declared.TidyWord.{TidyWord}
 use Rattle.word_spelling.specs.declared.TidyWord.the-variants.{Spelling, Refused}
-use Rattle.word_spelling.specs.Tidied.{tidyLetters, sliceRows, tidyRow, answer, tidyWordOf, after, Tidied}
+use Rattle.word_spelling.specs.Tidied.{tidyLetters, sliceRows, tidyRow, tidyWordOf, after, Tidied}
 
 -- the lengths of the tidy spelling of a word that passes, as the code finds them
 pub record Found (l c : List ℕ) (m p : ℕ) : Type 0 where

@@ -9,7 +9,6 @@ use native.Mathlib.Decide.{decLt}
 use lib.Dec.{eqb}
 use lib.ListN.{length}
 use borrow.Author.Tests.{eqb-true, eq-eqb}
-use Rattle.sets.specs.Tests.{every}
 use Rattle.sets.proofs.Tests.{every-at, every-all}
 use Rattle.theory.specs.Word.{places, letters}
 use Rattle.word_spelling_spec.specs.Spelling.{Agree}

@@ -1,7 +1,7 @@
 -- The tidy spelling: there is one, it is what is computed, and words agree exactly if their tidy spellings are equal.
 use mathlib.Core.Path.{_≡_, refl, sym, _∙_, ap, fun-ext}
 use mathlib.Core.Logic.{_↔_, by-cases}
-use mathlib.Core.Bool.{Bool, true, false}
+use mathlib.Core.Bool.{true}
 use mathlib.Core.List.{List, [], _++_}
 use Prim.Native.Nat.{ℕ, zero, suc, _+_, _-_, _≤_, _<_}
 use native.Mathlib.Omega.{arith}
@@ -9,15 +9,15 @@ use native.Mathlib.Decide.{decLt, ℕ-discrete}
 use lib.Dec.{eqb}
 use lib.ListN.{length, getD, take, drop, length-append}
 use lib.Seq.{ext-getD, take-append-seam, drop-append-seam, take-append-le, take-add}
-use borrow.Author.Tests.{eqb-true, eqb-false, eq-eqb}
-use Rattle.sets.specs.Tests.{Set, every, first}
+use borrow.Author.Tests.{eqb-true, eq-eqb}
+use Rattle.sets.specs.Tests.{Set, first}
 use Rattle.sets.proofs.Bools.{bif}
 use Rattle.sets.proofs.Tests.{every-at, every-all, first-at, first-le}
-use Rattle.theory.specs.Word.{places, letters}
+use Rattle.theory.specs.Word.{letters}
 use Rattle.word_spelling_spec.specs.Spelling.{Agree, Spells, Tidy}
 use Rattle.word_spelling_spec.specs.SpellingComputed.{comesAgain, cycleLength, shortened, leadLength, tidyLead, tidyCycle}
 use Rattle.word_spelling_spec.proofs.Steps.{letter-is, letters-again, letters-behind}
-use Rattle.word_spelling_spec.proofs.Periods.{Repeats, repeats-later, spelled-repeats, spelled-at, lead-length, cycle-length, repeats-spells, repeats-sooner}
+use Rattle.word_spelling_spec.proofs.Periods.{Repeats, spelled-repeats, spelled-at, lead-length, cycle-length, repeats-spells, repeats-sooner}
 
 -- ---- one spelling at most
 

@@ -1,11 +1,9 @@
 -- What holds of a sequence holds of each of its spellings: the truth at each step, the verdict, and the accepting run.
-use mathlib.Core.Path.{_≡_, refl, sym, _∙_, ap, fun-ext}
+use mathlib.Core.Path.{_≡_, sym, _∙_, ap, fun-ext}
 use mathlib.Core.Logic.{_↔_}
-use mathlib.Core.Bool.{true}
 use mathlib.Core.List.{List}
 use Prim.Native.Nat.{ℕ, _<_}
 use lib.ListN.{length, getD}
-use Rattle.sets.specs.Masks.{bit}
 use Rattle.sets.specs.Tests.{Set}
 use Rattle.sets.proofs.Bools.{iff}
 use Rattle.sets.proofs.Bits.{bit-ext}

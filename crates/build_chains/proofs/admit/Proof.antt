@@ -1,5 +1,5 @@
 -- `build_chains::admit` meets its contract.
-use mathlib.Core.Path.{_≡_, refl}
+use mathlib.Core.Path.{refl}
 use native.Mathlib.Omega.{arith}
 use borrow.Author.Needs.{needs}
 use Rattle.build_spec.proofs.Appended.{appended-none, appended-full}

@@ -1,5 +1,5 @@
 -- `build_chains::find` meets its contract: the walk along the chain of a key meets it, if it is there.
-use Prim.Native.Nat.{ℕ, _/_, _^_, _<_}
+use Prim.Native.Nat.{ℕ, _/_, _<_}
 use mathlib.Core.Path.{_≡_, sym, _∙_, ap}
 use native.Mathlib.Omega.{arith}
 use lib.Bits.{and-mask}

@@ -1,7 +1,7 @@
 -- `list_codes` meets its contract: the reachable codes within the room, and zeros from there on.
 use mathlib.Core.Path.{_≡_, sym}
 use native.Mathlib.Omega.{arith}
-use lib.ListN.{length, drop}
+use lib.ListN.{drop}
 use mathlib.Core.List.{_++_}
 use lib.Seq.{length-take-le}
 use Rattle.theory.specs.TableComputed.{macrostatesFrom}

@@ -1,7 +1,6 @@
 -- `build_trimmed` meets its contract: the build, and then, where it leaves a table, the trimming of the parts that hold it.
-use mathlib.Core.Path.{_≡_, sym}
+use mathlib.Core.Path.{sym}
 use borrow.Author.Needs.{needs}
-use lib.ListN.{take, drop}
 use lib.Seq.{length-take-le}
 use Rattle.theory.specs.TableComputed.{macrostates, transitions}
 use Rattle.file_spec.specs.File.{ruleIn}

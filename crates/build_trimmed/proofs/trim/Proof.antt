@@ -1,9 +1,8 @@
 -- `trim` meets its contract.
-use mathlib.Core.Path.{_≡_, sym, _∙_}
+use mathlib.Core.Path.{sym, _∙_}
 use native.Mathlib.Omega.{arith}
 use borrow.Author.Needs.{needs}
-use lib.ListN.{length}
-use Rattle.build_trimmed.proofs.Trimming.{marked-long, few-left, trimmed-none, trimmed-some}
+use Rattle.build_trimmed.proofs.Trimming.{few-left, trimmed-none, trimmed-some}
 use Rattle.build_trimmed.proofs.trim.Statement.{statement}
 use Rattle.build_trimmed.proofs.trim.Tie as tie
 

@@ -1,5 +1,5 @@
 -- `codes::is_initial` meets its contract.
-use mathlib.Core.Path.{_∙_, sym}
+use mathlib.Core.Path.{_∙_}
 use borrow.Author.Needs.{needs}
 use Rattle.theory.specs.Macrostate.{begun}
 use Rattle.codes.proofs.Starts.{held, lacking}

@@ -1,12 +1,9 @@
 -- `event_translate::translate` meets its contract: what the reader answers, then the translation under the rule that was read.
 use mathlib.Core.Path.{_≡_, sym, _∙_, ap}
-use Prim.Native.Nat.{ℕ}
-use lib.ListN.{length}
 use Rattle.file_spec.specs.declared.Layout.{Layout}
 use Rattle.file_spec.specs.declared.Read.the-variants.{Accepted}
 use Rattle.file_spec.specs.Reading.{readOf}
 use Rattle.file_read.proofs.Answer.{served, turned-away}
-use Rattle.event_spec.specs.Translation.{Called}
 use Rattle.event_table.proofs.Rows.{accepted, refused}
 use borrow.Author.Needs.{needs}
 use Rattle.event_translate.proofs.translate.Statement.{statement}

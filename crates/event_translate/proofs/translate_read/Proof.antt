@@ -1,10 +1,10 @@
 -- `event_translate::translate_read` meets its contract: the row that refuses, or the letters.
 use mathlib.Core.Path.{_≡_, sym, _∙_, ap}
 use mathlib.Core.Bool.{false}
-use mathlib.Core.List.{List, _++_}
+use mathlib.Core.List.{_++_}
 use Prim.Native.Nat.{ℕ}
 use native.Mathlib.Omega.{arith}
-use lib.ListN.{length, drop}
+use lib.ListN.{drop}
 use Rattle.event_spec.specs.Events.{lettersOf}
 use Rattle.event_spec.specs.Translation.{faultyTable, hasCovered, hasUnknown}
 use Rattle.event_table.proofs.Rows.{table-refuses, cover-refuses, log-refuses, slice-refuses, call-served, called-refused, called-served}

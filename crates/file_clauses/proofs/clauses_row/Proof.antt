@@ -1,7 +1,6 @@
 -- `file_clauses::clauses_row` meets its contract.
 use mathlib.Core.Path.{sym, _∙_}
 use borrow.Author.Needs.{needs}
-use Rattle.rule_entries.specs.Entries.{ruleOf}
 use Rattle.file_spec.proofs.Formed.{row-20, pass-20}
 use Rattle.file_clauses.proofs.clauses_row.Statement.{statement}
 use Rattle.file_clauses.proofs.clauses_row.Tie as tie

@@ -1,6 +1,5 @@
 -- `file_names::is_whole` meets its contract.
 use borrow.Author.Needs.{needs}
-use lib.ListN.{length}
 use Rattle.file_names.proofs.Tests.{none-whole, some-whole}
 use Rattle.file_names.proofs.is_whole.Statement.{statement}
 use Rattle.file_names.proofs.is_whole.Tie as tie

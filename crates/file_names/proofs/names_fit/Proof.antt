@@ -1,11 +1,8 @@
 -- `file_names::names_fit` meets its contract.
-use Prim.Native.Nat.{_-_, _*_, _≤_}
 use mathlib.Core.Path.{_≡_, sym, _∙_}
-use mathlib.Core.Bool.{true, false, not}
-use native.Mathlib.Omega.{arith}
+use mathlib.Core.Bool.{true, false}
 use borrow.Author.Needs.{needs}
 use borrow.Author.Tests.{not-true, not-false}
-use lib.ListN.{length}
 use Rattle.file_spec.specs.Names.{hasNames}
 use Rattle.file_spec.proofs.Names.{names-long}
 use Rattle.file_names.proofs.Tests.{fit-decides}

@@ -1,11 +1,11 @@
 -- `file_names::names_in` meets its contract: 8 bytes a letter, up to 4E 4D.
 use Prim.Native.Nat.{_-_, _*_, _≤_}
-use mathlib.Core.Path.{_≡_, ap, sym, _∙_}
-use mathlib.Core.Bool.{true, false}
+use mathlib.Core.Path.{_≡_, sym, _∙_}
+use mathlib.Core.Bool.{true}
 use native.Mathlib.Omega.{arith}
 use borrow.Author.Needs.{needs}
 use borrow.Author.Tests.{not-true, not-false}
-use lib.ListN.{length, take, drop}
+use lib.ListN.{length}
 use Rattle.file_spec.specs.Names.{hasNames}
 use Rattle.file_spec.proofs.Names.{names-long, names-room, names-there, no-names}
 use Rattle.file_names.proofs.names_in.Statement.{statement}

@@ -1,9 +1,8 @@
 -- `file_names::repeats_name` meets its contract: none of the names before b is equal to an earlier one.
-use Prim.Native.Nat.{_-_, _/_, _≤_}
+use Prim.Native.Nat.{_-_, _≤_}
 use mathlib.Core.Path.{_≡_, refl, sym, _∙_}
 use mathlib.Core.Bool.{false}
 use native.Mathlib.Omega.{arith}
-use lib.ListN.{length}
 use Rattle.sets.specs.Tests.{someBelow}
 use Rattle.file_spec.specs.Names.{sameName, repeatsName}
 use Rattle.file_spec.proofs.Walks.{some-next, some-stop, some-end}

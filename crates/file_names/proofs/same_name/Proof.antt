@@ -5,7 +5,7 @@ use mathlib.Core.Bool.{true}
 use native.Mathlib.Omega.{arith}
 use borrow.Author.Tests.{eq-eqb, ne-eqb}
 use lib.Dec.{eqb}
-use lib.ListN.{length, getD}
+use lib.ListN.{getD}
 use Rattle.sets.specs.Tests.{every}
 use Rattle.sets.proofs.Tests.{every-next, every-stop}
 use Rattle.file_names.proofs.same_name.Statement.{statement}

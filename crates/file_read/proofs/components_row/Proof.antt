@@ -1,7 +1,6 @@
 -- `file_read::components_row` meets its contract.
 use mathlib.Core.Path.{sym, _∙_}
 use borrow.Author.Needs.{needs}
-use Rattle.rule_entries.specs.Entries.{ruleOf}
 use Rattle.file_spec.proofs.Formed.{row-11, pass-11}
 use Rattle.file_read.proofs.components_row.Statement.{statement}
 use Rattle.file_read.proofs.components_row.Tie as tie

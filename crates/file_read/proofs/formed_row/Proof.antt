@@ -1,7 +1,6 @@
 -- `file_read::formed_row` meets its contract: row 20 where it refuses, else row 11.
 use mathlib.Core.Path.{sym, _∙_}
 use borrow.Author.Needs.{needs}
-use Rattle.rule_entries.specs.Entries.{ruleOf}
 use Rattle.file_spec.proofs.Formed.{by-clauses, past-clauses}
 use Rattle.file_read.proofs.formed_row.Statement.{statement}
 use Rattle.file_read.proofs.formed_row.Tie as tie

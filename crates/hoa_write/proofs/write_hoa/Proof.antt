@@ -2,7 +2,6 @@
 use mathlib.Core.Path.{_≡_, sym, _∙_, subst}
 use native.Mathlib.Omega.{arith}
 use Rattle.theory.specs.Rule.{Rule}
-use Rattle.file_spec.specs.declared.Layout.{Layout}
 use Rattle.file_spec.specs.declared.Read.the-variants.{Accepted}
 use Rattle.file_spec.specs.Reading.{readOf}
 use Rattle.file_read.proofs.Answer.{served, served-letters, turned-away}

@@ -1,8 +1,7 @@
 -- `hoa_write::write_read` meets its contract: the row that refuses, or the text.
 use mathlib.Core.Path.{_≡_, sym, _∙_, ap}
 use mathlib.Core.List.{List, _++_}
-use Prim.Native.Nat.{ℕ, _≤_, _<_}
-use native.Mathlib.Omega.{arith}
+use Prim.Native.Nat.{ℕ, _≤_}
 use lib.ListN.{length, drop}
 use borrow.Author.Tests.{leb-true, leb-false, not-true, not-false}
 use Rattle.slice_text.proofs.Puts.{put-first}

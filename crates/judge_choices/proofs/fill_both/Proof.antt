@@ -1,9 +1,6 @@
 -- `judge_choices::fill_both` meets its contract: the masks first, and the choices from them.
-use Prim.Native.Nat.{_+_, _≤_}
 use mathlib.Core.Path.{_≡_, sym, ap, _∙_}
-use mathlib.Core.List.{List, _++_}
-use native.Mathlib.Omega.{arith}
-use lib.ListN.{length, take, drop, length-append}
+use lib.ListN.{length, take}
 use lib.Seq.{take-at}
 use Rattle.theory.specs.Truth.{truthMasks}
 use Rattle.theory.specs.Word.{places}

@@ -1,5 +1,4 @@
 -- `judge_choices::judge_choices_read` meets its contract: the row that refuses, or both slices and the initial state's bit.
-use Prim.Native.Nat.{_≤_, _<_, _*_}
 use mathlib.Core.Path.{_≡_, sym, ap, _∙_}
 use mathlib.Core.Bool.{Bool, true, false}
 use native.Mathlib.Omega.{arith}

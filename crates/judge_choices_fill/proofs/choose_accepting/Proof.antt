@@ -1,11 +1,9 @@
 -- `judge_choices_fill::choose_accepting` meets its contract: the places before p have the choices of their accepting states.
-use Prim.Native.Nat.{ℕ, _+_, _-_, _*_, _^_, _≤_, _<_}
-use mathlib.Core.Path.{_≡_, refl, sym, _∙_, ap}
-use mathlib.Core.Bool.{_&&_}
+use Prim.Native.Nat.{_-_, _*_, _≤_, _<_}
+use mathlib.Core.Path.{_≡_, refl}
 use native.Mathlib.Omega.{arith}
 use lib.Bits.{bitAnd, and-lt}
-use lib.ListN.{length, getD}
-use Rattle.sets.specs.Masks.{bit}
+use lib.ListN.{getD}
 use Rattle.sets.proofs.Bits.{bit-and}
 use Rattle.theory.specs.Truth.{truthMasks}
 use Rattle.theory.specs.Word.{places, nextPlace, letterAt}

@@ -4,10 +4,8 @@ use mathlib.Core.Path.{_≡_, _∙_, ap}
 use mathlib.Core.List.{List, _++_}
 use native.Mathlib.Omega.{arith}
 use lib.ListN.{length, take, drop, replicate, length-take}
-use Rattle.theory.specs.Truth.{truthMasks}
 use Rattle.theory.specs.Word.{places}
 use Rattle.rule_entries.specs.Entries.{ruleOf}
-use Rattle.judge_choices_spec.specs.Rounds.{Started, Ended}
 use Rattle.judge_choices_place.proofs.Filled.{all-filled}
 use borrow.Author.Needs.{needs}
 use Rattle.judge_choices_fill.proofs.fill_choices.Statement.{statement}

@@ -1,8 +1,6 @@
 -- `judge_choices_place::choose` meets its contract.
-use mathlib.Core.Path.{_≡_, sym, ap, _∙_}
-use Prim.Native.Nat.{_<_, _≤_}
+use mathlib.Core.Path.{sym, _∙_}
 use native.Mathlib.Omega.{arith}
-use lib.ListN.{length}
 use Rattle.theory.specs.Rule.{entry}
 use Rattle.rule_entries.specs.Entries.{ruleOf}
 use Rattle.rule_entries.specs.Met.{isMet}

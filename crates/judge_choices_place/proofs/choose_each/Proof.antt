@@ -2,7 +2,7 @@
 use Prim.Native.Nat.{ℕ, _+_, _-_, _*_, _%_, _^_, _<_, _≤_}
 use mathlib.Core.Path.{_≡_, refl, sym, ap, _∙_}
 use mathlib.Core.Logic.{_⊎_, ⊎-elim}
-use mathlib.Core.Bool.{true, false, _&&_, cond}
+use mathlib.Core.Bool.{_&&_, cond}
 use mathlib.Core.List.{List}
 use native.Mathlib.Omega.{arith}
 use native.Mathlib.Nat.{lt-of-le-of-lt}
@@ -13,15 +13,13 @@ use lib.Pow.{pow-lt, pow-pos}
 use Rattle.sets.specs.Tests.{Set}
 use Rattle.sets.specs.Masks.{bit}
 use Rattle.sets.proofs.Bits.{bit-none, bit-below, shl-one}
-use Rattle.sets.proofs.Members.{least-lt}
-use Rattle.set_masks.specs.Sets.{differenceOf}
 use Rattle.theory.specs.Rule.{entry, satisfies}
 use Rattle.rule_entries.specs.Entries.{ruleOf}
 use Rattle.rule_entries.specs.Met.{metOf, isMet}
 use Rattle.rule_entries.proofs.Clauses.{met-entry}
 use Rattle.rule_entries.proofs.Entries.{entry-states}
 use Rattle.judge_place.proofs.Walks.{least-member, walked, walk-yes, walk-no, walk-end}
-use Rattle.judge_choices_spec.specs.ChoicesComputed.{numberOf, aimOf}
+use Rattle.judge_choices_spec.specs.ChoicesComputed.{aimOf}
 use Rattle.judge_choices_spec.specs.Rounds.{putMet, metNumber}
 use Rattle.judge_choices_place.proofs.Tries.{aim-set, put-length, here-yes, here-no, others-on}
 use borrow.Author.Needs.{needs}

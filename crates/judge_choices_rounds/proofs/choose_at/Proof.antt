@@ -1,15 +1,14 @@
 -- `judge_choices_rounds::choose_at` meets its contract: the states tried are the true rejecting ones that are not near yet.
-use Prim.Native.Nat.{ℕ, _+_, _*_, _^_, _≤_, _<_}
-use mathlib.Core.Path.{_≡_, refl, sym, _∙_, ap}
+use Prim.Native.Nat.{ℕ, _^_, _<_}
+use mathlib.Core.Path.{_≡_, refl, _∙_, ap}
 use mathlib.Core.Bool.{Bool, _&&_, not}
 use native.Mathlib.Omega.{arith}
-use lib.ListN.{length, getD}
+use lib.ListN.{getD}
 use Rattle.sets.specs.Masks.{bit}
 use Rattle.sets.proofs.Masks.{bit-mask}
-use Rattle.theory.specs.Word.{places, nextPlace, letterAt}
+use Rattle.theory.specs.Word.{places, nextPlace}
 use Rattle.rule_entries.specs.Entries.{ruleOf}
 use Rattle.rule_entries.proofs.Entries.{accepting-small}
-use Rattle.judge_choices_spec.specs.Rounds.{Tried}
 use Rattle.judge_choices_place.proofs.Places.{difference-low, masks-long, masks-low, next-low, letters-fit, row-fits, row-few}
 use Rattle.judge_choices_place.proofs.Rounds.{place-of-tried}
 use borrow.Author.Needs.{needs}

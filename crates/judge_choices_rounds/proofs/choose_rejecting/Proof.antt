@@ -1,9 +1,9 @@
 -- `judge_choices_rounds::choose_rejecting` meets its contract: after d rounds the states of distance at most d have their choices.
-use Prim.Native.Nat.{ℕ, _+_, _-_, _*_, _^_, _≤_, _<_}
-use mathlib.Core.Path.{_≡_, refl, sym, _∙_, ap}
+use Prim.Native.Nat.{ℕ, _-_, _*_, _≤_, _<_}
+use mathlib.Core.Path.{_≡_, refl, ap}
 use native.Mathlib.Numerals.{add-one}
 use native.Mathlib.Omega.{arith}
-use lib.ListN.{length, getD, getD-replicate}
+use lib.ListN.{length, getD-replicate}
 use Rattle.sets.specs.Masks.{bit}
 use Rattle.theory.specs.Truth.{truthMasks}
 use Rattle.theory.specs.Word.{places}

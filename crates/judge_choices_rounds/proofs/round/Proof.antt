@@ -1,16 +1,15 @@
 -- `judge_choices_rounds::round` meets its contract: a round at the places that are no longer left.
-use Prim.Native.Nat.{ℕ, _+_, _-_, _*_, _^_, _≤_, _<_}
-use mathlib.Core.Path.{_≡_, sym, _∙_, ap}
-use mathlib.Core.Bool.{true, _&&_, _||_, not, and-true, and-not-self}
+use Prim.Native.Nat.{ℕ, _-_, _^_, _≤_, _<_}
+use mathlib.Core.Path.{_≡_, sym, _∙_}
+use mathlib.Core.Bool.{true, _&&_, not, and-true, and-not-self}
 use native.Mathlib.Omega.{arith}
 use native.Mathlib.Nat.{lt-of-le-of-lt, lt-of-lt-of-le}
 use lib.Bits.{bitAnd, and-le-r}
 use lib.Count.{trailingZeros}
-use lib.ListN.{length, getD, length-set}
+use lib.ListN.{length, length-set}
 use lib.Pow.{pow-mono}
 use Rattle.sets.specs.Masks.{bit}
 use Rattle.sets.proofs.Bits.{bit-below, bit-none}
-use Rattle.sets.proofs.Members.{least-lt}
 use Rattle.theory.specs.Word.{places}
 use Rattle.rule_entries.specs.Entries.{ruleOf}
 use Rattle.judge_choices_spec.specs.Rounds.{Round}

@@ -8,7 +8,6 @@ use borrow.Author.Tests.{not-true, not-false}
 use lib.ListN.{length}
 use Rattle.table_lent.specs.Lent.{wordsIn}
 use Rattle.table_lent.proofs.Reading.{words-in-length}
-use Rattle.live_spec.specs.declared.LiveCall.the-variants.{Arrive}
 use Rattle.live_spec.specs.State.{lettersAtByte, twoBytes}
 use Rattle.live_spec.specs.Effects.{put}
 use Rattle.live_arrive.specs.Tried.{passes}

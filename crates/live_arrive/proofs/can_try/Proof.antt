@@ -2,7 +2,6 @@
 use mathlib.Core.Path.{sym}
 use native.Mathlib.Omega.{arith}
 use borrow.Author.Tests.{not-false}
-use Rattle.table_lent.specs.Lent.{wordsIn}
 use Rattle.table_lent.proofs.Reading.{words-in-length}
 use Rattle.live_arrive.proofs.Turns.{true-false}
 use borrow.Author.Needs.{needs}

@@ -1,10 +1,6 @@
 -- `live_call::call_by_rows` meets its contract: the rows, then the call.
 use mathlib.Core.Path.{refl, sym, _∙_}
-use Prim.Native.Nat.{ℕ}
 use lib.ListN.{length}
-use Rattle.table_lent.specs.Lent.{wordsIn}
-use Rattle.live_spec.specs.declared.LiveAnswer.the-variants.{Refused}
-use Rattle.live_spec.specs.Called.{CalledBy}
 use Rattle.live_call.proofs.Served.{ready, fits, call-passed, refused-by, served-by}
 use borrow.Author.Needs.{needs}
 use Rattle.live_call.proofs.call_by_rows.Statement.{statement}

@@ -1,14 +1,12 @@
 -- `live_call::call_read` meets its contract: an arrival that was made or refused at once, or the rows and the call.
-use mathlib.Core.Path.{_≡_, sym, subst}
+use mathlib.Core.Path.{subst}
 use mathlib.Core.List.{List}
 use Prim.Native.Nat.{ℕ}
 use native.Mathlib.Omega.{arith}
 use lib.ListN.{length}
 use Rattle.table_lent.specs.Lent.{wordsIn, inBytes}
-use Rattle.live_spec.specs.declared.LiveAnswer.the-variants.{Refused}
 use Rattle.live_spec.specs.Rows.{liveCallRow}
 use Rattle.live_spec.specs.Called.{CalledBy}
-use Rattle.live_call.specs.Callable.{Counted}
 use Rattle.live_call.proofs.Served.{ready, fits, refused-by, served-by}
 use borrow.Author.Needs.{needs}
 use Rattle.live_call.proofs.call_read.Statement.{statement}

@@ -1,12 +1,10 @@
 -- `live_set::step_set` meets its contract.
-use mathlib.Core.Path.{_≡_, sym, _∙_, ap}
+use mathlib.Core.Path.{_≡_, _∙_}
 use mathlib.Core.List.{map}
-use Prim.Native.Nat.{_/_}
 use borrow.Author.Needs.{needs}
 use lib.ListN.{length, length-map}
 use Rattle.table_lent.specs.Lent.{wordsIn}
-use Rattle.trim_spec.specs.Graph.{Inside}
-use Rattle.live_set.specs.Sweeps.{flagOf, Swept}
+use Rattle.live_set.specs.Sweeps.{flagOf}
 use Rattle.live_set.proofs.Sets.{flags-low, arrived}
 use Rattle.live_set.proofs.step_set.Statement.{statement}
 use Rattle.live_set.proofs.step_set.Tie as tie

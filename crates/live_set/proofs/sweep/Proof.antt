@@ -1,10 +1,9 @@
 -- `live_set::sweep` meets its contract.
 use mathlib.Core.Path.{_≡_, sym, _∙_}
-use Prim.Native.Nat.{_-_, _/_, _<_, _≤_}
+use Prim.Native.Nat.{_-_, _<_, _≤_}
 use native.Mathlib.Omega.{arith}
 use lib.ListN.{length, getD, take}
 use Rattle.sets.proofs.Lists.{mem-at}
-use Rattle.theory.specs.Run.{sourceOf, targetOf}
 use Rattle.table_lent.specs.Lent.{wordsIn}
 use Rattle.table_lent.proofs.Reading.{words-in-length, words-in-at}
 use Rattle.live_set.specs.Sweeps.{Swept, moved}

@@ -1,16 +1,15 @@
 -- `loop_report::search` meets its contract.
 use Prim.Native.Nat.{ℕ, _+_, _<_}
-use mathlib.Core.Path.{_≡_, sym, _∙_, ap}
+use mathlib.Core.Path.{sym, _∙_, ap}
 use mathlib.Core.List.{List, _++_}
 use native.Mathlib.Omega.{arith}
-use lib.ListN.{length, drop}
-use Rattle.sets.specs.Masks.{bit}
+use lib.ListN.{drop}
 use Rattle.theory.specs.Rule.{Rule}
 use Rattle.theory.specs.Passing.{WellFormed}
 use Rattle.rule_entries.specs.Entries.{ruleOf}
 use Rattle.rule_entries.proofs.Entries.{accepting-small}
 use Rattle.rule_reach.specs.Tables.{successorsOf}
-use Rattle.loop_spec.specs.Search.{loopOf, route}
+use Rattle.loop_spec.specs.Search.{loopOf}
 use Rattle.loop_search.specs.Begins.{Begins}
 use Rattle.loop_report.proofs.Found.{report-none, report-short, report-states, found-none, found-route, found-state, found-begins, found-length}
 use borrow.Author.Needs.{needs}

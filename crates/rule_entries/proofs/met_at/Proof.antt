@@ -3,12 +3,10 @@ use Prim.Native.Nat.{_+_, _*_, _-_, _<_, _≤_}
 use mathlib.Core.Path.{_≡_, sym, ap, _∙_}
 use native.Mathlib.Omega.{arith}
 use lib.ListN.{length, getD, take, drop}
-use Rattle.sets.specs.Masks.{bit}
-use Rattle.theory.specs.Rule.{entry, satisfies}
+use Rattle.theory.specs.Rule.{entry}
 use Rattle.rule_entries.specs.Entries.{ruleOf}
-use Rattle.rule_entries.specs.Met.{isMet, metOf}
-use Rattle.rule_entries.proofs.Entries.{entry-number, entry-fits, entry-part, entry-states, entries-few}
-use Rattle.rule_entries.proofs.Clauses.{met-entry}
+use Rattle.rule_entries.specs.Met.{metOf}
+use Rattle.rule_entries.proofs.Entries.{entry-number, entry-fits, entry-part, entries-few}
 use borrow.Author.Needs.{needs}
 use Rattle.rule_entries.proofs.met_at.Statement.{statement}
 use Rattle.rule_entries.proofs.met_at.Tie as tie

@@ -3,7 +3,7 @@ use mathlib.Core.Path.{_≡_, sym, ap, _∙_}
 use Rattle.sets.specs.Masks.{bit}
 use Rattle.theory.specs.Rule.{entry, satisfies}
 use Rattle.rule_entries.specs.Entries.{ruleOf}
-use Rattle.rule_entries.specs.Met.{isMet, metOf}
+use Rattle.rule_entries.specs.Met.{isMet}
 use Rattle.rule_entries.proofs.Entries.{entry-states}
 use Rattle.rule_entries.proofs.Clauses.{met-entry}
 use borrow.Author.Needs.{needs}

@@ -1,10 +1,6 @@
 -- `sheet_judge::judge_sheet_read` meets its contract: the row that refuses, or every word judged.
-use Prim.Native.Nat.{ℕ, _*_, _≤_, _<_}
-use mathlib.Core.Path.{_≡_}
 use native.Mathlib.Omega.{arith}
-use lib.ListN.{length}
 use borrow.Author.Needs.{needs}
-use Rattle.sheet_spec.specs.Words.{wordsOf}
 use Rattle.sheet_judge.proofs.Calls.{many-words, answers-short, masks-short, sheet-served, called-refused, called-served}
 use Rattle.sheet_judge.proofs.judge_sheet_read.Statement.{statement}
 use Rattle.sheet_judge.proofs.judge_sheet_read.Tie as tie

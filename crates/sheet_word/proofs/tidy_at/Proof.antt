@@ -1,9 +1,8 @@
 -- `sheet_word::tidy_at` meets its contract: the lengths of the tidy spelling say where it stands.
-use Prim.Native.Nat.{ℕ, _+_, _-_, _≤_, _<_}
-use mathlib.Core.Path.{_≡_}
+use Prim.Native.Nat.{_+_}
 use mathlib.Core.List.{[]}
 use native.Mathlib.Omega.{arith}
-use lib.ListN.{length, take, drop, length-take, length-drop}
+use lib.ListN.{length-take, length-drop}
 use borrow.Author.Needs.{needs}
 use Rattle.word_spelling_spec.proofs.Tidied.{cycle-max}
 use Rattle.sheet_words.proofs.Places.{SoundAt, sound-at}

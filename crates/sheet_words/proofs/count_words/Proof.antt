@@ -1,6 +1,5 @@
 -- `sheet_words::count_words` meets its contract.
-use Prim.Native.Nat.{_+_, _-_, _≤_}
-use mathlib.Core.Path.{_≡_, refl, sym}
+use Prim.Native.Nat.{_-_, _≤_}
 use native.Mathlib.Omega.{arith}
 use lib.ListN.{length}
 use Rattle.sheet_words.proofs.Places.{CountedTo, counted-next, counted-end}

@@ -2,7 +2,6 @@
 use Prim.Native.Nat.{_+_, _-_, _≤_, _<_}
 use mathlib.Core.Path.{_≡_, refl, sym, _∙_}
 use native.Mathlib.Omega.{arith}
-use lib.ListN.{length}
 use Rattle.sets.specs.Tests.{every}
 use Rattle.theory.specs.Word.{places, nextPlace, place, letterAt}
 use Rattle.theory_laws.proofs.Places.{places-low}

@@ -1,11 +1,8 @@
 -- `word_spelling::cycle_length` meets its contract.
 use Prim.Native.Nat.{_≤_, _-_}
 use mathlib.Core.Path.{_≡_, sym, _∙_}
-use mathlib.Core.Bool.{false}
 use native.Mathlib.Omega.{arith}
 use lib.ListN.{length}
-use borrow.Author.Needs.{needs}
-use Rattle.word_spelling_spec.specs.SpellingComputed.{comesAgain}
 use Rattle.word_spelling_spec.proofs.Tidied.{own-again}
 use Rattle.word_spelling.proofs.Walks.{NoneTo, none-first, none-next, found}
 use Rattle.word_spelling.proofs.cycle_length.Statement.{statement}

@@ -9,7 +9,6 @@ use Rattle.codes.specs.Codes.{transitionOf}
 use Rattle.build_cores.specs.Onward.{onwardIn}
 use Rattle.build_spec.specs.Chains.{keyAt, Found}
 use Rattle.build_spec.proofs.Moves.{key-onward}
-use Rattle.build_spec.specs.Emission.{Crossing}
 use Rattle.build_spec.proofs.Emission.{emitted-none, emitted-full, emitted-put}
 use Rattle.build_spec.proofs.Sources.{crossed}
 use Rattle.build_transitions.proofs.sources.emit_source.Statement.{statement}

@@ -1,6 +1,6 @@
 -- `build_visit::spans::is_fresh` meets its contract. The loop's invariant: nothing new stands before the letters below a.
 use Prim.Native.Nat.{ℕ, _+_, _-_, _*_, _<_, _≤_}
-use mathlib.Core.Path.{_≡_, sym}
+use mathlib.Core.Path.{_≡_}
 use mathlib.Core.Logic.{by-cases}
 use mathlib.Core.Bool.{true≢false}
 use native.Mathlib.Omega.{arith}

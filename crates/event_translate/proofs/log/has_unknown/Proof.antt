@@ -1,11 +1,11 @@
 -- `event_translate::log::has_unknown` meets its contract.
-use Prim.Native.Nat.{ℕ, _+_, _-_, _*_, _≤_, _<_}
+use Prim.Native.Nat.{ℕ, _+_, _-_, _*_, _≤_}
 use mathlib.Core.Path.{_≡_, refl, sym, _∙_}
 use mathlib.Core.Bool.{false, not}
 use mathlib.Core.List.{List}
 use native.Mathlib.Omega.{arith}
 use Rattle.sets.specs.Tests.{someBelow}
-use Rattle.event_spec.specs.Events.{eventCount, kindAt, driveAt, known}
+use Rattle.event_spec.specs.Events.{eventCount, known}
 use Rattle.event_table.specs.Masks.{Masks}
 use Rattle.event_translate.proofs.Letters.{in-none, in-some, unknown-here, known-next, known-all}
 use borrow.Author.Needs.{needs}

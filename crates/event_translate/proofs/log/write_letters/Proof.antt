@@ -4,7 +4,7 @@ use mathlib.Core.Path.{_≡_, refl, sym, _∙_, ap}
 use mathlib.Core.Bool.{true}
 use mathlib.Core.List.{List, _++_}
 use native.Mathlib.Omega.{arith}
-use lib.ListN.{length, getD, take, drop, set, length-set}
+use lib.ListN.{length, getD, take, drop, set}
 use lib.Count.{trailingZeros}
 use Rattle.event_spec.specs.Events.{lineCount, eventCount, known, lettersOf}
 use Rattle.event_translate.proofs.Letters.{least-below, least-letter, known-at, letters-length, put-letter, put-all, put-length}

@@ -1,8 +1,7 @@
 -- `file_write::layout::fill` meets its contract: the preface, then the rest of the file.
-use mathlib.Core.Path.{_≡_, _∙_}
+use mathlib.Core.Path.{_∙_}
 use native.Mathlib.Omega.{arith}
 use borrow.Author.Needs.{needs}
-use lib.ListN.{length}
 use Rattle.rule_entries.specs.Entries.{ruleOf}
 use Rattle.file_spec.specs.File.{bodyOf}
 use Rattle.file_spec.specs.Names.{prefaceFrom}

@@ -1,6 +1,4 @@
 -- `hoa_read_parts::lines::take_literal` meets its contract.
-use Prim.Native.Nat.{ℕ, zero, suc, _*_, _%_, _^_, _<_}
-use mathlib.Core.Path.{_≡_, refl}
 use native.Mathlib.Omega.{arith}
 use Rattle.hoa_laws.proofs.Labels.{shifted, literal-plain, literal-none, literal-negated}
 use borrow.Author.Needs.{needs}

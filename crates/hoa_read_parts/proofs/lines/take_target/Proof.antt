@@ -1,5 +1,4 @@
 -- `hoa_read_parts::lines::take_target` meets its contract.
-use mathlib.Core.List.{[], _∷_}
 use native.Mathlib.Omega.{arith}
 use Rattle.hoa_laws.proofs.Heads.{numbered-no-head, numbered-no-number, numbered}
 use Rattle.hoa_laws.proofs.Taking.{stops-inside}

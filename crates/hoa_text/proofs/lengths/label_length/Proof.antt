@@ -4,7 +4,6 @@ use mathlib.Core.Path.{_≡_, sym, _∙_, ap}
 use native.Mathlib.Omega.{arith}
 use lib.Bits.{and-mask}
 use lib.ListN.{length}
-use borrow.Author.Needs.{needs}
 use Rattle.hoa_spec.specs.Lines.{label}
 use Rattle.hoa_laws.proofs.Lengths.{label-length}
 use Rattle.hoa_text.proofs.Labels.{label-none}

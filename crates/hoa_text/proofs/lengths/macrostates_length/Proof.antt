@@ -5,7 +5,7 @@ use mathlib.Core.Bool.{cond}
 use mathlib.Core.List.{[]}
 use native.Mathlib.Omega.{arith}
 use borrow.Author.Needs.{needs}
-use lib.ListN.{length, take, getD}
+use lib.ListN.{length, take}
 use Rattle.theory.specs.Macrostate.{isAccepting}
 use Rattle.listing_lines_spec.specs.Lines.{initialAt, lines}
 use Rattle.table_lent.specs.Lent.{wordsIn}

@@ -1,5 +1,5 @@
 -- `hoa_text::lines::put_literal` meets its contract: the proposition, or `!` and it.
-use mathlib.Core.Path.{_≡_, ap}
+use mathlib.Core.Path.{ap}
 use native.Mathlib.Omega.{arith}
 use borrow.Author.Needs.{needs}
 use lib.ListN.{length}

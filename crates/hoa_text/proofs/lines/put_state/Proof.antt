@@ -5,7 +5,7 @@ use native.Mathlib.Omega.{arith}
 use borrow.Author.Needs.{needs}
 use Prim.Native.Nat.{ℕ}
 use lib.ListN.{length}
-use Rattle.hoa_spec.specs.Lines.{acceptanceMark, stateLine}
+use Rattle.hoa_spec.specs.Lines.{stateLine}
 use Rattle.hoa_laws.proofs.Lengths.{state-length}
 use Rattle.slice_text.proofs.Puts.{put-as, put-then}
 use Rattle.hoa_text.proofs.lines.put_state.Statement.{statement}

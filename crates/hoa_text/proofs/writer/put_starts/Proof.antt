@@ -4,7 +4,6 @@ use mathlib.Core.Path.{_≡_, _∙_, ap}
 use mathlib.Core.Bool.{cond}
 use mathlib.Core.List.{[]}
 use native.Mathlib.Omega.{arith}
-use borrow.Author.Needs.{needs}
 use lib.ListN.{length, take, getD}
 use Rattle.slice_text.specs.Put.{Put}
 use Rattle.slice_text.proofs.Puts.{put-length}

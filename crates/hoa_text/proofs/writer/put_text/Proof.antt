@@ -4,7 +4,7 @@ use native.Mathlib.Omega.{arith}
 use borrow.Author.Needs.{needs}
 use lib.ListN.{length}
 use Rattle.slice_text.proofs.Puts.{put-as, put-then}
-use Prim.Native.Nat.{ℕ, _+_, _/_, _≤_}
+use Prim.Native.Nat.{_+_, _/_, _≤_}
 use Rattle.listing_lines_spec.specs.Lines.{initialAt, lines}
 use Rattle.hoa_spec.specs.Lines.{statesLine, apLine}
 use Rattle.table_lent.specs.Lent.{wordsIn}

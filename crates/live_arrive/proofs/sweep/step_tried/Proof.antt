@@ -1,6 +1,6 @@
 -- `live_arrive::sweep::step_tried` meets its contract.
 use mathlib.Core.Path.{_≡_, sym, _∙_}
-use mathlib.Core.Bool.{true, false}
+use mathlib.Core.Bool.{true}
 use borrow.Author.Tests.{not-true, not-false}
 use lib.ListN.{length}
 use Rattle.slice_search.specs.Places.{ascends}

@@ -1,5 +1,4 @@
 -- `live_arrive::sweep::sweep_one` meets its contract.
-use mathlib.Core.Path.{_≡_}
 use Prim.Native.Nat.{_≤_, _<_}
 use native.Mathlib.Omega.{arith}
 use lib.ListN.{length}

@@ -1,5 +1,5 @@
 -- `live_state::set_part::refresh` meets its contract.
-use mathlib.Core.Path.{_≡_, sym, _∙_, ap}
+use mathlib.Core.Path.{sym, _∙_, ap}
 use mathlib.Core.List.{List}
 use Prim.Native.Nat.{ℕ, _/_, _≤_, _+_}
 use native.Mathlib.Omega.{arith}

@@ -1,5 +1,5 @@
 -- `sheet_cycles::masks::write_masks` meets its contract: the cycle's masks are spread, then the lead-in's put in front.
-use Prim.Native.Nat.{_≤_, _<_}
+use Prim.Native.Nat.{_≤_}
 use mathlib.Core.Path.{_≡_, ap, _∙_}
 use native.Mathlib.Omega.{arith}
 use lib.ListN.{length, drop}

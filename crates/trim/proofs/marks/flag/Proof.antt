@@ -1,8 +1,8 @@
 -- `flag` meets its contract.
-use mathlib.Core.Path.{_≡_, ap, _∙_}
+use mathlib.Core.Path.{_≡_}
 use Prim.Native.Nat.{_-_, _≤_}
 use native.Mathlib.Omega.{arith}
-use borrow.Author.Needs.{needs, scaled-fits}
+use borrow.Author.Needs.{scaled-fits}
 use lib.ListN.{length, getD}
 use Rattle.theory_laws.proofs.Tagged.{FlaggedTo, none-flagged, flag-next, all-flagged}
 use Rattle.trim.proofs.marks.flag.Statement.{statement}

@@ -1,8 +1,5 @@
 -- `mark_live` meets its contract: what is left is one thing, and the definition leaves it.
-use mathlib.Core.Path.{_≡_, sym, ap, _∙_}
-use mathlib.Core.List.{List}
-use Prim.Native.Nat.{ℕ, _≤_}
-use lib.ListN.{getD}
+use mathlib.Core.Path.{_∙_}
 use borrow.Author.Needs.{needs}
 use Rattle.graph_walks.specs.Walks.{Solved}
 use Rattle.graph_walks.proofs.Unique.{solved-unique}

@@ -1,6 +1,5 @@
 -- `solve` meets its contract: each round but the last takes a number out, and after the last all that is left is sound.
 use mathlib.Core.Path.{_≡_, refl, _∙_}
-use mathlib.Core.Bool.{false}
 use lib.ListN.{length}
 use Rattle.sets.specs.Lists.{sum}
 use Rattle.graph_walks.proofs.Rounds.{Kept, kept-start, kept-low, kept-then, solved}

@@ -1,12 +1,10 @@
 -- `is_left` meets its contract.
-use mathlib.Core.Path.{_≡_, sym, ap, _∙_}
-use mathlib.Core.Bool.{true, false}
-use Prim.Native.Nat.{ℕ, _/_, _^_, _<_}
+use mathlib.Core.Path.{_≡_, sym}
+use Prim.Native.Nat.{_/_, _^_, _<_}
 use native.Mathlib.Omega.{arith}
 use borrow.Author.Needs.{needs}
 use lib.ListN.{getD}
-use Rattle.theory.specs.Run.{sourceOf, targetOf}
-use Rattle.trim_spec.specs.Tagged.{highs}
+use Rattle.theory.specs.Run.{sourceOf}
 use Rattle.theory_laws.proofs.Ends.{left-not, left-by}
 use Rattle.trim.proofs.number.is_left.Statement.{statement}
 use Rattle.trim.proofs.number.is_left.Tie as tie

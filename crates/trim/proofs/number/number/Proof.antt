@@ -2,7 +2,7 @@
 use mathlib.Core.Path.{_≡_}
 use Prim.Native.Nat.{_-_, _/_, _^_, _<_, _+_}
 use native.Mathlib.Omega.{arith}
-use borrow.Author.Needs.{needs, scaled-fits}
+use borrow.Author.Needs.{scaled-fits}
 use lib.ListN.{length, getD}
 use Rattle.theory_laws.proofs.Rewriting.{NumberedTo, none-numbered, number-skip, number-put, number-room, all-numbered}
 use Rattle.trim.proofs.number.number.Statement.{statement}

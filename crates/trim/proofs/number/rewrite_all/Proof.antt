@@ -1,10 +1,10 @@
 -- `rewrite_all` meets its contract.
-use mathlib.Core.Path.{_≡_, refl, sym, ap, _∙_}
+use mathlib.Core.Path.{_≡_, sym, ap, _∙_}
 use mathlib.Core.Bool.{true, false}
 use Prim.Native.Nat.{_-_, _<_}
 use native.Mathlib.Omega.{arith}
-use borrow.Author.Needs.{needs, scaled-fits}
-use lib.ListN.{length, getD, drop}
+use borrow.Author.Needs.{scaled-fits}
+use lib.ListN.{length, getD}
 use Rattle.sets.proofs.Lists.{mem-at}
 use Rattle.theory.specs.Run.{sourceOf, targetOf}
 use Rattle.trim_spec.specs.Trimmed.{isLeft}
