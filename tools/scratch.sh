@@ -1,7 +1,7 @@
 #!/usr/bin/env bash
 # scratch.sh FOLDER: a folder in memory for what the prover lays out and takes away again while it works in FOLDER; prints nothing where the
 # machine has none, or less than 2 GB for each check that runs at a time.
-# Before a check proves anything it copies the checked files of all crates below its own, up to 12,700 files and 680 MB. On a disk that takes longer
+# Before a check proves anything it copies the checked files of all crates below its own, up to 13,055 files and 700 MB. On a disk that takes longer
 # than most small crates take to prove.
 set -euo pipefail
 memory=/dev/shm
