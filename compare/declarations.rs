@@ -103,7 +103,9 @@ fn header_functions(header: &str) -> BTreeMap<String, Vec<String>> {
         let before = plain[..at].trim_end();
         let is_type = before.ends_with(|c| word(c) || c == '*') && !before.ends_with("return");
         if is_type && after.trim_start().starts_with(';') {
-            let names = parameters.split(',').map(|parameter| {
+            // A function without parameters has `void` there.
+            let parameters = parameters.split(',').filter(|one| one.trim() != "void");
+            let names = parameters.map(|parameter| {
                 let name = parameter.trim().rsplit(|c| !word(c)).next();
                 name.unwrap_or_default().to_string()
             });
@@ -133,7 +135,10 @@ fn c_file(functions: &[Declared], structs: &[Declared]) -> Result<String, String
     let mut c = String::from("#include \"mulgreddi.h\"\n");
     for function in functions {
         let types = function.parts.iter().map(|(_, own)| c_type(own));
-        let types = types.collect::<Result<Vec<_>, _>>()?.join(", ");
+        let mut types = types.collect::<Result<Vec<_>, _>>()?.join(", ");
+        if types.is_empty() {
+            types = "void".to_string();
+        }
         let (name, answer) = (&function.name, c_type(&function.answer)?);
         c += &format!("{answer} (*const declared_{name})({types}) = {name};\n");
     }

@@ -17,11 +17,12 @@
 /* The version, by which the Makefile and the pkg-config file go. With a new major number some input is answered otherwise than before;
  * docs/CHANGELOG.md tells which. */
 #define MULGREDDI_VERSION_MAJOR 2
-#define MULGREDDI_VERSION_MINOR 2
+#define MULGREDDI_VERSION_MINOR 3
 #define MULGREDDI_VERSION_PATCH 0
 #define MULGREDDI_TEXT_OF_(a, b, c) #a "." #b "." #c
 #define MULGREDDI_TEXT_OF(a, b, c) MULGREDDI_TEXT_OF_(a, b, c)
 #define MULGREDDI_VERSION MULGREDDI_TEXT_OF(MULGREDDI_VERSION_MAJOR, MULGREDDI_VERSION_MINOR, MULGREDDI_VERSION_PATCH)
+#define MULGREDDI_VERSION_NUMBER (MULGREDDI_VERSION_MAJOR * 1000000 + MULGREDDI_VERSION_MINOR * 1000 + MULGREDDI_VERSION_PATCH)
 
 /* Limits and rooms. */
 #define MULGREDDI_STATES_MAX 8             /* states of a rule */
@@ -31,7 +32,8 @@
 #define MULGREDDI_PLACES_MAX 64            /* places of a word: bytes that hold the masks of any word, or any tidy spelling */
 #define MULGREDDI_CHOICES_MAX 512          /* bytes that hold the choices of any word */
 #define MULGREDDI_NAME_BYTES 8             /* bytes of a letter's name */
-#define MULGREDDI_RULE_MAX 1290            /* bytes that hold any written or tidied file: names 130, clauses 1024, counts 128, trailer 8 */
+#define MULGREDDI_RULE_MAX 1290            /* bytes that hold any rule file with names, or none, and no other preface, so any written or
+                                              tidied one: names 130, clauses 1024, counts 128, trailer 8 */
 #define MULGREDDI_MACROSTATES_MAX 65536    /* elements of codes that are used */
 #define MULGREDDI_TRANSITIONS_MAX 1048576  /* elements of transitions that are used */
 #define MULGREDDI_EVENTS_MAX 320           /* bytes of an event table: 64 lines of 5 */
@@ -44,7 +46,16 @@
 extern "C" {
 #endif
 
-/* The answer of every function but mulgreddi_stricter. refusal is 0 where the input was served; else it is the number of the first fault
+/* The version of the library that the program runs with: MULGREDDI_VERSION_NUMBER of its header. */
+uint32_t mulgreddi_version(void);
+
+/* Whether a library of that version serves a program that was compiled with this header: the major number is the same, and it is not older. */
+static inline int mulgreddi_version_serves(uint32_t version)
+{
+    return version / 1000000 == MULGREDDI_VERSION_MAJOR && version >= MULGREDDI_VERSION_NUMBER;
+}
+
+/* The answer of every function but mulgreddi_version and mulgreddi_stricter. refusal is 0 where the input was served; else it is the number of the first fault
  * (one of those below), and first and second are 0. A value that a function does not name is 0. */
 typedef struct {
     uint64_t refusal, first, second;

@@ -63,7 +63,7 @@ uniq -d build/documents/decisions | sed 's/^/docs\/DECISIONS.md: twice: /' > bui
 # ---- counts: crates, edits, entries, the files and lines of the reading list
 crates=$(wc -l < build/documents/crates)
 edits=$(find crates -path '*/must-fail/*.edit' | wc -l)
-entries=$(grep -cE '^mulgreddi_[a-z]+ mulgreddi_[a-z_]+\(' include/mulgreddi.h)
+entries=$(grep -cE '^(mulgreddi_[a-z]+|uint32_t) mulgreddi_[a-z_]+\(' include/mulgreddi.h)
 {
     for t in "${texts[@]}"; do
         [ -f "$t" ] && [ "$t" != docs/LANDINGS.md ] || continue

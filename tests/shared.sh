@@ -3,7 +3,7 @@
 # the loader is SONAME; PROGRAM (tests/shared.c) opens it and works with it. SYMBOLS is what `nm` prints of the archive.
 set -euo pipefail
 program=$1 library=$(realpath "$2") soname=$3 symbols=$4 header=$5
-declared=$(sed -nE 's/^mulgreddi_(answer|comparison) (mulgreddi_[a-z_]+)\(.*/\2/p' "$header" | sort)
+declared=$(sed -nE 's/^(mulgreddi_(answer|comparison)|uint32_t) (mulgreddi_[a-z_]+)\(.*/\3/p' "$header" | sort)
 visible=$(nm -D --defined-only "$library" | awk '{ print $3 }' | sort)
 diff <(echo "$declared") <(echo "$visible") || { echo "$library: visible are not the entries of $header"; exit 1; }
 readelf -d "$library" | grep -qF "Library soname: [$soname]" || { echo "$library: the soname is not $soname"; exit 1; }

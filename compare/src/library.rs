@@ -26,6 +26,7 @@ pub struct Comparison {
 }
 
 extern "C" {
+    pub fn mulgreddi_version() -> u32;
     pub fn mulgreddi_check(file: *const u8, file_len: usize) -> Answer;
     pub fn mulgreddi_write(
         n: u32,

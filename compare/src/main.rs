@@ -53,7 +53,8 @@ fn main() -> ExitCode {
     }
     println!("seeds {first_seed} to {seed}");
     let declarations = env!("DECLARATIONS");
-    println!("{declarations} held to include/mulgreddi.h by type and name");
+    let version = unsafe { compare::library::mulgreddi_version() };
+    println!("{declarations} of version {version} held to include/mulgreddi.h by type and name");
     if harness.report(&entries) {
         println!("no difference");
         ExitCode::SUCCESS

@@ -11,6 +11,7 @@ pub mod sheet;
 pub mod stricter_than;
 pub mod tidy;
 pub mod trimmed;
+pub mod version;
 pub mod word;
 
 use file_spec::Read;
