@@ -133,7 +133,7 @@ static int follow(int count, char **operand)
     starts(&l);
     const char *log = count > 1 ? operand[1] : "-";
     if (option("events")) {
-        bytes events = load(option("events"));
+        bytes events = load_events(&l.r, option("events"));
         follow_events(&l, &events, log);
     } else
         follow_lines(&l, log);

@@ -15,7 +15,9 @@ static void print_choices(const rule *r, word w, const uint8_t *choices)
             unsigned choice = choices[place * r->states + state];
             if (choice == 255)
                 continue;
-            printf("%sstate %u by clause %u ", before, state, choice);
+            printf("%sstate ", before);
+            print_state(stdout, l.state_names, state);
+            printf(" by clause %u ", choice);
             print_clause(stdout, &l, clauses_of(&l, state, letter)[choice]);
             before = ", ";
         }

@@ -22,7 +22,7 @@ static int translate(int count, char **operand)
 {
     size_t cycle = cycle_length();
     rule r = open_rule(operand[0]);
-    bytes events = load(operand[1]), log = load(operand[2]);
+    bytes events = load_events(&r, operand[1]), log = load(operand[2]);
     (void)count;
     uint8_t *letters = room(log.len / 2);
     mulgreddi_answer a = mulgreddi_translate(r.file.at, r.file.len, events.at, events.len, log.at, log.len, letters, log.len / 2);

@@ -20,15 +20,17 @@ static void tell_names(const bytes *file, mulgreddi_answer checked)
 static int check_file(const char *path)
 {
     bytes file;
-    if (!try_load(path, &file))
-        return FAULT;
+    int status = try_load_rule(path, &file);
+    if (status != YES)
+        return status;
     mulgreddi_answer a = mulgreddi_check(file.at, file.len);
-    int status = a.refusal ? refused(file.path, a.refusal, &file) : YES;
+    status = a.refusal ? refused(file.path, a.refusal, &file) : YES;
     if (status == YES) {
         print_text(stdout, file.path);
-        printf(": states %u, letters %u, initial %u, accepting ", mulgreddi_states(file.at, file.len), mulgreddi_letters(file.at, file.len),
-               mulgreddi_initial_state(file.at, file.len));
-        print_set(stdout, mulgreddi_accepting_mask(file.at, file.len));
+        printf(": states %u, letters %u, initial ", mulgreddi_states(file.at, file.len), mulgreddi_letters(file.at, file.len));
+        print_state(stdout, names_of_states(&file), mulgreddi_initial_state(file.at, file.len));
+        printf(", accepting ");
+        print_set(stdout, names_of_states(&file), mulgreddi_accepting_mask(file.at, file.len));
         printf(", clauses %u, preface %llu, %s", mulgreddi_clauses(file.at, file.len), (number)a.first, a.second ? "names" : "no names");
         for (unsigned letter = 0; letter < a.second / MULGREDDI_NAME_BYTES; letter++) {
             const char *name = mulgreddi_letter_name(file.at, a, letter);
@@ -66,7 +68,7 @@ static int tidy(int count, char **operand)
         path = NULL;
     if (!path && isatty(STDOUT_FILENO))
         usage("the tidied file is bytes: name a file with --out, or send standard output to one");
-    bytes file = load(operand[0]);
+    bytes file = load_rule(operand[0]);
     mulgreddi_answer a = mulgreddi_tidy(file.at, file.len, out, sizeof out);
     if (a.refusal)
         return refused(file.path, a.refusal, &file);
@@ -89,7 +91,7 @@ const command command_tidy = {
 static int loop(int count, char **operand)
 {
     uint8_t out[MULGREDDI_LONGEST_LOOP];
-    bytes file = load(operand[0]);
+    bytes file = load_rule(operand[0]);
     (void)count;
     mulgreddi_answer a = mulgreddi_mixed_loop(file.at, file.len, out, sizeof out);
     if (a.refusal)
@@ -111,7 +113,7 @@ const command command_loop = {
 
 static int same(int count, char **operand)
 {
-    bytes a = load(operand[0]), b = load(operand[1]);
+    bytes a = load_rule(operand[0]), b = load_rule(operand[1]);
     (void)count;
     mulgreddi_answer answer = mulgreddi_same_rules(a.at, a.len, b.at, b.len);
     if (answer.refusal) {

@@ -36,7 +36,7 @@ static void add_word(bytes *sheet, const word *w)
 static void read_lines(page *p, const rule *r, const char *path)
 {
     p->from = open_lines(path);
-    p->sheet = (bytes){p->from.path, room((WORDS + 1) * 512), 0};
+    p->sheet = (bytes){p->from.path, room((WORDS + 1) * 512), 0, NULL};
     for (const char *text; p->count <= WORDS && (text = next_line(&p->from, &p->status));) {
         if (!read_word(r, place(&p->from), text, &p->word[p->count])) {
             p->status = FAULT;

@@ -66,10 +66,10 @@ static void print_rule(const layout *l)
     }
     printf("\n");
     for (unsigned state = 0; state < l->states; state++) {
-        printf("state s%u %s\n", state, l->accepting >> state & 1 ? "accepting" : "rejecting");
+        printf("state %s %s\n", l->state_names[state], l->accepting >> state & 1 ? "accepting" : "rejecting");
         print_entries(l, state);
     }
-    printf("initial s%u\n", l->initial);
+    printf("initial %s\n", l->state_names[l->initial]);
 }
 
 /* Rows 1 to 10 are tried before these, so the layout is right where one of these refuses. */
@@ -81,12 +81,13 @@ static int laid_out(uint64_t refusal)
 
 static int show(int count, char **operand)
 {
-    bytes file = load(operand[0]);
+    bytes file = load_rule(operand[0]);
     uint64_t refusal = mulgreddi_check(file.at, file.len).refusal;
     (void)count;
     if (laid_out(refusal)) {
         layout l = layout_of(&file);
-        l.state_names = shown_states;
+        if (!l.state_names)
+            l.state_names = shown_states;
         print_rule(&l);
     }
     return refusal ? refused(file.path, refusal, &file) : YES;

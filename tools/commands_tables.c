@@ -3,7 +3,7 @@
 
 static int list(int count, char **operand)
 {
-    bytes file = load(operand[0]);
+    bytes file = load_rule(operand[0]);
     rule r = {file, mulgreddi_check(file.at, file.len), 0, 0, 0, 0};
     mulgreddi_answer a = build_of(&r);
     (void)count;
@@ -14,6 +14,8 @@ static int list(int count, char **operand)
     printf("built %llu %llu\n", (number)a.first, (number)a.second);
     for (unsigned letter = 0; letter < r.checked.second / MULGREDDI_NAME_BYTES; letter++)
         printf("n %u %.8s\n", letter, mulgreddi_letter_name(file.at, r.checked, letter));
+    for (unsigned state = 0; file.text && state < mulgreddi_states(file.at, file.len); state++)
+        printf("s %u %s\n", state, names_of_states(&file)[state]);
     unsigned initial = mulgreddi_initial_state(file.at, file.len);
     for (uint64_t m = 0; m < a.first; m++)
         printf("m %llu %llu %c %c\n", (number)m, (number)codes[m], mulgreddi_code_initial(codes[m], initial) ? 'i' : '-',

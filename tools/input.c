@@ -65,7 +65,7 @@ static int read_all(FILE *f, bytes *b)
 int try_load(const char *path, bytes *b)
 {
     FILE *f = open_file(path);
-    *b = (bytes){name_of(path), NULL, 0};
+    *b = (bytes){name_of(path), NULL, 0, NULL};
     int read = f && read_all(f, b);
     if (!read)
         say("%s: %s", brief(b->path, PATH_SHOWN), strerror(errno));

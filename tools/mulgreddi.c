@@ -55,10 +55,11 @@ static void help(FILE *to)
     fputs("usage: mulgreddi COMMAND [OPTION..] OPERAND..\n", to);
     for (int i = 0; i < COMMANDS; i++)
         fprintf(to, "  %-12s %s\n", commands[i]->name, commands[i]->operands);
-    fputs("A FILE is a rule file; - is standard input and, as --out, standard output. A WORD is LEAD:CYCLE, a lead-in that may\n"
-          "be empty and a cycle that repeats for ever, letters with commas between them: 0,1:0 or :0,1. Where the rule has\n"
-          "names, a letter is written by its name without the blanks at its end (its number will do, too), or by its number\n"
-          "if the name has a blank, comma or colon in it, begins with - or is a number.\n"
+    fputs("A FILE is a rule file or the text of a rule, whose first word is `letters`; - is standard input and, as --out,\n"
+          "standard output. EVENTS is an event table or its text. A WORD is LEAD:CYCLE, a lead-in that may be empty and a cycle\n"
+          "that repeats for ever, letters with commas between them: 0,1:0 or :0,1. Where the rule has names, a letter is\n"
+          "written by its name without the blanks at its end (its number will do, too), or by its number if the name has a\n"
+          "blank, comma or colon in it, begins with - or is a number.\n"
           "Limits: a rule has up to 8 states, 16 letters and 8 clauses for each state and letter; a word a lead-in of up to 32\n"
           "letters and a cycle of up to 32; a sheet 64 words; an event table 64 lines; a live log 512 letters and 16 marks; a\n"
           "table 65,536 macrostates and 1,048,576 transitions. Of a file 67,108,864 bytes are read, of a line 65,536.\n"

@@ -79,7 +79,7 @@ static void read_letters_line(rule_text *r)
     if (refusal) {
         layout l = {1, letters, 0, 0, NULL, NULL, r->names, 0, 0, NULL};
         unsigned state, letter;
-        exit(refused_at(t, t->line, refusal, rule_spot(&l, refusal, &state, &letter)));
+        leave(refused_at(t, t->line, refusal, rule_spot(&l, refusal, &state, &letter)));
     }
     r->letters = letters;
 }
@@ -94,7 +94,7 @@ static void read_state_line(rule_text *r)
         fault(t, t->line, "state %s stands a second time; the first is in line %llu", shown(w[1]), r->state_line[state_named(r, w[1])]);
     uint64_t refusal = ask_size(r->states + 1, 1, r->names, 0);
     if (refusal)
-        exit(refused_at(t, t->line, refusal, NULL));
+        leave(refused_at(t, t->line, refusal, NULL));
     r->accepting |= (unsigned)is_run(w[2], "accepting") << r->states;
     r->state_line[r->states] = t->line;
     r->state[r->states++] = w[1];
@@ -296,19 +296,30 @@ static void complete(rule_text *r)
     }
 }
 
-rule_text *read_rule_text(const char *path)
+/* The names of the states, each whole and as messages show it. */
+static void name_states(rule_text *r)
+{
+    for (unsigned q = 0; q < r->states; q++) {
+        const char *brief_name = shown(r->state[q]);
+        r->name[q] = memcpy(room(r->state[q].len + 1), r->state[q].at, r->state[q].len);
+        r->shown_name[q] = strcpy(room(strlen(brief_name) + 1), brief_name);
+    }
+}
+
+rule_text *read_rule_text(bytes file)
 {
     rule_text *r = room(sizeof *r);
-    r->t = open_text(path);
+    r->t = text_of(file);
     read_lines(r);
     number last = r->t.line ? r->t.line : 1;
     if (!r->letters_line)
         fault(&r->t, last, "there is no `letters` line");
     if (r->states == 0)
-        exit(refused_at(&r->t, last, ask_size(0, r->letters, r->names, r->names_len), NULL));
+        leave(refused_at(&r->t, last, ask_size(0, r->letters, r->names, r->names_len), NULL));
     resolve_all(r);
     if (!r->initial_line)
         fault(&r->t, last, "there is no `initial` line");
     complete(r);
+    name_states(r);
     return r;
 }

@@ -42,6 +42,7 @@ layout layout_of(const bytes *file)
         l.preface -= MULGREDDI_NAME_BYTES * l.letters + 2;
         l.names = file->at + l.preface;
     }
+    l.state_names = names_of_states(file);
     return l;
 }
 
@@ -57,7 +58,7 @@ void print_clause(FILE *to, const layout *l, unsigned clause)
 {
     const char *before = "";
     if (!l->state_names) {
-        print_set(to, clause);
+        print_set(to, NULL, clause);
         return;
     }
     if (clause == 0)
@@ -90,18 +91,10 @@ static int find_entry(const layout *l, uint64_t refusal, unsigned *state, unsign
     return 0;
 }
 
-static void print_state(FILE *to, const layout *l, unsigned state)
-{
-    if (l->state_names)
-        fputs(l->state_names[state], to);
-    else
-        fprintf(to, "%u", state);
-}
-
 static void print_entry(FILE *to, const layout *l, unsigned state, unsigned letter)
 {
     fputs("state ", to);
-    print_state(to, l, state);
+    print_state(to, l->state_names, state);
     fputs(", letter ", to);
     if (!l->names || !l->state_names)
         fprintf(to, "%u", letter);
@@ -183,7 +176,7 @@ void print_loop(FILE *to, const layout *l, const uint8_t *loop, uint64_t length)
 {
     for (uint64_t i = 0; i < length; i++) {
         fputs(i ? ", " : "", to);
-        print_state(to, l, loop[i]);
+        print_state(to, l->state_names, loop[i]);
         fprintf(to, " (%s)", l->accepting >> loop[i] & 1 ? "accepting" : "rejecting");
     }
 }

@@ -9,7 +9,7 @@ typedef struct {
     unsigned states, letters, initial, accepting;
     const uint8_t *counts, *clauses, *names; /* names: 8 bytes a letter, or NULL */
     size_t clauses_len, preface;             /* preface: bytes before the clauses that are not names and their 4e 4d */
-    const char *const *state_names;          /* in a text; else NULL, and states are numbers */
+    const char *const *state_names;          /* of a text; else NULL, and states are numbers */
 } layout;
 
 /* The layout of a rule file that none of rows 1 to 7 refuses. */

@@ -2,6 +2,7 @@
 #define _XOPEN_SOURCE 700
 #include "text.h"
 
+#include <setjmp.h>
 #include <stdarg.h>
 #include <stdlib.h>
 #include <string.h>
@@ -9,9 +10,31 @@
 
 static const char signs[] = ":&|*", keywords[] = " letters state initial accepting rejecting true false ";
 
-text open_text(const char *path)
+text text_of(bytes file)
 {
-    return (text){load(path), 0, 0, NULL, 0, 0};
+    return (text){file, 0, 0, NULL, 0, 0};
+}
+
+/* Where reading goes back to that may be left. */
+static jmp_buf begun;
+static int trying, left_with;
+
+_Noreturn void leave(int status)
+{
+    if (!trying)
+        exit(status);
+    left_with = status;
+    longjmp(begun, 1);
+}
+
+int try_reading(void (*read)(bytes *file), bytes *file)
+{
+    trying = 1;
+    left_with = YES;
+    if (setjmp(begun) == 0)
+        read(file);
+    trying = 0;
+    return left_with;
 }
 
 /* ---- what is told */
@@ -42,7 +65,7 @@ _Noreturn void fault(const text *t, number line, const char *format, ...)
     va_start(list, format);
     tell_at(t, line, format, list);
     va_end(list);
-    exit(FAULT);
+    leave(FAULT);
 }
 
 int refused_at(const text *t, number line, uint64_t refusal, const char *spot)
@@ -110,7 +133,7 @@ int is_keyword(token w)
     return strstr(keywords, spaced) != NULL;
 }
 
-static int in_run(uint8_t byte)
+int in_run(uint8_t byte)
 {
     return byte != 0 && strchr(" \t\"#,", byte) == NULL && strchr(signs, byte) == NULL;
 }

@@ -20,12 +20,18 @@ typedef struct {
     size_t count, size;
 } text;
 
-text open_text(const char *path);
+text text_of(bytes file);
+/* Whether a byte may stand in a run. */
+int in_run(uint8_t byte);
 /* Reads the next line that has words; 0 at the end of the text. */
 int read_line(text *t);
 
 /* Prints a message as FILE:LINE: message. */
 void say_at(const text *t, number line, const char *format, ...);
+/* Ends the program with this status or, inside try_reading, that reading. */
+_Noreturn void leave(int status);
+/* Reads something; answers YES, or the status that it was left with. */
+int try_reading(void (*read)(bytes *file), bytes *file);
 /* A fault of the text ends the program: FILE:LINE: what is wrong. */
 _Noreturn void fault(const text *t, number line, const char *format, ...);
 /* A refusal with its line: its number, its text and, where it is not NULL, the spot. Answers REFUSED. */
@@ -49,6 +55,8 @@ const char *shown(token w);
 int padded(token w, uint8_t *name);
 /* Prints a letter's name of 8 bytes as it stands in a text, without the blanks at its end, in quotes where it needs them. */
 void print_name(FILE *to, const uint8_t *name);
+/* The event table that a text is; a fault, or a refusal, told with its line, ends the program. */
+bytes events_of_text(const rule *r, bytes file);
 /* Prints five bytes of an event table as a line of text, without its newline. */
 void print_event_line(FILE *to, const rule *r, const uint8_t *line);
 

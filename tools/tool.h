@@ -55,11 +55,12 @@ void end_work(void);
 
 /* ---- what is read (input.c) */
 
-/* The bytes of a file, with the name that messages give it. */
+/* The bytes of a file, with the name that messages give it. Those of a rule that was read as text are its rule file's. */
 typedef struct {
     const char *path;
     uint8_t *at;
     size_t len;
+    const struct rule_text *text; /* else NULL */
 } bytes;
 
 /* So much is read of a file, or of a line. */
@@ -114,12 +115,22 @@ typedef struct {
     unsigned states, letters, initial, accepting;
 } rule;
 
-/* Prints states as {0,2}. */
-void print_set(FILE *to, unsigned mask);
-/* Tells a refusal: its number, its text and, of a rule file, the spot. Answers REFUSED. */
+/* The names of a rule's states, NULL where it was no text. */
+const char *const *names_of_states(const bytes *file);
+/* Prints a state: its name or, where names is NULL, its number. */
+void print_state(FILE *to, const char *const *names, unsigned state);
+/* Prints states as {0,2} or {one,two}. */
+void print_set(FILE *to, const char *const *names, unsigned mask);
+/* Tells a refusal: its number, its text and, of a rule, the spot. Answers REFUSED. */
 int refused(const char *what, uint64_t refusal, const bytes *file);
-/* Reads and checks a rule file; a refused one ends the program. */
+/* Reads a rule, file or text, accepted or not; what is no rule's text to the end, or has no file, ends the program. */
+bytes load_rule(const char *path);
+/* As load_rule; where it would end the program, its exit status is answered, else YES. */
+int try_load_rule(const char *path, bytes *file);
+/* Reads and checks a rule, file or text; a refused one ends the program. */
 rule open_rule(const char *path);
+/* Reads an event table, a file or a text; what is wrong with a text ends the program. */
+bytes load_events(const rule *r, const char *path);
 
 /* ---- letters and words (words.c) */
 
