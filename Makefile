@@ -32,21 +32,14 @@ SHARED := $(BUILD)/libmulgreddi.so.$(VERSION)
 PROGRAM := $(BUILD)/listing
 TOOL := $(BUILD)/mulgreddi
 SOURCES := crates.txt $(shell find crates -type f -not -path '*/must-fail/*')
-CARGO := CARGO_TARGET_DIR=$(CURDIR)/$(BUILD)/cargo MULGREDDI_LIB=$(CURDIR)/$(BUILD) cargo
+CARGO := CARGO_TARGET_DIR='$(CURDIR)/$(BUILD)/cargo' MULGREDDI_LIB='$(CURDIR)/$(BUILD)' cargo
 EXAMPLES := $(patsubst examples/%.c,$(BUILD)/%,$(wildcard examples/*.c))
 
 # checks that `rt` runs side by side: it waits for all of a group before it starts the next, so more than there are cores
 export RT_JOBS ?= 4
 
-# what a check lays out for itself stands in memory, where there is room for it (tools/scratch.sh), but for a TMPDIR that the caller has set
-ifndef TMPDIR
-export MULGREDDI_SCRATCH := $(shell tools/scratch.sh $(CURDIR))
-ifneq ($(MULGREDDI_SCRATCH),)
-export TMPDIR := $(MULGREDDI_SCRATCH)
-endif
-endif
-# a check that was killed leaves what it laid out
-EMPTY_SCRATCH := $(if $(MULGREDDI_SCRATCH),rm -rf $(MULGREDDI_SCRATCH)/rattle-*)
+# what a check lays out for itself stands in a folder that is gone when it has ended, in memory where there is room for it
+RT := tools/scratch.sh rt
 
 # one `rt` at a time; the gate's last steps run side by side, since none of them calls it
 ifndef BESIDE
@@ -64,8 +57,8 @@ QUIETLY := tools/quietly.sh $(BUILD)/log
 BELOW := $(shell sed -n 's/^mulgreddi://p' crates.txt)
 $(LIB): $(SOURCES)
 	@echo 'Proving and compiling the library: 8 to 12 minutes from nothing on two cores. A line for each crate follows.' >&2
-	@$(QUIETLY)/lib-check rt check $(BELOW)
-	@$(QUIETLY)/lib rt staticlib mulgreddi
+	@$(QUIETLY)/lib-check $(RT) check $(BELOW)
+	@$(QUIETLY)/lib $(RT) staticlib mulgreddi
 	@cp target/staticlib/libmulgreddi.a $@
 	@echo '$@ is ready; $(BUILD)/log has all that was printed.' >&2
 
@@ -85,29 +78,14 @@ $(TOOL): $(TOOL_SOURCES) $(wildcard tools/*.h) include/mulgreddi.h $(LIB)
 	@$(CC) $(CFLAGS) -Iinclude -o $@ $(TOOL_SOURCES) $(LIB)
 	@echo '$@ is ready.' >&2
 
-# PREFIX may be relative: the pkg-config file has it absolute
-TO := $(abspath $(PREFIX))
-# bin/mulgreddi-listing runs the listing program, and tells where its input cannot be read or its listing not be written
+# both names come by the environment as they are: blanks and quotes in them mean nothing
+install uninstall: export MULGREDDI_PREFIX = $(PREFIX)
+install uninstall: export MULGREDDI_DESTDIR = $(DESTDIR)
 install: $(LIB) $(SHARED) $(TOOL) $(PROGRAM)
-	@install -d $(addprefix $(DESTDIR)$(TO)/,bin include lib/pkgconfig libexec/mulgreddi share/man/man1 share/bash-completion/completions)
-	@install -m 755 $(TOOL) tools/mulgreddi-listing $(DESTDIR)$(TO)/bin
-	@install -m 755 $(PROGRAM) $(DESTDIR)$(TO)/libexec/mulgreddi/listing
-	@install -m 644 include/mulgreddi.h $(DESTDIR)$(TO)/include/mulgreddi.h
-	@install -m 644 $(LIB) $(DESTDIR)$(TO)/lib/libmulgreddi.a
-	@install -m 755 $(SHARED) $(DESTDIR)$(TO)/lib
-	@ln -sf $(notdir $(SHARED)) $(DESTDIR)$(TO)/lib/$(SONAME)
-	@ln -sf $(SONAME) $(DESTDIR)$(TO)/lib/libmulgreddi.so
-	@printf '%s\n' 'prefix=$(TO)' 'Name: mulgreddi' 'Description: unambiguous Büchi automata from alternating weak ones' 'Version: $(VERSION)' \
-	    'Cflags: -I$${prefix}/include' 'Libs: -L$${prefix}/lib -lmulgreddi' > $(DESTDIR)$(TO)/lib/pkgconfig/mulgreddi.pc
-	@sed 's/@VERSION@/$(VERSION)/' docs/mulgreddi.1 > $(DESTDIR)$(TO)/share/man/man1/mulgreddi.1
-	@install -m 644 tools/completion.bash $(DESTDIR)$(TO)/share/bash-completion/completions/mulgreddi
-	@echo 'mulgreddi $(VERSION) is installed in $(DESTDIR)$(TO).' >&2
+	@tools/install.sh install $(BUILD) $(VERSION)
 
 uninstall:
-	@rm -f $(addprefix $(DESTDIR)$(TO)/,bin/mulgreddi bin/mulgreddi-listing include/mulgreddi.h lib/libmulgreddi.a lib/pkgconfig/mulgreddi.pc \
-	    lib/libmulgreddi.so lib/$(SONAME) lib/$(notdir $(SHARED)) libexec/mulgreddi/listing share/man/man1/mulgreddi.1 \
-	    share/bash-completion/completions/mulgreddi)
-	@rmdir $(DESTDIR)$(TO)/libexec/mulgreddi 2> /dev/null || true
+	@tools/install.sh uninstall $(BUILD) $(VERSION)
 
 help:
 	@sed -n 's/^#   //p' Makefile
@@ -115,7 +93,7 @@ help:
 # on standard output is the listing alone
 $(PROGRAM): $(SOURCES)
 	@echo 'Proving and compiling the listing program: about a minute after the library. A line for each crate follows.' >&2
-	@$(QUIETLY)/listing rt check listing
+	@$(QUIETLY)/listing $(RT) check listing
 	@cp target/bin/listing $@
 	@echo '$@ is ready; $(BUILD)/log has all that was printed.' >&2
 
@@ -173,7 +151,7 @@ $(BUILD)/reference02: bench/reference02.cpp
 # steps back from all cores of a rule, and nothing else
 STEP_BACK := target/bin/bench_step_back
 $(STEP_BACK): $(SOURCES)
-	rt check bench_step_back
+	$(RT) check bench_step_back
 
 # the pairs of rules that are compared, new and old; compare/src/bin/speed.rs has the same
 COMPARED := strict_1 strict_1 strict_1 strict_1_less strict_8 strict_8 strict_8 strict_8_less \
@@ -232,6 +210,7 @@ check-tool: $(TOOL) $(SHARED) $(PROGRAM) $(BUILD)/stack $(BUILD)/spelling $(BUIL
 	$(BUILD)/stack $(wildcard examples/[A-Z].rule) bench/and_71_s16.rule bench/cap_62_s16.rule
 	tests/shared.sh $(BUILD)/shared $(SHARED) $(SONAME) $(BUILD)/symbols include/mulgreddi.h
 	MAKE='$(MAKE)' tests/install.sh $(BUILD)/installed $(VERSION) $(SONAME)
+	MAKE='$(MAKE)' tests/places.sh
 
 $(BUILD)/spelling: tests/spelling.c tools/spelling.c tools/tool.h include/mulgreddi.h $(LIB)
 	$(CC) $(CFLAGS) -Iinclude -Itools -o $@ tests/spelling.c tools/spelling.c $(LIB)
@@ -263,8 +242,7 @@ quick:
 prove-all:
 	@mkdir -p $(BUILD)/log
 	@rm -f $(LIB) $(PROGRAM)
-	@$(EMPTY_SCRATCH)
-	rt ci 2>&1 | tee $(BUILD)/log/ci
+	$(RT) ci 2>&1 | tee $(BUILD)/log/ci
 
 # The closing line of `rt ci` is printed once more at the very end, where every step has passed: a failure before it leaves make's own line.
 test:
@@ -276,4 +254,3 @@ test:
 
 clean:
 	rm -rf $(BUILD) target
-	@$(EMPTY_SCRATCH)

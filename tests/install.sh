@@ -58,7 +58,5 @@ if command -v c++ > /dev/null; then
 fi
 cd "$here"
 $make --no-print-directory uninstall PREFIX="$folder"
-left=$(find "$folder" -not -type d)
-[ -z "$left" ] || { echo "left after uninstall: $left"; exit 1; }
-rm -rf "$folder"
+[ ! -e "$folder" ] || { echo "left after uninstall: $(find "$folder")"; exit 1; }
 echo "installation: mulgreddi $version, used outside the source tree, and taken away again"
