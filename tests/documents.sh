@@ -14,7 +14,7 @@ code=(README.md docs/PROOF.md docs/HOW.md docs/DECISIONS.md docs/CONTRIBUTING.md
 # ---- names of definitions, theorems, functions and crates
 # all words of the tree without its comments, once each
 words=build/documents/words
-{ find crates -name '*.antt' -exec sed 's/--.*//' {} +; find crates -name '*.rt' -exec sed 's,//.*,,' {} +; cat include/mulgreddi.h tools/*.[ch] Makefile; } |
+{ find crates -name '*.antt' -exec sed 's/--.*//' {} +; find crates -name '*.rt' -exec sed 's,//.*,,' {} +; cat include/mulgreddi.h tools/*.[ch] tools/install.sh Makefile; } |
     grep -oE "[A-Za-z_][A-Za-z0-9_'′₁₂-]*" | sort -u > "$words"
 sed -n 's/^\([a-z][a-z0-9_]*\):.*/\1/p' crates.txt | sort > build/documents/crates
 sort -u "$words" build/documents/crates > build/documents/known
