@@ -31,7 +31,7 @@ static void tell(live *l, const char *what, mulgreddi_answer a)
     l->left = a.second;
     printf("%s: letters %llu, macrostates %llu%s\n", what, (number)a.first, (number)a.second,
            a.second ? "" : ", no continuation is accepted");
-    fflush(stdout);
+    answered();
 }
 
 static void arrives(live *l, const char *what, unsigned letter)
@@ -75,7 +75,7 @@ static void follow_line(live *l, const char *line)
     else if (back >= 0)
         tell(l, line, mulgreddi_live_return(l->r.file.at, l->r.file.len, (uint32_t)back, l->codes, l->codes_bytes, l->transitions,
                                             l->transitions_bytes, l->state, sizeof l->state, l->set, l->set_len));
-    else if ((letter = letter_of(&l->r, line, strlen(line))) >= 0)
+    else if ((letter = letter_of_line(&l->r, line)) >= 0)
         arrives(l, line, (unsigned)letter);
     else {
         say("%s%s: no letter is written so", l->where, brief(line, WORD_SHOWN));
@@ -145,9 +145,9 @@ const command command_follow = {
     "Follows a log, standard input if none is named, on the rule's trimmed automaton and prints a line for each of\n"
     "its lines: how many letters are held and how many macrostates can still be reached; with none left no\n"
     "continuation is accepted. A line is a letter that arrives, `withdraw` for the last one, `mark N` or `return N`\n"
-    "with N from 0 to 15, or `start` for a new start; a letter with such a name is written by its number. At most 512\n"
-    "letters are held; one more is refused by 30. 0 where a continuation is accepted in the end, 1 where none is, 2\n"
-    "where a line was refused, 3 where one is misspelt; the lines after it are followed all the same.\n"
+    "with N from 0 to 15, or `start` for a new start; a letter with such a name is written in quotes, or by its\n"
+    "number. At most 512 letters are held; one more is refused by 30. 0 where a continuation is accepted in the end,\n"
+    "1 where none is, 2 where a line was refused, 3 where one is misspelt; the lines after it are followed all the same.\n"
     "  --events=EVENTS      the log has events of two bytes each, which become letters by this event table\n",
     1, 2, follow,
 };

@@ -81,7 +81,7 @@ static int judge_word(const rule *r, const table *t, const char *where, const ch
         return FAULT;
     int status = t ? judge_on_table(r, t, where, text, w) : judge_on_rule(r, where, text, w);
     free_word(&w);
-    fflush(stdout);
+    answered();
     return status;
 }
 

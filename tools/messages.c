@@ -90,11 +90,25 @@ int worse(int status, int other)
     return other > status ? other : status;
 }
 
+static void tell_unwritten(void)
+{
+    say("standard output: %s", errno ? strerror(errno) : "not all of it could be written");
+}
+
+void answered(void)
+{
+    errno = 0;
+    if (ferror(stdout) || fflush(stdout) != 0) {
+        tell_unwritten();
+        exit(FAULT);
+    }
+}
+
 int finish(int status)
 {
     errno = 0;
     if (ferror(stdout) || fflush(stdout) != 0 || close(STDOUT_FILENO) != 0) {
-        say("standard output: %s", errno ? strerror(errno) : "not all of it could be written");
+        tell_unwritten();
         return FAULT;
     }
     return status;

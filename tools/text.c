@@ -155,21 +155,33 @@ int hex_digit(uint8_t byte)
     return at ? (int)(at - digits) % 16 : -1;
 }
 
+/* Reads a byte of a quoted name: itself, or what stands behind a \. Answers how many bytes that takes, 0 where it is none. */
+static size_t quoted_byte(const uint8_t *at, size_t left, uint8_t *byte)
+{
+    *byte = at[0];
+    if (at[0] != '\\')
+        return 1;
+    if (left > 1 && (at[1] == '"' || at[1] == '\\')) {
+        *byte = at[1];
+        return 2;
+    }
+    if (left > 3 && at[1] == 'x' && hex_digit(at[2]) >= 0 && hex_digit(at[3]) >= 0) {
+        *byte = (uint8_t)(16 * hex_digit(at[2]) + hex_digit(at[3]));
+        return 4;
+    }
+    return 0;
+}
+
 /* Reads what stands behind a quote, up to the closing one; the name takes its place, where it has room. Answers where it stopped. */
 static size_t read_quoted(text *t, size_t at, size_t end)
 {
-    uint8_t *b = t->file.at;
-    size_t start = at, to = at;
-    for (; at < end && b[at] != '"'; at++) {
-        if (b[at] == '\\' && end - at > 1 && (b[at + 1] == '"' || b[at + 1] == '\\'))
-            b[to++] = b[++at];
-        else if (b[at] == '\\' && end - at > 3 && b[at + 1] == 'x' && hex_digit(b[at + 2]) >= 0 && hex_digit(b[at + 3]) >= 0) {
-            b[to++] = (uint8_t)(16 * hex_digit(b[at + 2]) + hex_digit(b[at + 3]));
-            at += 3;
-        } else if (b[at] == '\\')
+    uint8_t *b = t->file.at, byte;
+    size_t start = at, to = at, taken;
+    for (; at < end && b[at] != '"'; at += taken) {
+        taken = quoted_byte(b + at, end - at, &byte);
+        if (taken == 0)
             fault(t, t->line, "behind a \\ in quotes stands none of \", \\ and x with two hexadecimal digits");
-        else
-            b[to++] = b[at];
+        b[to++] = byte;
     }
     if (at == end)
         fault(t, t->line, "a quoted name does not end");
@@ -229,6 +241,21 @@ int padded(token w, uint8_t *name)
     memset(name, ' ', MULGREDDI_NAME_BYTES);
     memcpy(name, w.at, w.len);
     return 1;
+}
+
+int quoted_name(const char *text, uint8_t *name)
+{
+    const uint8_t *at = (const uint8_t *)text + 1;
+    size_t left = strlen(text) - 1, length = 0, taken;
+    memset(name, ' ', MULGREDDI_NAME_BYTES);
+    for (; left > 0 && *at != '"'; at += taken, left -= taken) {
+        uint8_t byte;
+        taken = quoted_byte(at, left, &byte);
+        if (taken == 0 || length == MULGREDDI_NAME_BYTES)
+            return 0;
+        name[length++] = byte;
+    }
+    return left == 1;
 }
 
 /* Whether a name can stand without quotes: a run of printable bytes that is neither a number nor a keyword. */

@@ -53,6 +53,8 @@ const char *shown(token w);
 
 /* A letter's name of 8 bytes, padded with blanks; 0 where the word is none or is longer. */
 int padded(token w, uint8_t *name);
+/* The name of 8 bytes that a text in quotes is; 0 where it is none or has more bytes. */
+int quoted_name(const char *text, uint8_t *name);
 /* Prints a letter's name of 8 bytes as it stands in a text, without the blanks at its end, in quotes where it needs them. */
 void print_name(FILE *to, const uint8_t *name);
 /* The event table that a text is; a fault, or a refusal, told with its line, ends the program. */

@@ -47,6 +47,8 @@ enum { WORD_SHOWN = 80, PATH_SHOWN = 1000 };
 void print_text(FILE *to, const char *text);
 /* The higher of two exit statuses. */
 int worse(int status, int other);
+/* An answer is out before more is read. Where it cannot be written that is told and ends the program: an input may never end. */
+void answered(void);
 /* The exit status at the end: FAULT, told, where standard output could not be written. */
 int finish(int status);
 /* Long work tells on a terminal's standard error how long it has been going on. */
@@ -143,8 +145,12 @@ typedef struct {
 size_t name_length(const char *name);
 /* Whether a name can stand in a word: it has no blank, comma or colon, does not begin with -, and is no number. */
 int is_plain(const char *name, size_t length);
-/* The letter that a text of this length writes, or -1; r may be NULL. */
+/* The letter with a name of this length, or -1; r may be NULL. */
+int letter_named(const rule *r, const char *name, size_t length);
+/* The letter that a text of this length writes, in a word: a number up to 255, or a name that can stand there; or -1. */
 int letter_of(const rule *r, const char *text, size_t length);
+/* The letter that a line of a log writes: also any other name, as it stands or in quotes as in the text of a rule. */
+int letter_of_line(const rule *r, const char *line);
 /* A letter is written by its name, if it has one that can stand in a word, else by its number. */
 void print_letter(const rule *r, unsigned letter);
 void print_letters(const rule *r, const uint8_t *letters, size_t length);

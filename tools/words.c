@@ -1,5 +1,6 @@
 /* Letters and words, as they are written on the command line and in lines of text. */
 #include "spot.h"
+#include "text.h"
 
 #include <stdlib.h>
 #include <string.h>
@@ -55,20 +56,46 @@ void print_masks(const uint8_t *masks, size_t lead_len, size_t places)
     printf("\n");
 }
 
-int letter_of(const rule *r, const char *text, size_t length)
+int letter_named(const rule *r, const char *name, size_t length)
 {
-    unsigned value = 0;
-    size_t digits = 0;
-    while (digits < length && text[digits] >= '0' && text[digits] <= '9' && value < 256)
-        value = value * 10 + (unsigned)(text[digits++] - '0');
-    if (length > 0 && digits == length)
-        return value < 256 ? (int)value : -1;
     for (unsigned letter = 0; r && letter < r->letters; letter++) {
-        const char *name = mulgreddi_letter_name(r->file.at, r->checked, letter);
-        if (name && length > 0 && name_length(name) == length && memcmp(name, text, length) == 0)
+        const char *own = mulgreddi_letter_name(r->file.at, r->checked, letter);
+        if (own && name_length(own) == length && memcmp(own, name, length) == 0)
             return (int)letter;
     }
     return -1;
+}
+
+/* Whether a text is a number, decimal digits alone; *value becomes what it is, at most 256. */
+static int is_number(const char *text, size_t length, int *value)
+{
+    *value = 0;
+    for (size_t i = 0; i < length; i++) {
+        if (text[i] < '0' || text[i] > '9')
+            return 0;
+        *value = *value * 10 + (text[i] - '0');
+        *value = *value > 256 ? 256 : *value;
+    }
+    return length > 0;
+}
+
+int letter_of(const rule *r, const char *text, size_t length)
+{
+    int value;
+    if (is_number(text, length, &value))
+        return value < 256 ? value : -1;
+    return is_plain(text, length) ? letter_named(r, text, length) : -1;
+}
+
+int letter_of_line(const rule *r, const char *line)
+{
+    uint8_t name[MULGREDDI_NAME_BYTES];
+    int value;
+    if (line[0] == '"')
+        return quoted_name(line, name) ? letter_named(r, (const char *)name, name_length((const char *)name)) : -1;
+    if (is_number(line, strlen(line), &value))
+        return value < 256 ? value : -1;
+    return letter_named(r, line, strlen(line));
 }
 
 /* Reads letters from text up to its end or a colon, with commas between them; answers where it stopped, NULL where a letter is misspelt. */

@@ -134,7 +134,7 @@ pub fn words(line: &[u8]) -> Option<Vec<Word>> {
 /// The bytes of a quoted name, and what follows its end. "In it `\"` is the byte
 /// `"`, `\\` the byte `\`, and `\x` with two hexadecimal digits, small or
 /// capital, any byte. No other `\` may stand there."
-fn quoted(mut rest: &[u8]) -> Option<(Vec<u8>, &[u8])> {
+pub fn quoted(mut rest: &[u8]) -> Option<(Vec<u8>, &[u8])> {
     let mut name = Vec::new();
     loop {
         rest = match rest {

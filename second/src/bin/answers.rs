@@ -12,7 +12,7 @@ use second::choices::{judge_choices, FALSE};
 use second::event_text;
 use second::events::{translate, LINE};
 use second::hoa::{read_hoa, write_hoa, ACCEPTING, INITIAL};
-use second::lines::{is_whole, lines};
+use second::lines::{is_whole, lines, quoted};
 use second::live::{Lent, Log};
 use second::mixed::mixed_loop;
 use second::names::Name;
@@ -93,11 +93,16 @@ fn shown(path: &str) -> String {
     path.chars().map(escaped).collect()
 }
 
+/// A text without the blanks and tabs around it.
+fn unblanked(text: &str) -> &str {
+    text.trim_matches([' ', '\t'])
+}
+
 /// The lines of a text that are not blank; none for one that cannot be read.
 fn text_lines(text: &[u8]) -> Vec<Option<String>> {
     let lines = lines(text)
         .into_iter()
-        .map(|(_, line)| is_whole(line).then(|| String::from_utf8_lossy(line).trim().to_string()));
+        .map(|(_, line)| is_whole(line).then(|| unblanked(&String::from_utf8_lossy(line)).to_string()));
     lines.filter(|line| line.as_deref() != Some("")).collect()
 }
 
@@ -111,16 +116,20 @@ fn trimmed(name: &Name) -> String {
     String::from_utf8_lossy(name).trim_end().to_string()
 }
 
+/// "A name that has a blank, a comma or a colon in it, begins with - or is a
+/// number is not used there." Nor is one that is empty.
+fn in_words(name: &str) -> bool {
+    !name.is_empty()
+        && !name.starts_with('-')
+        && !name.contains([' ', ',', ':'])
+        && !name.bytes().all(|byte| byte.is_ascii_digit())
+}
+
 /// A letter as it is printed: by its name, or by its number where there is no
 /// name or it cannot stand in a word.
 fn letter(names: &Option<Vec<Name>>, letter: u8) -> String {
     let name = names.as_ref().and_then(|names| names.get(letter as usize));
-    let name = name.map(trimmed).filter(|name| {
-        !name.is_empty()
-            && !name.starts_with('-')
-            && !name.contains([' ', ',', ':'])
-            && !name.bytes().all(|byte| byte.is_ascii_digit())
-    });
+    let name = name.map(trimmed).filter(|name| in_words(name));
     name.unwrap_or(letter.to_string())
 }
 
@@ -139,23 +148,46 @@ fn number(text: &str) -> Option<usize> {
     digits.then(|| text.parse().unwrap_or(usize::MAX))
 }
 
-/// A letter as it is written, by number or by name. It is a byte: a number over
-/// 255 is none.
-fn read_letter(names: &Option<Vec<Name>>, text: &str) -> Option<u8> {
+/// The letter with a name.
+fn named(names: &Option<Vec<Name>>, text: &str) -> Option<u8> {
     let mut own = names.iter().flatten();
-    let named = own.position(|name| trimmed(name) == text);
-    u8::try_from(number(text).or(named)?).ok()
+    let letter = own.position(|name| trimmed(name) == text)?;
+    u8::try_from(letter).ok()
+}
+
+/// A letter as it is written in a word, by number or by name. It is a byte: a
+/// number over 255 is none.
+fn read_letter(names: &Option<Vec<Name>>, text: &str) -> Option<u8> {
+    match number(text) {
+        Some(number) => u8::try_from(number).ok(),
+        None => named(names, text).filter(|_| in_words(text)),
+    }
+}
+
+/// A letter as a line of a log: "by its number, by its name as it stands, or by
+/// its name in quotes".
+fn line_letter(names: &Option<Vec<Name>>, line: &str) -> Option<u8> {
+    if let Some(rest) = line.strip_prefix('"') {
+        let (name, rest) = quoted(rest.as_bytes())?;
+        let name = (rest.is_empty() && name.len() <= 8).then_some(name)?;
+        let name = String::from_utf8(name).ok()?;
+        return named(names, name.trim_end_matches(' '));
+    }
+    match number(line) {
+        Some(number) => u8::try_from(number).ok(),
+        None => named(names, line),
+    }
 }
 
 /// A word as it is written, LEAD:CYCLE; none for what is no word.
 fn read_word(names: &Option<Vec<Name>>, text: &str) -> Option<(Vec<u8>, Vec<u8>)> {
     let part = |text: &str| -> Option<Vec<u8>> {
-        if text.trim().is_empty() {
+        if unblanked(text).is_empty() {
             return Some(Vec::new());
         }
         let letters = text.split(',');
         letters
-            .map(|text| read_letter(names, text.trim()))
+            .map(|text| read_letter(names, unblanked(text)))
             .collect()
     };
     let (lead, cycle) = text.split_once(':')?;
@@ -582,7 +614,7 @@ fn call(log: &mut Log, lent: &Lent, names: &Option<Vec<Name>>, line: &str) -> Re
     } else if let Some(mark) = mark("return ") {
         log.back(lent, mark)
     } else {
-        log.arrive(lent, read_letter(names, line).ok_or(FAULT)?)
+        log.arrive(lent, line_letter(names, line).ok_or(FAULT)?)
     };
     answer.map_err(refused)
 }
