@@ -184,7 +184,7 @@ TRANSCRIPTS := $(wildcard tests/tool/*.txt)
 # usage.txt and streams.txt are about the command line alone: options and help, descriptors, devices and what is left of files
 OWN := tests/tool/usage.txt tests/tool/streams.txt
 # the second program cannot answer these yet
-OWN += tests/tool/text.txt
+OWN += tests/tool/text.txt tests/tool/combine.txt
 check-tool: $(TOOL) $(SHARED) $(PROGRAM) $(BUILD)/stack $(BUILD)/spelling $(BUILD)/shared $(BUILD)/random_rules
 	tests/tool/run.sh $(TOOL) examples $(BUILD)/transcripts $(TRANSCRIPTS)
 	awk '/^<!-- session/ { on = 1 } /^<!-- end/ { on = 0 } on && sub(/^    /, "")' README.md > $(BUILD)/README.txt
@@ -201,6 +201,10 @@ check-tool: $(TOOL) $(SHARED) $(PROGRAM) $(BUILD)/stack $(BUILD)/spelling $(BUIL
 	tests/listings.sh $(TOOL) $(PROGRAM) $(wildcard examples/*.rule) compare/data/room_m512.rule compare/data/room_t4096.rule
 	tests/synopsis.sh $(TOOL) docs/mulgreddi.1
 	tests/completion.sh $(TOOL) tools/completion.bash
+	rm -rf $(BUILD)/small
+	mkdir -p $(BUILD)/small
+	$(BUILD)/random_rules $(BUILD)/small 30 4 2
+	tests/combine.sh $(TOOL) $(SECOND_TOOL) $(BUILD)/small
 	$(BUILD)/spelling
 	tests/refusals.sh include/mulgreddi.h
 	tests/rules.sh $(TOOL) $(BUILD)/chance docs examples

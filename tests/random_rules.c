@@ -1,4 +1,5 @@
-/* random_rules FOLDER COUNT: writes so many random rule files to FOLDER, 0.rule and on, and beside each an event table for it, 0.events.
+/* random_rules FOLDER COUNT [STATES LETTERS]: writes so many random rule files to FOLDER, 0.rule and on, and beside each an event table for it,
+ * 0.events. With STATES and LETTERS they have at most so many states, exactly so many letters and no names.
  * They are the same at each run. The library writes the rules and judges the tables, so all are accepted; names have every byte that a
  * name may have and the words of the text form, and some rules have a preface of other bytes. */
 #include <mulgreddi.h>
@@ -8,6 +9,7 @@
 #include <string.h>
 
 static uint64_t seed = 1;
+static unsigned most_states, all_letters; /* 0: any */
 
 /* A number below `bound`, by splitmix64. */
 static unsigned below(unsigned bound)
@@ -49,9 +51,9 @@ static unsigned random_entry(unsigned allowed, uint8_t *clauses)
 static size_t random_rule(uint8_t *file)
 {
     uint8_t counts[128], clauses[1024], names[128], *to = file;
-    unsigned n = 1 + below(8), s = 1 + below(16), part = below(n), all = (1u << n) - 1, lower = (1u << part) - 1;
+    unsigned n = 1 + below(most_states ? most_states : 8), s = all_letters ? all_letters : 1 + below(16), part = below(n), all = (1u << n) - 1, lower = (1u << part) - 1;
     unsigned accepting = (below(2) ? lower : 0) | (below(2) ? all & ~lower : 0);
-    size_t clauses_len = 0, names_len = below(3) ? 8 * s : 0;
+    size_t clauses_len = 0, names_len = !all_letters && below(3) ? 8 * s : 0;
     for (unsigned letter = 0; letter < s; letter++)
         random_name(names + 8 * letter);
     for (unsigned entry = 0; entry < n * s; entry++) {
@@ -105,8 +107,12 @@ static void save(const char *folder, unsigned number, const char *kind, const ui
 int main(int argc, char **argv)
 {
     uint8_t file[MULGREDDI_RULE_MAX + 20], events[MULGREDDI_EVENTS_MAX + 10];
-    if (argc != 3)
+    if (argc != 3 && argc != 5)
         return 2;
+    if (argc == 5) {
+        most_states = (unsigned)atoi(argv[3]);
+        all_letters = (unsigned)atoi(argv[4]);
+    }
     for (unsigned number = 0, count = (unsigned)atoi(argv[2]); number < count;) {
         size_t length = random_rule(file);
         if (length == 0)

@@ -1,4 +1,4 @@
-/* Commands on rule files: check, tidy, loop, same, stricter. */
+/* Commands on rules: check, tidy, loop, same. */
 #define _XOPEN_SOURCE 700
 #include "spot.h"
 
@@ -25,7 +25,7 @@ static int check_file(const char *path)
         return status;
     mulgreddi_answer a = mulgreddi_check(file.at, file.len);
     status = a.refusal ? refused(file.path, a.refusal, &file) : YES;
-    if (status == YES) {
+    if (status == YES && !option("quiet")) {
         print_text(stdout, file.path);
         printf(": states %u, letters %u, initial ", mulgreddi_states(file.at, file.len), mulgreddi_letters(file.at, file.len));
         print_state(stdout, names_of_states(&file), mulgreddi_initial_state(file.at, file.len));
@@ -52,9 +52,10 @@ static int check(int count, char **operand)
 }
 
 const command command_check = {
-    "check", "FILE..", "",
+    "check", "[--quiet] FILE..", "quiet",
     "Reads rule files and prints, a line each: states, letters, initial state, accepting states, number of\n"
-    "clauses, length of the preface in bytes, names of the letters. 0 where all are accepted.\n",
+    "clauses, length of the preface in bytes, names of the letters. 0 where all are accepted.\n"
+    "  --quiet              prints nothing of files that are accepted\n",
     1, 4096, check,
 };
 
@@ -126,72 +127,7 @@ static int same(int count, char **operand)
 
 const command command_same = {
     "same", "FILE FILE", "",
-    "Prints whether two files are the same rule: `same` (0) or `different` (1).\n",
+    "Prints whether two files are the same rule: `same` (0) or `different` (1). It compares tables: states, entries and\n"
+    "names. Two rules that accept the same words by other tables are different here; `equal` compares words.\n",
     2, 2, same,
-};
-
-/* Prints the word that tells two rules apart, in its tidy spelling, and tells where it is too long to be judged. */
-static void print_against(const rule *r, uint8_t *letters, mulgreddi_comparison c)
-{
-    word w = {c.lead, c.cycle, letters, letters + c.lead};
-    tidy_spelling(&w);
-    print_word(r, w);
-    printf("\n");
-    if (w.lead_len > MULGREDDI_LEAD_MAX || w.cycle_len > MULGREDDI_CYCLE_MAX)
-        say("the word is longer than `judge` takes: a lead-in of %zu letters and a cycle of %zu, where each may have %d", w.lead_len,
-            w.cycle_len, MULGREDDI_LEAD_MAX);
-}
-
-/* Letters are compared by their numbers: tells where two rules name one otherwise. */
-static void tell_other_names(const rule *a, const rule *b)
-{
-    const char *path_a = brief(a->file.path, PATH_SHOWN), *path_b = brief(b->file.path, PATH_SHOWN);
-    if (!a->checked.second != !b->checked.second)
-        say("letters are compared by number: %s has names for them, %s has none", a->checked.second ? path_a : path_b,
-            a->checked.second ? path_b : path_a);
-    for (unsigned letter = 0; a->checked.second && b->checked.second && letter < a->letters; letter++) {
-        const char *x = mulgreddi_letter_name(a->file.at, a->checked, letter), *y = mulgreddi_letter_name(b->file.at, b->checked, letter);
-        if (memcmp(x, y, MULGREDDI_NAME_BYTES) != 0)
-            say("letters are compared by number: %u is \"%.*s\" in %s and \"%.*s\" in %s", letter, (int)name_length(x), x, path_a,
-                (int)name_length(y), y, path_b);
-    }
-}
-
-static int stricter(int count, char **operand)
-{
-    static uint64_t codes_b[MULGREDDI_MACROSTATES_MAX], transitions_b[MULGREDDI_TRANSITIONS_MAX];
-    rule a = open_rule(operand[0]), b = open_rule(operand[1]);
-    (void)count;
-    mulgreddi_answer x = build_of(&a), y = mulgreddi_build_rejecting(b.file.at, b.file.len, codes_b, MULGREDDI_MACROSTATES_MAX, transitions_b,
-                                                                  MULGREDDI_TRANSITIONS_MAX);
-    if (a.letters != b.letters)
-        return refused(b.file.path, MULGREDDI_OTHER_LETTERS, NULL);
-    tell_other_names(&a, &b);
-    if (x.refusal)
-        return refused(a.file.path, x.refusal, NULL);
-    if (y.refusal)
-        return refused(b.file.path, y.refusal, NULL);
-    size_t pairs = x.first * y.first;
-    uint8_t *letters = room(3 * pairs), *scratch = room(pairs);
-    begin_work("comparing");
-    mulgreddi_comparison c = mulgreddi_stricter(a.file.at, a.file.len, b.file.at, b.file.len, codes, MULGREDDI_MACROSTATES_MAX, transitions,
-                                                MULGREDDI_TRANSITIONS_MAX, codes_b, MULGREDDI_MACROSTATES_MAX, transitions_b,
-                                                MULGREDDI_TRANSITIONS_MAX, letters, 3 * pairs, scratch, pairs);
-    end_work();
-    if (c.refusal)
-        return refused(b.file.path, c.refusal, NULL);
-    if (c.stricter) {
-        printf("stricter\n");
-        return YES;
-    }
-    printf("not stricter: ");
-    print_against(&a, letters, c);
-    return NO;
-}
-
-const command command_stricter = {
-    "stricter", "NEW OLD", "",
-    "Prints whether every word that the rule NEW accepts, of any length, is accepted by the rule OLD: `stricter`\n"
-    "(0), or `not stricter` and a word that NEW accepts and OLD rejects (1).\n",
-    2, 2, stricter,
 };

@@ -4,7 +4,7 @@
 
 #include <string.h>
 
-static const char *const shown_states[MULGREDDI_STATES_MAX] = {"s0", "s1", "s2", "s3", "s4", "s5", "s6", "s7"};
+const char *const numbered_states[MULGREDDI_STATES_MAX] = {"s0", "s1", "s2", "s3", "s4", "s5", "s6", "s7"};
 
 static int same_clauses(const layout *l, unsigned state, unsigned one, unsigned other)
 {
@@ -53,7 +53,7 @@ static void print_entries(const layout *l, unsigned state)
     }
 }
 
-static void print_rule(const layout *l)
+void print_rule(const layout *l)
 {
     if (l->preface)
         printf("# preface bytes that are not names, left out here: %zu\n", l->preface);
@@ -87,7 +87,7 @@ static int show(int count, char **operand)
     if (laid_out(refusal)) {
         layout l = layout_of(&file);
         if (!l.state_names)
-            l.state_names = shown_states;
+            l.state_names = numbered_states;
         print_rule(&l);
     }
     return refusal ? refused(file.path, refusal, &file) : YES;

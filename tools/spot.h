@@ -18,6 +18,10 @@ layout layout_of(const bytes *file);
 const uint8_t *clauses_of(const layout *l, unsigned state, unsigned letter);
 /* Prints a clause: as a set of numbers, or in a text by the names of its states. */
 void print_clause(FILE *to, const layout *l, unsigned clause);
+/* Prints the text of a rule, which `write` reads; its states have names. */
+void print_rule(const layout *l);
+/* The names of states that have none: s0, s1 and on. */
+extern const char *const numbered_states[MULGREDDI_STATES_MAX];
 /* The states of the shortest mixed loop, at most MULGREDDI_LONGEST_LOOP; answers how many, 0 where there is none. */
 size_t mixed_loop(const layout *l, uint8_t *loop);
 /* Prints the states of a loop, each as accepting or rejecting. */

@@ -23,8 +23,8 @@ typedef struct {
 } command;
 
 extern const command command_check, command_list, command_hoa, command_read_hoa, command_judge, command_build, command_sheet, command_tidy,
-    command_loop, command_same, command_stricter, command_same_word, command_tidy_word, command_translate, command_follow, command_show,
-    command_write, command_show_events, command_write_events;
+    command_loop, command_and, command_or, command_not, command_same, command_equal, command_stricter, command_same_word, command_tidy_word,
+    command_translate, command_follow, command_show, command_write, command_show_events, command_write_events;
 
 /* The command that is run. */
 extern const command *running;
