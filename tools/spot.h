@@ -41,4 +41,13 @@ size_t event_spot(const rule *r, const uint8_t *events, size_t events_len, uint6
 /* Tells a refusal of an event table or of a log (25 to 27) with its spot. Answers REFUSED. */
 int events_refused(const rule *r, const bytes *events, const bytes *log, uint64_t refusal);
 
+/* ---- why (why.c) */
+
+/* The letter at a place of a word. */
+unsigned letter_at(word w, size_t place);
+/* Prints why a word is rejected, whose masks these are: one way along claims that fail. */
+void print_why_rejected(const rule *r, word w, const uint8_t *masks);
+/* For each place of a word that is accepted, the states that the choices lead to from the initial one. */
+void reached_by_choices(const rule *r, word w, const uint8_t *choices, uint8_t *reached);
+
 #endif
