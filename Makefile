@@ -185,7 +185,7 @@ TRANSCRIPTS := $(wildcard tests/tool/*.txt)
 OWN := tests/tool/usage.txt tests/tool/streams.txt
 # the second program cannot answer these yet
 OWN += tests/tool/text.txt tests/tool/combine.txt tests/tool/why.txt
-check-tool: $(TOOL) $(SHARED) $(PROGRAM) $(BUILD)/stack $(BUILD)/spelling $(BUILD)/shared $(BUILD)/random_rules
+check-tool: $(TOOL) $(SHARED) $(PROGRAM) $(BUILD)/stack $(BUILD)/spelling $(BUILD)/shared $(BUILD)/random_rules $(BUILD)/faults
 	tests/tool/run.sh $(TOOL) examples $(BUILD)/transcripts $(TRANSCRIPTS)
 	awk '/^<!-- session/ { on = 1 } /^<!-- end/ { on = 0 } on && sub(/^    /, "")' README.md > $(BUILD)/README.txt
 	mkdir -p $(BUILD)/new-folder
@@ -205,6 +205,7 @@ check-tool: $(TOOL) $(SHARED) $(PROGRAM) $(BUILD)/stack $(BUILD)/spelling $(BUIL
 	mkdir -p $(BUILD)/small
 	$(BUILD)/random_rules $(BUILD)/small 30 4 2
 	tests/combine.sh $(TOOL) $(SECOND_TOOL) $(BUILD)/small
+	tests/files.sh $(TOOL) examples $(BUILD)/faults
 	$(BUILD)/spelling
 	tests/refusals.sh include/mulgreddi.h
 	tests/rules.sh $(TOOL) $(BUILD)/chance docs examples
@@ -222,6 +223,10 @@ $(BUILD)/spelling: tests/spelling.c tools/spelling.c tools/tool.h include/mulgre
 $(BUILD)/shared: tests/shared.c include/mulgreddi.h
 	@mkdir -p $(BUILD)
 	$(CC) $(CFLAGS) -Iinclude -o $@ $< -ldl
+
+$(BUILD)/faults: tests/faults.c
+	@mkdir -p $(BUILD)
+	$(CC) $(CFLAGS) -shared -fPIC -o $@ $< -ldl
 
 $(BUILD)/stack: tests/stack.c include/mulgreddi.h $(LIB)
 	$(CC) $(CFLAGS) -pthread -Iinclude -o $@ $< $(LIB)

@@ -100,9 +100,9 @@ fn unblanked(text: &str) -> &str {
 
 /// The lines of a text that are not blank; none for one that cannot be read.
 fn text_lines(text: &[u8]) -> Vec<Option<String>> {
-    let lines = lines(text)
-        .into_iter()
-        .map(|(_, line)| is_whole(line).then(|| unblanked(&String::from_utf8_lossy(line)).to_string()));
+    let lines = lines(text).into_iter().map(|(_, line)| {
+        is_whole(line).then(|| unblanked(&String::from_utf8_lossy(line)).to_string())
+    });
     lines.filter(|line| line.as_deref() != Some("")).collect()
 }
 
