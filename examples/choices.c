@@ -6,6 +6,10 @@
 
 int main(void)
 {
+    if (!mulgreddi_version_serves(mulgreddi_version())) {
+        fprintf(stderr, "the library is version %u, too old or too new for the header, %u\n", (unsigned)mulgreddi_version(), (unsigned)MULGREDDI_VERSION_NUMBER);
+        return 1;
+    }
     /* state 0 (rejecting): stay, or go on to state 1; state 1 (accepting): stay */
     const uint8_t file[] = {0x01, 0x02, 0x02, 0x02, 0x01, 0x02, 0x01, 0x00, 0x02, 0x03, 0x00, 0x41, 0x57};
     const uint8_t cycle[] = {0};

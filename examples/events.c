@@ -20,6 +20,10 @@ static size_t load(const char *folder, const char *name, uint8_t *bytes, size_t 
 
 int main(int argc, char **argv)
 {
+    if (!mulgreddi_version_serves(mulgreddi_version())) {
+        fprintf(stderr, "the library is version %u, too old or too new for the header, %u\n", (unsigned)mulgreddi_version(), (unsigned)MULGREDDI_VERSION_NUMBER);
+        return 1;
+    }
     const char *folder = argc > 1 ? argv[1] : ".";
     uint8_t file[4096], events[320], letters[32], masks[32];
     size_t file_len = load(folder, "I.rule", file, sizeof file);

@@ -25,6 +25,10 @@ static void judge(const uint8_t *file, size_t file_len, const uint8_t *lead, siz
 
 int main(int argc, char **argv)
 {
+    if (!mulgreddi_version_serves(mulgreddi_version())) {
+        fprintf(stderr, "the library is version %u, too old or too new for the header, %u\n", (unsigned)mulgreddi_version(), (unsigned)MULGREDDI_VERSION_NUMBER);
+        return 1;
+    }
     char path[4096];
     snprintf(path, sizeof path, "%s/I.rule", argc > 1 ? argv[1] : ".");
     FILE *f = fopen(path, "rb");

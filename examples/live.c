@@ -70,6 +70,10 @@ static void back(uint32_t number)
 
 int main(int argc, char **argv)
 {
+    if (!mulgreddi_version_serves(mulgreddi_version())) {
+        fprintf(stderr, "the library is version %u, too old or too new for the header, %u\n", (unsigned)mulgreddi_version(), (unsigned)MULGREDDI_VERSION_NUMBER);
+        return 1;
+    }
     const char *folder = argc > 1 ? argv[1] : ".";
 
     /* a log, and a sensor that corrects itself */

@@ -31,6 +31,10 @@ static void say(const char *what, const uint8_t *file, size_t n)
 
 int main(int argc, char **argv)
 {
+    if (!mulgreddi_version_serves(mulgreddi_version())) {
+        fprintf(stderr, "the library is version %u, too old or too new for the header, %u\n", (unsigned)mulgreddi_version(), (unsigned)MULGREDDI_VERSION_NUMBER);
+        return 1;
+    }
     const char *folder = argc > 1 ? argv[1] : ".";
     uint8_t file[4096], out[4096], loop[MULGREDDI_LONGEST_LOOP];
 

@@ -5,6 +5,10 @@
 
 int main(void)
 {
+    if (!mulgreddi_version_serves(mulgreddi_version())) {
+        fprintf(stderr, "the library is version %u, too old or too new for the header, %u\n", (unsigned)mulgreddi_version(), (unsigned)MULGREDDI_VERSION_NUMBER);
+        return 1;
+    }
     const uint8_t counts[] = {1, 1}, clauses[] = {1, 0};
     const uint8_t names[] = "WAIT    GO      ";
     uint8_t named[64], plain[64];

@@ -86,10 +86,12 @@ static void plan(const char *folder, const char *name, const word *w)
     size_t n = 0;
     snprintf(path, sizeof path, "%s/%s", folder, name);
     FILE *f = fopen(path, "rb");
-    if (f) {
-        n = fread(file, 1, sizeof file, f);
-        fclose(f);
+    if (!f) {
+        fprintf(stderr, "%s cannot be read; run: planner FOLDER, the folder of Mulgreddi's examples\n", path);
+        exit(1);
     }
+    n = fread(file, 1, sizeof file, f);
+    fclose(f);
     mulgreddi_answer checked = mulgreddi_check(file, n);
     if (checked.refusal) {
         printf("%s: refused %llu\n", name, (number)checked.refusal);
@@ -123,6 +125,10 @@ static void plan(const char *folder, const char *name, const word *w)
 
 int main(int argc, char **argv)
 {
+    if (!mulgreddi_version_serves(mulgreddi_version())) {
+        fprintf(stderr, "the library is version %u, too old or too new for the header, %u\n", (unsigned)mulgreddi_version(), (unsigned)MULGREDDI_VERSION_NUMBER);
+        return 1;
+    }
     const char *folder = argc > 1 ? argv[1] : ".";
     plan(folder, "F.rule", &(word){2, 1, {0, 1}, {0}});
     plan(folder, "F.rule", &(word){0, 1, {0}, {0}});

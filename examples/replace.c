@@ -75,6 +75,10 @@ static void compare(const char *folder, const char *new_rule, const char *old_ru
 
 int main(int argc, char **argv)
 {
+    if (!mulgreddi_version_serves(mulgreddi_version())) {
+        fprintf(stderr, "the library is version %u, too old or too new for the header, %u\n", (unsigned)mulgreddi_version(), (unsigned)MULGREDDI_VERSION_NUMBER);
+        return 1;
+    }
     const char *folder = argc > 1 ? argv[1] : ".";
     compare(folder, "I.rule", "F.rule"); /* letter 1 again and again for some time letter 1 */
     compare(folder, "E.rule", "F.rule"); /* letter 0 for ever: the one word that some time letter 1 rejects */

@@ -22,6 +22,10 @@ static void spell(const uint8_t *lead, size_t lead_len, const uint8_t *cycle, si
 
 int main(void)
 {
+    if (!mulgreddi_version_serves(mulgreddi_version())) {
+        fprintf(stderr, "the library is version %u, too old or too new for the header, %u\n", (unsigned)mulgreddi_version(), (unsigned)MULGREDDI_VERSION_NUMBER);
+        return 1;
+    }
     const uint8_t zero[] = {0}, one_zero[] = {1, 0}, zero_one[] = {0, 1}, two_one[] = {2, 1}, twice[] = {0, 1, 0, 1};
     spell(zero, 1, one_zero, 2);
     spell(zero, 0, zero_one, 2);

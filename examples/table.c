@@ -8,6 +8,10 @@ static uint8_t scratch[512 * MULGREDDI_PLACES_MAX];
 
 int main(int argc, char **argv)
 {
+    if (!mulgreddi_version_serves(mulgreddi_version())) {
+        fprintf(stderr, "the library is version %u, too old or too new for the header, %u\n", (unsigned)mulgreddi_version(), (unsigned)MULGREDDI_VERSION_NUMBER);
+        return 1;
+    }
     char path[4096];
     uint8_t file[4096];
     snprintf(path, sizeof path, "%s/F.rule", argc > 1 ? argv[1] : ".");

@@ -59,6 +59,23 @@ static void starts(live *l)
                                           l->state, sizeof l->state, l->set, l->set_len));
 }
 
+static int begins_with(const char *line, const char *name)
+{
+    size_t length = strlen(name);
+    return strncmp(line, name, length) == 0 && (line[length] == 0 || line[length] == ' ');
+}
+
+static void misspelt(live *l, const char *line)
+{
+    if (begins_with(line, "mark") || begins_with(line, "return"))
+        say("%s%s: a mark is a number from 0 to 15, as in `mark 3` and `return 3`", l->where, brief(line, WORD_SHOWN));
+    else {
+        say("%s%s: no letter is written so", l->where, brief(line, WORD_SHOWN));
+        tell_letters(&l->r);
+    }
+    faulty(l, FAULT);
+}
+
 /* A line of the log: start, withdraw, mark NUMBER, return NUMBER, or a letter. */
 static void follow_line(live *l, const char *line)
 {
@@ -77,15 +94,14 @@ static void follow_line(live *l, const char *line)
                                             l->transitions_bytes, l->state, sizeof l->state, l->set, l->set_len));
     else if ((letter = letter_of_line(&l->r, line)) >= 0)
         arrives(l, line, (unsigned)letter);
-    else {
-        say("%s%s: no letter is written so", l->where, brief(line, WORD_SHOWN));
-        faulty(l, FAULT);
-    }
+    else
+        misspelt(l, line);
 }
 
 static void follow_lines(live *l, const char *path)
 {
     lines log = open_lines(path);
+    log.no_text = "this is no text with a letter in each line; a log of two bytes an event is followed with --events=EVENTS";
     for (const char *line; (line = next_line(&log, &l->status));) {
         l->where = place(&log);
         follow_line(l, line);

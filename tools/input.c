@@ -90,7 +90,7 @@ bytes load(const char *path)
 
 lines open_lines(const char *path)
 {
-    lines l = {name_of(path), open_to_read(path), 0, room(LINE_MOST + 1)};
+    lines l = {name_of(path), open_to_read(path), 0, room(LINE_MOST + 1), NULL};
     return l;
 }
 
@@ -136,12 +136,25 @@ static const char *read_line(lines *l)
     return nul ? "the line has a zero byte in it" : lone ? "the line has a carriage return in it" : NULL;
 }
 
+/* Whether a text has a control byte in it other than a tab. */
+static int has_control(const char *text)
+{
+    for (; *text; text++)
+        if (((unsigned char)*text < 0x20 && *text != '\t') || *text == 0x7f)
+            return 1;
+    return 0;
+}
+
 char *next_line(lines *l, int *status)
 {
     for (;;) {
         const char *wrong = read_line(l);
         if (!l->text)
             return NULL;
+        if (l->no_text && l->line == 1 && (wrong || has_control(l->text))) {
+            say("%s: %s", brief(l->path, PATH_SHOWN), l->no_text);
+            exit(FAULT);
+        }
         if (wrong) {
             say("%s%s", place(l), wrong);
             *status = FAULT;

@@ -97,7 +97,9 @@ static void take_option(char *text, const char *next)
     if (!known)
         usage("%s: no such option", shown);
     int valued = known[length - 2] == '=';
-    if (valued && (text[length] == 0 || text[length + 1] == 0))
+    if (valued && text[length] == '=' && text[length + 1] == 0)
+        usage("%s takes a value right behind the =, without a blank: write %sVALUE", shown, shown);
+    if (valued && text[length] == 0)
         usage("%s takes a value: write %.*s=%s", shown, (int)length, text, next && next[0] != '-' ? brief(next, WORD_SHOWN) : "VALUE");
     if (!valued && text[length] == '=')
         usage("%s: the option takes no value", shown);
@@ -158,6 +160,10 @@ int main(int argc, char **argv)
     setvbuf(stderr, NULL, _IOLBF, 0);
     /* a file that grows over the limit of its size is one that cannot be written */
     signal(SIGXFSZ, SIG_IGN);
+    if (!mulgreddi_version_serves(mulgreddi_version())) {
+        say("the library is version %u, too old or too new for this program, which is %s", (unsigned)mulgreddi_version(), MULGREDDI_VERSION);
+        return FAULT;
+    }
     if (argc < 2) {
         help(stderr);
         return FAULT;

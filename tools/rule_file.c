@@ -76,6 +76,12 @@ int text_refused(const rule_text *r, uint64_t refusal)
     refused_at(&r->t, line_of(r, refusal, state, letter), refusal, spot);
     if (refusal == MULGREDDI_MIXED)
         tell_steps(r, &l);
+    if (refusal == MULGREDDI_CLAUSE_INSIDE) {
+        unsigned count = l.counts[state * l.letters + letter];
+        const char *cure = memchr(clauses_of(&l, state, letter), 0, count) ? "`true` is met by itself: write `true` and no other clause"
+                                                                           : "leave out the clause that contains the other: it says nothing more";
+        say_at(&r->t, line_of(r, refusal, state, letter), "%s", cure);
+    }
     free(spot);
     free(e.clauses);
     return 1;

@@ -66,6 +66,8 @@ static void read_letters_line(rule_text *r)
 {
     const text *t = &r->t;
     uint32_t letters = (uint32_t)(t->count - 1);
+    if (t->count > 1 && is_sign(t->words[1], ':'))
+        fault(t, t->line, "behind `letters` stands no colon: write `letters WAIT GO`, or `letters 2`");
     if (r->letters_line)
         fault(t, t->line, "`letters` stands a second time; the first is in line %llu", r->letters_line);
     r->letters_line = t->line;
@@ -88,6 +90,9 @@ static void read_state_line(rule_text *r)
 {
     const text *t = &r->t;
     const token *w = t->words;
+    if (t->count > 1 && w[1].kind != SIGN && !is_plain_name(w[1]))
+        fault(t, t->line, "%s is no name for a state: %s; take another", shown(w[1]),
+              w[1].kind == QUOTED ? "it stands in quotes" : is_keyword(w[1]) ? "the word has a meaning of its own" : "it is a number");
     if (t->count != 3 || !is_plain_name(w[1]) || !(is_run(w[2], "accepting") || is_run(w[2], "rejecting")))
         fault(t, t->line, "a state's line is `state NAME accepting` or `state NAME rejecting`");
     if (state_named(r, w[1]) >= 0)
@@ -126,6 +131,13 @@ static size_t clause_end(const token *w, size_t at, size_t count)
     return 0;
 }
 
+/* Tells what to write in place of a parenthesis, where a word that is no state's name has one. */
+static void no_parentheses(const text *t, number line, token w)
+{
+    if (w.kind == RUN && (memchr(w.at, '(', w.len) || memchr(w.at, ')', w.len)))
+        fault(t, line, "%s: there are no parentheses; & binds before |, so a & (b | c) is written a & b | a & c", shown(w));
+}
+
 /* Whether words are clauses: false, or clauses with | between them. */
 static int are_clauses(const token *w, size_t count)
 {
@@ -152,7 +164,7 @@ static unsigned rule_letter(const rule_text *r, token w)
     for (unsigned letter = 0; padded(w, name) && letter < r->names_len / MULGREDDI_NAME_BYTES; letter++)
         if (memcmp(name, r->names + MULGREDDI_NAME_BYTES * letter, sizeof name) == 0)
             return letter;
-    fault(&r->t, r->t.line, "no letter is named %s", shown(w));
+    fault(&r->t, r->t.line, "no letter is named %s: line %llu has them", shown(w), r->letters_line);
 }
 
 /* Gives the letters before the colon their line. */
@@ -212,6 +224,8 @@ static void read_entry_line(rule_text *r)
     size_t count = t->count - colon - 1;
     if (colon == 0)
         fault(t, t->line, "no letter stands before the colon");
+    for (size_t i = 0; i < count && !are_clauses(clauses, count); i++)
+        no_parentheses(t, t->line, clauses[i]);
     if (!are_clauses(clauses, count))
         fault(t, t->line, "behind the colon stands `false`, or clauses with | between them: each is `true`, or names of states with & between them");
     entry_line *line = r->lines + r->lines_count;
@@ -269,8 +283,10 @@ static void resolve_all(rule_text *r)
         if (initial && r->initial_line < r->lines[i].line)
             break;
         const token *unknown = resolve(r, &r->lines[i]);
-        if (unknown)
+        if (unknown) {
+            no_parentheses(t, r->lines[i].line, *unknown);
             fault(t, r->lines[i].line, "no state is named %s", shown(*unknown));
+        }
     }
     if (initial)
         fault(t, r->initial_line, "no state is named %s", shown(r->initial));

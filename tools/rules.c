@@ -41,6 +41,10 @@ int refused(const char *what, uint64_t refusal, const bytes *file)
         file_spot(file, refusal);
     if (file && refusal == MULGREDDI_CLAUSE_INSIDE)
         say("`mulgreddi tidy` drops such clauses");
+    if (refusal == MULGREDDI_MACROSTATE_ROOM)
+        say("the room is 65,536 macrostates; docs/RULES.md, \"The limit\", tells which rules need more and what to do");
+    if (refusal == MULGREDDI_TRANSITION_ROOM)
+        say("the room is 1,048,576 transitions; docs/RULES.md, \"The limit\", tells which rules need more and what to do");
     return REFUSED;
 }
 

@@ -223,6 +223,8 @@ int read_line(text *t)
             end--;
         if (end - start > LINE_MOST)
             fault(t, t->line, "the line has more than 65,536 bytes");
+        if (start == 0 && end >= 3 && memcmp(from, "\xef\xbb\xbf", 3) == 0)
+            fault(t, t->line, "a byte order mark (ef bb bf) stands before the text: save the file as UTF-8 without one");
         if (memchr(from, 0, end - start))
             fault(t, t->line, "the line has a zero byte in it");
         if (memchr(from, '\r', end - start))

@@ -89,6 +89,7 @@ typedef struct {
     FILE *file;
     number line; /* the number of the last line that was read, from 1 */
     char *text;
+    const char *no_text; /* what to say where the first line already has bytes that no text has, and then end; or NULL */
 } lines;
 
 lines open_lines(const char *path);
@@ -151,6 +152,8 @@ int letter_named(const rule *r, const char *name, size_t length);
 int letter_of(const rule *r, const char *text, size_t length);
 /* The letter that a line of a log writes: also any other name, as it stands or in quotes as in the text of a rule. */
 int letter_of_line(const rule *r, const char *line);
+/* Tells once how the letters of a rule are written; r may be NULL. */
+void tell_letters(const rule *r);
 /* A letter is written by its name, if it has one that can stand in a word, else by its number. */
 void print_letter(const rule *r, unsigned letter);
 void print_letters(const rule *r, const uint8_t *letters, size_t length);

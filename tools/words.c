@@ -98,6 +98,26 @@ int letter_of_line(const rule *r, const char *line)
     return letter_named(r, line, strlen(line));
 }
 
+void tell_letters(const rule *r)
+{
+    static int told;
+    char list[MULGREDDI_LETTERS_MAX * (MULGREDDI_NAME_BYTES + 2)], *at = list;
+    if (told++)
+        return;
+    if (!r) {
+        say("a letter is written by its number here, or by its name with --rule=FILE");
+        return;
+    }
+    for (unsigned letter = 0; letter < r->letters; letter++) {
+        const char *name = mulgreddi_letter_name(r->file.at, r->checked, letter), *before = letter ? ", " : "";
+        if (name && is_plain(name, name_length(name)))
+            at += sprintf(at, "%s%.*s", before, (int)name_length(name), name);
+        else
+            at += sprintf(at, "%s%u", before, letter);
+    }
+    say("the letters of %s are %s", brief(r->file.path, PATH_SHOWN), list);
+}
+
 /* Reads letters from text up to its end or a colon, with commas between them; answers where it stopped, NULL where a letter is misspelt. */
 static const char *read_letters(const rule *r, const char *where, const char *whole, const char *text, uint8_t *letters, size_t *count)
 {
@@ -113,7 +133,12 @@ static const char *read_letters(const rule *r, const char *where, const char *wh
         if (letter < 0) {
             char shown[WORD_SHOWN + 1] = {0};
             memcpy(shown, text, length < WORD_SHOWN ? length : WORD_SHOWN);
+            if (length == 0) {
+                say("%sword %s: a letter is missing beside a comma", where, brief(whole, WORD_SHOWN));
+                return NULL;
+            }
             say("%sword %s: no letter is written so: %s%s", where, brief(whole, WORD_SHOWN), shown, length > WORD_SHOWN ? ".." : "");
+            tell_letters(r);
             return NULL;
         }
         letters[(*count)++] = (uint8_t)letter;
