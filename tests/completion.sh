@@ -27,4 +27,7 @@ expect 'one.rule|other.log' judge o
 expect 'two words.rule' build --codes = t
 expect 'one.rule|other.log|two words.rule' build --codes =
 expect '' judge nothing
+# the shell may end at unset variables, and a user may have no HOME
+(set -u; unset HOME; expect 'judge' ju; expect 'one.rule|other.log' judge o)
+(set -u; HOME=$work/my\&home; mkdir -p "$HOME/bin"; ln -s "$tool" "$HOME/bin/mulgreddi"; tool='~/bin/mulgreddi'; expect 'judge' ju)
 echo 'completion: commands, options and files'

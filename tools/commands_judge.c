@@ -1,6 +1,8 @@
 /* The command judge: words on a rule, or on a table that was built of it. */
 #include "spot.h"
 
+#include <limits.h>
+
 /* Prints the states from which the rule accepts at a place, of those in `only`, and the clause that each one takes. */
 static void print_choices_at(const rule *r, const layout *l, size_t place, unsigned letter, const uint8_t *choices, unsigned only)
 {
@@ -154,5 +156,5 @@ const command command_judge = {
     "  --codes=FILE --transitions=FILE\n"
     "                       judges on the table that `build` wrote to these files instead, and prints the\n"
     "                       number of the macrostate where the accepting run begins\n",
-    2, 1 << 20, judge,
+    2, INT_MAX, judge,
 };

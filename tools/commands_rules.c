@@ -2,6 +2,7 @@
 #define _XOPEN_SOURCE 700
 #include "spot.h"
 
+#include <limits.h>
 #include <stdlib.h>
 #include <string.h>
 #include <unistd.h>
@@ -56,7 +57,7 @@ const command command_check = {
     "Reads rule files and prints, a line each: states, letters, initial state, accepting states, number of\n"
     "clauses, length of the preface in bytes, names of the letters. 0 where all are accepted.\n"
     "  --quiet              prints nothing of files that are accepted\n",
-    1, 4096, check,
+    1, INT_MAX, check,
 };
 
 static int tidy(int count, char **operand)

@@ -1,9 +1,11 @@
 # Completion of mulgreddi for bash: commands, their options, and files. It asks `mulgreddi --help`, so it knows what that version knows.
 _mulgreddi()
 {
-    local word=${COMP_WORDS[COMP_CWORD]} help commands
+    local word=${COMP_WORDS[COMP_CWORD]} program=${COMP_WORDS[0]} home=~ help commands
     COMPREPLY=()
-    help=$("${COMP_WORDS[0]/#\~/$HOME}" --help 2> /dev/null) || return 0
+    # bash knows the home of a user who has no HOME
+    if [[ $program == '~/'* ]]; then program=$home/${program#'~/'}; fi
+    help=$("$program" --help 2> /dev/null) || return 0
     commands=$(sed -n 's/^  \([a-z-]*\) .*/\1/p' <<< "$help")
     if [ "$COMP_CWORD" = 1 ]; then
         mapfile -t COMPREPLY < <(compgen -W "$commands help --help --version" -- "$word")

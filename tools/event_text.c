@@ -49,7 +49,7 @@ static uint8_t event_letter(const text *t, const rule *r, token w)
     for (unsigned letter = 0; padded(w, name) && letter < r->checked.second / MULGREDDI_NAME_BYTES; letter++)
         if (memcmp(name, mulgreddi_letter_name(r->file.at, r->checked, letter), sizeof name) == 0)
             return (uint8_t)letter;
-    fault(t, t->line, "no letter of %s is named %s%s", r->file.path, shown(w),
+    fault(t, t->line, "no letter of %s is named %s%s", brief(r->file.path, PATH_SHOWN), shown(w),
           r->checked.second ? "" : ": its letters have no names; write the number");
 }
 

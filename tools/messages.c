@@ -10,14 +10,29 @@
 #include <sys/time.h>
 #include <unistd.h>
 
-/* How many bytes the character of a UTF-8 text takes that begins here; 0 where it is none, or a control character. */
+/* Characters that are not seen, end a line or turn the direction of what follows: a name with one is read as another. */
+static int is_seen(unsigned code)
+{
+    static const unsigned unseen[][2] = {{0, 0x1f}, {0x7f, 0x9f}, {0x61c, 0x61c}, {0x200b, 0x200f}, {0x2028, 0x202e}, {0x2060, 0x206f},
+                                         {0xfeff, 0xfeff}, {0xfff9, 0xfffb}, {0xe0000, 0xe007f}};
+    for (size_t i = 0; i < sizeof unseen / sizeof *unseen; i++)
+        if (unseen[i][0] <= code && code <= unseen[i][1])
+            return 0;
+    return 1;
+}
+
+/* How many bytes the character of a UTF-8 text takes that begins here; 0 where it is none, or not seen. */
 static int character(const unsigned char *at)
 {
-    int length = at[0] < 0x80 ? 1 : at[0] >= 0xc2 && at[0] < 0xe0 ? 2 : at[0] >= 0xe0 && at[0] < 0xf0 ? 3 : at[0] >= 0xf0 && at[0] < 0xf5 ? 4 : 0;
-    for (int i = 1; i < length; i++)
+    static const unsigned least[] = {0, 0, 0x80, 0x800, 0x10000}; /* what so many bytes are needed for */
+    int length = at[0] < 0x80 ? 1 : at[0] >= 0xc0 && at[0] < 0xe0 ? 2 : at[0] >= 0xe0 && at[0] < 0xf0 ? 3 : at[0] >= 0xf0 && at[0] < 0xf8 ? 4 : 0;
+    unsigned code = length > 1 ? at[0] & (0x7fu >> length) : at[0];
+    for (int i = 1; i < length; i++) {
         if ((at[i] & 0xc0) != 0x80)
             return 0;
-    if (at[0] < 0x20 || at[0] == 0x7f || (at[0] == 0xc2 && at[1] < 0xa0))
+        code = code << 6 | (at[i] & 0x3f);
+    }
+    if (length == 0 || code < least[length] || code > 0x10ffff || (code >= 0xd800 && code <= 0xdfff) || !is_seen(code))
         return 0;
     return length;
 }
@@ -35,7 +50,7 @@ void print_text(FILE *to, const char *text)
 
 const char *brief(const char *text, size_t most)
 {
-    enum { TEXTS = 4, SIZE = 1100 };
+    enum { TEXTS = 4, SIZE = PLACE_SHOWN + 100 };
     static char ring[TEXTS][SIZE];
     static int next;
     size_t length = strlen(text);

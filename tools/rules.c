@@ -36,7 +36,7 @@ int refused(const char *what, uint64_t refusal, const bytes *file)
 {
     if (file && file->text && text_refused(file->text, refusal))
         return REFUSED;
-    say("%s: refused %llu: %s", what, (number)refusal, mulgreddi_refusal_text(refusal));
+    say("%s: refused %llu: %s", brief(what, PLACE_SHOWN), (number)refusal, mulgreddi_refusal_text(refusal));
     if (file && !file->text)
         file_spot(file, refusal);
     if (file && refusal == MULGREDDI_CLAUSE_INSIDE)

@@ -40,10 +40,11 @@ void say(const char *format, ...);
 _Noreturn void usage(const char *format, ...);
 /* A file that cannot be read or written ends the program, with what errno tells. */
 _Noreturn void cannot(const char *path);
-/* Of a text in a message at most so many bytes are shown (1,000 at the most), and then its length. The answer is good for three calls more. */
+/* Of a text in a message at most so many bytes are shown (PLACE_SHOWN at the most), and then its length. The answer is good for three calls
+ * more. */
 const char *brief(const char *text, size_t most);
-enum { WORD_SHOWN = 80, PATH_SHOWN = 1000 };
-/* Prints a text with its control bytes as \xHH, as messages are printed. */
+enum { WORD_SHOWN = 80, PATH_SHOWN = 1000, PLACE_SHOWN = 1300 }; /* a place is a path with a line, or with a word */
+/* Prints a text as messages are printed: bytes as \xHH that are no UTF-8, or characters that are not seen. */
 void print_text(FILE *to, const char *text);
 /* The higher of two exit statuses. */
 int worse(int status, int other);

@@ -81,13 +81,25 @@ fn store(printed: &mut Printed, path: &str, bytes: &[u8]) {
     }
 }
 
-/// A path as it is printed, control bytes escaped.
+/// Characters that are not seen, end a line or turn what follows.
+fn is_unseen(c: char) -> bool {
+    c.is_control()
+        || matches!(c, '\u{61c}' | '\u{200b}'..='\u{200f}' | '\u{2028}'..='\u{202e}')
+        || matches!(c, '\u{2060}'..='\u{206f}' | '\u{feff}' | '\u{fff9}'..='\u{fffb}')
+        || matches!(c, '\u{e0000}'..='\u{e007f}')
+}
+
+/// A path as it is printed, the bytes of characters that are not seen escaped.
 fn shown(path: &str) -> String {
     if path == "-" {
         return "standard input".to_string();
     }
-    let escaped = |c: char| match c.is_ascii_control() {
-        true => format!("\\x{:02x}", c as u32),
+    let escaped = |c: char| match is_unseen(c) {
+        true => c
+            .to_string()
+            .bytes()
+            .map(|b| format!("\\x{b:02x}"))
+            .collect(),
         false => c.to_string(),
     };
     path.chars().map(escaped).collect()
