@@ -36,6 +36,17 @@ for program in ./mulgreddi "$at/bin/mulgreddi"; do
 done
 unset LD_LIBRARY_PATH
 [ "$("$at/bin/mulgreddi" judge F.rule 0,1:0)" = "0,1:0 yes masks 01,01:00" ]
+# README's commands for a program in C, where its $HOME/mulgreddi is what was installed
+mkdir home
+ln -s "$at" home/mulgreddi
+ln -s "$here/examples" examples
+commands=$(awk '/^<!-- program/ { on = 1 } /^<!-- end/ { on = 0 } on && sub(/^    \$ /, "")' "$here/README.md")
+[ -n "$commands" ]
+if command -v pkg-config > /dev/null; then
+    diff <(HOME=$work/home bash -euc "$commands") "$here/examples/planner.expected"
+    if ./planner nowhere > out 2> said; then echo 'planner without its folder: status 0'; exit 1; fi
+    grep -q '^nowhere/F.rule cannot be read; run: planner FOLDER' said
+fi
 listing=$at/bin/mulgreddi-listing
 diff <("$listing" < F.rule) <("$at/bin/mulgreddi" list F.rule)
 # what cannot be read or written is status 3; a long input is read as far as the listing needs it, a reader may stop early
