@@ -90,9 +90,9 @@ if [ "$(id -u)" = 0 ] && command -v setpriv > /dev/null; then
     chmod 777 folder
     by() { expect 0 setpriv --reuid=54321 --regid=54321 "$@" "$tool" hoa --out=folder/x F.rule; }
     echo old > folder/x
-    chown 0:65432 folder/x
     chmod 666 folder/x
-    if setpriv --reuid=54321 --regid=54321 --clear-groups test -x "$tool" -a -w folder; then
+    # a container may lack these rights
+    if { chown 0:65432 folder/x && setpriv --reuid=54321 --regid=54321 --clear-groups test -x "$tool" -a -w folder; } 2> /dev/null; then
         by --groups=65432
         [ "$(stat -c '%u:%g %a' folder/x)" = '54321:65432 666' ] || fails "the group was not kept: $(stat -c '%u:%g %a' folder/x)"
         chown 0:65432 folder/x
