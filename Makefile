@@ -3,7 +3,7 @@
 #   make shared                the shared library, build/libmulgreddi.so.VERSION
 #   make tool                  the command line, build/mulgreddi
 #   make list < FILE           the listing of a rule file; nothing else is on standard output
-#   make install PREFIX=DIR    command line with completion for bash and man page, listing program, header, both libraries, pkg-config file to DIR (/usr/local)
+#   make install PREFIX=DIR    command line with completion for bash and man page, listing program, chance, header, both libraries, pkg-config file to DIR (/usr/local)
 #   make uninstall PREFIX=DIR  takes them away again
 #   make test                  the gate: quick checks, proofs and must-fail edits, then library, comparison, listings, tables, examples, command line
 #   make quick                 of it the checks that need nothing proved
@@ -46,7 +46,7 @@ ifndef BESIDE
 .NOTPARALLEL:
 endif
 
-.PHONY: lib shared tool install uninstall list listings tables test quick prove-all check-tool bench soak compare second examples clean help
+.PHONY: lib shared tool install uninstall list listings tables test quick prove-all check-tool bench soak compare second examples chances clean help
 
 lib: $(LIB)
 
@@ -81,7 +81,7 @@ $(TOOL): $(TOOL_SOURCES) $(wildcard tools/*.h) include/mulgreddi.h $(LIB)
 # both names come by the environment as they are: blanks and quotes in them mean nothing
 install uninstall: export MULGREDDI_PREFIX = $(PREFIX)
 install uninstall: export MULGREDDI_DESTDIR = $(DESTDIR)
-install: $(LIB) $(SHARED) $(TOOL) $(PROGRAM)
+install: $(LIB) $(SHARED) $(TOOL) $(PROGRAM) $(BUILD)/chance
 	@tools/install.sh install $(BUILD) $(VERSION)
 
 uninstall:
@@ -172,6 +172,15 @@ $(BUILD)/%: examples/%.c include/mulgreddi.h $(LIB)
 # the cookbook tells the chances of its rules, which this example reads off
 check-tool: $(BUILD)/chance
 
+# the chance beside exact fractions, for random rules and weights, many of them small; and what it tells of tables that are not right
+chances: $(BUILD)/chance $(BUILD)/chance_wrong
+	mkdir -p $(BUILD)/chances
+	$(CARGO) run --release --offline --quiet --manifest-path second/Cargo.toml --bin chances -- $(BUILD)/chance $(BUILD)/chances
+	tests/chance_wrong.sh $(BUILD)/chance_wrong examples
+
+$(BUILD)/chance_wrong: tests/chance_wrong.c examples/chance.c include/mulgreddi.h $(LIB)
+	$(CC) $(CFLAGS) -Iinclude -o $@ $< $(LIB)
+
 # each example is run on the rule files beside it, and its output is compared
 examples: $(EXAMPLES)
 	for e in $(EXAMPLES); do $$e examples > $$e.out && diff examples/$$(basename $$e).expected $$e.out || exit 1; done
@@ -181,8 +190,9 @@ examples: $(EXAMPLES)
 # that calls need, and an installation
 SECOND_TOOL := $(BUILD)/cargo/release/answers
 TRANSCRIPTS := $(wildcard tests/tool/*.txt)
-# usage.txt and streams.txt are about the command line alone: options and help, descriptors, devices and what is left of files
-OWN := tests/tool/usage.txt tests/tool/streams.txt
+# usage.txt and streams.txt are about the command line alone: options and help, descriptors, devices and what is left of files; chance.txt is
+# about mulgreddi-chance
+OWN := tests/tool/usage.txt tests/tool/streams.txt tests/tool/chance.txt
 # the second program cannot answer these yet
 OWN += tests/tool/text.txt tests/tool/combine.txt tests/tool/why.txt tests/tool/messages.txt
 check-tool: $(TOOL) $(SHARED) $(PROGRAM) $(BUILD)/stack $(BUILD)/spelling $(BUILD)/shared $(BUILD)/random_rules $(BUILD)/faults
@@ -258,7 +268,7 @@ test:
 	$(MAKE) quick
 	$(MAKE) prove-all
 	$(MAKE) lib $(PROGRAM)
-	$(MAKE) --jobs=2 --output-sync=target BESIDE=1 compare listings tables examples check-tool
+	$(MAKE) --jobs=2 --output-sync=target BESIDE=1 compare listings tables examples chances check-tool
 	@tail -n 1 $(BUILD)/log/ci | grep -x '[0-9]* passed, 0 failed'
 
 clean:

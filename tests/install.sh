@@ -58,6 +58,10 @@ expect 3 bash -c "'$listing' <&-"
 expect 3 "$listing" F.rule
 expect 0 bash -c "'$listing' < /dev/zero"
 expect 0 bash -c "(trap '' PIPE; '$listing' < /dev/zero)"
+chance=$at/bin/mulgreddi-chance
+[ "$("$chance" before.rule 3 1 0 0 | sed -n 's/^  chance \([^,]*\),.*/\1/p')" = 0.75 ]
+expect 3 bash -c "'$chance' before.rule '*=1' > /dev/full"
+expect 3 bash -c "'$chance' before.rule '*=1' >&-"
 grep -q "mulgreddi $version" "$at/share/man/man1/mulgreddi.1"
 "$here/tests/completion.sh" "$at/bin/mulgreddi" "$at/share/bash-completion/completions/mulgreddi" > /dev/null
 export LD_LIBRARY_PATH=$at/lib

@@ -24,6 +24,7 @@ noted=$at/libexec/mulgreddi/folders
 files="755 $build/mulgreddi bin/mulgreddi
 755 tools/mulgreddi-listing bin/mulgreddi-listing
 755 $build/listing libexec/mulgreddi/listing
+755 $build/chance bin/mulgreddi-chance
 644 include/mulgreddi.h include/mulgreddi.h
 644 $build/libmulgreddi.a lib/libmulgreddi.a
 755 $build/libmulgreddi.so.$version lib/libmulgreddi.so.$version

@@ -12,10 +12,12 @@
 //! counted (`runs`).
 
 pub mod build;
+pub mod chance;
 pub mod choices;
 pub mod event_text;
 pub mod events;
 pub mod every;
+pub mod exact;
 pub mod game;
 pub mod graph;
 pub mod hanoi;

@@ -1,7 +1,8 @@
 #!/usr/bin/env bash
 # Runs the commands of transcripts and holds what they print to what is stored there.
 #   run.sh [--answers] PROGRAM EXAMPLES OUT TRANSCRIPT..
-# A line "$ COMMAND" is run by bash in a copy of the folder EXAMPLES, `mulgreddi` being PROGRAM. After it stand its standard output, its
+# A line "$ COMMAND" is run by bash in a copy of the folder EXAMPLES, `mulgreddi` being PROGRAM and
+# `mulgreddi-chance` the program chance beside it. After it stand its standard output, its
 # standard error with "! " before each line, and "= STATUS" where the exit status is not 0. With --answers standard error is left out:
 # another program words it otherwise. What is printed now goes to the folder OUT, under the transcript's name.
 set -u
@@ -14,6 +15,7 @@ work=$(mktemp -d)
 trap 'rm -rf "$work"' EXIT
 mkdir "$work/bin" "$work/here"
 ln -s "$program" "$work/bin/mulgreddi"
+ln -s "$(dirname "$program")/chance" "$work/bin/mulgreddi-chance"
 PATH=$work/bin:$PATH
 failed=0
 for transcript in "$@"; do
