@@ -186,8 +186,8 @@ examples: $(EXAMPLES)
 	for e in $(EXAMPLES); do $$e examples > $$e.out && diff examples/$$(basename $$e).expected $$e.out || exit 1; done
 
 # the command line: its transcripts and README's session, the second program's answers to the same commands, rules and event tables shown as
-# text and written again (those of the repository and random ones), listings beside the listing program's, a text for each refusal, the stack
-# that calls need, and an installation
+# text and written again (those of the repository and random ones), listings beside the listing program's, what is left of files where
+# something fails, a text for each refusal, the stack that calls need, an installation, and what it does to the places that it is given
 SECOND_TOOL := $(BUILD)/cargo/release/answers
 TRANSCRIPTS := $(wildcard tests/tool/*.txt)
 # usage.txt and streams.txt are about the command line alone: options and help, descriptors, devices and what is left of files; chance.txt is
