@@ -5,7 +5,7 @@
 #   make list < FILE           the listing of a rule file; nothing else is on standard output
 #   make install PREFIX=DIR    command line with completion for bash and man page, listing program, chance, header, both libraries, pkg-config file to DIR (/usr/local)
 #   make uninstall PREFIX=DIR  takes them away again
-#   make test                  the gate: quick checks, proofs and must-fail edits, then library, comparison, listings, tables, examples, command line
+#   make test                  the gate: quick checks, proofs and must-fail edits, then library, comparison, listings, tables, examples, chances, command line
 #   make quick                 of it the checks that need nothing proved
 #   make check-tool            of it the tests of the command line, of the header and of the installation
 #   make bench                 times of the library beside those of the second program and of a C++ program without proofs, and of the step back alone

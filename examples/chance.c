@@ -18,21 +18,29 @@ enum { REFUSED = 2, FAULT = 3, FILE_BYTES = 1 << 26, SHOWN_SETS = 4, NONE = -1 }
 
 /* ---- Messages ---- */
 
-/* How many bytes the character takes that begins here; 0 where it is no UTF-8, or would not stand still on a terminal. */
+/* Characters that are not seen, end a line or turn the direction of what follows. */
+static int is_seen(unsigned code)
+{
+    static const unsigned unseen[][2] = {{0, 0x1f}, {0x7f, 0x9f}, {0x61c, 0x61c}, {0x200b, 0x200f}, {0x2028, 0x202e}, {0x2060, 0x206f},
+                                         {0xfeff, 0xfeff}, {0xfff9, 0xfffb}, {0xe0000, 0xe007f}};
+    for (size_t i = 0; i < sizeof unseen / sizeof *unseen; i++)
+        if (unseen[i][0] <= code && code <= unseen[i][1])
+            return 0;
+    return 1;
+}
+
+/* How many bytes the character takes that begins here; 0 where it is no UTF-8, or one that is not seen. */
 static int character(const unsigned char *at)
 {
-    int length = at[0] < 0x80 ? 1 : at[0] < 0xc2 ? 0 : at[0] < 0xe0 ? 2 : at[0] < 0xf0 ? 3 : at[0] < 0xf5 ? 4 : 0;
-    unsigned long point = length == 1 ? at[0] : length ? at[0] & (0x7fu >> length) : 0;
+    static const unsigned least[] = {0, 0, 0x80, 0x800, 0x10000}; /* what so many bytes are needed for */
+    int length = at[0] < 0x80 ? 1 : at[0] < 0xc0 ? 0 : at[0] < 0xe0 ? 2 : at[0] < 0xf0 ? 3 : at[0] < 0xf8 ? 4 : 0;
+    unsigned code = length > 1 ? at[0] & (0x7fu >> length) : at[0];
     for (int i = 1; i < length; i++) {
         if ((at[i] & 0xc0) != 0x80)
             return 0;
-        point = point << 6 | (at[i] & 0x3f);
+        code = code << 6 | (at[i] & 0x3f);
     }
-    int longer = (length == 3 && point < 0x800) || (length == 4 && point < 0x10000);
-    int turns = (point >= 0x200e && point <= 0x200f) || (point >= 0x2028 && point <= 0x202e) || (point >= 0x2066 && point <= 0x2069);
-    if (longer || turns || point < 0x20 || (point >= 0x7f && point < 0xa0) || (point >= 0xd800 && point < 0xe000) || point > 0x10ffff)
-        return 0;
-    return length;
+    return code >= least[length] && code <= 0x10ffff && (code < 0xd800 || code > 0xdfff) && is_seen(code) ? length : 0;
 }
 
 static void print_text(FILE *to, const char *text)
