@@ -193,8 +193,6 @@ TRANSCRIPTS := $(wildcard tests/tool/*.txt)
 # usage.txt and streams.txt are about the command line alone: options and help, descriptors, devices and what is left of files; chance.txt is
 # about mulgreddi-chance
 OWN := tests/tool/usage.txt tests/tool/streams.txt tests/tool/chance.txt
-# the second program cannot answer these yet
-OWN += tests/tool/text.txt tests/tool/combine.txt tests/tool/why.txt tests/tool/messages.txt
 check-tool: $(TOOL) $(SHARED) $(PROGRAM) $(BUILD)/stack $(BUILD)/spelling $(BUILD)/shared $(BUILD)/random_rules $(BUILD)/faults
 	tests/tool/run.sh $(TOOL) examples $(BUILD)/transcripts $(TRANSCRIPTS)
 	awk '/^<!-- session/ { on = 1 } /^<!-- end/ { on = 0 } on && sub(/^    /, "")' README.md > $(BUILD)/README.txt

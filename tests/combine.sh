@@ -1,7 +1,8 @@
 #!/usr/bin/env bash
 # combine.sh TOOL OTHER FOLDER: `and`, `or` and `not` on the random rules of FOLDER, 0.rule and on, which have two letters. What TOOL makes of
 # rules accepts the words that it should: each is judged by OTHER on the rules and on what was made of them. By `equal` a rule is that of
-# `not not`, and De Morgan's laws hold, but a rule is not equal to its `not`.
+# `not not`, and De Morgan's laws hold, but a rule is not equal to its `not`. Both programs print the same texts of what they make, and give the
+# same reasons for each word.
 set -euo pipefail
 tool=$(realpath "$1") other=$(realpath "$2")
 cd "$3"
@@ -27,11 +28,23 @@ table() {
     paste -d ' ' "${columns[@]}" | awk -v words=${#words[@]} "{ n++ } !($1) { print; wrong = 1 } END { exit wrong || n != words }" || fail "$*: other words"
     judged=$((judged + ${#words[@]}))
 }
+# alike COMMAND..: both programs print the same and have the same exit status
+alike() {
+    local one=0 two=0
+    "$tool" "$@" > one 2> /dev/null || one=$?
+    "$other" "$@" > two 2> /dev/null || two=$?
+    [ $one = $two ] && cmp -s one two || fail "$*: the two programs differ"
+    compared=$((compared + 1))
+}
 equal() { "$tool" equal --quiet "$1" "$2" || fail "$1 and $2 are not equal"; equals=$((equals + 1)); }
-made=0 judged=0 equals=0
+made=0 judged=0 equals=0 compared=0
 count=$(ls [0-9]*.rule | wc -l)
 for ((i = 0; i < count; i++)); do
     a=$i.rule b=$(((i + 1) % count)).rule
+    alike not $a
+    alike and $a $b
+    alike or $b $a
+    alike judge --why $a "${words[@]}"
     if make not_a.rule not $a; then
         made=$((made + 1))
         table '($1 == "yes") == ($2 == "no")' $a not_a.rule
@@ -51,4 +64,4 @@ for ((i = 0; i < count; i++)); do
     fi
 done
 [ $made -gt $count ] && [ $equals -gt $count ] || fail "only $made rules made, $equals found equal"
-echo "combine: $made rules made of $count, $judged words judged on them, $equals times equal by not not and De Morgan"
+echo "combine: $made rules made of $count, $judged words judged on them, $equals times equal by not not and De Morgan; $compared answers of both programs"

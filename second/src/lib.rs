@@ -14,6 +14,7 @@
 pub mod build;
 pub mod chance;
 pub mod choices;
+pub mod combine;
 pub mod event_text;
 pub mod events;
 pub mod every;
@@ -41,4 +42,5 @@ pub mod table;
 pub mod text_build;
 pub mod tidy;
 pub mod trim;
+pub mod why;
 pub mod word;

@@ -3,7 +3,7 @@
 use crate::lines::{last, lines, spelled, words, Word};
 use crate::mixed::shortest_mixed_loop;
 use crate::names::{Name, LENGTH, MARK};
-use crate::rule::{read, take_apart, write_named, Rule};
+use crate::rule::{read, take_apart, write_named, Rule, TAG};
 
 /// Why a text makes no file: at which line, and whether the text is at fault or
 /// the library refuses, with its number.
@@ -340,44 +340,160 @@ fn clauses_of(words: &[Word]) -> Option<Vec<Clause>> {
     words.split(|word| word.is_sign(b'|')).map(clause).collect()
 }
 
-/// The file of a text, as the writer makes it.
-pub fn write(text: &[u8]) -> Result<Vec<u8>, Fault> {
-    let mut read = Text::default();
-    for (number, line) in lines(text) {
+/// A text that was read to its end.
+struct Whole {
+    text: Text,
+    rule: Rule,
+    /// For each entry, by state, then letter, its line.
+    of_entries: Vec<usize>,
+    last: usize,
+}
+
+fn whole(bytes: &[u8]) -> Result<Whole, Fault> {
+    let mut text = Text::default();
+    for (number, line) in lines(bytes) {
         let Some(words) = words(line) else {
             return fault(number);
         };
-        read.line(number, &words)?;
+        text.line(number, &words)?;
     }
-    let (rule, of_entries) = read.rule(last(text))?;
-    let entries: Vec<&Vec<u8>> = rule.entries.iter().flatten().collect();
-    let counts: Vec<u8> = entries.iter().map(|own| own.len().min(255) as u8).collect();
-    let clauses: Vec<u8> = entries.iter().copied().flatten().copied().collect();
-    let numbers = [
-        rule.states,
-        rule.letters,
-        rule.initial,
-        rule.accepting.into(),
-    ];
-    let numbers = numbers.map(|number| number as u32);
-    let names = read.letters.as_ref().and_then(|(_, names)| names.clone());
-    let names = names.unwrap_or_default().concat();
-    write_named(numbers, &counts, &clauses, &names, usize::MAX).or_else(|number| {
-        // "8 and 20 are told at the line of the first entry that has it, 11 at
-        // the line of the first state of the shortest mixed loop"
-        let has = |clauses: &&Vec<u8>| match number {
+    let last = last(bytes);
+    let (rule, of_entries) = text.rule(last)?;
+    Ok(Whole {
+        text,
+        rule,
+        of_entries,
+        last,
+    })
+}
+
+impl Whole {
+    fn counts(&self) -> Vec<u8> {
+        let entries = self.rule.entries.iter().flatten();
+        entries.map(|own| own.len().min(255) as u8).collect()
+    }
+
+    fn clauses(&self) -> Vec<u8> {
+        self.rule
+            .entries
+            .iter()
+            .flatten()
+            .flatten()
+            .copied()
+            .collect()
+    }
+
+    fn names(&self) -> Vec<u8> {
+        let names = self
+            .text
+            .letters
+            .as_ref()
+            .and_then(|(_, names)| names.clone());
+        names.unwrap_or_default().concat()
+    }
+
+    fn written(&self) -> Result<Vec<u8>, u8> {
+        let rule = &self.rule;
+        let numbers = [
+            rule.states,
+            rule.letters,
+            rule.initial,
+            rule.accepting.into(),
+        ];
+        let numbers = numbers.map(|number| number as u32);
+        write_named(
+            numbers,
+            &self.counts(),
+            &self.clauses(),
+            &self.names(),
+            usize::MAX,
+        )
+    }
+
+    /// "8 and 20 are told at the line of the first entry that has it, 11 at the
+    /// line of the first state of the shortest mixed loop"
+    fn refused(&self, number: u8) -> Fault {
+        let has = |clauses: &Vec<u8>| match number {
             8 => clauses.len() > 8,
             _ => Rule {
                 entries: vec![vec![clauses.to_vec()]],
-                ..rule.clone()
+                ..self.rule.clone()
             }
             .nested(),
         };
         let line = match number {
-            11 => shortest_mixed_loop(&rule).map(|walk| read.states[walk[0]].line),
-            _ => entries.iter().position(has).map(|entry| of_entries[entry]),
+            11 => shortest_mixed_loop(&self.rule).map(|walk| self.text.states[walk[0]].line),
+            _ => {
+                let entry = self.rule.entries.iter().flatten().position(has);
+                entry.map(|entry| self.of_entries[entry])
+            }
         };
-        refused(line.unwrap_or(last(text)), number)
+        Fault {
+            line: line.unwrap_or(self.last),
+            refusal: Some(number),
+        }
+    }
+}
+
+/// The file of a text, as the writer makes it.
+pub fn write(text: &[u8]) -> Result<Vec<u8>, Fault> {
+    let whole = whole(text)?;
+    whole.written().map_err(|number| whole.refused(number))
+}
+
+/// A rule as it was given: its file, and the names of its states where it was a
+/// text.
+pub struct Given {
+    pub file: Vec<u8>,
+    pub states: Option<Vec<Vec<u8>>>,
+}
+
+/// "What is read is a text if it does not end with the tag 41 57 and its first
+/// word is `letters`".
+fn is_text(bytes: &[u8]) -> bool {
+    if bytes.ends_with(&TAG) {
+        return false;
+    }
+    let mut rest = bytes.strip_prefix(b"\xef\xbb\xbf").unwrap_or(bytes);
+    while let [first, after @ ..] = rest {
+        match first {
+            b' ' | b'\t' | b'\r' | b'\n' => rest = after,
+            b'#' => {
+                let end = rest.iter().position(|&byte| byte == b'\n');
+                rest = &rest[end.unwrap_or(rest.len())..];
+            }
+            _ => break,
+        }
+    }
+    let ends = |byte: &u8| b"\r\n\0 \t\"#,:&|*".contains(byte);
+    let behind = rest.strip_prefix(b"letters");
+    behind.is_some_and(|behind| behind.first().is_none_or(ends))
+}
+
+/// "Then all is as if the command had the rule's file, laid out as the writer
+/// does it, also of a rule that 20 or 11 refuses".
+pub fn given(bytes: Vec<u8>) -> Result<Given, Fault> {
+    if !is_text(&bytes) {
+        let (file, states) = (bytes, None);
+        return Ok(Given { file, states });
+    }
+    let whole = whole(&bytes)?;
+    let file = match whole.written() {
+        Ok(file) => file,
+        Err(8) => return Err(whole.refused(8)),
+        Err(_) => {
+            let (rule, names, clauses) = (&whole.rule, whole.names(), whole.clauses());
+            let mark = if names.is_empty() { &[][..] } else { &MARK };
+            let [low, high, ..] = clauses.len().to_le_bytes();
+            let numbers = [rule.states, rule.letters, rule.initial].map(|number| number as u8);
+            let trailer = [&numbers[..], &[rule.accepting, low, high], &TAG].concat();
+            [&names, mark, &clauses, &whole.counts(), &trailer].concat()
+        }
+    };
+    let states = whole.text.states.iter().map(|state| state.name.clone());
+    Ok(Given {
+        file,
+        states: Some(states.collect()),
     })
 }
 
@@ -385,6 +501,16 @@ pub fn write(text: &[u8]) -> Result<Vec<u8>, Fault> {
 /// refusal alone. "A file that is refused by 20, 11, 21, 22 or 23 has its layout
 /// right .., so it is printed as well".
 pub fn show(file: &[u8]) -> Result<(Vec<u8>, Option<u8>), u8> {
+    show_named(file, &numbered())
+}
+
+/// The names of states that have none: s0, s1, ..
+pub fn numbered() -> Vec<Vec<u8>> {
+    (0..8).map(|q| format!("s{q}").into_bytes()).collect()
+}
+
+/// As `show`, with these names of states.
+pub fn show_named(file: &[u8], states: &[Vec<u8>]) -> Result<(Vec<u8>, Option<u8>), u8> {
     let (rule, preface) = take_apart(file)?;
     let refusal = read(file).err();
     // "Names are printed if 4E 4D stands right before the clauses and 8 × s bytes
@@ -416,7 +542,7 @@ pub fn show(file: &[u8]) -> Result<(Vec<u8>, Option<u8>), u8> {
             1 => "accepting",
             _ => "rejecting",
         };
-        text.push(format!("state s{q} {kind}").into());
+        text.push([b"state ", &states[q][..], b" ", kind.as_bytes()].concat());
         for (first, clauses) in row.iter().enumerate() {
             if row[..first].contains(clauses) {
                 continue;
@@ -428,29 +554,42 @@ pub fn show(file: &[u8]) -> Result<(Vec<u8>, Option<u8>), u8> {
                 all if all == row.len() && all > 1 => b"*".to_vec(),
                 _ => same.into_iter().map(letter).collect::<Vec<_>>().join(&b' '),
             };
-            text.push([b"    ".to_vec(), own, b": ".to_vec(), clauses_told(clauses)].concat());
+            text.push(
+                [
+                    b"    ".to_vec(),
+                    own,
+                    b": ".to_vec(),
+                    clauses_told(clauses, states),
+                ]
+                .concat(),
+            );
         }
     }
-    text.push(format!("initial s{}", rule.initial).into());
+    text.push([b"initial ", &states[rule.initial][..]].concat());
     text.push(Vec::new());
     Ok((text.join(&b'\n'), refusal))
 }
 
 /// "Clauses are printed in the order of the file, the states of a clause by rising
 /// number, `true` for an empty clause, `false` for no clause."
-fn clauses_told(clauses: &[u8]) -> Vec<u8> {
-    let told = |&clause: &u8| {
-        let states = (0..8).filter(|q| clause >> q & 1 == 1);
-        let states: Vec<String> = states.map(|q| format!("s{q}")).collect();
-        match states.is_empty() {
-            true => "true".to_string(),
-            false => states.join(" & "),
-        }
-    };
-    let told: Vec<String> = clauses.iter().map(told).collect();
+fn clauses_told(clauses: &[u8], states: &[Vec<u8>]) -> Vec<u8> {
+    let told: Vec<Vec<u8>> = clauses
+        .iter()
+        .map(|&one| clause_told(one, states))
+        .collect();
     match told.is_empty() {
         true => b"false".to_vec(),
-        false => told.join(" | ").into_bytes(),
+        false => told.join(&b" | "[..]),
+    }
+}
+
+/// A clause by the names of its states.
+pub fn clause_told(clause: u8, states: &[Vec<u8>]) -> Vec<u8> {
+    let own = (0..8).filter(|q| clause >> q & 1 == 1);
+    let own: Vec<Vec<u8>> = own.map(|q| states[q].clone()).collect();
+    match own.is_empty() {
+        true => b"true".to_vec(),
+        false => own.join(&b" & "[..]),
     }
 }
 

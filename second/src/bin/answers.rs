@@ -9,6 +9,7 @@ use std::{env, fs};
 
 use second::build::{build, Macrostate};
 use second::choices::{judge_choices, FALSE};
+use second::combine;
 use second::event_text;
 use second::events::{translate, LINE};
 use second::hoa::{read_hoa, write_hoa, ACCEPTING, INITIAL};
@@ -16,14 +17,15 @@ use second::lines::{is_whole, lines, quoted};
 use second::live::{Lent, Log};
 use second::mixed::mixed_loop;
 use second::names::Name;
-use second::rule::{read_named, same_rules, take_apart, Named};
-use second::rule_text::{self, Fault};
+use second::rule::{read_named, same_rules, take_apart, Named, Rule};
+use second::rule_text::{self, Fault, Given};
 use second::sheet::{entries, judge_sheet, Entry};
 use second::spelling::tidy_word;
 use second::stricter::stricter;
 use second::table::judge_table;
 use second::tidy::tidy;
 use second::trim::build_trimmed;
+use second::why::{self, End};
 use second::word::same_words;
 
 const YES: i32 = 0;
@@ -72,6 +74,55 @@ fn load(path: &str) -> Vec<u8> {
     contents(path).unwrap_or_else(|_| exit(FAULT))
 }
 
+/// A rule, by its file or its text.
+fn load_rule(printed: &Printed, path: &str) -> Given {
+    let given = rule_text::given(load(path));
+    given.unwrap_or_else(|fault| printed.end(text_fault(path, fault)))
+}
+
+/// An event table, by its bytes or its text: "A file that the library serves as a
+/// table is a table. Any other is a text if it has a `:` and no byte below 20 but
+/// 09, 0A and 0D".
+fn load_events(rule: &[u8], path: &str) -> Result<Vec<u8>, i32> {
+    let bytes = load(path);
+    let shaped = |&byte: &u8| byte >= 0x20 || [9, 10, 13].contains(&byte);
+    let is_text = bytes.contains(&b':') && bytes.iter().all(shaped);
+    if translate(rule, &bytes, &[], 0).is_ok() || !is_text {
+        return Ok(bytes);
+    }
+    event_text::write(rule, &bytes).map_err(|fault| match fault {
+        Ok(number) => refused(number),
+        Err(fault) => text_fault(path, fault),
+    })
+}
+
+/// States as they are told: by number, or by their names in a text.
+struct States(Option<Vec<Vec<u8>>>);
+
+impl States {
+    fn state(&self, q: usize) -> String {
+        match &self.0 {
+            None => q.to_string(),
+            Some(names) => String::from_utf8_lossy(&names[q]).to_string(),
+        }
+    }
+
+    fn set(&self, mask: u8) -> String {
+        let states = (0..8).filter(|q| mask >> q & 1 == 1);
+        let states: Vec<_> = states.map(|q| self.state(q)).collect();
+        format!("{{{}}}", states.join(","))
+    }
+
+    fn clause(&self, mask: u8) -> String {
+        match &self.0 {
+            None => self.set(mask),
+            Some(names) => {
+                String::from_utf8_lossy(&rule_text::clause_told(mask, names)).to_string()
+            }
+        }
+    }
+}
+
 /// Writes a file, or to standard output for `-`.
 fn store(printed: &mut Printed, path: &str, bytes: &[u8]) {
     if path == "-" {
@@ -116,12 +167,6 @@ fn text_lines(text: &[u8]) -> Vec<Option<String>> {
         is_whole(line).then(|| unblanked(&String::from_utf8_lossy(line)).to_string())
     });
     lines.filter(|line| line.as_deref() != Some("")).collect()
-}
-
-fn set(mask: u8) -> String {
-    let states = (0..8).filter(|q| mask >> q & 1 == 1);
-    let states: Vec<_> = states.map(|q| q.to_string()).collect();
-    format!("{{{}}}", states.join(","))
 }
 
 fn trimmed(name: &Name) -> String {
@@ -231,17 +276,13 @@ fn bytes(numbers: &[u64]) -> Vec<u8> {
     numbers.iter().flat_map(|n| n.to_le_bytes()).collect()
 }
 
-fn check(printed: &mut Printed, paths: &[String]) -> i32 {
+fn check(printed: &mut Printed, paths: &[String], quiet: bool) -> i32 {
     let mut status = YES;
     for path in paths {
-        let Named {
-            rule,
-            preface,
-            names,
-        } = match contents(path).map(|file| read_named(&file)) {
-            Ok(Ok(named)) => named,
-            Ok(Err(number)) => {
-                status = status.max(refused(number));
+        let given = match contents(path).map(rule_text::given) {
+            Ok(Ok(given)) => given,
+            Ok(Err(fault)) => {
+                status = status.max(text_fault(path, fault));
                 continue;
             }
             Err(_) => {
@@ -249,14 +290,29 @@ fn check(printed: &mut Printed, paths: &[String]) -> i32 {
                 continue;
             }
         };
+        let Named {
+            rule,
+            preface,
+            names,
+        } = match read_named(&given.file) {
+            Ok(named) => named,
+            Err(number) => {
+                status = status.max(refused(number));
+                continue;
+            }
+        };
+        if quiet {
+            continue;
+        }
+        let states = States(given.states);
         let clauses = rule.entries.iter().flatten().flatten().count();
         let mut line = format!(
             "{}: states {}, letters {}, initial {}, accepting {}, clauses {clauses}, preface {preface}, ",
             shown(path),
             rule.states,
             rule.letters,
-            rule.initial,
-            set(rule.accepting)
+            states.state(rule.initial),
+            states.set(rule.accepting)
         );
         line += if names.is_some() { "names" } else { "no names" };
         for (letter, name) in names.iter().flatten().enumerate() {
@@ -267,9 +323,32 @@ fn check(printed: &mut Printed, paths: &[String]) -> i32 {
     status
 }
 
-fn list(printed: &mut Printed, path: &str, trim: bool) -> i32 {
-    let file = load(path);
-    let (codes, transitions) = match table(&file, trim) {
+/// What `--decoded` prints behind the last word of an `m` line.
+fn decoded(rule: &Rule, states: &States, macrostate: &Macrostate) -> String {
+    let core = &macrostate.core;
+    let open = (0..rule.states).filter(|&q| core.ranks[q] > 0);
+    let ranks = open.map(|q| format!("{}={}", states.state(q), core.ranks[q]));
+    let or_none = |parts: Vec<String>, between| match parts.is_empty() {
+        true => "none".to_string(),
+        false => parts.join(between),
+    };
+    let ranks = or_none(ranks.collect(), ",");
+    let number = macrostate.component as usize;
+    let component = rule.components()[number].mask();
+    let left = (1..=macrostate.classes).map(|rank| {
+        let class = (0..rule.states).filter(|&q| core.ranks[q] == rank);
+        let class = class.fold(0u8, |mask, q| mask | 1 << q);
+        states.set(class & component)
+    });
+    let left = or_none(left.collect(), "<");
+    let (set, component) = (states.set(core.set), states.set(component));
+    format!(" set {set} ranks {ranks} component {number} {component} left {left}")
+}
+
+fn list(printed: &mut Printed, path: &str, options: &HashMap<String, String>) -> i32 {
+    let Given { file, states } = load_rule(printed, path);
+    let states = States(states);
+    let (codes, transitions) = match table(&file, options.contains_key("trimmed")) {
         Ok(table) => table,
         Err(number) => {
             printed.line(&format!("refused {number}"));
@@ -281,12 +360,21 @@ fn list(printed: &mut Printed, path: &str, trim: bool) -> i32 {
     for (letter, name) in named.names.iter().flatten().enumerate() {
         printed.line(&format!("n {letter} {}", String::from_utf8_lossy(name)));
     }
+    for q in 0..named.rule.states {
+        if states.0.is_some() {
+            printed.line(&format!("s {q} {}", states.state(q)));
+        }
+    }
     for (number, &code) in codes.iter().enumerate() {
         let macrostate = Macrostate::from_code(code);
         let mark = |yes, mark| if yes { mark } else { "-" };
         let initial = mark(macrostate.is_initial(&named.rule), "i");
         let accepting = mark(macrostate.is_accepting(), "a");
-        printed.line(&format!("m {number} {code} {initial} {accepting}"));
+        let held = match options.contains_key("decoded") {
+            true => decoded(&named.rule, &states, &macrostate),
+            false => String::new(),
+        };
+        printed.line(&format!("m {number} {code} {initial} {accepting}{held}"));
     }
     for t in transitions {
         let (source, letter, target) = (t / 16_777_216, t / 65_536 % 256, t % 65_536);
@@ -296,7 +384,7 @@ fn list(printed: &mut Printed, path: &str, trim: bool) -> i32 {
 }
 
 fn build_command(printed: &mut Printed, path: &str, options: &HashMap<String, String>) -> i32 {
-    let file = load(path);
+    let file = load_rule(printed, path).file;
     let (codes, transitions) = printed.served(table(&file, options.contains_key("trimmed")));
     let rule = read_named(&file).unwrap().rule;
     let macrostates: Vec<_> = codes.iter().map(|&c| Macrostate::from_code(c)).collect();
@@ -317,7 +405,7 @@ fn build_command(printed: &mut Printed, path: &str, options: &HashMap<String, St
 }
 
 fn hoa(printed: &mut Printed, path: &str, options: &HashMap<String, String>) -> i32 {
-    let file = load(path);
+    let file = load_rule(printed, path).file;
     let (codes, transitions) = printed.served(table(&file, options.contains_key("trimmed")));
     let text = printed.served(write_hoa(&file, &codes, &transitions, usize::MAX));
     let out = options.get("out").map_or("-", |path| path);
@@ -344,10 +432,12 @@ fn read_hoa_command(printed: &mut Printed, path: &str) -> i32 {
 fn judge_one(
     printed: &mut Printed,
     file: &[u8],
+    states: &States,
     named: &Named,
     text: &str,
     options: &HashMap<String, String>,
 ) -> i32 {
+    let quiet = options.contains_key("quiet");
     let Some((lead, cycle)) = read_word(&named.names, text) else {
         return FAULT;
     };
@@ -357,6 +447,7 @@ fn judge_one(
         let (codes, transitions) = (load(codes), load(transitions));
         let answer = judge_table(file, [&lead, &cycle], [&codes, &transitions], usize::MAX);
         return match answer {
+            Ok(found) if quiet => found.map_or(NO, |_| YES),
             Ok(Some(number)) => {
                 printed.line(&format!("{spelled} yes from {number}"));
                 YES
@@ -372,6 +463,9 @@ fn judge_one(
         Ok(judged) => judged,
         Err(number) => return refused(number),
     };
+    if quiet {
+        return if judged.yes { YES } else { NO };
+    }
     let verdict = if judged.yes { "yes" } else { "no" };
     let all = masks(&judged.masks, lead.len());
     printed.line(&format!("{spelled} {verdict} masks {all}"));
@@ -381,7 +475,7 @@ fn judge_one(
                 let choice = judged.choices[place * rule.states + q];
                 let clause = rule.entries[q][own as usize].get(choice as usize);
                 let clause = clause.filter(|_| choice != FALSE)?;
-                Some(format!("state {q} by clause {choice} {}", set(*clause)))
+                Some(chosen_told(states, q, choice, *clause))
             });
             let chosen: Vec<_> = chosen.collect();
             let chosen = match chosen.is_empty() {
@@ -392,6 +486,18 @@ fn judge_one(
             printed.line(&format!("  place {place}, letter {own}: {chosen}"));
         }
     }
+    if options.contains_key("why") {
+        let own = why::Judged {
+            rule,
+            letters: [&lead[..], &cycle].concat(),
+            lead: lead.len(),
+            masks: &judged.masks,
+        };
+        match judged.yes {
+            true => why_accepted(printed, states, names, &own, &judged.choices),
+            false => why_rejected(printed, states, names, &own),
+        }
+    }
     if judged.yes {
         YES
     } else {
@@ -399,8 +505,82 @@ fn judge_one(
     }
 }
 
+fn chosen_told(states: &States, q: usize, choice: u8, clause: u8) -> String {
+    let (state, clause) = (states.state(q), states.clause(clause));
+    format!("state {state} by clause {choice} {clause}")
+}
+
+/// "The lines of `--choices`, with those states alone that the choices lead to".
+fn why_accepted(
+    printed: &mut Printed,
+    states: &States,
+    names: &Option<Vec<Name>>,
+    judged: &why::Judged,
+    choices: &[u8],
+) {
+    let reached = judged.led_to(choices);
+    for place in 0..judged.letters.len() {
+        let own = reached.iter().filter(|pair| pair.0 == place);
+        let chosen = own.map(|&(_, q)| {
+            let choice = choices[place * judged.rule.states + q];
+            chosen_told(states, q, choice, judged.entry((place, q))[choice as usize])
+        });
+        let chosen: Vec<_> = chosen.collect();
+        if !chosen.is_empty() {
+            let own = letter(names, judged.letters[place]);
+            printed.line(&format!(
+                "  place {place}, letter {own}: {}",
+                chosen.join(", ")
+            ));
+        }
+    }
+}
+
+fn why_rejected(
+    printed: &mut Printed,
+    states: &States,
+    names: &Option<Vec<Name>>,
+    judged: &why::Judged,
+) {
+    let at = |(place, q): why::Pair| {
+        let own = letter(names, judged.letters[place]);
+        format!("  place {place}, letter {own}: state {}", states.state(q))
+    };
+    let way = judged.way();
+    for (pair, by) in &way.steps {
+        let clauses = judged.entry(*pair).iter().zip(by).enumerate();
+        let clauses = clauses.map(|(n, (&clause, &by))| {
+            let (clause, by) = (states.clause(clause), states.state(by));
+            format!(" clause {n} {clause} fails by state {by}")
+        });
+        let clauses: Vec<_> = clauses.collect();
+        printed.line(&format!("{}:{}", at(*pair), clauses.join(",")));
+    }
+    match way.end {
+        End::NoClause(pair) => printed.line(&format!("{} has no clause", at(pair))),
+        End::Waits(place, own, letters) => {
+            let own: Vec<_> = own.into_iter().map(|q| states.state(q)).collect();
+            let mut line = match &own[..] {
+                [one] => format!("  place {place} again: state {one} waits for ever"),
+                all => format!(
+                    "  place {place} again: states {} wait for ever",
+                    all.join(", ")
+                ),
+            };
+            let letters: Vec<_> = letters.into_iter().map(|l| letter(names, l)).collect();
+            line += &match &letters[..] {
+                [] => String::new(),
+                [one] => format!(": {one} never comes in the cycle"),
+                all => format!(": {} never come in the cycle", all.join(", ")),
+            };
+            printed.line(&line);
+        }
+    }
+}
+
 fn judge(printed: &mut Printed, operands: &[String], options: &HashMap<String, String>) -> i32 {
-    let file = load(&operands[0]);
+    let Given { file, states } = load_rule(printed, &operands[0]);
+    let states = States(states);
     let named = printed.served(read_named(&file));
     let mut status = YES;
     for text in &operands[1..] {
@@ -413,7 +593,7 @@ fn judge(printed: &mut Printed, operands: &[String], options: &HashMap<String, S
             return FAULT;
         }
         for text in texts {
-            let one = text.map(|text| judge_one(printed, &file, &named, &text, options));
+            let one = text.map(|text| judge_one(printed, &file, &states, &named, &text, options));
             status = status.max(one.unwrap_or(FAULT));
         }
     }
@@ -421,7 +601,7 @@ fn judge(printed: &mut Printed, operands: &[String], options: &HashMap<String, S
 }
 
 fn sheet(printed: &mut Printed, operands: &[String], lines: bool) -> i32 {
-    let file = load(&operands[0]);
+    let file = load_rule(printed, &operands[0]).file;
     let names = printed.served(read_named(&file)).names;
     let mut sheet = load(&operands[1]);
     let mut status = YES;
@@ -473,22 +653,23 @@ fn sheet(printed: &mut Printed, operands: &[String], lines: bool) -> i32 {
 }
 
 fn loop_command(printed: &mut Printed, path: &str) -> i32 {
-    let file = load(path);
+    let Given { file, states } = load_rule(printed, path);
+    let names = States(states);
     let Some(states) = printed.served(mixed_loop(&file)) else {
         printed.line("none");
         return YES;
     };
     let accepting = take_apart(&file).unwrap().0.accepting;
     let told = states.iter().map(|&q| match accepting >> q & 1 {
-        1 => format!("{q} (accepting)"),
-        _ => format!("{q} (rejecting)"),
+        1 => format!("{} (accepting)", names.state(q)),
+        _ => format!("{} (rejecting)", names.state(q)),
     });
     printed.line(&told.collect::<Vec<_>>().join(", "));
     NO
 }
 
 fn tidy_command(printed: &mut Printed, path: &str, out: Option<&String>) -> i32 {
-    let file = load(path);
+    let file = load_rule(printed, path).file;
     let tidied = printed.served(tidy(&file));
     let clauses = |file: &[u8]| take_apart(file).unwrap().0.entries.concat().concat().len();
     let told = format!(
@@ -551,7 +732,8 @@ fn write_command(printed: &mut Printed, path: &str, out: Option<&String>) -> i32
 
 fn write_events(printed: &mut Printed, operands: &[String], out: Option<&String>) -> i32 {
     let path = &operands[1];
-    let table = match event_text::write(&load(&operands[0]), &load(path)) {
+    let file = load_rule(printed, &operands[0]).file;
+    let table = match event_text::write(&file, &load(path)) {
         Ok(table) => table,
         Err(Ok(number)) => return refused(number),
         Err(Err(fault)) => return text_fault(path, fault),
@@ -572,19 +754,91 @@ fn same(printed: &mut Printed, same: bool) -> i32 {
 
 /// The word is the second program's own: the same as the library's only where
 /// there is one alone.
-fn stricter_command(printed: &mut Printed, operands: &[String]) -> i32 {
-    let [a, b] = [0, 1].map(|i| load(&operands[i]));
+fn compared(printed: &Printed, a: &[u8], b: &[u8]) -> Option<String> {
     let rooms = [MACROSTATES, TRANSITIONS, MACROSTATES, TRANSITIONS];
-    let compared = printed.served(stricter(&a, &b, rooms, usize::MAX, usize::MAX));
-    let Some((lead, cycle)) = compared.word else {
-        printed.line("stricter");
-        return YES;
-    };
-    let names = printed.served(read_named(&a)).names;
+    let compared = printed.served(stricter(a, b, rooms, usize::MAX, usize::MAX));
+    let (lead, cycle) = compared.word?;
+    let names = printed.served(read_named(a)).names;
     let (lead, cycle) = tidy_word(&lead, &cycle).unwrap_or((lead, cycle));
-    let word = word(&names, &lead, &cycle);
-    printed.line(&format!("not stricter: {word}"));
-    NO
+    Some(word(&names, &lead, &cycle))
+}
+
+/// The line that tells how two rules compare, unless with `--quiet`.
+fn told(printed: &mut Printed, quiet: bool, line: &str, status: i32) -> i32 {
+    if !quiet {
+        printed.line(line);
+    }
+    status
+}
+
+fn stricter_command(printed: &mut Printed, operands: &[String], quiet: bool) -> i32 {
+    let [a, b] = [0, 1].map(|i| load_rule(printed, &operands[i]).file);
+    match compared(printed, &a, &b) {
+        None => told(printed, quiet, "stricter", YES),
+        Some(word) => told(printed, quiet, &format!("not stricter: {word}"), NO),
+    }
+}
+
+/// "two comparisons as `stricter` makes them: A with B, and if that says yes, B
+/// with A"
+fn equal(printed: &mut Printed, operands: &[String], quiet: bool) -> i32 {
+    let files = [0, 1].map(|i| load_rule(printed, &operands[i]).file);
+    for (x, y) in [(0, 1), (1, 0)] {
+        if let Some(word) = compared(printed, &files[x], &files[y]) {
+            let [x, y] = [x, y].map(|i| shown(&operands[i]));
+            let line = format!("not equal: {word} accepted by {x}, rejected by {y}");
+            return told(printed, quiet, &line, NO);
+        }
+    }
+    told(printed, quiet, "equal", YES)
+}
+
+/// `and`, `or` and `not`.
+fn made(printed: &mut Printed, command: &str, operands: &[String], out: Option<&String>) -> i32 {
+    let count = if command == "not" { 1 } else { 2 };
+    let mut rules = Vec::new();
+    for path in &operands[..count] {
+        let given = load_rule(printed, path);
+        let named = printed.served(read_named(&given.file));
+        rules.push((named, given.states.unwrap_or(rule_text::numbered())));
+    }
+    let first = &rules[0];
+    let second = rules.get(1).unwrap_or(first);
+    if first.0.rule.letters != second.0.rule.letters {
+        return refused(28);
+    }
+    if let (Some(a), Some(b)) = (&first.0.names, &second.0.names) {
+        if a != b {
+            return REFUSED;
+        }
+    }
+    let own = [&first.0.rule, &second.0.rule];
+    let states = [&first.1[..own[0].states], &second.1[..own[1].states]];
+    let made = match command {
+        "and" => combine::and(own, states),
+        "or" => combine::or(own, states),
+        _ => combine::not(own[0], states[0]),
+    };
+    let names = first.0.names.clone().or(second.0.names.clone());
+    let (file, states) = printed.served(made.file(&names));
+    let rule = take_apart(&file).unwrap().0;
+    match out {
+        None => {
+            let (text, _) = rule_text::show_named(&file, &states).unwrap();
+            printed.out = text;
+            YES
+        }
+        Some(path) => {
+            let told = format!(
+                "{path}: states {}, letters {}, clauses {}, {} bytes",
+                rule.states,
+                rule.letters,
+                rule.entries.concat().concat().len(),
+                file.len()
+            );
+            give(printed, out, &file, &told)
+        }
+    }
 }
 
 fn translate_command(
@@ -592,8 +846,13 @@ fn translate_command(
     operands: &[String],
     options: &HashMap<String, String>,
 ) -> i32 {
-    let [file, events, log] = [0, 1, 2].map(|i| load(&operands[i]));
+    let file = load_rule(printed, &operands[0]).file;
     let names = printed.served(read_named(&file)).names;
+    let events = match load_events(&file, &operands[1]) {
+        Ok(events) => events,
+        Err(status) => return status,
+    };
+    let log = load(&operands[2]);
     let own = printed.served(translate(&file, &events, &log, usize::MAX));
     match options.get("cycle") {
         None => printed.line(&letters(&names, &own)),
@@ -637,7 +896,7 @@ fn refused(number: u8) -> i32 {
 }
 
 fn follow(printed: &mut Printed, operands: &[String], options: &HashMap<String, String>) -> i32 {
-    let file = load(&operands[0]);
+    let file = load_rule(printed, &operands[0]).file;
     let names = printed.served(read_named(&file)).names;
     let (codes, transitions) = printed.served(table(&file, true));
     let lent = Lent {
@@ -662,7 +921,11 @@ fn follow(printed: &mut Printed, operands: &[String], options: &HashMap<String, 
         }
     };
     tell("start", 0, Ok(set));
-    let events = options.get("events").map(|path| load(path));
+    let events = match options.get("events").map(|path| load_events(&file, path)) {
+        Some(Err(status)) => return status,
+        Some(Ok(events)) => Some(events),
+        None => None,
+    };
     let source = load(operands.get(1).map_or("-", |path| path));
     if let Some(events) = events {
         if let Err(number) = translate(&file, &events, &[], 0) {
@@ -675,6 +938,13 @@ fn follow(printed: &mut Printed, operands: &[String], options: &HashMap<String, 
             tell(&what, log.letters().len(), answer.map_err(refused));
         }
     } else {
+        // "If the first line of a log has a fault of a line, or a byte below 20
+        // other than 09, or 7F in it, the log is no text"
+        let control = |&byte: &u8| byte < 0x20 && byte != 9 || byte == 0x7f;
+        let first = lines(&source).into_iter().next();
+        if first.is_some_and(|(_, line)| !is_whole(line) || line.iter().any(control)) {
+            return FAULT;
+        }
         for line in text_lines(&source) {
             let answer = match &line {
                 Some(line) => call(&mut log, &lent, &names, line),
@@ -705,6 +975,7 @@ fn main() {
     }
     let least = match command.as_str() {
         "translate" => 3,
+        "and" | "or" | "equal" => 2,
         "judge" | "sheet" | "same" | "stricter" | "same-word" | "show-events" | "write-events" => 2,
         _ => 1,
     };
@@ -712,13 +983,16 @@ fn main() {
         exit(FAULT);
     }
     let printed = &mut Printed { out: Vec::new() };
+    let quiet = options.contains_key("quiet");
     let named = |printed: &Printed| {
-        let file = options.get("rule").map(|path| load(path));
+        let file = options
+            .get("rule")
+            .map(|path| load_rule(printed, path).file);
         file.and_then(|file| printed.served(read_named(&file)).names)
     };
     let status = match command.as_str() {
-        "check" => check(printed, &operands),
-        "list" => list(printed, &operands[0], options.contains_key("trimmed")),
+        "check" => check(printed, &operands, quiet),
+        "list" => list(printed, &operands[0], &options),
         "hoa" => hoa(printed, &operands[0], &options),
         "read-hoa" => read_hoa_command(printed, &operands[0]),
         "judge" => judge(printed, &operands, &options),
@@ -727,11 +1001,13 @@ fn main() {
         "tidy" => tidy_command(printed, &operands[0], options.get("out")),
         "loop" => loop_command(printed, &operands[0]),
         "same" => {
-            let [a, b] = [0, 1].map(|i| load(&operands[i]));
+            let [a, b] = [0, 1].map(|i| load_rule(printed, &operands[i]).file);
             let answer = printed.served(same_rules(&a, &b));
             same(printed, answer)
         }
-        "stricter" => stricter_command(printed, &operands),
+        "and" | "or" | "not" => made(printed, &command, &operands, options.get("out")),
+        "equal" => equal(printed, &operands, quiet),
+        "stricter" => stricter_command(printed, &operands, quiet),
         "same-word" => {
             let names = named(printed);
             let [a, b] = [0, 1].map(|i| word_or_fault(&names, &operands[i]));
@@ -745,11 +1021,18 @@ fn main() {
             printed.line(&word(&names, &lead, &cycle));
             YES
         }
-        "show" => show(printed, rule_text::show(&load(&operands[0]))),
+        "show" => {
+            let given = load_rule(printed, &operands[0]);
+            let states = given.states.unwrap_or(rule_text::numbered());
+            show(printed, rule_text::show_named(&given.file, &states))
+        }
         "write" => write_command(printed, &operands[0], options.get("out")),
         "show-events" => {
-            let [file, table] = [0, 1].map(|i| load(&operands[i]));
-            show(printed, event_text::show(&file, &table))
+            let file = load_rule(printed, &operands[0]).file;
+            match load_events(&file, &operands[1]) {
+                Ok(table) => show(printed, event_text::show(&file, &table)),
+                Err(status) => status,
+            }
         }
         "write-events" => write_events(printed, &operands, options.get("out")),
         "translate" => translate_command(printed, &operands, &options),
