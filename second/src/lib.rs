@@ -8,13 +8,16 @@
 //! What a definition says can be read wrongly twice where it is followed by one
 //! method twice. So some of it is followed by a method of its own as well: words
 //! are judged as games (`game`), all macrostates are tried with each other
-//! (`text_build`), all plans are tried (`plans`), and the runs of a table are
-//! counted (`runs`).
+//! (`text_build`), all plans are tried (`plans`), the runs of a table are counted
+//! (`runs`), and where rules or tables are small a list of words is found that
+//! decides what they accept (`decide`).
 
 pub mod build;
 pub mod chance;
 pub mod choices;
 pub mod combine;
+pub mod decide;
+pub mod dual;
 pub mod event_text;
 pub mod events;
 pub mod every;

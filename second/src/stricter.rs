@@ -134,6 +134,19 @@ pub fn compare(a: &Rule, b: &Rule, rooms: [usize; 4]) -> Result<Compared, u8> {
     // "the table of B begun, with K and k 0, from all cores whose set lacks B's
     // initial state": a word has an accepting run there if B rejects it.
     let b_slices = reachable_begun(b, false, rooms[2], rooms[3])?;
+    Ok(Compared {
+        word: word_of_both([a, b], [&a_slices, &b_slices])?,
+        a: a_slices,
+        b: b_slices,
+    })
+}
+
+/// A word with an accepting run in the table of the words that A accepts and one in
+/// the table of the words that B rejects, if there is one. Row 15.
+pub fn word_of_both(
+    [a, b]: [&Rule; 2],
+    [a_slices, b_slices]: [&Slices; 2],
+) -> Result<Option<LongWord>, u8> {
     let a_table = Table::new(a, &a_slices.0, &a_slices.1)?;
     let b_table = Table::new(b, &b_slices.0, &b_slices.1)?;
     let starts = |table: &Table, rule: &Rule, holding: bool| -> Vec<usize> {
@@ -154,16 +167,11 @@ pub fn compare(a: &Rule, b: &Rule, rooms: [usize; 4]) -> Result<Compared, u8> {
             &matter(&b_slices.0, &b_slices.1),
         ],
     );
-    let word = common_word(&product, |node| {
+    Ok(common_word(&product, |node| {
         let (first, second) = product.nodes[node];
         let first = a_table.macrostates[first].is_accepting();
         (first, b_table.macrostates[second].is_accepting())
-    });
-    Ok(Compared {
-        a: a_slices,
-        b: b_slices,
-        word,
-    })
+    }))
 }
 
 /// The comparison on files, with rooms of these lengths: the rows of A, those of
