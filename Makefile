@@ -10,6 +10,7 @@
 #   make check-tool            of it the tests of the command line, of the header and of the installation
 #   make bench                 times of the library beside those of the second program and of a C++ program without proofs, and of the step back alone
 #   make soak SECONDS=600      the comparison with new seeds until the time is up
+#   make compare-long SEED=1   the comparison with new seeds, from this one on, until the first difference
 #   make clean                 removes build/ and target/
 #   make help                  this list
 
@@ -21,6 +22,7 @@ CC ?= cc
 CXX ?= c++
 CFLAGS ?= -O2 -std=c11 -Wall -Wextra -Werror
 SECONDS ?= 600
+SEED ?= 1
 PREFIX ?= /usr/local
 BUILD := build
 # the header has the version
@@ -46,7 +48,7 @@ ifndef BESIDE
 .NOTPARALLEL:
 endif
 
-.PHONY: lib shared tool install uninstall list listings tables test quick prove-all check-tool bench soak compare second examples chances clean help
+.PHONY: lib shared tool install uninstall list listings tables test quick prove-all check-tool bench soak compare compare-long second examples chances clean help
 
 lib: $(LIB)
 
@@ -123,6 +125,9 @@ tables: $(LIB) $(PROGRAM)
 
 soak: $(LIB)
 	$(CARGO) run --release --offline --quiet --manifest-path compare/Cargo.toml -- --seconds $(SECONDS)
+
+compare-long: $(LIB)
+	$(CARGO) run --release --offline --quiet --manifest-path compare/Cargo.toml -- --endless --seed $(SEED)
 
 # bench/reference.cpp is the build in C++ by sweeps over all cores, without proofs, checks and refusals of files: for speed alone
 $(BUILD)/reference: bench/reference.cpp

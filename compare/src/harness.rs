@@ -10,6 +10,7 @@ use compare::library::Answer;
 use second::sample::Random;
 
 use crate::lend::{Kind, Lender, Ticket};
+use crate::limits::{self, Class, Limit, CLASSES};
 
 /// What an entry is to answer: two values, or a refusal.
 pub type Expected = Result<(u64, u64), u8>;
@@ -45,6 +46,8 @@ pub struct Tally {
     pub yes: u64,
     pub no: u64,
     pub kinds: BTreeMap<&'static str, u64>,
+    /// Calls by line and class of the table of limits.
+    classes: BTreeMap<(usize, usize), u64>,
     pub seconds: f64,
     /// CPU seconds of the longest call.
     pub longest: f64,
@@ -64,8 +67,12 @@ pub struct Harness {
     pub random: Random,
     judged: Judged,
     lender: Lender,
+    /// The numbers of the call by which its classes are recognised.
+    counts: Vec<(&'static str, u64)>,
     tallies: BTreeMap<&'static str, Tally>,
     entry: &'static str,
+    /// The lines of the table of limits that the entry has.
+    lines: Vec<(usize, &'static Limit)>,
     verdict: bool,
     seed: u64,
     /// CPU seconds of the last call.
@@ -115,8 +122,10 @@ impl Harness {
             random: Random::new(0),
             judged: Judged::default(),
             lender: Lender::default(),
+            counts: Vec::new(),
             tallies: BTreeMap::new(),
             entry: "",
+            lines: Vec::new(),
             verdict: false,
             seed: 0,
             last: 0.0,
@@ -130,6 +139,7 @@ impl Harness {
         }
         self.random = Random::new(seed.wrapping_mul(1_000_003).wrapping_add(number));
         self.entry = entry.name;
+        self.lines = limits::of(entry.name).collect();
         self.verdict = entry.verdict;
         self.seed = seed;
         let start = Instant::now();
@@ -169,6 +179,34 @@ impl Harness {
     /// Ends the loans of the call before; to be called before the first loan.
     pub fn begin(&mut self) {
         self.lender.begin();
+        self.counts.clear();
+    }
+
+    /// Tells a number of the call that is compared, by a name of the table of
+    /// limits; after `begin`.
+    pub fn count(&mut self, counted: &'static str, number: usize) {
+        self.counts.push((counted, number as u64));
+    }
+
+    /// The numbers of a rule file: those of its trailer, and the largest count.
+    pub fn count_file(&mut self, file: &[u8]) {
+        let Some((body, trailer)) = file.split_last_chunk::<8>() else {
+            return;
+        };
+        let [states, letters] = [trailer[0], trailer[1]].map(usize::from);
+        self.count("states", states);
+        self.count("letters", letters);
+        let counts = body.iter().rev().take(states * letters);
+        self.count(
+            "clauses of an entry",
+            counts.max().map_or(0, |&most| most.into()),
+        );
+    }
+
+    /// The letters of a word.
+    pub fn count_word(&mut self, [lead, cycle]: [&[u8]; 2]) {
+        self.count("letters of the lead-in", lead.len());
+        self.count("letters of the cycle", cycle.len());
     }
 
     /// Lends an input.
@@ -270,8 +308,24 @@ impl Harness {
         if let Some(fault) = self.lender.fault() {
             self.fail(&format!("{fault}; both answer {answer}"));
         }
+        let mut seen = Vec::new();
+        for &(counted, number) in &self.counts {
+            for (line, limit) in self
+                .lines
+                .iter()
+                .filter(|(_, limit)| limit.counted == counted)
+            {
+                let holds =
+                    |class: &Class| matches!(class, Class::Numbers(own) if own.contains(&number));
+                let class = limit.classes.iter().position(holds);
+                seen.extend(class.map(|class| (*line, class)));
+            }
+        }
         let (verdict, last) = (self.verdict, self.last);
         let tally = self.tally();
+        for class in seen {
+            *tally.classes.entry(class).or_default() += 1;
+        }
         tally.longest = tally.longest.max(last);
         tally.comparisons += 1;
         match expected {
@@ -359,6 +413,29 @@ impl Harness {
                 .iter()
                 .filter(|kind| !tally.kinds.contains_key(*kind))
                 .collect();
+            if !missing.is_empty() {
+                println!("    NEVER SEEN: {missing:?}");
+                whole = false;
+            }
+            let (mut told, mut missing) = (Vec::new(), Vec::new());
+            for (line, limit) in limits::of(entry.name) {
+                let name = format!("{} {}", limit.counted, limit.number());
+                let mut own = format!("{name}:");
+                for (class, told) in CLASSES.into_iter().enumerate() {
+                    if let Class::None(_) = limit.classes[class] {
+                        continue;
+                    }
+                    let seen = tally.classes.get(&(line, class)).copied().unwrap_or(0);
+                    own += &format!(" {told} {seen}");
+                    if seen == 0 {
+                        missing.push(format!("{told} {name}"));
+                    }
+                }
+                told.push(own);
+            }
+            if !told.is_empty() {
+                println!("    limits {}", told.join("; "));
+            }
             if !missing.is_empty() {
                 println!("    NEVER SEEN: {missing:?}");
                 whole = false;

@@ -382,3 +382,61 @@ pub fn near(random: &mut Random, needed: usize) -> usize {
         _ => needed + random.below(600),
     }
 }
+
+/// A number below a limit, or above it, by at most so much; one time in three the
+/// limit itself.
+pub fn around(random: &mut Random, limit: usize, apart: usize) -> usize {
+    match random.below(3) {
+        0 => limit - random.between(1, apart),
+        1 => limit,
+        _ => limit + random.between(1, apart),
+    }
+}
+
+/// A rule of eight states, sixteen letters and eight clauses an entry, none inside
+/// another, but for `fewer` clauses in all.
+pub fn largest(random: &mut Random, fewer: usize) -> Rule {
+    let mut entries = vec![vec![Vec::new(); 16]; 8];
+    for clauses in entries.iter_mut().flatten() {
+        let size = random.between(2, 6) as u32;
+        let mut all: Vec<u8> = (0..=255)
+            .filter(|set: &u8| set.count_ones() == size)
+            .collect();
+        random.shuffle(&mut all);
+        *clauses = all[..8].to_vec();
+    }
+    for _ in 0..fewer {
+        let entry = random.below(128);
+        entries[entry / 16][entry % 16].pop();
+    }
+    Rule {
+        states: 8,
+        letters: 16,
+        initial: random.below(8),
+        accepting: if random.once_in(2) { 255 } else { 0 },
+        entries,
+    }
+}
+
+/// One rejecting component whose states, over letter 0, have to be left one after
+/// the other: on a word that goes on with letter 0 each has a rank of its own.
+/// Letter 1 closes the ring.
+pub fn ladder(random: &mut Random, states: usize) -> Rule {
+    let mut order: Vec<usize> = (0..states).collect();
+    random.shuffle(&mut order);
+    let mut entries = vec![vec![vec![]; 2]; states];
+    for place in 0..states {
+        entries[order[place]][0] = match place {
+            0 => vec![0],
+            _ => vec![1 << order[place - 1]],
+        };
+    }
+    entries[order[0]][1] = vec![1 << order[states - 1]];
+    Rule {
+        states,
+        letters: 2,
+        initial: random.below(states),
+        accepting: 0,
+        entries,
+    }
+}

@@ -1,14 +1,16 @@
 //! Compares every entry of the library with the second program. The declarations
 //! by which it is called are held to its header when this is built.
 //!
-//! `compare [--seed N] [--seconds S] [--only ENTRY]`: a seed repeats a run; with
-//! seconds it runs on with new seeds until the time is up; with a name as it is
-//! reported, that entry alone is compared.
+//! `compare [--seed N] [--seconds S] [--endless] [--only ENTRY]`: a seed repeats a
+//! run; with seconds it runs on with new seeds until the time is up, `--endless`
+//! until a difference; with a name as it is reported, that entry alone is compared. `compare --limits` prints the table of
+//! limits.
 
 mod entries;
 mod harness;
 mod input;
 mod lend;
+mod limits;
 
 use std::process::ExitCode;
 use std::time::{Duration, Instant};
@@ -30,6 +32,10 @@ fn number(flag: &str) -> Option<u64> {
 }
 
 fn main() -> ExitCode {
+    if std::env::args().any(|argument| argument == "--limits") {
+        limits::print();
+        return ExitCode::SUCCESS;
+    }
     let first_seed = number("--seed").unwrap_or(1);
     let until = number("--seconds").map(|s| Instant::now() + Duration::from_secs(s));
     let mut entries = entries::all();
@@ -43,10 +49,14 @@ fn main() -> ExitCode {
     for (number, entry) in (0..).zip(&entries) {
         harness.round(entry, number, seed, None);
     }
-    while until.is_some_and(|until| Instant::now() < until) {
+    let endless = std::env::args().any(|argument| argument == "--endless");
+    while endless || until.is_some_and(|until| Instant::now() < until) {
+        if endless {
+            println!("no difference with seed {seed}");
+        }
         seed = seed.wrapping_add(1);
         for (number, entry) in (0..).zip(&entries) {
-            if until.is_some_and(|until| Instant::now() < until) {
+            if endless || until.is_some_and(|until| Instant::now() < until) {
                 harness.round(entry, number, seed, until);
             }
         }

@@ -34,7 +34,7 @@ pub const OVER: [Stored; 2] = [
 ];
 
 /// Rules with their counts, and the counts of what matters of them.
-pub const TRIMMED: [(Stored, (usize, usize)); 2] = [
+pub const TRIMMED: [(Stored, (usize, usize)); 3] = [
     (LARGE[2], (2, 32)),
     (
         (
@@ -43,5 +43,10 @@ pub const TRIMMED: [(Stored, (usize, usize)); 2] = [
             831_710,
         ),
         (29_899, 438_932),
+    ),
+    // Letters of the one before, of which more matters.
+    (
+        (include_bytes!("../data/kept_30235.bin"), 59_437, 596_070),
+        (30_235, 312_585),
     ),
 ];

@@ -1,14 +1,18 @@
 //! The build.
 
+use std::collections::HashMap;
+use std::sync::{Arc, Mutex};
+
 use compare::library::{mulgreddi_build, Answer};
 use compare::stored::{FULL, LARGE, OVER};
-use second::build::{build, reachable, MACROSTATE_CAP, TRANSITION_CAP};
+use second::build::{build, reachable_begun, Macrostate, MACROSTATE_CAP, TRANSITION_CAP};
+use second::dual::dual;
 use second::rule::{read, Rule};
 use second::sample::{self, Random, Shape, D, E, F, I, SHAPES, Z};
 use second::tidy::tidy_rule;
 
 use crate::harness::{Entry, Harness, RULE};
-use crate::input::{any_file, prefaced, refused, varied};
+use crate::input::{any_file, ladder, prefaced, refused, varied};
 
 pub const ENTRY: Entry = Entry {
     name: "build",
@@ -40,20 +44,49 @@ fn compare_with(
     built: &Built,
 ) {
     let rooms = [macrostate_room, transition_room];
-    compare_rooms(harness, mulgreddi_build, file, rooms, built);
+    compare_rooms(harness, mulgreddi_build, file, rooms, built, built);
 }
 
-/// A call of an entry that builds, and both rooms after it.
+/// The numbers of a call that builds. 17 and 18 in a room over the cap mean more
+/// than the cap.
+fn count(harness: &mut Harness, file: &[u8], rooms: [usize; 2], reached: &Built, built: &Built) {
+    harness.count_file(file);
+    harness.count("room for codes", rooms[0]);
+    harness.count("room for transitions", rooms[1]);
+    match reached {
+        Ok((codes, transitions)) => {
+            harness.count("macrostates", codes.len());
+            harness.count("transitions", transitions.len());
+            let (rule, _) = read(file).unwrap();
+            harness.count("components", rule.components().len());
+        }
+        Err(17) if rooms[0] > MACROSTATE_CAP => harness.count("macrostates", MACROSTATE_CAP + 1),
+        Err(18) if rooms[1] > TRANSITION_CAP => harness.count("transitions", TRANSITION_CAP + 1),
+        Err(_) => {}
+    }
+    if let Ok((codes, _)) = built {
+        harness.count("macrostates kept", codes.len());
+        let rank = |&code: &u64| Macrostate::from_code(code).core.ranks.into_iter().max();
+        let rank = codes.iter().filter_map(rank).max();
+        harness.count("rank", rank.unwrap_or(0).into());
+    }
+}
+
+/// A call of an entry that builds, and both rooms after it. What is reached may be
+/// more than what is built.
 pub fn compare_rooms(
     harness: &mut Harness,
     build: Build,
     file: &[u8],
     [macrostate_room, transition_room]: [usize; 2],
+    reached: &Built,
     built: &Built,
 ) {
     let codes = harness.pattern(macrostate_room * 8);
     let transitions = harness.pattern(transition_room * 8);
     harness.begin();
+    let rooms = [macrostate_room, transition_room];
+    count(harness, file, rooms, reached, built);
     let file = harness.lend("file", file);
     let lent_codes = harness.lend_room("codes", &codes);
     let lent_transitions = harness.lend_room("transitions", &transitions);
@@ -96,6 +129,15 @@ pub fn compare_rooms(
 }
 
 fn examples(harness: &mut Harness) {
+    let compare_built = |harness: &mut Harness, file: &[u8], rooms: [usize; 2], built: &Built| {
+        compare_with(harness, file, rooms[0], rooms[1], built);
+    };
+    limits(
+        harness,
+        <[u8]>::to_vec,
+        |file| stored(file, true),
+        compare_built,
+    );
     for (number, file) in refused() {
         for rooms in [(0, 0), (9, 9)] {
             harness.by_01(&build(file, rooms.0, rooms.1), &Err(number));
@@ -153,14 +195,96 @@ fn one_component(harness: &mut Harness) {
     }
 }
 
+/// The table that the second program builds of a rule that is stored, or of the
+/// words that it rejects, whatever the room: once in a run, since it takes long.
+pub fn stored(file: &[u8], accepted: bool) -> Arc<(Vec<u64>, Vec<u64>)> {
+    type Tables = HashMap<(Vec<u8>, bool), Arc<(Vec<u64>, Vec<u64>)>>;
+    static TABLES: Mutex<Option<Tables>> = Mutex::new(None);
+    let mut tables = TABLES.lock().unwrap();
+    let tables = tables.get_or_insert_default();
+    let table = tables.entry((file.to_vec(), accepted)).or_insert_with(|| {
+        let (rule, _) = read(file).unwrap();
+        Arc::new(reachable_begun(&rule, accepted, usize::MAX, usize::MAX).unwrap())
+    });
+    table.clone()
+}
+
+/// A stored rule turned round: what it accepts, the other rejects.
+pub fn turned(file: &[u8]) -> Vec<u8> {
+    sample::file(&dual(&read(file).unwrap().0))
+}
+
+/// What is built in rooms of these lengths, of which no more than the caps counts.
+pub fn in_rooms(rooms: [usize; 2], table: &(Vec<u64>, Vec<u64>)) -> Built {
+    let counted = [rooms[0].min(MACROSTATE_CAP), rooms[1].min(TRANSITION_CAP)];
+    within(counted, &Ok(table.clone()))
+}
+
+/// The rules of a build's limits: eight and seven components, ranks of five and six,
+/// a small one in rooms around the caps, and the stored ones. `own` gives the file of
+/// the rule that is built from such a rule, `table` what the second program builds.
+pub fn limits(
+    harness: &mut Harness,
+    own: fn(&[u8]) -> Vec<u8>,
+    table: fn(&[u8]) -> Arc<(Vec<u64>, Vec<u64>)>,
+    compare: fn(&mut Harness, &[u8], [usize; 2], &Built),
+) {
+    let mut files = Vec::new();
+    for states in [7, 8, 8] {
+        let letters = harness.random.between(1, 3);
+        files.push(varied(
+            &mut harness.random,
+            Shape::VeryWeak,
+            states,
+            letters,
+        ));
+    }
+    for states in [5, 6] {
+        files.push(ladder(&mut harness.random, states));
+    }
+    for rule in files {
+        let file = own(&sample::file(&rule));
+        let Ok(_) = read(&file) else { continue };
+        let built = table(&file);
+        let rooms = [built.0.len(), built.1.len()];
+        compare(harness, &file, rooms, &in_rooms(rooms, &built));
+        compare(
+            harness,
+            &file,
+            [70_000, 300_000],
+            &in_rooms([70_000, 300_000], &built),
+        );
+    }
+    let small = table(&F);
+    for (codes, transitions) in [(0, 0), (1, 1), (2, 2)] {
+        let random = &mut harness.random;
+        let room = |random: &mut Random, cap: usize, kind: usize| match kind {
+            0 => cap - random.between(1, 36),
+            1 => cap,
+            _ => cap + random.between(1, cap),
+        };
+        let rooms = [
+            room(random, MACROSTATE_CAP, codes),
+            room(random, TRANSITION_CAP, transitions),
+        ];
+        compare(harness, &F, rooms, &in_rooms(rooms, &small));
+    }
+    for (file, macrostates, transitions) in [LARGE[0]].into_iter().chain(FULL).chain(OVER) {
+        let file = own(file);
+        let built = table(&file);
+        harness.by_01(&(built.0.len(), built.1.len()), &(macrostates, transitions));
+        let more = [1, 1].map(|_| harness.random.between(1, 99));
+        let rooms = [MACROSTATE_CAP + more[0], TRANSITION_CAP + more[1]];
+        compare(harness, &file, rooms, &in_rooms(rooms, &built));
+    }
+}
+
 fn large(harness: &mut Harness) {
     for (file, macrostates, transitions) in LARGE.into_iter().chain(FULL) {
-        let built = build(file, MACROSTATE_CAP, TRANSITION_CAP);
+        let built = in_rooms([MACROSTATE_CAP, TRANSITION_CAP], &stored(file, true));
         let counts = built.as_ref().map(|(c, t)| (c.len(), t.len()));
         harness.by_01(&counts, &Ok((macrostates, transitions)));
         compare_with(harness, file, macrostates, transitions, &built);
-        let (most, all) = (MACROSTATE_CAP + 9, TRANSITION_CAP + 9);
-        compare_with(harness, file, most, all, &built);
         compare_with(harness, &file, macrostates - 1, transitions, &Err(17));
         compare_with(harness, file, macrostates, transitions - 1, &Err(18));
     }
@@ -169,10 +293,8 @@ fn large(harness: &mut Harness) {
 /// "Room counts at most 65,536 macrostates and 1,048,576 transitions."
 fn over_the_caps(harness: &mut Harness) {
     for ((file, macrostates, transitions), number) in OVER.into_iter().zip([17, 18]) {
-        let (rule, _) = read(file).unwrap();
-        let (codes, listed) = reachable(&rule, macrostates, transitions).unwrap();
-        harness.by_01(&(codes.len(), listed.len()), &(macrostates, transitions));
-        harness.by_01(&build(file, macrostates, transitions), &Err(number));
+        let built = in_rooms([macrostates, transitions], &stored(file, true));
+        harness.by_01(&built, &Err(number));
         for more in [0, 1, 99] {
             let (codes, listed) = (macrostates + more, transitions + more);
             compare_with(harness, file, codes, listed, &Err(number));

@@ -38,14 +38,23 @@ fn compare(harness: &mut Harness, rule: &Rule) {
     harness.agree(&stepped.as_ref(), &Ok(&built));
     let rooms = [built.0.len(), built.1.len()];
     let ample = [rejecting.0.len() + 1, rejecting.1.len() + 1];
-    compare_rooms(harness, mulgreddi_build, &file, rooms, &Ok(built));
-    compare_rooms(harness, mulgreddi_build_trimmed, &file, rooms, &Ok(trimmed));
+    let (built, trimmed, rejecting) = (Ok(built), Ok(trimmed), Ok(rejecting));
+    compare_rooms(harness, mulgreddi_build, &file, rooms, &built, &built);
+    compare_rooms(
+        harness,
+        mulgreddi_build_trimmed,
+        &file,
+        rooms,
+        &built,
+        &trimmed,
+    );
     compare_rooms(
         harness,
         mulgreddi_build_rejecting,
         &file,
         ample,
-        &Ok(rejecting),
+        &rejecting,
+        &rejecting,
     );
     if rule.components().len() < rule.states {
         harness.saw("with components of several states");

@@ -8,7 +8,7 @@ use second::build::{reachable_begun, MACROSTATE_CAP, TRANSITION_CAP};
 use second::rule::read;
 use second::sample::{self, D, E, F, I, SHAPES, Z};
 
-use super::build::{compare_rooms, rooms_near, small_rule, within, Built};
+use super::build::{compare_rooms, limits, rooms_near, small_rule, stored, turned, within, Built};
 use crate::harness::{Entry, Harness, RULE};
 use crate::input::{any_file, prefaced, refused, varied};
 
@@ -36,10 +36,18 @@ fn compare(harness: &mut Harness, file: &[u8], rooms: [usize; 2]) {
 
 /// Compares with what the second program has built already.
 fn compare_with(harness: &mut Harness, file: &[u8], rooms: [usize; 2], built: &Built) {
-    compare_rooms(harness, mulgreddi_build_rejecting, file, rooms, built);
+    compare_rooms(
+        harness,
+        mulgreddi_build_rejecting,
+        file,
+        rooms,
+        built,
+        built,
+    );
 }
 
 fn examples(harness: &mut Harness) {
+    limits(harness, turned, |file| stored(file, false), compare_with);
     for (number, file) in refused() {
         for rooms in [[0, 0], [9, 9]] {
             harness.by_01(&rejecting(file, rooms), &Err(number));

@@ -1,14 +1,16 @@
 //! The build of the macrostates that matter.
 
 use compare::library::mulgreddi_build_trimmed;
-use compare::stored::{FULL, OVER, TRIMMED};
+use compare::stored::{OVER, TRIMMED};
 use second::build::{build, MACROSTATE_CAP, TRANSITION_CAP};
 use second::rule::read;
 use second::sample::{self, D, E, F, I, SHAPES, Z};
 use second::table::Table;
 use second::trim::trim;
 
-use super::build::{compare_rooms, rooms_near, small_rule, within, Built};
+use super::build::{
+    compare_rooms, in_rooms, limits, rooms_near, small_rule, stored, within, Built,
+};
 use crate::harness::{Entry, Harness, RULE};
 use crate::input::{any_file, prefaced, refused, varied};
 
@@ -41,7 +43,14 @@ fn compare_with(harness: &mut Harness, file: &[u8], rooms: [usize; 2], built: &B
         }
         Err(number) => Err(*number),
     };
-    compare_rooms(harness, mulgreddi_build_trimmed, file, rooms, &trimmed);
+    compare_rooms(
+        harness,
+        mulgreddi_build_trimmed,
+        file,
+        rooms,
+        built,
+        &trimmed,
+    );
 }
 
 /// One rejecting state that stays: it accepts no word, and no macrostate is a
@@ -52,6 +61,12 @@ const STAYS: &[u8] = &[1, 1, 1, 1, 0, 0, 1, 0, 0x41, 0x57];
 type Counts = [(usize, usize); 2];
 
 fn examples(harness: &mut Harness) {
+    limits(
+        harness,
+        <[u8]>::to_vec,
+        |file| stored(file, true),
+        compare_with,
+    );
     for (number, file) in refused() {
         for rooms in [[0, 0], [9, 9]] {
             harness.by_01(&build(file, rooms[0], rooms[1]), &Err(number));
@@ -93,19 +108,14 @@ fn examples(harness: &mut Harness) {
         }
     }
     for ((file, macrostates, transitions), after) in TRIMMED {
-        let built = build(file, MACROSTATE_CAP, TRANSITION_CAP);
-        let (codes, listed) = built.as_ref().unwrap();
-        harness.by_01(&(codes.len(), listed.len()), &(macrostates, transitions));
-        let (codes, listed) = trim(codes, listed);
+        let table = stored(file, true);
+        harness.by_01(&(table.0.len(), table.1.len()), &(macrostates, transitions));
+        let (codes, listed) = trim(&table.0, &table.1);
         harness.by_01(&(codes.len(), listed.len()), &after);
-        compare_with(harness, file, [macrostates, transitions], &built);
-        let (most, all) = (MACROSTATE_CAP + 9, TRANSITION_CAP + 9);
-        compare_with(harness, file, [most, all], &built);
+        let rooms = [macrostates, transitions];
+        compare_with(harness, file, rooms, &in_rooms(rooms, &table));
         compare_with(harness, file, [macrostates - 1, transitions], &Err(17));
         compare_with(harness, file, [macrostates, transitions - 1], &Err(18));
-    }
-    for (file, macrostates, transitions) in FULL {
-        compare(harness, file, [macrostates, transitions]);
     }
     for ((file, macrostates, transitions), number) in OVER.into_iter().zip([17, 18]) {
         compare_with(harness, file, [macrostates, transitions], &Err(number));

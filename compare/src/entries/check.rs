@@ -7,7 +7,7 @@ use second::rule::check;
 use second::sample;
 
 use crate::harness::{Entry, Harness, Seen, RULE};
-use crate::input::{any_file, limit_file, plain, refused, LIMITS, RULES};
+use crate::input::{any_file, largest, limit_file, plain, refused, LIMITS, RULES};
 
 pub const ENTRY: Entry = Entry {
     name: "check",
@@ -25,13 +25,34 @@ pub const ENTRY: Entry = Entry {
 fn compare(harness: &mut Harness, file: &[u8]) -> Seen {
     let expected = check(file).map(|(preface, names)| (preface as u64, names as u64));
     harness.begin();
+    harness.count_file(file);
+    if let Ok((preface, names)) = expected {
+        let marked = if names > 0 { names + 2 } else { 0 };
+        let behind = file.len() - preface as usize + marked as usize;
+        harness.count("bytes behind the preface", behind);
+    }
     let lent = harness.lend("file", file);
     let file = harness.bytes(lent);
     harness.call(expected, || unsafe { mulgreddi_check(file.0, file.1) });
     Seen(expected)
 }
 
+/// The largest files with names, and somewhat smaller ones.
+fn limits(harness: &mut Harness) {
+    for fewer in [0, 1, 64, 128] {
+        let random = &mut harness.random;
+        let rule = largest(random, random.clone().below(fewer + 1));
+        let length = random.below(40);
+        let mut file = plain(random, length);
+        file.extend(sample::names(random, 16));
+        file.extend(MARK);
+        file.extend(sample::file(&rule));
+        compare(harness, &file);
+    }
+}
+
 fn examples(harness: &mut Harness) {
+    limits(harness);
     names(harness);
     for (number, file) in refused() {
         let expected = compare(harness, file);
@@ -106,7 +127,11 @@ fn names(harness: &mut Harness) {
             &[0x4e, 0x4e],
             &[0x4d, 0x4d],
         ] {
-            said(harness, &[&names[..], mark].concat(), s, Ok(0));
+            let preface = [&names[..], mark].concat();
+            // A name may end with the mark's first byte.
+            if !preface.ends_with(&MARK) {
+                said(harness, &preface, s, Ok(0));
+            }
         }
         for last in 0..=255 {
             let file = [marked(&names), vec![last]].concat();

@@ -37,6 +37,8 @@ fn compare_with(
 ) -> Seen {
     let masks = harness.pattern(room);
     harness.begin();
+    harness.count_file(file);
+    harness.count_word(word);
     let file = harness.lend("file", file);
     let lead = harness.lend("lead-in", word[0]);
     let cycle = harness.lend("cycle", word[1]);

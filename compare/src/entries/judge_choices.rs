@@ -1,9 +1,9 @@
 //! The judge that shows which clause carried the verdict.
 
 use compare::library::mulgreddi_judge_choices;
-use second::choices::{judge_choices, Judged, FALSE};
+use second::choices::{distances, judge_choices, Judged, FALSE};
 use second::game;
-use second::rule::read;
+use second::rule::{read, Rule};
 use second::sample::{self, Shape, D, F, I};
 use second::word::Word;
 
@@ -36,6 +36,11 @@ pub fn compare_with(
     let masks = harness.pattern(rooms[0]);
     let choices = harness.pattern(rooms[1]);
     harness.begin();
+    harness.count_file(file);
+    harness.count_word(word);
+    if let Ok(judged) = &judged {
+        harness.count("distance", farthest(file, word, &judged.masks));
+    }
     let file = harness.lend("file", file);
     let lead = harness.lend("lead-in", word[0]);
     let cycle = harness.lend("cycle", word[1]);
@@ -69,12 +74,66 @@ pub fn compare_with(
     Seen(expected)
 }
 
+/// The largest distance of a pair. A short word has none that counts.
+fn farthest(file: &[u8], [lead, cycle]: [&[u8]; 2], masks: &[u8]) -> usize {
+    let (rule, _) = read(file).unwrap();
+    if (lead.len() + cycle.len()) * rule.states < 224 {
+        return 0;
+    }
+    let word = Word { lead, cycle };
+    let distances = distances(&rule, &word, masks).into_iter().flatten();
+    distances.flatten().max().unwrap_or(0)
+}
+
+/// A component of eight states in a ring that goes on by a letter which a turn of
+/// the cycle has once: a state is left after as many turns as are before it.
+fn limits(harness: &mut Harness) {
+    for kind in 0..12 {
+        let random = &mut harness.random;
+        let mut order: Vec<u8> = (0..8).collect();
+        random.shuffle(&mut order);
+        let mut entries = vec![vec![vec![]; 3]; 8];
+        for (place, &q) in order.iter().enumerate() {
+            let entry = &mut entries[q as usize];
+            let next = order.get(place + 1).map_or(0, |next| 1 << next);
+            *entry = vec![vec![1 << q], vec![next], vec![1 << order[0]]];
+            if random.once_in(4) && place < 7 {
+                // A choice that goes back.
+                entry[1].insert(random.below(2), 1 << order[random.below(place + 1)]);
+            }
+        }
+        let rule = Rule {
+            states: 8,
+            letters: 3,
+            initial: order[0] as usize,
+            accepting: 0,
+            entries,
+        };
+        // From the first place eight turns of the cycle, after the lead-in.
+        let farthest = match kind {
+            0 => 288,
+            1 | 2 => 255,
+            3..=6 => random.between(225, 254),
+            _ => random.between(256, 287),
+        };
+        let lengths = (1..=32).filter(|cycle| (8 * cycle..=8 * cycle + 32).contains(&farthest));
+        let length = *random.pick(&lengths.collect::<Vec<usize>>());
+        let lead = farthest - 8 * length;
+        let mut cycle = vec![0; length];
+        cycle[length - 1] = 1;
+        let (file, word) = (sample::file(&rule), [&vec![0; lead][..], &cycle]);
+        let places = lead + length;
+        compare(harness, &file, word, [places, 8 * places]);
+    }
+}
+
 /// States 0 and 1 are one rejecting component: state 0 may stay or go on to
 /// state 1, state 1 may go back or leave to state 2, which is done. The first
 /// clause of each is true for ever, and never leaves.
 const STAYS: &[u8] = &[1, 2, 1, 4, 0, 2, 2, 1, 3, 1, 0, 0, 5, 0, 0x41, 0x57];
 
 fn examples(harness: &mut Harness) {
+    limits(harness);
     for (number, file) in refused() {
         let expected = compare(harness, file, [&[], &[]], [0, 0]);
         harness.by_01(&expected.0, &Err(number));

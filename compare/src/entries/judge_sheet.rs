@@ -1,10 +1,13 @@
 //! Sheets of words, judged on one rule.
 
+use std::collections::BTreeSet;
+
 use compare::library::mulgreddi_judge_sheet;
 use second::game;
 use second::rule::read;
 use second::sample::{letters, Random, F, I};
-use second::sheet::{entries, judge_sheet, MASKS, WORDS};
+use second::sheet::{entries, judge_sheet, Entry as SheetEntry, MASKS, WORDS};
+use second::spelling::tidy_word;
 
 use crate::harness::{Entry, Harness, Seen, RULE};
 use crate::input::{any_file, good_file, near, refused, respelled};
@@ -34,6 +37,18 @@ fn compare(harness: &mut Harness, file: &[u8], sheet: &[u8], rooms: [usize; 2]) 
     let answers = harness.pattern(rooms[0]);
     let masks = harness.pattern(rooms[1]);
     harness.begin();
+    harness.count_file(file);
+    harness.count("bytes of the sheet", sheet.len());
+    let entries = entries(sheet);
+    harness.count("words", entries.len());
+    for entry in &entries[..entries.len().min(WORDS)] {
+        if let SheetEntry::Whole(lead, cycle) = entry {
+            harness.count_word([lead, cycle]);
+        }
+    }
+    if let Ok(judged) = &judged {
+        harness.count("cycles", judged.cycles);
+    }
     let file = harness.lend("file", file);
     let sheet = harness.lend("sheet", sheet);
     let lent_answers = harness.lend_out("answers", &answers);
@@ -82,7 +97,70 @@ fn compare(harness: &mut Harness, file: &[u8], sheet: &[u8], rooms: [usize; 2]) 
 /// A sheet with its answer bytes and the number of its cycles.
 type Case<'a> = (&'a [u8], &'a [u8], u64);
 
+/// Sheets of many different cycles, and long ones of faulty words.
+fn limits(harness: &mut Harness) {
+    for kind in 0..12 {
+        let random = &mut harness.random;
+        let file = good_file(random);
+        let letters_of = read(&file).unwrap().0.letters;
+        let file = if letters_of < 2 { I.to_vec() } else { file };
+        let cycles = if kind < 2 { 64 } else { random.between(45, 64) };
+        let words = random.between(cycles, 64);
+        let (mut sheet, mut known) = (Vec::new(), BTreeSet::new());
+        for number in 0..words {
+            let (mut lead, mut cycle);
+            loop {
+                let lengths = [random.between(0, 32), random.between(1, 32)];
+                lead = letters(random, letters_of.max(2), lengths[0]);
+                cycle = letters(random, letters_of.max(2), lengths[1]);
+                // The last words have no cycle.
+                if number >= cycles {
+                    cycle.clear();
+                    break;
+                }
+                if known.insert(tidy_word(&lead, &cycle).unwrap().1) {
+                    break;
+                }
+            }
+            sheet.extend([lead.len() as u8, cycle.len() as u8]);
+            sheet.extend(lead.iter().chain(&cycle));
+        }
+        let rooms = [words, MASKS * words];
+        let seen = compare(harness, &file, &sheet, rooms);
+        harness.by_01(&seen.0, &Ok((words as u64, cycles as u64)));
+        alone(harness, &file, &sheet, rooms);
+    }
+    // 64 words with all the letters that two bytes can say.
+    let mut sheet = Vec::new();
+    for _ in 0..70 {
+        sheet.extend([255, 255]);
+        sheet.extend(letters(&mut harness.random, 2, 510));
+    }
+    for length in [32_767, 32_768, 32_769, 33_280] {
+        compare(harness, &F, &sheet[..length], [64, 4_096]);
+    }
+    let length = harness.random.between(32_000, 33_500);
+    compare(harness, &F, &sheet[..length], [64, 4_096]);
+}
+
+/// Each word of a sheet that is served alone, as a game.
+fn alone(harness: &mut Harness, file: &[u8], sheet: &[u8], rooms: [usize; 2]) {
+    let (rule, _) = read(file).unwrap();
+    let judged = judge_sheet(file, sheet, rooms[0], rooms[1]).unwrap();
+    for (number, entry) in entries(sheet).iter().enumerate() {
+        let word = entry.word(&rule);
+        if word.is_ok() {
+            harness.judged(true, true);
+            harness.saw("word as a game too");
+        }
+        let mut alone = word.map_or(vec![], |word| game::masks(&rule, &word));
+        alone.resize(MASKS, 0);
+        harness.agree(&&judged.masks[MASKS * number..][..MASKS], &&alone[..]);
+    }
+}
+
 fn examples(harness: &mut Harness) {
+    limits(harness);
     let over = [0, 1, 1].repeat(65);
     for (number, file) in refused() {
         let expected = compare(harness, file, &over, [0, 0]);
@@ -210,8 +288,7 @@ fn random(harness: &mut Harness) {
     } else {
         good_file(random)
     };
-    let read = read(&file);
-    let alphabet = read.as_ref().map_or(2, |(rule, _)| rule.letters);
+    let alphabet = read(&file).map_or(2, |(rule, _)| rule.letters);
     let words = match random.below(24) {
         0 => random.between(60, 66),
         1 => 64,
@@ -246,18 +323,7 @@ fn random(harness: &mut Harness) {
         _ => [answers, masks],
     };
     let seen = compare(harness, &file, &sheet, rooms);
-    // Each word alone, as a game.
-    if let (Ok(_), Ok((rule, _))) = (seen.0, &read) {
-        let judged = judge_sheet(&file, &sheet, rooms[0], rooms[1]).unwrap();
-        for (number, entry) in entries(&sheet).iter().enumerate() {
-            let word = entry.word(rule);
-            if word.is_ok() {
-                harness.judged(true, true);
-                harness.saw("word as a game too");
-            }
-            let mut alone = word.map_or(vec![], |word| game::masks(rule, &word));
-            alone.resize(MASKS, 0);
-            harness.agree(&&judged.masks[MASKS * number..][..MASKS], &&alone[..]);
-        }
+    if seen.0.is_ok() {
+        alone(harness, &file, &sheet, rooms);
     }
 }

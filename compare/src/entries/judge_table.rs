@@ -9,8 +9,9 @@ use second::rule::Rule;
 use second::sample::{self, letters, Random, D, F, I, SHAPES, Z};
 use second::table::judge_table;
 
+use super::build::stored;
 use crate::harness::{Entry, Expected, Harness, Seen, RULE};
-use crate::input::{any_file, near, refused, varied, word};
+use crate::input::{any_file, around, limit_file, near, refused, varied, word};
 
 pub const ENTRY: Entry = Entry {
     name: "judge_table",
@@ -33,6 +34,14 @@ fn compare(
     let expected = judged.map(|start| start.map_or((0, 0), |number| (1, number as u64)));
     let scratch = harness.pattern(room);
     harness.begin();
+    harness.count_file(file);
+    harness.count_word(word);
+    harness.count("codes", table[0].len() / 8);
+    harness.count("transitions", table[1].len() / 8);
+    if expected.is_ok() {
+        let places = word[0].len() + word[1].len();
+        harness.count("nodes", table[0].len() / 8 * places);
+    }
     let file = harness.lend("file", file);
     let lead = harness.lend("lead-in", word[0]);
     let cycle = harness.lend("cycle", word[1]);
@@ -82,7 +91,97 @@ fn compare_table(
     compare(harness, file, word, [&codes, &transitions], room)
 }
 
+/// Tables around the most codes, and around as many transitions as a build can have,
+/// with the number of letters of a rule of one state: made up, each macrostate with
+/// a few transitions or with all to some.
+pub fn large_tables(random: &mut Random) -> Vec<(Vec<u64>, Vec<u64>, usize)> {
+    let mut tables = Vec::new();
+    for count in [65_535, 65_536, 65_537, around(random, 65_536, 400)] {
+        let s = random.between(1, 3);
+        let mut codes: Vec<u64> = (0..count as u64)
+            .map(|m| m << 4 | (m % 8 / 7) << 44 | 1)
+            .collect();
+        codes.sort_unstable();
+        let next = random.between(1, count - 1);
+        let mut transitions = Vec::new();
+        for source in 0..count.min(65_536) {
+            for letter in 0..s {
+                let target = (source + next * (letter + 1)) % count.min(65_536);
+                transitions.push((source << 24 | letter << 16 | target) as u64);
+            }
+        }
+        tables.push((codes, transitions, s));
+    }
+    let mut full = Vec::new();
+    for source in 0..262u64 {
+        for letter in 0..16 {
+            full.extend((0..262).map(|target| source << 24 | letter << 16 | target));
+        }
+    }
+    let codes: Vec<u64> = (0..262).map(|m| (m % 2) << 44 | m << 8 | 1).collect();
+    let codes = {
+        let mut codes = codes;
+        codes.sort_unstable();
+        codes
+    };
+    for count in [
+        (1 << 20) - 1,
+        1 << 20,
+        (1 << 20) + 1,
+        around(random, 1 << 20, 40_000),
+    ] {
+        // As many of all transitions, left out here and there.
+        let mut left = full.len() - count;
+        let mut transitions = full.clone();
+        let often = full.len() / (left + 1);
+        let from = random.below(often.max(1));
+        let mut number = 0;
+        transitions.retain(|_| {
+            number += 1;
+            let out = left > 0 && (number + from) % often.max(1) == 0;
+            left -= usize::from(out);
+            !out
+        });
+        transitions.truncate(count);
+        tables.push((codes.clone(), transitions, 16));
+    }
+    tables
+}
+
+/// Tables at their limits with short words, and the most nodes that a call has.
+fn limits(harness: &mut Harness) {
+    for (codes, transitions, s) in large_tables(&mut harness.random) {
+        let file = limit_file(1, s, 1);
+        let lead = letters(&mut harness.random, s, 1);
+        let cycle = letters(&mut harness.random, s, 2);
+        compare_table(harness, &file, [&lead, &cycle], &codes, &transitions);
+    }
+    // Two chains of all macrostates, over letter 0 the accepting one.
+    for (count, lead, cycle) in [(65_536, 32, 32), (65_536, 31, 32), (30_000, 3, 9)] {
+        let random = &mut harness.random;
+        let count = count - if lead == 3 { random.below(3_000) } else { 0 };
+        let (lead, cycle) = (letters(random, 2, lead), letters(random, 2, cycle));
+        let mut codes: Vec<u64> = (0..count as u64)
+            .map(|m| m << 4 | (m % 2) << 44 | 1)
+            .collect();
+        codes.sort_unstable();
+        let next = random.between(1, 999);
+        let transitions: Vec<u64> = (0..count)
+            .flat_map(|m| [(m, 0, (m + next) % count), (m, 1, (m + 1) % count)])
+            .map(|(source, letter, target)| (source << 24 | letter << 16 | target) as u64)
+            .collect();
+        compare_table(
+            harness,
+            &limit_file(1, 2, 1),
+            [&lead, &cycle],
+            &codes,
+            &transitions,
+        );
+    }
+}
+
 fn examples(harness: &mut Harness) {
+    limits(harness);
     let one: [&[u8]; 2] = [&[], &[0]];
     for (number, file) in refused() {
         let expected = compare(harness, file, [&[], &[]], [&[1], &[]], 0);
@@ -145,7 +244,7 @@ fn examples(harness: &mut Harness) {
         }
     }
     long_tables(harness);
-    large_tables(harness);
+    built_tables(harness);
     slow_tables(harness);
 }
 
@@ -220,13 +319,15 @@ fn long_tables(harness: &mut Harness) {
 }
 
 /// Built tables of tens of thousands of macrostates.
-fn large_tables(harness: &mut Harness) {
+fn built_tables(harness: &mut Harness) {
     for (file, macrostates, transitions) in LARGE {
-        let (codes, transitions) = build(&file, macrostates, transitions).unwrap();
+        let table = stored(file, true);
+        let (codes, listed) = &*table;
+        harness.by_01(&(codes.len(), listed.len()), &(macrostates, transitions));
         for _ in 0..2 {
             let lead = letters(&mut harness.random, 16, 1);
             let cycle = letters(&mut harness.random, 16, 2);
-            compare_table(harness, &file, [&lead, &cycle], &codes, &transitions);
+            compare_table(harness, file, [&lead, &cycle], codes, listed);
         }
     }
 }

@@ -10,11 +10,12 @@ use second::live::{Lent, Log};
 use second::rule::read;
 use second::sample::{self, Random, D, E, F, I, SHAPES, Z};
 use second::table::Table;
-use second::trim::build_trimmed;
+use second::trim::{build_trimmed, trim};
 
-use super::judge_table::{bytes, damage, fault, made_up};
+use super::build::stored;
+use super::judge_table::{bytes, damage, fault, large_tables, made_up};
 use crate::harness::{Entry, Expected, Harness, RULE};
-use crate::input::{any_file, near, refused, varied};
+use crate::input::{any_file, limit_file, near, refused, varied};
 
 pub const ENTRY: Entry = Entry {
     name: "live",
@@ -191,6 +192,15 @@ fn compare(
     // Whatever the set's slice held, "written alone".
     let pattern = harness.pattern(room);
     harness.begin();
+    harness.count_file(input.file);
+    harness.count("codes", input.codes.len() / 8);
+    harness.count("transitions", input.transitions.len() / 8);
+    match (call, &answer) {
+        (Call::Mark(mark) | Call::Return(mark), _) => harness.count("mark", mark as usize),
+        (Call::Arrive(_), Err(30)) => harness.count("letters held", 513),
+        (_, Ok((_, (letters, _)))) => harness.count("letters held", *letters as usize),
+        _ => {}
+    }
     let file = harness.lend("file", input.file);
     let codes = harness.lend("codes", input.codes);
     let transitions = harness.lend("transitions", input.transitions);
@@ -506,6 +516,27 @@ fn full(harness: &mut Harness, input: Input) {
     short_states(harness, input, &history.state);
 }
 
+/// Tables around the most codes and around the most transitions of a build.
+fn limits(harness: &mut Harness) {
+    for (codes, transitions, s) in large_tables(&mut harness.random) {
+        let file = limit_file(1, s, 1);
+        let (codes, transitions) = (bytes(&codes), bytes(&transitions));
+        let input = Input {
+            file: &file,
+            codes: &codes,
+            transitions: &transitions,
+        };
+        let Some(mut history) = History::start(harness, input) else {
+            continue;
+        };
+        for _ in 0..3 {
+            let call = Call::Arrive(harness.random.below(s) as u32);
+            history.call(harness, call);
+        }
+        history.call(harness, Call::Withdraw);
+    }
+}
+
 /// As many macrostates as row 15 lets pass, all initial for F, and one more.
 fn most_codes(harness: &mut Harness) {
     let codes: Vec<u64> = (0..65_537).map(|m| 2 * m + 1).collect();
@@ -539,6 +570,7 @@ fn most_codes(harness: &mut Harness) {
 }
 
 fn examples(harness: &mut Harness) {
+    limits(harness);
     refused_files(harness);
     for file in [&F[..], &D, &E, &I, &Z] {
         let (codes, transitions) = build_trimmed(file, 99, 99).unwrap();
@@ -559,8 +591,9 @@ fn examples(harness: &mut Harness) {
     }
     most_codes(harness);
     // A table of tens of thousands of macrostates.
-    let (file, macrostates, transitions) = TRIMMED[1].0;
-    let (codes, transitions) = build_trimmed(file, macrostates, transitions).unwrap();
+    let (file, ..) = TRIMMED[1].0;
+    let table = stored(file, true);
+    let (codes, transitions) = trim(&table.0, &table.1);
     let (codes, transitions) = (bytes(&codes), bytes(&transitions));
     let input = Input {
         file,

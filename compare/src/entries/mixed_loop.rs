@@ -32,6 +32,10 @@ fn compare(harness: &mut Harness, file: &[u8], room: usize) -> Seen {
     });
     let out = harness.pattern(room);
     harness.begin();
+    harness.count_file(file);
+    if let Ok(states) = &found {
+        harness.count("states of the loop", states.len());
+    }
     let file = harness.lend("file", file);
     let lent = harness.lend_out("out", &out);
     let expected = match found {

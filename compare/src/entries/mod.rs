@@ -3,6 +3,7 @@
 
 use crate::harness::Entry;
 
+mod both_tables;
 mod build;
 mod build_by_text;
 mod build_rejecting;
@@ -20,6 +21,7 @@ mod runs;
 mod same_rules;
 mod same_words;
 mod stricter;
+mod stricter_by_words;
 mod tidy;
 mod tidy_word;
 mod translate;
@@ -52,5 +54,7 @@ pub fn all() -> Vec<Entry> {
         build_by_text::ENTRY,
         choices_by_plans::ENTRY,
         runs::ENTRY,
+        stricter_by_words::ENTRY,
+        both_tables::ENTRY,
     ]
 }

@@ -8,6 +8,8 @@ use second::hoa::{carried, propositions, read_hoa, text_of};
 use second::rule::{read, Rule};
 use second::sample::{Random, D, F, I};
 
+use super::build::stored;
+use super::judge_table::large_tables;
 use super::write_hoa::TEXT_OF_F;
 use crate::harness::{Entry, Expected, Harness, Seen};
 use crate::input::{limit_file, near};
@@ -50,6 +52,12 @@ fn compare(harness: &mut Harness, text: &[u8], rooms: [usize; 2]) -> Seen {
     let flags = harness.pattern(rooms[0]);
     let transitions = harness.pattern(8 * rooms[1]);
     harness.begin();
+    if let Some(states) = states_of(text) {
+        harness.count("states", states);
+    }
+    if let Ok(carried) = &read {
+        harness.count("transitions", carried.transitions.len());
+    }
     let text = harness.lend("text", text);
     let lent_flags = harness.lend_out("flags", &flags);
     let lent_transitions = harness.lend_room("transitions", &transitions);
@@ -82,6 +90,14 @@ fn compare(harness: &mut Harness, text: &[u8], rooms: [usize; 2]) -> Seen {
     Seen(expected)
 }
 
+/// The number on the line of the states.
+fn states_of(text: &[u8]) -> Option<usize> {
+    let text = text.strip_prefix(b"HOA: v1\nStates: ")?;
+    let digits = text.iter().take_while(|byte| byte.is_ascii_digit());
+    let digits: Vec<u8> = digits.take(9).copied().collect();
+    String::from_utf8(digits).ok()?.parse().ok()
+}
+
 /// A rule of one state and s letters.
 fn rule(s: usize) -> Rule {
     read(&limit_file(1, s, 1)).unwrap().0
@@ -97,7 +113,17 @@ fn texts() -> [Vec<u8>; 3] {
     ]
 }
 
+/// The texts of tables around the most codes and around the most transitions of a
+/// build; no table has 65,537 codes, but what would be its text is lent too.
+fn limits(harness: &mut Harness) {
+    for (codes, transitions, s) in large_tables(&mut harness.random) {
+        let text = text_of(&rule(s), &codes, &transitions).into_bytes();
+        compare(harness, &text, [codes.len(), transitions.len()]);
+    }
+}
+
 fn examples(harness: &mut Harness) {
+    limits(harness);
     let used = b"0123456789 \n[]!&t{}StateHOA:-\t\r\x00\xff";
     for text in texts() {
         for rooms in [[9, 9], [0, 0]] {
@@ -151,8 +177,8 @@ fn examples(harness: &mut Harness) {
     many_states(harness);
     // A table that nearly fills both rooms.
     let (file, macrostates, count) = LARGE[0];
-    let (codes, transitions) = build(file, macrostates, count).unwrap();
-    let text = text_of(&read(file).unwrap().0, &codes, &transitions).into_bytes();
+    let table = stored(file, true);
+    let text = text_of(&read(file).unwrap().0, &table.0, &table.1).into_bytes();
     for rooms in [[macrostates, count], [macrostates, count - 1]] {
         compare(harness, &text, rooms);
     }

@@ -52,7 +52,7 @@ const ROOMS: [usize; 2] = [250, 5_000];
 const IN_STEP: usize = 60;
 
 /// The table that an entry leaves in its rooms; none where it has no room.
-fn built(harness: &mut Harness, build: Build, file: &[u8]) -> Option<(Vec<u64>, Vec<u64>)> {
+pub fn built(harness: &mut Harness, build: Build, file: &[u8]) -> Option<(Vec<u64>, Vec<u64>)> {
     let patterns = ROOMS.map(|room| harness.pattern(room * 8));
     harness.begin();
     let file = harness.lend("file", file);

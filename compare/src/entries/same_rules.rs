@@ -21,6 +21,8 @@ pub const ENTRY: Entry = Entry {
 fn compare(harness: &mut Harness, first: &[u8], second: &[u8]) -> Seen {
     let expected = same_rules(first, second).map(|same| (same.into(), 0));
     harness.begin();
+    harness.count_file(first);
+    harness.count_file(second);
     let first = harness.lend("first file", first);
     let second = harness.lend("second file", second);
     let (first, second) = (harness.bytes(first), harness.bytes(second));

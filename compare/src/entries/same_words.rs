@@ -21,6 +21,8 @@ type Letters<'a> = [&'a [u8]; 2];
 fn compare(harness: &mut Harness, first: Letters, second: Letters) -> Seen {
     let expected = same_words(first, second).map(|same| (same.into(), 0));
     harness.begin();
+    harness.count_word(first);
+    harness.count_word(second);
     let first_lead = harness.lend("first lead-in", first[0]);
     let first_cycle = harness.lend("first cycle", first[1]);
     let second_lead = harness.lend("second lead-in", second[0]);

@@ -1,15 +1,19 @@
 //! The comparison of two rules.
 
+use std::cmp::Ordering;
+
 use compare::library::{mulgreddi_stricter, Comparison};
-use second::build::{MACROSTATE_CAP, TRANSITION_CAP};
+use compare::stored::{FULL, LARGE, OVER};
+use second::build::{reachable_begun, MACROSTATE_CAP, TRANSITION_CAP};
+use second::dual::dual;
 use second::rule::{read, Rule};
 use second::sample::{self, Random, Shape, D, E, F, I, SHAPES, Z};
-use second::stricter::{stricter, Compared};
+use second::stricter::{stricter, word_of_both, Compared};
 use second::{game, long};
 
-use super::build::small_rule;
+use super::build::{small_rule, stored, turned};
 use crate::harness::{Entry, Harness, RULE};
-use crate::input::{any_file, prefaced, refused, varied};
+use crate::input::{any_file, around as around_limit, prefaced, refused, varied};
 
 pub const ENTRY: Entry = Entry {
     name: "stricter",
@@ -30,6 +34,9 @@ pub const ENTRY: Entry = Entry {
     examples,
     random,
 };
+
+/// A rule of one letter, and so one word, with 65,312 macrostates.
+const MANY: &[u8] = include_bytes!("../../../bench/one_62_s1.rule");
 
 /// The lengths of the rooms, of the word slice and of the scratch.
 #[derive(Clone, Copy, Debug)]
@@ -86,10 +93,72 @@ fn compare_with(
     lengths: Lengths,
     compared: &Result<Compared, u8>,
 ) {
+    compare_told(harness, [a, b], lengths, compared, &[]);
+}
+
+/// The numbers of a call, besides those that are told.
+fn count(
+    harness: &mut Harness,
+    [a, b]: [&[u8]; 2],
+    lengths: Lengths,
+    compared: &Result<Compared, u8>,
+) {
+    harness.count_file(a);
+    harness.count_file(b);
+    for (name, room) in [
+        "room for codes of A",
+        "room for transitions of A",
+        "room for codes of B",
+        "room for transitions of B",
+    ]
+    .into_iter()
+    .zip(lengths.rooms)
+    {
+        harness.count(name, room);
+    }
+    match compared {
+        Ok(compared) => {
+            let needed = needs(compared);
+            for (name, number) in TABLES.into_iter().zip(needed.rooms) {
+                harness.count(name, number);
+            }
+            harness.count("P", needed.scratch);
+            for (name, file) in [("components of A", a), ("components of B", b)] {
+                harness.count(name, read(file).unwrap().0.components().len());
+            }
+        }
+        Err(29) => {
+            harness.count("word slice refused", lengths.word);
+            harness.count("scratch refused", lengths.scratch);
+        }
+        Err(_) => {}
+    }
+}
+
+/// The names by which the four counts of a call are told.
+const TABLES: [&str; 4] = [
+    "macrostates of A",
+    "transitions of A",
+    "macrostates of B",
+    "transitions of B",
+];
+
+/// The same with numbers of the call that its answer does not show.
+fn compare_told(
+    harness: &mut Harness,
+    [a, b]: [&[u8]; 2],
+    lengths: Lengths,
+    compared: &Result<Compared, u8>,
+    told: &[(&'static str, usize)],
+) {
     let patterns = lengths.rooms.map(|room| harness.pattern(room * 8));
     let word = harness.pattern(lengths.word);
     let scratch = harness.pattern(lengths.scratch);
     harness.begin();
+    count(harness, [a, b], lengths, compared);
+    for &(name, number) in told {
+        harness.count(name, number);
+    }
     let files = [harness.lend("a", a), harness.lend("b", b)];
     let names = [
         "codes of a",
@@ -166,6 +235,7 @@ fn compare_with(
                 let mut after = word;
                 after[..lead + cycle].copy_from_slice(&held[..lead + cycle]);
                 harness.expect(lent_word, after);
+                harness.count("letters of the word", lead + cycle);
                 if lead > 32 || cycle > 32 {
                     harness.saw("word over 32");
                 }
@@ -215,6 +285,7 @@ fn judge(
 }
 
 fn examples(harness: &mut Harness) {
+    limits(harness);
     let none = Lengths {
         rooms: [0; 4],
         word: 0,
@@ -258,6 +329,174 @@ fn examples(harness: &mut Harness) {
         &[true, false, false],
     );
     large(harness);
+}
+
+/// What is answered in rooms without end, by tables that are built once.
+fn by_stored(a: &[u8], b: &[u8]) -> Compared {
+    let (a_table, b_table) = (stored(a, true), stored(b, false));
+    let rules = [a, b].map(|file| read(file).unwrap().0);
+    // A table of more codes than row 15 lets pass is never searched.
+    let word = word_of_both([&rules[0], &rules[1]], [&a_table, &b_table]).unwrap_or(None);
+    Compared {
+        a: (*a_table).clone(),
+        b: (*b_table).clone(),
+        word,
+    }
+}
+
+/// A call with tables at their caps or over one, in rooms over the caps.
+fn at_the_caps(harness: &mut Harness, a: &[u8], b: &[u8]) {
+    let compared = by_stored(a, b);
+    let needed = needs(&compared);
+    let mut lengths = needed;
+    lengths.rooms = CAPS.map(|cap| cap + harness.random.between(1, 99));
+    let compared = Ok(compared);
+    let answer = within(lengths, &compared);
+    let over = (0..4).find(|&i| needed.rooms[i] > CAPS[i]);
+    let told = over.map(|i| (TABLES[i], needed.rooms[i]));
+    compare_told(harness, [a, b], lengths, &answer, told.as_slice());
+}
+
+/// A rule of so many letters whose table of rejected words has `counts` macrostates,
+/// or that of the accepted ones.
+fn of_size(
+    random: &mut Random,
+    letters: usize,
+    accepted: bool,
+    counts: std::ops::RangeInclusive<usize>,
+) -> Vec<u8> {
+    loop {
+        let (shape, states) = (*random.pick(&SHAPES), random.between(1, 5));
+        let rule = varied(random, shape, states, letters);
+        let table = reachable_begun(&rule, accepted, *counts.end(), usize::MAX);
+        if table.is_ok_and(|(codes, _)| counts.contains(&codes.len())) {
+            return sample::file(&rule);
+        }
+    }
+}
+
+/// Rooms, tables, pairs and words at their limits.
+fn limits(harness: &mut Harness) {
+    // Small rules in rooms around the caps.
+    for kind in 0..3 {
+        let compared = stricter(&D, &F, CAPS, usize::MAX, usize::MAX);
+        let mut lengths = needs(compared.as_ref().unwrap());
+        lengths.rooms = CAPS.map(|cap| match kind {
+            0 => cap - harness.random.between(1, 36),
+            1 => cap,
+            _ => cap + harness.random.between(1, 400),
+        });
+        compare_with(harness, &D, &F, lengths, &within(lengths, &compared));
+    }
+    // Stored rules beside small ones, as A and as B.
+    for (file, ..) in [LARGE[0]].into_iter().chain(FULL).chain(OVER) {
+        let letters = read(file).unwrap().0.letters;
+        let b = of_size(&mut harness.random, letters, false, 1..=9);
+        at_the_caps(harness, file, &b);
+        let a = of_size(&mut harness.random, letters, true, 1..=9);
+        at_the_caps(harness, &a, &turned(file));
+    }
+    // Rules of seven and eight components.
+    for states in [7, 8] {
+        let random = &mut harness.random;
+        let a = varied(random, Shape::VeryWeak, states, 2);
+        let b = altered(random, &a);
+        let (a, b) = (sample::file(&a), sample::file(&b));
+        let compared = stricter(&a, &b, CAPS, usize::MAX, usize::MAX);
+        let lengths = needs(compared.as_ref().unwrap());
+        compare_with(harness, &a, &b, lengths, &compared);
+    }
+    many_pairs(harness);
+    for digits in [6, 7, 9] {
+        long_word(harness, digits);
+    }
+}
+
+/// P around 2 to the power 24, served and one short, and P up to 32 bits, refused.
+fn many_pairs(harness: &mut Harness) {
+    let (most, ..) = FULL[0];
+    for (a, counts) in [(most, 46..=255), (most, 256..=256), (MANY, 257..=400)] {
+        let b = of_size(&mut harness.random, 1, false, counts);
+        let compared = Ok(by_stored(a, &b));
+        let needed = needs(compared.as_ref().unwrap());
+        compare_with(harness, a, &b, needed, &compared);
+        let short = Lengths {
+            word: needed.word - 1,
+            ..needed
+        };
+        let scratch = Lengths {
+            scratch: needed.scratch - 1,
+            ..needed
+        };
+        let lengths = *harness.random.pick(&[short, scratch]);
+        refused_29(harness, [a, &b], lengths, needed.scratch);
+    }
+    let small = of_size(&mut harness.random, 1, false, 400..=5_000);
+    for (a, b) in [(most, turned(most)), (MANY, turned(most)), (most, small)] {
+        let compared = by_stored(a, &b);
+        let needed = needs(&compared);
+        for _ in 0..2 {
+            let mut lengths = needed;
+            lengths.word = around_limit(&mut harness.random, 1 << 20, 40_000);
+            lengths.scratch = around_limit(&mut harness.random, 1 << 20, 40_000);
+            refused_29(harness, [a, &b], lengths, needed.scratch);
+        }
+        for kind in [(1 << 20) - 1, 1 << 20, (1 << 20) + 1] {
+            let mut lengths = needed;
+            (lengths.word, lengths.scratch) = (kind, kind);
+            refused_29(harness, [a, &b], lengths, needed.scratch);
+        }
+    }
+}
+
+/// A call that row 29 refuses, with P.
+fn refused_29(harness: &mut Harness, files: [&[u8]; 2], lengths: Lengths, pairs: usize) {
+    let told = [("P refused", pairs), ("3 × P refused", 3 * pairs)];
+    compare_told(harness, files, lengths, &Err(29), &told);
+}
+
+/// After each letter the next one that is not below `i` must be `i`, for each `i` below the
+/// letter: a rule asks it of its own numbers `i`. One that begins does so with the
+/// highest letter. All numbers together make words of 2 to the power of their count.
+fn ruler(own: std::ops::Range<usize>, highest: usize, begins: bool) -> Rule {
+    // The state that watches, those that wait for their number, the one that begins.
+    let waiting = |below: usize| {
+        let numbers = own.clone().enumerate().filter(move |(_, i)| *i < below);
+        numbers.fold(1u8, |mask, (place, _)| mask | 2 << place)
+    };
+    let watch = (0..=highest).map(|letter| vec![waiting(letter)]).collect();
+    let mut entries: Vec<Vec<Vec<u8>>> = vec![watch];
+    for (place, i) in own.clone().enumerate() {
+        let entry = |letter: usize| match letter.cmp(&i) {
+            Ordering::Less => vec![2 << place],
+            Ordering::Equal => vec![0],
+            Ordering::Greater => vec![],
+        };
+        entries.push((0..=highest).map(entry).collect());
+    }
+    if begins {
+        let mut first = vec![vec![]; highest + 1];
+        first[highest] = vec![waiting(highest)];
+        entries.push(first);
+    }
+    Rule {
+        states: entries.len(),
+        letters: highest + 1,
+        initial: if begins { entries.len() - 1 } else { 0 },
+        accepting: 1,
+        entries,
+    }
+}
+
+/// Two rules with no short word between them.
+fn long_word(harness: &mut Harness, digits: usize) {
+    let half = harness.random.between(digits / 2, 5);
+    let a = sample::file(&ruler(0..half, digits, true));
+    let b = sample::file(&dual(&ruler(half..digits, digits, false)));
+    let compared = stricter(&a, &b, CAPS, usize::MAX, usize::MAX);
+    let needed = needs(compared.as_ref().unwrap());
+    harness.by_01(&compared.as_ref().unwrap().word.is_some(), &true);
+    compare_with(harness, &a, &b, needed, &compared);
 }
 
 /// Each length one short, exact, one more, and far more.
@@ -329,7 +568,7 @@ fn sizes(harness: &mut Harness, pairs: usize) {
 /// A rule with the entries of another but for a few, which have a clause less,
 /// none, or one that is always met. A component of it is a part of one of the
 /// other's, so none is mixed.
-fn altered(random: &mut Random, rule: &Rule) -> Rule {
+pub fn altered(random: &mut Random, rule: &Rule) -> Rule {
     let mut altered = rule.clone();
     for _ in 0..random.between(0, 3) {
         let (q, letter) = (random.below(rule.states), random.below(rule.letters));

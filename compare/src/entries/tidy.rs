@@ -2,12 +2,13 @@
 
 use compare::library::mulgreddi_tidy;
 use second::build::reachable;
+use second::names::MARK;
 use second::rule::{read, same_rules, take_apart};
-use second::sample::F;
+use second::sample::{self, F};
 use second::tidy::{tidy, tidy_rule};
 
 use crate::harness::{Entry, Harness, Seen};
-use crate::input::{any_file, near, nested_rule, plain, prefaced, refused, RULES};
+use crate::input::{any_file, largest, near, nested_rule, plain, prefaced, refused, RULES};
 
 pub const ENTRY: Entry = Entry {
     name: "tidy",
@@ -34,6 +35,10 @@ fn compare(harness: &mut Harness, file: &[u8], room: usize) -> Seen {
     });
     let out = harness.pattern(room);
     harness.begin();
+    harness.count_file(file);
+    if let Ok(tidied) = &tidied {
+        harness.count("bytes written", tidied.len());
+    }
     let file = harness.lend("file", file);
     let lent = harness.lend_out("out", &out);
     let expected = match tidied {
@@ -52,7 +57,27 @@ fn compare(harness: &mut Harness, file: &[u8], room: usize) -> Seen {
     Seen(expected)
 }
 
+/// The largest files with names, and such with clauses inside others.
+fn limits(harness: &mut Harness) {
+    for nested in [0, 0, 1, 60, 120] {
+        let random = &mut harness.random;
+        let mut rule = largest(random, 0);
+        for _ in 0..nested {
+            let entry = &mut rule.entries[random.below(8)][random.below(16)];
+            let (one, other) = (random.below(8), random.below(8));
+            entry[one] |= entry[other];
+        }
+        let names = sample::names(random, 16);
+        let file = [&names[..], &MARK, &sample::file(&rule)].concat();
+        let needed = tidy(&file).unwrap().len();
+        for room in [needed - 1, needed, 1_290, 2_000] {
+            compare(harness, &file, room);
+        }
+    }
+}
+
 fn examples(harness: &mut Harness) {
+    limits(harness);
     for (number, file) in refused() {
         let expected = compare(harness, file, 99);
         match number {

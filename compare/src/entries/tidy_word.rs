@@ -26,6 +26,10 @@ fn compare(harness: &mut Harness, word: [&[u8]; 2], room: usize) -> Seen {
     });
     let out = harness.pattern(room);
     harness.begin();
+    harness.count_word(word);
+    if let Ok((lead, cycle)) = &tidied {
+        harness.count("letters written", lead.len() + cycle.len());
+    }
     let lead = harness.lend("lead-in", word[0]);
     let cycle = harness.lend("cycle", word[1]);
     let lent = harness.lend_out("out", &out);

@@ -22,6 +22,9 @@ fn compare(harness: &mut Harness, file: &[u8], events: &[u8], log: &[u8], room: 
     let translated = translate(file, events, log, room);
     let letters = harness.pattern(room);
     harness.begin();
+    harness.count_file(file);
+    harness.count("lines", events.len().div_ceil(5));
+    harness.count("events", log.len() / 2);
     let file = harness.lend("file", file);
     let events = harness.lend("events", events);
     let log = harness.lend("log", log);
@@ -47,7 +50,40 @@ fn compare(harness: &mut Harness, file: &[u8], events: &[u8], log: &[u8], room: 
 
 const ALL: [u8; 5] = [0, 255, 0, 255, 1];
 
+/// Long logs: served, in a slice one short, and with an event in no line at last.
+fn limits(harness: &mut Harness) {
+    // Every kind but 255 has lines, one of two for each drive.
+    let table: Vec<u8> = (0..63u8)
+        .flat_map(|line| match line {
+            62 => [0, 254, 0, 255, 1],
+            _ => [4 * line, 4 * line + 3, line, 128 + line, line % 2],
+        })
+        .collect();
+    for (limit, apart) in [(65_536, 400), (1_000_000, 9_000)] {
+        let random = &mut harness.random;
+        let lengths = [
+            limit - random.between(1, apart),
+            limit,
+            limit + random.between(1, apart),
+        ];
+        for events in lengths {
+            let random = &mut harness.random;
+            let mut log = random.bytes(2 * events + random.clone().below(2));
+            log.iter_mut().step_by(2).for_each(|kind| *kind %= 255);
+            let expected = compare(harness, &F, &table, &log, events);
+            harness.by_01(&expected.0, &Ok((events as u64, 0)));
+            if limit < 100_000 {
+                compare(harness, &F, &table, &log, events - 1);
+                log[2 * events - 2] = 255;
+                let expected = compare(harness, &F, &table, &log, events);
+                harness.by_01(&expected.0, &Err(27));
+            }
+        }
+    }
+}
+
 fn examples(harness: &mut Harness) {
+    limits(harness);
     for (number, file) in refused() {
         let expected = compare(harness, file, &[9], &[0, 0], 0);
         harness.by_01(&expected.0, &Err(number));
@@ -97,10 +133,6 @@ fn examples(harness: &mut Harness) {
             compare(harness, &F, events, log, room);
         }
     }
-    // A long log.
-    let log = harness.random.bytes(100_001);
-    compare(harness, &F, &two, &log, 50_000);
-    compare(harness, &F, &two, &log, 49_999);
 }
 
 /// A line, mostly of a narrow range; at times with a fault of row 25.

@@ -5,7 +5,7 @@ use second::rule::{write, Rule};
 use second::sample::{file, F};
 
 use crate::harness::{Entry, Harness, Seen};
-use crate::input::{limit_file, near, nested_rule, rule, LIMITS};
+use crate::input::{largest, limit_file, near, nested_rule, rule, LIMITS};
 
 pub const ENTRY: Entry = Entry {
     name: "write",
@@ -26,7 +26,7 @@ pub struct Parts {
 }
 
 impl Parts {
-    fn of(rule: &Rule) -> Self {
+    pub fn of(rule: &Rule) -> Self {
         let entries = rule.entries.iter().flatten();
         Parts {
             numbers: [
@@ -40,6 +40,17 @@ impl Parts {
         }
     }
 
+    /// The numbers of a call of a writer.
+    pub fn count(&self, harness: &mut Harness, written: &Result<Vec<u8>, u8>) {
+        harness.count("states", self.numbers[0] as usize);
+        harness.count("letters", self.numbers[1] as usize);
+        let most = self.counts.iter().max();
+        harness.count("clauses of an entry", most.map_or(0, |&most| most.into()));
+        if let Ok(file) = written {
+            harness.count("bytes written", file.len());
+        }
+    }
+
     pub fn needed(&self) -> usize {
         self.clauses.len() + self.counts.len() + 8
     }
@@ -49,6 +60,7 @@ fn compare(harness: &mut Harness, parts: &Parts, room: usize) -> Seen {
     let written = write(parts.numbers, &parts.counts, &parts.clauses, room);
     let out = harness.pattern(room);
     harness.begin();
+    parts.count(harness, &written);
     // The four numbers too, so that a difference shows them.
     let numbers = parts.numbers.map(u32::to_be_bytes).concat();
     harness.lend("n, s, initial, accepting (high byte first)", &numbers);
@@ -78,7 +90,19 @@ fn compare(harness: &mut Harness, parts: &Parts, room: usize) -> Seen {
     Seen(expected)
 }
 
+/// The largest rules, and somewhat smaller ones.
+fn limits(harness: &mut Harness) {
+    for fewer in [0, 1, 64, 127] {
+        let random = &mut harness.random;
+        let parts = Parts::of(&largest(random, random.clone().below(fewer + 1)));
+        for room in [parts.needed() - 1, parts.needed(), 1_290] {
+            compare(harness, &parts, room);
+        }
+    }
+}
+
 fn examples(harness: &mut Harness) {
+    limits(harness);
     let f = Parts {
         numbers: [1, 2, 0, 0],
         counts: vec![1, 1],

@@ -9,9 +9,10 @@ use second::rule::read;
 use second::sample::{self, D, E, F, I, SHAPES, Z};
 use second::trim::trim;
 
-use super::judge_table::{bytes, damage, fault, made_up};
+use super::build::stored;
+use super::judge_table::{bytes, damage, fault, large_tables, made_up};
 use crate::harness::{Entry, Harness, Seen, RULE};
-use crate::input::{any_file, near, preface, refused, varied};
+use crate::input::{any_file, limit_file, near, preface, refused, varied};
 
 pub const ENTRY: Entry = Entry {
     name: "write_hoa",
@@ -42,6 +43,9 @@ fn compare(harness: &mut Harness, file: &[u8], table: [&[u8]; 2], room: usize) -
     let written = written(file, table, room);
     let text = harness.pattern(room);
     harness.begin();
+    harness.count_file(file);
+    harness.count("codes", table[0].len() / 8);
+    harness.count("transitions", table[1].len() / 8);
     let file = harness.lend("file", file);
     let codes = harness.lend("codes", table[0]);
     let transitions = harness.lend("transitions", table[1]);
@@ -130,7 +134,18 @@ State: 2
 --END--
 ";
 
+/// Tables around the most codes and around the most transitions of a build.
+fn limits(harness: &mut Harness) {
+    for (codes, transitions, s) in large_tables(&mut harness.random) {
+        let file = limit_file(1, s, 1);
+        let text = write_hoa(&file, &codes, &transitions, usize::MAX);
+        let room = text.map_or(0, |text| text.len());
+        compare(harness, &file, [&bytes(&codes), &bytes(&transitions)], room);
+    }
+}
+
 fn examples(harness: &mut Harness) {
+    limits(harness);
     for (number, file) in refused() {
         let expected = compare(harness, file, [&[1], &[]], 0);
         harness.by_01(&expected.0, &Err(number));
@@ -173,12 +188,11 @@ fn examples(harness: &mut Harness) {
         harness.by_01(&expected.0, &Err(15));
     }
     // A table that nearly fills both rooms.
-    let (file, macrostates, transitions) = LARGE[0];
-    let (codes, transitions) = build(file, macrostates, transitions).unwrap();
-    let length = write_hoa(file, &codes, &transitions, usize::MAX)
-        .unwrap()
-        .len();
-    let (codes, transitions) = (bytes(&codes), bytes(&transitions));
+    let (file, ..) = LARGE[0];
+    let table = stored(file, true);
+    let text = write_hoa(file, &table.0, &table.1, usize::MAX);
+    let length = text.unwrap().len();
+    let (codes, transitions) = (bytes(&table.0), bytes(&table.1));
     for room in [length - 1, length, length + 9] {
         compare(harness, file, [&codes, &transitions], room);
     }

@@ -7,7 +7,7 @@ use second::sample::{self, F};
 
 use super::write::{any_parts, Parts};
 use crate::harness::{Entry, Harness, Seen};
-use crate::input::{names, near};
+use crate::input::{largest, names, near};
 
 pub const ENTRY: Entry = Entry {
     name: "write_named",
@@ -23,6 +23,8 @@ fn compare(harness: &mut Harness, parts: &Parts, names: &[u8], room: usize) -> S
     let written = write_named(parts.numbers, &parts.counts, &parts.clauses, names, room);
     let out = harness.pattern(room);
     harness.begin();
+    parts.count(harness, &written);
+    harness.count("bytes of names", names.len());
     // The four numbers too, so that a difference shows them.
     let numbers = parts.numbers.map(u32::to_be_bytes).concat();
     harness.lend("n, s, initial, accepting (high byte first)", &numbers);
@@ -56,7 +58,31 @@ fn compare(harness: &mut Harness, parts: &Parts, names: &[u8], room: usize) -> S
     Seen(expected)
 }
 
+/// The largest rules with names, somewhat smaller ones, and name bytes around all
+/// that sixteen letters have.
+fn limits(harness: &mut Harness) {
+    for fewer in [0, 1, 64, 128] {
+        let random = &mut harness.random;
+        let parts = Parts::of(&largest(random, random.clone().below(fewer + 1)));
+        let names = sample::names(random, 16);
+        let needed = parts.needed() + 130;
+        for room in [needed - 1, needed, 2_000] {
+            compare(harness, &parts, &names, room);
+        }
+        let more = [&names[..], &names].concat();
+        for length in [
+            127,
+            129,
+            harness.random.between(113, 127),
+            harness.random.between(129, 160),
+        ] {
+            compare(harness, &parts, &more[..length], needed);
+        }
+    }
+}
+
 fn examples(harness: &mut Harness) {
+    limits(harness);
     let f = Parts {
         numbers: [1, 2, 0, 0],
         counts: vec![1, 1],
