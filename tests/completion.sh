@@ -22,6 +22,9 @@ expect '--version' --v
 expect 'stricter' help str
 expect '--transitions=|--trimmed' build --tr
 expect '--choices' judge --ch
+expect '--why' judge --w
+expect '--decoded' list --d
+expect 'equal' eq
 expect '--help' loop --
 expect 'one.rule|other.log' judge o
 expect 'two words.rule' build --codes = t

@@ -32,6 +32,15 @@ void print_set(FILE *to, const char *const *names, unsigned mask)
     fputc('}', to);
 }
 
+/* Whether a file has bytes, and all of them could stand in a text. */
+static int looks_like_text(const bytes *file)
+{
+    for (size_t i = 0; i < file->len; i++)
+        if (file->at[i] == 0x7f || (file->at[i] < 0x20 && (file->at[i] == 0 || !strchr("\t\r\n", file->at[i]))))
+            return 0;
+    return file->len > 0;
+}
+
 int refused(const char *what, uint64_t refusal, const bytes *file)
 {
     if (file && file->text && text_refused(file->text, refusal))
@@ -39,6 +48,8 @@ int refused(const char *what, uint64_t refusal, const bytes *file)
     say("%s: refused %llu: %s", brief(what, PLACE_SHOWN), (number)refusal, mulgreddi_refusal_text(refusal));
     if (file && !file->text)
         file_spot(file, refusal);
+    if (file && (refusal == MULGREDDI_SHORT_FILE || refusal == MULGREDDI_NO_TAG) && looks_like_text(file))
+        say("nor is it the text of a rule: its first word would be `letters`");
     if (file && refusal == MULGREDDI_CLAUSE_INSIDE)
         say("`mulgreddi tidy` drops such clauses");
     if (refusal == MULGREDDI_MACROSTATE_ROOM)
