@@ -118,7 +118,7 @@ stepped-bytes n ts a set y l =
     let e = table-at n (λ z. one (anyOf ts (enters set a z))) y (rw (length-tabulate n _ 0) at l) in
     ap (λ (v : ℕ). one (ltb 0 v)) e ∙ ap one (in-one (anyOf ts (enters set a y))) ∙ sym e
 
-over-bytes : (n : ℕ) (ts l set : List ℕ) → Bytes set → Bytes (steppedOver n ts l set)
+pub over-bytes : (n : ℕ) (ts l set : List ℕ) → Bytes set → Bytes (steppedOver n ts l set)
 unfolding steppedOver
 over-bytes n ts [] set b = b
 over-bytes n ts (a ∷ l) set b = over-bytes n ts l (stepped n ts a set) (stepped-bytes n ts a set)

@@ -2,6 +2,7 @@
 // declares and documents it.
 pub mod choices;
 pub mod event;
+pub mod follow;
 pub mod hoa;
 pub mod live;
 pub mod loops;

@@ -13,6 +13,8 @@ use Rattle.judge_spec.specs.declared.Verdict.{Verdict}
 use Rattle.judge_spec.specs.declared.Verdict.the-variants as judge
 use Rattle.live_spec.specs.declared.LiveAnswer.{LiveAnswer}
 use Rattle.live_spec.specs.declared.LiveAnswer.the-variants as live
+use Rattle.follow_spec.specs.declared.FollowAnswer.{FollowAnswer}
+use Rattle.follow_spec.specs.declared.FollowAnswer.the-variants as follow
 use Rattle.loop_spec.specs.declared.Report.{Report}
 use Rattle.loop_spec.specs.declared.Report.the-variants as report
 use Rattle.rule_same.specs.declared.entries.SameRules.{SameRules}
@@ -60,6 +62,11 @@ translatedAnswer (events.Refused row) = refusedAs row
 unfoldable pub liveAnswer : LiveAnswer → Answer
 liveAnswer (live.Live counts) = servedAs (counts .letters) (counts .macrostates)
 liveAnswer (live.Refused row) = refusedAs row
+
+-- how many macrostates are left, and after how many letters none was for the first time, or how many there were
+unfoldable pub followAnswer : FollowAnswer → Answer
+followAnswer (follow.Followed counts) = servedAs (counts .left) (counts .letters)
+followAnswer (follow.Refused row) = refusedAs row
 
 -- 1 same, 0 not
 unfoldable pub sameRulesAnswer : SameRules → Answer

@@ -1,13 +1,14 @@
-// The answers on tables and logs as the three numbers of the C interface: builds, the judge on a table, texts read back, translated and
-// live logs.
+// The answers on tables and logs as the three numbers of the C interface: builds, the judge on a table, texts read back, translated logs,
+// live logs and logs without end.
 use build::Built;
 use event_spec::Translated;
+use follow_spec::FollowAnswer;
 use hoa_spec::HoaRead;
 use live_spec::LiveAnswer;
 use mulgreddi_answers::Answer;
 use table_call::Start;
 ghost use mathlib.Core.Path.{_≡_};
-ghost use Rattle.mulgreddi_answers.specs.Answers.{builtAnswer, hoaReadAnswer, liveAnswer, startAnswer, translatedAnswer};
+ghost use Rattle.mulgreddi_answers.specs.Answers.{builtAnswer, followAnswer, hoaReadAnswer, liveAnswer, startAnswer, translatedAnswer};
 
 // Both counts.
 pub fn built(answer: Built) -> Answer
@@ -66,5 +67,18 @@ pub fn live(answer: LiveAnswer) -> Answer
             held.macrostates as u64,
         ),
         LiveAnswer::Refused(row) => mulgreddi_answers::refused(row),
+    }
+}
+
+// How many macrostates are left, and after how many letters none was for the first time, or how many there were.
+pub fn followed(answer: FollowAnswer) -> Answer
+    ensures { λ r. ⌜ r ≡ followAnswer answer ⌝ }
+{
+    match answer {
+        FollowAnswer::Followed(counts) => mulgreddi_answers::served(
+            counts.left as u64,
+            counts.letters as u64,
+        ),
+        FollowAnswer::Refused(row) => mulgreddi_answers::refused(row),
     }
 }

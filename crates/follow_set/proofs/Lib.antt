@@ -1,0 +1,3 @@
+pub mod Sweeps
+pub mod Counts
+pub mod Letters

@@ -1,0 +1,3 @@
+pub mod Set
+pub mod Rows
+pub mod Followed
