@@ -17,7 +17,7 @@
 /* The version, by which the Makefile and the pkg-config file go. With a new major number some input is answered otherwise than before;
  * docs/CHANGELOG.md tells which. */
 #define MULGREDDI_VERSION_MAJOR 2
-#define MULGREDDI_VERSION_MINOR 3
+#define MULGREDDI_VERSION_MINOR 4
 #define MULGREDDI_VERSION_PATCH 0
 #define MULGREDDI_TEXT_OF_(a, b, c) #a "." #b "." #c
 #define MULGREDDI_TEXT_OF(a, b, c) MULGREDDI_TEXT_OF_(a, b, c)
@@ -370,6 +370,27 @@ mulgreddi_answer mulgreddi_live_mark(const uint8_t *file, size_t file_len, uint3
 mulgreddi_answer mulgreddi_live_return(const uint8_t *file, size_t file_len, uint32_t mark, const uint8_t *codes, size_t codes_bytes,
                                        const uint8_t *transitions, size_t transitions_bytes,
                                        uint8_t *state, size_t state_len, uint8_t *set, size_t set_len);
+
+/* Follow a log without end: as the live calls, but the set alone is kept, so any number of letters may come and none is withdrawn.
+ * mulgreddi_follow_start fills set with the initial macrostates of a table, a byte 1 in the set and 0 not, for each macrostate.
+ * mulgreddi_follow takes the set, in which a byte that is not 0 is in, over letters, a byte each, any number of them, and leaves the set
+ * that is reached. Calls may be cut anywhere: two calls leave what one call over both parts leaves.
+ *
+ * With the rule, its table of mulgreddi_build_trimmed and the set of the call before, the set is the one worked out afresh over all letters
+ * since the start: it is empty exactly if no continuation of them, with a lead-in and a cycle of any length, is accepted by the rule. Of any
+ * other table that refusal 15 lets pass, and any bytes in set, it is the set stepped over the letters.
+ *
+ * codes and transitions are bytes, as for mulgreddi_judge_table. What follows the macrostates in set is not touched.
+ * first: macrostates left. second: after how many letters none was left for the first time, 0 if there was none to begin with; the number
+ * of all letters where some are left; 0 for a start.
+ * The rule's refusals, 14 if a letter is not below s, 15, and 16 if set is shorter than the macrostates; a refused call changes nothing.
+ * Time: 15 goes over the table once a call. A letter costs a look at set, eight bytes at a time where they are 0, and for each macrostate in
+ * it a search and its transitions over that letter, so many letters a call are faster than one. An empty set ends the call. */
+mulgreddi_answer mulgreddi_follow_start(const uint8_t *file, size_t file_len, const uint8_t *codes, size_t codes_bytes,
+                                        const uint8_t *transitions, size_t transitions_bytes, uint8_t *set, size_t set_len);
+mulgreddi_answer mulgreddi_follow(const uint8_t *file, size_t file_len, const uint8_t *letters, size_t letters_len,
+                                  const uint8_t *codes, size_t codes_bytes, const uint8_t *transitions, size_t transitions_bytes,
+                                  uint8_t *set, size_t set_len);
 
 /* Helpers: what a caller reads off a file that was served, a code and a transition. */
 

@@ -9,7 +9,11 @@ typedef struct {
     uint8_t *codes, *transitions, *set;
     uint64_t codes_bytes, transitions_bytes, set_len;
     uint8_t state[MULGREDDI_LIVE_STATE];
-    uint64_t left; /* macrostates in the set */
+    uint64_t letters; /* since the start; the live calls hold them up to 512, from there on the set alone is kept */
+    uint64_t left;    /* macrostates in the set */
+    uint64_t events;  /* of the log */
+    int broken;       /* told, and not taken back since */
+    int quiet;
     int status;
     const char *where; /* the place of the line that is followed */
 } live;
@@ -19,25 +23,51 @@ static void faulty(live *l, int status)
     l->status = worse(l->status, status);
 }
 
-/* Tells what a call left: the letters held and how many macrostates are left. */
-static void tell(live *l, const char *what, mulgreddi_answer a)
+/* "event 7, ", or nothing for a call */
+static const char *numbered(uint64_t event)
+{
+    static char text[40];
+    snprintf(text, sizeof text, event ? "event %llu, " : "", (number)event);
+    return text;
+}
+
+/* Tells what a call, or the event of a number, left: the letters since the start and how many macrostates are left; and once, if none is. */
+static void tell(live *l, uint64_t event, const char *what, mulgreddi_answer a)
 {
     if (a.refusal) {
         char text[PATH_SHOWN + 256];
-        snprintf(text, sizeof text, "%s%s", l->where, brief(what, WORD_SHOWN));
+        snprintf(text, sizeof text, "%s%s%s", l->where, numbered(event), brief(what, WORD_SHOWN));
         faulty(l, refused(text, a.refusal, NULL));
         return;
     }
+    l->letters = a.first;
     l->left = a.second;
-    printf("%s: letters %llu, macrostates %llu%s\n", what, (number)a.first, (number)a.second,
-           a.second ? "" : ", no continuation is accepted");
+    if (!l->quiet)
+        printf("%s%s: letters %llu, macrostates %llu%s\n", numbered(event), what, (number)a.first, (number)a.second,
+               a.second ? "" : ", no continuation is accepted");
+    if (!l->left && !l->broken)
+        printf("%s%s: the rule is broken, whatever comes\n", numbered(event), what);
+    l->broken = !l->left;
     answered();
 }
 
+/* The next event of the log; with 512 letters held the set goes on alone. */
 static void arrives(live *l, const char *what, unsigned letter)
 {
-    tell(l, what, mulgreddi_live_arrive(l->r.file.at, l->r.file.len, letter, l->codes, l->codes_bytes, l->transitions, l->transitions_bytes,
-                                        l->state, sizeof l->state, l->set, l->set_len));
+    const uint8_t byte[1] = {(uint8_t)letter};
+    mulgreddi_answer a;
+    if (l->letters < MULGREDDI_LIVE_LETTERS)
+        a = mulgreddi_live_arrive(l->r.file.at, l->r.file.len, letter, l->codes, l->codes_bytes, l->transitions, l->transitions_bytes, l->state,
+                                  sizeof l->state, l->set, l->set_len);
+    else {
+        a = mulgreddi_follow(l->r.file.at, l->r.file.len, byte, 1, l->codes, l->codes_bytes, l->transitions, l->transitions_bytes, l->set,
+                             l->set_len);
+        if (!a.refusal) {
+            a.second = a.first;
+            a.first = l->letters + 1;
+        }
+    }
+    tell(l, l->events, what, a);
 }
 
 /* The number behind a word and a blank, at most that of 32 bits; -1 where the line is not so. */
@@ -55,8 +85,9 @@ static int64_t number_after(const char *line, const char *name)
 
 static void starts(live *l)
 {
-    tell(l, "start", mulgreddi_live_start(l->r.file.at, l->r.file.len, l->codes, l->codes_bytes, l->transitions, l->transitions_bytes,
-                                          l->state, sizeof l->state, l->set, l->set_len));
+    tell(l, 0, "start",
+         mulgreddi_live_start(l->r.file.at, l->r.file.len, l->codes, l->codes_bytes, l->transitions, l->transitions_bytes, l->state,
+                              sizeof l->state, l->set, l->set_len));
 }
 
 static int begins_with(const char *line, const char *name)
@@ -83,18 +114,25 @@ static void follow_line(live *l, const char *line)
     int letter;
     if (strcmp(line, "start") == 0)
         starts(l);
-    else if (strcmp(line, "withdraw") == 0)
-        tell(l, line, mulgreddi_live_withdraw(l->r.file.at, l->r.file.len, l->codes, l->codes_bytes, l->transitions, l->transitions_bytes,
-                                              l->state, sizeof l->state, l->set, l->set_len));
+    else if ((strcmp(line, "withdraw") == 0 || mark >= 0 || back >= 0) && l->letters > MULGREDDI_LIVE_LETTERS) {
+        say("%s%s: past, as more than %d letters have come since the start", l->where, brief(line, WORD_SHOWN), MULGREDDI_LIVE_LETTERS);
+        faulty(l, REFUSED);
+    } else if (strcmp(line, "withdraw") == 0)
+        tell(l, 0, line,
+             mulgreddi_live_withdraw(l->r.file.at, l->r.file.len, l->codes, l->codes_bytes, l->transitions, l->transitions_bytes, l->state,
+                                     sizeof l->state, l->set, l->set_len));
     else if (mark >= 0)
-        tell(l, line, mulgreddi_live_mark(l->r.file.at, l->r.file.len, (uint32_t)mark, l->codes, l->codes_bytes, l->transitions,
-                                          l->transitions_bytes, l->state, sizeof l->state, l->set, l->set_len));
+        tell(l, 0, line,
+             mulgreddi_live_mark(l->r.file.at, l->r.file.len, (uint32_t)mark, l->codes, l->codes_bytes, l->transitions, l->transitions_bytes,
+                                 l->state, sizeof l->state, l->set, l->set_len));
     else if (back >= 0)
-        tell(l, line, mulgreddi_live_return(l->r.file.at, l->r.file.len, (uint32_t)back, l->codes, l->codes_bytes, l->transitions,
-                                            l->transitions_bytes, l->state, sizeof l->state, l->set, l->set_len));
-    else if ((letter = letter_of_line(&l->r, line)) >= 0)
+        tell(l, 0, line,
+             mulgreddi_live_return(l->r.file.at, l->r.file.len, (uint32_t)back, l->codes, l->codes_bytes, l->transitions,
+                                   l->transitions_bytes, l->state, sizeof l->state, l->set, l->set_len));
+    else if ((letter = letter_of_line(&l->r, line)) >= 0) {
+        l->events++;
         arrives(l, line, (unsigned)letter);
-    else
+    } else
         misspelt(l, line);
 }
 
@@ -117,12 +155,14 @@ static void follow_events(live *l, const bytes *events, const char *path)
         exit(events_refused(&l->r, events, NULL, a.refusal));
     FILE *log = open_to_read(path);
     while (fread(event, 1, 2, log) == 2) {
-        char what[32];
-        snprintf(what, sizeof what, "event %02x %02x", event[0], event[1]);
+        char what[64];
+        l->events++;
+        snprintf(what, sizeof what, "%02x %02x", event[0], event[1]);
         a = mulgreddi_translate(l->r.file.at, l->r.file.len, events->at, events->len, event, 2, letter, 1);
-        if (a.refusal)
-            faulty(l, refused(what, a.refusal, NULL));
-        else
+        if (a.refusal) {
+            snprintf(what, sizeof what, "%02x %02x, at byte %llu of the log", event[0], event[1], (number)(2 * (l->events - 1)));
+            tell(l, l->events, what, a);
+        } else
             arrives(l, what, letter[0]);
     }
     if (ferror(log))
@@ -146,6 +186,7 @@ static int follow(int count, char **operand)
     l.set = room(a.first);
     l.set_len = a.first;
     l.where = "";
+    l.quiet = option("quiet") != NULL;
     starts(&l);
     const char *log = count > 1 ? operand[1] : "-";
     if (option("events")) {
@@ -153,17 +194,23 @@ static int follow(int count, char **operand)
         follow_events(&l, &events, log);
     } else
         follow_lines(&l, log);
+    if (l.quiet)
+        printf("end: events %llu, letters %llu, macrostates %llu%s\n", (number)l.events, (number)l.letters, (number)l.left,
+               l.left ? "" : ", no continuation is accepted");
     return l.status ? l.status : l.left ? YES : NO;
 }
 
 const command command_follow = {
-    "follow", "[--events=EVENTS] FILE [LOG]", "events=",
-    "Follows a log, standard input if none is named, on the rule's trimmed automaton and prints a line for each of\n"
-    "its lines: how many letters are held and how many macrostates can still be reached; with none left no\n"
-    "continuation is accepted. A line is a letter that arrives, `withdraw` for the last one, `mark N` or `return N`\n"
-    "with N from 0 to 15, or `start` for a new start; a letter with such a name is written in quotes, or by its\n"
-    "number. At most 512 letters are held; one more is refused by 30. 0 where a continuation is accepted in the end,\n"
-    "1 where none is, 2 where a line was refused, 3 where one is misspelt; the lines after it are followed all the same.\n"
+    "follow", "[--quiet] [--events=EVENTS] FILE [LOG]", "quiet events=",
+    "Follows a log of any length, standard input if none is named, on the rule's trimmed automaton and prints a line\n"
+    "for each of its lines: its number, if it is an event, how many letters have come since the start and how many\n"
+    "macrostates can still be reached; with none left no continuation is accepted, and the event that broke the rule is\n"
+    "told once. A line is a letter that arrives, `withdraw` for the last one, `mark N` or `return N` with N from 0 to\n"
+    "15, or `start` for a new start; a letter with such a name is written in quotes, or by its number. From the 513th\n"
+    "letter on the set alone is kept: withdraw, mark and return are past. 0 where a continuation is accepted in the\n"
+    "end, 1 where none is, 2 where a line was refused, 3 where one is misspelt; the lines after it are followed all the\n"
+    "same.\n"
+    "  --quiet              prints where the rule is broken, what is refused, and a last line alone\n"
     "  --events=EVENTS      the log has events of two bytes each, which become letters by this event table\n",
     1, 2, follow,
 };

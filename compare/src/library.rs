@@ -247,6 +247,28 @@ extern "C" {
         set: *mut u8,
         set_len: usize,
     ) -> Answer;
+    pub fn mulgreddi_follow_start(
+        file: *const u8,
+        file_len: usize,
+        codes: *const u8,
+        codes_bytes: usize,
+        transitions: *const u8,
+        transitions_bytes: usize,
+        set: *mut u8,
+        set_len: usize,
+    ) -> Answer;
+    pub fn mulgreddi_follow(
+        file: *const u8,
+        file_len: usize,
+        letters: *const u8,
+        letters_len: usize,
+        codes: *const u8,
+        codes_bytes: usize,
+        transitions: *const u8,
+        transitions_bytes: usize,
+        set: *mut u8,
+        set_len: usize,
+    ) -> Answer;
     pub fn mulgreddi_stricter(
         a: *const u8,
         a_len: usize,

@@ -22,6 +22,7 @@ pub mod event_text;
 pub mod events;
 pub mod every;
 pub mod exact;
+pub mod follow;
 pub mod game;
 pub mod graph;
 pub mod hanoi;

@@ -10,6 +10,7 @@ mod build_rejecting;
 mod build_trimmed;
 mod check;
 mod choices_by_plans;
+mod follow;
 mod judge;
 mod judge_choices;
 mod judge_sheet;
@@ -50,6 +51,7 @@ pub fn all() -> Vec<Entry> {
         write_hoa::ENTRY,
         read_hoa::ENTRY,
         live::ENTRY,
+        follow::ENTRY,
         stricter::ENTRY,
         build_by_text::ENTRY,
         choices_by_plans::ENTRY,

@@ -12,9 +12,10 @@ use second::choices::{judge_choices, FALSE};
 use second::combine;
 use second::event_text;
 use second::events::{translate, LINE};
+use second::follow::follow as follow_on;
 use second::hoa::{read_hoa, write_hoa, ACCEPTING, INITIAL};
 use second::lines::{is_whole, lines, quoted};
-use second::live::{Lent, Log};
+use second::live::{Lent, Log, LETTERS};
 use second::mixed::mixed_loop;
 use second::names::Name;
 use second::rule::{read_named, same_rules, take_apart, Named, Rule};
@@ -868,26 +869,54 @@ fn translate_command(
     YES
 }
 
-/// A line of a log followed live: a letter that arrives, or another call; the
-/// exit status of one that is not served.
-fn call(log: &mut Log, lent: &Lent, names: &Option<Vec<Name>>, line: &str) -> Result<Vec<u8>, i32> {
-    let mark = |word| line.strip_prefix(word).and_then(number);
-    let answer = if line == "start" {
-        let answer = Log::start(lent);
-        answer.map(|(new, set)| {
-            *log = new;
-            set
-        })
-    } else if line == "withdraw" {
-        log.withdraw(lent)
-    } else if let Some(mark) = mark("mark ") {
-        log.mark(lent, mark)
-    } else if let Some(mark) = mark("return ") {
-        log.back(lent, mark)
-    } else {
-        log.arrive(lent, line_letter(names, line).ok_or(FAULT)?)
-    };
-    answer.map_err(refused)
+/// A log followed: the letters that are held, or, from the 513th letter on, the
+/// set alone.
+struct Followed<'a> {
+    lent: Lent<'a>,
+    log: Log,
+    set: Vec<u8>,
+    letters: usize,
+}
+
+impl Followed<'_> {
+    /// "The next letter goes on from the set as it stands".
+    fn arrive(&mut self, letter: u8) -> Result<(), u8> {
+        self.set = if self.letters < LETTERS {
+            self.log.arrive(&self.lent, letter)?
+        } else {
+            follow_on(&self.lent, &[letter], &self.set)?.set
+        };
+        self.letters += 1;
+        Ok(())
+    }
+
+    /// A call that is no event; none if the line is not one.
+    fn call(&mut self, line: &str) -> Option<Result<(), i32>> {
+        let mark = |word| line.strip_prefix(word).and_then(number);
+        let (marked, back) = (mark("mark "), mark("return "));
+        if line == "start" {
+            let started = Log::start(&self.lent);
+            return Some(started.map_err(refused).map(|(log, set)| {
+                (self.log, self.set, self.letters) = (log, set, 0);
+            }));
+        }
+        if line != "withdraw" && marked.is_none() && back.is_none() {
+            return None;
+        }
+        // "until the next `start` .. counts as refused"
+        if self.letters > LETTERS {
+            return Some(Err(REFUSED));
+        }
+        let answer = match (marked, back) {
+            (Some(number), _) => self.log.mark(&self.lent, number),
+            (_, Some(number)) => self.log.back(&self.lent, number),
+            _ => self.log.withdraw(&self.lent),
+        };
+        Some(answer.map_err(refused).map(|set| {
+            self.set = set;
+            self.letters = self.log.letters().len();
+        }))
+    }
 }
 
 fn refused(number: u8) -> i32 {
@@ -905,37 +934,53 @@ fn follow(printed: &mut Printed, operands: &[String], options: &HashMap<String, 
         transitions: &transitions,
         room: codes.len(),
     };
-    let (mut log, set) = printed.served(Log::start(&lent));
-    let (mut status, mut left) = (YES, 0);
-    let mut tell = |what: &str, letters: usize, answer: Result<Vec<u8>, i32>| match answer {
+    let (log, set) = printed.served(Log::start(&lent));
+    let mut followed = Followed {
+        lent,
+        log,
+        set,
+        letters: 0,
+    };
+    let quiet = options.contains_key("quiet");
+    let (mut status, mut left, mut broken) = (YES, 0, false);
+    let none = |left| match left {
+        0 => ", no continuation is accepted",
+        _ => "",
+    };
+    let mut tell = |what: &str, followed: &Followed, answer: Result<(), i32>| match answer {
         Err(fault) => status = status.max(fault),
-        Ok(set) => {
-            left = set.iter().filter(|&&byte| byte == 1).count();
-            let none = match left {
-                0 => ", no continuation is accepted",
-                _ => "",
-            };
-            printed.line(&format!(
-                "{what}: letters {letters}, macrostates {left}{none}"
-            ));
+        Ok(()) => {
+            left = followed.set.iter().filter(|&&byte| byte == 1).count();
+            if !quiet {
+                let (letters, none) = (followed.letters, none(left));
+                printed.line(&format!(
+                    "{what}: letters {letters}, macrostates {left}{none}"
+                ));
+            }
+            if left == 0 && !broken {
+                printed.line(&format!("{what}: the rule is broken, whatever comes"));
+            }
+            broken = left == 0;
         }
     };
-    tell("start", 0, Ok(set));
+    tell("start", &followed, Ok(()));
     let events = match options.get("events").map(|path| load_events(&file, path)) {
         Some(Err(status)) => return status,
         Some(Ok(events)) => Some(events),
         None => None,
     };
     let source = load(operands.get(1).map_or("-", |path| path));
+    let mut number = 0;
     if let Some(events) = events {
         if let Err(number) = translate(&file, &events, &[], 0) {
             return refused(number);
         }
         for event in source.chunks_exact(2) {
-            let what = format!("event {:02x} {:02x}", event[0], event[1]);
+            number += 1;
+            let what = format!("event {number}, {:02x} {:02x}", event[0], event[1]);
             let letter = translate(&file, &events, event, 1);
-            let answer = letter.and_then(|letter| log.arrive(&lent, letter[0]));
-            tell(&what, log.letters().len(), answer.map_err(refused));
+            let answer = letter.and_then(|letter| followed.arrive(letter[0]));
+            tell(&what, &followed, answer.map_err(refused));
         }
     } else {
         // "If the first line of a log has a fault of a line, or a byte below 20
@@ -946,12 +991,28 @@ fn follow(printed: &mut Printed, operands: &[String], options: &HashMap<String, 
             return FAULT;
         }
         for line in text_lines(&source) {
-            let answer = match &line {
-                Some(line) => call(&mut log, &lent, &names, line),
-                None => Err(FAULT),
+            let Some(line) = line else {
+                tell("", &followed, Err(FAULT));
+                continue;
             };
-            tell(&line.unwrap_or_default(), log.letters().len(), answer);
+            if let Some(answer) = followed.call(&line) {
+                tell(&line, &followed, answer);
+                continue;
+            }
+            let Some(letter) = line_letter(&names, &line) else {
+                tell(&line, &followed, Err(FAULT));
+                continue;
+            };
+            number += 1;
+            let answer = followed.arrive(letter).map_err(refused);
+            tell(&format!("event {number}, {line}"), &followed, answer);
         }
+    }
+    if quiet {
+        let (letters, none) = (followed.letters, none(left));
+        printed.line(&format!(
+            "end: events {number}, letters {letters}, macrostates {left}{none}"
+        ));
     }
     match (status, left) {
         (YES, 0) => NO,
