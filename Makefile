@@ -153,6 +153,10 @@ $(BUILD)/reference02: bench/reference02.cpp
 	mkdir -p $(BUILD)
 	$(CXX) -O2 -std=c++17 -o $@ $<
 
+# bench/follow.cpp follows a log without end by the library and by a loop in C++ that does the same
+$(BUILD)/follow: bench/follow.cpp include/mulgreddi.h $(LIB)
+	$(CXX) -O2 -std=c++17 -Iinclude -o $@ $< $(LIB)
+
 # steps back from all cores of a rule, and nothing else
 STEP_BACK := target/bin/bench_step_back
 $(STEP_BACK): $(SOURCES)
@@ -161,12 +165,13 @@ $(STEP_BACK): $(SOURCES)
 # the pairs of rules that are compared, new and old; compare/src/bin/speed.rs has the same
 COMPARED := strict_1 strict_1 strict_1 strict_1_less strict_8 strict_8 strict_8 strict_8_less \
   strict_8 slow_1_0 slow_1_0 strict_8 trans_1_1 strict_8 strict_8 trans_1_1 cap_62_s16 strict_8 slow_1_0 slow_1_0
-bench: $(LIB) $(STEP_BACK) $(BUILD)/reference $(BUILD)/chains $(BUILD)/reference02 $(BUILD)/reference_events $(BUILD)/reference_hoa
+bench: $(LIB) $(STEP_BACK) $(BUILD)/reference $(BUILD)/chains $(BUILD)/reference02 $(BUILD)/reference_events $(BUILD)/reference_hoa $(BUILD)/follow
 	STEP_BACK=$(CURDIR)/$(STEP_BACK) $(CARGO) run --release --offline --quiet --manifest-path compare/Cargo.toml --bin speed -- $(wildcard $(CURDIR)/bench/*.rule)
 	$(BUILD)/reference $(wildcard bench/*.rule)
 	for r in $(wildcard bench/*.rule); do echo "$$r $$($(BUILD)/chains B $$r)"; done
 	$(BUILD)/reference02 trim $(wildcard bench/*.rule)
 	$(BUILD)/reference02 live $(wildcard bench/*.rule)
+	$(BUILD)/follow $(wildcard bench/*.rule)
 	$(BUILD)/reference02 stricter $(foreach r,$(COMPARED),bench/$(r).rule)
 	$(BUILD)/reference_events
 	$(BUILD)/reference_hoa $(wildcard bench/*.rule)

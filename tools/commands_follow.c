@@ -149,6 +149,7 @@ static void follow_lines(live *l, const char *path)
 /* Events of two bytes each, as they come; an odd last byte is no event yet. */
 static void follow_events(live *l, const bytes *events, const char *path)
 {
+    static uint16_t letters[65536]; /* of the events that were met: a letter and 1 */
     uint8_t event[2] = {0, 0}, letter[1];
     mulgreddi_answer a = mulgreddi_translate(l->r.file.at, l->r.file.len, events->at, events->len, event, 0, letter, 0);
     if (a.refusal)
@@ -158,12 +159,17 @@ static void follow_events(live *l, const bytes *events, const char *path)
         char what[64];
         l->events++;
         snprintf(what, sizeof what, "%02x %02x", event[0], event[1]);
-        a = mulgreddi_translate(l->r.file.at, l->r.file.len, events->at, events->len, event, 2, letter, 1);
-        if (a.refusal) {
+        uint16_t *known = &letters[256 * event[0] + event[1]];
+        if (*known == 0) {
+            a = mulgreddi_translate(l->r.file.at, l->r.file.len, events->at, events->len, event, 2, letter, 1);
+            if (!a.refusal)
+                *known = (uint16_t)(1 + letter[0]);
+        }
+        if (*known == 0) {
             snprintf(what, sizeof what, "%02x %02x, at byte %llu of the log", event[0], event[1], (number)(2 * (l->events - 1)));
             tell(l, l->events, what, a);
         } else
-            arrives(l, what, letter[0]);
+            arrives(l, what, *known - 1u);
     }
     if (ferror(log))
         cannot(name_of(path));

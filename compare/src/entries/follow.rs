@@ -158,7 +158,11 @@ fn cut(harness: &mut Harness, input: Input, letters: &[u8]) {
     while at < letters.len() {
         let most = (letters.len() - at).min(*harness.random.pick(&[1, 3, 40, 600, letters.len()]));
         let length = harness.random.between(0, most);
-        let (after, left) = compare(harness, input, Some(&letters[at..at + length]), &set).unwrap();
+        let part = compare(harness, input, Some(&letters[at..at + length]), &set);
+        // A file of another rule may have fewer letters.
+        let Ok((after, left)) = part else {
+            return;
+        };
         if left.first == 0 && emptied.is_none() {
             emptied = Some(at + left.second);
         }
@@ -175,7 +179,10 @@ fn cut(harness: &mut Harness, input: Input, letters: &[u8]) {
         room: codes.len(),
     };
     if letters.len() <= 2_000 {
-        harness.agree(&whole[..codes.len()], &afresh(&lent, letters).unwrap()[..]);
+        harness.agree(
+            &whole[..codes.len()].to_vec(),
+            &afresh(&lent, letters).unwrap(),
+        );
     }
 }
 
@@ -229,14 +236,15 @@ fn examples(harness: &mut Harness) {
             codes: &codes,
             transitions: &transitions,
         };
+        let alphabet = read(file).unwrap().0.letters;
         for length in [0, 1, 2, 511, 512, 513, 3_000, 100_000] {
-            let letters = letters_of(&mut harness.random, 2, length);
+            let letters = letters_of(&mut harness.random, alphabet, length);
             cut(harness, input, &letters);
             // Letter 0 alone, which E takes for ever, and a 1 at its end.
             let mut zeros = vec![0; length];
             cut(harness, input, &zeros);
             if let Some(last) = zeros.last_mut() {
-                *last = 1;
+                *last = alphabet as u8 - 1;
                 cut(harness, input, &zeros);
             }
         }
@@ -246,16 +254,16 @@ fn examples(harness: &mut Harness) {
             ..input
         };
         for (input, letters, row) in [
-            (input, &[0, 1, 2][..], 14),
+            (input, &[0, 0, alphabet as u8][..], 14),
             (input, &[255, 0], 14),
-            (ragged, &[2], 14),
-            (ragged, &[1], 15),
+            (ragged, &[alphabet as u8], 14),
+            (ragged, &[0], 15),
         ] {
             let left = compare(harness, input, Some(letters), &[]);
             harness.by_01(&left.map(|_| ()), &Err(row));
         }
         if !codes.is_empty() {
-            for letters in [None, Some(&[1][..])] {
+            for letters in [None, Some(&[0][..])] {
                 let short = vec![1; codes.len() / 8 - 1];
                 let left = compare(harness, input, letters, &short);
                 harness.by_01(&left.map(|_| ()), &Err(16));

@@ -1,6 +1,7 @@
 -- `follow_call::start_read` meets its contract: the rows, then the start.
 use mathlib.Core.Path.{refl, sym, _∙_}
 use mathlib.Core.List.{[]}
+use native.Mathlib.Omega.{arith}
 use lib.ListN.{length}
 use borrow.Author.Needs.{needs}
 use Rattle.follow_call.proofs.Served.{fits, refused-by, served-by}
@@ -13,7 +14,7 @@ returns c = let at-row : tie.After-call-row = search in refused-by _ (sym (at-ro
 begin-requires : tie.Need-begin-requires
 begin-requires c κs =
     let start : tie.Start = search in let at-row : tie.After-call-row = search in let passed : tie.Else1 = search in let a = start .args in
-    (start .pre, fits (a .h .s) [] (a .codes .now) (a .transitions .now) (length (a .set .now)) (sym (at-row .call-row .ensures) ∙ passed .if1 .left))
+    (omega (arith, start .pre), fits (a .h .s) [] (a .codes .now) (a .transitions .now) (length (a .set .now)) (sym (at-row .call-row .ensures) ∙ passed .if1 .left))
 
 returns-2 : tie.Need-returns-2
 returns-2 c =

@@ -28,7 +28,7 @@ loop-holds c =
 next-set-requires-2 : tie.Need-next-set-requires-2 Inv-loop μ-loop
 next-set-requires-2 c κs =
     let at-loop : tie.At-loop Inv-loop μ-loop = search in let l = at-loop .loop in
-    (omega arith, omega (arith, length-set (l .set) (l .x) (getD (l .set) (l .x) 0 / 2), l .inv .1 .through .long))
+    (omega arith, simp length-set (omega (arith, l .inv .1 .through .long)))
 
 loop-again : tie.Need-loop-again Inv-loop μ-loop
 loop-again c =

@@ -28,15 +28,14 @@ returns c =
     going-stop (wordsIn (a .transitions .now)) (a .letters .now) (a .set .now) (l .set) (l .left) (l .i) (c .if1 .taken) (l .inv .1)
 
 -- a letter is a byte
-byte : (c : tie.After-shared-slice-known3 Inv-loop μ-loop) → let start : tie.Start Inv-loop μ-loop = search in let at-loop : tie.At-loop Inv-loop μ-loop = search in
-    getD (start .args .letters .now) (at-loop .loop .i) 0 < 256
-byte c = let at-loop : tie.At-loop Inv-loop μ-loop = search in omega (arith, c .shared-slice-known3 .given (at-loop .loop .i))
+byte : (c : tie.After-shared-slice-known3 Inv-loop μ-loop) (i : ℕ) → let start : tie.Start Inv-loop μ-loop = search in getD (start .args .letters .now) i 0 < 256
+byte c i = omega (arith, c .shared-slice-known3 .given i)
 
 step-requires : tie.Need-step-requires Inv-loop μ-loop
 step-requires c κs =
     let start : tie.Start Inv-loop μ-loop = search in let at-loop : tie.At-loop Inv-loop μ-loop = search in
     let pre = start .pre in let l = at-loop .loop in let g = l .inv .1 in
-    (byte (search), omega (arith, g .long, pre .0), g .low, pre .3, rw (g .long) (pre .4))
+    (byte (search) _, omega (arith, g .long, pre .0), g .low, pre .3, rw (g .long) (pre .4))
 
 loop-again : tie.Need-loop-again Inv-loop μ-loop
 loop-again c =
@@ -56,5 +55,5 @@ returns-2 c =
 pub step-over-spec : {M : Type 1} → statement M
 step-over-spec =
     tie.close (tie.spec
-    Inv-loop μ-loop loop-holds (λ c. search needs) returns (λ c. search needs) (λ c. omega (arith, byte (search))) step-requires (λ c. search needs) (λ c. search needs) loop-again
+    Inv-loop μ-loop loop-holds (λ c. search needs) returns (λ c. search needs) (λ c. let at-loop : tie.At-loop Inv-loop μ-loop = search in omega (arith, byte (search) (at-loop .loop .i))) step-requires (λ c. search needs) (λ c. search needs) loop-again
     (λ c. search needs) returns-2)
