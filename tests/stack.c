@@ -118,6 +118,7 @@ static void translate(void)
 /* letters, a mark and a return, on the table that was built last */
 static void live(void)
 {
+    static const uint8_t letters[600];
     static uint8_t state[MULGREDDI_LIVE_STATE], set[MULGREDDI_MACROSTATES_MAX];
     const uint8_t *c = (const uint8_t *)codes, *t = (const uint8_t *)transitions;
     size_t cn = 8 * built.first, tn = 8 * built.second;
@@ -127,6 +128,8 @@ static void live(void)
     mulgreddi_live_arrive(file, file_len, 0, c, cn, t, tn, state, sizeof state, set, sizeof set);
     mulgreddi_live_withdraw(file, file_len, c, cn, t, tn, state, sizeof state, set, sizeof set);
     mulgreddi_live_return(file, file_len, 0, c, cn, t, tn, state, sizeof state, set, sizeof set);
+    mulgreddi_follow_start(file, file_len, c, cn, t, tn, set, sizeof set);
+    mulgreddi_follow(file, file_len, letters, sizeof letters, c, cn, t, tn, set, sizeof set);
 }
 
 static const struct { const char *name; void (*call)(void); } calls[] = {
