@@ -53,15 +53,15 @@ pigeonhole (suc n) f low =
 
 -- ---- the walk
 
-module _ (marks : List ℕ) (z : ℕ → ℕ) (again : (i : ℕ) → (j : ℕ) × (i < j) × (1 < getD marks (z j) 0)) where
-  -- the accepting steps
+-- steps of some kind that come again and again, at numbers below n: two of them have the same number
+module _ (n : ℕ) (z : ℕ → ℕ) (Kind : ℕ → Type 0) (again : (i : ℕ) → (j : ℕ) × (i < j) × Kind j) (low : (j : ℕ) → Kind j → z j < n) where
   abbrev visit : ℕ → ℕ
   visit zero = again 0 .0
   visit (suc k) = again (visit k) .0
 
-  visit-accepts : (k : ℕ) → 1 < getD marks (z (visit k)) 0
-  visit-accepts zero = again 0 .2
-  visit-accepts (suc k) = again (visit k) .2
+  visit-kind : (k : ℕ) → Kind (visit k)
+  visit-kind zero = again 0 .2
+  visit-kind (suc k) = again (visit k) .2
 
   visit-later : (a b : ℕ) → a < b → visit a < visit b
   visit-later a zero l = absurd (omega arith)
@@ -69,7 +69,12 @@ module _ (marks : List ℕ) (z : ℕ → ℕ) (again : (i : ℕ) → (j : ℕ) �
       let n = again (visit b) .1 in
       by-cases (ℕ-discrete a b) (λ e. rw e n) (λ e. omega (arith, visit-later a b (omega arith), n))
 
-  pub closes : (i j : ℕ) × (i < j) × (z i ≡ z j) × (1 < getD marks (z i) 0)
-  closes =
-      let r = pigeonhole (length marks) (λ k. z (visit k)) (λ k l. has-place marks (z (visit k)) (omega (arith, visit-accepts k))) in
-      (visit (r .0), visit (r .1), visit-later (r .0) (r .1) (r .2), r .4, visit-accepts (r .0))
+  pub comes-back : (i j : ℕ) × (i < j) × (z i ≡ z j) × Kind i × Kind j
+  comes-back =
+      let (a, b, l, m, e) = pigeonhole n (λ k. z (visit k)) (λ k l. low (visit k) (visit-kind k)) in
+      (visit a, visit b, visit-later a b l, e, visit-kind a, visit-kind b)
+
+pub closes : (marks : List ℕ) (z : ℕ → ℕ) → ((i : ℕ) → (j : ℕ) × (i < j) × (1 < getD marks (z j) 0)) → (i j : ℕ) × (i < j) × (z i ≡ z j) × (1 < getD marks (z i) 0)
+closes marks z again =
+    let (i, j, l, e, a, b) = comes-back (length marks) z (λ j. 1 < getD marks (z j) 0) again (λ j h. has-place marks (z j) (omega arith)) in
+    (i, j, l, e, a)

@@ -1,4 +1,4 @@
--- Certified sets, discharged within N steps everywhere, have ranks, and an accepting run goes along them.
+-- Certified sets have ranks, and an accepting run goes along them; each open state may be discharged within a number of steps of its own.
 use mathlib.Core.Path.{_≡_, refl, sym, _∙_, ap}
 use mathlib.Core.Logic.{by-cases}
 use mathlib.Core.Bool.{Bool, true, false, _&&_, cond, and-false}
@@ -8,35 +8,34 @@ use native.Mathlib.Nat.{le-trans}
 use native.Mathlib.Decide.{ℕ-discrete}
 use lib.Dec.{eqb, leb}
 use borrow.Author.Tests.{leb-true, leb-false, le-leb, lt-leb, eq-eqb, ne-eqb}
-use Rattle.sets.specs.Tests.{Set, count, one, first, largest}
+use Rattle.sets.specs.Tests.{Set, count, one, largest}
 use Rattle.sets.proofs.Bools.{bif, and-l, and-r}
-use Rattle.sets.proofs.Tests.{first-leb, count-le, some-none, largest-le}
+use Rattle.sets.proofs.Tests.{count-le, some-none, largest-ge, largest-le}
 use Rattle.theory.specs.Automaton.{Automaton}
 use Rattle.theory.specs.Layered.{Layered}
 use Rattle.theory.specs.Core.{isOpen, settled, settledUpTo, openOf, nextComponent}
 use Rattle.theory.specs.CoreComputed.{taken, rankOf}
 use Rattle.theory.specs.Rule.{satisfies}
-use Rattle.theory_laws.proofs.Certified.{discharged, Backed, Run}
+use Rattle.theory_laws.proofs.Certified.{discharged, Certified, Backed, Run}
 use Rattle.theory_laws.proofs.Classes.{open-component, open-state, rank-max, rank-order, rank-upto}
-use Rattle.theory_laws.proofs.Distance.{discharged-le}
+use Rattle.theory_laws.proofs.Distance.{distance, distance-leb, distance-pos}
 use Rattle.theory_laws.proofs.Pursuit.{open-kind, discharged-shut}
 use Rattle.theory_laws.proofs.Ranks.{levAt, lev-test}
 use Rattle.theory_laws.proofs.Settled.{settled-ext}
 
 module _ (A : Automaton) (H : Layered A) (B : ℕ) (room : A .n ≤ B) (w : ℕ → ℕ) (S : ℕ → Set)
-    (exact : (i q : ℕ) → q < A .n → S i q ≡ satisfies (A .n) (S (suc i)) (A .entry q (w i)))
-    (N : ℕ) (near : (i q : ℕ) → q < A .n → isOpen A (S i) q ≡ true → discharged A suc w S i N q ≡ true) where
-  -- the distance
-  pub δ : ℕ → ℕ → ℕ
-  δ i q = first N (λ d. discharged A suc w S i d q) 0
+    (C : Certified A suc w S) where
+  exact : (i q : ℕ) → q < A .n → S i q ≡ satisfies (A .n) (S (suc i)) (A .entry q (w i))
+  exact = C .exact
+
+  abbrev pub δ : ℕ → ℕ → ℕ
+  δ = distance A suc w S C
 
   δ-leb : (i q : ℕ) → q < A .n → isOpen A (S i) q ≡ true → (d : ℕ) → leb (δ i q) d ≡ discharged A suc w S i d q
-  unfolding δ
-  δ-leb i q l o d = first-leb N _ (λ a b h t. discharged-le A suc w S a b i q l h t) (near i q l o) d
+  δ-leb = distance-leb A suc w S C
 
   δ-pos : (i q : ℕ) → q < A .n → isOpen A (S i) q ≡ true → 0 < δ i q
-  unfolding discharged
-  δ-pos i q l o = leb-false (δ i q) 0 (δ-leb i q l o 0)
+  δ-pos = distance-pos A suc w S C
 
   -- the ranks: the distances, closed up
   pub rk : ℕ → ℕ → ℕ
@@ -142,18 +141,24 @@ module _ (A : Automaton) (H : Layered A) (B : ℕ) (room : A .n ≤ B) (w : ℕ 
       let b = leb-true (rk i q) (x .left) (and-r (openOf A (S i) (x .component) q) _ t) in
       rw c at (lev-low i q e l (open-state A (S i) (x .component) q a) (rw c (le-trans b h))))
 
-  turn-low : (i C : ℕ) → largest (A .n) (openOf A (S i) C) (rk i) ≤ upto i C N
+  -- all classes of component K at i lie within the largest of its distances
+  turn-low : (i K : ℕ) → largest (A .n) (openOf A (S i) K) (rk i) ≤ upto i K (largest (A .n) (openOf A (S i) K) (δ i))
   unfolding rk
-  turn-low i C = largest-le (A .n) _ _ _ (λ q l t. let o = open-state A (S i) C q t in
-      rw (open-component A (S i) C q t) at (leb-true (rk i q) (upto i (A .component q) N) (rank-upto A (S i) (δ i) q l o N ∙ δ-leb i q l o N ∙ near i q l o)))
+  turn-low i K =
+      let M = largest (A .n) (openOf A (S i) K) (δ i) in
+      largest-le (A .n) _ _ _ (λ q l t. let o = open-state A (S i) K q t in
+      rw (open-component A (S i) K q t) at (leb-true (rk i q) (upto i (A .component q) M)
+      (rank-upto A (S i) (δ i) q l o M ∙ le-leb (δ i q) M (largest-ge (A .n) (openOf A (S i) K) (δ i) q l t))))
 
-  low : (i : ℕ) → (work i) .left ≤ upto i ((work i) .component) N
+  -- what is left lies within some distance
+  low : (i : ℕ) → (e : ℕ) × ((work i) .left ≤ upto i ((work i) .component) e)
   unfolding work
-  low zero = omega arith
+  low zero = (0, omega arith)
   low (suc i) =
       by-cases (ℕ-discrete ((work i) .left) 0)
-      (λ z. rw (after-turn i (work i) z) (turn-low (suc i) (nextComponent A ((work i) .component))))
-      (λ z. rw (after-stay i (work i) z) (stay-low i N (work i) (le-trans (low i) (count-le (suc N) (suc (suc N)) _ (omega arith)))))
+      (λ z. let K = nextComponent A ((work i) .component) in
+      (largest (A .n) (openOf A (S (suc i)) K) (δ (suc i)), rw (after-turn i (work i) z) (turn-low (suc i) K)))
+      (λ z. let (e, l) = low i in (e, rw (after-stay i (work i) z) (stay-low i e (work i) (le-trans l (count-le (suc e) (suc (suc e)) _ (omega arith))))))
 
   zero-in : (e i : ℕ) → (work i) .left ≤ upto i ((work i) .component) e → (j : ℕ) × (i ≤ j) × ((work j) .left ≡ 0)
   unfolding work
@@ -179,5 +184,5 @@ module _ (A : Automaton) (H : Layered A) (B : ℕ) (room : A .n ≤ B) (w : ℕ 
     turn-k = λ i z. rw (after-turn i (work i) z) refl;
     stay-K = λ i z. ap (λ (x : Work). x .component) (after-stay i (work i) z);
     stay-k = λ i z. ap (λ (x : Work). x .left) (after-stay i (work i) z);
-    accepts = λ i. let f = zero-in N (suc i) (low (suc i)) in (f .0, f .1, f .2);
+    accepts = λ i. let (e, l) = low (suc i) in zero-in e (suc i) l;
   }

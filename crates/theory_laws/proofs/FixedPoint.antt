@@ -137,7 +137,7 @@ module _ (A : Automaton) (H : Layered A) (L : ℕ) (nx w : ℕ → ℕ) (stays :
   abbrev pub wi : ℕ → ℕ
   wi i = w (place nx i)
 
-  pub discharged-steps : (d i q : ℕ) → discharged A suc wi Si i d q ≡ discharged A nx w Sp (place nx i) d q
+  discharged-steps : (d i q : ℕ) → discharged A suc wi Si i d q ≡ discharged A nx w Sp (place nx i) d q
   unfolding discharged place
   discharged-steps zero i q = refl
   discharged-steps (suc d) i q = ap (λ (b : Bool). isOpen A (Si i) q && b) (settled-ext A _ _ _ q _ (λ r m s. discharged-steps d (suc i) r))
