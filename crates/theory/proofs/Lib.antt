@@ -1,2 +1,3 @@
 pub mod AboutExamples
 pub mod MaskCases
+pub mod AboutSequences

@@ -5,6 +5,7 @@ pub mod Word
 pub mod Automaton
 pub mod Layered
 pub mod Plan
+pub mod Sequence
 pub mod Core
 pub mod CoreComputed
 pub mod Code
