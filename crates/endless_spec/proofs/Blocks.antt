@@ -41,11 +41,11 @@ first-numbers : (blockRun 0 ≡ 1) × (blockRun 1 ≡ 2) × (blockRun 2 ≡ 1) �
 first-numbers = (refl, refl, refl, refl, refl, refl, refl, refl, refl, refl)
 
 -- number 1 stands at the start of a block, where a letter 0 comes
-data Stands : ℕ → ℕ → Type 0 where
+pub data Stands : ℕ → ℕ → Type 0 where
   starts : (c : ℕ) → Stands 1 (suc c)
   goes : (c : ℕ) → Stands 2 c
 
-moves-from : (i x n c : ℕ) → Stands x c → (t : ℕ) × List·Memᴰ t transitionsF × Leads t (numberFrom i x n c) (letterFrom i n c) (numberFrom (suc i) x n c)
+pub moves-from : (i x n c : ℕ) → Stands x c → (t : ℕ) × List·Memᴰ t transitionsF × Leads t (numberFrom i x n c) (letterFrom i n c) (numberFrom (suc i) x n c)
 moves-from zero x n zero (goes c) = (
   33619969,
   List·Memᴰ·tail (List·Memᴰ·tail (List·Memᴰ·tail (List·Memᴰ·tail (List·Memᴰ·tail (List·Memᴰ·tail (List·Memᴰ·head refl)))))),
@@ -56,7 +56,7 @@ moves-from zero x n (suc c) (goes d) = (33554434, List·Memᴰ·tail (List·Mem�
 moves-from (suc i) x n zero s = moves-from i 1 (suc n) (suc n) (starts n)
 moves-from (suc i) x n (suc c) s = moves-from i 2 n c (goes c)
 
-within-from : (i x n c : ℕ) → x < 3 → numberFrom i x n c < 3
+pub within-from : (i x n c : ℕ) → x < 3 → numberFrom i x n c < 3
 within-from zero x n c l = l
 within-from (suc i) x n zero l = within-from i 1 (suc n) (suc n) (omega arith)
 within-from (suc i) x n (suc c) l = within-from i 2 n c (omega arith)
@@ -66,7 +66,7 @@ block-ends : (c x n : ℕ) → numberFrom (suc c) x n c ≡ 1
 block-ends zero x n = refl
 block-ends (suc c) x n = block-ends c 2 n
 
-again-from : (i x n c : ℕ) → (j : ℕ) × (i < j) × (numberFrom j x n c ≡ 1)
+pub again-from : (i x n c : ℕ) → (j : ℕ) × (i < j) × (numberFrom j x n c ≡ 1)
 again-from zero x n c = (suc c, omega arith, block-ends c x n)
 again-from (suc i) x n zero = let (j, l, e) = again-from i 1 (suc n) (suc n) in (suc j, omega arith, e)
 again-from (suc i) x n (suc c) = let (j, l, e) = again-from i 2 n c in (suc j, omega arith, e)

@@ -2,3 +2,12 @@ pub mod Cases
 pub mod Blocks
 pub mod Endless
 pub mod FreeBreakpoint
+pub mod Graphs
+pub mod Branches
+pub mod Plans
+pub mod Determined
+pub mod Truth
+pub mod BlocksTruth
+pub mod Breakpoints
+pub mod Folds
+pub mod Beginnings

@@ -1,1 +1,1 @@
-// Accepting runs over endless sequences of letters, repeating or not: what is claimed of every table that the builds leave.
+// Endless sequences of letters, repeating or not: what is claimed of every table that the builds leave, and why its runs tell whether the rule accepts.

@@ -44,7 +44,7 @@ module _ (r : Rule) (P : Passing r) where
   pub one-run : (w c d : ℕ → ℕ) → CodeRun (automaton r) w c → CodeRun (automaton r) w d → (i : ℕ) → c i ≡ d i
   one-run = code-unique (automaton r) (layered r P)
 
-  few-components : (automaton r) .components ≤ 16
+  pub few-components : (automaton r) .components ≤ 16
   unfolding automaton
   few-components = let h = few-in-all r P in omega arith
 

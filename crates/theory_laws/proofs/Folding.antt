@@ -52,9 +52,14 @@ module _ (a : ℕ → ℕ) (i j : ℕ) (later : i < j) where
   unfolding place
   at-last k e = let f = lead-long in let g = cycle-long in next-place-last leadOf cycleOf (at k) (omega arith) ∙ f
 
-  at-other : (k : ℕ) → (suc (at k) ≡ j → ⊥) → at (suc k) ≡ suc (at k)
+  pub at-other : (k : ℕ) → (suc (at k) ≡ j → ⊥) → at (suc k) ≡ suc (at k)
   unfolding place
   at-other k n = let f = lead-long in let g = cycle-long in next-place-other leadOf cycleOf (at k) (λ e. n (omega arith))
+
+  -- up to step j the word is as the walk
+  pub at-early : (k : ℕ) → k < j → at k ≡ k
+  at-early zero l = at-first
+  at-early (suc k) l = let e = at-early k (omega arith) in at-other k (λ f. omega arith) ∙ ap suc e
 
   -- the node after a step
   pub at-next : (z : ℕ → ℕ) → z i ≡ z j → (k : ℕ) → z (suc (at k)) ≡ z (at (suc k))

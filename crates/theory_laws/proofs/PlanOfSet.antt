@@ -26,7 +26,7 @@ unfoldable pub choose : ℕ → Set → List ℕ → ℕ
 choose n X [] = 0
 choose n X (c ∷ cs) = elim (inside n X c) [ true ↦ c | false ↦ choose n X cs ]
 
-chosen : (n : ℕ) (X : Set) (cs : List ℕ) → satisfies n X cs ≡ true → List·Memᴰ (choose n X cs) cs × (inside n X (choose n X cs) ≡ true)
+pub chosen : (n : ℕ) (X : Set) (cs : List ℕ) → satisfies n X cs ≡ true → List·Memᴰ (choose n X cs) cs × (inside n X (choose n X cs) ≡ true)
 unfolding satisfies choose
 chosen n X [] e = absurd (false≢true e)
 chosen n X (c ∷ cs) e =

@@ -27,7 +27,7 @@ unfolding satisfies
 out n Y c (d ∷ cs) (List·Memᴰ·head x) e = rw x (or-fl (inside n Y d) (satisfies n Y cs) e)
 out n Y c (d ∷ cs) (List·Memᴰ·tail k) e = out n Y c cs k (or-fr (inside n Y d) (satisfies n Y cs) e)
 
-miss : (n : ℕ) (Y : Set) (cs : List ℕ) (c : ℕ) → List·Memᴰ c cs → satisfies n Y cs ≡ false → (r : ℕ) × (r < n) × (bit c r ≡ true) × (Y r ≡ false)
+pub miss : (n : ℕ) (Y : Set) (cs : List ℕ) (c : ℕ) → List·Memᴰ c cs → satisfies n Y cs ≡ false → (r : ℕ) × (r < n) × (bit c r ≡ true) × (Y r ≡ false)
 unfolding inside
 miss n Y cs c m e =
     let f = every-not n (λ q. not (bit c q) || Y q) (out n Y c cs m e) in
