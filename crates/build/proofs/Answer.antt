@@ -18,6 +18,7 @@ use Rattle.theory.specs.TableComputed.{macrostatesFrom, transitionsFrom}
 use Rattle.theory_laws.proofs.Tables.{lists-from}
 use Rattle.file_spec.specs.declared.Layout.{Layout}
 use Rattle.file_spec.specs.declared.Read.the-variants.{Accepted}
+use Rattle.endless_spec.specs.Endless.{TruthFrom}
 use Rattle.file_spec.specs.File.{ruleIn}
 use Rattle.file_spec.specs.Reading.{readOf}
 use Rattle.file_read.proofs.Answer.{served}
@@ -109,8 +110,9 @@ filled-served start f l p xs zs b ys ws M =
 
 -- ---- the whole contract
 
-module _ (start : Rule → Set) (words : Rule → List ℕ → List ℕ → Type 0)
+module _ (start : Rule → Set) (words : Rule → List ℕ → List ℕ → Type 0) (sequences : Rule → (ℕ → ℕ) → Type 0)
     (meets : (r : Rule) → Passing r → length (macrostatesFrom r (start r)) ≤ 65536 → DemandFrom r (start r) (words r) (macrostatesFrom r (start r)) (transitionsFrom r (start r)))
+    (tells : (r : Rule) → Passing r → (codes ts : List ℕ) → ListsFrom r (start r) codes ts → length codes ≤ 65536 → TruthFrom r (start r) (sequences r) codes ts)
     (f xs zs : List ℕ) (b : Built) (ys ws : List ℕ) (F : FileFilled start f xs zs b ys ws) where
   abbrev r : Rule
   r = ruleIn f
@@ -139,10 +141,13 @@ module _ (start : Rule → Set) (words : Rule → List ℕ → List ℕ → Type
   demanded : (n : Counts) → b ≡ Table n → DemandFrom r (start r) (words r) (take (n .macrostates) ys) (take (n .transitions) ws)
   demanded n e = let h = held n e in rw (h .codes, h .moves) (meets r (h .passing) (h .few))
 
+  told : (n : Counts) → b ≡ Table n → TruthFrom r (start r) (sequences r) (take (n .macrostates) ys) (take (n .transitions) ws)
+  told n e = let h = held n e in tells r (h .passing) _ _ (listed n e) (rw (h .codes) (h .few))
+
   made : fileRow f ≡ 0 → Made (fileCodes start f) (fileMoves start f) xs zs b ys ws
   made z = subst (λ (k : ℕ). Filled k (fileCodes start f) (fileMoves start f) xs zs b ys ws) (build-row start f xs zs z) F
 
-  pub file-built : FileBuilt start words f xs zs b ys ws
+  pub file-built : FileBuilt start words sequences f xs zs b ys ws
   unfolding builtFrom codesAfterFrom transitionsAfterFrom
   file-built = record {
     answer = F .answer;
@@ -152,4 +157,5 @@ module _ (start : Rule → Set) (words : Rule → List ℕ → List ℕ → Type
     lists = listed;
     demand = demanded;
     never-two = λ n e. demanded n e .unambiguous;
+    truth = told;
   }

@@ -11,11 +11,14 @@ use Rattle.theory.specs.Demand.{Demand3}
 use Rattle.theory.specs.Macrostate.{holdsInitial}
 use Rattle.theory.specs.Passing.{Passing}
 use Rattle.theory.specs.Rule.{Rule}
+use Rattle.theory.specs.Sequence.{AcceptsSequence}
 use Rattle.theory.specs.Table.{ListsReachable}
 use Rattle.theory.specs.TableComputed.{macrostates, transitions}
 use Rattle.theory_laws.proofs.Lists.{codes-once, moves-once, lists-exist}
 use Rattle.theory_laws.proofs.Tables.{lists-reachable}
+use Rattle.endless_spec.specs.Endless.{TellsTruth}
 use Rattle.endless_spec.proofs.Endless.{never-two}
+use Rattle.endless_spec.proofs.Truth.{accepting-truth, same-truth}
 use Rattle.file_spec.specs.File.{ruleIn}
 use Rattle.file_spec.specs.Rows.{fileRow, fileRows}
 use Rattle.file_read.proofs.FileRows.{file-numbered, accepted-passing}
@@ -34,7 +37,7 @@ use Rattle.theory_laws.proofs.Mattering.{table-inside, narrow-at}
 use Rattle.theory_laws.proofs.Numbers.{picked-length, number-max}
 use Rattle.theory_laws.proofs.Renumbering.{renumbered-yes, renumbered-no, renumbered-are}
 use Rattle.theory_laws.proofs.Sweeping.{flags-length, live-solved}
-use Rattle.theory_laws.proofs.Trimmed.{trimmed-lists, trimmed-demand3, run-survives}
+use Rattle.theory_laws.proofs.Trimmed.{trimmed-lists, trimmed-demand3, run-survives, run-comes-from}
 use Rattle.build_trimmed.specs.Trimming.{Trimmable, padded, Trimming}
 use Rattle.build_trimmed.specs.Answers.{trimmedOf, trimmedCodesAfter, trimmedTransitionsAfter}
 use Rattle.build_trimmed.specs.Entry.{TrimmedBuilt}
@@ -223,6 +226,14 @@ module _ (f xs zs : List ℕ) (n : Counts) (e : Table n ≡ trimmedOf f (length 
   pub answered-demand3 : Demand3 (ruleIn f) (take (n .macrostates) (trimmedCodesAfter f xs (length zs))) (take (n .transitions) (trimmedTransitionsAfter f (length xs) zs))
   answered-demand3 = rw (codes-are, transitions-are) (trimmed-demand3 (ruleIn f) (accepted-passing f (rows .0)) small)
 
+  -- its accepting runs are those of the whole table
+  pub answered-truth : TellsTruth (ruleIn f) (take (n .macrostates) (trimmedCodesAfter f xs (length zs))) (take (n .transitions) (trimmedTransitionsAfter f (length xs) zs))
+  answered-truth =
+      let r = ruleIn f in
+      let P = accepted-passing f (rows .0) in
+      rw (codes-are, transitions-are) (same-truth r P (holdsInitial r) (AcceptsSequence r) (macrostates r) (transitions r) (trimmedCodes r) (trimmedTransitions r)
+      (run-survives r P small) (run-comes-from r P small) (accepting-truth r P (macrostates r) (transitions r) (lists-reachable r P small) small))
+
 -- ---- the whole contract, of an answer and both slices
 
 module _ (f xs zs : List ℕ) (a : Built) (ys ws : List ℕ) (e : a ≡ trimmedOf f (length xs) (length zs))
@@ -264,6 +275,7 @@ module _ (f xs zs : List ℕ) (a : Built) (ys ws : List ℕ) (e : a ≡ trimmedO
     lists = λ n t. rw (c, m) (answered-lists f xs zs n (sym t ∙ e));
     demand = λ n t. rw (c, m) (answered-demand3 f xs zs n (sym t ∙ e));
     never-two = λ n t. rw (c, m) (never-two (ruleIn f) _ _ (answered-demand3 f xs zs n (sym t ∙ e)));
+    truth = λ n t. rw (c, m) (answered-truth f xs zs n (sym t ∙ e));
     survival = survival;
   }
 

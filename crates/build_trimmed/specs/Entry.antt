@@ -5,7 +5,7 @@ use Prim.Native.Nat.{ℕ}
 use lib.ListN.{length, take}
 use Rattle.theory.specs.Demand.{Demand3}
 use Rattle.theory.specs.Table.{ListsReachable}
-use Rattle.endless_spec.specs.Endless.{NeverTwo}
+use Rattle.endless_spec.specs.Endless.{NeverTwo, TellsTruth}
 use Rattle.file_spec.specs.File.{ruleIn}
 use Rattle.file_spec.specs.Rows.{fileRow}
 use Rattle.build.specs.declared.Counts.{Counts}
@@ -32,6 +32,8 @@ pub record TrimmedBuilt (file xs zs : List ℕ) (b : Built) (ys ws : List ℕ) :
   pub demand : (n : Counts) → b ≡ Table n → Demand3 (ruleIn file) (take (n .macrostates) ys) (take (n .transitions) ws)
   -- 02, M-112: "The table of M-104 is included."
   pub never-two : (n : Counts) → b ≡ Table n → NeverTwo (ruleIn file) (take (n .macrostates) ys) (take (n .transitions) ws)
+  -- over every endless sequence the sets of an accepting run tell the truth, and so the rule accepts the sequence
+  pub truth : (n : Counts) → b ≡ Table n → TellsTruth (ruleIn file) (take (n .macrostates) ys) (take (n .transitions) ws)
   -- 02: "The one accepting run of each word must survive in the smaller table.": from the table of any two lists of the reachable macrostates and transitions
   pub survival : (n : Counts) → b ≡ Table n → (codes moves : List ℕ) → ListsReachable (ruleIn file) codes moves
       → RunsSurvive (ruleIn file) codes moves (take (n .macrostates) ys) (take (n .transitions) ws)

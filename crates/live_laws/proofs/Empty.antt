@@ -1,13 +1,16 @@
--- 02: "An empty set means that no continuation which ends in a cycle is accepted, and a non-empty one means that some is."
+-- 02: "An empty set means that no continuation which ends in a cycle is accepted, and a non-empty one means that some is."; and none at all, repeating or not.
 use mathlib.Core.Path.{_≡_, refl, ap, _∙_}
 use mathlib.Core.Logic.{_↔_, by-cases}
 use mathlib.Core.List.{List, [], _∷_, _++_, List·Memᴰ}
 use Prim.Native.Nat.{ℕ, suc, _+_, _≤_, _<_}
 use native.Mathlib.Omega.{arith}
 use native.Mathlib.Decide.{decLt}
+use native.Mathlib.Nat.{zero-add}
 use lib.ListN.{length, getD}
+use lib.Seq.{ext-getD}
+use Rattle.sets.specs.Lists.{tabulate}
 use Rattle.sets.specs.Tests.{count}
-use Rattle.sets.proofs.Lists.{mem-at}
+use Rattle.sets.proofs.Lists.{mem-at, length-tabulate, tabulate-at}
 use Rattle.sets.proofs.Tests.{count-hit, count-lt}
 use Rattle.theory.specs.Automaton.{automaton}
 use Rattle.theory.specs.Demand.{Demand3}
@@ -16,6 +19,7 @@ use Rattle.theory.specs.Passing.{Passing}
 use Rattle.theory.specs.Plan.{AcceptsWord}
 use Rattle.theory.specs.Rule.{Rule}
 use Rattle.theory.specs.Run.{targetOf, Leads}
+use Rattle.theory.specs.Sequence.{AcceptsSequence}
 use Rattle.theory.specs.TableComputed.{macrostates, transitions}
 use Rattle.theory.specs.Word.{letters}
 use Rattle.theory_laws.proofs.Demand.{demand3}
@@ -27,7 +31,8 @@ use Rattle.trim_spec.specs.Matters.{Matters, ListsMattering}
 use Rattle.trim_spec.specs.Trimmed.{trimmedCodes, trimmedTransitions}
 use Rattle.theory_laws.proofs.Empty.{matters-before, before-lead, before-cycle, accepted}
 use Rattle.theory_laws.proofs.Trimmed.{trimmed-lists, trimmed-demand3, trimmed-room}
-use Rattle.live_spec.specs.Reached.{Walks, here, step, ReachedOver, Accepted}
+use Rattle.endless_spec.proofs.Beginnings.{begins-word}
+use Rattle.live_spec.specs.Reached.{Walks, here, step, ReachedOver, Continues, Accepted}
 use Rattle.live_spec.specs.Afresh.{isIn, afresh, membersOf}
 use Rattle.live_laws.proofs.Reached.{reached-iff}
 
@@ -39,6 +44,20 @@ run-walks ts (a ∷ l) lead cycle c x moves =
     let (t, m, k) = moves 0 in
     step t a m (rw (letter-first a (l ++ lead) cycle) at k)
     (run-walks ts l lead cycle c (λ i. x (suc i)) (λ i. let (u, n, j) = moves (suc i) in (u, n, rw (letter-behind a (l ++ lead) cycle c i) at j)))
+
+-- the letters that a sequence begins with, as its first ones
+begins-tabulated : (s : ℕ) (l : List ℕ) (w : ℕ → ℕ) → Continues s l w → tabulate (length l) w 0 ≡ l
+begins-tabulated s l w C =
+    ext-getD 0 (tabulate (length l) w 0) l (length-tabulate (length l) w 0) (λ i h.
+    let k : i < length l = rw (length-tabulate (length l) w 0) at h in
+    tabulate-at (length l) w 0 i k ∙ ap w (zero-add i) ∙ C .begins i k)
+
+-- letters with an accepted endless continuation have one that ends in a cycle
+pub endless-accepted : (r : Rule) → Passing r → (l : List ℕ) (w : ℕ → ℕ) → Continues (r .s) l w → AcceptsSequence r w → Accepted r l
+endless-accepted r P l w C a =
+    let (lead, cycle, W, A) = begins-word r P w (C .known) a (length l) in
+    let e = begins-tabulated (r .s) l w C in
+    record { lead = lead; cycle = cycle; word = rw e at W; accepts = rw e at A }
 
 module _ (r : Rule) (P : Passing r) (room : length (macrostates r) ≤ 65536) where
   module _ (codes ts : List ℕ) (L : ListsMattering r codes ts) where
@@ -117,3 +136,7 @@ module _ (r : Rule) (P : Passing r) (room : length (macrostates r) ≤ 65536) wh
           (λ k. absurd (none (some-left l .0 k)))
           (λ k. omega (arith, k)),
     )
+
+    -- and no endless continuation whatever
+    pub none-endless : (l : List ℕ) → membersOf (length codes) (afresh (r .initial) codes ts l) ≡ 0 → (w : ℕ → ℕ) → Continues (r .s) l w → AcceptsSequence r w → ⊥
+    none-endless l e w C a = none-left l .0 e (endless-accepted r P l w C a)

@@ -24,7 +24,7 @@ use Rattle.live_spec.specs.State.{stateLength, stateOf, numberIn, isMarked, set
 use Rattle.live_spec.specs.Effects.{put, shown}
 use Rattle.live_spec.specs.Called.{effect, answerBy, leftBy, CalledBy, Gets, Leaves}
 use Rattle.live_spec.proofs.Steps.{in-one, table-at}
-use Rattle.live_laws.proofs.Empty.{some-left, none-left}
+use Rattle.live_laws.proofs.Empty.{some-left, none-left, none-endless}
 use Rattle.live_laws.proofs.Histories.{Onward, Small, small, held-by, state-bytes, state-long, start-goes, call-goes}
 use Rattle.live_laws.proofs.Reached.{afresh-length, afresh-bytes, reached-iff}
 use Rattle.live_laws.proofs.States.{bytesOf, Held, number-held, flag-held, set-at}
@@ -94,6 +94,7 @@ module _ (r : Rule) (P : Passing r) (codes ts : List ℕ) (room : length codes �
             ∙ ap (λ (k : ℕ). afresh q codes ts (g .letters) ++ drop k set) (zero-add (length (afresh q codes ts (g .letters))) ∙ afresh-length q codes ts (g .letters));
         reached = λ y. reached-iff r codes ts (inside .targets) (g .letters) y;
         empty = λ T. none-left r P (T .room) codes ts (T .lists) (g .letters);
+        empty-endless = λ T. none-endless r P (T .room) codes ts (T .lists) (g .letters);
         some-left = λ T. some-left r P (T .room) codes ts (T .lists) (g .letters);
       }
 

@@ -6,13 +6,14 @@ use mathlib.Core.List.{List, _++_}
 use Prim.Native.Nat.{ℕ, zero, suc, _≤_, _<_}
 use lib.ListN.{length, take, drop}
 use Rattle.theory.specs.Rule.{Rule}
+use Rattle.theory.specs.Sequence.{AcceptsSequence}
 use Rattle.theory.specs.TableComputed.{macrostates}
 use Rattle.file_spec.specs.File.{ruleIn}
 use Rattle.table_lent.specs.Lent.{Lent}
 use Rattle.trim_spec.specs.Matters.{ListsMattering}
 use Rattle.live_spec.specs.declared.LiveAnswer.{LiveAnswer}
 use Rattle.live_spec.specs.declared.LiveAnswer.the-variants.{Live, Refused}
-use Rattle.live_spec.specs.Reached.{ReachedOver, Accepted}
+use Rattle.live_spec.specs.Reached.{ReachedOver, Continues, Accepted}
 use Rattle.live_spec.specs.Afresh.{isIn, afresh, membersOf}
 use Rattle.live_spec.specs.Effects.{put, started, arrived, withdrawn, marked, returned, shown}
 use Rattle.live_spec.specs.declared.LiveCall.{LiveCall}
@@ -71,6 +72,9 @@ pub record Leaves (r : Rule) (codes transitions : List ℕ) (h : History) (state
   pub reached : (y : ℕ) → (isIn (afresh (r .initial) codes transitions (held h)) y ≡ true) ↔ ReachedOver r codes transitions (held h) y
   -- of the M-104 table: "An empty set means that no continuation which ends in a cycle is accepted, and a non-empty one means that some is."
   pub empty : TrimmedTable r codes transitions → (membersOf (length codes) (afresh (r .initial) codes transitions (held h)) ≡ 0) ↔ (Accepted r (held h) → ⊥)
+  -- and that no endless continuation whatever is accepted
+  pub empty-endless : TrimmedTable r codes transitions → membersOf (length codes) (afresh (r .initial) codes transitions (held h)) ≡ 0
+      → (w : ℕ → ℕ) → Continues (r .s) (held h) w → AcceptsSequence r w → ⊥
   pub some-left : TrimmedTable r codes transitions → (0 < membersOf (length codes) (afresh (r .initial) codes transitions (held h))) ↔ Accepted r (held h)
 
 -- a call of a file and a lent table

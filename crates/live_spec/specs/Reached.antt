@@ -22,6 +22,11 @@ pub record ReachedOver (r : Rule) (codes transitions letters : List ℕ) (y : �
   pub initial : isInitial r (getD codes start 0) ≡ true
   pub walk : Walks transitions start letters y
 
+-- an endless sequence over s letters, repeating or not, that begins with some letters: w gives the letter of each step
+pub record Continues (s : ℕ) (letters : List ℕ) (w : ℕ → ℕ) : Type 0 where
+  pub known : (i : ℕ) → w i < s
+  pub begins : (i : ℕ) → i < length letters → w i ≡ getD letters i 0
+
 -- 02: a "continuation which ends in a cycle", of some letters, that the rule accepts: these letters begin the word's lead-in
 pub record Accepted (r : Rule) (letters : List ℕ) : Type 0 where
   pub lead : List ℕ
