@@ -238,8 +238,8 @@ mulgreddi_answer mulgreddi_judge_sheet(const uint8_t *file, size_t file_len, con
  * codes gets the codes of all reachable macrostates, ascending; a macrostate's number is its place there, from 0. transitions gets
  * source * 16777216 + letter * 65536 + target, ascending. Unused elements of both become 0.
  * A macrostate is initial if its set (bits 0 to 7) holds the initial state and bits 40 to 47 are 0, accepting if bits 44 to 47 are 0
- * (mulgreddi_code_initial, mulgreddi_code_accepting). Over every endless sequence of letters at most one run accepts; over a lead-in and a
- * cycle, one exactly if the rule accepts the word.
+ * (mulgreddi_code_initial, mulgreddi_code_accepting). Over every endless sequence of letters at most one run accepts, and if one does, the
+ * rule accepts the sequence; over a lead-in and a cycle, one exactly if the rule accepts the word.
  * first: macrostates. second: transitions.
  * The rule's refusals, which change nothing, and 17 and 18, which set both slices to zero throughout. Room is the length of the slice, at
  * most 65,536 macrostates and 1,048,576 transitions; a room that is exactly the count is served. */
@@ -255,8 +255,8 @@ mulgreddi_answer mulgreddi_build_trimmed(const uint8_t *file, size_t file_len, u
 
 /* As mulgreddi_build, for the words that the rule rejects: the macrostates reached from those whose set lacks the initial state.
  * In this table a macrostate is initial if its set lacks the initial state and bits 40 to 47 are 0 (mulgreddi_code_initial_rejecting);
- * accepting is as before. Over every endless sequence of letters at most one run accepts; over a lead-in and a cycle, one exactly if the
- * rule does not accept the word. Every entry that takes a table (mulgreddi_judge_table, mulgreddi_write_hoa, the live calls) reads initial as in
+ * accepting is as before. Over every endless sequence of letters at most one run accepts, and if one does, the rule rejects the sequence;
+ * over a lead-in and a cycle, one exactly if the rule does not accept the word. Every entry that takes a table (mulgreddi_judge_table, mulgreddi_write_hoa, the live calls) reads initial as in
  * the table of mulgreddi_build, so none of them is for this one.
  * Refused as mulgreddi_build, 17 and 18 by this table. */
 mulgreddi_answer mulgreddi_build_rejecting(const uint8_t *file, size_t file_len, uint64_t *codes, size_t codes_count,
@@ -342,7 +342,7 @@ mulgreddi_answer mulgreddi_translate(const uint8_t *file, size_t file_len, const
  *
  * Every call but the start gets the rule, the table and the state of the call before it, all as they were; state may be copied elsewhere in
  * between. Then the set is the one worked out afresh over the letters held: it is empty exactly if no continuation of them, with a lead-in
- * and a cycle of any length, is accepted by the rule. Of any other bytes in state and any other table that refusal 15 lets pass, a call
+ * and a cycle of any length, is accepted by the rule, and then no endless one whatever is. Of any other bytes in state and any other table that refusal 15 lets pass, a call
  * ends, stays inside its memory and does as told in docs/FORMAT.md.
  *
  * codes and transitions are bytes, as for mulgreddi_judge_table. state has MULGREDDI_LIVE_STATE bytes, of any content before a start. set
