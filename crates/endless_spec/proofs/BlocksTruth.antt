@@ -1,5 +1,6 @@
 -- The sequence 0 1 0 0 1 0 0 0 1 .., which never repeats, by the definitions: F ("some time letter 1") accepts it, E ("letter 0 for ever") rejects it.
 use mathlib.Core.Path.{_≡_, refl, ap, _∙_}
+use mathlib.Core.Logic.{_⊎_, inl, inr, ⊎-elim}
 use mathlib.Core.Bool.{true}
 use mathlib.Core.List.{List, [], _∷_, List·Memᴰ, List·Memᴰ·head, List·Memᴰ·eq-of-singleton}
 use Prim.Native.Nat.{ℕ, zero, suc, _<_}
@@ -15,13 +16,19 @@ use Rattle.theory.specs.Examples.{F, E}
 use Rattle.theory.specs.Macrostate.{begun, isAccepting}
 use Rattle.theory.specs.Rule.{entry}
 use Rattle.theory.specs.Run.{AcceptingRun}
-use Rattle.theory.specs.Sequence.{Reaches, here, on, toEach, toMembers, AcceptsSequence, RejectsSequence}
+use Rattle.theory.specs.Sequence.{Reaches, here, on, toEach, toMembers, AcceptsAt, AcceptsSequence, RejectsSequence}
+use Rattle.theory.specs.Table.{ListsReachable}
+use Rattle.theory.proofs.AboutExamples.{macrostates-F, transitions-F}
+use Rattle.theory_laws.proofs.DemandCases.{passing-F}
+use Rattle.theory_laws.proofs.Tables.{lists-reachable}
 use Rattle.rejecting_spec.specs.Rejecting.{lacksInitial}
 use Rattle.rejecting_spec.specs.RejectingComputed.{rejectingMacrostates, rejectingTransitions}
 use Rattle.rejecting_spec.proofs.Cases.{codes-E, moves-E}
-use Rattle.endless_spec.proofs.Blocks.{blocks, blockRun, within-from, moves-from, again-from, starts}
-use Rattle.endless_spec.proofs.Cases.{transitionsF}
+use Rattle.endless_spec.specs.Endless.{TellsTruth}
+use Rattle.endless_spec.proofs.Blocks.{blocks, numberFrom, blockRun, within-from, moves-from, again-from, starts, block-run}
+use Rattle.endless_spec.proofs.Cases.{codesF, transitionsF}
 use Rattle.endless_spec.proofs.Graphs.{path-on}
+use Rattle.endless_spec.proofs.Truth.{accepting-truth}
 
 -- the two steps before the first letter 1 is passed
 data First : ℕ → ℕ → Type 0 where
@@ -106,3 +113,20 @@ block-run-listed = record {
 
 pub block-run-E : AcceptingRun (rejectingMacrostates E) (rejectingTransitions E) (lacksInitial E) blocks blockRun
 block-run-E = rw (codes-E, moves-E) block-run-listed
+
+-- ---- what the run tells: F accepts the rest of the sequence from every step on
+
+lists-F : ListsReachable F codesF transitionsF
+lists-F = rw (macrostates-F, transitions-F) at (lists-reachable F passing-F (rw macrostates-F (omega arith)))
+
+pub truth-F : TellsTruth F codesF transitionsF
+truth-F = accepting-truth F passing-F codesF transitionsF lists-F (omega arith)
+
+held-by : (i x n c : ℕ) → (x ≡ 1) ⊎ (x ≡ 2) → bit (getD codesF (numberFrom i x n c) 0) 0 ≡ true
+unfolding bit
+held-by zero x n c h = ⊎-elim (λ e. rw e refl) (λ e. rw e refl) h
+held-by (suc i) x n zero h = held-by i 1 (suc n) (suc n) (inl refl)
+held-by (suc i) x n (suc c) h = held-by i 2 n c (inr refl)
+
+pub F-accepts-rest : (i : ℕ) → AcceptsAt (automaton F) blocks 0 i
+F-accepts-rest i = truth-F .holds blocks blockRun block-run 0 i (omega arith) .0 (held-by i 1 1 1 (inl refl))
