@@ -1,15 +1,15 @@
-// A log without end: letters a second of mulgreddi_follow beside a C++ loop that does the same without proofs and without rows: the set in place,
+// A log without end: letters a CPU second of mulgreddi_follow beside a C++ loop that does the same without proofs and without rows: the set in place,
 // a byte a macrostate, zeros passed over eight at a time, transitions found by binary search from the last place on.
 // Use: ./follow FILE..      Letters are drawn so that the set stays non-empty; both leave the same set.
 #include <mulgreddi.h>
 #include <algorithm>
-#include <chrono>
+#include <ctime>
 #include <cstdio>
 #include <cstring>
 #include <vector>
 using std::vector;
 typedef uint64_t u64;
-static double seconds() { return std::chrono::duration<double>(std::chrono::steady_clock::now().time_since_epoch()).count(); }
+static double seconds() { timespec t; clock_gettime(CLOCK_PROCESS_CPUTIME_ID, &t); return t.tv_sec + 1e-9 * t.tv_nsec; }
 
 static size_t nextSet(const uint8_t *set, size_t x, size_t n) {
   for (u64 w; x + 8 <= n; x += 8) { memcpy(&w, set + x, 8); if (w) break; }
@@ -32,7 +32,7 @@ static size_t step(const vector<u64> &moves, uint8_t *set, size_t n, unsigned le
 
 int main(int argc, char **argv) {
   static u64 codes[MULGREDDI_MACROSTATES_MAX], transitions[MULGREDDI_TRANSITIONS_MAX];
-  printf("macrostates transitions, letters, macrostates in the set on average | letters a second: library, C++ loop | times\n");
+  printf("macrostates transitions, letters, macrostates in the set on average | letters a CPU second: library, C++ loop | times\n");
   for (int i = 1; i < argc; i++) {
     static uint8_t file[1 << 16]; FILE *f = fopen(argv[i], "rb"); if (!f) { perror(argv[i]); return 1; } size_t len = fread(file, 1, sizeof file, f); fclose(f);
     mulgreddi_answer a = mulgreddi_build_trimmed(file, len, codes, MULGREDDI_MACROSTATES_MAX, transitions, MULGREDDI_TRANSITIONS_MAX);
