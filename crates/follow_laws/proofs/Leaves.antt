@@ -8,7 +8,7 @@ use Rattle.theory.specs.Passing.{Passing}
 use Rattle.theory.specs.Rule.{Rule}
 use Rattle.trim_spec.specs.Graph.{Inside}
 use Rattle.live_spec.specs.Afresh.{steppedOver, initialSet, afresh}
-use Rattle.live_laws.proofs.Empty.{some-left, none-left}
+use Rattle.live_laws.proofs.Empty.{some-left, none-left, none-endless}
 use Rattle.live_laws.proofs.Reached.{afresh-length, afresh-bytes, afresh-none, reached-iff}
 use Rattle.follow_spec.specs.Set.{flags, reached}
 use Rattle.follow_spec.specs.Followed.{FollowLeaves}
@@ -51,6 +51,7 @@ module _ (r : Rule) (P : Passing r) (codes ts : List ℕ) (inside : Inside (leng
     reached-over = λ y. reached-iff r codes ts (inside .targets) letters y;
     empty = λ T. none-left r P (T .room) codes ts (T .lists) letters;
     some-left = λ T. some-left r P (T .room) codes ts (T .lists) letters;
+    empty-endless = λ T. none-endless r P (T .room) codes ts (T .lists) letters;
   }
 
   -- after a start

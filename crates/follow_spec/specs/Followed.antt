@@ -6,9 +6,10 @@ use mathlib.Core.List.{List, [], _++_}
 use Prim.Native.Nat.{ℕ, zero, suc, _<_}
 use lib.ListN.{length, take, drop}
 use Rattle.theory.specs.Rule.{Rule}
+use Rattle.theory.specs.Sequence.{AcceptsSequence}
 use Rattle.file_spec.specs.File.{ruleIn}
 use Rattle.table_lent.specs.Lent.{Lent}
-use Rattle.live_spec.specs.Reached.{ReachedOver, Accepted}
+use Rattle.live_spec.specs.Reached.{ReachedOver, Continues, Accepted}
 use Rattle.live_spec.specs.Afresh.{isIn, initialSet, afresh, membersOf}
 use Rattle.live_spec.specs.Called.{leftBy, TrimmedTable}
 use Rattle.follow_spec.specs.declared.FollowAnswer.{FollowAnswer}
@@ -34,6 +35,9 @@ pub record FollowLeaves (r : Rule) (codes transitions letters set set′ : List 
   -- of the M-104 table: "empty exactly if no continuation that ends in a cycle is accepted"
   pub empty : TrimmedTable r codes transitions → (membersOf (length codes) (afresh (r .initial) codes transitions letters) ≡ 0) ↔ (Accepted r letters → ⊥)
   pub some-left : TrimmedTable r codes transitions → (0 < membersOf (length codes) (afresh (r .initial) codes transitions letters)) ↔ Accepted r letters
+  -- "any continuation": and no endless one whatever
+  pub empty-endless : TrimmedTable r codes transitions → membersOf (length codes) (afresh (r .initial) codes transitions letters) ≡ 0
+      → (w : ℕ → ℕ) → Continues (r .s) letters w → AcceptsSequence r w → ⊥
 
 -- a start, of a file and a lent table: "fills the set of the initial macrostates, a byte 0 or 1 each; first is their number"
 pub record FollowStarted (f : List ℕ) (codes transitions : Lent) (set set′ : List ℕ) (v : FollowAnswer) : Type 0 where
