@@ -253,14 +253,15 @@ $(BUILD)/random_rules: tests/random_rules.c include/mulgreddi.h $(LIB)
 	$(CC) $(CFLAGS) -Iinclude -o $@ $< $(LIB)
 
 # what needs nothing proved, so that a fault there is told in seconds: the layout of the files, must-fail edits that still apply, the two
-# pages that are written by scripts (docs/EDITS.md, crates/README.md), what the documents name and count, a text for each refusal, the second
-# program's own tests
+# pages that are written by scripts (docs/EDITS.md, crates/README.md), what the documents name and count, proofs that count no steps, a text for
+# each refusal, the second program's own tests
 quick:
 	rt fmt --check
 	tools/edits.sh check
 	tools/edits.sh table | diff docs/EDITS.md -
 	tools/crates.sh | diff crates/README.md -
 	tests/documents.sh
+	tests/proof_paths.sh
 	tests/refusals.sh include/mulgreddi.h
 	$(MAKE) second
 

@@ -4,7 +4,7 @@ use mathlib.Core.Path.{_≡_, ap, ap₂, sym, _∙_}
 use mathlib.Core.List.{List, _++_}
 use native.Mathlib.Omega.{arith}
 use lib.ListN.{length, take, drop, length-append}
-use lib.Seq.{take-at}
+use lib.Seq.{take-at, length-take-le}
 use Rattle.theory.specs.Passing.{WellFormed}
 use Rattle.rule_entries.specs.declared.Head.{Head}
 use Rattle.rule_entries.specs.Entries.{ruleOf}
@@ -27,16 +27,18 @@ pub record Fronts (h : Head) (counts clauses counts2 clauses2 : List ℕ) (kept 
   pub few-clauses : kept ≤ 1024
   pub counts-room : length counts ≤ length counts2
   pub clauses-room : kept ≤ length clauses2
+  pub counts-long : length (take (length counts) counts2) ≡ length counts
+  pub clauses-long : length (take kept clauses2) ≡ kept
   pub long : (names : List ℕ) → length (prefaceFrom names ++ bodyOf (tidyRule (ruleOf h counts clauses))) ≡ length (prefaceFrom names) + kept + length counts + 8
   pub file : (names : List ℕ) → fileOf h (take (length counts) counts2) (take kept clauses2) names ≡ prefaceFrom names ++ bodyOf (tidyRule (ruleOf h counts clauses))
 
-pub fronts : (h : Head) (counts clauses oldcounts oldclauses counts2 clauses2 : List ℕ) (kept : ℕ) → WellFormed (ruleOf h counts clauses)
+pub fronts : (h : Head) (counts clauses oldcounts oldclauses : List ℕ) {counts2 clauses2 : List ℕ} {kept : ℕ} → WellFormed (ruleOf h counts clauses)
     → kept ≡ length (tidyRule (ruleOf h counts clauses) .clauses)
     → counts2 ≡ filled (tidyRule (ruleOf h counts clauses) .counts) oldcounts
     → clauses2 ≡ filled (tidyRule (ruleOf h counts clauses) .clauses) oldclauses
     → Fronts h counts clauses counts2 clauses2 kept
 unfolding tidyRule
-fronts h counts clauses oldcounts oldclauses counts2 clauses2 kept w e a b =
+fronts h counts clauses oldcounts oldclauses {counts2} {clauses2} {kept} w e a b =
     let r = ruleOf h counts clauses in
     let n = sym (tidied-entries r w) in
     let x = front-of (tidyRule r .counts) oldcounts counts2 (length counts) a n in
@@ -46,6 +48,8 @@ fronts h counts clauses oldcounts oldclauses counts2 clauses2 kept w e a b =
       few-clauses = omega (arith, e, tidied-clauses r w, clauses-few r w);
       counts-room = x .1;
       clauses-room = y .1;
+      counts-long = length-take-le (length counts) counts2 (x .1);
+      clauses-long = length-take-le kept clauses2 (y .1);
       long = λ names. omega (arith, length-tidied (prefaceFrom names) (tidyRule r), e, n);
       file = λ names. ap₂ (λ (c k : List ℕ). fileOf h c k names) (x .0) (y .0);
     }

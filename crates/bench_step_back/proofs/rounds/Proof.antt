@@ -13,7 +13,8 @@ abbrev μ-loop : tie.MeasureT-loop
 μ-loop shape opens parts caps tally₀ i₀ tally i = 1000 - i
 
 sweep-requires : tie.Need-sweep-requires Inv-loop μ-loop
-sweep-requires c κs = (c .before .before .before .pre, c .before .before .largest-ranks .ensures)
+sweep-requires c κs =
+    let start : tie.Start Inv-loop μ-loop = search in let at-largest-ranks : tie.After-largest-ranks Inv-loop μ-loop = search in (start .pre, at-largest-ranks .largest-ranks .ensures)
 
 pub rounds-spec : {M : Type 1} → statement M
 rounds-spec = tie.close (tie.spec

@@ -5,7 +5,7 @@ use Rattle.bench_step_back.proofs.run.Statement.{statement}
 use Rattle.bench_step_back.proofs.run.Tie as tie
 
 rule-rounds-requires : tie.Need-rule-rounds-requires
-rule-rounds-requires c κs = sym (c .before .before .before .before .read-rule .ensures) ∙ c .before .before .l .given .1
+rule-rounds-requires c κs = let at-read-rule : tie.After-read-rule = search in let at-l : tie.After-l = search in sym (at-read-rule .read-rule .ensures) ∙ at-l .l .given .1
 
 pub run-spec : {M : Type 1} → statement M
 run-spec = tie.close (tie.spec

@@ -14,8 +14,9 @@ abbrev μ-loop : tie.MeasureT-loop
 μ-loop tally ranks low shape opens parts opened sum₀ steps₀ a₀ sum steps a = shape .s - a
 
 step-back-requires : tie.Need-step-back-requires Inv-loop μ-loop
-step-back-requires c κs = let a = c .before .before .before .before .args in let p = c .before .before .before .before .pre in let e = p .0 in
-    (few (e .1 .shaped), rises (e .1) (c .before .before .loop .a) (c .if1 .taken) (p .1) (a .low .now) (p .2))
+step-back-requires c κs =
+    let start : tie.Start Inv-loop μ-loop = search in let a = start .args in let p = start .pre in let e = p .0 in let at-loop : tie.At-loop Inv-loop μ-loop = search in
+    (few (e .1 .shaped), rises (e .1) (at-loop .loop .a) (c .if1 .taken) (p .1) (a .low .now) (p .2))
 
 pub step-letters-spec : {M : Type 1} → statement M
 step-letters-spec = tie.close (tie.spec

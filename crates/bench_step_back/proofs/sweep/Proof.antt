@@ -21,16 +21,17 @@ loop-holds c = let a = c .args in let p = c .pre in within-zero (a .caps) (rw (p
 
 next-ranks-requires : tie.Need-next-ranks-requires Inv-loop μ-loop
 next-ranks-requires c κs =
-    let a = c .before .before .before .args in let p = c .before .before .before .pre in let l = c .before .before .loop in
-    let low : a .caps < 2 ^ 32 = rw (p .1) (caps-low (p .0 .1 .shaped)) in
-    (low, omega (arith, within-le 8 (l .t) (a .caps) (l .inv)), l .inv, c .if1 .left)
+    let start : tie.Start Inv-loop μ-loop = search in let a = start .args in let p = start .pre in let at-loop : tie.At-loop Inv-loop μ-loop = search in let l = at-loop .loop in
+    let low : a .caps < 2 ^ 32 = rw (p .1) (caps-low (p .0 .1 .shaped)) in (low, omega (arith, within-le 8 (l .t) (a .caps) (l .inv)), l .inv, c .if1 .left)
 
 loop-less : tie.Need-loop-less Inv-loop μ-loop
 loop-less c =
-    let l = c .before .before .before .loop in rw (c .next-ranks .ensures) (walk-less (c .before .before .before .before .args .caps) (l .t) (l .inv) (c .before .if1 .left))
+    let at-loop : tie.At-loop Inv-loop μ-loop = search in let l = at-loop .loop in let start : tie.Start Inv-loop μ-loop = search in
+    rw (c .next-ranks .ensures) (walk-less (start .args .caps) (l .t) (l .inv) (c .before .if1 .left))
 
 loop-again : tie.Need-loop-again Inv-loop μ-loop
-loop-again c = let a = c .before .before .before .before .args in let l = c .before .before .before .loop in
+loop-again c =
+    let start : tie.Start Inv-loop μ-loop = search in let a = start .args in let at-loop : tie.At-loop Inv-loop μ-loop = search in let l = at-loop .loop in
     rw (c .next-ranks .ensures) (within-next 8 (l .t) (a .caps) (l .inv) (c .before .if1 .left))
 
 pub sweep-spec : {M : Type 1} → statement M

@@ -7,8 +7,9 @@ use Rattle.bench_step_back.proofs.visit.Statement.{statement}
 use Rattle.bench_step_back.proofs.visit.Tie as tie
 
 step-letters-requires : tie.Need-step-letters-requires
-step-letters-requires c κs = let p = c .before .before .before .before .pre in
-    (p .0, record { within = p .1; passes = sym (c .before .before .before .is-core .ensures) ∙ not-false _ (c .before .before .if1 .left) }, c .before .lowest .ensures)
+step-letters-requires c κs =
+    let start : tie.Start = search in let p = start .pre in let at-is-core : tie.After-is-core = search in let else1 : tie.Else1 = search in
+    (p .0, record { within = p .1; passes = sym (at-is-core .is-core .ensures) ∙ not-false _ (else1 .if1 .left) }, c .before .lowest .ensures)
 
 pub visit-spec : {M : Type 1} → statement M
 visit-spec = tie.close (tie.spec

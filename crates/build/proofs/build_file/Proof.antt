@@ -10,21 +10,18 @@ use Rattle.build.proofs.build_file.Statement.{statement}
 use Rattle.build.proofs.build_file.Tie as tie
 
 build-accepted-requires : tie.Need-build-accepted-requires
-build-accepted-requires c κs = let at-l = c .before .before .before in sym (at-l .before .before .read-rule .ensures) ∙ at-l .l .given .1
+build-accepted-requires c κs = let at-l : tie.After-l = search in let at-read-rule : tie.After-read-rule = search in sym (at-read-rule .read-rule .ensures) ∙ at-l .l .given .1
 
 returns : tie.Need-returns
 returns c =
-    let start = c .before .before .before .before .before .before .before in let a = start .args in
-    let k = c .before .row .given .0 .0 in
-    let e : readOf (a .file .now) ≡ Refused k = sym (c .before .before .before .read-rule .ensures) ∙ c .before .row .given .1 in
+    let start : tie.Start = search in let a = start .args in let k = c .before .row .given .0 .0 in let at-read-rule : tie.After-read-rule = search in
+    let e : readOf (a .file .now) ≡ Refused k = sym (at-read-rule .read-rule .ensures) ∙ c .before .row .given .1 in
     filled-refused (λ r. startOf r (a .holds)) (a .file .now) (a .codes .now) (a .transitions .now) k (turned-away (a .file .now) k e)
 
 returns-2 : tie.Need-returns-2
 returns-2 c =
-    let at-build-accepted = c .before .before .before .before in
-    let at-l = at-build-accepted .before .before .before .before in let at-read-rule = at-l .before .before in
-    let start = at-read-rule .before .before .before .before in let a = start .args in
-    let b = at-build-accepted .build-accepted in
+    let start : tie.Start = search in let a = start .args in let at-build-accepted : tie.After-build-accepted = search in let b = at-build-accepted .build-accepted in
+    let at-l : tie.After-l = search in let at-read-rule : tie.After-read-rule = search in
     filled-served (λ r. startOf r (a .holds)) (a .file .now) (at-l .l .given .0 .0) (sym (at-read-rule .read-rule .ensures) ∙ at-l .l .given .1) (a .codes .now) (a .transitions .now) (b .result) _ _
     (b .ensures)
 

@@ -12,7 +12,7 @@ known : (c : tie.After-bucket) → c .bucket .result < 16384
 known c = rw (c .bucket .ensures) (bucket-low (c .before .args .core))
 
 returns : tie.Need-returns
-returns c = ap (λ (b : ℕ). getD (c .before .before .args .heads .now) b 0) (c .before .bucket .ensures)
+returns c = let start : tie.Start = search in ap (λ (b : ℕ). getD (start .args .heads .now) b 0) (c .before .bucket .ensures)
 
 pub chain-top-spec : {M : Type 1} → statement M
 chain-top-spec = tie.close (tie.spec (λ c κs. search needs) (λ c. omega (arith, known c)) known returns)

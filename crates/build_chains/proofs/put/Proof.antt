@@ -12,15 +12,14 @@ use Rattle.build_chains.proofs.put.Statement.{statement}
 use Rattle.build_chains.proofs.put.Tie as tie
 
 known : (c : tie.After-bucket) → c .bucket .result < 16384
-known c = rw (c .bucket .ensures) (bucket-low (c .before .before .args .key / 256))
+known c = let start : tie.Start = search in rw (c .bucket .ensures) (bucket-low (start .args .key / 256))
 
-head : (c : tie.After-keys) → getD (c .before .before .before .args .heads .now) (c .before .bucket .result) 0 < 65536
-head c = head-low (c .before .before .before .pre .0) (c .before .bucket .result) (known (c .before))
+head : (c : tie.After-keys) → let start : tie.Start = search in getD (start .args .heads .now) (c .before .bucket .result) 0 < 65536
+head c = let start : tie.Start = search in head-low (start .pre .0) (c .before .bucket .result) (known (c .before))
 
 returns : tie.Need-returns
 returns c =
-    let a = c .before .before .before .args in let p = c .before .before .before .pre in let e = c .before .bucket .ensures in
-    let h = getD (a .heads .now) (c .before .bucket .result) 0 in
+    let start : tie.Start = search in let a = start .args in let p = start .pre in let e = c .before .bucket .ensures in let h = getD (a .heads .now) (c .before .bucket .result) 0 in
     let fits : h * 2 ^ 48 < 2 ^ 64 = omega (arith, head c) in
     let element : bitOr (h * 2 ^ 48 % 2 ^ 64) (a .key) ≡ getD (a .heads .now) (bucketOf (a .key / 256)) 0 * 2 ^ 48 + a .key
     = ap (λ (x : ℕ). bitOr x (a .key)) (mod-eq-of-lt fits) ∙ or-shifted h 48 (a .key) (p .2) ∙ ap (λ (b : ℕ). getD (a .heads .now) b 0 * 2 ^ 48 + a .key) e in
@@ -29,8 +28,8 @@ returns c =
 pub put-spec : {M : Type 1} → statement M
 put-spec = tie.close (tie.spec
     (λ c κs. search needs) (λ c. omega (arith, known c)) (λ c. known c) (λ c. omega (arith, head c)) (λ c. search needs) (λ c. search needs)
-    (λ c. let p = c .before .before .before .pre in omega (arith, p .0 .few)) (λ c. omega (arith, known (c .before))) (λ c. known (c .before))
-    (λ c. let p = c .before .before .before .pre in omega (arith, p .0 .few))
-    (λ c. let p = c .before .before .before .pre in omega (arith, p .0 .few))
-    (λ c. omega (arith, and-mask (c .before .before .before .args .key / 256) 8))
-    (λ c. omega (arith, and-mask (c .before .before .before .args .key / 256) 8)) (λ c. search needs) returns)
+    (λ c. let start : tie.Start = search in let p = start .pre in omega (arith, p .0 .few)) (λ c. omega (arith, known (c .before))) (λ c. known (c .before))
+    (λ c. let start : tie.Start = search in let p = start .pre in omega (arith, p .0 .few))
+    (λ c. let start : tie.Start = search in let p = start .pre in omega (arith, p .0 .few))
+    (λ c. let start : tie.Start = search in omega (arith, and-mask (start .args .key / 256) 8))
+    (λ c. let start : tie.Start = search in omega (arith, and-mask (start .args .key / 256) 8)) (λ c. search needs) returns)

@@ -13,12 +13,11 @@ abbrev μ-loop : tie.MeasureT-loop
 μ-loop at low₀ j₀ low j = 16 - j
 
 loop-again : tie.Need-loop-again Inv-loop μ-loop
-loop-again c = let l = c .before .before .loop in (omega arith, gather (c .before .before .before .args .at .now) (l .low) (l .j) (omega arith) (omega arith) (l .inv .1))
-
-returns : tie.Need-returns Inv-loop μ-loop
-returns c = let l = c .before .loop in λ n f j k. l .inv .1 .is n f j (omega arith)
+loop-again c =
+    let at-loop : tie.At-loop Inv-loop μ-loop = search in let l = at-loop .loop in let start : tie.Start Inv-loop μ-loop = search in
+    (omega arith, gather (start .args .at .now) (l .low) (l .j) (omega arith) (omega arith) (l .inv .1))
 
 pub gathered-spec : {M : Type 1} → statement M
 gathered-spec = tie.close (tie.spec
-    Inv-loop μ-loop (λ c. (omega arith, gather-start (c .args .at .now))) (λ c. search needs) (λ c. search needs) (λ c. search needs)
-    (λ c. search needs) (λ c. search needs) (λ c. search needs) loop-again returns)
+    Inv-loop μ-loop (λ c. (omega arith, gather-start (c .args .at .now))) (λ c. search needs) (λ c. search needs) (λ c. search needs) (λ c. search needs) (λ c. search needs)
+    (λ c. search needs) loop-again (λ c. let l = c .before .loop in λ n f j k. l .inv .1 .is n f j (omega arith)))

@@ -21,12 +21,13 @@ loop-holds c = (omega arith, refl, omega arith)
 loop-again : tie.Need-loop-again Inv-loop μ-loop
 unfolding capsOf sumOf
 loop-again c =
-    let l = c .before .before .before .loop in let parts = c .before .before .before .before .args .parts .now in
-    let h : c .sizes .result < 4294967296 = search needs in
-    (omega arith, rw (add-one (l .c)) (ap₂ (λ (x y : ℕ). x + y) (l .inv .1) (c .sizes .ensures)), omega (arith, l .inv .2))
+    let at-loop : tie.At-loop Inv-loop μ-loop = search in let l = at-loop .loop in let start : tie.Start Inv-loop μ-loop = search in let parts = start .args .parts .now in
+    let h : c .sizes .result < 4294967296 = search needs in (omega arith, rw (add-one (l .c)) (ap₂ (λ (x y : ℕ). x + y) (l .inv .1) (c .sizes .ensures)), omega (arith, l .inv .2))
 
 returns : tie.Need-returns Inv-loop μ-loop
-returns c = let l = c .before .loop in let e : l .c ≡ c .before .before .args .components = omega (arith, l .inv .0) in l .inv .1 ∙ ap (capsOf (c .before .before .args .parts .now)) e
+returns c =
+    let l = c .before .loop in let start : tie.Start Inv-loop μ-loop = search in let e : l .c ≡ start .args .components = omega (arith, l .inv .0) in
+    l .inv .1 ∙ ap (capsOf (start .args .parts .now)) e
 
 pub largest-ranks-spec : {M : Type 1} → statement M
 largest-ranks-spec = tie.close (tie.spec

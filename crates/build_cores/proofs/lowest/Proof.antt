@@ -5,7 +5,7 @@ use Rattle.build_cores.proofs.lowest.Statement.{statement}
 use Rattle.build_cores.proofs.lowest.Tie as tie
 
 returns : tie.Need-returns
-returns c = λ j h. c .gathered .ensures (rankAt (c .before .before .before .args .ranks)) (c .before .before .ranked .ensures) j h
+returns c = let start : tie.Start = search in let at-ranked : tie.After-ranked = search in λ j h. c .gathered .ensures (rankAt (start .args .ranks)) (at-ranked .ranked .ensures) j h
 
 pub lowest-spec : {M : Type 1} → statement M
 lowest-spec = tie.close (tie.spec (λ c κs. search needs) (λ c κs. search needs) returns)

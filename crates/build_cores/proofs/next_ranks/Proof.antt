@@ -18,21 +18,17 @@ abbrev μ-loop : tie.MeasureT-loop
 loop-holds : tie.Need-loop-holds Inv-loop μ-loop
 loop-holds c = (omega arith, (8, record { left = omega arith; within = c .pre .2; other = c .pre .3; same = omega arith; low = omega arith; high = omega arith }))
 
-loop-less : tie.Need-loop-less Inv-loop μ-loop
-loop-less c = let l = c .before .loop in omega (arith, some-left _ _ _ _ _ _ (l .inv .1 .1))
-
 loop-again : tie.Need-loop-again Inv-loop μ-loop
 loop-again c =
-    let l = c .before .loop in
-    let e : l .w % 16 ≡ l .c % 16 = sym (and-mask (l .w) 4) ∙ c .loop-test .taken ∙ and-mask (l .c) 4 in
+    let l = c .before .loop in let e : l .w % 16 ≡ l .c % 16 = sym (and-mask (l .w) 4) ∙ c .loop-test .taken ∙ and-mask (l .c) 4 in
     (omega (arith, l .inv .0), carry _ _ _ _ _ _ (l .inv .1 .1) e)
 
 returns : tie.Need-returns Inv-loop μ-loop
-returns c = let l = c .before .loop in let p = c .before .before .pre in
+returns c = let l = c .before .loop in let start : tie.Start Inv-loop μ-loop = search in let p = start .pre in
     mod-eq-of-lt (next-fits _ _ _ _ _ _ (l .inv .1 .1) (p .1) (p .0))
     ∙ sym (end _ _ _ _ _ _ (l .inv .1 .1) (λ e. c .loop-test .left (and-mask (l .w) 4 ∙ e ∙ sym (and-mask (l .c) 4))))
 
 pub next-ranks-spec : {M : Type 1} → statement M
 next-ranks-spec = tie.close (tie.spec
-    Inv-loop μ-loop loop-holds (λ c. omega (arith, c .before .loop .inv .1 .1 .left)) loop-less loop-again
-    (λ c. let l = c .before .loop in omega (arith, l .inv .0)) (λ c. search needs) (λ c. omega (arith, c .before .loop .inv .1 .1 .left)) returns)
+    Inv-loop μ-loop loop-holds (λ c. omega (arith, c .before .loop .inv .1 .1 .left)) (λ c. let l = c .before .loop in omega (arith, some-left _ _ _ _ _ _ (l .inv .1 .1)))
+    loop-again (λ c. let l = c .before .loop in omega (arith, l .inv .0)) (λ c. search needs) (λ c. omega (arith, c .before .loop .inv .1 .1 .left)) returns)

@@ -18,19 +18,18 @@ abbrev μ-loop : tie.MeasureT-loop
 μ-loop ranks at₀ q₀ at q = 8 - q
 
 array-read-at : tie.Need-array-read-at Inv-loop μ-loop
-array-read-at c = rw (and-mask (c .before .before .args .ranks / 2 ^ (4 * c .before .loop .q)) 4) (omega arith)
+array-read-at c = let start : tie.Start Inv-loop μ-loop = search in rw (and-mask (start .args .ranks / 2 ^ (4 * c .before .loop .q)) 4) (omega arith)
 
 array-write-at : tie.Need-array-write-at Inv-loop μ-loop
-array-write-at c = rw (and-mask (c .before .before .args .ranks / 2 ^ (4 * c .before .loop .q)) 4) (omega arith)
+array-write-at c = let start : tie.Start Inv-loop μ-loop = search in rw (and-mask (start .args .ranks / 2 ^ (4 * c .before .loop .q)) 4) (omega arith)
 
 loop-again : tie.Need-loop-again Inv-loop μ-loop
-loop-again c = let l = c .before .loop in let x = c .before .before .args .ranks in
+loop-again c = let l = c .before .loop in let start : tie.Start Inv-loop μ-loop = search in let x = start .args .ranks in
     rw (and-mask (x / 2 ^ (4 * l .q)) 4) (put (λ p. x / 2 ^ (4 * p) % 16) (l .at) (l .q) (omega arith) (omega arith) (l .inv))
 
 returns : tie.Need-returns Inv-loop μ-loop
 unfolding rankAt
-returns c = let l = c .before .loop in let e : l .q ≡ 8 = omega (arith, l .inv .end) in
-    λ j k. l .inv .is j k ∙ mask-ext 8 _ _ (λ p h. rw (lt-ltb p (l .q) (omega arith)))
+returns c = let l = c .before .loop in let e : l .q ≡ 8 = omega (arith, l .inv .end) in λ j k. l .inv .is j k ∙ mask-ext 8 _ _ (λ p h. rw (lt-ltb p (l .q) (omega arith)))
 
 pub ranked-spec : {M : Type 1} → statement M
 ranked-spec = tie.close (tie.spec

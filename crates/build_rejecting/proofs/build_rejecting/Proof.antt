@@ -12,8 +12,7 @@ use Rattle.build_rejecting.proofs.build_rejecting.Tie as tie
 returns : tie.Need-returns
 unfolding startOf
 returns c =
-    let start = c .before .before .before .before .before .before .before .before .before .before in
-    let a = start .args in let b = c .before .before .before .before .build-file in
+    let start : tie.Start = search in let a = start .args in let at-build-file : tie.After-build-file = search in let b = at-build-file .build-file in
     file-built lacksInitial RejectsWord RejectsSequence rejecting-demand rejecting-truth (a .file .now) (a .codes .now) (a .transitions .now) (b .result) _ _ (b .ensures)
 
 pub build-rejecting-spec : {M : Type 1} → statement M

@@ -18,54 +18,62 @@ Inv-loop opens letter opened part low row outside goal prev₀ ones₀ ranks₀ 
 abbrev μ-loop : tie.MeasureT-loop
 μ-loop opens letter opened part low row outside goal prev₀ ones₀ ranks₀ levels₀ j₀ prev ones ranks levels j = 9 - j
 
+abbrev Start : Type 0
+Start = tie.Start Inv-loop μ-loop
+
+abbrev At-loop : Type 0
+At-loop = tie.At-loop Inv-loop μ-loop
+
+abbrev In-loop : Type 0
+In-loop = tie.In-loop Inv-loop μ-loop
+
 cast-outside : tie.Need-cast-outside Inv-loop μ-loop
-cast-outside c = let a = c .args in
-    omega (arith, xor-lt 8 (a .opened) (bitAnd (a .opened) (a .part)) (omega arith) (omega (arith, and-le-r (a .opened) (a .part))))
+cast-outside c = let a = c .args in omega (arith, xor-lt 8 (a .opened) (bitAnd (a .opened) (a .part)) (omega arith) (omega (arith, and-le-r (a .opened) (a .part))))
 
 returns : tie.Need-returns Inv-loop μ-loop
 unfolding goal
-returns c = nothing (c .before .before .pre) (c .if1 .taken)
+returns c = let start : Start = search in nothing (start .pre) (c .if1 .taken)
 
 loop-holds : tie.Need-loop-holds Inv-loop μ-loop
 unfolding goal
-loop-holds c = (c .before .before .pre, omega arith, begin (c .before .before .pre) (omega arith) (c .if1 .left))
+loop-holds c = let start : Start = search in (start .pre, omega arith, begin (start .pre) (omega arith) (c .if1 .left))
 
 -- the loop's test: not all have come in
-more : (c : tie.In-loop Inv-loop μ-loop) → c .before .loop .prev ≡ goal (c .before .before .before .before .args .opens .now) (c .before .before .before .before .args .letter)
-    (c .before .before .before .before .args .opened) (c .before .before .before .before .args .part) (c .before .before .before .before .args .low .now) → ⊥
+more : (c : In-loop) → let start : Start = search in c .before .loop .prev ≡ goal (start .args .opens .now) (start .args .letter)
+    (start .args .opened) (start .args .part) (start .args .low .now) → ⊥
 unfolding goal
 more c = c .loop-test .taken
 
-deep : (c : tie.In-loop Inv-loop μ-loop) → c .before .loop .j ≤ 8
+deep : (c : In-loop) → c .before .loop .j ≤ 8
 deep c = let l = c .before .loop in deep-in (l .inv .0) (omega arith) (l .inv .2) (more c)
 
-small : (c : tie.After-x Inv-loop μ-loop) → _<_ (bitOr (bitXor (c .before .before .before .before .before .args .opened)
-    (bitAnd (c .before .before .before .before .before .args .opened) (c .before .before .before .before .before .args .part)))
-    (bitAnd (getD (c .before .before .before .before .before .args .low .now) (c .before .before .loop .j) 0) (c .before .before .before .before .before .args .part))) 256
-small c = arg-small (c .before .before .before .before .before .args .opened) (c .before .before .before .before .before .args .part)
-    (getD (c .before .before .before .before .before .args .low .now) (c .before .before .loop .j) 0) (omega arith) (omega arith)
+small : (c : tie.After-x Inv-loop μ-loop) → let start : Start = search in let at-loop : At-loop = search in
+    _<_ (bitOr (bitXor (start .args .opened) (bitAnd (start .args .opened) (start .args .part)))
+    (bitAnd (getD (start .args .low .now) (at-loop .loop .j) 0) (start .args .part))) 256
+small c = let start : Start = search in let at-loop : At-loop = search in arg-small (start .args .opened) (start .args .part)
+    (getD (start .args .low .now) (at-loop .loop .j) 0) (omega arith) (omega arith)
 
 cast-x : tie.Need-cast-x Inv-loop μ-loop
-cast-x c = let a = c .before .before .before .before .before .args in
-    omega (arith, and-le-r (getD (a .low .now) (c .before .before .loop .j) 0) (a .part))
+cast-x c = let start : Start = search in let a = start .args in let at-loop : At-loop = search in
+    omega (arith, and-le-r (getD (a .low .now) (at-loop .loop .j) 0) (a .part))
 
 add-levels : tie.Need-add-levels Inv-loop μ-loop
-add-levels c = let l = c .before .before .before .loop in omega (arith, levels-fit (l .inv .0) (omega arith) (l .inv .2) (more (c .before .before)))
+add-levels c = let at-loop : At-loop = search in let l = at-loop .loop in omega (arith, levels-fit (l .inv .0) (omega arith) (l .inv .2) (more (search)))
 
 loop-again : tie.Need-loop-again Inv-loop μ-loop
 unfolding upto
-loop-again c = let l = c .before .before .before .before .loop in let i = c .before .before .before in
-    (l .inv .0, omega (arith, deep i), on-same (l .inv .0) (omega arith) (l .inv .2) (more i) (c .if2 .taken))
+loop-again c = let at-loop : At-loop = search in let l = at-loop .loop in let in-loop : In-loop = search in
+    (l .inv .0, omega (arith, deep in-loop), on-same (l .inv .0) (omega arith) (l .inv .2) (more in-loop) (c .if2 .taken))
 
 add-ranks : tie.Need-add-ranks Inv-loop μ-loop
 unfolding upto goal
-add-ranks c = let l = c .before .before .before .before .before .loop in
-    rw (c .nibbles-of .ensures) (omega (arith, ranks-fit (l .inv .0) (omega arith) (l .inv .2) (more (c .before .before .before .before)) (c .before .if2 .left)))
+add-ranks c = let at-loop : At-loop = search in let l = at-loop .loop in
+    rw (c .nibbles-of .ensures) (omega (arith, ranks-fit (l .inv .0) (omega arith) (l .inv .2) (more (search)) (c .before .if2 .left)))
 
 loop-again-2 : tie.Need-loop-again-2 Inv-loop μ-loop
 unfolding upto goal
-loop-again-2 c = let l = c .before .before .before .before .before .loop in let i = c .before .before .before .before in
-    (l .inv .0, omega (arith, deep i), rw (c .nibbles-of .ensures) (on-new (l .inv .0) (omega arith) (l .inv .2) (more i) (c .before .if2 .left)))
+loop-again-2 c = let at-loop : At-loop = search in let l = at-loop .loop in let in-loop : In-loop = search in
+    (l .inv .0, omega (arith, deep in-loop), rw (c .nibbles-of .ensures) (on-new (l .inv .0) (omega arith) (l .inv .2) (more in-loop) (c .before .if2 .left)))
 
 sub-levels : tie.Need-sub-levels Inv-loop μ-loop
 unfolding goal
@@ -78,6 +86,6 @@ returns-2 c = let l = c .before .loop in stepped (l .inv .0) (l .inv .2) (c .loo
 pub step-component-spec : {M : Type 1} → statement M
 step-component-spec = tie.close (tie.spec
     Inv-loop μ-loop (λ c. search needs) cast-outside (λ c. search needs) (λ c. search needs) returns loop-holds (λ c. omega (arith, deep c)) cast-x
-    (λ c. omega (arith, small c)) (λ c. omega (arith, small c, c .before .before .loop .inv .0 .letters)) add-levels (λ c. omega arith)
-    (λ c. omega (arith, deep (c .before .before .before))) loop-again (λ c κs. search needs) add-ranks
-    (λ c. omega (arith, deep (c .before .before .before .before))) loop-again-2 sub-levels returns-2)
+    (λ c. omega (arith, small c)) (λ c. let at-loop : At-loop = search in omega (arith, small c, at-loop .loop .inv .0 .letters)) add-levels (λ c. omega arith)
+    (λ c. omega (arith, deep (search))) loop-again (λ c κs. search needs) add-ranks
+    (λ c. omega (arith, deep (search))) loop-again-2 sub-levels returns-2)

@@ -12,7 +12,7 @@ returns c = let a = c .before .args in rw (lacking (a .code) (a .initial) (c .if
 
 returns-2 : tie.Need-returns-2
 unfolding begun
-returns-2 c = let a = c .before .before .args in c .is-first .ensures ∙ rw (held (a .code) (a .initial) (c .before .if1 .left))
+returns-2 c = let start : tie.Start = search in let a = start .args in c .is-first .ensures ∙ rw (held (a .code) (a .initial) (c .before .if1 .left))
 
 pub is-initial-spec : {M : Type 1} → statement M
 is-initial-spec = tie.close (tie.spec (λ c. search needs) returns (λ c κs. search needs) returns-2)

@@ -12,7 +12,6 @@ below : (c : tie.Else1) → trailingZeros 64 (c .before .args .m) < 64
 below c = least-lt 64 (c .before .args .m) (omega (arith, c .if1 .left)) (omega arith)
 
 pub least-spec : {M : Type 1} → statement M
-least-spec =
-    tie.close (tie.spec
+least-spec = tie.close (tie.spec
     (λ c. least-empty (c .before .args .m) (c .if1 .taken)) (λ c. omega (arith, below c)) (λ c. omega (arith, below c))
     (λ c. least-mask (c .before .args .m) (omega (arith, c .if1 .left)) (omega arith)))

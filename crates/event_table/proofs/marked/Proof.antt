@@ -11,9 +11,7 @@ use Rattle.event_table.proofs.marked.Statement.{statement}
 use Rattle.event_table.proofs.marked.Tie as tie
 
 returns : tie.Need-returns
-returns c =
-    let a = c .before .args in
-    shl-one 64 (a .j) (c .before .pre) ∙ sym (one-mul (2 ^ a .j)) ∙ ap (λ (b : Bool). one b * 2 ^ a .j) (sym (c .if1 .taken))
+returns c = let a = c .before .args in shl-one 64 (a .j) (c .before .pre) ∙ sym (one-mul (2 ^ a .j)) ∙ ap (λ (b : Bool). one b * 2 ^ a .j) (sym (c .if1 .taken))
 
 pub marked-spec : {M : Type 1} → statement M
 marked-spec = tie.close (tie.spec (λ c. search needs) returns (λ c. rw (c .if1 .left) (omega arith)))

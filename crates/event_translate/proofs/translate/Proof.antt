@@ -11,19 +11,15 @@ use Rattle.event_translate.proofs.translate.Tie as tie
 
 returns : tie.Need-returns
 returns c =
-    let at-read-rule = c .before .before .before .before .before .before .before .before in
-    let start = at-read-rule .before .before .before .before .before in let a = start .args in
-    let l = c .before .before .before .before .before .before .l .given .0 .0 in
-    let read : readOf (a .file .now) ≡ Accepted l = sym (at-read-rule .read-rule .ensures) ∙ c .before .before .before .before .before .before .l .given .1 in
-    let v = served (a .file .now) l read in
-    let t = c .before .before .translate-read in
-    accepted _ _ _ _ (t .last .1 .1 .1 .0) (t .result) (v .row) (rw (ap (λ (x : Layout). x .head .s) (v .layout)) at (t .ensures))
+    let start : tie.Start = search in let a = start .args in let at-l : tie.After-l = search in let l = at-l .l .given .0 .0 in let at-read-rule : tie.After-read-rule = search in
+    let read : readOf (a .file .now) ≡ Accepted l = sym (at-read-rule .read-rule .ensures) ∙ at-l .l .given .1 in let v = served (a .file .now) l read in
+    let at-translate-read : tie.After-translate-read = search in let t = at-translate-read .translate-read in
+    accepted _ _ _ _ _ _ (v .row) (rw (ap (λ (x : Layout). x .head .s) (v .layout)) at (t .ensures))
 
 returns-2 : tie.Need-returns-2
 returns-2 c =
-    let start = c .before .before .before .before .before .before .before .before in let a = start .args in
-    let k = c .before .k .given .0 .0 in
-    let t = turned-away (a .file .now) k (sym (c .before .before .before .read-rule .ensures) ∙ c .before .k .given .1) in
+    let start : tie.Start = search in let a = start .args in let k = c .before .k .given .0 .0 in let at-read-rule : tie.After-read-rule = search in
+    let t = turned-away (a .file .now) k (sym (at-read-rule .read-rule .ensures) ∙ c .before .k .given .1) in
     refused (a .file .now) (a .events .now) (a .log .now) k (a .letters .now) (λ e. t .1 (t .0 ∙ e)) (sym (t .0))
 
 pub translate-spec : {M : Type 1} → statement M

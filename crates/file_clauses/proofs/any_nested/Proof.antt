@@ -19,16 +19,16 @@ abbrev μ-loop : tie.MeasureT-loop
 
 returns : tie.Need-returns Inv-loop μ-loop
 unfolding someNested
-returns c = some-stop _ _ (c .before .before .before .before .loop .q) (c .before .before .if1 .taken) (sym (c .before .nested-state .ensures) ∙ c .if2 .taken)
+returns c = let at-loop : tie.At-loop Inv-loop μ-loop = search in let then1 : tie.Then1 Inv-loop μ-loop = search in
+    some-stop _ _ (at-loop .loop .q) (then1 .if1 .taken) (sym (c .before .nested-state .ensures) ∙ c .if2 .taken)
 
 loop-again : tie.Need-loop-again Inv-loop μ-loop
-loop-again c = (omega arith, some-next _ _ (c .before .before .before .before .loop .inv .1) (sym (c .before .nested-state .ensures) ∙ c .if2 .left))
+loop-again c = let at-loop : tie.At-loop Inv-loop μ-loop = search in (omega arith, some-next _ _ (at-loop .loop .inv .1) (sym (c .before .nested-state .ensures) ∙ c .if2 .left))
 
 returns-2 : tie.Need-returns-2 Inv-loop μ-loop
-returns-2 c = unfold someNested in some-end (c .before .before .loop .q) _ _ (omega arith) (c .before .before .loop .inv .1)
+returns-2 c = let at-loop : tie.At-loop Inv-loop μ-loop = search in unfold someNested in some-end (at-loop .loop .q) _ _ (omega arith) (at-loop .loop .inv .1)
 
 pub any-nested-spec : {M : Type 1} → statement M
-any-nested-spec =
-    tie.close (tie.spec
-    Inv-loop μ-loop (λ c. unfold someBelow in (omega arith, refl)) (λ c κs. (c .before .before .before .before .before .pre, c .if1 .taken)) returns
+any-nested-spec = tie.close (tie.spec
+    Inv-loop μ-loop (λ c. unfold someBelow in (omega arith, refl)) (λ c κs. let start : tie.Start Inv-loop μ-loop = search in (start .pre, c .if1 .taken)) returns
     (λ c. omega arith) (λ c. omega arith) loop-again returns-2)

@@ -6,7 +6,6 @@ use Rattle.file_clauses.proofs.clauses_row.Statement.{statement}
 use Rattle.file_clauses.proofs.clauses_row.Tie as tie
 
 pub clauses-row-spec : {M : Type 1} → statement M
-clauses-row-spec =
-    tie.close (tie.spec
+clauses-row-spec = tie.close (tie.spec
     (λ c κs. search needs) (λ c. row-20 _ (sym (c .before .any-nested .ensures) ∙ c .if1 .taken))
     (λ c. pass-20 _ (sym (c .before .any-nested .ensures) ∙ c .if1 .left)))

@@ -17,13 +17,12 @@ abbrev μ-loop : tie.MeasureT-loop
 μ-loop clauses i j₀ j = length clauses - j
 
 returns : tie.Need-returns Inv-loop μ-loop
-returns c = some-stop _ _ (c .before .before .before .loop .j) (omega arith) (sym (c .before .contains-at .ensures) ∙ c .if1 .taken)
+returns c = let at-loop : tie.At-loop Inv-loop μ-loop = search in some-stop _ _ (at-loop .loop .j) (omega arith) (sym (c .before .contains-at .ensures) ∙ c .if1 .taken)
 
 loop-again : tie.Need-loop-again Inv-loop μ-loop
-loop-again c = (omega arith, some-next _ _ (c .before .before .before .loop .inv .1) (sym (c .before .contains-at .ensures) ∙ c .if1 .left))
+loop-again c = let at-loop : tie.At-loop Inv-loop μ-loop = search in (omega arith, some-next _ _ (at-loop .loop .inv .1) (sym (c .before .contains-at .ensures) ∙ c .if1 .left))
 
 pub contains-another-spec : {M : Type 1} → statement M
-contains-another-spec =
-    tie.close (tie.spec
+contains-another-spec = tie.close (tie.spec
     Inv-loop μ-loop (λ c. unfold someBelow in (omega arith, refl)) (λ c κs. (omega arith, omega arith)) returns (λ c. omega arith) (λ c. omega arith)
     loop-again (λ c. some-end (c .before .loop .j) _ _ (omega arith) (c .before .loop .inv .1)))

@@ -18,13 +18,12 @@ abbrev μ-loop : tie.MeasureT-loop
 
 returns : tie.Need-returns Inv-loop μ-loop
 unfolding nested
-returns c = some-stop _ _ (c .before .before .before .loop .i) (omega arith) (sym (c .before .contains-another .ensures) ∙ c .if1 .taken)
+returns c = let at-loop : tie.At-loop Inv-loop μ-loop = search in some-stop _ _ (at-loop .loop .i) (omega arith) (sym (c .before .contains-another .ensures) ∙ c .if1 .taken)
 
 loop-again : tie.Need-loop-again Inv-loop μ-loop
-loop-again c = (omega arith, some-next _ _ (c .before .before .before .loop .inv .1) (sym (c .before .contains-another .ensures) ∙ c .if1 .left))
+loop-again c = let at-loop : tie.At-loop Inv-loop μ-loop = search in (omega arith, some-next _ _ (at-loop .loop .inv .1) (sym (c .before .contains-another .ensures) ∙ c .if1 .left))
 
 pub is-nested-spec : {M : Type 1} → statement M
-is-nested-spec =
-    tie.close (tie.spec
+is-nested-spec = tie.close (tie.spec
     Inv-loop μ-loop (λ c. unfold someBelow in (omega arith, refl)) (λ c κs. omega arith) returns (λ c. omega arith) (λ c. omega arith) loop-again
     (λ c. unfold nested in some-end _ _ _ (omega arith) (c .before .loop .inv .1)))

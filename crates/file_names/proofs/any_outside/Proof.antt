@@ -16,32 +16,31 @@ Inv-loop names i₀ i = (i ≤ length names) × (anyOf names (outside 0x20 0x7E)
 abbrev μ-loop : tie.MeasureT-loop
 μ-loop names i₀ i = length names - i
 
+abbrev Start : Type 0
+Start = tie.Start Inv-loop μ-loop
+
 returns : tie.Need-returns Inv-loop μ-loop
 returns c =
-    let names = c .before .before .before .before .args .names .now in let l = c .before .before .before .loop in
+    let start : Start = search in let names = start .args .names .now in let at-loop : tie.At-loop Inv-loop μ-loop = search in let l = at-loop .loop in
     sym (l .inv .1 ∙ any-stop (outside 0x20 0x7E) names (l .i) (omega arith) (byte-low (getD names (l .i) 0) (omega arith)))
 
 returns-2 : tie.Need-returns-2 Inv-loop μ-loop
 returns-2 c =
-    let names = c .before .before .before .before .before .before .args .names .now in
-    let l = c .before .before .before .before .before .loop in
+    let start : Start = search in let names = start .args .names .now in let at-loop : tie.At-loop Inv-loop μ-loop = search in let l = at-loop .loop in
     sym (l .inv .1 ∙ any-stop (outside 0x20 0x7E) names (l .i) (omega arith) (byte-high (getD names (l .i) 0) (omega arith) (omega arith)))
 
 loop-again : tie.Need-loop-again Inv-loop μ-loop
 loop-again c =
-    let names = c .before .before .before .before .before .before .args .names .now in
-    let l = c .before .before .before .before .before .loop in
-    let low : 0x20 ≤ getD names (l .i) 0 = omega (arith, c .before .before .if1 .left) in
+    let start : Start = search in let names = start .args .names .now in let at-loop : tie.At-loop Inv-loop μ-loop = search in let l = at-loop .loop in
+    let else1 : tie.Else1 Inv-loop μ-loop = search in let low : 0x20 ≤ getD names (l .i) 0 = omega (arith, else1 .if1 .left) in
     let high : getD names (l .i) 0 ≤ 0x7E = omega (arith, c .if2 .left) in
     (omega arith, l .inv .1 ∙ any-next (outside 0x20 0x7E) names (l .i) (omega arith) (byte-within (getD names (l .i) 0) low high))
 
 returns-3 : tie.Need-returns-3 Inv-loop μ-loop
-returns-3 c =
-    let names = c .before .before .args .names .now in let l = c .before .loop in
+returns-3 c = let start : Start = search in let names = start .args .names .now in let l = c .before .loop in
     sym (l .inv .1 ∙ any-end (outside 0x20 0x7E) names (l .i) (omega arith))
 
 pub any-outside-spec : {M : Type 1} → statement M
-any-outside-spec =
-    tie.close (tie.spec
+any-outside-spec = tie.close (tie.spec
     Inv-loop μ-loop (λ c. (omega arith, refl)) (λ c. omega arith) returns (λ c. omega arith) returns-2 (λ c. omega arith) (λ c. omega arith)
     loop-again returns-3)

@@ -9,16 +9,15 @@ use Rattle.file_names.proofs.names_row.Statement.{statement}
 use Rattle.file_names.proofs.names_row.Tie as tie
 
 -- row 22 does not refuse
-printable : (c : tie.Else1) → anyOf (c .before .before .before .args .names .now) (outside 0x20 0x7E) ≡ false
+printable : (c : tie.Else1) → let start : tie.Start = search in anyOf (start .args .names .now) (outside 0x20 0x7E) ≡ false
 printable c = sym (c .before .any-outside .ensures) ∙ c .if1 .left
 
 returns-2 : tie.Need-returns-2
-returns-2 c = row-23 (c .before .before .before .before .before .args .names .now) (printable (c .before .before)) (sym (c .before .repeats-name .ensures) ∙ c .if2 .taken)
+returns-2 c = let start : tie.Start = search in row-23 (start .args .names .now) (printable (search)) (sym (c .before .repeats-name .ensures) ∙ c .if2 .taken)
 
 returns-3 : tie.Need-returns-3
-returns-3 c = pass-23 (c .before .before .before .before .before .args .names .now) (printable (c .before .before)) (sym (c .before .repeats-name .ensures) ∙ c .if2 .left)
+returns-3 c = let start : tie.Start = search in pass-23 (start .args .names .now) (printable (search)) (sym (c .before .repeats-name .ensures) ∙ c .if2 .left)
 
 pub names-row-spec : {M : Type 1} → statement M
-names-row-spec =
-    tie.close (tie.spec
+names-row-spec = tie.close (tie.spec
     (λ c κs. search needs) (λ c. row-22 _ (sym (c .before .any-outside .ensures) ∙ c .if1 .taken)) (λ c κs. search needs) returns-2 returns-3)

@@ -16,14 +16,13 @@ returns : tie.Need-returns
 returns c = row-21 _ _ (not-f (cutOff _ _) (sym (c .before .names-fit .ensures) ∙ not-true _ (c .if1 .taken)))
 
 -- row 21 does not refuse
-kept : (c : tie.Else1) → cutOff (c .before .before .before .args .s) (c .before .before .before .args .p .now) ≡ false
+kept : (c : tie.Else1) → let start : tie.Start = search in cutOff (start .args .s) (start .args .p .now) ≡ false
 kept c = not-t (cutOff _ _) (sym (c .before .names-fit .ensures) ∙ not-false _ (c .if1 .left))
 
 returns-2 : tie.Need-returns-2
-returns-2 c =
-    let a = c .before .before .before .before .before .args in
-    c .names-row .ensures ∙ ap (λ (names : List ℕ). firstRow (nameRows names)) (c .before .names-in .ensures) ∙ sym (past-21 (a .s) (a .p .now) (kept (c .before .before)))
+returns-2 c = let start : tie.Start = search in let a = start .args in
+    c .names-row .ensures ∙ ap (λ (names : List ℕ). firstRow (nameRows names)) (c .before .names-in .ensures) ∙ sym (past-21 (a .s) (a .p .now) (kept (search)))
 
 pub preface-row-spec : {M : Type 1} → statement M
 preface-row-spec =
-    tie.close (tie.spec (λ c κs. search needs) returns (λ c κs. (c .before .before .before .pre, kept c)) (λ c κs. search needs) returns-2)
+    tie.close (tie.spec (λ c κs. search needs) returns (λ c κs. let start : tie.Start = search in (start .pre, kept c)) (λ c κs. search needs) returns-2)

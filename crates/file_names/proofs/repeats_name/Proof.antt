@@ -17,13 +17,12 @@ abbrev μ-loop : tie.MeasureT-loop
 
 returns : tie.Need-returns Inv-loop μ-loop
 unfolding repeatsName
-returns c = some-stop _ _ (c .before .before .before .loop .b) (omega arith) (sym (c .before .repeats-earlier .ensures) ∙ c .if1 .taken)
+returns c = let at-loop : tie.At-loop Inv-loop μ-loop = search in some-stop _ _ (at-loop .loop .b) (omega arith) (sym (c .before .repeats-earlier .ensures) ∙ c .if1 .taken)
 
 loop-again : tie.Need-loop-again Inv-loop μ-loop
-loop-again c = (omega arith, some-next _ _ (c .before .before .before .loop .inv .1) (sym (c .before .repeats-earlier .ensures) ∙ c .if1 .left))
+loop-again c = let at-loop : tie.At-loop Inv-loop μ-loop = search in (omega arith, some-next _ _ (at-loop .loop .inv .1) (sym (c .before .repeats-earlier .ensures) ∙ c .if1 .left))
 
 pub repeats-name-spec : {M : Type 1} → statement M
-repeats-name-spec =
-    tie.close (tie.spec
+repeats-name-spec = tie.close (tie.spec
     Inv-loop μ-loop (λ c. unfold someBelow in (omega arith, refl)) (λ c κs. omega arith) returns (λ c. omega arith) (λ c. omega arith) loop-again
     (λ c. unfold repeatsName in some-end _ _ _ (omega arith) (c .before .loop .inv .1)))

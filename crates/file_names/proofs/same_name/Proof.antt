@@ -18,17 +18,15 @@ abbrev μ-loop : tie.MeasureT-loop
 μ-loop names a b i₀ i = 8 - i
 
 loop-again : tie.Need-loop-again Inv-loop μ-loop
-loop-again c = (omega arith, every-next _ _ (c .before .before .before .before .loop .inv .1) (eq-eqb _ _ (c .if1 .left)))
+loop-again c = let at-loop : tie.At-loop Inv-loop μ-loop = search in (omega arith, every-next _ _ (at-loop .loop .inv .1) (eq-eqb _ _ (c .if1 .left)))
 
 returns-2 : tie.Need-returns-2 Inv-loop μ-loop
 returns-2 c =
-    let a = c .before .before .args in let l = c .before .loop in
-    let e : l .i ≡ 8 = omega arith in
+    let start : tie.Start Inv-loop μ-loop = search in let a = start .args in let l = c .before .loop in let e : l .i ≡ 8 = omega arith in
     sym (ap (λ (x : ℕ). every x (λ k. eqb (getD (a .names .now) (8 * a .a + k) 0) (getD (a .names .now) (8 * a .b + k) 0))) (sym e) ∙ l .inv .1)
 
 pub same-name-spec : {M : Type 1} → statement M
-same-name-spec =
-    tie.close (tie.spec
+same-name-spec = tie.close (tie.spec
     Inv-loop μ-loop (λ c. unfold every in (omega arith, refl)) (λ c. omega arith) (λ c. omega arith) (λ c. omega arith) (λ c. omega arith)
     (λ c. omega arith) (λ c. omega arith) (λ c. sym (every-stop 8 _ _ (omega arith) (ne-eqb _ _ (c .if1 .taken)))) (λ c. omega arith)
     (λ c. omega arith) loop-again returns-2)

@@ -10,7 +10,6 @@ known : (c : tie.Start) → Served (c .args .f .now) (c .args .l)
 known c = served (c .args .f .now) (c .args .l) (c .pre)
 
 pub clauses-of-spec : {M : Type 1} → statement M
-clauses-of-spec =
-    tie.close (tie.spec
+clauses-of-spec = tie.close (tie.spec
     (λ c. omega (arith, known (c .before) .bounds)) (λ c. search needs) (λ c. search needs) (λ c. omega (arith, known (c .before) .bounds))
-    (λ c. known (c .before .before) .clauses))
+    (λ c. known (search) .clauses))

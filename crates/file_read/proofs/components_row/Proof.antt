@@ -6,7 +6,6 @@ use Rattle.file_read.proofs.components_row.Statement.{statement}
 use Rattle.file_read.proofs.components_row.Tie as tie
 
 pub components-row-spec : {M : Type 1} → statement M
-components-row-spec =
-    tie.close (tie.spec
+components-row-spec = tie.close (tie.spec
     (λ c κs. search needs) (λ c. row-11 _ (sym (c .before .is-mixed .ensures) ∙ c .if1 .taken))
     (λ c. pass-11 _ (sym (c .before .is-mixed .ensures) ∙ c .if1 .left)))

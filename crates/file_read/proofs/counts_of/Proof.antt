@@ -10,7 +10,6 @@ known : (c : tie.Start) → Served (c .args .f .now) (c .args .l)
 known c = served (c .args .f .now) (c .args .l) (c .pre)
 
 pub counts-of-spec : {M : Type 1} → statement M
-counts-of-spec =
-    tie.close (tie.spec
+counts-of-spec = tie.close (tie.spec
     (λ c. omega (arith, known (c .before) .bounds)) (λ c. known (c .before) .long) (λ c. omega (arith, known (c .before) .bounds))
-    (λ c. omega (arith, known (c .before) .bounds)) (λ c. search needs) (λ c. known (c .before .before) .counts))
+    (λ c. omega (arith, known (c .before) .bounds)) (λ c. search needs) (λ c. known (search) .counts))

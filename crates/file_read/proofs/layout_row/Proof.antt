@@ -8,14 +8,14 @@ use Rattle.file_read.proofs.layout_row.Statement.{statement}
 use Rattle.file_read.proofs.layout_row.Tie as tie
 
 returns : tie.Need-returns
-returns c = rows-trailer (c .before .before .before .args .f .now) (c .before .trailer-row .result) (c .if1 .taken) (c .before .trailer-row .ensures)
+returns c = let start : tie.Start = search in rows-trailer (start .args .f .now) (c .before .trailer-row .result) (c .if1 .taken) (c .before .trailer-row .ensures)
 
 -- no row of the trailer refuses
-pass : (c : tie.Else1) → firstRow (trailerRows (c .before .before .before .args .f .now)) ≡ 0
+pass : (c : tie.Else1) → let start : tie.Start = search in firstRow (trailerRows (start .args .f .now)) ≡ 0
 pass c = sym (c .before .trailer-row .ensures) ∙ c .if1 .left
 
 lay-out-requires : tie.Need-lay-out-requires
-lay-out-requires c κs = let p = placed (c .before .before .before .args .f .now) (pass c) in (p .long, p .fits)
+lay-out-requires c κs = let start : tie.Start = search in let p = placed (start .args .f .now) (pass c) in (p .long, p .fits)
 
 pub layout-row-spec : {M : Type 1} → statement M
 layout-row-spec =

@@ -21,23 +21,16 @@ bounds : (c : tie.Start) → c .args .l .at + c .args .l .clauses ≤ length (c 
 bounds c = rw (c .pre .1) (omega (arith, known c))
 
 lists-row-requires : tie.Need-lists-row-requires
-lists-row-requires c κs =
-    let start = c .before .before .before .before in
-    let p = known start in
-    let f = start .args .f .now in
+lists-row-requires c κs = let start : tie.Start = search in let p = known start in let f = start .args .f .now in
     rw (start .pre .1) (p .ranges .few-states, rw (counts-part f (p .fits)) (omega (arith, counts-length f (p .fits), p .ranges)))
 
 returns : tie.Need-returns
-returns c =
-    let start = c .before .before .before .before .before in
-    let p = known start in
-    let f = start .args .f .now in
+returns c = let start : tie.Start = search in let p = known start in let f = start .args .f .now in
     let e : c .lists-row .result ≡ firstRow (listRows (trailer f 0) (countsOf f) (clausesOf f)) = rw (start .pre .1, counts-part f (p .fits), clauses-part f (p .fits)) at (c .lists-row .ensures) in
     e ∙ sym (rows-lists f (start .pre .0))
 
 pub lists-at-spec : {M : Type 1} → statement M
-lists-at-spec =
-    tie.close (tie.spec
-    (λ c. known (c .before .before) .long) (λ c. omega (arith, bounds (c .before .before))) (λ c. omega (arith, bounds (c .before .before)))
-    (λ c. omega (arith, bounds (c .before .before))) (λ c. search needs) (λ c. omega (arith, bounds (c .before .before .before))) (λ c. search needs)
-    (λ c. search needs) (λ c. omega (arith, bounds (c .before .before .before))) lists-row-requires returns)
+lists-at-spec = tie.close (tie.spec
+    (λ c. known (search) .long) (λ c. omega (arith, bounds (search))) (λ c. omega (arith, bounds (search)))
+    (λ c. omega (arith, bounds (search))) (λ c. search needs) (λ c. omega (arith, bounds (search))) (λ c. search needs)
+    (λ c. search needs) (λ c. omega (arith, bounds (search))) lists-row-requires returns)

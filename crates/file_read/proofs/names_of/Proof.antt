@@ -7,7 +7,7 @@ use Rattle.file_read.proofs.names_of.Statement.{statement}
 use Rattle.file_read.proofs.names_of.Tie as tie
 
 returns : tie.Need-returns
-returns c = let a = c .before .before .args in names-none (a .f .now) (a .l) (c .before .before .pre) (c .before .if1 .taken)
+returns c = let start : tie.Start = search in let a = start .args in names-none (a .f .now) (a .l) (start .pre) (c .before .if1 .taken)
 
 -- there are names
 some-names : (c : tie.Else1) → 0 < c .before .args .l .names
@@ -21,10 +21,9 @@ room : (c : tie.Else1) → c .before .args .l .names + 2 ≤ c .before .args .l 
 room c = known c .names-inside (some-names c)
 
 returns-2 : tie.Need-returns-2
-returns-2 c = let a = c .before .before .before .args in names-there (a .f .now) (a .l) (c .before .before .before .pre) (some-names (c .before .before))
+returns-2 c = let start : tie.Start = search in let a = start .args in names-there (a .f .now) (a .l) (start .pre) (some-names (search))
 
 pub names-of-spec : {M : Type 1} → statement M
-names-of-spec =
-    tie.close (tie.spec
+names-of-spec = tie.close (tie.spec
     (λ c. search needs) returns (λ c. omega (arith, room (c .before))) (λ c. omega (arith, room (c .before))) (λ c. search needs) (λ c. search needs)
     (λ c. omega (arith, room (c .before), known (c .before) .bounds)) returns-2)

@@ -6,10 +6,9 @@ use Rattle.file_tidy.proofs.counts_in.Statement.{statement}
 use Rattle.file_tidy.proofs.counts_in.Tie as tie
 
 returns : tie.Need-returns
-returns c = rw (c .before .read-head .ensures) (counts-end (c .before .before .before .args .f .now) (c .before .before .before .pre .1))
+returns c = let start : tie.Start = search in rw (c .before .read-head .ensures) (counts-end (start .args .f .now) (start .pre .1))
 
 pub counts-in-spec : {M : Type 1} → statement M
-counts-in-spec =
-    tie.close (tie.spec
+counts-in-spec = tie.close (tie.spec
     (λ c κs. search needs) (λ c. omega arith) (λ c. rw (c .read-head .ensures) (omega arith)) (λ c. rw (c .read-head .ensures) (omega arith))
     (λ c. search needs) (λ c. search needs) (λ c. search needs) returns)

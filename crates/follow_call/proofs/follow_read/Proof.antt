@@ -30,10 +30,8 @@ go-on-requires c κs =
 returns-2 : tie.Need-returns-2
 returns-2 c =
     let start : tie.Start = search in let at-row : tie.After-call-row = search in let passed : tie.Else1 = search in let at-on : tie.After-go-on = search in
-    let a = start .args in let ts = wordsIn (a .transitions .now) in
-    served-by (sym (at-row .call-row .ensures) ∙ passed .if1 .left)
-    (subst (λ (n : ℕ). PartLeft n (reached n ts (a .letters .now) (a .set .now)) (emptiedAfter n ts (a .letters .now) (flags n (a .set .now))) (a .set .now) (at-on .go-on .last .1 .1 .1 .0) (at-on .go-on .result))
-    (sym (words-in-length (a .codes .now))) (at-on .go-on .ensures))
+    let a = start .args in
+    served-by (sym (at-row .call-row .ensures) ∙ passed .if1 .left) (rw (sym (words-in-length (a .codes .now))) at (at-on .go-on .ensures))
 
 pub follow-read-spec : {M : Type 1} → statement M
 follow-read-spec = tie.close (tie.spec (λ c κs. search needs) returns go-on-requires (λ c. search needs) returns-2)

@@ -18,33 +18,31 @@ Inv-loop text p b n transitions₀ accepting₀ count₀ end₀ i₀ transitions
 abbrev μ-loop : tie.MeasureT-loop
 μ-loop text p b n transitions₀ accepting₀ count₀ end₀ i₀ transitions accepting count end i = n - i
 
+abbrev At-loop : Type 0
+At-loop = tie.At-loop Inv-loop μ-loop
+
 take-marked-requires : tie.Need-take-marked-requires Inv-loop μ-loop
-take-marked-requires c κs = let I = c .before .loop .inv in (c .before .before .before .before .pre .0, I .4 .within, omega arith, I .4 .first)
+take-marked-requires c κs = let I = c .before .loop .inv in let start : tie.Start Inv-loop μ-loop = search in (start .pre .0, I .4 .within, omega arith, I .4 .first)
 
 returns : tie.Need-returns Inv-loop μ-loop
-returns c = blocks-no-state (c .before .before .before .loop .inv .4) (omega arith) (c .before .take-marked .ensures) (c .if1 .taken) refl
+returns c = let at-loop : At-loop = search in blocks-no-state (at-loop .loop .inv .4) (omega arith) (c .before .take-marked .ensures) (c .if1 .taken) refl
 
 take-edges-requires : tie.Need-take-edges-requires Inv-loop μ-loop
 take-edges-requires c κs =
-    let T = c .before .before .take-marked in
-    let f = T .ensures .found (omega arith) in
-    let s = state-later (c .before .before .before .before .loop .inv .4) (omega arith) (T .ensures) (omega arith) in
-    (c .before .before .before .before .before .before .before .pre .0, omega arith, f .1, omega arith, omega arith, omega arith, omega arith)
+    let at-take-marked : tie.After-take-marked Inv-loop μ-loop = search in let T = at-take-marked .take-marked in let f = T .ensures .found (omega arith) in
+    let at-loop : At-loop = search in let s = state-later (at-loop .loop .inv .4) (omega arith) (T .ensures) (omega arith) in
+    let start : tie.Start Inv-loop μ-loop = search in (start .pre .0, omega arith, f .1, omega arith, omega arith, omega arith, omega arith)
 
 returns-2 : tie.Need-returns-2 Inv-loop μ-loop
-returns-2 c =
-    blocks-no-edges (c .before .before .before .before .before .before .before .before .loop .inv .4) (omega arith)
-    (c .before .before .before .before .before .before .take-marked .ensures) (omega arith) (c .before .before .before .take-edges .ensures)
-    (c .if2 .taken) refl
+returns-2 c = let at-loop : At-loop = search in let at-take-marked : tie.After-take-marked Inv-loop μ-loop = search in
+    let at-take-edges : tie.After-take-edges Inv-loop μ-loop = search in blocks-no-edges (at-loop .loop .inv .4) (omega arith)
+    (at-take-marked .take-marked .ensures) (omega arith) (at-take-edges .take-edges .ensures) (c .if2 .taken) refl
 
 loop-again : tie.Need-loop-again Inv-loop μ-loop
 loop-again c =
-    let a = c .before .before .before .before .before .before .before .before .before .before .before .args in
-    let l = c .before .before .before .before .before .before .before .before .loop in
-    let T = c .before .before .before .before .before .before .take-marked in
-    let E = c .before .before .before .take-edges in
-    let j : 0 < E .result .end = omega arith in
-    let F = E .ensures .found j in (
+    let start : tie.Start Inv-loop μ-loop = search in let a = start .args in let at-loop : At-loop = search in let l = at-loop .loop in
+    let at-take-marked : tie.After-take-marked Inv-loop μ-loop = search in let T = at-take-marked .take-marked in let at-take-edges : tie.After-take-edges Inv-loop μ-loop = search in
+    let E = at-take-edges .take-edges in let j : 0 < E .result .end = omega arith in let F = E .ensures .found j in (
       omega arith,
       j,
       F .few,
@@ -58,9 +56,9 @@ returns-3 : tie.Need-returns-3 Inv-loop μ-loop
 returns-3 c = let l = c .before .loop in blocks-some (omega arith) (blocked (omega arith) (l .inv .4) (l .inv .5) (l .inv .6))
 
 pub take-blocks-spec : {M : Type 1} → statement M
-take-blocks-spec =
-    tie.close (tie.spec
+take-blocks-spec = tie.close (tie.spec
     Inv-loop μ-loop (λ c. (omega arith, omega arith, omega arith, [], blocking-none (omega arith), refl, refl)) take-marked-requires
-    (λ c. ap length (c .before .before .before .loop .inv .6) ∙ simp length-sets) returns take-edges-requires
-    (λ c. c .before .before .before .take-edges .kept .1 .1 .1 .1 .1 .0 ∙ ap length (c .before .before .before .before .before .before .before .before .loop .inv .6) ∙ simp length-sets)
+    (λ c. let at-loop : At-loop = search in ap length (at-loop .loop .inv .6) ∙ simp length-sets) returns take-edges-requires
+    (λ c. let at-take-edges : tie.After-take-edges Inv-loop μ-loop = search in let at-loop : At-loop = search in
+    omega (arith, at-take-edges .take-edges .kept, simp length-sets at (ap length (at-loop .loop .inv .6))))
     returns-2 (λ c. omega arith) (λ c. omega arith) loop-again (λ c. ap length (c .before .loop .inv .6) ∙ simp length-sets) returns-3)

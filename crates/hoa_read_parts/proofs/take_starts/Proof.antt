@@ -18,35 +18,37 @@ Inv-loop text p n accepting flags₀ last₀ end₀ i₀ flags last end i = (i �
 abbrev μ-loop : tie.MeasureT-loop
 μ-loop text p n accepting flags₀ last₀ end₀ i₀ flags last end i = n - i
 
+abbrev Start : Type 0
+Start = tie.Start Inv-loop μ-loop
+
 loop-holds : tie.Need-loop-holds Inv-loop μ-loop
-loop-holds c = let a = c .before .before .args in (omega arith, [], starting-none (omega arith), none-stored (a .flags .now) (a .accepting))
+loop-holds c = let start : Start = search in let a = start .args in (omega arith, [], starting-none (omega arith), none-stored (a .flags .now) (a .accepting))
 
 loop-again : tie.Need-loop-again Inv-loop μ-loop
 loop-again c =
-    let at-loop = c .before .before .before .before .before .before .before .before in
-    let start = at-loop .before .before .before in let a = start .args in let l = at-loop .loop in
-    let T = c .before .before .before .before .before .before .take-start in
-    let F = c .before .before .before .before .flag-of in (
+    let start : Start = search in let a = start .args in let at-loop : tie.At-loop Inv-loop μ-loop = search in let l = at-loop .loop in
+    let at-take-start : tie.After-take-start Inv-loop μ-loop = search in let T = at-take-start .take-start in let at-flag-of : tie.After-flag-of Inv-loop μ-loop = search in
+    let F = at-flag-of .flag-of in let then1 : tie.Then1 Inv-loop μ-loop = search in let at-store-flag : tie.After-store-flag Inv-loop μ-loop = search in (
       omega arith,
       l .inv .1 ++ (0 ∷ []),
-      starting-no (l .inv .2) (omega arith) (T .ensures) (c .before .before .before .before .before .if1 .taken),
-      flag-stored (a .flags .now) (a .accepting) (l .inv .1) (l .i) 0 (F .result) (l .inv .2 .long) (l .inv .3) (F .ensures) (c .before .before .store-flag .ensures),
+      starting-no (l .inv .2) (omega arith) (T .ensures) (then1 .if1 .taken),
+      flag-stored (a .flags .now) (a .accepting) (l .inv .1) (l .i) 0 (F .result) (l .inv .2 .long) (l .inv .3) (F .ensures) (at-store-flag .store-flag .ensures),
     )
 
 loop-again-2 : tie.Need-loop-again-2 Inv-loop μ-loop
 loop-again-2 c =
-    let at-loop = c .before .before .before .before .before .before .before .before in let a = at-loop .before .before .before .args in
-    let l = at-loop .loop in let F = c .before .before .before .before .flag-of2 in (
+    let start : Start = search in let a = start .args in let at-loop : tie.At-loop Inv-loop μ-loop = search in let l = at-loop .loop in
+    let at-flag-of2 : tie.After-flag-of2 Inv-loop μ-loop = search in let F = at-flag-of2 .flag-of2 in let at-take-start : tie.After-take-start Inv-loop μ-loop = search in
+    let at-store-flag2 : tie.After-store-flag2 Inv-loop μ-loop = search in (
       omega arith,
       l .inv .1 ++ (1 ∷ []),
-      starting-yes (l .inv .2) (omega arith) (c .before .before .before .before .before .before .take-start .ensures) (omega arith),
-      flag-stored (a .flags .now) (a .accepting) (l .inv .1) (l .i) 1 (F .result) (l .inv .2 .long) (l .inv .3) (F .ensures) (c .before .before .store-flag2 .ensures),
+      starting-yes (l .inv .2) (omega arith) (at-take-start .take-start .ensures) (omega arith),
+      flag-stored (a .flags .now) (a .accepting) (l .inv .1) (l .i) 1 (F .result) (l .inv .2 .long) (l .inv .3) (F .ensures) (at-store-flag2 .store-flag2 .ensures),
     )
 
 pub take-starts-spec : {M : Type 1} → statement M
-take-starts-spec =
-    tie.close (tie.spec
-    Inv-loop μ-loop loop-holds (λ c κs. (c .before .before .before .before .pre .0, c .before .loop .inv .2 .within, omega arith))
+take-starts-spec = tie.close (tie.spec
+    Inv-loop μ-loop loop-holds (λ c κs. let start : Start = search in (start .pre .0, c .before .loop .inv .2 .within, omega arith))
     (λ c κs. omega arith) (λ c κs. search needs) (λ c. omega arith) (λ c. omega arith) loop-again (λ c κs. omega arith) (λ c κs. search needs)
     (λ c. omega arith) (λ c. omega arith) loop-again-2 (λ c. ap length (c .before .loop .inv .3) ∙ simp length-sets)
     (λ c. let l = c .before .loop in started (omega arith) (l .inv .2) (l .inv .3)))

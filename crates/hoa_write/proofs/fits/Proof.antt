@@ -20,20 +20,19 @@ counts : (s : ℕ) (codes moves : List ℕ) → Passed s (wordsIn codes) (wordsI
 counts s codes moves P = (omega (arith, P .few, words-in-length codes), omega (arith, moves-few s (wordsIn codes) (wordsIn moves) P, words-in-length moves))
 
 mul-if1 : tie.Need-mul-if1
-mul-if1 c = let a = c .before .before .args in omega (arith, counts (a .s) (a .codes .now) (a .moves .now) (c .before .before .pre .2) .0)
+mul-if1 c = let start : tie.Start = search in let a = start .args in omega (arith, counts (a .s) (a .codes .now) (a .moves .now) (start .pre .2) .0)
 
 mul-if1-2 : tie.Need-mul-if1-2
-mul-if1-2 c = let a = c .before .before .args in omega (arith, counts (a .s) (a .codes .now) (a .moves .now) (c .before .before .pre .2) .1)
+mul-if1-2 c = let start : tie.Start = search in let a = start .args in omega (arith, counts (a .s) (a .codes .now) (a .moves .now) (start .pre .2) .1)
 
 add-if1 : tie.Need-add-if1
-add-if1 c = let a = c .before .before .args in let n = counts (a .s) (a .codes .now) (a .moves .now) (c .before .before .pre .2) in omega (arith, n .0, n .1)
+add-if1 c = let start : tie.Start = search in let a = start .args in let n = counts (a .s) (a .codes .now) (a .moves .now) (start .pre .2) in omega (arith, n .0, n .1)
 
 add-if1-2 : tie.Need-add-if1-2
-add-if1-2 c = let a = c .before .before .args in let n = counts (a .s) (a .codes .now) (a .moves .now) (c .before .before .pre .2) in omega (arith, n .0, n .1)
+add-if1-2 c = let start : tie.Start = search in let a = start .args in let n = counts (a .s) (a .codes .now) (a .moves .now) (start .pre .2) in omega (arith, n .0, n .1)
 
 returns : tie.Need-returns
-returns c =
-    let a = c .before .before .before .args in let p = c .before .before .before .pre in
+returns c = let start : tie.Start = search in let a = start .args in let p = start .pre in
     let room : length (automatonText (a .b) (flagsOf (initialAt (a .initial)) (wordsIn (a .codes .now))) (wordsIn (a .moves .now))) ≤ a .room =
     omega (
       arith,
@@ -41,16 +40,14 @@ returns c =
       text-within (a .s) (wordsIn (a .codes .now)) (wordsIn (a .moves .now)) (p .2) (initialAt (a .initial)) (a .b) (p .0),
       words-in-length (a .codes .now),
       words-in-length (a .moves .now),
-    ) in
-    sym (le-leb _ (a .room) room)
+    ) in sym (le-leb _ (a .room) room)
 
 text-length-requires : tie.Need-text-length-requires
-text-length-requires c κs =
-    let a = c .before .before .before .args in let p = c .before .before .before .pre in
+text-length-requires c κs = let start : tie.Start = search in let a = start .args in let p = start .pre in
     (p .0, p .1, p .2 .few, moves-few (a .s) (wordsIn (a .codes .now)) (wordsIn (a .moves .now)) (p .2), p .2 .source)
 
 returns-2 : tie.Need-returns-2
-returns-2 c = ap (λ (x : ℕ). leb x (c .before .before .before .before .args .room)) (c .text-length .ensures)
+returns-2 c = let start : tie.Start = search in ap (λ (x : ℕ). leb x (start .args .room)) (c .text-length .ensures)
 
 pub fits-spec : {M : Type 1} → statement M
 fits-spec = tie.close (tie.spec mul-if1 mul-if1-2 add-if1 add-if1-2 returns text-length-requires returns-2)

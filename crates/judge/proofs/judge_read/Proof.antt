@@ -1,9 +1,13 @@
 -- `judge::judge_read` meets its contract: the row that refuses, or the masks and the initial state's bit.
 use mathlib.Core.Path.{_≡_, sym, ap, _∙_}
 use mathlib.Core.Bool.{Bool, true, false}
+use mathlib.Core.List.{List, _++_}
+use Prim.Native.Nat.{ℕ}
 use native.Mathlib.Omega.{arith}
-use lib.ListN.{length, getD, length-append}
+use lib.ListN.{length, getD, drop, length-append}
 use Rattle.sets.specs.Masks.{bit}
+use Rattle.theory.specs.Truth.{truthMasks}
+use Rattle.theory.specs.Word.{places}
 use Rattle.theory_laws.proofs.Truth.{truth-length}
 use Rattle.rule_entries.specs.Entries.{ruleOf}
 use Rattle.word_rows.proofs.Checks.{word-over}
@@ -15,55 +19,47 @@ use Rattle.judge.proofs.judge_read.Statement.{statement}
 use Rattle.judge.proofs.judge_read.Tie as tie
 
 returns : tie.Need-returns
-returns c =
-    let start = c .before .before .before .before .before .before .before in let a = start .args in
+returns c = let start : tie.Start = search in let a = start .args in
     called-refused (ruleOf (a .h) (a .counts .now) (a .clauses .now)) (a .lead .now) (a .cycle .now) (a .masks .now) (c .before .word-row .result) (c .if1 .taken)
     (word-refuses (ruleOf (a .h) (a .counts .now) (a .clauses .now)) (a .lead .now) (a .cycle .now) (length (a .masks .now)) (c .before .word-row .result) (c .if1 .taken)
     (c .before .word-row .ensures))
 
 returns-2 : tie.Need-returns-2
-returns-2 c =
-    let start = c .before .before .before .before .before .before .before .before in let a = start .args in
+returns-2 c = let start : tie.Start = search in let a = start .args in let at-word-row : tie.After-word-row = search in
     called-refused (ruleOf (a .h) (a .counts .now) (a .clauses .now)) (a .lead .now) (a .cycle .now) (a .masks .now) 16 (λ e. omega arith)
-    (slice-refuses (ruleOf (a .h) (a .counts .now) (a .clauses .now)) (a .lead .now) (a .cycle .now) (length (a .masks .now)) (sym (c .before .before .word-row .ensures) ∙ c .before .if1 .left)
+    (slice-refuses (ruleOf (a .h) (a .counts .now) (a .clauses .now)) (a .lead .now) (a .cycle .now) (length (a .masks .now)) (sym (at-word-row .word-row .ensures) ∙ c .before .if1 .left)
     (c .if2 .taken))
 
 fill-requires : tie.Need-fill-requires
 fill-requires c κs =
-    let start = c .before .before .before .before .before .before .before .before .before in let a = start .args in
-    (start .pre, word-over (a .h .s) (a .lead .now) (a .cycle .now) (sym (c .before .before .before .word-row .ensures) ∙ c .before .before .if1 .left), c .before .if2 .left)
+    let start : tie.Start = search in let a = start .args in let at-word-row : tie.After-word-row = search in let else1 : tie.Else1 = search in
+    (start .pre, word-over (a .h .s) (a .lead .now) (a .cycle .now) (sym (at-word-row .word-row .ensures) ∙ else1 .if1 .left), c .before .if2 .left)
 
 slice-read-contains : tie.Need-slice-read-contains
 slice-read-contains c =
-    let at-word-row = c .before .before .before .before .before .before .before in
-    let start = at-word-row .before .before .before .before .before .before in let a = start .args in
-    let w = word-over (a .h .s) (a .lead .now) (a .cycle .now) (sym (at-word-row .word-row .ensures) ∙ c .before .before .before .before .before .before .if1 .left) in
-    omega (
+    let start : tie.Start = search in let a = start .args in let at-word-row : tie.After-word-row = search in let else1 : tie.Else1 = search in
+    let w = word-over (a .h .s) (a .lead .now) (a .cycle .now) (sym (at-word-row .word-row .ensures) ∙ else1 .if1 .left) in let at-fill : tie.After-fill = search in omega (
       arith,
-      simp length-append at (ap length (c .before .before .before .fill .ensures)),
+      simp length-append at (ap length (at-fill .fill .ensures)),
       truth-length (ruleOf (a .h) (a .counts .now) (a .clauses .now)) (a .lead .now) (a .cycle .now),
       w .repeats,
     )
 
 abbrev start-of-after-contains : tie.After-contains → tie.Start
-start-of-after-contains c = c .before .before .before .before .before .before .before .before .before .before .before .before .before .before .before
+start-of-after-contains c = search
 
 -- the masks are written, and the test of the first is b
-served : (c : tie.After-contains) (t : Bool) → let a = start-of-after-contains c .args in let f = c .before .before .before .before .before .fill in
-    bit (getD (f .last .1 .1 .1 .1 .1 .0) 0 0) (a .h .initial) ≡ t → JudgeCalled (ruleOf (a .h) (a .counts .now) (a .clauses .now)) (a .lead .now) (a .cycle .now) (a .masks .now)
-    (f .last .1 .1 .1 .1 .1 .0) (verdict 0 t)
-served c t e =
-    let at-if2 = c .before .before .before .before .before .before .before in let at-if1 = at-if2 .before in
-    let a = start-of-after-contains c .args in
-    let r = ruleOf (a .h) (a .counts .now) (a .clauses .now) in
-    let f = c .before .before .before .before .before .fill in
-    let row = sym ((at-if1 .before) .word-row .ensures) ∙ at-if1 .if1 .left in
-    called-served r (a .lead .now) (a .cycle .now) (a .masks .now) (call-served r (a .lead .now) (a .cycle .now) (length (a .masks .now)) row (at-if2 .if2 .left))
-    (f .last .1 .1 .1 .1 .1 .0) (f .ensures) ((word-over (a .h .s) (a .lead .now) (a .cycle .now) row) .repeats) t e
+served : (c : tie.After-contains) → let a = start-of-after-contains c .args in let r = ruleOf (a .h) (a .counts .now) (a .clauses .now) in
+    (masks : List ℕ) → masks ≡ truthMasks r (a .lead .now) (a .cycle .now) ++ drop (places (a .lead .now) (a .cycle .now)) (a .masks .now)
+    → (t : Bool) → bit (getD masks 0 0) (a .h .initial) ≡ t → JudgeCalled r (a .lead .now) (a .cycle .now) (a .masks .now) masks (verdict 0 t)
+served c masks f t e =
+    let a = start-of-after-contains c .args in let r = ruleOf (a .h) (a .counts .now) (a .clauses .now) in
+    let else1 : tie.Else1 = search in let row = sym ((else1 .before) .word-row .ensures) ∙ else1 .if1 .left in let else2 : tie.Else2 = search in
+    called-served r (a .lead .now) (a .cycle .now) (a .masks .now) (call-served r (a .lead .now) (a .cycle .now) (length (a .masks .now)) row (else2 .if2 .left))
+    masks f ((word-over (a .h .s) (a .lead .now) (a .cycle .now) row) .repeats) t e
 
 pub judge-read-spec : {M : Type 1} → statement M
-judge-read-spec =
-    tie.close (tie.spec
+judge-read-spec = tie.close (tie.spec
     (λ c κs. search needs) returns (λ c. search needs) returns-2 fill-requires slice-read-contains (λ c. search needs) (λ c κs. search needs)
-    (λ c. search needs) (λ c. served (c .before) true (sym (c .before .contains .ensures) ∙ c .if3 .taken)) (λ c. search needs)
-    (λ c. served (c .before) false (sym (c .before .contains .ensures) ∙ c .if3 .left)))
+    (λ c. search needs) (λ c. let at-fill : tie.After-fill = search in served (c .before) _ (at-fill .fill .ensures) true (sym (c .before .contains .ensures) ∙ c .if3 .taken)) (λ c. search needs)
+    (λ c. let at-fill : tie.After-fill = search in served (c .before) _ (at-fill .fill .ensures) false (sym (c .before .contains .ensures) ∙ c .if3 .left)))

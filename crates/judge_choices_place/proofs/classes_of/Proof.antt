@@ -15,28 +15,28 @@ use Rattle.judge_choices_place.proofs.classes_of.Statement.{statement}
 use Rattle.judge_choices_place.proofs.classes_of.Tie as tie
 
 abbrev Inv-loop : tie.InvT-loop
-Inv-loop h counts clauses reach classes₀ q₀ classes q =
-    (length classes ≡ 8) × (q ≤ h .n)
+Inv-loop h counts clauses reach classes₀ q₀ classes q = (length classes ≡ 8) × (q ≤ h .n)
     × ((p : ℕ) → p < q → getD classes p 0 ≡ mask (h .n) (λ x. eqb (component (ruleOf h counts clauses) x) (component (ruleOf h counts clauses) p)))
 
 abbrev μ-loop : tie.MeasureT-loop
 μ-loop h counts clauses reach classes₀ q₀ classes q = h .n - q
 
+abbrev Start : Type 0
+Start = tie.Start Inv-loop μ-loop
+
 class-of-requires : tie.Need-class-of-requires Inv-loop μ-loop
-class-of-requires c κs = let w = c .before .before .before .before .before .pre .0 .few-states in (w, omega (arith, w, c .if1 .taken))
+class-of-requires c κs = let start : Start = search in let w = start .pre .0 .few-states in (w, omega (arith, w, c .if1 .taken))
 
 array-write-classes : tie.Need-array-write-classes Inv-loop μ-loop
-array-write-classes c = omega (arith, c .before .before .before .before .before .before .pre .0 .few-states, c .before .if1 .taken)
+array-write-classes c = let start : Start = search in omega (arith, start .pre .0 .few-states, c .before .if1 .taken)
 
 add-q : tie.Need-add-q Inv-loop μ-loop
-add-q c = omega (arith, c .before .before .before .before .before .before .pre .0 .few-states, c .before .if1 .taken)
+add-q c = let start : Start = search in omega (arith, start .pre .0 .few-states, c .before .if1 .taken)
 
 loop-again : tie.Need-loop-again Inv-loop μ-loop
 loop-again c =
-    let l = c .before .before .before .loop in let a = c .before .before .before .before .before .before .args in
-    let w = c .before .before .before .before .before .before .pre in
-    let r = ruleOf (a .h) (a .counts .now) (a .clauses .now) in
-    let t = c .before .if1 .taken in
+    let at-loop : tie.At-loop Inv-loop μ-loop = search in let l = at-loop .loop in let start : Start = search in let a = start .args in let w = start .pre in
+    let r = ruleOf (a .h) (a .counts .now) (a .clauses .now) in let t = c .before .if1 .taken in
     let v = c .class-of .ensures ∙ ap (λ (x : List ℕ). classBy x (a .h .n) (l .q)) (w .1) ∙ class-mask r (w .0 .few-states) (l .q) t in (
       length-set (l .classes) (l .q) (c .class-of .result) ∙ l .inv .0,
       omega arith,
@@ -44,7 +44,6 @@ loop-again c =
     )
 
 pub classes-of-spec : {M : Type 1} → statement M
-classes-of-spec =
-    tie.close (tie.spec
+classes-of-spec = tie.close (tie.spec
     Inv-loop μ-loop (λ c. (refl, omega arith, λ p l. absurd (omega arith))) class-of-requires array-write-classes add-q
-    (λ c. omega (arith, c .before .if1 .taken)) loop-again (λ c. record { at = λ q l. c .before .before .loop .inv .2 q (omega arith) }))
+    (λ c. omega (arith, c .before .if1 .taken)) loop-again (λ c. let at-loop : tie.At-loop Inv-loop μ-loop = search in record { at = λ q l. at-loop .loop .inv .2 q (omega arith) }))

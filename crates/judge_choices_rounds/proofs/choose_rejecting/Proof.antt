@@ -16,21 +16,24 @@ use Rattle.judge_choices_rounds.proofs.choose_rejecting.Statement.{stat
 use Rattle.judge_choices_rounds.proofs.choose_rejecting.Tie as tie
 
 abbrev Inv-loop : tie.InvT-loop
-Inv-loop rule counts starts clauses lead cycle masks choices₀ h at end near₀ work₀ d₀ choices near work d =
-    (length near ≡ 64)
+Inv-loop rule counts starts clauses lead cycle masks choices₀ h at end near₀ work₀ d₀ choices near work d = (length near ≡ 64)
     × (d ≤ places lead cycle * rule .head .n)
     × Rounds (ruleOf (rule .head) counts clauses) lead cycle (truthMasks (ruleOf (rule .head) counts clauses) lead cycle) d near work choices₀ choices
 
 abbrev μ-loop : tie.MeasureT-loop
 μ-loop rule counts starts clauses lead cycle masks choices₀ h at end near₀ work₀ d₀ choices near work d = places lead cycle * rule .head .n - d
 
+abbrev Start : Type 0
+Start = tie.Start Inv-loop μ-loop
+
+abbrev At-loop : Type 0
+At-loop = tie.At-loop Inv-loop μ-loop
+
 shr-work : tie.Need-shr-work Inv-loop μ-loop
-shr-work c = let p = c .before .before .before .before .before .before .before .pre .0 in omega (arith, p .few-places, p .word .repeats)
+shr-work c = let start : Start = search in let p = start .pre .0 in omega (arith, p .few-places, p .word .repeats)
 
 loop-holds : tie.Need-loop-holds Inv-loop μ-loop
-loop-holds c =
-    let start = c .before .before .before .before .before .before .before in let a = start .args in let p = start .pre in
-    let end = places (a .lead .now) (a .cycle .now) in
+loop-holds c = let start : Start = search in let a = start .args in let p = start .pre in let end = places (a .lead .now) (a .cycle .now) in
     let some : 0 < end = omega (arith, p .0 .word .repeats) in (
       refl,
       omega arith,
@@ -39,12 +42,11 @@ loop-holds c =
     )
 
 mul-if1 : tie.Need-mul-if1 Inv-loop μ-loop
-mul-if1 c = omega (arith, bytes-few _ _ _ _ _ _ (c .before .before .before .before .before .before .before .before .before .pre .0))
+mul-if1 c = let start : Start = search in omega (arith, bytes-few _ _ _ _ _ _ (start .pre .0))
 
 returns : tie.Need-returns Inv-loop μ-loop
 returns c =
-    let start = c .before .before .before .before .before .before .before .before .before .before .before in
-    let l = c .before .before .before .loop in let a = start .args in let p = start .pre in
+    let at-loop : At-loop = search in let l = at-loop .loop in let start : Start = search in let a = start .args in let p = start .pre in
     let r = ruleOf (a .rule .head) (a .counts .now) (a .clauses .now) in
     let R : Rounds r (a .lead .now) (a .cycle .now) (truthMasks r (a .lead .now) (a .cycle .now)) (l .d) (l .near) 0 (a .choices .now) (l .choices) = rw (c .if2 .taken) at (l .inv .2) in
     rw (p .0 .truths)
@@ -53,8 +55,7 @@ returns c =
 
 round-requires : tie.Need-round-requires Inv-loop μ-loop
 round-requires c κs =
-    let start = c .before .before .before .before .before .before .before .before .before .before .before .before .before in
-    let l = c .before .before .before .before .before .loop in let a = start .args in let p = start .pre in
+    let at-loop : At-loop = search in let l = at-loop .loop in let start : Start = search in let a = start .args in let p = start .pre in
     let r = ruleOf (a .rule .head) (a .counts .now) (a .clauses .now) in (
       p .0,
       λ k m. rw (l .inv .2 .within k m) (near-low r (p .0 .passing) (a .lead .now) (a .cycle .now) (p .0 .word) (l .d) k),
@@ -64,51 +65,37 @@ round-requires c κs =
     )
 
 places-before-requires : tie.Need-places-before-requires Inv-loop μ-loop
-places-before-requires c κs =
-    let start = c .before .before .before .before .before .before .before .before .before .before .before .before .before .before .before .before in
-    let p = start .pre in
-    (omega (arith, p .0 .word .repeats), p .0 .few-places, c .before .before .round .ensures .0 .few)
+places-before-requires c κs = let start : Start = search in let p = start .pre in let at-round : tie.After-round Inv-loop μ-loop = search in
+    (omega (arith, p .0 .word .repeats), p .0 .few-places, at-round .round .ensures .0 .few)
 
 add-d : tie.Need-add-d Inv-loop μ-loop
-add-d c =
-    let at-if1 = c .before .before .before .before .before .before .before in
-    let start = at-if1 .before .before .before .before .before .before .before .before .before .before in
-    omega (arith, bytes-few _ _ _ _ _ _ (start .pre .0), at-if1 .if1 .taken)
-
-loop-less : tie.Need-loop-less Inv-loop μ-loop
-loop-less c = let at-if1 = c .before .before .before .before .before .before .before in omega (arith, at-if1 .if1 .taken)
+add-d c = let then1 : tie.Then1 Inv-loop μ-loop = search in let start : Start = search in omega (arith, bytes-few _ _ _ _ _ _ (start .pre .0), then1 .if1 .taken)
 
 loop-again : tie.Need-loop-again Inv-loop μ-loop
 loop-again c =
-    let at-if1 = c .before .before .before .before .before .before .before in let at-loop = at-if1 .before .before in
-    let start = at-loop .before .before .before .before .before .before .before .before in let l = at-loop .loop in
-    let a = start .args in let p = start .pre in
-    let r = ruleOf (a .rule .head) (a .counts .now) (a .clauses .now) in
-    let f = c .before .before .before .round in
-    let S : Round r (a .lead .now) (a .cycle .now) (truthMasks r (a .lead .now) (a .cycle .now)) (l .near) (bit (l .work)) (l .choices) (f .last .1 .1 .1 .1 .1 .1 .1 .1 .0)
-    (f .last .1 .1 .1 .1 .1 .1 .1 .0) (f .result)
-    = rw (p .0 .truths) at (f .ensures .0) in (
+    let at-loop : At-loop = search in let l = at-loop .loop in let start : Start = search in let a = start .args in let p = start .pre in
+    let r = ruleOf (a .rule .head) (a .counts .now) (a .clauses .now) in let at-round : tie.After-round Inv-loop μ-loop = search in let f = at-round .round in
+    let S : Round r (a .lead .now) (a .cycle .now) (truthMasks r (a .lead .now) (a .cycle .now)) (l .near) (bit (l .work)) (l .choices) _ _ (f .result)
+    = rw (p .0 .truths) at (f .ensures .0) in
+    let then1 : tie.Then1 Inv-loop μ-loop = search in (
       f .ensures .1,
-      omega (arith, at-if1 .if1 .taken),
-      rw (add-one (l .d)) (rounds-step r (p .0 .passing) (a .lead .now) (a .cycle .now) (p .0 .word) (l .d) (l .near) (f .last .1 .1 .1 .1 .1 .1 .1 .0) (a .choices .now) (l .choices)
-          (f .last .1 .1 .1 .1 .1 .1 .1 .1 .0)
+      omega (arith, then1 .if1 .taken),
+      rw (add-one (l .d)) (rounds-step r (p .0 .passing) (a .lead .now) (a .cycle .now) (p .0 .word) (l .d) (l .near) _ (a .choices .now) (l .choices) _
           (l .work) (c .places-before .result) (f .result) (l .inv .2) S (c .places-before .ensures .0) (c .places-before .ensures .1 (a .lead .now) (a .cycle .now) refl refl)),
     )
 
 returns-2 : tie.Need-returns-2 Inv-loop μ-loop
 returns-2 c =
-    let start = c .before .before .before .before .before .before .before .before .before .before in
-    let l = c .before .before .loop in let a = start .args in let p = start .pre in
-    let r = ruleOf (a .rule .head) (a .counts .now) (a .clauses .now) in
-    let e : l .d ≡ places (a .lead .now) (a .cycle .now) * a .rule .head .n = omega (arith, l .inv .1, c .if1 .left) in
+    let at-loop : At-loop = search in let l = at-loop .loop in let start : Start = search in let a = start .args in let p = start .pre in
+    let r = ruleOf (a .rule .head) (a .counts .now) (a .clauses .now) in let e : l .d ≡ places (a .lead .now) (a .cycle .now) * a .rule .head .n = omega (arith, l .inv .1, c .if1 .left) in
     rw (p .0 .truths)
     (rounds-end r (p .0 .passing) (a .lead .now) (a .cycle .now) (p .0 .word) (l .d) (l .near) (l .work) (a .choices .now) (l .choices) (l .inv .2)
     (λ x k. ap (λ (d : ℕ). nearAt r (a .lead .now) (a .cycle .now) (truthMasks r (a .lead .now) (a .cycle .now)) d x) e))
 
 pub choose-rejecting-spec : {M : Type 1} → statement M
-choose-rejecting-spec =
-    tie.close (tie.spec
-    Inv-loop μ-loop (λ c. omega (arith, c .before .before .before .before .before .before .before .pre .0 .few-places))
-    (λ c. omega (arith, c .before .before .before .before .before .before .before .pre .0 .few-places)) shr-work loop-holds mul-if1
-    (λ c. c .before .before .before .loop .inv .2 .long) returns round-requires places-before-requires add-d loop-less loop-again
-    (λ c. c .before .before .loop .inv .2 .long) returns-2)
+choose-rejecting-spec = tie.close (tie.spec
+    Inv-loop μ-loop (λ c. let start : Start = search in omega (arith, start .pre .0 .few-places))
+    (λ c. let start : Start = search in omega (arith, start .pre .0 .few-places)) shr-work loop-holds mul-if1
+    (λ c. let at-loop : At-loop = search in at-loop .loop .inv .2 .long) returns round-requires places-before-requires add-d
+    (λ c. let then1 : tie.Then1 Inv-loop μ-loop = search in omega (arith, then1 .if1 .taken)) loop-again
+    (λ c. let at-loop : At-loop = search in at-loop .loop .inv .2 .long) returns-2)

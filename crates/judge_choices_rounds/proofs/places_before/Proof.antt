@@ -6,13 +6,11 @@ use Rattle.judge_choices_rounds.proofs.places_before.Statement.{stateme
 use Rattle.judge_choices_rounds.proofs.places_before.Tie as tie
 
 returns : tie.Need-returns
-returns c =
-    let a = c .before .args in let p = c .before .pre in
+returns c = let a = c .before .args in let p = c .before .pre in
     (before-lt (a .changed) (a .end) (p .2), λ u v x y k l b. before-none u v (a .changed) (a .at) (a .end) k x y (clear (a .changed) (a .at) (c .if1 .taken)) b)
 
 returns-2 : tie.Need-returns-2
-returns-2 c =
-    let a = c .before .args in let p = c .before .pre in
+returns-2 c = let a = c .before .args in let p = c .before .pre in
     (before-low (a .changed) (a .end) (omega arith) (p .1) (p .2), λ u v x y k l b. before-some u v (a .changed) (a .at) (a .end) k x y (omega arith) (p .1) b)
 
 pub places-before-spec : {M : Type 1} → statement M

@@ -25,22 +25,17 @@ loop-holds c = (omega arith, refl)
 
 loop-again : tie.Need-loop-again Inv-loop μ-loop
 loop-again c =
-    let l = c .before .before .before .loop in let a = c .before .before .before .before .args in
+    let at-loop : tie.At-loop Inv-loop μ-loop = search in let l = at-loop .loop in let start : tie.Start Inv-loop μ-loop = search in let a = start .args in
     let f : Set = λ t. eqb (ones (getD (a .reach .now) t 0)) (a .height) in (
       omega arith,
-      ⊎-elim
-          (λ w. w .1 ∙ rw (l .inv .1) (put-yes (l .q) f (omega arith) (eq-eqb _ _ (w .0 .taken))))
+      ⊎-elim (λ w. w .1 ∙ rw (l .inv .1) (put-yes (l .q) f (omega arith) (eq-eqb _ _ (w .0 .taken))))
           (λ w. w .1 ∙ l .inv .1 ∙ put-no (l .q) f (ne-eqb _ _ (w .0 .left)))
           (c .if1 .came),
     )
 
 returns : tie.Need-returns Inv-loop μ-loop
-returns c =
-    let l = c .before .loop in
-    let e : l .q ≡ c .before .before .args .n = omega arith in
-    rw (sym e) (l .inv .1)
+returns c = let l = c .before .loop in let start : tie.Start Inv-loop μ-loop = search in let e : l .q ≡ start .args .n = omega arith in rw (sym e) (l .inv .1)
 
 pub at-height-spec : {M : Type 1} → statement M
-at-height-spec =
-    tie.close (tie.spec
+at-height-spec = tie.close (tie.spec
     Inv-loop μ-loop loop-holds (λ c. omega arith) (λ c. omega arith) (λ c. omega arith) (λ c. omega arith) (λ c. omega arith) loop-again returns)

@@ -10,11 +10,8 @@ use Rattle.live_arrive.proofs.can_try.Tie as tie
 
 returns-9 : tie.Need-returns-9
 returns-9 c =
-    let start = c .before .before .before .before .before .before .before .before .before .before .before .before .before .before in
-    let a = start .args in
-    let w = words-in-length (a .codes .now) in
-    λ e.
-    record {
+    let start : tie.Start = search in let a = start .args in let w = words-in-length (a .codes .now) in let at-codes-pass : tie.After-codes-pass = search in
+    λ e. record {
       known = omega arith;
       free = omega arith;
       long = omega arith;
@@ -22,13 +19,12 @@ returns-9 c =
       whole-transitions = omega arith;
       few = omega arith;
       fits = omega arith;
-      coded = c .before .before .codes-pass .ensures (not-false (c .before .before .codes-pass .result) (c .before .if8 .left));
+      coded = at-codes-pass .codes-pass .ensures (not-false (at-codes-pass .codes-pass .result) (c .before .if8 .left));
       flags = λ y l. c .has-flags .ensures e y (omega arith);
     }
 
 pub can-try-spec : {M : Type 1} → statement M
-can-try-spec =
-    tie.close (tie.spec
+can-try-spec = tie.close (tie.spec
     (λ c e. absurd (true-false (sym e))) (λ c κs. search needs) (λ c e. absurd (true-false (sym e))) (λ c e. absurd (true-false (sym e)))
     (λ c e. absurd (true-false (sym e))) (λ c e. absurd (true-false (sym e))) (λ c e. absurd (true-false (sym e)))
     (λ c e. absurd (true-false (sym e))) (λ c κs. search needs) (λ c e. absurd (true-false (sym e))) (λ c κs. search needs) returns-9)

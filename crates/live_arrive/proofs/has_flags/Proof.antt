@@ -17,12 +17,10 @@ abbrev μ-loop : tie.MeasureT-loop
 μ-loop n state most₀ i₀ most i = n - i
 
 loop-again : tie.Need-loop-again Inv-loop μ-loop
-loop-again c =
-    let l = c .before .before .before .loop in let e = c .larger .ensures in
+loop-again c = let at-loop : tie.At-loop Inv-loop μ-loop = search in let l = at-loop .loop in let e = c .larger .ensures in
     (omega arith, λ j k. by-cases (ℕ-discrete j (l .i)) (λ x. rw x (e .1)) (λ x. omega (arith, l .inv .1 j (omega arith), e .0)))
 
 pub has-flags-spec : {M : Type 1} → statement M
-has-flags-spec =
-    tie.close (tie.spec
+has-flags-spec = tie.close (tie.spec
     Inv-loop μ-loop (λ c. (omega arith, λ j l. absurd (omega arith))) (λ c. omega arith) (λ c. omega arith) (λ c κs. search needs) (λ c. omega arith)
     (λ c. omega arith) loop-again (λ c. let l = c .before .loop in λ e y k. omega (arith, l .inv .1 y (omega arith), leb-true)))

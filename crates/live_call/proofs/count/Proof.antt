@@ -11,14 +11,11 @@ use Rattle.live_call.proofs.count.Statement.{statement}
 use Rattle.live_call.proofs.count.Tie as tie
 
 show-set-requires : tie.Need-show-set-requires
-show-set-requires c κs =
-    let w = words-in-length (c .before .before .before .before .args .codes .now) in
-    (omega (arith, c .before .before .before .before .pre .0), omega (arith, c .before .before .before .before .pre .1))
+show-set-requires c κs = let start : tie.Start = search in let w = words-in-length (start .args .codes .now) in (omega (arith, start .pre .0), omega (arith, start .pre .1))
 
 returns : tie.Need-returns
 returns c =
-    let start = c .before .before .before .before .before .before .before .before in let a = start .args in
-    let e = c .before .before .before .show-set .ensures in
+    let start : tie.Start = search in let a = start .args in let at-show-set : tie.After-show-set = search in let e = at-show-set .show-set .ensures in
     counted (length (wordsIn (a .codes .now))) (length (a .codes .now) / 8) (a .state .now) (a .set .now) (a .state .now) _ _ _ (sym (words-in-length (a .codes .now))) refl (e .0) (e .1)
     (c .number-at .ensures)
 

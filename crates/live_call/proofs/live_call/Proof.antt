@@ -8,24 +8,22 @@ use Rattle.live_call.proofs.live_call.Tie as tie
 
 call-read-requires : tie.Need-call-read-requires
 call-read-requires c κs =
-    let start = c .before .before .before .before .before .before .before .before .before .before .before .before in
-    let f = start .args .file .now in let l = c .before .before .before .before .l .given .0 .0 in
-    head-low f l (served f l (sym (c .before .before .before .before .before .before .read-rule .ensures) ∙ c .before .before .before .before .l .given .1))
+    let start : tie.Start = search in let f = start .args .file .now in let at-l : tie.After-l = search in let l = at-l .l .given .0 .0 in let at-read-rule : tie.After-read-rule = search in
+    head-low f l (served f l (sym (at-read-rule .read-rule .ensures) ∙ at-l .l .given .1))
 
 returns : tie.Need-returns
 returns c =
-    let at-l = c .before .before .before .before .before .before .before .before .before in let at-read-rule = at-l .before .before in
-    let start = at-read-rule .before .before .before .before .before .before in let a = start .args in let l = at-l .l .given .0 .0 in
-    file-served (a .call) (a .file .now) (a .codes .now) (a .transitions .now) (a .state .now) (a .set .now) l _ _ (c .before .before .before .before .call-read .result)
-    (served (a .file .now) l (sym (at-read-rule .read-rule .ensures) ∙ at-l .l .given .1)) (c .before .before .before .before .call-read .ensures)
+    let start : tie.Start = search in let a = start .args in let at-l : tie.After-l = search in let l = at-l .l .given .0 .0 in let at-read-rule : tie.After-read-rule = search in
+    let at-call-read : tie.After-call-read = search in
+    file-served (a .call) (a .file .now) (a .codes .now) (a .transitions .now) (a .state .now) (a .set .now) l _ _ (at-call-read .call-read .result)
+    (served (a .file .now) l (sym (at-read-rule .read-rule .ensures) ∙ at-l .l .given .1)) (at-call-read .call-read .ensures)
 
 returns-2 : tie.Need-returns-2
 returns-2 c =
-    let a = c .before .before .before .before .before .before .before .before .before .args in let k = c .before .row .given .0 .0 in
-    let t = turned-away (a .file .now) k (sym (c .before .before .before .read-rule .ensures) ∙ c .before .row .given .1) in
+    let start : tie.Start = search in let a = start .args in let k = c .before .row .given .0 .0 in let at-read-rule : tie.After-read-rule = search in
+    let t = turned-away (a .file .now) k (sym (at-read-rule .read-rule .ensures) ∙ c .before .row .given .1) in
     file-refused (a .call) (a .file .now) (a .codes .now) (a .transitions .now) (a .state .now) (a .set .now) k (λ e. t .1 (t .0 ∙ e)) (sym (t .0))
 
 pub live-call-spec : {M : Type 1} → statement M
-live-call-spec =
-    tie.close (tie.spec
+live-call-spec = tie.close (tie.spec
     (λ c κs. search needs) (λ c. search needs) call-read-requires (λ c. search needs) (λ c. search needs) (λ c. search needs) returns returns-2)

@@ -8,10 +8,10 @@ returns : tie.Need-returns
 returns c = let a = c .before .args in state-short (a .n) (a .state .now) (a .room) (omega (arith, c .if1 .taken))
 
 returns-2 : tie.Need-returns-2
-returns-2 c = let a = c .before .before .args in set-short (a .n) (a .state .now) (a .room) (omega (arith, c .before .if1 .left)) (omega (arith, c .if2 .taken))
+returns-2 c = let start : tie.Start = search in let a = start .args in set-short (a .n) (a .state .now) (a .room) (omega (arith, c .before .if1 .left)) (omega (arith, c .if2 .taken))
 
 returns-3 : tie.Need-returns-3
-returns-3 c = let a = c .before .before .args in long-enough (a .n) (a .state .now) (a .room) (omega (arith, c .before .if1 .left)) (omega (arith, c .if2 .left))
+returns-3 c = let start : tie.Start = search in let a = start .args in long-enough (a .n) (a .state .now) (a .room) (omega (arith, c .before .if1 .left)) (omega (arith, c .if2 .left))
 
 pub slice-row-spec : {M : Type 1} → statement M
 slice-row-spec = tie.close (tie.spec returns returns-2 returns-3)

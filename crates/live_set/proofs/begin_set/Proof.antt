@@ -14,15 +14,17 @@ use Rattle.live_set.proofs.begin_set.Statement.{statement}
 use Rattle.live_set.proofs.begin_set.Tie as tie
 
 abbrev Inv-loop : tie.InvT-loop
-Inv-loop initial codes set₀ i₀ set i =
-    (length set ≡ length set₀) × (i ≤ length set₀) × ((j : ℕ) → j < i → getD set j 0 ≡ one (begun (λ c. bit c initial) (getD (wordsIn codes) j 0)))
+Inv-loop initial codes set₀ i₀ set i = (length set ≡ length set₀) × (i ≤ length set₀) × ((j : ℕ) → j < i → getD set j 0 ≡ one (begun (λ c. bit c initial) (getD (wordsIn codes) j 0)))
 
 abbrev μ-loop : tie.MeasureT-loop
 μ-loop initial codes set₀ i₀ set i = length set₀ - i
 
+abbrev Start : Type 0
+Start = tie.Start Inv-loop μ-loop
+
 loop-again : tie.Need-loop-again Inv-loop μ-loop
 loop-again c =
-    let a = c .before .before .before .before .before .before .args in let l = c .before .before .before .loop in
+    let start : Start = search in let a = start .args in let at-loop : tie.At-loop Inv-loop μ-loop = search in let l = at-loop .loop in
     let code : c .before .word-at .result ≡ getD (wordsIn (a .codes .now)) (l .i) 0 =
     c .before .word-at .ensures ∙ sym (words-in-at (a .codes .now) (l .i) (omega (arith, words-in-length (a .codes .now)))) in (
       length-set (l .set) (l .i) _ ∙ l .inv .0,
@@ -32,16 +34,14 @@ loop-again c =
     )
 
 returns : tie.Need-returns Inv-loop μ-loop
-returns c =
-    let a = c .before .before .before .before .args in let l = c .before .loop in
-    initial-end (a .initial) (wordsIn (a .codes .now)) (l .set) (l .inv .0 ∙ c .before .before .before .before .pre .1)
-    (λ j k. l .inv .2 j (omega (arith, l .inv .0, c .before .before .before .before .pre .1)))
+returns c = let start : Start = search in let a = start .args in let l = c .before .loop in
+    initial-end (a .initial) (wordsIn (a .codes .now)) (l .set) (l .inv .0 ∙ start .pre .1)
+    (λ j k. l .inv .2 j (omega (arith, l .inv .0, start .pre .1)))
 
 pub begin-set-spec : {M : Type 1} → statement M
-begin-set-spec =
-    tie.close (tie.spec
+begin-set-spec = tie.close (tie.spec
     Inv-loop μ-loop (λ c. (refl, omega arith, λ j l. absurd (omega arith)))
-    (λ c. omega (arith, words-in-length (c .before .before .before .before .args .codes .now)))
-    (λ c κs. omega (arith, words-in-length (c .before .before .before .before .args .codes .now)))
-    (λ c κs. c .before .before .before .before .before .pre .0) (λ c. omega arith) (λ c. omega arith) (λ c. omega arith) loop-again
+    (λ c. let start : Start = search in omega (arith, words-in-length (start .args .codes .now)))
+    (λ c κs. let start : Start = search in omega (arith, words-in-length (start .args .codes .now)))
+    (λ c κs. let start : Start = search in start .pre .0) (λ c. omega arith) (λ c. omega arith) (λ c. omega arith) loop-again
     (λ c. c .before .loop .inv .0) returns)

@@ -6,7 +6,6 @@ use Rattle.live_set.proofs.first_byte.Statement.{statement}
 use Rattle.live_set.proofs.first_byte.Tie as tie
 
 pub first-byte-spec : {M : Type 1} → statement M
-first-byte-spec =
-    tie.close (tie.spec
+first-byte-spec = tie.close (tie.spec
     (λ c κs. search needs) (λ c. ap one (sym (c .if1 .taken) ∙ c .before .is-initial .ensures))
     (λ c. ap one (sym (c .if1 .left) ∙ c .before .is-initial .ensures)))

@@ -16,14 +16,13 @@ abbrev μ-loop : tie.MeasureT-loop
 
 loop-again : tie.Need-loop-again Inv-loop μ-loop
 loop-again c =
-    let l = c .before .before .before .loop in
-    (omega arith, through-next flagOf (c .before .before .before .before .before .args .set .now) (l .set) (l .i) _ (omega arith) (c .flag .ensures) (l .inv .1))
+    let at-loop : tie.At-loop Inv-loop μ-loop = search in let l = at-loop .loop in let start : tie.Start Inv-loop μ-loop = search in
+    (omega arith, through-next flagOf (start .args .set .now) (l .set) (l .i) _ (omega arith) (c .flag .ensures) (l .inv .1))
 
 returns : tie.Need-returns Inv-loop μ-loop
-returns c = let l = c .before .loop in through-end flagOf (c .before .before .before .args .set .now) (l .set) (l .i) (omega arith) (l .inv .1)
+returns c = let l = c .before .loop in let start : tie.Start Inv-loop μ-loop = search in through-end flagOf (start .args .set .now) (l .set) (l .i) (omega arith) (l .inv .1)
 
 pub flag-all-spec : {M : Type 1} → statement M
-flag-all-spec =
-    tie.close (tie.spec
+flag-all-spec = tie.close (tie.spec
     Inv-loop μ-loop (λ c. (omega arith, through-start flagOf (c .before .args .set .now))) (λ c. omega arith) (λ c κs. search needs)
     (λ c. omega arith) (λ c. omega arith) (λ c. omega arith) loop-again (λ c. c .before .loop .inv .1 .long) returns)

@@ -17,24 +17,21 @@ abbrev μ-loop : tie.MeasureT-loop
 μ-loop n state set₀ members₀ i₀ set members i = n - i
 
 loop-holds : tie.Need-loop-holds Inv-loop μ-loop
-loop-holds c = let a = c .before .before .args in (omega arith, showing-start (isIn (setBytes (a .state .now))) (a .set .now))
+loop-holds c = let start : tie.Start Inv-loop μ-loop = search in let a = start .args in (omega arith, showing-start (isIn (setBytes (a .state .now))) (a .set .now))
 
 loop-again : tie.Need-loop-again Inv-loop μ-loop
 loop-again c =
-    let a = c .before .before .before .before .before .before .args in let l = c .before .before .before .loop in
+    let start : tie.Start Inv-loop μ-loop = search in let a = start .args in let at-loop : tie.At-loop Inv-loop μ-loop = search in let l = at-loop .loop in
     let e = c .flag .ensures ∙ shown-at (a .state .now) (l .i) in
     (omega arith, showing-next (isIn (setBytes (a .state .now))) (a .set .now) (l .set) (l .members) (l .i) (c .flag .result) (omega arith) e (l .inv .1))
 
 returns : tie.Need-returns Inv-loop μ-loop
 unfolding shown membersOf
 returns c =
-    let a = c .before .before .before .before .args in let l = c .before .loop in
-    let all : l .i ≡ a .n = omega arith in
-    let s = rw all at (l .inv .1) in
-    (showing-end (isIn (setBytes (a .state .now))) (a .set .now) (l .set) (l .members) (a .n) (c .before .before .before .before .pre .1) s, s .counted)
+    let start : tie.Start Inv-loop μ-loop = search in let a = start .args in let l = c .before .loop in let all : l .i ≡ a .n = omega arith in let s = rw all at (l .inv .1) in
+    (showing-end (isIn (setBytes (a .state .now))) (a .set .now) (l .set) (l .members) (a .n) (start .pre .1) s, s .counted)
 
 pub show-set-spec : {M : Type 1} → statement M
-show-set-spec =
-    tie.close (tie.spec
+show-set-spec = tie.close (tie.spec
     Inv-loop μ-loop loop-holds (λ c. omega arith) (λ c. omega arith) (λ c κs. search needs) (λ c. omega arith) (λ c. omega arith) (λ c. omega arith)
     (λ c. omega arith) (λ c. omega arith) loop-again (λ c. c .before .loop .inv .1 .long) returns)

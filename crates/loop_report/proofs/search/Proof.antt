@@ -18,58 +18,52 @@ use Rattle.loop_report.proofs.search.Tie as tie
 
 -- the rule that is searched
 abbrev rule : (c : tie.After-start-of) → Rule
-rule c = let a = c .before .before .before .before .before .before .before .args in ruleOf (a .h) (a .counts .now) (a .clauses .now)
+rule c = let start : tie.Start = search in let a = start .args in ruleOf (a .h) (a .counts .now) (a .clauses .now)
 
 formed : (c : tie.After-start-of) → WellFormed (rule c)
-formed c = let start = c .before .before .before .before .before .before .before in start .pre
+formed c = let start : tie.Start = search in start .pre
 
 -- where its loop begins
 begun : (c : tie.After-start-of) → Begins (rule c .n) (successorsOf (rule c)) (rule c .accepting) (c .start-of .result)
-begun c = rw (c .before .before .before .successor-table .ensures) at (c .start-of .ensures)
+begun c = let at-successor-table : tie.After-successor-table = search in rw (at-successor-table .successor-table .ensures) at (c .start-of .ensures)
 
 abbrev slice : (c : tie.After-start-of) → List ℕ
-slice c = c .before .before .before .before .before .before .before .args .out .now
+slice c = let start : tie.Start = search in start .args .out .now
 
 cast-accepting : tie.Need-cast-accepting
-cast-accepting c =
-    let a = c .before .before .before .before .before .args in
-    omega (arith, accepting-small (ruleOf (a .h) (a .counts .now) (a .clauses .now)) (c .before .before .before .before .before .pre))
+cast-accepting c = let start : tie.Start = search in let a = start .args in omega (arith, accepting-small (ruleOf (a .h) (a .counts .now) (a .clauses .now)) (start .pre))
 
 returns : tie.Need-returns
-returns c = let p = c .before in report-none (loopOf (rule p)) (slice p) (found-none (rule p) (p .start-of .result) (begun p) (c .if1 .taken))
+returns c = let at-start-of : tie.After-start-of = search in
+    report-none (loopOf (rule at-start-of)) (slice at-start-of) (found-none (rule at-start-of) (at-start-of .start-of .result) (begun at-start-of) (c .if1 .taken))
 
 returns-2 : tie.Need-returns-2
 returns-2 c =
-    let p = c .before .before in
-    let l : p .start-of .result .further < rule p .n = omega (arith, c .before .if1 .left) in
-    report-short (loopOf (rule p)) (slice p) (omega (arith, found-length (rule p) (p .start-of .result) (begun p) l, c .if2 .taken))
+    let at-start-of : tie.After-start-of = search in let l : at-start-of .start-of .result .further < rule at-start-of .n = omega (arith, c .before .if1 .left) in
+    report-short (loopOf (rule at-start-of)) (slice at-start-of) (omega (arith, found-length (rule at-start-of) (at-start-of .start-of .result) (begun at-start-of) l, c .if2 .taken))
 
 others-of-requires : tie.Need-others-of-requires
-others-of-requires c κs =
-    let p = c .before .before .before in
-    let l : p .start-of .result .further < rule p .n = omega (arith, c .before .before .if1 .left) in
-    (formed p .few-states, found-state (rule p) (p .start-of .result) (begun p) l, formed p .accepting-states)
+others-of-requires c κs = let at-start-of : tie.After-start-of = search in let else1 : tie.Else1 = search in
+    let l : at-start-of .start-of .result .further < rule at-start-of .n = omega (arith, else1 .if1 .left) in
+    (formed at-start-of .few-states, found-state (rule at-start-of) (at-start-of .start-of .result) (begun at-start-of) l, formed at-start-of .accepting-states)
 
 write-loop-requires : tie.Need-write-loop-requires
-write-loop-requires c κs =
-    let p = c .before .before .before .before .before in
-    let l : p .start-of .result .further < rule p .n = omega (arith, c .before .before .before .before .if1 .left) in (
-      (formed p .few-states, found-state (rule p) (p .start-of .result) (begun p) l, omega (arith, c .before .before .before .if2 .left)),
-      rw (p .before .before .before .successor-table .ensures, c .before .others-of .ensures) (found-begins (rule p) (p .start-of .result) (begun p) l),
+write-loop-requires c κs = let at-start-of : tie.After-start-of = search in let else1 : tie.Else1 = search in
+    let l : at-start-of .start-of .result .further < rule at-start-of .n = omega (arith, else1 .if1 .left) in let else2 : tie.Else2 = search in
+    let at-successor-table : tie.After-successor-table = search in (
+      (formed at-start-of .few-states, found-state (rule at-start-of) (at-start-of .start-of .result) (begun at-start-of) l, omega (arith, else2 .if2 .left)),
+      rw (at-successor-table .successor-table .ensures, c .before .others-of .ensures) (found-begins (rule at-start-of) (at-start-of .start-of .result) (begun at-start-of) l),
     )
 
 returns-3 : tie.Need-returns-3
 returns-3 c =
-    let at-if1 = c .before .before .before .before .before .before .before in let earlier = at-if1 .before in
-    let p = earlier in let s = p .start-of .result in
-    let l : s .further < rule p .n = omega (arith, at-if1 .if1 .left) in
-    let w = rw (p .before .before .before .successor-table .ensures, c .before .before .before .before .others-of .ensures) at (c .before .before .write-loop .ensures) in
-    let k = found-length (rule p) s (begun p) l in
-    let f = report-states (loopOf (rule p)) (slice p) (s .further) k (omega (arith, c .before .before .before .before .before .before .if2 .left)) in
-    (f .0, w ∙ ap (λ (ps : List ℕ). ps ++ drop (s .further + 1) (slice p)) (sym (found-route (rule p) s (begun p) l)) ∙ f .1)
+    let at-successor-table : tie.After-successor-table = search in let at-start-of : tie.After-start-of = search in let s = at-start-of .start-of .result in let else1 : tie.Else1 = search in
+    let l : s .further < rule at-start-of .n = omega (arith, else1 .if1 .left) in let at-others-of : tie.After-others-of = search in let at-write-loop : tie.After-write-loop = search in
+    let w = rw (at-successor-table .successor-table .ensures, at-others-of .others-of .ensures) at (at-write-loop .write-loop .ensures) in
+    let k = found-length (rule at-start-of) s (begun at-start-of) l in let else2 : tie.Else2 = search in let f = report-states (loopOf (rule at-start-of)) (slice at-start-of) (s .further) k (omega (arith, else2 .if2 .left)) in
+    (f .0, w ∙ ap (λ (ps : List ℕ). ps ++ drop (s .further + 1) (slice at-start-of)) (sym (found-route (rule at-start-of) s (begun at-start-of) l)) ∙ f .1)
 
 pub search-spec : {M : Type 1} → statement M
-search-spec =
-    tie.close (tie.spec
+search-spec = tie.close (tie.spec
     (λ c κs. search needs) cast-accepting (λ c κs. search needs) returns returns-2 others-of-requires write-loop-requires (λ c. search needs)
     (λ c. search needs) returns-3)

@@ -13,34 +13,31 @@ use Rattle.loop_search.proofs.next_state.Statement.{statement}
 use Rattle.loop_search.proofs.next_state.Tie as tie
 
 cast-result : tie.Need-cast-result
-cast-result c = omega (
+cast-result c = let start : tie.Start = search in let at-ways-to : tie.After-ways-to = search in omega (
   arith,
-  trailing-le 8 (bitAnd (getD (c .before .before .before .before .args .es .now) (c .before .before .before .before .args .q) 0)
-      (c .before .before .before .ways-to .result .any)),
+  trailing-le 8 (bitAnd (getD (start .args .es .now) (start .args .q) 0)
+      (at-ways-to .ways-to .result .any)),
 )
 
 returns : tie.Need-returns
 returns c =
-    let a = c .before .before .before .before .args in let w = c .before .before .before .before .pre in
-    let v = c .before .before .before .ways-to in let x = getD (a .es .now) (a .q) 0 in
-    let m = ways (a .n) (a .es .now) (bit (a .others)) (a .t) (a .k) .any in
-    let e : v .result .any ≡ m = ap (λ (y : Ways). y .any) (v .ensures) in
-    rw (e, c .before .before .if1 .taken) (least-common (a .n) x m (w .0 .0) (rw (c .before .before .if1 .taken) at (w .1)))
+    let start : tie.Start = search in let a = start .args in let w = start .pre in let at-ways-to : tie.After-ways-to = search in let v = at-ways-to .ways-to in
+    let x = getD (a .es .now) (a .q) 0 in let m = ways (a .n) (a .es .now) (bit (a .others)) (a .t) (a .k) .any in let e : v .result .any ≡ m = ap (λ (y : Ways). y .any) (v .ensures) in
+    let then1 : tie.Then1 = search in rw (e, then1 .if1 .taken) (least-common (a .n) x m (w .0 .0) (rw (then1 .if1 .taken) at (w .1)))
 
 cast-result-2 : tie.Need-cast-result-2
-cast-result-2 c = omega (
+cast-result-2 c = let start : tie.Start = search in let at-ways-to : tie.After-ways-to = search in omega (
   arith,
-  trailing-le 8 (bitAnd (getD (c .before .before .before .before .args .es .now) (c .before .before .before .before .args .q) 0)
-      (c .before .before .before .ways-to .result .mixed)),
+  trailing-le 8 (bitAnd (getD (start .args .es .now) (start .args .q) 0)
+      (at-ways-to .ways-to .result .mixed)),
 )
 
 returns-2 : tie.Need-returns-2
 returns-2 c =
-    let a = c .before .before .before .before .args in let w = c .before .before .before .before .pre in
-    let v = c .before .before .before .ways-to in let x = getD (a .es .now) (a .q) 0 in
-    let m = ways (a .n) (a .es .now) (bit (a .others)) (a .t) (a .k) .mixed in
-    let e : v .result .mixed ≡ m = ap (λ (y : Ways). y .mixed) (v .ensures) in
-    rw (e, c .before .before .if1 .left) (least-common (a .n) x m (w .0 .0) (rw (c .before .before .if1 .left) at (w .1)))
+    let start : tie.Start = search in let a = start .args in let w = start .pre in let at-ways-to : tie.After-ways-to = search in let v = at-ways-to .ways-to in
+    let x = getD (a .es .now) (a .q) 0 in let m = ways (a .n) (a .es .now) (bit (a .others)) (a .t) (a .k) .mixed in
+    let e : v .result .mixed ≡ m = ap (λ (y : Ways). y .mixed) (v .ensures) in let else1 : tie.Else1 = search in
+    rw (e, else1 .if1 .left) (least-common (a .n) x m (w .0 .0) (rw (else1 .if1 .left) at (w .1)))
 
 pub next-state-spec : {M : Type 1} → statement M
 next-state-spec = tie.close (tie.spec (λ c κs. search needs) (λ c. search needs) cast-result returns (λ c. search needs) cast-result-2 returns-2)

@@ -7,15 +7,15 @@ use Rattle.mulgreddi.proofs.mulgreddi_check.Tie as tie
 
 returns : tie.Need-returns
 returns c =
-    checked-served (c .before .before .before .before .before .before .args .file .now) (c .before .before .layout .given .0 .0) _
-    (sym (c .before .before .before .before .read-rule .ensures) ∙ c .before .before .layout .given .1) (c .checked .ensures)
+    let start : tie.Start = search in let at-layout : tie.After-layout = search in let at-read-rule : tie.After-read-rule = search in
+    checked-served (start .args .file .now) (at-layout .layout .given .0 .0) _
+    (sym (at-read-rule .read-rule .ensures) ∙ at-layout .layout .given .1) (c .checked .ensures)
 
 returns-2 : tie.Need-returns-2
-returns-2 c =
-    checked-refused (c .before .before .before .before .before .before .args .file .now) (c .before .before .row .given .0 .0) _
-    (sym (c .before .before .before .before .read-rule .ensures) ∙ c .before .before .row .given .1) (c .refused .ensures)
+returns-2 c = let start : tie.Start = search in let at-row : tie.After-row = search in let at-read-rule : tie.After-read-rule = search in
+    checked-refused (start .args .file .now) (at-row .row .given .0 .0) _
+    (sym (at-read-rule .read-rule .ensures) ∙ at-row .row .given .1) (c .refused .ensures)
 
 pub mulgreddi-check-spec : {M : Type 1} → statement M
-mulgreddi-check-spec =
-    tie.close (tie.spec
+mulgreddi-check-spec = tie.close (tie.spec
     (λ c κs. search needs) (λ c. search needs) (λ c κs. search needs) (λ c. search needs) (λ c κs. search needs) returns returns-2)

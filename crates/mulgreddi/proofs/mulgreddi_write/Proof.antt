@@ -6,7 +6,6 @@ use Rattle.mulgreddi.proofs.mulgreddi_write.Statement.{statement}
 use Rattle.mulgreddi.proofs.mulgreddi_write.Tie as tie
 
 pub mulgreddi-write-spec : {M : Type 1} → statement M
-mulgreddi-write-spec =
-    tie.close (tie.spec
+mulgreddi-write-spec = tie.close (tie.spec
     (λ c κs. search needs) (λ c κs. search needs) (λ c. search needs)
-    (λ c. let w = c .before .before .before .write-rule .ensures in (c .written .ensures ∙ ap writtenAnswer (w .0), w .1)))
+    (λ c. let at-write-rule : tie.After-write-rule = search in let w = at-write-rule .write-rule .ensures in (c .written .ensures ∙ ap writtenAnswer (w .0), w .1)))

@@ -7,11 +7,11 @@ use Rattle.mulgreddi_answers_tables.proofs.live.Tie as tie
 
 returns : tie.Need-returns
 unfolding liveAnswer
-returns c = c .served .ensures ∙ sym (ap liveAnswer (c .before .before .answer .given .1))
+returns c = let at-answer : tie.After-answer = search in c .served .ensures ∙ sym (ap liveAnswer (at-answer .answer .given .1))
 
 returns-2 : tie.Need-returns-2
 unfolding liveAnswer
-returns-2 c = c .refused .ensures ∙ sym (ap liveAnswer (c .before .before .answer2 .given .1))
+returns-2 c = let at-answer2 : tie.After-answer2 = search in c .refused .ensures ∙ sym (ap liveAnswer (at-answer2 .answer2 .given .1))
 
 pub live-spec : {M : Type 1} → statement M
 live-spec = tie.close (tie.spec (λ c. search needs) (λ c κs. search needs) (λ c. search needs) (λ c κs. search needs) returns returns-2)

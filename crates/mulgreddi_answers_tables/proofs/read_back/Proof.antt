@@ -7,11 +7,11 @@ use Rattle.mulgreddi_answers_tables.proofs.read_back.Tie as tie
 
 returns : tie.Need-returns
 unfolding hoaReadAnswer
-returns c = c .served .ensures ∙ sym (ap hoaReadAnswer (c .before .before .answer .given .1))
+returns c = let at-answer : tie.After-answer = search in c .served .ensures ∙ sym (ap hoaReadAnswer (at-answer .answer .given .1))
 
 returns-2 : tie.Need-returns-2
 unfolding hoaReadAnswer
-returns-2 c = c .refused .ensures ∙ sym (ap hoaReadAnswer (c .before .before .answer2 .given .1))
+returns-2 c = let at-answer2 : tie.After-answer2 = search in c .refused .ensures ∙ sym (ap hoaReadAnswer (at-answer2 .answer2 .given .1))
 
 pub read-back-spec : {M : Type 1} → statement M
 read-back-spec = tie.close (tie.spec (λ c. search needs) (λ c κs. search needs) (λ c. search needs) (λ c κs. search needs) returns returns-2)

@@ -15,9 +15,8 @@ returns-2 c = c .served2 .ensures ∙ sym (ap verdictAnswer (c .before .enum-tol
 
 returns-3 : tie.Need-returns-3
 unfolding verdictAnswer
-returns-3 c = c .refused .ensures ∙ sym (ap verdictAnswer (c .before .before .answer .given .1))
+returns-3 c = let at-answer : tie.After-answer = search in c .refused .ensures ∙ sym (ap verdictAnswer (at-answer .answer .given .1))
 
 pub verdict-spec : {M : Type 1} → statement M
-verdict-spec =
-    tie.close (tie.spec
+verdict-spec = tie.close (tie.spec
     (λ c. search needs) (λ c κs. search needs) (λ c. search needs) (λ c κs. search needs) (λ c. search needs) (λ c κs. search needs) returns returns-2 returns-3)

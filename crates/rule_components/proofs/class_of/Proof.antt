@@ -18,18 +18,16 @@ abbrev μ-loop : tie.MeasureT-loop
 
 loop-again : tie.Need-loop-again Inv-loop μ-loop
 loop-again c =
-    let l = c .before .before .before .loop in let es = c .before .before .before .before .args .reach .now in
-    let q = c .before .before .before .before .args .q in let p = l .p in
-    let f : ℕ → Bool = λ t. bit (getD es q 0) t && bit (getD es t 0) q in (
+    let at-loop : tie.At-loop Inv-loop μ-loop = search in let l = at-loop .loop in let start : tie.Start Inv-loop μ-loop = search in let es = start .args .reach .now in
+    let q = start .args .q in let p = l .p in let f : ℕ → Bool = λ t. bit (getD es q 0) t && bit (getD es t 0) q in (
       omega arith,
       rw (l .inv .1) (put-bit p _ f (omega arith) (omega (arith, both-bits (getD es q 0) (getD es p 0) p q))),
     )
 
 returns : tie.Need-returns Inv-loop μ-loop
-returns c = let e : c .before .loop .p ≡ c .before .before .args .n = omega arith in rw (sym e) (c .before .loop .inv .1)
+returns c = let start : tie.Start Inv-loop μ-loop = search in let e : c .before .loop .p ≡ start .args .n = omega arith in rw (sym e) (c .before .loop .inv .1)
 
 pub class-of-spec : {M : Type 1} → statement M
-class-of-spec =
-    tie.close (tie.spec
+class-of-spec = tie.close (tie.spec
     Inv-loop μ-loop (λ c. unfold mask in (omega arith, refl)) (λ c. omega arith) (λ c. omega arith) (λ c. omega arith) (λ c. omega arith)
     (λ c. omega arith) (λ c. omega arith) (λ c. omega arith) (λ c. omega arith) (λ c. omega arith) (λ c. omega arith) loop-again returns)

@@ -24,49 +24,45 @@ Inv-loop h counts clauses reach masks₀ count₀ q₀ masks count q = (q ≤ h 
 abbrev μ-loop : tie.MeasureT-loop
 μ-loop h counts clauses reach masks₀ count₀ q₀ masks count q = h .n - q
 
+abbrev Start : Type 0
+Start = tie.Start Inv-loop μ-loop
+
+abbrev At-loop : Type 0
+At-loop = tie.At-loop Inv-loop μ-loop
+
 class-of-requires : tie.Need-class-of-requires Inv-loop μ-loop
-class-of-requires c κs =
-    let start = c .before .before .before .before .before .before .before in
-    let w = start .pre .few-states in (omega arith, omega arith)
+class-of-requires c κs = let start : Start = search in let w = start .pre .few-states in (omega arith, omega arith)
 
 array-write-masks : tie.Need-array-write-masks Inv-loop μ-loop
 array-write-masks c =
-    let start = c .before .before .before .before .before .before .before .before .before in
-    let l = c .before .before .before .before .before .loop in let a = start .args in let w = start .pre in
+    let at-loop : At-loop = search in let l = at-loop .loop in let start : Start = search in let a = start .args in let w = start .pre in
     omega (arith, count-few (ruleOf (a .h) (a .counts .now) (a .clauses .now)) (w .few-states) (l .q), w .few-states)
 
 add-count : tie.Need-add-count Inv-loop μ-loop
 add-count c =
-    let start = c .before .before .before .before .before .before .before .before .before in
-    let l = c .before .before .before .before .before .loop in let a = start .args in let w = start .pre in
+    let at-loop : At-loop = search in let l = at-loop .loop in let start : Start = search in let a = start .args in let w = start .pre in
     omega (arith, count-few (ruleOf (a .h) (a .counts .now) (a .clauses .now)) (w .few-states) (l .q), w .few-states)
 
 loop-again : tie.Need-loop-again Inv-loop μ-loop
 loop-again c =
-    let start = c .before .before .before .before .before .before .before .before .before in
-    let l = c .before .before .before .before .before .loop in let a = start .args in let w = start .pre in
-    let r = ruleOf (a .h) (a .counts .now) (a .clauses .now) in
+    let at-loop : At-loop = search in let l = at-loop .loop in let start : Start = search in let a = start .args in let w = start .pre in
+    let r = ruleOf (a .h) (a .counts .now) (a .clauses .now) in let at-closures : tie.After-closures Inv-loop μ-loop = search in
     let e : c .before .class-of .result ≡ classBy (closuresOf r) (a .h .n) (l .q) =
-    c .before .class-of .ensures ∙ ap (λ (t : List ℕ). classBy t (a .h .n) (l .q)) (c .before .before .before .before .before .before .closures .ensures) in
-    let f : Found r (w .few-states) (l .q) (l .count) (l .masks) = record { number = l .inv .1; laid = l .inv .2 } in
+    c .before .class-of .ensures ∙ ap (λ (t : List ℕ). classBy t (a .h .n) (l .q)) (at-closures .closures .ensures) in
+    let f : Found r (w .few-states) (l .q) (l .count) (l .masks) = record { number = l .inv .1; laid = l .inv .2 } in let then1 : tie.Then1 Inv-loop μ-loop = search in
     let g : Found r (w .few-states) (l .q + 1) (c .if2 .count) (c .if2 .masks) = ⊎-elim
-    (λ s. turn-taken r (w .few-states) (l .q) (c .before .class-of .result) (l .count) (c .if2 .count) (l .masks) (c .if2 .masks) (c .before .before .before .if1 .taken) e f _ (s .0 .taken) (s .1)
+    (λ s. turn-taken r (w .few-states) (l .q) (c .before .class-of .result) (l .count) (c .if2 .count) (l .masks) (c .if2 .masks) (then1 .if1 .taken) e f _ (s .0 .taken) (s .1)
     (omega arith) (s .2))
-    (λ s. turn-passed r (w .few-states) (l .q) (c .before .class-of .result) (l .count) (c .if2 .count) (l .masks) (c .if2 .masks) (c .before .before .before .if1 .taken) e f (s .0 .left) (s .1)
-    (s .2))
-    (c .if2 .came) in
-    (omega arith, g .number, g .laid)
+    (λ s. turn-passed r (w .few-states) (l .q) (c .before .class-of .result) (l .count) (c .if2 .count) (l .masks) (c .if2 .masks) (then1 .if1 .taken) e f (s .0 .left) (s .1)
+    (s .2)) (c .if2 .came) in (omega arith, g .number, g .laid)
 
 returns : tie.Need-returns Inv-loop μ-loop
 returns c =
-    let l = c .before .before .loop in let a = c .before .before .before .before .before .before .args in
-    let w = c .before .before .before .before .before .before .pre in
-    let r = ruleOf (a .h) (a .counts .now) (a .clauses .now) in
-    let e : l .q ≡ a .h .n = omega arith in
+    let at-loop : At-loop = search in let l = at-loop .loop in let start : Start = search in let a = start .args in let w = start .pre in
+    let r = ruleOf (a .h) (a .counts .now) (a .clauses .now) in let e : l .q ≡ a .h .n = omega arith in
     laid-out r (w .few-states) (l .masks) (l .count) (l .inv .2) (l .inv .1 ∙ ap (λ (x : ℕ). countOf x (isSmallest r)) e)
 
 pub split-spec : {M : Type 1} → statement M
-split-spec =
-    tie.close (tie.spec
-    Inv-loop μ-loop (λ c κs. c .before .before .pre) (λ c. unfold countOf in (omega arith, refl, table-none _)) class-of-requires
+split-spec = tie.close (tie.spec
+    Inv-loop μ-loop (λ c κs. let start : Start = search in start .pre) (λ c. unfold countOf in (omega arith, refl, table-none _)) class-of-requires
     (λ c. omega (arith, trailing-le 8 (c .class-of .result))) array-write-masks add-count (λ c. omega arith) (λ c. omega arith) loop-again returns)

@@ -16,19 +16,17 @@ abbrev μ-loop : tie.MeasureT-loop
 
 loop-again : tie.Need-loop-again Inv-loop μ-loop
 loop-again c =
-    let l = c .before .before .loop in
-    let counts = c .before .before .before .args .counts .now in (
+    let at-loop : tie.At-loop Inv-loop μ-loop = search in let l = at-loop .loop in let start : tie.Start Inv-loop μ-loop = search in let counts = start .args .counts .now in (
       omega arith,
       omega (arith, c .shared-slice-known .given (l .k)),
       ap (λ (x : ℕ). x + getD counts (l .k) 0) (l .inv .2) ∙ sym (sum-take counts (l .k) (omega arith)),
     )
 
 returns : tie.Need-returns Inv-loop μ-loop
-returns c = let e : c .before .loop .k ≡ c .before .before .args .i = omega arith in rw (sym e) (c .before .loop .inv .2)
+returns c = let start : tie.Start Inv-loop μ-loop = search in let e : c .before .loop .k ≡ start .args .i = omega arith in rw (sym e) (c .before .loop .inv .2)
 
 pub clauses-before-spec : {M : Type 1} → statement M
-clauses-before-spec =
-    tie.close (tie.spec
+clauses-before-spec = tie.close (tie.spec
     Inv-loop μ-loop (λ c. unfold sum in (omega arith, omega arith, refl)) (λ c. omega arith)
-    (λ c. omega (arith, c .shared-slice-known .given (c .before .before .loop .k)))
-    (λ c. omega (arith, c .shared-slice-known .given (c .before .before .loop .k))) (λ c. omega arith) (λ c. omega arith) loop-again returns)
+    (λ c. let at-loop : tie.At-loop Inv-loop μ-loop = search in omega (arith, c .shared-slice-known .given (at-loop .loop .k)))
+    (λ c. let at-loop : tie.At-loop Inv-loop μ-loop = search in omega (arith, c .shared-slice-known .given (at-loop .loop .k))) (λ c. omega arith) (λ c. omega arith) loop-again returns)

@@ -11,43 +11,38 @@ use Rattle.rule_entries.proofs.entry_of.Statement.{statement}
 use Rattle.rule_entries.proofs.entry_of.Tie as tie
 
 -- the entry's number is below that of the counts
-number : (c : tie.After-struct-known) → c .before .before .before .args .q * c .before .before .before .args .h .s + c .before .before .before .args .a < length
-    (c .before .before .before .args .counts .now)
-number c = let p = c .before .before .before .pre in entry-number _ (p .0) _ _ (p .1) (p .2)
+number : (c : tie.After-struct-known) → let start : tie.Start = search in start .args .q * start .args .h .s + start .args .a < length
+    (start .args .counts .now)
+number c = let start : tie.Start = search in let p = start .pre in entry-number _ (p .0) _ _ (p .1) (p .2)
 
-few : (c : tie.After-struct-known) → length (c .before .before .before .args .counts .now) ≤ 128
-few c = let a = c .before .before .before .args in entries-few (ruleOf (a .h) (a .counts .now) (a .clauses .now)) (c .before .before .before .pre .0)
+few : (c : tie.After-struct-known) → let start : tie.Start = search in length (start .args .counts .now) ≤ 128
+few c = let start : tie.Start = search in let a = start .args in entries-few (ruleOf (a .h) (a .counts .now) (a .clauses .now)) (start .pre .0)
 
 -- its clauses are among the rule's
-fits : (c : tie.After-shared-slice-known3) → c .before .clauses-before .result + getD (c .before .before .before .before .before .args .counts .now)
-    (c .before .before .before .before .before .args .q * c .before .before .before .before .before .args .h .s + c .before .before .before .before .before .args .a) 0 ≤ length
-    (c .before .before .before .before .before .args .clauses .now)
-fits c =
-    let a = c .before .before .before .before .before .args in let p = c .before .before .before .before .before .pre in
+fits : (c : tie.After-shared-slice-known3) → let start : tie.Start = search in
+    c .before .clauses-before .result + getD (start .args .counts .now) (start .args .q * start .args .h .s + start .args .a) 0 ≤ length
+    (start .args .clauses .now)
+fits c = let start : tie.Start = search in let a = start .args in let p = start .pre in
     rw (c .before .clauses-before .ensures) (entry-fits (ruleOf (a .h) (a .counts .now) (a .clauses .now)) (p .0) (a .q) (a .a) (p .1) (p .2))
 
 cast-end : tie.Need-cast-end
-cast-end c = omega (
+cast-end c = let start : tie.Start = search in omega (
   arith,
-  c .shared-slice-known3 .given (c .before .before .before .before .before .args .q * c .before .before .before .before .before .args .h .s + c .before .before .before
-      .before .before .args .a),
+  c .shared-slice-known3 .given (start .args .q * start .args .h .s + start .args .a),
 )
 
 add-end : tie.Need-add-end
-add-end c = let h = fits c in let k = c .before .before .before .before .before .good in omega arith
+add-end c = let h = fits c in let start : tie.Start = search in let k = start .good in omega arith
 
 returns : tie.Need-returns
 returns c =
-    let a = c .before .before .before .before .before .before .args in
-    let r = ruleOf (a .h) (a .counts .now) (a .clauses .now) in
-    let p = c .before .before .before .before .before .before .pre in
-    let n : c .before .before .clauses-before .result + getD (a .counts .now) (a .q * a .h .s + a .a) 0 - c .before .before .clauses-before .result ≡ getD (a .counts .now) (a .q * a .h .s + a .a) 0
-    = omega arith in
-    rw (n, c .before .before .clauses-before .ensures) (sym (entry-part r (p .0) _ _ (p .1) (p .2)))
+    let start : tie.Start = search in let a = start .args in let r = ruleOf (a .h) (a .counts .now) (a .clauses .now) in let p = start .pre in
+    let at-clauses-before : tie.After-clauses-before = search in
+    let n : at-clauses-before .clauses-before .result + getD (a .counts .now) (a .q * a .h .s + a .a) 0 - at-clauses-before .clauses-before .result ≡ getD (a .counts .now) (a .q * a .h .s + a .a) 0
+    = omega arith in rw (n, at-clauses-before .clauses-before .ensures) (sym (entry-part r (p .0) _ _ (p .1) (p .2)))
 
 pub entry-of-spec : {M : Type 1} → statement M
-entry-of-spec =
-    tie.close (tie.spec
-    (λ c. omega (arith, number c, few c)) (λ c. omega (arith, number c, few c, c .before .before .before .pre .0 .few-states))
-    (λ c κs. (omega (arith, number c), omega (arith, number c, few c))) (λ c. number (c .before .before)) cast-end add-end (λ c. search needs)
+entry-of-spec = tie.close (tie.spec
+    (λ c. omega (arith, number c, few c)) (λ c. let start : tie.Start = search in omega (arith, number c, few c, start .pre .0 .few-states))
+    (λ c κs. (omega (arith, number c), omega (arith, number c, few c))) (λ c. number (search)) cast-end add-end (λ c. search needs)
     (λ c. search needs) (λ c. let h = fits c in search needs) returns)

@@ -20,20 +20,17 @@ abbrev μ-loop : tie.MeasureT-loop
 
 loop-again : tie.Need-loop-again Inv-loop μ-loop
 loop-again c =
-    let l = c .before .before .loop in
-    let cl = c .before .before .before .args .clauses .now in (
+    let at-loop : tie.At-loop Inv-loop μ-loop = search in let l = at-loop .loop in let start : tie.Start Inv-loop μ-loop = search in let cl = start .args .clauses .now in (
       omega arith,
       or-lt 8 (l .found) (getD cl (l .j) 0) (l .inv .1) (omega (arith, c .shared-slice-known .given (l .j))),
       λ p. sym (named-next cl (l .j) (l .found) p (omega arith)) ∙ l .inv .2 p,
     )
 
 returns : tie.Need-returns Inv-loop μ-loop
-returns c =
-    let l = c .before .loop in let cl = c .before .before .args .clauses .now in
+returns c = let l = c .before .loop in let start : tie.Start Inv-loop μ-loop = search in let cl = start .args .clauses .now in
     mask-of 8 8 (l .found) (named cl) (omega arith) (l .inv .1) (λ q k. sym (named-all cl (l .j) (l .found) q (omega arith)) ∙ l .inv .2 q) (λ q k m. absurd (omega arith))
 
 pub named-in-spec : {M : Type 1} → statement M
-named-in-spec =
-    tie.close (tie.spec
+named-in-spec = tie.close (tie.spec
     Inv-loop μ-loop (λ c. (omega arith, omega arith, λ p. rw (bit-none p))) (λ c. omega arith) (λ c. omega arith) (λ c. omega arith) loop-again
     returns)

@@ -15,12 +15,9 @@ Inv-loop counts starts₀ total₀ i₀ starts total i =
 abbrev μ-loop : tie.MeasureT-loop
 μ-loop counts starts₀ total₀ i₀ starts total i = length counts - i
 
-loop-holds : tie.Need-loop-holds Inv-loop μ-loop
-loop-holds c = unfold sum in (refl, omega arith, refl, omega arith, λ j l. absurd (omega arith))
-
 loop-again : tie.Need-loop-again Inv-loop μ-loop
 loop-again c =
-    let l = c .before .before .loop in let xs = c .before .before .before .args .counts .now in
+    let at-loop : tie.At-loop Inv-loop μ-loop = search in let l = at-loop .loop in let start : tie.Start Inv-loop μ-loop = search in let xs = start .args .counts .now in
     let k = c .before .loop-test .taken in (
       length-set (l .starts) (l .i) (l .total) ∙ l .inv .0,
       omega arith,
@@ -30,9 +27,8 @@ loop-again c =
     )
 
 pub starts-of-spec : {M : Type 1} → statement M
-starts-of-spec =
-    tie.close (tie.spec
-    Inv-loop μ-loop loop-holds (λ c. omega arith) (λ c. omega arith) (λ c. omega arith)
-    (λ c. omega (arith, c .shared-slice-known .given (c .before .before .loop .i)))
-    (λ c. omega (arith, c .shared-slice-known .given (c .before .before .loop .i))) (λ c. omega arith) (λ c. omega arith) loop-again
+starts-of-spec = tie.close (tie.spec
+    Inv-loop μ-loop (λ c. unfold sum in (refl, omega arith, refl, omega arith, λ j l. absurd (omega arith))) (λ c. omega arith) (λ c. omega arith) (λ c. omega arith)
+    (λ c. let at-loop : tie.At-loop Inv-loop μ-loop = search in omega (arith, c .shared-slice-known .given (at-loop .loop .i)))
+    (λ c. let at-loop : tie.At-loop Inv-loop μ-loop = search in omega (arith, c .shared-slice-known .given (at-loop .loop .i))) (λ c. omega arith) (λ c. omega arith) loop-again
     (λ c. record { at = λ i l. c .before .loop .inv .4 i (omega arith) }))

@@ -20,28 +20,24 @@ abbrev μ-loop : tie.MeasureT-loop
 μ-loop es q found₀ found = 256 - found
 
 loop-holds : tie.Need-loop-holds Inv-loop μ-loop
-loop-holds c =
-    let q = c .args .q in
-    let e = shl-one 8 q (c .pre) in (rw e (pow-lt (c .pre)), rw e (alone-bit q), λ X x k t l y. rw (sym (alone-only q t (rw e at y))) x)
+loop-holds c = let q = c .args .q in let e = shl-one 8 q (c .pre) in (rw e (pow-lt (c .pre)), rw e (alone-bit q), λ X x k t l y. rw (sym (alone-only q t (rw e at y))) x)
 
 returns : tie.Need-returns Inv-loop μ-loop
 returns c =
-    let es = c .before .before .before .args .es .now in let l = c .before .before .loop in
+    let start : tie.Start Inv-loop μ-loop = search in let es = start .args .es .now in let at-loop : tie.At-loop Inv-loop μ-loop = search in let l = at-loop .loop in
     let stable : bitOr (l .found) (c .before .union-over .result) ≡ l .found = omega (arith, c .if1 .taken) in
     record { holds = l .inv .1; closed = round-closed es (l .found) (c .before .union-over .result) (c .before .union-over .ensures) stable; least = l .inv .2 }
 
 loop-less : tie.Need-loop-less Inv-loop μ-loop
-loop-less c =
-    let l = c .before .before .loop in let u = c .before .union-over .result in
+loop-less c = let at-loop : tie.At-loop Inv-loop μ-loop = search in let l = at-loop .loop in let u = c .before .union-over .result in
     omega (arith, or-ge (l .found) u, or-lt 8 (l .found) u (l .inv .0) (c .before .union-over .ok), c .if1 .left)
 
 loop-again : tie.Need-loop-again Inv-loop μ-loop
 loop-again c =
-    let es = c .before .before .before .args .es .now in let l = c .before .before .loop in
-    let u = c .before .union-over .result in
-    let e = c .before .union-over .ensures in (
+    let start : tie.Start Inv-loop μ-loop = search in let es = start .args .es .now in let at-loop : tie.At-loop Inv-loop μ-loop = search in let l = at-loop .loop in
+    let u = c .before .union-over .result in let e = c .before .union-over .ensures in (
       or-lt 8 (l .found) u (l .inv .0) (c .before .union-over .ok),
-      round-keeps es (l .found) u e (c .before .before .before .args .q) (l .inv .1),
+      round-keeps es (l .found) u e (start .args .q) (l .inv .1),
       λ X x k. round-least es (l .found) u e X k (l .inv .2 X x k),
     )
 

@@ -18,25 +18,22 @@ abbrev μ-loop : tie.MeasureT-loop
 
 loop-again : tie.Need-loop-again Inv-loop μ-loop
 loop-again c =
-    let start = c .before .before .before .before .before .before .before .before .before in let a = start .args in
-    let l = c .before .before .before .before .before .before .loop in
-    let K = c .before .before .keep .ensures in (
+    let start : tie.Start Inv-loop μ-loop = search in let a = start .args in let at-loop : tie.At-loop Inv-loop μ-loop = search in let l = at-loop .loop in
+    let at-keep : tie.After-keep Inv-loop μ-loop = search in let K = at-keep .keep .ensures in (
       omega arith,
       omega (arith, K .most),
       K .long ∙ l .inv .2,
-      K .rest ∙ drop-later (l .out) (a .out .now) (l .k) (c .before .before .keep .result) (K .fewest) (l .inv .3),
+      K .rest ∙ drop-later (l .out) (a .out .now) (l .k) (at-keep .keep .result) (K .fewest) (l .inv .3),
       ap (λ (f : List ℕ). tidyFrom 8 (a .clauses .now) f (drop (l .i + 1) (a .clauses .now))) (K .front)
           ∙ sym (tidy-next (a .clauses .now) (take (l .k) (l .out)) (l .i) (omega arith)) ∙ l .inv .4,
     )
 
 returns : tie.Need-returns Inv-loop μ-loop
-returns c =
-    let a = c .before .before .before .before .args in let l = c .before .loop in
+returns c = let start : tie.Start Inv-loop μ-loop = search in let a = start .args in let l = c .before .loop in
     filled-by (tidyEntry 8 (a .clauses .now)) (l .out) (a .out .now) (l .k) (omega arith)
     (sym (tidy-end (a .clauses .now) (take (l .k) (l .out)) (l .i) (omega arith)) ∙ l .inv .4) (l .inv .3)
 
 pub tidy-entry-spec : {M : Type 1} → statement M
-tidy-entry-spec =
-    tie.close (tie.spec
+tidy-entry-spec = tie.close (tie.spec
     Inv-loop μ-loop (λ c. unfold tidyEntry in (omega arith, omega arith, refl, refl, refl)) (λ c. omega arith) (λ c κs. omega arith)
     (λ c. omega arith) (λ c. omega arith) loop-again (λ c. c .before .loop .inv .2) returns)

@@ -6,7 +6,6 @@ use Rattle.set_masks.proofs.full.Statement.{statement}
 use Rattle.set_masks.proofs.full.Tie as tie
 
 pub full-spec : {M : Type 1} → statement M
-full-spec =
-    tie.close (tie.spec
+full-spec = tie.close (tie.spec
     (λ c. search needs) (λ c. omega (arith, full-pos (c .args .n) (c .pre))) (λ c. omega (arith, full-fits (c .args .n) (c .pre)))
     (λ c. full-is (c .args .n) (c .pre)))

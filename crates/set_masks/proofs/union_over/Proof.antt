@@ -20,18 +20,16 @@ below c = least-lt 8 (c .before .loop .left) (omega arith) (omega arith)
 
 loop-again : tie.Need-loop-again Inv-loop μ-loop
 loop-again c =
-    let l = c .before .before .loop in (
+    let at-loop : tie.At-loop Inv-loop μ-loop = search in let l = at-loop .loop in let start-place : tie.Start Inv-loop μ-loop = search in (
       omega (arith, and-le-r (l .left) (l .left - 1)),
-      turn (c .before .before .before .args .es .now) (c .before .before .before .args .m) (l .r) (l .left) (omega arith) (omega arith) (l .inv .1),
+      turn (start-place .args .es .now) (start-place .args .m) (l .r) (l .left) (omega arith) (omega arith) (l .inv .1),
     )
 
 returns : tie.Need-returns Inv-loop μ-loop
-returns c =
-    let l = c .before .loop in
-    done (c .before .before .args .es .now) (c .before .before .args .m) (l .r) (l .left) (c .loop-test .left) (l .inv .1)
+returns c = let l = c .before .loop in let start-place : tie.Start Inv-loop μ-loop = search in
+    done (start-place .args .es .now) (start-place .args .m) (l .r) (l .left) (c .loop-test .left) (l .inv .1)
 
 pub union-over-spec : {M : Type 1} → statement M
-union-over-spec =
-    tie.close (tie.spec
+union-over-spec = tie.close (tie.spec
     Inv-loop μ-loop (λ c. (omega arith, start (c .args .es .now) (c .args .m))) (λ c. omega (arith, below c)) (λ c. omega (arith, below c))
-    (λ c. omega arith) (λ c. omega (arith, and-le-r (c .before .before .loop .left) (c .before .before .loop .left - 1))) loop-again returns)
+    (λ c. omega arith) (λ c. let at-loop : tie.At-loop Inv-loop μ-loop = search in omega (arith, and-le-r (at-loop .loop .left) (at-loop .loop .left - 1))) loop-again returns)

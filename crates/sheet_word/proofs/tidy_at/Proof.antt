@@ -15,25 +15,21 @@ sound : (c : tie.Start) → SoundAt (c .args .sheet .now) (c .args .at) (c .pre 
 sound c = sound-at (c .args .sheet .now) (c .args .at) (c .pre .1 .0) (c .pre .0) (c .pre .1 .1)
 
 lead-length-requires : tie.Need-lead-length-requires
-lead-length-requires c κs =
-    let s = sound (c .before .before .before .before .before .before .before) in (
-      simp (length-take, length-drop) (omega (arith, s)),
-      rw (c .before .before .cycle-length .ensures) (cycle-max [] _ (simp (length-take, length-drop) (omega (arith, s)))),
-      simp (length-take, length-drop) (omega (arith, s)),
-    )
+lead-length-requires c κs = let s = sound (search) in let at-cycle-length : tie.After-cycle-length = search in (
+  simp (length-take, length-drop) (omega (arith, s)),
+  rw (at-cycle-length .cycle-length .ensures) (cycle-max [] _ (simp (length-take, length-drop) (omega (arith, s)))),
+  simp (length-take, length-drop) (omega (arith, s)),
+)
 
 returns : tie.Need-returns
-returns c = tidy-there (sound (c .before .before .before .before .before .before .before .before)) (c .before .before .before .cycle-length .ensures) (c .lead-length .ensures)
+returns c = let at-cycle-length : tie.After-cycle-length = search in tidy-there (sound (search)) (at-cycle-length .cycle-length .ensures) (c .lead-length .ensures)
 
 pub tidy-at-spec : {M : Type 1} → statement M
-tidy-at-spec =
-    tie.close (tie.spec
-    (λ c. search needs) (λ c. search needs) (λ c. omega (arith, c .shared-slice-known2 .given (c .before .before .args .at)))
-    (λ c. omega (arith, sound (c .before .before))) (λ c. search needs) (λ c. sound (c .before .before .before) .two)
-    (λ c. omega (arith, c .shared-slice-known3 .given (c .before .before .before .args .at + 1)))
-    (λ c. omega (arith, sound (c .before .before .before))) (λ c. omega arith) (λ c. omega arith)
-    (λ c. omega (arith, sound (c .before .before .before)))
-    (λ c κs. simp (length-take, length-drop) (omega (arith, sound (c .before .before .before .before)))) (λ c. omega arith) (λ c. omega arith)
-    (λ c. omega (arith, sound (c .before .before .before .before .before))) (λ c. omega arith) (λ c. omega arith)
-    (λ c. omega (arith, sound (c .before .before .before .before .before .before))) lead-length-requires (λ c. omega (arith, returns c .within))
-    (λ c. omega arith) returns)
+tidy-at-spec = tie.close (tie.spec
+    (λ c. search needs) (λ c. search needs) (λ c. let start : tie.Start = search in omega (arith, c .shared-slice-known2 .given (start .args .at)))
+    (λ c. omega (arith, sound (search))) (λ c. search needs) (λ c. sound (search) .two)
+    (λ c. let start : tie.Start = search in omega (arith, c .shared-slice-known3 .given (start .args .at + 1)))
+    (λ c. omega (arith, sound (search))) (λ c. omega arith) (λ c. omega arith) (λ c. omega (arith, sound (search)))
+    (λ c κs. simp (length-take, length-drop) (omega (arith, sound (search)))) (λ c. omega arith) (λ c. omega arith)
+    (λ c. omega (arith, sound (search))) (λ c. omega arith) (λ c. omega arith)
+    (λ c. omega (arith, sound (search))) lead-length-requires (λ c. omega (arith, returns c .within)) (λ c. omega arith) returns)

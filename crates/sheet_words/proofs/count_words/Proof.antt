@@ -14,13 +14,12 @@ abbrev μ-loop : tie.MeasureT-loop
 
 loop-again : tie.Need-loop-again Inv-loop μ-loop
 loop-again c =
-    let l = c .before .before .loop in let e = c .next-word .ensures in
-    (omega (arith, e), e .within, counted-next (c .before .before .before .before .args .sheet .now) (l .at) (c .next-word .result) (l .n) e (l .inv .2))
+    let at-loop : tie.At-loop Inv-loop μ-loop = search in let l = at-loop .loop in let e = c .next-word .ensures in let start : tie.Start Inv-loop μ-loop = search in
+    (omega (arith, e), e .within, counted-next (start .args .sheet .now) (l .at) (c .next-word .result) (l .n) e (l .inv .2))
 
 returns : tie.Need-returns Inv-loop μ-loop
-returns c = let l = c .before .loop in counted-end (c .before .before .before .args .sheet .now) (l .at) (l .n) (omega arith) (l .inv .2)
+returns c = let l = c .before .loop in let start : tie.Start Inv-loop μ-loop = search in counted-end (start .args .sheet .now) (l .at) (l .n) (omega arith) (l .inv .2)
 
 pub count-words-spec : {M : Type 1} → statement M
-count-words-spec =
-    tie.close (tie.spec
+count-words-spec = tie.close (tie.spec
     Inv-loop μ-loop (λ c. (omega arith, omega arith, omega arith)) (λ c κs. omega arith) (λ c. omega arith) (λ c. omega arith) loop-again returns)

@@ -5,6 +5,5 @@ use Rattle.slice_text.proofs.put_byte.Statement.{statement}
 use Rattle.slice_text.proofs.put_byte.Tie as tie
 
 pub put-byte-spec : {M : Type 1} → statement M
-put-byte-spec =
-    tie.close (tie.spec
+put-byte-spec = tie.close (tie.spec
     (λ c. search needs) (λ c. search needs) (λ c. search needs) (λ c. put-one (c .args .out .now) (c .args .at) (c .args .byte) (c .pre)))

@@ -20,18 +20,15 @@ Inv-loop acodes left right nb second count marks₀ changed₀ k₀ marks change
 abbrev μ-loop : tie.MeasureT-loop
 μ-loop acodes left right nb second count marks₀ changed₀ k₀ marks changed k = count - k
 
-loop-holds : tie.Need-loop-holds Inv-loop μ-loop
-loop-holds c =
-    let a = c .before .before .before .before .args in
-    (omega arith, λ n l. side-start (a .second) (a .marks .now) (c .before .before .before .before .pre .2))
+abbrev Start : Type 0
+Start = tie.Start Inv-loop μ-loop
 
-cast-c : tie.Need-cast-c Inv-loop μ-loop
-cast-c c = omega (arith, c .before .before .before .before .before .before .pre .3)
+loop-holds : tie.Need-loop-holds Inv-loop μ-loop
+loop-holds c = let start : Start = search in let a = start .args in (omega arith, λ n l. side-start (a .second) (a .marks .now) (start .pre .2))
 
 round-requires : tie.Need-round-requires Inv-loop μ-loop
 round-requires c κs =
-    let start = c .before .before .before .before .before .before .before in let a = start .args in
-    let p = start .pre in let l = c .before .before .loop in
+    let start : Start = search in let a = start .args in let p = start .pre in let at-loop : tie.At-loop Inv-loop μ-loop = search in let l = at-loop .loop in
     let n : Narrowed (CoreStep (a .nb) (a .left .now) (a .right .now)) (SparedStep (a .nb) (a .left .now) (a .right .now)) (λ s. a .count) (a .marks .now) (l .marks) =
     l .inv .1 (λ s. a .count) (omega arith) .narrowed in (
       ready-same (l .marks) (n .long) (p .0),
@@ -43,27 +40,27 @@ round-requires c κs =
 
 loop-again : tie.Need-loop-again Inv-loop μ-loop
 loop-again c =
-    let l = c .before .before .before .before .before .before .loop in (
+    let at-loop : tie.At-loop Inv-loop μ-loop = search in let l = at-loop .loop in let at-round : tie.After-round Inv-loop μ-loop = search in (
       omega arith,
       λ n h. side-next true
-          (omega arith) (l .inv .1 n h) (c .before .before .before .round .ensures) (or-now (l .changed) _ (c .if1 .taken)),
+          (omega arith) (l .inv .1 n h) (at-round .round .ensures) (or-now (l .changed) _ (c .if1 .taken)),
     )
 
 loop-again-2 : tie.Need-loop-again-2 Inv-loop μ-loop
 loop-again-2 c =
-    let l = c .before .before .before .before .before .before .loop in (
+    let at-loop : tie.At-loop Inv-loop μ-loop = search in let l = at-loop .loop in let at-round : tie.After-round Inv-loop μ-loop = search in (
       omega arith,
       λ n h. side-next
-          (l .changed) (omega arith) (l .inv .1 n h) (c .before .before .before .round .ensures) (or-before (l .changed) _ (c .if1 .left)),
+          (l .changed) (omega arith) (l .inv .1 n h) (at-round .round .ensures) (or-before (l .changed) _ (c .if1 .left)),
     )
 
 same-length : tie.Need-same-length Inv-loop μ-loop
-same-length c = c .before .loop .inv .1 (λ s. c .before .before .before .before .before .before .args .count) (omega arith) .narrowed .long
+same-length c = let start : Start = search in c .before .loop .inv .1 (λ s. start .args .count) (omega arith) .narrowed .long
 
 returns : tie.Need-returns Inv-loop μ-loop
-returns c = let e : c .before .loop .k ≡ c .before .before .before .before .before .before .args .count = omega (arith, c .before .loop .inv .0) in rw e at (c .before .loop .inv .1)
+returns c = let start : Start = search in let e : c .before .loop .k ≡ start .args .count = omega (arith, c .before .loop .inv .0) in rw e at (c .before .loop .inv .1)
 
 pub rounds-spec : {M : Type 1} → statement M
-rounds-spec =
-    tie.close (tie.spec
-    Inv-loop μ-loop loop-holds cast-c (λ c. search needs) round-requires (λ c. search needs) loop-again (λ c. search needs) loop-again-2 same-length returns)
+rounds-spec = tie.close (tie.spec
+    Inv-loop μ-loop loop-holds (λ c. let start : Start = search in omega (arith, start .pre .3)) (λ c. search needs) round-requires (λ c. search needs)
+    loop-again (λ c. search needs) loop-again-2 same-length returns)

@@ -20,36 +20,39 @@ Inv-loop acodes nb marks₀ changed₀ i₀ marks changed i = (i ≤ length acod
 abbrev μ-loop : tie.MeasureT-loop
 μ-loop acodes nb marks₀ changed₀ i₀ marks changed i = length acodes - i
 
+abbrev Start : Type 0
+Start = tie.Start Inv-loop μ-loop
+
 loop-holds : tie.Need-loop-holds Inv-loop μ-loop
-loop-holds c = (omega arith, rw (zero-mul (c .before .before .args .nb)) (settled-start 0 (c .before .before .args .marks .now)))
+loop-holds c = let start : Start = search in (omega arith, rw (zero-mul (start .args .nb)) (settled-start 0 (start .args .marks .now)))
 
 settle-row-requires : tie.Need-settle-row-requires Inv-loop μ-loop
 settle-row-requires c κs =
-    let a = c .before .before .before .before .before .args in let p = c .before .before .before .before .before .pre in
-    let l = c .before .before .loop in
+    let start : Start = search in let a = start .args in let p = start .pre in let at-loop : tie.At-loop Inv-loop μ-loop = search in let l = at-loop .loop in
     (l .inv .1 .long ∙ p .0, only-sub (a .acodes .now) (a .nb) (a .marks .now) (l .marks) (settled-sub (l .inv .1)) (p .1), omega arith)
 
 loop-again : tie.Need-loop-again Inv-loop μ-loop
 loop-again c =
-    let start = c .before .before .before .before .before .before .before .before .before in let a = start .args in
-    let l = c .before .before .before .before .before .before .loop in
+    let start : Start = search in let a = start .args in let at-loop : tie.At-loop Inv-loop μ-loop = search in let l = at-loop .loop in
+    let at-settle-row : tie.After-settle-row Inv-loop μ-loop = search in
     let step = settled-then true (omega arith) (omega arith) (l .inv .1)
-    (c .before .before .before .settle-row .ensures) (or-now (l .changed) _ (c .if1 .taken)) in
+    (at-settle-row .settle-row .ensures) (or-now (l .changed) _ (c .if1 .taken)) in
     (omega arith, rw (add-one (l .i), suc-mul (l .i) (a .nb)) step)
 
 loop-again-2 : tie.Need-loop-again-2 Inv-loop μ-loop
 loop-again-2 c =
-    let start = c .before .before .before .before .before .before .before .before .before in let a = start .args in
-    let l = c .before .before .before .before .before .before .loop in
+    let start : Start = search in let a = start .args in let at-loop : tie.At-loop Inv-loop μ-loop = search in let l = at-loop .loop in
+    let at-settle-row : tie.After-settle-row Inv-loop μ-loop = search in
     let step = settled-then (l .changed) (omega arith) (omega arith) (l .inv .1)
-    (c .before .before .before .settle-row .ensures) (or-before (l .changed) _ (c .if1 .left)) in
+    (at-settle-row .settle-row .ensures) (or-before (l .changed) _ (c .if1 .left)) in
     (omega arith, rw (add-one (l .i), suc-mul (l .i) (a .nb)) step)
 
 returns : tie.Need-returns Inv-loop μ-loop
-returns c = let e : c .before .loop .i ≡ length (c .before .before .before .before .args .acodes .now) = omega (arith, c .before .loop .inv .0) in rw e at (c .before .loop .inv .1)
+returns c =
+    let start : Start = search in let e : c .before .loop .i ≡ length (start .args .acodes .now) = omega (arith, c .before .loop .inv .0) in
+    rw e at (c .before .loop .inv .1)
 
 pub settle-spec : {M : Type 1} → statement M
-settle-spec =
-    tie.close (tie.spec
+settle-spec = tie.close (tie.spec
     Inv-loop μ-loop loop-holds (λ c. search needs) settle-row-requires (λ c. search needs) loop-again (λ c. search needs) loop-again-2
     (λ c. c .before .loop .inv .1 .long) returns)

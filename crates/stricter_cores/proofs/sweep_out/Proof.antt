@@ -17,36 +17,37 @@ Inv-loop acodes left right nb ask marks₀ marks = Marking (CoreStep nb left rig
 abbrev μ-loop : tie.MeasureT-loop
 μ-loop acodes left right nb ask marks₀ marks = 2 * length marks₀ - sum marks
 
+abbrev Start : Type 0
+Start = tie.Start Inv-loop μ-loop
+
+abbrev At-loop : Type 0
+At-loop = tie.At-loop Inv-loop μ-loop
+
+abbrev After-sweep : Type 0
+After-sweep = tie.After-sweep Inv-loop μ-loop
+
 loop-holds : tie.Need-loop-holds Inv-loop μ-loop
-loop-holds c = marking-start (c .before .before .before .before .args .marks .now)
+loop-holds c = let start : Start = search in marking-start (start .args .marks .now)
 
 sweep-requires : tie.Need-sweep-requires Inv-loop μ-loop
-sweep-requires c κs =
-    let a = c .before .before .before .before .before .before .args in
-    let p = c .before .before .before .before .before .before .pre in let l = c .before .loop in
+sweep-requires c κs = let start : Start = search in let a = start .args in let p = start .pre in let l = c .before .loop in
     (ready-same (l .marks) (l .inv .long) (p .0), p .3, p .4, record { base = a .marks .now; low = p .2; cores = p .1; marking = l .inv })
 
 loop-less : tie.Need-loop-less Inv-loop μ-loop
-loop-less c =
-    let start = c .before .before .before .before .before .before .before .before .before .before in
-    let a = start .args in
-    let m = c .before .before .before .sweep .ensures .marking (a .marks .now) (start .pre .2) (c .before .before .before .before .before .loop .inv) in
-    omega (arith, c .before .before .before .sweep .ensures .grown (c .if1 .taken), marking-sum (start .pre .2) m)
+loop-less c = let start : Start = search in let a = start .args in let at-sweep : After-sweep = search in let at-loop : At-loop = search in
+    let m = at-sweep .sweep .ensures .marking (a .marks .now) (start .pre .2) (at-loop .loop .inv) in
+    omega (arith, at-sweep .sweep .ensures .grown (c .if1 .taken), marking-sum (start .pre .2) m)
 
 loop-again : tie.Need-loop-again Inv-loop μ-loop
-loop-again c =
-    let start = c .before .before .before .before .before .before .before .before .before .before in
-    c .before .before .before .sweep .ensures .marking _ (start .pre .2) (c .before .before .before .before .before .loop .inv)
+loop-again c = let start : Start = search in let at-sweep : After-sweep = search in let at-loop : At-loop = search in
+    at-sweep .sweep .ensures .marking _ (start .pre .2) (at-loop .loop .inv)
 
 same-length : tie.Need-same-length Inv-loop μ-loop
-same-length c = c .before .before .before .sweep .ensures .long ∙ c .before .before .before .before .before .loop .inv .long
+same-length c = let at-sweep : After-sweep = search in let at-loop : At-loop = search in at-sweep .sweep .ensures .long ∙ at-loop .loop .inv .long
 
 returns : tie.Need-returns Inv-loop μ-loop
-returns c =
-    let start = c .before .before .before .before .before .before .before .before .before .before in
-    swept-end
-    (start .pre .0 .fits .marked) (start .pre .2) (c .before .before .before .before .before .loop .inv)
-    (rw (c .if1 .left) at (c .before .before .before .sweep .ensures))
+returns c = let start : Start = search in let at-loop : At-loop = search in let at-sweep : After-sweep = search in swept-end
+    (start .pre .0 .fits .marked) (start .pre .2) (at-loop .loop .inv) (rw (c .if1 .left) at (at-sweep .sweep .ensures))
 
 pub sweep-out-spec : {M : Type 1} → statement M
 sweep-out-spec = tie.close (tie.spec Inv-loop μ-loop loop-holds sweep-requires loop-less loop-again same-length returns)

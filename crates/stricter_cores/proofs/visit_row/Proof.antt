@@ -12,56 +12,44 @@ use Rattle.stricter_cores.proofs.visit_row.Statement.{statement}
 use Rattle.stricter_cores.proofs.visit_row.Tie as tie
 
 returns : tie.Need-returns
-returns c =
-    let a = c .before .before .before .before .before .before .args in
-    tried-none (a .i * a .nb) (a .i * a .nb + a .nb) (a .marks .now)
-    (λ x f t h. let z = row-out (a .acodes .now) (a .nb) (a .marks .now) (c .before .before .before .before .before .before .pre .1) (a .i)
+returns c = let start : tie.Start = search in let a = start .args in tried-none (a .i * a .nb) (a .i * a .nb + a .nb) (a .marks .now)
+    (λ x f t h. let z = row-out (a .acodes .now) (a .nb) (a .marks .now) (start .pre .1) (a .i)
     (sym (c .before .stands .ensures) ∙ not-t _ (c .if1 .taken)) x f t in omega arith)
 
 -- the pairs of the row have marks
-room : (c : tie.Else1) → c .before .before .before .before .before .before .args .i * c .before .before .before .before .before .before .args .nb + c .before .before .before .before .before
-    .before .args .nb ≤ length (c .before .before .before .before .before .before .args .marks .now)
-room c =
-    let a = c .before .before .before .before .before .before .args in
-    rw (c .before .before .before .before .before .before .pre .0 .fits .marked) (place-room (a .nb) (a .i) (length (a .acodes .now)) (c .before .before .before .before .before .before .pre .2))
+room : (c : tie.Else1) → let start : tie.Start = search in
+    start .args .i * start .args .nb + start .args .nb ≤ length (start .args .marks .now)
+room c = let start : tie.Start = search in let a = start .args in rw (start .pre .0 .fits .marked) (place-room (a .nb) (a .i) (length (a .acodes .now)) (start .pre .2))
 
 returns-2 : tie.Need-returns-2
-returns-2 c =
-    let start = c .before .before .before .before .before .before .before .before .before in let a = start .args in
-    tried-none (a .i * a .nb) (a .i * a .nb + a .nb) (a .marks .now)
+returns-2 c = let start : tie.Start = search in let a = start .args in tried-none (a .i * a .nb) (a .i * a .nb + a .nb) (a .marks .now)
     (λ x f t h. let l = c .before .next-between .ensures .none x f (omega arith) (omega arith) in omega arith)
 
 cut-low-requires : tie.Need-cut-low-requires
-cut-low-requires c κs =
-    let start = c .before .before .before .before .before .before .before .before .before in
-    ((40, refl), start .pre .0 .fits .ascend-A, omega (arith, start .pre .2, start .pre .0 .fits .few-A))
+cut-low-requires c κs = let start : tie.Start = search in ((40, refl), start .pre .0 .fits .ascend-A, omega (arith, start .pre .2, start .pre .0 .fits .few-A))
 
 sweep-row-requires : tie.Need-sweep-row-requires
 sweep-row-requires c κs =
-    let start = c .before .before .before .before .before .before .before .before .before .before .before .before in
-    let a = start .args in let p = start .pre in
-    let w = c .before .before .before .before .next-between .ensures in (
+    let start : tie.Start = search in let a = start .args in let p = start .pre in let at-next-between : tie.After-next-between = search in let w = at-next-between .next-between .ensures in
+    let at-cut-low : tie.After-cut-low = search in (
       (length (a .acodes .now), p .0),
-      c .before .before .cut-low .ensures,
+      at-cut-low .cut-low .ensures,
       omega (arith, p .2, p .0 .fits .few-A),
       w .ordered,
       w .within,
       p .3,
       p .4,
-      room (c .before .before .before .before .before .before),
+      room (search),
     )
 
 returns-3 : tie.Need-returns-3
 returns-3 c =
-    let at-next-between = c .before .before .before .before .before .before .before in
-    let a = at-next-between .before .before .before .before .before .before .before .before .args in let w = at-next-between .next-between in
-    tried-then
-    _
+    let start : tie.Start = search in let a = start .args in let at-next-between : tie.After-next-between = search in let w = at-next-between .next-between in
+    let at-sweep-row : tie.After-sweep-row = search in tried-then _
     (tried-none (a .i * a .nb) (w .result) (a .marks .now) (λ x f t h. let l = w .ensures .none x f t (omega arith) in omega arith))
-    (c .before .before .sweep-row .ensures) refl
+    (at-sweep-row .sweep-row .ensures) refl
 
 pub visit-row-spec : {M : Type 1} → statement M
-visit-row-spec =
-    tie.close (tie.spec
+visit-row-spec = tie.close (tie.spec
     (λ c κs. search needs) returns (λ c. omega (arith, room c)) (λ c. omega (arith, room c)) (λ c κs. (omega arith, room (c .before), omega arith))
     (λ c. search needs) returns-2 cut-low-requires sweep-row-requires (λ c. search needs) returns-3)

@@ -8,26 +8,25 @@ use Rattle.stricter_search.proofs.search_files.Tie as tie
 
 search-pairs-requires : tie.Need-search-pairs-requires
 search-pairs-requires c κs =
-    let at-sort-files = c .before .before .before .before .before .before .before .before .before .before .before .before .before .before .before .before in
-    let start = at-sort-files .before .before .before .before .before .before .before .before .before .before .before .before .before .before in
-    let a = start .args in let p = start .pre in let s = at-sort-files .mark-files .ensures in
-    rw (s .1 .0 .0, s .1 .0 .1, s .1 .1 .0, s .1 .1 .1) (
+    -- a path, since `rw` abstracts no place that an abbreviation gives and `search` does not reach so far
+    let at-mark-files = c .before .before .before .before .before .before .before .before .before .before .before .before .before .before .before .before in
+    let start : tie.Start = search in let a = start .args in let p = start .pre in
+    let (marks, ((acodes, amoves), (bcodes, bmoves))) = at-mark-files .mark-files .ensures in rw (acodes, amoves, bcodes, bmoves) (
       file-searchable (p .0),
       file-searchable (p .1),
-      ((λ x. bit x (a .l .head .initial)), (λ x. not (bit x (a .m .head .initial))), s .0),
+      ((λ x. bit x (a .l .head .initial)), (λ x. not (bit x (a .m .head .initial))), marks),
       p .3,
     )
 
 returns : tie.Need-returns
 returns c =
-    let at-sort-files = c .before .before .before .before .before .before .before .before .before .before .before .before .before .before .before .before .before .before .before .before .before in
-    let start = at-sort-files .before .before .before .before .before .before .before .before .before .before .before .before .before .before in
-    let a = start .args in let s = at-sort-files .mark-files .ensures in
-    let q = rw (s .1 .0 .0, s .1 .0 .1, s .1 .1 .0, s .1 .1 .1) at (c .before .before .before .before .search-pairs .ensures) in
-    (q (λ x. bit x (a .l .head .initial)) (λ x. not (bit x (a .m .head .initial))) (s .0), (s .1 .0, s .1 .1))
+    -- a path, as above
+    let at-mark-files = c .before .before .before .before .before .before .before .before .before .before .before .before .before .before .before .before .before .before .before .before .before in
+    let start : tie.Start = search in let a = start .args in let (marks, ((acodes, amoves), (bcodes, bmoves))) = at-mark-files .mark-files .ensures in
+    let at-search-pairs : tie.After-search-pairs = search in let q = rw (acodes, amoves, bcodes, bmoves) at (at-search-pairs .search-pairs .ensures) in
+    (q (λ x. bit x (a .l .head .initial)) (λ x. not (bit x (a .m .head .initial))) marks, ((acodes, amoves), (bcodes, bmoves)))
 
 pub search-files-spec : {M : Type 1} → statement M
-search-files-spec =
-    tie.close (tie.spec
+search-files-spec = tie.close (tie.spec
     (λ c κs. search needs) search-pairs-requires (λ c. search needs) (λ c. search needs) (λ c. search needs) (λ c. search needs) (λ c. search needs)
     (λ c. search needs) returns)

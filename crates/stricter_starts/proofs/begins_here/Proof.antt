@@ -14,15 +14,11 @@ use Rattle.stricter_starts.proofs.begins_here.Tie as tie
 
 returns : tie.Need-returns
 unfolding standsIn
-returns c =
-    let a = c .before .before .before .args in
-    rw (ne-eqb (coreNumber (getD (a .codes .now) (a .i) 0)) (a .i) (λ e. omega (arith, c .if1 .taken, e)))
+returns c = let start : tie.Start = search in let a = start .args in rw (ne-eqb (coreNumber (getD (a .codes .now) (a .i) 0)) (a .i) (λ e. omega (arith, c .if1 .taken, e)))
 
 returns-2 : tie.Need-returns-2
 unfolding standsIn
-returns-2 c =
-    let a = c .before .before .before .before .args in
-    c .is-initial .ensures
+returns-2 c = let start : tie.Start = search in let a = start .args in c .is-initial .ensures
     ∙ sym (ap (λ (b : Bool). b && begun (λ x. bit x (a .initial)) (getD (a .codes .now) (a .i) 0))
     (eq-eqb (coreNumber (getD (a .codes .now) (a .i) 0)) (a .i) (omega (arith, c .before .if1 .left))))
 

@@ -27,29 +27,23 @@ Inv-loop acodes bcodes ainitial binitial marks i₀ i = (i ≤ length acodes) ×
 abbrev μ-loop : tie.MeasureT-loop
 μ-loop acodes bcodes ainitial binitial marks i₀ i = length acodes - i
 
+abbrev Start : Type 0
+Start = tie.Start Inv-loop μ-loop
+
 loop-holds : tie.Need-loop-holds Inv-loop μ-loop
-loop-holds c = (omega arith, λ y l. absurd (omega (arith, zero-mul (length (c .before .before .before .args .bcodes .now)))))
+loop-holds c = let start : Start = search in (omega arith, λ y l. absurd (omega (arith, zero-mul (length (start .args .bcodes .now)))))
 
 -- the row is one of the marks
-room : (s : tie.Start Inv-loop μ-loop) (i : ℕ) → i < length (s .args .acodes .now) → i * length (s .args .bcodes .now) + length (s .args .bcodes .now) ≤ length (s .args .marks .now)
+room : (s : Start) (i : ℕ) → i < length (s .args .acodes .now) → i * length (s .args .bcodes .now) + length (s .args .bcodes .now) ≤ length (s .args .marks .now)
 room s i l = rw (s .pre .0) (place-room (length (s .args .bcodes .now)) i (length (s .args .acodes .now)) l)
 
-mul-end : tie.Need-mul-end Inv-loop μ-loop
-mul-end c = omega (arith, room (c .before .before .before .before .before) (c .before .loop .i) (c .loop-test .taken))
-
-add-end : tie.Need-add-end Inv-loop μ-loop
-add-end c = omega (arith, room (c .before .before .before .before .before) (c .before .loop .i) (c .loop-test .taken))
-
 start-in-row-requires : tie.Need-start-in-row-requires Inv-loop μ-loop
-start-in-row-requires c κs =
-    let p = c .before .before .before .before .before .pre in
-    (p .0, p .1, c .loop-test .taken, p .2, p .3)
+start-in-row-requires c κs = let start : Start = search in let p = start .pre in (p .0, p .1, c .loop-test .taken, p .2, p .3)
 
 returns : tie.Need-returns Inv-loop μ-loop
 returns c =
-    let s = c .before .start-in-row .ensures in let l = c .before .before .before .loop in
-    let r = room (c .before .before .before .before .before .before .before) (l .i) (c .before .before .loop-test .taken) in
-    record {
+    let s = c .before .start-in-row .ensures in let at-loop : tie.At-loop Inv-loop μ-loop = search in let l = at-loop .loop in let in-loop : tie.In-loop Inv-loop μ-loop = search in
+    let r = room (search) (l .i) (in-loop .loop-test .taken) in record {
       within = omega (arith, r);
       inside = λ h. s .inside (c .if1 .taken);
       begins = λ h. s .begins (c .if1 .taken);
@@ -58,29 +52,26 @@ returns c =
 
 loop-again : tie.Need-loop-again Inv-loop μ-loop
 loop-again c =
-    let start = c .before .before .before .before .before .before .before in let s = c .before .start-in-row .ensures in
-    let l = c .before .before .before .loop in
-    let a = start .args in (
-      omega (arith, c .before .before .loop-test .taken),
+    let s = c .before .start-in-row .ensures in let at-loop : tie.At-loop Inv-loop μ-loop = search in let l = at-loop .loop in let start : Start = search in
+    let a = start .args in let in-loop : tie.In-loop Inv-loop μ-loop = search in (
+      omega (arith, in-loop .loop-test .taken),
       λ y b h e.
           let d : y < l .i * length (a .bcodes .now) + length (a .bcodes .now) = rw (add-one (l .i), suc-mul (l .i) (length (a .bcodes .now))) at b in
-          by-cases (decLt y (l .i * length (a .bcodes .now)))
-          (λ k. l .inv .1 y k h e)
+          by-cases (decLt y (l .i * length (a .bcodes .now))) (λ k. l .inv .1 y k h e)
           (λ k. s .none (omega (arith, c .if1 .left)) y (omega arith) d h e),
     )
 
 returns-2 : tie.Need-returns-2 Inv-loop μ-loop
 returns-2 c =
-    let l = c .before .loop in let s = c .before .before .before .before .before in
-    let e : l .i ≡ length (s .args .acodes .now) = omega (arith, l .inv .0, c .loop-test .left) in
+    let l = c .before .loop in let start : Start = search in let e : l .i ≡ length (start .args .acodes .now) = omega (arith, l .inv .0, c .loop-test .left) in
     record {
       within = omega arith;
       inside = λ h. absurd (omega arith);
       begins = λ h. absurd (omega arith);
-      none = λ h x k t. l .inv .1 x (rw (e, sym (s .pre .0)) (has-place (s .args .marks .now) x k)) k t;
+      none = λ h x k t. l .inv .1 x (rw (e, sym (start .pre .0)) (has-place (start .args .marks .now) x k)) k t;
     }
 
 pub first-start-spec : {M : Type 1} → statement M
-first-start-spec =
-    tie.close (tie.spec
-    Inv-loop μ-loop loop-holds mul-end add-end start-in-row-requires (λ c. search needs) returns (λ c. search needs) loop-again returns-2)
+first-start-spec = tie.close (tie.spec
+    Inv-loop μ-loop loop-holds (λ c. omega (arith, room (search) (c .before .loop .i) (c .loop-test .taken)))
+    (λ c. omega (arith, room (search) (c .before .loop .i) (c .loop-test .taken))) start-in-row-requires (λ c. search needs) returns (λ c. search needs) loop-again returns-2)

@@ -23,46 +23,46 @@ Inv-loop acodes bcodes ainitial binitial i marks row end x₀ x =
 abbrev μ-loop : tie.MeasureT-loop
 μ-loop acodes bcodes ainitial binitial i marks row end x₀ x = end - x
 
+abbrev Start : Type 0
+Start = tie.Start Inv-loop μ-loop
+
 -- the row is one of the marks
-room : (c : tie.Start Inv-loop μ-loop) → c .args .i * length (c .args .bcodes .now) + length (c .args .bcodes .now) ≤ length (c .args .marks .now)
+room : (c : Start) → c .args .i * length (c .args .bcodes .now) + length (c .args .bcodes .now) ≤ length (c .args .marks .now)
 room c = rw (c .pre .0) (place-room (length (c .args .bcodes .now)) (c .args .i) (length (c .args .acodes .now)) (c .pre .2))
 
 returns : tie.Need-returns Inv-loop μ-loop
-returns c =
-    let a = c .before .before .before .before .before .args in
+returns c = let start : Start = search in let a = start .args in
     no-start (a .acodes .now) (a .bcodes .now) (λ x. bit x (a .ainitial)) (λ x. not (bit x (a .binitial))) (a .marks .now) (a .i)
-    (c .before .before .before .before .before .pre .1) (sym (c .before .begins-here .ensures) ∙ not-t _ (c .if1 .taken))
+    (start .pre .1) (sym (c .before .begins-here .ensures) ∙ not-t _ (c .if1 .taken))
 
 loop-holds : tie.Need-loop-holds Inv-loop μ-loop
 loop-holds c =
-    let s = c .before .before .before .before .before .before in let a = s .args in
-    let n = c .next-set .ensures in (
+    let start : Start = search in let a = start .args in let n = c .next-set .ensures in let at-begins-here : tie.After-begins-here Inv-loop μ-loop = search in (
       refl,
       refl,
-      room s,
+      room start,
       n .before .ordered,
       n .within,
       n .set,
-      and-r (standsIn (a .acodes .now) (a .i)) _ (sym (c .before .before .begins-here .ensures) ∙ not-f _ (c .before .if1 .left)),
+      and-r (standsIn (a .acodes .now) (a .i)) _ (sym (at-begins-here .begins-here .ensures) ∙ not-f _ (c .before .if1 .left)),
       none-zeros (a .acodes .now) (a .bcodes .now) (λ x. bit x (a .ainitial)) (λ x. not (bit x (a .binitial))) (a .marks .now) (a .i) (n .before),
     )
 
 returns-2 : tie.Need-returns-2 Inv-loop μ-loop
 returns-2 c =
-    let start = c .before .before .before .before .before .before .before .before .before .before .before in
-    let l = c .before .before .before .before .loop in let a = start .args in
+    let at-loop : tie.At-loop Inv-loop μ-loop = search in let l = at-loop .loop in let start : Start = search in let a = start .args in
+    let in-loop : tie.In-loop Inv-loop μ-loop = search in
     found (a .acodes .now) (a .bcodes .now) (λ x. bit x (a .ainitial)) (λ x. not (bit x (a .binitial))) (a .marks .now) (a .i) (l .x)
-    (omega (arith, l .inv .0)) (omega (arith, l .inv .1)) (l .inv .5 (c .before .before .before .loop-test .taken)) (l .inv .6)
+    (omega (arith, l .inv .0)) (omega (arith, l .inv .1)) (l .inv .5 (in-loop .loop-test .taken)) (l .inv .6)
     (sym (c .before .begins-lacking .ensures) ∙ c .if2 .taken)
 
 loop-less : tie.Need-loop-less Inv-loop μ-loop
-loop-less c = omega (arith, c .next-set2 .ensures .before .ordered, c .before .before .before .before .loop-test .taken)
+loop-less c = let in-loop : tie.In-loop Inv-loop μ-loop = search in omega (arith, c .next-set2 .ensures .before .ordered, in-loop .loop-test .taken)
 
 loop-again : tie.Need-loop-again Inv-loop μ-loop
 loop-again c =
-    let start = c .before .before .before .before .before .before .before .before .before .before .before .before in
-    let l = c .before .before .before .before .before .loop in let a = start .args in
-    let n = c .next-set2 .ensures in (
+    let at-loop : tie.At-loop Inv-loop μ-loop = search in let l = at-loop .loop in let start : Start = search in let a = start .args in let n = c .next-set2 .ensures in
+    let at-begins-lacking : tie.After-begins-lacking Inv-loop μ-loop = search in (
       l .inv .0,
       l .inv .1,
       l .inv .2,
@@ -72,20 +72,17 @@ loop-again c =
       l .inv .6,
       none-next (a .acodes .now) (a .bcodes .now) (λ x. bit x (a .ainitial)) (λ x. not (bit x (a .binitial))) (a .marks .now) (a .i) (l .x)
           (omega (arith, l .inv .0)) (omega (arith, l .inv .1)) (l .inv .7)
-          (sym (c .before .before .begins-lacking .ensures) ∙ c .before .if2 .left) (n .before),
+          (sym (at-begins-lacking .begins-lacking .ensures) ∙ c .before .if2 .left) (n .before),
     )
 
 returns-3 : tie.Need-returns-3 Inv-loop μ-loop
-returns-3 c =
-    let start = c .before .before .before .before .before .before .before .before in let l = c .before .loop in
-    let a = start .args in
+returns-3 c = let l = c .before .loop in let start : Start = search in let a = start .args in
     ended (a .acodes .now) (a .bcodes .now) (λ x. bit x (a .ainitial)) (λ x. not (bit x (a .binitial))) (a .marks .now) (a .i) (l .x)
     (omega (arith, l .inv .1, l .inv .4)) (l .inv .7)
 
 pub start-in-row-spec : {M : Type 1} → statement M
-start-in-row-spec =
-    tie.close (tie.spec
-    Inv-loop μ-loop (λ c. omega (arith, room (c .before .before .before))) (λ c. omega (arith, room (c .before .before .before)))
-    (λ c κs. search needs) returns (λ c κs. (omega arith, room (c .before .before .before .before .before))) loop-holds
-    (λ c. omega (arith, c .before .loop .inv .3)) (λ c. search needs) (λ c. let l = c .before .before .loop in omega (arith, l .inv .0, l .inv .1))
+start-in-row-spec = tie.close (tie.spec
+    Inv-loop μ-loop (λ c. omega (arith, room (search))) (λ c. omega (arith, room (search)))
+    (λ c κs. search needs) returns (λ c κs. (omega arith, room (search))) loop-holds
+    (λ c. omega (arith, c .before .loop .inv .3)) (λ c. search needs) (λ c. let at-loop : tie.At-loop Inv-loop μ-loop = search in let l = at-loop .loop in omega (arith, l .inv .0, l .inv .1))
     (λ c κs. search needs) returns-2 (λ c. search needs) (λ c κs. search needs) loop-less loop-again returns-3)

@@ -19,26 +19,32 @@ Inv-loop codes₀ live n i₀ codes i = (n ≡ length codes₀) × (n < 65536) �
 abbrev μ-loop : tie.MeasureT-loop
 μ-loop codes₀ live n i₀ codes i = n - i
 
+abbrev Start : Type 0
+Start = tie.Start Inv-loop μ-loop
+
+abbrev At-loop : Type 0
+At-loop = tie.At-loop Inv-loop μ-loop
+
 returns : tie.Need-returns Inv-loop μ-loop
-returns c = let a = c .before .before .before .args in all-stay (a .codes .now) (a .live .now) (omega arith)
+returns c = let start : Start = search in let a = start .args in all-stay (a .codes .now) (a .live .now) (omega arith)
 
 loop-holds : tie.Need-loop-holds Inv-loop μ-loop
-loop-holds c = let a = c .before .before .before .args in (refl, omega arith, omega arith, filled-start (given (a .codes .now) (a .live .now)) 0 (a .codes .now))
+loop-holds c =
+    let start : Start = search in let a = start .args in (refl, omega arith, omega arith, filled-start (given (a .codes .now) (a .live .now)) 0 (a .codes .now))
 
 slice-read-told : tie.Need-slice-read-told Inv-loop μ-loop
-slice-read-told c = let l = c .before .before .loop in omega (arith, l .inv .3 .long, l .inv .0)
+slice-read-told c = let at-loop : At-loop = search in let l = at-loop .loop in omega (arith, l .inv .3 .long, l .inv .0)
 
 shared-slice-read-told : tie.Need-shared-slice-read-told Inv-loop μ-loop
 shared-slice-read-told c =
-    let l = c .before .before .before .loop in omega (arith, l .inv .0, c .before .before .before .before .before .before .before .pre)
+    let at-loop : At-loop = search in let l = at-loop .loop in let start : Start = search in omega (arith, l .inv .0, start .pre)
 
 slice-write-codes : tie.Need-slice-write-codes Inv-loop μ-loop
-slice-write-codes c = let l = c .before .before .before .before .loop in omega (arith, l .inv .3 .long, l .inv .0)
+slice-write-codes c = let at-loop : At-loop = search in let l = at-loop .loop in omega (arith, l .inv .3 .long, l .inv .0)
 
 loop-again : tie.Need-loop-again Inv-loop μ-loop
 loop-again c =
-    let start = c .before .before .before .before .before .before .before .before in
-    let l = c .before .before .before .before .loop in let a = start .args in let h = l .inv .3 in
+    let at-loop : At-loop = search in let l = at-loop .loop in let start : Start = search in let a = start .args in let h = l .inv .3 in
     let k : l .i < length (l .codes) = omega (arith, h .long, l .inv .0) in (
       l .inv .0,
       l .inv .1,
@@ -49,12 +55,10 @@ loop-again c =
 
 returns-2 : tie.Need-returns-2 Inv-loop μ-loop
 returns-2 c =
-    let l = c .before .loop in let a = c .before .before .before .before .before .args in
-    let e : l .i ≡ length (a .codes .now) = omega (arith, l .inv .0) in
+    let l = c .before .loop in let start : Start = search in let a = start .args in let e : l .i ≡ length (a .codes .now) = omega (arith, l .inv .0) in
     some-go (a .live .now) (omega (arith, l .inv .0)) (rw e at (l .inv .3))
 
 pub bury-spec : {M : Type 1} → statement M
-bury-spec =
-    tie.close (tie.spec
+bury-spec = tie.close (tie.spec
     Inv-loop μ-loop returns loop-holds (λ c. search needs) slice-read-told shared-slice-read-told (λ c κs. search needs) (λ c. search needs) slice-write-codes
     (λ c. search needs) (λ c. search needs) loop-again (λ c. c .before .loop .inv .3 .long) returns-2)

@@ -8,10 +8,8 @@ use Rattle.stricter_tags.proofs.note_live.Tie as tie
 
 returns : tie.Need-returns
 returns c =
-    let at-mark-live = c .before .before .before .before .before .before .before .before .before .before .before in
-    let start = at-mark-live .before .before .before .before .before in let a = start .args in
-    let m = at-mark-live .mark-live in let n = c .before .before .before .before .before .before .note-marks in
-    let s = c .before .before .strip in
+    let start : tie.Start = search in let a = start .args in let at-mark-live : tie.After-mark-live = search in let m = at-mark-live .mark-live in
+    let at-note-marks : tie.After-note-marks = search in let n = at-note-marks .note-marks in let at-strip : tie.After-strip = search in let s = at-strip .strip in
     (s .ensures ∙ low-lows _ ∙ m .ensures .1, noted _ (liveMarks (a .codes .now) (a .moves .now)) _ (m .ensures .0) (m .kept .0) (n .ensures))
 
 pub note-live-spec : {M : Type 1} → statement M

@@ -22,23 +22,15 @@ Inv-loop list₀ bits mask i₀ list i = (mask ≡ 2 ^ bits - 1) × (i ≤ lengt
 abbrev μ-loop : tie.MeasureT-loop
 μ-loop list₀ bits mask i₀ list i = length list₀ - i
 
-sub-mask : tie.Need-sub-mask Inv-loop μ-loop
-sub-mask c = omega (arith, shl-one 64 (c .args .bits) (omega arith), pow-pos (c .args .bits))
-
 loop-holds : tie.Need-loop-holds Inv-loop μ-loop
-loop-holds c =
-    let a = c .args in
-    (ap (λ (x : ℕ). x - 1) (shl-one 64 (a .bits) (omega arith)), omega arith, filled-start (λ k. getD (a .list .now) k 0 % 2 ^ a .bits) 0 (a .list .now))
+loop-holds c = let a = c .args in (ap (λ (x : ℕ). x - 1) (shl-one 64 (a .bits) (omega arith)), omega arith, filled-start (λ k. getD (a .list .now) k 0 % 2 ^ a .bits) 0 (a .list .now))
 
 mul-list : tie.Need-mul-list Inv-loop μ-loop
-mul-list c =
-    let start = c .before .before in
-    scaled-fits _ (length (start .args .list .now)) 8 (omega (arith, c .before .loop .inv .2 .long)) (start .good .0 .1)
+mul-list c = let start : tie.Start Inv-loop μ-loop = search in scaled-fits _ (length (start .args .list .now)) 8 (omega (arith, c .before .loop .inv .2 .long)) (start .good .0 .1)
 
 loop-again : tie.Need-loop-again Inv-loop μ-loop
 loop-again c =
-    let l = c .before .before .loop in
-    let a = c .before .before .before .args in (
+    let at-loop : tie.At-loop Inv-loop μ-loop = search in let l = at-loop .loop in let start : tie.Start Inv-loop μ-loop = search in let a = start .args in (
       l .inv .0,
       omega (arith, l .inv .2 .long),
       filled-next _ (omega arith) (omega arith) (l .inv .2)
@@ -47,14 +39,12 @@ loop-again c =
     )
 
 returns : tie.Need-returns Inv-loop μ-loop
-returns c =
-    let l = c .before .loop in let a = c .before .before .args in let F = l .inv .2 in
+returns c = let l = c .before .loop in let start : tie.Start Inv-loop μ-loop = search in let a = start .args in let F = l .inv .2 in
     ext-getD 0 (l .list) (lowParts (2 ^ a .bits) (a .list .now)) (F .long ∙ sym (low-long (2 ^ a .bits) (a .list .now)))
     (λ k h. F .inside k (omega arith) (omega (arith, F .long)) ∙ sym (low-at (2 ^ a .bits) (pow-pos (a .bits)) (a .list .now) k))
 
 pub strip-spec : {M : Type 1} → statement M
-strip-spec =
-    tie.close (tie.spec
-    Inv-loop μ-loop (λ c. search needs) sub-mask loop-holds mul-list (λ c. omega arith) (λ c. omega arith)
-    (λ c. omega (arith, c .before .before .loop .inv .2 .long)) (λ c. omega (arith, c .before .before .loop .inv .2 .long)) loop-again
-    (λ c. c .before .loop .inv .2 .long) returns)
+strip-spec = tie.close (tie.spec
+    Inv-loop μ-loop (λ c. search needs) (λ c. omega (arith, shl-one 64 (c .args .bits) (omega arith), pow-pos (c .args .bits))) loop-holds mul-list (λ c. omega arith)
+    (λ c. omega arith) (λ c. let at-loop : tie.At-loop Inv-loop μ-loop = search in omega (arith, at-loop .loop .inv .2 .long))
+    (λ c. let at-loop : tie.At-loop Inv-loop μ-loop = search in omega (arith, at-loop .loop .inv .2 .long)) loop-again (λ c. c .before .loop .inv .2 .long) returns)

@@ -12,36 +12,30 @@ use Rattle.stricter_tags.proofs.tag_live.Statement.{statement}
 use Rattle.stricter_tags.proofs.tag_live.Tie as tie
 
 note-live-requires : tie.Need-note-live-requires
-note-live-requires c κs =
-    let ((r, start, T, few, e, f), long) = c .before .before .before .before .before .before .pre in (
-      rw (e, f) (table-inside (T .shaped .passing) start (rw e at few)),
-      low-all (c .before .before .before .before .before .before .args .codes .now) (rw e (codes-low (T .shaped .passing) start (rw e at few))),
-      long,
-    )
+note-live-requires c κs = let start : tie.Start = search in let ((r, from, T, few, e, f), long) = start .pre in (
+  rw (e, f) (table-inside (T .shaped .passing) from (rw e at few)),
+  low-all (start .args .codes .now) (rw e (codes-low (T .shaped .passing) from (rw e at few))),
+  long,
+)
 
 tag-table-requires : tie.Need-tag-table-requires
 tag-table-requires c κs =
-    let start-2 = c .before .before .before .before .before .before .before .before .before .before .before .before .before in
-    let ((r, start, T, few, e, f), long) = start-2 .pre in
-    let n = c .before .before .before .before .before .before .note-live in
-    (r, start, T, omega (arith, n .kept .0), n .ensures .0 ∙ e, f)
+    let start : tie.Start = search in let ((r, from, T, few, e, f), long) = start .pre in let at-note-live : tie.After-note-live = search in let n = at-note-live .note-live in
+    (r, from, T, omega (arith, n .kept .0), n .ensures .0 ∙ e, f)
 
 returns : tie.Need-returns
 returns c =
-    let at-tag-table = c .before .before .before .before .before .before .before .before .before in
-    let at-note-live = at-tag-table .before .before .before .before .before .before .before in
-    let start-2 = at-note-live .before .before .before .before .before .before .before in let a = start-2 .args in
-    let n = at-note-live .note-live in let t = at-tag-table .tag-table in let b = c .before .before .bury in
-    λ r start T few e f.
-    let (X, Y) = t .ensures r start T (omega (arith, n .kept .0)) (n .ensures .0 ∙ e) f in
+    let start : tie.Start = search in let a = start .args in let at-note-live : tie.After-note-live = search in let n = at-note-live .note-live in
+    -- a path, since `rw` abstracts no place that an abbreviation gives and `search` does not reach so far
+    let at-tag-table = c .before .before .before .before .before .before .before .before .before in let t = at-tag-table .tag-table in let at-bury : tie.After-bury = search in let b = at-bury .bury in
+    λ r from T few e f. let (X, Y) = t .ensures r from T (omega (arith, n .kept .0)) (n .ensures .0 ∙ e) f in
     let U : TaggedCodes (a .codes .now) _ = rw (n .ensures .0) at X in
     let W : TaggedMoves (automaton r) (a .codes .now) (a .moves .now) _ = rw (n .ensures .0) at Y in (
-      told-codes (liveMarks (a .codes .now) (a .moves .now)) U (low-all (a .codes .now) (rw e (codes-low (T .shaped .passing) start (rw e at few))))
+      told-codes (liveMarks (a .codes .now) (a .moves .now)) U (low-all (a .codes .now) (rw e (codes-low (T .shaped .passing) from (rw e at few))))
           (λ i l. n .ensures .1 .inside i (omega arith) l) (b .ensures),
       W,
     )
 
 pub tag-live-spec : {M : Type 1} → statement M
-tag-live-spec =
-    tie.close (tie.spec
+tag-live-spec = tie.close (tie.spec
     note-live-requires tag-table-requires (λ c κs. search needs) (λ c. search needs) (λ c. search needs) (λ c. search needs) returns)

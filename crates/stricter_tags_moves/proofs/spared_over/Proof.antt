@@ -12,23 +12,18 @@ use Rattle.stricter_tags_moves.proofs.spared_over.Statement.{statement}
 use Rattle.stricter_tags_moves.proofs.spared_over.Tie as tie
 
 step-back-requires : tie.Need-step-back-requires
-step-back-requires c κs =
-    let a = c .before .before .args in let p = c .before .before .pre in
-    let e = p .0 in (few (e .1 .shaped), rises (e .1) (a .letter) (p .2) (p .1) (c .before .lowest .result) (c .before .lowest .ensures))
-
-spared-in-requires : tie.Need-spared-in-requires
-spared-in-requires c κs = few (c .before .before .before .before .before .pre .0 .1 .shaped)
+step-back-requires c κs = let start : tie.Start = search in let a = start .args in let p = start .pre in let e = p .0 in
+    (few (e .1 .shaped), rises (e .1) (a .letter) (p .2) (p .1) (c .before .lowest .result) (c .before .lowest .ensures))
 
 returns : tie.Need-returns
 returns c =
-    let a = c .before .before .before .before .before .before .args in
-    let p = c .before .before .before .before .before .before .pre in let e = p .0 in
-    let b = c .before .before .before .step-back in
-    let low = c .before .before .before .before .before .lowest in (
+    let start : tie.Start = search in let a = start .args in let p = start .pre in let e = p .0 in let at-step-back : tie.After-step-back = search in let b = at-step-back .step-back in
+    let at-lowest : tie.After-lowest = search in let low = at-lowest .lowest in (
       omega (arith, c .spared-in .ensures, mask-small (a .shape .components) (sparedIn (a .ranks) (a .parts .now) (b .result .levels)) (few (e .1 .shaped))),
       λ r T x d N f G. _∙_ {b = mask (a .shape .components) (sparedIn (a .ranks) (a .parts .now) (b .result .levels))} (c .spared-in .ensures)
           (over-is T (p .2) (p .1) (low .ensures) (b .ensures) N f G),
     )
 
 pub spared-over-spec : {M : Type 1} → statement M
-spared-over-spec = tie.close (tie.spec (λ c κs. search needs) (λ c. search needs) step-back-requires spared-in-requires returns)
+spared-over-spec = tie.close (tie.spec
+    (λ c κs. search needs) (λ c. search needs) step-back-requires (λ c κs. let start : tie.Start = search in few (start .pre .0 .1 .shaped)) returns)

@@ -31,52 +31,49 @@ Inv-loop moves₀ codes shape opens parts i₀ moves i =
 abbrev μ-loop : tie.MeasureT-loop
 μ-loop moves₀ codes shape opens parts i₀ moves i = length moves₀ - i
 
+abbrev Start : Type 0
+Start = tie.Start Inv-loop μ-loop
+
+abbrev At-loop : Type 0
+At-loop = tie.At-loop Inv-loop μ-loop
+
 loop-holds : tie.Need-loop-holds Inv-loop μ-loop
-loop-holds c =
-    let a = c .before .before .args in
+loop-holds c = let start : Start = search in let a = start .args in
     (omega arith, refl, (λ k l. refl), λ r start T few C e. filled-start (tag (automaton r) (macrostatesFrom r start) (a .moves .now)) 0 (a .moves .now))
 
 mul-tag-move : tie.Need-mul-tag-move Inv-loop μ-loop
-mul-tag-move c = scaled-fits _ (length (c .before .before .before .before .args .moves .now)) 8 (omega (arith, c .before .loop .inv .1)) (c .before .before .before .before .good .0 .1)
+mul-tag-move c = let start : Start = search in scaled-fits _ (length (start .args .moves .now)) 8 (omega (arith, c .before .loop .inv .1)) (start .good .0 .1)
 
 -- what stands at place i is a transition
-here : (c : tie.In-loop Inv-loop μ-loop) (ts : List ℕ) → c .before .before .before .before .args .moves .now ≡ ts → List·Memᴰ (getD (c .before .loop .moves) (c .before .loop .i) 0) ts
+here : (c : tie.In-loop Inv-loop μ-loop) → let start : Start = search in
+    (ts : List ℕ) → start .args .moves .now ≡ ts → List·Memᴰ (getD (c .before .loop .moves) (c .before .loop .i) 0) ts
 here c ts e =
-    let l = c .before .loop in
-    let f : getD (l .moves) (l .i) 0 ≡ getD ts (l .i) 0 = l .inv .2 (l .i) (omega arith) ∙ ap (λ (xs : List ℕ). getD xs (l .i) 0) e in
+    let l = c .before .loop in let f : getD (l .moves) (l .i) 0 ≡ getD ts (l .i) 0 = l .inv .2 (l .i) (omega arith) ∙ ap (λ (xs : List ℕ). getD xs (l .i) 0) e in
     rw f (mem-at ts (l .i) (omega (arith, ap length e, l .inv .1)))
 
 tag-move-requires : tie.Need-tag-move-requires Inv-loop μ-loop
-tag-move-requires c κs =
-    let (r, start, T, few, C, e) = c .before .before .before .before .before .pre in
-    (r, start, T, few, C, here (c .before) (transitionsFrom r start) e)
+tag-move-requires c κs = let start : Start = search in let (r, start, T, few, C, e) = start .pre in (r, start, T, few, C, here (c .before) (transitionsFrom r start) e)
 
 mul-moves : tie.Need-mul-moves Inv-loop μ-loop
-mul-moves c = scaled-fits _ (length (c .before .before .before .before .before .before .args .moves .now)) 8 (omega (arith, c .before .before .before .loop .inv .1))
-    (c .before .before .before .before .before .before .good .0 .1)
+mul-moves c = let start : Start = search in let at-loop : At-loop = search in
+    scaled-fits _ (length (start .args .moves .now)) 8 (omega (arith, at-loop .loop .inv .1)) (start .good .0 .1)
 
 loop-again : tie.Need-loop-again Inv-loop μ-loop
-loop-again c =
-    let a = c .before .before .before .before .before .before .args in let l = c .before .before .before .loop in
+loop-again c = let start : Start = search in let a = start .args in let at-loop : At-loop = search in let l = at-loop .loop in
     let same : getD (l .moves) (l .i) 0 ≡ getD (a .moves .now) (l .i) 0 = l .inv .2 (l .i) (omega arith) in (
       omega (arith, l .inv .1),
       length-set (l .moves) (l .i) _ ∙ l .inv .1,
       (λ k h. getD-set-other (l .moves) (l .i) k _ 0 (λ x. omega arith) ∙ l .inv .2 k (omega arith)),
-      λ r start T few C e.
-          filled-next (c .tag-move .result) (omega arith) (omega arith) (l .inv .3 r start T few C e)
-          (c .tag-move .ensures r start T few C (here (c .before .before) (transitionsFrom r start) e) ∙ ap (λ (t : ℕ). t + 1099511627776 * tagOf (automaton r) (macrostatesFrom r start) t) same),
+      λ r start T few C e. filled-next (c .tag-move .result) (omega arith) (omega arith) (l .inv .3 r start T few C e)
+          (c .tag-move .ensures r start T few C (here (search) (transitionsFrom r start) e) ∙ ap (λ (t : ℕ). t + 1099511627776 * tagOf (automaton r) (macrostatesFrom r start) t) same),
     )
 
 returns : tie.Need-returns Inv-loop μ-loop
-returns c =
-    let l = c .before .loop in
-    λ r start T few C e.
-    let U = l .inv .3 r start T few C e in
-    record { long = U .long; each = λ k h. U .inside k (omega arith) (omega (arith, l .inv .1)) }
+returns c = let l = c .before .loop in λ r start T few C e.
+    let U = l .inv .3 r start T few C e in record { long = U .long; each = λ k h. U .inside k (omega arith) (omega (arith, l .inv .1)) }
 
 pub tag-moves-spec : {M : Type 1} → statement M
-tag-moves-spec =
-    tie.close (tie.spec
+tag-moves-spec = tie.close (tie.spec
     Inv-loop μ-loop loop-holds mul-tag-move (λ c. omega arith) tag-move-requires mul-moves (λ c. omega arith)
-    (λ c. omega (arith, c .before .before .before .loop .inv .1)) (λ c. omega (arith, c .before .before .before .loop .inv .1)) loop-again
+    (λ c. let at-loop : At-loop = search in omega (arith, at-loop .loop .inv .1)) (λ c. let at-loop : At-loop = search in omega (arith, at-loop .loop .inv .1)) loop-again
     (λ c. c .before .loop .inv .1) returns)

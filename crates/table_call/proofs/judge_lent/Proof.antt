@@ -15,10 +15,10 @@ use Rattle.table_call.proofs.judge_lent.Statement.{statement}
 use Rattle.table_call.proofs.judge_lent.Tie as tie
 
 abbrev first-of : tie.Else1 → tie.Start
-first-of c = c .before .before .before .before .before .before .before .before .before
+first-of c = search
 
 abbrev start-of : tie.Else2 → tie.Start
-start-of c = first-of (c .before .before)
+start-of c = first-of (search)
 
 -- rows 12 to 14 pass, and row 15
 word : (c : tie.Else1) → let a = first-of c .args in wordRow (a .h .s) (a .lead .now) (a .cycle .now) ≡ 0
@@ -33,55 +33,47 @@ used : (c : tie.After-count) → let a = start-of (c .before) .args in let n = l
 used c = let a = start-of (c .before) .args in ap (λ (n : ℕ). n * places (a .lead .now) (a .cycle .now)) (c .count .ensures)
 
 mul-used : tie.Need-mul-used
-mul-used c =
-    let a = start-of (c .before) .args in
-    rw (c .count .ensures) (omega (arith, few-marks (a .h .s) (a .lead .now) (a .cycle .now) _ _ (word (c .before .before .before)) (table (c .before))))
+mul-used c = let a = start-of (c .before) .args in rw (c .count .ensures) (omega (arith, few-marks (a .h .s) (a .lead .now) (a .cycle .now) _ _ (word (search)) (table (c .before))))
 
 search-requires : tie.Need-search-requires
 search-requires c κs =
-    let at-count = c .before .before .before in let start = start-of (at-count .before) in let a = start .args in (
+    let at-count : tie.After-count = search in let start = start-of (at-count .before) in let a = start .args in let else3 : tie.Else3 = search in (
       start .pre,
-      ready (a .h .s) (a .lead .now) (a .cycle .now) _ _ (word (at-count .before .before .before)) (table (at-count .before)) _
-          (length-take-le _ (a .scratch .now) (c .before .before .if3 .left) ∙ used at-count),
+      ready (a .h .s) (a .lead .now) (a .cycle .now) _ _ (word (search)) (table (at-count .before)) _
+          (length-take-le _ (a .scratch .now) (else3 .if3 .left) ∙ used at-count),
     )
 
 abbrev count-of : tie.After-slice-known3 → tie.After-count
-count-of c = c .before .before .before .before .before .before .before .before .before .before
+count-of c = search
 
 -- the call is served
 served : (c : tie.After-slice-known3) → let a = start-of (count-of c .before) .args in
     callRow (a .h .s) (a .lead .now) (a .cycle .now) (inBoth (a .codes .now) (a .codebytes .now)) (inBoth (a .moves .now) (a .movebytes .now)) (length (a .scratch .now)) ≡ 0
-served c =
-    let at-count = count-of c in let a = start-of (at-count .before) .args in
-    call-served (a .h .s) (a .lead .now) (a .cycle .now) _ _ (length (a .scratch .now)) (word (at-count .before .before .before)) (table (at-count .before))
-    (omega (arith, used at-count, c .before .before .before .before .before .before .before .before .before .if3 .left))
+served c = let at-count = count-of c in let a = start-of (at-count .before) .args in let else3 : tie.Else3 = search in
+    call-served (a .h .s) (a .lead .now) (a .cycle .now) _ _ (length (a .scratch .now)) (word (search)) (table (at-count .before))
+    (omega (arith, used at-count, else3 .if3 .left))
 
 -- and leaves zeros
-cleared : (c : tie.After-slice-known3) → c .before .before .fill-with .last .0 ≡ replicate (length (start-of (count-of c .before) .args .scratch .now)) 0
-cleared c =
-    let f = c .before .before .fill-with in
-    let k : length (f .last .0) ≡ length (start-of (count-of c .before) .args .scratch .now) = search needs in
-    f .ensures ∙ ap (λ (n : ℕ). replicate n 0) (sym (f .kept .0) ∙ k)
+cleared : (c : tie.After-slice-known3) → let at-fill-with : tie.After-fill-with = search in
+    at-fill-with .fill-with .last .0 ≡ replicate (length (start-of (count-of c .before) .args .scratch .now)) 0
+cleared c = let at-fill-with : tie.After-fill-with = search in let f = at-fill-with .fill-with in
+    let k : length (f .last .0) ≡ length (start-of (count-of c .before) .args .scratch .now) = search needs in f .ensures ∙ ap (λ (n : ℕ). replicate n 0) (sym (f .kept .0) ∙ k)
 
 returns-4 : tie.Need-returns-4
-returns-4 c =
-    let s = c .before .before .before .before .before .before .before .search .ensures in
+returns-4 c = let at-search : tie.After-search = search in let s = at-search .search .ensures in
     rw (cleared (c .before)) (called-yes (served (c .before)) s (omega (arith, count-of (c .before) .count .ensures, c .if4 .taken)))
 
 returns-5 : tie.Need-returns-5
-returns-5 c =
-    let s = c .before .before .before .before .before .before .before .search .ensures in
+returns-5 c = let at-search : tie.After-search = search in let s = at-search .search .ensures in
     rw (cleared (c .before)) (called-no (served (c .before)) s (omega (arith, count-of (c .before) .count .ensures, c .if4 .left)))
 
 pub judge-lent-spec : {M : Type 1} → statement M
-judge-lent-spec =
-    tie.close (tie.spec
+judge-lent-spec = tie.close (tie.spec
     (λ c κs. search needs) (λ c. called-refused _ (c .if1 .taken) (word-refuses _ _ _ _ _ _ _ (c .if1 .taken) (c .before .word-row .ensures)))
     (λ c κs. search needs)
-    (λ c. called-refused _ (c .if2 .taken) (table-refuses _ _ _ _ _ _ (word (c .before .before)) _ (c .if2 .taken) (c .before .table-row .ensures)))
-    (λ c κs. search needs) (λ c. search needs) mul-used
-    (λ c. called-refused 16 (λ e. omega arith)
-    (scratch-refuses _ _ _ _ _ _ (word (c .before .before .before .before)) (table (c .before .before)) (omega (arith, used (c .before), c .if3 .taken))))
+    (λ c. called-refused _ (c .if2 .taken) (table-refuses _ _ _ _ _ _ (word (search)) _ (c .if2 .taken) (c .before .table-row .ensures)))
+    (λ c κs. search needs) (λ c. search needs) mul-used (λ c. called-refused 16 (λ e. omega arith)
+    (scratch-refuses _ _ _ _ _ _ (word (search)) (table (search)) (omega (arith, used (c .before), c .if3 .taken))))
     (λ c. search needs) (λ c. search needs)
-    (λ c. sym (length-take-le _ (start-of (c .before .before .before .before) .args .scratch .now) (c .before .before .if3 .left))) search-requires
+    (λ c. let else3 : tie.Else3 = search in sym (length-take-le _ (start-of (search) .args .scratch .now) (else3 .if3 .left))) search-requires
     (λ c κs. search needs) (λ c. search needs) returns-4 (λ c. search needs) returns-5)

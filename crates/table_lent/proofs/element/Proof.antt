@@ -7,16 +7,14 @@ use Rattle.table_lent.proofs.element.Tie as tie
 use Rattle.table_lent.proofs.Reading.{both-length, both-low, both-high}
 
 returns : tie.Need-returns
-returns c = let a = c .before .before .before .before .args in sym (both-low (a .words .now) (a .bytes .now) (a .i) (omega arith))
+returns c = let start : tie.Start = search in let a = start .args in sym (both-low (a .words .now) (a .bytes .now) (a .i) (omega arith))
 
 returns-2 : tie.Need-returns-2
-returns-2 c =
-    let a = c .before .before .before .before .args in
+returns-2 c = let start : tie.Start = search in let a = start .args in
     c .word-at .ensures ∙ sym (both-high (a .words .now) (a .bytes .now) (a .i) (omega arith) (omega (arith, both-length (a .words .now) (a .bytes .now))))
 
 pub element-spec : {M : Type 1} → statement M
-element-spec =
-    tie.close (tie.spec
+element-spec = tie.close (tie.spec
     (λ c. search needs) (λ c. omega arith) returns
-    (λ c. let a = c .before .before .before .args in omega (arith, both-length (a .words .now) (a .bytes .now)))
-    (λ c κs. let a = c .before .before .before .args in omega (arith, both-length (a .words .now) (a .bytes .now))) returns-2)
+    (λ c. let start : tie.Start = search in let a = start .args in omega (arith, both-length (a .words .now) (a .bytes .now)))
+    (λ c κs. let start : tie.Start = search in let a = start .args in omega (arith, both-length (a .words .now) (a .bytes .now))) returns-2)

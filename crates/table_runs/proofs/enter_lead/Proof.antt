@@ -16,48 +16,48 @@ Inv-loop moves movebytes lead n marks₀ p₀ marks p = (p ≤ length lead) × D
 abbrev μ-loop : tie.MeasureT-loop
 μ-loop moves movebytes lead n marks₀ p₀ marks p = p
 
+abbrev Start : Type 0
+Start = tie.Start Inv-loop μ-loop
+
+abbrev At-loop : Type 0
+At-loop = tie.At-loop Inv-loop μ-loop
+
 loop-holds : tie.Need-loop-holds Inv-loop μ-loop
-loop-holds c = let a = c .before .before .before .before .args in (
+loop-holds c = let start : Start = search in let a = start .args in (
   omega arith,
-  none-done (a .n) (a .lead .now) (inBoth (a .moves .now) (a .movebytes .now) .numbers) (a .marks .now) (c .before .before .before .before .pre .2),
+  none-done (a .n) (a .lead .now) (inBoth (a .moves .now) (a .movebytes .now) .numbers) (a .marks .now) (start .pre .2),
 )
 
 mul-here : tie.Need-mul-here Inv-loop μ-loop
-mul-here c = let l = c .before .loop in let a = c .before .before .before .before .before .before .args in let h : (l .p - 1) * a .n ≤ length (a .lead .now) * a .n =
-    mul-le-mul-right (a .n) (omega arith) in omega (arith, h, c .before .before .before .before .before .before .pre .0, c .before .before .before .before .before .before .good)
+mul-here c = let l = c .before .loop in let start : Start = search in let a = start .args in
+    let h : (l .p - 1) * a .n ≤ length (a .lead .now) * a .n = mul-le-mul-right (a .n) (omega arith) in
+    omega (arith, h, start .pre .0, start .good)
 
 add-enter-all : tie.Need-add-enter-all Inv-loop μ-loop
-add-enter-all c =
-    let start = c .before .before .before .before .before .before .before .before in
-    let l = c .before .before .before .loop in let a = start .args in let h : (l .p - 1) * a .n ≤ length (a .lead .now) * a .n = mul-le-mul-right (a .n) (omega arith) in
-    omega (arith, h, start .pre .0, start .good)
+add-enter-all c = let at-loop : At-loop = search in let l = at-loop .loop in let start : Start = search in let a = start .args in
+    let h : (l .p - 1) * a .n ≤ length (a .lead .now) * a .n = mul-le-mul-right (a .n) (omega arith) in omega (arith, h, start .pre .0, start .good)
 
 enter-all-requires : tie.Need-enter-all-requires Inv-loop μ-loop
 enter-all-requires c κs =
-    let start = c .before .before .before .before .before .before .before .before in
-    let l = c .before .before .before .loop in let a = start .args in let p = start .pre in
+    let at-loop : At-loop = search in let l = at-loop .loop in let start : Start = search in let a = start .args in let p = start .pre in
     let e : suc (l .p - 1) ≡ l .p = omega arith in
     within (a .n) (a .lead .now) (inBoth (a .moves .now) (a .movebytes .now) .numbers) (a .marks .now) (p .0) (p .1) (l .p - 1) (l .marks) (omega arith) (rw e (l .inv .1))
 
 loop-again : tie.Need-loop-again Inv-loop μ-loop
 loop-again c =
-    let start = c .before .before .before .before .before .before .before .before .before .before .before in
-    let l = c .before .before .before .before .before .before .loop in let a = start .args in let p = start .pre in
-    let e : suc (l .p - 1) ≡ l .p = omega arith in (
+    let at-loop : At-loop = search in let l = at-loop .loop in let start : Start = search in let a = start .args in let p = start .pre in
+    let e : suc (l .p - 1) ≡ l .p = omega arith in let at-enter-all : tie.After-enter-all Inv-loop μ-loop = search in (
       omega arith,
-      rw (c .before .before .enter-all .ensures) (turn (a .n) (a .lead .now) (inBoth (a .moves .now) (a .movebytes .now) .numbers) (a .marks .now) (p .0) (p .1) (l .p - 1) (l .marks)
+      rw (at-enter-all .enter-all .ensures) (turn (a .n) (a .lead .now) (inBoth (a .moves .now) (a .movebytes .now) .numbers) (a .marks .now) (p .0) (p .1) (l .p - 1) (l .marks)
           (omega arith) (rw e (l .inv .1))),
     )
 
 returns : tie.Need-returns Inv-loop μ-loop
-returns c =
-    let l = c .before .loop in let a = c .before .before .before .before .before .before .args in
-    let e : l .p ≡ 0 = omega arith in
+returns c = let l = c .before .loop in let start : Start = search in let a = start .args in let e : l .p ≡ 0 = omega arith in
     all-done (a .n) (a .lead .now) (inBoth (a .moves .now) (a .movebytes .now) .numbers) (a .marks .now) (l .marks) (rw e at (l .inv .1))
 
 pub enter-lead-spec : {M : Type 1} → statement M
-enter-lead-spec =
-    tie.close (tie.spec
+enter-lead-spec = tie.close (tie.spec
     Inv-loop μ-loop loop-holds (λ c. search needs) mul-here (λ c. omega arith)
-    (λ c. omega (arith, c .shared-slice-known4 .given (c .before .before .loop .p - 1))) add-enter-all enter-all-requires (λ c. omega arith)
+    (λ c. let at-loop : At-loop = search in omega (arith, c .shared-slice-known4 .given (at-loop .loop .p - 1))) add-enter-all enter-all-requires (λ c. omega arith)
     loop-again (λ c. c .before .loop .inv .1 .long) returns)

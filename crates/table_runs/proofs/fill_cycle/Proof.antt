@@ -9,19 +9,16 @@ use Rattle.table_runs.proofs.fill_cycle.Tie as tie
 
 solve-requires : tie.Need-solve-requires
 solve-requires c κs =
-    let start = c .before .before .before .before .before .before .before .before .before .before .before in
-    let a = start .args in let w = c .before .before .before .fill-with in
+    let start : tie.Start = search in let a = start .args in let at-fill-with : tie.After-fill-with = search in let w = at-fill-with .fill-with in
     (fits-long (w .kept .0) (start .pre), rw (w .ensures) (all-two (length (a .marks .now))))
 
 returns : tie.Need-returns
 returns c =
-    let start = c .before .before .before .before .before .before .before .before .before .before .before .before .before .before in
-    let a = start .args in let q = start .pre in let w = c .before .before .before .before .before .before .fill-with in
-    let s = c .before .before .solve in
+    let start : tie.Start = search in let a = start .args in let q = start .pre in let at-fill-with : tie.After-fill-with = search in let w = at-fill-with .fill-with in
+    let at-solve : tie.After-solve = search in let s = at-solve .solve in
     solution (inBoth (a .codes .now) (a .codebytes .now) .numbers) (inBoth (a .moves .now) (a .movebytes .now) .numbers) (a .cycle .now)
-    (q .repeats) (q .sources) (q .targets) (w .last .0) (s .last .1 .1 .1 .1 .1 .0)
-    (λ x l. rw (w .ensures) (getD-replicate (length (a .marks .now)) x 2 0 (rw (q .marked) l)))
-    (s .ensures)
+    (q .repeats) (q .sources) (q .targets) (w .last .0) _
+    (λ x l. rw (w .ensures) (getD-replicate (length (a .marks .now)) x 2 0 (rw (q .marked) l))) (s .ensures)
 
 pub fill-cycle-spec : {M : Type 1} → statement M
 fill-cycle-spec = tie.close (tie.spec (λ c κs. search needs) solve-requires (λ c. search needs) returns)

@@ -6,7 +6,6 @@ use Rattle.table_runs.proofs.flag_of.Statement.{statement}
 use Rattle.table_runs.proofs.flag_of.Tie as tie
 
 pub flag-of-spec : {M : Type 1} → statement M
-flag-of-spec =
-    tie.close (tie.spec
-    (λ c κs. search needs) (λ c. sym (flag-accepting (c .before .before .args .code) (sym (c .before .is-accepting .ensures) ∙ c .if1 .taken)))
-    (λ c. sym (flag-other (c .before .before .args .code) (sym (c .before .is-accepting .ensures) ∙ c .if1 .left))))
+flag-of-spec = tie.close (tie.spec
+    (λ c κs. search needs) (λ c. let start : tie.Start = search in sym (flag-accepting (start .args .code) (sym (c .before .is-accepting .ensures) ∙ c .if1 .taken)))
+    (λ c. let start : tie.Start = search in sym (flag-other (start .args .code) (sym (c .before .is-accepting .ensures) ∙ c .if1 .left))))

@@ -16,14 +16,14 @@ abbrev μ-loop : tie.MeasureT-loop
 
 loop-again : tie.Need-loop-again Inv-loop μ-loop
 unfolding raised
-loop-again c = let l = c .before .before .before .loop in (omega (arith, l .inv .1 .long), mark-turn _ (omega arith) (c .raised-mark .ensures) (l .inv .1))
+loop-again c =
+    let at-loop : tie.At-loop Inv-loop μ-loop = search in let l = at-loop .loop in (omega (arith, l .inv .1 .long), mark-turn _ (omega arith) (c .raised-mark .ensures) (l .inv .1))
 
 returns : tie.Need-returns Inv-loop μ-loop
 unfolding raised
 returns c = let r = c .before .loop .inv .1 in record { long = r .long; each = all-marked (omega arith) r }
 
 pub raise-spec : {M : Type 1} → statement M
-raise-spec =
-    tie.close (tie.spec
+raise-spec = tie.close (tie.spec
     Inv-loop μ-loop (λ c. (omega arith, none-marked)) (λ c. search needs) (λ c κs. search needs) (λ c. search needs)
-    (λ c. search needs) (λ c. omega (arith, c .before .before .before .loop .inv .1 .long)) loop-again (λ c. c .before .loop .inv .1 .long) returns)
+    (λ c. search needs) (λ c. let at-loop : tie.At-loop Inv-loop μ-loop = search in omega (arith, at-loop .loop .inv .1 .long)) loop-again (λ c. c .before .loop .inv .1 .long) returns)

@@ -20,54 +20,48 @@ Inv-loop codes codebytes moves movebytes cycle marks₀ n round₀ marks round =
 abbrev μ-loop : tie.MeasureT-loop
 μ-loop codes codebytes moves movebytes cycle marks₀ n round₀ marks round = sum marks
 
+abbrev At-loop : Type 0
+At-loop = tie.At-loop Inv-loop μ-loop
+
+abbrev After-thin : Type 0
+After-thin = tie.After-thin Inv-loop μ-loop
+
+abbrev After-solve-round : Type 0
+After-solve-round = tie.After-solve-round Inv-loop μ-loop
+
 thin-requires : tie.Need-thin-requires Inv-loop μ-loop
-thin-requires c κs =
-    let start = c .before .before .before .before .before .before .before .before .before in let pre = start .pre in
-    let g = c .before .loop .inv in
-    (fits-long (going-long g) (pre .0), going-begun (pre .1) g)
+thin-requires c κs = let start : tie.Start Inv-loop μ-loop = search in let pre = start .pre in let g = c .before .loop .inv in (fits-long (going-long g) (pre .0), going-begun (pre .1) g)
 
 solve-round-requires : tie.Need-solve-round-requires Inv-loop μ-loop
 solve-round-requires c κs =
-    let start = c .before .before .before .before .before .before .before .before .before .before .before .before .before in
-    let n = c .before .before .before .before .before .before .count .ensures in
-    let g = c .before .before .before .before .before .loop .inv in
-    let t = going-thinned g (c .before .before .before .thin .ensures) in
+    let at-count : tie.After-count Inv-loop μ-loop = search in let n = at-count .count .ensures in let at-loop : At-loop = search in let g = at-loop .loop .inv in
+    let at-thin : After-thin = search in let t = going-thinned g (at-thin .thin .ensures) in let start : tie.Start Inv-loop μ-loop = search in
     rw n (fits-long (t .long) (start .pre .0), thinned-low t)
 
 same-length : tie.Need-same-length Inv-loop μ-loop
-same-length c =
-    let at-thin = c .before .before .before .before .before .before .before in let at-loop = at-thin .before .before in
-    let g = at-loop .loop .inv in let t = going-thinned g (at-thin .thin .ensures) in
-    c .before .before .before .solve-round .ensures .long ∙ t .long
+same-length c = let at-loop : At-loop = search in let g = at-loop .loop .inv in let at-thin : After-thin = search in
+    let t = going-thinned g (at-thin .thin .ensures) in let at-solve-round : After-solve-round = search in at-solve-round .solve-round .ensures .long ∙ t .long
 
 returns : tie.Need-returns Inv-loop μ-loop
 returns c =
-    let at-thin = c .before .before .before .before .before .before .before in let at-loop = at-thin .before .before in
-    let at-count = at-loop .before in let n = at-count .count .ensures in let g = at-loop .loop .inv in
-    let t = going-thinned g (at-thin .thin .ensures) in let s = c .before .before .before .solve-round in
-    let none = not-true (s .result) (c .if1 .taken) in
-    let r = rw (none, n) at (s .ensures) in
+    let at-count : tie.After-count Inv-loop μ-loop = search in let n = at-count .count .ensures in let at-loop : At-loop = search in let g = at-loop .loop .inv in
+    let at-thin : After-thin = search in let t = going-thinned g (at-thin .thin .ensures) in let at-solve-round : After-solve-round = search in
+    let s = at-solve-round .solve-round in let none = not-true (s .result) (c .if1 .taken) in let r = rw (none, n) at (s .ensures) in
     record { thinned = thinned-round t r; sound = r .sound refl }
 
 loop-less : tie.Need-loop-less Inv-loop μ-loop
 loop-less c =
-    let at-thin = c .before .before .before .before .before .before .before .before in let at-loop = at-thin .before .before in
-    let start = at-loop .before .before .before .before .before .before .before .before in let two = start .pre .1 in
-    let l = at-loop .loop in let s = c .before .before .before .before .solve-round in
-    let some = not-false (s .result) (c .before .if1 .left) in
-    let sum = thinned-sum (going-begun two (l .inv)) (at-thin .thin .ensures) in
-    omega (arith, s .ensures .less some, sum)
+    let start : tie.Start Inv-loop μ-loop = search in let two = start .pre .1 in let at-loop : At-loop = search in let l = at-loop .loop in
+    let at-solve-round : After-solve-round = search in let s = at-solve-round .solve-round in let some = not-false (s .result) (c .before .if1 .left) in
+    let at-thin : After-thin = search in let sum = thinned-sum (going-begun two (l .inv)) (at-thin .thin .ensures) in omega (arith, s .ensures .less some, sum)
 
 loop-again : tie.Need-loop-again Inv-loop μ-loop
 loop-again c =
-    let at-thin = c .before .before .before .before .before .before .before .before in
-    let at-loop = at-thin .before .before in let at-count = at-loop .before in let n = at-count .count .ensures in
-    let g = at-loop .loop .inv in let t = going-thinned g (at-thin .thin .ensures) in
-    let r = c .before .before .before .before .solve-round .ensures in
-    inr (thinned-round t (rw n at r))
+    let at-count : tie.After-count Inv-loop μ-loop = search in let n = at-count .count .ensures in let at-loop : At-loop = search in let g = at-loop .loop .inv in
+    let at-thin : After-thin = search in let t = going-thinned g (at-thin .thin .ensures) in let at-solve-round : After-solve-round = search in
+    let r = at-solve-round .solve-round .ensures in inr (thinned-round t (rw n at r))
 
 pub solve-spec : {M : Type 1} → statement M
-solve-spec =
-    tie.close (tie.spec
+solve-spec = tie.close (tie.spec
     Inv-loop μ-loop (λ c κs. search needs) (λ c. inl (refl, refl)) thin-requires solve-round-requires same-length returns (λ c κs. search needs)
     loop-less loop-again)

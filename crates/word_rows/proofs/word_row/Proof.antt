@@ -12,21 +12,22 @@ returns c = let row = c .before .length-row in sym (word-lengths _ _ _ _ (omega 
 
 returns-2 : tie.Need-returns-2
 returns-2 c =
-    let a = c .before .before .before .before .before .before .args in
-    let none : lengthRow (a .lead .now) (a .cycle .now) ≡ 0 = sym (c .before .before .before .length-row .ensures) ∙ c .before .before .if1 .left in
+    let start : tie.Start = search in let a = start .args in let at-length-row : tie.After-length-row = search in let else1 : tie.Else1 = search in
+    let none : lengthRow (a .lead .now) (a .cycle .now) ≡ 0 = sym (at-length-row .length-row .ensures) ∙ else1 .if1 .left in
     sym (lead-letter (a .s) (a .lead .now) (a .cycle .now) none (sym (c .before .any-from .ensures) ∙ c .if2 .taken))
 
 returns-3 : tie.Need-returns-3
 returns-3 c =
-    let start = c .before .before .before .before .before .before .before .before in let a = start .args in
-    let none : lengthRow (a .lead .now) (a .cycle .now) ≡ 0 = sym (c .before .before .before .before .before .length-row .ensures) ∙ c .before .before .before .before .if1 .left in
+    let start : tie.Start = search in let a = start .args in let at-length-row : tie.After-length-row = search in let else1 : tie.Else1 = search in
+    let none : lengthRow (a .lead .now) (a .cycle .now) ≡ 0 = sym (at-length-row .length-row .ensures) ∙ else1 .if1 .left in
     sym (cycle-letter (a .s) (a .lead .now) (a .cycle .now) none (sym (c .before .any-from2 .ensures) ∙ c .if3 .taken))
 
 returns-4 : tie.Need-returns-4
 returns-4 c =
-    let start = c .before .before .before .before .before .before .before .before in let a = start .args in
-    let none : lengthRow (a .lead .now) (a .cycle .now) ≡ 0 = sym (c .before .before .before .before .before .length-row .ensures) ∙ c .before .before .before .before .if1 .left in
-    sym (no-word-row (a .s) (a .lead .now) (a .cycle .now) none (sym (c .before .before .before .any-from .ensures) ∙ c .before .before .if2 .left)
+    let start : tie.Start = search in let a = start .args in let at-length-row : tie.After-length-row = search in let else1 : tie.Else1 = search in
+    let none : lengthRow (a .lead .now) (a .cycle .now) ≡ 0 = sym (at-length-row .length-row .ensures) ∙ else1 .if1 .left in let at-any-from : tie.After-any-from = search in
+    let else2 : tie.Else2 = search in
+    sym (no-word-row (a .s) (a .lead .now) (a .cycle .now) none (sym (at-any-from .any-from .ensures) ∙ else2 .if2 .left)
     (sym (c .before .any-from2 .ensures) ∙ c .if3 .left))
 
 pub word-row-spec : {M : Type 1} → statement M

@@ -23,14 +23,12 @@ loop-holds c = (omega arith, c .before .pre, later-first _ (omega (arith, c .bef
 
 returns : tie.Need-returns Inv-loop μ-loop
 returns c =
-    let a = c .before .before .before .before .before .before .args in let l = c .before .before .before .before .loop in
-    let h : 0 < length (a .cycle .now) = omega arith in
-    sym (again-stop _ h _ _ _ (omega arith) (l .inv .2) (c .if1 .taken))
+    let start : tie.Start Inv-loop μ-loop = search in let a = start .args in let at-loop : tie.At-loop Inv-loop μ-loop = search in let l = at-loop .loop in
+    let h : 0 < length (a .cycle .now) = omega arith in sym (again-stop _ h _ _ _ (omega arith) (l .inv .2) (c .if1 .taken))
 
 loop-again : tie.Need-loop-again Inv-loop μ-loop
 loop-again c =
-    let start = c .before .before .before .before .before .before .before in let a = start .args in
-    let l = c .before .before .before .before .before .loop in
+    let start : tie.Start Inv-loop μ-loop = search in let a = start .args in let at-loop : tie.At-loop Inv-loop μ-loop = search in let l = at-loop .loop in
     let h : 0 < length (a .cycle .now) = omega arith in
     let low : nextPlace [] (a .cycle .now) (l .later) < length (a .cycle .now) = omega (arith, next-place-low [] (a .cycle .now) h (l .later) (omega arith)) in
     let e : c .next-place .result ≡ nextPlace [] (a .cycle .now) (l .later) = c .next-place .ensures [] (a .cycle .now) refl refl in (
@@ -42,11 +40,9 @@ loop-again c =
 
 returns-2 : tie.Need-returns-2 Inv-loop μ-loop
 returns-2 c =
-    let a = c .before .before .before .args in let l = c .before .loop in
-    let h : 0 < length (a .cycle .now) = omega (arith, c .before .before .before .pre) in
+    let start : tie.Start Inv-loop μ-loop = search in let a = start .args in let l = c .before .loop in let h : 0 < length (a .cycle .now) = omega (arith, start .pre) in
     sym (again-end (a .cycle .now) h (a .d) (l .j) (omega arith) (l .inv .3))
 
 pub comes-again-spec : {M : Type 1} → statement M
-comes-again-spec =
-    tie.close (tie.spec
+comes-again-spec = tie.close (tie.spec
     Inv-loop μ-loop loop-holds (λ c. omega arith) (λ c. omega arith) returns (λ c κs. omega arith) (λ c. omega arith) (λ c. omega arith) loop-again returns-2)

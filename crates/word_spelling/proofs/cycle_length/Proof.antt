@@ -16,22 +16,20 @@ abbrev μ-loop : tie.MeasureT-loop
 
 returns : tie.Need-returns Inv-loop μ-loop
 returns c =
-    let v = c .before .before .before .before .before .args .cycle .now in let l = c .before .before .before .loop in
+    let start : tie.Start Inv-loop μ-loop = search in let v = start .args .cycle .now in let at-loop : tie.At-loop Inv-loop μ-loop = search in let l = at-loop .loop in
     sym (found v (l .d) (omega arith) (sym (c .before .comes-again .ensures) ∙ c .if1 .taken) (l .inv .2))
 
 loop-again : tie.Need-loop-again Inv-loop μ-loop
 loop-again c =
-    let v = c .before .before .before .before .before .args .cycle .now in let l = c .before .before .before .loop in
+    let start : tie.Start Inv-loop μ-loop = search in let v = start .args .cycle .now in let at-loop : tie.At-loop Inv-loop μ-loop = search in let l = at-loop .loop in
     (omega arith, omega arith, none-next v (l .d) (omega arith) (sym (c .before .comes-again .ensures) ∙ c .if1 .left) (l .inv .2))
 
 returns-2 : tie.Need-returns-2 Inv-loop μ-loop
 returns-2 c =
-    let v = c .before .before .before .args .cycle .now in let l = c .before .loop in
-    let e : l .d ≡ length v = omega arith in
-    sym (found v (l .d) (omega arith) (rw e (own-again v (c .before .before .before .pre))) (l .inv .2))
+    let start : tie.Start Inv-loop μ-loop = search in let v = start .args .cycle .now in let l = c .before .loop in let e : l .d ≡ length v = omega arith in
+    sym (found v (l .d) (omega arith) (rw e (own-again v (start .pre))) (l .inv .2))
 
 pub cycle-length-spec : {M : Type 1} → statement M
-cycle-length-spec =
-    tie.close (tie.spec
+cycle-length-spec = tie.close (tie.spec
     Inv-loop μ-loop (λ c. (omega arith, c .before .pre, none-first (c .before .args .cycle .now))) (λ c κs. omega arith) returns (λ c. omega arith)
     (λ c. omega arith) loop-again returns-2)

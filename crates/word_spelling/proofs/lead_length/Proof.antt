@@ -17,31 +17,26 @@ abbrev μ-loop : tie.MeasureT-loop
 
 returns : tie.Need-returns Inv-loop μ-loop
 returns c =
-    let earlier = c .before .before .before .before .before .before .before in let s = earlier in
-    let a = s .args in let l = c .before .before .before .before .loop in
-    let fits : l .m - 1 + a .p < places (a .lead .now) (a .cycle .now) = omega arith in
+    let start : tie.Start Inv-loop μ-loop = search in let s = start in let a = s .args in let at-loop : tie.At-loop Inv-loop μ-loop = search in let l = at-loop .loop in
+    let fits : l .m - 1 + a .p < places (a .lead .now) (a .cycle .now) = omega arith in let at-letter-at : tie.After-letter-at Inv-loop μ-loop = search in
     let n : letterAt (a .lead .now) (a .cycle .now) (l .m - 1) ≡ letterAt (a .lead .now) (a .cycle .now) (l .m - 1 + a .p) → ⊥
-    = λ e. c .if1 .taken (c .before .before .letter-at .ensures ∙ e ∙ sym (c .before .letter-at2 .ensures)) in
+    = λ e. c .if1 .taken (at-letter-at .letter-at .ensures ∙ e ∙ sym (c .before .letter-at2 .ensures)) in
     sym (l .inv .1 ∙ shortest _ _ (s .pre .0) _ _ (omega arith) fits n)
 
 loop-again : tie.Need-loop-again Inv-loop μ-loop
 loop-again c =
-    let earlier = c .before .before .before .before .before .before .before in let s = earlier in
-    let a = s .args in let l = c .before .before .before .before .loop in
-    let fits : l .m - 1 + a .p < places (a .lead .now) (a .cycle .now) = omega arith in
+    let start : tie.Start Inv-loop μ-loop = search in let s = start in let a = s .args in let at-loop : tie.At-loop Inv-loop μ-loop = search in let l = at-loop .loop in
+    let fits : l .m - 1 + a .p < places (a .lead .now) (a .cycle .now) = omega arith in let at-letter-at : tie.After-letter-at Inv-loop μ-loop = search in
     let e : letterAt (a .lead .now) (a .cycle .now) (l .m - 1) ≡ letterAt (a .lead .now) (a .cycle .now) (l .m - 1 + a .p)
-    = sym (c .before .before .letter-at .ensures) ∙ c .if1 .left ∙ c .before .letter-at2 .ensures in
+    = sym (at-letter-at .letter-at .ensures) ∙ c .if1 .left ∙ c .before .letter-at2 .ensures in
     (omega arith, l .inv .1 ∙ shorter _ _ (s .pre .0) _ _ (omega arith) fits e)
 
 returns-2 : tie.Need-returns-2 Inv-loop μ-loop
 unfolding shortened
-returns-2 c =
-    let s = c .before .before .before .before in let l = c .before .loop in
-    let e : l .m ≡ 0 = omega arith in
-    e ∙ sym (l .inv .1 ∙ ap (shortened (letters (s .args .lead .now) (s .args .cycle .now)) (s .args .p)) e)
+returns-2 c = let l = c .before .loop in let e : l .m ≡ 0 = omega arith in let start : tie.Start Inv-loop μ-loop = search in
+    e ∙ sym (l .inv .1 ∙ ap (shortened (letters (start .args .lead .now) (start .args .cycle .now)) (start .args .p)) e)
 
 pub lead-length-spec : {M : Type 1} → statement M
-lead-length-spec =
-    tie.close (tie.spec
+lead-length-spec = tie.close (tie.spec
     Inv-loop μ-loop (λ c. (omega arith, refl)) (λ c. omega arith) (λ c κs. omega arith) (λ c. omega arith) (λ c. omega arith) (λ c κs. omega arith)
     returns (λ c. omega arith) (λ c. omega arith) loop-again returns-2)

@@ -18,20 +18,17 @@ abbrev μ-loop : tie.MeasureT-loop
 loop-again : tie.Need-loop-again Inv-loop μ-loop
 unfolding letterAt
 loop-again c =
-    let s = c .before .before .before .before .before .before in let a = s .args in let l = c .before .before .loop in
-    let word = a .lead .now ++ a .cycle .now in
-    let long : l .i < length word = omega (arith, length-append (a .lead .now) (a .cycle .now)) in
+    let start : tie.Start Inv-loop μ-loop = search in let a = start .args in let at-loop : tie.At-loop Inv-loop μ-loop = search in let l = at-loop .loop in
+    let word = a .lead .now ++ a .cycle .now in let long : l .i < length word = omega (arith, length-append (a .lead .now) (a .cycle .now)) in
     let room : l .i < length (a .out .now) = omega arith in
     (omega arith, rw (l .inv .1) (written-next word (a .out .now) (l .i) (c .letter-at .result) long room (c .letter-at .ensures)), simp length-set (l .inv .2))
 
 returns : tie.Need-returns Inv-loop μ-loop
 returns c =
-    let a = c .before .before .before .before .before .args in let l = c .before .loop in
-    let e : l .i ≡ a .n = omega arith in
+    let start : tie.Start Inv-loop μ-loop = search in let a = start .args in let l = c .before .loop in let e : l .i ≡ a .n = omega arith in
     l .inv .1 ∙ ap (λ (n : ℕ). take n (a .lead .now ++ a .cycle .now) ++ drop n (a .out .now)) e
 
 pub write-letters-spec : {M : Type 1} → statement M
-write-letters-spec =
-    tie.close (tie.spec
+write-letters-spec = tie.close (tie.spec
     Inv-loop μ-loop (λ c. (omega arith, refl, refl)) (λ c κs. omega arith) (λ c. omega arith) (λ c. omega arith) (λ c. omega arith) loop-again
     (λ c. c .before .loop .inv .2) returns)

@@ -15,12 +15,12 @@ abbrev μ-loop : tie.MeasureT-loop
 μ-loop keys₀ n i₀ keys i = n - i
 
 loop-again : tie.Need-loop-again Inv-loop μ-loop
-loop-again c = let a = c .before .before .before .args in let p = c .before .before .before .pre in let l = c .before .before .loop in
+loop-again c =
+    let start : tie.Start Inv-loop μ-loop = search in let a = start .args in let p = start .pre in let at-loop : tie.At-loop Inv-loop μ-loop = search in let l = at-loop .loop in
     (omega arith, length-set (l .keys) (l .i) _ ∙ l .inv .1, coded-next (l .i) (a .keys .now) (l .keys) (omega (arith, p)) (l .inv .2))
 
 returns : tie.Need-returns Inv-loop μ-loop
-returns c =
-    let l = c .before .loop in let e : l .i ≡ c .before .before .args .n = omega (arith, l .inv .0) in rw e at (l .inv .2)
+returns c = let l = c .before .loop in let start : tie.Start Inv-loop μ-loop = search in let e : l .i ≡ start .args .n = omega (arith, l .inv .0) in rw e at (l .inv .2)
 
 pub to-codes-spec : {M : Type 1} → statement M
 to-codes-spec = tie.close (tie.spec

@@ -24,6 +24,12 @@ Inv-loop keys₀ heads₀ last₀ first shape opens parts caps from₀ n₀ keys
 abbrev μ-loop : tie.MeasureT-loop
 μ-loop keys₀ heads₀ last₀ first shape opens parts caps from₀ n₀ keys heads last from n = length keys₀ - from
 
+abbrev At-loop : Type 0
+At-loop = tie.At-loop Inv-loop μ-loop
+
+abbrev After-round : Type 0
+After-round = tie.After-round Inv-loop μ-loop
+
 loop-holds : tie.Need-loop-holds Inv-loop μ-loop
 loop-holds c = let p = c .before .pre in (
   p .1,
@@ -34,28 +40,27 @@ loop-holds c = let p = c .before .pre in (
 )
 
 round-requires : tie.Need-round-requires Inv-loop μ-loop
-round-requires c κs = let p = c .before .before .before .before .before .before .pre in let l = c .before .before .before .before .loop in
-    ((p .0 .0, p .0 .1, l .inv .3 (p .0 .0) (p .0 .1) (p .0 .2)), l .inv .0, c .before .before .before .loop-test .taken, p .2)
+round-requires c κs =
+    let start : tie.Start Inv-loop μ-loop = search in let p = start .pre in let at-loop : At-loop = search in let l = at-loop .loop in
+    let in-loop : tie.In-loop Inv-loop μ-loop = search in ((p .0 .0, p .0 .1, l .inv .3 (p .0 .0) (p .0 .1) (p .0 .2)), l .inv .0, in-loop .loop-test .taken, p .2)
 
 same-length : tie.Need-same-length Inv-loop μ-loop
-same-length c = c .before .before .before .round .kept .0 ∙ c .before .before .before .before .before .before .before .before .loop .inv .2
+same-length c = let at-round : After-round = search in let at-loop : At-loop = search in at-round .round .kept .0 ∙ at-loop .loop .inv .2
 
 returns : tie.Need-returns Inv-loop μ-loop
-returns c =
-    let at-loop = c .before .before .before .before .before .before .before .before in
-    let v = at-loop .loop .inv in λ r T R H. gathered-full (c .before .before .before .round .ensures r T (v .3 r T R)) (c .if1 .taken) (v .3 r T R) (λ y h. h) (v .2)
+returns c = let at-loop : At-loop = search in let v = at-loop .loop .inv in let at-round : After-round = search in
+    λ r T R H. gathered-full (at-round .round .ensures r T (v .3 r T R)) (c .if1 .taken) (v .3 r T R) (λ y h. h) (v .2)
 
 loop-less : tie.Need-loop-less Inv-loop μ-loop
 loop-less c =
-    let at-loop-test = c .before .before .before .before .before .before .before in
-    let at-loop = at-loop-test .before in let start = at-loop .before .before in
-    let p = start .pre in let l = at-loop .loop in let G = c .before .before .before .round .ensures (p .0 .0) (p .0 .1) (l .inv .3 (p .0 .0) (p .0 .1) (p .0 .2)) in
-    omega (arith, at-loop-test .loop-test .taken, l .inv .0 .fits, l .inv .2, G .more)
+    let start : tie.Start Inv-loop μ-loop = search in let p = start .pre in let at-loop : At-loop = search in let l = at-loop .loop in
+    let at-round : After-round = search in let G = at-round .round .ensures (p .0 .0) (p .0 .1) (l .inv .3 (p .0 .0) (p .0 .1) (p .0 .2)) in
+    let in-loop : tie.In-loop Inv-loop μ-loop = search in omega (arith, in-loop .loop-test .taken, l .inv .0 .fits, l .inv .2, G .more)
 
 loop-again : tie.Need-loop-again Inv-loop μ-loop
 loop-again c =
-    let at-loop = c .before .before .before .before .before .before .before .before in
-    let e = at-loop .before .before .pre .0 in let v = at-loop .loop .inv in let g = c .before .before .before .round in let G = g .ensures (e .0) (e .1) (v .3 (e .0) (e .1) (e .2)) in (
+    let start : tie.Start Inv-loop μ-loop = search in let e = start .pre .0 in let at-loop : At-loop = search in let v = at-loop .loop .inv in
+    let at-round : After-round = search in let g = at-round .round in let G = g .ensures (e .0) (e .1) (v .3 (e .0) (e .1) (e .2)) in (
       G .kept,
       omega (arith, G .more),
       g .kept .0 ∙ v .2,

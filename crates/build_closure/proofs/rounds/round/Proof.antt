@@ -38,61 +38,60 @@ Inv-loop keys₀ heads₀ last₀ n from shape opens parts caps all g₀ x₀ ke
 abbrev μ-loop : tie.MeasureT-loop
 μ-loop keys₀ heads₀ last₀ n from shape opens parts caps all g₀ x₀ keys heads last g x = all - x
 
+abbrev Start : Type 0
+Start = tie.Start Inv-loop μ-loop
+
+abbrev At-loop : Type 0
+At-loop = tie.At-loop Inv-loop μ-loop
+
+abbrev After-visit-set : Type 0
+After-visit-set = tie.After-visit-set Inv-loop μ-loop
+
 -- the states that can be open
-all-is : (c : tie.After-lowest Inv-loop μ-loop) → getD (c .lowest .result) 15 0 ≡ openIn (capsOf (c .before .before .args .parts .now) (c .before .before .args .shape .components))
-all-is c = let p = c .before .before .pre in open-lowest (c .before .before .args .caps) (c .lowest .result) (c .lowest .ensures) ∙ ap openIn (p .3)
+all-is : (c : tie.After-lowest Inv-loop μ-loop) → let start : Start = search in
+    getD (c .lowest .result) 15 0 ≡ openIn (capsOf (start .args .parts .now) (start .args .shape .components))
+all-is c = let start : Start = search in let p = start .pre in open-lowest (start .args .caps) (c .lowest .result) (c .lowest .ensures) ∙ ap openIn (p .3)
 
 visit-set-requires : tie.Need-visit-set-requires Inv-loop μ-loop
-visit-set-requires c κs =
-    let p = c .before .before .before .before .before .before .pre in let e = p .0 in let i = c .before .before .before .loop .inv .2 (e .0) (e .1) (e .2) in
-    ((e .0, e .1, all-kept i (e .2)), i .kept, omega (arith, p .2, i .more), all-is (c .before .before .before .before))
+visit-set-requires c κs = let start : Start = search in let p = start .pre in let e = p .0 in let at-loop : At-loop = search in
+    let i = at-loop .loop .inv .2 (e .0) (e .1) (e .2) in ((e .0, e .1, all-kept i (e .2)), i .kept, omega (arith, p .2, i .more), all-is (search))
 
 -- the slice keeps its length
-long-at : (c : tie.At-loop Inv-loop μ-loop) → length (c .loop .keys) ≡ length (c .before .before .before .args .keys .now)
-long-at c = let e = c .before .before .before .pre .0 in c .loop .inv .2 (e .0) (e .1) (e .2) .long
+long-at : (c : At-loop) → let start : Start = search in length (c .loop .keys) ≡ length (start .args .keys .now)
+long-at c = let start : Start = search in let e = start .pre .0 in c .loop .inv .2 (e .0) (e .1) (e .2) .long
 
 returns : tie.Need-returns Inv-loop μ-loop
-returns c =
-    let at-loop = c .before .before .before .before .before .before .before in
-    let v = at-loop .loop .inv in λ r T R. let i = v .2 r T R in upto-full i (v .1) (c .before .before .before .visit-set .ensures r T (all-kept i R)) (c .if1 .taken)
+returns c = let at-loop : At-loop = search in let v = at-loop .loop .inv in let at-visit-set : After-visit-set = search in
+    λ r T R. let i = v .2 r T R in upto-full i (v .1) (at-visit-set .visit-set .ensures r T (all-kept i R)) (c .if1 .taken)
 
 returns-2 : tie.Need-returns-2 Inv-loop μ-loop
-returns-2 c =
-    let at-loop = c .before .before .before .before .before .before .before .before in let at-lowest = at-loop .before in
-    let a = at-lowest .before .before .args in let l = at-loop .loop in
-    λ r T R. let i = l .inv .2 r T R in
-    appended-as (upto-next i (l .inv .1) (c .before .before .before .before .visit-set .ensures r T (all-kept i R))
-    (λ y h. (h .0, h .1, (h .2 .0, after-kept i (Leads (automaton r) (a .shape .s) (h .0)) (h .2 .1)))))
-    (λ t y h.
+returns-2 c = let start : Start = search in let a = start .args in let at-loop : At-loop = search in let l = at-loop .loop in
+    let at-visit-set : After-visit-set = search in λ r T R. let i = l .inv .2 r T R in
+    appended-as (upto-next i (l .inv .1) (at-visit-set .visit-set .ensures r T (all-kept i R))
+    (λ y h. (h .0, h .1, (h .2 .0, after-kept i (Leads (automaton r) (a .shape .s) (h .0)) (h .2 .1))))) (λ t y h.
     let e = edges-out (automaton r) (a .parts .now) (a .shape .components) (a .shape .s) (a .from) (a .n) (a .keys .now) y h in
-    let few : openIn (e .0) < l .x + 1 = omega (arith, open-within (T .shaped) (e .0) (e .1 .0 .within), all-is at-lowest, c .if2 .taken) in
-    (openIn (e .0), few, (e .0, refl, e .1)))
-    (λ y h. h)
+    let few : openIn (e .0) < l .x + 1 = omega (arith, open-within (T .shaped) (e .0) (e .1 .0 .within), all-is (search), c .if2 .taken) in
+    (openIn (e .0), few, (e .0, refl, e .1))) (λ y h. h)
 
 add-x : tie.Need-add-x Inv-loop μ-loop
-add-x c =
-    let at-loop = c .before .before .before .before .before .before .before .before in
-    let at-lowest = at-loop .before in let a = at-lowest .before .before .args in
-    omega (arith, at-loop .loop .inv .0, c .if2 .left, all-is at-lowest, mask-lt 8 (λ q. ltb 0 (rankAt (capsOf (a .parts .now) (a .shape .components)) q)))
+add-x c = let start : Start = search in let a = start .args in let at-loop : At-loop = search in
+    omega (arith, at-loop .loop .inv .0, c .if2 .left, all-is (search), mask-lt 8 (λ q. ltb 0 (rankAt (capsOf (a .parts .now) (a .shape .components)) q)))
 
 loop-less : tie.Need-loop-less Inv-loop μ-loop
-loop-less c = let at-loop = c .before .before .before .before .before .before .before .before in omega (arith, at-loop .loop .inv .0, c .if2 .left)
+loop-less c = let at-loop : At-loop = search in omega (arith, at-loop .loop .inv .0, c .if2 .left)
 
 loop-again : tie.Need-loop-again Inv-loop μ-loop
-loop-again c =
-    let at-loop = c .before .before .before .before .before .before .before .before in
-    let l = at-loop .loop in (
+loop-again c = let at-loop : At-loop = search in let l = at-loop .loop in let at-visit-set : After-visit-set = search in
+    let start : Start = search in (
       omega (arith, l .inv .0, c .if2 .left),
       c .before .if1 .left,
-      λ r T R. let i = l .inv .2 r T R in
-          upto-next i (l .inv .1) (c .before .before .before .before .visit-set .ensures r T (all-kept i R))
-          (λ y h. (h .0, h .1, (h .2 .0, after-kept i (Leads (automaton r) (at-loop .before .before .before .args .shape .s) (h .0)) (h .2 .1)))),
+      λ r T R. let i = l .inv .2 r T R in upto-next i (l .inv .1) (at-visit-set .visit-set .ensures r T (all-kept i R))
+          (λ y h. (h .0, h .1, (h .2 .0, after-kept i (Leads (automaton r) (start .args .shape .s) (h .0)) (h .2 .1)))),
     )
 
 pub round-spec : {M : Type 1} → statement M
 round-spec = tie.close (tie.spec
-    Inv-loop μ-loop (λ c κs. search needs) (λ c. search needs) (λ c. (omega arith, refl, λ r T R. upto-start (c .before .before .pre .1)))
-    visit-set-requires (λ c. c .before .before .before .visit-set .kept .0 ∙ long-at (c .before .before .before .before .before .before .before))
-    returns
-    (λ c. c .before .before .before .before .visit-set .kept .0 ∙ long-at (c .before .before .before .before .before .before .before .before))
+    Inv-loop μ-loop (λ c κs. search needs) (λ c. search needs) (λ c. let start : Start = search in (omega arith, refl, λ r T R. upto-start (start .pre .1)))
+    visit-set-requires (λ c. let at-visit-set : After-visit-set = search in at-visit-set .visit-set .kept .0 ∙ long-at (search)) returns
+    (λ c. let at-visit-set : After-visit-set = search in at-visit-set .visit-set .kept .0 ∙ long-at (search))
     returns-2 add-x loop-less loop-again)

@@ -23,33 +23,40 @@ Inv-loop out₀ keys heads last shape opens parts g₀ j₀ out g j =
 abbrev μ-loop : tie.MeasureT-loop
 μ-loop out₀ keys heads last shape opens parts g₀ j₀ out g j = length keys - j
 
-loop-holds : tie.Need-loop-holds Inv-loop μ-loop
-loop-holds c = (omega arith, refl, refl, omega arith, λ r T R. emitted-start (omega arith))
+abbrev Start : Type 0
+Start = tie.Start Inv-loop μ-loop
+
+abbrev At-loop : Type 0
+At-loop = tie.At-loop Inv-loop μ-loop
 
 loop-again : tie.Need-loop-again Inv-loop μ-loop
-loop-again c = let v = c .before .before .before .loop .inv in let b = c .before .core-before .ensures .0 (c .if1 .taken) in
-    (omega (arith, c .before .before .loop-test .taken), v .1, v .2, v .3, λ r T R. emitted-skip (v .4 r T R) (λ y f. (b .0, b .1, rw (ap (λ (x : ℕ). x / 256) (b .2)) f)))
+loop-again c = let at-loop : At-loop = search in let v = at-loop .loop .inv in let b = c .before .core-before .ensures .0 (c .if1 .taken) in
+    let in-loop : tie.In-loop Inv-loop μ-loop = search in
+    (omega (arith, in-loop .loop-test .taken), v .1, v .2, v .3, λ r T R. emitted-skip (v .4 r T R) (λ y f. (b .0, b .1, rw (ap (λ (x : ℕ). x / 256) (b .2)) f)))
 
 emit-core-requires : tie.Need-emit-core-requires Inv-loop μ-loop
 emit-core-requires c κs =
-    let start = c .before .before .before .before .before .before .before in
-    let p = start .pre in (p .0, p .1, c .before .before .before .loop-test .taken, c .before .before .before .before .loop .inv .3)
+    let start : Start = search in let p = start .pre in let in-loop : tie.In-loop Inv-loop μ-loop = search in let at-loop : At-loop = search in
+    (p .0, p .1, in-loop .loop-test .taken, at-loop .loop .inv .3)
 
 same-length : tie.Need-same-length Inv-loop μ-loop
-same-length c = c .before .before .before .emit-core .kept .0 ∙ c .before .before .before .before .before .before .before .before .loop .inv .2
+same-length c =
+    let at-emit-core : tie.After-emit-core Inv-loop μ-loop = search in let at-loop : At-loop = search in at-emit-core .emit-core .kept .0 ∙ at-loop .loop .inv .2
 
 returns : tie.Need-returns Inv-loop μ-loop
 returns c =
-    let at-core-before = c .before .before .before .before .before .before in let at-loop = at-core-before .before .before in
-    let l = at-loop .loop in let inside = at-core-before .before .loop-test .taken in let new = at-core-before .core-before .ensures .1 (c .before .before .before .before .before .if1 .left) in
-    λ r T R. emitted-over (l .inv .4 r T R) (l .inv .1) (c .before .before .before .emit-core .ensures r T R)
-    (fresh T (at-loop .before .before .before .pre .1) R (l .j) inside new) inside (c .if2 .taken)
+    let at-loop : At-loop = search in let l = at-loop .loop in let at-core-before : tie.After-core-before Inv-loop μ-loop = search in
+    let inside = at-core-before .before .loop-test .taken in let else1 : tie.Else1 Inv-loop μ-loop = search in let new = at-core-before .core-before .ensures .1 (else1 .if1 .left) in
+    let at-emit-core : tie.After-emit-core Inv-loop μ-loop = search in let start : Start = search in
+    λ r T R. emitted-over (l .inv .4 r T R) (l .inv .1) (at-emit-core .emit-core .ensures r T R)
+    (fresh T (start .pre .1) R (l .j) inside new) inside (c .if2 .taken)
 
 loop-again-2 : tie.Need-loop-again-2 Inv-loop μ-loop
 loop-again-2 c =
-    let at-core-before = c .before .before .before .before .before .before in let at-loop = at-core-before .before .before in
-    let l = at-loop .loop in let inside = at-core-before .before .loop-test .taken in let new = at-core-before .core-before .ensures .1 (c .before .before .before .before .before .if1 .left) in
-    let p = at-loop .before .before .before .pre in let e = p .0 in let g = c .before .before .before .emit-core in (
+    let at-loop : At-loop = search in let l = at-loop .loop in let at-core-before : tie.After-core-before Inv-loop μ-loop = search in
+    let inside = at-core-before .before .loop-test .taken in let else1 : tie.Else1 Inv-loop μ-loop = search in let new = at-core-before .core-before .ensures .1 (else1 .if1 .left) in
+    let start : Start = search in let p = start .pre in let e = p .0 in let at-emit-core : tie.After-emit-core Inv-loop μ-loop = search in
+    let g = at-emit-core .emit-core in (
       omega (arith, inside),
       c .if2 .left,
       g .kept .0 ∙ l .inv .2,
@@ -59,10 +66,10 @@ loop-again-2 c =
 
 returns-2 : tie.Need-returns-2 Inv-loop μ-loop
 returns-2 c =
-    let l = c .before .loop in let e : l .j ≡ length (c .before .before .before .before .args .keys .now) = omega (arith, l .inv .0, c .loop-test .left) in
+    let l = c .before .loop in let start : Start = search in let e : l .j ≡ length (start .args .keys .now) = omega (arith, l .inv .0, c .loop-test .left) in
     λ r T R. rw e at (l .inv .4 r T R)
 
 pub emit-spec : {M : Type 1} → statement M
 emit-spec = tie.close (tie.spec
-    Inv-loop μ-loop loop-holds (λ c κs. search needs) (λ c. search needs) (λ c. search needs) loop-again emit-core-requires same-length returns
-    (λ c. search needs) (λ c. search needs) loop-again-2 (λ c. c .before .loop .inv .2) returns-2)
+    Inv-loop μ-loop (λ c. (omega arith, refl, refl, omega arith, λ r T R. emitted-start (omega arith))) (λ c κs. search needs) (λ c. search needs) (λ c. search needs) loop-again
+    emit-core-requires same-length returns (λ c. search needs) (λ c. search needs) loop-again-2 (λ c. c .before .loop .inv .2) returns-2)

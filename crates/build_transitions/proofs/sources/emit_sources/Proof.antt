@@ -17,40 +17,49 @@ Inv-loop out₀ m keys heads last step parts levels g₀ i₀ out g i =
 abbrev μ-loop : tie.MeasureT-loop
 μ-loop out₀ m keys heads last step parts levels g₀ i₀ out g i = i
 
+abbrev Start : Type 0
+Start = tie.Start Inv-loop μ-loop
+
+abbrev At-loop : Type 0
+At-loop = tie.At-loop Inv-loop μ-loop
+
+abbrev After-emit-source : Type 0
+After-emit-source = tie.After-emit-source Inv-loop μ-loop
+
 loop-holds : tie.Need-loop-holds Inv-loop μ-loop
-loop-holds c = let p = c .before .before .before .pre in rw (c .chain-top .ensures) (turn-start (p .0) (p .1) (p .7))
+loop-holds c = let start : Start = search in let p = start .pre in rw (c .chain-top .ensures) (turn-start (p .0) (p .1) (p .7))
 
 mul-x : tie.Need-mul-x Inv-loop μ-loop
-mul-x c = omega (arith, walk-inside (c .loop .inv .walked), c .before .before .before .before .pre .0 .few)
+mul-x c = let start : Start = search in omega (arith, walk-inside (c .loop .inv .walked), start .pre .0 .few)
 
 emit-source-requires : tie.Need-emit-source-requires Inv-loop μ-loop
-emit-source-requires c κs =
-    let start = c .before .before .before .before .before .before in
-    let p = start .pre in let l = c .before .before .loop in let key = and-mask (getD (start .args .keys .now) (l .i) 0) 48 in let inside = walk-inside (l .inv .walked) in
+emit-source-requires c κs = let start : Start = search in let p = start .pre in let at-loop : At-loop = search in let l = at-loop .loop in
+    let key = and-mask (getD (start .args .keys .now) (l .i) 0) 48 in let inside = walk-inside (l .inv .walked) in
     (p .0, inside, key, rw key (p .2 (l .i) inside), p .3, p .4, p .6, l .inv .walked .made .kept .fits)
 
 same-length : tie.Need-same-length Inv-loop μ-loop
-same-length c = c .before .before .before .emit-source .kept .0 ∙ c .before .before .before .before .before .before .loop .inv .walked .made .long
+same-length c = let at-emit-source : After-emit-source = search in let at-loop : At-loop = search in
+    at-emit-source .emit-source .kept .0 ∙ at-loop .loop .inv .walked .made .long
 
 returns : tie.Need-returns Inv-loop μ-loop
-returns c = let start = c .before .before .before .before .before .before .before .before .before .before in
-    turn-full (c .before .before .before .before .before .before .loop .inv) (start .pre .0) (c .before .before .before .emit-source .ensures) (c .if1 .taken)
+returns c = let start : Start = search in let at-loop : At-loop = search in let at-emit-source : After-emit-source = search in
+    turn-full (at-loop .loop .inv) (start .pre .0) (at-emit-source .emit-source .ensures) (c .if1 .taken)
 
 same-length-2 : tie.Need-same-length-2 Inv-loop μ-loop
-same-length-2 c =
-    c .before .before .before .before .emit-source .kept .0 ∙ c .before .before .before .before .before .before .before .loop .inv .walked .made .long
+same-length-2 c = let at-emit-source : After-emit-source = search in let at-loop : At-loop = search in
+    at-emit-source .emit-source .kept .0 ∙ at-loop .loop .inv .walked .made .long
 
 returns-2 : tie.Need-returns-2 Inv-loop μ-loop
-returns-2 c = let at-loop = c .before .before .before .before .before .before .before in
-    turn-end (at-loop .loop .inv) (at-loop .before .before .before .before .pre .0) (c .before .before .before .before .emit-source .ensures) (c .if2 .taken)
+returns-2 c = let at-loop : At-loop = search in let start : Start = search in let at-emit-source : After-emit-source = search in
+    turn-end (at-loop .loop .inv) (start .pre .0) (at-emit-source .emit-source .ensures) (c .if2 .taken)
 
 loop-less : tie.Need-loop-less Inv-loop μ-loop
-loop-less c = let at-loop = c .before .before .before .before .before .before .before in
-    walk-less (at-loop .loop .inv .walked) (at-loop .before .before .before .before .pre .0 .links) (c .if2 .left)
+loop-less c =
+    let at-loop : At-loop = search in let start : Start = search in walk-less (at-loop .loop .inv .walked) (start .pre .0 .links) (c .if2 .left)
 
 loop-again : tie.Need-loop-again Inv-loop μ-loop
-loop-again c = let at-loop = c .before .before .before .before .before .before .before in
-    turn-next (at-loop .loop .inv) (at-loop .before .before .before .before .pre .0) (c .before .before .before .before .emit-source .ensures) (c .before .if1 .left) (c .if2 .left)
+loop-again c = let at-loop : At-loop = search in let start : Start = search in let at-emit-source : After-emit-source = search in
+    turn-next (at-loop .loop .inv) (start .pre .0) (at-emit-source .emit-source .ensures) (c .before .if1 .left) (c .if2 .left)
 
 pub emit-sources-spec : {M : Type 1} → statement M
 emit-sources-spec = tie.close (tie.spec

@@ -16,9 +16,9 @@ abbrev μ-loop : tie.MeasureT-loop
 
 put-requires : tie.Need-put-requires Inv-loop μ-loop
 put-requires c κs =
-    let start = c .before .before .before .before .before .before .before in
-    let a = start .args in let p = start .pre in let l = c .before .before .before .before .before .loop in let inside : l .p < length (a .codes .now) =
-    omega (arith, c .before .before .before .before .loop-test .taken, l .inv .1 .long) in (
+    let start : tie.Start Inv-loop μ-loop = search in let a = start .args in let p = start .pre in let at-loop : tie.At-loop Inv-loop μ-loop = search in let l = at-loop .loop in
+    let in-loop : tie.In-loop Inv-loop μ-loop = search in let inside : l .p < length (a .codes .now) =
+    omega (arith, in-loop .loop-test .taken, l .inv .1 .long) in (
       l .inv .1 .chained,
       omega (arith, inside, l .inv .1 .long),
       rw (key-read (l .inv .1) (p .2 (l .p) inside))
@@ -27,22 +27,19 @@ put-requires c κs =
 
 loop-less : tie.Need-loop-less Inv-loop μ-loop
 loop-less c =
-    let at-loop-test = c .before .before .before .before .before .before .before in let at-loop = at-loop-test .before in
-    let l = at-loop .loop in omega (arith, at-loop-test .loop-test .taken, l .inv .1 .long)
+    let at-loop : tie.At-loop Inv-loop μ-loop = search in let l = at-loop .loop in let in-loop : tie.In-loop Inv-loop μ-loop = search in
+    omega (arith, in-loop .loop-test .taken, l .inv .1 .long)
 
 loop-again : tie.Need-loop-again Inv-loop μ-loop
 loop-again c =
-    let at-loop-test = c .before .before .before .before .before .before .before in
-    let at-loop = at-loop-test .before in let start = at-loop .before .before in
-    let a = start .args in let p = start .pre in let l = at-loop .loop in let e = c .before .before .put .ensures in let inside : l .p < length (a .codes .now) =
-    omega (arith, at-loop-test .loop-test .taken, l .inv .1 .long) in
+    let start : tie.Start Inv-loop μ-loop = search in let a = start .args in let p = start .pre in let at-loop : tie.At-loop Inv-loop μ-loop = search in let l = at-loop .loop in
+    let at-put : tie.After-put Inv-loop μ-loop = search in let e = at-put .put .ensures in let in-loop : tie.In-loop Inv-loop μ-loop = search in
+    let inside : l .p < length (a .codes .now) = omega (arith, in-loop .loop-test .taken, l .inv .1 .long) in
     (omega arith, rw (e .0, e .1, e .2) (chaining-next (l .inv .1) (p .1) (p .2) inside (key-read (l .inv .1) (p .2 (l .p) inside))))
 
 returns : tie.Need-returns Inv-loop μ-loop
-returns c =
-    let l = c .before .loop in let a = c .before .before .before .args in
-    let e : l .p ≡ length (a .codes .now) = omega (arith, l .inv .0, l .inv .1 .long, c .loop-test .left) in
-    (rw e at (l .inv .1 .chained), λ p h. l .inv .1 .done p (omega arith))
+returns c = let l = c .before .loop in let start : tie.Start Inv-loop μ-loop = search in let a = start .args in
+    let e : l .p ≡ length (a .codes .now) = omega (arith, l .inv .0, l .inv .1 .long, c .loop-test .left) in (rw e at (l .inv .1 .chained), λ p h. l .inv .1 .done p (omega arith))
 
 pub chain-spec : {M : Type 1} → statement M
 chain-spec = tie.close (tie.spec

@@ -7,10 +7,10 @@ use Rattle.build_visit.proofs.initial.in_set.Statement.{statement}
 use Rattle.build_visit.proofs.initial.in_set.Tie as tie
 
 returns : tie.Need-returns
-returns c = let a = c .before .before .args in ap not (c .before .contains .ensures) ∙ in-set-ranked (a .ranks) (a .accepting) (a .q) (c .if1 .taken)
+returns c = let start : tie.Start = search in let a = start .args in ap not (c .before .contains .ensures) ∙ in-set-ranked (a .ranks) (a .accepting) (a .q) (c .if1 .taken)
 
 returns-2 : tie.Need-returns-2
-returns-2 c = let a = c .before .before .args in c .before .contains .ensures ∙ in-set-closed (a .ranks) (a .accepting) (a .q) (c .if1 .left)
+returns-2 c = let start : tie.Start = search in let a = start .args in c .before .contains .ensures ∙ in-set-closed (a .ranks) (a .accepting) (a .q) (c .if1 .left)
 
 pub in-set-spec : {M : Type 1} → statement M
 in-set-spec = tie.close (tie.spec (λ c. search needs) (λ c κs. search needs) (λ c. search needs) (λ c. search needs) returns returns-2)

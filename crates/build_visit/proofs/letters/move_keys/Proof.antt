@@ -15,43 +15,51 @@ Inv-loop keys₀ heads₀ last₀ n from step parts levels g₀ i₀ keys heads 
 abbrev μ-loop : tie.MeasureT-loop
 μ-loop keys₀ heads₀ last₀ n from step parts levels g₀ i₀ keys heads last g i = i
 
+abbrev Start : Type 0
+Start = tie.Start Inv-loop μ-loop
+
+abbrev At-loop : Type 0
+At-loop = tie.At-loop Inv-loop μ-loop
+
+abbrev After-move-key : Type 0
+After-move-key = tie.After-move-key Inv-loop μ-loop
+
 loop-holds : tie.Need-loop-holds Inv-loop μ-loop
-loop-holds c = let p = c .before .before .before .pre in rw (c .chain-top .ensures) (turn-start (p .0) (omega (arith, p .1)))
+loop-holds c = let start : Start = search in let p = start .pre in rw (c .chain-top .ensures) (turn-start (p .0) (omega (arith, p .1)))
 
 mul-x : tie.Need-mul-x Inv-loop μ-loop
-mul-x c = let p = c .before .before .before .before .before .pre in omega (arith, walk-inside (c .before .loop .inv .walked), p .0 .fits, p .0 .few)
+mul-x c = let start : Start = search in let p = start .pre in omega (arith, walk-inside (c .before .loop .inv .walked), p .0 .fits, p .0 .few)
 
 slice-read-x : tie.Need-slice-read-x Inv-loop μ-loop
-slice-read-x c = let l = c .before .before .loop in omega (arith, walk-inside (l .inv .walked), c .before .before .before .before .before .before .pre .0 .fits, l .inv .walked .made .long)
+slice-read-x c = let at-loop : At-loop = search in let l = at-loop .loop in let start : Start = search in
+    omega (arith, walk-inside (l .inv .walked), start .pre .0 .fits, l .inv .walked .made .long)
 
 move-key-requires : tie.Need-move-key-requires Inv-loop μ-loop
-move-key-requires c κs =
-    let start = c .before .before .before .before .before .before .before .before .before in
-    let p = start .pre in let l = c .before .before .before .before .before .loop in (l .inv .walked .made .kept, turn-paired (l .inv) (p .2), p .3, p .4)
+move-key-requires c κs = let start : Start = search in let p = start .pre in let at-loop : At-loop = search in let l = at-loop .loop in
+    (l .inv .walked .made .kept, turn-paired (l .inv) (p .2), p .3, p .4)
 
 same-length : tie.Need-same-length Inv-loop μ-loop
-same-length c =
-    c .before .before .before .move-key .kept .0 ∙ c .before .before .before .before .before .before .before .before .before .loop .inv .walked .made .long
+same-length c = let at-move-key : After-move-key = search in let at-loop : At-loop = search in
+    at-move-key .move-key .kept .0 ∙ at-loop .loop .inv .walked .made .long
 
 returns : tie.Need-returns Inv-loop μ-loop
-returns c = let at-loop = c .before .before .before .before .before .before .before .before .before in
-    turn-full (at-loop .loop .inv) (c .before .before .before .move-key .ensures) (c .if1 .taken)
+returns c = let at-loop : At-loop = search in let at-move-key : After-move-key = search in
+    turn-full (at-loop .loop .inv) (at-move-key .move-key .ensures) (c .if1 .taken)
 
 same-length-2 : tie.Need-same-length-2 Inv-loop μ-loop
-same-length-2 c = let at-loop = c .before .before .before .before .before .before .before .before .before .before in
-    c .before .before .before .before .move-key .kept .0 ∙ at-loop .loop .inv .walked .made .long
+same-length-2 c = let at-loop : At-loop = search in let at-move-key : After-move-key = search in
+    at-move-key .move-key .kept .0 ∙ at-loop .loop .inv .walked .made .long
 
 returns-2 : tie.Need-returns-2 Inv-loop μ-loop
-returns-2 c = let at-loop = c .before .before .before .before .before .before .before .before .before .before in
-    turn-end (at-loop .loop .inv) (c .before .before .before .before .move-key .ensures) (c .if2 .taken)
+returns-2 c = let at-loop : At-loop = search in let at-move-key : After-move-key = search in
+    turn-end (at-loop .loop .inv) (at-move-key .move-key .ensures) (c .if2 .taken)
 
 loop-less : tie.Need-loop-less Inv-loop μ-loop
-loop-less c = let at-loop = c .before .before .before .before .before .before .before .before .before .before in
-    turn-less (at-loop .loop .inv) (at-loop .before .before .before .before .pre .0) (c .if2 .left)
+loop-less c = let at-loop : At-loop = search in let start : Start = search in turn-less (at-loop .loop .inv) (start .pre .0) (c .if2 .left)
 
 loop-again : tie.Need-loop-again Inv-loop μ-loop
-loop-again c = let at-loop = c .before .before .before .before .before .before .before .before .before .before in
-    turn-next (at-loop .loop .inv) (c .before .before .before .before .move-key .ensures) (c .before .if1 .left) (at-loop .before .before .before .before .pre .0) (c .if2 .left)
+loop-again c = let at-loop : At-loop = search in let at-move-key : After-move-key = search in let start : Start = search in
+    turn-next (at-loop .loop .inv) (at-move-key .move-key .ensures) (c .before .if1 .left) (start .pre .0) (c .if2 .left)
 
 pub move-keys-spec : {M : Type 1} → statement M
 move-keys-spec = tie.close (tie.spec

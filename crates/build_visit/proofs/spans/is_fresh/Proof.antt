@@ -19,18 +19,19 @@ abbrev μ-loop : tie.MeasureT-loop
 
 loop-again : tie.Need-loop-again Inv-loop μ-loop
 loop-again c =
-    let start = c .before .before .before .before .before .before .before in
-    let a = start .args in let l = c .before .before .before .before .before .before .loop in
+    let start : tie.Start Inv-loop μ-loop = search in let a = start .args in let at-loop : tie.At-loop Inv-loop μ-loop = search in let l = at-loop .loop in
+    let at-set-before : tie.After-set-before Inv-loop μ-loop = search in let at-last-of : tie.After-last-of Inv-loop μ-loop = search in
     let old : getD (a .last .now) (bitXor (getD (a .opens .now) (l .a * 256 + a .x) 0) (a .shape .accepting)) 0 ≤ a .from =
-    rw (← c .before .before .before .set-before .ensures) (let z : getD (a .last .now) (c .before .before .before .set-before .result) 0 ≤ a .from =
-    omega (arith, c .before .wide .ensures, c .before .before .last-of .ensures, c .if2 .left) in z) in
-    (omega (arith, c .before .before .before .before .if1 .taken), λ b h. by-cases (decLt b (l .a)) (λ k. l .inv .1 b k) (λ k. let e : b ≡ l .a = omega arith in rw e old))
+    rw (← at-set-before .set-before .ensures) (let z : getD (a .last .now) (at-set-before .set-before .result) 0 ≤ a .from =
+    omega (arith, c .before .wide .ensures, at-last-of .last-of .ensures, c .if2 .left) in z) in
+    let then1 : tie.Then1 Inv-loop μ-loop = search in
+    (omega (arith, then1 .if1 .taken), λ b h. by-cases (decLt b (l .a)) (λ k. l .inv .1 b k) (λ k. let e : b ≡ l .a = omega arith in rw e old))
 
 returns-2 : tie.Need-returns-2 Inv-loop μ-loop
-returns-2 c = λ t b h. c .before .before .loop .inv .1 b (omega (arith, c .if1 .left))
+returns-2 c = let at-loop : tie.At-loop Inv-loop μ-loop = search in λ t b h. at-loop .loop .inv .1 b (omega (arith, c .if1 .left))
 
 pub is-fresh-spec : {M : Type 1} → statement M
 is-fresh-spec = tie.close (tie.spec
-    Inv-loop μ-loop (λ c. (omega arith, λ b h. absurd (omega arith))) (λ c κs. omega (arith, c .if1 .taken, c .before .before .before .pre))
+    Inv-loop μ-loop (λ c. (omega arith, λ b h. absurd (omega arith))) (λ c κs. let start : tie.Start Inv-loop μ-loop = search in omega (arith, c .if1 .taken, start .pre))
     (λ c κs. search needs) (λ c κs. search needs) (λ c t. absurd (true≢false t)) (λ c. search needs)
-    (λ c. omega (arith, c .before .before .before .before .if1 .taken)) loop-again returns-2)
+    (λ c. let then1 : tie.Then1 Inv-loop μ-loop = search in omega (arith, then1 .if1 .taken)) loop-again returns-2)

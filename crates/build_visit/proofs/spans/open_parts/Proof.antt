@@ -17,7 +17,7 @@ abbrev μ-loop : tie.MeasureT-loop
 
 loop-again : tie.Need-loop-again Inv-loop μ-loop
 loop-again c =
-    let a = c .before .before .before .args in let l = c .before .before .loop in (
+    let start : tie.Start Inv-loop μ-loop = search in let a = start .args in let at-loop : tie.At-loop Inv-loop μ-loop = search in let l = at-loop .loop in (
       omega (arith, c .before .loop-test .taken),
       simp length-set (l .inv .1),
       put-next (λ q. bitAnd (getD (a .parts .now) q 0) (a .x)) (l .those) (l .c) (bitAnd (getD (a .parts .now) (l .c) 0) (a .x)) (omega (arith, c .before .loop-test .taken, l .inv .1)) refl

@@ -5,10 +5,10 @@ use Rattle.cases.proofs.text.byte.Statement.{statement}
 use Rattle.cases.proofs.text.byte.Tie as tie
 
 cast-result : tie.Need-cast-result
-cast-result c = omega (arith, c .shared-slice-known .given (c .before .before .args .i))
+cast-result c = let start : tie.Start = search in omega (arith, c .shared-slice-known .given (start .args .i))
 
 returns : tie.Need-returns
-returns c = omega (arith, c .shared-slice-known .given (c .before .before .args .i))
+returns c = let start : tie.Start = search in omega (arith, c .shared-slice-known .given (start .args .i))
 
 pub byte-spec : {M : Type 1} → statement M
 byte-spec = tie.close (tie.spec (λ c. search needs) cast-result returns (λ c. search needs))

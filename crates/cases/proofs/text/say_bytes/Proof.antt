@@ -12,9 +12,8 @@ abbrev μ-loop : tie.MeasureT-loop
 μ-loop bytes i₀ i = length bytes - i
 
 cast-say-number : tie.Need-cast-say-number Inv-loop μ-loop
-cast-say-number c = omega (arith, c .shared-slice-known2 .given (c .before .before .loop .i))
+cast-say-number c = let at-loop : tie.At-loop Inv-loop μ-loop = search in omega (arith, c .shared-slice-known2 .given (at-loop .loop .i))
 
 pub say-bytes-spec : {M : Type 1} → statement M
-say-bytes-spec =
-    tie.close (tie.spec
+say-bytes-spec = tie.close (tie.spec
     Inv-loop μ-loop (λ c. omega arith) (λ c. omega arith) cast-say-number (λ c κs. tt) (λ c. omega arith) (λ c. omega arith) (λ c. omega arith) (λ c. tt))

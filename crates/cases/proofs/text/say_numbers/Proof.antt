@@ -13,9 +13,8 @@ abbrev μ-loop : tie.MeasureT-loop
 μ-loop numbers i₀ i = length numbers - i
 
 mul-say-number : tie.Need-mul-say-number Inv-loop μ-loop
-mul-say-number c = scaled-fits _ (length (c .before .before .before .args .numbers .now)) 8 (omega arith) (c .before .before .before .good .0 .1)
+mul-say-number c = let start : tie.Start Inv-loop μ-loop = search in scaled-fits _ (length (start .args .numbers .now)) 8 (omega arith) (start .good .0 .1)
 
 pub say-numbers-spec : {M : Type 1} → statement M
-say-numbers-spec =
-    tie.close (tie.spec
+say-numbers-spec = tie.close (tie.spec
     Inv-loop μ-loop (λ c. omega arith) mul-say-number (λ c. omega arith) (λ c κs. tt) (λ c. omega arith) (λ c. omega arith) (λ c. omega arith) (λ c. tt))

@@ -16,14 +16,13 @@ abbrev μ-loop : tie.MeasureT-loop
 
 loop-again : tie.Need-loop-again Inv-loop μ-loop
 loop-again c =
-    let l = c .before .before .loop in
-    omega (arith, c .shared-slice-known .given (l .i), sum-next (c .before .before .before .args .xs .now) (l .i) (omega arith))
+    let at-loop : tie.At-loop Inv-loop μ-loop = search in let l = at-loop .loop in let start : tie.Start Inv-loop μ-loop = search in
+    omega (arith, c .shared-slice-known .given (l .i), sum-next (start .args .xs .now) (l .i) (omega arith))
 
 returns : tie.Need-returns Inv-loop μ-loop
-returns c = omega (arith, sum-end (c .before .before .args .xs .now) (c .before .loop .i) (omega arith))
+returns c = let start : tie.Start Inv-loop μ-loop = search in omega (arith, sum-end (start .args .xs .now) (c .before .loop .i) (omega arith))
 
 pub total-spec : {M : Type 1} → statement M
-total-spec =
-    tie.close (tie.spec
-    Inv-loop μ-loop (λ c. omega arith) (λ c. omega arith) (λ c. omega (arith, c .shared-slice-known .given (c .before .before .loop .i)))
-    (λ c. omega (arith, c .shared-slice-known .given (c .before .before .loop .i))) (λ c. omega arith) (λ c. omega arith) loop-again returns)
+total-spec = tie.close (tie.spec
+    Inv-loop μ-loop (λ c. omega arith) (λ c. omega arith) (λ c. let at-loop : tie.At-loop Inv-loop μ-loop = search in omega (arith, c .shared-slice-known .given (at-loop .loop .i)))
+    (λ c. let at-loop : tie.At-loop Inv-loop μ-loop = search in omega (arith, c .shared-slice-known .given (at-loop .loop .i))) (λ c. omega arith) (λ c. omega arith) loop-again returns)

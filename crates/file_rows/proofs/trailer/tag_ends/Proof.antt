@@ -10,16 +10,13 @@ use Rattle.file_rows.proofs.trailer.tag_ends.Tie as tie
 
 returns : tie.Need-returns
 unfolding tagged
-returns c =
-    let f = c .before .before .before .args .f .now in
-    let first : eqb (trailer f 6) 0x41 ≡ false = rw (← c .before .trailer-byte .ensures) (ne-eqb (c .before .trailer-byte .result) 0x41 (c .if1 .taken)) in
-    rw first
+returns c = let start : tie.Start = search in let f = start .args .f .now in
+    let first : eqb (trailer f 6) 0x41 ≡ false = rw (← c .before .trailer-byte .ensures) (ne-eqb (c .before .trailer-byte .result) 0x41 (c .if1 .taken)) in rw first
 
 returns-2 : tie.Need-returns-2
 unfolding tagged
-returns-2 c =
-    let f = c .before .before .before .before .args .f .now in
-    let first : eqb (trailer f 6) 0x41 ≡ true = rw (← c .before .before .trailer-byte .ensures) (eq-eqb (c .before .before .trailer-byte .result) 0x41 (c .before .if1 .left)) in
+returns-2 c = let start : tie.Start = search in let f = start .args .f .now in let at-trailer-byte : tie.After-trailer-byte = search in
+    let first : eqb (trailer f 6) 0x41 ≡ true = rw (← at-trailer-byte .trailer-byte .ensures) (eq-eqb (at-trailer-byte .trailer-byte .result) 0x41 (c .before .if1 .left)) in
     rw (first, c .trailer-byte2 .ensures)
 
 pub tag-ends-spec : {M : Type 1} → statement M

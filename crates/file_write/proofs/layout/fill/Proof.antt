@@ -12,10 +12,9 @@ use Rattle.file_write.proofs.layout.fill.Tie as tie
 
 returns : tie.Need-returns
 returns c =
-    let start = c .before .before .before .before .before .before .before .before .before .before .before .before in
-    let a = start .args in let p = start .pre in
-    let f = bodyOf (ruleOf (a .h) (a .counts .now) (a .clauses .now)) in
-    c .before .before .fill-rule .ensures ∙ rw (c .before .before .before .before .before .before .fill-names .ensures)
+    let start : tie.Start = search in let a = start .args in let p = start .pre in let f = bodyOf (ruleOf (a .h) (a .counts .now) (a .clauses .now)) in
+    let at-fill-rule : tie.After-fill-rule = search in let at-fill-names : tie.After-fill-names = search in
+    at-fill-rule .fill-rule .ensures ∙ rw (at-fill-names .fill-names .ensures)
     (fill-both (a .out .now) (prefaceFrom (a .names .now)) f (a .at) (p .1) (omega (arith, p .2, length-body (ruleOf (a .h) (a .counts .now) (a .clauses .now)))))
 
 pub fill-spec : {M : Type 1} → statement M

@@ -11,20 +11,18 @@ use Rattle.file_write.proofs.layout.fill_names.Statement.{statement}
 use Rattle.file_write.proofs.layout.fill_names.Tie as tie
 
 returns : tie.Need-returns
-returns c = let a = c .before .before .before .args in fill-none (a .out .now) (a .names .now) (c .if1 .taken)
+returns c = let start : tie.Start = search in let a = start .args in fill-none (a .out .now) (a .names .now) (c .if1 .taken)
 
 -- there is room for the names and 4E 4D
-room : (c : tie.Else1) → length (c .before .before .before .args .names .now) + 2 ≤ length (c .before .before .before .args .out .now)
-room c = omega (arith, c .before .before .before .pre, length-preface (c .before .before .before .args .names .now) .1 (c .if1 .left))
+room : (c : tie.Else1) → let start : tie.Start = search in length (start .args .names .now) + 2 ≤ length (start .args .out .now)
+room c = let start : tie.Start = search in omega (arith, start .pre, length-preface (start .args .names .now) .1 (c .if1 .left))
 
 returns-2 : tie.Need-returns-2
 returns-2 c =
-    let at-put = c .before .before .before .before .before .before .before in let earlier = at-put .before .before in
-    let start = earlier .before .before .before in let a = start .args in let e = earlier in
-    put-paste (c .before .before .put2 .ensures) ∙ rw (put-paste (at-put .put .ensures)) (fill-some (a .out .now) (a .names .now) (e .if1 .left) (room e))
+    let start : tie.Start = search in let a = start .args in let else1 : tie.Else1 = search in let e = else1 in let at-put : tie.After-put = search in
+    let at-put2 : tie.After-put2 = search in put-paste (at-put2 .put2 .ensures) ∙ rw (put-paste (at-put .put .ensures)) (fill-some (a .out .now) (a .names .now) (e .if1 .left) (room e))
 
 pub fill-names-spec : {M : Type 1} → statement M
-fill-names-spec =
-    tie.close (tie.spec
+fill-names-spec = tie.close (tie.spec
     returns (λ c κs. omega (arith, room (c .before))) (λ c. search needs)
-    (λ c κs. omega (arith, room (c .before .before .before .before .before .before))) (λ c. search needs) returns-2)
+    (λ c κs. omega (arith, room (search))) (λ c. search needs) returns-2)

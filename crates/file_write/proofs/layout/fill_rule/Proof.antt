@@ -13,33 +13,27 @@ use Rattle.file_write.proofs.layout.fill_rule.Statement.{statement}
 use Rattle.file_write.proofs.layout.fill_rule.Tie as tie
 
 abbrev start-of-after-low6 : tie.After-low6 → tie.Start
-start-of-after-low6 c = c .before .before .before .before .before .before .before .before .before
+start-of-after-low6 c = search
 
 -- the bytes of the trailer are those of the rule
-tail-is : (c : tie.After-low6) → c .before .before .before .before .before .low .result ∷ c .before .before .before .before .low2 .result ∷ c .before .before .before .low3 .result
-    ∷ c .before .before .low4 .result ∷ c .before .low5 .result ∷ c .low6 .result ∷ 0x41 ∷ 0x57 ∷ []
+tail-is : (c : tie.After-low6) → let at-low : tie.After-low = search in let at-low2 : tie.After-low2 = search in let at-low3 : tie.After-low3 = search in let at-low4 : tie.After-low4 = search in
+    at-low .low .result ∷ at-low2 .low2 .result ∷ at-low3 .low3 .result
+    ∷ at-low4 .low4 .result ∷ c .before .low5 .result ∷ c .low6 .result ∷ 0x41 ∷ 0x57 ∷ []
     ≡ trailerOf (ruleOf (start-of-after-low6 c .args .h) (start-of-after-low6 c .args .counts .now) (start-of-after-low6 c .args .clauses .now))
 unfolding trailerOf
 tail-is c =
-    let clauses = start-of-after-low6 c .args .clauses .now in
-    let low-byte : c .before .low5 .result ≡ length clauses % 256 = c .before .low5 .ensures in
-    let high-byte : c .low6 .result ≡ length clauses / 256 = c .low6 .ensures in
-    cc
+    let clauses = start-of-after-low6 c .args .clauses .now in let low-byte : c .before .low5 .result ≡ length clauses % 256 = c .before .low5 .ensures in
+    let high-byte : c .low6 .result ≡ length clauses / 256 = c .low6 .ensures in cc
 
 returns : tie.Need-returns
 unfolding bodyOf trailerOf
 returns c =
-    let at-put2 = c .before .before .before .before .before .before .before in
-    let at-put = at-put2 .before .before .before .before in let earlier = at-put .before .before in
-    let start = earlier .before .before .before .before .before .before .before .before .before in
-    let a = start .args in
-    put-paste (c .before .before .put3 .ensures)
-    ∙ rw (put-paste (at-put2 .put2 .ensures), put-paste (at-put .put .ensures), tail-is (earlier))
+    let start : tie.Start = search in let a = start .args in let at-put2 : tie.After-put2 = search in let at-put : tie.After-put = search in let at-put3 : tie.After-put3 = search in
+    put-paste (at-put3 .put3 .ensures) ∙ rw (put-paste (at-put2 .put2 .ensures), put-paste (at-put .put .ensures), tail-is (search))
     (paste-three (a .out .now) (a .at) (a .clauses .now) (a .counts .now) (trailerOf (ruleOf (a .h) (a .counts .now) (a .clauses .now))) (start .pre .1))
 
 pub fill-rule-spec : {M : Type 1} → statement M
-fill-rule-spec =
-    tie.close (tie.spec
+fill-rule-spec = tie.close (tie.spec
     (λ c κs. omega arith) (λ c κs. omega arith) (λ c κs. omega arith) (λ c κs. omega arith) (λ c κs. omega arith) (λ c κs. omega arith) (λ c. search needs)
     (λ c. search needs) (λ c. search needs) (λ c. search needs) (λ c κs. search needs) (λ c κs. search needs) (λ c. search needs) (λ c κs. omega arith)
     (λ c. search needs) returns)

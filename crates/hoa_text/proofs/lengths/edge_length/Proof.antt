@@ -8,14 +8,11 @@ use Rattle.hoa_text.proofs.lengths.edge_length.Tie as tie
 
 -- neither is long
 short : (c : tie.After-word-length) → c .before .label-length .result + c .word-length .result ≤ 17
-short c =
-    let a = c .before .before .args in let p = c .before .before .pre in
+short c = let start : tie.Start = search in let a = start .args in let p = start .pre in
     omega (arith, c .before .label-length .ensures, c .word-length .ensures, label-length (a .b) (a .letter) (p .0), word-short (a .target) (p .1))
 
 returns : tie.Need-returns
-returns c =
-    let a = c .before .before .args in
-    omega (arith, c .before .label-length .ensures, c .word-length .ensures, edge-length (a .b) (a .letter) (a .target))
+returns c = let start : tie.Start = search in let a = start .args in omega (arith, c .before .label-length .ensures, c .word-length .ensures, edge-length (a .b) (a .letter) (a .target))
 
 pub edge-length-spec : {M : Type 1} → statement M
 edge-length-spec =

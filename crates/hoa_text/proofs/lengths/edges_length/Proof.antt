@@ -16,45 +16,44 @@ use Rattle.hoa_text.proofs.lengths.edges_length.Statement.{statement}
 use Rattle.hoa_text.proofs.lengths.edges_length.Tie as tie
 
 abbrev Inv-loop : tie.InvT-loop
-Inv-loop b moves m total₀ i₀ total i =
-    (i ≤ length moves / 8) × (total ≡ length (lines (edgeOf b) 0 (take i (wordsIn moves)))) × (total ≤ 20 * i)
+Inv-loop b moves m total₀ i₀ total i = (i ≤ length moves / 8) × (total ≡ length (lines (edgeOf b) 0 (take i (wordsIn moves)))) × (total ≤ 20 * i)
 
 abbrev μ-loop : tie.MeasureT-loop
 μ-loop b moves m total₀ i₀ total i = length moves / 8 - i
+
+abbrev Start : Type 0
+Start = tie.Start Inv-loop μ-loop
 
 loop-holds : tie.Need-loop-holds Inv-loop μ-loop
 loop-holds c = let a = c .before .args in (omega arith, sum-none (edgeOf (a .b)) (wordsIn (a .moves .now)), omega arith)
 
 -- its line is short
-short : (c : tie.After-target-of Inv-loop μ-loop) → length (edgeLine (c .before .before .before .before .before .before .args .b) (c .before .letter-of .result) (c .target-of .result)) ≤ 20
-short c = edge-short (c .before .before .before .before .before .before .args .b) (c .before .letter-of .result) (c .target-of .result) (c .before .before .before .before .before .before .pre .0)
+short : (c : tie.After-target-of Inv-loop μ-loop) → let start : Start = search in
+    length (edgeLine (start .args .b) (c .before .letter-of .result) (c .target-of .result)) ≤ 20
+short c = let start : Start = search in edge-short (start .args .b) (c .before .letter-of .result) (c .target-of .result) (start .pre .0)
     (omega (arith, c .target-of .ensures))
 
 edge-length-requires : tie.Need-edge-length-requires Inv-loop μ-loop
-edge-length-requires c κs = (c .before .before .before .before .before .before .pre .0, omega (arith, c .target-of .ensures))
+edge-length-requires c κs = let start : Start = search in (start .pre .0, omega (arith, c .target-of .ensures))
 
 add-total : tie.Need-add-total Inv-loop μ-loop
-add-total c =
-    let start = c .before .before .before .before .before .before .before in
-    omega (arith, c .edge-length .ensures, short (c .before), start .pre .1, words-in-length (start .args .moves .now))
+add-total c = let start : Start = search in omega (arith, c .edge-length .ensures, short (c .before), start .pre .1, words-in-length (start .args .moves .now))
 
 loop-again : tie.Need-loop-again Inv-loop μ-loop
 loop-again c =
-    let a = c .before .before .before .before .before .before .before .args in let l = c .before .before .before .before .before .loop in
-    let among : l .i < length (wordsIn (a .moves .now)) = omega (arith, words-in-length (a .moves .now)) in
-    let t = c .before .before .before .number-at .ensures in
-    let text : edgeLine (a .b) (c .before .before .letter-of .result) (c .before .target-of .result) ≡ edgeOf (a .b) (l .i) (getD (wordsIn (a .moves .now)) (l .i) 0) =
-    ap₂ (λ (x y : ℕ). edgeLine (a .b) x y) (c .before .before .letter-of .ensures ∙ ap letterOf t) (c .before .target-of .ensures ∙ ap targetOf t) in
-    let total = sum-next (edgeOf (a .b)) (wordsIn (a .moves .now)) (l .i) (l .total) (edgeLine (a .b) (c .before .before .letter-of .result) (c .before .target-of .result)) among (l .inv .1) text in
+    let start : Start = search in let a = start .args in let at-loop : tie.At-loop Inv-loop μ-loop = search in let l = at-loop .loop in
+    let among : l .i < length (wordsIn (a .moves .now)) = omega (arith, words-in-length (a .moves .now)) in let at-number-at : tie.After-number-at Inv-loop μ-loop = search in
+    let t = at-number-at .number-at .ensures in let at-letter-of : tie.After-letter-of Inv-loop μ-loop = search in
+    let text : edgeLine (a .b) (at-letter-of .letter-of .result) (c .before .target-of .result) ≡ edgeOf (a .b) (l .i) (getD (wordsIn (a .moves .now)) (l .i) 0) =
+    ap₂ (λ (x y : ℕ). edgeLine (a .b) x y) (at-letter-of .letter-of .ensures ∙ ap letterOf t) (c .before .target-of .ensures ∙ ap targetOf t) in
+    let total = sum-next (edgeOf (a .b)) (wordsIn (a .moves .now)) (l .i) (l .total) (edgeLine (a .b) (at-letter-of .letter-of .result) (c .before .target-of .result)) among (l .inv .1) text in
     (omega arith, omega (arith, total, c .edge-length .ensures), omega (arith, l .inv .2, c .edge-length .ensures, short (c .before)))
 
 returns : tie.Need-returns Inv-loop μ-loop
-returns c =
-    let a = c .before .before .before .args in let l = c .before .loop in
+returns c = let start : Start = search in let a = start .args in let l = c .before .loop in
     sum-all (edgeOf (a .b)) (wordsIn (a .moves .now)) (l .i) (l .total) (omega (arith, c .loop-test .left, words-in-length (a .moves .now))) (l .inv .1)
 
 pub edges-length-spec : {M : Type 1} → statement M
-edges-length-spec =
-    tie.close (tie.spec
-    Inv-loop μ-loop loop-holds (λ c κs. omega (arith, words-in-length (c .before .before .before .args .moves .now))) (λ c κs. search needs)
+edges-length-spec = tie.close (tie.spec
+    Inv-loop μ-loop loop-holds (λ c κs. let start : Start = search in omega (arith, words-in-length (start .args .moves .now))) (λ c κs. search needs)
     (λ c κs. search needs) edge-length-requires add-total (λ c. omega arith) (λ c. omega arith) loop-again returns)

@@ -17,29 +17,28 @@ Inv-loop b letter total₀ i₀ total i = (1 ≤ i) × (i ≤ b) × (total ≡ l
 abbrev μ-loop : tie.MeasureT-loop
 μ-loop b letter total₀ i₀ total i = b - i
 
+abbrev Start : Type 0
+Start = tie.Start Inv-loop μ-loop
+
 loop-holds : tie.Need-loop-holds Inv-loop μ-loop
 loop-holds c = (omega arith, omega (arith, c .if1 .left), omega (arith, first-counts (c .before .args .letter)))
 
 add-total : tie.Need-add-total Inv-loop μ-loop
-add-total c =
-    let a = c .before .before .before .args in let l = c .before .loop in
-    omega (arith, l .inv .2, label-length (l .i) (a .letter) (omega (arith, c .loop-test .taken, c .before .before .before .pre)))
+add-total c = let start : Start = search in let a = start .args in let l = c .before .loop in
+    omega (arith, l .inv .2, label-length (l .i) (a .letter) (omega (arith, c .loop-test .taken, start .pre)))
 
 loop-again : tie.Need-loop-again Inv-loop μ-loop
 loop-again c =
-    let l = c .before .loop in
-    (omega arith, omega arith, label-counts (c .before .before .before .args .letter) (l .i) (l .total) (l .inv .0) (l .inv .2))
+    let l = c .before .loop in let start : Start = search in (omega arith, omega arith, label-counts (start .args .letter) (l .i) (l .total) (l .inv .0) (l .inv .2))
 
 returns-2 : tie.Need-returns-2 Inv-loop μ-loop
 returns-2 c =
-    let a = c .before .before .before .args in let l = c .before .loop in
-    let e : l .i ≡ a .b = omega (arith, c .loop-test .left, l .inv .1) in
+    let start : Start = search in let a = start .args in let l = c .before .loop in let e : l .i ≡ a .b = omega (arith, c .loop-test .left, l .inv .1) in
     l .inv .2 ∙ ap (λ (k : ℕ). length (label k (a .letter))) e
 
 pub label-length-spec : {M : Type 1} → statement M
-label-length-spec =
-    tie.close (tie.spec
+label-length-spec = tie.close (tie.spec
     Inv-loop μ-loop (λ c. sym (ap length (label-none (c .before .args .letter) (c .before .args .b) (c .if1 .taken))))
-    (λ c. omega (arith, and-mask (c .before .args .letter) 1)) loop-holds (λ c. omega (arith, c .before .before .before .pre))
-    (λ c. omega (arith, and-mask (c .before .before .before .args .letter / 2 ^ c .before .loop .i) 1)) add-total (λ c. omega arith)
+    (λ c. omega (arith, and-mask (c .before .args .letter) 1)) loop-holds (λ c. let start : Start = search in omega (arith, start .pre))
+    (λ c. let start : Start = search in omega (arith, and-mask (start .args .letter / 2 ^ c .before .loop .i) 1)) add-total (λ c. omega arith)
     (λ c. omega arith) loop-again returns-2)

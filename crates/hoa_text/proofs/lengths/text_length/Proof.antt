@@ -23,23 +23,16 @@ few codes h = omega (arith, words-in-length codes)
 
 put-states-requires : tie.Need-put-states-requires
 put-states-requires c κs =
-    let n = length (c .before .before .before .args .codes .now) / 8 in
-    omega (arith, states-length n, word-short n (few (c .before .before .before .args .codes .now) (c .before .before .before .pre .2)))
+    let start : tie.Start = search in let n = length (start .args .codes .now) / 8 in omega (arith, states-length n, word-short n (few (start .args .codes .now) (start .pre .2)))
 
 put-ap-requires : tie.Need-put-ap-requires
-put-ap-requires c κs = (
-  c .before .before .before .before .before .before .pre .0,
-  omega (arith, ap-length (c .before .before .before .before .before .before .args .b) (c .before .before .before .before .before .before .pre .0)),
+put-ap-requires c κs = let start : tie.Start = search in (
+  start .pre .0,
+  omega (arith, ap-length (start .args .b) (start .pre .0)),
 )
 
-macrostates-length-requires : tie.Need-macrostates-length-requires
-macrostates-length-requires c κs = let start = c .before .before .before .before .before .before .before .before in (start .pre .1, start .pre .2)
-
-edges-length-requires : tie.Need-edges-length-requires
-edges-length-requires c κs = let start = c .before .before .before .before .before .before .before .before .before in (start .pre .0, start .pre .3)
-
 abbrev start-of-after-edges-length : tie.After-edges-length → tie.Start
-start-of-after-edges-length c = c .before .before .before .before .before .before .before .before .before .before
+start-of-after-edges-length c = search
 
 -- every transition comes from a macrostate
 from : (c : tie.After-edges-length) → let a = start-of-after-edges-length c .args in (t : ℕ) → List·Memᴰ t (wordsIn (a .moves .now)) →
@@ -47,40 +40,35 @@ from : (c : tie.After-edges-length) → let a = start-of-after-edges-length c .a
 from c t m = let a = start-of-after-edges-length c .args in omega (arith, start-of-after-edges-length c .pre .4 t m, flags-length (initialAt (a .initial)) (wordsIn (a .codes .now)))
 
 -- no part is long
-bounds : (c : tie.After-edges-length) → (c .before .before .before .before .before .before .put-states .result ≤ 14) × (c .before .before .before .put-ap .result ≤ 26)
+bounds : (c : tie.After-edges-length) → let at-put-states : tie.After-put-states = search in let at-put-ap : tie.After-put-ap = search in
+    (at-put-states .put-states .result ≤ 14) × (at-put-ap .put-ap .result ≤ 26)
     × (c .before .macrostates-length .result ≤ 30 * 65536) × (c .edges-length .result ≤ 20 * 1099511627776)
-bounds c =
-    let start = c .before .before .before .before .before .before .before .before .before .before in
-    let a = start .args in let p = start .pre in
-    let n = length (a .codes .now) / 8 in
-    let flags = flagsOf (initialAt (a .initial)) (wordsIn (a .codes .now)) in
-    let ts = wordsIn (a .moves .now) in
-    let count : length flags ≤ 65536 = omega (arith, p .2, flags-length (initialAt (a .initial)) (wordsIn (a .codes .now))) in (
-      omega (arith, c .before .before .before .before .before .before .put-states .ensures .ends, states-length n, word-short n (few (a .codes .now) (p .2))),
-      omega (arith, c .before .before .before .put-ap .ensures .ends, ap-length (a .b) (p .0), p .0),
+bounds c = let start : tie.Start = search in let a = start .args in let p = start .pre in let n = length (a .codes .now) / 8 in
+    let flags = flagsOf (initialAt (a .initial)) (wordsIn (a .codes .now)) in let ts = wordsIn (a .moves .now) in
+    let count : length flags ≤ 65536 = omega (arith, p .2, flags-length (initialAt (a .initial)) (wordsIn (a .codes .now))) in let at-put-states : tie.After-put-states = search in
+    let at-put-ap : tie.After-put-ap = search in (
+      omega (arith, at-put-states .put-states .ensures .ends, states-length n, word-short n (few (a .codes .now) (p .2))),
+      omega (arith, at-put-ap .put-ap .ensures .ends, ap-length (a .b) (p .0), p .0),
       omega (arith, c .before .macrostates-length .ensures, starts-bound (a .b) flags ts (p .0) count (from c), states-bound (a .b) flags ts (p .0) count (from c), count),
       omega (arith, c .edges-length .ensures, edges-bound (a .b) flags ts (p .0) count (from c), p .3),
     )
 
 returns : tie.Need-returns
 returns c =
-    let start = c .before .before .before .before .before .before .before .before .before .before in let a = start .args in
-    let initial = initialAt (a .initial) in
-    let flags = flagsOf initial (wordsIn (a .codes .now)) in
-    omega (
+    let start : tie.Start = search in let a = start .args in let initial = initialAt (a .initial) in let flags = flagsOf initial (wordsIn (a .codes .now)) in
+    let at-put-states : tie.After-put-states = search in let at-put-ap : tie.After-put-ap = search in omega (
       arith,
       text-length (a .b) flags (wordsIn (a .moves .now)) (from c),
       ap length (states-is initial (a .codes .now)),
-      c .before .before .before .before .before .before .put-states .ensures .ends,
-      c .before .before .before .put-ap .ensures .ends,
+      at-put-states .put-states .ensures .ends,
+      at-put-ap .put-ap .ensures .ends,
       c .before .macrostates-length .ensures,
       c .edges-length .ensures,
     )
 
 pub text-length-spec : {M : Type 1} → statement M
-text-length-spec =
-    tie.close (tie.spec
-    (λ c. search needs) put-states-requires (λ c. search needs) put-ap-requires macrostates-length-requires edges-length-requires
-    (λ c. omega (arith, bounds c .0, bounds c .1)) (λ c. omega (arith, bounds c .0, bounds c .1, bounds c .2))
-    (λ c. omega (arith, bounds c .0, bounds c .1, bounds c .2, bounds c .3)) (λ c. omega (arith, bounds c .0, bounds c .1, bounds c .2, bounds c .3))
-    returns)
+text-length-spec = tie.close (tie.spec
+    (λ c. search needs) put-states-requires (λ c. search needs) put-ap-requires (λ c κs. let start : tie.Start = search in (start .pre .1, start .pre .2))
+    (λ c κs. let start : tie.Start = search in (start .pre .0, start .pre .3)) (λ c. omega (arith, bounds c .0, bounds c .1))
+    (λ c. omega (arith, bounds c .0, bounds c .1, bounds c .2)) (λ c. omega (arith, bounds c .0, bounds c .1, bounds c .2, bounds c .3))
+    (λ c. omega (arith, bounds c .0, bounds c .1, bounds c .2, bounds c .3)) returns)

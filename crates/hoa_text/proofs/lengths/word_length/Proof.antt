@@ -5,11 +5,10 @@ use Rattle.hoa_text.proofs.lengths.word_length.Statement.{statement}
 use Rattle.hoa_text.proofs.lengths.word_length.Tie as tie
 
 returns-5 : tie.Need-returns-5
-returns-5 c = word-more 4 (c .before .before .before .before .args .x) (c .if4 .left) (omega (arith, c .before .before .before .before .pre))
+returns-5 c = let start : tie.Start = search in word-more 4 (start .args .x) (c .if4 .left) (omega (arith, start .pre))
 
 pub word-length-spec : {M : Type 1} → statement M
-word-length-spec =
-    tie.close (tie.spec
-    (λ c. word-one (c .before .args .x) (c .if1 .taken)) (λ c. word-more 1 (c .before .before .args .x) (c .before .if1 .left) (c .if2 .taken))
-    (λ c. word-more 2 (c .before .before .before .args .x) (c .before .if2 .left) (c .if3 .taken))
-    (λ c. word-more 3 (c .before .before .before .before .args .x) (c .before .if3 .left) (c .if4 .taken)) returns-5)
+word-length-spec = tie.close (tie.spec
+    (λ c. word-one (c .before .args .x) (c .if1 .taken)) (λ c. let start : tie.Start = search in word-more 1 (start .args .x) (c .before .if1 .left) (c .if2 .taken))
+    (λ c. let start : tie.Start = search in word-more 2 (start .args .x) (c .before .if2 .left) (c .if3 .taken))
+    (λ c. let start : tie.Start = search in word-more 3 (start .args .x) (c .before .if3 .left) (c .if4 .taken)) returns-5)

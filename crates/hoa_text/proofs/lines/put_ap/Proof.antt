@@ -16,19 +16,16 @@ long : (s : tie.Start) → length (apLine (s .args .b)) ≡ 5 * s .args .b + 6
 long s = ap-length (s .args .b) (s .pre .0)
 
 returns-5 : tie.Need-returns-5
-returns-5 c =
-    let e : c .before .before .before .before .before .before .before .before .before .before .args .b ≡ 4 = omega arith in
-    put-as (ap apLine e ∙ ap-4) (c .before .before .put5 .ensures)
+returns-5 c = let start : tie.Start = search in let e : start .args .b ≡ 4 = omega arith in let at-put5 : tie.After-put5 = search in put-as (ap apLine e ∙ ap-4) (at-put5 .put5 .ensures)
 
 pub put-ap-spec : {M : Type 1} → statement M
-put-ap-spec =
-    tie.close (tie.spec
-    (λ c. search needs) (λ c κs. omega (arith, long (c .before .before .before .before))) (λ c. search needs)
-    (λ c. put-as (ap apLine (c .before .before .before .before .before .if1 .taken) ∙ ap-0) (c .before .before .put .ensures)) (λ c. search needs)
-    (λ c κs. omega (arith, long (c .before .before .before .before .before))) (λ c. search needs)
-    (λ c. put-as (ap apLine (c .before .before .before .before .before .if2 .taken) ∙ ap-1) (c .before .before .put2 .ensures)) (λ c. search needs)
-    (λ c κs. omega (arith, long (c .before .before .before .before .before .before))) (λ c. search needs)
-    (λ c. put-as (ap apLine (c .before .before .before .before .before .if3 .taken) ∙ ap-2) (c .before .before .put3 .ensures)) (λ c. search needs)
-    (λ c κs. omega (arith, long (c .before .before .before .before .before .before .before))) (λ c. search needs)
-    (λ c. put-as (ap apLine (c .before .before .before .before .before .if4 .taken) ∙ ap-3) (c .before .before .put4 .ensures)) (λ c. search needs)
-    (λ c κs. omega (arith, long (c .before .before .before .before .before .before .before))) (λ c. search needs) returns-5)
+put-ap-spec = tie.close (tie.spec
+    (λ c. search needs) (λ c κs. omega (arith, long (search))) (λ c. search needs)
+    (λ c. let then1 : tie.Then1 = search in let at-put : tie.After-put = search in put-as (ap apLine (then1 .if1 .taken) ∙ ap-0) (at-put .put .ensures)) (λ c. search needs)
+    (λ c κs. omega (arith, long (search))) (λ c. search needs)
+    (λ c. let then2 : tie.Then2 = search in let at-put2 : tie.After-put2 = search in put-as (ap apLine (then2 .if2 .taken) ∙ ap-1) (at-put2 .put2 .ensures)) (λ c. search needs)
+    (λ c κs. omega (arith, long (search))) (λ c. search needs)
+    (λ c. let then3 : tie.Then3 = search in let at-put3 : tie.After-put3 = search in put-as (ap apLine (then3 .if3 .taken) ∙ ap-2) (at-put3 .put3 .ensures)) (λ c. search needs)
+    (λ c κs. omega (arith, long (search))) (λ c. search needs)
+    (λ c. let then4 : tie.Then4 = search in let at-put4 : tie.After-put4 = search in put-as (ap apLine (then4 .if4 .taken) ∙ ap-3) (at-put4 .put4 .ensures)) (λ c. search needs)
+    (λ c κs. omega (arith, long (search))) (λ c. search needs) returns-5)

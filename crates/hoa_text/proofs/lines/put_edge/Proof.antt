@@ -18,20 +18,13 @@ long s = edge-length (s .args .b) (s .args .letter) (s .args .target)
 returns : tie.Need-returns
 unfolding edgeLine
 returns c =
-    let at-put-byte2 = c .before .before .before .before .before .before .before .before .before .before in
-    let at-put-label = at-put-byte2 .before .before .before .before in
-    let at-put-byte = at-put-label .before .before .before .before in
-    put-then (at-put-byte .put-byte .ensures)
-    (put-then (at-put-label .put-label .ensures)
-    (put-then (at-put-byte2 .put-byte2 .ensures)
-    (put-then (c .before .before .before .before .before .before .put-number .ensures)
-    (c .before .before .put-byte3 .ensures))))
+    let at-put-byte2 : tie.After-put-byte2 = search in let at-put-label : tie.After-put-label = search in let at-put-byte : tie.After-put-byte = search in
+    let at-put-number : tie.After-put-number = search in let at-put-byte3 : tie.After-put-byte3 = search in
+    put-then (at-put-byte .put-byte .ensures) (put-then (at-put-label .put-label .ensures) (put-then (at-put-byte2 .put-byte2 .ensures)
+    (put-then (at-put-number .put-number .ensures) (at-put-byte3 .put-byte3 .ensures))))
 
 pub put-edge-spec : {M : Type 1} → statement M
-put-edge-spec =
-    tie.close (tie.spec
-    (λ c κs. omega (arith, long (c .before .before))) (λ c κs. (c .before .before .before .before .before .before .pre .0, omega (arith, long (c .before .before .before .before .before .before))))
-    (λ c κs. omega (arith, long (c .before .before .before .before .before .before .before .before .before .before)))
-    (λ c κs. omega (arith, long (c .before .before .before .before .before .before .before .before .before .before .before .before .before .before)))
-    (λ c κs. omega (arith, long (c .before .before .before .before .before .before .before .before .before .before .before .before .before .before .before .before .before .before)))
+put-edge-spec = tie.close (tie.spec
+    (λ c κs. omega (arith, long (search))) (λ c κs. let start : tie.Start = search in (start .pre .0, omega (arith, long (search))))
+    (λ c κs. omega (arith, long (search))) (λ c κs. omega (arith, long (search))) (λ c κs. omega (arith, long (search)))
     (λ c. search needs) returns)

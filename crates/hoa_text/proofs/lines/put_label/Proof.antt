@@ -14,64 +14,61 @@ use Rattle.hoa_text.proofs.lines.put_label.Tie as tie
 
 -- whatever the slice was before the first literal
 abbrev Inv-loop : tie.InvT-loop
-Inv-loop out₀ at b letter end₀ i₀ out end i =
-    (1 ≤ i) × (i ≤ b) × ((d : List ℕ) (a : ℕ) → Put d a (label 1 letter) out₀ end₀ → Put d a (label i letter) out end)
+Inv-loop out₀ at b letter end₀ i₀ out end i = (1 ≤ i) × (i ≤ b) × ((d : List ℕ) (a : ℕ) → Put d a (label 1 letter) out₀ end₀ → Put d a (label i letter) out end)
 
 abbrev μ-loop : tie.MeasureT-loop
 μ-loop out₀ at b letter end₀ i₀ out end i = b - i
 
+abbrev Start : Type 0
+Start = tie.Start Inv-loop μ-loop
+
+abbrev At-loop : Type 0
+At-loop = tie.At-loop Inv-loop μ-loop
+
 put-byte-requires : tie.Need-put-byte-requires Inv-loop μ-loop
-put-byte-requires c κs = let a = c .before .before .before .args in omega (arith, ap length (label-none (a .letter) (a .b) (c .before .if1 .taken)))
+put-byte-requires c κs = let start : Start = search in let a = start .args in omega (arith, ap length (label-none (a .letter) (a .b) (c .before .if1 .taken)))
 
 returns : tie.Need-returns Inv-loop μ-loop
-returns c = let a = c .before .before .before .before .before .before .args in
-    put-as (label-none (a .letter) (a .b) (c .before .before .before .before .if1 .taken)) (c .before .before .put-byte .ensures)
+returns c = let start : Start = search in let a = start .args in let then1 : tie.Then1 Inv-loop μ-loop = search in
+    let at-put-byte : tie.After-put-byte Inv-loop μ-loop = search in put-as (label-none (a .letter) (a .b) (then1 .if1 .taken)) (at-put-byte .put-byte .ensures)
 
 put-literal-requires : tie.Need-put-literal-requires Inv-loop μ-loop
-put-literal-requires c κs =
-    let a = c .before .before .before .args in
+put-literal-requires c κs = let start : Start = search in let a = start .args in
     (omega arith, omega (arith, label-grows (a .letter) 1 (a .b) (omega arith) (omega arith), ap length (label-one (a .letter))))
 
-abbrev start-of-at-loop : tie.At-loop Inv-loop μ-loop → tie.Start Inv-loop μ-loop
-start-of-at-loop c = c .before .before .before .before .before .before .before
+abbrev start-of-at-loop : At-loop → Start
+start-of-at-loop c = search
 
 -- what is written
-so-far : (c : tie.At-loop Inv-loop μ-loop) → let a = start-of-at-loop c .args in Put (a .out .now) (a .at) (label (c .loop .i) (a .letter)) (c .loop .out) (c .loop .end)
-so-far c = let a = start-of-at-loop c .args in c .loop .inv .2 (a .out .now) (a .at) (put-as (label-one (a .letter)) (c .before .before .before .put-literal .ensures))
+so-far : (c : At-loop) → let a = start-of-at-loop c .args in Put (a .out .now) (a .at) (label (c .loop .i) (a .letter)) (c .loop .out) (c .loop .end)
+so-far c = let a = start-of-at-loop c .args in let at-put-literal : tie.After-put-literal Inv-loop μ-loop = search in
+    c .loop .inv .2 (a .out .now) (a .at) (put-as (label-one (a .letter)) (at-put-literal .put-literal .ensures))
 
 put-byte-requires-2 : tie.Need-put-byte-requires-2 Inv-loop μ-loop
 put-byte-requires-2 c κs =
-    let a = c .before .before .before .before .before .before .before .before .before .args in let l = c .before .before .loop in
-    let P = so-far (c .before .before) in
+    let start : Start = search in let a = start .args in let at-loop : At-loop = search in let l = at-loop .loop in let P = so-far (search) in
     omega (arith, P .ends, put-length P, next-length (a .letter) (l .i) (a .b) (l .inv .0) (omega arith))
 
 put-literal-requires-2 : tie.Need-put-literal-requires-2 Inv-loop μ-loop
 put-literal-requires-2 c κs =
-    let start = c .before .before .before .before .before .before .before .before .before .before .before .before .before in
-    let a = start .args in let l = c .before .before .before .before .before .before .loop in
-    let P = so-far (c .before .before .before .before .before .before) in
-    let Q = c .before .before .before .put-byte2 .ensures in
+    let start : Start = search in let a = start .args in let at-loop : At-loop = search in let l = at-loop .loop in let P = so-far (search) in
+    let at-put-byte2 : tie.After-put-byte2 Inv-loop μ-loop = search in let Q = at-put-byte2 .put-byte2 .ensures in
     (omega arith, omega (arith, P .ends, put-length P, Q .ends, put-length Q, next-length (a .letter) (l .i) (a .b) (l .inv .0) (omega arith)))
 
 loop-again : tie.Need-loop-again Inv-loop μ-loop
-loop-again c =
-    let at-loop = c .before .before .before .before .before .before .before .before .before in
-    let start = at-loop .before .before .before .before .before .before .before in
-    let l = at-loop .loop in (
+loop-again c = let at-loop : At-loop = search in let l = at-loop .loop in let start : Start = search in
+    let at-put-byte2 : tie.After-put-byte2 Inv-loop μ-loop = search in let at-put-literal2 : tie.After-put-literal2 Inv-loop μ-loop = search in (
       omega arith,
       omega arith,
-      λ d a P. put-next (start .args .letter) (l .i) (l .inv .0) (l .inv .2 d a P) (c .before .before .before .before .before .before .put-byte2 .ensures)
-          (c .before .before .put-literal2 .ensures),
+      λ d a P. put-next (start .args .letter) (l .i) (l .inv .0) (l .inv .2 d a P) (at-put-byte2 .put-byte2 .ensures)
+          (at-put-literal2 .put-literal2 .ensures),
     )
 
 returns-2 : tie.Need-returns-2 Inv-loop μ-loop
-returns-2 c =
-    let start = c .before .before .before .before .before .before .before .before in let a = start .args in
-    let e : a .b ≡ c .before .loop .i = omega (arith, c .loop-test .left) in
+returns-2 c = let start : Start = search in let a = start .args in let e : a .b ≡ c .before .loop .i = omega (arith, c .loop-test .left) in
     put-as (ap (λ (k : ℕ). label k (a .letter)) e) (so-far (c .before))
 
 pub put-label-spec : {M : Type 1} → statement M
-put-label-spec =
-    tie.close (tie.spec
+put-label-spec = tie.close (tie.spec
     Inv-loop μ-loop put-byte-requires (λ c. search needs) returns put-literal-requires (λ c. (omega arith, omega arith, λ d a P. P))
     put-byte-requires-2 put-literal-requires-2 (λ c. omega arith) (λ c. omega arith) loop-again (λ c. put-length (so-far (c .before))) returns-2)

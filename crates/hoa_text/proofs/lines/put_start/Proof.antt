@@ -19,24 +19,23 @@ line-is : (initial value : Bool) (number : ℕ) → initial ≡ value → cond i
 line-is initial value number e = ap (λ (b : Bool). cond b (startLine number) []) e
 
 returns : tie.Need-returns
-returns c =
-    let a = c .before .before .args in
+returns c = let start : tie.Start = search in let a = start .args in
     put-as (line-is (a .initial) false (a .number) (not-true (a .initial) (c .if1 .taken))) (put-none (a .out .now) (a .at) (omega arith))
 
 -- how long the line is
-long : (c : tie.Else1) → let a = c .before .before .args in length (cond (a .initial) (startLine (a .number)) []) ≡ length (word (a .number)) + 7
-long c = let a = c .before .before .args in ap length (line-is (a .initial) true (a .number) (not-false (a .initial) (c .if1 .left))) ∙ start-length (a .number)
+long : (c : tie.Else1) → let start : tie.Start = search in
+    let a = start .args in length (cond (a .initial) (startLine (a .number)) []) ≡ length (word (a .number)) + 7
+long c = let start : tie.Start = search in let a = start .args in ap length (line-is (a .initial) true (a .number) (not-false (a .initial) (c .if1 .left))) ∙ start-length (a .number)
 
 returns-2 : tie.Need-returns-2
 unfolding startLine
 returns-2 c =
-    let at-put = c .before .before .before .before .before .before .before .before .before .before in
-    let at-if1 = at-put .before .before .before in let start = at-if1 .before .before in let a = start .args in
-    put-as (line-is (a .initial) true (a .number) (not-false (a .initial) (at-if1 .if1 .left)))
-    (put-then (at-put .put .ensures) (put-then (c .before .before .before .before .before .before .put-number .ensures) (c .before .before .put-byte .ensures)))
+    let start : tie.Start = search in let a = start .args in let at-put : tie.After-put = search in let else1 : tie.Else1 = search in let at-put-number : tie.After-put-number = search in
+    let at-put-byte : tie.After-put-byte = search in
+    put-as (line-is (a .initial) true (a .number) (not-false (a .initial) (else1 .if1 .left)))
+    (put-then (at-put .put .ensures) (put-then (at-put-number .put-number .ensures) (at-put-byte .put-byte .ensures)))
 
 pub put-start-spec : {M : Type 1} → statement M
-put-start-spec =
-    tie.close (tie.spec
-    returns (λ c. search needs) (λ c κs. omega (arith, long (c .before .before))) (λ c κs. omega (arith, long (c .before .before .before .before .before .before)))
-    (λ c κs. omega (arith, long (c .before .before .before .before .before .before .before .before .before .before))) (λ c. search needs) returns-2)
+put-start-spec = tie.close (tie.spec
+    returns (λ c. search needs) (λ c κs. omega (arith, long (search))) (λ c κs. omega (arith, long (search)))
+    (λ c κs. omega (arith, long (search))) (λ c. search needs) returns-2)

@@ -16,40 +16,34 @@ line-is : (accepting value : Bool) (number : ℕ) → accepting ≡ value → st
 line-is accepting value number e = ap (stateLine number) e
 
 put-requires : tie.Need-put-requires
-put-requires c κs = let a = c .before .before .before .args in omega (arith, state-length (a .number) (a .accepting))
+put-requires c κs = let start : tie.Start = search in let a = start .args in omega (arith, state-length (a .number) (a .accepting))
 
 put-number-requires : tie.Need-put-number-requires
-put-number-requires c κs =
-    let a = c .before .before .before .before .before .before .before .args in omega (arith, state-length (a .number) (a .accepting))
+put-number-requires c κs = let start : tie.Start = search in let a = start .args in omega (arith, state-length (a .number) (a .accepting))
 
 put-requires-2 : tie.Need-put-requires-2
-put-requires-2 c κs =
-    let a = c .before .before .before .before .before .before .before .before .before .before .before .before .before .args in
-    omega (arith, state-length (a .number) true, ap length (line-is (a .accepting) true (a .number) (c .before .before .if1 .taken)))
+put-requires-2 c κs = let start : tie.Start = search in let a = start .args in let then1 : tie.Then1 = search in
+    omega (arith, state-length (a .number) true, ap length (line-is (a .accepting) true (a .number) (then1 .if1 .taken)))
 
 returns : tie.Need-returns
 unfolding stateLine
 returns c =
-    let at-put-number = c .before .before .before .before .before .before .before .before in
-    let at-put = at-put-number .before .before .before .before in let a = at-put .before .before .before .before .args in
-    put-as (line-is (a .accepting) true (a .number) (c .before .before .before .before .before .if1 .taken))
-    (put-then (at-put .put .ensures) (put-then (at-put-number .put-number .ensures) (c .before .before .put2 .ensures)))
+    let start : tie.Start = search in let a = start .args in let at-put-number : tie.After-put-number = search in let at-put : tie.After-put = search in let then1 : tie.Then1 = search in
+    let at-put2 : tie.After-put2 = search in put-as (line-is (a .accepting) true (a .number) (then1 .if1 .taken))
+    (put-then (at-put .put .ensures) (put-then (at-put-number .put-number .ensures) (at-put2 .put2 .ensures)))
 
 put-byte-requires : tie.Need-put-byte-requires
 put-byte-requires c κs =
-    let start = c .before .before .before .before .before .before .before .before .before .before .before .before in let a = start .args in
-    omega (arith, state-length (a .number) false, ap length (line-is (a .accepting) false (a .number) (c .before .if1 .left)))
+    let start : tie.Start = search in let a = start .args in omega (arith, state-length (a .number) false, ap length (line-is (a .accepting) false (a .number) (c .before .if1 .left)))
 
 returns-2 : tie.Need-returns-2
 unfolding stateLine
 returns-2 c =
-    let at-put-number = c .before .before .before .before .before .before .before in
-    let at-put = at-put-number .before .before .before .before in let a = at-put .before .before .before .before .args in
-    put-as (line-is (a .accepting) false (a .number) (c .before .before .before .before .if1 .left))
-    (put-then (at-put .put .ensures) (put-then (at-put-number .put-number .ensures) (c .before .before .put-byte .ensures)))
+    let start : tie.Start = search in let a = start .args in let at-put-number : tie.After-put-number = search in let at-put : tie.After-put = search in let else1 : tie.Else1 = search in
+    let at-put-byte : tie.After-put-byte = search in put-as (line-is (a .accepting) false (a .number) (else1 .if1 .left))
+    (put-then (at-put .put .ensures) (put-then (at-put-number .put-number .ensures) (at-put-byte .put-byte .ensures)))
 
 pub put-state-spec : {M : Type 1} → statement M
-put-state-spec =
-    tie.close (tie.spec
+put-state-spec = tie.close (tie.spec
     (λ c. search needs) put-requires put-number-requires (λ c. search needs) put-requires-2 (λ c. search needs) returns put-byte-requires (λ c. search needs)
     returns-2)

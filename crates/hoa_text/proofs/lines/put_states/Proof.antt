@@ -7,21 +7,14 @@ use Rattle.slice_text.proofs.Puts.{put-then}
 use Rattle.hoa_text.proofs.lines.put_states.Statement.{statement}
 use Rattle.hoa_text.proofs.lines.put_states.Tie as tie
 
-put-number-requires : tie.Need-put-number-requires
-put-number-requires c κs = let start = c .before .before .before .before .before .before .before in omega (arith, states-length (start .args .states))
-
-put-byte-requires : tie.Need-put-byte-requires
-put-byte-requires c κs =
-    omega (arith, states-length (c .before .before .before .before .before .before .before .before .before .before .before .args .states))
-
 returns : tie.Need-returns
 unfolding statesLine
 returns c =
-    let at-put = c .before .before .before .before .before .before .before .before .before .before in
-    put-then (at-put .put .ensures) (put-then (c .before .before .before .before .before .before .put-number .ensures) (c .before .before .put-byte .ensures))
+    let at-put : tie.After-put = search in let at-put-number : tie.After-put-number = search in let at-put-byte : tie.After-put-byte = search in
+    put-then (at-put .put .ensures) (put-then (at-put-number .put-number .ensures) (at-put-byte .put-byte .ensures))
 
 pub put-states-spec : {M : Type 1} → statement M
-put-states-spec =
-    tie.close (tie.spec
-    (λ c. search needs) (λ c κs. omega (arith, states-length (c .before .before .before .args .states))) put-number-requires put-byte-requires
-    (λ c. search needs) returns)
+put-states-spec = tie.close (tie.spec
+    (λ c. search needs) (λ c κs. let start : tie.Start = search in omega (arith, states-length (start .args .states)))
+    (λ c κs. let start : tie.Start = search in omega (arith, states-length (start .args .states)))
+    (λ c κs. let start : tie.Start = search in omega (arith, states-length (start .args .states))) (λ c. search needs) returns)

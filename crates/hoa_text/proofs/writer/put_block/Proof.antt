@@ -12,14 +12,12 @@ use Rattle.hoa_text.proofs.writer.put_block.Statement.{statement}
 use Rattle.hoa_text.proofs.writer.put_block.Tie as tie
 
 put-state-requires : tie.Need-put-state-requires
-put-state-requires c κs =
-    let a = c .before .before .before .args in
-    omega (arith, c .before .before .before .pre .3, length-append (stateLine (a .i) (a .accepting)) (lines (edgeOf (a .b)) 0 (take (a .k - a .j) (drop (a .j) (wordsIn (a .moves .now))))))
+put-state-requires c κs = let start : tie.Start = search in let a = start .args in
+    omega (arith, start .pre .3, length-append (stateLine (a .i) (a .accepting)) (lines (edgeOf (a .b)) 0 (take (a .k - a .j) (drop (a .j) (wordsIn (a .moves .now))))))
 
 put-edges-requires : tie.Need-put-edges-requires
 put-edges-requires c κs =
-    let start = c .before .before .before .before .before .before .before in let a = start .args in let p = start .pre in
-    let P = c .before .before .before .put-state .ensures in (
+    let start : tie.Start = search in let a = start .args in let p = start .pre in let at-put-state : tie.After-put-state = search in let P = at-put-state .put-state .ensures in (
       p .0,
       p .1,
       p .2,
@@ -27,7 +25,8 @@ put-edges-requires c κs =
     )
 
 returns : tie.Need-returns
-returns c = put-then (c .before .before .before .before .before .before .put-state .ensures) (c .before .before .put-edges .ensures)
+returns c =
+    let at-put-state : tie.After-put-state = search in let at-put-edges : tie.After-put-edges = search in put-then (at-put-state .put-state .ensures) (at-put-edges .put-edges .ensures)
 
 pub put-block-spec : {M : Type 1} → statement M
 put-block-spec = tie.close (tie.spec put-state-requires put-edges-requires (λ c. search needs) returns)

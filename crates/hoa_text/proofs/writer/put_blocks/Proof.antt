@@ -27,33 +27,38 @@ Inv-loop out₀ at b codes moves initial n end₀ j₀ i₀ out end j i =
 abbrev μ-loop : tie.MeasureT-loop
 μ-loop out₀ at b codes moves initial n end₀ j₀ i₀ out end j i = length codes / 8 - i
 
-loop-holds : tie.Need-loop-holds Inv-loop μ-loop
-loop-holds c =
-    let a = c .before .before .before .args in (
-      omega arith,
-      cursor-start (wordsIn (a .moves .now)),
-      put-no-lines (blockOf (a .b) (wordsIn (a .moves .now))) (flagsOf (initialAt (a .initial)) (wordsIn (a .codes .now))) (a .out .now) (a .at)
-          (c .before .before .before .pre .2),
-    )
+abbrev Start : Type 0
+Start = tie.Start Inv-loop μ-loop
 
-abbrev start-of-after-stretch-end : tie.After-stretch-end Inv-loop μ-loop → tie.Start Inv-loop μ-loop
-start-of-after-stretch-end c = c .before .before .before .before .before .before .before .before
+abbrev At-loop : Type 0
+At-loop = tie.At-loop Inv-loop μ-loop
+
+loop-holds : tie.Need-loop-holds Inv-loop μ-loop
+loop-holds c = let start : Start = search in let a = start .args in (
+  omega arith,
+  cursor-start (wordsIn (a .moves .now)),
+  put-no-lines (blockOf (a .b) (wordsIn (a .moves .now))) (flagsOf (initialAt (a .initial)) (wordsIn (a .codes .now))) (a .out .now) (a .at)
+      (start .pre .2),
+)
+
+abbrev start-of-after-stretch-end : tie.After-stretch-end Inv-loop μ-loop → Start
+start-of-after-stretch-end c = search
 
 -- the lines that are written
-text-is : (c : tie.After-stretch-end Inv-loop μ-loop) → let a = start-of-after-stretch-end c .args in let l = c .before .before .before .before .loop in
+text-is : (c : tie.After-stretch-end Inv-loop μ-loop) → let at-loop : At-loop = search in
+    let a = start-of-after-stretch-end c .args in let l = at-loop .loop in
     stateLine (l .i) (c .before .is-accepting .result) ++ lines (edgeOf (a .b)) 0 (take (c .stretch-end .result - l .j) (drop (l .j) (wordsIn (a .moves .now))))
     ≡ blockOf (a .b) (wordsIn (a .moves .now)) (l .i) (getD (flagsOf (initialAt (a .initial)) (wordsIn (a .codes .now))) (l .i) 0)
 text-is c =
-    let a = start-of-after-stretch-end c .args in
-    let l = c .before .before .before .before .loop in
-    block-is (initialAt (a .initial)) (a .codes .now) (l .i) (c .before .before .before .loop-test .taken) (a .b) (wordsIn (a .moves .now)) _ (c .before .is-accepting .result)
-    (c .before .is-accepting .ensures ∙ ap isAccepting (c .before .before .number-at .ensures))
+    let a = start-of-after-stretch-end c .args in let at-loop : At-loop = search in let l = at-loop .loop in let in-loop : tie.In-loop Inv-loop μ-loop = search in
+    let at-number-at : tie.After-number-at Inv-loop μ-loop = search in
+    block-is (initialAt (a .initial)) (a .codes .now) (l .i) (in-loop .loop-test .taken) (a .b) (wordsIn (a .moves .now)) _ (c .before .is-accepting .result)
+    (c .before .is-accepting .ensures ∙ ap isAccepting (at-number-at .number-at .ensures))
     (leaving-is (wordsIn (a .moves .now)) (start-of-after-stretch-end c .pre .1) (l .i) (l .j) (c .stretch-end .result) (l .inv .1) (c .stretch-end .ensures))
 
 put-block-requires : tie.Need-put-block-requires Inv-loop μ-loop
-put-block-requires c κs =
-    let start = c .before .before .before .before .before .before .before .before .before in let a = start .args in
-    let l = c .before .before .before .before .before .loop in let R = c .before .stretch-end .ensures in (
+put-block-requires c κs = let start : Start = search in let a = start .args in let at-loop : At-loop = search in let l = at-loop .loop in
+    let R = c .before .stretch-end .ensures in (
       start .pre .0,
       R .from,
       R .within,
@@ -62,24 +67,21 @@ put-block-requires c κs =
     )
 
 loop-again : tie.Need-loop-again Inv-loop μ-loop
-loop-again c =
-    let at-stretch-end = c .before .before .before .before in let at-loop = at-stretch-end .before .before .before .before in
-    let start = at-loop .before .before .before .before in let a = start .args in let l = at-loop .loop in (
+loop-again c = let start : Start = search in let a = start .args in let at-loop : At-loop = search in let l = at-loop .loop in
+    let at-stretch-end : tie.After-stretch-end Inv-loop μ-loop = search in let at-put-block : tie.After-put-block Inv-loop μ-loop = search in (
       omega arith,
       cursor-next (wordsIn (a .moves .now)) (start .pre .1) (l .i) (l .j) (at-stretch-end .stretch-end .result) (l .inv .1) (at-stretch-end .stretch-end .ensures),
       put-line (blockOf (a .b) (wordsIn (a .moves .now))) (flagsOf (initialAt (a .initial)) (wordsIn (a .codes .now))) (l .i) (omega (arith, flags-count (initialAt (a .initial)) (a .codes .now)))
-          (l .inv .2) _ (text-is (at-stretch-end)) (c .before .before .put-block .ensures),
+          (l .inv .2) _ (text-is at-stretch-end) (at-put-block .put-block .ensures),
     )
 
 returns : tie.Need-returns Inv-loop μ-loop
-returns c =
-    let a = c .before .before .before .before .before .args in let l = c .before .loop in
+returns c = let start : Start = search in let a = start .args in let l = c .before .loop in
     put-lines (blockOf (a .b) (wordsIn (a .moves .now))) (flagsOf (initialAt (a .initial)) (wordsIn (a .codes .now))) (l .i)
     (omega (arith, c .loop-test .left, flags-count (initialAt (a .initial)) (a .codes .now))) (l .inv .2)
 
 pub put-blocks-spec : {M : Type 1} → statement M
-put-blocks-spec =
-    tie.close (tie.spec
-    Inv-loop μ-loop loop-holds (λ c κs. omega (arith, words-in-length (c .before .before .before .before .before .args .codes .now)))
-    (λ c κs. search needs) (λ c κs. c .before .before .before .loop .inv .1 .within) put-block-requires (λ c. omega arith) (λ c. omega arith)
+put-blocks-spec = tie.close (tie.spec
+    Inv-loop μ-loop loop-holds (λ c κs. let start : Start = search in omega (arith, words-in-length (start .args .codes .now)))
+    (λ c κs. search needs) (λ c κs. let at-loop : At-loop = search in at-loop .loop .inv .1 .within) put-block-requires (λ c. omega arith) (λ c. omega arith)
     loop-again (λ c. put-length (c .before .loop .inv .2)) returns)

@@ -14,65 +14,57 @@ use Rattle.judge_masks.proofs.word.fill_cycle.Statement.{statement}
 use Rattle.judge_masks.proofs.word.fill_cycle.Tie as tie
 
 abbrev Inv-loop : tie.InvT-loop
-Inv-loop h counts starts clauses reach cycle masks₀ n top height₀ masks height =
-    (height ≤ h .n + 1) × Part (ruleOf h counts clauses) cycle height masks
+Inv-loop h counts starts clauses reach cycle masks₀ n top height₀ masks height = (height ≤ h .n + 1) × Part (ruleOf h counts clauses) cycle height masks
 
 abbrev μ-loop : tie.MeasureT-loop
 μ-loop h counts starts clauses reach cycle masks₀ n top height₀ masks height = h .n + 1 - height
 
+abbrev Start : Type 0
+Start = tie.Start Inv-loop μ-loop
+
 cast-fill-with : tie.Need-cast-fill-with Inv-loop μ-loop
-cast-fill-with c = let w = c .before .before .before .before .before .before .pre .0 .passing .formed in omega (arith, accepting-small _ w)
+cast-fill-with c = let start : Start = search in let w = start .pre .0 .passing .formed in omega (arith, accepting-small _ w)
 
 cast-top : tie.Need-cast-top Inv-loop μ-loop
-cast-top c = omega (arith, c .before .before .before .before .before .before .before .before .before .pre .0 .passing .formed .few-states)
+cast-top c = let start : Start = search in omega (arith, start .pre .0 .passing .formed .few-states)
 
 loop-holds : tie.Need-loop-holds Inv-loop μ-loop
 loop-holds c =
-    let start = c .before .before .before .before .before .before .before .before .before in let a = start .args in
-    let z = start .pre in
-    let closed : c .before .before .fill-with .last .0 ≡ replicate (length (a .masks .now)) (a .h .accepting) = c .before .before .fill-with .ensures in (
+    let start : Start = search in let a = start .args in let z = start .pre in let at-fill-with : tie.After-fill-with Inv-loop μ-loop = search in
+    let closed : at-fill-with .fill-with .last .0 ≡ replicate (length (a .masks .now)) (a .h .accepting) = at-fill-with .fill-with .ensures in (
       omega arith,
-      part-start (ruleOf (a .h) (a .counts .now) (a .clauses .now)) (z .0 .passing) (a .cycle .now) (c .before .before .fill-with .last .0)
+      part-start (ruleOf (a .h) (a .counts .now) (a .clauses .now)) (z .0 .passing) (a .cycle .now) (at-fill-with .fill-with .last .0)
           (closed ∙ ap (λ (x : ℕ). replicate x (a .h .accepting)) (z .2)),
     )
 
 at-height-requires : tie.Need-at-height-requires Inv-loop μ-loop
-at-height-requires c κs =
-    c .before .before .before .before .before .before .before .before .before .before .before .pre .0 .passing .formed .few-states
+at-height-requires c κs = let start : Start = search in start .pre .0 .passing .formed .few-states
 
 solve-layer-requires : tie.Need-solve-layer-requires Inv-loop μ-loop
-solve-layer-requires c κs =
-    let start = c .before .before .before .before .before .before .before .before .before .before .before .before .before in
-    (start .pre .0, rw (c .before .at-height .ensures) (mask-lt _ _), c .before .before .before .loop .inv .1 .long)
+solve-layer-requires c κs = let start : Start = search in let at-loop : tie.At-loop Inv-loop μ-loop = search in
+    (start .pre .0, rw (c .before .at-height .ensures) (mask-lt _ _), at-loop .loop .inv .1 .long)
 
 add-height : tie.Need-add-height Inv-loop μ-loop
-add-height c =
-    let start = c .before .before .before .before .before .before .before .before .before .before .before .before .before .before .before .before in
-    omega (arith, start .pre .0 .passing .formed .few-states)
+add-height c = let start : Start = search in omega (arith, start .pre .0 .passing .formed .few-states)
 
 loop-again : tie.Need-loop-again Inv-loop μ-loop
 loop-again c =
-    let start = c .before .before .before .before .before .before .before .before .before .before .before .before .before .before .before .before in
-    let a = start .args in let z = start .pre in let l = c .before .before .before .before .before .before .loop in
-    let r = ruleOf (a .h) (a .counts .now) (a .clauses .now) in (
+    let start : Start = search in let a = start .args in let z = start .pre in let at-loop : tie.At-loop Inv-loop μ-loop = search in let l = at-loop .loop in
+    let r = ruleOf (a .h) (a .counts .now) (a .clauses .now) in let at-solve-layer : tie.After-solve-layer Inv-loop μ-loop = search in
+    let at-at-height : tie.After-at-height Inv-loop μ-loop = search in (
       omega arith,
-      c .before .before .solve-layer .ensures (l .height) (c .before .before .before .before .at-height .ensures
+      at-solve-layer .solve-layer .ensures (l .height) (at-at-height .at-height .ensures
           ∙ layer-is r (z .0 .passing .formed .few-states) (a .reach .now) (z .1) (l .height)) (l .inv .1),
     )
 
 same-length : tie.Need-same-length Inv-loop μ-loop
-same-length c =
-    c .before .loop .inv .1 .long ∙ sym (c .before .before .before .before .before .before .before .before .before .before .before .pre .2)
+same-length c = let start : Start = search in c .before .loop .inv .1 .long ∙ sym (start .pre .2)
 
 returns : tie.Need-returns Inv-loop μ-loop
-returns c =
-    let start = c .before .before .before .before .before .before .before .before .before .before .before in
-    let a = start .args in let l = c .before .loop in
-    let e : l .height ≡ a .h .n + 1 = omega arith in
+returns c = let start : Start = search in let a = start .args in let l = c .before .loop in let e : l .height ≡ a .h .n + 1 = omega arith in
     part-end (ruleOf (a .h) (a .counts .now) (a .clauses .now)) (start .pre .0 .passing) (a .cycle .now) (l .masks) (rw e at (l .inv .1))
 
 pub fill-cycle-spec : {M : Type 1} → statement M
-fill-cycle-spec =
-    tie.close (tie.spec
+fill-cycle-spec = tie.close (tie.spec
     Inv-loop μ-loop cast-fill-with (λ c κs. search needs) cast-top loop-holds at-height-requires solve-layer-requires add-height (λ c. omega arith) loop-again
     same-length returns)

@@ -19,27 +19,21 @@ Inv-loop h counts starts clauses lead masks₀ all i₀ masks i =
 abbrev μ-loop : tie.MeasureT-loop
 μ-loop h counts starts clauses lead masks₀ all i₀ masks i = i
 
+abbrev Start : Type 0
+Start = tie.Start Inv-loop μ-loop
+
 loop-holds : tie.Need-loop-holds Inv-loop μ-loop
-loop-holds c = let a = c .before .before .before .before .before .before .args in
+loop-holds c = let start : Start = search in let a = start .args in
     (c .full .ensures, omega arith, refl, back-start (ruleOf (a .h) (a .counts .now) (a .clauses .now)) (a .lead .now) (a .masks .now))
 
-slice-read-met-by : tie.Need-slice-read-met-by Inv-loop μ-loop
-slice-read-met-by c = let start = c .before .before .before .before .before .before .before .before .before .before in omega (arith, start .pre .2)
-
 met-by-requires : tie.Need-met-by-requires Inv-loop μ-loop
-met-by-requires c κs =
-    let z = c .before .before .before .before .before .before .before .before .before .before .pre in
-    (z .0, z .1, z .3 (c .before .before .before .loop .i - 1) (omega arith), rw (c .before .before .before .loop .inv .0) (full-lt _ (z .0 .few-states)))
-
-slice-write-masks : tie.Need-slice-write-masks Inv-loop μ-loop
-slice-write-masks c = omega (arith, c .before .before .before .before .before .before .before .before .before .before .before .pre .2)
+met-by-requires c κs = let start : Start = search in let z = start .pre in let at-loop : tie.At-loop Inv-loop μ-loop = search in
+    (z .0, z .1, z .3 (at-loop .loop .i - 1) (omega arith), rw (at-loop .loop .inv .0) (full-lt _ (z .0 .few-states)))
 
 loop-again : tie.Need-loop-again Inv-loop μ-loop
 loop-again c =
-    let start = c .before .before .before .before .before .before .before .before .before .before .before in
-    let a = start .args in let z = start .pre in let l = c .before .before .before .before .loop in
-    let r = ruleOf (a .h) (a .counts .now) (a .clauses .now) in
-    let one : l .i - 1 + 1 ≡ l .i = omega arith in
+    let start : Start = search in let a = start .args in let z = start .pre in let at-loop : tie.At-loop Inv-loop μ-loop = search in let l = at-loop .loop in
+    let r = ruleOf (a .h) (a .counts .now) (a .clauses .now) in let one : l .i - 1 + 1 ≡ l .i = omega arith in
     let v : c .met-by .result ≡ mask (r .n) (λ q. satisfies (r .n) (bit (getD (l .masks) (l .i - 1 + 1) 0)) (entry r q (getD (a .lead .now) (l .i - 1) 0)))
     = c .met-by .ensures ∙ ap (λ (x : ℕ). metBy r (getD (a .lead .now) (l .i - 1) 0) (getD (l .masks) (l .i - 1 + 1) 0) x) (l .inv .0)
     ∙ met-all r (z .0 .few-states) (getD (a .lead .now) (l .i - 1) 0) (getD (l .masks) (l .i - 1 + 1) 0) in (
@@ -49,16 +43,11 @@ loop-again c =
       back-next r (a .lead .now) (l .masks) (drop (length (a .lead .now)) (a .masks .now)) (l .i - 1) (omega arith) (omega (arith, z .2)) (rw one (l .inv .3)) (c .met-by .result) v,
     )
 
-returns : tie.Need-returns Inv-loop μ-loop
-returns c =
-    let l = c .before .loop in
-    let e : l .i ≡ 0 = omega arith in
-    rw e at (l .inv .3)
-
 pub fill-lead-spec : {M : Type 1} → statement M
-fill-lead-spec =
-    tie.close (tie.spec
-    Inv-loop μ-loop (λ c. omega (arith, c .before .before .before .before .before .pre .0 .few-states))
-    (λ c κs. c .before .before .before .before .before .pre .0 .few-states) loop-holds (λ c. omega arith) (λ c. omega arith)
-    (λ c. omega (arith, c .shared-slice-known4 .given (c .before .before .loop .i - 1))) (λ c. omega arith) slice-read-met-by met-by-requires
-    slice-write-masks (λ c. omega arith) loop-again (λ c. c .before .loop .inv .2) returns)
+fill-lead-spec = tie.close (tie.spec
+    Inv-loop μ-loop (λ c. let start : Start = search in omega (arith, start .pre .0 .few-states))
+    (λ c κs. let start : Start = search in start .pre .0 .few-states) loop-holds (λ c. omega arith) (λ c. omega arith)
+    (λ c. let at-loop : tie.At-loop Inv-loop μ-loop = search in omega (arith, c .shared-slice-known4 .given (at-loop .loop .i - 1))) (λ c. omega arith)
+    (λ c. let start : Start = search in omega (arith, start .pre .2)) met-by-requires
+    (λ c. let start : Start = search in omega (arith, start .pre .2)) (λ c. omega arith) loop-again (λ c. c .before .loop .inv .2)
+    (λ c. let l = c .before .loop in let e : l .i ≡ 0 = omega arith in rw e at (l .inv .3)))

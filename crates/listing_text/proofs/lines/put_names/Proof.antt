@@ -18,9 +18,12 @@ Inv-loop out₀ at names count end₀ i₀ out end i = (i ≤ length names / 8) 
 abbrev μ-loop : tie.MeasureT-loop
 μ-loop out₀ at names count end₀ i₀ out end i = length names / 8 - i
 
+abbrev Start : Type 0
+Start = tie.Start Inv-loop μ-loop
+
 loop-holds : tie.Need-loop-holds Inv-loop μ-loop
-loop-holds c = let a = c .before .before .args in
-    (omega arith, put-no-lines (nameLine (a .names .now)) (lettersOf (a .names .now)) (a .out .now) (a .at) (c .before .before .pre))
+loop-holds c = let start : Start = search in let a = start .args in
+    (omega arith, put-no-lines (nameLine (a .names .now)) (lettersOf (a .names .now)) (a .out .now) (a .at) (start .pre))
 
 -- a letter with a name
 listed : (names : List ℕ) (i : ℕ) → i < length names / 8 → i < length (lettersOf names)
@@ -32,21 +35,21 @@ text-is names i = let e : 8 * i + 8 - 8 * i ≡ 8 = omega arith in ap (λ (k : �
 
 put-name-requires : tie.Need-put-name-requires Inv-loop μ-loop
 put-name-requires c κs =
-    let s = c .before .before .before .before .before .before in let names = s .args .names .now in
-    let l = c .before .before .before .loop in
-    room-line (nameLine names) (lettersOf names) (l .i) (listed names (l .i) (c .before .before .loop-test .taken)) (l .inv .1) _ (text-is names (l .i)) (s .pre)
+    let start : Start = search in let names = start .args .names .now in let at-loop : tie.At-loop Inv-loop μ-loop = search in let l = at-loop .loop in
+    let in-loop : tie.In-loop Inv-loop μ-loop = search in
+    room-line (nameLine names) (lettersOf names) (l .i) (listed names (l .i) (in-loop .loop-test .taken)) (l .inv .1) _ (text-is names (l .i)) (start .pre)
 
 loop-again : tie.Need-loop-again Inv-loop μ-loop
 loop-again c =
-    let start = c .before .before .before .before .before .before .before .before .before in let names = start .args .names .now in
-    let l = c .before .before .before .before .before .before .loop in (
+    let start : Start = search in let names = start .args .names .now in let at-loop : tie.At-loop Inv-loop μ-loop = search in let l = at-loop .loop in
+    let in-loop : tie.In-loop Inv-loop μ-loop = search in let at-put-name : tie.After-put-name Inv-loop μ-loop = search in (
       omega arith,
-      put-line (nameLine names) (lettersOf names) (l .i) (listed names (l .i) (c .before .before .before .before .before .loop-test .taken)) (l .inv .1) _ (text-is names (l .i))
-          (c .before .before .put-name .ensures),
+      put-line (nameLine names) (lettersOf names) (l .i) (listed names (l .i) (in-loop .loop-test .taken)) (l .inv .1) _ (text-is names (l .i))
+          (at-put-name .put-name .ensures),
     )
 
 returns : tie.Need-returns Inv-loop μ-loop
-returns c = let names = c .before .before .before .before .args .names .now in let l = c .before .loop in
+returns c = let start : Start = search in let names = start .args .names .now in let l = c .before .loop in
     put-lines (nameLine names) (lettersOf names) (l .i) (omega (arith, c .loop-test .left, length-tabulate (length names / 8) (λ a. a) 0)) (l .inv .1)
 
 pub put-names-spec : {M : Type 1} → statement M

@@ -8,20 +8,15 @@ use Rattle.listing_text.proofs.lines.put_refused.Statement.{statement}
 use Rattle.listing_text.proofs.lines.put_refused.Tie as tie
 
 put-requires : tie.Need-put-requires
-put-requires c κs = let a = c .before .before .before .args in omega (arith, refused-length (a .row))
-
-put-word-requires : tie.Need-put-word-requires
-put-word-requires c κs = omega (arith, refused-length (c .before .before .before .before .before .before .before .args .row))
-
-put-byte-requires : tie.Need-put-byte-requires
-put-byte-requires c κs =
-    omega (arith, refused-length (c .before .before .before .before .before .before .before .before .before .before .before .args .row))
+put-requires c κs = let start : tie.Start = search in let a = start .args in omega (arith, refused-length (a .row))
 
 returns : tie.Need-returns
 unfolding refusedLine
-returns c = let at-put = c .before .before .before .before .before .before .before .before .before .before in
-    put-then (at-put .put .ensures)
-    (put-then (c .before .before .before .before .before .before .put-word .ensures) (c .before .before .put-byte .ensures))
+returns c =
+    let at-put : tie.After-put = search in let at-put-word : tie.After-put-word = search in let at-put-byte : tie.After-put-byte = search in
+    put-then (at-put .put .ensures) (put-then (at-put-word .put-word .ensures) (at-put-byte .put-byte .ensures))
 
 pub put-refused-spec : {M : Type 1} → statement M
-put-refused-spec = tie.close (tie.spec (λ c. search needs) put-requires put-word-requires put-byte-requires (λ c. search needs) returns)
+put-refused-spec = tie.close (tie.spec
+    (λ c. search needs) put-requires (λ c κs. let start : tie.Start = search in omega (arith, refused-length (start .args .row)))
+    (λ c κs. let start : tie.Start = search in omega (arith, refused-length (start .args .row))) (λ c. search needs) returns)

@@ -10,10 +10,10 @@ returns : tie.Need-returns
 returns c = let a = c .before .args in sym (limit-same (a .s) (a .n) (a .letter) (a .l) (c .if1 .taken))
 
 returns-2 : tie.Need-returns-2
-returns-2 c = let a = c .before .before .args in sym (limit-high (a .s) (a .n) (a .letter) (a .l) (omega arith))
+returns-2 c = let start : tie.Start = search in let a = start .args in sym (limit-high (a .s) (a .n) (a .letter) (a .l) (omega arith))
 
 returns-3 : tie.Need-returns-3
-returns-3 c = let a = c .before .before .args in sym (limit-other (a .s) (a .n) (a .letter) (a .l) (c .before .if1 .left) (omega arith))
+returns-3 c = let start : tie.Start = search in let a = start .args in sym (limit-other (a .s) (a .n) (a .letter) (a .l) (c .before .if1 .left) (omega arith))
 
 pub limit-of-spec : {M : Type 1} → statement M
 limit-of-spec = tie.close (tie.spec returns returns-2 (λ c. search needs) returns-3)

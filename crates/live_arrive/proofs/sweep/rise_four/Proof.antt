@@ -11,36 +11,31 @@ use Rattle.live_arrive.proofs.sweep.rise_four.Statement.{statement}
 use Rattle.live_arrive.proofs.sweep.rise_four.Tie as tie
 
 returns : tie.Need-returns
-returns c =
-    let a = c .before .before .before .args in four-first (a .last) (wordsIn (a .bytes .now)) (a .i) (omega (arith, c .before .element .ensures))
+returns c = let start : tie.Start = search in let a = start .args in four-first (a .last) (wordsIn (a .bytes .now)) (a .i) (omega (arith, c .before .element .ensures))
 
 returns-2 : tie.Need-returns-2
-returns-2 c =
-    let a = c .before .before .before .before .before .args in
-    four-second (a .last) (wordsIn (a .bytes .now)) (a .i) (omega (arith, c .before .before .before .element .ensures))
-    (omega (arith, c .before .before .before .element .ensures, c .before .element2 .ensures))
+returns-2 c = let start : tie.Start = search in let a = start .args in let at-element : tie.After-element = search in
+    four-second (a .last) (wordsIn (a .bytes .now)) (a .i) (omega (arith, at-element .element .ensures))
+    (omega (arith, at-element .element .ensures, c .before .element2 .ensures))
 
 returns-3 : tie.Need-returns-3
 returns-3 c =
-    let start = c .before .before .before .before .before .before .before in let a = start .args in
-    let first = c .before .before .before .before .before .element .ensures in
-    let second = c .before .before .before .element2 .ensures in
+    let start : tie.Start = search in let a = start .args in let at-element : tie.After-element = search in let first = at-element .element .ensures in
+    let at-element2 : tie.After-element2 = search in let second = at-element2 .element2 .ensures in
     four-third (a .last) (wordsIn (a .bytes .now)) (a .i) (omega (arith, first)) (omega (arith, first, second)) (omega (arith, second, c .before .element3 .ensures))
 
 add-element-3 : tie.Need-add-element-3
-add-element-3 c = let start = c .before .before .before .before .before .before .before in omega (arith, words-in-length (start .args .bytes .now))
+add-element-3 c = let start : tie.Start = search in omega (arith, words-in-length (start .args .bytes .now))
 
 returns-4 : tie.Need-returns-4
 returns-4 c =
-    let start = c .before .before .before .before .before .before .before .before in let a = start .args in
-    let first = c .before .before .before .before .before .before .element .ensures in
-    let second = c .before .before .before .before .element2 .ensures in let third = c .before .before .element3 .ensures in
-    ap₂ (λ (x y : ℕ). ltb x y) third (c .element4 .ensures)
+    let start : tie.Start = search in let a = start .args in let at-element : tie.After-element = search in let first = at-element .element .ensures in
+    let at-element2 : tie.After-element2 = search in let second = at-element2 .element2 .ensures in let at-element3 : tie.After-element3 = search in
+    let third = at-element3 .element3 .ensures in ap₂ (λ (x y : ℕ). ltb x y) third (c .element4 .ensures)
     ∙ four-last (a .last) (wordsIn (a .bytes .now)) (a .i) (omega (arith, first)) (omega (arith, first, second)) (omega (arith, second, third))
 
 pub rise-four-spec : {M : Type 1} → statement M
-rise-four-spec =
-    tie.close (tie.spec
-    (λ c κs. search needs) returns (λ c. omega (arith, words-in-length (c .before .before .before .args .bytes .now))) (λ c κs. search needs)
-    returns-2 (λ c. omega (arith, words-in-length (c .before .before .before .before .before .args .bytes .now))) (λ c κs. search needs) returns-3
+rise-four-spec = tie.close (tie.spec
+    (λ c κs. search needs) returns (λ c. let start : tie.Start = search in omega (arith, words-in-length (start .args .bytes .now))) (λ c κs. search needs)
+    returns-2 (λ c. let start : tie.Start = search in omega (arith, words-in-length (start .args .bytes .now))) (λ c κs. search needs) returns-3
     add-element-3 (λ c κs. search needs) returns-4)

@@ -10,17 +10,12 @@ use Rattle.live_arrive.proofs.sweep.sweep_one.Statement.{statement}
 use Rattle.live_arrive.proofs.sweep.sweep_one.Tie as tie
 
 returns : tie.Need-returns
-returns c =
-    let a = c .before .before .before .args in
-    let quick : targetOf (a .t) < a .limit = omega arith in
-    λ s b e. told-quickly e (c .before .before .before .pre) quick
+returns c = let start : tie.Start = search in let a = start .args in let quick : targetOf (a .t) < a .limit = omega arith in λ s b e. told-quickly e (start .pre) quick
 
 returns-2 : tie.Need-returns-2
-returns-2 c =
-    let start = c .before .before .before .before .before .before .before in let a = start .args in
-    λ s b e.
+returns-2 c = let start : tie.Start = search in let a = start .args in let at-look-closer : tie.After-look-closer = search in λ s b e.
     let closer : limitOf s (length (a .set .now)) (a .letter) (letterOf (a .t)) ≤ targetOf (a .t) = omega arith in
-    c .before .before .look-closer .ensures s b closer
+    at-look-closer .look-closer .ensures s b closer
 
 pub sweep-one-spec : {M : Type 1} → statement M
 sweep-one-spec = tie.close (tie.spec (λ c κs. search needs) returns (λ c κs. search needs) (λ c. search needs) returns-2)

@@ -16,17 +16,15 @@ loop-holds c = (omega arith, let p = c .pre in copied-start 512 (c .args .from) 
 
 loop-again : tie.Need-loop-again Inv-loop μ-loop
 loop-again c =
-    let a = c .before .before .before .args in let p = c .before .before .before .pre in let l = c .before .before .loop in
+    let start : tie.Start Inv-loop μ-loop = search in let a = start .args in let p = start .pre in let at-loop : tie.At-loop Inv-loop μ-loop = search in let l = at-loop .loop in
     (omega arith, copied-next 512 (a .from) (a .to) (a .state .now) (p .0) (p .1) (p .2) (l .state) (l .i) (omega arith) (l .inv .1))
 
 returns : tie.Need-returns Inv-loop μ-loop
-returns c =
-    let a = c .before .before .args in let p = c .before .before .pre in let l = c .before .loop in
+returns c = let start : tie.Start Inv-loop μ-loop = search in let a = start .args in let p = start .pre in let l = c .before .loop in
     copied-end 512 (a .from) (a .to) (a .state .now) (p .0) (p .1) (p .2) (l .state) (l .i) (omega arith) (l .inv .1)
 
 pub copy-letters-spec : {M : Type 1} → statement M
-copy-letters-spec =
-    tie.close (tie.spec
-    Inv-loop μ-loop loop-holds (λ c. omega arith) (λ c. omega (arith, c .before .before .loop .inv .1 .long)) (λ c. omega arith)
-    (λ c. omega (arith, c .before .before .loop .inv .1 .long)) (λ c. omega arith) (λ c. omega arith) loop-again (λ c. c .before .loop .inv .1 .long)
+copy-letters-spec = tie.close (tie.spec
+    Inv-loop μ-loop loop-holds (λ c. omega arith) (λ c. let at-loop : tie.At-loop Inv-loop μ-loop = search in omega (arith, at-loop .loop .inv .1 .long)) (λ c. omega arith)
+    (λ c. let at-loop : tie.At-loop Inv-loop μ-loop = search in omega (arith, at-loop .loop .inv .1 .long)) (λ c. omega arith) (λ c. omega arith) loop-again (λ c. c .before .loop .inv .1 .long)
     returns)

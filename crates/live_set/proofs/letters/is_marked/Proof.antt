@@ -12,7 +12,7 @@ use Rattle.live_set.proofs.letters.is_marked.Tie as tie
 
 returns : tie.Need-returns
 unfolding isMarked
-returns c = let a = c .before .before .args in ap (λ (v : ℕ). not (eqb v 0)) (c .byte-at .ensures) ∙ not-zero (getD (a .state .now) (2 + a .m) 0)
+returns c = let start : tie.Start = search in let a = start .args in ap (λ (v : ℕ). not (eqb v 0)) (c .byte-at .ensures) ∙ not-zero (getD (a .state .now) (2 + a .m) 0)
 
 pub is-marked-spec : {M : Type 1} → statement M
 is-marked-spec = tie.close (tie.spec (λ c. search needs) (λ c κs. search needs) returns)

@@ -10,8 +10,9 @@ use Rattle.live_set.proofs.letters.number_at.Statement.{statement}
 use Rattle.live_set.proofs.letters.number_at.Tie as tie
 
 -- the second byte
-high : (c : tie.After-byte-at2) → c .byte-at2 .result ≡ getD (c .before .before .before .args .state .now) (suc (c .before .before .before .args .at)) 0
-high c = let a = c .before .before .before .args in c .byte-at2 .ensures ∙ ap (λ (k : ℕ). getD (a .state .now) k 0) (add-one (a .at))
+high : (c : tie.After-byte-at2) → let start : tie.Start = search in
+    c .byte-at2 .result ≡ getD (start .args .state .now) (suc (start .args .at)) 0
+high c = let start : tie.Start = search in let a = start .args in c .byte-at2 .ensures ∙ ap (λ (k : ℕ). getD (a .state .now) k 0) (add-one (a .at))
 
 returns : tie.Need-returns
 unfolding numberAt
@@ -22,7 +23,6 @@ unfolding numberAt
 returns-2 c = omega (arith, high (c .before))
 
 pub number-at-spec : {M : Type 1} → statement M
-number-at-spec =
-    tie.close (tie.spec
+number-at-spec = tie.close (tie.spec
     (λ c κs. search needs) (λ c. search needs) (λ c. search needs) (λ c κs. search needs) (λ c. search needs) (λ c. search needs) (λ c. search needs) returns
     returns-2)

@@ -13,6 +13,5 @@ unfolding twoBytes
 returns c = let a = c .args in put-two (a .at) (a .n % 256) (a .n / 256) (a .state .now) (c .pre .1)
 
 pub put-number-spec : {M : Type 1} → statement M
-put-number-spec =
-    tie.close (tie.spec
+put-number-spec = tie.close (tie.spec
     (λ c. search needs) (λ c. search needs) (λ c. search needs) (λ c. search needs) (λ c. simp length-set (omega arith)) (λ c. search needs) returns)

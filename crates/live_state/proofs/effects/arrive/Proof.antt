@@ -15,29 +15,20 @@ use Rattle.live_state.proofs.effects.arrive.Tie as tie
 
 step-requires : tie.Need-step-requires
 step-requires c κs =
-    let at-put-number = c .before .before .before .before .before .before .before in
-    let start = at-put-number .before .before .before .before .before .before .before in let a = start .args in let pre = start .pre .0 in
-    let w = words-in-length (a .codes .now) in
-    (rw (sym w) (pre .inside), omega (arith, w, pre .few, pre .long, c .before .before .before .put-byte .kept .0, at-put-number .put-number .kept .0))
+    let start : tie.Start = search in let a = start .args in let pre = start .pre .0 in let w = words-in-length (a .codes .now) in let at-put-number : tie.After-put-number = search in
+    let at-put-byte : tie.After-put-byte = search in (rw (sym w) (pre .inside), omega (arith, w, pre .few, pre .long, at-put-byte .put-byte .kept .0, at-put-number .put-number .kept .0))
 
 returns : tie.Need-returns
 unfolding numbered
 returns c =
-    let at-put-number = c .before .before .before .before .before .before .before .before .before .before in
-    let at-number-at = at-put-number .before .before in
-    let start = at-number-at .before .before .before .before .before in let a = start .args in let pre = start .pre in
-    let ts = wordsIn (a .transitions .now) in
-    let n = at-number-at .number-at .ensures in
-    let written =
-    c .before .before .before .before .before .before .put-byte .ensures
-    ∙ ap₂ (λ (k : ℕ) (s : List ℕ). put (lettersAtByte + k) (a .letter ∷ []) s) n
+    let start : tie.Start = search in let a = start .args in let pre = start .pre in let ts = wordsIn (a .transitions .now) in let at-number-at : tie.After-number-at = search in
+    let n = at-number-at .number-at .ensures in let at-put-number : tie.After-put-number = search in let at-put-byte : tie.After-put-byte = search in
+    let written = at-put-byte .put-byte .ensures ∙ ap₂ (λ (k : ℕ) (s : List ℕ). put (lettersAtByte + k) (a .letter ∷ []) s) n
     (at-put-number .put-number .ensures ∙ ap (λ (k : ℕ). put 0 (twoBytes (k + 1)) (a .state .now)) n) in
-    λ initial.
-    c .before .before .step .ensures
+    let at-step : tie.After-step = search in λ initial. at-step .step .ensures
     ∙ ap₂ (λ (k : ℕ) (s : List ℕ). withSet (stepped k ts (a .letter) (setBytes s)) s) (sym (words-in-length (a .codes .now))) written
     ∙ arrived-end (a .state .now) (pre .0 .long) initial (a .letter) (wordsIn (a .codes .now)) ts (pre .1)
 
 pub arrive-spec : {M : Type 1} → statement M
-arrive-spec =
-    tie.close (tie.spec
+arrive-spec = tie.close (tie.spec
     (λ c κs. search needs) (λ c. search needs) (λ c κs. search needs) (λ c. search needs) (λ c κs. search needs) step-requires (λ c. search needs) returns)

@@ -17,24 +17,18 @@ use Rattle.live_state.proofs.set_part.begin.Tie as tie
 
 begin-set-requires : tie.Need-begin-set-requires
 begin-set-requires c κs =
-    let a = c .before .before .before .args in
-    let w = words-in-length (a .codes .now) in
-    let k = setAt + length (a .codes .now) / 8 - setAt in
-    let same : k ≡ length (wordsIn (a .codes .now)) = omega arith in
-    (c .before .before .before .pre .0, length-take-le k (drop setAt (a .state .now)) (omega (arith, length-drop setAt (a .state .now))) ∙ same)
+    let start : tie.Start = search in let a = start .args in let w = words-in-length (a .codes .now) in let k = setAt + length (a .codes .now) / 8 - setAt in
+    let same : k ≡ length (wordsIn (a .codes .now)) = omega arith in (start .pre .0, length-take-le k (drop setAt (a .state .now)) (omega (arith, length-drop setAt (a .state .now))) ∙ same)
 
 returns : tie.Need-returns
 unfolding withSet
 returns c =
-    let a = c .before .before .before .before .before .before .args in
-    let w = words-in-length (a .codes .now) in
-    let e = c .before .before .begin-set .ensures in
-    let long = ap (λ (l : List ℕ). length l) e ∙ initial-length (a .initial) (wordsIn (a .codes .now)) in
+    let start : tie.Start = search in let a = start .args in let w = words-in-length (a .codes .now) in let at-begin-set : tie.After-begin-set = search in
+    let e = at-begin-set .begin-set .ensures in let long = ap (λ (l : List ℕ). length l) e ∙ initial-length (a .initial) (wordsIn (a .codes .now)) in
     let same : length (wordsIn (a .codes .now)) ≡ setAt + length (a .codes .now) / 8 - setAt = omega arith in
     put-mid setAt _ _ (a .state .now) (long ∙ same) ∙ ap (λ (s : List ℕ). put setAt s (a .state .now)) e
 
 pub begin-spec : {M : Type 1} → statement M
-begin-spec =
-    tie.close (tie.spec
-    (λ c. search needs) (λ c. search needs) (λ c. search needs) (λ c. omega (arith, words-in-length (c .before .before .args .codes .now)))
+begin-spec = tie.close (tie.spec
+    (λ c. search needs) (λ c. search needs) (λ c. search needs) (λ c. let start : tie.Start = search in omega (arith, words-in-length (start .args .codes .now)))
     begin-set-requires (λ c. search needs) returns)

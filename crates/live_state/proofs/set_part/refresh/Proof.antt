@@ -16,23 +16,17 @@ use Rattle.live_state.proofs.set_part.refresh.Tie as tie
 
 replay-requires : tie.Need-replay-requires
 replay-requires c κs =
-    let start = c .before .before .before .before .before .before .before .before in let a = start .args in let pre = start .pre .1 in
-    let codes = wordsIn (a .codes .now) in
-    let w = words-in-length (a .codes .now) in
-    let fits : setAt + length codes ≤ length (a .state .now) = omega (arith, pre .few, pre .long) in
-    let long = ap (λ (l : List ℕ). length l) (c .before .before .before .begin .ensures) ∙ begun-long (a .initial) codes (wordsIn (a .transitions .now)) (a .state .now) fits in
+    let start : tie.Start = search in let a = start .args in let pre = start .pre .1 in let codes = wordsIn (a .codes .now) in let w = words-in-length (a .codes .now) in
+    let fits : setAt + length codes ≤ length (a .state .now) = omega (arith, pre .few, pre .long) in let at-begin : tie.After-begin = search in
+    let long = ap (λ (l : List ℕ). length l) (at-begin .begin .ensures) ∙ begun-long (a .initial) codes (wordsIn (a .transitions .now)) (a .state .now) fits in
     (rw (sym w) (pre .inside), omega (arith, w, long, fits))
 
 returns : tie.Need-returns
 returns c =
-    let start = c .before .before .before .before .before .before .before .before .before .before .before in
-    let a = start .args in let pre = start .pre .1 in
-    let codes = wordsIn (a .codes .now) in
-    let ts = wordsIn (a .transitions .now) in
-    let n = length (a .codes .now) / 8 in
-    let fits : setAt + length codes ≤ length (a .state .now) = omega (arith, pre .few, pre .long) in
-    c .before .before .replay .ensures
-    ∙ ap (λ (s : List ℕ). withSet (steppedOver n ts (lettersIn s) (take n (setBytes s))) s) (c .before .before .before .before .before .before .begin .ensures)
+    let start : tie.Start = search in let a = start .args in let pre = start .pre .1 in let codes = wordsIn (a .codes .now) in let ts = wordsIn (a .transitions .now) in
+    let n = length (a .codes .now) / 8 in let fits : setAt + length codes ≤ length (a .state .now) = omega (arith, pre .few, pre .long) in let at-replay : tie.After-replay = search in
+    let at-begin : tie.After-begin = search in at-replay .replay .ensures
+    ∙ ap (λ (s : List ℕ). withSet (steppedOver n ts (lettersIn s) (take n (setBytes s))) s) (at-begin .begin .ensures)
     ∙ refresh-end (a .initial) codes ts (a .state .now) fits n (sym (words-in-length (a .codes .now)))
 
 pub refresh-spec : {M : Type 1} → statement M

@@ -18,48 +18,47 @@ Inv-loop n transitions state₀ m i₀ state i = (i ≤ m) × (length state ≡ 
 abbrev μ-loop : tie.MeasureT-loop
 μ-loop n transitions state₀ m i₀ state i = m - i
 
+abbrev Start : Type 0
+Start = tie.Start Inv-loop μ-loop
+
+abbrev After-number-at : Type 0
+After-number-at = tie.After-number-at Inv-loop μ-loop
+
 loop-holds : tie.Need-loop-holds Inv-loop μ-loop
 loop-holds c =
-    let a = c .before .before .before .before .args in
-    (omega arith, refl, replay-start (a .n) (wordsIn (a .transitions .now)) (a .state .now) (c .before .before .before .before .pre .1))
+    let start : Start = search in let a = start .args in (omega arith, refl, replay-start (a .n) (wordsIn (a .transitions .now)) (a .state .now) (start .pre .1))
 
 add-letter : tie.Need-add-letter Inv-loop μ-loop
-add-letter c = omega (arith, number-low (c .before .before .before .before .before .before .args .state .now), c .before .before .number-at .ensures)
+add-letter c = let start : Start = search in let at-number-at : After-number-at = search in
+    omega (arith, number-low (start .args .state .now), at-number-at .number-at .ensures)
 
 slice-read-letter : tie.Need-slice-read-letter Inv-loop μ-loop
 slice-read-letter c =
-    let start = c .before .before .before .before .before .before .before in
-    omega (arith, c .before .before .loop .inv .1, number-low (start .args .state .now), c .before .before .before .number-at .ensures)
+    let start : Start = search in let at-loop : tie.At-loop Inv-loop μ-loop = search in let at-number-at : After-number-at = search in
+    omega (arith, at-loop .loop .inv .1, number-low (start .args .state .now), at-number-at .number-at .ensures)
 
 step-requires : tie.Need-step-requires Inv-loop μ-loop
 step-requires c κs =
-    let start = c .before .before .before .before .before .before .before .before in let pre = start .pre in
-    (pre .0, omega (arith, pre .1, c .before .before .before .loop .inv .1))
+    let start : Start = search in let pre = start .pre in let at-loop : tie.At-loop Inv-loop μ-loop = search in (pre .0, omega (arith, pre .1, at-loop .loop .inv .1))
 
 loop-again : tie.Need-loop-again Inv-loop μ-loop
 loop-again c =
-    let at-number-at = c .before .before .before .before .before .before .before in
-    let start = at-number-at .before .before .before .before in let a = start .args in let pre = start .pre in
-    let l = c .before .before .before .before .before .before .loop in
-    let ts = wordsIn (a .transitions .now) in
+    let start : Start = search in let a = start .args in let pre = start .pre in let at-loop : tie.At-loop Inv-loop μ-loop = search in let l = at-loop .loop in
+    let ts = wordsIn (a .transitions .now) in let at-number-at : After-number-at = search in
     let more : l .i < numberIn (a .state .now) = omega (arith, at-number-at .number-at .ensures) in
     let letter : getD (l .state) (lettersAtByte + l .i) 0 ≡ getD (lettersIn (a .state .now)) (l .i) 0 =
     ap (λ (s : List ℕ). getD s (lettersAtByte + l .i) 0) (l .inv .2) ∙ replay-letter (a .n) ts (a .state .now) (pre .1) (l .i) more in
-    let next : c .before .before .step .last .1 .1 .1 .0 ≡ withSet (after (a .n) ts (a .state .now) (l .i + 1)) (a .state .now) =
-    c .before .before .step .ensures
-    ∙ ap₂ (λ (x : ℕ) (s : List ℕ). withSet (stepped (a .n) ts x (setBytes s)) s) letter (l .inv .2)
+    let at-step : tie.After-step Inv-loop μ-loop = search in
+    let next = at-step .step .ensures ∙ ap₂ (λ (x : ℕ) (s : List ℕ). withSet (stepped (a .n) ts x (setBytes s)) s) letter (l .inv .2)
     ∙ replay-next (a .n) ts (a .state .now) (pre .1) (l .i) more (pre .0) in
     (omega arith, ap (λ (s : List ℕ). length s) next ∙ replay-long (a .n) ts (a .state .now) (pre .1) (l .i + 1), next)
 
 returns : tie.Need-returns Inv-loop μ-loop
-returns c =
-    let a = c .before .before .before .before .before .before .args in
-    let pre = c .before .before .before .before .before .before .pre in let l = c .before .loop in
-    let all : numberIn (a .state .now) ≤ l .i = omega (arith, c .before .before .number-at .ensures) in
+returns c = let start : Start = search in let a = start .args in let pre = start .pre in let l = c .before .loop in
+    let at-number-at : After-number-at = search in let all : numberIn (a .state .now) ≤ l .i = omega (arith, at-number-at .number-at .ensures) in
     l .inv .2 ∙ replay-end (a .n) (wordsIn (a .transitions .now)) (a .state .now) (pre .1) (l .i) all
 
 pub replay-spec : {M : Type 1} → statement M
-replay-spec =
-    tie.close (tie.spec
+replay-spec = tie.close (tie.spec
     Inv-loop μ-loop (λ c κs. omega arith) loop-holds add-letter slice-read-letter step-requires (λ c. omega arith) (λ c. omega arith) loop-again
     (λ c. c .before .loop .inv .1) returns)

@@ -16,19 +16,17 @@ use Rattle.live_state.proofs.set_part.step.Statement.{statement}
 use Rattle.live_state.proofs.set_part.step.Tie as tie
 
 step-set-requires : tie.Need-step-set-requires
-step-set-requires c κs =
-    let a = c .before .before .before .args in
+step-set-requires c κs = let start : tie.Start = search in let a = start .args in
     let long : length (take (setAt + a .n - setAt) (drop setAt (a .state .now))) ≡ a .n =
     length-take-le (setAt + a .n - setAt) (drop setAt (a .state .now)) (omega (arith, length-drop setAt (a .state .now))) ∙ omega arith in
-    rw long (c .before .before .before .pre .0)
+    rw long (start .pre .0)
 
 returns : tie.Need-returns
 unfolding withSet
 returns c =
-    let a = c .before .before .before .before .before .before .args in let pre = c .before .before .before .before .before .before .pre in
-    let ts = wordsIn (a .transitions .now) in
-    let same : setAt + a .n - setAt ≡ a .n = omega arith in
-    let e = c .before .before .step-set .ensures ∙ step-part setAt (setAt + a .n - setAt) (a .n) (a .letter) ts (a .state .now) same (pre .1) (pre .0) in
+    let start : tie.Start = search in let a = start .args in let pre = start .pre in let ts = wordsIn (a .transitions .now) in let same : setAt + a .n - setAt ≡ a .n = omega arith in
+    let at-step-set : tie.After-step-set = search in
+    let e = at-step-set .step-set .ensures ∙ step-part setAt (setAt + a .n - setAt) (a .n) (a .letter) ts (a .state .now) same (pre .1) (pre .0) in
     let long = ap (λ (l : List ℕ). length l) e ∙ stepped-length (a .n) ts (a .letter) (drop setAt (a .state .now)) in
     put-mid setAt _ _ (a .state .now) (long ∙ sym same) ∙ ap (λ (s : List ℕ). put setAt s (a .state .now)) e
 

@@ -5,7 +5,6 @@ use Rattle.loop_search.proofs.ways.meets.Statement.{statement}
 use Rattle.loop_search.proofs.ways.meets.Tie as tie
 
 pub meets-spec : {M : Type 1} → statement M
-meets-spec =
-    tie.close (tie.spec
+meets-spec = tie.close (tie.spec
     (λ c. let a = c .before .args in rw (none-accepted (a .a) (a .b) (c .if1 .taken)))
     (λ c. let a = c .before .args in rw (some-accepted (a .a) (a .b) (omega arith) (omega arith) (c .if1 .left))))

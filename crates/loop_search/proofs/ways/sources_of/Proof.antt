@@ -25,8 +25,7 @@ loop-holds c = (omega arith, refl)
 
 loop-again : tie.Need-loop-again Inv-loop μ-loop
 loop-again c =
-    let l = c .before .before .before .loop in let a = c .before .before .before .before .args in
-    let w = c .before .before .before .before .pre in
+    let at-loop : tie.At-loop Inv-loop μ-loop = search in let l = at-loop .loop in let start : tie.Start Inv-loop μ-loop = search in let a = start .args in let w = start .pre in
     let e = c .meets .ensures ∙ ap one (meets-below (a .n) (getD (a .es .now) (l .q) 0) (a .set) (w .0) (w .1)) in (
       omega arith,
       rw (l .inv .1) (put-bit (l .q) (c .meets .result) (λ p. someBelow (a .n) (λ t. leadsBy (a .es .now) p t && bit (a .set) t)) (omega arith) e),
@@ -34,13 +33,10 @@ loop-again c =
 
 returns : tie.Need-returns Inv-loop μ-loop
 unfolding sources
-returns c =
-    let a = c .before .before .args in
-    let e : c .before .loop .q ≡ a .n = omega arith in
+returns c = let start : tie.Start Inv-loop μ-loop = search in let a = start .args in let e : c .before .loop .q ≡ a .n = omega arith in
     c .before .loop .inv .1 ∙ ap (λ (x : ℕ). mask x (λ p. someBelow (a .n) (λ t. leadsBy (a .es .now) p t && bit (a .set) t))) e
 
 pub sources-of-spec : {M : Type 1} → statement M
-sources-of-spec =
-    tie.close (tie.spec
+sources-of-spec = tie.close (tie.spec
     Inv-loop μ-loop loop-holds (λ c. omega arith) (λ c κs. search needs) (λ c. omega arith) (λ c. omega arith) (λ c. omega arith) (λ c. omega arith) loop-again
     returns)

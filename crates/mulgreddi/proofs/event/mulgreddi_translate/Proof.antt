@@ -6,7 +6,7 @@ use Rattle.mulgreddi.proofs.event.mulgreddi_translate.Statement.{statem
 use Rattle.mulgreddi.proofs.event.mulgreddi_translate.Tie as tie
 
 returns : tie.Need-returns
-returns c = let t = c .before .before .before .translate .ensures in (c .translated .ensures ∙ ap translatedAnswer (t .0), t .1)
+returns c = let at-translate : tie.After-translate = search in let t = at-translate .translate .ensures in (c .translated .ensures ∙ ap translatedAnswer (t .0), t .1)
 
 pub mulgreddi-translate-spec : {M : Type 1} → statement M
 mulgreddi-translate-spec = tie.close (tie.spec (λ c κs. search needs) (λ c κs. search needs) (λ c. search needs) returns)

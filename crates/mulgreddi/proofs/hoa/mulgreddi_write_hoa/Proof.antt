@@ -6,7 +6,6 @@ use Rattle.mulgreddi.proofs.hoa.mulgreddi_write_hoa.Statement.{statemen
 use Rattle.mulgreddi.proofs.hoa.mulgreddi_write_hoa.Tie as tie
 
 pub mulgreddi-write-hoa-spec : {M : Type 1} → statement M
-mulgreddi-write-hoa-spec =
-    tie.close (tie.spec
+mulgreddi-write-hoa-spec = tie.close (tie.spec
     (λ c κs. search needs) (λ c κs. search needs) (λ c. search needs)
-    (λ c. let w = c .before .before .before .write-hoa .ensures in (c .written .ensures ∙ ap writtenAnswer (w .0), w .1)))
+    (λ c. let at-write-hoa : tie.After-write-hoa = search in let w = at-write-hoa .write-hoa .ensures in (c .written .ensures ∙ ap writtenAnswer (w .0), w .1)))

@@ -8,8 +8,7 @@ use Rattle.mulgreddi.proofs.loops.mulgreddi_mixed_loop.Tie as tie
 
 returns : tie.Need-returns
 returns c =
-    let m = c .before .before .before .mixed-loop in
-    let e = c .reported .ensures ∙ ap loopAnswer (m .ensures .0) in
+    let at-mixed-loop : tie.After-mixed-loop = search in let m = at-mixed-loop .mixed-loop in let e = c .reported .ensures ∙ ap loopAnswer (m .ensures .0) in
     (e, (m .ensures .1 .0, λ z. reported-first _ (m .result) _ (c .reported .result) _ (m .ensures .0) e (m .ensures .1 .1 z)))
 
 pub mulgreddi-mixed-loop-spec : {M : Type 1} → statement M

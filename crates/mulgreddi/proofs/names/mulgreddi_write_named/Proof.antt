@@ -6,7 +6,6 @@ use Rattle.mulgreddi.proofs.names.mulgreddi_write_named.Statement.{stat
 use Rattle.mulgreddi.proofs.names.mulgreddi_write_named.Tie as tie
 
 pub mulgreddi-write-named-spec : {M : Type 1} → statement M
-mulgreddi-write-named-spec =
-    tie.close (tie.spec
+mulgreddi-write-named-spec = tie.close (tie.spec
     (λ c κs. search needs) (λ c κs. search needs) (λ c. search needs)
-    (λ c. let w = c .before .before .before .write-named .ensures in (c .written .ensures ∙ ap writtenAnswer (w .0), w .1)))
+    (λ c. let at-write-named : tie.After-write-named = search in let w = at-write-named .write-named .ensures in (c .written .ensures ∙ ap writtenAnswer (w .0), w .1)))

@@ -6,9 +6,7 @@ use Rattle.mulgreddi.proofs.word.mulgreddi_tidy_word.Statement.{stateme
 use Rattle.mulgreddi.proofs.word.mulgreddi_tidy_word.Tie as tie
 
 returns : tie.Need-returns
-returns c =
-    let t = c .before .before .before .tidy-word .ensures in
-    (c .tidy-word2 .ensures ∙ ap tidyWordAnswer (t .answered), (t .written, t .meant))
+returns c = let at-tidy-word : tie.After-tidy-word = search in let t = at-tidy-word .tidy-word .ensures in (c .tidy-word2 .ensures ∙ ap tidyWordAnswer (t .answered), (t .written, t .meant))
 
 pub mulgreddi-tidy-word-spec : {M : Type 1} → statement M
 mulgreddi-tidy-word-spec = tie.close (tie.spec (λ c κs. search needs) (λ c κs. search needs) (λ c. search needs) returns)

@@ -21,32 +21,28 @@ abbrev μ-loop : tie.MeasureT-loop
 μ-loop first second j₀ j = length first - j
 
 -- a clause is met exactly if the set satisfies the entry
-met : (c : tie.After-first-met Inv-loop μ-loop) →
-    let a = c .before .before .before .before .before .before .args in
-    isMet (c .first-met .result) ≡ satisfies 8 (bit (getD (a .first .now) (c .before .before .before .loop .j) 0)) (a .second .now)
+met : (c : tie.After-first-met Inv-loop μ-loop) → let start : tie.Start Inv-loop μ-loop = search in let at-loop : tie.At-loop Inv-loop μ-loop = search in
+    let a = start .args in isMet (c .first-met .result) ≡ satisfies 8 (bit (getD (a .first .now) (at-loop .loop .j) 0)) (a .second .now)
 met c = ap isMet (c .first-met .ensures) ∙ met-satisfies _ _
 
 loop-again : tie.Need-loop-again Inv-loop μ-loop
 unfolding isMet
 loop-again c =
-    let start = c .before .before .before .before .before .before .before .before in let a = start .args in
-    let l = c .before .before .before .before .before .loop in
-    let e : satisfies 8 (bit (getD (a .first .now) (l .j) 0)) (a .second .now) ≡ true = sym (met (c .before .before)) ∙ ap isMet (c .enum-told .given .1) in
+    let start : tie.Start Inv-loop μ-loop = search in let a = start .args in let at-loop : tie.At-loop Inv-loop μ-loop = search in let l = at-loop .loop in
+    let e : satisfies 8 (bit (getD (a .first .now) (l .j) 0)) (a .second .now) ≡ true = sym (met (search)) ∙ ap isMet (c .enum-told .given .1) in
     (omega arith, l .inv .1 ∙ all-next (λ x. satisfies 8 (bit x) (a .second .now)) (a .first .now) (l .j) (omega arith) e)
 
 returns : tie.Need-returns Inv-loop μ-loop
 unfolding isMet
 returns c =
-    let start = c .before .before .before .before .before .before .before .before in let a = start .args in
-    let l = c .before .before .before .before .before .loop in
-    let e : satisfies 8 (bit (getD (a .first .now) (l .j) 0)) (a .second .now) ≡ false = sym (met (c .before .before)) ∙ ap isMet (c .enum-told2 .given .1) in
+    let start : tie.Start Inv-loop μ-loop = search in let a = start .args in let at-loop : tie.At-loop Inv-loop μ-loop = search in let l = at-loop .loop in
+    let e : satisfies 8 (bit (getD (a .first .now) (l .j) 0)) (a .second .now) ≡ false = sym (met (search)) ∙ ap isMet (c .enum-told2 .given .1) in
     sym (l .inv .1 ∙ all-stop (λ x. satisfies 8 (bit x) (a .second .now)) (a .first .now) (l .j) (omega arith) e)
 
 returns-2 : tie.Need-returns-2 Inv-loop μ-loop
 returns-2 c = let l = c .before .loop in sym (l .inv .1 ∙ all-end (λ x. satisfies 8 (bit x) _) _ _ (c .loop-test .left))
 
 pub clauses-satisfy-spec : {M : Type 1} → statement M
-clauses-satisfy-spec =
-    tie.close (tie.spec
+clauses-satisfy-spec = tie.close (tie.spec
     Inv-loop μ-loop (λ c. (omega arith, refl)) (λ c. omega arith) (λ c κs. search needs) (λ c. search needs) (λ c. omega arith) (λ c. omega arith)
     loop-again (λ c. search needs) returns returns-2)

@@ -6,9 +6,9 @@ use Rattle.rule_same.proofs.entries.same_entry.Statement.{statement}
 use Rattle.rule_same.proofs.entries.same_entry.Tie as tie
 
 returns-2 : tie.Need-returns-2
-returns-2 c = rw (sym (c .before .before .clauses-satisfy .ensures) ∙ not-f _ (c .before .if1 .left)) (c .clauses-satisfy2 .ensures)
+returns-2 c =
+    let at-clauses-satisfy : tie.After-clauses-satisfy = search in rw (sym (at-clauses-satisfy .clauses-satisfy .ensures) ∙ not-f _ (c .before .if1 .left)) (c .clauses-satisfy2 .ensures)
 
 pub same-entry-spec : {M : Type 1} → statement M
-same-entry-spec =
-    tie.close (tie.spec
+same-entry-spec = tie.close (tie.spec
     (λ c κs. search needs) (λ c. rw (sym (c .before .clauses-satisfy .ensures) ∙ not-t _ (c .if1 .taken))) (λ c κs. search needs) returns-2)

@@ -8,14 +8,14 @@ use Rattle.rule_same.proofs.files.same_files.Tie as tie
 
 returns : tie.Need-returns
 returns c =
-    let a = c .before .before .before .before .before .before .args in
-    names-differ (a .first .now) (a .second .now) (c .before .before .before .names-of .ensures) (c .before .before .names-of2 .ensures) (c .before .same .ensures) (not-t _ (c .if1 .taken))
+    let start : tie.Start = search in let a = start .args in let at-names-of : tie.After-names-of = search in let at-names-of2 : tie.After-names-of2 = search in
+    names-differ (a .first .now) (a .second .now) (at-names-of .names-of .ensures) (at-names-of2 .names-of2 .ensures) (c .before .same .ensures) (not-t _ (c .if1 .taken))
 
 returns-2 : tie.Need-returns-2
 returns-2 c =
-    let start = c .before .before .before .before .before .before .before in let a = start .args in
-    c .same-bodies .ensures
-    ∙ names-agree (a .first .now) (a .second .now) (c .before .before .before .before .names-of .ensures) (c .before .before .before .names-of2 .ensures) (c .before .before .same .ensures)
+    let start : tie.Start = search in let a = start .args in let at-names-of : tie.After-names-of = search in let at-names-of2 : tie.After-names-of2 = search in
+    let at-same : tie.After-same = search in c .same-bodies .ensures
+    ∙ names-agree (a .first .now) (a .second .now) (at-names-of .names-of .ensures) (at-names-of2 .names-of2 .ensures) (at-same .same .ensures)
     (not-f _ (c .before .if1 .left))
 
 pub same-files-spec : {M : Type 1} → statement M

@@ -6,22 +6,21 @@ use Rattle.rule_same.proofs.files.same_numbers.Statement.{statement}
 use Rattle.rule_same.proofs.files.same_numbers.Tie as tie
 
 returns-2 : tie.Need-returns-2
-returns-2 c = let a = c .before .before .args in differ-s (a .g) (a .h) (c .before .if1 .left) (c .if2 .taken)
+returns-2 c = let start : tie.Start = search in let a = start .args in differ-s (a .g) (a .h) (c .before .if1 .left) (c .if2 .taken)
 
 returns-3 : tie.Need-returns-3
-returns-3 c = let a = c .before .before .before .args in differ-initial (a .g) (a .h) (c .before .before .if1 .left) (c .before .if2 .left) (c .if3 .taken)
+returns-3 c =
+    let start : tie.Start = search in let a = start .args in let else1 : tie.Else1 = search in differ-initial (a .g) (a .h) (else1 .if1 .left) (c .before .if2 .left) (c .if3 .taken)
 
 returns-4 : tie.Need-returns-4
 returns-4 c =
-    let a = c .before .before .before .before .args in
-    let d : (a .g .accepting ≡ a .h .accepting → ⊥) = λ e. omega (arith, c .if4 .taken) in
-    differ-accepting (a .g) (a .h) (c .before .before .before .if1 .left) (c .before .before .if2 .left) (c .before .if3 .left) d
+    let start : tie.Start = search in let a = start .args in let d : (a .g .accepting ≡ a .h .accepting → ⊥) = λ e. omega (arith, c .if4 .taken) in let else1 : tie.Else1 = search in
+    let else2 : tie.Else2 = search in differ-accepting (a .g) (a .h) (else1 .if1 .left) (else2 .if2 .left) (c .before .if3 .left) d
 
 returns-5 : tie.Need-returns-5
 returns-5 c =
-    let a = c .before .before .before .before .args in
-    let same : a .g .accepting ≡ a .h .accepting = omega (arith, c .if4 .left) in
-    agree-all (a .g) (a .h) (c .before .before .before .if1 .left) (c .before .before .if2 .left) (c .before .if3 .left) same
+    let start : tie.Start = search in let a = start .args in let same : a .g .accepting ≡ a .h .accepting = omega (arith, c .if4 .left) in let else1 : tie.Else1 = search in
+    let else2 : tie.Else2 = search in agree-all (a .g) (a .h) (else1 .if1 .left) (else2 .if2 .left) (c .before .if3 .left) same
 
 pub same-numbers-spec : {M : Type 1} → statement M
 same-numbers-spec =

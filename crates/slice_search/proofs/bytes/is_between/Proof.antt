@@ -6,7 +6,6 @@ use Rattle.slice_search.proofs.bytes.is_between.Statement.{statement}
 use Rattle.slice_search.proofs.bytes.is_between.Tie as tie
 
 pub is-between-spec : {M : Type 1} → statement M
-is-between-spec =
-    tie.close (tie.spec
+is-between-spec = tie.close (tie.spec
     (λ c. (λ e. absurd (false≢true e), λ e l. absurd (omega (arith, c .if1 .taken))))
     (λ c. (λ e. (c .if1 .left, ltb-true _ _ e), λ e l. ltb-false _ _ e)))

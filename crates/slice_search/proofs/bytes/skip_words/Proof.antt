@@ -15,11 +15,10 @@ abbrev μ-loop : tie.MeasureT-loop
 
 loop-again : tie.Need-loop-again Inv-loop μ-loop
 loop-again c =
-    let l = c .before .before .before .loop in
-    (zeros-word _ _ (l .i) (l .inv .0) (omega (arith, c .if1 .left, c .before .word-at .ensures)), omega (arith, l .inv .1, c .before .before .loop-test .taken))
+    let at-loop : tie.At-loop Inv-loop μ-loop = search in let l = at-loop .loop in let in-loop : tie.In-loop Inv-loop μ-loop = search in
+    (zeros-word _ _ (l .i) (l .inv .0) (omega (arith, c .if1 .left, c .before .word-at .ensures)), omega (arith, l .inv .1, in-loop .loop-test .taken))
 
 pub skip-words-spec : {M : Type 1} → statement M
-skip-words-spec =
-    tie.close (tie.spec
-    Inv-loop μ-loop (λ c. (zeros-none _ _, c .before .pre .0)) (λ c. search needs) (λ c κs. search needs) (λ c. c .before .before .before .loop .inv)
+skip-words-spec = tie.close (tie.spec
+    Inv-loop μ-loop (λ c. (zeros-none _ _, c .before .pre .0)) (λ c. search needs) (λ c κs. search needs) (λ c. let at-loop : tie.At-loop Inv-loop μ-loop = search in at-loop .loop .inv)
     (λ c. search needs) (λ c. search needs) loop-again (λ c. c .before .loop .inv))

@@ -1,12 +1,12 @@
--- `sort_cores` meets its contract.
+-- `mark_pairs` meets its contract.
 use mathlib.Core.Path.{_≡_, refl, sym, _∙_}
-use mathlib.Core.Bool.{Bool, false, _&&_, cond, and-false}
+use mathlib.Core.Bool.{Bool, false, _&&_, and-false}
+use Prim.Native.Nat.{_+_, _*_}
 use native.Mathlib.Omega.{arith}
 use lib.ListN.{length}
 use borrow.Author.Needs.{needs}
-use Rattle.stricter_spec.specs.Steps.{CoreStep, SparedStep, standsIn}
-use Rattle.stricter_spec.specs.Rounds.{Narrowed}
-use Rattle.stricter_laws.proofs.Fitting.{fits-same, only-sub}
+use Rattle.stricter_spec.specs.Steps.{standsIn}
+use Rattle.stricter_laws.proofs.Fitting.{fits-same}
 use Rattle.stricter_marks.proofs.Joined.{cores-low, only-cores, nothing-sorted}
 use Rattle.stricter_marks.proofs.pairs.mark_pairs.Statement.{statement}
 use Rattle.stricter_marks.proofs.pairs.mark_pairs.Tie as tie
@@ -18,52 +18,38 @@ and-fr : (a b : Bool) → b ≡ false → (a && b) ≡ false
 and-fr a b e = rw e (and-false a)
 
 returns : tie.Need-returns
-returns c =
-    let start = c .before .before .before .before .before .before .before in let a = start .args in
-    let h = c .before .none-stands .ensures (c .if1 .taken) in
+returns c = let start : tie.Start = search in let a = start .args in let h = c .before .none-stands .ensures (c .if1 .taken) in
     nothing-sorted (a .acodes .now) (a .left .now) (a .acount) (a .bcodes .now) (a .right .now) (a .bcount) _ (a .marks .now) (start .pre .0 .0 .marked)
     (λ i j k l. and-fl (standsIn (a .acodes .now) i) (standsIn (a .bcodes .now) j) (h i k))
 
 returns-2 : tie.Need-returns-2
-returns-2 c =
-    let start = c .before .before .before .before .before .before .before .before .before in let a = start .args in
-    let h = c .before .none-stands2 .ensures (c .if2 .taken) in
+returns-2 c = let start : tie.Start = search in let a = start .args in let h = c .before .none-stands2 .ensures (c .if2 .taken) in
     nothing-sorted (a .acodes .now) (a .left .now) (a .acount) (a .bcodes .now) (a .right .now) (a .bcount) _ (a .marks .now) (start .pre .0 .0 .marked)
     (λ i j k l. and-fr (standsIn (a .acodes .now) i) (standsIn (a .bcodes .now) j) (h j l))
 
 narrow-requires : tie.Need-narrow-requires
 narrow-requires c κs =
-    let start = c .before .before .before .before .before .before .before .before .before .before .before .before .before .before in
-    let p = start .pre in let I = c .before .before .before .place-cores .ensures in
+    let start : tie.Start = search in let p = start .pre in let at-place-cores : tie.After-place-cores = search in let I = at-place-cores .place-cores .ensures in
     ((fits-same _ (I .long ∙ sym (p .0 .0 .marked)) (p .0 .0), only-cores I, cores-low I, omega arith, omega arith), p .1)
 
 first-start-requires : tie.Need-first-start-requires
 first-start-requires c κs =
-    let at-place-cores = c .before .before .before .before .before .before .before in
-    let start = at-place-cores .before .before .before .before .before .before .before .before .before .before .before in
-    let a = start .args in let p = start .pre in let n = c .before .before .before .narrow in
-    let i = at-place-cores .place-cores in let N = n .ensures .0 in
-    let I = i .ensures in (
+    let start : tie.Start = search in let a = start .args in let p = start .pre in let at-narrow : tie.After-narrow = search in let N = at-narrow .narrow .ensures .0 in
+    let at-place-cores : tie.After-place-cores = search in let I = at-place-cores .place-cores .ensures in (
       N .long ∙ I .long,
-      only-sub (a .acodes .now) (length (a .bcodes .now)) (i .last .1 .1 .0) (n .last .1 .1 .1 .1 .1 .1 .0) (N .sub)
-          (only-cores I),
+      λ k j l h. only-cores I k j l (N .sub (k * length (a .bcodes .now) + j) h),
       p .0 .5,
       p .0 .6,
     )
 
 returns-3 : tie.Need-returns-3
 returns-3 c =
-    let at-place-cores = c .before .before .before .before .before .before .before .before .before in
-    let start = at-place-cores .before .before .before .before .before .before .before .before .before .before .before in
-    let a = start .args in let N = c .before .before .before .before .before .narrow in
-    let I = at-place-cores .place-cores in
-    let n : Narrowed (CoreStep (length (a .bcodes .now)) (a .left .now) (a .right .now)) (SparedStep (length (a .bcodes .now)) (a .left .now) (a .right .now)) (λ s. cond s (a .bcount) (a .acount))
-    (I .last .1 .1 .0) (N .last .1 .1 .1 .1 .1 .1 .0) = N .ensures .0 in
+    let at-narrow : tie.After-narrow = search in let N = at-narrow .narrow in let at-place-cores : tie.After-place-cores = search in let I = at-place-cores .place-cores in
     record {
       all = _;
       in-all = I .ensures;
       cores = _;
-      narrowed = n;
+      narrowed = N .ensures .0;
       sound = N .ensures .1;
       first = c .before .first-start .ensures;
       long = refl;
@@ -72,40 +58,31 @@ returns-3 c =
 
 spread-marks-requires : tie.Need-spread-marks-requires
 spread-marks-requires c κs =
-    let at-place-cores = c .before .before .before .before .before .before .before .before .before .before in
-    let start = at-place-cores .before .before .before .before .before .before .before .before .before .before .before in
-    let a = start .args in let p = start .pre in let n = c .before .before .before .before .before .before .narrow in
-    let i = at-place-cores .place-cores in let N = n .ensures .0 in
-    let I = i .ensures in (
+    let start : tie.Start = search in let a = start .args in let p = start .pre in let at-narrow : tie.After-narrow = search in let N = at-narrow .narrow .ensures .0 in
+    let at-place-cores : tie.After-place-cores = search in let I = at-place-cores .place-cores .ensures in (
       N .long ∙ I .long,
       p .0 .0 .few-A,
       p .0 .0 .few-B,
       p .0 .1,
       p .0 .2,
-      only-sub (a .acodes .now) (length (a .bcodes .now)) (i .last .1 .1 .0) (n .last .1 .1 .1 .1 .1 .1 .0) (N .sub) (only-cores I),
+      λ k j l h. only-cores I k j l (N .sub (k * length (a .bcodes .now) + j) h),
     )
 
 returns-4 : tie.Need-returns-4
 returns-4 c =
-    let at-narrow = c .before .before .before .before .before .before .before .before .before in
-    let at-place-cores = at-narrow .before .before .before .before in
-    let start = at-place-cores .before .before .before .before .before .before .before .before .before .before .before in
-    let a = start .args in let N = at-narrow .narrow in let I = at-place-cores .place-cores in
-    let n : Narrowed (CoreStep (length (a .bcodes .now)) (a .left .now) (a .right .now)) (SparedStep (length (a .bcodes .now)) (a .left .now) (a .right .now)) (λ s. cond s (a .bcount) (a .acount))
-    (I .last .1 .1 .0) (N .last .1 .1 .1 .1 .1 .1 .0) = N .ensures .0 in
-    record {
+    let at-narrow : tie.After-narrow = search in let N = at-narrow .narrow in let at-place-cores : tie.After-place-cores = search in let I = at-place-cores .place-cores in
+    let at-first-start : tie.After-first-start = search in let at-spread-marks : tie.After-spread-marks = search in record {
       all = _;
       in-all = I .ensures;
       cores = _;
-      narrowed = n;
+      narrowed = N .ensures .0;
       sound = N .ensures .1;
-      first = c .before .before .before .before .before .first-start .ensures;
-      long = c .before .before .spread-marks .ensures .long;
-      spread = λ l. c .before .before .spread-marks .ensures;
+      first = at-first-start .first-start .ensures;
+      long = at-spread-marks .spread-marks .ensures .long;
+      spread = λ l. at-spread-marks .spread-marks .ensures;
     }
 
 pub mark-pairs-spec : {M : Type 1} → statement M
-mark-pairs-spec =
-    tie.close (tie.spec
+mark-pairs-spec = tie.close (tie.spec
     (λ c κs. search needs) returns (λ c κs. search needs) returns-2 (λ c κs. search needs) narrow-requires first-start-requires (λ c. search needs) returns-3
     spread-marks-requires (λ c. search needs) returns-4)

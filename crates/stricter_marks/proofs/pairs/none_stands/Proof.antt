@@ -22,19 +22,14 @@ abbrev μ-loop : tie.MeasureT-loop
 loop-again : tie.Need-loop-again Inv-loop μ-loop
 unfolding standsIn
 loop-again c =
-    let l = c .before .before .before .loop in let codes = c .before .before .before .before .args .codes .now in
-    let here : standsIn codes (l .i) ≡ false = ne-eqb (coreNumber (getD codes (l .i) 0)) (l .i) (λ e. omega (arith, c .if1 .left, e)) in (
-      omega (arith, c .before .before .loop-test .taken),
-      λ j h. by-cases (ℕ-discrete j (l .i))
-          (λ e. subst (λ (n : ℕ). standsIn codes n ≡ false) (sym e) here)
+    let at-loop : tie.At-loop Inv-loop μ-loop = search in let l = at-loop .loop in let start : tie.Start Inv-loop μ-loop = search in let codes = start .args .codes .now in
+    let here : standsIn codes (l .i) ≡ false = ne-eqb (coreNumber (getD codes (l .i) 0)) (l .i) (λ e. omega (arith, c .if1 .left, e)) in let in-loop : tie.In-loop Inv-loop μ-loop = search in (
+      omega (arith, in-loop .loop-test .taken),
+      λ j h. by-cases (ℕ-discrete j (l .i)) (λ e. subst (λ (n : ℕ). standsIn codes n ≡ false) (sym e) here)
           (λ n. l .inv .1 j (omega arith)),
     )
 
-returns-2 : tie.Need-returns-2 Inv-loop μ-loop
-returns-2 c = let l = c .before .loop in λ e j h. l .inv .1 j (omega (arith, c .loop-test .left))
-
 pub none-stands-spec : {M : Type 1} → statement M
-none-stands-spec =
-    tie.close (tie.spec
-    Inv-loop μ-loop (λ c. (omega arith, λ j l. absurd (omega arith))) (λ c. search needs) (λ c. search needs) (λ c e. absurd (false≢true e))
-    (λ c. search needs) (λ c. search needs) loop-again returns-2)
+none-stands-spec = tie.close (tie.spec
+    Inv-loop μ-loop (λ c. (omega arith, λ j l. absurd (omega arith))) (λ c. search needs) (λ c. search needs) (λ c e. absurd (false≢true e)) (λ c. search needs) (λ c. search needs)
+    loop-again (λ c. let l = c .before .loop in λ e j h. l .inv .1 j (omega (arith, c .loop-test .left))))

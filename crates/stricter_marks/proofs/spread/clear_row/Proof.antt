@@ -21,16 +21,13 @@ loop-holds c = (omega arith, rw (add-zero (c .args .base)) (filled-start (λ _. 
 
 loop-again : tie.Need-loop-again Inv-loop μ-loop
 loop-again c =
-    let l = c .before .loop in
-    let b : ℕ = c .before .before .args .base in
-    let low : b + l .j < length (l .marks) = omega (arith, l .inv .1 .long) in
+    let l = c .before .loop in let start : tie.Start Inv-loop μ-loop = search in let b : ℕ = start .args .base in let low : b + l .j < length (l .marks) = omega (arith, l .inv .1 .long) in
     (omega arith, rw (← add-assoc b (l .j) 1) (filled-next 0 (omega arith) low (l .inv .1) refl))
 
 returns : tie.Need-returns Inv-loop μ-loop
-returns c = let e : c .before .loop .j ≡ c .before .before .args .n = omega (arith, c .before .loop .inv .0) in rw e at (c .before .loop .inv .1)
+returns c = let start : tie.Start Inv-loop μ-loop = search in let e : c .before .loop .j ≡ start .args .n = omega (arith, c .before .loop .inv .0) in rw e at (c .before .loop .inv .1)
 
 pub clear-row-spec : {M : Type 1} → statement M
-clear-row-spec =
-    tie.close (tie.spec
+clear-row-spec = tie.close (tie.spec
     Inv-loop μ-loop loop-holds (λ c. omega (arith, c .before .loop .inv .1 .long)) (λ c. omega (arith, c .before .loop .inv .1 .long))
     (λ c. search needs) (λ c. search needs) loop-again (λ c. c .before .loop .inv .1 .long) returns)

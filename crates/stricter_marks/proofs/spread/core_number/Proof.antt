@@ -1,4 +1,4 @@
--- `core_of` meets its contract.
+-- `core_number` meets its contract.
 use mathlib.Core.Path.{refl}
 use Rattle.stricter_marks.proofs.spread.core_number.Statement.{statement}
 use Rattle.stricter_marks.proofs.spread.core_number.Tie as tie

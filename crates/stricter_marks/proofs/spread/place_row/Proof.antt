@@ -19,23 +19,20 @@ ends c = omega (arith, place-room (length (c .args .bcodes .now)) (c .args .i) (
 
 returns : tie.Need-returns
 returns c =
-    let a = c .before .before .before .before .before .before .before .before .before .before .args in
-    let no : standsIn (a .acodes .now) (a .i) ≡ false = stands-no (a .acodes .now) (a .i) _ (c .before .before .before .before .before .standing .ensures)
-    (c .before .before .before .before .if1 .taken) in
-    filled-same (placedAt (a .acodes .now) (a .bcodes .now))
-    (c .before .before .clear-row .ensures) (clear-same (a .acodes .now) (a .bcodes .now) (a .i) no)
+    let start : tie.Start = search in let a = start .args in let at-standing : tie.After-standing = search in let then1 : tie.Then1 = search in
+    let no : standsIn (a .acodes .now) (a .i) ≡ false = stands-no (a .acodes .now) (a .i) _ (at-standing .standing .ensures)
+    (then1 .if1 .taken) in let at-clear-row : tie.After-clear-row = search in filled-same (placedAt (a .acodes .now) (a .bcodes .now))
+    (at-clear-row .clear-row .ensures) (clear-same (a .acodes .now) (a .bcodes .now) (a .i) no)
 
 returns-2 : tie.Need-returns-2
 returns-2 c =
-    let a = c .before .before .before .before .before .before .before .before .before .before .args in
-    let yes : standsIn (a .acodes .now) (a .i) ≡ true = stands-yes (a .acodes .now) (a .i) _ (c .before .before .before .before .before .standing .ensures)
-    (c .before .before .before .before .if1 .left) in
-    filled-same (placedAt (a .acodes .now) (a .bcodes .now))
-    (c .before .before .stand-row .ensures) (stand-same (a .acodes .now) (a .bcodes .now) (a .i) yes)
+    let start : tie.Start = search in let a = start .args in let at-standing : tie.After-standing = search in let else1 : tie.Else1 = search in
+    let yes : standsIn (a .acodes .now) (a .i) ≡ true = stands-yes (a .acodes .now) (a .i) _ (at-standing .standing .ensures)
+    (else1 .if1 .left) in let at-stand-row : tie.After-stand-row = search in filled-same (placedAt (a .acodes .now) (a .bcodes .now))
+    (at-stand-row .stand-row .ensures) (stand-same (a .acodes .now) (a .bcodes .now) (a .i) yes)
 
 pub place-row-spec : {M : Type 1} → statement M
-place-row-spec =
-    tie.close (tie.spec
-    (λ c. let h = ends (c .before .before .before) in omega arith) (λ c. search needs) (λ c. search needs) (λ c κs. search needs)
-    (λ c κs. let h = ends (c .before .before .before .before .before .before .before) in omega arith) (λ c. search needs) returns
-    (λ c κs. let h = ends (c .before .before .before .before .before .before .before) in omega arith) (λ c. search needs) returns-2)
+place-row-spec = tie.close (tie.spec
+    (λ c. let h = ends (search) in omega arith) (λ c. search needs) (λ c. search needs) (λ c κs. search needs)
+    (λ c κs. let h = ends (search) in omega arith) (λ c. search needs) returns
+    (λ c κs. let h = ends (search) in omega arith) (λ c. search needs) returns-2)

@@ -26,60 +26,52 @@ Inv-loop acodes bcodes i marks₀ core row base j₀ marks j =
 abbrev μ-loop : tie.MeasureT-loop
 μ-loop acodes bcodes i marks₀ core row base j₀ marks j = length bcodes - j
 
+abbrev Start : Type 0
+Start = tie.Start Inv-loop μ-loop
+
+abbrev At-loop : Type 0
+At-loop = tie.At-loop Inv-loop μ-loop
+
 -- the number has no core
 returns : tie.Need-returns Inv-loop μ-loop
 unfolding hasCore
-returns c =
-    let start = c .before .before .before .before .before .before in let a = start .args in
+returns c = let start : Start = search in let a = start .args in
     let no : hasCore (a .acodes .now) (a .i) ≡ false = le-ltb (coreNumber (getD (a .acodes .now) (a .i) 0)) (length (a .acodes .now)) (omega (arith, c .before .core-number .ensures)) in
     moved-out (a .acodes .now) (a .bcodes .now) (a .i) (start .pre .1 .2) no
 
 mul-row : tie.Need-mul-row Inv-loop μ-loop
-mul-row c =
-    let start = c .before .before .before .before .before .before in
-    let nb = length (start .args .bcodes .now) in
+mul-row c = let start : Start = search in let nb = length (start .args .bcodes .now) in
     omega (arith, place-room nb (c .before .core-number .result) (length (start .args .acodes .now)) (omega arith), start .pre .0 .1)
 
 -- the row ends within the marks
-ends : (c : tie.Start Inv-loop μ-loop) → c .args .i * length (c .args .bcodes .now) + length (c .args .bcodes .now) ≤ length (c .args .marks .now)
+ends : (c : Start) → c .args .i * length (c .args .bcodes .now) + length (c .args .bcodes .now) ≤ length (c .args .marks .now)
 ends c = omega (arith, place-room (length (c .args .bcodes .now)) (c .args .i) (length (c .args .acodes .now)) (c .pre .0 .0), c .pre .0 .1)
 
 loop-holds : tie.Need-loop-holds Inv-loop μ-loop
-loop-holds c =
-    let a = c .before .before .before .before .before .before .args in
-    let base : ℕ = a .i * length (a .bcodes .now) in (
-      c .before .core-number .ensures,
-      omega arith,
-      refl,
-      refl,
-      omega arith,
-      rw (add-zero base) (filled-start (takenAt (a .acodes .now) (a .bcodes .now) (a .marks .now)) base (a .marks .now)),
-    )
+loop-holds c = let start : Start = search in let a = start .args in let base : ℕ = a .i * length (a .bcodes .now) in (
+  c .before .core-number .ensures,
+  omega arith,
+  refl,
+  refl,
+  omega arith,
+  rw (add-zero base) (filled-start (takenAt (a .acodes .now) (a .bcodes .now) (a .marks .now)) base (a .marks .now)),
+)
 
 mark-of-requires : tie.Need-mark-of-requires Inv-loop μ-loop
-mark-of-requires c κs =
-    let at-loop = c .before .before .before .before in
-    let start = at-loop .before .before .before .before .before .before .before in let l = at-loop .loop .inv in
-    omega (arith, place-room (length (start .args .bcodes .now)) (at-loop .before .before .core-number .result) (length (start .args .acodes .now)) (l .1), start .pre .0 .1, l .2, l .5 .long)
+mark-of-requires c κs = let at-loop : At-loop = search in let l = at-loop .loop .inv in let start : Start = search in
+    let at-core-number : tie.After-core-number Inv-loop μ-loop = search in
+    omega (arith, place-room (length (start .args .bcodes .now)) (at-core-number .core-number .result) (length (start .args .acodes .now)) (l .1), start .pre .0 .1, l .2, l .5 .long)
 
 add-marks : tie.Need-add-marks Inv-loop μ-loop
-add-marks c =
-    let at-loop = c .before .before .before .before .before in let h = ends (at-loop .before .before .before .before .before .before .before) in
-    omega (arith, at-loop .loop .inv .3, at-loop .loop .inv .5 .long)
+add-marks c = let h = ends (search) in let at-loop : At-loop = search in omega (arith, at-loop .loop .inv .3, at-loop .loop .inv .5 .long)
 
 slice-write-marks : tie.Need-slice-write-marks Inv-loop μ-loop
-slice-write-marks c =
-    let at-loop = c .before .before .before .before .before in let h = ends (at-loop .before .before .before .before .before .before .before) in
-    omega (arith, at-loop .loop .inv .3, at-loop .loop .inv .5 .long)
+slice-write-marks c = let h = ends (search) in let at-loop : At-loop = search in omega (arith, at-loop .loop .inv .3, at-loop .loop .inv .5 .long)
 
 loop-again : tie.Need-loop-again Inv-loop μ-loop
 unfolding hasCore
-loop-again c =
-    let at-loop = c .before .before .before .before .before in
-    let start = at-loop .before .before .before .before .before .before .before in let a = start .args in
-    let nb = length (a .bcodes .now) in
-    let base : ℕ = a .i * nb in
-    let l = at-loop .loop in
+loop-again c = let start : Start = search in let a = start .args in let nb = length (a .bcodes .now) in let base : ℕ = a .i * nb in
+    let at-loop : At-loop = search in let l = at-loop .loop in
     let has : hasCore (a .acodes .now) (a .i) ≡ true = lt-ltb (coreNumber (getD (a .acodes .now) (a .i) 0)) (length (a .acodes .now)) (omega (arith, l .inv .0, l .inv .1)) in
     let low : base + l .j < length (l .marks) = omega (arith, ends start, l .inv .5 .long) in (
       l .inv .0,
@@ -94,15 +86,12 @@ loop-again c =
     )
 
 returns-2 : tie.Need-returns-2 Inv-loop μ-loop
-returns-2 c =
-    let at-loop = c .before in
-    let e : at-loop .loop .j ≡ length (at-loop .before .before .before .before .before .before .before .args .bcodes .now) = omega (arith, at-loop .loop .inv .4) in
-    rw e at (at-loop .loop .inv .5)
+returns-2 c = let at-loop : At-loop = search in let start : Start = search in
+    let e : at-loop .loop .j ≡ length (start .args .bcodes .now) = omega (arith, at-loop .loop .inv .4) in rw e at (at-loop .loop .inv .5)
 
 pub spread-row-spec : {M : Type 1} → statement M
-spread-row-spec =
-    tie.close (tie.spec
+spread-row-spec = tie.close (tie.spec
     Inv-loop μ-loop (λ c. search needs) (λ c. search needs) (λ c κs. search needs) returns mul-row
-    (λ c. let h = ends (c .before .before .before .before .before .before) in omega arith) loop-holds (λ c. search needs) (λ c. search needs)
+    (λ c. let h = ends (search) in omega arith) loop-holds (λ c. search needs) (λ c. search needs)
     (λ c κs. search needs) mark-of-requires add-marks slice-write-marks (λ c. search needs) (λ c. search needs) loop-again (λ c. c .before .loop .inv .5 .long)
     returns-2)

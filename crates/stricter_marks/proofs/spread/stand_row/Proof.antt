@@ -20,25 +20,25 @@ abbrev μ-loop : tie.MeasureT-loop
 μ-loop bcodes base marks₀ j₀ marks j = length bcodes - j
 
 loop-holds : tie.Need-loop-holds Inv-loop μ-loop
-loop-holds c =
-    let b : ℕ = c .before .before .args .base in
-    (omega arith, rw (add-zero b) (filled-start (λ x. one (standsIn (c .before .before .args .bcodes .now) (x - b))) b (c .before .before .args .marks .now)))
+loop-holds c = let start : tie.Start Inv-loop μ-loop = search in let b : ℕ = start .args .base in
+    (omega arith, rw (add-zero b) (filled-start (λ x. one (standsIn (start .args .bcodes .now) (x - b))) b (start .args .marks .now)))
 
 loop-again : tie.Need-loop-again Inv-loop μ-loop
 loop-again c =
-    let l = c .before .before .before .loop in let a = c .before .before .before .before .before .before .args in
-    let b : ℕ = a .base in
+    let at-loop : tie.At-loop Inv-loop μ-loop = search in let l = at-loop .loop in let start : tie.Start Inv-loop μ-loop = search in let a = start .args in let b : ℕ = a .base in
     let low : b + l .j < length (l .marks) = omega (arith, l .inv .1 .long) in (
       omega arith,
       rw (← add-assoc b (l .j) 1) (filled-next _ (omega arith) low (l .inv .1) (c .standing .ensures ∙ stand-value (a .bcodes .now) b (l .j))),
     )
 
 returns : tie.Need-returns Inv-loop μ-loop
-returns c = let e : c .before .loop .j ≡ length (c .before .before .before .before .args .bcodes .now) = omega (arith, c .before .loop .inv .0) in rw e at (c .before .loop .inv .1)
+returns c =
+    let start : tie.Start Inv-loop μ-loop = search in let e : c .before .loop .j ≡ length (start .args .bcodes .now) = omega (arith, c .before .loop .inv .0) in
+    rw e at (c .before .loop .inv .1)
 
 pub stand-row-spec : {M : Type 1} → statement M
-stand-row-spec =
-    tie.close (tie.spec
+stand-row-spec = tie.close (tie.spec
     Inv-loop μ-loop loop-holds (λ c. search needs) (λ c. search needs) (λ c κs. search needs)
-    (λ c. omega (arith, c .before .before .before .loop .inv .1 .long)) (λ c. omega (arith, c .before .before .before .loop .inv .1 .long))
-    (λ c. search needs) (λ c. search needs) loop-again (λ c. c .before .loop .inv .1 .long) returns)
+    (λ c. let at-loop : tie.At-loop Inv-loop μ-loop = search in omega (arith, at-loop .loop .inv .1 .long))
+    (λ c. let at-loop : tie.At-loop Inv-loop μ-loop = search in omega (arith, at-loop .loop .inv .1 .long)) (λ c. search needs) (λ c. search needs)
+    loop-again (λ c. c .before .loop .inv .1 .long) returns)

@@ -17,29 +17,34 @@ Inv-loop lcodes left rcodes right marks₀ marks = Passing (PairStep (length rco
 abbrev μ-loop : tie.MeasureT-loop
 μ-loop lcodes left rcodes right marks₀ marks = 256 * length marks₀ - sum marks
 
+abbrev At-loop : Type 0
+At-loop = tie.At-loop Inv-loop μ-loop
+
+abbrev After-visit-all : Type 0
+After-visit-all = tie.After-visit-all Inv-loop μ-loop
+
 loop-holds : tie.Need-loop-holds Inv-loop μ-loop
-loop-holds c = passing-start (c .before .before .before .before .before .args .marks .now)
+loop-holds c = let start : tie.Start Inv-loop μ-loop = search in passing-start (start .args .marks .now)
 
 visit-all-requires : tie.Need-visit-all-requires Inv-loop μ-loop
-visit-all-requires c κs =
-    fits-same (c .before .loop .marks) (c .before .loop .inv .long) (c .before .before .before .before .before .before .before .pre)
+visit-all-requires c κs = let start : tie.Start Inv-loop μ-loop = search in fits-same (c .before .loop .marks) (c .before .loop .inv .long) (start .pre)
 
 loop-less : tie.Need-loop-less Inv-loop μ-loop
-loop-less c =
-    let grown = c .before .before .before .visit-all .ensures .grown (c .if1 .taken) in
-    let most = sum-bytes (c .before .before .before .visit-all .last .1 .1 .1 .1 .0) (λ i. omega (arith, c .before .slice-known2 .given i)) in
-    omega (arith, c .before .before .before .visit-all .ensures .long, c .before .before .before .before .before .loop .inv .long)
+loop-less c = let at-loop : At-loop = search in let at-visit-all : After-visit-all = search in let grown = at-visit-all .visit-all .ensures .grown (c .if1 .taken) in
+    let (lcodes, (left, (rcodes, (right, (marks, rest))))) = at-visit-all .visit-all .last in let most = sum-bytes marks (λ i. omega (arith, c .before .slice-known2 .given i)) in
+    omega (arith, at-visit-all .visit-all .ensures .long, at-loop .loop .inv .long)
 
 loop-again : tie.Need-loop-again Inv-loop μ-loop
-loop-again c = passing-next (c .before .before .before .before .before .loop .inv) (c .before .before .before .visit-all .ensures)
+loop-again c = let at-loop : At-loop = search in let at-visit-all : After-visit-all = search in
+    passing-next (at-loop .loop .inv) (at-visit-all .visit-all .ensures)
 
 same-length : tie.Need-same-length Inv-loop μ-loop
-same-length c = c .before .before .before .visit-all .ensures .long ∙ c .before .before .before .before .before .loop .inv .long
+same-length c =
+    let at-visit-all : After-visit-all = search in let at-loop : At-loop = search in at-visit-all .visit-all .ensures .long ∙ at-loop .loop .inv .long
 
 returns : tie.Need-returns Inv-loop μ-loop
-returns c =
-    let at-loop = c .before .before .before .before .before in
-    exhausted (at-loop .loop .inv) (rw (sym (at-loop .loop .inv .long), sym (c .if1 .left)) (c .before .before .before .visit-all .ensures))
+returns c = let at-loop : At-loop = search in let at-visit-all : After-visit-all = search in
+    exhausted (at-loop .loop .inv) (rw (sym (at-loop .loop .inv .long), sym (c .if1 .left)) (at-visit-all .visit-all .ensures))
 
 pub exhaust-spec : {M : Type 1} → statement M
 exhaust-spec = tie.close (tie.spec Inv-loop μ-loop loop-holds visit-all-requires loop-less loop-again same-length returns)

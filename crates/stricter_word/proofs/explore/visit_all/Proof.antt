@@ -19,83 +19,70 @@ Inv-loop lcodes left rcodes right marks₀ nb changed₀ x₀ marks changed x =
 abbrev μ-loop : tie.MeasureT-loop
 μ-loop lcodes left rcodes right marks₀ nb changed₀ x₀ marks changed x = length marks₀ - x
 
+abbrev Start : Type 0
+Start = tie.Start Inv-loop μ-loop
+
+abbrev In-loop : Type 0
+In-loop = tie.In-loop Inv-loop μ-loop
+
 loop-holds : tie.Need-loop-holds Inv-loop μ-loop
-loop-holds c =
-    let start = c .before .before .before .before .before .before .before in let a = start .args in
-    let n = c .next-waiting .ensures in
+loop-holds c = let start : Start = search in let a = start .args in let n = c .next-waiting .ensures in
     (n .within, (λ h. let w = n .found h in record { big = w .0; small = w .1 }), passed-over 0 _ (a .marks .now) (n .none))
 
-abbrev start-of-in-loop : tie.In-loop Inv-loop μ-loop → tie.Start Inv-loop μ-loop
-start-of-in-loop c = c .before .before .before .before .before .before .before .before .before
+abbrev start-of-in-loop : In-loop → Start
+start-of-in-loop c = search
 
 -- x is below the number of marks
-below : (c : tie.In-loop Inv-loop μ-loop) → c .before .loop .x < length (start-of-in-loop c .args .marks .now)
+below : (c : In-loop) → c .before .loop .x < length (start-of-in-loop c .args .marks .now)
 below c = omega (arith, c .loop-test .taken, c .before .loop .inv .2 .long)
 
 -- its two numbers
-numbers : (c : tie.In-loop Inv-loop μ-loop) → Parts (length (start-of-in-loop c .args .lcodes .now)) (length (start-of-in-loop c .args .rcodes .now)) (c .before .loop .x)
+numbers : (c : In-loop) → Parts (length (start-of-in-loop c .args .lcodes .now)) (length (start-of-in-loop c .args .rcodes .now)) (c .before .loop .x)
 numbers c = let a = start-of-in-loop c .args in pair-parts (c .before .loop .x) (start-of-in-loop c .pre) (below c)
 
 -- the row ends within the marks
-ends : (c : tie.In-loop Inv-loop μ-loop) → c .before .loop .x / length (start-of-in-loop c .args .rcodes .now) * length (start-of-in-loop c .args .rcodes .now) + length
+ends : (c : In-loop) → c .before .loop .x / length (start-of-in-loop c .args .rcodes .now) * length (start-of-in-loop c .args .rcodes .now) + length
     (start-of-in-loop c .args .rcodes .now) ≤ length (start-of-in-loop c .args .marks .now)
 ends c = let a = start-of-in-loop c .args in row-end _ (start-of-in-loop c .pre) (numbers c .first) (numbers c .some)
 
 cut-row-requires : tie.Need-cut-row-requires Inv-loop μ-loop
-cut-row-requires c κs =
-    let start = c .before .before .before .before .before .before .before .before .before in
-    (start .pre .paired .ascend-A, omega (arith, numbers c .first, start .pre .few-A))
+cut-row-requires c κs = let start : Start = search in (start .pre .paired .ascend-A, omega (arith, numbers c .first, start .pre .few-A))
 
 visit-row-requires : tie.Need-visit-row-requires Inv-loop μ-loop
 visit-row-requires c κs =
-    let l = c .before .before .before .before .loop in
-    let n = numbers (c .before .before .before) in (
-      fits-same (l .marks) (l .inv .2 .long) (c .before .before .before .before .before .before .before .before .before .before .before .before .pre),
-      c .before .before .cut-row .ensures,
+    let at-loop : tie.At-loop Inv-loop μ-loop = search in let l = at-loop .loop in let n = numbers (search) in let start : Start = search in
+    let at-cut-row : tie.After-cut-row Inv-loop μ-loop = search in (
+      fits-same (l .marks) (l .inv .2 .long) (start .pre),
+      at-cut-row .cut-row .ensures,
       n .first,
       n .second,
-      rw (n .whole) (l .inv .1 (below (c .before .before .before))),
+      rw (n .whole) (l .inv .1 (below (search))),
     )
-
-mul-next-waiting : tie.Need-mul-next-waiting Inv-loop μ-loop
-mul-next-waiting c =
-    let h = ends (c .before .before .before .before .before .before .before) in omega arith
-
-add-next-waiting : tie.Need-add-next-waiting Inv-loop μ-loop
-add-next-waiting c =
-    let h = ends (c .before .before .before .before .before .before .before) in omega arith
 
 next-waiting-requires-2 : tie.Need-next-waiting-requires-2 Inv-loop μ-loop
 next-waiting-requires-2 c κs =
-    let earlier = c .before .before .before .before .before .before .before in let at-loop = earlier .before in
-    let h = ends (earlier) in (omega (arith, c .before .before .before .visit-row .ensures .long, at-loop .loop .inv .2 .long), omega arith)
+    let h = ends (search) in let at-loop : tie.At-loop Inv-loop μ-loop = search in let at-visit-row : tie.After-visit-row Inv-loop μ-loop = search in
+    (omega (arith, at-visit-row .visit-row .ensures .long, at-loop .loop .inv .2 .long), omega arith)
 
 loop-less : tie.Need-loop-less Inv-loop μ-loop
-loop-less c =
-    let earlier = c .before .before .before .before .before .before .before .before in
-    let n = numbers (earlier) in omega (arith, c .next-waiting2 .ensures .ordered, n .whole, n .second, below (earlier))
+loop-less c = let in-loop : In-loop = search in let n = numbers in-loop in omega (arith, c .next-waiting2 .ensures .ordered, n .whole, n .second, below in-loop)
 
 loop-again : tie.Need-loop-again Inv-loop μ-loop
 loop-again c =
-    let earlier = c .before .before .before .before .before .before .before .before in let at-loop = earlier .before in
-    let start = at-loop .before .before .before .before .before .before .before .before in let a = start .args in
-    let l = at-loop .loop in let n = c .next-waiting2 .ensures in
-    let nb = length (a .rcodes .now) in
-    let long : _ ≡ length (a .marks .now) = c .before .before .before .before .visit-row .ensures .long ∙ l .inv .2 .long in (
+    let start : Start = search in let a = start .args in let at-loop : tie.At-loop Inv-loop μ-loop = search in let l = at-loop .loop in
+    let n = c .next-waiting2 .ensures in let nb = length (a .rcodes .now) in let at-visit-row : tie.After-visit-row Inv-loop μ-loop = search in
+    let long : _ ≡ length (a .marks .now) = at-visit-row .visit-row .ensures .long ∙ l .inv .2 .long in let in-loop : In-loop = search in (
       omega (arith, n .within, long),
       (λ h. let w = n .found (omega (arith, h, long)) in record { big = w .0; small = w .1 }),
-      passed-turn _ (l .inv .2) (rw (numbers (earlier) .whole) at (c .before .before .before .before .visit-row .ensures)) (n .none),
+      passed-turn _ (l .inv .2) (rw (numbers in-loop .whole) at (at-visit-row .visit-row .ensures)) (n .none),
     )
 
 returns : tie.Need-returns Inv-loop μ-loop
-returns c =
-    let start = c .before .before .before .before .before .before .before .before .before in let l = c .before .loop in
-    let e : l .x ≡ length (start .args .marks .now) = omega (arith, l .inv .0, l .inv .2 .long, c .loop-test .left) in
-    rw e at (l .inv .2)
+returns c = let l = c .before .loop in let start : Start = search in
+    let e : l .x ≡ length (start .args .marks .now) = omega (arith, l .inv .0, l .inv .2 .long, c .loop-test .left) in rw e at (l .inv .2)
 
 pub visit-all-spec : {M : Type 1} → statement M
-visit-all-spec =
-    tie.close (tie.spec
-    Inv-loop μ-loop (λ c κs. search needs) loop-holds (λ c. omega (arith, numbers c .some)) cut-row-requires
-    (λ c. omega (arith, numbers (c .before .before) .some)) visit-row-requires mul-next-waiting add-next-waiting next-waiting-requires-2 loop-less
-    loop-again (λ c. c .before .loop .inv .2 .long) returns)
+visit-all-spec = tie.close (tie.spec
+    Inv-loop μ-loop (λ c κs. search needs) loop-holds (λ c. omega (arith, numbers c .some)) cut-row-requires (λ c. omega (arith, numbers (search) .some)) visit-row-requires
+    (λ c. let h = ends (search) in omega arith) (λ c. let h = ends (search) in omega arith) next-waiting-requires-2 loop-less loop-again (λ c. c .before .loop .inv .2 .long)
+    returns)

@@ -14,35 +14,22 @@ use Rattle.stricter_word.proofs.lasso.parent.Tie as tie
 own : (c : tie.Start) → Parts (length (c .args .lcodes .now)) (length (c .args .rcodes .now)) (c .args .y)
 own c = parts _ _ (c .args .y) (c .pre .2)
 
-div-source-for : tie.Need-div-source-for
-div-source-for c = let h = own (c .before .before .before .before .before) .some in omega arith
-
-rem-source-for : tie.Need-rem-source-for
-rem-source-for c = let h = own (c .before .before .before .before .before .before) .some in omega arith
-
 mul-result : tie.Need-mul-result
-mul-result c =
-    let start = c .before .before .before .before .before .before .before in
-    let h = mul-le-mul-right (length (start .args .rcodes .now)) (c .before .source-for .ensures .low) in
-    omega (arith, start .pre .1 .few)
+mul-result c = let start : tie.Start = search in let h = mul-le-mul-right (length (start .args .rcodes .now)) (c .before .source-for .ensures .low) in omega (arith, start .pre .1 .few)
 
 add-result : tie.Need-add-result
 add-result c =
-    let start = c .before .before .before .before .before .before .before in
-    let h = mul-le-mul-right (length (start .args .rcodes .now)) (c .before .source-for .ensures .low) in
+    let start : tie.Start = search in let h = mul-le-mul-right (length (start .args .rcodes .now)) (c .before .source-for .ensures .low) in
     omega (arith, start .pre .1 .few, c .source-for2 .ensures .low)
 
 returns-2 : tie.Need-returns-2
-returns-2 c =
-    let start = c .before .before .before .before .before .before .before in let a = start .args in
-    record {
-      near = λ l. absurd (omega arith);
-      far = parent-far (a .lcodes .now) (a .rcodes .now) (searchable-paired (start .pre .0) (start .pre .1)) (a .y) (a .v) _ _
-          (c .before .source-for .ensures .source) (c .source-for2 .ensures .source);
-    }
+returns-2 c = let start : tie.Start = search in let a = start .args in record {
+  near = λ l. absurd (omega arith);
+  far = parent-far (a .lcodes .now) (a .rcodes .now) (searchable-paired (start .pre .0) (start .pre .1)) (a .y) (a .v) _ _
+      (c .before .source-for .ensures .source) (c .source-for2 .ensures .source);
+}
 
 pub parent-spec : {M : Type 1} → statement M
-parent-spec =
-    tie.close (tie.spec
-    (λ c. record { near = λ l. refl; far = λ x a s e. absurd (omega arith) }) (λ c. search needs) div-source-for (λ c κs. search needs) rem-source-for
-    (λ c κs. search needs) mul-result add-result returns-2)
+parent-spec = tie.close (tie.spec
+    (λ c. record { near = λ l. refl; far = λ x a s e. absurd (omega arith) }) (λ c. search needs) (λ c. let h = own (search) .some in omega arith) (λ c κs. search needs)
+    (λ c. let h = own (search) .some in omega arith) (λ c κs. search needs) mul-result add-result returns-2)

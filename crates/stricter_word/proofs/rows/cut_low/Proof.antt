@@ -18,7 +18,7 @@ abbrev μ-loop : tie.MeasureT-loop
 
 loop-again : tie.Need-loop-again Inv-loop μ-loop
 loop-again c =
-    let a = c .before .before .before .before .args in let l = c .before .before .loop in
+    let start : tie.Start Inv-loop μ-loop = search in let a = start .args in let at-loop : tie.At-loop Inv-loop μ-loop = search in let l = at-loop .loop in
     let e : c .place-low .result ≡ below (a .i * 16777216 + l .a * 65536) (lowParts (a .mask + 1) (a .moves .now)) = c .place-low .ensures in (
       omega arith,
       length-set (l .cuts) (l .a) _ ∙ l .inv .1,
@@ -27,7 +27,6 @@ loop-again c =
     )
 
 pub cut-low-spec : {M : Type 1} → statement M
-cut-low-spec =
-    tie.close (tie.spec
+cut-low-spec = tie.close (tie.spec
     Inv-loop μ-loop (λ c. search needs) (λ c. search needs) (λ c. search needs) (λ c. search needs) (λ c κs. search needs) (λ c. search needs)
     (λ c. search needs) (λ c. search needs) (λ c. search needs) loop-again (λ c a h. c .before .loop .inv .2 a (omega arith)))

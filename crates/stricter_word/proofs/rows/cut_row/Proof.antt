@@ -10,6 +10,5 @@ all-bits : (c : tie.After-shared-slice-known) → lowParts 18446744073709551616 
 all-bits c = low-same 18446744073709551616 (omega arith) (c .before .args .moves .now) (λ i l. omega (arith, c .shared-slice-known .given i))
 
 pub cut-row-spec : {M : Type 1} → statement M
-cut-row-spec =
-    tie.close (tie.spec
+cut-row-spec = tie.close (tie.spec
     (λ c κs. ((64, refl), rw (all-bits c) (c .before .pre .0), c .before .pre .1)) (λ c. rw (all-bits (c .before)) at (c .cut-low .ensures)))

@@ -22,23 +22,21 @@ abbrev μ-loop : tie.MeasureT-loop
 
 prune-place-requires : tie.Need-prune-place-requires Inv-loop μ-loop
 prune-place-requires c κs =
-    let start = c .before .before .before .before .before .before .before .before in
-    let v = c .before .before .before .loop .inv in
+    let at-loop : tie.At-loop Inv-loop μ-loop = search in let v = at-loop .loop .inv in let start : tie.Start Inv-loop μ-loop = search in
     (fits-long (v .1 .long) (start .pre .0), v .2, rw (c .before .place-before .ensures) (before-low _ _ (v .0)))
 
 loop-less : tie.Need-loop-less Inv-loop μ-loop
-loop-less c = prune-less (c .before .before .before .prune-place .ensures)
-    (rw (c .waiting-after .ensures) (left-after _ _ (c .before .before .before .before .before .before .loop-test .taken)))
+loop-less c = let at-prune-place : tie.After-prune-place Inv-loop μ-loop = search in let in-loop : tie.In-loop Inv-loop μ-loop = search in
+    prune-less (at-prune-place .prune-place .ensures) (rw (c .waiting-after .ensures) (left-after _ _ (in-loop .loop-test .taken)))
 
 loop-again : tie.Need-loop-again Inv-loop μ-loop
 loop-again c =
-    let at-loop = c .before .before .before .before .before .before .before in let v = at-loop .loop .inv in
-    let e = c .before .before .before .prune-place .ensures in
-    (rw (c .before .before .before .before .before .place-before .ensures) (before-low _ _ (v .0)), pruned-then _ _ _ _ (v .1) (e .pruned), e .even)
+    let at-loop : tie.At-loop Inv-loop μ-loop = search in let v = at-loop .loop .inv in let at-prune-place : tie.After-prune-place Inv-loop μ-loop = search in
+    let e = at-prune-place .prune-place .ensures in let at-place-before : tie.After-place-before Inv-loop μ-loop = search in
+    (rw (at-place-before .place-before .ensures) (before-low _ _ (v .0)), pruned-then _ _ _ _ (v .1) (e .pruned), e .even)
 
 pub prune-spec : {M : Type 1} → statement M
-prune-spec =
-    tie.close (tie.spec
-    Inv-loop μ-loop (λ c. let pre = c .before .before .before .before .pre in (pre .0 .repeats, pruned-start _ _, pre .1))
-    (λ c κs. c .before .loop .inv .0) prune-place-requires (λ c κs. c .before .before .before .before .before .loop-test .taken) loop-less loop-again
+prune-spec = tie.close (tie.spec
+    Inv-loop μ-loop (λ c. let start : tie.Start Inv-loop μ-loop = search in let pre = start .pre in (pre .0 .repeats, pruned-start _ _, pre .1))
+    (λ c κs. c .before .loop .inv .0) prune-place-requires (λ c κs. let in-loop : tie.In-loop Inv-loop μ-loop = search in in-loop .loop-test .taken) loop-less loop-again
     (λ c. c .before .loop .inv .1 .long) (λ c. c .before .loop .inv .1))

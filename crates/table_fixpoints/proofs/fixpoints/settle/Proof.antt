@@ -20,10 +20,9 @@ abbrev μ-loop : tie.MeasureT-loop
 
 loop-again : tie.Need-loop-again Inv-loop μ-loop
 loop-again c =
-    let start = c .before .before .before .before .before .before .before in let a = start .args in
-    let l = c .before .before .before .before .before .loop in let s = l .inv .2 in let v = getD (l .marks) (l .i) 0 in
-    let told : goesOut v ≡ true = sym (c .before .goes-out .ensures) ∙ c .if1 .taken in
-    let mark : c .before .before .settled-mark .result ≡ settled v = c .before .before .settled-mark .ensures in (
+    let start : tie.Start Inv-loop μ-loop = search in let a = start .args in let at-loop : tie.At-loop Inv-loop μ-loop = search in let l = at-loop .loop in let s = l .inv .2 in
+    let v = getD (l .marks) (l .i) 0 in let told : goesOut v ≡ true = sym (c .before .goes-out .ensures) ∙ c .if1 .taken in
+    let at-settled-mark : tie.After-settled-mark Inv-loop μ-loop = search in let mark : at-settled-mark .settled-mark .result ≡ settled v = at-settled-mark .settled-mark .ensures in (
       omega arith,
       omega arith,
       rw mark (settling-next (a .from) (a .marks .now) (l .i) (l .marks) (l .changed) s (l .inv .0) (omega (arith, s .long)) true (λ e. inr told) (λ e. absurd (true≢false e))),
@@ -31,24 +30,19 @@ loop-again c =
 
 loop-again-2 : tie.Need-loop-again-2 Inv-loop μ-loop
 loop-again-2 c =
-    let start = c .before .before .before .before .before .before .before in let a = start .args in
-    let l = c .before .before .before .before .before .loop in let s = l .inv .2 in let v = getD (l .marks) (l .i) 0 in
-    let told : goesOut v ≡ false = sym (c .before .goes-out .ensures) ∙ c .if1 .left in
-    let mark : c .before .before .settled-mark .result ≡ settled v = c .before .before .settled-mark .ensures in (
+    let start : tie.Start Inv-loop μ-loop = search in let a = start .args in let at-loop : tie.At-loop Inv-loop μ-loop = search in let l = at-loop .loop in let s = l .inv .2 in
+    let v = getD (l .marks) (l .i) 0 in let told : goesOut v ≡ false = sym (c .before .goes-out .ensures) ∙ c .if1 .left in
+    let at-settled-mark : tie.After-settled-mark Inv-loop μ-loop = search in let mark : at-settled-mark .settled-mark .result ≡ settled v = at-settled-mark .settled-mark .ensures in (
       omega arith,
       omega arith,
       rw mark (settling-next (a .from) (a .marks .now) (l .i) (l .marks) (l .changed) s (l .inv .0) (omega (arith, s .long)) (l .changed) (λ e. inl e) (λ e. (e, told))),
     )
 
 returns : tie.Need-returns Inv-loop μ-loop
-returns c =
-    let a = c .before .before .before .args in let l = c .before .loop in
-    let e : l .i ≡ a .to = omega arith in
-    rw e at (l .inv .2)
+returns c = let start : tie.Start Inv-loop μ-loop = search in let a = start .args in let l = c .before .loop in let e : l .i ≡ a .to = omega arith in rw e at (l .inv .2)
 
 pub settle-spec : {M : Type 1} → statement M
-settle-spec =
-    tie.close (tie.spec
-    Inv-loop μ-loop (λ c. (omega arith, omega arith, settling-start _ _)) (λ c. omega (arith, c .before .before .loop .inv .2 .long))
+settle-spec = tie.close (tie.spec
+    Inv-loop μ-loop (λ c. (omega arith, omega arith, settling-start _ _)) (λ c. let at-loop : tie.At-loop Inv-loop μ-loop = search in omega (arith, at-loop .loop .inv .2 .long))
     (λ c κs. search needs) (λ c. omega arith) (λ c. omega arith) (λ c κs. search needs) (λ c. omega arith) loop-again (λ c. omega arith) loop-again-2
     (λ c. c .before .loop .inv .2 .long) returns)

@@ -21,48 +21,45 @@ Inv-loop moves movebytes back letter marks₀ here there m changed₀ i₀ marks
 abbrev μ-loop : tie.MeasureT-loop
 μ-loop moves movebytes back letter marks₀ here there m changed₀ i₀ marks changed i = m - i
 
+abbrev Start : Type 0
+Start = tie.Start Inv-loop μ-loop
+
 mark-over-requires : tie.Need-mark-over-requires Inv-loop μ-loop
 mark-over-requires c κs =
-    let start = c .before .before .before .before .before .before .before .before in let a = start .args in
-    let l = c .before .before .before .loop in
-    let ts = inBoth (a .moves .now) (a .movebytes .now) .numbers in let us = ordered (a .back) ts in
-    let inside : l .i < length us = omega (arith, ordered-long (a .back) ts) in
+    let start : Start = search in let a = start .args in let at-loop : tie.At-loop Inv-loop μ-loop = search in let l = at-loop .loop in
+    let ts = inBoth (a .moves .now) (a .movebytes .now) .numbers in let us = ordered (a .back) ts in let inside : l .i < length us = omega (arith, ordered-long (a .back) ts) in
     let e : c .before .element-from .result ≡ getD us (l .i) 0 = c .before .element-from .ensures in
-    let q = start .pre (getD us (l .i) 0) (ordered-from (a .back) ts _ (mem-at us (l .i) inside)) in
-    let long : length (l .marks) ≡ length (a .marks .now) = l .inv .1 .long in
+    let q = start .pre (getD us (l .i) 0) (ordered-from (a .back) ts _ (mem-at us (l .i) inside)) in let long : length (l .marks) ≡ length (a .marks .now) = l .inv .1 .long in
     (omega (arith, q .0), omega (arith, q .1))
 
 loop-again : tie.Need-loop-again Inv-loop μ-loop
 loop-again c =
-    let at-loop = c .before .before .before .before .before .before .before in
-    let start = at-loop .before .before .before .before .before in let a = start .args in let l = at-loop .loop in
-    let o = c .before .before .before .mark-over .ensures in
-    let long = ordered-long (a .back) (inBoth (a .moves .now) (a .movebytes .now) .numbers) in (
+    let start : Start = search in let a = start .args in let at-loop : tie.At-loop Inv-loop μ-loop = search in let l = at-loop .loop in
+    let at-mark-over : tie.After-mark-over Inv-loop μ-loop = search in let o = at-mark-over .mark-over .ensures in
+    let long = ordered-long (a .back) (inBoth (a .moves .now) (a .movebytes .now) .numbers) in let at-element-from : tie.After-element-from Inv-loop μ-loop = search in (
       omega arith,
       passed-next (pass-over (a .letter) (a .here) (a .there)) _ (a .marks .now) (l .marks) _ (l .changed) _ true (l .i) _ (omega arith) (l .inv .1)
-          (c .before .before .before .before .before .element-from .ensures) (o .0) (o .1) (or-now (l .changed) _ (c .if1 .taken)),
+          (at-element-from .element-from .ensures) (o .0) (o .1) (or-now (l .changed) _ (c .if1 .taken)),
     )
 
 loop-again-2 : tie.Need-loop-again-2 Inv-loop μ-loop
 loop-again-2 c =
-    let at-loop = c .before .before .before .before .before .before .before in
-    let start = at-loop .before .before .before .before .before in let a = start .args in let l = at-loop .loop in
-    let o = c .before .before .before .mark-over .ensures in
-    let long = ordered-long (a .back) (inBoth (a .moves .now) (a .movebytes .now) .numbers) in (
+    let start : Start = search in let a = start .args in let at-loop : tie.At-loop Inv-loop μ-loop = search in let l = at-loop .loop in
+    let at-mark-over : tie.After-mark-over Inv-loop μ-loop = search in let o = at-mark-over .mark-over .ensures in
+    let long = ordered-long (a .back) (inBoth (a .moves .now) (a .movebytes .now) .numbers) in let at-element-from : tie.After-element-from Inv-loop μ-loop = search in (
       omega arith,
       passed-next (pass-over (a .letter) (a .here) (a .there)) _ (a .marks .now) (l .marks) _ (l .changed) _ (l .changed) (l .i) _ (omega arith) (l .inv .1)
-          (c .before .before .before .before .before .element-from .ensures) (o .0) (o .1) (or-before (l .changed) _ (c .if1 .left)),
+          (at-element-from .element-from .ensures) (o .0) (o .1) (or-before (l .changed) _ (c .if1 .left)),
     )
 
 returns : tie.Need-returns Inv-loop μ-loop
 returns c =
-    let a = c .before .before .before .before .before .before .args in let l = c .before .loop in
-    let ts = inBoth (a .moves .now) (a .movebytes .now) .numbers in let long = ordered-long (a .back) ts in
+    let start : Start = search in let a = start .args in let l = c .before .loop in let ts = inBoth (a .moves .now) (a .movebytes .now) .numbers in
+    let long = ordered-long (a .back) ts in
     passed-all (pass-over (a .letter) (a .here) (a .there)) (ordered (a .back) ts) (a .marks .now) (l .marks) (l .changed) (l .i) (omega arith) (l .inv .1)
 
 pub mark-all-spec : {M : Type 1} → statement M
-mark-all-spec =
-    tie.close (tie.spec
+mark-all-spec = tie.close (tie.spec
     Inv-loop μ-loop (λ c κs. search needs) (λ c. (omega arith, passed-none (pass-over _ _ _) _ _))
-    (λ c κs. (c .before .before .count .ensures, omega arith)) (λ c. omega arith) mark-over-requires (λ c. omega arith) loop-again (λ c. omega arith)
+    (λ c κs. let at-count : tie.After-count Inv-loop μ-loop = search in (at-count .count .ensures, omega arith)) (λ c. omega arith) mark-over-requires (λ c. omega arith) loop-again (λ c. omega arith)
     loop-again-2 (λ c. c .before .loop .inv .1 .long) returns)

@@ -6,8 +6,7 @@ use Rattle.table_fixpoints.proofs.rounds.waiting_after.Statement.{state
 use Rattle.table_fixpoints.proofs.rounds.waiting_after.Tie as tie
 
 pub waiting-after-spec : {M : Type 1} → statement M
-waiting-after-spec =
-    tie.close (tie.spec
+waiting-after-spec = tie.close (tie.spec
     (λ c. search needs) (λ c. waits-old (c .before .args .new) (c .before .args .waiting) (c .if1 .taken))
-    (λ c. waits-few (c .before .before .args .new) (c .before .before .args .waiting) (c .before .if1 .left) (c .if2 .taken)) (λ c. search needs)
-    (λ c. waits-many (c .before .before .args .new) (c .before .before .args .waiting) (c .before .if1 .left) (omega arith)))
+    (λ c. let start : tie.Start = search in waits-few (start .args .new) (start .args .waiting) (c .before .if1 .left) (c .if2 .taken)) (λ c. search needs)
+    (λ c. let start : tie.Start = search in waits-many (start .args .new) (start .args .waiting) (c .before .if1 .left) (omega arith)))

@@ -19,18 +19,15 @@ abbrev μ-loop : tie.MeasureT-loop
 
 returns : tie.Need-returns Inv-loop μ-loop
 returns c =
-    let l = c .before .before .before .loop in let x = c .before .element .result in
-    let above : 2 ^ 48 ≤ x = omega arith in
+    let at-loop : tie.At-loop Inv-loop μ-loop = search in let l = at-loop .loop in let x = c .before .element .result in let above : 2 ^ 48 ≤ x = omega arith in
     sym (l .inv ∙ any-stop isHigh _ (l .i) (omega arith) (ap isHigh (sym (c .before .element .ensures)) ∙ high x above))
 
 loop-again : tie.Need-loop-again Inv-loop μ-loop
 loop-again c =
-    let l = c .before .before .before .loop in let x = c .before .element .result in
-    let below : x < 2 ^ 48 = omega arith in
+    let at-loop : tie.At-loop Inv-loop μ-loop = search in let l = at-loop .loop in let x = c .before .element .result in let below : x < 2 ^ 48 = omega arith in
     l .inv ∙ any-next isHigh _ (l .i) (omega arith) (ap isHigh (sym (c .before .element .ensures)) ∙ not-high x below)
 
 pub has-high-spec : {M : Type 1} → statement M
-has-high-spec =
-    tie.close (tie.spec
+has-high-spec = tie.close (tie.spec
     Inv-loop μ-loop (λ c κs. search needs) (λ c. refl) (λ c κs. omega arith) returns (λ c. search needs) (λ c. search needs) loop-again
     (λ c. sym (c .before .loop .inv ∙ any-end isHigh _ (c .before .loop .i) (omega arith))))

@@ -10,18 +10,14 @@ use Rattle.table_rows.proofs.rows.table_row.Tie as tie
 
 returns : tie.Need-returns
 returns c =
-    let a = c .before .before .before .before .before .args in
-    refused _ _ _ (λ z. let e = rest-none (a .codes .now) (a .codebytes .now) (parts _ _ _ z .0) in omega (arith, c .if1 .taken))
+    let start : tie.Start = search in let a = start .args in refused _ _ _ (λ z. let e = rest-none (a .codes .now) (a .codebytes .now) (parts _ _ _ z .0) in omega (arith, c .if1 .taken))
 
 returns-2 : tie.Need-returns-2
 returns-2 c =
-    let a = c .before .before .before .before .before .before .args in
-    refused _ _ _ (λ z. let e = rest-none (a .moves .now) (a .movebytes .now) (parts _ _ _ z .1) in omega (arith, c .if2 .taken))
+    let start : tie.Start = search in let a = start .args in refused _ _ _ (λ z. let e = rest-none (a .moves .now) (a .movebytes .now) (parts _ _ _ z .1) in omega (arith, c .if2 .taken))
 
 returns-4 : tie.Need-returns-4
-returns-4 c =
-    let a = c .before .before .before .before .before .before .before .before .args in
-    let codes-whole : length (a .codebytes .now) % 8 ≡ 0 = omega arith in
+returns-4 c = let start : tie.Start = search in let a = start .args in let codes-whole : length (a .codebytes .now) % 8 ≡ 0 = omega arith in
     let transitions-whole : length (a .movebytes .now) % 8 ≡ 0 = omega arith in
     served _ _ _ (c .before .is-faulty .ensures) (no-rest (a .codes .now) (a .codebytes .now) codes-whole) (no-rest (a .moves .now) (a .movebytes .now) transitions-whole)
     (c .if3 .left)

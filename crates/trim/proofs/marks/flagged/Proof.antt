@@ -7,10 +7,10 @@ use Rattle.trim.proofs.marks.flagged.Statement.{statement}
 use Rattle.trim.proofs.marks.flagged.Tie as tie
 
 returns : tie.Need-returns
-returns c = let e = flag-accepting (c .before .before .args .c) (sym (c .before .is-accepting .ensures) ∙ c .if1 .taken) in omega arith
+returns c = let start : tie.Start = search in let e = flag-accepting (start .args .c) (sym (c .before .is-accepting .ensures) ∙ c .if1 .taken) in omega arith
 
 returns-2 : tie.Need-returns-2
-returns-2 c = let e = flag-other (c .before .before .args .c) (sym (c .before .is-accepting .ensures) ∙ c .if1 .left) in omega arith
+returns-2 c = let start : tie.Start = search in let e = flag-other (start .args .c) (sym (c .before .is-accepting .ensures) ∙ c .if1 .left) in omega arith
 
 pub flagged-spec : {M : Type 1} → statement M
 flagged-spec = tie.close (tie.spec (λ c κs. search needs) (λ c. omega arith) returns (λ c. omega arith) returns-2)

@@ -15,8 +15,7 @@ returns c = let v = c .before .args .v in rw (lt-ltb 0 v (omega arith), lt-ltb v
 
 -- of the numbers but 1, 2 alone is between 0 and 3
 two : (v : ℕ) → (v ≡ 1 → ⊥) → eqb v 2 ≡ (ltb 0 v && ltb v 3)
-two v n =
-    by-cases (ℕ-discrete v 2) (λ e. rw (eq-eqb v 2 e, lt-ltb 0 v (omega arith), lt-ltb v 3 (omega arith)))
+two v n = by-cases (ℕ-discrete v 2) (λ e. rw (eq-eqb v 2 e, lt-ltb 0 v (omega arith), lt-ltb v 3 (omega arith)))
     (λ d. by-cases (decLt v 3) (λ l. rw (ne-eqb v 2 d, le-ltb 0 v (omega arith)))
     (λ l. rw (ne-eqb v 2 d, le-ltb v 3 (omega arith)) (sym (and-false (ltb 0 v)))))
 

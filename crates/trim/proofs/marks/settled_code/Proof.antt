@@ -11,17 +11,12 @@ use Rattle.trim.proofs.marks.settled_code.Tie as tie
 returns : tie.Need-returns
 unfolding settled
 returns c =
-    let x = c .before .args .c in
-    let out : settled (x / 2 ^ 48) ≡ 0 = rw (lt-ltb (x / 2 ^ 48) 3 (omega arith)) in
-    let low : bitAnd x 281474976710655 ≡ x % 2 ^ 48 = and-mask x 48 in
+    let x = c .before .args .c in let out : settled (x / 2 ^ 48) ≡ 0 = rw (lt-ltb (x / 2 ^ 48) 3 (omega arith)) in let low : bitAnd x 281474976710655 ≡ x % 2 ^ 48 = and-mask x 48 in
     (omega arith, omega arith)
 
 returns-2 : tie.Need-returns-2
 unfolding settled
-returns-2 c =
-    let x = c .before .args .c in
-    let back : settled (x / 2 ^ 48) ≡ x / 2 ^ 48 - 2 = rw (le-ltb (x / 2 ^ 48) 3 (omega arith)) in
-    (omega arith, omega arith)
+returns-2 c = let x = c .before .args .c in let back : settled (x / 2 ^ 48) ≡ x / 2 ^ 48 - 2 = rw (le-ltb (x / 2 ^ 48) 3 (omega arith)) in (omega arith, omega arith)
 
 pub settled-code-spec : {M : Type 1} → statement M
 settled-code-spec = tie.close (tie.spec returns (λ c. omega arith) returns-2)

@@ -23,25 +23,26 @@ Inv-loop codes₀ transitions news₀ i₀ codes news i = (i ≤ length transiti
 abbrev μ-loop : tie.MeasureT-loop
 μ-loop codes₀ transitions news₀ i₀ codes news i = length transitions - i
 
+abbrev Start : Type 0
+Start = tie.Start Inv-loop μ-loop
+
+abbrev At-loop : Type 0
+At-loop = tie.At-loop Inv-loop μ-loop
+
 mark-requires : tie.Need-mark-requires Inv-loop μ-loop
 mark-requires c κs =
-    let start = c .before .before .before .before .before .before .before .before in let a = start .args in
-    let l = c .before .before .before .before .before .loop in let ts = a .transitions .now in
-    let t = getD ts (l .i) 0 in
-    let m = mem-at ts (l .i) (omega arith) in
-    let long : length (l .codes) ≡ length (a .codes .now) = highs-long _ _ (l .inv .1 .long) in
-    let source : c .before .source-of .result ≡ sourceOf t = c .before .source-of .ensures in
-    let target : c .target-of .result ≡ targetOf t = c .target-of .ensures in
+    let start : Start = search in let a = start .args in let at-loop : At-loop = search in let l = at-loop .loop in let ts = a .transitions .now in
+    let t = getD ts (l .i) 0 in let m = mem-at ts (l .i) (omega arith) in let long : length (l .codes) ≡ length (a .codes .now) = highs-long _ _ (l .inv .1 .long) in
+    let source : c .before .source-of .result ≡ sourceOf t = c .before .source-of .ensures in let target : c .target-of .result ≡ targetOf t = c .target-of .ensures in
     (omega (arith, start .pre .sources t m), omega (arith, start .pre .targets t m))
 
 -- one transition more: `news` counts those that brought something new
-again : (c : tie.After-mark Inv-loop μ-loop) (news : ℕ) → let at-loop = c .before .before .before .before .before .before in let a = at-loop .before .before .before .args in let l = at-loop .loop in
+again : (c : tie.After-mark Inv-loop μ-loop) → let at-loop : At-loop = search in let start : Start = search in
+    (news : ℕ) → let a = start .args in let l = at-loop .loop in
     news ≤ l .i + 1 → ltb 0 news ≡ (ltb 0 (l .news) || c .mark .result) → Inv-loop (a .codes .now) (a .transitions .now) 0 0 (c .mark .last .0) news (l .i + 1)
-again c news few told =
-    let at-loop = c .before .before .before .before .before .before in let a = at-loop .before .before .before .args in let l = at-loop .loop in
-    let t = getD (a .transitions .now) (l .i) 0 in
-    let source : c .before .before .source-of .result ≡ sourceOf t = c .before .before .source-of .ensures in
-    let target : c .before .target-of .result ≡ targetOf t = c .before .target-of .ensures in
+again c news few told = let start : Start = search in let a = start .args in let at-loop : At-loop = search in let l = at-loop .loop in
+    let t = getD (a .transitions .now) (l .i) 0 in let at-source-of : tie.After-source-of Inv-loop μ-loop = search in
+    let source : at-source-of .source-of .result ≡ sourceOf t = at-source-of .source-of .ensures in let target : c .before .target-of .result ≡ targetOf t = c .before .target-of .ensures in
     let o = c .mark .ensures in (
       omega arith,
       passed-next pass-swept (a .transitions .now) (highs (a .codes .now)) (highs (l .codes)) _ (ltb 0 (l .news)) _ (ltb 0 news) (l .i) t (omega arith) (l .inv .1) refl
@@ -51,24 +52,18 @@ again c news few told =
     )
 
 loop-again : tie.Need-loop-again Inv-loop μ-loop
-loop-again c =
-    let l = c .before .before .before .before .before .before .before .before .before .loop in
-    again (c .before .before .before) (l .news + 1) (omega arith) (lt-ltb 0 (l .news + 1) (omega arith) ∙ or-now (ltb 0 (l .news)) _ (c .if1 .taken))
+loop-again c = let at-loop : At-loop = search in let l = at-loop .loop in
+    again (search) (l .news + 1) (omega arith) (lt-ltb 0 (l .news + 1) (omega arith) ∙ or-now (ltb 0 (l .news)) _ (c .if1 .taken))
 
 loop-again-2 : tie.Need-loop-again-2 Inv-loop μ-loop
-loop-again-2 c =
-    let l = c .before .before .before .before .before .before .before .before .before .loop in
-    again (c .before .before .before) (l .news) (omega arith) (or-before (ltb 0 (l .news)) _ (c .if1 .left))
+loop-again-2 c = let at-loop : At-loop = search in let l = at-loop .loop in again (search) (l .news) (omega arith) (or-before (ltb 0 (l .news)) _ (c .if1 .left))
 
 returns : tie.Need-returns Inv-loop μ-loop
-returns c =
-    let a = c .before .before .before .before .args in let l = c .before .loop in
-    let (marks, news) = passed-all pass-swept (a .transitions .now) (highs (a .codes .now)) (highs (l .codes)) (ltb 0 (l .news)) (l .i) (omega arith) (l .inv .1) in
-    (marks, l .inv .2, news)
+returns c = let start : Start = search in let a = start .args in let l = c .before .loop in
+    let (marks, news) = passed-all pass-swept (a .transitions .now) (highs (a .codes .now)) (highs (l .codes)) (ltb 0 (l .news)) (l .i) (omega arith) (l .inv .1) in (marks, l .inv .2, news)
 
 pub sweep-spec : {M : Type 1} → statement M
-sweep-spec =
-    tie.close (tie.spec
+sweep-spec = tie.close (tie.spec
     Inv-loop μ-loop (λ c. (omega arith, passed-none pass-swept _ _, refl, omega arith)) (λ c. search needs) (λ c. search needs) (λ c. search needs)
     (λ c κs. search needs) (λ c κs. search needs) mark-requires (λ c. search needs) (λ c. omega arith) loop-again (λ c. omega arith) loop-again-2
     (λ c. highs-long _ _ (c .before .loop .inv .1 .long)) returns)

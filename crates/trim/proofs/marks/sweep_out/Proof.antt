@@ -21,25 +21,28 @@ Inv-loop codes₀ transitions codes = (length codes ≡ length codes₀) × Mark
 abbrev μ-loop : tie.MeasureT-loop
 μ-loop codes₀ transitions codes = 4 * length (highs codes₀) - sum (highs codes)
 
+abbrev At-loop : Type 0
+At-loop = tie.At-loop Inv-loop μ-loop
+
+abbrev After-sweep : Type 0
+After-sweep = tie.After-sweep Inv-loop μ-loop
+
 loop-less : tie.Need-loop-less Inv-loop μ-loop
-loop-less c =
-    let e = c .before .before .before .sweep .ensures in
-    let r = sweep-round _ _ _ (e .0) true _ (lt-ltb 0 (c .before .before .before .sweep .result) (c .if1 .taken)) (e .2) in
-    let m = sweep-marking _ _ _ (e .0) _ (c .before .before .before .before .before .loop .inv .1) in
-    omega (arith, r .grown refl, marking-sum _ _ _ (c .before .before .before .before .before .before .before .before .pre .1) m)
+loop-less c = let at-sweep : After-sweep = search in let e = at-sweep .sweep .ensures in
+    let r = sweep-round _ _ _ (e .0) true _ (lt-ltb 0 (at-sweep .sweep .result) (c .if1 .taken)) (e .2) in let at-loop : At-loop = search in
+    let m = sweep-marking _ _ _ (e .0) _ (at-loop .loop .inv .1) in let start : tie.Start Inv-loop μ-loop = search in omega (arith, r .grown refl, marking-sum _ _ _ (start .pre .1) m)
 
 loop-again : tie.Need-loop-again Inv-loop μ-loop
 loop-again c =
-    let e = c .before .before .before .sweep .ensures in let v = c .before .before .before .before .before .loop .inv in
-    (c .before .before .before .sweep .kept .0 ∙ v .0, sweep-marking _ _ _ (e .0) _ (v .1), e .1 ∙ v .2)
+    let at-sweep : After-sweep = search in let e = at-sweep .sweep .ensures in let at-loop : At-loop = search in let v = at-loop .loop .inv in
+    (at-sweep .sweep .kept .0 ∙ v .0, sweep-marking _ _ _ (e .0) _ (v .1), e .1 ∙ v .2)
 
 returns : tie.Need-returns Inv-loop μ-loop
 returns c =
-    let e = c .before .before .before .sweep .ensures in let v = c .before .before .before .before .before .loop .inv in
-    (stable _ _ _ _ (v .1) (sweep-marking _ _ _ (e .0) _ (v .1)) (sweep-round _ _ _ (e .0) false _ (le-ltb 0 (c .before .before .before .sweep .result) (omega arith)) (e .2)), e .1 ∙ v .2)
+    let at-sweep : After-sweep = search in let e = at-sweep .sweep .ensures in let at-loop : At-loop = search in let v = at-loop .loop .inv in
+    (stable _ _ _ _ (v .1) (sweep-marking _ _ _ (e .0) _ (v .1)) (sweep-round _ _ _ (e .0) false _ (le-ltb 0 (at-sweep .sweep .result) (omega arith)) (e .2)), e .1 ∙ v .2)
 
 pub sweep-out-spec : {M : Type 1} → statement M
-sweep-out-spec =
-    tie.close (tie.spec
-    Inv-loop μ-loop (λ c. (refl, marking-start _ _, refl)) (λ c κs. rw (c .before .loop .inv .0) (c .before .before .before .before .pre .0))
-    loop-less loop-again (λ c. c .before .before .before .sweep .kept .0 ∙ c .before .before .before .before .before .loop .inv .0) returns)
+sweep-out-spec = tie.close (tie.spec
+    Inv-loop μ-loop (λ c. (refl, marking-start _ _, refl)) (λ c κs. let start : tie.Start Inv-loop μ-loop = search in rw (c .before .loop .inv .0) (start .pre .0))
+    loop-less loop-again (λ c. let at-sweep : After-sweep = search in let at-loop : At-loop = search in at-sweep .sweep .kept .0 ∙ at-loop .loop .inv .0) returns)

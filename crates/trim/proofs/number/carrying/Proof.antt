@@ -10,9 +10,7 @@ add-result : tie.Need-add-result
 add-result c = let low : bitAnd (c .args .c) 281474976710655 ≡ c .args .c % 2 ^ 48 = and-mask (c .args .c) 48 in omega (arith, c .pre)
 
 returns : tie.Need-returns
-returns c =
-    let low : bitAnd (c .args .c) 281474976710655 ≡ c .args .c % 2 ^ 48 = and-mask (c .args .c) 48 in
-    (omega (arith, c .pre), omega (arith, c .pre))
+returns c = let low : bitAnd (c .args .c) 281474976710655 ≡ c .args .c % 2 ^ 48 = and-mask (c .args .c) 48 in (omega (arith, c .pre), omega (arith, c .pre))
 
 pub carrying-spec : {M : Type 1} → statement M
 carrying-spec = tie.close (tie.spec add-result returns)

@@ -11,19 +11,16 @@ use Rattle.trim.proofs.number.is_left.Tie as tie
 
 returns : tie.Need-returns
 returns c =
-    let a = c .before .before .before .before .args in let xs = a .codes .now in
-    let out : getD xs (c .before .before .source-of .result) 0 / 2 ^ 48 ≡ 0 = omega arith in
-    let source : getD xs (sourceOf (a .t)) 0 / 2 ^ 48 ≡ 0 = rw (c .before .before .source-of .ensures) at out in
-    sym (left-not xs (a .t) source)
+    let start : tie.Start = search in let a = start .args in let xs = a .codes .now in let at-source-of : tie.After-source-of = search in
+    let out : getD xs (at-source-of .source-of .result) 0 / 2 ^ 48 ≡ 0 = omega arith in
+    let source : getD xs (sourceOf (a .t)) 0 / 2 ^ 48 ≡ 0 = rw (at-source-of .source-of .ensures) at out in sym (left-not xs (a .t) source)
 
 returns-2 : tie.Need-returns-2
 returns-2 c =
-    let a = c .before .before .before .before .before .before .args in let xs = a .codes .now in
-    let in-there : 0 < getD xs (c .before .before .before .before .source-of .result) 0 / 2 ^ 48 = omega arith in
-    let source : 0 < getD xs (sourceOf (a .t)) 0 / 2 ^ 48 = rw (c .before .before .before .before .source-of .ensures) at in-there in
-    rw (c .before .target-of .ensures) (left-by xs (a .t) source)
+    let start : tie.Start = search in let a = start .args in let xs = a .codes .now in let at-source-of : tie.After-source-of = search in
+    let in-there : 0 < getD xs (at-source-of .source-of .result) 0 / 2 ^ 48 = omega arith in
+    let source : 0 < getD xs (sourceOf (a .t)) 0 / 2 ^ 48 = rw (at-source-of .source-of .ensures) at in-there in rw (c .before .target-of .ensures) (left-by xs (a .t) source)
 
 pub is-left-spec : {M : Type 1} → statement M
-is-left-spec =
-    tie.close (tie.spec
+is-left-spec = tie.close (tie.spec
     (λ c κs. search needs) (λ c. search needs) (λ c. search needs) returns (λ c κs. search needs) (λ c. search needs) (λ c. search needs) returns-2)
