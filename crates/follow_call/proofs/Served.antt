@@ -130,7 +130,8 @@ module _ (f codes transitions set : List ℕ) where
   n = length (wordsIn codes)
 
   -- a start
-  pub started-whole : (set′ : List ℕ) (v : FollowAnswer) → FollowedBy (followRow f [] (inBytes codes) (inBytes transitions) (length set)) n (initialSet (ruleIn f .initial) (wordsIn codes)) 0 set set′ v
+  pub started-whole : (set′ : List ℕ) (v : FollowAnswer) → FollowedBy (followRow f [] (inBytes codes) (inBytes transitions) (length set))
+      n (initialSet (ruleIn f .initial) (wordsIn codes)) 0 set set′ v
       → FollowStarted f (inBytes codes) (inBytes transitions) set set′ v
   unfolding inBytes
   started-whole set′ v F = record {

@@ -31,8 +31,11 @@ within x s i = rw (s .swept .long) at i
 
 returns : tie.Need-returns Inv-loop μ-loop
 returns c =
-    let start : tie.Start Inv-loop μ-loop = search in let a = start .args in let pre = start .pre in
-    (λ before low s. sweeping-out (a .letter) (wordsIn (a .transitions .now)) before low (within (a .x) s (pre .4)) (a .set .now) (a .x) (a .from) (omega (arith, s .swept .long)) (c .if1 .taken) s, pre .5)
+    let start : tie.Start Inv-loop μ-loop = search in let a = start .args in let pre = start .pre in (
+      λ before low s. sweeping-out (a .letter) (wordsIn (a .transitions .now)) before low (within (a .x) s (pre .4))
+          (a .set .now) (a .x) (a .from) (omega (arith, s .swept .long)) (c .if1 .taken) s,
+      pre .5,
+    )
 
 loop-holds : tie.Need-loop-holds Inv-loop μ-loop
 loop-holds c =
@@ -118,4 +121,5 @@ pub move-from-spec : {M : Type 1} → statement M
 move-from-spec =
     tie.close (tie.spec
     Inv-loop μ-loop (λ c. search needs) returns (λ c κs. omega arith) place-from-requires loop-holds (λ c. search needs) (λ c κs. search needs) (λ c. search needs) returns-2
-    (λ c κs. search needs) (λ c. omega (arith, target (search))) (λ c. search needs) (λ c. omega (arith, target (search))) (λ c. search needs) (λ c. search needs) loop-again (λ c. search needs) returns-3)
+    (λ c κs. search needs) (λ c. omega (arith, target (search))) (λ c. search needs) (λ c. omega (arith, target (search))) (λ c. search needs) (λ c. search needs)
+    loop-again (λ c. search needs) returns-3)

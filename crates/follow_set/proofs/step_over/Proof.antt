@@ -55,5 +55,6 @@ returns-2 c =
 pub step-over-spec : {M : Type 1} → statement M
 step-over-spec =
     tie.close (tie.spec
-    Inv-loop μ-loop loop-holds (λ c. search needs) returns (λ c. search needs) (λ c. let at-loop : tie.At-loop Inv-loop μ-loop = search in omega (arith, byte (search) (at-loop .loop .i))) step-requires (λ c. search needs) (λ c. search needs) loop-again
+    Inv-loop μ-loop loop-holds (λ c. search needs) returns (λ c. search needs) (λ c. let at-loop : tie.At-loop Inv-loop μ-loop = search in omega (arith, byte (search) (at-loop .loop .i)))
+    step-requires (λ c. search needs) (λ c. search needs) loop-again
     (λ c. search needs) returns-2)

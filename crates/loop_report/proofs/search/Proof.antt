@@ -60,7 +60,8 @@ returns-3 c =
     let at-successor-table : tie.After-successor-table = search in let at-start-of : tie.After-start-of = search in let s = at-start-of .start-of .result in let else1 : tie.Else1 = search in
     let l : s .further < rule at-start-of .n = omega (arith, else1 .if1 .left) in let at-others-of : tie.After-others-of = search in let at-write-loop : tie.After-write-loop = search in
     let w = rw (at-successor-table .successor-table .ensures, at-others-of .others-of .ensures) at (at-write-loop .write-loop .ensures) in
-    let k = found-length (rule at-start-of) s (begun at-start-of) l in let else2 : tie.Else2 = search in let f = report-states (loopOf (rule at-start-of)) (slice at-start-of) (s .further) k (omega (arith, else2 .if2 .left)) in
+    let k = found-length (rule at-start-of) s (begun at-start-of) l in let else2 : tie.Else2 = search in
+    let f = report-states (loopOf (rule at-start-of)) (slice at-start-of) (s .further) k (omega (arith, else2 .if2 .left)) in
     (f .0, w ∙ ap (λ (ps : List ℕ). ps ++ drop (s .further + 1) (slice at-start-of)) (sym (found-route (rule at-start-of) s (begun at-start-of) l)) ∙ f .1)
 
 pub search-spec : {M : Type 1} → statement M

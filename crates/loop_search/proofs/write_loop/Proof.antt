@@ -37,7 +37,8 @@ returns c =
 pub write-loop-spec : {M : Type 1} → statement M
 write-loop-spec = tie.close (tie.spec
     Inv-loop μ-loop (λ c. written-none (c .before .pre .0 .1) (c .before .pre .1))
-    (λ c. let start : Start = search in omega (arith, c .before .loop .inv .state, start .pre .0 .0)) (λ c. let start : Start = search in omega (arith, written-length (c .before .loop .inv) (start .pre .0 .2)))
+    (λ c. let start : Start = search in omega (arith, c .before .loop .inv .state, start .pre .0 .0))
+    (λ c. let start : Start = search in omega (arith, written-length (c .before .loop .inv) (start .pre .0 .2)))
     (λ c κs. let start : Start = search in omega (arith, c .before .loop .inv .state, start .pre .0 .0)) (λ c. omega arith) next-state-requires (λ c. omega arith)
     (λ c. omega arith) loop-again (λ c. let start : Start = search in omega (arith, c .before .loop .inv .state, start .pre .0 .0))
     (λ c. omega (arith, kept c)) (λ c. simp length-set (kept c)) returns)

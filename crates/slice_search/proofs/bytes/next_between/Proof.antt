@@ -19,8 +19,12 @@ abbrev μ-loop : tie.MeasureT-loop
 μ-loop xs from to low high x₀ x = to - x
 
 loop-holds : tie.Need-loop-holds Inv-loop μ-loop
-loop-holds c = let n = c .next-set .ensures in let start : tie.Start Inv-loop μ-loop = search in
-    (n .before .ordered, n .within, over-zeros (start .args .xs .now) (Other (start .args .low) (start .args .high) (start .args .xs .now)) (λ y e l. absurd (omega (arith, start .pre .2))) _ _ (n .before))
+loop-holds c = let n = c .next-set .ensures in let start : tie.Start Inv-loop μ-loop = search in (
+  n .before .ordered,
+  n .within,
+  over-zeros (start .args .xs .now) (Other (start .args .low) (start .args .high) (start .args .xs .now))
+      (λ y e l. absurd (omega (arith, start .pre .2))) _ _ (n .before),
+)
 
 returns : tie.Need-returns Inv-loop μ-loop
 returns c = let at-loop : tie.At-loop Inv-loop μ-loop = search in let l = at-loop .loop in
