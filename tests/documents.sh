@@ -10,6 +10,8 @@ fault() { printf '%s\n' "$*" >&2; faults=$((faults + 1)); }
 texts=(README.md docs/PROOF.md docs/HOW.md docs/DECISIONS.md docs/LANDINGS.md docs/CONTRIBUTING.md docs/SPEED.md docs/FORMAT.md docs/RULES.md docs/CHANCE.md)
 for t in "${texts[@]}"; do [ -f "$t" ] || fault "$t: is not there"; done
 code=(README.md docs/PROOF.md docs/HOW.md docs/DECISIONS.md docs/CONTRIBUTING.md tools/subjects.txt)
+# the texts that tell the tree as it is: LANDINGS and CHANGELOG tell what was
+present=("${code[@]}" docs/SPEED.md docs/FORMAT.md docs/RULES.md docs/CHANCE.md docs/EDITS.md crates/README.md second/README.md compare/README.md)
 
 # ---- names of definitions, theorems, functions and crates
 # all words of the tree without its comments, once each
@@ -28,6 +30,18 @@ for t in "${code[@]}"; do
     { grep -vE "$files|^_" build/documents/named || true; } | tr '.' '\n' | { grep . || true; } | sort -u | comm -23 - build/documents/known | sed "s,^,$t: no such name: ,"
     { grep '^_' build/documents/named || true; } | while read -r name; do grep -qE -- "$name\$" "$words" || echo "$t: no name ends so: $name"; done
 done > build/documents/names
+# ---- words with an underscore, wherever they stand: a name of the tree, an edit, a file or folder (with or without its ending), a word of the programs beside it
+{
+    cat build/documents/known
+    git ls-files second compare bench tests tools examples | { grep -E '\.(rs|c|h|cpp|sh|py|toml)$' || true; } | { grep -vx tests/documents.sh || true; } | xargs cat | grep -oE '[A-Za-z0-9_]+'
+    git ls-files | tr '/' '\n' | sed 'p; s/\.[a-z]*$//'
+} | grep _ | sort -u > build/documents/underscored
+for t in "${present[@]}"; do
+    [ -f "$t" ] || { echo "$t: is not there"; continue; }
+    # an indented block is a session or a text of a user's, and an ending in backquotes is held above
+    { grep -v '^    ' "$t" | grep -oE '[A-Za-z0-9_][A-Za-z0-9_.-]*\.(c|h|sh|rs|cpp|py|md|rt|antt)\b' || true; } | sort -u | comm -23 - build/documents/tracked | sed "s,^,$t: no such file: ,"
+    { grep -v '^    ' "$t" | sed -E 's/`_[^`]*`//g' | grep -oE '[A-Za-z0-9]+(_[A-Za-z0-9]+)+' || true; } | sort -u | comm -23 - build/documents/underscored | sed "s,^,$t: no crate\, function or file: ,"
+done > build/documents/loose
 # ---- files and edits, as crate/specs/File, crate/proofs/File, crate/src, crate/edit
 for t in "${code[@]}"; do
     [ -f "$t" ] || continue
@@ -46,18 +60,48 @@ for t in "${code[@]}"; do
     done
 done > build/documents/files
 # ---- links to files
-for t in "${texts[@]}" crates/README.md docs/EDITS.md; do
+for t in "${texts[@]}" crates/README.md docs/EDITS.md second/README.md compare/README.md; do
     [ -f "$t" ] || continue
     { grep -oE '\]\([^)# ]+' "$t" || true; } | sed 's/^](//' | sort -u | while read -r link; do
         case $link in http*) ;; *) [ -e "$(dirname "$t")/$link" ] || echo "$t: no such link: $link" ;; esac
     done
 done > build/documents/links
-# ---- decisions that are cited
-sed -n 's/^- \*\*\([0-9]*\)\..*/\1/p' docs/DECISIONS.md | sort > build/documents/decisions
-for t in "${texts[@]}" include/mulgreddi.h; do
+# ---- sections that are cited: "HOW.md, section 4", "section 4 of HOW", or a section of the text itself; and the anchors of links
+numbered() { sed -nE 's/^##+ ([0-9]+)\. .*/\1/p' "$1"; }
+anchors() { sed -nE 's/^#+ +//p' "$1" | sed -E 's/[^A-Za-z0-9 _-]//g; s/ /-/g' | tr 'A-Z' 'a-z'; }
+cites='((00[0-9]|paper)[^ ]*,? |[A-Z]{3,}(\.md)?[])A-Za-z.(/]*,? )?[Ss]ections? [0-9]+(\.[0-9]+)?((, [0-9]+)*,? (and|to|or) [0-9]+)?( of \[?(docs/)?[A-Z]{3,})?'
+{
+    git ls-files -- '*.antt' '*.rt' '*.[ch]' '*.rs' '*.sh' '*.py' Makefile '*.md' '*.txt' | { grep -vxE 'docs/0[12]-.*|docs/LANDINGS.md|docs/history/.*|tests/documents.sh' || true; } | xargs grep -HoE "$cites" || true
+    grep -HoE "$cites" docs/LANDINGS.md || true
+} | sort -u | while IFS=: read -r t cite; do
+    case $cite in 00[0-9]* | paper*) continue ;; esac
+    of=$(grep -oE '[A-Z]{3,}' <<< "$cite" | head -1 || true)
+    in=${of:+docs/$of.md}; in=${in:-$t}; [ "$of" != README ] || in=README.md
+    [ -f "$in" ] || { echo "$t: $cite: no such text: $in"; continue; }
+    for n in $(sed -E 's/.*[Ss]ections? ([0-9., andtor]*).*/\1/; s/[a-z,]/ /g' <<< "$cite"); do
+        numbered "$in" | grep -qxF -- "$n" || echo "$t: no such section of $in: $n"
+    done
+done > build/documents/sections
+for t in "${texts[@]}" crates/README.md docs/EDITS.md second/README.md compare/README.md; do
     [ -f "$t" ] || continue
-    { grep -oE 'DECISIONS(\.md)?,? [0-9]+(, [0-9]+)*( and [0-9]+)?|[Dd]ecisions? [0-9]+(, [0-9]+)*( and [0-9]+)?' "$t" || true; } | { grep -oE '[0-9]+' || true; } | sort -u |
-        comm -23 - build/documents/decisions | while read -r n; do echo "$t: no such decision: $n"; done
+    { grep -oE '\]\([^) ]*#[^) ]+' "$t" || true; } | sed 's/^](//' | sort -u | while IFS='#' read -r link anchor; do
+        case $link in http*) continue ;; esac
+        at=${link:+$(dirname "$t")/$link}; at=${at:-$t}
+        { [ -f "$at" ] && anchors "$at" | grep -qxF -- "$anchor"; } || echo "$t: no such heading: $link#$anchor"
+    done
+done >> build/documents/sections
+# ---- decisions that are cited
+sed -n 's/^- \*\*\([0-9]*\)\..*/\1/p' docs/DECISIONS.md > build/documents/numbers
+sort build/documents/numbers > build/documents/decisions
+list='[0-9]+((, | and | or | to )[0-9]+)*'
+{
+    # "DECISIONS 5, 12 and 13", "[docs/DECISIONS.md](docs/DECISIONS.md), 52", "decision 88", "88 of DECISIONS", and in its own text "see 102", "point 52" and the table of requests
+    git ls-files -- '*.antt' '*.rt' '*.[ch]' '*.rs' '*.sh' '*.py' Makefile '*.md' '*.txt' | { grep -vxE 'docs/0[12]-.*|tests/documents.sh' || true; } |
+        xargs grep -HoE "DECISIONS(\.md)?[])A-Za-z.(/]*,? (points? )?$list|[Dd]ecisions? $list|\b$list of \[?(docs/)?DECISIONS" || true
+    grep -HoE "(\bsee|[Pp]oints?) $list" docs/DECISIONS.md || true
+    sed -nE 's/^\| (01|M-[0-9]+|[0-9]+) \| ([0-9][0-9, to]*) \|$/docs\/DECISIONS.md:\2/p' docs/DECISIONS.md
+} | sort -u | while IFS=: read -r t cite; do
+    { grep -oE "$list" <<< "$cite" || true; } | sed 's/, \| and \| or \| to /\n/g' | sort -u | comm -23 - build/documents/decisions | sed "s,^,$t: no such decision: ,"
 done > build/documents/cited
 uniq -d build/documents/decisions | sed 's/^/docs\/DECISIONS.md: twice: /' > build/documents/twice
 # ---- counts: crates, edits, entries, the files and lines of the reading list
@@ -65,18 +109,21 @@ crates=$(wc -l < build/documents/crates)
 edits=$(find crates -path '*/must-fail/*.edit' | wc -l)
 entries=$(grep -cE '^(mulgreddi_[a-z]+|uint32_t) mulgreddi_[a-z_]+\(' include/mulgreddi.h)
 {
-    for t in "${texts[@]}"; do
-        [ -f "$t" ] && [ "$t" != docs/LANDINGS.md ] || continue
-        { grep -oE '[0-9,]+ (crates proved|must-fail edits|passed, 0 failed|C entries|crates by subject)' "$t" || true; } | sort -u | while read -r n what; do
+    # a figure before one of these words is one of the tree as it is; DECISIONS tells what was counted when something was decided
+    for t in "${present[@]}"; do
+        [ -f "$t" ] && [ "$t" != docs/DECISIONS.md ] || continue
+        { grep -oE '\b[0-9][0-9,]* (crates\b|must-fail edits|edits\b|wrong versions|passed, 0 failed|C entries)' "$t" || true; } |
+            sort -u | while read -r n what; do
             case $what in
-            crates*) is=$crates ;;
-            must-fail*) is=$edits ;;
+            crates) is=$crates ;;
+            must-fail* | edits | wrong*) is=$edits ;;
             passed*) is=$((crates + edits)) ;;
             C*) is=$entries ;;
             esac
-            [ "$n" = "$is" ] || echo "$t: $n $what, the tree has $is"
+            [ "${n//,/}" = "$is" ] || echo "$t: $n $what, the tree has $is"
         done
     done
+    grep -q "There are $edits\." docs/EDITS.md || echo "docs/EDITS.md: does not say that there are $edits"
     # rows of the reading list: subject | crate: File, File; crate: File | lines
     files=0 lines=0 told=0
     while IFS='|' read -r _ subject list count _; do
@@ -94,7 +141,7 @@ entries=$(grep -cE '^(mulgreddi_[a-z]+|uint32_t) mulgreddi_[a-z_]+\(' include/mu
     said="$files files, $(printf "%'d" $lines) lines, of which $(printf "%'d" $told) are neither blank nor"
     LC_ALL=C grep -qF "$(echo "$said" | sed ':a;s/\B[0-9]\{3\}\b/,&/;ta')" docs/PROOF.md || echo "docs/PROOF.md: the reading list has $said \`use\`"
 } > build/documents/counts
-parts=(build/documents/{names,files,links,cited,twice,counts})
+parts=(build/documents/{names,loose,files,links,sections,cited,twice,counts})
 cat "${parts[@]}" >&2
 faults=$((faults + $(cat "${parts[@]}" | wc -l)))
 [ "$faults" -eq 0 ] || { echo "$faults faults in the documents" >&2; exit 1; }
