@@ -39,7 +39,7 @@ done > build/documents/names
 for t in "${present[@]}"; do
     [ -f "$t" ] || { echo "$t: is not there"; continue; }
     # an indented block is a session or a text of a user's, and an ending in backquotes is held above
-    { grep -v '^    ' "$t" | grep -oE '[A-Za-z0-9_][A-Za-z0-9_.-]*\.(c|h|sh|rs|cpp|py|md|rt|antt)\b' || true; } | sort -u | comm -23 - build/documents/tracked | sed "s,^,$t: no such file: ,"
+    { grep -v '^    ' "$t" | grep -oE '[A-Za-z0-9_][A-Za-z0-9_.-]*\.(c|h|sh|rs|cpp|py|md|rt|antt)\b' || true; } | { grep -v '^NAME\.' || true; } | sort -u | comm -23 - build/documents/tracked | sed "s,^,$t: no such file: ,"
     { grep -v '^    ' "$t" | sed -E 's/`_[^`]*`//g' | grep -oE '[A-Za-z0-9]+(_[A-Za-z0-9]+)+' || true; } | sort -u | comm -23 - build/documents/underscored | sed "s,^,$t: no crate\, function or file: ,"
 done > build/documents/loose
 # ---- files and edits, as crate/specs/File, crate/proofs/File, crate/src, crate/edit
