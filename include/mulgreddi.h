@@ -277,8 +277,8 @@ typedef struct {
  * scratch P bytes; both builds' counts tell P beforehand. With no, the start of word becomes the letters of a word that a accepts and b
  * rejects, lead-in then cycle, at most 3 * P together and perhaps over 32 each; which of several it is, is not laid down. The rest of word,
  * and with yes all of it, is not touched. scratch is zero throughout afterwards.
- * Its time grows with the pairs of cores from which both tables can go on, and with P for zeroing scratch: P of 250 million took 2.4 seconds
- * besides the builds, 1,590 million with few such pairs 0.1 seconds.
+ * Its time grows with the pairs of cores from which both tables can go on, and with P for zeroing scratch: seconds besides the builds
+ * where P is 250 million, a tenth of a second where there are few such pairs (docs/SPEED.md).
  * Refusals: the rule's of a, then of b, 28, 17 and 18 by the table of a, 17 and 18 by that of b, 29. 17, 18 and 29 set all four rooms to
  * zero throughout; no refusal changes word or scratch. */
 mulgreddi_comparison mulgreddi_stricter(const uint8_t *a, size_t a_len, const uint8_t *b, size_t b_len,
@@ -297,11 +297,11 @@ mulgreddi_comparison mulgreddi_stricter(const uint8_t *a, size_t a_len, const ui
  * The rule's refusals, 12 to 16; 15: over 65,536 codes, codes or transitions not strictly ascending, a code with a bit above 47, a
  * transition whose source, letter or target is out of range, or a length that 8 does not divide.
  * Time: with one byte a node, a node being a macrostate at a place of the cycle, it takes at most about (accepting nodes + 1) *
- * (rejecting nodes + 2 * cycle_len + 1) passes over the transitions, and as many again as there are nodes. Built tables take few: 0.02 to
- * 0.5 s of CPU at the caps. A table made to be slow is not refused. The slowest kind known: a chain of rejecting macrostates leads to a
- * chain of accepting ones and rejecting ones with a loop by turns, each of which stays over letter 0 and steps over 1, and the cycle is 31
- * times 0 and then 1. It took 0.7 s of CPU with 512 codes, half of them in the first chain, and 5.6 s with 1,024, and grows with the third
- * power; transitions over further letters make every pass longer. Judge tables of strangers with a time limit of your own. */
+ * (rejecting nodes + 2 * cycle_len) passes over the transitions, and as many again as there are nodes. Built tables take few: tenths of
+ * a second at the caps. A table made to be slow is not refused. The slowest kind known: a chain of rejecting macrostates leads to a chain of
+ * accepting ones and rejecting ones with a loop by turns, each of which stays over letter 0 and steps over 1, and the cycle is 31 times 0
+ * and then 1. It takes seconds with 1,024 codes, half of them in the first chain, and grows with the third power (docs/SPEED.md); transitions
+ * over further letters make every pass longer. Judge tables of strangers with a time limit of your own. */
 mulgreddi_answer mulgreddi_judge_table(const uint8_t *file, size_t file_len,
                                        const uint8_t *lead, size_t lead_len, const uint8_t *cycle, size_t cycle_len,
                                        const uint8_t *codes, size_t codes_bytes, const uint8_t *transitions, size_t transitions_bytes,
@@ -350,7 +350,8 @@ mulgreddi_answer mulgreddi_translate(const uint8_t *file, size_t file_len, const
  * first: letters held. second: macrostates in the set.
  * The rule's refusals, 14 for a letter that arrives, 15, one of 30 to 33, and 16; a refused call changes nothing. 30 to 33 are tried on
  * whatever bytes state has, one that is not there being 0.
- * Time: an arrival goes once over the transitions, a withdrawal and a return once for each letter then held. */
+ * Time: an arrival goes twice over the transitions, a withdrawal and a return once for each letter then held, besides
+ * trying 15. */
 mulgreddi_answer mulgreddi_live_start(const uint8_t *file, size_t file_len, const uint8_t *codes, size_t codes_bytes,
                                       const uint8_t *transitions, size_t transitions_bytes,
                                       uint8_t *state, size_t state_len, uint8_t *set, size_t set_len);
