@@ -117,7 +117,7 @@ compare: $(LIB)
 listings: $(LIB) $(PROGRAM)
 	$(CARGO) run --release --offline --quiet --manifest-path compare/Cargo.toml --bin listings -- $(PROGRAM) examples
 
-# what the build, the trimmed build and the listing give for every rule file of the repository, held to what they gave before M-101
+# what the build, the trimmed build and the listing give for every rule file of the repository, held to what is stored: answers stay byte for byte
 RULES := $(sort $(wildcard examples/*.rule bench/*.rule compare/data/*.rule))
 tables: $(LIB) $(PROGRAM)
 	$(CARGO) run --release --offline --quiet --manifest-path compare/Cargo.toml --bin tables -- $(PROGRAM) $(RULES) > $(BUILD)/tables.out
