@@ -59,6 +59,37 @@ for t in "${code[@]}"; do
         esac
     done
 done > build/documents/files
+# ---- the map of docs/PROOF.md, section 1: what a definition is called stands in one of the files beside it, or in one that its cell names
+awk -F' [|] ' '
+    function text(path,    line, all) {
+        if (path in known) return known[path]
+        all = " "
+        while ((getline line < path) > 0) all = all line " "
+        close(path)
+        return known[path] = all
+    }
+    /^## / { on = /^## 1\./ }
+    on && /^[|] / && NF == 3 && $3 !~ /^(file|---)/ {
+        found = " "; crate = ""; cell = $2
+        gsub(/`[^`]*`/, "", cell)
+        m = split($3 ", " cell, part, /[;,()|] */)
+        for (i = 1; i <= m; i++) {
+            gsub(/[ |]+$/, "", part[i])
+            name = part[i]; whole = 0
+            if (match(name, /^[a-z][a-z0-9_]*\/(specs|proofs|src)/)) { crate = substr(name, 1, RLENGTH); name = substr(name, RLENGTH + 2); whole = name == "" }
+            if (crate != "" && name ~ /^[A-Z][A-Za-z0-9]*$/) found = found text("crates/" crate "/" name ".antt")
+            if (whole) {
+                list = "find crates/" crate " -type f"
+                while ((list | getline path) > 0) found = found text(path)
+                close(list)
+            }
+        }
+        m = split($2, piece, "`")
+        for (i = 2; i <= m; i += 2) {
+            name = piece[i]; sub(/\..*/, "", name)
+            if (!index(found, name)) print FILENAME ":" FNR ": " name " is in none of these files: " $3
+        }
+    }' docs/PROOF.md > build/documents/map
 # ---- links to files
 for t in "${texts[@]}" crates/README.md docs/EDITS.md second/README.md compare/README.md; do
     [ -f "$t" ] || continue
@@ -141,7 +172,7 @@ entries=$(grep -cE '^(mulgreddi_[a-z]+|uint32_t) mulgreddi_[a-z_]+\(' include/mu
     said="$files files, $(printf "%'d" $lines) lines, of which $(printf "%'d" $told) are neither blank nor"
     LC_ALL=C grep -qF "$(echo "$said" | sed ':a;s/\B[0-9]\{3\}\b/,&/;ta')" docs/PROOF.md || echo "docs/PROOF.md: the reading list has $said \`use\`"
 } > build/documents/counts
-parts=(build/documents/{names,loose,files,links,sections,cited,twice,counts})
+parts=(build/documents/{names,loose,files,map,links,sections,cited,twice,counts})
 cat "${parts[@]}" >&2
 faults=$((faults + $(cat "${parts[@]}" | wc -l)))
 [ "$faults" -eq 0 ] || { echo "$faults faults in the documents" >&2; exit 1; }
