@@ -163,7 +163,9 @@ entries=$(grep -cE '^(mulgreddi_[a-z]+|uint32_t) mulgreddi_[a-z_]+\(' include/mu
             for name in ${names//,/ }; do
                 file=crates/$crate/specs/$name.antt
                 [ -f "$file" ] || { echo "docs/PROOF.md: the reading list names $crate: $name, which is not there"; continue; }
-                n=$((n + $(wc -l < "$file"))); files=$((files + 1)); told=$((told + $(grep -cvE '^ *$|^use ' "$file")))
+                long=$(wc -l < "$file"); n=$((n + long)); files=$((files + 1)); told=$((told + $(grep -cvE '^ *$|^use ' "$file")))
+                [ "$long" -lt 100 ] || grep -qF "$crate/specs/$name ($long, of which $(grep -c '^use ' "$file") are \`use\`)" docs/PROOF.md ||
+                    echo "docs/PROOF.md: the reading list has $crate/specs/$name, $long lines, $(grep -c '^use ' "$file") of them \`use\`"
             done
         done < <(tr ';' '\n' <<< "$list" | sed 's/://')
         lines=$((lines + n))
