@@ -90,6 +90,16 @@ awk -F' [|] ' '
             if (!index(found, name)) print FILENAME ":" FNR ": " name " is in none of these files: " $3
         }
     }' docs/PROOF.md > build/documents/map
+# ---- README's table of the C entries: every entry stands there, and an example of its row calls it
+grep -oE '^(mulgreddi_[a-z]+|uint32_t) mulgreddi_[a-z_]+\(' include/mulgreddi.h | sed 's/.* //; s/(//' | while read -r entry; do
+    row=$(grep -E "^\| .*\`(mulgreddi)?${entry#mulgreddi}\`.* \|.* \|.* \|$" README.md | head -1 || true)
+    [ -n "$row" ] || { echo "README.md: no row for $entry"; continue; }
+    shown=0
+    for example in $(sed 's/.*| //' <<< "${row% |}" | { grep -oE '[a-z]+\.c' || echo '*.c'; }); do
+        ! grep -qE "\b$entry\b" examples/$example || shown=1
+    done
+    [ $shown = 1 ] || echo "README.md: no example of its row calls $entry"
+done > build/documents/entries
 # ---- links to files
 for t in "${texts[@]}" crates/README.md docs/EDITS.md second/README.md compare/README.md; do
     [ -f "$t" ] || continue
@@ -174,7 +184,7 @@ entries=$(grep -cE '^(mulgreddi_[a-z]+|uint32_t) mulgreddi_[a-z_]+\(' include/mu
     said="$files files, $(printf "%'d" $lines) lines, of which $(printf "%'d" $told) are neither blank nor"
     LC_ALL=C grep -qF "$(echo "$said" | sed ':a;s/\B[0-9]\{3\}\b/,&/;ta')" docs/PROOF.md || echo "docs/PROOF.md: the reading list has $said \`use\`"
 } > build/documents/counts
-parts=(build/documents/{names,loose,files,map,links,sections,cited,twice,counts})
+parts=(build/documents/{names,loose,files,map,entries,links,sections,cited,twice,counts})
 cat "${parts[@]}" >&2
 faults=$((faults + $(cat "${parts[@]}" | wc -l)))
 [ "$faults" -eq 0 ] || { echo "$faults faults in the documents" >&2; exit 1; }
