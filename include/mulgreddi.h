@@ -55,8 +55,8 @@ static inline int mulgreddi_version_serves(uint32_t version)
     return version / 1000000 == MULGREDDI_VERSION_MAJOR && version >= MULGREDDI_VERSION_NUMBER;
 }
 
-/* The answer of every function but mulgreddi_version and mulgreddi_stricter. refusal is 0 where the input was served; else it is the number of the first fault
- * (one of those below), and first and second are 0. A value that a function does not name is 0. */
+/* The answer of every function but mulgreddi_version and mulgreddi_stricter. refusal is 0 where the input was served; else it is the number
+ * of the first fault (one of those below), and first and second are 0. A value that a function does not name is 0. */
 typedef struct {
     uint64_t refusal, first, second;
 } mulgreddi_answer;
@@ -256,8 +256,8 @@ mulgreddi_answer mulgreddi_build_trimmed(const uint8_t *file, size_t file_len, u
 /* As mulgreddi_build, for the words that the rule rejects: the macrostates reached from those whose set lacks the initial state.
  * In this table a macrostate is initial if its set lacks the initial state and bits 40 to 47 are 0 (mulgreddi_code_initial_rejecting);
  * accepting is as before. Over every endless sequence of letters at most one run accepts, and if one does, the rule rejects the sequence;
- * over a lead-in and a cycle, one exactly if the rule does not accept the word. Every entry that takes a table (mulgreddi_judge_table, mulgreddi_write_hoa, the live calls) reads initial as in
- * the table of mulgreddi_build, so none of them is for this one.
+ * over a lead-in and a cycle, one exactly if the rule does not accept the word. Every entry that takes a table (mulgreddi_judge_table,
+ * mulgreddi_write_hoa, the calls that follow a log) reads initial as in the table of mulgreddi_build, so none of them is for this one.
  * Refused as mulgreddi_build, 17 and 18 by this table. */
 mulgreddi_answer mulgreddi_build_rejecting(const uint8_t *file, size_t file_len, uint64_t *codes, size_t codes_count,
                                            uint64_t *transitions, size_t transitions_count);
@@ -300,8 +300,8 @@ mulgreddi_comparison mulgreddi_stricter(const uint8_t *a, size_t a_len, const ui
  * (rejecting nodes + 2 * cycle_len) passes over the transitions, and as many again as there are nodes. Built tables take few: tenths of
  * a second at the caps. A table made to be slow is not refused. The slowest kind known: a chain of rejecting macrostates leads to a chain of
  * accepting ones and rejecting ones with a loop by turns, each of which stays over letter 0 and steps over 1, and the cycle is 31 times 0
- * and then 1. It takes seconds with 1,024 codes, half of them in the first chain, and grows with the third power (docs/SPEED.md); transitions
- * over further letters make every pass longer. Judge tables of strangers with a time limit of your own. */
+ * and then 1. It takes seconds with 1,024 codes, half of them in the first chain, and grows with the third power (docs/SPEED.md);
+ * transitions over further letters make every pass longer. Judge tables of strangers with a time limit of your own. */
 mulgreddi_answer mulgreddi_judge_table(const uint8_t *file, size_t file_len,
                                        const uint8_t *lead, size_t lead_len, const uint8_t *cycle, size_t cycle_len,
                                        const uint8_t *codes, size_t codes_bytes, const uint8_t *transitions, size_t transitions_bytes,
@@ -342,8 +342,8 @@ mulgreddi_answer mulgreddi_translate(const uint8_t *file, size_t file_len, const
  *
  * Every call but the start gets the rule, the table and the state of the call before it, all as they were; state may be copied elsewhere in
  * between. Then the set is the one worked out afresh over the letters held: it is empty exactly if no continuation of them, with a lead-in
- * and a cycle of any length, is accepted by the rule, and then no endless one whatever is. Of any other bytes in state and any other table that refusal 15 lets pass, a call
- * ends, stays inside its memory and does as told in docs/FORMAT.md.
+ * and a cycle of any length, is accepted by the rule, and then no endless one whatever is. Of any other bytes in state and any other table
+ * that refusal 15 lets pass, a call ends, stays inside its memory and does as told in docs/FORMAT.md.
  *
  * codes and transitions are bytes, as for mulgreddi_judge_table. state has MULGREDDI_LIVE_STATE bytes, of any content before a start. set
  * gets a byte for each macrostate, 1 in the set and 0 not; what it held before is not read. What follows in both slices is not touched.
@@ -378,8 +378,9 @@ mulgreddi_answer mulgreddi_live_return(const uint8_t *file, size_t file_len, uin
  * that is reached. Calls may be cut anywhere: two calls leave what one call over both parts leaves.
  *
  * With the rule, its table of mulgreddi_build_trimmed and the set of the call before, the set is the one worked out afresh over all letters
- * since the start: it is empty exactly if no continuation of them, with a lead-in and a cycle of any length, is accepted by the rule. Of any
- * other table that refusal 15 lets pass, and any bytes in set, it is the set stepped over the letters.
+ * since the start: it is empty exactly if no continuation of them, with a lead-in and a cycle of any length, is accepted by the rule, and
+ * then no endless one whatever is. Of any other table that refusal 15 lets pass, and any bytes in set, it is the set stepped over the
+ * letters.
  *
  * codes and transitions are bytes, as for mulgreddi_judge_table. What follows the macrostates in set is not touched.
  * first: macrostates left. second: after how many letters none was left for the first time, 0 if there was none to begin with; the number
