@@ -101,7 +101,7 @@ grep -oE '^(mulgreddi_[a-z]+|uint32_t) mulgreddi_[a-z_]+\(' include/mulgreddi.h 
     [ $shown = 1 ] || echo "README.md: no example of its row calls $entry"
 done > build/documents/entries
 # ---- links to files
-for t in "${texts[@]}" crates/README.md docs/EDITS.md second/README.md compare/README.md; do
+for t in "${texts[@]}" docs/CHANGELOG.md docs/history/*.md crates/README.md docs/EDITS.md second/README.md compare/README.md; do
     [ -f "$t" ] || continue
     { grep -oE '\]\([^)# ]+' "$t" || true; } | sed 's/^](//' | sort -u | while read -r link; do
         case $link in http*) ;; *) [ -e "$(dirname "$t")/$link" ] || echo "$t: no such link: $link" ;; esac
@@ -123,7 +123,7 @@ cites='((00[0-9]|paper)[^ ]*,? |[A-Z]{3,}(\.md)?[])A-Za-z.(/]*,? )?[Ss]ections? 
         numbered "$in" | grep -qxF -- "$n" || echo "$t: no such section of $in: $n"
     done
 done > build/documents/sections
-for t in "${texts[@]}" crates/README.md docs/EDITS.md second/README.md compare/README.md; do
+for t in "${texts[@]}" docs/CHANGELOG.md docs/history/*.md crates/README.md docs/EDITS.md second/README.md compare/README.md; do
     [ -f "$t" ] || continue
     { grep -oE '\]\([^) ]*#[^) ]+' "$t" || true; } | sed 's/^](//' | sort -u | while IFS='#' read -r link anchor; do
         case $link in http*) continue ;; esac
@@ -145,6 +145,7 @@ list='[0-9]+((, | and | or | to )[0-9]+)*'
     { grep -oE "$list" <<< "$cite" || true; } | sed 's/, \| and \| or \| to /\n/g' | sort -u | comm -23 - build/documents/decisions | sed "s,^,$t: no such decision: ,"
 done > build/documents/cited
 uniq -d build/documents/decisions | sed 's/^/docs\/DECISIONS.md: twice: /' > build/documents/twice
+awk '$1 + 0 < last + 0 { print "docs/DECISIONS.md: " $1 " stands behind " last } { last = $1 }' build/documents/numbers >> build/documents/twice
 # ---- counts: crates, edits, entries, the files and lines of the reading list
 crates=$(wc -l < build/documents/crates)
 edits=$(find crates -path '*/must-fail/*.edit' | wc -l)
