@@ -90,6 +90,36 @@ awk -F' [|] ' '
             if (!index(found, name)) print FILENAME ":" FNR ": " name " is in none of these files: " $3
         }
     }' docs/PROOF.md > build/documents/map
+# ---- theorems with their file in parentheses, "(`one-parent`, OneParent)" or "(Pursuit, `unique`)": some file of that name has each
+find crates -path '*/specs/*.antt' -o -path '*/proofs/*.antt' | awk '
+    function words_of(file,    line, all, i, m, at) {
+        if (file in known) return known[file]
+        all = " "
+        m = split(paths[file], at, " ")
+        for (i = 1; i <= m; i++) { while ((getline line < at[i]) > 0) { sub(/--.*/, "", line); gsub(/[^A-Za-z0-9_-]+/, " ", line); all = all line " " } close(at[i]) }
+        return known[file] = all
+    }
+    NR == FNR { name = $0; sub(/.*\//, "", name); sub(/\.antt$/, "", name); paths[name] = paths[name] " " $0; next }
+    {
+        rest = $0
+        while (match(rest, /\([^()]*\)/)) {
+            group = substr(rest, RSTART + 1, RLENGTH - 2); rest = substr(rest, RSTART + RLENGTH)
+            parts = split(group, part, ";")
+            for (p = 1; p <= parts; p++) {
+                if (part[p] ~ /[a-z0-9_]\/(specs|proofs)/) continue
+                all = ""; files = ""; pieces = split(part[p], piece, "`")
+                for (i = 1; i <= pieces; i += 2) {
+                    m = split(piece[i], word, /[ ,]+/)
+                    for (j = 1; j <= m; j++) if (word[j] in paths) { files = files " " word[j]; all = all words_of(word[j]) }
+                }
+                if (all == "") continue
+                for (i = 2; i <= pieces; i += 2) {
+                    name = piece[i]; sub(/.*\./, "", name); gsub(/[^A-Za-z0-9_-]+/, " ", name); sub(/ $/, "", name)
+                    if (name !~ / / && !index(all, " " name " ")) print FILENAME ":" FNR ": `" piece[i] "` is not in" files
+                }
+            }
+        }
+    }' - docs/HOW.md docs/PROOF.md docs/DECISIONS.md > build/documents/theorems
 # ---- README's table of the C entries: every entry stands there, and an example of its row calls it
 grep -oE '^(mulgreddi_[a-z]+|uint32_t) mulgreddi_[a-z_]+\(' include/mulgreddi.h | sed 's/.* //; s/(//' | while read -r entry; do
     row=$(grep -E "^\| .*\`(mulgreddi)?${entry#mulgreddi}\`.* \|.* \|.* \|$" README.md | head -1 || true)
@@ -185,7 +215,7 @@ entries=$(grep -cE '^(mulgreddi_[a-z]+|uint32_t) mulgreddi_[a-z_]+\(' include/mu
     said="$files files, $(printf "%'d" $lines) lines, of which $(printf "%'d" $told) are neither blank nor"
     LC_ALL=C grep -qF "$(echo "$said" | sed ':a;s/\B[0-9]\{3\}\b/,&/;ta')" docs/PROOF.md || echo "docs/PROOF.md: the reading list has $said \`use\`"
 } > build/documents/counts
-parts=(build/documents/{names,loose,files,map,entries,links,sections,cited,twice,counts})
+parts=(build/documents/{names,loose,files,map,theorems,entries,links,sections,cited,twice,counts})
 cat "${parts[@]}" >&2
 faults=$((faults + $(cat "${parts[@]}" | wc -l)))
 [ "$faults" -eq 0 ] || { echo "$faults faults in the documents" >&2; exit 1; }
