@@ -170,6 +170,8 @@ list='[0-9]+((, | and | or | to )[0-9]+)*'
     git ls-files -- '*.antt' '*.rt' '*.[ch]' '*.rs' '*.sh' '*.py' Makefile '*.md' '*.txt' | { grep -vxE 'docs/0[12]-.*|tests/documents.sh' || true; } |
         xargs grep -HoE "DECISIONS(\.md)?[])A-Za-z.(/]*,? (points? )?$list|[Dd]ecisions? $list|\b$list of \[?(docs/)?DECISIONS" || true
     grep -HoE "(\bsee|[Pp]oints?) $list" docs/DECISIONS.md || true
+    # a point "**Title** (33)" of HOW or SPEED
+    { grep -HoE "^- \*\*[^*]*\*\* \($list\)" docs/HOW.md docs/SPEED.md || true; } | sed 's/:.*\*\* /:/'
     sed -nE 's/^\| (01|M-[0-9]+|[0-9]+) \| ([0-9][0-9, to]*) \|$/docs\/DECISIONS.md:\2/p' docs/DECISIONS.md
 } | sort -u | while IFS=: read -r t cite; do
     { grep -oE "$list" <<< "$cite" || true; } | sed 's/, \| and \| or \| to /\n/g' | sort -u | comm -23 - build/documents/decisions | sed "s,^,$t: no such decision: ,"
