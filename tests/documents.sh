@@ -161,6 +161,13 @@ for t in "${texts[@]}" docs/CHANGELOG.md docs/history/*.md crates/README.md docs
         { [ -f "$at" ] && anchors "$at" | grep -qxF -- "$anchor"; } || echo "$t: no such heading: $link#$anchor"
     done
 done >> build/documents/sections
+# ---- headings that are cited by their words: docs/FORMAT.md, "A rule as text"
+git ls-files -- '*.antt' '*.rt' '*.[ch]' '*.rs' '*.sh' '*.py' Makefile '*.md' '*.txt' | { grep -vxE 'docs/0[12]-.*|tests/documents.sh' || true; } |
+    { xargs grep -HoE '\b[A-Z]{3,}\.md\)?, \\?"[^"\\]+' || true; } | sort -u | while IFS=: read -r t cite; do
+    of=${cite%%.md*} title=${cite#*\"}
+    in=docs/$of.md; [ "$of" != README ] || in=README.md
+    grep -qE "^#+ ([0-9]+\. )?${title//./\\.}\$" "$in" || echo "$t: no such heading of $in: $title"
+done >> build/documents/sections
 # ---- decisions that are cited
 sed -n 's/^- \*\*\([0-9]*\)\..*/\1/p' docs/DECISIONS.md > build/documents/numbers
 sort build/documents/numbers > build/documents/decisions
