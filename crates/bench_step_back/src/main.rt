@@ -1,4 +1,7 @@
 // Steps back over every letter from every core of the rule on standard input, again and again, so that a driver can time it.
+
+#![tactic(auto)]
+
 ghost use Rattle.std.specs.Prelude.{◌≡◌};
 ghost use Rattle.theory.specs.Rule.{Rule};
 ghost use Rattle.file_spec.specs.Reading.{read_of};
@@ -17,7 +20,7 @@ use std::num::wrapping_add_u64;
 const ENOUGH: u64 = 1000000;
 
 // How many cores the last round met, how many steps all did, and the sum of what they gave, modulo 2 to the power 64.
-#[derive(Drop)]
+#[derive(Clone, Copy)]
 struct Tally {
     cores: u64,
     steps: u64,

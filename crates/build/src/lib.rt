@@ -1,5 +1,8 @@
 // The build, which the library is for: it makes the unambiguous automaton of a rule, its reachable macrostates and the transitions between
 // them, as two ascending lists in two lent slices.
+
+#![tactic(auto)]
+
 ghost use Rattle.std.specs.Prelude.{◌≡◌, true};
 ghost use Rattle.theory.specs.Rule.{Rule};
 ghost use Rattle.theory.specs.TableComputed.{macrostates_from, transitions_from};
@@ -16,14 +19,14 @@ use build_spec::Shape;
 use file_spec::{Layout, Read};
 
 // How many macrostates and transitions a built table has.
-#[derive(Drop)]
+#[derive(Clone, Copy)]
 pub struct Counts {
     pub macrostates: usize,
     pub transitions: usize,
 }
 
 // The answer of the build: the counts of the table, or the number of the first row that refuses.
-#[derive(Drop)]
+#[derive(Clone, Copy)]
 pub enum Built {
     Table(Counts),
     Refused(u8),

@@ -1,5 +1,8 @@
 // Chains through a list of keys in a lent slice: the keys of a core stand in one chain. So whether a key is listed, and which keys a core
 // has, is found without a pass over the list.
+
+#![tactic(auto)]
+
 ghost use Rattle.std.specs.Prelude.{◌≡◌, true, false, ◌+◌, ◌*◌, ◌/◌, ◌%◌, ◌^◌, ◌<◌, length, get_or, set};
 ghost use Rattle.build_spec.specs.Chains.{bucket_of, Found, Before, Chained};
 ghost use Rattle.build_spec.specs.Growth.{Grown};

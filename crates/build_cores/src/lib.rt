@@ -1,5 +1,8 @@
 // Cores as vectors of eight ranks, four bits each (the set of a core follows from its ranks); which states are open before a set; and how
 // the component and the classes left go on over one step.
+
+#![tactic(auto)]
+
 pub mod breakpoint;
 pub mod opens;
 

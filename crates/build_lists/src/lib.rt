@@ -1,5 +1,8 @@
 // The tables of a rule by which the build and the comparison go, made once, and the two lists of the build, each in a lent slice with zeros
 // after it. A list tells whether it has room: the build answers 17 or 18 by it.
+
+#![tactic(auto)]
+
 pub mod prepare;
 
 ghost use Rattle.std.specs.Prelude.{◌≡◌};

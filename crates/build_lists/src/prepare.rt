@@ -11,7 +11,7 @@ use build_spec::Shape;
 use file_spec::Layout;
 
 // The numbers of a rule and the masks of its components.
-#[derive(Drop)]
+#[derive(Clone, Copy)]
 pub struct Prepared {
     pub shape: Shape,
     pub parts: [u8; 8],

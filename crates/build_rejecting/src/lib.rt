@@ -1,5 +1,8 @@
 // The build of the words that a rule rejects: macrostates and steps are those of the rule itself, and runs begin where the set lacks the
 // initial state. So no rule has to be complemented.
+
+#![tactic(auto)]
+
 ghost use Rattle.std.specs.Prelude.{◌≡◌};
 ghost use Rattle.build_rejecting.specs.Entry.{RejectingBuilt};
 

@@ -1,5 +1,8 @@
 // The step back over one letter: a core has one earlier core, so the build goes back from each core. By Definition 7 of source 000 it takes
 // rejecting components (R1'), then accepting ones (R2'), and leaves the earlier core and the levels of its classes.
+
+#![tactic(auto)]
+
 ghost use Rattle.std.specs.Prelude.{◌≡◌, ℕ, ◌+◌, ◌*◌, ◌^◌, ◌<◌, ◌≤◌, length, get_or};
 ghost use Rattle.std.specs.Int.Bits.{bit_xor};
 ghost use Rattle.build_step_back.specs.Step.{Rising, Stepped, rejecting_part, accepting_part, part_of, BackOf, Back};
@@ -8,7 +11,7 @@ ghost use Rattle.build_step_back.specs.Step.{Rising, Stepped, rejecting_part, ac
 const ONES: u64 = 0x1111_1111_1111_1110;
 
 // Ranks and levels of one component.
-#[derive(Drop)]
+#[derive(Clone, Copy)]
 pub struct Step {
     pub ranks: u32,
     pub levels: u64,
@@ -150,7 +153,7 @@ pub fn step_accepting(
 }
 
 // Ranks of the earlier core, and in place c the levels of component c.
-#[derive(Drop)]
+#[derive(Clone, Copy)]
 pub struct Earlier {
     pub ranks: u64,
     pub levels: [u64; 8],

@@ -1,5 +1,8 @@
 // The trimmed build: a table with the same accepting runs, in which only the reachable macrostates that matter are left, in two lent slices
 // and no memory beside them.
+
+#![tactic(auto)]
+
 ghost use Rattle.std.specs.Prelude.{◌≡◌};
 ghost use Rattle.build_trimmed.specs.Trimming.{Trimmable, Trimming};
 ghost use Rattle.build_trimmed.specs.Entry.{TrimmedBuilt};

@@ -17,7 +17,7 @@ use build_spec::{Grow, Shape};
 use codes::{CODE_BITS, CODE_MASK};
 
 // A step over a letter from the earlier core to the core of these ranks. Cores are given by their numbers.
-#[derive(Drop)]
+#[derive(Clone, Copy)]
 pub struct CoreStep {
     pub earlier: u64,
     pub core: u64,
@@ -130,14 +130,14 @@ pub fn wide(x: u32) -> usize
 }
 
 // A letter, to step back over it from the core of these ranks.
-#[derive(Drop)]
+#[derive(Clone, Copy)]
 pub struct LetterBack {
     pub ranks: u64,
     pub letter: usize,
 }
 
 // The numbers of the earlier core and of the core, and the levels with which pairs go on from one to the other.
-#[derive(Drop)]
+#[derive(Clone, Copy)]
 pub struct StepCores {
     pub earlier: u64,
     pub core: u64,

@@ -28,7 +28,7 @@ fn open_parts(parts: &[u8; 8], x: u8) -> [u8; 8]
 }
 
 // The cores of a set have vectors base + d, each rank of d at most that of caps.
-#[derive(Drop)]
+#[derive(Clone, Copy)]
 struct Span {
     base: u64,
     caps: u64,

@@ -1,5 +1,8 @@
 // Runs the library's entries on the calls of standard input. Prints for each its name, what the lent slices hold afterwards or the preface,
 // and the answer as three numbers: the row that refuses, or 0, and two values. The second program wrote the calls and what must be printed.
+
+#![tactic(auto)]
+
 mod text;
 
 use crate::text::{byte, lent_bytes, lent_numbers, part, say, say_answer, say_bytes, say_numbers};

@@ -1,4 +1,7 @@
 // A macrostate as a 64-bit number, and packed transitions: so a table is two lists of numbers, which can be lent, sorted and stored.
+
+#![tactic(auto)]
+
 ghost use Rattle.std.specs.Prelude.{◌≡◌, ◌&&◌, ◌+◌, ◌≤◌, ◌<◌, eqb, length};
 ghost use Rattle.sets.specs.Masks.{bit};
 ghost use Rattle.theory.specs.Code.{component_in, classes_in};

@@ -1,8 +1,10 @@
 // What the translation of a log promises: which line of an event table holds an event, the rows that refuse, and the letters of a log.
 // Definitions, with worked tables and logs.
 
+#![tactic(auto)]
+
 // The answer: how many letters were written, or the number of the row that refuses.
-#[derive(Drop)]
+#[derive(Clone, Copy)]
 pub enum Translated {
     Letters(usize),
     Refused(u8),

@@ -1,5 +1,8 @@
 // Rows 25 and 26: an event table with a line at fault, or with one that earlier lines cover. Masks of its lines for each kind and each
 // drive tell the first line of an event without a pass over the table.
+
+#![tactic(auto)]
+
 ghost use Rattle.std.specs.Prelude.{◌≡◌, List, ℕ, ◌+◌, ◌*◌, ◌^◌, ◌<◌, ◌≤◌, eqb, length, get_or};
 ghost use Rattle.std.specs.Int.Bits.{bit_and};
 ghost use Rattle.std.specs.Int.Count.{count_trailing_zeros};

@@ -1,4 +1,7 @@
 // The translation of a log into letters by an event table: events in no line, and the letters.
+
+#![tactic(auto)]
+
 pub mod log;
 
 ghost use Rattle.std.specs.Prelude.{◌≡◌, length};

@@ -1,4 +1,7 @@
 // Row 20: an entry with a clause that contains another of its clauses. Such a clause adds nothing, but can glue components together.
+
+#![tactic(auto)]
+
 ghost use Rattle.std.specs.Prelude.{◌≡◌, ◌<◌, length};
 ghost use Rattle.sets.specs.Tests.{some_below};
 ghost use Rattle.refusals.specs.Rows.{first_row};

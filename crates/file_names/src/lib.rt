@@ -1,5 +1,8 @@
 // Names for letters, which a file may carry in its preface: where they stand, and the rows 21 to 23 that try them, so that names can be
 // printed and tell letters apart.
+
+#![tactic(auto)]
+
 ghost use Rattle.std.specs.Prelude.{◌≡◌, false, ◌&&◌, ◌||◌, not, ◌+◌, ◌-◌, ◌*◌, ◌≤◌, length, ltb, eqb};
 ghost use Rattle.sets.specs.Tests.{some_below};
 ghost use Rattle.sets.specs.Lists.{any_of};

@@ -1,5 +1,8 @@
 // The reader of rule files. It tries all rows of the rule's group in order, so that the code behind it may count on a rule that passes
 // every check; and it finds the preface.
+
+#![tactic(auto)]
+
 ghost use Rattle.std.specs.Prelude.{◌≡◌, ◌+◌, ◌-◌, ◌≤◌, length};
 ghost use Rattle.refusals.specs.Rows.{first_row};
 ghost use Rattle.theory.specs.Passing.{WellFormed};

@@ -1,8 +1,11 @@
 // What a rule file is, and which row refuses what is none: definitions and laws of its parts and of the rows that try them.
+
+#![tactic(auto)]
+
 use rule_entries::Head;
 
 // Where a file's parts stand: its numbers, the place of its first clause, and how many clauses it has.
-#[derive(Drop)]
+#[derive(Clone, Copy)]
 pub struct Parts {
     pub head: Head,
     pub at: usize,
@@ -10,7 +13,7 @@ pub struct Parts {
 }
 
 // Where the rule of an accepted file stands: its parts, and how many bytes of names end two bytes before its first clause.
-#[derive(Drop)]
+#[derive(Clone, Copy)]
 pub struct Layout {
     pub head: Head,
     pub at: usize,
@@ -19,7 +22,7 @@ pub struct Layout {
 }
 
 // The answer of the reader: the layout of an accepted file, or the number of the first row that refuses it.
-#[derive(Drop)]
+#[derive(Clone, Copy)]
 pub enum Read {
     Accepted(Layout),
     Refused(u8),

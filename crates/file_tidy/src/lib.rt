@@ -1,5 +1,8 @@
 // The tidy tool: writes the file of a rule without the clauses that contain others. Of a file that row 20 alone refuses it makes one that
 // is accepted.
+
+#![tactic(auto)]
+
 ghost use Rattle.std.specs.Prelude.{◌≡◌, ◌++◌, ◌+◌, ◌-◌, ◌≤◌, length};
 ghost use Rattle.refusals.specs.Rows.{first_row};
 ghost use Rattle.theory.specs.Passing.{WellFormed};

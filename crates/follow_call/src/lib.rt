@@ -1,5 +1,8 @@
 // The two calls that follow a log without end, so that a log may have any number of letters: the start, and the letters since. The rows are
 // tried before the set is written, so that a refused call changes nothing.
+
+#![tactic(auto)]
+
 ghost use Rattle.std.specs.Prelude.{◌≡◌, [], ◌++◌, ◌≤◌, ◌<◌, length, drop};
 ghost use Rattle.sets.specs.Lists.{Ascending};
 ghost use Rattle.refusals.specs.Rows.{first_row};

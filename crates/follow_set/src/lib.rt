@@ -1,5 +1,8 @@
 // The set taken over letters in place, without memory beside it: the transitions of a macrostate in the set are found by search, and where
 // the set's bytes are 0 they are passed over eight at a time. So a letter costs what the set has, not what the table has.
+
+#![tactic(auto)]
+
 ghost use Rattle.std.specs.Prelude.{◌≡◌, List, map, ℕ, ◌+◌, ◌/◌, ◌≤◌, ◌<◌, length, get_or};
 ghost use Rattle.sets.specs.Lists.{Ascending};
 ghost use Rattle.trim_spec.specs.Graph.{Inside};

@@ -1,5 +1,8 @@
 // The reader of a table's text. It goes over the text twice, so that a refusal leaves the slices as lent: once to see that it is a table's
 // and what room it takes, and once to store flags and transitions.
+
+#![tactic(auto)]
+
 ghost use Rattle.std.specs.Prelude.{◌-◌, ◌≡◌, length, get_or};
 ghost use Rattle.hoa_spec.specs.Reading.{ReadBack};
 ghost use Rattle.hoa_laws.specs.Took.{Ended};
@@ -11,7 +14,7 @@ use hoa_spec::{HoaRead, TableSizes};
 
 // The lines before those of the macrostates: how many macrostates and propositions there are, one more than the highest number with a
 // start line, where the start lines begin, and where the lines of the macrostates do, or 0.
-#[derive(Drop)]
+#[derive(Clone, Copy)]
 struct Head {
     macrostates: usize,
     propositions: usize,
@@ -22,7 +25,7 @@ struct Head {
 
 // The whole text: how many macrostates, propositions, accepting macrostates and transitions there are, where the start lines begin and
 // where the lines of the macrostates do, and where the text ends, or 0.
-#[derive(Drop)]
+#[derive(Clone, Copy)]
 struct Survey {
     macrostates: usize,
     propositions: usize,

@@ -1,5 +1,8 @@
 // The lines of a table's text and its parts, read from a slice; flags and transitions are stored as far as there is room for them. Place 0
 // says that the text does not go on so.
+
+#![tactic(auto)]
+
 pub mod lines;
 
 ghost use Rattle.std.specs.Prelude.{◌+◌, ◌<◌, ◌≤◌, ◌≡◌, cond, ltb, length, set};
@@ -10,21 +13,21 @@ ghost use Rattle.hoa_laws.specs.Parts.{Started, TookEdges, Onward, TookBlocks};
 use crate::lines::{Number, nothing, take_edge, take_start, take_state};
 
 // One more than the highest number with a start line, 0 if there is none, and the place after the start lines.
-#[derive(Drop)]
+#[derive(Clone, Copy)]
 pub struct Starts {
     pub last: usize,
     pub end: usize,
 }
 
 // How many transitions were read, and the place after their lines.
-#[derive(Drop)]
+#[derive(Clone, Copy)]
 pub struct Edges {
     pub count: usize,
     pub end: usize,
 }
 
 // How many macrostates are accepting, how many transitions there are, and the place after their lines.
-#[derive(Drop)]
+#[derive(Clone, Copy)]
 pub struct Blocks {
     pub accepting: usize,
     pub count: usize,

@@ -8,7 +8,7 @@ ghost use Rattle.hoa_spec.specs.Text.{edge_of};
 ghost use Rattle.hoa_laws.specs.Took.{Ended, Took, TookOne, TookDigits, TookWord, Leaves};
 
 // A number, and the place after it.
-#[derive(Drop)]
+#[derive(Clone, Copy)]
 pub struct Number {
     pub value: usize,
     pub end: usize,

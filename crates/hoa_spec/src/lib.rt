@@ -1,15 +1,17 @@
 // The text of a table in the Hanoi Omega-Automata format, version 1, and its reading: what is written, refused, answered and stored.
 // Definitions, and the type of the reader's answer.
 
+#![tactic(auto)]
+
 // How many macrostates and transitions the table has.
-#[derive(Drop)]
+#[derive(Clone, Copy)]
 pub struct TableSizes {
     pub macrostates: usize,
     pub transitions: usize,
 }
 
 // The answer of the reader: both numbers, or the number of the row that refuses.
-#[derive(Drop)]
+#[derive(Clone, Copy)]
 pub enum HoaRead {
     Table(TableSizes),
     Refused(u8),

@@ -1,4 +1,7 @@
 // The writer of a table's text in the Hanoi Omega-Automata format, version 1, by which a built automaton goes to other tools.
+
+#![tactic(auto)]
+
 ghost use Rattle.std.specs.Prelude.{◌≡◌, ◌<◌, ◌≤◌, leb, length};
 ghost use Rattle.listing_lines_spec.specs.Lines.{initial_at};
 ghost use Rattle.table_lent.specs.Lent.{words_in, in_bytes_lem};

@@ -1,4 +1,7 @@
 // The judge of words on a rule: whether the rule accepts a word, told from the rule itself, without a build.
+
+#![tactic(auto)]
+
 ghost use Rattle.theory.specs.Passing.{Passing};
 ghost use Rattle.rule_entries.specs.Entries.{rule_of};
 ghost use Rattle.judge_spec.specs.Judge.{JudgeCalled, Judged};

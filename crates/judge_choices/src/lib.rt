@@ -1,5 +1,8 @@
 // The judge of words on a rule that shows which clause carried the verdict of each state at each place, so that one can follow why a word
 // is accepted.
+
+#![tactic(auto)]
+
 ghost use Rattle.std.specs.Prelude.{◌≡◌, ◌++◌, ◌*◌, ◌≤◌, length, drop};
 ghost use Rattle.theory.specs.Passing.{Passing};
 ghost use Rattle.theory.specs.Word.{WordOver, places};

@@ -1,5 +1,8 @@
 // The choices of a word: those of accepting states at once, those of rejecting ones by rounds, since their clause has to lead nearer to
 // where the component is left.
+
+#![tactic(auto)]
+
 ghost use Rattle.std.specs.Prelude.{◌≡◌, ◌++◌, ◌*◌, ◌≤◌, length, drop};
 ghost use Rattle.theory.specs.Word.{places};
 ghost use Rattle.rule_entries.specs.Entries.{rule_of};

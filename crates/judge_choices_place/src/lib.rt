@@ -1,5 +1,8 @@
 // The laws of the choices of a word, and the states of one place, each tried against its entry: the step that the choices of accepting and
 // of rejecting states share.
+
+#![tactic(auto)]
+
 ghost use Rattle.std.specs.Prelude.{◌≡◌, ◌+◌, ◌^◌, ◌≤◌, ◌<◌, length};
 ghost use Rattle.theory.specs.Rule.{entry};
 ghost use Rattle.theory.specs.Passing.{WellFormed};
@@ -14,7 +17,7 @@ use rule_entries::{Head, Met, met_at};
 use set_masks::difference;
 
 // The numbers of a rule and, for each of its states, the mask of its component.
-#[derive(Drop)]
+#[derive(Clone, Copy)]
 pub struct Partition {
     pub head: Head,
     pub classes: [u8; 8],

@@ -1,5 +1,8 @@
 // The choices of the rejecting states. Within the component their clause has to lead to smaller distances, and rounds count these: round d
 // finds the states of distance d.
+
+#![tactic(auto)]
+
 ghost use Rattle.std.specs.Prelude.{◌≡◌, false, ◌&&◌, ◌||◌, not, List, ℕ, ◌+◌, ◌*◌, ◌^◌, ◌≤◌, ◌<◌, eqb, length, get_or};
 ghost use Rattle.sets.specs.Masks.{bit};
 ghost use Rattle.theory.specs.Word.{places, next_place_lem};

@@ -1,1 +1,3 @@
 // What it means that a clause carries the verdict of a state at a place: definitions, with worked rules.
+
+#![tactic(auto)]

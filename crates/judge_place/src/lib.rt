@@ -1,5 +1,8 @@
 // What one step knows of a state at a place of a word: whether its entry is satisfied by the masks of the place that follows. The rounds of
 // the judge are made of such steps.
+
+#![tactic(auto)]
+
 ghost use Rattle.std.specs.Prelude.{◌≡◌, not, ◌^◌, ◌≤◌, ◌<◌, eqb, length, get_or, set};
 ghost use Rattle.std.specs.Int.Count.{ones};
 ghost use Rattle.sets.specs.Masks.{bit, mask};

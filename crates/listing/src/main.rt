@@ -1,4 +1,7 @@
 // The listing program, by which a built automaton can be read: a rule file on standard input, its listing on standard output.
+
+#![tactic(auto)]
+
 use libc::{STDIN_FILENO, STDOUT_FILENO};
 use listing_text::LONGEST;
 

@@ -1,4 +1,7 @@
 // The text of a rule file's listing, and its lines.
+
+#![tactic(auto)]
+
 pub mod lines;
 
 ghost use Rattle.std.specs.Prelude.{◌≡◌, ◌++◌, ◌≤◌, ◌<◌, length, take, drop};

@@ -1,4 +1,7 @@
 // An arrival in which row 15 is tried on the transitions while the set is stepped, so that they are read twice and not four times.
+
+#![tactic(auto)]
+
 pub mod sweep;
 
 ghost use Rattle.std.specs.Prelude.{◌≡◌, true, ℕ, ◌+◌, ◌≤◌, ◌<◌, length, get_or};
@@ -13,7 +16,7 @@ use live_set::letters::{number_at, put_byte, put_number};
 use live_spec::LiveCall;
 
 // Whether the arrival was made, was refused by row 15, or was not tried.
-#[derive(Drop)]
+#[derive(Clone, Copy)]
 pub enum Quick {
     Served,
     Refused,

@@ -1,5 +1,8 @@
 // The five calls that follow a log live, so that after each letter it is known which macrostates the log leads to: start, arrival,
 // withdrawal, mark and return.
+
+#![tactic(auto)]
+
 ghost use Rattle.std.specs.Prelude.{◌≡◌, ◌+◌, ◌≤◌, ◌<◌, length};
 ghost use Rattle.table_lent.specs.Lent.{words_in, in_bytes_lem};
 ghost use Rattle.live_spec.specs.State.{set_at};

@@ -1,5 +1,8 @@
 // The rows of the five calls, behind those of the rule: 14, 15, 30 to 33, 16. They are tried before state is written, so that a refused
 // call changes nothing.
+
+#![tactic(auto)]
+
 ghost use Rattle.std.specs.Prelude.{◌≡◌, length};
 ghost use Rattle.refusals.specs.Rows.{first_row};
 ghost use Rattle.table_lent.specs.Lent.{in_bytes_lem};

@@ -1,5 +1,8 @@
 // The set that a live log is followed for: the macrostates of a table that letters lead to, a byte for each, 1 in the set, 0 not. The table
 // is read in place, 8 bytes a number.
+
+#![tactic(auto)]
+
 pub mod letters;
 
 ghost use Rattle.std.specs.Prelude.{◌≡◌, map, ℕ, ◌+◌, ◌/◌, ◌<◌, ◌≤◌, length, get_or};

@@ -1,8 +1,10 @@
 // What following a log live promises: the letters and marks that a history leaves, the set worked out afresh, the bytes of state, and what
 // each call refuses, answers and leaves; no code but the types of a call and its answer.
 
+#![tactic(auto)]
+
 // The five calls, with a letter or the number of a mark.
-#[derive(Drop)]
+#[derive(Clone, Copy)]
 pub enum LiveCall {
     Start,
     Arrive(u32),
@@ -12,14 +14,14 @@ pub enum LiveCall {
 }
 
 // How many letters are held, and how many macrostates are in the set.
-#[derive(Drop)]
+#[derive(Clone, Copy)]
 pub struct LiveCounts {
     pub letters: usize,
     pub macrostates: usize,
 }
 
 // The answer of each of the five calls.
-#[derive(Drop)]
+#[derive(Clone, Copy)]
 pub enum LiveAnswer {
     Live(LiveCounts),
     Refused(u8),

@@ -1,4 +1,7 @@
 // The report of the shortest mixed loop of a rule file, for an author whose rule is refused by row 11.
+
+#![tactic(auto)]
+
 ghost use Rattle.std.specs.Prelude.{◌≡◌, length, take};
 ghost use Rattle.refusals.specs.Rows.{first_row};
 ghost use Rattle.theory.specs.Passing.{WellFormed};

@@ -1,4 +1,7 @@
 // The search for the shortest mixed loop of a rule: from which states walks of some length lead to a state, the start, and the loop.
+
+#![tactic(auto)]
+
 pub mod ways;
 
 ghost use Rattle.std.specs.Prelude.{◌≡◌, true, false, ◌&&◌, ◌||◌, ◌++◌, suc, ◌+◌, ◌^◌, ◌≤◌, ◌<◌, length, drop};
@@ -11,7 +14,7 @@ use crate::ways::{further_from, others_of, ways_to};
 use set_masks::contains;
 
 // Where a shortest mixed loop begins, and how many states it has after the first.
-#[derive(Drop)]
+#[derive(Clone, Copy)]
 pub struct Start {
     pub at: usize,
     pub further: usize,

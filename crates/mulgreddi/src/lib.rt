@@ -1,5 +1,8 @@
 // The C interface, by which programs in other languages call the library: every public entry, its answer as numbers. include/mulgreddi.h
 // declares and documents it.
+
+#![tactic(auto)]
+
 pub mod choices;
 pub mod event;
 pub mod follow;

@@ -1,11 +1,14 @@
 // The three numbers of an answer of the C interface, which has no variants that carry values, and what they are for each case of an entry's
 // answer (specs/Answers).
+
+#![tactic(auto)]
+
 ghost use Rattle.std.specs.Prelude.{◌≡◌};
 ghost use Rattle.mulgreddi_answers.specs.Answers.{refused_as, served_as};
 
 // refusal is 0 where the input was served; else first and second are 0.
 #[repr(C)]
-#[derive(Drop)]
+#[derive(Clone, Copy)]
 pub struct Answer {
     pub refusal: u64,
     pub first: u64,

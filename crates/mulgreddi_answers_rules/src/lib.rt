@@ -1,4 +1,7 @@
 // The answers on rules as the three numbers of the C interface: checked, written and tidied files, mixed loops, sameness.
+
+#![tactic(auto)]
+
 ghost use Rattle.std.specs.Prelude.{◌≡◌};
 ghost use Rattle.mulgreddi_answers.specs.Answers.{served_as, written_answer, tidied_answer, loop_answer, same_rules_answer};
 

@@ -1,4 +1,7 @@
 // The answer of the comparison of two rules as the eight numbers of the C interface.
+
+#![tactic(auto)]
+
 ghost use Rattle.std.specs.Prelude.{◌≡◌};
 ghost use Rattle.mulgreddi_answers_stricter.specs.Answers.{told_as, comparison_answer};
 
@@ -6,7 +9,7 @@ use stricter_entry_spec::{BothCounts, Comparison};
 
 // refusal is 0 where the input was served; else all that follows is 0.
 #[repr(C)]
-#[derive(Drop)]
+#[derive(Clone, Copy)]
 pub struct Numbers {
     pub refusal: u64,
     pub stricter: u64,

@@ -1,5 +1,8 @@
 // The answers on tables and logs as the three numbers of the C interface: builds, the judge on a table, texts read back, translated logs,
 // live logs and logs without end.
+
+#![tactic(auto)]
+
 ghost use Rattle.std.specs.Prelude.{◌≡◌};
 ghost use Rattle.mulgreddi_answers.specs.Answers.{built_answer, follow_answer, hoa_read_answer, live_answer, start_answer, translated_answer};
 

@@ -1,4 +1,7 @@
 // The answers on words as the three numbers of the C interface: sameness, tidy spellings, verdicts, sheets.
+
+#![tactic(auto)]
+
 ghost use Rattle.std.specs.Prelude.{◌≡◌};
 ghost use Rattle.mulgreddi_answers.specs.Answers.{same_words_answer, tidy_word_answer, verdict_answer, sheet_answer};
 

@@ -1,5 +1,7 @@
 // Tables of refusals: rows tried in order, the number of the first that applies. Entries state by such tables what they refuse.
 
+#![tactic(auto)]
+
 // The rows by the names that include/mulgreddi.h gives them.
 // Row 1: file under 8 bytes.
 pub const SHORT_FILE: u8 = 1;

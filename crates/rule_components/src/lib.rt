@@ -1,5 +1,8 @@
 // The components of a rule: the classes of states that lead to each other. Row 11 asks that none is mixed, and the build ranks the states
 // of each apart.
+
+#![tactic(auto)]
+
 ghost use Rattle.std.specs.Prelude.{◌≡◌, ◌&&◌, not, ◌≤◌, ◌<◌, get_or};
 ghost use Rattle.sets.specs.Tests.{some_below};
 ghost use Rattle.sets.specs.Masks.{bit, mask};
@@ -12,7 +15,7 @@ use rule_entries::Head;
 use rule_reach::closures;
 
 // The components of a rule: for each component number the mask of its states, and how many components there are.
-#[derive(Drop)]
+#[derive(Clone, Copy)]
 pub struct Components {
     pub masks: [u8; 8],
     pub count: usize,

@@ -1,5 +1,8 @@
 // The entries of a rule on lent slices: where the clauses of an entry stand, and the first of them that a set meets. Builds and judges ask
 // here whether a set satisfies an entry.
+
+#![tactic(auto)]
+
 ghost use Rattle.std.specs.Prelude.{◌≡◌, ◌≤◌, ◌<◌, length, take};
 ghost use Rattle.sets.specs.Masks.{bit, mask};
 ghost use Rattle.sets.specs.Lists.{sum};
@@ -11,7 +14,7 @@ ghost use Rattle.rule_entries.specs.Met.{met_of};
 ghost use Rattle.rule_entries.specs.Starts.{EntryStarts};
 
 // The numbers of a rule; its counts and clauses are lent beside them.
-#[derive(Drop)]
+#[derive(Clone, Copy)]
 pub struct Head {
     pub n: usize,
     pub s: usize,
@@ -20,7 +23,7 @@ pub struct Head {
 }
 
 // The clause that a set meets.
-#[derive(Drop)]
+#[derive(Clone, Copy)]
 pub enum Met {
     Clause(usize),
     Nothing,

@@ -1,4 +1,7 @@
 // What the states of a rule lead to, in one step and in any number: components, and the order in which they are judged, come from it.
+
+#![tactic(auto)]
+
 ghost use Rattle.std.specs.Prelude.{◌≡◌, ◌<◌};
 ghost use Rattle.sets.specs.Masks.{mask};
 ghost use Rattle.theory.specs.Passing.{WellFormed};

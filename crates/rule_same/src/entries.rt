@@ -10,7 +10,7 @@ ghost use Rattle.rule_same.specs.Same.{same_entry_lem, same_entries_lem};
 
 use rule_entries::{Head, Met};
 
-#[derive(Drop)]
+#[derive(Clone, Copy)]
 pub enum SameRules {
     Same,
     Different,

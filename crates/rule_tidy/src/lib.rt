@@ -1,4 +1,7 @@
 // Tidying a rule: of each entry the clauses that properly contain no other stay, each once. The entry is satisfied by the same sets.
+
+#![tactic(auto)]
+
 ghost use Rattle.std.specs.Prelude.{◌≡◌, ◌≤◌, ◌<◌, length, take};
 ghost use Rattle.sets.specs.Lists.{any_of, sum};
 ghost use Rattle.theory.specs.Passing.{WellFormed};

@@ -1,4 +1,7 @@
 // Sets of states as masks: state q has weight 2 to the power q. A rule has at most 8 states, so that a set is one byte.
+
+#![tactic(auto)]
+
 ghost use Rattle.std.specs.Prelude.{◌≡◌, ◌<◌, ◌≤◌};
 ghost use Rattle.sets.specs.Masks.{bit, members};
 ghost use Rattle.set_masks.specs.Sets.{difference_of, full_of, union_over_lem};

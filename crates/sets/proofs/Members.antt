@@ -197,6 +197,7 @@ rest-bit (suc n) m q p h = rest-digit n m q (m % 2) refl p (λ x k. rest-bit n (
 
 pub all-of-at : (ys : List ℕ) (f : Set) → all_of ys f ≡ true → (x : ℕ) → Memᴰ x ys → f x ≡ true
 unfolding all_of
+all-of-at [] f e x x4 = elim x4 [ ]
 all-of-at (y ∷ ys) f e x (Memᴰ.head p) = ap f p ∙ and_l (f y) (all_of ys f) e
 all-of-at (y ∷ ys) f e x (Memᴰ.tail k) = all-of-at ys f (and_r (f y) (all_of ys f) e) x k
 

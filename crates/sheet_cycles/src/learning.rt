@@ -28,14 +28,14 @@ pub fn find_cycle(sheet: &[u8], from: &[usize], size: &[usize], n: usize, cycle:
 }
 
 // The numbers of a rule and, for each of its states, the mask of the states that it reaches.
-#[derive(Drop)]
+#[derive(Clone, Copy)]
 pub struct Reachability {
     pub head: Head,
     pub reach: [u8; 8],
 }
 
 // A cycle to be learned: the sheet's part of size bytes from byte begin on; and how many cycles are known.
-#[derive(Drop)]
+#[derive(Clone, Copy)]
 pub struct Sought {
     pub begin: usize,
     pub size: usize,
@@ -43,7 +43,7 @@ pub struct Sought {
 }
 
 // The number of a known cycle, and how many are known.
-#[derive(Drop)]
+#[derive(Clone, Copy)]
 pub struct Learned {
     pub number: usize,
     pub cycles: usize,

@@ -1,4 +1,7 @@
 // The judge of a sheet of words on a rule: each word is answered as if alone, and a cycle that words share is filled once.
+
+#![tactic(auto)]
+
 ghost use Rattle.std.specs.Prelude.{◌*◌, ◌≤◌, length};
 ghost use Rattle.theory.specs.Passing.{Passing};
 ghost use Rattle.rule_entries.specs.Entries.{rule_of};

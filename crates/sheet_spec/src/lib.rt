@@ -1,14 +1,16 @@
 // What the judge of a sheet promises: what is refused, answered and written; no code but the answer's type.
 
+#![tactic(auto)]
+
 // How many words a sheet has, and how many cycles were filled.
-#[derive(Drop)]
+#[derive(Clone, Copy)]
 pub struct Totals {
     pub words: usize,
     pub cycles: usize,
 }
 
 // The answer of the judge of a sheet.
-#[derive(Drop)]
+#[derive(Clone, Copy)]
 pub enum SheetAnswer {
     Judged(Totals),
     Refused(u8),

@@ -1,4 +1,7 @@
 // One word of a sheet, judged by the masks of its tidy cycle, which a word before it may have filled.
+
+#![tactic(auto)]
+
 ghost use Rattle.std.specs.Prelude.{◌≡◌, ℕ, ◌<◌, length};
 ghost use Rattle.rule_entries.specs.Entries.{rule_of};
 ghost use Rattle.sheet_spec.specs.Words.{fault_of};
@@ -14,7 +17,7 @@ use word_spelling::{cycle_length, lead_length};
 
 // Where the tidy spelling of a word of a sheet stands: the lead-in begins at byte first, the cycle is the size bytes from byte begin on;
 // and how many places the word has.
-#[derive(Drop)]
+#[derive(Clone, Copy)]
 pub struct TidyPart {
     pub first: usize,
     pub begin: usize,
@@ -43,7 +46,7 @@ fn tidy_at(sheet: &[u8], at: usize) -> TidyPart
 }
 
 // The word to be judged, by where it begins; and how many cycles are known.
-#[derive(Drop)]
+#[derive(Clone, Copy)]
 pub struct WordAt {
     pub at: usize,
     pub cycles: usize,
@@ -101,7 +104,7 @@ fn serve_word(
 }
 
 // The answer byte of a word, and how many cycles are known after it.
-#[derive(Drop)]
+#[derive(Clone, Copy)]
 pub struct WordAnswer {
     pub answer: u8,
     pub cycles: usize,

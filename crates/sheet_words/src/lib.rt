@@ -1,4 +1,7 @@
 // The words of a sheet, found in its bytes: how many, where each begins, and the number of a faulty one, which does not refuse the others.
+
+#![tactic(auto)]
+
 ghost use Rattle.std.specs.Prelude.{◌≡◌, ◌<◌, length};
 ghost use Rattle.sheet_spec.specs.Words.{words_of, fault_of};
 ghost use Rattle.sheet_words.specs.Places.{word_from, Next};

@@ -1,5 +1,8 @@
 // Texts at a place of a lent slice, of which listings and texts for other tools are made: bytes, texts and numbers in decimal digits. Each
 // function answers the place after what it wrote.
+
+#![tactic(auto)]
+
 pub mod decimals;
 
 ghost use Rattle.std.specs.Prelude.{◌≡◌, ◌∷◌, [], ◌+◌, ◌≤◌, ◌<◌, length};

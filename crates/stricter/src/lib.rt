@@ -1,5 +1,8 @@
 // The comparison of two rules: is every word that rule A accepts accepted by rule B? By the tables of both: A's own, and that of the words
 // that B rejects.
+
+#![tactic(auto)]
+
 ghost use Rattle.std.specs.Prelude.{◌≡◌, true, false, ◌||◌, ltb, ◌*◌, ◌≤◌, length, replicate};
 ghost use Rattle.file_spec.specs.File.{rule_in};
 ghost use Rattle.file_spec.specs.Reading.{read_of};
@@ -14,7 +17,7 @@ use stricter_entry_spec::{BothCounts, Comparison};
 use stricter_spec::Found;
 
 // One of the two rules: where it stands in its file, and the counts of its table in the rooms, A's own or that of the words that B rejects.
-#[derive(Drop)]
+#[derive(Clone, Copy)]
 struct Side {
     layout: Layout,
     counts: Counts,

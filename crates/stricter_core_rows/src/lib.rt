@@ -1,4 +1,7 @@
 // The steps of a pair of cores, one of each of two tagged tables: whether a pair leads to one that has a mark.
+
+#![tactic(auto)]
+
 ghost use Rattle.std.specs.Prelude.{◌≡◌, cond, ℕ, ◌+◌, ◌*◌, ◌≤◌, ◌<◌, length, get_or};
 ghost use mathlib.Core.List.{Memᴰ};
 ghost use Rattle.theory.specs.Run.{letter_of_lem};
@@ -29,7 +32,7 @@ fn onto_of(t: u64) -> usize
 
 // What is asked of a step: it counts where it leads to a mark of 1 and spares component k, of B if `second`, else of A, or where it leads
 // to a mark of at least `other`.
-#[derive(Drop)]
+#[derive(Clone, Copy)]
 pub struct Asked {
     pub second: bool,
     pub k: u32,

@@ -1,5 +1,8 @@
 // Leaves those pairs of cores of two tagged tables from which both can accept: once pairs go out that lead to none that is in, then for
 // each component of either table those that cannot reach a step that spares it, until none goes out.
+
+#![tactic(auto)]
+
 ghost use Rattle.std.specs.Prelude.{◌≡◌, Bool, true, false, cond, ℕ, ◌+◌, ◌*◌, ◌≤◌, ◌<◌, length, get_or};
 ghost use mathlib.Core.List.{Memᴰ};
 ghost use Rattle.stricter_laws.specs.Pairs.{RowCut};

@@ -1,8 +1,11 @@
 // What the comparison of two rules answers and leaves, with worked rows.
+
+#![tactic(auto)]
+
 use build::Counts;
 
 // The counts of both tables: that of A, and that of the words that B rejects.
-#[derive(Drop)]
+#[derive(Clone, Copy)]
 pub struct BothCounts {
     pub a: Counts,
     pub b: Counts,
@@ -10,7 +13,7 @@ pub struct BothCounts {
 
 // The answer: yes, or no with the lengths of the lead-in and the cycle of a word that A accepts and B rejects, or the number of the first
 // row that refuses.
-#[derive(Drop)]
+#[derive(Clone, Copy)]
 pub enum Comparison {
     Yes(BothCounts),
     No(BothCounts, usize, usize),

@@ -1,5 +1,8 @@
 // The search for a word that two tables accept: the pairs from which both can, from the files of the rules, a start pair among them, and
 // the word.
+
+#![tactic(auto)]
+
 pub mod files;
 
 ghost use Rattle.std.specs.Prelude.{◌≡◌, not, ◌*◌, ◌≤◌, length, replicate};

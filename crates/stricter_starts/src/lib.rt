@@ -1,5 +1,8 @@
 // Start pairs, looked for among the pairs of cores of two tagged tables alone: a run begins where K and k are 0, and of the numbers of a
 // core that one is the first.
+
+#![tactic(auto)]
+
 ghost use Rattle.std.specs.Prelude.{◌≡◌, not, ◌&&◌, ◌+◌, ◌*◌, ◌<◌, length, get_or};
 ghost use Rattle.sets.specs.Masks.{bit};
 ghost use Rattle.theory.specs.Macrostate.{begun};

@@ -1,5 +1,8 @@
 // Tags put on a table and taken off again: in free bits they tell cores and spared components, which rounds over pairs of cores go by.
 // Numbers from which no accepting run goes on get no core, and take no part.
+
+#![tactic(auto)]
+
 ghost use Rattle.std.specs.Prelude.{◌≡◌, cond, ℕ, ◌+◌, ◌*◌, ◌/◌, ◌%◌, ◌^◌, ◌≤◌, ◌<◌, ltb, length, get_or};
 ghost use Rattle.sets.specs.Tests.{Set, one};
 ghost use Rattle.theory.specs.Automaton.{automaton};

@@ -1,4 +1,7 @@
 // The tag of a code: the first number with its core, which stands for the core, so that macrostates of one core are treated once.
+
+#![tactic(auto)]
+
 ghost use Rattle.std.specs.Prelude.{◌≡◌, ℕ, ◌+◌, ◌/◌, ◌%◌, ◌≤◌, ◌<◌, length, get_or, take};
 ghost use Rattle.sets.specs.Lists.{Ascending};
 ghost use Rattle.stricter_spec.specs.Tags.{first_of, TaggedCodes};

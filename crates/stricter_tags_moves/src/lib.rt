@@ -1,5 +1,8 @@
 // Tags of transitions: the number of the target's core, and the components that are spared. So one step back a transition serves all
 // rounds.
+
+#![tactic(auto)]
+
 ghost use Rattle.std.specs.Prelude.{◌≡◌, ◌&&◌, ℕ, ◌+◌, ◌*◌, ◌/◌, ◌%◌, ◌^◌, ◌≤◌, ◌<◌, ltb, length};
 ghost use mathlib.Core.List.{Memᴰ};
 ghost use Rattle.sets.specs.Masks.{mask};

@@ -190,7 +190,7 @@ fn lowest(lcodes: &[u64], rcodes: &[u64], second: bool, marks: &[u8]) -> usize
 }
 
 // The two pairs of a cycle.
-#[derive(Drop)]
+#[derive(Clone, Copy)]
 struct Turn {
     u: usize,
     v: usize,

@@ -1,4 +1,7 @@
 // The judge of words on a lent table, for a rule of s letters and its initial state: the lowest number where an accepting run begins.
+
+#![tactic(auto)]
+
 pub mod starts;
 
 ghost use Rattle.std.specs.Prelude.{◌<◌};
@@ -14,7 +17,7 @@ use table_rows::rows::table_row;
 use word_rows::word_row;
 
 // The answer: yes with the lowest number of an initial macrostate where an accepting run begins, no, or the number of the row that refuses.
-#[derive(Drop)]
+#[derive(Clone, Copy)]
 pub enum Start {
     Yes(usize),
     No,

@@ -1,4 +1,7 @@
 // The judge of words on a built table: whether one of its accepting runs goes over a word. So a table built once answers for its rule.
+
+#![tactic(auto)]
+
 ghost use Rattle.table_lent.specs.Lent.{in_words, in_bytes_lem};
 ghost use Rattle.table_judge.specs.Tables.{JudgedTable};
 

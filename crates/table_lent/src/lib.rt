@@ -1,5 +1,8 @@
 // Tables as they are lent: lists of 64-bit numbers, in elements or in bytes, 8 a number, low byte first. Every function takes both parts
 // of a list, the elements and then the bytes, of which one is empty: so the code above reads both forms alike.
+
+#![tactic(auto)]
+
 ghost use Rattle.std.specs.Prelude.{◌≡◌, ◌<◌, length, get_or};
 ghost use Rattle.table_lent.specs.Lent.{in_both};
 

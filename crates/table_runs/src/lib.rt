@@ -1,5 +1,8 @@
 // The nodes of a table and a word from which an accepting run goes on, which decide what the judge on a table answers: number m at place p
 // is marked in byte p * n + m, n being the number of codes.
+
+#![tactic(auto)]
+
 ghost use Rattle.std.specs.Prelude.{◌≡◌, ◌↔◌, ◌⊎◌, ℕ, ◌+◌, ◌*◌, ◌<◌, ◌≤◌, length, get_or};
 ghost use mathlib.Core.List.{[], Memᴰ};
 ghost use Rattle.theory.specs.Run.{source_of, target_of};

@@ -1,4 +1,7 @@
 // Words, a lead-in and a cycle with one letter a byte: the rows 12 to 14, which letter stands at a place, and which place follows.
+
+#![tactic(auto)]
+
 ghost use Rattle.std.specs.Prelude.{◌≡◌, List, ℕ, ◌+◌, ◌<◌, length};
 ghost use Rattle.theory.specs.Word.{letter_at_lem, next_place_lem};
 ghost use Rattle.word_rows.specs.Words.{length_row_lem, word_row_lem};

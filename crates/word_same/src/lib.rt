@@ -1,4 +1,7 @@
 // The sameness of words: whether they agree at every step. As many steps as both have places together decide it.
+
+#![tactic(auto)]
+
 ghost use Rattle.std.specs.Prelude.{◌≡◌, ◌+◌, ◌<◌, length};
 ghost use Rattle.theory.specs.Word.{places};
 ghost use Rattle.word_spelling_spec.specs.SpellingComputed.{same_word};
@@ -7,7 +10,7 @@ ghost use Rattle.word_same.specs.Same.{Compared};
 use word_rows::{length_row, letter_at, next_place};
 
 // The answer of the sameness test.
-#[derive(Drop)]
+#[derive(Clone, Copy)]
 pub enum SameWords {
     Same,
     Different,

@@ -1,4 +1,7 @@
 // The tidy spelling of a word: the shortest cycle, then the shortest lead-in. A word has many spellings and one that is tidy.
+
+#![tactic(auto)]
+
 ghost use Rattle.std.specs.Prelude.{◌≡◌, ◌++◌, ◌≤◌, ◌<◌, length, take, drop};
 ghost use Rattle.theory.specs.Word.{places, letters};
 ghost use Rattle.word_spelling_spec.specs.SpellingComputed.{comes_again_lem, cycle_length_lem, shortened};
@@ -7,14 +10,14 @@ ghost use Rattle.word_spelling.specs.Tidied.{Tidied};
 use word_rows::{length_row, letter_at, next_place};
 
 // The lengths of a lead-in and a cycle.
-#[derive(Drop)]
+#[derive(Clone, Copy)]
 pub struct Lengths {
     pub lead: usize,
     pub cycle: usize,
 }
 
 // The answer of tidying.
-#[derive(Drop)]
+#[derive(Clone, Copy)]
 pub enum TidyWord {
     Spelling(Lengths),
     Refused(u8),

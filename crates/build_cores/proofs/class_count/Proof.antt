@@ -10,8 +10,8 @@ use Rattle.build_cores.proofs.class_count.Statement.{statement}
 use Rattle.build_cores.proofs.class_count.Tie as tie
 
 -- one more than the classes
-ones-of : (c : tie.After-used-ranks) → ones c.used-ranks.result ≡ class_count_lem c.before.args.ranks c.before.args.part + 1
-ones-of c = ap ones c.used-ranks.ensures ∙ ones-classes c.before.args.ranks c.before.args.part
+ones-of : (c : tie.After-used_ranks) → ones c.used_ranks.result ≡ class_count_lem c.before.args.ranks c.before.args.part + 1
+ones-of c = ap ones c.used_ranks.ensures ∙ ones-classes c.before.args.ranks c.before.args.part
 
-pub class-count-spec : {M : Type 1} → statement M
-class-count-spec = tie.close (tie.spec (λ c κs. search rules) (λ c. let e = ones-of c in omega arith) (λ c. let e = ones-of c in omega arith))
+pub class_count_spec : {M : Type 1} → statement M
+class_count_spec = tie.close (tie.spec (λ c κs. search rules) (λ c. let e = ones-of c in omega arith) (λ c. let e = ones-of c in omega arith))

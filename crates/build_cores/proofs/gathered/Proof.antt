@@ -6,18 +6,18 @@ use Rattle.build_cores.proofs.Low.{Gathered, gather, gather-start}
 use Rattle.build_cores.proofs.gathered.Statement.{statement}
 use Rattle.build_cores.proofs.gathered.Tie as tie
 
-abbrev invariant-loop : tie.invariant-loop
+abbrev invariant-loop : tie.invariant-loop-j
 invariant-loop at low₀ j₀ low j = (0 < j) × Gathered at low j
 
-abbrev decreases-loop : tie.decreases-loop
+abbrev decreases-loop : tie.decreases-loop-j
 decreases-loop at low₀ j₀ low j = 16 - j
 
-loop-again : tie.Need-loop-preserved invariant-loop decreases-loop
+loop-again : tie.Need-loop-j-preserved invariant-loop decreases-loop
 loop-again c =
-    let at-loop : tie.At-loop invariant-loop decreases-loop = search in let l = at-loop.loop in let start : tie.Start invariant-loop decreases-loop = search in
-    (omega arith, gather start.args.at.now l.low l.j (omega arith) (omega arith) l.inv.1)
+    let at-loop : tie.At-loop-j invariant-loop decreases-loop = search in let l = at-loop.loop-j in let start : tie.Start invariant-loop decreases-loop = search in
+    (omega arith, gather start.args.at.now l.low l.j (omega arith) (omega arith) l.invariant.1)
 
-pub gathered-spec : {M : Type 1} → statement M
-gathered-spec = tie.close (tie.spec
+pub gathered_spec : {M : Type 1} → statement M
+gathered_spec = tie.close (tie.spec
     invariant-loop decreases-loop (λ c. (omega arith, gather-start c.args.at.now)) (λ c. search rules) (λ c. search rules) (λ c. search rules) (λ c. search rules) (λ c. search rules)
-    (λ c. search rules) loop-again (λ c. let l = c.before.loop in λ n f j k. l.invariant.1.is n f j (omega arith)))
+    (λ c. search rules) loop-again (λ c. let l = c.before.loop-j in λ n f j k. l.invariant.1.is n f j (omega arith)))

@@ -13,39 +13,39 @@ use Rattle.build_cores.proofs.Gaps.{gap-free, gap-there}
 use Rattle.build_cores.proofs.is_core.Statement.{statement}
 use Rattle.build_cores.proofs.is_core.Tie as tie
 
-abbrev invariant-loop : tie.invariant-loop
+abbrev invariant-loop : tie.invariant-loop-c
 invariant-loop ranks parts components c₀ c = (c ≤ components) × (every c (λ d. gapless ranks (get_or parts d 0)) ≡ true)
 
-abbrev decreases-loop : tie.decreases-loop
+abbrev decreases-loop : tie.decreases-loop-c
 decreases-loop ranks parts components c₀ c = components - c
 
 abbrev Start : Type 0
 Start = tie.Start invariant-loop decreases-loop
 
-loop-holds : tie.Need-loop-init invariant-loop decreases-loop
+loop-holds : tie.Need-loop-c-init invariant-loop decreases-loop
 unfolding every
 loop-holds c = (omega arith, refl)
 
-add-if1 : tie.Need-overflow-add-if1 invariant-loop decreases-loop
-add-if1 c = let start : Start = search in let at-loop : tie.At-loop invariant-loop decreases-loop = search in
-    let h = mask_lt 16 (used start.args.ranks (get_or start.args.parts.now at-loop.loop.c 0)) in omega (arith, c.used-ranks.ensures)
+add-if1 : tie.Need-overflow_add-found invariant-loop decreases-loop
+add-if1 c = let start : Start = search in let at-loop : tie.At-loop-c invariant-loop decreases-loop = search in
+    let h = mask_lt 16 (used start.args.ranks (get_or start.args.parts.now at-loop.loop-c.c 0)) in omega (arith, c.used_ranks-found.ensures)
 
-returns : tie.Need-returns invariant-loop decreases-loop
+returns : tie.Need-returns-then-found-ne0 invariant-loop decreases-loop
 returns c =
-    let start : Start = search in let x = start.args.ranks in let at-loop : tie.At-loop invariant-loop decreases-loop = search in let l = at-loop.loop in
-    let parts = start.args.parts.now in let n : gapless x (get_or parts l.c 0) ≡ false = gap-there x (get_or parts l.c 0) (rw (sym c.before.used-ranks.ensures) c.if1.true) in
+    let start : Start = search in let x = start.args.ranks in let at-loop : tie.At-loop-c invariant-loop decreases-loop = search in let l = at-loop.loop-c in
+    let parts = start.args.parts.now in let n : gapless x (get_or parts l.c 0) ≡ false = gap-there x (get_or parts l.c 0) (rw (sym c.before.used_ranks-found.ensures) c.if-found-ne0.true) in
     sym (every-stop start.args.components (λ d. gapless x (get_or parts d 0)) l.c (omega arith) n)
 
-loop-again : tie.Need-loop-preserved invariant-loop decreases-loop
+loop-again : tie.Need-loop-c-preserved invariant-loop decreases-loop
 loop-again c =
-    let start : Start = search in let x = start.args.ranks in let at-loop : tie.At-loop invariant-loop decreases-loop = search in let l = at-loop.loop in
-    let parts = start.args.parts.now in let y : gapless x (get_or parts l.c 0) ≡ true = gap-free x (get_or parts l.c 0) (rw (sym c.before.used-ranks.ensures) c.if1.false) in
-    (omega arith, (every-next l.c (λ d. gapless x (get_or parts d 0)) l.inv.1 y))
+    let start : Start = search in let x = start.args.ranks in let at-loop : tie.At-loop-c invariant-loop decreases-loop = search in let l = at-loop.loop-c in
+    let parts = start.args.parts.now in let y : gapless x (get_or parts l.c 0) ≡ true = gap-free x (get_or parts l.c 0) (rw (sym c.before.used_ranks-found.ensures) c.if-found-ne0.false) in
+    (omega arith, (every-next l.c (λ d. gapless x (get_or parts d 0)) l.invariant.1 y))
 
-returns-2 : tie.Need-returns-2 invariant-loop decreases-loop
-returns-2 c = let l = c.before.loop in let start : Start = search in let e : l.c ≡ start.args.components = omega (arith, l.invariant.0) in
+returns-2 : tie.Need-returns invariant-loop decreases-loop
+returns-2 c = let l = c.before.loop-c in let start : Start = search in let e : l.c ≡ start.args.components = omega (arith, l.invariant.0) in
     sym (ap (λ (n : ℕ). every n (λ d. gapless start.args.ranks (get_or start.args.parts.now d 0))) (sym e) ∙ l.invariant.1)
 
-pub is-core-spec : {M : Type 1} → statement M
-is-core-spec = tie.close (tie.spec
+pub is_core_spec : {M : Type 1} → statement M
+is_core_spec = tie.close (tie.spec
     invariant-loop decreases-loop loop-holds (λ c. search rules) (λ c κs. search rules) add-if1 returns (λ c. search rules) (λ c. search rules) loop-again returns-2)

@@ -10,8 +10,8 @@ use Rattle.build_cores.proofs.sizes.Statement.{statement}
 use Rattle.build_cores.proofs.sizes.Tie as tie
 
 -- the product
-product : (c : tie.After-nibbles-of) → c.nibbles-of.result * ones c.before.args.part ≡ sizes_of c.before.args.part
-product c = ap (λ (x : ℕ). x * ones c.before.args.part) c.nibbles-of.ensures ∙ sizes-are c.before.args.part (omega arith)
+product : (c : tie.After-nibbles_of) → c.nibbles_of.result * ones c.before.args.part ≡ sizes_of c.before.args.part
+product c = ap (λ (x : ℕ). x * ones c.before.args.part) c.nibbles_of.ensures ∙ sizes-are c.before.args.part (omega arith)
 
-pub sizes-spec : {M : Type 1} → statement M
-sizes-spec = tie.close (tie.spec (λ c κs. search rules) (λ c. omega (arith, product c, sizes-low c.before.args.part)) (λ c. product c))
+pub sizes_spec : {M : Type 1} → statement M
+sizes_spec = tie.close (tie.spec (λ c κs. search rules) (λ c. omega (arith, product c, sizes-low c.before.args.part)) (λ c. product c))

@@ -13,5 +13,5 @@ small c = xor_lt 8 c.args.opened c.args.accepting (omega arith) (omega arith)
 returns : tie.Need-returns
 returns c = put_byte c.args.ranks (bit_xor c.args.opened c.args.accepting) (omega arith) (small c)
 
-pub core-of-spec : {M : Type 1} → statement M
-core-of-spec = tie.close (tie.spec (λ c. omega (arith, small c)) returns)
+pub core_of_spec : {M : Type 1} → statement M
+core_of_spec = tie.close (tie.spec (λ c. omega (arith, small c)) returns)

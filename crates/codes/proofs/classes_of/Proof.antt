@@ -10,5 +10,5 @@ returns : tie.Need-returns
 unfolding classes_in
 returns c = and_mask (c.args.code / 2 ^ 44) 4
 
-pub classes-of-spec : {M : Type 1} → statement M
-classes-of-spec = tie.close (tie.spec (λ c. Fits-mask (c.args.code / 2 ^ 44) 4 tt) returns)
+pub classes_of_spec : {M : Type 1} → statement M
+classes_of_spec = tie.close (tie.spec (λ c. Fits-mask (c.args.code / 2 ^ 44) 4 tt) returns)

@@ -10,5 +10,5 @@ returns : tie.Need-returns
 unfolding component_in
 returns c = and_mask (c.args.code / 2 ^ 40) 4
 
-pub component-of-spec : {M : Type 1} → statement M
-component-of-spec = tie.close (tie.spec (λ c. Fits-mask (c.args.code / 2 ^ 40) 4 tt) returns)
+pub component_of_spec : {M : Type 1} → statement M
+component_of_spec = tie.close (tie.spec (λ c. Fits-mask (c.args.code / 2 ^ 40) 4 tt) returns)

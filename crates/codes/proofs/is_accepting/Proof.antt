@@ -9,7 +9,7 @@ use Rattle.codes.proofs.is_accepting.Tie as tie
 
 returns : tie.Need-returns
 unfolding is_accepting_lem
-returns c = ap (λ (x : ℕ). eqb x 0) c.classes-of.ensures
+returns c = ap (λ (x : ℕ). eqb x 0) c.classes_of.ensures
 
-pub is-accepting-spec : {M : Type 1} → statement M
-is-accepting-spec = tie.close (tie.spec (λ c κs. search rules) returns)
+pub is_accepting_spec : {M : Type 1} → statement M
+is_accepting_spec = tie.close (tie.spec (λ c κs. search rules) returns)

@@ -6,13 +6,13 @@ use Rattle.codes.proofs.Starts.{held, lacking}
 use Rattle.codes.proofs.is_initial.Statement.{statement}
 use Rattle.codes.proofs.is_initial.Tie as tie
 
-returns : tie.Need-returns
+returns : tie.Need-returns-then-code-initial-ne1
 unfolding begun
-returns c = let a = c.before.args in rw (lacking a.code a.initial c.if1.true)
+returns c = let a = c.before.args in rw (lacking a.code a.initial c.if-code-initial-ne1.true)
 
-returns-2 : tie.Need-returns-2
+returns-2 : tie.Need-returns
 unfolding begun
-returns-2 c = let start : tie.Start = search in let a = start.args in c.is-first.ensures ∙ rw (held a.code a.initial c.before.if1.false)
+returns-2 c = let start : tie.Start = search in let a = start.args in c.is_first.ensures ∙ rw (held a.code a.initial c.before.if-code-initial-ne1.false)
 
-pub is-initial-spec : {M : Type 1} → statement M
-is-initial-spec = tie.close (tie.spec (λ c. search rules) returns (λ c κs. search rules) returns-2)
+pub is_initial_spec : {M : Type 1} → statement M
+is_initial_spec = tie.close (tie.spec (λ c. search rules) returns (λ c κs. search rules) returns-2)

@@ -9,15 +9,15 @@ use Rattle.file_names.proofs.Tests.{fit-decides}
 use Rattle.file_names.proofs.names_fit.Statement.{statement}
 use Rattle.file_names.proofs.names_fit.Tie as tie
 
-returns : tie.Need-returns
-returns c = let start : tie.Start = search in let none : has_names_lem start.args.p.now ≡ false = sym c.before.has-names.ensures ∙ not-true _ c.if1.true in rw none
+returns : tie.Need-returns-then-not-has_names
+returns c = let start : tie.Start = search in let none : has_names_lem start.args.p.now ≡ false = sym c.before.has_names.ensures ∙ not-true _ c.if-not-has_names.true in rw none
 
 -- the preface ends with 4E 4D
-there : (c : tie.Else1) → let start : tie.Start = search in has_names_lem start.args.p.now ≡ true
-there c = sym c.before.has-names.ensures ∙ not-false _ c.if1.false
+there : (c : tie.Else-not-has_names) → let start : tie.Start = search in has_names_lem start.args.p.now ≡ true
+there c = sym c.before.has_names.ensures ∙ not-false _ c.if-not-has_names.false
 
-sub-result : tie.Need-overflow-sub-result
+sub-result : tie.Need-overflow_sub-result
 sub-result c = let start : tie.Start = search in let a = start.args in names-long a.s a.p.now (there c)
 
-pub names-fit-spec : {M : Type 1} → statement M
-names-fit-spec = tie.close (tie.spec (λ c κs. search rules) returns (λ c. search rules) sub-result (λ c. fit-decides _ _ (there c)))
+pub names_fit_spec : {M : Type 1} → statement M
+names_fit_spec = tie.close (tie.spec (λ c κs. search rules) returns (λ c. search rules) sub-result (λ c. fit-decides _ _ (there c)))

@@ -9,7 +9,7 @@ use Rattle.file_read.proofs.clauses_of.Tie as tie
 known : (c : tie.Start) → Served c.args.f.now c.args.l
 known c = served c.args.f.now c.args.l c.requires
 
-pub clauses-of-spec : {M : Type 1} → statement M
-clauses-of-spec = tie.close (tie.spec
+pub clauses_of_spec : {M : Type 1} → statement M
+clauses_of_spec = tie.close (tie.spec
     (λ c. omega (arith, (known c.before).bounds)) (λ c. search rules) (λ c. search rules) (λ c. omega (arith, (known c.before).bounds))
     (λ c. (known (search)).clauses))

@@ -9,7 +9,7 @@ use Rattle.file_read.proofs.counts_of.Tie as tie
 known : (c : tie.Start) → Served c.args.f.now c.args.l
 known c = served c.args.f.now c.args.l c.requires
 
-pub counts-of-spec : {M : Type 1} → statement M
-counts-of-spec = tie.close (tie.spec
+pub counts_of_spec : {M : Type 1} → statement M
+counts_of_spec = tie.close (tie.spec
     (λ c. omega (arith, (known c.before).bounds)) (λ c. (known c.before).long) (λ c. omega (arith, (known c.before).bounds))
     (λ c. omega (arith, (known c.before).bounds)) (λ c. search rules) (λ c. (known (search)).counts))

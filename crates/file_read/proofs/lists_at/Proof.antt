@@ -14,23 +14,23 @@ use Rattle.file_read.proofs.lists_at.Tie as tie
 
 -- the parts are in their places
 known : (c : tie.Start) → Placed c.args.f.now
-known c = placed c.args.f.now c.pre.0
+known c = placed c.args.f.now c.requires.0
 
 -- the counts end where the trailer begins
 bounds : (c : tie.Start) → c.args.l.at + c.args.l.clauses ≤ length c.args.f.now - 8
-bounds c = rw c.pre.1 (omega (arith, known c))
+bounds c = rw c.requires.1 (omega (arith, known c))
 
-lists-row-requires : tie.Need-lists-row-requires
+lists-row-requires : tie.Need-lists_row-requires
 lists-row-requires c κs = let start : tie.Start = search in let p = known start in let f = start.args.f.now in
-    rw start.pre.1 (p.ranges.few_states, rw (counts-part f p.fits) (omega (arith, counts-length f p.fits, p.ranges)))
+    rw start.requires.1 (p.ranges.few_states, rw (counts-part f p.fits) (omega (arith, counts-length f p.fits, p.ranges)))
 
 returns : tie.Need-returns
 returns c = let start : tie.Start = search in let p = known start in let f = start.args.f.now in
-    let e : c.lists-row.result ≡ first_row (list_rows (trailer f 0) (counts_of_lem f) (clauses_of_lem f)) = rw (start.pre.1, counts-part f p.fits, clauses-part f p.fits) at c.lists-row.ensures in
-    e ∙ sym (rows-lists f start.pre.0)
+    let e : c.lists-row.result ≡ first_row (list_rows (trailer f 0) (counts_of_lem f) (clauses_of_lem f)) = rw (start.requires.1, counts-part f p.fits, clauses-part f p.fits) at c.lists_row.ensures in
+    e ∙ sym (rows-lists f start.requires.0)
 
-pub lists-at-spec : {M : Type 1} → statement M
-lists-at-spec = tie.close (tie.spec
+pub lists_at_spec : {M : Type 1} → statement M
+lists_at_spec = tie.close (tie.spec
     (λ c. (known (search)).long) (λ c. omega (arith, bounds (search))) (λ c. omega (arith, bounds (search)))
     (λ c. omega (arith, bounds (search))) (λ c. search rules) (λ c. omega (arith, bounds (search))) (λ c. search rules)
     (λ c. search rules) (λ c. omega (arith, bounds (search))) lists-row-requires returns)

@@ -9,17 +9,17 @@ use Rattle.follow_set.proofs.Letters.{swept-low, swept-halved}
 use Rattle.follow_set.proofs.step.Statement.{statement}
 use Rattle.follow_set.proofs.step.Tie as tie
 
-halve-all-requires : tie.Need-halve-all-requires
+halve-all-requires : tie.Need-halve_all-requires
 halve-all-requires c κs =
     let start : tie.Start = search in let at-sweep : tie.After-sweep = search in let a = start.args in
-    swept-low a.letter (words_in a.transitions.now) a.set.now _ start.pre.2 at-sweep.sweep.ensures
+    swept-low a.letter (words_in a.transitions.now) a.set.now _ start.requires.2 at-sweep.sweep.ensures
 
 returns : tie.Need-returns
 returns c =
-    let start : tie.Start = search in let at-sweep : tie.After-sweep = search in let at-halve : tie.After-halve-all = search in
+    let start : tie.Start = search in let at-sweep : tie.After-sweep = search in let at-halve : tie.After-halve_all = search in
     let a = start.args in let s = at-sweep.sweep.ensures in (
-      at-halve.halve-all.ensures.0 ∙ swept-halved a.letter (words_in a.transitions.now) a.set.now _ start.pre.2 s,
-      at-halve.halve-all.ensures.1 ∙ ap (λ (n : ℕ). members_of n at-halve.halve-all.last.0) s.long,
+      at-halve.halve_all.ensures.0 ∙ swept-halved a.letter (words_in a.transitions.now) a.set.now _ start.requires.2 s,
+      at-halve.halve_all.ensures.1 ∙ ap (λ (n : ℕ). members_of n at-halve.halve_all.new.set) s.long,
     )
 
 pub step_spec : {M : Type 1} → statement M

@@ -5,8 +5,8 @@ use borrow.Author.Rules.{rules}
 use Rattle.hoa_read_parts.proofs.store_move.Statement.{statement}
 use Rattle.hoa_read_parts.proofs.store_move.Tie as tie
 
-returns : tie.Need-returns
-returns c = let a = c.before.args in sym (set_out a.transitions.now a.i a.t c.if1.true)
+returns : tie.Need-returns-then-transitions-i
+returns c = let a = c.before.args in sym (set_out a.transitions.now a.i a.t c.if-transitions-i.true)
 
-pub store-move-spec : {M : Type 1} → statement M
-store-move-spec = tie.close (tie.spec returns (λ c. search rules) (λ c. search rules) (λ c. search rules) (λ c. search rules))
+pub store_move_spec : {M : Type 1} → statement M
+store_move_spec = tie.close (tie.spec returns (λ c. search rules) (λ c. search rules) (λ c. search rules) (λ c. search rules))

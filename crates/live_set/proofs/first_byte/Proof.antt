@@ -5,7 +5,7 @@ use Rattle.sets.specs.Tests.{one}
 use Rattle.live_set.proofs.first_byte.Statement.{statement}
 use Rattle.live_set.proofs.first_byte.Tie as tie
 
-pub first-byte-spec : {M : Type 1} → statement M
-first-byte-spec = tie.close (tie.spec
-    (λ c κs. search rules) (λ c. ap one (sym c.if1.true ∙ c.before.is-initial.ensures))
-    (λ c. ap one (sym c.if1.false ∙ c.before.is-initial.ensures)))
+pub first_byte_spec : {M : Type 1} → statement M
+first_byte_spec = tie.close (tie.spec
+    (λ c κs. search rules) (λ c. ap one (sym c.if-is_initial.true ∙ c.before.is_initial.ensures))
+    (λ c. ap one (sym c.if-is_initial.false ∙ c.before.is_initial.ensures)))

@@ -6,6 +6,6 @@ use Rattle.sets.specs.Tests.{one}
 use Rattle.live_set.proofs.flag.Statement.{statement}
 use Rattle.live_set.proofs.flag.Tie as tie
 
-pub flag-spec : {M : Type 1} → statement M
-flag-spec = tie.close (tie.spec
+pub flag_spec : {M : Type 1} → statement M
+flag_spec = tie.close (tie.spec
     (λ c. ap one (sym (le-ltb 0 c.before.args.v (omega arith)))) (λ c. ap one (sym (lt-ltb 0 c.before.args.v (omega arith)))))

@@ -11,14 +11,14 @@ use Rattle.live_set.proofs.step_set.Tie as tie
 
 sweep-requires : tie.Need-sweep-requires
 sweep-requires c κs = let start : tie.Start = search in let a = start.args in let ts = words_in a.transitions.now in
-    let long : length (map flag_of_lem a.set.now) ≡ length a.set.now = length-map a.set.now flag_of_lem in let at-flag-all : tie.After-flag-all = search in
-    rw at-flag-all.flag-all.ensures (rw long start.pre, flags-low a.letter ts a.set.now)
+    let long : length (map flag_of_lem a.set.now) ≡ length a.set.now = length-map a.set.now flag_of_lem in let at-flag-all : tie.After-flag_all = search in
+    rw at-flag-all.flag_all.ensures (rw long start.requires, flags-low a.letter ts a.set.now)
 
 returns : tie.Need-returns
 returns c =
-    let start : tie.Start = search in let a = start.args in let ts = words_in a.transitions.now in let at-flag-all : tie.After-flag-all = search in
-    let at-sweep : tie.After-sweep = search in let swept = rw at-flag-all.flag-all.ensures at at-sweep.sweep.ensures in let at-halve-all : tie.After-halve-all = search in
-    at-halve-all.halve-all.ensures ∙ arrived a.letter ts a.set.now _ swept
+    let start : tie.Start = search in let a = start.args in let ts = words_in a.transitions.now in let at-flag-all : tie.After-flag_all = search in
+    let at-sweep : tie.After-sweep = search in let swept = rw at-flag-all.flag_all.ensures at at-sweep.sweep.ensures in let at-halve-all : tie.After-halve_all = search in
+    at-halve-all.halve_all.ensures ∙ arrived a.letter ts a.set.now _ swept
 
-pub step-set-spec : {M : Type 1} → statement M
-step-set-spec = tie.close (tie.spec (λ c κs. search rules) sweep-requires (λ c κs. search rules) (λ c. search rules) returns)
+pub step_set_spec : {M : Type 1} → statement M
+step_set_spec = tie.close (tie.spec (λ c κs. search rules) sweep-requires (λ c κs. search rules) (λ c. search rules) returns)

@@ -17,52 +17,52 @@ use Rattle.rule_components.proofs.Numbered.{Found, turn-taken, turn-passed, coun
 use Rattle.rule_components.proofs.split.Statement.{statement}
 use Rattle.rule_components.proofs.split.Tie as tie
 
-abbrev invariant-loop : tie.invariant-loop
+abbrev invariant-loop : tie.invariant-loop-q
 invariant-loop h counts clauses reach masks₀ count₀ q₀ masks count q = (q ≤ h.n) × (count ≡ count_of q (is_smallest (rule_of h counts clauses)))
     × (masks ≡ table_of count (λ k. mask h.n (λ p. eqb (component (rule_of h counts clauses) p) k)))
 
-abbrev decreases-loop : tie.decreases-loop
+abbrev decreases-loop : tie.decreases-loop-q
 decreases-loop h counts clauses reach masks₀ count₀ q₀ masks count q = h.n - q
 
 abbrev Start : Type 0
 Start = tie.Start invariant-loop decreases-loop
 
 abbrev At-loop : Type 0
-At-loop = tie.At-loop invariant-loop decreases-loop
+At-loop = tie.At-loop-q invariant-loop decreases-loop
 
-class-of-requires : tie.Need-class-of-requires invariant-loop decreases-loop
-class-of-requires c κs = let start : Start = search in let w = start.pre.few_states in (omega arith, omega arith)
+class-of-requires : tie.Need-class_of-class-requires invariant-loop decreases-loop
+class-of-requires c κs = let start : Start = search in let w = start.requires.few_states in (omega arith, omega arith)
 
-array-write-masks : tie.Need-array-write-masks invariant-loop decreases-loop
+array-write-masks : tie.Need-bounds-masks-count invariant-loop decreases-loop
 array-write-masks c =
-    let at-loop : At-loop = search in let l = at-loop.loop in let start : Start = search in let a = start.args in let w = start.pre in
+    let at-loop : At-loop = search in let l = at-loop.loop-q in let start : Start = search in let a = start.args in let w = start.requires in
     omega (arith, count-few (rule_of a.h a.counts.now a.clauses.now) w.few_states l.q, w.few_states)
 
-add-count : tie.Need-overflow-add-count invariant-loop decreases-loop
+add-count : tie.Need-overflow_add-count invariant-loop decreases-loop
 add-count c =
-    let at-loop : At-loop = search in let l = at-loop.loop in let start : Start = search in let a = start.args in let w = start.pre in
+    let at-loop : At-loop = search in let l = at-loop.loop-q in let start : Start = search in let a = start.args in let w = start.requires in
     omega (arith, count-few (rule_of a.h a.counts.now a.clauses.now) w.few_states l.q, w.few_states)
 
-loop-again : tie.Need-loop-preserved invariant-loop decreases-loop
+loop-again : tie.Need-loop-q-preserved invariant-loop decreases-loop
 loop-again c =
-    let at-loop : At-loop = search in let l = at-loop.loop in let start : Start = search in let a = start.args in let w = start.pre in
-    let r = rule_of a.h a.counts.now a.clauses.now in let at-closures : tie.After-closures invariant-loop decreases-loop = search in
+    let at-loop : At-loop = search in let l = at-loop.loop-q in let start : Start = search in let a = start.args in let w = start.requires in
+    let r = rule_of a.h a.counts.now a.clauses.now in let at-closures : tie.After-closures-reach invariant-loop decreases-loop = search in
     let e : c.before.class_of.result ≡ class_by (closures_of r) a.h.n l.q =
-    c.before.class_of.ensures ∙ ap (λ (t : List ℕ). class_by t a.h.n l.q) at-closures.closures.ensures in
-    let f : Found r w.few_states l.q l.count l.masks = record { number = l.inv.1; laid = l.inv.2 } in let then1 : tie.Then1 invariant-loop decreases-loop = search in
+    c.before.class_of-class.ensures ∙ ap (λ (t : List ℕ). class_by t a.h.n l.q) at-closures.closures-reach.ensures in
+    let f : Found r w.few_states l.q l.count l.masks = record { number = l.invariant.1; laid = l.invariant.2 } in let then1 : tie.In-loop-q invariant-loop decreases-loop = search in
     let g : Found r w.few_states (l.q + 1) c.if2.count c.if2.masks = ⊎_elim
-    (λ s. turn-taken r w.few_states l.q c.before.class_of.result l.count c.if2.count l.masks c.if2.masks then1.if1.taken e f _ s.0.taken s.1
+    (λ s. turn-taken r w.few_states l.q c.before.class_of-class.result l.count c.if-class-q.count l.masks c.if-class-q.masks then1.loop-q-test.true e f _ s.0.taken s.1
     (omega arith) s.2)
-    (λ s. turn-passed r w.few_states l.q c.before.class_of.result l.count c.if2.count l.masks c.if2.masks then1.if1.taken e f s.0.left s.1
-    s.2) c.if2.branch in (omega arith, g.number, g.laid)
+    (λ s. turn-passed r w.few_states l.q c.before.class_of-class.result l.count c.if-class-q.count l.masks c.if-class-q.masks then1.loop-q-test.true e f s.0.left s.1
+    s.2) c.if-class-q.branch in (omega arith, g.number, g.laid)
 
 returns : tie.Need-returns invariant-loop decreases-loop
 returns c =
-    let at-loop : At-loop = search in let l = at-loop.loop in let start : Start = search in let a = start.args in let w = start.pre in
+    let at-loop : At-loop = search in let l = at-loop.loop-q in let start : Start = search in let a = start.args in let w = start.requires in
     let r = rule_of a.h a.counts.now a.clauses.now in let e : l.q ≡ a.h.n = omega arith in
-    laid_out r w.few_states l.masks l.count l.inv.2 (l.inv.1 ∙ ap (λ (x : ℕ). count_of x (is_smallest r)) e)
+    laid_out r w.few_states l.masks l.count l.invariant.2 (l.invariant.1 ∙ ap (λ (x : ℕ). count_of x (is_smallest r)) e)
 
-pub split-spec : {M : Type 1} → statement M
-split-spec = tie.close (tie.spec
-    invariant-loop decreases-loop (λ c κs. let start : Start = search in start.pre) (λ c. unfold count_of in (omega arith, refl, table_none _)) class-of-requires
-    (λ c. omega (arith, trailing_le 8 c.class_of.result)) array-write-masks add-count (λ c. omega arith) (λ c. omega arith) loop-again returns)
+pub split_spec : {M : Type 1} → statement M
+split_spec = tie.close (tie.spec
+    invariant-loop decreases-loop (λ c κs. let start : Start = search in start.requires) (λ c. unfold count_of in (omega arith, refl, table_none _)) class-of-requires
+    (λ c. omega (arith, trailing_le 8 c.class_of-class.result)) array-write-masks add-count (λ c. omega arith) (λ c. omega arith) loop-again returns)

@@ -11,35 +11,35 @@ use Rattle.rule_reach.proofs.Rounds.{least-reaches}
 use Rattle.rule_reach.proofs.closures.Statement.{statement}
 use Rattle.rule_reach.proofs.closures.Tie as tie
 
-abbrev invariant-loop : tie.invariant-loop
+abbrev invariant-loop : tie.invariant-loop-q
 invariant-loop h counts clauses es table₀ q₀ table q = (q ≤ h.n) × (es ≡ successors_of (rule_of h counts clauses)) × (table ≡ table_of q (λ p. mask h.n (reaches (rule_of h counts clauses) p)))
 
-abbrev decreases-loop : tie.decreases-loop
+abbrev decreases-loop : tie.decreases-loop-q
 decreases-loop h counts clauses es table₀ q₀ table q = h.n - q
 
 abbrev Start : Type 0
 Start = tie.Start invariant-loop decreases-loop
 
 closure-requires : tie.Need-closure-requires invariant-loop decreases-loop
-closure-requires c κs = let start : Start = search in omega (arith, start.pre.few_states)
+closure-requires c κs = let start : Start = search in omega (arith, start.requires.few_states)
 
-array-write-table : tie.Need-array-write-table invariant-loop decreases-loop
-array-write-table c = let start : Start = search in omega (arith, start.pre.few_states)
+array-write-table : tie.Need-bounds-table-q invariant-loop decreases-loop
+array-write-table c = let start : Start = search in omega (arith, start.requires.few_states)
 
-loop-again : tie.Need-loop-preserved invariant-loop decreases-loop
+loop-again : tie.Need-loop-q-preserved invariant-loop decreases-loop
 loop-again c =
-    let at-loop : tie.At-loop invariant-loop decreases-loop = search in let l = at-loop.loop in let start : Start = search in let a = start.args in
-    let r = rule_of a.h a.counts.now a.clauses.now in let w = start.pre in
-    let least : LeastClosed (successors_of r) l.q c.closure.result = rw (sym l.inv.1) c.closure.ensures in let then1 : tie.Then1 invariant-loop decreases-loop = search in
-    let e : c.closure.result ≡ mask a.h.n (reaches r l.q) = least-reaches r w.few_states l.q then1.if1.taken c.closure.result c.closure.type-inv least in
-    (omega arith, l.inv.1, rw l.inv.2 (table-set _ (λ p. mask _ (reaches r p)) _ (omega (arith, w.few_states)) e))
+    let at-loop : tie.At-loop-q invariant-loop decreases-loop = search in let l = at-loop.loop-q in let start : Start = search in let a = start.args in
+    let r = rule_of a.h a.counts.now a.clauses.now in let w = start.requires in
+    let least : LeastClosed (successors_of r) l.q c.closure.result = rw (sym l.invariant.1) c.closure.ensures in let then1 : tie.In-loop-q invariant-loop decreases-loop = search in
+    let e : c.closure.result ≡ mask a.h.n (reaches r l.q) = least-reaches r w.few_states l.q then1.loop-q-test.true c.closure.result c.closure.type-inv least in
+    (omega arith, l.invariant.1, rw l.invariant.2 (table-set _ (λ p. mask _ (reaches r p)) _ (omega (arith, w.few_states)) e))
 
 returns : tie.Need-returns invariant-loop decreases-loop
 returns c =
-    let at-loop : tie.At-loop invariant-loop decreases-loop = search in let l = at-loop.loop in let start : Start = search in let a = start.args in
-    let e : l.q ≡ a.h.n = omega arith in l.inv.2 ∙ ap (λ (x : ℕ). table_of x (λ p. mask a.h.n (reaches (rule_of a.h a.counts.now a.clauses.now) p))) e
+    let at-loop : tie.At-loop-q invariant-loop decreases-loop = search in let l = at-loop.loop-q in let start : Start = search in let a = start.args in
+    let e : l.q ≡ a.h.n = omega arith in l.invariant.2 ∙ ap (λ (x : ℕ). table_of x (λ p. mask a.h.n (reaches (rule_of a.h a.counts.now a.clauses.now) p))) e
 
-pub closures-spec : {M : Type 1} → statement M
-closures-spec = tie.close (tie.spec
-    invariant-loop decreases-loop (λ c κs. let start : Start = search in start.pre) (λ c. (omega arith, c.successor-table.ensures, table_none _)) closure-requires
+pub closures_spec : {M : Type 1} → statement M
+closures_spec = tie.close (tie.spec
+    invariant-loop decreases-loop (λ c κs. let start : Start = search in start.requires) (λ c. (omega arith, c.successor_table-es.ensures, table_none _)) closure-requires
     array-write-table (λ c. omega arith) (λ c. omega arith) loop-again returns)

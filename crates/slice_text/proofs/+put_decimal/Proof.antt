@@ -33,39 +33,39 @@ module _ (t : ℕ) where
   Start = put-decimal-lts.Start claims (put-decimal-at t) put-decimal.Post
 
   abbrev Then1 : Type 0
-  Then1 = put-decimal-lts.Then1 claims (put-decimal-at t) put-decimal.Post
+  Then1 = put-decimal-lts.Then-x-lt10 claims (put-decimal-at t) put-decimal.Post
 
   abbrev Else1 : Type 0
-  Else1 = put-decimal-lts.Else1 claims (put-decimal-at t) put-decimal.Post
+  Else1 = put-decimal-lts.Else-x-lt10 claims (put-decimal-at t) put-decimal.Post
 
   abbrev After-put-decimal : Type 0
-  After-put-decimal = put-decimal-lts.After-put-decimal claims (put-decimal-at t) put-decimal.Post
+  After-put-decimal = put-decimal-lts.After-put_decimal-end claims (put-decimal-at t) put-decimal.Post
 
-  put-byte-requires : put-decimal-lts.Need-put-byte-requires claims (put-decimal-at t) put-decimal.Post
-  put-byte-requires c κs = let start : Start = search in let then1 : Then1 = search in room-one start.args.x then1.if1.taken start.args.at start.pre.1
+  put-byte-requires : put-decimal-lts.Need-put_byte-requires claims (put-decimal-at t) put-decimal.Post
+  put-byte-requires c κs = let start : Start = search in let then1 : Then1 = search in room-one start.args.x then1.if-x-lt10.true start.args.at start.requires.1
 
-  returns : put-decimal-lts.Need-returns claims (put-decimal-at t) put-decimal.Post
+  returns : put-decimal-lts.Need-returns-then-x-lt10 claims (put-decimal-at t) put-decimal.Post
   returns c =
-      let start : Start = search in let then1 : Then1 = search in let at-put-byte : put-decimal-lts.After-put-byte claims (put-decimal-at t) put-decimal.Post = search in
-      put-digit start.args.x then1.if1.taken at-put-byte.before.digit-of.ensures at-put-byte.put_byte.ensures
+      let start : Start = search in let then1 : Then1 = search in let at-put-byte : put-decimal-lts.After-put_byte claims (put-decimal-at t) put-decimal.Post = search in
+      put-digit start.args.x then1.if-x-lt10.true at-put-byte.before.digit_of.ensures at-put-byte.put_byte.ensures
 
-  put-decimal-requires : put-decimal-lts.Need-put-decimal-requires claims (put-decimal-at t) put-decimal.Post
+  put-decimal-requires : put-decimal-lts.Need-put_decimal-end-requires claims (put-decimal-at t) put-decimal.Post
   put-decimal-requires c κs = let start : Start = search in
-      let h = room-more start.args.x c.before.if1.false start.args.at start.pre.1 in (omega (arith, start.pre.0), omega arith)
+      let h = room-more start.args.x c.before.if-x-lt10.false start.args.at start.requires.1 in (omega (arith, start.requires.0), omega arith)
 
-  put-byte-requires-2 : put-decimal-lts.Need-put-byte-requires-2 claims (put-decimal-at t) put-decimal.Post
+  put-byte-requires-2 : put-decimal-lts.Need-put_byte-requires-2 claims (put-decimal-at t) put-decimal.Post
   put-byte-requires-2 c κs = let start : Start = search in let else1 : Else1 = search in let at-put-decimal : After-put-decimal = search in
-      let P = at-put-decimal.put-decimal.ensures in
-      let h = room-more start.args.x else1.if1.left start.args.at start.pre.1 in omega (arith, P.ends, put-length P)
+      let P = at-put-decimal.put_decimal-end.ensures in
+      let h = room-more start.args.x else1.if-x-lt10.false start.args.at start.requires.1 in omega (arith, P.ends, put-length P)
 
-  returns-2 : put-decimal-lts.Need-returns-2 claims (put-decimal-at t) put-decimal.Post
+  returns-2 : put-decimal-lts.Need-returns claims (put-decimal-at t) put-decimal.Post
   returns-2 c =
       let start : Start = search in let else1 : Else1 = search in let at-put-decimal : After-put-decimal = search in
-      let at-put-byte2 : put-decimal-lts.After-put-byte2 claims (put-decimal-at t) put-decimal.Post = search in let d = at-put-byte2.before.digit-of2 in
+      let at-put-byte2 : put-decimal-lts.After-put_byte-2 claims (put-decimal-at t) put-decimal.Post = search in let d = at-put-byte2.before.digit_of-2 in
       let last : d.result ≡ digit (start.args.x % 10) = omega (arith, d.ensures) in
-      put-digits start.args.x else1.if1.left last at-put-decimal.put-decimal.ensures at-put-byte2.put-byte2.ensures
+      put-digits start.args.x else1.if-x-lt10.false last at-put-decimal.put_decimal-end.ensures at-put-byte2.put_byte-2.ensures
 
-pub +put-decimal-spec : {M : Type 1} → statement M
-+put-decimal-spec = close μ-put-decimal λ t. put-decimal-lts.spec (claims t) (put-decimal-at t) put-decimal.Post
+pub +put_decimal_spec : {M : Type 1} → statement M
++put_decimal_spec = close μ-put-decimal λ t. put-decimal-lts.spec (claims t) (put-decimal-at t) put-decimal.Post
     (λ c κs. omega arith) (put-byte-requires t) (λ c. search rules) (returns t)
     (put-decimal-requires t) (λ c κs. omega arith) (put-byte-requires-2 t) (λ c. search rules) (returns-2 t)

@@ -4,6 +4,6 @@ use Rattle.slice_text.proofs.Puts.{put_one}
 use Rattle.slice_text.proofs.put_byte.Statement.{statement}
 use Rattle.slice_text.proofs.put_byte.Tie as tie
 
-pub put-byte-spec : {M : Type 1} → statement M
-put-byte-spec = tie.close (tie.spec
+pub put_byte_spec : {M : Type 1} → statement M
+put_byte_spec = tie.close (tie.spec
     (λ c. search rules) (λ c. search rules) (λ c. search rules) (λ c. put_one c.args.out.now c.args.at c.args.byte c.requires))

@@ -8,26 +8,26 @@ use Rattle.table_runs.proofs.Thinning.{raised-two, thinned-none, thinned}
 use Rattle.table_runs.proofs.thin.Statement.{statement}
 use Rattle.table_runs.proofs.thin.Tie as tie
 
-returns : tie.Need-returns
-returns c = let start : tie.Start = search in let begun = start.pre.1 in thinned-none (λ e. absurd (omega arith)) begun
+returns : tie.Need-returns-then-round-eq1
+returns c = let start : tie.Start = search in let begun = start.requires.1 in thinned-none (λ e. absurd (omega arith)) begun
 
-returns-2 : tie.Need-returns-2
-returns-2 c = let start : tie.Start = search in let begun = start.pre.1 in thinned-none (λ e. absurd (omega arith)) begun
+returns-2 : tie.Need-returns-then-round-eq2
+returns-2 c = let start : tie.Start = search in let begun = start.requires.1 in thinned-none (λ e. absurd (omega arith)) begun
 
 prune-requires : tie.Need-prune-requires
 prune-requires c κs =
-    let at-raise : tie.After-raise = search in let r = at-raise.raise.ensures in let at_count : tie.After-count = search in let n = at_count.count.ensures in
-    let start : tie.Start = search in rw n (fits-long r.long start.pre.0, raised-two r)
+    let at-raise : tie.After-raise = search in let r = at-raise.raise.ensures in let at_count : tie.After-count-n = search in let n = at_count.count-n.ensures in
+    let start : tie.Start = search in rw n (fits-long r.long start.requires.0, raised-two r)
 
 flag-requires : tie.Need-flag-requires
 flag-requires c κs =
-    let start : tie.Start = search in let a = start.args in let fits = start.pre.0 in let at-raise : tie.After-raise = search in let r = at-raise.raise.ensures in
+    let start : tie.Start = search in let a = start.args in let fits = start.requires.0 in let at-raise : tie.After-raise = search in let r = at-raise.raise.ensures in
     let at-prune : tie.After-prune = search in let p = at-prune.prune.ensures in (length a.cycle.now, p.long ∙ r.long ∙ fits.marked)
 
-returns-3 : tie.Need-returns-3
+returns-3 : tie.Need-returns
 returns-3 c =
-    let at_count : tie.After-count = search in let n = at_count.count.ensures in let at-raise : tie.After-raise = search in let r = at-raise.raise.ensures in
+    let at_count : tie.After-count-n = search in let n = at_count.count-n.ensures in let at-raise : tie.After-raise = search in let r = at-raise.raise.ensures in
     let at-prune : tie.After-prune = search in let p = at-prune.prune.ensures in let at_flag : tie.After-flag = search in thinned r (rw n at p) at_flag.flag.ensures
 
-pub thin-spec : {M : Type 1} → statement M
-thin-spec = tie.close (tie.spec returns returns-2 (λ c κs. search rules) (λ c κs. search rules) prune-requires flag-requires (λ c. search rules) returns-3)
+pub thin_spec : {M : Type 1} → statement M
+thin_spec = tie.close (tie.spec returns returns-2 (λ c κs. search rules) (λ c κs. search rules) prune-requires flag-requires (λ c. search rules) returns-3)

@@ -7,21 +7,21 @@ use Rattle.word_rows.proofs.Checks.{empty-cycle, long-lead, long-cycle, no-lengt
 use Rattle.word_rows.proofs.length_row.Statement.{statement}
 use Rattle.word_rows.proofs.length_row.Tie as tie
 
-returns : tie.Need-returns
-returns c = sym (empty-cycle c.before.args.lead.now c.before.args.cycle.now c.if1.true)
+returns : tie.Need-returns-then-cycle-eq0
+returns c = sym (empty-cycle c.before.args.lead.now c.before.args.cycle.now c.if-cycle-eq0.true)
 
-returns-2 : tie.Need-returns-2
+returns-2 : tie.Need-returns-then-lead-gt32
 returns-2 c =
     let start : tie.Start = search in let a = start.args in let over : 32 < length a.lead.now = omega arith in sym (long-lead a.lead.now a.cycle.now (omega arith) over)
 
-returns-3 : tie.Need-returns-3
+returns-3 : tie.Need-returns-then-cycle-gt32
 returns-3 c =
     let start : tie.Start = search in let a = start.args in let over : 32 < length a.cycle.now = omega arith in sym (long-cycle a.lead.now a.cycle.now (omega arith) over)
 
-returns-4 : tie.Need-returns-4
+returns-4 : tie.Need-returns
 returns-4 c =
     let start : tie.Start = search in let a = start.args in let lead-short : length a.lead.now ≤ 32 = omega arith in let cycle-short : length a.cycle.now ≤ 32 = omega arith in
     sym (no-length-row a.lead.now a.cycle.now (omega arith) lead-short cycle-short)
 
-pub length-row-spec : {M : Type 1} → statement M
-length-row-spec = tie.close (tie.spec returns returns-2 returns-3 returns-4)
+pub length_row_spec : {M : Type 1} → statement M
+length_row_spec = tie.close (tie.spec returns returns-2 returns-3 returns-4)

@@ -8,28 +8,28 @@ use Rattle.word_spelling.proofs.Walks.{NoneTo, none_first, none-next, found}
 use Rattle.word_spelling.proofs.cycle_length.Statement.{statement}
 use Rattle.word_spelling.proofs.cycle_length.Tie as tie
 
-abbrev invariant-loop : tie.invariant-loop
+abbrev invariant-loop : tie.invariant-loop-d
 invariant-loop cycle d₀ d = (1 ≤ d) × (d ≤ length cycle) × NoneTo cycle d
 
-abbrev decreases-loop : tie.decreases-loop
+abbrev decreases-loop : tie.decreases-loop-d
 decreases-loop cycle d₀ d = length cycle - d
 
-returns : tie.Need-returns invariant-loop decreases-loop
+returns : tie.Need-returns-then-comes_again invariant-loop decreases-loop
 returns c =
-    let start : tie.Start invariant-loop decreases-loop = search in let v = start.args.cycle.now in let at-loop : tie.At-loop invariant-loop decreases-loop = search in let l = at-loop.loop in
-    sym (found v l.d (omega arith) (sym c.before.comes-again.ensures ∙ c.if1.true) l.inv.2)
+    let start : tie.Start invariant-loop decreases-loop = search in let v = start.args.cycle.now in let at-loop : tie.At-loop-d invariant-loop decreases-loop = search in let l = at-loop.loop-d in
+    sym (found v l.d (omega arith) (sym c.before.comes_again.ensures ∙ c.if-comes_again.true) l.invariant.2)
 
-loop-again : tie.Need-loop-preserved invariant-loop decreases-loop
+loop-again : tie.Need-loop-d-preserved invariant-loop decreases-loop
 loop-again c =
-    let start : tie.Start invariant-loop decreases-loop = search in let v = start.args.cycle.now in let at-loop : tie.At-loop invariant-loop decreases-loop = search in let l = at-loop.loop in
-    (omega arith, omega arith, none-next v l.d (omega arith) (sym c.before.comes-again.ensures ∙ c.if1.false) l.inv.2)
+    let start : tie.Start invariant-loop decreases-loop = search in let v = start.args.cycle.now in let at-loop : tie.At-loop-d invariant-loop decreases-loop = search in let l = at-loop.loop-d in
+    (omega arith, omega arith, none-next v l.d (omega arith) (sym c.before.comes_again.ensures ∙ c.if-comes_again.false) l.invariant.2)
 
-returns-2 : tie.Need-returns-2 invariant-loop decreases-loop
+returns-2 : tie.Need-returns invariant-loop decreases-loop
 returns-2 c =
-    let start : tie.Start invariant-loop decreases-loop = search in let v = start.args.cycle.now in let l = c.before.loop in let e : l.d ≡ length v = omega arith in
-    sym (found v l.d (omega arith) (rw e (own-again v start.pre)) l.invariant.2)
+    let start : tie.Start invariant-loop decreases-loop = search in let v = start.args.cycle.now in let l = c.before.loop-d in let e : l.d ≡ length v = omega arith in
+    sym (found v l.d (omega arith) (rw e (own-again v start.requires)) l.invariant.2)
 
-pub cycle-length-spec : {M : Type 1} → statement M
-cycle-length-spec = tie.close (tie.spec
+pub cycle_length_spec : {M : Type 1} → statement M
+cycle_length_spec = tie.close (tie.spec
     invariant-loop decreases-loop (λ c. (omega arith, c.before.requires, none_first c.before.args.cycle.now)) (λ c κs. omega arith) returns (λ c. omega arith)
     (λ c. omega arith) loop-again returns-2)

@@ -11,34 +11,34 @@ use Rattle.word_spelling.proofs.Answers.{Found, found, word-refused, slice-refus
 use Rattle.word_spelling.proofs.tidy_word.Statement.{statement}
 use Rattle.word_spelling.proofs.tidy_word.Tie as tie
 
-lead-length-requires : tie.Need-lead-length-requires
-lead-length-requires c κs = let start : tie.Start = search in let a = start.args in let at-length-row : tie.After-length-row = search in
-    let s = short-of a.lead.now a.cycle.now (sym at-length-row.length-row.ensures ∙ c.before.if1.false) in
-    let most : c.cycle-length.result ≤ length a.cycle.now = rw c.cycle-length.ensures (cycle-max a.lead.now a.cycle.now s.repeats) in
+lead-length-requires : tie.Need-lead_length-m-requires
+lead-length-requires c κs = let start : tie.Start = search in let a = start.args in let at-length-row : tie.After-length_row-row = search in
+    let s = short-of a.lead.now a.cycle.now (sym at-length-row.length_row-row.ensures ∙ c.before.if-row-ne0.false) in
+    let most : c.cycle-length.result ≤ length a.cycle.now = rw c.cycle_length-p.ensures (cycle-max a.lead.now a.cycle.now s.repeats) in
     (s.repeats, most, omega (arith, s.lead-short, s.cycle-short))
 
-abbrev start-of-after-lead-length : tie.After-lead-length → tie.Start
+abbrev start-of-after-lead-length : tie.After-lead_length-m → tie.Start
 start-of-after-lead-length c = search
 
-lengths : (c : tie.After-lead-length) → Found (start-of-after-lead-length c).args.lead.now (start-of-after-lead-length c).args.cycle.now c.lead-length.result
-    c.before.cycle-length.result
+lengths : (c : tie.After-lead_length-m) → Found (start-of-after-lead-length c).args.lead.now (start-of-after-lead-length c).args.cycle.now c.lead_length-m.result
+    c.before.cycle_length-p.result
 lengths c =
-    let a = (start-of-after-lead-length c).args in let at-length-row : tie.After-length-row = search in let else1 : tie.Else1 = search in
-    found a.lead.now a.cycle.now c.lead-length.result c.before.cycle-length.result
-    (sym at-length-row.length-row.ensures ∙ else1.if1.left) c.before.cycle-length.ensures c.lead-length.ensures
+    let a = (start-of-after-lead-length c).args in let at-length-row : tie.After-length_row-row = search in let else1 : tie.Else-row-ne0 = search in
+    found a.lead.now a.cycle.now c.lead_length-m.result c.before.cycle_length-p.result
+    (sym at-length-row.length_row-row.ensures ∙ else1.if-row-ne0.false) c.before.cycle_length-p.ensures c.lead_length-m.ensures
 
-returns-2 : tie.Need-returns-2
+returns-2 : tie.Need-returns-then-out-m
 returns-2 c = let start : tie.Start = search in let a = start.args in let f = lengths c.before in
-    let short : length a.out.now < lead_length_lem a.lead.now a.cycle.now + cycle_length_lem a.cycle.now = omega (arith, f, c.if2) in
+    let short : length a.out.now < lead_length_lem a.lead.now a.cycle.now + cycle_length_lem a.cycle.now = omega (arith, f, c.if-out-m) in
     slice-refused a.lead.now a.cycle.now a.out.now f.passed short
 
-returns-3 : tie.Need-returns-3
+returns-3 : tie.Need-returns
 returns-3 c =
-    let start : tie.Start = search in let a = start.args in let f = lengths (search) in let else2 : tie.Else2 = search in let at-write-letters : tie.After-write-letters = search in
-    served a.lead.now a.cycle.now a.out.now f.passed _ _ _ f.lead f.cycle (omega (arith, else2.if2)) at-write-letters.write-letters.ensures
+    let start : tie.Start = search in let a = start.args in let f = lengths (search) in let else2 : tie.Else-out-m = search in let at-write-letters : tie.After-write_letters = search in
+    served a.lead.now a.cycle.now a.out.now f.passed _ _ _ f.lead f.cycle (omega (arith, else2.if-out-m)) at-write-letters.write_letters.ensures
 
-pub tidy-word-spec : {M : Type 1} → statement M
-tidy-word-spec = tie.close (tie.spec
-    (λ c κs. search rules) (λ c. let row = c.before.length-row in word-refused _ _ _ _ (omega arith) row.ensures)
-    (λ c κs. (short-of _ _ (sym c.before.length-row.ensures ∙ c.if1.false)).repeats) lead-length-requires (λ c. let f = lengths c in omega (arith, f)) returns-2
-    (λ c. let f = lengths c.before in omega (arith, f)) (λ c κs. let f = lengths (search) in (omega (arith, f), omega (arith, c.before.if2))) (λ c. search rules) returns-3)
+pub tidy_word_spec : {M : Type 1} → statement M
+tidy_word_spec = tie.close (tie.spec
+    (λ c κs. search rules) (λ c. let row = c.before.length_row-row in word-refused _ _ _ _ (omega arith) row.ensures)
+    (λ c κs. (short-of _ _ (sym c.before.length_row-row.ensures ∙ c.if-row-ne0.false)).repeats) lead-length-requires (λ c. let f = lengths c in omega (arith, f)) returns-2
+    (λ c. let f = lengths c.before in omega (arith, f)) (λ c κs. let f = lengths (search) in (omega (arith, f), omega (arith, c.before.if-out-m))) (λ c. search rules) returns-3)

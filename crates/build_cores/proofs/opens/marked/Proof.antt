@@ -9,8 +9,8 @@ use borrow.Author.Rules.{rules}
 use Rattle.build_cores.proofs.opens.marked.Statement.{statement}
 use Rattle.build_cores.proofs.opens.marked.Tie as tie
 
-returns : tie.Need-returns
-returns c = shifted c.before.args.q (omega arith) ∙ ap (λ (b : Bool). one b * 2 ^ c.before.args.q) (sym c.if1.true)
+returns : tie.Need-returns-then-yes
+returns c = shifted c.before.args.q (omega arith) ∙ ap (λ (b : Bool). one b * 2 ^ c.before.args.q) (sym c.if-yes.true)
 
-pub marked-spec : {M : Type 1} → statement M
-marked-spec = tie.close (tie.spec (λ c. search rules) (λ c. search rules) returns (λ c. rw c.if1.false (omega arith)))
+pub marked_spec : {M : Type 1} → statement M
+marked_spec = tie.close (tie.spec (λ c. search rules) (λ c. search rules) returns (λ c. rw c.if-yes.false (omega arith)))

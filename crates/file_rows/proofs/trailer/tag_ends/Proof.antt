@@ -8,16 +8,16 @@ use Rattle.file_spec.specs.File.{trailer, tagged}
 use Rattle.file_rows.proofs.trailer.tag_ends.Statement.{statement}
 use Rattle.file_rows.proofs.trailer.tag_ends.Tie as tie
 
-returns : tie.Need-returns
+returns : tie.Need-returns-then-trailer_byte
 unfolding tagged
 returns c = let start : tie.Start = search in let f = start.args.f.now in
-    let first : eqb (trailer f 6) 0x41 ≡ false = rw (← c.before.trailer-byte.ensures) (ne_eqb c.before.trailer-byte.result 0x41 c.if1.true) in rw first
+    let first : eqb (trailer f 6) 0x41 ≡ false = rw (← c.before.trailer_byte.ensures) (ne_eqb c.before.trailer_byte.result 0x41 c.if-trailer_byte.true) in rw first
 
-returns-2 : tie.Need-returns-2
+returns-2 : tie.Need-returns
 unfolding tagged
-returns-2 c = let start : tie.Start = search in let f = start.args.f.now in let at-trailer-byte : tie.After-trailer-byte = search in
-    let first : eqb (trailer f 6) 0x41 ≡ true = rw (← at-trailer-byte.trailer-byte.ensures) (eq-eqb at-trailer-byte.trailer-byte.result 0x41 c.before.if1.false) in
-    rw (first, c.trailer-byte2.ensures)
+returns-2 c = let start : tie.Start = search in let f = start.args.f.now in let at-trailer-byte : tie.After-trailer_byte = search in
+    let first : eqb (trailer f 6) 0x41 ≡ true = rw (← at-trailer-byte.trailer_byte.ensures) (eq-eqb at-trailer-byte.trailer_byte.result 0x41 c.before.if-trailer_byte.false) in
+    rw (first, c.trailer_byte-2.ensures)
 
-pub tag-ends-spec : {M : Type 1} → statement M
-tag-ends-spec = tie.close (tie.spec (λ c κs. search rules) (λ c. search rules) returns (λ c κs. search rules) (λ c. search rules) returns-2)
+pub tag_ends_spec : {M : Type 1} → statement M
+tag_ends_spec = tie.close (tie.spec (λ c κs. search rules) (λ c. search rules) returns (λ c κs. search rules) (λ c. search rules) returns-2)

@@ -4,14 +4,14 @@ use Rattle.hoa_laws.proofs.Taking.{byte-other, byte_inside, byte-taken}
 use Rattle.hoa_read_parts.proofs.lines.take_byte.Statement.{statement}
 use Rattle.hoa_read_parts.proofs.lines.take_byte.Tie as tie
 
-returns : tie.Need-returns
-returns c = let start : tie.Start = search in let a = start.args in (byte-other a.text.now a.p a.byte (omega arith) c.if1.true, λ n l. absurd (omega arith))
+returns : tie.Need-returns-then-text-p
+returns c = let start : tie.Start = search in let a = start.args in (byte-other a.text.now a.p a.byte (omega arith) c.if-text-p.true, λ n l. absurd (omega arith))
 
-returns-2 : tie.Need-returns-2
+returns-2 : tie.Need-returns
 returns-2 c = let start : tie.Start = search in let a = start.args in (
-  byte-taken a.text.now a.p a.byte (omega arith) c.if1.false,
-  λ n l. byte_inside a.text.now a.p a.byte start.pre.0 (omega arith) c.if1.false n,
+  byte-taken a.text.now a.p a.byte (omega arith) c.if-text-p.false,
+  λ n l. byte_inside a.text.now a.p a.byte start.requires.0 (omega arith) c.if-text-p.false n,
 )
 
-pub take-byte-spec : {M : Type 1} → statement M
-take-byte-spec = tie.close (tie.spec (λ c. omega arith) returns (λ c. omega arith) returns-2)
+pub take_byte_spec : {M : Type 1} → statement M
+take_byte_spec = tie.close (tie.spec (λ c. omega arith) returns (λ c. omega arith) returns-2)

@@ -15,45 +15,45 @@ use Rattle.hoa_laws.proofs.Sums.{sum-none, sum-next, sum-all}
 use Rattle.hoa_text.proofs.lengths.edges_length.Statement.{statement}
 use Rattle.hoa_text.proofs.lengths.edges_length.Tie as tie
 
-abbrev invariant-loop : tie.invariant-loop
+abbrev invariant-loop : tie.invariant-loop-i
 invariant-loop b moves m total₀ i₀ total i = (i ≤ length moves / 8) × (total ≡ length (lines (edge_of b) 0 (take i (words_in moves)))) × (total ≤ 20 * i)
 
-abbrev decreases-loop : tie.decreases-loop
+abbrev decreases-loop : tie.decreases-loop-i
 decreases-loop b moves m total₀ i₀ total i = length moves / 8 - i
 
 abbrev Start : Type 0
 Start = tie.Start invariant-loop decreases-loop
 
-loop-holds : tie.Need-loop-init invariant-loop decreases-loop
+loop-holds : tie.Need-loop-i-init invariant-loop decreases-loop
 loop-holds c = let a = c.before.args in (omega arith, sum-none (edge_of a.b) (words_in a.moves.now), omega arith)
 
 -- its line is short
-short : (c : tie.After-target-of invariant-loop decreases-loop) → let start : Start = search in
-    length (edge_line start.args.b c.before.letter-of.result c.target-of.result) ≤ 20
-short c = let start : Start = search in edge-short start.args.b c.before.letter-of.result c.target-of.result start.pre.0
-    (omega (arith, c.target-of.ensures))
+short : (c : tie.After-target_of-target invariant-loop decreases-loop) → let start : Start = search in
+    length (edge_line start.args.b c.before.letter_of-letter.result c.target_of-target.result) ≤ 20
+short c = let start : Start = search in edge-short start.args.b c.before.letter_of-letter.result c.target_of-target.result start.requires.0
+    (omega (arith, c.target_of-target.ensures))
 
-edge-length-requires : tie.Need-edge-length-requires invariant-loop decreases-loop
-edge-length-requires c κs = let start : Start = search in (start.pre.0, omega (arith, c.target-of.ensures))
+edge-length-requires : tie.Need-edge_length-total-requires invariant-loop decreases-loop
+edge-length-requires c κs = let start : Start = search in (start.requires.0, omega (arith, c.target_of-target.ensures))
 
-add_total : tie.Need-overflow-add-total invariant-loop decreases-loop
-add_total c = let start : Start = search in omega (arith, c.edge-length.ensures, short c.before, start.pre.1, words-in-length start.args.moves.now)
+add_total : tie.Need-overflow_add-total invariant-loop decreases-loop
+add_total c = let start : Start = search in omega (arith, c.edge_length-total.ensures, short c.before, start.requires.1, words-in-length start.args.moves.now)
 
-loop-again : tie.Need-loop-preserved invariant-loop decreases-loop
+loop-again : tie.Need-loop-i-preserved invariant-loop decreases-loop
 loop-again c =
-    let start : Start = search in let a = start.args in let at-loop : tie.At-loop invariant-loop decreases-loop = search in let l = at-loop.loop in
-    let among : l.i < length (words_in a.moves.now) = omega (arith, words-in-length a.moves.now) in let at-number-at : tie.After-number-at invariant-loop decreases-loop = search in
-    let t = at-number-at.number_at.ensures in let at-letter-of : tie.After-letter-of invariant-loop decreases-loop = search in
+    let start : Start = search in let a = start.args in let at-loop : tie.At-loop-i invariant-loop decreases-loop = search in let l = at-loop.loop-i in
+    let among : l.i < length (words_in a.moves.now) = omega (arith, words-in-length a.moves.now) in let at-number-at : tie.After-number_at-t invariant-loop decreases-loop = search in
+    let t = at-number-at.number_at-t.ensures in let at-letter-of : tie.After-letter_of-letter invariant-loop decreases-loop = search in
     let text : edge_line a.b at-letter-of.letter-of.result c.before.target-of.result ≡ edge_of a.b l.i (get_or (words_in a.moves.now) l.i 0) =
-    ap₂ (λ (x y : ℕ). edge_line a.b x y) (at-letter-of.letter-of.ensures ∙ ap letter_of_lem t) (c.before.target-of.ensures ∙ ap target_of t) in
-    let total = sum-next (edge_of a.b) (words_in a.moves.now) l.i l.total (edge_line a.b at-letter-of.letter-of.result c.before.target-of.result) among l.inv.1 text in
-    (omega arith, omega (arith, total, c.edge-length.ensures), omega (arith, l.inv.2, c.edge-length.ensures, short c.before))
+    ap₂ (λ (x y : ℕ). edge_line a.b x y) (at-letter-of.letter_of-letter.ensures ∙ ap letter_of_lem t) (c.before.target_of-target.ensures ∙ ap target_of t) in
+    let total = sum-next (edge_of a.b) (words_in a.moves.now) l.i l.total (edge_line a.b at-letter-of.letter_of-letter.result c.before.target_of-target.result) among l.invariant.1 text in
+    (omega arith, omega (arith, total, c.edge_length-total.ensures), omega (arith, l.invariant.2, c.edge_length-total.ensures, short c.before))
 
 returns : tie.Need-returns invariant-loop decreases-loop
-returns c = let start : Start = search in let a = start.args in let l = c.before.loop in
-    sum-all (edge_of a.b) (words_in a.moves.now) l.i l.total (omega (arith, c.loop-test.false, words-in-length a.moves.now)) l.invariant.1
+returns c = let start : Start = search in let a = start.args in let l = c.before.loop-i in
+    sum-all (edge_of a.b) (words_in a.moves.now) l.i l.total (omega (arith, c.loop-i-test.false, words-in-length a.moves.now)) l.invariant.1
 
-pub edges-length-spec : {M : Type 1} → statement M
-edges-length-spec = tie.close (tie.spec
+pub edges_length_spec : {M : Type 1} → statement M
+edges_length_spec = tie.close (tie.spec
     invariant-loop decreases-loop loop-holds (λ c κs. let start : Start = search in omega (arith, words-in-length start.args.moves.now)) (λ c κs. search rules)
     (λ c κs. search rules) edge-length-requires add_total (λ c. omega arith) (λ c. omega arith) loop-again returns)

@@ -15,17 +15,17 @@ use Rattle.hoa_text.proofs.lines.put_ap.Tie as tie
 long : (s : tie.Start) → length (ap_line s.args.b) ≡ 5 * s.args.b + 6
 long s = ap-length s.args.b s.requires.0
 
-returns-5 : tie.Need-returns-5
-returns-5 c = let start : tie.Start = search in let e : start.args.b ≡ 4 = omega arith in let at-put5 : tie.After-put5 = search in put_as (ap ap_line e ∙ ap-4) at-put5.put5.ensures
+returns-5 : tie.Need-returns
+returns-5 c = let start : tie.Start = search in let e : start.args.b ≡ 4 = omega arith in let at-put5 : tie.After-put-2 = search in put_as (ap ap_line e ∙ ap-4) at-put5.put-2.ensures
 
-pub put-ap-spec : {M : Type 1} → statement M
-put-ap-spec = tie.close (tie.spec
+pub put_ap_spec : {M : Type 1} → statement M
+put_ap_spec = tie.close (tie.spec
     (λ c. search rules) (λ c κs. omega (arith, long (search))) (λ c. search rules)
-    (λ c. let then1 : tie.Then1 = search in let at-put : tie.After-put = search in put_as (ap ap_line then1.if1.taken ∙ ap-0) at-put.put.ensures) (λ c. search rules)
+    (λ c. let then1 : tie.Then-b-eq0 = search in let at-put : tie.After-put = search in put_as (ap ap_line then1.if-b-eq0.true ∙ ap-0) at-put.put.ensures) (λ c. search rules)
     (λ c κs. omega (arith, long (search))) (λ c. search rules)
-    (λ c. let then2 : tie.Then2 = search in let at-put2 : tie.After-put2 = search in put_as (ap ap_line then2.if2.taken ∙ ap-1) at-put2.put2.ensures) (λ c. search rules)
+    (λ c. let then2 : tie.Then-b-eq1 = search in let at-put2 : tie.After-put-then-b-eq1 = search in put_as (ap ap_line then2.if-b-eq1.true ∙ ap-1) at-put2.put-then-b-eq1.ensures) (λ c. search rules)
     (λ c κs. omega (arith, long (search))) (λ c. search rules)
-    (λ c. let then3 : tie.Then3 = search in let at-put3 : tie.After-put3 = search in put_as (ap ap_line then3.if3.taken ∙ ap-2) at-put3.put3.ensures) (λ c. search rules)
+    (λ c. let then3 : tie.Then-b-eq2 = search in let at-put3 : tie.After-put-then-b-eq2 = search in put_as (ap ap_line then3.if-b-eq2.true ∙ ap-2) at-put3.put-then-b-eq2.ensures) (λ c. search rules)
     (λ c κs. omega (arith, long (search))) (λ c. search rules)
-    (λ c. let then4 : tie.Then4 = search in let at-put4 : tie.After-put4 = search in put_as (ap ap_line then4.if4.taken ∙ ap-3) at-put4.put4.ensures) (λ c. search rules)
+    (λ c. let then4 : tie.Then-b-eq3 = search in let at-put4 : tie.After-put-then-b-eq3 = search in put_as (ap ap_line then4.if-b-eq3.true ∙ ap-3) at-put4.put-then-b-eq3.ensures) (λ c. search rules)
     (λ c κs. omega (arith, long (search))) (λ c. search rules) returns-5)

@@ -18,13 +18,13 @@ long s = edge-length s.args.b s.args.letter s.args.target
 returns : tie.Need-returns
 unfolding edge_line
 returns c =
-    let at-put-byte2 : tie.After-put-byte2 = search in let at-put-label : tie.After-put-label = search in let at-put-byte : tie.After-put-byte = search in
-    let at-put-number : tie.After-put-number = search in let at-put-byte3 : tie.After-put-byte3 = search in
-    put_then at-put-byte.put_byte.ensures (put_then at-put-label.put-label.ensures (put_then at-put-byte2.put-byte2.ensures
-    (put_then at-put-number.put-number.ensures at-put-byte3.put-byte3.ensures)))
+    let at-put-byte2 : tie.After-put_byte-d = search in let at-put-label : tie.After-put_label-c = search in let at-put-byte : tie.After-put_byte-a = search in
+    let at-put-number : tie.After-put_number-e = search in let at-put-byte3 : tie.After-put_byte = search in
+    put_then at-put-byte.put_byte-a.ensures (put_then at-put-label.put_label-c.ensures (put_then at-put-byte2.put_byte-d.ensures
+    (put_then at-put-number.put_number-e.ensures at-put-byte3.put_byte.ensures)))
 
-pub put-edge-spec : {M : Type 1} → statement M
-put-edge-spec = tie.close (tie.spec
-    (λ c κs. omega (arith, long (search))) (λ c κs. let start : tie.Start = search in (start.pre.0, omega (arith, long (search))))
+pub put_edge_spec : {M : Type 1} → statement M
+put_edge_spec = tie.close (tie.spec
+    (λ c κs. omega (arith, long (search))) (λ c κs. let start : tie.Start = search in (start.requires.0, omega (arith, long (search))))
     (λ c κs. omega (arith, long (search))) (λ c κs. omega (arith, long (search))) (λ c κs. omega (arith, long (search)))
     (λ c. search rules) returns)

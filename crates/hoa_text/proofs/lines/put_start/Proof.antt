@@ -18,24 +18,24 @@ use Rattle.hoa_text.proofs.lines.put_start.Tie as tie
 line-is : (initial value : Bool) (number : ℕ) → initial ≡ value → cond initial (start_line number) [] ≡ cond value (start_line number) []
 line-is initial value number e = ap (λ (b : Bool). cond b (start_line number) []) e
 
-returns : tie.Need-returns
+returns : tie.Need-returns-then-not-initial
 returns c = let start : tie.Start = search in let a = start.args in
-    put_as (line-is a.initial false a.number (not-true a.initial c.if1.true)) (put-none a.out.now a.at (omega arith))
+    put_as (line-is a.initial false a.number (not-true a.initial c.if-not-initial.true)) (put-none a.out.now a.at (omega arith))
 
 -- how long the line is
-long : (c : tie.Else1) → let start : tie.Start = search in
+long : (c : tie.Else-not-initial) → let start : tie.Start = search in
     let a = start.args in length (cond a.initial (start_line a.number) []) ≡ length (word a.number) + 7
-long c = let start : tie.Start = search in let a = start.args in ap length (line-is a.initial true a.number (not-false a.initial c.if1.false)) ∙ start-length a.number
+long c = let start : tie.Start = search in let a = start.args in ap length (line-is a.initial true a.number (not-false a.initial c.if-not-initial.false)) ∙ start-length a.number
 
-returns-2 : tie.Need-returns-2
+returns-2 : tie.Need-returns
 unfolding start_line
 returns-2 c =
-    let start : tie.Start = search in let a = start.args in let at-put : tie.After-put = search in let else1 : tie.Else1 = search in let at-put-number : tie.After-put-number = search in
-    let at-put-byte : tie.After-put-byte = search in
-    put_as (line-is a.initial true a.number (not-false a.initial else1.if1.left))
-    (put_then at-put.put.ensures (put_then at-put-number.put-number.ensures at-put-byte.put_byte.ensures))
+    let start : tie.Start = search in let a = start.args in let at-put : tie.After-put-a = search in let else1 : tie.Else-not-initial = search in let at-put-number : tie.After-put_number-b = search in
+    let at-put-byte : tie.After-put_byte = search in
+    put_as (line-is a.initial true a.number (not-false a.initial else1.if-not-initial.false))
+    (put_then at-put.put-a.ensures (put_then at-put-number.put_number-b.ensures at-put-byte.put_byte.ensures))
 
-pub put-start-spec : {M : Type 1} → statement M
-put-start-spec = tie.close (tie.spec
+pub put_start_spec : {M : Type 1} → statement M
+put_start_spec = tie.close (tie.spec
     returns (λ c. search rules) (λ c κs. omega (arith, long (search))) (λ c κs. omega (arith, long (search)))
     (λ c κs. omega (arith, long (search))) (λ c. search rules) returns-2)

@@ -15,35 +15,35 @@ use Rattle.hoa_text.proofs.lines.put_state.Tie as tie
 line-is : (accepting value : Bool) (number : ℕ) → accepting ≡ value → state_line number accepting ≡ state_line number value
 line-is accepting value number e = ap (state_line number) e
 
-put-requires : tie.Need-put-requires
+put-requires : tie.Need-put-a-requires
 put-requires c κs = let start : tie.Start = search in let a = start.args in omega (arith, state-length a.number a.accepting)
 
-put-number-requires : tie.Need-put-number-requires
+put-number-requires : tie.Need-put_number-b-requires
 put-number-requires c κs = let start : tie.Start = search in let a = start.args in omega (arith, state-length a.number a.accepting)
 
-put-requires-2 : tie.Need-put-requires-2
-put-requires-2 c κs = let start : tie.Start = search in let a = start.args in let then1 : tie.Then1 = search in
-    omega (arith, state-length a.number true, ap length (line-is a.accepting true a.number then1.if1.taken))
+put-requires-2 : tie.Need-put-requires
+put-requires-2 c κs = let start : tie.Start = search in let a = start.args in let then1 : tie.Then-accepting = search in
+    omega (arith, state-length a.number true, ap length (line-is a.accepting true a.number then1.if-accepting.true))
 
-returns : tie.Need-returns
+returns : tie.Need-returns-then-accepting
 unfolding state_line
 returns c =
-    let start : tie.Start = search in let a = start.args in let at-put-number : tie.After-put-number = search in let at-put : tie.After-put = search in let then1 : tie.Then1 = search in
-    let at-put2 : tie.After-put2 = search in put_as (line-is a.accepting true a.number then1.if1.taken)
-    (put_then at-put.put.ensures (put_then at-put-number.put-number.ensures at-put2.put2.ensures))
+    let start : tie.Start = search in let a = start.args in let at-put-number : tie.After-put_number-b = search in let at-put : tie.After-put-a = search in let then1 : tie.Then-accepting = search in
+    let at-put2 : tie.After-put = search in put_as (line-is a.accepting true a.number then1.if-accepting.true)
+    (put_then at-put.put-a.ensures (put_then at-put-number.put_number-b.ensures at-put2.put.ensures))
 
-put-byte-requires : tie.Need-put-byte-requires
+put-byte-requires : tie.Need-put_byte-requires
 put-byte-requires c κs =
-    let start : tie.Start = search in let a = start.args in omega (arith, state-length a.number false, ap length (line-is a.accepting false a.number c.before.if1.false))
+    let start : tie.Start = search in let a = start.args in omega (arith, state-length a.number false, ap length (line-is a.accepting false a.number c.before.if-accepting.false))
 
-returns-2 : tie.Need-returns-2
+returns-2 : tie.Need-returns
 unfolding state_line
 returns-2 c =
-    let start : tie.Start = search in let a = start.args in let at-put-number : tie.After-put-number = search in let at-put : tie.After-put = search in let else1 : tie.Else1 = search in
-    let at-put-byte : tie.After-put-byte = search in put_as (line-is a.accepting false a.number else1.if1.left)
-    (put_then at-put.put.ensures (put_then at-put-number.put-number.ensures at-put-byte.put_byte.ensures))
+    let start : tie.Start = search in let a = start.args in let at-put-number : tie.After-put_number-b = search in let at-put : tie.After-put-a = search in let else1 : tie.Else-accepting = search in
+    let at-put-byte : tie.After-put_byte = search in put_as (line-is a.accepting false a.number else1.if-accepting.false)
+    (put_then at-put.put-a.ensures (put_then at-put-number.put_number-b.ensures at-put-byte.put_byte.ensures))
 
-pub put-state-spec : {M : Type 1} → statement M
-put-state-spec = tie.close (tie.spec
+pub put_state_spec : {M : Type 1} → statement M
+put_state_spec = tie.close (tie.spec
     (λ c. search rules) put-requires put-number-requires (λ c. search rules) put-requires-2 (λ c. search rules) returns put-byte-requires (λ c. search rules)
     returns-2)

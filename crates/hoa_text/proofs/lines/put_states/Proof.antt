@@ -10,11 +10,11 @@ use Rattle.hoa_text.proofs.lines.put_states.Tie as tie
 returns : tie.Need-returns
 unfolding states_line
 returns c =
-    let at-put : tie.After-put = search in let at-put-number : tie.After-put-number = search in let at-put-byte : tie.After-put-byte = search in
-    put_then at-put.put.ensures (put_then at-put-number.put-number.ensures at-put-byte.put_byte.ensures)
+    let at-put : tie.After-put-a = search in let at-put-number : tie.After-put_number-b = search in let at-put-byte : tie.After-put_byte = search in
+    put_then at-put.put-a.ensures (put_then at-put-number.put_number-b.ensures at-put-byte.put_byte.ensures)
 
-pub put-states-spec : {M : Type 1} → statement M
-put-states-spec = tie.close (tie.spec
+pub put_states_spec : {M : Type 1} → statement M
+put_states_spec = tie.close (tie.spec
     (λ c. search rules) (λ c κs. let start : tie.Start = search in omega (arith, states-length start.args.states))
     (λ c κs. let start : tie.Start = search in omega (arith, states-length start.args.states))
     (λ c κs. let start : tie.Start = search in omega (arith, states-length start.args.states)) (λ c. search rules) returns)

@@ -8,6 +8,6 @@ use Rattle.hoa_text.proofs.table.number_at.Tie as tie
 returns : tie.Need-returns
 returns c = let start : tie.Start = search in let a = start.args in c.word_at.ensures ∙ sym (words-in-at a.bytes.now a.i (omega (arith, words-in-length a.bytes.now)))
 
-pub number-at-spec : {M : Type 1} → statement M
-number-at-spec = tie.close (tie.spec
+pub number_at_spec : {M : Type 1} → statement M
+number_at_spec = tie.close (tie.spec
     (λ c. omega (arith, words-in-length c.before.args.bytes.now)) (λ c κs. omega (arith, words-in-length c.before.args.bytes.now)) returns)

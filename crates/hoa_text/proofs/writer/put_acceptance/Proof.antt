@@ -6,7 +6,7 @@ use Rattle.hoa_text.proofs.writer.put_acceptance.Statement.{statement}
 use Rattle.hoa_text.proofs.writer.put_acceptance.Tie as tie
 
 returns : tie.Need-returns
-returns c = let at-put : tie.After-put = search in let at-put2 : tie.After-put2 = search in put_then at-put.put.ensures at-put2.put2.ensures
+returns c = let at-put : tie.After-put-a = search in let at-put2 : tie.After-put = search in put_then at-put.put-a.ensures at-put2.put.ensures
 
-pub put-acceptance-spec : {M : Type 1} → statement M
-put-acceptance-spec = tie.close (tie.spec (λ c. search rules) (λ c κs. omega arith) (λ c. search rules) (λ c κs. omega arith) (λ c. search rules) returns)
+pub put_acceptance_spec : {M : Type 1} → statement M
+put_acceptance_spec = tie.close (tie.spec (λ c. search rules) (λ c κs. omega arith) (λ c. search rules) (λ c κs. omega arith) (λ c. search rules) returns)

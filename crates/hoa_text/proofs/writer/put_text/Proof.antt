@@ -14,7 +14,7 @@ use Rattle.hoa_laws.proofs.Bound.{text-sum}
 use Rattle.hoa_text.proofs.writer.put_text.Statement.{statement}
 use Rattle.hoa_text.proofs.writer.put_text.Tie as tie
 
-abbrev start-of-at-put-ap-arg : tie.After-put-ap-arg → tie.Start
+abbrev start-of-at-put-ap-arg : tie.After-put_ap-arg-1 → tie.Start
 start-of-at-put-ap-arg c = search
 
 -- all parts fit
@@ -24,23 +24,23 @@ room : (s : tie.Start) → let a = s.args in let flags = flags_of (initial_at a.
 room s = let a = s.args in
     omega (arith, text-sum a.b (flags_of (initial_at a.initial) (words_in a.codes.now)) (words_in a.moves.now), ap length (states-is (initial_at a.initial) a.codes.now), s.requires.3)
 
-put-blocks-requires : tie.Need-put-blocks-requires
-put-blocks-requires c κs = let at-put-starts-arg : tie.After-put-starts-arg = search in let start : tie.Start = search in (start.pre.0, start.pre.2, omega (arith, room start))
+put-blocks-requires : tie.Need-put_blocks-h-requires
+put-blocks-requires c κs = let at-put-starts-arg : tie.After-put_starts-arg-1 = search in let start : tie.Start = search in (start.requires.0, start.requires.2, omega (arith, room start))
 
 returns : tie.Need-returns
 unfolding automaton_text
 returns c =
-    let start : tie.Start = start-of-at-put-ap-arg (search) in let a = start.args in let at-put-blocks : tie.After-put-blocks = search in
-    let at-put-acceptance : tie.After-put-acceptance = search in let at-put-ap : tie.After-put-ap = search in let at-put-starts : tie.After-put-starts = search in
-    let at-put-states : tie.After-put-states = search in let at-put : tie.After-put = search in let at-put2 : tie.After-put2 = search in
-    put_then at-put.put.ensures
-    (put_then (put_as (states-is (initial_at a.initial) a.codes.now) at-put-states.put-states.ensures)
-    (put_then at-put-starts.put-starts.ensures (put_then at-put-ap.put-ap.ensures
-    (put_then at-put-acceptance.put-acceptance.ensures (put_then at-put-blocks.put-blocks.ensures at-put2.put2.ensures)))))
+    let start : tie.Start = start-of-at-put-ap-arg (search) in let a = start.args in let at-put-blocks : tie.After-put_blocks-h = search in
+    let at-put-acceptance : tie.After-put_acceptance-g = search in let at-put-ap : tie.After-put_ap-f = search in let at-put-starts : tie.After-put_starts-e = search in
+    let at-put-states : tie.After-put_states-d = search in let at-put : tie.After-put-c = search in let at-put2 : tie.After-put = search in
+    put_then at-put.put-c.ensures
+    (put_then (put_as (states-is (initial_at a.initial) a.codes.now) at-put-states.put_states-d.ensures)
+    (put_then at-put-starts.put_starts-e.ensures (put_then at-put-ap.put_ap-f.ensures
+    (put_then at-put-acceptance.put_acceptance-g.ensures (put_then at-put-blocks.put_blocks-h.ensures at-put2.put.ensures)))))
 
-pub put-text-spec : {M : Type 1} → statement M
-put-text-spec = tie.close (tie.spec
+pub put_text_spec : {M : Type 1} → statement M
+put_text_spec = tie.close (tie.spec
     (λ c. search rules) (λ c κs. omega (arith, room (search))) (λ c κs. omega (arith, room (search)))
-    (λ c κs. let start : tie.Start = search in (start.pre.1, omega (arith, room start))) (λ c κs. let start : tie.Start = search in (start.pre.0, omega (arith, room start)))
-    (λ c κs. omega (arith, room (search))) put-blocks-requires (λ c. search rules) (λ c κs. let at-out3 : tie.After-out3 = search in omega (arith, room (search)))
+    (λ c κs. let start : tie.Start = search in (start.requires.1, omega (arith, room start))) (λ c κs. let start : tie.Start = search in (start.requires.0, omega (arith, room start)))
+    (λ c κs. omega (arith, room (search))) put-blocks-requires (λ c. search rules) (λ c κs. let at-out3 : tie.After-out-3-1 = search in omega (arith, room (search)))
     (λ c. search rules) returns)

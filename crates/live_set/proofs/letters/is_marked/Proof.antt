@@ -14,5 +14,5 @@ returns : tie.Need-returns
 unfolding is_marked_lem
 returns c = let start : tie.Start = search in let a = start.args in ap (λ (v : ℕ). not (eqb v 0)) c.byte_at.ensures ∙ not-zero (get_or a.state.now (2 + a.m) 0)
 
-pub is-marked-spec : {M : Type 1} → statement M
-is-marked-spec = tie.close (tie.spec (λ c. search rules) (λ c κs. search rules) returns)
+pub is_marked_spec : {M : Type 1} → statement M
+is_marked_spec = tie.close (tie.spec (λ c. search rules) (λ c κs. search rules) returns)

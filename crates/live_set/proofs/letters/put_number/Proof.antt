@@ -12,6 +12,6 @@ returns : tie.Need-returns
 unfolding two_bytes
 returns c = let a = c.args in put_two a.at (a.n % 256) (a.n / 256) a.state.now c.requires.1
 
-pub put-number-spec : {M : Type 1} → statement M
-put-number-spec = tie.close (tie.spec
+pub put_number_spec : {M : Type 1} → statement M
+put_number_spec = tie.close (tie.spec
     (λ c. search rules) (λ c. search rules) (λ c. search rules) (λ c. search rules) (λ c. simp length-set (omega arith)) (λ c. search rules) returns)

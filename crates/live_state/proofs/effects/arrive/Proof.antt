@@ -15,20 +15,20 @@ use Rattle.live_state.proofs.effects.arrive.Tie as tie
 
 step-requires : tie.Need-step-requires
 step-requires c κs =
-    let start : tie.Start = search in let a = start.args in let pre = start.pre.0 in let w = words-in-length a.codes.now in let at-put-number : tie.After-put-number = search in
-    let at-put-byte : tie.After-put-byte = search in (rw (sym w) pre.inside, omega (arith, w, pre.few, pre.long, at-put-byte.put_byte.kept.0, at-put-number.put-number.kept.0))
+    let start : tie.Start = search in let a = start.args in let pre = start.requires.0 in let w = words-in-length a.codes.now in let at-put-number : tie.After-put_number = search in
+    let at-put-byte : tie.After-put_byte = search in (rw (sym w) pre.inside, omega (arith, w, pre.few, pre.long, at-put-byte.put_byte.auto.0, at-put-number.put_number.auto.0))
 
 returns : tie.Need-returns
 unfolding numbered
 returns c =
-    let start : tie.Start = search in let a = start.args in let pre = start.pre in let ts = words_in a.transitions.now in let at-number-at : tie.After-number-at = search in
-    let n = at-number-at.number_at.ensures in let at-put-number : tie.After-put-number = search in let at-put-byte : tie.After-put-byte = search in
+    let start : tie.Start = search in let a = start.args in let pre = start.requires in let ts = words_in a.transitions.now in let at-number-at : tie.After-number_at-n = search in
+    let n = at-number-at.number_at-n.ensures in let at-put-number : tie.After-put_number = search in let at-put-byte : tie.After-put_byte = search in
     let written = at-put-byte.put_byte.ensures ∙ ap₂ (λ (k : ℕ) (s : List ℕ). put (letters_at_byte + k) (a.letter ∷ []) s) n
-    (at-put-number.put-number.ensures ∙ ap (λ (k : ℕ). put 0 (two_bytes (k + 1)) a.state.now) n) in
+    (at-put-number.put_number.ensures ∙ ap (λ (k : ℕ). put 0 (two_bytes (k + 1)) a.state.now) n) in
     let at-step : tie.After-step = search in λ initial. at-step.step.ensures
     ∙ ap₂ (λ (k : ℕ) (s : List ℕ). with_set (stepped k ts a.letter (set_bytes s)) s) (sym (words-in-length a.codes.now)) written
     ∙ arrived-end a.state.now pre.0.long initial a.letter (words_in a.codes.now) ts pre.1
 
-pub arrive-spec : {M : Type 1} → statement M
-arrive-spec = tie.close (tie.spec
+pub arrive_spec : {M : Type 1} → statement M
+arrive_spec = tie.close (tie.spec
     (λ c κs. search rules) (λ c. search rules) (λ c κs. search rules) (λ c. search rules) (λ c κs. search rules) step-requires (λ c. search rules) returns)

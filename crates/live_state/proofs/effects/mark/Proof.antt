@@ -13,23 +13,23 @@ use borrow.Author.Rules.{rules}
 use Rattle.live_state.proofs.effects.mark.Statement.{statement}
 use Rattle.live_state.proofs.effects.mark.Tie as tie
 
-put-number-requires : tie.Need-put-number-requires
+put-number-requires : tie.Need-put_number-requires
 put-number-requires c κs =
-    let start : tie.Start = search in let a = start.args in let at-number-at : tie.After-number-at = search in let at-put-byte : tie.After-put-byte = search in
-    (omega (arith, number-low a.state.now, at-number-at.number_at.ensures), omega (arith, start.pre.1, at-put-byte.put_byte.kept.0))
+    let start : tie.Start = search in let a = start.args in let at-number-at : tie.After-number_at-n = search in let at-put-byte : tie.After-put_byte = search in
+    (omega (arith, number-low a.state.now, at-number-at.number_at-n.ensures), omega (arith, start.requires.1, at-put-byte.put_byte.auto.0))
 
-copy-letters-requires : tie.Need-copy-letters-requires
+copy-letters-requires : tie.Need-copy_letters-requires
 copy-letters-requires c κs =
-    let start : tie.Start = search in let pre = start.pre in let at-put-byte : tie.After-put-byte = search in let first = at-put-byte.put_byte.kept.0 in
-    let at-put-number : tie.After-put-number = search in let second = at-put-number.put-number.kept.0 in
+    let start : tie.Start = search in let pre = start.requires in let at-put-byte : tie.After-put_byte = search in let first = at-put-byte.put_byte.auto.0 in
+    let at-put-number : tie.After-put_number = search in let second = at-put-number.put_number.auto.0 in
     (omega (arith, pre.1, first, second), omega (arith, pre.0, pre.1, first, second), inl (omega arith))
 
 returns : tie.Need-returns
 returns c =
-    let start : tie.Start = search in let a = start.args in let pre = start.pre in let at-put-byte : tie.After-put-byte = search in let at-number-at : tie.After-number-at = search in
-    let at-put-number : tie.After-put-number = search in let written = at-put-number.put-number.ensures
-    ∙ ap₂ (λ (k : ℕ) (s : List ℕ). put (mark_number_at a.m) (two_bytes k) s) at-number-at.number_at.ensures at-put-byte.put_byte.ensures in
-    let at-copy-letters : tie.After-copy-letters = search in at-copy-letters.copy-letters.ensures
+    let start : tie.Start = search in let a = start.args in let pre = start.requires in let at-put-byte : tie.After-put_byte = search in let at-number-at : tie.After-number_at-n = search in
+    let at-put-number : tie.After-put_number = search in let written = at-put-number.put_number.ensures
+    ∙ ap₂ (λ (k : ℕ) (s : List ℕ). put (mark_number_at a.m) (two_bytes k) s) at-number-at.number_at-n.ensures at-put-byte.put_byte.ensures in
+    let at-copy-letters : tie.After-copy_letters = search in at-copy-letters.copy_letters.ensures
     ∙ ap (λ (s : List ℕ). put (mark_letters_at a.m) (take 512 (drop letters_at_byte s)) s) written
     ∙ marked-end a.state.now pre.1 a.m pre.0
 

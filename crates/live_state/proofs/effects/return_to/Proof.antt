@@ -14,32 +14,32 @@ use borrow.Author.Rules.{rules}
 use Rattle.live_state.proofs.effects.return_to.Statement.{statement}
 use Rattle.live_state.proofs.effects.return_to.Tie as tie
 
-put-number-requires : tie.Need-put-number-requires
+put-number-requires : tie.Need-put_number-requires
 put-number-requires c κs = let start : tie.Start = search in let a = start.args in
-    (omega (arith, number-at-low a.state.now (mark_number_at a.m), c.before.number_at.ensures), omega (arith, start.pre.2.long))
+    (omega (arith, number-at-low a.state.now (mark_number_at a.m), c.before.number_at-n.ensures), omega (arith, start.requires.2.long))
 
-copy-letters-requires : tie.Need-copy-letters-requires
+copy-letters-requires : tie.Need-copy_letters-requires
 copy-letters-requires c κs =
-    let start : tie.Start = search in let pre = start.pre in let at-put-number : tie.After-put-number = search in let first = at-put-number.put-number.kept.0 in
+    let start : tie.Start = search in let pre = start.requires in let at-put-number : tie.After-put_number = search in let first = at-put-number.put_number.auto.0 in
     (omega (arith, pre.0, pre.2.long, first), omega (arith, pre.2.long, first), inr (omega arith))
 
 refresh-requires : tie.Need-refresh-requires
 refresh-requires c κs =
-    let start : tie.Start = search in let pre = start.pre in let at-put-number : tie.After-put-number = search in let at-copy-letters : tie.After-copy-letters = search in
-    (pre.1, record { few = pre.2.few; inside = pre.2.inside; long = omega (arith, pre.2.long, at-copy-letters.copy-letters.kept.0, at-put-number.put-number.kept.0) })
+    let start : tie.Start = search in let pre = start.requires in let at-put-number : tie.After-put_number = search in let at-copy-letters : tie.After-copy_letters = search in
+    (pre.1, record { few = pre.2.few; inside = pre.2.inside; long = omega (arith, pre.2.long, at-copy-letters.copy_letters.auto.0, at-put-number.put_number.auto.0) })
 
 returns : tie.Need-returns
 unfolding returned numbered
 returns c =
-    let start : tie.Start = search in let a = start.args in let pre = start.pre in let at-put-number : tie.After-put-number = search in let at-number-at : tie.After-number-at = search in
-    let number = at-put-number.put-number.ensures ∙ ap (λ (k : ℕ). put 0 (two_bytes k) a.state.now) at-number-at.number_at.ensures in
-    let at-copy-letters : tie.After-copy-letters = search in let written = at-copy-letters.copy-letters.ensures
+    let start : tie.Start = search in let a = start.args in let pre = start.requires in let at-put-number : tie.After-put_number = search in let at-number-at : tie.After-number_at-n = search in
+    let number = at-put-number.put_number.ensures ∙ ap (λ (k : ℕ). put 0 (two_bytes k) a.state.now) at-number-at.number_at-n.ensures in
+    let at-copy-letters : tie.After-copy_letters = search in let written = at-copy-letters.copy_letters.ensures
     ∙ ap (λ (s : List ℕ). put letters_at_byte (take 512 (drop (mark_letters_at a.m) s)) s) number
     ∙ returned-letters a.state.now pre.2.long a.m (number_at_lem a.state.now (mark_number_at a.m)) in
     let at-refresh : tie.After-refresh = search in at-refresh.refresh.ensures
     ∙ ap (λ (s : List ℕ). refreshed a.initial (words_in a.codes.now) (words_in a.transitions.now) s) written
 
-pub return-to-spec : {M : Type 1} → statement M
-return-to-spec = tie.close (tie.spec
+pub return_to_spec : {M : Type 1} → statement M
+return_to_spec = tie.close (tie.spec
     (λ c. search rules) (λ c. search rules) (λ c κs. search rules) put-number-requires (λ c. search rules) (λ c. search rules) copy-letters-requires
     refresh-requires (λ c. search rules) returns)

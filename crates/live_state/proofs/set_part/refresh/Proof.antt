@@ -16,18 +16,18 @@ use Rattle.live_state.proofs.set_part.refresh.Tie as tie
 
 replay-requires : tie.Need-replay-requires
 replay-requires c κs =
-    let start : tie.Start = search in let a = start.args in let pre = start.pre.1 in let codes = words_in a.codes.now in let w = words-in-length a.codes.now in
+    let start : tie.Start = search in let a = start.args in let pre = start.requires.1 in let codes = words_in a.codes.now in let w = words-in-length a.codes.now in
     let fits : set_at + length codes ≤ length a.state.now = omega (arith, pre.few, pre.long) in let at-begin : tie.After-begin = search in
     let long = ap (λ (l : List ℕ). length l) at-begin.begin.ensures ∙ begun-long a.initial codes (words_in a.transitions.now) a.state.now fits in
     (rw (sym w) pre.inside, omega (arith, w, long, fits))
 
 returns : tie.Need-returns
 returns c =
-    let start : tie.Start = search in let a = start.args in let pre = start.pre.1 in let codes = words_in a.codes.now in let ts = words_in a.transitions.now in
+    let start : tie.Start = search in let a = start.args in let pre = start.requires.1 in let codes = words_in a.codes.now in let ts = words_in a.transitions.now in
     let n = length a.codes.now / 8 in let fits : set_at + length codes ≤ length a.state.now = omega (arith, pre.few, pre.long) in let at-replay : tie.After-replay = search in
     let at-begin : tie.After-begin = search in at-replay.replay.ensures
     ∙ ap (λ (s : List ℕ). with_set (stepped_over n ts (letters_in s) (take n (set_bytes s))) s) at-begin.begin.ensures
     ∙ refresh-end a.initial codes ts a.state.now fits n (sym (words-in-length a.codes.now))
 
-pub refresh-spec : {M : Type 1} → statement M
-refresh-spec = tie.close (tie.spec (λ c κs. search rules) replay-requires (λ c. search rules) returns)
+pub refresh_spec : {M : Type 1} → statement M
+refresh_spec = tie.close (tie.spec (λ c κs. search rules) replay-requires (λ c. search rules) returns)

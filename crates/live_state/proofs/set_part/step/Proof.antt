@@ -15,17 +15,17 @@ use borrow.Author.Rules.{rules}
 use Rattle.live_state.proofs.set_part.step.Statement.{statement}
 use Rattle.live_state.proofs.set_part.step.Tie as tie
 
-step-set-requires : tie.Need-step-set-requires
+step-set-requires : tie.Need-step_set-requires
 step-set-requires c κs = let start : tie.Start = search in let a = start.args in
     let long : length (take (set_at + a.n - set_at) (drop set_at a.state.now)) ≡ a.n =
     length-take-le (set_at + a.n - set_at) (drop set_at a.state.now) (omega (arith, length-drop set_at a.state.now)) ∙ omega arith in
-    rw long start.pre.0
+    rw long start.requires.0
 
 returns : tie.Need-returns
 unfolding with_set
 returns c =
-    let start : tie.Start = search in let a = start.args in let pre = start.pre in let ts = words_in a.transitions.now in let same : set_at + a.n - set_at ≡ a.n = omega arith in
-    let at-step-set : tie.After-step-set = search in
+    let start : tie.Start = search in let a = start.args in let pre = start.requires in let ts = words_in a.transitions.now in let same : set_at + a.n - set_at ≡ a.n = omega arith in
+    let at-step-set : tie.After-step_set = search in
     let e = at-step-set.step_set.ensures ∙ step_part set_at (set_at + a.n - set_at) a.n a.letter ts a.state.now same pre.1 pre.0 in
     let long = ap (λ (l : List ℕ). length l) e ∙ stepped-length a.n ts a.letter (drop set_at a.state.now) in
     put-mid set_at _ _ a.state.now (long ∙ sym same) ∙ ap (λ (s : List ℕ). put set_at s a.state.now) e

@@ -7,24 +7,24 @@ use Rattle.slice_search.proofs.Eights.{zeros-next}
 use Rattle.slice_search.proofs.bytes.next_set.Statement.{statement}
 use Rattle.slice_search.proofs.bytes.next_set.Tie as tie
 
-abbrev invariant-loop : tie.invariant-loop
+abbrev invariant-loop : tie.invariant-loop-i
 invariant-loop xs from to i₀ i = Zeros xs from i × (i ≤ to)
 
-abbrev decreases-loop : tie.decreases-loop
+abbrev decreases-loop : tie.decreases-loop-i
 decreases-loop xs from to i₀ i = to - i
 
-returns : tie.Need-returns invariant-loop decreases-loop
-returns c = let at-loop : tie.At-loop invariant-loop decreases-loop = search in let l = at-loop.loop in record { before = l.inv.0; within = l.inv.1; set = λ h. omega (arith, c.if1.true) }
+returns : tie.Need-returns-then-xs-i-ne0 invariant-loop decreases-loop
+returns c = let at-loop : tie.At-loop-i invariant-loop decreases-loop = search in let l = at-loop.loop-i in record { before = l.invariant.0; within = l.invariant.1; set = λ h. omega (arith, c.if-xs-i-ne0.true) }
 
-loop-again : tie.Need-loop-preserved invariant-loop decreases-loop
+loop-again : tie.Need-loop-i-preserved invariant-loop decreases-loop
 loop-again c =
-    let at-loop : tie.At-loop invariant-loop decreases-loop = search in let l = at-loop.loop in let in-loop : tie.In-loop invariant-loop decreases-loop = search in
-    (zeros-next _ _ l.i l.inv.0 (omega (arith, c.if1.false)), omega (arith, in-loop.loop-test.taken))
+    let at-loop : tie.At-loop-i invariant-loop decreases-loop = search in let l = at-loop.loop-i in let in-loop : tie.In-loop-i invariant-loop decreases-loop = search in
+    (zeros-next _ _ l.i l.invariant.0 (omega (arith, c.if-xs-i-ne0.false)), omega (arith, in-loop.loop-i-test.true))
 
-returns-2 : tie.Need-returns-2 invariant-loop decreases-loop
-returns-2 c = let l = c.before.loop in record { before = l.invariant.0; within = l.invariant.1; set = λ h. absurd (omega (arith, c.loop-test.false)) }
+returns-2 : tie.Need-returns invariant-loop decreases-loop
+returns-2 c = let l = c.before.loop-i in record { before = l.invariant.0; within = l.invariant.1; set = λ h. absurd (omega (arith, c.loop-i-test.false)) }
 
-pub next-set-spec : {M : Type 1} → statement M
-next-set-spec = tie.close (tie.spec
-    invariant-loop decreases-loop (λ c κs. search rules) (λ c. c.skip-words.ensures) (λ c. search rules) returns (λ c. search rules) (λ c. search rules) loop-again
+pub next_set_spec : {M : Type 1} → statement M
+next_set_spec = tie.close (tie.spec
+    invariant-loop decreases-loop (λ c κs. search rules) (λ c. c.skip_words-i.ensures) (λ c. search rules) returns (λ c. search rules) (λ c. search rules) loop-again
     returns-2)

@@ -5,8 +5,8 @@ use Rattle.slice_text.proofs.decimals.put_pair.Statement.{statement}
 use Rattle.slice_text.proofs.decimals.put_pair.Tie as tie
 
 returns : tie.Need-returns
-returns c = let at-put-byte : tie.After-put-byte = search in let at-put-byte2 : tie.After-put-byte2 = search in put_then at-put-byte.put_byte.ensures at-put-byte2.put-byte2.ensures
+returns c = let at-put-byte : tie.After-put_byte-end = search in let at-put-byte2 : tie.After-put_byte = search in put_then at-put-byte.put_byte-end.ensures at-put-byte2.put_byte.ensures
 
-pub put-pair-spec : {M : Type 1} → statement M
-put-pair-spec = tie.close (tie.spec
+pub put_pair_spec : {M : Type 1} → statement M
+put_pair_spec = tie.close (tie.spec
     (λ c. search rules) (λ c. search rules) (λ c κs. search rules) (λ c. search rules) (λ c. search rules) (λ c κs. search rules) (λ c. search rules) returns)

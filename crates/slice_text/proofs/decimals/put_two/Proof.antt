@@ -9,20 +9,20 @@ use borrow.Author.Rules.{rules}
 use Rattle.slice_text.proofs.decimals.put_two.Statement.{statement}
 use Rattle.slice_text.proofs.decimals.put_two.Tie as tie
 
-put-byte-requires : tie.Need-put-byte-requires
-put-byte-requires c κs = let start : tie.Start = search in omega (arith, ap length (one-digit start.args.x c.before.if1.true))
+put-byte-requires : tie.Need-put_byte-requires
+put-byte-requires c κs = let start : tie.Start = search in omega (arith, ap length (one-digit start.args.x c.before.if-x-lt10.true))
 
-returns : tie.Need-returns
-returns c = let start : tie.Start = search in let then1 : tie.Then1 = search in let at-put-byte : tie.After-put-byte = search in
-    put_as (one-digit start.args.x then1.if1.taken) at-put-byte.put_byte.ensures
+returns : tie.Need-returns-then-x-lt10
+returns c = let start : tie.Start = search in let then1 : tie.Then-x-lt10 = search in let at-put-byte : tie.After-put_byte = search in
+    put_as (one-digit start.args.x then1.if-x-lt10.true) at-put-byte.put_byte.ensures
 
-put-pair-requires : tie.Need-put-pair-requires
-put-pair-requires c κs = let start : tie.Start = search in omega (arith, ap length (two_digits start.args.x c.before.if1.false start.pre.0))
+put-pair-requires : tie.Need-put_pair-requires
+put-pair-requires c κs = let start : tie.Start = search in omega (arith, ap length (two_digits start.args.x c.before.if-x-lt10.false start.requires.0))
 
-returns-2 : tie.Need-returns-2
-returns-2 c = let start : tie.Start = search in let else1 : tie.Else1 = search in let at-put-pair : tie.After-put-pair = search in
-    put_as (two_digits start.args.x else1.if1.left start.pre.0) at-put-pair.put-pair.ensures
+returns-2 : tie.Need-returns
+returns-2 c = let start : tie.Start = search in let else1 : tie.Else-x-lt10 = search in let at-put-pair : tie.After-put_pair = search in
+    put_as (two_digits start.args.x else1.if-x-lt10.false start.requires.0) at-put-pair.put_pair.ensures
 
-pub put-two-spec : {M : Type 1} → statement M
-put-two-spec = tie.close (tie.spec
+pub put_two_spec : {M : Type 1} → statement M
+put_two_spec = tie.close (tie.spec
     (λ c. search rules) (λ c. search rules) put-byte-requires (λ c. search rules) returns put-pair-requires (λ c. search rules) returns-2)

@@ -8,5 +8,5 @@ returns : tie.Need-returns
 unfolding goes_out_lem
 returns c = refl
 
-pub goes-out-spec : {M : Type 1} → statement M
-goes-out-spec = tie.close (tie.spec returns)
+pub goes_out_spec : {M : Type 1} → statement M
+goes_out_spec = tie.close (tie.spec returns)

@@ -7,7 +7,7 @@ use Rattle.graph_walks.proofs.Marking.{mark-yes, mark-no}
 use Rattle.table_fixpoints.proofs.marks.mark.Statement.{statement}
 use Rattle.table_fixpoints.proofs.marks.mark.Tie as tie
 
-returns-4 : tie.Need-returns-4
+returns-4 : tie.Need-returns
 returns-4 c =
     let start : tie.Start = search in let a = start.args in let ms = a.marks.now in let known : 1 < get_or ms a.y 0 = omega arith in let member : 0 < get_or ms a.x 0 = omega arith in
     let free : get_or ms a.x 0 < 3 = omega arith in mark-yes a.x a.y ms (record { known = known; member = member; free = free })

@@ -12,28 +12,28 @@ use Rattle.table_fixpoints_spec.proofs.Loops.{all_same}
 use Rattle.table_fixpoints.proofs.rounds.mark_place.Statement.{statement}
 use Rattle.table_fixpoints.proofs.rounds.mark_place.Tie as tie
 
-mul-here : tie.Need-overflow-mul-here
-mul-here c = let start : tie.Start = search in let a = start.args in let pre = start.pre in omega (arith, place-room a.n a.p (length a.cycle.now) pre.1, pre.0.marked)
+mul-here : tie.Need-overflow_mul-here
+mul-here c = let start : tie.Start = search in let a = start.args in let pre = start.requires in omega (arith, place-room a.n a.p (length a.cycle.now) pre.1, pre.0.marked)
 
-add-there : tie.Need-overflow-add-there
-add-there c = let start : tie.Start = search in let a = start.args in let pre = start.pre in omega (arith, place-room a.n a.p (length a.cycle.now) pre.1, pre.0.marked)
+add-there : tie.Need-overflow_add-there
+add-there c = let start : tie.Start = search in let a = start.args in let pre = start.requires in omega (arith, place-room a.n a.p (length a.cycle.now) pre.1, pre.0.marked)
 
 -- the nodes of the place that follows begin there
-follows : (c : tie.Joined1) → let start : tie.Start = search in
-    let a = start.args in c.if1.there ≡ next_place_lem [] a.cycle.now a.p * a.n
+follows : (c : tie.Joined-p-cycle) → let start : tie.Start = search in
+    let a = start.args in c.if-p-cycle.there ≡ next_place_lem [] a.cycle.now a.p * a.n
 follows c = let start : tie.Start = search in let a = start.args in ⊎_elim
     (λ w. let first = there-last a.cycle.now a.p a.n w.0.taken in omega arith)
-    (λ w. let next = there-other a.cycle.now a.p a.n w.0.left in omega arith) c.if1.branch
+    (λ w. let next = there-other a.cycle.now a.p a.n w.0.left in omega arith) c.if-p-cycle.branch
 
-mark-all-requires : tie.Need-mark-all-requires
-mark-all-requires c κs = let start : tie.Start = search in λ t m. let q = ends-fit start.pre.0 start.args.p start.pre.1 t m in (q.0, rw (follows (search)) q.1)
+mark-all-requires : tie.Need-mark_all-requires
+mark-all-requires c κs = let start : tie.Start = search in λ t m. let q = ends-fit start.requires.0 start.args.p start.requires.1 t m in (q.0, rw (follows (search)) q.1)
 
 returns : tie.Need-returns
 unfolding letter_at_lem
-returns c = let at-mark-all : tie.After-mark-all = search in all_same _ _ _ _ _ _ _ _ (follows (search)) at-mark-all.mark-all.ensures
+returns c = let at-mark-all : tie.After-mark_all = search in all_same _ _ _ _ _ _ _ _ (follows (search)) at-mark-all.mark_all.ensures
 
-pub mark-place-spec : {M : Type 1} → statement M
-mark-place-spec = tie.close (tie.spec
+pub mark_place_spec : {M : Type 1} → statement M
+mark_place_spec = tie.close (tie.spec
     mul-here add-there (λ c. search rules) (λ c. search rules)
-    (λ c. let start : tie.Start = search in omega (arith, c.shared-slice-known4.given start.args.p)) mark-all-requires
+    (λ c. let start : tie.Start = search in omega (arith, c.shared_slice_known-4-1.given start.args.p)) mark-all-requires
     (λ c. search rules) returns)

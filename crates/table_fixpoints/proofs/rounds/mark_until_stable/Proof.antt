@@ -10,46 +10,46 @@ use Rattle.table_fixpoints_spec.proofs.Waiting.{Left, left_after, before-low, Ar
 use Rattle.table_fixpoints.proofs.rounds.mark_until_stable.Statement.{statement}
 use Rattle.table_fixpoints.proofs.rounds.mark_until_stable.Tie as tie
 
-abbrev invariant-loop : tie.invariant-loop
+abbrev invariant-loop : tie.invariant-loop-waiting
 invariant-loop moves movebytes cycle n marks₀ back₀ waiting₀ p₀ marks back waiting p = Around n cycle (in_both moves movebytes).numbers marks₀ marks p waiting
 
-abbrev decreases-loop : tie.decreases-loop
+abbrev decreases-loop : tie.decreases-loop-waiting
 decreases-loop moves movebytes cycle n marks₀ back₀ waiting₀ p₀ marks back waiting p = 4 * length marks₀ - sum marks + waiting
 
 abbrev At-loop : Type 0
-At-loop = tie.At-loop invariant-loop decreases-loop
+At-loop = tie.At-loop-waiting invariant-loop decreases-loop
 
 abbrev After-mark-place : Type 0
-After-mark-place = tie.After-mark-place invariant-loop decreases-loop
+After-mark-place = tie.After-mark_place-new invariant-loop decreases-loop
 
-mark-place-requires : tie.Need-mark-place-requires invariant-loop decreases-loop
-mark-place-requires c κs = let at-loop : At-loop = search in let v = at-loop.loop.inv in let start : tie.Start invariant-loop decreases-loop = search in
-    (fits-long v.marking.long start.pre.0, rw c.before.place-before.ensures (before-low _ _ v.inside))
+mark-place-requires : tie.Need-mark_place-new-requires invariant-loop decreases-loop
+mark-place-requires c κs = let at-loop : At-loop = search in let v = at-loop.loop-waiting.invariant in let start : tie.Start invariant-loop decreases-loop = search in
+    (fits-long v.marking.long start.requires.0, rw c.before.place_before-p.ensures (before-low _ _ v.inside))
 
 -- how many places wait then
-left : (c : tie.After-waiting-after invariant-loop decreases-loop) → let at-mark-place : After-mark-place = search in let at-loop : At-loop = search in
-    Left at-mark-place.mark-place.result at-loop.loop.waiting c.waiting-after.result
-left c = let in-loop : tie.In-loop invariant-loop decreases-loop = search in rw c.waiting-after.ensures (left_after _ _ in-loop.loop-test.taken)
+left : (c : tie.After-waiting_after-waiting invariant-loop decreases-loop) → let at-mark-place : After-mark-place = search in let at-loop : At-loop = search in
+    Left at-mark-place.mark_place-new.result at-loop.loop-waiting.waiting c.waiting_after-waiting.result
+left c = let in-loop : tie.In-loop-waiting invariant-loop decreases-loop = search in rw c.waiting_after-waiting.ensures (left_after _ _ in-loop.loop-waiting-test.true)
 
-abbrev start_of : tie.After-waiting-after invariant-loop decreases-loop → tie.Start invariant-loop decreases-loop
+abbrev start_of : tie.After-waiting_after-waiting invariant-loop decreases-loop → tie.Start invariant-loop decreases-loop
 start_of c = search
 
 -- the marks then
-loop-again : tie.Need-loop-preserved invariant-loop decreases-loop
-loop-again c = let at-loop : At-loop = search in let l = at-loop.loop in let at-mark-place : After-mark-place = search in
-    let m = at-mark-place.mark-place.ensures in let at-place-before : tie.After-place-before invariant-loop decreases-loop = search in
-    around-next l.back (fits-long l.inv.marking.long (start_of c).requires.0) l.inv
-    at-place-before.place-before.ensures m.0 m.1 (left c)
+loop-again : tie.Need-loop-waiting-preserved invariant-loop decreases-loop
+loop-again c = let at-loop : At-loop = search in let l = at-loop.loop-waiting in let at-mark-place : After-mark-place = search in
+    let m = at-mark-place.mark_place-new.ensures in let at-place-before : tie.After-place_before-p invariant-loop decreases-loop = search in
+    around-next l.back (fits-long l.invariant.marking.long (start_of c).requires.0) l.invariant
+    at-place-before.place_before-p.ensures m.0 m.1 (left c)
 
-loop-less : tie.Need-loop-smaller invariant-loop decreases-loop
-loop-less c = let at-loop : At-loop = search in let l = at-loop.loop in let at-mark-place : After-mark-place = search in
-    let m = at-mark-place.mark-place.ensures in around-less l.marks l.back (start_of c).requires.1 (loop-again c) m.0 m.1 (left c)
+loop-less : tie.Need-loop-waiting-smaller invariant-loop decreases-loop
+loop-less c = let at-loop : At-loop = search in let l = at-loop.loop-waiting in let at-mark-place : After-mark-place = search in
+    let m = at-mark-place.mark_place-new.ensures in around-less l.marks l.back (start_of c).requires.1 (loop-again c) m.0 m.1 (left c)
 
 returns : tie.Need-returns invariant-loop decreases-loop
-returns c = let l = c.before.loop in let none : l.waiting ≡ 0 = omega arith in around-end (rw none at l.invariant)
+returns c = let l = c.before.loop-waiting in let none : l.waiting ≡ 0 = omega arith in around-end (rw none at l.invariant)
 
-pub mark-until-stable-spec : {M : Type 1} → statement M
-mark-until-stable-spec = tie.close (tie.spec
-    invariant-loop decreases-loop (λ c. let start : tie.Start invariant-loop decreases-loop = search in around-start start.pre.0.repeats) (λ c κs. c.before.loop.invariant.inside)
-    mark-place-requires (λ c κs. let in-loop : tie.In-loop invariant-loop decreases-loop = search in in-loop.loop-test.taken) loop-less loop-again
-    (λ c. c.before.loop.invariant.marking.long) returns)
+pub mark_until_stable_spec : {M : Type 1} → statement M
+mark_until_stable_spec = tie.close (tie.spec
+    invariant-loop decreases-loop (λ c. let start : tie.Start invariant-loop decreases-loop = search in around-start start.requires.0.repeats) (λ c κs. c.before.loop-waiting.invariant.inside)
+    mark-place-requires (λ c κs. let in-loop : tie.In-loop-waiting invariant-loop decreases-loop = search in in-loop.loop-waiting-test.true) loop-less loop-again
+    (λ c. c.before.loop-waiting.invariant.marking.long) returns)

@@ -4,7 +4,7 @@ use Rattle.table_fixpoints_spec.proofs.Waiting.{before-first, before-other}
 use Rattle.table_fixpoints.proofs.rounds.place_before.Statement.{statement}
 use Rattle.table_fixpoints.proofs.rounds.place_before.Tie as tie
 
-pub place-before-spec : {M : Type 1} → statement M
-place-before-spec = tie.close (tie.spec
-    (λ c. search rules) (λ c. before-first c.before.args.c c.before.args.p c.if1.true) (λ c. search rules)
-    (λ c. before-other c.before.args.c c.before.args.p c.if1.false))
+pub place_before_spec : {M : Type 1} → statement M
+place_before_spec = tie.close (tie.spec
+    (λ c. search rules) (λ c. before-first c.before.args.c c.before.args.p c.if-p-eq0.true) (λ c. search rules)
+    (λ c. before-other c.before.args.c c.before.args.p c.if-p-eq0.false))

@@ -5,8 +5,8 @@ use Rattle.table_fixpoints_spec.proofs.Waiting.{waits-old, waits-few, waits-many
 use Rattle.table_fixpoints.proofs.rounds.waiting_after.Statement.{statement}
 use Rattle.table_fixpoints.proofs.rounds.waiting_after.Tie as tie
 
-pub waiting-after-spec : {M : Type 1} → statement M
-waiting-after-spec = tie.close (tie.spec
-    (λ c. search rules) (λ c. waits-old c.before.args.new c.before.args.waiting c.if1.true)
-    (λ c. let start : tie.Start = search in waits-few start.args.new start.args.waiting c.before.if1.false c.if2.true) (λ c. search rules)
-    (λ c. let start : tie.Start = search in waits-many start.args.new start.args.waiting c.before.if1.false (omega arith)))
+pub waiting_after_spec : {M : Type 1} → statement M
+waiting_after_spec = tie.close (tie.spec
+    (λ c. search rules) (λ c. waits-old c.before.args.new c.before.args.waiting c.if-not-new.true)
+    (λ c. let start : tie.Start = search in waits-few start.args.new start.args.waiting c.before.if-not-new.false c.if-waiting-lt2.true) (λ c. search rules)
+    (λ c. let start : tie.Start = search in waits-many start.args.new start.args.waiting c.before.if-not-new.false (omega arith)))

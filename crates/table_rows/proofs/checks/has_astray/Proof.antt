@@ -11,24 +11,24 @@ use Rattle.table_lent.specs.Lent.{in_both, is_astray_lem}
 use Rattle.table_rows.proofs.checks.has_astray.Statement.{statement}
 use Rattle.table_rows.proofs.checks.has_astray.Tie as tie
 
-abbrev invariant-loop : tie.invariant-loop
+abbrev invariant-loop : tie.invariant-loop-i
 invariant-loop words bytes n s m i₀ i = any_of (in_both words bytes).numbers (is_astray_lem n s) ≡ any_of (drop i (in_both words bytes).numbers) (is_astray_lem n s)
 
-abbrev decreases-loop : tie.decreases-loop
+abbrev decreases-loop : tie.decreases-loop-i
 decreases-loop words bytes n s m i₀ i = m - i
 
-abbrev test_of : tie.After-is-astray invariant-loop decreases-loop → ℕ → Bool
+abbrev test_of : tie.After-is_astray invariant-loop decreases-loop → ℕ → Bool
 test_of c = let start : tie.Start invariant-loop decreases-loop = search in let a = start.args in is_astray_lem a.n a.s
 
 -- the element that is read tests as the call told
-told : (c : tie.After-is-astray invariant-loop decreases-loop) → let start : tie.Start invariant-loop decreases-loop = search in let at-loop : tie.At-loop invariant-loop decreases-loop = search in
-    let a = start.args in test_of c (get_or (in_both a.words.now a.bytes.now).numbers at-loop.loop.i 0) ≡ c.is-astray.result
-told c = ap (test_of c) (sym c.before.element.ensures) ∙ sym c.is-astray.ensures
+told : (c : tie.After-is_astray invariant-loop decreases-loop) → let start : tie.Start invariant-loop decreases-loop = search in let at-loop : tie.At-loop-i invariant-loop decreases-loop = search in
+    let a = start.args in test_of c (get_or (in_both a.words.now a.bytes.now).numbers at-loop.loop-i.i 0) ≡ c.is_astray.result
+told c = ap (test_of c) (sym c.before.element.ensures) ∙ sym c.is_astray.ensures
 
-pub has-astray-spec : {M : Type 1} → statement M
-has-astray-spec = tie.close (tie.spec
+pub has_astray_spec : {M : Type 1} → statement M
+has_astray_spec = tie.close (tie.spec
     invariant-loop decreases-loop (λ c κs. search rules) (λ c. refl) (λ c κs. omega arith) (λ c κs. search rules)
-    (λ c. let at-loop : tie.At-loop invariant-loop decreases-loop = search in let l = at-loop.loop in sym (l.inv ∙ any-stop (test_of c.before) _ l.i (omega arith) (told c.before ∙ c.if1.true)))
+    (λ c. let at-loop : tie.At-loop-i invariant-loop decreases-loop = search in let l = at-loop.loop-i in sym (l.invariant ∙ any-stop (test_of c.before) _ l.i (omega arith) (told c.before ∙ c.if-is_astray.true)))
     (λ c. search rules) (λ c. search rules)
-    (λ c. let at-loop : tie.At-loop invariant-loop decreases-loop = search in let l = at-loop.loop in l.inv ∙ any_next (test_of c.before) _ l.i (omega arith) (told c.before ∙ c.if1.false))
-    (λ c. sym (c.before.loop.invariant ∙ any-end _ _ c.before.loop.i (omega arith))))
+    (λ c. let at-loop : tie.At-loop-i invariant-loop decreases-loop = search in let l = at-loop.loop-i in l.invariant ∙ any_next (test_of c.before) _ l.i (omega arith) (told c.before ∙ c.if-is_astray.false))
+    (λ c. sym (c.before.loop-i.invariant ∙ any-end _ _ c.before.loop-i.i (omega arith))))

@@ -12,7 +12,7 @@ use Rattle.trim.proofs.marks.mark_live.Tie as tie
 
 solve-requires : tie.Need-solve-requires
 solve-requires c κs = let start : tie.Start = search in let a = start.args in let at_flag : tie.After-flag = search in
-    (rw at_flag.flag.kept.0 start.pre.0, λ x. rw at_flag.flag.ensures.0 (flags-low a.codes.now x))
+    (rw at_flag.flag.auto.0 start.requires.0, λ x. rw at_flag.flag.ensures.0 (flags-low a.codes.now x))
 
 returns : tie.Need-returns
 returns c =
@@ -20,5 +20,5 @@ returns c =
     let s = at-solve.solve.ensures in let S : Solved (Step a.transitions.now) (flags a.codes.now) (highs at-solve.solve.last.0) = rw f.0 at s.0 in
     (solved-unique (Step a.transitions.now) (flags a.codes.now) _ _ S (live-solved a.codes.now a.transitions.now), s.1 ∙ f.1)
 
-pub mark-live-spec : {M : Type 1} → statement M
-mark-live-spec = tie.close (tie.spec (λ c κs. search rules) solve-requires (λ c. search rules) returns)
+pub mark_live_spec : {M : Type 1} → statement M
+mark_live_spec = tie.close (tie.spec (λ c κs. search rules) solve-requires (λ c. search rules) returns)

@@ -15,27 +15,27 @@ abbrev decreases-loop : tie.decreases-loop
 decreases-loop codes₀ transitions codes = sum (highs codes)
 
 abbrev After-solve-round : Type 0
-After-solve-round = tie.After-solve-round invariant-loop decreases-loop
+After-solve-round = tie.After-solve_round invariant-loop decreases-loop
 
-solve-round-requires : tie.Need-solve-round-requires invariant-loop decreases-loop
-solve-round-requires c κs = let v = c.before.loop.invariant in let start : tie.Start invariant-loop decreases-loop = search in (rw v.0 start.pre.0, kept_low _ _ _ start.pre.1 v.1)
+solve-round-requires : tie.Need-solve_round-requires invariant-loop decreases-loop
+solve-round-requires c κs = let v = c.before.loop.invariant in let start : tie.Start invariant-loop decreases-loop = search in (rw v.0 start.requires.0, kept_low _ _ _ start.requires.1 v.1)
 
 loop-less : tie.Need-loop-smaller invariant-loop decreases-loop
-loop-less c = let at-solve-round : After-solve-round = search in at-solve-round.solve-round.ensures.0.less c.if1.true
+loop-less c = let at-solve-round : After-solve-round = search in at-solve-round.solve_round.ensures.0.less c.loop-test.true
 
 loop-again : tie.Need-loop-preserved invariant-loop decreases-loop
 loop-again c =
-    let at-solve-round : After-solve-round = search in let e = at-solve-round.solve-round.ensures in let at-loop : tie.At-loop invariant-loop decreases-loop = search in
-    let v = at-loop.loop.inv in (at-solve-round.solve-round.kept.0 ∙ v.0, kept_then _ _ _ _ _ v.1 e.0, e.1 ∙ v.2)
+    let at-solve-round : After-solve-round = search in let e = at-solve-round.solve_round.ensures in let at-loop : tie.At-loop invariant-loop decreases-loop = search in
+    let v = at-loop.loop.invariant in (at-solve-round.solve_round.auto.0 ∙ v.0, kept_then _ _ _ _ _ v.1 e.0, e.1 ∙ v.2)
 
-same_length : tie.Need-same-length invariant-loop decreases-loop
+same_length : tie.Need-shape_of-codes invariant-loop decreases-loop
 same_length c =
-    let at-solve-round : After-solve-round = search in let at-loop : tie.At-loop invariant-loop decreases-loop = search in at-solve-round.solve-round.kept.0 ∙ at-loop.loop.inv.0
+    let at-solve-round : After-solve-round = search in let at-loop : tie.At-loop invariant-loop decreases-loop = search in at-solve-round.solve_round.auto.0 ∙ at-loop.loop.invariant.0
 
 returns : tie.Need-returns invariant-loop decreases-loop
 returns c =
-    let at-solve-round : After-solve-round = search in let e = at-solve-round.solve-round.ensures in let at-loop : tie.At-loop invariant-loop decreases-loop = search in
-    let v = at-loop.loop.inv in (solved _ _ _ _ v.1 (rw c.if1.false at e.0), e.1 ∙ v.2)
+    let at-solve-round : After-solve-round = search in let e = at-solve-round.solve_round.ensures in let at-loop : tie.At-loop invariant-loop decreases-loop = search in
+    let v = at-loop.loop.invariant in (solved _ _ _ _ v.1 (rw c.loop-test.false at e.0), e.1 ∙ v.2)
 
-pub solve-spec : {M : Type 1} → statement M
-solve-spec = tie.close (tie.spec invariant-loop decreases-loop (λ c. (refl, kept-start _ _, refl)) solve-round-requires loop-less loop-again same_length returns)
+pub solve_spec : {M : Type 1} → statement M
+solve_spec = tie.close (tie.spec invariant-loop decreases-loop (λ c. (refl, kept-start _ _, refl)) solve-round-requires loop-less loop-again same_length returns)

@@ -7,8 +7,8 @@ use Rattle.trim.proofs.marks.solve_round.Tie as tie
 
 returns : tie.Need-returns
 returns c =
-    let at-settle : tie.After-settle = search in let s = at-settle.settle.ensures in let at-sweep-out : tie.After-sweep-out = search in let o = at-sweep-out.sweep-out.ensures in
-    let start : tie.Start = search in (solve-round _ _ _ _ _ start.pre.1 o.0 s.0, s.1 ∙ o.1)
+    let at-settle : tie.After-settle = search in let s = at-settle.settle.ensures in let at-sweep-out : tie.After-sweep_out = search in let o = at-sweep-out.sweep_out.ensures in
+    let start : tie.Start = search in (solve-round _ _ _ _ _ start.requires.1 o.0 s.0, s.1 ∙ o.1)
 
-pub solve-round-spec : {M : Type 1} → statement M
-solve-round-spec = tie.close (tie.spec (λ c κs. search rules) (λ c κs. search rules) (λ c. search rules) returns)
+pub solve_round_spec : {M : Type 1} → statement M
+solve_round_spec = tie.close (tie.spec (λ c κs. search rules) (λ c κs. search rules) (λ c. search rules) returns)

@@ -29,20 +29,20 @@ After-sweep = tie.After-sweep invariant-loop decreases-loop
 
 loop-less : tie.Need-loop-smaller invariant-loop decreases-loop
 loop-less c = let at-sweep : After-sweep = search in let e = at-sweep.sweep.ensures in
-    let r = sweep-round _ _ _ e.0 true _ (lt-ltb 0 at-sweep.sweep.result c.if1.true) e.2 in let at-loop : At-loop = search in
-    let m = sweep-marking _ _ _ e.0 _ at-loop.loop.inv.1 in let start : tie.Start invariant-loop decreases-loop = search in omega (arith, r.grown refl, marking-sum _ _ _ start.pre.1 m)
+    let r = sweep-round _ _ _ e.0 true _ (lt-ltb 0 at-sweep.sweep.result c.loop-test.true) e.2 in let at-loop : At-loop = search in
+    let m = sweep-marking _ _ _ e.0 _ at-loop.loop.invariant.1 in let start : tie.Start invariant-loop decreases-loop = search in omega (arith, r.grown refl, marking-sum _ _ _ start.requires.1 m)
 
 loop-again : tie.Need-loop-preserved invariant-loop decreases-loop
 loop-again c =
-    let at-sweep : After-sweep = search in let e = at-sweep.sweep.ensures in let at-loop : At-loop = search in let v = at-loop.loop.inv in
-    (at-sweep.sweep.kept.0 ∙ v.0, sweep-marking _ _ _ e.0 _ v.1, e.1 ∙ v.2)
+    let at-sweep : After-sweep = search in let e = at-sweep.sweep.ensures in let at-loop : At-loop = search in let v = at-loop.loop.invariant in
+    (at-sweep.sweep.auto.0 ∙ v.0, sweep-marking _ _ _ e.0 _ v.1, e.1 ∙ v.2)
 
 returns : tie.Need-returns invariant-loop decreases-loop
 returns c =
-    let at-sweep : After-sweep = search in let e = at-sweep.sweep.ensures in let at-loop : At-loop = search in let v = at-loop.loop.inv in
+    let at-sweep : After-sweep = search in let e = at-sweep.sweep.ensures in let at-loop : At-loop = search in let v = at-loop.loop.invariant in
     (stable _ _ _ _ v.1 (sweep-marking _ _ _ e.0 _ v.1) (sweep-round _ _ _ e.0 false _ (le-ltb 0 at-sweep.sweep.result (omega arith)) e.2), e.1 ∙ v.2)
 
-pub sweep-out-spec : {M : Type 1} → statement M
-sweep-out-spec = tie.close (tie.spec
-    invariant-loop decreases-loop (λ c. (refl, marking-start _ _, refl)) (λ c κs. let start : tie.Start invariant-loop decreases-loop = search in rw c.before.loop.invariant.0 start.pre.0)
-    loop-less loop-again (λ c. let at-sweep : After-sweep = search in let at-loop : At-loop = search in at-sweep.sweep.kept.0 ∙ at-loop.loop.inv.0) returns)
+pub sweep_out_spec : {M : Type 1} → statement M
+sweep_out_spec = tie.close (tie.spec
+    invariant-loop decreases-loop (λ c. (refl, marking-start _ _, refl)) (λ c κs. let start : tie.Start invariant-loop decreases-loop = search in rw c.before.loop.invariant.0 start.requires.0)
+    loop-less loop-again (λ c. let at-sweep : After-sweep = search in let at-loop : At-loop = search in at-sweep.sweep.auto.0 ∙ at-loop.loop.invariant.0) returns)

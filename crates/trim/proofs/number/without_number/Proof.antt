@@ -9,5 +9,5 @@ use Rattle.trim.proofs.number.without_number.Tie as tie
 returns : tie.Need-returns
 returns c = let low : bit_and c.args.c 281474976710655 ≡ c.args.c % 2 ^ 48 = and_mask c.args.c 48 in omega arith
 
-pub without-number-spec : {M : Type 1} → statement M
-without-number-spec = tie.close (tie.spec returns)
+pub without_number_spec : {M : Type 1} → statement M
+without_number_spec = tie.close (tie.spec returns)
