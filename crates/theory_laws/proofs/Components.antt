@@ -3,7 +3,7 @@ use mathlib.Core.Path.{◌≡◌, refl, sym, ◌∙◌, ap, ap₂}
 use mathlib.Core.Logic.{◌⊎◌, inl, inr, ⊎_elim, by_cases, ◌↔◌}
 use mathlib.Core.Bool.{Bool, true, false, ◌&&◌, ◌||◌, cond}
 use mathlib.Core.List.Memᴰ
-use mathlib.Core.List.{List, ◌∷◌, Memᴰ}
+use mathlib.Core.List.{[], List, ◌∷◌, Memᴰ}
 use Prim.Native.Nat.{ℕ, zero, suc, ◌*◌, ◌^◌, ◌≤◌, ◌<◌}
 use native.Mathlib.Omega.{arith}
 use native.Mathlib.Decide.{dec_lt}
@@ -24,6 +24,7 @@ use Rattle.theory.specs.Components.{named, leads, LeadsTo, here, step, Together,
 
 named-at : (cs : List ℕ) (c q : ℕ) → Memᴰ c cs → bit c q ≡ true → named cs q ≡ true
 unfolding named
+named-at [] c q x'' b = elim x'' [ ]
 named-at (d ∷ cs) c q (Memᴰ.head e) b = or_l (bit d q) (named cs q) (ap (λ (x : ℕ). bit x q) (sym e) ∙ b)
 named-at (d ∷ cs) c q (Memᴰ.tail k) b = or_r (bit d q) (named cs q) (named-at cs c q k b)
 

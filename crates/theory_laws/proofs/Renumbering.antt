@@ -111,6 +111,7 @@ renumbered-out ms (t ∷ ts) v m =
     (λ f. let (u, l, g, e) = renumbered-out ms ts v (rw (renumbered-no ms t ts f) at m) in (u, Memᴰ.tail l, g, e))
 
 renumbered-in : (ms ts : List ℕ) (t : ℕ) → Memᴰ t ts → is_left_lem ms t ≡ true → Memᴰ (renumber ms t) (renumbered ms ts)
+renumbered-in ms [] t x'' f = elim x'' [ ]
 renumbered-in ms (u ∷ us) t (Memᴰ.head e) f = rw (renumbered-yes ms u us (ap (is_left_lem ms) (sym e) ∙ f)) (Memᴰ.head (ap (renumber ms) e))
 renumbered-in ms (u ∷ us) t (Memᴰ.tail k) f =
     let i = renumbered-in ms us t k f in bif (is_left_lem ms u) (λ g. rw (renumbered-yes ms u us g) (Memᴰ.tail i)) (λ g. rw (renumbered-no ms u us g) i)

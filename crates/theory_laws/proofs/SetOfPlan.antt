@@ -2,7 +2,7 @@
 use mathlib.Core.Path.{◌≡◌, refl, sym, ◌∙◌, ap, subst₂}
 use mathlib.Core.Logic.{◌⊎◌, ⊎_elim}
 use mathlib.Core.Bool.{true, false, ◌&&◌, ◌||◌, not, false≢true}
-use mathlib.Core.List.{List, ◌∷◌, Memᴰ}
+use mathlib.Core.List.{[], List, ◌∷◌, Memᴰ}
 use Prim.Native.Nat.{ℕ, zero, suc, ◌+◌, ◌*◌, ◌/◌, ◌%◌, ◌≤◌, ◌<◌}
 use native.Mathlib.Omega.{arith}
 use lib.Dec.{eqb, ltb}
@@ -24,6 +24,7 @@ use Rattle.theory_laws.proofs.Pursuit.{open-kind, mix-in, mix-out, settled-kind,
 -- a listed clause named a member outside a set that does not satisfy the entry
 out : (n : ℕ) (Y : Set) (c : ℕ) (cs : List ℕ) → Memᴰ c cs → satisfies n Y cs ≡ false → inside n Y c ≡ false
 unfolding satisfies
+out n Y c [] x'' e = elim x'' [ ]
 out n Y c (d ∷ cs) (Memᴰ.head x) e = rw x (or-fl (inside n Y d) (satisfies n Y cs) e)
 out n Y c (d ∷ cs) (Memᴰ.tail k) e = out n Y c cs k (or-fr (inside n Y d) (satisfies n Y cs) e)
 

@@ -30,7 +30,7 @@ loop-again c =
 
 returns : tie.Need-returns invariant-loop decreases-loop
 unfolding word_at
-returns c = let start : tie.Start invariant-loop decreases-loop = search in let a = start.args in let z : c.before.loop.k ≡ 0 = omega arith in
+returns c = let start : tie.Start invariant-loop decreases-loop = search in let a = start.args in let z : c.before.loop-k.k ≡ 0 = omega arith in
     c.before.loop-k.invariant.2 ∙ ap (λ (k : ℕ). from 256 8 (λ j. get_or a.bytes.now (a.i + j) 0) k) z
     ∙ from_all 256 8 (λ j. get_or a.bytes.now (a.i + j) 0) (λ j. get_or a.bytes.now (a.i + j) 0) (omega arith) (λ j. ap (λ (x : ℕ). get_or a.bytes.now (a.i + x) 0) (zero-add j))
 

@@ -23,7 +23,7 @@ loop-again c =
     )
 
 returns : tie.Need-returns invariant-loop decreases-loop
-returns c = let start : tie.Start invariant-loop decreases-loop = search in let e : c.before.loop.k ≡ start.args.i = omega arith in rw (sym e) c.before.loop-k.invariant.2
+returns c = let start : tie.Start invariant-loop decreases-loop = search in let e : c.before.loop-k.k ≡ start.args.i = omega arith in rw (sym e) c.before.loop-k.invariant.2
 
 pub clauses_before_spec : {M : Type 1} → statement M
 clauses_before_spec = tie.close (tie.spec

@@ -38,7 +38,7 @@ returns : tie.Need-returns
 returns c =
     let start : tie.Start = search in let a = start.args in let r = rule_of a.h a.counts.now a.clauses.now in let p = start.requires in
     let at-clauses-before : tie.After-clauses_before-start = search in
-    let n : at-clauses-before.clauses-before.result + get_or a.counts.now (a.q * a.h.s + a.a) 0 - at-clauses-before.clauses-before.result ≡ get_or a.counts.now (a.q * a.h.s + a.a) 0
+    let n : at-clauses-before.clauses_before-start.result + get_or a.counts.now (a.q * a.h.s + a.a) 0 - at-clauses-before.clauses_before-start.result ≡ get_or a.counts.now (a.q * a.h.s + a.a) 0
     = omega arith in rw (n, at-clauses-before.clauses_before-start.ensures) (sym (entry-part r p.0 _ _ p.1 p.2))
 
 pub entry_of_spec : {M : Type 1} → statement M

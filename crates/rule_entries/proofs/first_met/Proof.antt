@@ -41,7 +41,7 @@ clauses-again c = let start : Start = search in let s = start.args.set in let cl
     let at-clauses : tie.At-clauses invariant-loop decreases-loop invariant-clauses decreases-clauses = search in let j = at-clauses.clauses.j in
     let gone : inside 8 (bit s) (get_or cl j 0) ≡ false = at-loop.loop-left.invariant.2 ∙ missing s l (omega arith) (omega arith) c.if-set-q-eq0.true in (
       omega arith,
-      rw at-loop.loop-left.invariant.0 (at-clauses.clauses.inv.1 ∙ met_next s cl j (omega arith) gone),
+      rw at-loop.loop-left.invariant.0 (at-clauses.clauses.invariant.1 ∙ met_next s cl j (omega arith) gone),
     )
 
 loop-less : tie.Need-loop-left-smaller invariant-loop decreases-loop invariant-clauses decreases-clauses
@@ -64,7 +64,7 @@ returns-2 : tie.Need-returns-after-loop-left invariant-loop decreases-loop invar
 returns-2 c = let start : Start = search in let s = start.args.set in let cl = start.args.clauses.now in
     let at-clauses : tie.At-clauses invariant-loop decreases-loop invariant-clauses decreases-clauses = search in let j = at-clauses.clauses.j in
     let all : inside 8 (bit s) (get_or cl j 0) ≡ true = c.before.loop-left.invariant.2 ∙ ap (inside 8 (bit s)) c.loop-left-test.false ∙ no-state (bit s) in
-    rw c.before.loop-left.invariant.0 (sym (at-clauses.clauses.inv.1 ∙ met-here s cl j (omega arith) all))
+    rw c.before.loop-left.invariant.0 (sym (at-clauses.clauses.invariant.1 ∙ met-here s cl j (omega arith) all))
 
 pub first_met_spec : {M : Type 1} → statement M
 first_met_spec = tie.close (tie.spec

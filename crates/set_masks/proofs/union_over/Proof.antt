@@ -31,5 +31,5 @@ returns c = let l = c.before.loop-left in let start-place : tie.Start invariant-
 
 pub union_over_spec : {M : Type 1} → statement M
 union_over_spec = tie.close (tie.spec
-    invariant-loop decreases-loop (λ c. (omega arith, start c.args.es.now c.args.m)) (λ c. omega (arith, below c)) (λ c. omega (arith, below c))
+    invariant-loop decreases-loop (λ c. (omega arith, start c.args.es.now c.args.m)) (λ c. omega (arith, below (search))) (λ c. omega (arith, below (search)))
     (λ c. omega arith) (λ c. let at-loop : tie.At-loop-left invariant-loop decreases-loop = search in omega (arith, and_le_r at-loop.loop-left.left (at-loop.loop-left.left - 1))) loop-again returns)
