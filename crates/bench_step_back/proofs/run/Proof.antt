@@ -3,8 +3,8 @@ use Rattle.std.proofs.Common.{sym, ◌∙◌, rules}
 use Rattle.bench_step_back.proofs.run.Statement.{statement}
 use Rattle.bench_step_back.proofs.run.Tie as tie
 
-rule-rounds-requires : tie.Need-rule-rounds-requires
-rule-rounds-requires c κs = let at-read-rule : tie.After-read-rule = search in let at-l : tie.After-l = search in sym at-read-rule.read-rule.ensures ∙ at-l.l.given.1
+rule-rounds-requires : tie.Need-rule_rounds-tally-requires
+rule-rounds-requires c κs = let at-read-rule : tie.After-read_rule = search in let at-l : tie.In-Accepted-2 = search in sym at-read-rule.read_rule.ensures ∙ at-l.in-Accepted.is
 
 pub run_spec : {M : Type 1} → statement M
 run_spec = tie.close (tie.spec

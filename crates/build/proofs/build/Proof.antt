@@ -13,8 +13,8 @@ use Rattle.build.proofs.build.Tie as tie
 returns : tie.Need-returns
 unfolding start_of
 returns c =
-    let start : tie.Start = search in let a = start.args in let at-build-file : tie.After-build-file = search in let b = at-build-file.build-file in
+    let start : tie.Start = search in let a = start.args in let at-build-file : tie.After-build_file = search in let b = at-build-file.build_file in
     file-built holds_initial AcceptsWord AcceptsSequence demand3 accepting-truth a.file.now a.codes.now a.transitions.now b.result _ _ b.ensures
 
-pub build-spec : {M : Type 1} → statement M
-build-spec = tie.close (tie.spec (λ c κs. search rules) (λ c. search rules) (λ c. search rules) returns)
+pub build_spec : {M : Type 1} → statement M
+build_spec = tie.close (tie.spec (λ c κs. search rules) (λ c. search rules) (λ c. search rules) returns)

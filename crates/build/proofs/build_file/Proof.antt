@@ -9,22 +9,22 @@ use borrow.Author.Rules.{rules}
 use Rattle.build.proofs.build_file.Statement.{statement}
 use Rattle.build.proofs.build_file.Tie as tie
 
-build-accepted-requires : tie.Need-build-accepted-requires
-build-accepted-requires c κs = let at-l : tie.After-l = search in let at-read-rule : tie.After-read-rule = search in sym at-read-rule.read-rule.ensures ∙ at-l.l.given.1
+build-accepted-requires : tie.Need-build_accepted-requires
+build-accepted-requires c κs = let at-l : tie.In-Accepted-2 = search in let at-read-rule : tie.After-read_rule = search in sym at-read-rule.read_rule.ensures ∙ at-l.in-Accepted.is
 
-returns : tie.Need-returns
+returns : tie.Need-returns-in-Refused
 returns c =
-    let start : tie.Start = search in let a = start.args in let k = c.before.row.given.0.0 in let at-read-rule : tie.After-read-rule = search in
-    let e : read_of a.file.now ≡ Refused k = sym at-read-rule.read-rule.ensures ∙ c.before.row.given.1 in
+    let start : tie.Start = search in let a = start.args in let k = c.before.in-Refused.row in let at-read-rule : tie.After-read_rule = search in
+    let e : read_of a.file.now ≡ Refused k = sym at-read-rule.read_rule.ensures ∙ c.before.in-Refused.is in
     filled-refused (λ r. start_of r a.holds) a.file.now a.codes.now a.transitions.now k (turned-away a.file.now k e)
 
-returns-2 : tie.Need-returns-2
+returns-2 : tie.Need-returns-in-Accepted
 returns-2 c =
-    let start : tie.Start = search in let a = start.args in let at-build-accepted : tie.After-build-accepted = search in let b = at-build-accepted.build-accepted in
-    let at-l : tie.After-l = search in let at-read-rule : tie.After-read-rule = search in
-    filled-served (λ r. start_of r a.holds) a.file.now at-l.l.given.0.0 (sym at-read-rule.read-rule.ensures ∙ at-l.l.given.1) a.codes.now a.transitions.now b.result _ _
+    let start : tie.Start = search in let a = start.args in let at-build-accepted : tie.After-build_accepted = search in let b = at-build-accepted.build_accepted in
+    let at-l : tie.In-Accepted-2 = search in let at-read-rule : tie.After-read_rule = search in
+    filled-served (λ r. start_of r a.holds) a.file.now at-l.in-Accepted.l (sym at-read-rule.read_rule.ensures ∙ at-l.in-Accepted.is) a.codes.now a.transitions.now b.result _ _
     b.ensures
 
-pub build-file-spec : {M : Type 1} → statement M
-build-file-spec =
+pub build_file_spec : {M : Type 1} → statement M
+build_file_spec =
     tie.close (tie.spec (λ c κs. search rules) (λ c. search rules) (λ c. search rules) build-accepted-requires returns (λ c. search rules) (λ c. search rules) returns-2)

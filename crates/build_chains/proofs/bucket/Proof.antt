@@ -9,5 +9,5 @@ returns : tie.Need-returns
 unfolding bucket_of
 returns c = refl
 
-pub bucket-spec : {M : Type 1} → statement M
-bucket-spec = tie.close (tie.spec (λ c. search rules) returns)
+pub bucket_spec : {M : Type 1} → statement M
+bucket_spec = tie.close (tie.spec (λ c. search rules) returns)

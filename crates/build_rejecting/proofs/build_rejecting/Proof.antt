@@ -12,8 +12,8 @@ use Rattle.build_rejecting.proofs.build_rejecting.Tie as tie
 returns : tie.Need-returns
 unfolding start_of
 returns c =
-    let start : tie.Start = search in let a = start.args in let at-build-file : tie.After-build-file = search in let b = at-build-file.build-file in
+    let start : tie.Start = search in let a = start.args in let at-build-file : tie.After-build_file = search in let b = at-build-file.build_file in
     file-built lacks_initial RejectsWord RejectsSequence rejecting-demand rejecting-truth a.file.now a.codes.now a.transitions.now b.result _ _ b.ensures
 
-pub build-rejecting-spec : {M : Type 1} → statement M
-build-rejecting-spec = tie.close (tie.spec (λ c κs. search rules) (λ c. search rules) (λ c. search rules) returns)
+pub build_rejecting_spec : {M : Type 1} → statement M
+build_rejecting_spec = tie.close (tie.spec (λ c κs. search rules) (λ c. search rules) (λ c. search rules) returns)

@@ -40,7 +40,7 @@ formed-row-requires c κs = let else1 : tie.Else-first-ne0 = search in let start
 -- the row of the well-formed rule is that of the body
 formed : (c : tie.After-formed_row-second) → let else1 : tie.Else-first-ne0 = search in c.formed_row-second.result ≡ body_row (start_of else1).args.f.now
 formed c = let else1 : tie.Else-first-ne0 = search in let start = start_of else1 in let f = start.args.f.now in
-    let e : c.formed-row.result ≡ first_row (formed_rows (rule_in f)) = rw (start.requires.1, counts-part f (known start).fits, clauses-part f (known start).fits) at c.formed_row-second.ensures in
+    let e : c.formed_row-second.result ≡ first_row (formed_rows (rule_in f)) = rw (start.requires.1, counts-part f (known start).fits, clauses-part f (known start).fits) at c.formed_row-second.ensures in
     e ∙ sym (rows-formed f (pass else1))
 
 returns-2 : tie.Need-returns-then-second-ne0
@@ -55,7 +55,7 @@ preface-row-requires c κs = let start = start_of (search) in rw start.requires.
 returns-3 : tie.Need-returns
 unfolding preface_row_lem
 returns-3 c =
-    let start = start_of (search) in let f = start.args.f.now in let e : c.preface-row.result ≡ preface_row_lem f = rw start.requires.1 at c.preface_row.ensures in
+    let start = start_of (search) in let f = start.args.f.now in let e : c.preface_row.result ≡ preface_row_lem f = rw start.requires.1 at c.preface_row.ensures in
     let else2 : tie.Else-second-ne0 = search in e ∙ sym (rows-preface f (sym (formed else2.before) ∙ else2.if-second-ne0.false))
 
 pub laid_row_spec : {M : Type 1} → statement M

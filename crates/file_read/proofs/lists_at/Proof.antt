@@ -26,7 +26,7 @@ lists-row-requires c κs = let start : tie.Start = search in let p = known start
 
 returns : tie.Need-returns
 returns c = let start : tie.Start = search in let p = known start in let f = start.args.f.now in
-    let e : c.lists-row.result ≡ first_row (list_rows (trailer f 0) (counts_of_lem f) (clauses_of_lem f)) = rw (start.requires.1, counts-part f p.fits, clauses-part f p.fits) at c.lists_row.ensures in
+    let e : c.lists_row.result ≡ first_row (list_rows (trailer f 0) (counts_of_lem f) (clauses_of_lem f)) = rw (start.requires.1, counts-part f p.fits, clauses-part f p.fits) at c.lists_row.ensures in
     e ∙ sym (rows-lists f start.requires.0)
 
 pub lists_at_spec : {M : Type 1} → statement M

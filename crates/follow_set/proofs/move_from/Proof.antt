@@ -63,7 +63,7 @@ target c =
     let start : tie.Start invariant-loop decreases-loop = search in let at-loop : tie.At-loop-i invariant-loop decreases-loop = search in let at-word : tie.After-word_at-t invariant-loop decreases-loop = search in
     let ts = words_in start.args.transitions.now in let l = at-loop.loop-i in
     let m = mem-at ts l.i (omega (arith, words-in-length start.args.transitions.now)) in
-    let e : c.target-of.result ≡ target_of (get_or ts l.i 0) = c.target_of-y.ensures ∙ ap target_of (read at-word) in
+    let e : c.target_of-y.result ≡ target_of (get_or ts l.i 0) = c.target_of-y.ensures ∙ ap target_of (read at-word) in
     omega (arith, e, start.requires.4.targets (get_or ts l.i 0) m, l.invariant.2)
 
 loop-again : tie.Need-loop-i-preserved invariant-loop decreases-loop
@@ -75,7 +75,7 @@ loop-again c =
     let ts = words_in a.transitions.now in
     let inside : l.i < length ts = omega (arith, words-in-length a.transitions.now) in
     let e = read at-word in
-    let y : at_target.target-of.result ≡ target_of (get_or ts l.i 0) = at_target.target_of-y.ensures ∙ ap target_of e in
+    let y : at_target.target_of-y.result ≡ target_of (get_or ts l.i 0) = at_target.target_of-y.ensures ∙ ap target_of e in
     let same : get_or ts l.i 0 / 65536 ≡ transition_of a.x a.letter 0 / 65536 = omega (arith, e, at_key.pack_transition-key.ensures, at_same.if-t-key.false) in (
       omega (arith, l.invariant.0),
       omega arith,

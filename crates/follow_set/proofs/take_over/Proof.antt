@@ -17,7 +17,7 @@ step-over-requires : tie.Need-step_over-requires
 step-over-requires c κs =
     let start : tie.Start = search in let at-flags : tie.After-flag_all-members = search in let a = start.args in let pre = start.requires in
     let e = at-flags.flag_all-members.ensures.0 in
-    let long : length at-flags.flag-all.last.0 ≡ length a.set.now = ap (λ (x : List ℕ). length x) e ∙ length-map a.set.now flag_of_lem in (
+    let long : length at-flags.flag_all-members.new.set ≡ length a.set.now = ap (λ (x : List ℕ). length x) e ∙ length-map a.set.now flag_of_lem in (
       omega (arith, long, pre.0),
       rw e (flags-low 0 (words_in a.transitions.now) a.set.now),
       at-flags.flag_all-members.ensures.1 ∙ ap (λ (n : ℕ). members_of n at-flags.flag_all-members.new.set) (sym long),

@@ -12,36 +12,36 @@ use borrow.Author.Rules.{rules}
 use Rattle.hoa_write.proofs.write_hoa.Statement.{statement}
 use Rattle.hoa_write.proofs.write_hoa.Tie as tie
 
-abbrev start-of-after-l : tie.After-l → tie.Start
+abbrev start-of-after-l : tie.In-Accepted-2 → tie.Start
 start-of-after-l c = search
 
 -- the file was read
-read : (c : tie.After-l) → read_of (start-of-after-l c).args.file.now ≡ Accepted c.l.given.0.0
-read c = let at-read-rule : tie.After-read-rule = search in sym at-read-rule.read-rule.ensures ∙ c.l.given.1
+read : (c : tie.In-Accepted-2) → read_of (start-of-after-l c).args.file.now ≡ Accepted c.in-Accepted.l
+read c = let at-read-rule : tie.After-read_rule = search in sym at-read-rule.read_rule.ensures ∙ c.in-Accepted.is
 
-cast-write-read : tie.Need-overflow-cast-write-read
+cast-write-read : tie.Need-overflow_cast-initial
 cast-write-read c =
-    let start : tie.Start = search in let f = start.args.file.now in let at-l : tie.After-l = search in let l = at-l.l.given.0.0 in
+    let start : tie.Start = search in let f = start.args.file.now in let at-l : tie.In-Accepted-2 = search in let l = at-l.in-Accepted.l in
     omega (arith, initial-low f l (served f l (read (search))))
 
-write-read-requires : tie.Need-write-read-requires
+write-read-requires : tie.Need-write_read-requires
 write-read-requires c κs =
-    let start : tie.Start = search in let f = start.args.file.now in let at-l : tie.After-l = search in let l = at-l.l.given.0.0 in
+    let start : tie.Start = search in let f = start.args.file.now in let at-l : tie.In-Accepted-2 = search in let l = at-l.in-Accepted.l in
     (served-letters f l (read at-l), initial-low f l (served f l (read at-l)))
 
-returns : tie.Need-returns
+returns : tie.Need-returns-in-Accepted
 returns c =
-    let start : tie.Start = search in let a = start.args in let at-l : tie.After-l = search in let v = served a.file.now at-l.l.given.0.0 (read (search)) in
-    let at-write-read : tie.After-write-read = search in let w = at-write-read.write_read in
+    let start : tie.Start = search in let a = start.args in let at-l : tie.In-Accepted-2 = search in let v = served a.file.now at-l.in-Accepted.l (read (search)) in
+    let at-write-read : tie.After-write_read = search in let w = at-write-read.write_read in
     accepted a.file.now (in_bytes_lem a.codes.now) (in_bytes_lem a.transitions.now) a.text.now _ w.result v.row
     (rw (ap (λ (r : Rule). r.s) v.rule, ap (λ (r : Rule). r.initial) v.rule) at w.ensures)
 
-returns-2 : tie.Need-returns-2
+returns-2 : tie.Need-returns-in-Refused
 returns-2 c =
-    let start : tie.Start = search in let a = start.args in let k = c.before.k.given.0.0 in let at-read-rule : tie.After-read-rule = search in
-    let t = turned-away a.file.now k (sym at-read-rule.read-rule.ensures ∙ c.before.k.given.1) in
+    let start : tie.Start = search in let a = start.args in let k = c.before.in-Refused.k in let at-read-rule : tie.After-read_rule = search in
+    let t = turned-away a.file.now k (sym at-read-rule.read_rule.ensures ∙ c.before.in-Refused.is) in
     refused a.file.now (in_bytes_lem a.codes.now) (in_bytes_lem a.transitions.now) k a.text.now (λ e. t.1 (t.0 ∙ e)) (sym t.0)
 
-pub write-hoa-spec : {M : Type 1} → statement M
-write-hoa-spec = tie.close (tie.spec
+pub write_hoa_spec : {M : Type 1} → statement M
+write_hoa_spec = tie.close (tie.spec
     (λ c κs. search rules) (λ c. search rules) cast-write-read write-read-requires (λ c. search rules) (λ c. search rules) returns returns-2)

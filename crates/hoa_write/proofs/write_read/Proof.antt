@@ -17,58 +17,58 @@ use Rattle.hoa_write.proofs.write_read.Statement.{statement}
 use Rattle.hoa_write.proofs.write_read.Tie as tie
 
 -- row 15 or 0
-row_is : (c : tie.After-table-row) → let start : tie.Start = search in
-    let a = start.args in c.table-row.result ≡ table_row_lem a.s (in_bytes_lem a.codes.now) (in_bytes_lem a.moves.now)
-row_is c = let start : tie.Start = search in let a = start.args in rw (both_bytes a.codes.now, both_bytes a.moves.now) at c.table-row.ensures
+row_is : (c : tie.After-table_row-row) → let start : tie.Start = search in
+    let a = start.args in c.table_row-row.result ≡ table_row_lem a.s (in_bytes_lem a.codes.now) (in_bytes_lem a.moves.now)
+row_is c = let start : tie.Start = search in let a = start.args in rw (both_bytes a.codes.now, both_bytes a.moves.now) at c.table_row-row.ensures
 
-abbrev start-of-else1 : tie.Else1 → tie.Start
+abbrev start-of-else1 : tie.Else-row-ne0 → tie.Start
 start-of-else1 c = search
 
 -- row 15 lets the table through
-passes : (c : tie.Else1) → let a = (start-of-else1 c).args in table_row_lem a.s (in_bytes_lem a.codes.now) (in_bytes_lem a.moves.now) ≡ 0
-passes c = sym (row_is c.before) ∙ c.if1.false
+passes : (c : tie.Else-row-ne0) → let a = (start-of-else1 c).args in table_row_lem a.s (in_bytes_lem a.codes.now) (in_bytes_lem a.moves.now) ≡ 0
+passes c = sym (row_is c.before) ∙ c.if-row-ne0.false
 
 fits-requires : tie.Need-fits-requires
 fits-requires c κs =
-    let start : tie.Start = search in let a = start.args in (c.propositions-of.ensures.1, start.pre.1, bytes-passed a.s a.codes.now a.moves.now (passes c.before))
+    let start : tie.Start = search in let a = start.args in (c.propositions_of-b.ensures.1, start.requires.1, bytes-passed a.s a.codes.now a.moves.now (passes c.before))
 
-abbrev start-of-after-propositions-of : tie.After-propositions-of → tie.Start
+abbrev start-of-after-propositions-of : tie.After-propositions_of-b → tie.Start
 start-of-after-propositions-of c = search
 
 -- the text that is written is the table's
-text : (c : tie.After-propositions-of) → let a = (start-of-after-propositions-of c).args in
+text : (c : tie.After-propositions_of-b) → let a = (start-of-after-propositions-of c).args in
     lent_text a.s a.initial (in_bytes_lem a.codes.now) (in_bytes_lem a.moves.now)
-    ≡ automaton_text c.propositions-of.result (flags_of (initial_at a.initial) (words_in a.codes.now)) (words_in a.moves.now)
-text c = let a = (start-of-after-propositions-of c).args in text_is a.s a.codes.now a.moves.now a.initial c.propositions-of.result c.propositions-of.ensures.0
+    ≡ automaton_text c.propositions_of-b.result (flags_of (initial_at a.initial) (words_in a.codes.now)) (words_in a.moves.now)
+text c = let a = (start-of-after-propositions-of c).args in text_is a.s a.codes.now a.moves.now a.initial c.propositions_of-b.result c.propositions_of-b.ensures.0
 
-returns-2 : tie.Need-returns-2
-returns-2 c = called-slice (passes (search)) (rw (text (search)) (leb-false _ _ (sym c.before.fits2.ensures ∙ not-true _ c.if2.true)))
+returns-2 : tie.Need-returns-then-not-fits
+returns-2 c = called-slice (passes (search)) (rw (text (search)) (leb-false _ _ (sym c.before.fits2.ensures ∙ not-true _ c.if-not-fits.true)))
 
-abbrev start-of-else2 : tie.Else2 → tie.Start
+abbrev start-of-else2 : tie.Else-not-fits → tie.Start
 start-of-else2 c = search
 
 -- there is room for it
-fitting : (c : tie.Else2) → let at-propositions-of : tie.After-propositions-of = search in
-    let a = (start-of-else2 c).args in length (automaton_text at-propositions-of.propositions-of.result (flags_of (initial_at a.initial) (words_in a.codes.now))
+fitting : (c : tie.Else-not-fits) → let at-propositions-of : tie.After-propositions_of-b = search in
+    let a = (start-of-else2 c).args in length (automaton_text at-propositions-of.propositions_of-b.result (flags_of (initial_at a.initial) (words_in a.codes.now))
     (words_in a.moves.now)) ≤ length a.text.now
-fitting c = leb-true _ _ (sym c.before.fits2.ensures ∙ not-false _ c.if2.false)
+fitting c = leb-true _ _ (sym c.before.fits2.ensures ∙ not-false _ c.if-not-fits.false)
 
-put-text-requires : tie.Need-put-text-requires
+put-text-requires : tie.Need-put_text-requires
 put-text-requires c κs =
-    let start : tie.Start = search in let a = start.args in let at-propositions-of : tie.After-propositions-of = search in (
-      at-propositions-of.propositions-of.ensures.1,
-      start.pre.1,
+    let start : tie.Start = search in let a = start.args in let at-propositions-of : tie.After-propositions_of-b = search in (
+      at-propositions-of.propositions_of-b.ensures.1,
+      start.requires.1,
       (bytes-passed a.s a.codes.now a.moves.now (passes (search))).transitions_ascend,
       fitting c.before,
     )
 
-returns-3 : tie.Need-returns-3
+returns-3 : tie.Need-returns
 returns-3 c =
-    let at-put-text : tie.After-put-text = search in let P = put_first at-put-text.put-text.ensures in let e = text (search) in let start : tie.Start = search in let a = start.args in
+    let at-put-text : tie.After-put_text = search in let P = put_first at-put-text.put_text.ensures in let e = text (search) in let start : tie.Start = search in let a = start.args in
     called-served (passes (search)) (rw e (fitting (search))) (P.0 ∙ ap length (sym e))
     (P.1 ∙ ap (λ (s : List ℕ). s ++ drop (length s) a.text.now) (sym e))
 
-pub write-read-spec : {M : Type 1} → statement M
-write-read-spec = tie.close (tie.spec
-    (λ c. search rules) (λ c. search rules) (λ c. search rules) (λ c. search rules) (λ c κs. search rules) (λ c. called-table c.if1.true (row_is c.before))
-    (λ c κs. let start : tie.Start = search in start.pre.0) fits-requires returns-2 put-text-requires (λ c. search rules) returns-3)
+pub write_read_spec : {M : Type 1} → statement M
+write_read_spec = tie.close (tie.spec
+    (λ c. search rules) (λ c. search rules) (λ c. search rules) (λ c. search rules) (λ c κs. search rules) (λ c. called-table c.if-row-ne0.true (row_is c.before))
+    (λ c κs. let start : tie.Start = search in start.requires.0) fits-requires returns-2 put-text-requires (λ c. search rules) returns-3)

@@ -19,47 +19,47 @@ use borrow.Author.Rules.{rules}
 use Rattle.judge_choices.proofs.judge_choices_read.Statement.{statement}
 use Rattle.judge_choices.proofs.judge_choices_read.Tie as tie
 
-returns : tie.Need-returns
+returns : tie.Need-returns-then-row-ne0
 returns c = let start : tie.Start = search in let a = start.args in let r = rule_of a.h a.counts.now a.clauses.now in
-    called-refused r a.lead.now a.cycle.now a.masks.now a.choices.now c.before.word_Row.result c.if1.true
-    (word-refuses r a.lead.now a.cycle.now (length a.masks.now) (length a.choices.now) c.before.word_Row.result c.if1.true c.before.word_Row.ensures)
+    called-refused r a.lead.now a.cycle.now a.masks.now a.choices.now c.before.word_Row.result c.if-row-ne0.true
+    (word-refuses r a.lead.now a.cycle.now (length a.masks.now) (length a.choices.now) c.before.word_Row.result c.if-row-ne0.true c.before.word_Row.ensures)
 
-returns-2 : tie.Need-returns-2
+returns-2 : tie.Need-returns-then-masks-places
 returns-2 c =
-    let start : tie.Start = search in let a = start.args in let r = rule_of a.h a.counts.now a.clauses.now in let at-word-row : tie.After-word-row = search in
+    let start : tie.Start = search in let a = start.args in let r = rule_of a.h a.counts.now a.clauses.now in let at-word-row : tie.After-word_row-row = search in
     called-refused r a.lead.now a.cycle.now a.masks.now a.choices.now 16 (λ e. omega arith)
-    (masks-refuse r a.lead.now a.cycle.now (length a.masks.now) (length a.choices.now) (sym at-word-row.word_Row.ensures ∙ c.before.if1.false) c.if2.true)
+    (masks-refuse r a.lead.now a.cycle.now (length a.masks.now) (length a.choices.now) (sym at-word-row.word_Row.ensures ∙ c.before.if-row-ne0.false) c.if-masks-places.true)
 
-mul-if3 : tie.Need-overflow-mul-if3
+mul-if3 : tie.Need-overflow_mul-places
 mul-if3 c =
-    let start : tie.Start = search in let a = start.args in let at-word-row : tie.After-word-row = search in let else1 : tie.Else1 = search in
-    omega (arith, bytes-few a.h.n a.h.s a.lead.now a.cycle.now (sym at-word-row.word_Row.ensures ∙ else1.if1.left) start.pre.formed.few_states)
+    let start : tie.Start = search in let a = start.args in let at-word-row : tie.After-word_row-row = search in let else1 : tie.Else-row-ne0 = search in
+    omega (arith, bytes-few a.h.n a.h.s a.lead.now a.cycle.now (sym at-word-row.word_Row.ensures ∙ else1.if-row-ne0.false) start.requires.formed.few_states)
 
-returns-3 : tie.Need-returns-3
+returns-3 : tie.Need-returns-then-choices-places
 returns-3 c =
-    let start : tie.Start = search in let a = start.args in let r = rule_of a.h a.counts.now a.clauses.now in let at-word-row : tie.After-word-row = search in
-    let else1 : tie.Else1 = search in let else2 : tie.Else2 = search in
+    let start : tie.Start = search in let a = start.args in let r = rule_of a.h a.counts.now a.clauses.now in let at-word-row : tie.After-word_row-row = search in
+    let else1 : tie.Else-row-ne0 = search in let else2 : tie.Else-masks-places = search in
     called-refused r a.lead.now a.cycle.now a.masks.now a.choices.now 16 (λ e. omega arith)
     (choices-refuse r a.lead.now a.cycle.now (length a.masks.now) (length a.choices.now)
-    (sym at-word-row.word_Row.ensures ∙ else1.if1.left) else2.if2.left (omega (arith, c.if3.true)))
+    (sym at-word-row.word_Row.ensures ∙ else1.if-row-ne0.false) else2.if-masks-places.false (omega (arith, c.if-choices-places.true)))
 
-fill-both-requires : tie.Need-fill-both-requires
+fill-both-requires : tie.Need-fill_both-requires
 fill-both-requires c κs =
-    let start : tie.Start = search in let a = start.args in let at-word-row : tie.After-word-row = search in let else1 : tie.Else1 = search in
-    let row = sym at-word-row.word_Row.ensures ∙ else1.if1.left in let else2 : tie.Else2 = search in let else3 : tie.Else3 = search in (
-      start.pre,
+    let start : tie.Start = search in let a = start.args in let at-word-row : tie.After-word_row-row = search in let else1 : tie.Else-row-ne0 = search in
+    let row = sym at-word-row.word_Row.ensures ∙ else1.if-row-ne0.false in let else2 : tie.Else-masks-places = search in let else3 : tie.Else-choices-places = search in (
+      start.requires,
       word_over a.h.s a.lead.now a.cycle.now row,
       places-few a.h.s a.lead.now a.cycle.now row,
-      else2.if2.left,
-      omega (arith, else3.if3.left),
+      else2.if-masks-places.false,
+      omega (arith, else3.if-choices-places.false),
     )
 
-slice-read-contains : tie.Need-slice-read-contains
+slice-read-contains : tie.Need-bounds-masks-0
 slice-read-contains c =
-    let start : tie.Start = search in let a = start.args in let else1 : tie.Else1 = search in let at-word-row : tie.After-word-row = search in
-    let w = word_over a.h.s a.lead.now a.cycle.now (sym at-word-row.word_Row.ensures ∙ else1.if1.left) in let at-fill-both : tie.After-fill-both = search in omega (
+    let start : tie.Start = search in let a = start.args in let else1 : tie.Else-row-ne0 = search in let at-word-row : tie.After-word_row-row = search in
+    let w = word_over a.h.s a.lead.now a.cycle.now (sym at-word-row.word_Row.ensures ∙ else1.if-row-ne0.false) in let at-fill-both : tie.After-fill_both = search in omega (
       arith,
-      simp length-append at (ap length at-fill-both.fill-both.ensures.0),
+      simp length-append at (ap length at-fill-both.fill_both.ensures.0),
       truth-length (rule_of a.h a.counts.now a.clauses.now) a.lead.now a.cycle.now,
       w.repeats,
     )
@@ -74,15 +74,15 @@ served : (c : tie.After-contains) → let a = (start-of-after-contains c).args i
     → (t : Bool) → bit (get_or masks 0 0) a.h.initial ≡ t → CalledChoices r a.lead.now a.cycle.now a.masks.now masks a.choices.now choices (verdict 0 t)
 served c masks choices f t e =
     let a = (start-of-after-contains c).args in let r = rule_of a.h a.counts.now a.clauses.now in
-    let else1 : tie.Else1 = search in let at-word-row : tie.After-word-row = search in let row = sym at-word-row.word_Row.ensures ∙ else1.if1.left in
-    let w = word_over a.h.s a.lead.now a.cycle.now row in let else3 : tie.Else3 = search in let else2 : tie.Else2 = search in
+    let else1 : tie.Else-row-ne0 = search in let at-word-row : tie.After-word_row-row = search in let row = sym at-word-row.word_Row.ensures ∙ else1.if-row-ne0.false in
+    let w = word_over a.h.s a.lead.now a.cycle.now row in let else3 : tie.Else-choices-places = search in let else2 : tie.Else-masks-places = search in
     called-served r a.lead.now a.cycle.now a.masks.now a.choices.now
-    (call-served r a.lead.now a.cycle.now (length a.masks.now) (length a.choices.now) row else2.if2.left else3.if3.left)
+    (call-served r a.lead.now a.cycle.now (length a.masks.now) (length a.choices.now) row else2.if-masks-places.false else3.if-choices-places.false)
     masks choices f.0 f.1 w.repeats t e
 
-pub judge-choices-read-spec : {M : Type 1} → statement M
-judge-choices-read-spec = tie.close (tie.spec
+pub judge_choices_read_spec : {M : Type 1} → statement M
+judge_choices_read_spec = tie.close (tie.spec
     (λ c κs. search rules) returns (λ c. search rules) returns-2 mul-if3 returns-3 fill-both-requires slice-read-contains (λ c. search rules)
     (λ c κs. search rules) (λ c. search rules) (λ c. search rules)
-    (λ c. let at-fill-both : tie.After-fill-both = search in served c.before _ _ at-fill-both.fill-both.ensures true (sym c.before.contains.ensures ∙ c.if4.true)) (λ c. search rules)
-    (λ c. search rules) (λ c. let at-fill-both : tie.After-fill-both = search in served c.before _ _ at-fill-both.fill-both.ensures false (sym c.before.contains.ensures ∙ c.if4.false)))
+    (λ c. let at-fill-both : tie.After-fill_both = search in served c.before _ _ at-fill-both.fill_both.ensures true (sym c.before.contains.ensures ∙ c.if-contains.true)) (λ c. search rules)
+    (λ c. search rules) (λ c. let at-fill-both : tie.After-fill_both = search in served c.before _ _ at-fill-both.fill_both.ensures false (sym c.before.contains.ensures ∙ c.if-contains.false)))

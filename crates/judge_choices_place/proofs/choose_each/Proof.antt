@@ -26,7 +26,7 @@ use borrow.Author.Rules.{rules}
 use Rattle.judge_choices_place.proofs.choose_each.Statement.{statement}
 use Rattle.judge_choices_place.proofs.choose_each.Tie as tie
 
-abbrev invariant-loop : tie.invariant-loop
+abbrev invariant-loop : tie.invariant-loop-left
 invariant-loop counts starts clauses a all near states choices₀ base h classes found₀ left₀ choices found left = (left ≤ states)
     × (found < 2 ^ h.n)
     × ((q : ℕ) → walked (λ p. satisfies h.n (bit (aim_of (rule_of h counts clauses) all near p)) (entry (rule_of h counts clauses) p a)) found left q
@@ -35,43 +35,43 @@ invariant-loop counts starts clauses a all near states choices₀ base h classes
     × ((q : ℕ) → q < h.n → get_or choices (base + q) 0 ≡ cond (bit found q) (met_number (rule_of h counts clauses) a all near q) (get_or choices₀ (base + q) 0))
     × ((i : ℕ) → (i < base) ⊎ (base + h.n ≤ i) → get_or choices i 0 ≡ get_or choices₀ i 0)
 
-abbrev decreases-loop : tie.decreases-loop
+abbrev decreases-loop : tie.decreases-loop-left
 decreases-loop counts starts clauses a all near states choices₀ base h classes found₀ left₀ choices found left = left
 
 abbrev In-loop : Type 0
-In-loop = tie.In-loop invariant-loop decreases-loop
+In-loop = tie.In-loop-left invariant-loop decreases-loop
 
-loop-holds : tie.Need-loop-init invariant-loop decreases-loop
+loop-holds : tie.Need-loop-left-init invariant-loop decreases-loop
 loop-holds c = let start : tie.Start invariant-loop decreases-loop = search in (omega arith, pow_pos start.args.rule.head.n, λ q. rw (bit-none q), refl, λ q l. rw (bit-none q), λ i k. refl)
 
 abbrev start_of : In-loop → tie.Start invariant-loop decreases-loop
 start_of c = search
 
 -- the states left are the rule's, and the least of them is one
-few : (c : In-loop) → c.before.loop.left < 256
+few : (c : In-loop) → c.before.loop-left.left < 256
 few c = omega (arith, (start_of c).ranges.states)
 
-below : (c : In-loop) → count_trailing_zeros 8 c.before.loop.left < (start_of c).args.rule.head.n
+below : (c : In-loop) → count_trailing_zeros 8 c.before.loop-left.left < (start_of c).args.rule.head.n
 below c =
-    bit_below (start_of c).args.rule.head.n c.before.loop.left _ (lt_of_le_of_lt c.before.loop.invariant.0 (start_of c).requires.6)
-    (least-member c.before.loop.left (omega arith) (few c))
+    bit_below (start_of c).args.rule.head.n c.before.loop-left.left _ (lt_of_le_of_lt c.before.loop-left.invariant.0 (start_of c).requires.6)
+    (least-member c.before.loop-left.left (omega arith) (few c))
 
-add-choose : tie.Need-overflow-add-choose invariant-loop decreases-loop
-add-choose c = let start = start_of (search) in omega (arith, below (search), start.pre.7, start.good)
+add-choose : tie.Need-overflow_add-base invariant-loop decreases-loop
+add-choose c = let start = start_of (search) in omega (arith, below (search), start.requires.7, start.well_formed)
 
 choose-requires : tie.Need-choose-requires invariant-loop decreases-loop
-choose-requires c κs = let start = start_of (search) in let p = start.pre in let at-loop : tie.At-loop invariant-loop decreases-loop = search in
-    (p.0, p.1, below (search), p.3, omega (arith, below (search), p.7, at-loop.loop.inv.3))
+choose-requires c κs = let start = start_of (search) in let p = start.requires in let at-loop : tie.At-loop-left invariant-loop decreases-loop = search in
+    (p.0, p.1, below (search), p.3, omega (arith, below (search), p.7, at-loop.loop-left.invariant.3))
 
-low : (c : In-loop) → count_trailing_zeros 8 c.before.loop.left < 8
+low : (c : In-loop) → count_trailing_zeros 8 c.before.loop-left.left < 8
 low c = omega (arith, below c, (start_of c).requires.0.few_states)
 
-loop-less : tie.Need-loop-smaller invariant-loop decreases-loop
-loop-less c = let at-loop : tie.At-loop invariant-loop decreases-loop = search in omega (arith, and_le_r at-loop.loop.left (at-loop.loop.left - 1))
+loop-less : tie.Need-loop-left-smaller invariant-loop decreases-loop
+loop-less c = let at-loop : tie.At-loop-left invariant-loop decreases-loop = search in omega (arith, and_le_r at-loop.loop-left.left (at-loop.loop-left.left - 1))
 
-loop-again : tie.Need-loop-preserved invariant-loop decreases-loop
+loop-again : tie.Need-loop-left-preserved invariant-loop decreases-loop
 loop-again c =
-    let in-loop : In-loop = search in let start = start_of in-loop in let l = in-loop.before.loop in let a = start.args in let p = start.pre in
+    let in-loop : In-loop = search in let start = start_of in-loop in let l = in-loop.before.loop-left in let a = start.args in let p = start.pre in
     let r = rule_of a.rule.head a.counts.now a.clauses.now in let f : Set = λ x. satisfies a.rule.head.n (bit (aim_of r a.all a.near x)) (entry r x a.a) in
     let q = count_trailing_zeros 8 l.left in let k = below in-loop in let pos : 0 < l.left = omega arith in let small = few in-loop in
     let one : 1 * 2 ^ q % 2 ^ 8 ≡ 2 ^ q = shl_one 8 q (low in-loop) in let class = get_or a.rule.classes q 0 in let at-difference : tie.After-difference invariant-loop decreases-loop = search in
@@ -81,28 +81,28 @@ loop-again c =
     let met : at-choose.choose.result ≡ is_met m = chosen.0 ∙ ap (λ (s : ℕ). is_met (met_of s (entry r q a.a))) aims in
     let new = chosen.1 ∙ ap (λ (s : ℕ). put_met (met_of s (entry r q a.a)) (a.base + q) l.choices) aims in
     let test : at-choose.choose.result ≡ f q = met ∙ met-entry a.rule.head.n (aim_of r a.all a.near q) (entry r q a.a) p.0.few_states (entry-states r p.0 q a.a k p.3) in
-    let room : a.base + a.rule.head.n ≤ length l.choices = omega (arith, p.7, l.inv.3) in let number : ℕ → ℕ = met_number r a.a a.all a.near in (
+    let room : a.base + a.rule.head.n ≤ length l.choices = omega (arith, p.7, l.invariant.3) in let number : ℕ → ℕ = met_number r a.a a.all a.near in (
       omega (arith, and_le_r l.left (l.left - 1)),
-      ⊎_elim (λ w. rw (w.1, one) (or_lt a.rule.head.n l.found (2 ^ q) l.inv.1 (pow-lt k))) (λ w. rw w.1 l.inv.1) c.if1.branch,
-      λ x. ⊎_elim (λ w. rw (w.1, one) (walk-yes f l.found l.left pos small (sym test ∙ w.0.taken) x) ∙ l.inv.2 x)
-          (λ w. rw w.1 (walk_no f l.found l.left pos small (sym test ∙ w.0.left) x) ∙ l.inv.2 x)
-          c.if1.branch,
-      ap length new ∙ put-length m (a.base + q) l.choices ∙ l.inv.3,
+      ⊎_elim (λ w. rw (w.1, one) (or_lt a.rule.head.n l.found (2 ^ q) l.invariant.1 (pow-lt k))) (λ w. rw w.1 l.invariant.1) c.if-choose.branch,
+      λ x. ⊎_elim (λ w. rw (w.1, one) (walk-yes f l.found l.left pos small (sym test ∙ w.0.taken) x) ∙ l.invariant.2 x)
+          (λ w. rw w.1 (walk_no f l.found l.left pos small (sym test ∙ w.0.left) x) ∙ l.invariant.2 x)
+          c.if-choose.branch,
+      ap length new ∙ put-length m (a.base + q) l.choices ∙ l.invariant.3,
       λ x i. ap (λ (ys : List ℕ). get_or ys (a.base + x) 0) new ∙ ⊎_elim
-          (λ w. rw (w.1, one) (here-yes a.rule.head.n a.base number a.choices.now l.choices l.found room l.inv.4 m q k (sym met ∙ w.0.taken) refl x i))
-          (λ w. rw w.1 (here-no a.rule.head.n a.base number a.choices.now l.choices l.found room l.inv.4 m q k (sym met ∙ w.0.left) x i))
-          c.if1.branch,
-      λ i j. ap (λ (ys : List ℕ). get_or ys i 0) new ∙ others-on a.rule.head.n a.base number a.choices.now l.choices l.found room l.inv.4 m q k l.inv.5 i j,
+          (λ w. rw (w.1, one) (here-yes a.rule.head.n a.base number a.choices.now l.choices l.found room l.invariant.4 m q k (sym met ∙ w.0.taken) refl x i))
+          (λ w. rw w.1 (here-no a.rule.head.n a.base number a.choices.now l.choices l.found room l.invariant.4 m q k (sym met ∙ w.0.left) x i))
+          c.if-choose.branch,
+      λ i j. ap (λ (ys : List ℕ). get_or ys i 0) new ∙ others-on a.rule.head.n a.base number a.choices.now l.choices l.found room l.invariant.4 m q k l.invariant.5 i j,
     )
 
 returns : tie.Need-returns invariant-loop decreases-loop
 returns c =
-    let l = c.before.loop in let start : tie.Start invariant-loop decreases-loop = search in let a = start.args in let r = rule_of a.rule.head a.counts.now a.clauses.now in
+    let l = c.before.loop-left in let start : tie.Start invariant-loop decreases-loop = search in let a = start.args in let r = rule_of a.rule.head a.counts.now a.clauses.now in
     let f : Set = λ x. satisfies a.rule.head.n (bit (aim_of r a.all a.near x)) (entry r x a.a) in let e : l.left ≡ 0 = omega arith in
     record { long = l.invariant.3; low = l.invariant.1; those = λ q. sym (walk_end f l.found q) ∙ (rw e at (l.invariant.2 q)); here = l.invariant.4; others = l.invariant.5 }
 
-pub choose-each-spec : {M : Type 1} → statement M
-choose-each-spec = tie.close (tie.spec
+pub choose_each_spec : {M : Type 1} → statement M
+choose_each_spec = tie.close (tie.spec
     invariant-loop decreases-loop loop-holds (λ c. omega (arith, low c)) (λ c. omega (arith, low c)) (λ c κs. search rules) add-choose choose-requires
     (λ c. omega (arith, low (search))) (λ c. omega (arith, low (search)))
-    (λ c. omega arith) loop-less loop-again (λ c. c.before.loop.invariant.3) returns)
+    (λ c. omega arith) loop-less loop-again (λ c. c.before.loop-left.invariant.3) returns)

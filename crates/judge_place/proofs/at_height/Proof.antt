@@ -13,29 +13,29 @@ use Rattle.judge_place.proofs.Walks.{put-yes, put-no}
 use Rattle.judge_place.proofs.at_height.Statement.{statement}
 use Rattle.judge_place.proofs.at_height.Tie as tie
 
-abbrev invariant-loop : tie.invariant-loop
+abbrev invariant-loop : tie.invariant-loop-q
 invariant-loop reach n height layer₀ q₀ layer q = (q ≤ n) × (layer ≡ mask q (λ t. eqb (ones (get_or reach t 0)) height))
 
-abbrev decreases-loop : tie.decreases-loop
+abbrev decreases-loop : tie.decreases-loop-q
 decreases-loop reach n height layer₀ q₀ layer q = n - q
 
-loop-holds : tie.Need-loop-init invariant-loop decreases-loop
+loop-holds : tie.Need-loop-q-init invariant-loop decreases-loop
 unfolding mask
 loop-holds c = (omega arith, refl)
 
-loop-again : tie.Need-loop-preserved invariant-loop decreases-loop
+loop-again : tie.Need-loop-q-preserved invariant-loop decreases-loop
 loop-again c =
-    let at-loop : tie.At-loop invariant-loop decreases-loop = search in let l = at-loop.loop in let start : tie.Start invariant-loop decreases-loop = search in let a = start.args in
+    let at-loop : tie.At-loop-q invariant-loop decreases-loop = search in let l = at-loop.loop-q in let start : tie.Start invariant-loop decreases-loop = search in let a = start.args in
     let f : Set = λ t. eqb (ones (get_or a.reach.now t 0)) a.height in (
       omega arith,
-      ⊎_elim (λ w. w.1 ∙ rw l.inv.1 (put-yes l.q f (omega arith) (eq-eqb _ _ w.0.taken)))
-          (λ w. w.1 ∙ l.inv.1 ∙ put-no l.q f (ne_eqb _ _ w.0.left))
-          c.if1.branch,
+      ⊎_elim (λ w. w.1 ∙ rw l.invariant.1 (put-yes l.q f (omega arith) (eq-eqb _ _ w.0.taken)))
+          (λ w. w.1 ∙ l.invariant.1 ∙ put-no l.q f (ne_eqb _ _ w.0.left))
+          c.if-reach-q.branch,
     )
 
 returns : tie.Need-returns invariant-loop decreases-loop
-returns c = let l = c.before.loop in let start : tie.Start invariant-loop decreases-loop = search in let e : l.q ≡ start.args.n = omega arith in rw (sym e) l.invariant.1
+returns c = let l = c.before.loop-q in let start : tie.Start invariant-loop decreases-loop = search in let e : l.q ≡ start.args.n = omega arith in rw (sym e) l.invariant.1
 
-pub at-height-spec : {M : Type 1} → statement M
-at-height-spec = tie.close (tie.spec
+pub at_height_spec : {M : Type 1} → statement M
+at_height_spec = tie.close (tie.spec
     invariant-loop decreases-loop loop-holds (λ c. omega arith) (λ c. omega arith) (λ c. omega arith) (λ c. omega arith) (λ c. omega arith) loop-again returns)

@@ -25,7 +25,7 @@ loop-again c =
     )
 
 returns : tie.Need-returns invariant-loop decreases-loop
-returns c = let start : tie.Start invariant-loop decreases-loop = search in let e : c.before.loop.p ≡ start.args.n = omega arith in rw (sym e) c.before.loop-p.invariant.1
+returns c = let start : tie.Start invariant-loop decreases-loop = search in let e : c.before.loop-p.p ≡ start.args.n = omega arith in rw (sym e) c.before.loop-p.invariant.1
 
 pub class_of_spec : {M : Type 1} → statement M
 class_of_spec = tie.close (tie.spec

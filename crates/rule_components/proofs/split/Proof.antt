@@ -47,10 +47,10 @@ loop-again : tie.Need-loop-q-preserved invariant-loop decreases-loop
 loop-again c =
     let at-loop : At-loop = search in let l = at-loop.loop-q in let start : Start = search in let a = start.args in let w = start.requires in
     let r = rule_of a.h a.counts.now a.clauses.now in let at-closures : tie.After-closures-reach invariant-loop decreases-loop = search in
-    let e : c.before.class_of.result ≡ class_by (closures_of r) a.h.n l.q =
+    let e : c.before.class_of-class.result ≡ class_by (closures_of r) a.h.n l.q =
     c.before.class_of-class.ensures ∙ ap (λ (t : List ℕ). class_by t a.h.n l.q) at-closures.closures-reach.ensures in
     let f : Found r w.few_states l.q l.count l.masks = record { number = l.invariant.1; laid = l.invariant.2 } in let then1 : tie.In-loop-q invariant-loop decreases-loop = search in
-    let g : Found r w.few_states (l.q + 1) c.if2.count c.if2.masks = ⊎_elim
+    let g : Found r w.few_states (l.q + 1) c.if-class-q.count c.if-class-q.masks = ⊎_elim
     (λ s. turn-taken r w.few_states l.q c.before.class_of-class.result l.count c.if-class-q.count l.masks c.if-class-q.masks then1.loop-q-test.true e f _ s.0.taken s.1
     (omega arith) s.2)
     (λ s. turn-passed r w.few_states l.q c.before.class_of-class.result l.count c.if-class-q.count l.masks c.if-class-q.masks then1.loop-q-test.true e f s.0.left s.1

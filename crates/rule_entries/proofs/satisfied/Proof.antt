@@ -19,5 +19,5 @@ answer c =
 
 pub satisfied_spec : {M : Type 1} → statement M
 satisfied_spec = tie.close (tie.spec
-    (λ c κs. search rules) (λ c. search rules) (λ c. search rules) (λ c. unfold is_met in sym (ap is_met c.enum_told-1.given.1) ∙ answer (search))
-    (λ c. unfold is_met in sym (ap is_met c.enum_told-in-Nothing-1.given.1) ∙ answer (search)))
+    (λ c κs. search rules) (λ c. search rules) (λ c. search rules) (λ c. unfold is_met in sym (ap is_met c.in-Clause.is) ∙ answer (search))
+    (λ c. unfold is_met in sym (ap is_met c.in-Nothing.is) ∙ answer (search)))

@@ -25,7 +25,7 @@ loop-holds c = let q = c.args.q in let e = shl_one 8 q c.requires in (rw e (pow-
 returns : tie.Need-returns-then-next-found invariant-loop decreases-loop
 returns c =
     let start : tie.Start invariant-loop decreases-loop = search in let es = start.args.es.now in let at-loop : tie.At-loop-found invariant-loop decreases-loop = search in let l = at-loop.loop-found in
-    let stable : bit_or l.found c.before.union-over.result ≡ l.found = omega (arith, c.if-next-found.true) in
+    let stable : bit_or l.found c.before.union_over.result ≡ l.found = omega (arith, c.if-next-found.true) in
     record { holds = l.invariant.1; closed = round-closed es l.found c.before.union_over.result c.before.union_over.ensures stable; least = l.invariant.2 }
 
 loop-less : tie.Need-loop-found-smaller invariant-loop decreases-loop

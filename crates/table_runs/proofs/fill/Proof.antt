@@ -25,7 +25,7 @@ fill-cycle-requires : tie.Need-fill_cycle-requires
 fill-cycle-requires c κs =
     let at_count : tie.After-count-n = search in let a = (start_of at_count).args in let p = (start_of at_count).requires in let at-fill-with : tie.After-fill_with = search in
     let w = at-fill-with.fill_with in let at = length a.lead.now * at_count.count-n.result in
-    let e : length (take (length w.last.0 - at) (drop at w.last.0)) ≡ length a.cycle.now * at_count.count.result =
+    let e : length (take (length w.new.xs - at) (drop at w.new.xs)) ≡ length a.cycle.now * at_count.count-n.result =
     end-length w.new.xs at (omega (arith, sizes at_count, w.auto.0)) ∙ omega (arith, sizes at_count, w.auto.0) in
     record { repeats = p.repeats; marked = e ∙ ap (λ (k : ℕ). length a.cycle.now * k) at_count.count-n.ensures; sources = p.sources; targets = p.targets }
 
@@ -41,7 +41,7 @@ long : (c : tie.After-fill_cycle) → let at-fill-with : tie.After-fill_with = s
     let at = length (start_of (count_of c)).args.lead.now * (count_of c).count-n.result in (at ≤ length w) × (length (cycle-marks c) ≡ length w - at)
 long c =
     let at-fill-with : tie.After-fill_with = search in let w = at-fill-with.fill_with in let at = length (start_of (count_of c)).args.lead.now * (count_of c).count-n.result in
-    let fits : at ≤ length w.last.0 = omega (arith, sizes (count_of c), w.auto.0) in (fits, omega (arith, c.fill_cycle.auto, end-length w.new.xs at fits))
+    let fits : at ≤ length w.new.xs = omega (arith, sizes (count_of c), w.auto.0) in (fits, omega (arith, c.fill_cycle.auto, end-length w.new.xs at fits))
 
 -- there is room for a place behind them
 room : (c : tie.After-count-n) → let a = (start_of c).args in length a.lead.now * c.count-n.result + c.count-n.result ≤ length a.marks.now

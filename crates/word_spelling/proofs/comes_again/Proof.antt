@@ -31,7 +31,7 @@ loop-again c =
     let start : tie.Start invariant-loop decreases-loop = search in let a = start.args in let at-loop : tie.At-loop-j invariant-loop decreases-loop = search in let l = at-loop.loop-j in
     let h : 0 < length a.cycle.now = omega arith in
     let low : next_place_lem [] a.cycle.now l.later < length a.cycle.now = omega (arith, next-place-low [] a.cycle.now h l.later (omega arith)) in
-    let e : c.next_place.result ≡ next_place_lem [] a.cycle.now l.later = c.next_place-later.ensures [] a.cycle.now refl refl in (
+    let e : c.next_place-later.result ≡ next_place_lem [] a.cycle.now l.later = c.next_place-later.ensures [] a.cycle.now refl refl in (
       omega arith,
       rw e low,
       e ∙ later-next a.cycle.now h a.d l.j l.later l.invariant.2,

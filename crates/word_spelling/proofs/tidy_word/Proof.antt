@@ -14,7 +14,7 @@ use Rattle.word_spelling.proofs.tidy_word.Tie as tie
 lead-length-requires : tie.Need-lead_length-m-requires
 lead-length-requires c κs = let start : tie.Start = search in let a = start.args in let at-length-row : tie.After-length_row-row = search in
     let s = short-of a.lead.now a.cycle.now (sym at-length-row.length_row-row.ensures ∙ c.before.if-row-ne0.false) in
-    let most : c.cycle-length.result ≤ length a.cycle.now = rw c.cycle_length-p.ensures (cycle-max a.lead.now a.cycle.now s.repeats) in
+    let most : c.cycle_length-p.result ≤ length a.cycle.now = rw c.cycle_length-p.ensures (cycle-max a.lead.now a.cycle.now s.repeats) in
     (s.repeats, most, omega (arith, s.lead-short, s.cycle-short))
 
 abbrev start-of-after-lead-length : tie.After-lead_length-m → tie.Start

@@ -7,24 +7,24 @@ use Rattle.build_closure.proofs.Listing.{listed-full, listed-all}
 use Rattle.build_closure.proofs.reach.reachable.Statement.{statement}
 use Rattle.build_closure.proofs.reach.reachable.Tie as tie
 
-returns : tie.Need-returns
-returns c = let start : tie.Start = search in let at-reach : tie.After-reach = search in
-    λ r T. listed-full T.shaped.passing (start_of r start.args.shape.holds) c.if1.true (at-reach.reach.ensures r T)
+returns : tie.Need-returns-then-g
+returns c = let start : tie.Start = search in let at-reach : tie.After-reach-g = search in
+    λ r T. listed-full T.shaped.passing (start_of r start.args.shape.holds) c.if-g.true (at-reach.reach-g.ensures r T)
 
-to-codes-requires : tie.Need-to-codes-requires
-to-codes-requires c κs = let start : tie.Start = search in let e = start.pre.0 in let at-reach : tie.After-reach = search in (at-reach.reach.ensures e.0 e.1).fits
+to-codes-requires : tie.Need-to_codes-requires
+to-codes-requires c κs = let start : tie.Start = search in let e = start.requires.0 in let at-reach : tie.After-reach-g = search in (at-reach.reach-g.ensures e.0 e.1).fits
 
-sort-first-requires : tie.Need-sort-first-requires
+sort-first-requires : tie.Need-sort_first-requires
 sort-first-requires c κs =
-    let start : tie.Start = search in let e = start.pre.0 in let at-reach : tie.After-reach = search in let at-to-codes : tie.After-to-codes = search in
-    omega (arith, (at-reach.reach.ensures e.0 e.1).fits, at-to-codes.to_codes.kept.0)
+    let start : tie.Start = search in let e = start.requires.0 in let at-reach : tie.After-reach-g = search in let at-to-codes : tie.After-to_codes = search in
+    omega (arith, (at-reach.reach-g.ensures e.0 e.1).fits, at-to-codes.to_codes.auto.0)
 
-returns-2 : tie.Need-returns-2
+returns-2 : tie.Need-returns
 returns-2 c =
-    let at-to-codes : tie.After-to-codes = search in let t = at-to-codes.to_codes in let at-sort-first : tie.After-sort-first = search in let z = at-sort-first.sort-first in
-    let else1 : tie.Else1 = search in let at-reach : tie.After-reach = search in let start : tie.Start = search in
-    λ r T. listed-all T.shaped.passing (start_of r start.args.shape.holds) else1.if1.left (at-reach.reach.ensures r T)
-    t.ensures z.ensures (z.kept.0 ∙ t.kept.0)
+    let at-to-codes : tie.After-to_codes = search in let t = at-to-codes.to_codes in let at-sort-first : tie.After-sort_first = search in let z = at-sort-first.sort_first in
+    let else1 : tie.Else-g = search in let at-reach : tie.After-reach-g = search in let start : tie.Start = search in
+    λ r T. listed-all T.shaped.passing (start_of r start.args.shape.holds) else1.if-g.false (at-reach.reach-g.ensures r T)
+    t.ensures z.ensures (z.auto.0 ∙ t.auto.0)
 
-pub reachable-spec : {M : Type 1} → statement M
-reachable-spec = tie.close (tie.spec (λ c κs. search rules) (λ c. search rules) returns to-codes-requires sort-first-requires (λ c. search rules) returns-2)
+pub reachable_spec : {M : Type 1} → statement M
+reachable_spec = tie.close (tie.spec (λ c κs. search rules) (λ c. search rules) returns to-codes-requires sort-first-requires (λ c. search rules) returns-2)

@@ -15,7 +15,7 @@ use Rattle.build_cores.proofs.breakpoint.onward.Tie as tie
 next : (c : tie.After-next_component-d) → let start : tie.Start = search in
     c.next_component-d.result ≡ next_in start.args.components (start.args.pair % 16)
 next c =
-    let start : tie.Start = search in let a = start.args in let found : c.next-component.result ≡ next_in a.components (bit_and a.pair 15) = c.next_component-d.ensures in
+    let start : tie.Start = search in let a = start.args in let found : c.next_component-d.result ≡ next_in a.components (bit_and a.pair 15) = c.next_component-d.ensures in
     found ∙ ap (next_in a.components) (and_mask a.pair 4)
 
 next_low : (c : tie.After-next_component-d) → c.next_component-d.result < 8
@@ -27,8 +27,8 @@ element-copy-out-class-count c = let start : tie.Start = search in omega (arith,
 returns : tie.Need-returns-then-k-eq0
 returns c =
     let start : tie.Start = search in let a = start.args in let at-next-component : tie.After-next_component-d = search in let d = at-next-component.next_component-d.result in
-    let e = next (search) in let fact : c.class-count.result ≡ class_count_lem a.ranks (get_or a.parts.now d 0) = c.class_count.ensures in
-    let put : bit_or d (c.class-count.result * 2 ^ 4 % 2 ^ 64) ≡ d + 16 * c.class-count.result =
+    let e = next (search) in let fact : c.class_count.result ≡ class_count_lem a.ranks (get_or a.parts.now d 0) = c.class_count.ensures in
+    let put : bit_or d (c.class_count.result * 2 ^ 4 % 2 ^ 64) ≡ d + 16 * c.class_count.result =
     pair_put d c.class_count.result (omega (arith, next_low (search))) (omega (arith, fact, class-count-low a.ranks (get_or a.parts.now d 0))) in
     let then1 : tie.Then-k-eq0 = search in put
     ∙ sym (onward-turn a.ranks a.parts.now a.components a.levels.now a.pair then1.if-k-eq0.true

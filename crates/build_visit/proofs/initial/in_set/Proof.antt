@@ -6,11 +6,11 @@ use Rattle.build_spec.proofs.Starting.{in-set-ranked, in-set-closed}
 use Rattle.build_visit.proofs.initial.in_set.Statement.{statement}
 use Rattle.build_visit.proofs.initial.in_set.Tie as tie
 
-returns : tie.Need-returns
-returns c = let start : tie.Start = search in let a = start.args in ap not c.before.contains.ensures ∙ in-set-ranked a.ranks a.accepting a.q c.if1.true
+returns : tie.Need-returns-then-ranks-q-gt0
+returns c = let start : tie.Start = search in let a = start.args in ap not c.before.contains-accepts.ensures ∙ in-set-ranked a.ranks a.accepting a.q c.if-ranks-q-gt0.true
 
-returns-2 : tie.Need-returns-2
-returns-2 c = let start : tie.Start = search in let a = start.args in c.before.contains.ensures ∙ in-set-closed a.ranks a.accepting a.q c.if1.false
+returns-2 : tie.Need-returns
+returns-2 c = let start : tie.Start = search in let a = start.args in c.before.contains-accepts.ensures ∙ in-set-closed a.ranks a.accepting a.q c.if-ranks-q-gt0.false
 
-pub in-set-spec : {M : Type 1} → statement M
-in-set-spec = tie.close (tie.spec (λ c. search rules) (λ c κs. search rules) (λ c. search rules) (λ c. search rules) returns returns-2)
+pub in_set_spec : {M : Type 1} → statement M
+in_set_spec = tie.close (tie.spec (λ c. search rules) (λ c κs. search rules) (λ c. search rules) (λ c. search rules) returns returns-2)

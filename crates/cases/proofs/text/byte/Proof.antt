@@ -4,11 +4,11 @@ use native.Mathlib.Omega.{arith}
 use Rattle.cases.proofs.text.byte.Statement.{statement}
 use Rattle.cases.proofs.text.byte.Tie as tie
 
-cast-result : tie.Need-overflow-cast-result
-cast-result c = let start : tie.Start = search in omega (arith, c.shared-slice-known.given start.args.i)
+cast-result : tie.Need-overflow_cast-result
+cast-result c = let start : tie.Start = search in omega (arith, c.shared_slice_known-1.given start.args.i)
 
-returns : tie.Need-returns
-returns c = let start : tie.Start = search in omega (arith, c.shared-slice-known.given start.args.i)
+returns : tie.Need-returns-then-i-call
+returns c = let start : tie.Start = search in omega (arith, c.shared_slice_known-1.given start.args.i)
 
-pub byte-spec : {M : Type 1} → statement M
-byte-spec = tie.close (tie.spec (λ c. search rules) cast-result returns (λ c. search rules))
+pub byte_spec : {M : Type 1} → statement M
+byte_spec = tie.close (tie.spec (λ c. search rules) cast-result returns (λ c. search rules))

@@ -6,15 +6,15 @@ use borrow.Author.Rules.{scaled_Fits}
 use Rattle.cases.proofs.text.say_numbers.Statement.{statement}
 use Rattle.cases.proofs.text.say_numbers.Tie as tie
 
-abbrev invariant-loop : tie.invariant-loop
+abbrev invariant-loop : tie.invariant-loop-i
 invariant-loop numbers i₀ i = i ≤ length numbers
 
-abbrev decreases-loop : tie.decreases-loop
+abbrev decreases-loop : tie.decreases-loop-i
 decreases-loop numbers i₀ i = length numbers - i
 
-mul-say-number : tie.Need-overflow-mul-say-number invariant-loop decreases-loop
-mul-say-number c = let start : tie.Start invariant-loop decreases-loop = search in scaled_Fits _ (length start.args.numbers.now) 8 (omega arith) start.good.0.1
+mul-say-number : tie.Need-offset_bounds-numbers-i invariant-loop decreases-loop
+mul-say-number c = let start : tie.Start invariant-loop decreases-loop = search in scaled_Fits _ (length start.args.numbers.now) 8 (omega arith) start.well_formed.0.1
 
-pub say-numbers-spec : {M : Type 1} → statement M
-say-numbers-spec = tie.close (tie.spec
+pub say_numbers_spec : {M : Type 1} → statement M
+say_numbers_spec = tie.close (tie.spec
     invariant-loop decreases-loop (λ c. omega arith) mul-say-number (λ c. omega arith) (λ c κs. tt) (λ c. omega arith) (λ c. omega arith) (λ c. omega arith) (λ c. tt))

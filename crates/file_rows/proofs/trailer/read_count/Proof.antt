@@ -8,8 +8,8 @@ use Rattle.file_rows.proofs.trailer.read_count.Tie as tie
 
 returns : tie.Need-returns
 returns c =
-    let start : tie.Start = search in let f = start.args.f.now in let low : c.before.trailer-byte.result ≡ trailer f 4 = c.before.trailer_byte.ensures in
-    let high : c.trailer-byte2.result ≡ trailer f 5 = c.trailer_byte-2.ensures in omega arith
+    let start : tie.Start = search in let f = start.args.f.now in let low : c.before.trailer_byte.result ≡ trailer f 4 = c.before.trailer_byte.ensures in
+    let high : c.trailer_byte-2.result ≡ trailer f 5 = c.trailer_byte-2.ensures in omega arith
 
 pub read_count_spec : {M : Type 1} → statement M
 read_count_spec = tie.close (tie.spec

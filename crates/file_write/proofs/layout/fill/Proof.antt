@@ -12,9 +12,9 @@ use Rattle.file_write.proofs.layout.fill.Tie as tie
 
 returns : tie.Need-returns
 returns c =
-    let start : tie.Start = search in let a = start.args in let p = start.pre in let f = body_of (rule_of a.h a.counts.now a.clauses.now) in
-    let at-fill-rule : tie.After-fill-rule = search in let at-fill-names : tie.After-fill-names = search in
-    at-fill-rule.fill-rule.ensures ∙ rw at-fill-names.fill-names.ensures
+    let start : tie.Start = search in let a = start.args in let p = start.requires in let f = body_of (rule_of a.h a.counts.now a.clauses.now) in
+    let at-fill-rule : tie.After-fill_rule = search in let at-fill-names : tie.After-fill_names = search in
+    at-fill-rule.fill_rule.ensures ∙ rw at-fill-names.fill_names.ensures
     (fill-both a.out.now (preface_from a.names.now) f a.at p.1 (omega (arith, p.2, length-body (rule_of a.h a.counts.now a.clauses.now))))
 
 pub fill_spec : {M : Type 1} → statement M

@@ -14,59 +14,59 @@ use Rattle.file_write.proofs.writer.write_head.Statement.{statement}
 use Rattle.file_write.proofs.writer.write_head.Tie as tie
 
 -- no row of the rule refuses
-pass : (c : tie.Else1) → let start : tie.Start = search in
+pass : (c : tie.Else-row-ne0) → let start : tie.Start = search in
     let a = start.args in first_row (rule_rows a.h a.counts.now a.clauses.now) ≡ 0
-pass c = sym c.before.rule-row.ensures ∙ c.if1.false
+pass c = sym c.before.rule_row-row.ensures ∙ c.if-row-ne0.false
 
-letters : (c : tie.Else1) → let start : tie.Start = search in start.args.h.s ≤ 16
+letters : (c : tie.Else-row-ne0) → let start : tie.Start = search in start.args.h.s ≤ 16
 letters c = let start : tie.Start = search in let a = start.args in (rule-passing a.h a.counts.now a.clauses.now (pass c)).formed.few_letters
 
-returns-2 : tie.Need-returns-2
+returns-2 : tie.Need-returns-then-second-ne0
 returns-2 c = let start : tie.Start = search in let a = start.args in
-    by_names a.h a.counts.now a.clauses.now a.names.now a.out.now (pass (search)) c.before.given-row.result c.if2.true c.before.given-row.ensures
+    by_names a.h a.counts.now a.clauses.now a.names.now a.out.now (pass (search)) c.before.given_row-second.result c.if-second-ne0.true c.before.given_row-second.ensures
 
-abbrev start-of-else2 : tie.Else2 → tie.Start
+abbrev start-of-else2 : tie.Else-second-ne0 → tie.Start
 start-of-else2 c = search
 
 -- no row of the names refuses
-named : (c : tie.Else2) → let a = (start-of-else2 c).args in first_row (given_rows a.h.s a.names.now) ≡ 0
-named c = sym c.before.given-row.ensures ∙ c.if2.false
+named : (c : tie.Else-second-ne0) → let a = (start-of-else2 c).args in first_row (given_rows a.h.s a.names.now) ≡ 0
+named c = sym c.before.given_row-second.ensures ∙ c.if-second-ne0.false
 
-few-names : (c : tie.Else2) → length (start-of-else2 c).args.names.now ≤ 128
+few-names : (c : tie.Else-second-ne0) → length (start-of-else2 c).args.names.now ≤ 128
 few-names c = let a = (start-of-else2 c).args in names-few a.h.s a.names.now (letters (search)) (named c)
 
-abbrev start-of-after-preface-length : tie.After-preface-length → tie.Start
+abbrev start-of-after-preface-length : tie.After-preface_length-at → tie.Start
 start-of-after-preface-length c = search
 
 -- the preface, the clauses and the counts are short
-short : (c : tie.After-preface-length) → let a = (start-of-after-preface-length c).args in (c.preface-length.result ≤ 130) × (length a.clauses.now < 65536) × (length a.counts.now ≤ 128)
+short : (c : tie.After-preface_length-at) → let a = (start-of-after-preface-length c).args in (c.preface_length-at.result ≤ 130) × (length a.clauses.now < 65536) × (length a.counts.now ≤ 128)
 short c = let a = (start-of-after-preface-length c).args in let p = pass (search) in (
-  omega (arith, c.preface-length.ensures, preface-most a.names.now, few-names c.before),
+  omega (arith, c.preface_length-at.ensures, preface-most a.names.now, few-names c.before),
   (in_bytes a.h a.counts.now a.clauses.now p).count,
   few-counts a.h a.counts.now a.clauses.now p,
 )
 
-returns-3 : tie.Need-returns-3
+returns-3 : tie.Need-returns-then-out-at
 returns-3 c = let start : tie.Start = search in let a = start.args in
     let few : length a.out.now < length (preface_from a.names.now) + length a.clauses.now + length a.counts.now + 8 =
-    omega (arith, c.before.preface-length.ensures, c.if3.true) in
+    omega (arith, c.before.preface_length-at.ensures, c.if-out-at.true) in
     by-room a.h a.counts.now a.clauses.now a.names.now a.out.now (pass (search)) (named (search)) few
 
 fill-requires : tie.Need-fill-requires
-fill-requires c κs = let start : tie.Start = search in let a = start.args in let at-preface-length : tie.After-preface-length = search in
-    let room : at-preface-length.preface-length.result + length a.clauses.now + length a.counts.now + 8 ≤ length a.out.now = omega (arith, c.before.if3.false) in
-    (in_bytes a.h a.counts.now a.clauses.now (pass (search)), at-preface-length.preface-length.ensures, room)
+fill-requires c κs = let start : tie.Start = search in let a = start.args in let at-preface-length : tie.After-preface_length-at = search in
+    let room : at-preface-length.preface_length-at.result + length a.clauses.now + length a.counts.now + 8 ≤ length a.out.now = omega (arith, c.before.if-out-at.false) in
+    (in_bytes a.h a.counts.now a.clauses.now (pass (search)), at-preface-length.preface_length-at.ensures, room)
 
-returns-4 : tie.Need-returns-4
+returns-4 : tie.Need-returns
 returns-4 c =
-    let start : tie.Start = search in let a = start.args in let at-preface-length : tie.After-preface-length = search in let e = at-preface-length.preface-length.ensures in
-    let else3 : tie.Else3 = search in
-    let room : length (preface_from a.names.now) + length a.clauses.now + length a.counts.now + 8 ≤ length a.out.now = omega (arith, e, else3.if3.left) in
+    let start : tie.Start = search in let a = start.args in let at-preface-length : tie.After-preface_length-at = search in let e = at-preface-length.preface_length-at.ensures in
+    let else3 : tie.Else-out-at = search in
+    let room : length (preface_from a.names.now) + length a.clauses.now + length a.counts.now + 8 ≤ length a.out.now = omega (arith, e, else3.if-out-at.false) in
     let d = done a.h a.counts.now a.clauses.now a.names.now a.out.now (pass (search)) (named (search)) room in let at_fill_lem : tie.After-fill = search in
     (rw e d.0, at_fill_lem.fill.ensures ∙ d.1)
 
-pub write-head-spec : {M : Type 1} → statement M
-write-head-spec = tie.close (tie.spec
-    (λ c κs. search rules) (λ c. by-rule _ _ _ _ _ _ c.if1.true c.before.rule-row.ensures) (λ c κs. letters c) returns-2 (λ c κs. few-names c)
+pub write_head_spec : {M : Type 1} → statement M
+write_head_spec = tie.close (tie.spec
+    (λ c κs. search rules) (λ c. by-rule _ _ _ _ _ _ c.if-row-ne0.true c.before.rule_row-row.ensures) (λ c κs. letters c) returns-2 (λ c κs. few-names c)
     (λ c. omega (arith, short c)) (λ c. omega (arith, short c)) (λ c. omega (arith, short c)) returns-3 fill-requires (λ c. search rules) (λ c. search rules) (λ c. search rules)
     (λ c. search rules) returns-4)

@@ -44,7 +44,7 @@ loop-again c =
     let start : Start = search in let a = start.args in let at-loop : tie.At-loop-i invariant-loop decreases-loop = search in let l = at-loop.loop-i in
     let among : l.i < length (words_in a.moves.now) = omega (arith, words-in-length a.moves.now) in let at-number-at : tie.After-number_at-t invariant-loop decreases-loop = search in
     let t = at-number-at.number_at-t.ensures in let at-letter-of : tie.After-letter_of-letter invariant-loop decreases-loop = search in
-    let text : edge_line a.b at-letter-of.letter-of.result c.before.target-of.result ≡ edge_of a.b l.i (get_or (words_in a.moves.now) l.i 0) =
+    let text : edge_line a.b at-letter-of.letter_of-letter.result c.before.target_of-target.result ≡ edge_of a.b l.i (get_or (words_in a.moves.now) l.i 0) =
     ap₂ (λ (x y : ℕ). edge_line a.b x y) (at-letter-of.letter_of-letter.ensures ∙ ap letter_of_lem t) (c.before.target_of-target.ensures ∙ ap target_of t) in
     let total = sum-next (edge_of a.b) (words_in a.moves.now) l.i l.total (edge_line a.b at-letter-of.letter_of-letter.result c.before.target_of-target.result) among l.invariant.1 text in
     (omega arith, omega (arith, total, c.edge_length-total.ensures), omega (arith, l.invariant.2, c.edge_length-total.ensures, short c.before))

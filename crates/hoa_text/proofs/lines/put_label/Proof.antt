@@ -65,7 +65,7 @@ loop-again c = let at-loop : At-loop = search in let l = at-loop.loop-i in let s
     )
 
 returns-2 : tie.Need-returns invariant-loop decreases-loop
-returns-2 c = let start : Start = search in let a = start.args in let e : a.b ≡ c.before.loop.i = omega (arith, c.loop-i-test.false) in
+returns-2 c = let start : Start = search in let a = start.args in let e : a.b ≡ c.before.loop-i.i = omega (arith, c.loop-i-test.false) in
     put_as (ap (λ (k : ℕ). label k a.letter) e) (so_far c.before)
 
 pub put_label_spec : {M : Type 1} → statement M

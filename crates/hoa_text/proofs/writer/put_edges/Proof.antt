@@ -51,7 +51,7 @@ text_is : (c : tie.After-target_of-target invariant-loop decreases-loop) → let
 text_is c =
     let a = (start-of-after-target-of c).args in let at-loop : At-loop = search in let l = at-loop.loop-i in let p = (start-of-after-target-of c).requires in
     let at-number-at : tie.After-number_at-t invariant-loop decreases-loop = search in let in-loop : tie.In-loop-i invariant-loop decreases-loop = search in
-    let t : at-number-at.number_at.result ≡ get_or (part a.moves.now a.j a.k) (l.i - a.j) 0 =
+    let t : at-number-at.number_at-t.result ≡ get_or (part a.moves.now a.j a.k) (l.i - a.j) 0 =
     at-number-at.number_at-t.ensures ∙ sym (part_at (words_in a.moves.now) a.j a.k p.1 p.2 l.i l.invariant.0 in-loop.loop-i-test.true) in
     ap₂ (λ (x y : ℕ). edge_line a.b x y) (c.before.letter_of-letter.ensures ∙ ap letter_of_lem t) (c.target_of-target.ensures ∙ ap target_of t)
 

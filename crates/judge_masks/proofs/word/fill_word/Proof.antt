@@ -14,31 +14,31 @@ use borrow.Author.Rules.{rules}
 use Rattle.judge_masks.proofs.word.fill_word.Statement.{statement}
 use Rattle.judge_masks.proofs.word.fill_word.Tie as tie
 
-fill-cycle-requires : tie.Need-fill-cycle-requires
-fill-cycle-requires c κs = let start : tie.Start = search in let a = start.args in let z = start.pre in (
+fill-cycle-requires : tie.Need-fill_cycle-requires
+fill-cycle-requires c κs = let start : tie.Start = search in let a = start.args in let z = start.requires in (
   record { passing = z.0; beginnings = z.1; word = record { repeats = z.3.repeats; lead_letters = λ x m. absurd (Memᴰ.not-nil m); cycle_letters = z.3.cycle_letters } },
   z.2,
   part_length a.masks.now (length a.lead.now) (length a.cycle.now) z.4,
 )
 
-fill-lead-requires : tie.Need-fill-lead-requires
+fill-lead-requires : tie.Need-fill_lead-requires
 fill-lead-requires c κs =
-    let start : tie.Start = search in let a = start.args in let z = start.pre in let r = rule_of a.h a.counts.now a.clauses.now in
-    let at-fill-cycle : tie.After-fill-cycle = search in let T = truth_masks r [] a.cycle.now in
+    let start : tie.Start = search in let a = start.args in let z = start.requires in let r = rule_of a.h a.counts.now a.clauses.now in
+    let at-fill-cycle : tie.After-fill_cycle = search in let T = truth_masks r [] a.cycle.now in
     let long : length T ≡ length a.cycle.now = truth-length r [] a.cycle.now ∙ zero-add (length a.cycle.now) in (
       z.0.formed,
       z.1,
-      rw at-fill-cycle.fill-cycle.ensures (omega (arith, mid-length a.masks.now (length a.lead.now) (length a.cycle.now) z.4 T long, z.3.repeats, z.4)),
+      rw at-fill-cycle.fill_cycle.ensures (omega (arith, mid-length a.masks.now (length a.lead.now) (length a.cycle.now) z.4 T long, z.3.repeats, z.4)),
       λ p l. z.3.lead_letters _ (mem-at a.lead.now p l),
     )
 
 returns : tie.Need-returns
 returns c =
-    let start : tie.Start = search in let a = start.args in let z = start.pre in let r = rule_of a.h a.counts.now a.clauses.now in
-    let at-fill-cycle : tie.After-fill-cycle = search in let at-fill-lead : tie.After-fill-lead = search in at-fill-lead.fill-lead.ensures
-    ∙ rw (at-fill-cycle.fill-cycle.ensures, mid-drop a.masks.now (length a.lead.now) (length a.cycle.now) z.4 (truth_masks r [] a.cycle.now))
+    let start : tie.Start = search in let a = start.args in let z = start.requires in let r = rule_of a.h a.counts.now a.clauses.now in
+    let at-fill-cycle : tie.After-fill_cycle = search in let at-fill-lead : tie.After-fill_lead = search in at-fill-lead.fill_lead.ensures
+    ∙ rw (at-fill-cycle.fill_cycle.ensures, mid-drop a.masks.now (length a.lead.now) (length a.cycle.now) z.4 (truth_masks r [] a.cycle.now))
     (back-truth r z.0 a.lead.now a.cycle.now _ z.3.repeats)
 
-pub fill-word-spec : {M : Type 1} → statement M
-fill-word-spec = tie.close (tie.spec
+pub fill_word_spec : {M : Type 1} → statement M
+fill_word_spec = tie.close (tie.spec
     (λ c. search rules) (λ c. search rules) (λ c. search rules) (λ c. search rules) fill-cycle-requires fill-lead-requires (λ c. search rules) returns)

@@ -5,10 +5,10 @@ use borrow.Author.Rules.{rules}
 use Rattle.rule_same.proofs.entries.same_entry.Statement.{statement}
 use Rattle.rule_same.proofs.entries.same_entry.Tie as tie
 
-returns-2 : tie.Need-returns-2
+returns-2 : tie.Need-returns
 returns-2 c =
-    let at-clauses-satisfy : tie.After-clauses-satisfy = search in rw (sym at-clauses-satisfy.clauses-satisfy.ensures ∙ not_f _ c.before.if1.false) c.clauses-satisfy2.ensures
+    let at-clauses-satisfy : tie.After-clauses_satisfy = search in rw (sym at-clauses-satisfy.clauses_satisfy.ensures ∙ not_f _ c.before.if-not-clauses_satisfy.false) c.clauses_satisfy-2.ensures
 
-pub same-entry-spec : {M : Type 1} → statement M
-same-entry-spec = tie.close (tie.spec
-    (λ c κs. search rules) (λ c. rw (sym c.before.clauses-satisfy.ensures ∙ not_t _ c.if1.true)) (λ c κs. search rules) returns-2)
+pub same_entry_spec : {M : Type 1} → statement M
+same_entry_spec = tie.close (tie.spec
+    (λ c κs. search rules) (λ c. rw (sym c.before.clauses_satisfy.ensures ∙ not_t _ c.if-not-clauses_satisfy.true)) (λ c κs. search rules) returns-2)

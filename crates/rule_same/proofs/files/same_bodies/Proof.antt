@@ -7,32 +7,32 @@ use borrow.Author.Rules.{rules}
 use Rattle.rule_same.proofs.files.same_bodies.Statement.{statement}
 use Rattle.rule_same.proofs.files.same_bodies.Tie as tie
 
-returns : tie.Need-returns
-returns c = let start : tie.Start = search in let p = start.pre in numbers-differ _ _ _ _ p.0 p.1 (sym c.before.same_numbers.ensures ∙ not_t _ c.if1.true)
+returns : tie.Need-returns-then-not-same_numbers
+returns c = let start : tie.Start = search in let p = start.requires in numbers-differ _ _ _ _ p.0 p.1 (sym c.before.same_numbers.ensures ∙ not_t _ c.if-not-same_numbers.true)
 
-same-entries-requires : tie.Need-same-entries-requires
+same-entries-requires : tie.Need-same_entries-requires
 same-entries-requires c κs =
-    let start : tie.Start = search in let a = start.args in let p = start.pre in let at-same-numbers : tie.After-same-numbers = search in let else1 : tie.Else1 = search in
-    let at-counts-of : tie.After-counts-of = search in let at-clauses-of : tie.After-clauses-of = search in
+    let start : tie.Start = search in let a = start.args in let p = start.requires in let at-same-numbers : tie.After-same_numbers = search in let else1 : tie.Else-not-same_numbers = search in
+    let at-counts-of : tie.After-counts_of = search in let at-clauses-of : tie.After-clauses_of = search in
     both-formed a.first.now a.second.now a.l a.m p.0 p.1
-    (sym at-same-numbers.same_numbers.ensures ∙ not_f _ else1.if1.left)
-    at-counts-of.Counts-of.ensures at-clauses-of.clauses-of.ensures c.before.counts-of2.ensures c.clauses-of2.ensures
+    (sym at-same-numbers.same_numbers.ensures ∙ not_f _ else1.if-not-same_numbers.false)
+    at-counts-of.Counts-of.ensures at-clauses-of.clauses_of.ensures c.before.counts_of-2.ensures c.clauses_of-2.ensures
 
-abbrev start-of-after-same-entries : tie.After-same-entries → tie.Start
+abbrev start-of-after-same-entries : tie.After-same_entries → tie.Start
 start-of-after-same-entries c = search
 
 -- what the comparison of all entries says of the files
-told : (c : tie.After-same-entries) → let a = (start-of-after-same-entries c).args in verdict c.same_entries.result ≡ same_bodies_lem a.first.now a.second.now
+told : (c : tie.After-same_entries) → let a = (start-of-after-same-entries c).args in verdict c.same_entries.result ≡ same_bodies_lem a.first.now a.second.now
 told c =
-    let a = (start-of-after-same-entries c).args in let p = (start-of-after-same-entries c).requires in let at-same-numbers : tie.After-same-numbers = search in let else1 : tie.Else1 = search in
-    let at-counts-of : tie.After-counts-of = search in let at-clauses-of : tie.After-clauses-of = search in let at-counts-of2 : tie.After-counts-of2 = search in
+    let a = (start-of-after-same-entries c).args in let p = (start-of-after-same-entries c).requires in let at-same-numbers : tie.After-same_numbers = search in let else1 : tie.Else-not-same_numbers = search in
+    let at-counts-of : tie.After-counts_of = search in let at-clauses-of : tie.After-clauses_of = search in let at-counts-of2 : tie.After-counts_of-2 = search in
     same-told a.first.now a.second.now a.l a.m p.0 p.1
-    (sym at-same-numbers.same_numbers.ensures ∙ not_f _ else1.if1.left)
-    at-counts-of.Counts-of.ensures at-clauses-of.clauses-of.ensures at-counts-of2.counts-of2.ensures c.before.clauses-of2.ensures
+    (sym at-same-numbers.same_numbers.ensures ∙ not_f _ else1.if-not-same_numbers.false)
+    at-counts-of.Counts-of.ensures at-clauses-of.clauses_of.ensures at-counts-of2.counts_of-2.ensures c.before.clauses_of-2.ensures
     c.same_entries.result c.same_entries.ensures
 
-pub same-bodies-spec : {M : Type 1} → statement M
-same-bodies-spec = tie.close (tie.spec
+pub same_bodies_spec : {M : Type 1} → statement M
+same_bodies_spec = tie.close (tie.spec
     (λ c κs. search rules) returns (λ c κs. search rules) (λ c κs. search rules) (λ c κs. search rules) (λ c κs. search rules) same-entries-requires
-    (λ c. unfold verdict in ap verdict (sym c.if2.true) ∙ told c.before)
-    (λ c. unfold verdict in ap verdict (sym c.if2.false) ∙ told c.before))
+    (λ c. unfold verdict in ap verdict (sym c.if-same_entries.true) ∙ told c.before)
+    (λ c. unfold verdict in ap verdict (sym c.if-same_entries.false) ∙ told c.before))

@@ -8,32 +8,32 @@ use borrow.Author.Rules.{rules}
 use Rattle.rule_same.proofs.files.same_rules.Statement.{statement}
 use Rattle.rule_same.proofs.files.same_rules.Tie as tie
 
-same-files-requires : tie.Need-same-files-requires
+same-files-requires : tie.Need-same_files-requires
 same-files-requires c κs =
-    let at-read-rule : tie.After-read-rule = search in let at-l : tie.After-l = search in let at-read-rule2 : tie.After-read-rule2 = search in
-    (sym at-read-rule.read-rule.ensures ∙ at-l.l.given.1, sym at-read-rule2.read-rule2.ensures ∙ c.before.m.given.1)
+    let at-read-rule : tie.After-read_rule = search in let at-l : tie.In-Accepted-2 = search in let at-read-rule2 : tie.After-read_rule-in-Accepted = search in
+    (sym at-read-rule.read_rule.ensures ∙ at-l.in-Accepted.is, sym at-read-rule2.read_rule-in-Accepted.ensures ∙ c.before.in-Accepted-read_rule.is)
 
-returns : tie.Need-returns
-returns c = let start : tie.Start = search in let a = start.args in let at-read-rule : tie.After-read-rule = search in
-    let e : read_of a.first.now ≡ Refused c.before.row.given.0.0 = sym at-read-rule.read-rule.ensures ∙ c.before.row.given.1 in
-    refused-first a.first.now a.second.now c.before.row.given.0.0 (turned-away a.first.now c.before.row.given.0.0 e)
+returns : tie.Need-returns-in-Refused
+returns c = let start : tie.Start = search in let a = start.args in let at-read-rule : tie.After-read_rule = search in
+    let e : read_of a.first.now ≡ Refused c.before.in-Refused.row = sym at-read-rule.read_rule.ensures ∙ c.before.in-Refused.is in
+    refused-first a.first.now a.second.now c.before.in-Refused.row (turned-away a.first.now c.before.in-Refused.row e)
 
-returns-2 : tie.Need-returns-2
+returns-2 : tie.Need-returns-in-Refused-read_rule
 returns-2 c =
-    let start : tie.Start = search in let a = start.args in let at-l : tie.After-l = search in let l = at-l.l.given.0.0 in let at-read-rule : tie.After-read-rule = search in
-    let p : read_of a.first.now ≡ Accepted l = sym at-read-rule.read-rule.ensures ∙ at-l.l.given.1 in let at-read-rule2 : tie.After-read-rule2 = search in
-    let e : read_of a.second.now ≡ Refused c.before.second-row.given.0.0 = sym at-read-rule2.read-rule2.ensures ∙ c.before.second-row.given.1 in
-    refused-second _ _ c.before.second-row.given.0.0 (served _ l p).row (turned-away _ c.before.second-row.given.0.0 e)
+    let start : tie.Start = search in let a = start.args in let at-l : tie.In-Accepted-2 = search in let l = at-l.in-Accepted.l in let at-read-rule : tie.After-read_rule = search in
+    let p : read_of a.first.now ≡ Accepted l = sym at-read-rule.read_rule.ensures ∙ at-l.in-Accepted.is in let at-read-rule2 : tie.After-read_rule-in-Accepted = search in
+    let e : read_of a.second.now ≡ Refused c.before.in-Refused-read_rule.second_row = sym at-read-rule2.read_rule-in-Accepted.ensures ∙ c.before.in-Refused-read_rule.is in
+    refused-second _ _ c.before.in-Refused-read_rule.second_row (served _ l p).row (turned-away _ c.before.in-Refused-read_rule.second_row e)
 
-returns-3 : tie.Need-returns-3
+returns-3 : tie.Need-returns-in-Accepted-read_rule
 returns-3 c =
-    let start : tie.Start = search in let a = start.args in let at-l : tie.After-l = search in let l = at-l.l.given.0.0 in let at-m : tie.After-m = search in
-    let m = at-m.m.given.0.0 in let at-read-rule : tie.After-read-rule = search in
-    let p : read_of a.first.now ≡ Accepted l = sym at-read-rule.read-rule.ensures ∙ at-l.l.given.1 in let at-read-rule2 : tie.After-read-rule2 = search in
-    let q : read_of a.second.now ≡ Accepted m = sym at-read-rule2.read-rule2.ensures ∙ at-m.m.given.1 in
-    c.same-files.ensures ∙ served-both _ _ (served _ l p).row (served _ m q).row
+    let start : tie.Start = search in let a = start.args in let at-l : tie.In-Accepted-2 = search in let l = at-l.in-Accepted.l in let at-m : tie.In-Accepted-read_rule-2 = search in
+    let m = at-m.in-Accepted-read_rule.m in let at-read-rule : tie.After-read_rule = search in
+    let p : read_of a.first.now ≡ Accepted l = sym at-read-rule.read_rule.ensures ∙ at-l.in-Accepted.is in let at-read-rule2 : tie.After-read_rule-in-Accepted = search in
+    let q : read_of a.second.now ≡ Accepted m = sym at-read-rule2.read_rule-in-Accepted.ensures ∙ at-m.in-Accepted-read_rule.is in
+    c.same_files.ensures ∙ served-both _ _ (served _ l p).row (served _ m q).row
 
-pub same-rules-spec : {M : Type 1} → statement M
-same-rules-spec = tie.close (tie.spec
+pub same_rules_spec : {M : Type 1} → statement M
+same_rules_spec = tie.close (tie.spec
     (λ c κs. search rules) (λ c. search rules) (λ c. search rules) (λ c κs. search rules) (λ c. search rules) (λ c. search rules) same-files-requires returns
     returns-2 returns-3)

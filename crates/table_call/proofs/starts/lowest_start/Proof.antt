@@ -42,7 +42,7 @@ loop-again c = let at-loop : tie.At-loop-m invariant-loop decreases-loop = searc
 
 returns-2 : tie.Need-returns invariant-loop decreases-loop
 returns-2 c = let l = c.before.loop-m in let at_count : After-count = search in let e = at_count.count-n.ensures in
-    let m : l.m ≡ at_count.count.result = omega (arith, l.invariant.0) in rw (sym m) (record { most = l.invariant.0; none = l.invariant.1; found = λ k. absurd (omega arith) })
+    let m : l.m ≡ at_count.count-n.result = omega (arith, l.invariant.0) in rw (sym m) (record { most = l.invariant.0; none = l.invariant.1; found = λ k. absurd (omega arith) })
 
 pub lowest_start_spec : {M : Type 1} → statement M
 lowest_start_spec = tie.close (tie.spec

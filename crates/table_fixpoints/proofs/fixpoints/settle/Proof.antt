@@ -22,7 +22,7 @@ loop-again : tie.Need-loop-i-preserved-then-goes_out invariant-loop decreases-lo
 loop-again c =
     let start : tie.Start invariant-loop decreases-loop = search in let a = start.args in let at-loop : tie.At-loop-i invariant-loop decreases-loop = search in let l = at-loop.loop-i in let s = l.invariant.2 in
     let v = get_or l.marks l.i 0 in let told : goes_out_lem v ≡ true = sym c.before.goes_out.ensures ∙ c.if-goes_out.true in
-    let at-settled-mark : tie.After-settled_mark invariant-loop decreases-loop = search in let mark : at-settled-mark.settled-mark.result ≡ settled v = at-settled-mark.settled_mark.ensures in (
+    let at-settled-mark : tie.After-settled_mark invariant-loop decreases-loop = search in let mark : at-settled-mark.settled_mark.result ≡ settled v = at-settled-mark.settled_mark.ensures in (
       omega arith,
       omega arith,
       rw mark (settling-next a.from a.marks.now l.i l.marks l.changed s l.invariant.0 (omega (arith, s.long)) true (λ e. inr told) (λ e. absurd (true≢false e))),
@@ -32,7 +32,7 @@ loop-again-2 : tie.Need-loop-i-preserved invariant-loop decreases-loop
 loop-again-2 c =
     let start : tie.Start invariant-loop decreases-loop = search in let a = start.args in let at-loop : tie.At-loop-i invariant-loop decreases-loop = search in let l = at-loop.loop-i in let s = l.invariant.2 in
     let v = get_or l.marks l.i 0 in let told : goes_out_lem v ≡ false = sym c.before.goes_out.ensures ∙ c.if-goes_out.false in
-    let at-settled-mark : tie.After-settled_mark invariant-loop decreases-loop = search in let mark : at-settled-mark.settled-mark.result ≡ settled v = at-settled-mark.settled_mark.ensures in (
+    let at-settled-mark : tie.After-settled_mark invariant-loop decreases-loop = search in let mark : at-settled-mark.settled_mark.result ≡ settled v = at-settled-mark.settled_mark.ensures in (
       omega arith,
       omega arith,
       rw mark (settling-next a.from a.marks.now l.i l.marks l.changed s l.invariant.0 (omega (arith, s.long)) l.changed (λ e. inl e) (λ e. (e, told))),

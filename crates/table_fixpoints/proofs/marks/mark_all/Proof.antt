@@ -28,7 +28,7 @@ mark-over-requires : tie.Need-mark_over-requires invariant-loop decreases-loop
 mark-over-requires c κs =
     let start : Start = search in let a = start.args in let at-loop : tie.At-loop-i invariant-loop decreases-loop = search in let l = at-loop.loop-i in
     let ts = (in_both a.moves.now a.movebytes.now).numbers in let us = ordered a.back ts in let inside : l.i < length us = omega (arith, ordered-long a.back ts) in
-    let e : c.before.element-from.result ≡ get_or us l.i 0 = c.before.element_from-t.ensures in
+    let e : c.before.element_from-t.result ≡ get_or us l.i 0 = c.before.element_from-t.ensures in
     let q = start.requires (get_or us l.i 0) (ordered-from a.back ts _ (mem-at us l.i inside)) in let long : length l.marks ≡ length a.marks.now = l.invariant.1.long in
     (omega (arith, q.0), omega (arith, q.1))
 

@@ -41,7 +41,7 @@ returns-2 c = let at-loop : tie.At-loop-i invariant-loop decreases-loop = search
 
 loop-again : tie.Need-loop-i-preserved invariant-loop decreases-loop
 loop-again c =
-    let at-loop : tie.At-loop-i invariant-loop decreases-loop = search in let l = at-loop.loop-i in let k = count_of c.before in let above : l.last < c.before.element2.result = omega arith in
+    let at-loop : tie.At-loop-i invariant-loop decreases-loop = search in let l = at-loop.loop-i in let k = count_of c.before in let above : l.last < c.before.element-x.result = omega arith in
     (omega arith, rw c.before.element-x.ensures (ascends-on (numbers_of k) k.count-n.result (omega arith) l.last l.i (omega arith) (omega (arith, above)) l.invariant.1))
 
 returns-3 : tie.Need-returns invariant-loop decreases-loop

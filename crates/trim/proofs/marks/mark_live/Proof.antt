@@ -17,7 +17,7 @@ solve-requires c κs = let start : tie.Start = search in let a = start.args in l
 returns : tie.Need-returns
 returns c =
     let start : tie.Start = search in let a = start.args in let at_flag : tie.After-flag = search in let f = at_flag.flag.ensures in let at-solve : tie.After-solve = search in
-    let s = at-solve.solve.ensures in let S : Solved (Step a.transitions.now) (flags a.codes.now) (highs at-solve.solve.last.0) = rw f.0 at s.0 in
+    let s = at-solve.solve.ensures in let S : Solved (Step a.transitions.now) (flags a.codes.now) (highs at-solve.solve.new.codes) = rw f.0 at s.0 in
     (solved-unique (Step a.transitions.now) (flags a.codes.now) _ _ S (live-solved a.codes.now a.transitions.now), s.1 ∙ f.1)
 
 pub mark_live_spec : {M : Type 1} → statement M

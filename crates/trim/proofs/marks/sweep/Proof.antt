@@ -33,7 +33,7 @@ mark-requires : tie.Need-mark-requires invariant-loop decreases-loop
 mark-requires c κs =
     let start : Start = search in let a = start.args in let at-loop : At-loop = search in let l = at-loop.loop-i in let ts = a.transitions.now in
     let t = get_or ts l.i 0 in let m = mem-at ts l.i (omega arith) in let long : length l.codes ≡ length a.codes.now = highs-long _ _ l.invariant.1.long in
-    let source : c.before.source-of.result ≡ source_of t = c.before.source_of.ensures in let target : c.target-of.result ≡ target_of t = c.target_of.ensures in
+    let source : c.before.source_of.result ≡ source_of t = c.before.source_of.ensures in let target : c.target_of.result ≡ target_of t = c.target_of.ensures in
     (omega (arith, start.requires.sources t m), omega (arith, start.requires.targets t m))
 
 -- one transition more: `news` counts those that brought something new
@@ -42,7 +42,7 @@ again : (c : tie.After-mark invariant-loop decreases-loop) → let at-loop : At-
     news ≤ l.i + 1 → ltb 0 news ≡ (ltb 0 l.news || c.mark.result) → invariant-loop a.codes.now a.transitions.now 0 0 c.mark.new.codes news (l.i + 1)
 again c news few told = let start : Start = search in let a = start.args in let at-loop : At-loop = search in let l = at-loop.loop-i in
     let t = get_or a.transitions.now l.i 0 in let at-source-of : tie.After-source_of invariant-loop decreases-loop = search in
-    let source : at-source-of.source-of.result ≡ source_of t = at-source-of.source_of.ensures in let target : c.before.target-of.result ≡ target_of t = c.before.target_of.ensures in
+    let source : at-source-of.source_of.result ≡ source_of t = at-source-of.source_of.ensures in let target : c.before.target_of.result ≡ target_of t = c.before.target_of.ensures in
     let o = c.mark.ensures in (
       omega arith,
       passed-next pass-swept a.transitions.now (highs a.codes.now) (highs l.codes) _ (ltb 0 l.news) _ (ltb 0 news) l.i t (omega arith) l.invariant.1 refl

@@ -33,7 +33,7 @@ mul-codes c = let at-loop : At-loop = search in let v = at-loop.loop-i.invariant
 loop-again : tie.Need-loop-i-preserved-then-c-ne0 invariant-loop decreases-loop
 loop-again c = let at-loop : At-loop = search in let l = at-loop.loop-i in let start : Start = search in let xs = start.args.codes.now in
     let inside : l.i < length xs = omega (arith, l.invariant.long) in let e = compact-at _ xs l.codes l.w l.i inside l.invariant in
-    let left : 0 < get_or xs l.i 0 / 2 ^ 48 = omega arith in let v : c.without-number.result ≡ get_or xs l.i 0 % 2 ^ 48 = c.without_number.ensures ∙ ap (λ (x : ℕ). x % 2 ^ 48) e in
+    let left : 0 < get_or xs l.i 0 / 2 ^ 48 = omega arith in let v : c.without_number.result ≡ get_or xs l.i 0 % 2 ^ 48 = c.without_number.ensures ∙ ap (λ (x : ℕ). x % 2 ^ 48) e in
     rw v (compact-keep _ xs l.codes l.w l.i inside l.invariant _ (compacted-in _ _ left))
 
 loop-again-2 : tie.Need-loop-i-preserved invariant-loop decreases-loop

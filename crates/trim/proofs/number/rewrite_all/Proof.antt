@@ -48,7 +48,7 @@ loop-again c =
     let tags = highs a.codes.now in let inside : l.i < length ts = omega (arith, l.invariant.long) in let e = compact-at _ ts l.transitions l.w l.i inside l.invariant in
     let at-is-left : tie.After-is_left invariant-loop decreases-loop = search in
     let left : is_left_lem tags (get_or ts l.i 0) ≡ true = ap (is_left_lem tags) (sym e) ∙ sym at-is-left.is_left.ensures ∙ c.before.if-is_left.true in
-    let v : c.rewritten-one.result ≡ rewrite tags (get_or ts l.i 0) = c.rewritten_one.ensures ∙ ap (rewrite tags) e in
+    let v : c.rewritten_one.result ≡ rewrite tags (get_or ts l.i 0) = c.rewritten_one.ensures ∙ ap (rewrite tags) e in
     rw v (compact-keep _ ts l.transitions l.w l.i inside l.invariant _ (rewritten-yes tags _ _ left))
 
 loop-again-2 : tie.Need-loop-i-preserved invariant-loop decreases-loop

@@ -11,17 +11,17 @@ use Rattle.trim.proofs.number.rewritten_one.Tie as tie
 
 sub-source : tie.Need-overflow_sub-source
 sub-source c =
-    let start : tie.Start = search in let a = start.args in let e : c.before.source-of.result ≡ source_of a.t = c.before.source_of.ensures in
-    let k : 0 < get_or a.codes.now c.before.source-of.result 0 / 2 ^ 48 = rw e (left-source a.codes.now a.t start.requires.2) in omega arith
+    let start : tie.Start = search in let a = start.args in let e : c.before.source_of.result ≡ source_of a.t = c.before.source_of.ensures in
+    let k : 0 < get_or a.codes.now c.before.source_of.result 0 / 2 ^ 48 = rw e (left-source a.codes.now a.t start.requires.2) in omega arith
 
 sub-target : tie.Need-overflow_sub-target
 sub-target c =
-    let start : tie.Start = search in let a = start.args in let e : c.before.target-of.result ≡ target_of a.t = c.before.target_of.ensures in
-    let k : 0 < get_or a.codes.now c.before.target-of.result 0 / 2 ^ 48 = rw e (left-target a.codes.now a.t start.requires.2) in omega arith
+    let start : tie.Start = search in let a = start.args in let e : c.before.target_of.result ≡ target_of a.t = c.before.target_of.ensures in
+    let k : 0 < get_or a.codes.now c.before.target_of.result 0 / 2 ^ 48 = rw e (left-target a.codes.now a.t start.requires.2) in omega arith
 
 pack-transition-requires : tie.Need-pack_transition-requires
 pack-transition-requires c κs =
-    let start : tie.Start = search in let a = start.args in let l : c.letter-of.result ≡ letter_of_lem a.t = c.letter_of.ensures in
+    let start : tie.Start = search in let a = start.args in let l : c.letter_of.result ≡ letter_of_lem a.t = c.letter_of.ensures in
     let at-shared-slice-known : tie.After-shared_slice_known-1 = search in let at-source-of : tie.After-source_of = search in
     let x = at-shared-slice-known.shared_slice_known-1.given at-source-of.source_of.result in let at-target-of : tie.After-target_of = search in
     let y = at-shared-slice-known.shared_slice_known-1.given at-target-of.target_of.result in (omega arith, omega arith, omega arith)
