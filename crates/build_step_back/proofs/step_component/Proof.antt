@@ -85,7 +85,7 @@ returns-2 c = let l = c.before.loop-prev in (stepped l.invariant.0 l.invariant.2
 
 pub step_component_spec : {M : Type 1} → statement M
 step_component_spec = tie.close (tie.spec
-    invariant-loop decreases-loop (λ c. search rules) cast-outside (λ c. search rules) (λ c. search rules) returns loop-holds (λ c. omega (arith, deep c)) cast-x
-    (λ c. omega (arith, small c)) (λ c. let at-loop : At-loop = search in omega (arith, small c, at-loop.loop-prev.invariant.0.letters)) add-levels (λ c. omega arith)
+    invariant-loop decreases-loop (λ c. search rules) cast-outside (λ c. search rules) (λ c. search rules) returns loop-holds (λ c. omega (arith, deep (search))) cast-x
+    (λ c. omega (arith, small c)) (λ c. let at-loop : At-loop = search in omega (arith, small (search), at-loop.loop-prev.invariant.0.letters)) add-levels (λ c. omega arith)
     (λ c. omega (arith, deep (search))) loop-again (λ c κs. search rules) add-ranks
     (λ c. omega (arith, deep (search))) loop-again-2 sub-levels returns-2)

@@ -13,7 +13,7 @@ use Rattle.event_table.proofs.has_covered.Tie as tie
 returns : tie.Need-returns
 returns c = let start : tie.Start = search in let a = start.args in
     ap (λ (m : ℕ). ltb (ones m) (line_count a.events.now)) c.firsts.ensures
-    ∙ covered-is a.events.now a.kinds.now a.drives.now (λ i. (c.before.shared-slice-known.given i).fits) start.pre
+    ∙ covered-is a.events.now a.kinds.now a.drives.now (λ i. (c.before.shared_slice_known-1.given i).fits) start.requires
 
-pub has-covered-spec : {M : Type 1} → statement M
-has-covered-spec = tie.close (tie.spec (λ c κs. search rules) (λ c. omega (arith, ones-le 64 c.firsts.result (omega arith))) returns)
+pub has_covered_spec : {M : Type 1} → statement M
+has_covered_spec = tie.close (tie.spec (λ c κs. search rules) (λ c. omega (arith, ones-le 64 c.firsts.result (omega arith))) returns)

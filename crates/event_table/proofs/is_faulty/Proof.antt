@@ -7,14 +7,14 @@ use borrow.Author.Rules.{rules}
 use Rattle.event_table.proofs.is_faulty.Statement.{statement}
 use Rattle.event_table.proofs.is_faulty.Tie as tie
 
-cast-result : tie.Need-overflow-cast-result
-cast-result c = let start : tie.Start = search in omega (arith, c.shared-slice-known5.given (5 * start.args.j + 4))
+cast-result : tie.Need-overflow_cast-result
+cast-result c = let start : tie.Start = search in omega (arith, c.shared_slice_known-5-1.given (5 * start.args.j + 4))
 
-returns-3 : tie.Need-returns-3
-returns-3 c = let else1 : tie.Else1 = search in fault-letter _ _ _ else1.if1.left c.before.if2.false
+returns-3 : tie.Need-returns
+returns-3 c = let else1 : tie.Else-events-at = search in fault-letter _ _ _ else1.if-events-at.false c.before.if-events-at-2.false
 
-pub is-faulty-spec : {M : Type 1} → statement M
-is-faulty-spec = tie.close (tie.spec
-    (λ c. search rules) (λ c. search rules) (λ c. search rules) (λ c. search rules) (λ c. sym (fault-kinds _ _ _ c.if1.true)) (λ c. search rules)
-    (λ c. search rules) (λ c. search rules) (λ c. search rules) (λ c. sym (fault-drives _ _ _ c.if2.true)) (λ c. search rules)
+pub is_faulty_spec : {M : Type 1} → statement M
+is_faulty_spec = tie.close (tie.spec
+    (λ c. search rules) (λ c. search rules) (λ c. search rules) (λ c. search rules) (λ c. sym (fault-kinds _ _ _ c.if-events-at.true)) (λ c. search rules)
+    (λ c. search rules) (λ c. search rules) (λ c. search rules) (λ c. sym (fault-drives _ _ _ c.if-events-at-2.true)) (λ c. search rules)
     (λ c. search rules) cast-result returns-3)

@@ -5,7 +5,7 @@ use borrow.Author.Rules.{rules}
 use Rattle.event_table.proofs.is_spanned.Statement.{statement}
 use Rattle.event_table.proofs.is_spanned.Tie as tie
 
-pub is-spanned-spec : {M : Type 1} → statement M
-is-spanned-spec = tie.close (tie.spec
-    (λ c. search rules) (λ c. search rules) (λ c. search rules) (λ c. sym (span_below _ _ _ _ c.if1.true)) (λ c. search rules)
-    (λ c. search rules) (λ c. span-above _ _ _ _ c.before.if1.false))
+pub is_spanned_spec : {M : Type 1} → statement M
+is_spanned_spec = tie.close (tie.spec
+    (λ c. search rules) (λ c. search rules) (λ c. search rules) (λ c. sym (span_below _ _ _ _ c.if-x-events.true)) (λ c. search rules)
+    (λ c. search rules) (λ c. span-above _ _ _ _ c.before.if-x-events.false))

@@ -10,8 +10,8 @@ use borrow.Author.Rules.{rules}
 use Rattle.event_table.proofs.marked.Statement.{statement}
 use Rattle.event_table.proofs.marked.Tie as tie
 
-returns : tie.Need-returns
-returns c = let a = c.before.args in shl_one 64 a.j c.before.requires ∙ sym (one-mul (2 ^ a.j)) ∙ ap (λ (b : Bool). one b * 2 ^ a.j) (sym c.if1.true)
+returns : tie.Need-returns-then-yes
+returns c = let a = c.before.args in shl_one 64 a.j c.before.requires ∙ sym (one-mul (2 ^ a.j)) ∙ ap (λ (b : Bool). one b * 2 ^ a.j) (sym c.if-yes.true)
 
-pub marked-spec : {M : Type 1} → statement M
-marked-spec = tie.close (tie.spec (λ c. search rules) returns (λ c. rw c.if1.false (omega arith)))
+pub marked_spec : {M : Type 1} → statement M
+marked_spec = tie.close (tie.spec (λ c. search rules) returns (λ c. rw c.if-yes.false (omega arith)))

@@ -6,11 +6,11 @@ use Rattle.file_tidy.proofs.clauses_in.Statement.{statement}
 use Rattle.file_tidy.proofs.clauses_in.Tie as tie
 
 returns : tie.Need-returns
-returns c = let at-read-head : tie.After-read-head = search in let start : tie.Start = search in
-    rw (at-read-head.read_head.ensures, c.before.read_count.ensures.0) (clauses-part start.args.f.now start.pre.1)
+returns c = let at-read-head : tie.After-read_head-h = search in let start : tie.Start = search in
+    rw (at-read-head.read_head-h.ensures, c.before.read_count-c.ensures.0) (clauses-part start.args.f.now start.requires.1)
 
-pub clauses-in-spec : {M : Type 1} → statement M
-clauses-in-spec = tie.close (tie.spec
-    (λ c κs. search rules) (λ c κs. search rules) (λ c. omega arith) (λ c. rw c.before.read_head.ensures (omega arith))
-    (λ c. rw c.before.read_head.ensures (omega arith)) (λ c. rw c.before.read_head.ensures (omega arith)) (λ c. search rules)
-    (λ c. search rules) (λ c. search rules) (λ c. rw c.before.read_head.ensures (omega arith)) returns)
+pub clauses_in_spec : {M : Type 1} → statement M
+clauses_in_spec = tie.close (tie.spec
+    (λ c κs. search rules) (λ c κs. search rules) (λ c. omega arith) (λ c. rw c.before.read_head-h.ensures (omega arith))
+    (λ c. rw c.before.read_head-h.ensures (omega arith)) (λ c. rw c.before.read_head-h.ensures (omega arith)) (λ c. search rules)
+    (λ c. search rules) (λ c. search rules) (λ c. rw c.before.read_head-h.ensures (omega arith)) returns)

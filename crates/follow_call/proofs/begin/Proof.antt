@@ -19,20 +19,20 @@ fits c = omega (arith, words-in-length c.args.codes.now, c.requires.1)
 long : (c : tie.Start) → length (take (length c.args.codes.now / 8) c.args.set.now) ≡ length c.args.codes.now / 8
 long c = length-take-le (length c.args.codes.now / 8) c.args.set.now (fits c)
 
-begin-part-requires : tie.Need-begin-part-requires
+begin-part-requires : tie.Need-begin_part-left-requires
 begin-part-requires c κs =
     let start : tie.Start = search in
-    (start.pre.0, long start ∙ sym (words-in-length start.args.codes.now))
+    (start.requires.0, long start ∙ sym (words-in-length start.args.codes.now))
 
 returns : tie.Need-returns
 returns c =
-    let start : tie.Start = search in let at_part : tie.After-begin-part = search in let a = start.args in
-    let codes = words_in a.codes.now in let e = at_part.begin-part.ensures.0 in let many = words-in-length a.codes.now in
+    let start : tie.Start = search in let at_part : tie.After-begin_part-left = search in let a = start.args in
+    let codes = words_in a.codes.now in let e = at_part.begin_part-left.ensures.0 in let many = words-in-length a.codes.now in
     record {
       set_left = ap (λ (x : List ℕ). x ++ drop (length a.codes.now / 8) a.set.now) e
           ∙ ap (λ (k : ℕ). initial_set a.initial codes ++ drop k a.set.now) (sym many);
-      counts = ap (λ (k : ℕ). record { left = k; letters = 0 }) (at_part.begin-part.ensures.1 ∙ ap (members_of (length codes)) e);
+      counts = ap (λ (k : ℕ). record { left = k; letters = 0 }) (at_part.begin_part-left.ensures.1 ∙ ap (members_of (length codes)) e);
     }
 
-pub begin-spec : {M : Type 1} → statement M
-begin-spec = tie.close (tie.spec (λ c. omega (arith, fits (search))) (λ c. sym (long (search))) begin-part-requires (λ c. search rules) returns)
+pub begin_spec : {M : Type 1} → statement M
+begin_spec = tie.close (tie.spec (λ c. omega (arith, fits (search))) (λ c. sym (long (search))) begin-part-requires (λ c. search rules) returns)

@@ -10,28 +10,28 @@ use borrow.Author.Rules.{rules}
 use Rattle.follow_call.proofs.call_row.Statement.{statement}
 use Rattle.follow_call.proofs.call_row.Tie as tie
 
-returns : tie.Need-returns
+returns : tie.Need-returns-then-letter-ne0
 returns c =
-    let start : tie.Start = search in let at-letter : tie.After-letter-row = search in let a = start.args in
-    letter-refuses a.s a.letters.now (in_bytes_lem a.codes.now) (in_bytes_lem a.transitions.now) a.room _ c.if1.true at-letter.letter-row.ensures
+    let start : tie.Start = search in let at-letter : tie.After-letter_row-letter = search in let a = start.args in
+    letter-refuses a.s a.letters.now (in_bytes_lem a.codes.now) (in_bytes_lem a.transitions.now) a.room _ c.if-letter-ne0.true at-letter.letter_row-letter.ensures
 
-returns-2 : tie.Need-returns-2
+returns-2 : tie.Need-returns-then-table-ne0
 returns-2 c =
-    let start : tie.Start = search in let at-letter : tie.After-letter-row = search in let passed : tie.Else1 = search in let at_table : tie.After-table-row = search in
+    let start : tie.Start = search in let at-letter : tie.After-letter_row-letter = search in let passed : tie.Else-letter-ne0 = search in let at_table : tie.After-table_row-table = search in
     let a = start.args in
-    table-refuses a.s a.letters.now (in_bytes_lem a.codes.now) (in_bytes_lem a.transitions.now) a.room (sym at-letter.letter-row.ensures ∙ passed.if1.left) _ c.if2.true
-    (rw (both_bytes a.codes.now, both_bytes a.transitions.now) at at_table.table-row.ensures)
+    table-refuses a.s a.letters.now (in_bytes_lem a.codes.now) (in_bytes_lem a.transitions.now) a.room (sym at-letter.letter_row-letter.ensures ∙ passed.if-letter-ne0.false) _ c.if-table-ne0.true
+    (rw (both_bytes a.codes.now, both_bytes a.transitions.now) at at_table.table_row-table.ensures)
 
-returns-3 : tie.Need-returns-3
+returns-3 : tie.Need-returns
 unfolding in_bytes_lem
 returns-3 c =
-    let start : tie.Start = search in let at-letter : tie.After-letter-row = search in let passed : tie.Else1 = search in let at_table : tie.After-table-row = search in
-    let passed-table : tie.Else2 = search in let a = start.args in
-    set-answers a.s a.letters.now (in_bytes_lem a.codes.now) (in_bytes_lem a.transitions.now) a.room (sym at-letter.letter-row.ensures ∙ passed.if1.left)
-    (sym (rw (both_bytes a.codes.now, both_bytes a.transitions.now) at at_table.table-row.ensures) ∙ passed-table.if2.left) _
-    (c.set-row.ensures ∙ ap (λ (n : ℕ). first_row (set_rows n a.room)) (sym (words-in-length a.codes.now)))
+    let start : tie.Start = search in let at-letter : tie.After-letter_row-letter = search in let passed : tie.Else-letter-ne0 = search in let at_table : tie.After-table_row-table = search in
+    let passed-table : tie.Else-table-ne0 = search in let a = start.args in
+    set-answers a.s a.letters.now (in_bytes_lem a.codes.now) (in_bytes_lem a.transitions.now) a.room (sym at-letter.letter_row-letter.ensures ∙ passed.if-letter-ne0.false)
+    (sym (rw (both_bytes a.codes.now, both_bytes a.transitions.now) at at_table.table_row-table.ensures) ∙ passed-table.if-table-ne0.false) _
+    (c.set_row.ensures ∙ ap (λ (n : ℕ). first_row (set_rows n a.room)) (sym (words-in-length a.codes.now)))
 
-pub call-row-spec : {M : Type 1} → statement M
-call-row-spec =
+pub call_row_spec : {M : Type 1} → statement M
+call_row_spec =
     tie.close (tie.spec
     (λ c κs. search rules) returns (λ c. search rules) (λ c. search rules) (λ c κs. search rules) returns-2 (λ c κs. search rules) returns-3)

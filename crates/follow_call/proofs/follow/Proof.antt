@@ -6,19 +6,19 @@ use Rattle.follow_call.proofs.Served.{call-refused, call-served}
 use Rattle.follow_call.proofs.follow.Statement.{statement}
 use Rattle.follow_call.proofs.follow.Tie as tie
 
-returns : tie.Need-returns
+returns : tie.Need-returns-in-Accepted
 returns c =
-    let start : tie.Start = search in let at_read : tie.After-read-rule = search in let at-l : tie.After-l = search in let at_call : tie.After-follow-read = search in
-    let a = start.args in let l = at-l.l.given.0.0 in
-    call-served a.file.now a.codes.now a.transitions.now a.set.now a.letters.now l _ at_call.follow-read.result
-    (served a.file.now l (sym at_read.read-rule.ensures ∙ at-l.l.given.1)) at_call.follow-read.ensures
+    let start : tie.Start = search in let at_read : tie.After-read_rule = search in let at-l : tie.In-Accepted-2 = search in let at_call : tie.After-follow_read = search in
+    let a = start.args in let l = at-l.in-Accepted.l in
+    call-served a.file.now a.codes.now a.transitions.now a.set.now a.letters.now l _ at_call.follow_read.result
+    (served a.file.now l (sym at_read.read_rule.ensures ∙ at-l.in-Accepted.is)) at_call.follow_read.ensures
 
-returns-2 : tie.Need-returns-2
+returns-2 : tie.Need-returns-in-Refused
 returns-2 c =
-    let start : tie.Start = search in let at_read : tie.After-read-rule = search in let at_row : tie.After-row = search in
-    let a = start.args in let k = at_row.row.given.0.0 in
-    let t = turned-away a.file.now k (sym at_read.read-rule.ensures ∙ at_row.row.given.1) in
+    let start : tie.Start = search in let at_read : tie.After-read_rule = search in let at_row : tie.In-Refused-2 = search in
+    let a = start.args in let k = at_row.in-Refused.row in
+    let t = turned-away a.file.now k (sym at_read.read_rule.ensures ∙ at_row.in-Refused.is) in
     call-refused a.file.now a.codes.now a.transitions.now a.set.now a.letters.now k (λ e. t.1 (t.0 ∙ e)) (sym t.0)
 
-pub follow-spec : {M : Type 1} → statement M
-follow-spec = tie.close (tie.spec (λ c κs. search rules) (λ c. search rules) (λ c κs. search rules) (λ c. search rules) (λ c. search rules) returns returns-2)
+pub follow_spec : {M : Type 1} → statement M
+follow_spec = tie.close (tie.spec (λ c κs. search rules) (λ c. search rules) (λ c κs. search rules) (λ c. search rules) (λ c. search rules) returns returns-2)

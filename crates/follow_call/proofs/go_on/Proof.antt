@@ -13,15 +13,15 @@ use Rattle.follow_call.proofs.go_on.Tie as tie
 long : (c : tie.Start) → length (take c.args.n c.args.set.now) ≡ c.args.n
 long c = length-take-le c.args.n c.args.set.now c.requires.1
 
-take-over-requires : tie.Need-take-over-requires
+take-over-requires : tie.Need-take_over-requires
 take-over-requires c κs =
-    let start : tie.Start = search in let pre = start.pre in
+    let start : tie.Start = search in let pre = start.requires in
     (omega (arith, long start, pre.0), pre.2, rw (long start) pre.3)
 
 returns : tie.Need-returns
 returns c =
-    let start : tie.Start = search in let at-over : tie.After-take-over = search in let a = start.args in
-    part-taken a.n (words_in a.transitions.now) a.letters.now a.set.now _ at-over.take-over.result start.pre.1 at-over.take-over.ensures
+    let start : tie.Start = search in let at-over : tie.After-take_over = search in let a = start.args in
+    part-taken a.n (words_in a.transitions.now) a.letters.now a.set.now _ at-over.take_over.result start.requires.1 at-over.take_over.ensures
 
-pub go-on-spec : {M : Type 1} → statement M
-go-on-spec = tie.close (tie.spec (λ c. search rules) (λ c. sym (long (search))) take-over-requires (λ c. search rules) returns)
+pub go_on_spec : {M : Type 1} → statement M
+go_on_spec = tie.close (tie.spec (λ c. search rules) (λ c. sym (long (search))) take-over-requires (λ c. search rules) returns)

@@ -8,5 +8,5 @@ use Rattle.listing.proofs.main.Tie as tie
 
 pub main_spec : {M : Type 1} → statement M
 main_spec = tie.close (tie.spec
-    (λ c. search rules) (λ c κs. search rules) (λ c. search rules) (λ c. search rules) (λ c κs. search rules) (λ c. omega (arith, c.listing2.ensures))
-    (λ c. sym (length-take-le _ _ (omega (arith, c.before.listing2.ensures)))) (λ c κs. search rules) (λ c. search rules))
+    (λ c. search rules) (λ c κs. search rules) (λ c. search rules) (λ c. search rules) (λ c κs. search rules) (λ c. omega (arith, c.listing-end.ensures))
+    (λ c. sym (length-take-le _ _ (omega (arith, c.before.listing-end.ensures)))) (λ c κs. search rules) (λ c. search rules))

@@ -10,20 +10,20 @@ use Rattle.listing_text.proofs.initial_of.Statement.{statement}
 use Rattle.listing_text.proofs.initial_of.Tie as tie
 
 -- the file is accepted
-accepted : (c : tie.After-l) → let start : tie.Start = search in Served start.args.file.now c.l.given.0.0
-accepted c = let start : tie.Start = search in let at-read-rule : tie.After-read-rule = search in
-    served start.args.file.now c.l.given.0.0 (sym at-read-rule.read-rule.ensures ∙ c.l.given.1)
+accepted : (c : tie.In-Accepted-2) → let start : tie.Start = search in Served start.args.file.now c.in-Accepted.l
+accepted c = let start : tie.Start = search in let at-read-rule : tie.After-read_rule = search in
+    served start.args.file.now c.in-Accepted.l (sym at-read-rule.read_rule.ensures ∙ c.in-Accepted.is)
 
-initial_is : (c : tie.After-l) → let start : tie.Start = search in c.l.given.0.0.head.initial ≡ trailer start.args.file.now 2
+initial_is : (c : tie.In-Accepted-2) → let start : tie.Start = search in c.in-Accepted.l.head.initial ≡ trailer start.args.file.now 2
 initial_is c = ap (λ (l : Layout). l.head.initial) (accepted c).layout
 
-small : (c : tie.After-l) → c.l.given.0.0.head.initial < 8
+small : (c : tie.In-Accepted-2) → c.in-Accepted.l.head.initial < 8
 small c = let F = (accepted c).passing.formed in omega (arith, initial_is c, F.initial_state, F.few_states)
 
-returns : tie.Need-returns
-returns c = let k = c.enum_told.given.0.0 in let start : tie.Start = search in let at-read-rule : tie.After-read-rule = search in
-    let t = turned-away start.args.file.now k (sym at-read-rule.read-rule.ensures ∙ c.enum_told.given.1) in (omega arith, λ e. absurd (t.1 e))
+returns : tie.Need-returns-in-Refused
+returns c = let k = c.in-Refused.field-0 in let start : tie.Start = search in let at-read-rule : tie.After-read_rule = search in
+    let t = turned-away start.args.file.now k (sym at-read-rule.read_rule.ensures ∙ c.in-Refused.is) in (omega arith, λ e. absurd (t.1 e))
 
-pub initial-of-spec : {M : Type 1} → statement M
-initial-of-spec = tie.close (tie.spec
+pub initial_of_spec : {M : Type 1} → statement M
+initial_of_spec = tie.close (tie.spec
     (λ c κs. search rules) (λ c. search rules) (λ c. search rules) (λ c. omega (arith, small (search))) returns (λ c. (small (search), λ e. initial_is (search))))

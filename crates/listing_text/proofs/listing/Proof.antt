@@ -7,13 +7,13 @@ use Rattle.listing_spec.proofs.ByLists.{printed, left_by}
 use Rattle.listing_text.proofs.listing.Statement.{statement}
 use Rattle.listing_text.proofs.listing.Tie as tie
 
-put-listing-requires : tie.Need-put-listing-requires
-put-listing-requires c κs = let start : tie.Start = search in omega (arith, listing-most start.args.file.now, start.good)
+put-listing-requires : tie.Need-put_listing-requires
+put-listing-requires c κs = let start : tie.Start = search in omega (arith, listing-most start.args.file.now, start.well_formed)
 
 returns : tie.Need-returns
 returns c =
-    let P = c.put-listing.ensures in let p = put_first P in let start : tie.Start = search in let f = start.args.file.now in let text = listing_of f in let old = start.args.out.now in
+    let P = c.put_listing.ensures in let p = put_first P in let start : tie.Start = search in let f = start.args.file.now in let text = listing_of f in let old = start.args.out.now in
     let parts = left_by text old _ _ p.0 p.1 in (p.0, (p.1, (omega (arith, P.fits, put-length P), (rw parts.0 (printed f), parts.1))))
 
-pub listing-spec : {M : Type 1} → statement M
-listing-spec = tie.close (tie.spec put-listing-requires returns)
+pub listing_spec : {M : Type 1} → statement M
+listing_spec = tie.close (tie.spec put-listing-requires returns)

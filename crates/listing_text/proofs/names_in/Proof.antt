@@ -5,14 +5,14 @@ use Rattle.file_read.proofs.Answer.{turned-away}
 use Rattle.listing_text.proofs.names_in.Statement.{statement}
 use Rattle.listing_text.proofs.names_in.Tie as tie
 
-names-of-requires : tie.Need-names-of-requires
-names-of-requires c κs = let at-read-rule : tie.After-read-rule = search in sym at-read-rule.read-rule.ensures ∙ c.before.l.given.1
+names-of-requires : tie.Need-names_of-requires
+names-of-requires c κs = let at-read-rule : tie.After-read_rule = search in sym at-read-rule.read_rule.ensures ∙ c.before.in-Accepted.is
 
-returns : tie.Need-returns
+returns : tie.Need-returns-in-Refused
 returns c =
-    let k = c.before.enum_told.given.0.0 in let start : tie.Start = search in let at-read-rule : tie.After-read-rule = search in
-    let t = turned-away start.args.file.now k (sym at-read-rule.read-rule.ensures ∙ c.before.enum_told.given.1) in λ e. absurd (t.1 e)
+    let k = c.before.in-Refused.field-0 in let start : tie.Start = search in let at-read-rule : tie.After-read_rule = search in
+    let t = turned-away start.args.file.now k (sym at-read-rule.read_rule.ensures ∙ c.before.in-Refused.is) in λ e. absurd (t.1 e)
 
-pub names-in-spec : {M : Type 1} → statement M
-names-in-spec = tie.close (tie.spec
+pub names_in_spec : {M : Type 1} → statement M
+names_in_spec = tie.close (tie.spec
     (λ c κs. search rules) (λ c. search rules) (λ c. search rules) (λ c. search rules) names-of-requires returns (λ c. search rules))

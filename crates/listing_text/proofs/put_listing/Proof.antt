@@ -16,73 +16,73 @@ use Rattle.listing_text.proofs.put_listing.Statement.{statement}
 use Rattle.listing_text.proofs.put_listing.Tie as tie
 
 -- over 4,096 bytes
-over : (c : tie.Then1) → let start : tie.Start = search in 4096 < length start.args.file.now
-over c = omega (arith, c.if1.true)
+over : (c : tie.Then-file-gt4096) → let start : tie.Start = search in 4096 < length start.args.file.now
+over c = omega (arith, c.if-file-gt4096.true)
 
 put-requires : tie.Need-put-requires
-put-requires c κs = let start : tie.Start = search in omega (arith, start.pre, ap length (long-text start.args.file.now (over (search))))
+put-requires c κs = let start : tie.Start = search in omega (arith, start.requires, ap length (long-text start.args.file.now (over (search))))
 
-returns : tie.Need-returns
+returns : tie.Need-returns-then-file-gt4096
 returns c = let start : tie.Start = search in let at-put : tie.After-put = search in put_as (long-text start.args.file.now (over (search))) at-put.put.ensures
 
 -- the answer of the build in rooms of 512 and 4,096
 answer : (c : tie.After-build) → let start : tie.Start = search in c.build.result ≡ built_of start.args.file.now 512 4096
 answer c = c.build.ensures.answer
 
-abbrev start-of-after-row : tie.After-row → tie.Start
+abbrev start-of-after-row : tie.In-Refused-2 → tie.Start
 start-of-after-row c = search
 
 -- the text of a refusal
-refusal : (c : tie.After-row) → listing_of (start-of-after-row c).args.file.now ≡ refused_line c.row.given.0.0
-refusal c = let else1 : tie.Else1 = search in let start : tie.Start = search in
-    refused-text start.args.file.now else1.if1.left c.row.given.0.0 (sym (answer (search)) ∙ c.row.given.1)
+refusal : (c : tie.In-Refused-2) → listing_of (start-of-after-row c).args.file.now ≡ refused_line c.in-Refused.row
+refusal c = let else1 : tie.Else-file-gt4096 = search in let start : tie.Start = search in
+    refused-text start.args.file.now else1.if-file-gt4096.false c.in-Refused.row (sym (answer (search)) ∙ c.in-Refused.is)
 
-put-refused-requires : tie.Need-put-refused-requires
-put-refused-requires c κs = let start : tie.Start = search in omega (arith, start.pre, ap length (refusal (search)))
+put-refused-requires : tie.Need-put_refused-requires
+put-refused-requires c κs = let start : tie.Start = search in omega (arith, start.requires, ap length (refusal (search)))
 
-abbrev start-of-after-counts : tie.After-counts → tie.Start
+abbrev start-of-after-counts : tie.In-Table-2 → tie.Start
 start-of-after-counts c = search
 
 -- a table was built
-built : (c : tie.After-counts) → built_of (start-of-after-counts c).args.file.now 512 4096 ≡ Table c.counts.given.0.0
-built c = sym (answer (search)) ∙ c.counts.given.1
+built : (c : tie.In-Table-2) → built_of (start-of-after-counts c).args.file.now 512 4096 ≡ Table c.in-Table.counts
+built c = sym (answer (search)) ∙ c.in-Table.is
 
-codes_held : (c : tie.After-counts) → let at-build : tie.After-build = search in
-    c.counts.given.0.0.macrostates ≤ length at-build.build.last.1.0
-codes_held c = let else1 : tie.Else1 = search in let start : tie.Start = search in let at-build : tie.After-build = search in
-    codes-fit start.args.file.now else1.if1.left c.counts.given.0.0 (built c)
+codes_held : (c : tie.In-Table-2) → let at-build : tie.After-build = search in
+    c.in-Table.counts.macrostates ≤ length at-build.build.new.transitions.0
+codes_held c = let else1 : tie.Else-file-gt4096 = search in let start : tie.Start = search in let at-build : tie.After-build = search in
+    codes-fit start.args.file.now else1.if-file-gt4096.false c.in-Table.counts (built c)
     _ _ refl at-build.build.ensures.codes_after
 
-moves_held : (c : tie.After-counts) → (zs ws : List ℕ) → length zs ≡ 4096 → ws ≡ transitions_after_lem (start-of-after-counts c).args.file.now 512 zs
-    → c.counts.given.0.0.transitions ≤ length ws
-moves_held c = let else1 : tie.Else1 = search in moves-fit (start-of-after-counts c).args.file.now else1.if1.left c.counts.given.0.0 (built c)
+moves_held : (c : tie.In-Table-2) → (zs ws : List ℕ) → length zs ≡ 4096 → ws ≡ transitions_after_lem (start-of-after-counts c).args.file.now 512 zs
+    → c.in-Table.counts.transitions ≤ length ws
+moves_held c = let else1 : tie.Else-file-gt4096 = search in moves-fit (start-of-after-counts c).args.file.now else1.if-file-gt4096.false c.in-Table.counts (built c)
 
-abbrev start-of-after-names-in : tie.After-names-in → tie.Start
+abbrev start-of-after-names-in : tie.After-names_in → tie.Start
 start-of-after-names-in c = search
 
 -- the text of the table
-table : (c : tie.After-names-in) → let at-counts : tie.After-counts = search in let n = at-counts.counts.given.0.0 in let f = (start-of-after-names-in c).args.file.now in
+table : (c : tie.After-names_in) → let at-counts : tie.In-Table-2 = search in let n = at-counts.in-Table.counts in let f = (start-of-after-names-in c).args.file.now in
     (xs ys zs ws : List ℕ) → length xs ≡ 512 → ys ≡ codes_after_lem f xs 4096 → length zs ≡ 4096 → ws ≡ transitions_after_lem f 512 zs
-    → listing_of f ≡ table_text (initial_at c.before.initial-of.result) c.names_in.result.now (take n.macrostates ys) (take n.transitions ws)
+    → listing_of f ≡ table_text (initial_at c.before.initial_of.result) c.names_in.result.now (take n.macrostates ys) (take n.transitions ws)
 table c xs ys zs ws l e k v =
-    let at-counts : tie.After-counts = search in let else1 : tie.Else1 = search in
-    table-text (start-of-after-names-in c).args.file.now else1.if1.left at-counts.counts.given.0.0 (built (search)) xs ys zs ws l e k v
-    c.before.initial-of.result c.before.initial-of.ensures.1 c.names_in.result.now c.names_in.ensures
+    let at-counts : tie.In-Table-2 = search in let else1 : tie.Else-file-gt4096 = search in
+    table-text (start-of-after-names-in c).args.file.now else1.if-file-gt4096.false at-counts.in-Table.counts (built (search)) xs ys zs ws l e k v
+    c.before.initial_of.result c.before.initial_of.ensures.1 c.names_in.result.now c.names_in.ensures
 
-put-table-requires : tie.Need-put-table-requires
+put-table-requires : tie.Need-put_table-requires
 put-table-requires c κs =
-    let start : tie.Start = search in let at-initial-of : tie.After-initial-of = search in let at-build : tie.After-build = search in let B = at-build.build.ensures in
-    (at-initial-of.initial-of.ensures.0, omega (arith, start.pre, ap length (table (search) _ _ _ _ refl B.codes_after refl B.moves_after)))
+    let start : tie.Start = search in let at-initial-of : tie.After-initial_of = search in let at-build : tie.After-build = search in let B = at-build.build.ensures in
+    (at-initial-of.initial_of.ensures.0, omega (arith, start.requires, ap length (table (search) _ _ _ _ refl B.codes_after refl B.moves_after)))
 
-returns-2 : tie.Need-returns-2
-returns-2 c = let at-put-refused : tie.After-put-refused = search in put_as (refusal (search)) at-put-refused.Put-refused.ensures
+returns-2 : tie.Need-returns-in-Refused
+returns-2 c = let at-put-refused : tie.After-put_refused = search in put_as (refusal (search)) at-put-refused.Put-refused.ensures
 
-returns-3 : tie.Need-returns-3
-returns-3 c = let at-put-table : tie.After-put-table = search in let at-build : tie.After-build = search in let B = at-build.build.ensures in
-    put_as (table (search) _ _ _ _ refl B.codes_after refl B.moves_after) at-put-table.put-table.ensures
+returns-3 : tie.Need-returns-in-Table
+returns-3 c = let at-put-table : tie.After-put_table = search in let at-build : tie.After-build = search in let B = at-build.build.ensures in
+    put_as (table (search) _ _ _ _ refl B.codes_after refl B.moves_after) at-put-table.put_table.ensures
 
-pub put-listing-spec : {M : Type 1} → statement M
-put-listing-spec = tie.close (tie.spec
+pub put_listing_spec : {M : Type 1} → statement M
+put_listing_spec = tie.close (tie.spec
     (λ c. search rules) put-requires (λ c. search rules) returns (λ c. search rules) (λ c. search rules) (λ c κs. search rules) (λ c. search rules) put-refused-requires
     (λ c. search rules) (λ c κs. search rules) (λ c κs. search rules) (λ c. codes_held (search)) (λ c. sym (length-take-le _ _ (codes_held (search))))
     (λ c. let at-build : tie.After-build = search in moves_held (search) _ _ refl at-build.build.ensures.moves_after)

@@ -8,9 +8,9 @@ use borrow.Author.Rules.{rules}
 use Rattle.live_arrive.proofs.can_try.Statement.{statement}
 use Rattle.live_arrive.proofs.can_try.Tie as tie
 
-returns-9 : tie.Need-returns-9
+returns-9 : tie.Need-returns
 returns-9 c =
-    let start : tie.Start = search in let a = start.args in let w = words-in-length a.codes.now in let at-codes-pass : tie.After-codes-pass = search in
+    let start : tie.Start = search in let a = start.args in let w = words-in-length a.codes.now in let at-codes-pass : tie.After-codes_pass = search in
     λ e. record {
       known = omega arith;
       free = omega arith;
@@ -19,12 +19,12 @@ returns-9 c =
       whole_transitions = omega arith;
       few = omega arith;
       fits = omega arith;
-      coded = at-codes-pass.codes-pass.ensures (not-false at-codes-pass.codes-pass.result c.before.if8.false);
-      flags = λ y l. c.has-flags.ensures e y (omega arith);
+      coded = at-codes-pass.codes_pass.ensures (not-false at-codes-pass.codes_pass.result c.before.if-not-codes_pass.false);
+      flags = λ y l. c.has_flags.ensures e y (omega arith);
     }
 
-pub can-try-spec : {M : Type 1} → statement M
-can-try-spec = tie.close (tie.spec
+pub can_try_spec : {M : Type 1} → statement M
+can_try_spec = tie.close (tie.spec
     (λ c e. absurd (true-false (sym e))) (λ c κs. search rules) (λ c e. absurd (true-false (sym e))) (λ c e. absurd (true-false (sym e)))
     (λ c e. absurd (true-false (sym e))) (λ c e. absurd (true-false (sym e))) (λ c e. absurd (true-false (sym e)))
     (λ c e. absurd (true-false (sym e))) (λ c κs. search rules) (λ c e. absurd (true-false (sym e))) (λ c κs. search rules) returns-9)

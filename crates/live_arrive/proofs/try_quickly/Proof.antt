@@ -4,11 +4,11 @@ use borrow.Author.Rules.{rules}
 use Rattle.live_arrive.proofs.try_quickly.Statement.{statement}
 use Rattle.live_arrive.proofs.try_quickly.Tie as tie
 
-returns-2 : tie.Need-returns-2
-returns-2 c = let at_call : tie.After-call = search in let at-arrive-quickly : tie.After-arrive-quickly = search in rw at_call.call.given.1 at-arrive-quickly.arrive-quickly.ensures
+returns-2 : tie.Need-returns-in-Arrive
+returns-2 c = let at_call : tie.In-Arrive-2 = search in let at-arrive-quickly : tie.After-arrive_quickly = search in rw at_call.in-Arrive.is at-arrive-quickly.arrive_quickly.ensures
 
-pub try-quickly-spec : {M : Type 1} → statement M
-try-quickly-spec = tie.close (tie.spec
+pub try_quickly_spec : {M : Type 1} → statement M
+try_quickly_spec = tie.close (tie.spec
     (λ c. search rules) (λ c. search rules) (λ c κs. search rules) (λ c. search rules) (λ c. search rules) (λ c. search rules)
     (λ c. let start : tie.Start = search in let a = start.args in quickly-untried) (λ c. search rules) returns-2
     (λ c. let start : tie.Start = search in let a = start.args in quickly-untried) (λ c. let start : tie.Start = search in let a = start.args in quickly-untried)

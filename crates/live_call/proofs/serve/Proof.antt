@@ -8,5 +8,5 @@ returns : tie.Need-returns
 returns c =
     let at-change : tie.After-change = search in let at_count : tie.After-count = search in rw (sym at-change.change.ensures) at_count.count.ensures
 
-pub serve-spec : {M : Type 1} → statement M
-serve-spec = tie.close (tie.spec (λ c κs. search rules) (λ c κs. search rules) (λ c. search rules) (λ c. search rules) returns)
+pub serve_spec : {M : Type 1} → statement M
+serve_spec = tie.close (tie.spec (λ c κs. search rules) (λ c κs. search rules) (λ c. search rules) (λ c. search rules) returns)

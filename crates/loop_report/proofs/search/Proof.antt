@@ -17,54 +17,54 @@ use Rattle.loop_report.proofs.search.Statement.{statement}
 use Rattle.loop_report.proofs.search.Tie as tie
 
 -- the rule that is searched
-abbrev rule : (c : tie.After-start-of) → Rule
+abbrev rule : (c : tie.After-start_of-s) → Rule
 rule c = let start : tie.Start = search in let a = start.args in rule_of a.h a.counts.now a.clauses.now
 
-formed : (c : tie.After-start-of) → WellFormed (rule c)
-formed c = let start : tie.Start = search in start.pre
+formed : (c : tie.After-start_of-s) → WellFormed (rule c)
+formed c = let start : tie.Start = search in start.requires
 
 -- where its loop begins
-begun : (c : tie.After-start-of) → Begins (rule c).n (successors_of (rule c)) (rule c).accepting c.start_of.result
-begun c = let at-successor-table : tie.After-successor-table = search in rw at-successor-table.successor-table.ensures at c.start_of.ensures
+begun : (c : tie.After-start_of-s) → Begins (rule c).n (successors_of (rule c)) (rule c).accepting c.start_of-s.result
+begun c = let at-successor-table : tie.After-successor_table-es = search in rw at-successor-table.successor_table-es.ensures at c.start_of-s.ensures
 
-abbrev slice : (c : tie.After-start-of) → List ℕ
+abbrev slice : (c : tie.After-start_of-s) → List ℕ
 slice c = let start : tie.Start = search in start.args.out.now
 
-cast-accepting : tie.Need-overflow-cast-accepting
-cast-accepting c = let start : tie.Start = search in let a = start.args in omega (arith, accepting-small (rule_of a.h a.counts.now a.clauses.now) start.pre)
+cast-accepting : tie.Need-overflow_cast-accepting
+cast-accepting c = let start : tie.Start = search in let a = start.args in omega (arith, accepting-small (rule_of a.h a.counts.now a.clauses.now) start.requires)
 
-returns : tie.Need-returns
-returns c = let at-start-of : tie.After-start-of = search in
-    report-none (loop_of (rule at-start-of)) (slice at-start-of) (found_none (rule at-start-of) at-start-of.start_of.result (begun at-start-of) c.if1.true)
+returns : tie.Need-returns-then-n-k
+returns c = let at-start-of : tie.After-start_of-s = search in
+    report-none (loop_of (rule at-start-of)) (slice at-start-of) (found_none (rule at-start-of) at-start-of.start_of-s.result (begun at-start-of) c.if-n-k.true)
 
-returns-2 : tie.Need-returns-2
+returns-2 : tie.Need-returns-then-out-k
 returns-2 c =
-    let at-start-of : tie.After-start-of = search in let l : at-start-of.start_of.result.further < (rule at-start-of).n = omega (arith, c.before.if1.false) in
-    report-short (loop_of (rule at-start-of)) (slice at-start-of) (omega (arith, found-length (rule at-start-of) at-start-of.start_of.result (begun at-start-of) l, c.if2.true))
+    let at-start-of : tie.After-start_of-s = search in let l : at-start-of.start_of-s.result.further < (rule at-start-of).n = omega (arith, c.before.if-n-k.false) in
+    report-short (loop_of (rule at-start-of)) (slice at-start-of) (omega (arith, found-length (rule at-start-of) at-start-of.start_of-s.result (begun at-start-of) l, c.if-out-k.true))
 
-others-of-requires : tie.Need-others-of-requires
-others-of-requires c κs = let at-start-of : tie.After-start-of = search in let else1 : tie.Else1 = search in
-    let l : at-start-of.start_of.result.further < (rule at-start-of).n = omega (arith, else1.if1.left) in
-    ((formed at-start-of).few_states, found-state (rule at-start-of) at-start-of.start_of.result (begun at-start-of) l, (formed at-start-of).accepting_states)
+others-of-requires : tie.Need-others_of-requires
+others-of-requires c κs = let at-start-of : tie.After-start_of-s = search in let else1 : tie.Else-n-k = search in
+    let l : at-start-of.start_of-s.result.further < (rule at-start-of).n = omega (arith, else1.if-n-k.false) in
+    ((formed at-start-of).few_states, found-state (rule at-start-of) at-start-of.start_of-s.result (begun at-start-of) l, (formed at-start-of).accepting_states)
 
-write-loop-requires : tie.Need-write-loop-requires
-write-loop-requires c κs = let at-start-of : tie.After-start-of = search in let else1 : tie.Else1 = search in
-    let l : at-start-of.start_of.result.further < (rule at-start-of).n = omega (arith, else1.if1.left) in let else2 : tie.Else2 = search in
-    let at-successor-table : tie.After-successor-table = search in (
-      ((formed at-start-of).few_states, found-state (rule at-start-of) at-start-of.start_of.result (begun at-start-of) l, omega (arith, else2.if2.left)),
-      rw (at-successor-table.successor-table.ensures, c.before.others-of.ensures) (found-begins (rule at-start-of) at-start-of.start_of.result (begun at-start-of) l),
+write-loop-requires : tie.Need-write_loop-requires
+write-loop-requires c κs = let at-start-of : tie.After-start_of-s = search in let else1 : tie.Else-n-k = search in
+    let l : at-start-of.start_of-s.result.further < (rule at-start-of).n = omega (arith, else1.if-n-k.false) in let else2 : tie.Else-out-k = search in
+    let at-successor-table : tie.After-successor_table-es = search in (
+      ((formed at-start-of).few_states, found-state (rule at-start-of) at-start-of.start_of-s.result (begun at-start-of) l, omega (arith, else2.if-out-k.false)),
+      rw (at-successor-table.successor_table-es.ensures, c.before.others_of.ensures) (found-begins (rule at-start-of) at-start-of.start_of-s.result (begun at-start-of) l),
     )
 
-returns-3 : tie.Need-returns-3
+returns-3 : tie.Need-returns
 returns-3 c =
-    let at-successor-table : tie.After-successor-table = search in let at-start-of : tie.After-start-of = search in let s = at-start-of.start_of.result in let else1 : tie.Else1 = search in
-    let l : s.further < (rule at-start-of).n = omega (arith, else1.if1.left) in let at-others-of : tie.After-others-of = search in let at-write-loop : tie.After-write-loop = search in
-    let w = rw (at-successor-table.successor-table.ensures, at-others-of.others-of.ensures) at at-write-loop.write-loop.ensures in
-    let k = found-length (rule at-start-of) s (begun at-start-of) l in let else2 : tie.Else2 = search in
-    let f = report-states (loop_of (rule at-start-of)) (slice at-start-of) s.further k (omega (arith, else2.if2.left)) in
+    let at-successor-table : tie.After-successor_table-es = search in let at-start-of : tie.After-start_of-s = search in let s = at-start-of.start_of-s.result in let else1 : tie.Else-n-k = search in
+    let l : s.further < (rule at-start-of).n = omega (arith, else1.if-n-k.false) in let at-others-of : tie.After-others_of = search in let at-write-loop : tie.After-write_loop = search in
+    let w = rw (at-successor-table.successor_table-es.ensures, at-others-of.others_of.ensures) at at-write-loop.write_loop.ensures in
+    let k = found-length (rule at-start-of) s (begun at-start-of) l in let else2 : tie.Else-out-k = search in
+    let f = report-states (loop_of (rule at-start-of)) (slice at-start-of) s.further k (omega (arith, else2.if-out-k.false)) in
     (f.0, w ∙ ap (λ (ps : List ℕ). ps ++ drop (s.further + 1) (slice at-start-of)) (sym (found-route (rule at-start-of) s (begun at-start-of) l)) ∙ f.1)
 
-pub search-spec : {M : Type 1} → statement M
-search-spec = tie.close (tie.spec
+pub search_spec : {M : Type 1} → statement M
+search_spec = tie.close (tie.spec
     (λ c κs. search rules) cast-accepting (λ c κs. search rules) returns returns-2 others-of-requires write-loop-requires (λ c. search rules)
     (λ c. search rules) returns-3)

@@ -5,18 +5,18 @@ use Rattle.mulgreddi_answers.specs.Answers.{loop_answer}
 use Rattle.mulgreddi_answers_rules.proofs.reported.Statement.{statement}
 use Rattle.mulgreddi_answers_rules.proofs.reported.Tie as tie
 
-returns : tie.Need-returns
+returns : tie.Need-returns-in-States
 unfolding loop_answer
-returns c = let at-answer : tie.After-answer = search in c.served.ensures ∙ sym (ap loop_answer at-answer.answer.given.1)
+returns c = let at-answer : tie.In-States-2 = search in c.served.ensures ∙ sym (ap loop_answer at-answer.in-States.is)
 
-returns-2 : tie.Need-returns-2
+returns-2 : tie.Need-returns-in-Nothing
 unfolding loop_answer
-returns-2 c = c.served2.ensures ∙ sym (ap loop_answer c.before.enum_told.given.1)
+returns-2 c = c.served-in-Nothing.ensures ∙ sym (ap loop_answer c.before.in-Nothing.is)
 
-returns-3 : tie.Need-returns-3
+returns-3 : tie.Need-returns-in-Refused
 unfolding loop_answer
-returns-3 c = let at-answer2 : tie.After-answer2 = search in c.refused.ensures ∙ sym (ap loop_answer at-answer2.answer2.given.1)
+returns-3 c = let at-answer2 : tie.In-Refused-2 = search in c.refused.ensures ∙ sym (ap loop_answer at-answer2.in-Refused.is)
 
-pub reported-spec : {M : Type 1} → statement M
-reported-spec = tie.close (tie.spec
+pub reported_spec : {M : Type 1} → statement M
+reported_spec = tie.close (tie.spec
     (λ c. search rules) (λ c κs. search rules) (λ c. search rules) (λ c κs. search rules) (λ c. search rules) (λ c κs. search rules) returns returns-2 returns-3)

@@ -5,13 +5,13 @@ use Rattle.mulgreddi_answers.specs.Answers.{hoa_read_answer}
 use Rattle.mulgreddi_answers_tables.proofs.read_back.Statement.{statement}
 use Rattle.mulgreddi_answers_tables.proofs.read_back.Tie as tie
 
-returns : tie.Need-returns
+returns : tie.Need-returns-in-Table
 unfolding hoa_read_answer
-returns c = let at-answer : tie.After-answer = search in c.served.ensures ∙ sym (ap hoa_read_answer at-answer.answer.given.1)
+returns c = let at-answer : tie.In-Table-2 = search in c.served.ensures ∙ sym (ap hoa_read_answer at-answer.in-Table.is)
 
-returns-2 : tie.Need-returns-2
+returns-2 : tie.Need-returns-in-Refused
 unfolding hoa_read_answer
-returns-2 c = let at-answer2 : tie.After-answer2 = search in c.refused.ensures ∙ sym (ap hoa_read_answer at-answer2.answer2.given.1)
+returns-2 c = let at-answer2 : tie.In-Refused-2 = search in c.refused.ensures ∙ sym (ap hoa_read_answer at-answer2.in-Refused.is)
 
-pub read-back-spec : {M : Type 1} → statement M
-read-back-spec = tie.close (tie.spec (λ c. search rules) (λ c κs. search rules) (λ c. search rules) (λ c κs. search rules) returns returns-2)
+pub read_back_spec : {M : Type 1} → statement M
+read_back_spec = tie.close (tie.spec (λ c. search rules) (λ c κs. search rules) (λ c. search rules) (λ c κs. search rules) returns returns-2)

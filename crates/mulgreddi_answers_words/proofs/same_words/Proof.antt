@@ -5,18 +5,18 @@ use Rattle.mulgreddi_answers.specs.Answers.{same_words_answer}
 use Rattle.mulgreddi_answers_words.proofs.same_words.Statement.{statement}
 use Rattle.mulgreddi_answers_words.proofs.same_words.Tie as tie
 
-returns : tie.Need-returns
+returns : tie.Need-returns-in-Same
 unfolding same_words_answer
-returns c = c.served.ensures ∙ sym (ap same_words_answer c.before.enum_told.given.1)
+returns c = c.served.ensures ∙ sym (ap same_words_answer c.before.in-Same.is)
 
-returns-2 : tie.Need-returns-2
+returns-2 : tie.Need-returns-in-Different
 unfolding same_words_answer
-returns-2 c = c.served2.ensures ∙ sym (ap same_words_answer c.before.enum-told2.given.1)
+returns-2 c = c.served-in-Different.ensures ∙ sym (ap same_words_answer c.before.in-Different.is)
 
-returns-3 : tie.Need-returns-3
+returns-3 : tie.Need-returns-in-Refused
 unfolding same_words_answer
-returns-3 c = let at-answer : tie.After-answer = search in c.refused.ensures ∙ sym (ap same_words_answer at-answer.answer.given.1)
+returns-3 c = let at-answer : tie.In-Refused-2 = search in c.refused.ensures ∙ sym (ap same_words_answer at-answer.in-Refused.is)
 
-pub same-words-spec : {M : Type 1} → statement M
-same-words-spec = tie.close (tie.spec
+pub same_words_spec : {M : Type 1} → statement M
+same_words_spec = tie.close (tie.spec
     (λ c. search rules) (λ c κs. search rules) (λ c. search rules) (λ c κs. search rules) (λ c. search rules) (λ c κs. search rules) returns returns-2 returns-3)

@@ -30,13 +30,13 @@ returns c =
 
 loop-less : tie.Need-loop-found-smaller invariant-loop decreases-loop
 loop-less c = let at-loop : tie.At-loop-found invariant-loop decreases-loop = search in let l = at-loop.loop-found in let u = c.before.union_over.result in
-    omega (arith, or-ge l.found u, or_lt 8 l.found u l.invariant.0 c.before.union_over.type-inv, c.if-next-found.false)
+    omega (arith, or-ge l.found u, or_lt 8 l.found u l.invariant.0 c.before.union_over.type_inv, c.if-next-found.false)
 
 loop-again : tie.Need-loop-found-preserved invariant-loop decreases-loop
 loop-again c =
     let start : tie.Start invariant-loop decreases-loop = search in let es = start.args.es.now in let at-loop : tie.At-loop-found invariant-loop decreases-loop = search in let l = at-loop.loop-found in
     let u = c.before.union_over.result in let e = c.before.union_over.ensures in (
-      or_lt 8 l.found u l.invariant.0 c.before.union_over.type-inv,
+      or_lt 8 l.found u l.invariant.0 c.before.union_over.type_inv,
       round_keeps es l.found u e start.args.q l.invariant.1,
       λ X x k. round-least es l.found u e X k (l.invariant.2 X x k),
     )

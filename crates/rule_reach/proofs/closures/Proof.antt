@@ -31,7 +31,7 @@ loop-again c =
     let at-loop : tie.At-loop-q invariant-loop decreases-loop = search in let l = at-loop.loop-q in let start : Start = search in let a = start.args in
     let r = rule_of a.h a.counts.now a.clauses.now in let w = start.requires in
     let least : LeastClosed (successors_of r) l.q c.closure.result = rw (sym l.invariant.1) c.closure.ensures in let then1 : tie.In-loop-q invariant-loop decreases-loop = search in
-    let e : c.closure.result ≡ mask a.h.n (reaches r l.q) = least-reaches r w.few_states l.q then1.loop-q-test.true c.closure.result c.closure.type-inv least in
+    let e : c.closure.result ≡ mask a.h.n (reaches r l.q) = least-reaches r w.few_states l.q then1.loop-q-test.true c.closure.result c.closure.type_inv least in
     (omega arith, l.invariant.1, rw l.invariant.2 (table-set _ (λ p. mask _ (reaches r p)) _ (omega (arith, w.few_states)) e))
 
 returns : tie.Need-returns invariant-loop decreases-loop

@@ -29,7 +29,7 @@ loop-again c =
     let at-loop : tie.At-loop-a invariant-loop decreases-loop = search in let l = at-loop.loop-a in let start : tie.Start invariant-loop decreases-loop = search in let a = start.args in
     let r = rule_of a.h a.counts.now a.clauses.now in
     let e : c.named_in-found.result ≡ mask 8 (named (entry r a.q l.a)) = c.named_in-found.ensures ∙ ap (λ (x : List ℕ). mask 8 (named x)) c.before.entry_of.ensures in
-    (omega arith, or_lt 8 _ _ l.invariant.1 c.named_in-found.type-inv, λ p m. leads-next r _ _ _ _ p m e (l.invariant.2 p m))
+    (omega arith, or_lt 8 _ _ l.invariant.1 c.named_in-found.type_inv, λ p m. leads-next r _ _ _ _ p m e (l.invariant.2 p m))
 
 returns : tie.Need-returns invariant-loop decreases-loop
 unfolding leads

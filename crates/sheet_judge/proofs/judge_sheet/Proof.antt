@@ -8,33 +8,33 @@ use Rattle.sheet_judge.proofs.Calls.{judged-refused, judged-called}
 use Rattle.sheet_judge.proofs.judge_sheet.Statement.{statement}
 use Rattle.sheet_judge.proofs.judge_sheet.Tie as tie
 
-abbrev start-of-after-h : tie.After-h → tie.Start
+abbrev start-of-after-h : tie.After-h-1 → tie.Start
 start-of-after-h c = search
 
 -- the reader's answer is the definition's
-read : (c : tie.After-h) → let at-l : tie.After-l = search in read_of (start-of-after-h c).args.file.now ≡ Accepted at-l.l.given.0.0
-read c = let at-read-rule : tie.After-read-rule = search in let at-l : tie.After-l = search in sym at-read-rule.read-rule.ensures ∙ at-l.l.given.1
+read : (c : tie.After-h-1) → let at-l : tie.In-Accepted-2 = search in read_of (start-of-after-h c).args.file.now ≡ Accepted at-l.in-Accepted.l
+read c = let at-read-rule : tie.After-read_rule = search in let at-l : tie.In-Accepted-2 = search in sym at-read-rule.read_rule.ensures ∙ at-l.in-Accepted.is
 
-judge-sheet-read-requires : tie.Need-judge-sheet-read-requires
+judge-sheet-read-requires : tie.Need-judge_sheet_read-requires
 judge-sheet-read-requires c κs =
-    let start : tie.Start = search in let at-l : tie.After-l = search in let at-counts-of : tie.After-counts-of = search in let at-clauses-of : tie.After-clauses-of = search in
-    lent-passing start.args.file.now at-l.l.given.0.0 (read (search)) _ _
-    at-counts-of.Counts-of.ensures at-clauses-of.clauses-of.ensures
+    let start : tie.Start = search in let at-l : tie.In-Accepted-2 = search in let at-counts-of : tie.After-counts_of = search in let at-clauses-of : tie.After-clauses_of = search in
+    lent-passing start.args.file.now at-l.in-Accepted.l (read (search)) _ _
+    at-counts-of.Counts-of.ensures at-clauses-of.clauses_of.ensures
 
-returns : tie.Need-returns
+returns : tie.Need-returns-in-Accepted
 returns c =
-    let start : tie.Start = search in let a = start.args in let at-l : tie.After-l = search in let l = at-l.l.given.0.0 in
-    let at-h : tie.After-h = search in
-    let at-judge-sheet-read : tie.After-judge-sheet-read = search in let j = at-judge-sheet-read.judge-sheet-read in let at-clauses-of : tie.After-clauses-of = search in
-    let at-counts-of : tie.After-counts-of = search in judged-called (served a.file.now l (read at-h)).row
-    (rw (lent-rule a.file.now l (read at-h) _ _ at-counts-of.Counts-of.ensures at-clauses-of.clauses-of.ensures) at j.ensures)
+    let start : tie.Start = search in let a = start.args in let at-l : tie.In-Accepted-2 = search in let l = at-l.in-Accepted.l in
+    let at-h : tie.After-h-1 = search in
+    let at-judge-sheet-read : tie.After-judge_sheet_read = search in let j = at-judge-sheet-read.judge_sheet_read in let at-clauses-of : tie.After-clauses_of = search in
+    let at-counts-of : tie.After-counts_of = search in judged-called (served a.file.now l (read at-h)).row
+    (rw (lent-rule a.file.now l (read at-h) _ _ at-counts-of.Counts-of.ensures at-clauses-of.clauses_of.ensures) at j.ensures)
 
-returns-2 : tie.Need-returns-2
+returns-2 : tie.Need-returns-in-Refused
 returns-2 c =
-    let start : tie.Start = search in let a = start.args in let k = c.before.k.given.0.0 in let at-read-rule : tie.After-read-rule = search in
-    let t = turned-away a.file.now k (sym at-read-rule.read-rule.ensures ∙ c.before.k.given.1) in judged-refused k (λ e. t.1 (t.0 ∙ e)) (sym t.0)
+    let start : tie.Start = search in let a = start.args in let k = c.before.in-Refused.k in let at-read-rule : tie.After-read_rule = search in
+    let t = turned-away a.file.now k (sym at-read-rule.read_rule.ensures ∙ c.before.in-Refused.is) in judged-refused k (λ e. t.1 (t.0 ∙ e)) (sym t.0)
 
-pub judge-sheet-spec : {M : Type 1} → statement M
-judge-sheet-spec = tie.close (tie.spec
+pub judge_sheet_spec : {M : Type 1} → statement M
+judge_sheet_spec = tie.close (tie.spec
     (λ c κs. search rules) (λ c. search rules) (λ c κs. read c) (λ c κs. read c.before) judge-sheet-read-requires (λ c. search rules)
     (λ c. search rules) (λ c. search rules) returns returns-2)

@@ -11,60 +11,60 @@ use Rattle.sheet_judge.proofs.Loop.{Done, done-start, words_more, done_next, don
 use Rattle.sheet_judge.proofs.judge_words.Statement.{statement}
 use Rattle.sheet_judge.proofs.judge_words.Tie as tie
 
-abbrev invariant-loop : tie.invariant-loop
+abbrev invariant-loop : tie.invariant-loop-at
 invariant-loop counts clauses sheet answers₀ masks₀ starts rule from₀ size₀ filled₀ cycles₀ at₀ i₀ answers masks from size filled cycles at i =
     Done (rule_of rule.head counts clauses) sheet answers₀ masks₀ answers masks from size filled cycles at i
 
-abbrev decreases-loop : tie.decreases-loop
+abbrev decreases-loop : tie.decreases-loop-at
 decreases-loop counts clauses sheet answers₀ masks₀ starts rule from₀ size₀ filled₀ cycles₀ at₀ i₀ answers masks from size filled cycles at i = length sheet - at
 
 abbrev In-loop : Type 0
-In-loop = tie.In-loop invariant-loop decreases-loop
+In-loop = tie.In-loop-at invariant-loop decreases-loop
 
-starts-of-requires : tie.Need-starts-of-requires invariant-loop decreases-loop
+starts-of-requires : tie.Need-starts_of-starts-requires invariant-loop decreases-loop
 starts-of-requires c κs =
-    let start : tie.Start invariant-loop decreases-loop = search in entries-few (rule_of start.args.h start.args.counts.now start.args.clauses.now) start.pre.0.formed
+    let start : tie.Start invariant-loop decreases-loop = search in entries-few (rule_of start.args.h start.args.counts.now start.args.clauses.now) start.requires.0.formed
 
 abbrev start_of : In-loop → tie.Start invariant-loop decreases-loop
 start_of c = search
 
 -- there is room for one more word
-more : (c : In-loop) → c.before.loop.i < length (words_of (start_of c).args.sheet.now)
-more c = words_more c.before.loop.invariant c.loop-test.true
+more : (c : In-loop) → c.before.loop-at.i < length (words_of (start_of c).args.sheet.now)
+more c = words_more c.before.loop-at.invariant c.loop-at-test.true
 
-part-judge-word-end : tie.Need-slice-bounds-judge-word-end invariant-loop decreases-loop
-part-judge-word-end c = let in-loop : In-loop = search in omega (arith, more in-loop, (start_of in-loop).pre.3, in-loop.before.loop.inv.masked.long)
+part-judge-word-end : tie.Need-slice_bounds-judge_word-end-in-loop-at-3 invariant-loop decreases-loop
+part-judge-word-end c = let in-loop : In-loop = search in omega (arith, more in-loop, (start_of in-loop).requires.3, in-loop.before.loop-at.invariant.masked.long)
 
-judge-word-requires : tie.Need-judge-word-requires invariant-loop decreases-loop
-judge-word-requires c κs = let in-loop : In-loop = search in let z = (start_of in-loop).pre in let D = in-loop.before.loop.inv in
-    let at-starts-of : tie.After-starts-of invariant-loop decreases-loop = search in let at-closures : tie.After-closures invariant-loop decreases-loop = search in (
+judge-word-requires : tie.Need-judge_word-word-requires invariant-loop decreases-loop
+judge-word-requires c κs = let in-loop : In-loop = search in let z = (start_of in-loop).requires in let D = in-loop.before.loop-at.invariant in
+    let at-starts-of : tie.After-starts_of-starts invariant-loop decreases-loop = search in let at-closures : tie.After-closures-reach invariant-loop decreases-loop = search in (
       record {
         passing = z.0;
-        beginnings = at-starts-of.starts-of.ensures;
-        closed = at-closures.closures.ensures;
+        beginnings = at-starts-of.starts_of-starts.ensures;
+        closed = at-closures.closures-reach.ensures;
         cycles = D.held;
         room = omega (arith, more in-loop, z.1, D.few);
       },
-      in-loop.loop-test.taken,
+      in-loop.loop-at-test.true,
       simp (length-take, length-drop) (omega (arith, more in-loop, z.3, D.masked.long)),
     )
 
-slice-write-answers : tie.Need-slice-write-answers invariant-loop decreases-loop
-slice-write-answers c = let in-loop : In-loop = search in omega (arith, more in-loop, (start_of in-loop).pre.2, in-loop.before.loop.inv.answered.long)
+slice-write-answers : tie.Need-bounds-answers-i invariant-loop decreases-loop
+slice-write-answers c = let in-loop : In-loop = search in omega (arith, more in-loop, (start_of in-loop).requires.2, in-loop.before.loop-at.invariant.answered.long)
 
-abbrev turn-of : tie.After-next-word invariant-loop decreases-loop → In-loop
+abbrev turn-of : tie.After-next_word-at invariant-loop decreases-loop → In-loop
 turn-of c = search
 
-loop-again : tie.Need-loop-preserved invariant-loop decreases-loop
-loop-again c = let t = turn-of c in let z = (start_of t).pre in let at-judge-word : tie.After-judge-word invariant-loop decreases-loop = search in
-    done_next t.before.loop.inv t.loop-test.taken c.next_word.ensures at-judge-word.judge-word.ensures z.2 z.3
+loop-again : tie.Need-loop-at-preserved invariant-loop decreases-loop
+loop-again c = let t = turn-of c in let z = (start_of t).requires in let at-judge-word : tie.After-judge_word-word invariant-loop decreases-loop = search in
+    done_next t.before.loop-at.invariant t.loop-at-test.true c.next_word-at.ensures at-judge-word.judge_word-word.ensures z.2 z.3
 
-pub judge-words-spec : {M : Type 1} → statement M
-judge-words-spec = tie.close (tie.spec
+pub judge_words_spec : {M : Type 1} → statement M
+judge_words_spec = tie.close (tie.spec
     invariant-loop decreases-loop starts-of-requires (λ c κs. search rules) (λ c. done-start refl refl refl) (λ c. omega (arith, more c, (start_of c).requires.1))
-    (λ c. omega (arith, more c, (start_of c).requires.1)) (λ c. let at-loop : tie.At-loop invariant-loop decreases-loop = search in omega (arith, at-loop.loop.inv.held.parts.froms))
-    (λ c. let at-loop : tie.At-loop invariant-loop decreases-loop = search in omega (arith, at-loop.loop.inv.held.parts.sizes))
-    (λ c. let at-loop : tie.At-loop invariant-loop decreases-loop = search in omega (arith, at-loop.loop.inv.held.room)) (λ c. omega arith) (λ c. omega arith) part-judge-word-end
-    judge-word-requires slice-write-answers (λ c κs. let in-loop : In-loop = search in in-loop.loop-test.taken)
-    (λ c. omega (arith, more (turn-of c), (start_of (turn-of c)).pre.1)) (λ c. omega (arith, c.next_word.ensures, (turn-of c).loop-test.true)) loop-again
-    (λ c. c.before.loop.invariant.answered.long) (λ c. c.before.loop.invariant.masked.long) (λ c. done_end c.before.loop.invariant (omega (arith, c.loop-test.false))))
+    (λ c. omega (arith, more c, (start_of c).requires.1)) (λ c. let at-loop : tie.At-loop-at invariant-loop decreases-loop = search in omega (arith, at-loop.loop-at.invariant.held.parts.froms))
+    (λ c. let at-loop : tie.At-loop-at invariant-loop decreases-loop = search in omega (arith, at-loop.loop-at.invariant.held.parts.sizes))
+    (λ c. let at-loop : tie.At-loop-at invariant-loop decreases-loop = search in omega (arith, at-loop.loop-at.invariant.held.room)) (λ c. omega arith) (λ c. omega arith) part-judge-word-end
+    judge-word-requires slice-write-answers (λ c κs. let in-loop : In-loop = search in in-loop.loop-at-test.true)
+    (λ c. omega (arith, more (turn-of c), (start_of (turn-of c)).requires.1)) (λ c. omega (arith, c.next_word-at.ensures, (turn-of c).loop-at-test.true)) loop-again
+    (λ c. c.before.loop-at.invariant.answered.long) (λ c. c.before.loop-at.invariant.masked.long) (λ c. done_end c.before.loop-at.invariant (omega (arith, c.loop-at-test.false))))

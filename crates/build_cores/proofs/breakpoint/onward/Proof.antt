@@ -22,7 +22,7 @@ next_low : (c : tie.After-next_component-d) → c.next_component-d.result < 8
 next_low c = let start : tie.Start = search in let a = start.args in let p = start.requires in omega (arith, next c, next-lt a.components (a.pair % 16) p.1, p.2)
 
 element-copy-out-class-count : tie.Need-bounds-parts-d
-element-copy-out-class-count c = let start : tie.Start = search in omega (arith, next_low c, start.requires, and_mask start.args.pair 4)
+element-copy-out-class-count c = let start : tie.Start = search in omega (arith, next_low (search), start.requires, and_mask start.args.pair 4)
 
 returns : tie.Need-returns-then-k-eq0
 returns c =

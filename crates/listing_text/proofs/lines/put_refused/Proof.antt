@@ -7,16 +7,16 @@ use Rattle.slice_text.proofs.Puts.{put_then}
 use Rattle.listing_text.proofs.lines.put_refused.Statement.{statement}
 use Rattle.listing_text.proofs.lines.put_refused.Tie as tie
 
-put-requires : tie.Need-put-requires
+put-requires : tie.Need-put-a-requires
 put-requires c κs = let start : tie.Start = search in let a = start.args in omega (arith, refused-length a.row)
 
 returns : tie.Need-returns
 unfolding refused_line
 returns c =
-    let at-put : tie.After-put = search in let at-put-word : tie.After-put-word = search in let at-put-byte : tie.After-put-byte = search in
-    put_then at-put.put.ensures (put_then at-put-word.put_word.ensures at-put-byte.put_byte.ensures)
+    let at-put : tie.After-put-a = search in let at-put-word : tie.After-put_word-b = search in let at-put-byte : tie.After-put_byte = search in
+    put_then at-put.put-a.ensures (put_then at-put-word.put_word-b.ensures at-put-byte.put_byte.ensures)
 
-pub put-refused-spec : {M : Type 1} → statement M
-put-refused-spec = tie.close (tie.spec
+pub put_refused_spec : {M : Type 1} → statement M
+put_refused_spec = tie.close (tie.spec
     (λ c. search rules) put-requires (λ c κs. let start : tie.Start = search in omega (arith, refused-length start.args.row))
     (λ c κs. let start : tie.Start = search in omega (arith, refused-length start.args.row)) (λ c. search rules) returns)

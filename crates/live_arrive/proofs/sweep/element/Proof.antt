@@ -8,6 +8,6 @@ use Rattle.live_arrive.proofs.sweep.element.Tie as tie
 returns : tie.Need-returns
 returns c = let start : tie.Start = search in let a = start.args in c.word_at.ensures ∙ sym (words-in-at a.bytes.now a.i (omega (arith, words-in-length a.bytes.now)))
 
-pub element-spec : {M : Type 1} → statement M
-element-spec = tie.close (tie.spec
+pub element_spec : {M : Type 1} → statement M
+element_spec = tie.close (tie.spec
     (λ c. omega (arith, words-in-length c.before.args.bytes.now)) (λ c κs. omega (arith, words-in-length c.before.args.bytes.now)) returns)

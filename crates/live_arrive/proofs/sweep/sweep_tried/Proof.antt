@@ -14,71 +14,71 @@ use Rattle.live_arrive.proofs.Turns.{Turn, turn-start, turn-told, turn-refused, 
 use Rattle.live_arrive.proofs.sweep.sweep_tried.Statement.{statement}
 use Rattle.live_arrive.proofs.sweep.sweep_tried.Tie as tie
 
-abbrev invariant-loop : tie.invariant-loop
+abbrev invariant-loop : tie.invariant-loop-i
 invariant-loop s letter transitions set₀ limits m i₀ set i = (i ≤ m) × Turn s letter (words_in transitions) set₀ set i
 
-abbrev decreases-loop : tie.decreases-loop
+abbrev decreases-loop : tie.decreases-loop-i
 decreases-loop s letter transitions set₀ limits m i₀ set i = m - i
 
 abbrev Start : Type 0
 Start = tie.Start invariant-loop decreases-loop
 
 abbrev At-loop : Type 0
-At-loop = tie.At-loop invariant-loop decreases-loop
+At-loop = tie.At-loop-i invariant-loop decreases-loop
 
 abbrev After-element : Type 0
-After-element = tie.After-element invariant-loop decreases-loop
+After-element = tie.After-element-t invariant-loop decreases-loop
 
 abbrev After-sweep-one : Type 0
-After-sweep-one = tie.After-sweep-one invariant-loop decreases-loop
+After-sweep-one = tie.After-sweep_one invariant-loop decreases-loop
 
 -- its source is in range
-source : (c : After-element) → let at-loop : At-loop = search in source_of c.element.result < length at-loop.loop.set
-source c = let start : Start = search in let a = start.args in let at-loop : At-loop = search in let l = at-loop.loop in
+source : (c : After-element) → let at-loop : At-loop = search in source_of c.element-t.result < length at-loop.loop-i.set
+source c = let start : Start = search in let a = start.args in let at-loop : At-loop = search in let l = at-loop.loop-i in
     let ts = words_in a.transitions.now in let m = mem-at ts l.i (omega (arith, words-in-length a.transitions.now)) in
-    rw c.element.ensures (omega (arith, start.pre.3 (get_or ts l.i 0) m, l.inv.1.swept.long))
+    rw c.element-t.ensures (omega (arith, start.requires.3 (get_or ts l.i 0) m, l.invariant.1.swept.long))
 
 -- the limit of its letter
-limit : (c : tie.After-letter-of invariant-loop decreases-loop) → let start : Start = search in let at-element : After-element = search in let at-loop : At-loop = search in
-    let at-limits-of : tie.After-limits-of invariant-loop decreases-loop = search in let a = start.args in
-    get_or at-limits-of.Limits-of.result c.letter-of.result 0 ≡ limit_of_lem a.s (length at-loop.loop.set) a.letter (letter_of_lem at-element.element.result)
-limit c = let start : Start = search in let a = start.args in let at-loop : At-loop = search in let at-limits-of : tie.After-limits-of invariant-loop decreases-loop = search in
-    at-limits-of.Limits-of.ensures c.letter-of.result (omega arith)
-    ∙ ap₂ (λ (k y : ℕ). limit_of_lem a.s k a.letter y) (sym at-loop.loop.inv.1.swept.long) c.letter-of.ensures
+limit : (c : tie.After-letter_of invariant-loop decreases-loop) → let start : Start = search in let at-element : After-element = search in let at-loop : At-loop = search in
+    let at-limits-of : tie.After-limits_of-limits invariant-loop decreases-loop = search in let a = start.args in
+    get_or at-limits-of.Limits-of.result c.letter_of.result 0 ≡ limit_of_lem a.s (length at-loop.loop-i.set) a.letter (letter_of_lem at-element.element-t.result)
+limit c = let start : Start = search in let a = start.args in let at-loop : At-loop = search in let at-limits-of : tie.After-limits_of-limits invariant-loop decreases-loop = search in
+    at-limits-of.Limits-of.ensures c.letter_of.result (omega arith)
+    ∙ ap₂ (λ (k y : ℕ). limit_of_lem a.s k a.letter y) (sym at-loop.loop-i.invariant.1.swept.long) c.letter_of.ensures
 
-loop-holds : tie.Need-loop-init invariant-loop decreases-loop
-loop-holds c = let start : Start = search in (omega arith, turn-start start.pre.2)
+loop-holds : tie.Need-loop-i-init invariant-loop decreases-loop
+loop-holds c = let start : Start = search in (omega arith, turn-start start.requires.2)
 
-element-requires : tie.Need-element-requires invariant-loop decreases-loop
+element-requires : tie.Need-element-t-requires invariant-loop decreases-loop
 element-requires c κs = let start : Start = search in omega (arith, words-in-length start.args.transitions.now)
 
-same_length : tie.Need-same-length invariant-loop decreases-loop
+same_length : tie.Need-shape_of-set-then-not-sweep_one invariant-loop decreases-loop
 same_length c = let at-loop : At-loop = search in let at-sweep-one : After-sweep-one = search in
-    omega (arith, at-sweep-one.sweep-one.kept, at-loop.loop.inv.1.swept.long)
+    omega (arith, at-sweep-one.sweep_one.auto, at-loop.loop-i.invariant.1.swept.long)
 
-returns : tie.Need-returns invariant-loop decreases-loop
-returns c = let start : Start = search in let a = start.args in let at-loop : At-loop = search in let l = at-loop.loop in
+returns : tie.Need-returns-then-not-sweep_one invariant-loop decreases-loop
+returns c = let start : Start = search in let a = start.args in let at-loop : At-loop = search in let l = at-loop.loop-i in
     let ts = words_in a.transitions.now in let inside : l.i < length ts = omega (arith, words-in-length a.transitions.now) in
-    let at-sweep-one : After-sweep-one = search in let none = not-true at-sweep-one.sweep-one.result c.if1.true in
-    let at-element : After-element = search in turn-refused start.pre.2 inside at-element.element.ensures l.inv.1
-    (rw none at (at-sweep-one.sweep-one.ensures a.s start.pre.0 (limit (search))))
+    let at-sweep-one : After-sweep-one = search in let none = not-true at-sweep-one.sweep_one.result c.if-not-sweep_one.true in
+    let at-element : After-element = search in turn-refused start.requires.2 inside at-element.element-t.ensures l.invariant.1
+    (rw none at (at-sweep-one.sweep_one.ensures a.s start.requires.0 (limit (search))))
 
-loop-again : tie.Need-loop-preserved invariant-loop decreases-loop
-loop-again c = let start : Start = search in let a = start.args in let at-loop : At-loop = search in let l = at-loop.loop in
+loop-again : tie.Need-loop-i-preserved invariant-loop decreases-loop
+loop-again c = let start : Start = search in let a = start.args in let at-loop : At-loop = search in let l = at-loop.loop-i in
     let ts = words_in a.transitions.now in let inside : l.i < length ts = omega (arith, words-in-length a.transitions.now) in
-    let at-sweep-one : After-sweep-one = search in let some = not-false at-sweep-one.sweep-one.result c.if1.false in
+    let at-sweep-one : After-sweep-one = search in let some = not-false at-sweep-one.sweep_one.result c.if-not-sweep_one.false in
     let at-element : After-element = search in (
       omega arith,
-      turn-told start.pre.2 inside at-element.element.ensures l.inv.1
-          (source at-element) (rw some at (at-sweep-one.sweep-one.ensures a.s start.pre.0 (limit (search)))),
+      turn-told start.requires.2 inside at-element.element-t.ensures l.invariant.1
+          (source at-element) (rw some at (at-sweep-one.sweep_one.ensures a.s start.requires.0 (limit (search)))),
     )
 
-returns-2 : tie.Need-returns-2 invariant-loop decreases-loop
-returns-2 c = let start : Start = search in let a = start.args in let l = c.before.loop in let ts = words_in a.transitions.now in
-    turn_end start.pre.2 (omega (arith, words-in-length a.transitions.now)) l.invariant.1
+returns-2 : tie.Need-returns invariant-loop decreases-loop
+returns-2 c = let start : Start = search in let a = start.args in let l = c.before.loop-i in let ts = words_in a.transitions.now in
+    turn_end start.requires.2 (omega (arith, words-in-length a.transitions.now)) l.invariant.1
 
-pub sweep-tried-spec : {M : Type 1} → statement M
-sweep-tried-spec = tie.close (tie.spec
-    invariant-loop decreases-loop (λ c κs. let start : Start = search in start.pre.1) loop-holds element-requires (λ c κs. search rules) (λ c. omega (arith, c.letter-of.ensures))
-    (λ c. omega (arith, c.letter-of.ensures)) (λ c κs. source (search)) same_length returns (λ c. omega arith) (λ c. omega arith)
-    loop-again (λ c. c.before.loop.invariant.1.swept.long) returns-2)
+pub sweep_tried_spec : {M : Type 1} → statement M
+sweep_tried_spec = tie.close (tie.spec
+    invariant-loop decreases-loop (λ c κs. let start : Start = search in start.requires.1) loop-holds element-requires (λ c κs. search rules) (λ c. omega (arith, c.letter_of.ensures))
+    (λ c. omega (arith, c.letter_of.ensures)) (λ c κs. source (search)) same_length returns (λ c. omega arith) (λ c. omega arith)
+    loop-again (λ c. c.before.loop-i.invariant.1.swept.long) returns-2)

@@ -5,15 +5,15 @@ use borrow.Author.Rules.{rules}
 use Rattle.loop_search.proofs.ways.others_of.Statement.{statement}
 use Rattle.loop_search.proofs.ways.others_of.Tie as tie
 
-returns : tie.Need-returns
+returns : tie.Need-returns-then-contains
 returns c =
-    let start : tie.Start = search in let a = start.args in let w = start.pre in let at-contains : tie.After-contains = search in let then1 : tie.Then1 = search in
-    let e = sym at-contains.contains.ensures ∙ then1.if1.taken in rw c.before.full.ensures at c.difference.ensures ∙ others-accepting a.n a.accepting a.t w.0 e
+    let start : tie.Start = search in let a = start.args in let w = start.requires in let at-contains : tie.After-contains = search in let then1 : tie.Then-contains = search in
+    let e = sym at-contains.contains.ensures ∙ then1.if-contains.true in rw c.before.full.ensures at c.difference.ensures ∙ others-accepting a.n a.accepting a.t w.0 e
 
-returns-2 : tie.Need-returns-2
+returns-2 : tie.Need-returns
 returns-2 c =
-    let start : tie.Start = search in let a = start.args in let w = start.pre in others-rejecting a.n a.accepting a.t w.2 (sym c.before.contains.ensures ∙ c.if1.false)
+    let start : tie.Start = search in let a = start.args in let w = start.requires in others-rejecting a.n a.accepting a.t w.2 (sym c.before.contains.ensures ∙ c.if-contains.false)
 
-pub others-of-spec : {M : Type 1} → statement M
-others-of-spec = tie.close (tie.spec
+pub others_of_spec : {M : Type 1} → statement M
+others_of_spec = tie.close (tie.spec
     (λ c. search rules) (λ c κs. search rules) (λ c. search rules) (λ c κs. search rules) (λ c κs. search rules) returns returns-2)

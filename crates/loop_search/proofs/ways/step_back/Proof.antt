@@ -6,7 +6,7 @@ use Rattle.loop_search.proofs.ways.step_back.Tie as tie
 
 returns : tie.Need-returns
 returns c = let start : tie.Start = search in let a = start.args in
-    step_is a.n a.es.now a.others a.w c.before.sources-of.result c.sources-of2.result c.before.sources-of.ensures c.sources-of2.ensures
+    step_is a.n a.es.now a.others a.w c.before.sources_of-any.result c.sources_of.result c.before.sources_of-any.ensures c.sources_of.ensures
 
-pub step-back-spec : {M : Type 1} → statement M
-step-back-spec = tie.close (tie.spec (λ c κs. search rules) (λ c κs. search rules) returns)
+pub step_back_spec : {M : Type 1} → statement M
+step_back_spec = tie.close (tie.spec (λ c κs. search rules) (λ c κs. search rules) returns)
