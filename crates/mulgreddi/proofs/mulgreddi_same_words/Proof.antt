@@ -6,7 +6,7 @@ use Rattle.mulgreddi.proofs.mulgreddi_same_words.Statement.{statement}
 use Rattle.mulgreddi.proofs.mulgreddi_same_words.Tie as tie
 
 returns : tie.Need-returns
-returns c = let s = c.before.same-words.ensures in (c.same-words2.ensures ∙ ap same_words_answer s.answered, λ e. rw s.answered at (s.meant e))
+returns c = let s = c.before.same_words.ensures in (c.same_words-2.ensures ∙ ap same_words_answer s.answered, λ e. rw s.answered at (s.meant e))
 
-pub mulgreddi-same-words-spec : {M : Type 1} → statement M
-mulgreddi-same-words-spec = tie.close (tie.spec (λ c κs. search rules) (λ c κs. search rules) returns)
+pub mulgreddi_same_words_spec : {M : Type 1} → statement M
+mulgreddi_same_words_spec = tie.close (tie.spec (λ c κs. search rules) (λ c κs. search rules) returns)

@@ -5,7 +5,7 @@ use Rattle.mulgreddi_answers.specs.Answers.{written_answer}
 use Rattle.mulgreddi.proofs.mulgreddi_write.Statement.{statement}
 use Rattle.mulgreddi.proofs.mulgreddi_write.Tie as tie
 
-pub mulgreddi-write-spec : {M : Type 1} → statement M
-mulgreddi-write-spec = tie.close (tie.spec
+pub mulgreddi_write_spec : {M : Type 1} → statement M
+mulgreddi_write_spec = tie.close (tie.spec
     (λ c κs. search rules) (λ c κs. search rules) (λ c. search rules)
-    (λ c. let at-write-rule : tie.After-write-rule = search in let w = at-write-rule.write-rule.ensures in (c.written.ensures ∙ ap written_answer w.0, w.1)))
+    (λ c. let at-write-rule : tie.After-write_rule = search in let w = at-write-rule.write_rule.ensures in (c.written.ensures ∙ ap written_answer w.0, w.1)))

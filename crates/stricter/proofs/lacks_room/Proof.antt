@@ -4,5 +4,5 @@ use borrow.Author.Tests.{lt-ltb, le-ltb}
 use Rattle.stricter.proofs.lacks_room.Statement.{statement}
 use Rattle.stricter.proofs.lacks_room.Tie as tie
 
-pub lacks-room-spec : {M : Type 1} → statement M
-lacks-room-spec = tie.close (tie.spec (λ c. search rules) (λ c. rw (lt-ltb _ _ c.if1.true)) (λ c. rw (le-ltb _ _ c.if1.false)))
+pub lacks_room_spec : {M : Type 1} → statement M
+lacks_room_spec = tie.close (tie.spec (λ c. search rules) (λ c. rw (lt-ltb _ _ c.if-word-pairs.true)) (λ c. rw (le-ltb _ _ c.if-word-pairs.false)))

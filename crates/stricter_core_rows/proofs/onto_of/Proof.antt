@@ -4,5 +4,5 @@ use lib.Bits.{and_mask}
 use Rattle.stricter_core_rows.proofs.onto_of.Statement.{statement}
 use Rattle.stricter_core_rows.proofs.onto_of.Tie as tie
 
-pub onto-of-spec : {M : Type 1} → statement M
-onto-of-spec = tie.close (tie.spec (λ c. and_mask (c.args.t / 2 ^ 40) 16))
+pub onto_of_spec : {M : Type 1} → statement M
+onto_of_spec = tie.close (tie.spec (λ c. and_mask (c.args.t / 2 ^ 40) 16))

@@ -8,18 +8,18 @@ use Rattle.stricter_cores.proofs.drop_pair.Statement.{statement}
 use Rattle.stricter_cores.proofs.drop_pair.Tie as tie
 
 leads-requires : tie.Need-leads-requires
-leads-requires c κs = let start : tie.Start = search in let a = start.args in let p = start.pre in let r = p.0.1 in (
+leads-requires c κs = let start : tie.Start = search in let a = start.args in let p = start.requires in let r = p.0.1 in (
   ((p.0.0, r.fits), p.3, omega arith, omega arith),
   (λ b l. omega (arith, cut-le r.fits.ascend_a a.i a.cuts.now p.1 b l, untagged-long a.left.now), r.rows),
 )
 
-returns : tie.Need-returns
+returns : tie.Need-returns-then-leads
 returns c = let start : tie.Start = search in let a = start.args in thinned-start a.marks.now
 
-returns-2 : tie.Need-returns-2
-returns-2 c = let start : tie.Start = search in let p = start.pre in thinned-one p.4
-    ((c.before.leads.ensures start.args.i p.2 p.1).no c.if1.false)
+returns-2 : tie.Need-returns
+returns-2 c = let start : tie.Start = search in let p = start.requires in thinned-one p.4
+    ((c.before.leads.ensures start.args.i p.2 p.1).no c.if-leads.false)
 
-pub drop-pair-spec : {M : Type 1} → statement M
-drop-pair-spec = tie.close (tie.spec
+pub drop_pair_spec : {M : Type 1} → statement M
+drop_pair_spec = tie.close (tie.spec
     leads-requires (λ c. search rules) returns (λ c. search rules) (λ c. search rules) (λ c. search rules) (λ c. search rules) returns-2)

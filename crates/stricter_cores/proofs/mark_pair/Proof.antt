@@ -14,12 +14,12 @@ use Rattle.stricter_laws.proofs.Tries.{tried-stays, tried-marks}
 use Rattle.stricter_cores.proofs.mark_pair.Statement.{statement}
 use Rattle.stricter_cores.proofs.mark_pair.Tie as tie
 
-returns : tie.Need-returns
+returns : tie.Need-returns-then-marks-x-ne1
 returns c = let start : tie.Start = search in let a = start.args in tried-stays (a.i * a.nb + a.j) a.marks.now
     (λ h. absurd (omega arith))
 
 leads-requires : tie.Need-leads-requires
-leads-requires c κs = let start : tie.Start = search in let a = start.args in let p = start.pre in let r = p.0.1 in (
+leads-requires c κs = let start : tie.Start = search in let a = start.args in let p = start.requires in let r = p.0.1 in (
   ((p.0.0, r.fits), p.3, p.4, omega (arith, p.5)),
   (λ b l. omega (arith, cut-le r.fits.ascend_a a.i a.cuts.now p.1 b l, untagged-long a.left.now), r.rows),
 )
@@ -37,16 +37,16 @@ module _ (c : tie.After-leads) where
       subst (λ (least : ℕ). Leading (CoreStep a.nb a.left.now a.right.now) (SparedStep a.nb a.left.now a.right.now a.ask.second a.ask.k) least
       a.marks.now (a.i * a.nb + a.j) c.leads.result) start.pre.5 (c.leads.ensures a.i start.pre.2 start.pre.1)
 
-returns-2 : tie.Need-returns-2
+returns-2 : tie.Need-returns-then-not-leads
 returns-2 c = let start : tie.Start = search in let a = start.args in tried-stays (a.i * a.nb + a.j) a.marks.now
-    (λ h. (told c.before).no (not_t _ c.if2.true))
+    (λ h. (told c.before).no (not_t _ c.if-not-leads.true))
 
-returns-3 : tie.Need-returns-3
-returns-3 c = let start : tie.Start = search in let a = start.args in let yes : c.before.leads.result ≡ true = not_f _ c.if2.false in
+returns-3 : tie.Need-returns
+returns-3 c = let start : tie.Start = search in let a = start.args in let yes : c.before.leads.result ≡ true = not_f _ c.if-not-leads.false in
     let one : get_or a.marks.now (a.i * a.nb + a.j) 0 ≡ 1 = omega arith in tried-marks
     one (record { yes = λ r. (told c.before).yes yes; no = λ r. absurd (true≢false r) })
 
-pub mark-pair-spec : {M : Type 1} → statement M
-mark-pair-spec = tie.close (tie.spec
+pub mark_pair_spec : {M : Type 1} → statement M
+mark_pair_spec = tie.close (tie.spec
     (λ c. search rules) (λ c. search rules) (λ c. search rules) returns leads-requires (λ c. search rules) returns-2 (λ c. search rules) (λ c. search rules)
     returns-3)

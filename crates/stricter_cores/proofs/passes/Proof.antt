@@ -22,11 +22,11 @@ abbrev After-pass : Type 0
 After-pass = tie.After-pass invariant-loop decreases-loop
 
 loop-holds : tie.Need-loop-init invariant-loop decreases-loop
-loop-holds c = let start : tie.Start invariant-loop decreases-loop = search in narrowed-start start.args.marks.now start.pre.2
+loop-holds c = let start : tie.Start invariant-loop decreases-loop = search in narrowed-start start.args.marks.now start.requires.2
 
 pass-requires : tie.Need-pass-requires invariant-loop decreases-loop
 pass-requires c κs =
-    let start : tie.Start invariant-loop decreases-loop = search in let a = start.args in let p = start.pre in let l = c.before.loop in (
+    let start : tie.Start invariant-loop decreases-loop = search in let a = start.args in let p = start.requires in let l = c.before.loop in (
       ready-same l.marks l.invariant.long p.0,
       only-sub a.acodes.now a.nb a.marks.now l.marks l.invariant.sub p.1,
       l.invariant.low,
@@ -35,13 +35,13 @@ pass-requires c κs =
     )
 
 loop-again : tie.Need-loop-preserved invariant-loop decreases-loop
-loop-again c = let at-loop : At-loop = search in let at-pass : After-pass = search in narrowed-then at-loop.loop.inv at-pass.pass.ensures.narrowed
+loop-again c = let at-loop : At-loop = search in let at-pass : After-pass = search in narrowed-then at-loop.loop.invariant at-pass.pass.ensures.narrowed
 
 returns : tie.Need-returns invariant-loop decreases-loop
 returns c = let at-loop : At-loop = search in let at-pass : After-pass = search in
-    (narrowed-then at-loop.loop.inv at-pass.pass.ensures.narrowed, at-pass.pass.ensures.sound c.if1.false)
+    (narrowed-then at-loop.loop.invariant at-pass.pass.ensures.narrowed, at-pass.pass.ensures.sound c.loop-test.false)
 
-pub passes-spec : {M : Type 1} → statement M
-passes-spec = tie.close (tie.spec
-    invariant-loop decreases-loop loop-holds pass-requires (λ c. let at-pass : After-pass = search in at-pass.pass.ensures.less c.if1.true)
-    loop-again (λ c. let at-loop : At-loop = search in let at-pass : After-pass = search in at-pass.pass.ensures.narrowed.long ∙ at-loop.loop.inv.long) returns)
+pub passes_spec : {M : Type 1} → statement M
+passes_spec = tie.close (tie.spec
+    invariant-loop decreases-loop loop-holds pass-requires (λ c. let at-pass : After-pass = search in at-pass.pass.ensures.less c.loop-test.true)
+    loop-again (λ c. let at-loop : At-loop = search in let at-pass : After-pass = search in at-pass.pass.ensures.narrowed.long ∙ at-loop.loop.invariant.long) returns)

@@ -9,15 +9,15 @@ use Rattle.stricter_cores.proofs.round.Tie as tie
 
 settle-requires : tie.Need-settle-requires
 settle-requires c κs =
-    let start : tie.Start = search in let a = start.args in let p = start.pre in let at-sweep-out : tie.After-sweep-out = search in let m = at-sweep-out.sweep-out.ensures.marking in (
+    let start : tie.Start = search in let a = start.args in let p = start.requires in let at-sweep-out : tie.After-sweep_out = search in let m = at-sweep-out.sweep_out.ensures.marking in (
       m.long ∙ p.0.fits.marked,
       λ i j l h. p.1 i j l (marking-sub p.2 m (i * a.nb + j) h),
     )
 
 returns : tie.Need-returns
 returns c =
-    let start : tie.Start = search in let a = start.args in let p = start.pre in let at-sweep-out : tie.After-sweep-out = search in let w = at-sweep-out.sweep-out.ensures in
+    let start : tie.Start = search in let a = start.args in let p = start.requires in let at-sweep-out : tie.After-sweep_out = search in let w = at-sweep-out.sweep_out.ensures in
     let at-settle : tie.After-settle = search in round-of p.2 w (rw (sym (w.marking.long ∙ p.0.fits.marked)) at at-settle.settle.ensures)
 
-pub round-spec : {M : Type 1} → statement M
-round-spec = tie.close (tie.spec (λ c κs. search rules) settle-requires (λ c. search rules) returns)
+pub round_spec : {M : Type 1} → statement M
+round_spec = tie.close (tie.spec (λ c κs. search rules) settle-requires (λ c. search rules) returns)

@@ -9,5 +9,5 @@ returns : tie.Need-returns
 unfolding stands_in
 returns c = refl
 
-pub stands-spec : {M : Type 1} → statement M
-stands-spec = tie.close (tie.spec (λ c. search rules) (λ c. search rules) returns)
+pub stands_spec : {M : Type 1} → statement M
+stands_spec = tie.close (tie.spec (λ c. search rules) (λ c. search rules) returns)

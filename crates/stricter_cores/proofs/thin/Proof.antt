@@ -10,25 +10,25 @@ use Rattle.stricter_laws.proofs.Ends.{thinned-start, thinned-then}
 use Rattle.stricter_cores.proofs.thin.Statement.{statement}
 use Rattle.stricter_cores.proofs.thin.Tie as tie
 
-abbrev invariant-loop : tie.invariant-loop
+abbrev invariant-loop : tie.invariant-loop-i
 invariant-loop acodes left right nb marks₀ i₀ marks i = Thinned (CoreStep nb left right) marks₀ marks
 
-abbrev decreases-loop : tie.decreases-loop
+abbrev decreases-loop : tie.decreases-loop-i
 decreases-loop acodes left right nb marks₀ i₀ marks i = length acodes - i
 
-loop-holds : tie.Need-loop-init invariant-loop decreases-loop
+loop-holds : tie.Need-loop-i-init invariant-loop decreases-loop
 loop-holds c = let start : tie.Start invariant-loop decreases-loop = search in let a = start.args in thinned-start a.marks.now
 
-thin-row-requires : tie.Need-thin-row-requires invariant-loop decreases-loop
+thin-row-requires : tie.Need-thin_row-requires invariant-loop decreases-loop
 thin-row-requires c κs =
-    let at-loop : tie.At-loop invariant-loop decreases-loop = search in let l = at-loop.loop in let start : tie.Start invariant-loop decreases-loop = search in
-    (ready-same l.marks l.inv.long start.pre, omega arith)
+    let at-loop : tie.At-loop-i invariant-loop decreases-loop = search in let l = at-loop.loop-i in let start : tie.Start invariant-loop decreases-loop = search in
+    (ready-same l.marks l.invariant.long start.requires, omega arith)
 
-loop-again : tie.Need-loop-preserved invariant-loop decreases-loop
+loop-again : tie.Need-loop-i-preserved invariant-loop decreases-loop
 loop-again c =
-    let at-loop : tie.At-loop invariant-loop decreases-loop = search in let at-thin-row : tie.After-thin-row invariant-loop decreases-loop = search in thinned-then at-loop.loop.inv at-thin-row.thin_row.ensures
+    let at-loop : tie.At-loop-i invariant-loop decreases-loop = search in let at-thin-row : tie.After-thin_row invariant-loop decreases-loop = search in thinned-then at-loop.loop-i.invariant at-thin-row.thin_row.ensures
 
-pub thin-spec : {M : Type 1} → statement M
-thin-spec = tie.close (tie.spec
-    invariant-loop decreases-loop loop-holds thin-row-requires (λ c. search rules) (λ c. search rules) loop-again (λ c. c.before.loop.invariant.long)
-    (λ c. c.before.loop.invariant))
+pub thin_spec : {M : Type 1} → statement M
+thin_spec = tie.close (tie.spec
+    invariant-loop decreases-loop loop-holds thin-row-requires (λ c. search rules) (λ c. search rules) loop-again (λ c. c.before.loop-i.invariant.long)
+    (λ c. c.before.loop-i.invariant))

@@ -12,15 +12,15 @@ use Rattle.stricter_spec.specs.Steps.{stands_in}
 use Rattle.stricter_starts.proofs.begins_here.Statement.{statement}
 use Rattle.stricter_starts.proofs.begins_here.Tie as tie
 
-returns : tie.Need-returns
+returns : tie.Need-returns-then-code-i
 unfolding stands_in
-returns c = let start : tie.Start = search in let a = start.args in rw (ne_eqb (core_number_lem (get_or a.codes.now a.i 0)) a.i (λ e. omega (arith, c.if1.true, e)))
+returns c = let start : tie.Start = search in let a = start.args in rw (ne_eqb (core_number_lem (get_or a.codes.now a.i 0)) a.i (λ e. omega (arith, c.if-code-i.true, e)))
 
-returns-2 : tie.Need-returns-2
+returns-2 : tie.Need-returns
 unfolding stands_in
-returns-2 c = let start : tie.Start = search in let a = start.args in c.is-initial.ensures
+returns-2 c = let start : tie.Start = search in let a = start.args in c.is_initial.ensures
     ∙ sym (ap (λ (b : Bool). b && begun (λ x. bit x a.initial) (get_or a.codes.now a.i 0))
-    (eq-eqb (core_number_lem (get_or a.codes.now a.i 0)) a.i (omega (arith, c.before.if1.false))))
+    (eq-eqb (core_number_lem (get_or a.codes.now a.i 0)) a.i (omega (arith, c.before.if-code-i.false))))
 
-pub begins-here-spec : {M : Type 1} → statement M
-begins-here-spec = tie.close (tie.spec (λ c. search rules) (λ c. search rules) returns (λ c κs. search rules) returns-2)
+pub begins_here_spec : {M : Type 1} → statement M
+begins_here_spec = tie.close (tie.spec (λ c. search rules) (λ c. search rules) returns (λ c κs. search rules) returns-2)

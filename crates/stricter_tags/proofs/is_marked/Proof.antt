@@ -7,11 +7,11 @@ use Rattle.sets.specs.Tests.{one}
 use Rattle.stricter_tags.proofs.is_marked.Statement.{statement}
 use Rattle.stricter_tags.proofs.is_marked.Tie as tie
 
-returns : tie.Need-returns
-returns c = sym (ap one (le-ltb 0 (c.before.args.c / 2 ^ 48) (omega (arith, c.if1.true))))
+returns : tie.Need-returns-then-c-eq0
+returns c = sym (ap one (le-ltb 0 (c.before.args.c / 2 ^ 48) (omega (arith, c.if-c-eq0.true))))
 
-returns-2 : tie.Need-returns-2
-returns-2 c = sym (ap one (lt-ltb 0 (c.before.args.c / 2 ^ 48) (omega (arith, c.if1.false))))
+returns-2 : tie.Need-returns
+returns-2 c = sym (ap one (lt-ltb 0 (c.before.args.c / 2 ^ 48) (omega (arith, c.if-c-eq0.false))))
 
-pub is-marked-spec : {M : Type 1} → statement M
-is-marked-spec = tie.close (tie.spec returns returns-2)
+pub is_marked_spec : {M : Type 1} → statement M
+is_marked_spec = tie.close (tie.spec returns returns-2)

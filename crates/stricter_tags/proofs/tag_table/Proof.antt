@@ -7,22 +7,22 @@ use Rattle.stricter_tags_moves.proofs.Moves.{code-known}
 use Rattle.stricter_tags.proofs.tag_table.Statement.{statement}
 use Rattle.stricter_tags.proofs.tag_table.Tie as tie
 
-tag-codes-requires : tie.Need-tag-codes-requires
-tag-codes-requires c κs = let start : tie.Start = search in let (r, start, T, few, e, f) = start.pre in (
+tag-codes-requires : tie.Need-tag_codes-requires
+tag-codes-requires c κs = let start : tie.Start = search in let (r, start, T, few, e, f) = start.requires in (
   few,
   rw e (macrostates-ascending r T.shaped.passing start),
   λ j l. rw e (codes-low T.shaped.passing start (rw e at few) j (rw e at l), omega (arith, code-known T start (rw e at few) j (rw e at l))),
 )
 
-tag-moves-requires : tie.Need-tag-moves-requires
+tag-moves-requires : tie.Need-tag_moves-requires
 tag-moves-requires c κs =
-    let start : tie.Start = search in let (r, start, T, few, e, f) = start.pre in let at-tag-codes : tie.After-tag-codes = search in let t = at-tag-codes.tag-codes in
-    (r, start, T, omega (arith, t.kept.0), rw e at t.ensures, f)
+    let start : tie.Start = search in let (r, start, T, few, e, f) = start.requires in let at-tag-codes : tie.After-tag_codes = search in let t = at-tag-codes.tag_codes in
+    (r, start, T, omega (arith, t.auto.0), rw e at t.ensures, f)
 
 returns : tie.Need-returns
 returns c =
-    let at-tag-codes : tie.After-tag-codes = search in let t = at-tag-codes.tag-codes in let at-tag-moves : tie.After-tag-moves = search in
-    λ r start T few e f. (t.ensures, rw e (at-tag-moves.tag-moves.ensures r start T (omega (arith, t.kept.0)) (rw e at t.ensures) f))
+    let at-tag-codes : tie.After-tag_codes = search in let t = at-tag-codes.tag_codes in let at-tag-moves : tie.After-tag_moves = search in
+    λ r start T few e f. (t.ensures, rw e (at-tag-moves.tag_moves.ensures r start T (omega (arith, t.auto.0)) (rw e at t.ensures) f))
 
-pub tag-table-spec : {M : Type 1} → statement M
-tag-table-spec = tie.close (tie.spec tag-codes-requires tag-moves-requires (λ c. search rules) (λ c. search rules) returns)
+pub tag_table_spec : {M : Type 1} → statement M
+tag_table_spec = tie.close (tie.spec tag-codes-requires tag-moves-requires (λ c. search rules) (λ c. search rules) returns)

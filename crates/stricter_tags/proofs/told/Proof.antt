@@ -5,9 +5,9 @@ use lib.Bits.{and_mask}
 use Rattle.stricter_tags.proofs.told.Statement.{statement}
 use Rattle.stricter_tags.proofs.told.Tie as tie
 
-returns : tie.Need-returns
+returns : tie.Need-returns-then-live-eq0
 returns c = let a = c.before.args in let e = and_mask a.c 48 in rw (le-ltb 0 a.live (omega arith)) (omega (arith, e))
 
-pub told-spec : {M : Type 1} → statement M
-told-spec = tie.close (tie.spec
+pub told_spec : {M : Type 1} → statement M
+told_spec = tie.close (tie.spec
     (λ c. omega (arith, and_mask c.before.args.c 48)) returns (λ c. let a = c.before.args in rw (lt-ltb 0 a.live (omega arith))))

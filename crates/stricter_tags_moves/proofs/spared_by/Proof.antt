@@ -7,15 +7,15 @@ use Rattle.stricter_tags_moves.proofs.Spared.{spared-none, spared-less, spared-n
 use Rattle.stricter_tags_moves.proofs.spared_by.Statement.{statement}
 use Rattle.stricter_tags_moves.proofs.spared_by.Tie as tie
 
-returns : tie.Need-returns
-returns c = let a = c.before.args in sym (ap one (spared-none a.classes (a.levels / 2 ^ 60 % 16) c.if1.true))
+returns : tie.Need-returns-then-classes-eq0
+returns c = let a = c.before.args in sym (ap one (spared-none a.classes (a.levels / 2 ^ 60 % 16) c.if-classes-eq0.true))
 
-returns-2 : tie.Need-returns-2
-returns-2 c = let start : tie.Start = search in let a = start.args in sym (ap one (spared-less a.classes (a.levels / 2 ^ 60 % 16) (omega (arith, c.if2.true))))
+returns-2 : tie.Need-returns-then-levels-classes
+returns-2 c = let start : tie.Start = search in let a = start.args in sym (ap one (spared-less a.classes (a.levels / 2 ^ 60 % 16) (omega (arith, c.if-levels-classes.true))))
 
-returns-3 : tie.Need-returns-3
+returns-3 : tie.Need-returns
 returns-3 c = let start : tie.Start = search in let a = start.args in
-    sym (ap one (spared-not a.classes (a.levels / 2 ^ 60 % 16) (omega (arith, c.before.if1.false)) (omega (arith, c.if2.false, start.fits))))
+    sym (ap one (spared-not a.classes (a.levels / 2 ^ 60 % 16) (omega (arith, c.before.if-classes-eq0.false)) (omega (arith, c.if-levels-classes.false, start.fits))))
 
-pub spared-by-spec : {M : Type 1} → statement M
-spared-by-spec = tie.close (tie.spec returns returns-2 returns-3)
+pub spared_by_spec : {M : Type 1} → statement M
+spared_by_spec = tie.close (tie.spec returns returns-2 returns-3)

@@ -8,5 +8,5 @@ use Rattle.mulgreddi.proofs.event.mulgreddi_translate.Tie as tie
 returns : tie.Need-returns
 returns c = let at-translate : tie.After-translate = search in let t = at-translate.translate.ensures in (c.translated.ensures ∙ ap translated_answer t.0, t.1)
 
-pub mulgreddi-translate-spec : {M : Type 1} → statement M
-mulgreddi-translate-spec = tie.close (tie.spec (λ c κs. search rules) (λ c κs. search rules) (λ c. search rules) returns)
+pub mulgreddi_translate_spec : {M : Type 1} → statement M
+mulgreddi_translate_spec = tie.close (tie.spec (λ c κs. search rules) (λ c κs. search rules) (λ c. search rules) returns)

@@ -5,7 +5,7 @@ use Rattle.mulgreddi_answers.specs.Answers.{written_answer}
 use Rattle.mulgreddi.proofs.hoa.mulgreddi_write_hoa.Statement.{statement}
 use Rattle.mulgreddi.proofs.hoa.mulgreddi_write_hoa.Tie as tie
 
-pub mulgreddi-write-hoa-spec : {M : Type 1} → statement M
-mulgreddi-write-hoa-spec = tie.close (tie.spec
+pub mulgreddi_write_hoa_spec : {M : Type 1} → statement M
+mulgreddi_write_hoa_spec = tie.close (tie.spec
     (λ c κs. search rules) (λ c κs. search rules) (λ c. search rules)
-    (λ c. let at-write-hoa : tie.After-write-hoa = search in let w = at-write-hoa.write-hoa.ensures in (c.written.ensures ∙ ap written_answer w.0, w.1)))
+    (λ c. let at-write-hoa : tie.After-write_hoa = search in let w = at-write-hoa.write_hoa.ensures in (c.written.ensures ∙ ap written_answer w.0, w.1)))

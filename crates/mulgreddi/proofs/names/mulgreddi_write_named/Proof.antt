@@ -5,7 +5,7 @@ use Rattle.mulgreddi_answers.specs.Answers.{written_answer}
 use Rattle.mulgreddi.proofs.names.mulgreddi_write_named.Statement.{statement}
 use Rattle.mulgreddi.proofs.names.mulgreddi_write_named.Tie as tie
 
-pub mulgreddi-write-named-spec : {M : Type 1} → statement M
-mulgreddi-write-named-spec = tie.close (tie.spec
+pub mulgreddi_write_named_spec : {M : Type 1} → statement M
+mulgreddi_write_named_spec = tie.close (tie.spec
     (λ c κs. search rules) (λ c κs. search rules) (λ c. search rules)
-    (λ c. let at-write-named : tie.After-write-named = search in let w = at-write-named.write-named.ensures in (c.written.ensures ∙ ap written_answer w.0, w.1)))
+    (λ c. let at-write-named : tie.After-write_named = search in let w = at-write-named.write_named.ensures in (c.written.ensures ∙ ap written_answer w.0, w.1)))

@@ -6,7 +6,7 @@ use Rattle.mulgreddi.proofs.word.mulgreddi_tidy_word.Statement.{statement}
 use Rattle.mulgreddi.proofs.word.mulgreddi_tidy_word.Tie as tie
 
 returns : tie.Need-returns
-returns c = let at-tidy-word : tie.After-tidy-word = search in let t = at-tidy-word.tidy-word.ensures in (c.tidy-word2.ensures ∙ ap tidy_word_answer t.answered, (t.written, t.meant))
+returns c = let at-tidy-word : tie.After-tidy_word = search in let t = at-tidy-word.tidy_word.ensures in (c.tidy_word-2.ensures ∙ ap tidy_word_answer t.answered, (t.written, t.meant))
 
-pub mulgreddi-tidy-word-spec : {M : Type 1} → statement M
-mulgreddi-tidy-word-spec = tie.close (tie.spec (λ c κs. search rules) (λ c κs. search rules) (λ c. search rules) returns)
+pub mulgreddi_tidy_word_spec : {M : Type 1} → statement M
+mulgreddi_tidy_word_spec = tie.close (tie.spec (λ c κs. search rules) (λ c κs. search rules) (λ c. search rules) returns)

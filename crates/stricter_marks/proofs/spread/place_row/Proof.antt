@@ -17,22 +17,22 @@ use Rattle.stricter_marks.proofs.spread.place_row.Tie as tie
 ends : (c : tie.Start) → c.args.i * length c.args.bcodes.now + length c.args.bcodes.now ≤ length c.args.marks.now
 ends c = omega (arith, place-room (length c.args.bcodes.now) c.args.i (length c.args.acodes.now) c.requires.0, c.requires.1)
 
-returns : tie.Need-returns
+returns : tie.Need-returns-then-standing-eq0
 returns c =
-    let start : tie.Start = search in let a = start.args in let at-standing : tie.After-standing = search in let then1 : tie.Then1 = search in
+    let start : tie.Start = search in let a = start.args in let at-standing : tie.After-standing = search in let then1 : tie.Then-standing-eq0 = search in
     let no : stands_in a.acodes.now a.i ≡ false = stands-no a.acodes.now a.i _ at-standing.standing.ensures
-    then1.if1.taken in let at-clear-row : tie.After-clear-row = search in filled-same (placed_at a.acodes.now a.bcodes.now)
-    at-clear-row.clear-row.ensures (clear-same a.acodes.now a.bcodes.now a.i no)
+    then1.if-standing-eq0.true in let at-clear-row : tie.After-clear_row = search in filled-same (placed_at a.acodes.now a.bcodes.now)
+    at-clear-row.clear_row.ensures (clear-same a.acodes.now a.bcodes.now a.i no)
 
-returns-2 : tie.Need-returns-2
+returns-2 : tie.Need-returns
 returns-2 c =
-    let start : tie.Start = search in let a = start.args in let at-standing : tie.After-standing = search in let else1 : tie.Else1 = search in
+    let start : tie.Start = search in let a = start.args in let at-standing : tie.After-standing = search in let else1 : tie.Else-standing-eq0 = search in
     let yes : stands_in a.acodes.now a.i ≡ true = stands-yes a.acodes.now a.i _ at-standing.standing.ensures
-    else1.if1.left in let at-stand-row : tie.After-stand-row = search in filled-same (placed_at a.acodes.now a.bcodes.now)
-    at-stand-row.stand-row.ensures (stand-same a.acodes.now a.bcodes.now a.i yes)
+    else1.if-standing-eq0.false in let at-stand-row : tie.After-stand_row = search in filled-same (placed_at a.acodes.now a.bcodes.now)
+    at-stand-row.stand_row.ensures (stand-same a.acodes.now a.bcodes.now a.i yes)
 
-pub place-row-spec : {M : Type 1} → statement M
-place-row-spec = tie.close (tie.spec
+pub place_row_spec : {M : Type 1} → statement M
+place_row_spec = tie.close (tie.spec
     (λ c. let h = ends (search) in omega arith) (λ c. search rules) (λ c. search rules) (λ c κs. search rules)
     (λ c κs. let h = ends (search) in omega arith) (λ c. search rules) returns
     (λ c κs. let h = ends (search) in omega arith) (λ c. search rules) returns-2)

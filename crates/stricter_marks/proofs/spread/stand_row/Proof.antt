@@ -13,32 +13,32 @@ use Rattle.stricter_marks.proofs.Rows.{stand-value}
 use Rattle.stricter_marks.proofs.spread.stand_row.Statement.{statement}
 use Rattle.stricter_marks.proofs.spread.stand_row.Tie as tie
 
-abbrev invariant-loop : tie.invariant-loop
+abbrev invariant-loop : tie.invariant-loop-j
 invariant-loop bcodes base marks₀ j₀ marks j = (j ≤ length bcodes) × Filled (λ x. one (stands_in bcodes (x - base))) base (base + j) marks₀ marks
 
-abbrev decreases-loop : tie.decreases-loop
+abbrev decreases-loop : tie.decreases-loop-j
 decreases-loop bcodes base marks₀ j₀ marks j = length bcodes - j
 
-loop-holds : tie.Need-loop-init invariant-loop decreases-loop
+loop-holds : tie.Need-loop-j-init invariant-loop decreases-loop
 loop-holds c = let start : tie.Start invariant-loop decreases-loop = search in let b : ℕ = start.args.base in
     (omega arith, rw (add-zero b) (filled-start (λ x. one (stands_in start.args.bcodes.now (x - b))) b start.args.marks.now))
 
-loop-again : tie.Need-loop-preserved invariant-loop decreases-loop
+loop-again : tie.Need-loop-j-preserved invariant-loop decreases-loop
 loop-again c =
-    let at-loop : tie.At-loop invariant-loop decreases-loop = search in let l = at-loop.loop in let start : tie.Start invariant-loop decreases-loop = search in let a = start.args in let b : ℕ = a.base in
-    let low : b + l.j < length l.marks = omega (arith, l.inv.1.long) in (
+    let at-loop : tie.At-loop-j invariant-loop decreases-loop = search in let l = at-loop.loop-j in let start : tie.Start invariant-loop decreases-loop = search in let a = start.args in let b : ℕ = a.base in
+    let low : b + l.j < length l.marks = omega (arith, l.invariant.1.long) in (
       omega arith,
-      rw (← add_assoc b l.j 1) (filled_next _ (omega arith) low l.inv.1 (c.standing.ensures ∙ stand-value a.bcodes.now b l.j)),
+      rw (← add_assoc b l.j 1) (filled_next _ (omega arith) low l.invariant.1 (c.standing.ensures ∙ stand-value a.bcodes.now b l.j)),
     )
 
 returns : tie.Need-returns invariant-loop decreases-loop
 returns c =
-    let start : tie.Start invariant-loop decreases-loop = search in let e : c.before.loop.j ≡ length start.args.bcodes.now = omega (arith, c.before.loop.invariant.0) in
-    rw e at c.before.loop.invariant.1
+    let start : tie.Start invariant-loop decreases-loop = search in let e : c.before.loop-j.j ≡ length start.args.bcodes.now = omega (arith, c.before.loop-j.invariant.0) in
+    rw e at c.before.loop-j.invariant.1
 
-pub stand-row-spec : {M : Type 1} → statement M
-stand-row-spec = tie.close (tie.spec
+pub stand_row_spec : {M : Type 1} → statement M
+stand_row_spec = tie.close (tie.spec
     invariant-loop decreases-loop loop-holds (λ c. search rules) (λ c. search rules) (λ c κs. search rules)
-    (λ c. let at-loop : tie.At-loop invariant-loop decreases-loop = search in omega (arith, at-loop.loop.inv.1.long))
-    (λ c. let at-loop : tie.At-loop invariant-loop decreases-loop = search in omega (arith, at-loop.loop.inv.1.long)) (λ c. search rules) (λ c. search rules)
-    loop-again (λ c. c.before.loop.invariant.1.long) returns)
+    (λ c. let at-loop : tie.At-loop-j invariant-loop decreases-loop = search in omega (arith, at-loop.loop-j.invariant.1.long))
+    (λ c. let at-loop : tie.At-loop-j invariant-loop decreases-loop = search in omega (arith, at-loop.loop-j.invariant.1.long)) (λ c. search rules) (λ c. search rules)
+    loop-again (λ c. c.before.loop-j.invariant.1.long) returns)

@@ -21,30 +21,30 @@ abbrev At-loop : Type 0
 At-loop = tie.At-loop invariant-loop decreases-loop
 
 abbrev After-visit-all : Type 0
-After-visit-all = tie.After-visit-all invariant-loop decreases-loop
+After-visit-all = tie.After-visit_all invariant-loop decreases-loop
 
 loop-holds : tie.Need-loop-init invariant-loop decreases-loop
 loop-holds c = let start : tie.Start invariant-loop decreases-loop = search in passing-start start.args.marks.now
 
-visit-all-requires : tie.Need-visit-all-requires invariant-loop decreases-loop
-visit-all-requires c κs = let start : tie.Start invariant-loop decreases-loop = search in fits-same c.before.loop.marks c.before.loop.invariant.long start.pre
+visit-all-requires : tie.Need-visit_all-requires invariant-loop decreases-loop
+visit-all-requires c κs = let start : tie.Start invariant-loop decreases-loop = search in fits-same c.before.loop.marks c.before.loop.invariant.long start.requires
 
 loop-less : tie.Need-loop-smaller invariant-loop decreases-loop
-loop-less c = let at-loop : At-loop = search in let at-visit-all : After-visit-all = search in let grown = at-visit-all.visit-all.ensures.grown c.if1.true in
-    let (lcodes, (left, (rcodes, (right, (marks, rest))))) = at-visit-all.visit-all.last in let most = sum-bytes marks (λ i. omega (arith, c.before.slice-known2.given i)) in
-    omega (arith, at-visit-all.visit-all.ensures.long, at-loop.loop.inv.long)
+loop-less c = let at-loop : At-loop = search in let at-visit-all : After-visit-all = search in let grown = at-visit-all.visit_all.ensures.grown c.loop-test.true in
+    let (lcodes, (left, (rcodes, (right, (marks, rest))))) = at-visit-all.visit_all.new in let most = sum-bytes marks (λ i. omega (arith, c.before.slice_known-in-loop-1.given i)) in
+    omega (arith, at-visit-all.visit_all.ensures.long, at-loop.loop.invariant.long)
 
 loop-again : tie.Need-loop-preserved invariant-loop decreases-loop
 loop-again c = let at-loop : At-loop = search in let at-visit-all : After-visit-all = search in
-    passing-next at-loop.loop.inv at-visit-all.visit-all.ensures
+    passing-next at-loop.loop.invariant at-visit-all.visit_all.ensures
 
-same_length : tie.Need-same-length invariant-loop decreases-loop
+same_length : tie.Need-shape_of-marks invariant-loop decreases-loop
 same_length c =
-    let at-visit-all : After-visit-all = search in let at-loop : At-loop = search in at-visit-all.visit-all.ensures.long ∙ at-loop.loop.inv.long
+    let at-visit-all : After-visit-all = search in let at-loop : At-loop = search in at-visit-all.visit_all.ensures.long ∙ at-loop.loop.invariant.long
 
 returns : tie.Need-returns invariant-loop decreases-loop
 returns c = let at-loop : At-loop = search in let at-visit-all : After-visit-all = search in
-    exhausted at-loop.loop.inv (rw (sym at-loop.loop.inv.long, sym c.if1.false) at-visit-all.visit-all.ensures)
+    exhausted at-loop.loop.invariant (rw (sym at-loop.loop.invariant.long, sym c.loop-test.false) at-visit-all.visit_all.ensures)
 
-pub exhaust-spec : {M : Type 1} → statement M
-exhaust-spec = tie.close (tie.spec invariant-loop decreases-loop loop-holds visit-all-requires loop-less loop-again same_length returns)
+pub exhaust_spec : {M : Type 1} → statement M
+exhaust_spec = tie.close (tie.spec invariant-loop decreases-loop loop-holds visit-all-requires loop-less loop-again same_length returns)

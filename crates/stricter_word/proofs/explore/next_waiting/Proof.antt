@@ -3,5 +3,5 @@ use borrow.Author.Rules.{rules}
 use Rattle.stricter_word.proofs.explore.next_waiting.Statement.{statement}
 use Rattle.stricter_word.proofs.explore.next_waiting.Tie as tie
 
-pub next-waiting-spec : {M : Type 1} → statement M
-next-waiting-spec = tie.close (tie.spec (λ c κs. search rules) (λ c. c.next-between.ensures))
+pub next_waiting_spec : {M : Type 1} → statement M
+next_waiting_spec = tie.close (tie.spec (λ c κs. search rules) (λ c. c.next_between.ensures))

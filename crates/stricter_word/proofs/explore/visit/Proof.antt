@@ -24,28 +24,28 @@ kind-is : (c : tie.After-kind) → c.kind.result ≡ kind_in (start-of-after-kin
 kind-is c = c.kind.ensures ∙ sym (kind_at (start-of-after-kind c).args.lcodes.now (start-of-after-kind c).args.rcodes.now (start-of-after-kind c).args.i (start-of-after-kind c).args.j
     (start-of-after-kind c).requires.3)
 
-add-expand : tie.Need-overflow-add-expand
+add-expand : tie.Need-overflow_add-kind
 add-expand c = let e = kind-is c in let start : tie.Start = search in
     let h = kind-low start.args.lcodes.now start.args.rcodes.now (start.args.i * length start.args.rcodes.now + start.args.j) in omega arith
 
 expand-requires : tie.Need-expand-requires
-expand-requires c κs = let start : tie.Start = search in let a = start.args in let f = start.pre.0 in let e = kind-is c.before in
+expand-requires c κs = let start : tie.Start = search in let a = start.args in let f = start.requires.0 in let e = kind-is c.before in
     let h = kind-low a.lcodes.now a.rcodes.now (a.i * length a.rcodes.now + a.j) in (
-      (rw f.marked f.paired, start.pre.3, omega (arith, start.pre.3, f.few_b), omega arith, omega arith),
-      cut-le f.paired.ascend_a a.i a.cuts.now start.pre.1,
+      (rw f.marked f.paired, start.requires.3, omega (arith, start.requires.3, f.few_b), omega arith, omega arith),
+      cut-le f.paired.ascend_a a.i a.cuts.now start.requires.1,
     )
 
-slice-write-marks : tie.Need-slice-write-marks
+slice-write-marks : tie.Need-bounds-marks-x-2
 slice-write-marks c =
-    let start : tie.Start = search in let h = low start in let at-expand : tie.After-expand = search in omega (arith, (at-expand.expand.ensures start.args.i start.pre.1).long)
+    let start : tie.Start = search in let h = low start in let at-expand : tie.After-expand = search in omega (arith, (at-expand.expand.ensures start.args.i start.requires.1).long)
 
 returns : tie.Need-returns
 returns c = let start : tie.Start = search in let a = start.args in let at-expand : tie.After-expand = search in passed-visit
-    (step-lettered start.pre.0.paired) (kind-low _ _) (a.i * length a.rcodes.now + a.j) _
-    refl start.pre.4.big start.pre.4.small
-    (ap (λ (k : ℕ). 64 + k) (kind-is (search))) (λ b y s. (b, s)) (at-expand.expand.ensures a.i start.pre.1)
+    (step-lettered start.requires.0.paired) (kind-low _ _) (a.i * length a.rcodes.now + a.j) _
+    refl start.requires.4.big start.requires.4.small
+    (ap (λ (k : ℕ). 64 + k) (kind-is (search))) (λ b y s. (b, s)) (at-expand.expand.ensures a.i start.requires.1)
 
-pub visit-spec : {M : Type 1} → statement M
-visit-spec = tie.close (tie.spec
+pub visit_spec : {M : Type 1} → statement M
+visit_spec = tie.close (tie.spec
     (λ c. let h = low (search) in omega arith) (λ c. let h = low (search) in omega arith) (λ c. let h = low (search) in omega arith) (λ c. search rules) (λ c. search rules)
     (λ c. search rules) (λ c. search rules) (λ c κs. search rules) add-expand expand-requires (λ c. search rules) slice-write-marks (λ c. search rules) returns)

@@ -14,22 +14,22 @@ use Rattle.stricter_word.proofs.lasso.parent.Tie as tie
 own : (c : tie.Start) → Parts (length c.args.lcodes.now) (length c.args.rcodes.now) c.args.y
 own c = parts _ _ c.args.y c.requires.2
 
-mul-result : tie.Need-overflow-mul-result
-mul-result c = let start : tie.Start = search in let h = mul-le-mul_right (length start.args.rcodes.now) c.before.source-for.ensures.low in omega (arith, start.pre.1.few)
+mul-result : tie.Need-overflow_mul-result
+mul-result c = let start : tie.Start = search in let h = mul-le-mul_right (length start.args.rcodes.now) c.before.source_for-i.ensures.low in omega (arith, start.requires.1.few)
 
-add-result : tie.Need-overflow-add-result
+add-result : tie.Need-overflow_add-result
 add-result c =
-    let start : tie.Start = search in let h = mul-le-mul_right (length start.args.rcodes.now) c.before.source-for.ensures.low in
-    omega (arith, start.pre.1.few, c.source-for2.ensures.low)
+    let start : tie.Start = search in let h = mul-le-mul_right (length start.args.rcodes.now) c.before.source_for-i.ensures.low in
+    omega (arith, start.requires.1.few, c.source_for-j.ensures.low)
 
-returns-2 : tie.Need-returns-2
+returns-2 : tie.Need-returns
 returns-2 c = let start : tie.Start = search in let a = start.args in record {
   near = λ l. absurd (omega arith);
-  far = parent-far a.lcodes.now a.rcodes.now (searchable-paired start.pre.0 start.pre.1) a.y a.v _ _
-      c.before.source-for.ensures.source c.source-for2.ensures.source;
+  far = parent-far a.lcodes.now a.rcodes.now (searchable-paired start.requires.0 start.requires.1) a.y a.v _ _
+      c.before.source_for-i.ensures.source c.source_for-j.ensures.source;
 }
 
-pub parent-spec : {M : Type 1} → statement M
-parent-spec = tie.close (tie.spec
+pub parent_spec : {M : Type 1} → statement M
+parent_spec = tie.close (tie.spec
     (λ c. record { near = λ l. refl; far = λ x a s e. absurd (omega arith) }) (λ c. search rules) (λ c. let h = (own (search)).some in omega arith) (λ c κs. search rules)
     (λ c. let h = (own (search)).some in omega arith) (λ c κs. search rules) mul-result add-result returns-2)

@@ -11,29 +11,29 @@ use Rattle.stricter_word.proofs.lasso.write_between.Statement.{statement}
 use Rattle.stricter_word.proofs.lasso.write_between.Tie as tie
 
 explore-requires : tie.Need-explore-requires
-explore-requires c κs = let start : tie.Start = search in let a = start.args in let p = start.pre.0 in (searchable-fits a.marks.now p.0 p.1 p.2, p.3)
+explore-requires c κs = let start : tie.Start = search in let a = start.args in let p = start.requires.0 in (searchable-fits a.marks.now p.0 p.1 p.2, p.3)
 
-way-length-requires : tie.Need-way-length-requires
+way-length-requires : tie.Need-way_length-n-requires
 way-length-requires c κs =
-    let start : tie.Start = search in let a = start.args in let p = start.pre.0 in let at-explore : tie.After-explore = search in let e = at-explore.explore.ensures in
-    ((p.0, p.1, e.same.long ∙ p.2), e.back a.to (explored-meets e start.pre.1))
+    let start : tie.Start = search in let a = start.args in let p = start.requires.0 in let at-explore : tie.After-explore = search in let e = at-explore.explore.ensures in
+    ((p.0, p.1, e.same.long ∙ p.2), e.back a.to (explored-meets e start.requires.1))
 
-write-way-requires : tie.Need-write-way-requires
+write-way-requires : tie.Need-write_way-requires
 write-way-requires c κs =
-    let start : tie.Start = search in let p = start.pre.0 in let at-explore : tie.After-explore = search in let e = at-explore.explore.ensures in
-    let at-way-length : tie.After-way-length = search in
-    ((p.0, p.1, e.same.long ∙ p.2, omega (arith, p.4, at-way-length.way-length.ensures.0, e.same.long)), at-way-length.way-length.ensures.1)
+    let start : tie.Start = search in let p = start.requires.0 in let at-explore : tie.After-explore = search in let e = at-explore.explore.ensures in
+    let at-way-length : tie.After-way_length-n = search in
+    ((p.0, p.1, e.same.long ∙ p.2, omega (arith, p.4, at-way-length.way_length-n.ensures.0, e.same.long)), at-way-length.way_length-n.ensures.1)
 
 returns : tie.Need-returns
 returns c =
-    let start : tie.Start = search in let a = start.args in let p = start.pre.0 in let at-explore : tie.After-explore = search in let e = at-explore.explore.ensures in
-    let at-write-way : tie.After-write-way = search in let at-way-length : tie.After-way-length = search in record {
+    let start : tie.Start = search in let a = start.args in let p = start.requires.0 in let at-explore : tie.After-explore = search in let e = at-explore.explore.ensures in
+    let at-write-way : tie.After-write_way = search in let at-way-length : tie.After-way_length-n = search in record {
       same = e.same;
-      written = at-write-way.write-way.ensures;
+      written = at-write-way.write_way.ensures;
       some = back_some
-          (step-lettered (searchable-paired p.0 p.1)) (kind-low _ _) a.from _ at-way-length.way-length.ensures.1;
-      short = omega (arith, at-way-length.way-length.ensures.0, e.same.long);
+          (step-lettered (searchable-paired p.0 p.1)) (kind-low _ _) a.from _ at-way-length.way_length-n.ensures.1;
+      short = omega (arith, at-way-length.way_length-n.ensures.0, e.same.long);
     }
 
-pub write-between-spec : {M : Type 1} → statement M
-write-between-spec = tie.close (tie.spec explore-requires way-length-requires write-way-requires (λ c. search rules) (λ c. search rules) returns)
+pub write_between_spec : {M : Type 1} → statement M
+write_between_spec = tie.close (tie.spec explore-requires way-length-requires write-way-requires (λ c. search rules) (λ c. search rules) returns)
