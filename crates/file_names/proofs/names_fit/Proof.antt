@@ -10,11 +10,11 @@ use Rattle.file_names.proofs.names_fit.Statement.{statement}
 use Rattle.file_names.proofs.names_fit.Tie as tie
 
 returns : tie.Need-returns-then-not-has_names
-returns c = let start : tie.Start = search in let none : has_names_lem start.args.p.now ≡ false = sym c.before.has_names.ensures ∙ not-true _ c.if-not-has_names.true in rw none
+returns c = let start : tie.Start = search in let none : has_names_lem start.args.p.now ≡ false = sym c.before.has_names.ensures ∙ c.if-not-has_names.true in rw none
 
 -- the preface ends with 4E 4D
 there : (c : tie.Else-not-has_names) → let start : tie.Start = search in has_names_lem start.args.p.now ≡ true
-there c = sym c.before.has_names.ensures ∙ not-false _ c.if-not-has_names.false
+there c = sym c.before.has_names.ensures ∙ c.if-not-has_names.false
 
 sub-result : tie.Need-overflow_sub-result
 sub-result c = let start : tie.Start = search in let a = start.args in names-long a.s a.p.now (there c)

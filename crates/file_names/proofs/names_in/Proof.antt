@@ -12,11 +12,11 @@ use Rattle.file_names.proofs.names_in.Statement.{statement}
 use Rattle.file_names.proofs.names_in.Tie as tie
 
 returns : tie.Need-returns-then-not-has_names
-returns c = let at-has-names : tie.After-has_names = search in sym (no_names _ _ (sym at-has-names.has_names.ensures ∙ not-true _ c.before.if-not-has_names.true))
+returns c = let at-has-names : tie.After-has_names = search in sym (no_names _ _ (sym at-has-names.has_names.ensures ∙ c.if-not-has_names.true))
 
 -- the preface ends with 4E 4D
 there : (c : tie.Else-not-has_names) → let start : tie.Start = search in has_names_lem start.args.p.now ≡ true
-there c = sym c.before.has_names.ensures ∙ not-false _ c.if-not-has_names.false
+there c = sym c.before.has_names.ensures ∙ c.if-not-has_names.false
 
 -- and has room for the names
 room : (c : tie.Else-not-has_names) → let start : tie.Start = search in 8 * start.args.s ≤ length start.args.p.now - 2

@@ -13,11 +13,11 @@ use Rattle.file_names.proofs.preface_row.Statement.{statement}
 use Rattle.file_names.proofs.preface_row.Tie as tie
 
 returns : tie.Need-returns-then-not-names_fit
-returns c = row-21 _ _ (not_f (cut_off_lem _ _) (sym c.before.names_fit.ensures ∙ not-true _ c.if-not-names_fit.true))
+returns c = row-21 _ _ (not_f (cut_off_lem _ _) (sym c.before.names_fit.ensures ∙ c.if-not-names_fit.true))
 
 -- row 21 does not refuse
 kept : (c : tie.Else-not-names_fit) → let start : tie.Start = search in cut_off_lem start.args.s start.args.p.now ≡ false
-kept c = not_t (cut_off_lem _ _) (sym c.before.names_fit.ensures ∙ not-false _ c.if-not-names_fit.false)
+kept c = not_t (cut_off_lem _ _) (sym c.before.names_fit.ensures ∙ c.if-not-names_fit.false)
 
 returns-2 : tie.Need-returns
 returns-2 c = let start : tie.Start = search in let a = start.args in

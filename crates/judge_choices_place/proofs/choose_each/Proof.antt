@@ -24,6 +24,7 @@ use Rattle.judge_choices_spec.specs.Rounds.{put_met, met_number}
 use Rattle.judge_choices_place.proofs.Tries.{aim-set, put-length, here-yes, here-no, others-on}
 use borrow.Author.Rules.{rules}
 use Rattle.judge_choices_place.proofs.choose_each.Statement.{statement}
+use Rattle.judge_choices_place.proofs.choose_each.Lts.{else-choose, then-choose}
 use Rattle.judge_choices_place.proofs.choose_each.Tie as tie
 
 abbrev invariant-loop : tie.invariant-loop-left
@@ -83,10 +84,8 @@ loop-again c =
     let test : at-choose.choose.result ≡ f q = met ∙ met-entry a.rule.head.n (aim_of r a.all a.near q) (entry r q a.a) p.0.few_states (entry-states r p.0 q a.a k p.3) in
     let room : a.base + a.rule.head.n ≤ length l.choices = omega (arith, p.7, l.invariant.3) in let number : ℕ → ℕ = met_number r a.a a.all a.near in (
       omega (arith, and_le_r l.left (l.left - 1)),
-      ⊎_elim (λ w. rw (w.1, one) (or_lt a.rule.head.n l.found (2 ^ q) l.invariant.1 (pow-lt k))) (λ w. rw w.1 l.invariant.1) c.if-choose.branch,
-      λ x. ⊎_elim (λ w. rw (w.1, one) (walk-yes f l.found l.left pos small (sym test ∙ w.0.taken) x) ∙ l.invariant.2 x)
-          (λ w. rw w.1 (walk_no f l.found l.left pos small (sym test ∙ w.0.left) x) ∙ l.invariant.2 x)
-          c.if-choose.branch,
+      elim c.if-choose.branch [ then-choose w ↦ rw (w.found-is, one) (or_lt a.rule.head.n l.found (2 ^ q) l.invariant.1 (pow-lt k)) | else-choose w ↦ rw w.found-is l.invariant.1 ],
+      λ x. elim c.if-choose.branch [ then-choose w ↦ rw (w.found-is, one) (walk-yes f l.found l.left pos small (sym test ∙ w.if-choose.true) x) ∙ l.invariant.2 x | else-choose w ↦ rw w.found-is (walk_no f l.found l.left pos small (sym test ∙ w.if-choose.false) x) ∙ l.invariant.2 x ],
       ap length new ∙ put-length m (a.base + q) l.choices ∙ l.invariant.3,
       λ x i. ap (λ (ys : List ℕ). get_or ys (a.base + x) 0) new ∙ ⊎_elim
           (λ w. rw (w.1, one) (here-yes a.rule.head.n a.base number a.choices.now l.choices l.found room l.invariant.4 m q k (sym met ∙ w.0.taken) refl x i))

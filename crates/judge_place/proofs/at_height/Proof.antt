@@ -11,6 +11,7 @@ use lib.ListN.{get_or}
 use Rattle.sets.specs.Masks.{mask}
 use Rattle.judge_place.proofs.Walks.{put-yes, put-no}
 use Rattle.judge_place.proofs.at_height.Statement.{statement}
+use Rattle.judge_place.proofs.at_height.Lts.{else-reach-q, then-reach-q}
 use Rattle.judge_place.proofs.at_height.Tie as tie
 
 abbrev invariant-loop : tie.invariant-loop-q
@@ -28,9 +29,10 @@ loop-again c =
     let at-loop : tie.At-loop-q invariant-loop decreases-loop = search in let l = at-loop.loop-q in let start : tie.Start invariant-loop decreases-loop = search in let a = start.args in
     let f : Set = λ t. eqb (ones (get_or a.reach.now t 0)) a.height in (
       omega arith,
-      ⊎_elim (λ w. w.1 ∙ rw l.invariant.1 (put-yes l.q f (omega arith) (eq-eqb _ _ w.0.taken)))
-          (λ w. w.1 ∙ l.invariant.1 ∙ put-no l.q f (ne_eqb _ _ w.0.left))
-          c.if-reach-q.branch,
+      elim c.if-reach-q.branch [
+        then-reach-q w ↦ w.layer-is ∙ rw l.invariant.1 (put-yes l.q f (omega arith) (eq-eqb _ _ w.if-reach-q.true))
+      | else-reach-q w ↦ w.layer-is ∙ l.invariant.1 ∙ put-no l.q f (ne_eqb _ _ w.if-reach-q.false)
+      ],
     )
 
 returns : tie.Need-returns invariant-loop decreases-loop

@@ -17,6 +17,7 @@ use Rattle.rule_entries.specs.Entries.{rule_of}
 use Rattle.judge_place.specs.Starts.{met_by_lem}
 use Rattle.judge_place.proofs.Walks.{least-member, walked, walk-yes, walk_no, walk_end}
 use Rattle.judge_place.proofs.met_by.Statement.{statement}
+use Rattle.judge_place.proofs.met_by.Lts.{else-satisfied, then-satisfied}
 use Rattle.judge_place.proofs.met_by.Tie as tie
 
 abbrev invariant-loop : tie.invariant-loop-left
@@ -31,7 +32,7 @@ Start = tie.Start invariant-loop decreases-loop
 
 -- the states left are among eight, and the least of them is one
 few : (c : tie.In-loop-left invariant-loop decreases-loop) → c.before.loop-left.left < 256
-few c = let start : Start = search in omega (arith, start.fits.states)
+few c = let start : Start = search in omega (arith, start.ranges.states.fits)
 
 below : (c : tie.In-loop-left invariant-loop decreases-loop) → count_trailing_zeros 8 c.before.loop-left.left < 8
 below c = least_lt 8 c.before.loop-left.left (omega arith) (few c)
@@ -55,11 +56,8 @@ loop-again c =
     let small = few (search) in let q = count_trailing_zeros 8 l.left in let one : 1 * 2 ^ q % 2 ^ 8 ≡ 2 ^ q = shl_one 8 q (below (search)) in
     let test : c.before.satisfied.result ≡ f q = c.before.satisfied.ensures in (
       omega (arith, and_le_r l.left (l.left - 1)),
-      ⊎_elim (λ w. rw (w.1, one) (or_lt 8 l.met (2 ^ q) l.invariant.1 (pow-lt (below (search))))) (λ w. rw w.1 l.invariant.1)
-          c.if-satisfied.branch,
-      λ p. ⊎_elim (λ w. rw (w.1, one) (walk-yes f l.met l.left pos small (sym test ∙ w.0.taken) p) ∙ l.invariant.2 p)
-          (λ w. rw w.1 (walk_no f l.met l.left pos small (sym test ∙ w.0.left) p) ∙ l.invariant.2 p)
-          c.if-satisfied.branch,
+      elim c.if-satisfied.branch [ then-satisfied w ↦ rw (w.met-is, one) (or_lt 8 l.met (2 ^ q) l.invariant.1 (pow-lt (below (search)))) | else-satisfied w ↦ rw w.met-is l.invariant.1 ],
+      λ p. elim c.if-satisfied.branch [ then-satisfied w ↦ rw (w.met-is, one) (walk-yes f l.met l.left pos small (sym test ∙ w.if-satisfied.true) p) ∙ l.invariant.2 p | else-satisfied w ↦ rw w.met-is (walk_no f l.met l.left pos small (sym test ∙ w.if-satisfied.false) p) ∙ l.invariant.2 p ],
     )
 
 returns : tie.Need-returns invariant-loop decreases-loop

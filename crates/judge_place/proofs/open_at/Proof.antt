@@ -19,6 +19,7 @@ use Rattle.judge_place.specs.Rounds.{opened}
 use Rattle.judge_place.proofs.Opening.{closed, closed-le, opened-is}
 use borrow.Author.Rules.{rules}
 use Rattle.judge_place.proofs.open_at.Statement.{statement}
+use Rattle.judge_place.proofs.open_at.Lts.{else-k-cycle, then-k-cycle}
 use Rattle.judge_place.proofs.open_at.Tie as tie
 
 cast-accepting : tie.Need-overflow_cast-accepting
@@ -26,9 +27,10 @@ cast-accepting c = let start : tie.Start = search in let w = start.requires.0.pa
 
 -- the place that follows
 next : (c : tie.Joined-k-cycle) → let start : tie.Start = search in let a = start.args in c.if-k-cycle.k ≡ next_place_lem [] a.cycle.now a.p
-next c = let start : tie.Start = search in let a = start.args in ⊎_elim
-    (λ w. w.1 ∙ sym (next-place-last [] a.cycle.now a.p (omega (arith, w.0.taken))))
-    (λ w. w.1 ∙ add-one a.p ∙ sym (next-place-other [] a.cycle.now a.p (λ e. omega (arith, w.0.left)))) c.if-k-cycle.branch
+next c = let start : tie.Start = search in let a = start.args in elim c.if-k-cycle.branch [
+      then-k-cycle w ↦ w.k-is ∙ sym (next-place-last [] a.cycle.now a.p (omega (arith, w.if-k-cycle.true)))
+    | else-k-cycle w ↦ w.k-is ∙ add-one a.p ∙ sym (next-place-other [] a.cycle.now a.p (λ e. omega (arith, w.if-k-cycle.false)))
+    ]
 
 cast-met-by : tie.Need-overflow_cast-cycle
 cast-met-by c = let start : tie.Start = search in omega (arith, c.shared_slice_known-4-1.given start.args.p)

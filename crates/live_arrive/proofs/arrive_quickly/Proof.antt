@@ -20,7 +20,7 @@ use Rattle.live_arrive.proofs.arrive_quickly.Tie as tie
 -- what was tried
 tried : (c : tie.Else-not-can_try) → let start : tie.Start = search in Triable start.args.s start.args.letter
     start.args.codes.now start.args.transitions.now start.args.state.now start.args.room
-tried c = c.before.can_try.ensures (not-false c.before.can_try.result c.if-not-can_try.false)
+tried c = c.before.can_try.ensures c.if-not-can_try.false
 
 step-part-requires : tie.Need-step_part-requires
 step-part-requires c κs = let t = tried (search) in let start : tie.Start = search in let w = words-in-length start.args.codes.now in
@@ -29,7 +29,7 @@ step-part-requires c κs = let t = tried (search) in let start : tie.Start = sea
 returns-2 : tie.Need-returns-then-not-step_part
 returns-2 c =
     let start : tie.Start = search in let a = start.args in let t = tried (search) in let at-step-part : tie.After-step_part = search in let d = at-step-part.step_part.ensures in
-    let no = not-true at-step-part.step_part.result c.if-not-step_part.true in
+    let no = c.if-not-step_part.true in
     let fails : passes (length (words_in a.codes.now)) a.s (words_in a.transitions.now) ≡ false =
     ap (λ (n : ℕ). passes n a.s (words_in a.transitions.now)) (words-in-length a.codes.now) ∙ sym d.verdict ∙ no in
     quickly-refused (fifteen t fails) (d.no no)
@@ -56,7 +56,7 @@ put-byte-requires c κs =
 returns-3 : tie.Need-returns
 returns-3 c =
     let start : tie.Start = search in let a = start.args in let t = tried (search) in let at-step-part : tie.After-step_part = search in let d = at-step-part.step_part.ensures in
-    let else2 : tie.Else-not-step_part = search in let yes = not-false at-step-part.step_part.result else2.if-not-step_part.false in let n = length a.codes.now / 8 in
+    let else2 : tie.Else-not-step_part = search in let yes = else2.if-not-step_part.false in let n = length a.codes.now / 8 in
     let at-number-at : tie.After-number_at-k = search in let k = at-number-at.number_at-k.result in let w = words-in-length a.codes.now in
     let holds : passes (length (words_in a.codes.now)) a.s (words_in a.transitions.now) ≡ true =
     ap (λ (i : ℕ). passes i a.s (words_in a.transitions.now)) w ∙ sym d.verdict ∙ yes in

@@ -19,7 +19,7 @@ returns-9 c =
       whole_transitions = omega arith;
       few = omega arith;
       fits = omega arith;
-      coded = at-codes-pass.codes_pass.ensures (not-false at-codes-pass.codes_pass.result c.before.if-not-codes_pass.false);
+      coded = at-codes-pass.codes_pass.ensures c.before.if-not-codes_pass.false;
       flags = λ y l. c.has_flags.ensures e y (omega arith);
     }
 

@@ -16,7 +16,7 @@ use Rattle.live_arrive.proofs.codes_pass.Tie as tie
 
 -- the codes ascend
 rises : (c : tie.Else-not-is_ascending) → let start : tie.Start = search in ascends (words_in start.args.codes.now) ≡ true
-rises c = sym c.before.is_ascending.ensures ∙ not-false c.before.is_ascending.result c.if-not-is_ascending.false
+rises c = sym c.before.is_ascending.ensures ∙ c.if-not-is_ascending.false
 
 returns-2 : tie.Need-returns-then-n-eq0
 returns-2 c = let start : tie.Start = search in λ e. coded_none (rises c.before) (omega (arith, words-in-length start.args.codes.now))

@@ -12,11 +12,11 @@ returns c = let start : tie.Start = search in let a = start.args in return-no-ma
 
 returns-2 : tie.Need-returns-then-not-is_marked
 returns-2 c = let start : tie.Start = search in let a = start.args in let else1 : tie.Else-m-gt15 = search in
-    return-unset a.m a.state.now (omega (arith, else1.if-m-gt15.false)) (sym c.before.is_marked.ensures ∙ not-true _ c.if-not-is_marked.true)
+    return-unset a.m a.state.now (omega (arith, else1.if-m-gt15.false)) (sym c.before.is_marked.ensures ∙ c.if-not-is_marked.true)
 
 returns-3 : tie.Need-returns
 returns-3 c = let start : tie.Start = search in let a = start.args in let else1 : tie.Else-m-gt15 = search in
-    return-set a.m a.state.now (omega (arith, else1.if-m-gt15.false)) (sym c.before.is_marked.ensures ∙ not-false _ c.if-not-is_marked.false)
+    return-set a.m a.state.now (omega (arith, else1.if-m-gt15.false)) (sym c.before.is_marked.ensures ∙ c.if-not-is_marked.false)
 
 pub return_row_spec : {M : Type 1} → statement M
 return_row_spec = tie.close (tie.spec returns (λ c κs. search rules) returns-2 returns-3)

@@ -5,6 +5,7 @@ use mathlib.Core.Logic.{⊎_elim}
 use native.Mathlib.Omega.{arith}
 use Rattle.loop_search.proofs.Starts.{Least, from, from_is, least-none, least-less, least_kept, begun}
 use Rattle.loop_search.proofs.start_of.Statement.{statement}
+use Rattle.loop_search.proofs.start_of.Lts.{else-k-further, then-k-further}
 use Rattle.loop_search.proofs.start_of.Tie as tie
 
 abbrev invariant-loop : tie.invariant-loop-t
@@ -23,9 +24,7 @@ loop-again c =
     let e : v ≡ from a.n a.es.now a.accepting l.t
     = c.before.further_from-k.ensures ∙ from_is a.n a.es.now a.accepting o.result l.t o.ensures in (
       omega arith,
-      ⊎_elim (λ s. rw (s.1, s.2) (least-less e l.invariant.1 (omega (arith, s.0.taken))))
-          (λ s. rw (s.1, s.2) (least_kept e l.invariant.1 (omega (arith, s.0.left))))
-          c.if-k-further.branch,
+      elim c.if-k-further.branch [ then-k-further s ↦ rw (s.at-is, s.further-is) (least-less e l.invariant.1 (omega (arith, s.if-k-further.true))) | else-k-further s ↦ rw (s.at-is, s.further-is) (least_kept e l.invariant.1 (omega (arith, s.if-k-further.false))) ],
     )
 
 returns : tie.Need-returns invariant-loop decreases-loop

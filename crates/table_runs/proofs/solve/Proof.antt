@@ -46,13 +46,13 @@ returns : tie.Need-returns-then-not-solve_round invariant-loop decreases-loop
 returns c =
     let at_count : tie.After-count-n invariant-loop decreases-loop = search in let n = at_count.count-n.ensures in let at-loop : At-loop = search in let g = at-loop.loop-n.invariant in
     let at-thin : After-thin = search in let t = going-thinned g at-thin.thin.ensures in let at-solve-round : After-solve-round = search in
-    let s = at-solve-round.solve_round in let none = not-true s.result c.if-not-solve_round.true in let r = rw (none, n) at s.ensures in
+    let s = at-solve-round.solve_round in let none = c.if-not-solve_round.true in let r = rw (none, n) at s.ensures in
     record { thinned = thinned-round t r; sound = r.sound refl }
 
 loop-less : tie.Need-loop-n-smaller invariant-loop decreases-loop
 loop-less c =
     let start : tie.Start invariant-loop decreases-loop = search in let two = start.requires.1 in let at-loop : At-loop = search in let l = at-loop.loop-n in
-    let at-solve-round : After-solve-round = search in let s = at-solve-round.solve_round in let some = not-false s.result c.before.if-not-solve_round.false in
+    let at-solve-round : After-solve-round = search in let s = at-solve-round.solve_round in let some = c.before.if-not-solve_round.false in
     let at-thin : After-thin = search in let sum = thinned-sum (going-begun two l.invariant) at-thin.thin.ensures in omega (arith, s.ensures.less some, sum)
 
 loop-again : tie.Need-loop-n-preserved invariant-loop decreases-loop

@@ -13,10 +13,10 @@ at-core-of-of-at-admit-arg3 c = search
 
 returns : tie.Need-returns-then-not-begins
 returns c = let start : tie.Start = search in let p = start.requires in
-    λ r S. appended-none p.1 (λ y f. absurd (clash f.1.start (sym (start_is S start.args.ranks p.2) ∙ sym c.before.begins.ensures ∙ not-true _ c.if-not-begins.true)))
+    λ r S. appended-none p.1 (λ y f. absurd (clash f.1.start (sym (start_is S start.args.ranks p.2) ∙ sym c.before.begins.ensures ∙ c.if-not-begins.true)))
 
 returns-2 : tie.Need-returns-then-not-is_core
-returns-2 c = let start : tie.Start = search in λ r S. appended-none start.requires.1 (λ y f. absurd (clash f.0.passes (sym c.before.is_core.ensures ∙ not-true _ c.if-not-is_core.true)))
+returns-2 c = let start : tie.Start = search in λ r S. appended-none start.requires.1 (λ y f. absurd (clash f.0.passes (sym c.before.is_core.ensures ∙ c.if-not-is_core.true)))
 
 core-of-requires : tie.Need-core_of-core-requires
 core-of-requires c κs = let start : tie.Start = search in let p = start.requires in vector-low p.0.1 start.args.ranks p.2
@@ -33,8 +33,8 @@ returns-3 c =
     let at-admit : tie.After-admit = search in
     λ r S. let is = first-is S ranks p.2 low.result low.ensures at-core-of.core_of-core.ensures in
     appended-as at-admit.admit.ensures (λ t y f. f.1.key ∙ sym is) (λ y e. (
-      record { within = p.2; passes = sym at-is-core.is_core.ensures ∙ not-false _ at-lowest.before.if-not-is_core.false },
-      record { start = sym (start_is S ranks p.2) ∙ sym at-begins.begins.ensures ∙ not-false _ at-is-core.before.if-not-begins.false; key = e ∙ is },
+      record { within = p.2; passes = sym at-is-core.is_core.ensures ∙ at-lowest.before.if-not-is_core.false },
+      record { start = sym (start_is S ranks p.2) ∙ sym at-begins.begins.ensures ∙ at-is-core.before.if-not-begins.false; key = e ∙ is },
     ))
 
 pub visit_first_spec : {M : Type 1} → statement M

@@ -37,7 +37,7 @@ At-loop = tie.At-loop-a invariant-loop decreases-loop
 
 returns : tie.Need-returns-then-not-is_core invariant-loop decreases-loop
 returns c = let start : Start = search in
-    λ r T R. appended-none start.requires.1 (λ y f. absurd (clash f.0.passes (sym c.before.is_core.ensures ∙ not-true _ c.if-not-is_core.true)))
+    λ r T R. appended-none start.requires.1 (λ y f. absurd (clash f.0.passes (sym c.before.is_core.ensures ∙ c.if-not-is_core.true)))
 
 loop-holds : tie.Need-loop-a-init invariant-loop decreases-loop
 loop-holds c = let start : Start = search in (omega arith, refl, refl, λ r T R. upto-start start.requires.1)
@@ -49,7 +49,7 @@ visit-letter-requires c κs = let start : Start = search in let p = start.requir
       (e.0, e.1, all-kept i e.2),
       i.kept,
       omega (arith, p.2, i.more),
-      record { within = p.3; passes = sym at-is-core.is_core.ensures ∙ not-false _ at-lowest.before.if-not-is_core.false },
+      record { within = p.3; passes = sym at-is-core.is_core.ensures ∙ at-lowest.before.if-not-is_core.false },
       at-lowest.lowest-low.ensures,
       then2.loop-a-test.true,
     )

@@ -54,7 +54,7 @@ is-fresh-requires c κs = let start : Start = search in let e = start.requires.0
 
 returns-2 : tie.Need-returns-then-not-is_fresh invariant-loop decreases-loop
 returns-2 c = let start : Start = search in let a = start.args in let p = start.requires in
-    λ r T R. appended-none p.1 (λ y h. absurd (nothing-fresh T a.from a.x p.1 (c.before.is_fresh.ensures (not-true _ c.if-not-is_fresh.true)) h.0 h.1 y h.2))
+    λ r T R. appended-none p.1 (λ y h. absurd (nothing-fresh T a.from a.x p.1 (c.before.is_fresh.ensures (c.if-not-is_fresh.true)) h.0 h.1 y h.2))
 
 span-of-requires : tie.Need-span_of-span-requires invariant-loop decreases-loop
 span-of-requires c κs = let start : Start = search in let p = start.requires in let else1 : tie.Else-x-all invariant-loop decreases-loop = search in

@@ -15,11 +15,11 @@ use Rattle.file_rows.proofs.trailer.trailer_row.Statement.{statement}
 use Rattle.file_rows.proofs.trailer.trailer_row.Tie as tie
 
 returns-2 : tie.Need-returns-then-not-tag_ends
-returns-2 c = let start : tie.Start = search in let f = start.args.f.now in row-2 f (omega arith) (sym c.before.tag_ends.ensures ∙ not-true _ c.if-not-tag_ends.true)
+returns-2 c = let start : tie.Start = search in let f = start.args.f.now in row-2 f (omega arith) (sym c.before.tag_ends.ensures ∙ c.if-not-tag_ends.true)
 
 -- the tag is there
 tag_is : (c : tie.Else-not-tag_ends) → let start : tie.Start = search in tagged start.args.f.now ≡ true
-tag_is c = sym c.before.tag_ends.ensures ∙ not-false _ c.if-not-tag_ends.false
+tag_is c = sym c.before.tag_ends.ensures ∙ c.if-not-tag_ends.false
 
 -- the row of the numbers that were read
 numbers-are : (c : tie.After-numbers_row-first) → let start : tie.Start = search in

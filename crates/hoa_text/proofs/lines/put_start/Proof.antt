@@ -20,19 +20,19 @@ line-is initial value number e = ap (λ (b : Bool). cond b (start_line number) [
 
 returns : tie.Need-returns-then-not-initial
 returns c = let start : tie.Start = search in let a = start.args in
-    put_as (line-is a.initial false a.number (not-true a.initial c.if-not-initial.true)) (put-none a.out.now a.at (omega arith))
+    put_as (line-is a.initial false a.number c.if-not-initial.true) (put-none a.out.now a.at (omega arith))
 
 -- how long the line is
 long : (c : tie.Else-not-initial) → let start : tie.Start = search in
     let a = start.args in length (cond a.initial (start_line a.number) []) ≡ length (word a.number) + 7
-long c = let start : tie.Start = search in let a = start.args in ap length (line-is a.initial true a.number (not-false a.initial c.if-not-initial.false)) ∙ start-length a.number
+long c = let start : tie.Start = search in let a = start.args in ap length (line-is a.initial true a.number c.if-not-initial.false) ∙ start-length a.number
 
 returns-2 : tie.Need-returns
 unfolding start_line
 returns-2 c =
     let start : tie.Start = search in let a = start.args in let at-put : tie.After-put-a = search in let else1 : tie.Else-not-initial = search in let at-put-number : tie.After-put_number-b = search in
     let at-put-byte : tie.After-put_byte = search in
-    put_as (line-is a.initial true a.number (not-false a.initial else1.if-not-initial.false))
+    put_as (line-is a.initial true a.number else1.if-not-initial.false)
     (put_then at-put.put-a.ensures (put_then at-put-number.put_number-b.ensures at-put-byte.put_byte.ensures))
 
 pub put_start_spec : {M : Type 1} → statement M

@@ -37,7 +37,7 @@ returns-2 : tie.Need-returns-then-not-rise_four invariant-loop decreases-loop in
 returns-2 c =
     let start : Start = search in let bytes = start.args.bytes.now in let at-loop : tie.At-loop-i invariant-loop decreases-loop invariant-loop2 decreases-loop2 = search in
     let l = at-loop.loop-i in let r = c.before.rise_four.result in
-    falls-four (words_in bytes) l.last l.i (omega (arith, words-in-length bytes)) (sym c.before.rise_four.ensures ∙ not-true r c.if-not-rise_four.true) l.invariant.1
+    falls-four (words_in bytes) l.last l.i (omega (arith, words-in-length bytes)) (sym c.before.rise_four.ensures ∙ c.if-not-rise_four.true) l.invariant.1
 
 element-requires-2 : tie.Need-element-last-requires-in-loop-i invariant-loop decreases-loop invariant-loop2 decreases-loop2
 element-requires-2 c κs = let start : Start = search in omega (arith, words-in-length start.args.bytes.now)
@@ -48,7 +48,7 @@ loop-again c =
     let l = at-loop.loop-i in let at-rise-four : tie.After-rise_four invariant-loop decreases-loop invariant-loop2 decreases-loop2 = search in let r = at-rise-four.rise_four.result in (
       omega arith,
       rw c.element-last-in-loop-i.ensures (rises-four (words_in bytes) l.last l.i (omega (arith, words-in-length bytes))
-          (sym at-rise-four.rise_four.ensures ∙ not-false r c.before.if-not-rise_four.false) l.invariant.1),
+          (sym at-rise-four.rise_four.ensures ∙ c.before.if-not-rise_four.false) l.invariant.1),
     )
 
 element-requires-3 : tie.Need-element-x-requires invariant-loop decreases-loop invariant-loop2 decreases-loop2

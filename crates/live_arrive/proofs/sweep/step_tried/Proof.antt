@@ -12,20 +12,20 @@ use Rattle.live_arrive.proofs.sweep.step_tried.Tie as tie
 
 -- the transitions ascend
 rises : (c : tie.Else-not-is_ascending) → let start : tie.Start = search in ascends (words_in start.args.transitions.now) ≡ true
-rises c = sym c.before.is_ascending.ensures ∙ not-false c.before.is_ascending.result c.if-not-is_ascending.false
+rises c = sym c.before.is_ascending.ensures ∙ c.if-not-is_ascending.false
 
 returns : tie.Need-returns-then-not-is_ascending
 returns c = let start : tie.Start = search in let a = start.args in let ts = words_in a.transitions.now in
-    let falls = sym c.before.is_ascending.ensures ∙ not-true c.before.is_ascending.result c.if-not-is_ascending.true in stepped-not (passes-not (length a.set.now) a.s ts falls)
+    let falls = sym c.before.is_ascending.ensures ∙ c.if-not-is_ascending.true in stepped-not (passes-not (length a.set.now) a.s ts falls)
 
 returns-2 : tie.Need-returns-then-not-ends_below
 returns-2 c = let start : tie.Start = search in let a = start.args in let ts = words_in a.transitions.now in
-    let far = c.before.ends_below.ensures.no (not-true c.before.ends_below.result c.if-not-ends_below.true) a.s in
+    let far = c.before.ends_below.ensures.no c.if-not-ends_below.true a.s in
     stepped-not (strays (length a.set.now) a.s ts (rises (search)) far)
 
 sweep-tried-requires : tie.Need-sweep_tried-requires
 sweep-tried-requires c κs = let start : tie.Start = search in let pre = start.requires in let at-ends-below : tie.After-ends_below = search in
-    (pre.0, pre.1, pre.2, at-ends-below.ends_below.ensures.yes (not-false at-ends-below.ends_below.result c.before.if-not-ends_below.false))
+    (pre.0, pre.1, pre.2, at-ends-below.ends_below.ensures.yes c.before.if-not-ends_below.false)
 
 returns-3 : tie.Need-returns-then-sweep_tried
 returns-3 c =

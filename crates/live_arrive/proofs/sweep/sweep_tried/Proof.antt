@@ -59,14 +59,14 @@ same_length c = let at-loop : At-loop = search in let at-sweep-one : After-sweep
 returns : tie.Need-returns-then-not-sweep_one invariant-loop decreases-loop
 returns c = let start : Start = search in let a = start.args in let at-loop : At-loop = search in let l = at-loop.loop-i in
     let ts = words_in a.transitions.now in let inside : l.i < length ts = omega (arith, words-in-length a.transitions.now) in
-    let at-sweep-one : After-sweep-one = search in let none = not-true at-sweep-one.sweep_one.result c.if-not-sweep_one.true in
+    let at-sweep-one : After-sweep-one = search in let none = c.if-not-sweep_one.true in
     let at-element : After-element = search in turn-refused start.requires.2 inside at-element.element-t.ensures l.invariant.1
     (rw none at (at-sweep-one.sweep_one.ensures a.s start.requires.0 (limit (search))))
 
 loop-again : tie.Need-loop-i-preserved invariant-loop decreases-loop
 loop-again c = let start : Start = search in let a = start.args in let at-loop : At-loop = search in let l = at-loop.loop-i in
     let ts = words_in a.transitions.now in let inside : l.i < length ts = omega (arith, words-in-length a.transitions.now) in
-    let at-sweep-one : After-sweep-one = search in let some = not-false at-sweep-one.sweep_one.result c.if-not-sweep_one.false in
+    let at-sweep-one : After-sweep-one = search in let some = c.if-not-sweep_one.false in
     let at-element : After-element = search in (
       omega arith,
       turn-told start.requires.2 inside at-element.element-t.ensures l.invariant.1

@@ -10,6 +10,7 @@ use Rattle.theory.specs.Word.{next_place_lem, letter_at_lem}
 use Rattle.table_fixpoints_spec.proofs.Places.{place-room, there-last, there-other, ends-fit}
 use Rattle.table_fixpoints_spec.proofs.Loops.{all_same}
 use Rattle.table_fixpoints.proofs.rounds.mark_place.Statement.{statement}
+use Rattle.table_fixpoints.proofs.rounds.mark_place.Lts.{else-p-cycle, then-p-cycle}
 use Rattle.table_fixpoints.proofs.rounds.mark_place.Tie as tie
 
 mul-here : tie.Need-overflow_mul-here
@@ -21,9 +22,10 @@ add-there c = let start : tie.Start = search in let a = start.args in let pre = 
 -- the nodes of the place that follows begin there
 follows : (c : tie.Joined-p-cycle) → let start : tie.Start = search in
     let a = start.args in c.if-p-cycle.there ≡ next_place_lem [] a.cycle.now a.p * a.n
-follows c = let start : tie.Start = search in let a = start.args in ⊎_elim
-    (λ w. let first = there-last a.cycle.now a.p a.n w.0.taken in omega arith)
-    (λ w. let next = there-other a.cycle.now a.p a.n w.0.left in omega arith) c.if-p-cycle.branch
+follows c = let start : tie.Start = search in let a = start.args in elim c.if-p-cycle.branch [
+      then-p-cycle w ↦ let first = there-last a.cycle.now a.p a.n w.if-p-cycle.true in omega arith
+    | else-p-cycle w ↦ let next = there-other a.cycle.now a.p a.n w.if-p-cycle.false in omega arith
+    ]
 
 mark-all-requires : tie.Need-mark_all-requires
 mark-all-requires c κs = let start : tie.Start = search in λ t m. let q = ends-fit start.requires.0 start.args.p start.requires.1 t m in (q.0, rw (follows (search)) q.1)

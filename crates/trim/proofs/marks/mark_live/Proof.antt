@@ -12,7 +12,7 @@ use Rattle.trim.proofs.marks.mark_live.Tie as tie
 
 solve-requires : tie.Need-solve-requires
 solve-requires c κs = let start : tie.Start = search in let a = start.args in let at_flag : tie.After-flag = search in
-    (rw at_flag.flag.auto.0 start.requires.0, λ x. rw at_flag.flag.ensures.0 (flags-low a.codes.now x))
+    (rw at_flag.flag.auto.codes start.requires.0, λ x. rw at_flag.flag.ensures.0 (flags-low a.codes.now x))
 
 returns : tie.Need-returns
 returns c =

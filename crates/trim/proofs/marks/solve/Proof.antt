@@ -26,11 +26,11 @@ loop-less c = let at-solve-round : After-solve-round = search in at-solve-round.
 loop-again : tie.Need-loop-preserved invariant-loop decreases-loop
 loop-again c =
     let at-solve-round : After-solve-round = search in let e = at-solve-round.solve_round.ensures in let at-loop : tie.At-loop invariant-loop decreases-loop = search in
-    let v = at-loop.loop.invariant in (at-solve-round.solve_round.auto.0 ∙ v.0, kept_then _ _ _ _ _ v.1 e.0, e.1 ∙ v.2)
+    let v = at-loop.loop.invariant in (at-solve-round.solve_round.auto.codes ∙ v.0, kept_then _ _ _ _ _ v.1 e.0, e.1 ∙ v.2)
 
 same_length : tie.Need-shape_of-codes invariant-loop decreases-loop
 same_length c =
-    let at-solve-round : After-solve-round = search in let at-loop : tie.At-loop invariant-loop decreases-loop = search in at-solve-round.solve_round.auto.0 ∙ at-loop.loop.invariant.0
+    let at-solve-round : After-solve-round = search in let at-loop : tie.At-loop invariant-loop decreases-loop = search in at-solve-round.solve_round.auto.codes ∙ at-loop.loop.invariant.0
 
 returns : tie.Need-returns invariant-loop decreases-loop
 returns c =

@@ -35,7 +35,7 @@ loop-less c = let at-sweep : After-sweep = search in let e = at-sweep.sweep.ensu
 loop-again : tie.Need-loop-preserved invariant-loop decreases-loop
 loop-again c =
     let at-sweep : After-sweep = search in let e = at-sweep.sweep.ensures in let at-loop : At-loop = search in let v = at-loop.loop.invariant in
-    (at-sweep.sweep.auto.0 ∙ v.0, sweep-marking _ _ _ e.0 _ v.1, e.1 ∙ v.2)
+    (at-sweep.sweep.auto.codes ∙ v.0, sweep-marking _ _ _ e.0 _ v.1, e.1 ∙ v.2)
 
 returns : tie.Need-returns invariant-loop decreases-loop
 returns c =
@@ -45,4 +45,4 @@ returns c =
 pub sweep_out_spec : {M : Type 1} → statement M
 sweep_out_spec = tie.close (tie.spec
     invariant-loop decreases-loop (λ c. (refl, marking-start _ _, refl)) (λ c κs. let start : tie.Start invariant-loop decreases-loop = search in rw c.before.loop.invariant.0 start.requires.0)
-    loop-less loop-again (λ c. let at-sweep : After-sweep = search in let at-loop : At-loop = search in at-sweep.sweep.auto.0 ∙ at-loop.loop.invariant.0) returns)
+    loop-less loop-again (λ c. let at-sweep : After-sweep = search in let at-loop : At-loop = search in at-sweep.sweep.auto.codes ∙ at-loop.loop.invariant.0) returns)

@@ -75,4 +75,4 @@ rewrite_all_spec = tie.close (tie.spec
     (λ c. let at-loop : At-loop = search in omega (arith, at-loop.loop-i.invariant.long)) loop-again
     (λ c. let at-loop : At-loop = search in omega (arith, at-loop.loop-i.invariant.long)) loop-again-2
     (λ c κs. let at-loop : At-loop = search in let v = at-loop.loop-i.invariant in omega (arith, v.long, v.behind, v.inside))
-    (λ c. let at-zero-from : tie.After-zero_from invariant-loop decreases-loop = search in let at-loop : At-loop = search in at-zero-from.zero_from.auto.0 ∙ at-loop.loop-i.invariant.long) returns)
+    (λ c. let at-zero-from : tie.After-zero_from invariant-loop decreases-loop = search in let at-loop : At-loop = search in at-zero-from.zero_from.auto.xs ∙ at-loop.loop-i.invariant.long) returns)
