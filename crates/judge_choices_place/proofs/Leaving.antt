@@ -2,7 +2,7 @@
 use mathlib.Core.Path.{◌≡◌, refl, sym, ◌∙◌, ap}
 use mathlib.Core.Logic.{◌⊎◌, ⊎_elim}
 use mathlib.Core.Bool.{true, false}
-use mathlib.Core.List.{List, ◌∷◌, Memᴰ}
+use mathlib.Core.List.{[], List, ◌∷◌, Memᴰ}
 use Prim.Native.Nat.{ℕ, zero, suc, ◌+◌, ◌-◌, ◌≤◌, ◌<◌}
 use native.Mathlib.Omega.{arith}
 use lib.Dec.{eqb}
@@ -27,6 +27,7 @@ use Rattle.judge_choices_spec.specs.Choice.{Suits}
 -- a clause of an entry inside a set satisfies it
 pub satisfies-in : (n : ℕ) (X : Set) (cs : List ℕ) (c : ℕ) → Memᴰ c cs → inside n X c ≡ true → satisfies n X cs ≡ true
 unfolding satisfies
+satisfies-in n X [] c x'' e = elim x'' [ ]
 satisfies-in n X (d ∷ cs) c (Memᴰ.head x) e = or_l (inside n X d) (satisfies n X cs) (ap (inside n X) (sym x) ∙ e)
 satisfies-in n X (d ∷ cs) c (Memᴰ.tail k) e = or_r (inside n X d) (satisfies n X cs) (satisfies-in n X cs c k e)
 

@@ -42,7 +42,7 @@ front c = let l = c.before.loop-i in let start : Start = search in
 first-of-requires : tie.Need-first_of-first-requires invariant-loop decreases-loop
 first-of-requires c κs = let start : Start = search in let p = start.requires in let at-loop : At-loop = search in let l = at-loop.loop-i in (
   omega (arith, l.invariant.1.long),
-  rw (front c.before) (asc-take (l.i - 1 + 1) (omega arith) p.1),
+  rw (front (search)) (asc-take (l.i - 1 + 1) (omega arith) p.1),
   λ j h. rw (l.invariant.1.outside j (inl (omega arith))) (p.2 j (omega arith)).1,
 )
 

@@ -26,7 +26,7 @@ fill-cycle-requires c κs =
     let at_count : tie.After-count-n = search in let a = (start_of at_count).args in let p = (start_of at_count).requires in let at-fill-with : tie.After-fill_with = search in
     let w = at-fill-with.fill_with in let at = length a.lead.now * at_count.count-n.result in
     let e : length (take (length w.new.xs - at) (drop at w.new.xs)) ≡ length a.cycle.now * at_count.count-n.result =
-    end-length w.new.xs at (omega (arith, sizes at_count, w.auto.0)) ∙ omega (arith, sizes at_count, w.auto.0) in
+    end-length w.new.xs at (omega (arith, sizes at_count, w.auto.xs)) ∙ omega (arith, sizes at_count, w.auto.xs) in
     record { repeats = p.repeats; marked = e ∙ ap (λ (k : ℕ). length a.cycle.now * k) at_count.count-n.ensures; sources = p.sources; targets = p.targets }
 
 abbrev count_of : tie.After-fill_cycle → tie.After-count-n
@@ -70,6 +70,6 @@ returns c =
 pub fill_spec : {M : Type 1} → statement M
 fill_spec = tie.close (tie.spec
     (λ c κs. search rules) (λ c. omega (arith, sizes c, (start_of c).well_formed)) (λ c κs. search rules)
-    (λ c. let at-fill-with : tie.After-fill_with = search in omega (arith, sizes (search), at-fill-with.fill_with.auto.0))
-    (λ c. let at-fill-with : tie.After-fill_with = search in let h = sizes (search) in let k = at-fill-with.fill_with.auto.0 in search rules) (λ c. search rules)
+    (λ c. let at-fill-with : tie.After-fill_with = search in omega (arith, sizes (search), at-fill-with.fill_with.auto.xs))
+    (λ c. let at-fill-with : tie.After-fill_with = search in let h = sizes (search) in let k = at-fill-with.fill_with.auto.xs in search rules) (λ c. search rules)
     fill-cycle-requires enter-lead-requires (λ c. search rules) returns)

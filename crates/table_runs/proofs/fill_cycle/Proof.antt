@@ -10,7 +10,7 @@ use Rattle.table_runs.proofs.fill_cycle.Tie as tie
 solve-requires : tie.Need-solve-requires
 solve-requires c κs =
     let start : tie.Start = search in let a = start.args in let at-fill-with : tie.After-fill_with = search in let w = at-fill-with.fill_with in
-    (fits-long w.auto.0 start.requires, rw w.ensures (all_two (length a.marks.now)))
+    (fits-long w.auto.xs start.requires, rw w.ensures (all_two (length a.marks.now)))
 
 returns : tie.Need-returns
 returns c =

@@ -16,7 +16,7 @@ use Rattle.live_state.proofs.effects.arrive.Tie as tie
 step-requires : tie.Need-step-requires
 step-requires c κs =
     let start : tie.Start = search in let a = start.args in let pre = start.requires.0 in let w = words-in-length a.codes.now in let at-put-number : tie.After-put_number = search in
-    let at-put-byte : tie.After-put_byte = search in (rw (sym w) pre.inside, omega (arith, w, pre.few, pre.long, at-put-byte.put_byte.auto.0, at-put-number.put_number.auto.0))
+    let at-put-byte : tie.After-put_byte = search in (rw (sym w) pre.inside, omega (arith, w, pre.few, pre.long, at-put-byte.put_byte.auto.state, at-put-number.put_number.auto.state))
 
 returns : tie.Need-returns
 unfolding numbered

@@ -16,12 +16,12 @@ use Rattle.live_state.proofs.effects.mark.Tie as tie
 put-number-requires : tie.Need-put_number-requires
 put-number-requires c κs =
     let start : tie.Start = search in let a = start.args in let at-number-at : tie.After-number_at-n = search in let at-put-byte : tie.After-put_byte = search in
-    (omega (arith, number-low a.state.now, at-number-at.number_at-n.ensures), omega (arith, start.requires.1, at-put-byte.put_byte.auto.0))
+    (omega (arith, number-low a.state.now, at-number-at.number_at-n.ensures), omega (arith, start.requires.1, at-put-byte.put_byte.auto.state))
 
 copy-letters-requires : tie.Need-copy_letters-requires
 copy-letters-requires c κs =
-    let start : tie.Start = search in let pre = start.requires in let at-put-byte : tie.After-put_byte = search in let first = at-put-byte.put_byte.auto.0 in
-    let at-put-number : tie.After-put_number = search in let second = at-put-number.put_number.auto.0 in
+    let start : tie.Start = search in let pre = start.requires in let at-put-byte : tie.After-put_byte = search in let first = at-put-byte.put_byte.auto.state in
+    let at-put-number : tie.After-put_number = search in let second = at-put-number.put_number.auto.state in
     (omega (arith, pre.1, first, second), omega (arith, pre.0, pre.1, first, second), inl (omega arith))
 
 returns : tie.Need-returns

@@ -26,7 +26,7 @@ put-byte-requires c κs =
 refresh-requires : tie.Need-refresh-requires
 refresh-requires c κs =
     let start : tie.Start = search in let pre = start.requires in let at-put-number : tie.After-put_number = search in let at-put-byte : tie.After-put_byte = search in
-    (pre.0, record { few = pre.1.few; inside = pre.1.inside; long = omega (arith, pre.1.long, at-put-byte.put_byte.auto.0, at-put-number.put_number.auto.0) })
+    (pre.0, record { few = pre.1.few; inside = pre.1.inside; long = omega (arith, pre.1.long, at-put-byte.put_byte.auto.state, at-put-number.put_number.auto.state) })
 
 returns : tie.Need-returns
 unfolding withdrawn numbered
