@@ -10,7 +10,7 @@ use Rattle.build.proofs.build_file.Statement.{statement}
 use Rattle.build.proofs.build_file.Tie as tie
 
 build-accepted-requires : tie.Need-build_accepted-requires
-build-accepted-requires c κs = let at-l : tie.In-Accepted-2 = search in let at-read-rule : tie.After-read_rule = search in sym at-read-rule.read_rule.ensures ∙ at-l.in-Accepted.is
+build-accepted-requires c κs = let at-l : tie.In-Accepted = search in let at-read-rule : tie.After-read_rule = search in sym at-read-rule.read_rule.ensures ∙ at-l.in-Accepted.is
 
 returns : tie.Need-returns-in-Refused
 returns c =
@@ -21,7 +21,7 @@ returns c =
 returns-2 : tie.Need-returns-in-Accepted
 returns-2 c =
     let start : tie.Start = search in let a = start.args in let at-build-accepted : tie.After-build_accepted = search in let b = at-build-accepted.build_accepted in
-    let at-l : tie.In-Accepted-2 = search in let at-read-rule : tie.After-read_rule = search in
+    let at-l : tie.In-Accepted = search in let at-read-rule : tie.After-read_rule = search in
     filled-served (λ r. start_of r a.holds) a.file.now at-l.in-Accepted.l (sym at-read-rule.read_rule.ensures ∙ at-l.in-Accepted.is) a.codes.now a.transitions.now b.result _ _
     b.ensures
 

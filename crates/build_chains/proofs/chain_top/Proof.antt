@@ -15,4 +15,4 @@ returns : tie.Need-returns
 returns c = let start : tie.Start = search in ap (λ (b : ℕ). get_or start.args.heads.now b 0) c.before.bucket.ensures
 
 pub chain_top_spec : {M : Type 1} → statement M
-chain_top_spec = tie.close (tie.spec (λ c κs. search rules) (λ c. omega (arith, known c)) known returns)
+chain_top_spec = tie.close (tie.spec (λ c κs. search rules) (λ c. omega (arith, known (search))) (λ c. known (search)) returns)

@@ -12,7 +12,7 @@ use Rattle.build_trimmed.proofs.build_trimmed.Tie as tie
 
 trim-requires : tie.Need-trim-requires
 trim-requires c κs =
-    let at-build : tie.After-build = search in let b = at-build.build.ensures in let at_n : tie.In-Table-2 = search in let t = at_n.in-Table.is in
+    let at-build : tie.After-build = search in let b = at-build.build.ensures in let at_n : tie.In-Table = search in let t = at_n.in-Table.is in
     rw (codes-front b t, moves_front b t) (trimmable b t)
 
 returns : tie.Need-returns-in-Refused
@@ -23,7 +23,7 @@ returns c =
 returns-2 : tie.Need-returns-in-Table
 returns-2 c =
     let start : tie.Start = search in let a = start.args in let r = rule_in a.file.now in let at-build : tie.After-build = search in let b = at-build.build.ensures in
-    let at_n : tie.In-Table-2 = search in let t = at_n.in-Table.is in let at-trim : tie.After-trim = search in
+    let at_n : tie.In-Table = search in let t = at_n.in-Table.is in let at-trim : tie.After-trim = search in
     let T : Trimming (macrostates r) (transitions r) at-trim.trim.result at-trim.trim.new.codes at-trim.trim.new.transitions.0 =
     rw (codes-front b t, moves_front b t) at at-trim.trim.ensures in
     contract a.file.now a.codes.now a.transitions.now _ _ _ (table-answer b t T (search) (search)) (codes-left b t T (search) (search)) (moves-left b t T (search) (search))
@@ -31,7 +31,7 @@ returns-2 c =
 pub build_trimmed_spec : {M : Type 1} → statement M
 build_trimmed_spec = tie.close (tie.spec
     (λ c κs. search rules) (λ c. search rules) (λ c. search rules) (λ c. let at-build : tie.After-build = search in codes-room at-build.build.ensures c.before.in-Table.is)
-    (λ c. let at-build : tie.After-build = search in let at_n : tie.In-Table-2 = search in sym (length-take-le _ _ (codes-room at-build.build.ensures at_n.in-Table.is)))
-    (λ c. let at-build : tie.After-build = search in let at_n : tie.In-Table-2 = search in moves-room at-build.build.ensures at_n.in-Table.is)
-    (λ c. let at-build : tie.After-build = search in let at_n : tie.In-Table-2 = search in sym (length-take-le _ _ (moves-room at-build.build.ensures at_n.in-Table.is)))
+    (λ c. let at-build : tie.After-build = search in let at_n : tie.In-Table = search in sym (length-take-le _ _ (codes-room at-build.build.ensures at_n.in-Table.is)))
+    (λ c. let at-build : tie.After-build = search in let at_n : tie.In-Table = search in moves-room at-build.build.ensures at_n.in-Table.is)
+    (λ c. let at-build : tie.After-build = search in let at_n : tie.In-Table = search in sym (length-take-le _ _ (moves-room at-build.build.ensures at_n.in-Table.is)))
     trim-requires (λ c. search rules) (λ c. search rules) returns (λ c. search rules) (λ c. search rules) returns-2)

@@ -11,7 +11,7 @@ use Rattle.event_translate.proofs.translate.Tie as tie
 
 returns : tie.Need-returns-in-Accepted
 returns c =
-    let start : tie.Start = search in let a = start.args in let at-l : tie.In-Accepted-2 = search in let l = at-l.in-Accepted.l in let at-read-rule : tie.After-read_rule = search in
+    let start : tie.Start = search in let a = start.args in let at-l : tie.In-Accepted = search in let l = at-l.in-Accepted.l in let at-read-rule : tie.After-read_rule = search in
     let read : read_of a.file.now ≡ Accepted l = sym at-read-rule.read_rule.ensures ∙ at-l.in-Accepted.is in let v = served a.file.now l read in
     let at-translate-read : tie.After-translate_read = search in let t = at-translate-read.translate_read in
     accepted _ _ _ _ _ _ v.row (rw (ap (λ (x : Layout). x.head.s) v.layout) at t.ensures)

@@ -9,11 +9,11 @@ use Rattle.file_read.proofs.preface.Tie as tie
 
 slice-aggregate-result : tie.Need-slice_bounds-result-end
 slice-aggregate-result c =
-    let start : tie.Start = search in let f = start.args.f.now in let at-l : tie.In-Accepted-2 = search in let l = at-l.in-Accepted.l in let at-read-rule : tie.After-read_rule = search in
+    let start : tie.Start = search in let f = start.args.f.now in let at-l : tie.In-Accepted = search in let l = at-l.in-Accepted.l in let at-read-rule : tie.After-read_rule = search in
     let s = served f l (sym at-read-rule.read_rule.ensures ∙ at-l.in-Accepted.is) in simp length-take (omega (arith, s.bounds))
 
 returns : tie.Need-returns-in-Accepted
-returns c = let start : tie.Start = search in let at-l : tie.In-Accepted-2 = search in let at-read-rule : tie.After-read_rule = search in
+returns c = let start : tie.Start = search in let at-l : tie.In-Accepted = search in let at-read-rule : tie.After-read_rule = search in
     preface-served start.args.f.now at-l.in-Accepted.l (sym at-read-rule.read_rule.ensures ∙ at-l.in-Accepted.is)
 
 returns-2 : tie.Need-returns-in-Refused

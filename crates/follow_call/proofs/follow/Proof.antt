@@ -8,14 +8,14 @@ use Rattle.follow_call.proofs.follow.Tie as tie
 
 returns : tie.Need-returns-in-Accepted
 returns c =
-    let start : tie.Start = search in let at_read : tie.After-read_rule = search in let at-l : tie.In-Accepted-2 = search in let at_call : tie.After-follow_read = search in
+    let start : tie.Start = search in let at_read : tie.After-read_rule = search in let at-l : tie.In-Accepted = search in let at_call : tie.After-follow_read = search in
     let a = start.args in let l = at-l.in-Accepted.l in
     call-served a.file.now a.codes.now a.transitions.now a.set.now a.letters.now l _ at_call.follow_read.result
     (served a.file.now l (sym at_read.read_rule.ensures ∙ at-l.in-Accepted.is)) at_call.follow_read.ensures
 
 returns-2 : tie.Need-returns-in-Refused
 returns-2 c =
-    let start : tie.Start = search in let at_read : tie.After-read_rule = search in let at_row : tie.In-Refused-2 = search in
+    let start : tie.Start = search in let at_read : tie.After-read_rule = search in let at_row : tie.In-Refused = search in
     let a = start.args in let k = at_row.in-Refused.row in
     let t = turned-away a.file.now k (sym at_read.read_rule.ensures ∙ at_row.in-Refused.is) in
     call-refused a.file.now a.codes.now a.transitions.now a.set.now a.letters.now k (λ e. t.1 (t.0 ∙ e)) (sym t.0)

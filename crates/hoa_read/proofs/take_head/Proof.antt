@@ -40,6 +40,6 @@ returns-4 c =
 
 pub take_head_spec : {M : Type 1} → statement M
 take_head_spec = tie.close (tie.spec
-    (λ c. search rules) (λ c κs. omega arith) (λ c κs. search rules) returns (λ c. search rules) take-numbered-requires (λ c κs. search rules)
+    (λ c κs. omega arith) (λ c κs. search rules) returns take-numbered-requires (λ c κs. search rules)
     returns-2 (λ c. search rules) take-starts-requires (λ c κs. c.before.take_starts-t.ensures.read.within) (λ c κs. search rules) returns-3
-    (λ c. search rules) (λ c κs. let at-take-ap : tie.After-take_ap-q = search in ((at-take-ap.take_ap-q.ensures.found (omega arith)).1, omega arith)) returns-4)
+    (λ c κs. let at-take-ap : tie.After-take_ap-q = search in ((at-take-ap.take_ap-q.ensures.found (omega arith)).1, omega arith)) returns-4)

@@ -12,17 +12,17 @@ abbrev start-of-after-h : tie.After-h-1 → tie.Start
 start-of-after-h c = search
 
 -- the reader's answer is the definition's
-read : (c : tie.After-h-1) → let at-l : tie.In-Accepted-2 = search in read_of (start-of-after-h c).args.file.now ≡ Accepted at-l.in-Accepted.l
-read c = let at-read-rule : tie.After-read_rule = search in let at-l : tie.In-Accepted-2 = search in sym at-read-rule.read_rule.ensures ∙ at-l.in-Accepted.is
+read : (c : tie.After-h-1) → let at-l : tie.In-Accepted = search in read_of (start-of-after-h c).args.file.now ≡ Accepted at-l.in-Accepted.l
+read c = let at-read-rule : tie.After-read_rule = search in let at-l : tie.In-Accepted = search in sym at-read-rule.read_rule.ensures ∙ at-l.in-Accepted.is
 
 judge-choices-read-requires : tie.Need-judge_choices_read-requires
 judge-choices-read-requires c κs =
-    let start : tie.Start = search in let at-l : tie.In-Accepted-2 = search in let at-counts-of : tie.After-counts_of = search in let at-clauses-of : tie.After-clauses_of = search in
+    let start : tie.Start = search in let at-l : tie.In-Accepted = search in let at-counts-of : tie.After-counts_of = search in let at-clauses-of : tie.After-clauses_of = search in
     lent-passing start.args.file.now at-l.in-Accepted.l (read (search)) _ _
     at-counts-of.Counts-of.ensures at-clauses-of.clauses_of.ensures
 
 returns : tie.Need-returns-in-Accepted
-returns c = let start : tie.Start = search in let a = start.args in let at-l : tie.In-Accepted-2 = search in let l = at-l.in-Accepted.l in
+returns c = let start : tie.Start = search in let a = start.args in let at-l : tie.In-Accepted = search in let l = at-l.in-Accepted.l in
     let at-judge-choices-read : tie.After-judge_choices_read = search in let j = at-judge-choices-read.judge_choices_read in let at-clauses-of : tie.After-clauses_of = search in
     let at-counts-of : tie.After-counts_of = search in let at-h : tie.After-h-1 = search in
     judged-called a.file.now a.lead.now a.cycle.now a.masks.now _ a.choices.now _ j.result

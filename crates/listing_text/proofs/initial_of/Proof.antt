@@ -10,14 +10,14 @@ use Rattle.listing_text.proofs.initial_of.Statement.{statement}
 use Rattle.listing_text.proofs.initial_of.Tie as tie
 
 -- the file is accepted
-accepted : (c : tie.In-Accepted-2) → let start : tie.Start = search in Served start.args.file.now c.in-Accepted.l
+accepted : (c : tie.In-Accepted) → let start : tie.Start = search in Served start.args.file.now c.in-Accepted.l
 accepted c = let start : tie.Start = search in let at-read-rule : tie.After-read_rule = search in
     served start.args.file.now c.in-Accepted.l (sym at-read-rule.read_rule.ensures ∙ c.in-Accepted.is)
 
-initial_is : (c : tie.In-Accepted-2) → let start : tie.Start = search in c.in-Accepted.l.head.initial ≡ trailer start.args.file.now 2
+initial_is : (c : tie.In-Accepted) → let start : tie.Start = search in c.in-Accepted.l.head.initial ≡ trailer start.args.file.now 2
 initial_is c = ap (λ (l : Layout). l.head.initial) (accepted c).layout
 
-small : (c : tie.In-Accepted-2) → c.in-Accepted.l.head.initial < 8
+small : (c : tie.In-Accepted) → c.in-Accepted.l.head.initial < 8
 small c = let F = (accepted c).passing.formed in omega (arith, initial_is c, F.initial_state, F.few_states)
 
 returns : tie.Need-returns-in-Refused

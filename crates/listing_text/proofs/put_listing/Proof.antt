@@ -29,31 +29,31 @@ returns c = let start : tie.Start = search in let at-put : tie.After-put = searc
 answer : (c : tie.After-build) → let start : tie.Start = search in c.build.result ≡ built_of start.args.file.now 512 4096
 answer c = c.build.ensures.answer
 
-abbrev start-of-after-row : tie.In-Refused-2 → tie.Start
+abbrev start-of-after-row : tie.In-Refused → tie.Start
 start-of-after-row c = search
 
 -- the text of a refusal
-refusal : (c : tie.In-Refused-2) → listing_of (start-of-after-row c).args.file.now ≡ refused_line c.in-Refused.row
+refusal : (c : tie.In-Refused) → listing_of (start-of-after-row c).args.file.now ≡ refused_line c.in-Refused.row
 refusal c = let else1 : tie.Else-file-gt4096 = search in let start : tie.Start = search in
     refused-text start.args.file.now else1.if-file-gt4096.false c.in-Refused.row (sym (answer (search)) ∙ c.in-Refused.is)
 
 put-refused-requires : tie.Need-put_refused-requires
 put-refused-requires c κs = let start : tie.Start = search in omega (arith, start.requires, ap length (refusal (search)))
 
-abbrev start-of-after-counts : tie.In-Table-2 → tie.Start
+abbrev start-of-after-counts : tie.In-Table → tie.Start
 start-of-after-counts c = search
 
 -- a table was built
-built : (c : tie.In-Table-2) → built_of (start-of-after-counts c).args.file.now 512 4096 ≡ Table c.in-Table.counts
+built : (c : tie.In-Table) → built_of (start-of-after-counts c).args.file.now 512 4096 ≡ Table c.in-Table.counts
 built c = sym (answer (search)) ∙ c.in-Table.is
 
-codes_held : (c : tie.In-Table-2) → let at-build : tie.After-build = search in
+codes_held : (c : tie.In-Table) → let at-build : tie.After-build = search in
     c.in-Table.counts.macrostates ≤ length at-build.build.new.transitions.0
 codes_held c = let else1 : tie.Else-file-gt4096 = search in let start : tie.Start = search in let at-build : tie.After-build = search in
     codes-fit start.args.file.now else1.if-file-gt4096.false c.in-Table.counts (built c)
     _ _ refl at-build.build.ensures.codes_after
 
-moves_held : (c : tie.In-Table-2) → (zs ws : List ℕ) → length zs ≡ 4096 → ws ≡ transitions_after_lem (start-of-after-counts c).args.file.now 512 zs
+moves_held : (c : tie.In-Table) → (zs ws : List ℕ) → length zs ≡ 4096 → ws ≡ transitions_after_lem (start-of-after-counts c).args.file.now 512 zs
     → c.in-Table.counts.transitions ≤ length ws
 moves_held c = let else1 : tie.Else-file-gt4096 = search in moves-fit (start-of-after-counts c).args.file.now else1.if-file-gt4096.false c.in-Table.counts (built c)
 
@@ -61,11 +61,11 @@ abbrev start-of-after-names-in : tie.After-names_in → tie.Start
 start-of-after-names-in c = search
 
 -- the text of the table
-table : (c : tie.After-names_in) → let at-counts : tie.In-Table-2 = search in let n = at-counts.in-Table.counts in let f = (start-of-after-names-in c).args.file.now in
+table : (c : tie.After-names_in) → let at-counts : tie.In-Table = search in let n = at-counts.in-Table.counts in let f = (start-of-after-names-in c).args.file.now in
     (xs ys zs ws : List ℕ) → length xs ≡ 512 → ys ≡ codes_after_lem f xs 4096 → length zs ≡ 4096 → ws ≡ transitions_after_lem f 512 zs
     → listing_of f ≡ table_text (initial_at c.before.initial_of.result) c.names_in.result.now (take n.macrostates ys) (take n.transitions ws)
 table c xs ys zs ws l e k v =
-    let at-counts : tie.In-Table-2 = search in let else1 : tie.Else-file-gt4096 = search in
+    let at-counts : tie.In-Table = search in let else1 : tie.Else-file-gt4096 = search in
     table-text (start-of-after-names-in c).args.file.now else1.if-file-gt4096.false at-counts.in-Table.counts (built (search)) xs ys zs ws l e k v
     c.before.initial_of.result c.before.initial_of.ensures.1 c.names_in.result.now c.names_in.ensures
 
@@ -83,7 +83,7 @@ returns-3 c = let at-put-table : tie.After-put_table = search in let at-build : 
 
 pub put_listing_spec : {M : Type 1} → statement M
 put_listing_spec = tie.close (tie.spec
-    (λ c. search rules) put-requires (λ c. search rules) returns (λ c. search rules) (λ c. search rules) (λ c κs. search rules) (λ c. search rules) put-refused-requires
+    put-requires (λ c. search rules) returns (λ c. search rules) (λ c. search rules) (λ c κs. search rules) (λ c. search rules) put-refused-requires
     (λ c. search rules) (λ c κs. search rules) (λ c κs. search rules) (λ c. codes_held (search)) (λ c. sym (length-take-le _ _ (codes_held (search))))
     (λ c. let at-build : tie.After-build = search in moves_held (search) _ _ refl at-build.build.ensures.moves_after)
     (λ c. let at-build : tie.After-build = search in sym (length-take-le _ _ (moves_held (search) _ _ refl at-build.build.ensures.moves_after)))

@@ -5,7 +5,7 @@ use Rattle.live_arrive.proofs.try_quickly.Statement.{statement}
 use Rattle.live_arrive.proofs.try_quickly.Tie as tie
 
 returns-2 : tie.Need-returns-in-Arrive
-returns-2 c = let at_call : tie.In-Arrive-2 = search in let at-arrive-quickly : tie.After-arrive_quickly = search in rw at_call.in-Arrive.is at-arrive-quickly.arrive_quickly.ensures
+returns-2 c = let at_call : tie.In-Arrive = search in let at-arrive-quickly : tie.After-arrive_quickly = search in rw at_call.in-Arrive.is at-arrive-quickly.arrive_quickly.ensures
 
 pub try_quickly_spec : {M : Type 1} → statement M
 try_quickly_spec = tie.close (tie.spec

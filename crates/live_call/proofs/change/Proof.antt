@@ -10,16 +10,16 @@ cast-arrive : tie.Need-overflow_cast-a
 cast-arrive c = let start : tie.Start = search in let k = rw c.before.in-Arrive.is at start.requires.2 in omega (arith, k.0)
 
 arrive-requires : tie.Need-arrive-requires
-arrive-requires c κs = let start : tie.Start = search in let at_call : tie.In-Arrive-2 = search in let k = rw at_call.in-Arrive.is at start.requires.2 in (start.requires.1, k.1)
+arrive-requires c κs = let start : tie.Start = search in let at_call : tie.In-Arrive = search in let k = rw at_call.in-Arrive.is at start.requires.2 in (start.requires.1, k.1)
 
 withdraw-requires : tie.Need-withdraw-requires
 withdraw-requires c κs = let start : tie.Start = search in (start.requires.0, start.requires.1, rw c.before.in-Withdraw.is at start.requires.2)
 
 mark-requires : tie.Need-mark-requires
-mark-requires c κs = let start : tie.Start = search in let at-call2 : tie.In-Mark-2 = search in (rw at-call2.in-Mark.is at start.requires.2, start.requires.1.long)
+mark-requires c κs = let start : tie.Start = search in let at-call2 : tie.In-Mark = search in (rw at-call2.in-Mark.is at start.requires.2, start.requires.1.long)
 
 return-to-requires : tie.Need-return_to-requires
-return-to-requires c κs = let start : tie.Start = search in let at-call3 : tie.In-Return-2 = search in (rw at-call3.in-Return.is at start.requires.2, start.requires.0, start.requires.1)
+return-to-requires c κs = let start : tie.Start = search in let at-call3 : tie.In-Return = search in (rw at-call3.in-Return.is at start.requires.2, start.requires.0, start.requires.1)
 
 returns : tie.Need-returns-in-Start
 unfolding effect
@@ -30,7 +30,7 @@ returns c =
 returns-2 : tie.Need-returns-in-Arrive
 unfolding effect
 returns-2 c =
-    let start : tie.Start = search in let a = start.args in let at_call : tie.In-Arrive-2 = search in let at-arrive : tie.After-arrive = search in
+    let start : tie.Start = search in let a = start.args in let at_call : tie.In-Arrive = search in let at-arrive : tie.After-arrive = search in
     rw at_call.in-Arrive.is (at-arrive.arrive.ensures a.initial)
 
 returns-3 : tie.Need-returns-in-Withdraw
@@ -39,11 +39,11 @@ returns-3 c = let at-enum-told2 : tie.In-Withdraw = search in let at-withdraw : 
 
 returns-4 : tie.Need-returns-in-Mark
 unfolding effect
-returns-4 c = let at-call2 : tie.In-Mark-2 = search in let at_mark : tie.After-mark = search in rw at-call2.in-Mark.is at_mark.mark.ensures
+returns-4 c = let at-call2 : tie.In-Mark = search in let at_mark : tie.After-mark = search in rw at-call2.in-Mark.is at_mark.mark.ensures
 
 returns-5 : tie.Need-returns-in-Return
 unfolding effect
-returns-5 c = let at-call3 : tie.In-Return-2 = search in let at-return-to : tie.After-return_to = search in rw at-call3.in-Return.is at-return-to.return_to.ensures
+returns-5 c = let at-call3 : tie.In-Return = search in let at-return-to : tie.After-return_to = search in rw at-call3.in-Return.is at-return-to.return_to.ensures
 
 pub change_spec : {M : Type 1} → statement M
 change_spec = tie.close (tie.spec

@@ -8,12 +8,12 @@ use Rattle.live_call.proofs.live_call.Tie as tie
 
 call-read-requires : tie.Need-call_read-requires
 call-read-requires c κs =
-    let start : tie.Start = search in let f = start.args.file.now in let at-l : tie.In-Accepted-2 = search in let l = at-l.in-Accepted.l in let at-read-rule : tie.After-read_rule = search in
+    let start : tie.Start = search in let f = start.args.file.now in let at-l : tie.In-Accepted = search in let l = at-l.in-Accepted.l in let at-read-rule : tie.After-read_rule = search in
     head-low f l (served f l (sym at-read-rule.read_rule.ensures ∙ at-l.in-Accepted.is))
 
 returns : tie.Need-returns-in-Accepted
 returns c =
-    let start : tie.Start = search in let a = start.args in let at-l : tie.In-Accepted-2 = search in let l = at-l.in-Accepted.l in let at-read-rule : tie.After-read_rule = search in
+    let start : tie.Start = search in let a = start.args in let at-l : tie.In-Accepted = search in let l = at-l.in-Accepted.l in let at-read-rule : tie.After-read_rule = search in
     let at-call-read : tie.After-call_read = search in
     file-served a.call a.file.now a.codes.now a.transitions.now a.state.now a.set.now l _ _ at-call-read.call_read.result
     (served a.file.now l (sym at-read-rule.read_rule.ensures ∙ at-l.in-Accepted.is)) at-call-read.call_read.ensures

@@ -6,12 +6,12 @@ use Rattle.live_rows.proofs.letter_row.Statement.{statement}
 use Rattle.live_rows.proofs.letter_row.Tie as tie
 
 returns : tie.Need-returns-then-s-a
-returns c = let start : tie.Start = search in let a = start.args in let at_call : tie.In-Arrive-2 = search in
+returns c = let start : tie.Start = search in let a = start.args in let at_call : tie.In-Arrive = search in
     letter-unknown a.s a.call _ at_call.in-Arrive.is (omega (arith, c.if-s-a.true))
 
 returns-3 : tie.Need-returns-else-s-a
 returns-3 c =
-    let start : tie.Start = search in let a = start.args in let at_call : tie.In-Arrive-2 = search in letter_known a.s a.call _ at_call.in-Arrive.is (omega (arith, c.if-s-a.false))
+    let start : tie.Start = search in let a = start.args in let at_call : tie.In-Arrive = search in letter_known a.s a.call _ at_call.in-Arrive.is (omega (arith, c.if-s-a.false))
 
 pub letter_row_spec : {M : Type 1} → statement M
 letter_row_spec = tie.close (tie.spec

@@ -15,7 +15,7 @@ returns-2 c = let start : tie.Start = search in let a = start.args in let at-enu
     log-none a.call a.state.now at-enum-told3.in-Withdraw.is (sym c.before.number_at-in-Withdraw.ensures ∙ c.if-number_at-eq0.true)
 
 returns-3 : tie.Need-returns-then-m-gt15
-returns-3 c = let start : tie.Start = search in let a = start.args in let at_call : tie.In-Mark-2 = search in
+returns-3 c = let start : tie.Start = search in let a = start.args in let at_call : tie.In-Mark = search in
     log-no-mark a.call a.state.now _ at_call.in-Mark.is (omega (arith, c.if-m-gt15.true))
 
 returns-4 : tie.Need-returns-in-Start
@@ -30,11 +30,11 @@ returns-6 c = let start : tie.Start = search in let a = start.args in let at-enu
     log-some a.call a.state.now at-enum-told3.in-Withdraw.is (λ e. c.if-number_at-eq0.false (c.before.number_at-in-Withdraw.ensures ∙ e))
 
 returns-7 : tie.Need-returns-else-m-gt15
-returns-7 c = let start : tie.Start = search in let a = start.args in let at_call : tie.In-Mark-2 = search in
+returns-7 c = let start : tie.Start = search in let a = start.args in let at_call : tie.In-Mark = search in
     log-mark a.call a.state.now _ at_call.in-Mark.is (omega (arith, c.if-m-gt15.false))
 
 returns-8 : tie.Need-returns-in-Return
-returns-8 c = let start : tie.Start = search in let a = start.args in let at-call2 : tie.In-Return-2 = search in
+returns-8 c = let start : tie.Start = search in let a = start.args in let at-call2 : tie.In-Return = search in
     log-return a.call a.state.now _ _ at-call2.in-Return.is c.return_row.ensures
 
 pub log_row_spec : {M : Type 1} → statement M

@@ -7,12 +7,12 @@ use Rattle.mulgreddi.proofs.mulgreddi_check.Tie as tie
 
 returns : tie.Need-returns-in-Accepted
 returns c =
-    let start : tie.Start = search in let at-layout : tie.In-Accepted-2 = search in let at-read-rule : tie.After-read_rule = search in
+    let start : tie.Start = search in let at-layout : tie.In-Accepted = search in let at-read-rule : tie.After-read_rule = search in
     checked-served start.args.file.now at-layout.in-Accepted.layout _
     (sym at-read-rule.read_rule.ensures ∙ at-layout.in-Accepted.is) c.checked.ensures
 
 returns-2 : tie.Need-returns-in-Refused
-returns-2 c = let start : tie.Start = search in let at_row : tie.In-Refused-2 = search in let at-read-rule : tie.After-read_rule = search in
+returns-2 c = let start : tie.Start = search in let at_row : tie.In-Refused = search in let at-read-rule : tie.After-read_rule = search in
     checked_refused start.args.file.now at_row.in-Refused.row _
     (sym at-read-rule.read_rule.ensures ∙ at_row.in-Refused.is) c.refused.ensures
 

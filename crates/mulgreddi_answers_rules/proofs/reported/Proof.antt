@@ -7,7 +7,7 @@ use Rattle.mulgreddi_answers_rules.proofs.reported.Tie as tie
 
 returns : tie.Need-returns-in-States
 unfolding loop_answer
-returns c = let at-answer : tie.In-States-2 = search in c.served.ensures ∙ sym (ap loop_answer at-answer.in-States.is)
+returns c = let at-answer : tie.In-States = search in c.served.ensures ∙ sym (ap loop_answer at-answer.in-States.is)
 
 returns-2 : tie.Need-returns-in-Nothing
 unfolding loop_answer
@@ -15,7 +15,7 @@ returns-2 c = c.served-in-Nothing.ensures ∙ sym (ap loop_answer c.before.in-No
 
 returns-3 : tie.Need-returns-in-Refused
 unfolding loop_answer
-returns-3 c = let at-answer2 : tie.In-Refused-2 = search in c.refused.ensures ∙ sym (ap loop_answer at-answer2.in-Refused.is)
+returns-3 c = let at-answer2 : tie.In-Refused = search in c.refused.ensures ∙ sym (ap loop_answer at-answer2.in-Refused.is)
 
 pub reported_spec : {M : Type 1} → statement M
 reported_spec = tie.close (tie.spec

@@ -7,11 +7,11 @@ use Rattle.mulgreddi_answers_stricter.proofs.compared.Tie as tie
 
 returns : tie.Need-returns-in-Yes
 unfolding comparison_answer
-returns c = let at-answer : tie.In-Yes-2 = search in c.told.ensures ∙ sym (ap comparison_answer at-answer.in-Yes.is)
+returns c = let at-answer : tie.In-Yes = search in c.told.ensures ∙ sym (ap comparison_answer at-answer.in-Yes.is)
 
 returns-2 : tie.Need-returns-in-No
 unfolding comparison_answer
-returns-2 c = let at-answer2 : tie.In-No-2 = search in c.told-in-No.ensures ∙ sym (ap comparison_answer at-answer2.in-No.is)
+returns-2 c = let at-answer2 : tie.In-No = search in c.told-in-No.ensures ∙ sym (ap comparison_answer at-answer2.in-No.is)
 
 returns-3 : tie.Need-returns-in-Refused
 unfolding comparison_answer

@@ -15,7 +15,7 @@ returns-2 c = c.served-in-Different.ensures ∙ sym (ap same_words_answer c.befo
 
 returns-3 : tie.Need-returns-in-Refused
 unfolding same_words_answer
-returns-3 c = let at-answer : tie.In-Refused-2 = search in c.refused.ensures ∙ sym (ap same_words_answer at-answer.in-Refused.is)
+returns-3 c = let at-answer : tie.In-Refused = search in c.refused.ensures ∙ sym (ap same_words_answer at-answer.in-Refused.is)
 
 pub same_words_spec : {M : Type 1} → statement M
 same_words_spec = tie.close (tie.spec

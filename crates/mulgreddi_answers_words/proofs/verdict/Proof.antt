@@ -15,7 +15,7 @@ returns-2 c = c.served-in-No.ensures ∙ sym (ap verdict_answer c.before.in-No.i
 
 returns-3 : tie.Need-returns-in-Refused
 unfolding verdict_answer
-returns-3 c = let at-answer : tie.In-Refused-2 = search in c.refused.ensures ∙ sym (ap verdict_answer at-answer.in-Refused.is)
+returns-3 c = let at-answer : tie.In-Refused = search in c.refused.ensures ∙ sym (ap verdict_answer at-answer.in-Refused.is)
 
 pub verdict_spec : {M : Type 1} → statement M
 verdict_spec = tie.close (tie.spec

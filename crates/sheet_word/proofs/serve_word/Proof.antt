@@ -62,7 +62,7 @@ returns c =
     let at-learn-cycle : tie.After-learn_cycle-known = search in let t = tidy_of at-learn-cycle in let T = t.tidy_at-tidy.ensures in let W = over (start_of t) in let a = (start_of t).args in
     let z = (start_of t).requires in let r = rule_of a.rule.head a.counts.now a.clauses.now in let L = at-learn-cycle.learn_cycle-known.ensures in
     let k = at-learn-cycle.learn_cycle-known.result.number in let p = t.tidy_at-tidy.result.size in
-    let (rule, (counts, (starts, (clauses, (sheet, (sought, (from, (size, (filled, rest))))))))) = at-learn-cycle.learn_cycle-known.new in let long : 32 * k + p - 32 * k ≡ p = omega arith in
+    let filled = at-learn-cycle.learn_cycle-known.new.filled in let long : 32 * k + p - 32 * k ≡ p = omega arith in
     let masks : take (32 * k + p - 32 * k) (drop (32 * k) filled) ≡ truth_masks r [] (take p (drop t.tidy_at-tidy.result.begin a.sheet.now))
     = ap (λ (x : ℕ). take x (drop (32 * k) filled)) (long ∙ sym (part-long T W)) ∙ L.masks in
     let at-write-masks : tie.After-write_masks = search in

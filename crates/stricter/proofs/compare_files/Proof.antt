@@ -6,7 +6,7 @@ use borrow.Author.Rules.{rules}
 use Rattle.stricter.proofs.compare_files.Statement.{statement}
 use Rattle.stricter.proofs.compare_files.Tie as tie
 
-abbrev start-of-at-n : tie.In-Table-2 → tie.Start
+abbrev start-of-at-n : tie.In-Table → tie.Start
 start-of-at-n c = search
 
 returns : tie.Need-returns-then-l-m
@@ -27,18 +27,18 @@ compare-other-requires c κs =
 returns-2 : tie.Need-returns-in-Refused
 returns-2 c =
     let start : tie.Start = search in let a = start.args in let p = start.requires in let at-zero-rooms : tie.After-zero_rooms = search in let z = at-zero-rooms.zero_rooms.ensures in
-    let at_row : tie.In-Refused-2 = search in let at-build-accepted : tie.After-build_accepted = search in
+    let at_row : tie.In-Refused = search in let at-build-accepted : tie.After-build_accepted = search in
     let E = made-refused (rw at_row.in-Refused.is at at-build-accepted.build_accepted.ensures) in let else1 : tie.Else-l-m = search in
     let same = sym (file-letters a.a.now p.0) ∙ else1.if-l-m.false ∙ file-letters a.b.now p.1 in
     refused-zero (own-refused a.a.now a.b.now _ same E) E.some E.zeroes E.codes-zero E.moves-zero z.0 z.1 refl refl
 
 returns-3 : tie.Need-returns-in-Table
 returns-3 c =
-    let at-compare-other : tie.After-compare_other = search in let else1 : tie.Else-l-m = search in let at_n : tie.In-Table-2 = search in
+    let at-compare-other : tie.After-compare_other = search in let else1 : tie.Else-l-m = search in let at_n : tie.In-Table = search in
     -- a path, as above
     let f = at_n.before.before.before.before.before.before.build_accepted in
     let start : tie.Start = start-of-at-n (search) in let a = start.args in let p = start.requires in let (file, (layout, (holds, (e, (d, rest))))) = f.auto in
-    let (file, (layout, (holds, (codes, (moves, rest))))) = f.new in let same = sym (file-letters a.a.now p.0) ∙ else1.if-l-m.false ∙ file-letters a.b.now p.1 in
+    let codes = f.new.codes in let moves = f.new.moves in let same = sym (file-letters a.a.now p.0) ∙ else1.if-l-m.false ∙ file-letters a.b.now p.1 in
     let row = made_row a.a.now true p.0 (rw at_n.in-Table.is at f.ensures) e d in
     lent_same (own-served a.a.now a.b.now _ same codes moves row) (other-settles a.a.now a.b.now _) e d refl refl refl refl
     at-compare-other.compare_other.ensures

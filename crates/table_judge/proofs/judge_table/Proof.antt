@@ -9,12 +9,12 @@ use Rattle.table_judge.proofs.judge_table.Tie as tie
 
 judge-lent-requires : tie.Need-judge_lent-requires
 judge-lent-requires c κs =
-    let start : tie.Start = search in let f = start.args.file.now in let at-l : tie.In-Accepted-2 = search in let l = at-l.in-Accepted.l in let at-read-rule : tie.After-read_rule = search in
+    let start : tie.Start = search in let f = start.args.file.now in let at-l : tie.In-Accepted = search in let l = at-l.in-Accepted.l in let at-read-rule : tie.After-read_rule = search in
     initial-low f l (served f l (sym at-read-rule.read_rule.ensures ∙ at-l.in-Accepted.is))
 
 returns : tie.Need-returns-in-Accepted
 returns c =
-    let start : tie.Start = search in let a = start.args in let at-l : tie.In-Accepted-2 = search in let at-read-rule : tie.After-read_rule = search in
+    let start : tie.Start = search in let a = start.args in let at-l : tie.In-Accepted = search in let at-read-rule : tie.After-read_rule = search in
     let at-judge-lent : tie.After-judge_lent = search in
     judged-called (served a.file.now at-l.in-Accepted.l (sym at-read-rule.read_rule.ensures ∙ at-l.in-Accepted.is))
     (rw (both_words a.codes.now, both_words a.transitions.now) at at-judge-lent.judge_lent.ensures)

@@ -34,7 +34,7 @@ count_of c = search
 
 -- the marks of the cycle
 abbrev cycle-marks : tie.After-fill_cycle → List ℕ
-cycle-marks c = let (codes, (codebytes, (moves, (movebytes, (cycle, (marks, rest)))))) = c.fill_cycle.new in marks
+cycle-marks c = let marks = c.fill_cycle.new.marks in marks
 
 -- they are as many as are left behind those of the lead-in
 long : (c : tie.After-fill_cycle) → let at-fill-with : tie.After-fill_with = search in let w = at-fill-with.fill_with.new.xs in

@@ -14,4 +14,4 @@ returns-2 c = let start : tie.Start = search in let at-take-numbered : tie.After
     start-same start.args.i (omega arith) at-take-numbered.take_numbered-w.ensures c.if-w-i.false
 
 pub take_start_spec : {M : Type 1} → statement M
-take_start_spec = tie.close (tie.spec (λ c. search rules) (λ c κs. let start : tie.Start = search in (start.requires.0, omega arith, omega arith)) returns returns-2)
+take_start_spec = tie.close (tie.spec (λ c κs. let start : tie.Start = search in (start.requires.0, omega arith, omega arith)) returns returns-2)

@@ -44,7 +44,7 @@ returns-6 c =
 
 pub take_state_spec : {M : Type 1} → statement M
 take_state_spec = tie.close (tie.spec
-    (λ c. search rules) (λ c κs. omega arith) (λ c κs. search rules) returns (λ c κs. search rules) returns-2
+    (λ c κs. omega arith) (λ c κs. search rules) returns (λ c κs. search rules) returns-2
     (λ c κs. let start : tie.Start = search in (start.requires.0, omega arith)) (λ c κs. search rules) returns-3 (λ c κs. search rules) returns-4
-    (λ c. search rules) (λ c κs. let at-take-word : tie.After-take_word-w = search in ((at-take-word.take_word-w.ensures.found (omega arith)).1, omega arith)) returns-5
+    (λ c κs. let at-take-word : tie.After-take_word-w = search in ((at-take-word.take_word-w.ensures.found (omega arith)).1, omega arith)) returns-5
     take-byte-requires returns-6)

@@ -37,5 +37,5 @@ returns-2 c =
 
 pub put_start_spec : {M : Type 1} → statement M
 put_start_spec = tie.close (tie.spec
-    returns (λ c. search rules) (λ c κs. omega (arith, long (search))) (λ c κs. omega (arith, long (search)))
+    returns (λ c κs. omega (arith, long (search))) (λ c κs. omega (arith, long (search)))
     (λ c κs. omega (arith, long (search))) (λ c. search rules) returns-2)

@@ -45,5 +45,5 @@ returns-2 c =
 
 pub put_state_spec : {M : Type 1} → statement M
 put_state_spec = tie.close (tie.spec
-    (λ c. search rules) put-requires put-number-requires (λ c. search rules) put-requires-2 (λ c. search rules) returns put-byte-requires (λ c. search rules)
+    put-requires put-number-requires put-requires-2 (λ c. search rules) returns put-byte-requires (λ c. search rules)
     returns-2)

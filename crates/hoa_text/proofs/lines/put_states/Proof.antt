@@ -15,6 +15,6 @@ returns c =
 
 pub put_states_spec : {M : Type 1} → statement M
 put_states_spec = tie.close (tie.spec
-    (λ c. search rules) (λ c κs. let start : tie.Start = search in omega (arith, states-length start.args.states))
+    (λ c κs. let start : tie.Start = search in omega (arith, states-length start.args.states))
     (λ c κs. let start : tie.Start = search in omega (arith, states-length start.args.states))
     (λ c κs. let start : tie.Start = search in omega (arith, states-length start.args.states)) (λ c. search rules) returns)

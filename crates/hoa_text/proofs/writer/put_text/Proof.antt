@@ -40,7 +40,7 @@ returns c =
 
 pub put_text_spec : {M : Type 1} → statement M
 put_text_spec = tie.close (tie.spec
-    (λ c. search rules) (λ c κs. omega (arith, room (search))) (λ c κs. omega (arith, room (search)))
+    (λ c κs. omega (arith, room (search))) (λ c κs. omega (arith, room (search)))
     (λ c κs. let start : tie.Start = search in (start.requires.1, omega (arith, room start))) (λ c κs. let start : tie.Start = search in (start.requires.0, omega (arith, room start)))
-    (λ c κs. omega (arith, room (search))) put-blocks-requires (λ c. search rules) (λ c κs. let at-out3 : tie.After-out-3-1 = search in omega (arith, room (search)))
+    (λ c κs. omega (arith, room (search))) put-blocks-requires (λ c κs. let at-out3 : tie.After-out-3-1 = search in omega (arith, room (search)))
     (λ c. search rules) returns)

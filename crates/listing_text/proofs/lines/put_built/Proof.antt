@@ -27,4 +27,4 @@ returns c =
     (put_then at-put-word2.put_word-c.ensures at-put-byte.put_byte.ensures))
 
 pub put_built_spec : {M : Type 1} → statement M
-put_built_spec = tie.close (tie.spec (λ c. search rules) put-requires put-word-requires put-word-requires-2 put-byte-requires (λ c. search rules) returns)
+put_built_spec = tie.close (tie.spec put-requires put-word-requires put-word-requires-2 put-byte-requires (λ c. search rules) returns)

@@ -18,5 +18,5 @@ returns c =
 
 pub put_refused_spec : {M : Type 1} → statement M
 put_refused_spec = tie.close (tie.spec
-    (λ c. search rules) put-requires (λ c κs. let start : tie.Start = search in omega (arith, refused-length start.args.row))
+    put-requires (λ c κs. let start : tie.Start = search in omega (arith, refused-length start.args.row))
     (λ c κs. let start : tie.Start = search in omega (arith, refused-length start.args.row)) (λ c. search rules) returns)

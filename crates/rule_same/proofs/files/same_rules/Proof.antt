@@ -10,7 +10,7 @@ use Rattle.rule_same.proofs.files.same_rules.Tie as tie
 
 same-files-requires : tie.Need-same_files-requires
 same-files-requires c κs =
-    let at-read-rule : tie.After-read_rule = search in let at-l : tie.In-Accepted-2 = search in let at-read-rule2 : tie.After-read_rule-in-Accepted = search in
+    let at-read-rule : tie.After-read_rule = search in let at-l : tie.In-Accepted = search in let at-read-rule2 : tie.After-read_rule-in-Accepted = search in
     (sym at-read-rule.read_rule.ensures ∙ at-l.in-Accepted.is, sym at-read-rule2.read_rule-in-Accepted.ensures ∙ c.before.in-Accepted-read_rule.is)
 
 returns : tie.Need-returns-in-Refused
@@ -20,14 +20,14 @@ returns c = let start : tie.Start = search in let a = start.args in let at-read-
 
 returns-2 : tie.Need-returns-in-Refused-read_rule
 returns-2 c =
-    let start : tie.Start = search in let a = start.args in let at-l : tie.In-Accepted-2 = search in let l = at-l.in-Accepted.l in let at-read-rule : tie.After-read_rule = search in
+    let start : tie.Start = search in let a = start.args in let at-l : tie.In-Accepted = search in let l = at-l.in-Accepted.l in let at-read-rule : tie.After-read_rule = search in
     let p : read_of a.first.now ≡ Accepted l = sym at-read-rule.read_rule.ensures ∙ at-l.in-Accepted.is in let at-read-rule2 : tie.After-read_rule-in-Accepted = search in
     let e : read_of a.second.now ≡ Refused c.before.in-Refused-read_rule.second_row = sym at-read-rule2.read_rule-in-Accepted.ensures ∙ c.before.in-Refused-read_rule.is in
     refused-second _ _ c.before.in-Refused-read_rule.second_row (served _ l p).row (turned-away _ c.before.in-Refused-read_rule.second_row e)
 
 returns-3 : tie.Need-returns-in-Accepted-read_rule
 returns-3 c =
-    let start : tie.Start = search in let a = start.args in let at-l : tie.In-Accepted-2 = search in let l = at-l.in-Accepted.l in let at-m : tie.In-Accepted-read_rule-2 = search in
+    let start : tie.Start = search in let a = start.args in let at-l : tie.In-Accepted = search in let l = at-l.in-Accepted.l in let at-m : tie.In-Accepted-read_rule = search in
     let m = at-m.in-Accepted-read_rule.m in let at-read-rule : tie.After-read_rule = search in
     let p : read_of a.first.now ≡ Accepted l = sym at-read-rule.read_rule.ensures ∙ at-l.in-Accepted.is in let at-read-rule2 : tie.After-read_rule-in-Accepted = search in
     let q : read_of a.second.now ≡ Accepted m = sym at-read-rule2.read_rule-in-Accepted.ensures ∙ at-m.in-Accepted-read_rule.is in

@@ -31,7 +31,7 @@ visit-all-requires c κs = let start : tie.Start invariant-loop decreases-loop =
 
 loop-less : tie.Need-loop-smaller invariant-loop decreases-loop
 loop-less c = let at-loop : At-loop = search in let at-visit-all : After-visit-all = search in let grown = at-visit-all.visit_all.ensures.grown c.loop-test.true in
-    let (lcodes, (left, (rcodes, (right, (marks, rest))))) = at-visit-all.visit_all.new in let most = sum-bytes marks (λ i. omega (arith, c.before.slice_known-in-loop-1.given i)) in
+    let marks = at-visit-all.visit_all.new.marks in let most = sum-bytes marks (λ i. omega (arith, c.before.slice_known-in-loop-1.given i)) in
     omega (arith, at-visit-all.visit_all.ensures.long, at-loop.loop.invariant.long)
 
 loop-again : tie.Need-loop-preserved invariant-loop decreases-loop

@@ -80,7 +80,7 @@ lowest-requires-2 c κs = let start : Start = search in let p = start.requires i
 explore-requires-3 : tie.Need-explore-requires-in-loop-marks-2 invariant-loop decreases-loop
 explore-requires-3 c κs =
     let start : Start = search in let p = start.requires in let at-explore2 : After-explore2 = search in let e = at-explore2.explore-in-loop-marks.ensures in
-    let (lcodes, (left, (rcodes, (right, (origin, (marks, rest)))))) = at-explore2.explore-in-loop-marks.new in (
+    let marks = at-explore2.explore-in-loop-marks.new.marks in (
       searchable-fits _ p.0 p.1 (e.same.long ∙ long (search)),
       met-place marks c.before.lowest-v.result c.before.lowest-v.ensures.0,
     )

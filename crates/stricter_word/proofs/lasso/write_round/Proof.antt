@@ -52,7 +52,7 @@ way-length-requires : tie.Need-way_length-n-requires
 way-length-requires c κs =
     let start : tie.Start = search in let a = start.args in let p = start.requires in let at-explore : tie.After-explore = search in let x = at-explore.explore in let e = x.ensures in
     let one = accepts_in a.lcodes.now a.rcodes.now false in let at-serves : tie.After-serves = search in let else1 : tie.Else-not-serves = search in
-    let (lcodes, (left, (rcodes, (right, (origin, (marks, rest)))))) = x.new in (
+    let marks = x.new.marks in (
       (p.0, p.1, e.same.long ∙ p.2),
       e.back a.start (met_by (get_or marks a.start 0) (one a.start) _ at-serves.serves.ensures
           (not_f _ else1.if-not-serves.false)),
@@ -70,7 +70,7 @@ returns-3 c =
     let two = accepts_in a.lcodes.now a.rcodes.now true in let p = start.requires in
     let some = back_some (step-lettered (searchable-paired p.0 p.1)) (kind-low _ _) a.start _ w.1 in let else2 : tie.Else-not-serves-2 = search in
     let at-serves2 : tie.After-serves-2 = search in let else1 : tie.Else-not-serves = search in let at-serves : tie.After-serves = search in let at-write-way : tie.After-write_way = search in
-    let (lcodes, (left, (rcodes, (right, (origin, (marks, rest)))))) = x.new in record {
+    let marks = x.new.marks in record {
       same = e.same;
       short = omega (arith, w.0, e.same.long);
       none = λ z. absurd (omega (arith, some, z));
