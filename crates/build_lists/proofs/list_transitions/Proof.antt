@@ -33,18 +33,18 @@ returns : tie.Need-returns-then-g
 returns c =
     let start : tie.Start = search in let a = start.args in let at-transitions : tie.After-transitions-g = search in let g = at-transitions.transitions-g in
     let at-room-of : tie.After-room_of-room = search in let room = at-room-of.room_of-room in (
-      kept a.n a.codes.now g.new.codes.0 g.ensures.0,
+      kept a.n a.codes.now g.new.codes g.ensures.0,
       λ r T C.
-          padded-full _ room.result a.out.now g.new.out room.ensures g.auto.0 (transitions_from r (start_of r a.shape.holds)) g.result.m g.result.full c.if-g.true
+          padded-full _ room.result a.out.now g.new.out room.ensures g.auto.out (transitions_from r (start_of r a.shape.holds)) g.result.m g.result.full c.if-g.true
           ((g.ensures.1 r T C.listed).crowded c.if-g.true),
     )
 
 zero-from-requires : tie.Need-zero_from-requires
 zero-from-requires c κs =
     let start : tie.Start = search in let a = start.args in let p = start.requires in let at-transitions : tie.After-transitions-g = search in let g = at-transitions.transitions-g in
-    let at-room-of : tie.After-room_of-room = search in let room = at-room-of.room_of-room in let long = whole _ room.result a.out.now g.new.out room.ensures g.auto.0 in
+    let at-room-of : tie.After-room_of-room = search in let room = at-room-of.room_of-room in let long = whole _ room.result a.out.now g.new.out room.ensures g.auto.out in
     let few = room_fits _ _ _ room.ensures in
-    let fits = fits_whole _ room.result a.out.now g.new.out room.ensures g.auto.0 g.result.m (g.ensures.1 p.0 p.1 p.2.listed).fits in omega arith
+    let fits = fits_whole _ room.result a.out.now g.new.out room.ensures g.auto.out g.result.m (g.ensures.1 p.0 p.1 p.2.listed).fits in omega arith
 
 returns-2 : tie.Need-returns
 returns-2 c =
@@ -52,9 +52,9 @@ returns-2 c =
     let at-room-of : tie.After-room_of-room = search in let room = at-room-of.room_of-room in let at-zero-from : tie.After-zero_from = search in
     let zeros : at-zero-from.zero_from.new.xs ≡ zeroed_from g.result.m (g.new.out ++ drop room.result a.out.now) = at-zero-from.zero_from.ensures in
     let else1 : tie.Else-g = search in (
-      kept a.n a.codes.now g.new.codes.0 g.ensures.0,
+      kept a.n a.codes.now g.new.codes g.ensures.0,
       λ r T C. let L = g.ensures.1 r T C.listed in
-          padded _ room.result a.out.now g.new.out room.ensures g.auto.0 (transitions_from r (start_of r a.shape.holds)) g.result.m L.fits
+          padded _ room.result a.out.now g.new.out room.ensures g.auto.out (transitions_from r (start_of r a.shape.holds)) g.result.m L.fits
           (L.listed else1.if-g.false) at-zero-from.zero_from.new.xs zeros,
     )
 

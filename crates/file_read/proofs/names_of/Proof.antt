@@ -7,7 +7,7 @@ use Rattle.file_read.proofs.names_of.Statement.{statement}
 use Rattle.file_read.proofs.names_of.Tie as tie
 
 returns : tie.Need-returns-then-count-eq0
-returns c = let start : tie.Start = search in let a = start.args in names-none a.f.now a.l start.requires c.before.if-count-eq0.true
+returns c = let start : tie.Start = search in let a = start.args in names-none a.f.now a.l start.requires c.if-count-eq0.true
 
 -- there are names
 some-names : (c : tie.Else-count-eq0) → 0 < c.before.args.l.names

@@ -18,8 +18,8 @@ returns c = let start : tie.Start = search in let at-l : tie.In-Accepted = searc
 
 returns-2 : tie.Need-returns-in-Refused
 returns-2 c = let start : tie.Start = search in let at-read-rule : tie.After-read_rule = search in
-    preface-refused start.args.f.now c.before.in-Refused.field-0
-    (sym at-read-rule.read_rule.ensures ∙ c.before.in-Refused.is)
+    preface-refused start.args.f.now c.in-Refused.field-0
+    (sym at-read-rule.read_rule.ensures ∙ c.in-Refused.is)
 
 pub preface_spec : {M : Type 1} → statement M
 preface_spec = tie.close (tie.spec (λ c κs. search rules) (λ c. search rules) slice-aggregate-result (λ c. search rules) (λ c. omega arith) returns returns-2)

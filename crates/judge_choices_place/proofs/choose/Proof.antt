@@ -13,12 +13,12 @@ use Rattle.judge_choices_place.proofs.choose.Tie as tie
 cast-choices : tie.Need-overflow_cast-choices
 cast-choices c =
     let start : tie.Start = search in let a = start.args in let p = start.requires in let r = rule_of a.h a.counts.now a.clauses.now in let at-met-at : tie.After-met_at = search in
-    let l = clause-listed a.set (entry r a.q a.a) c.before.in-Clause.j (sym at-met-at.met_at.ensures ∙ c.before.in-Clause.is) in
+    let l = clause-listed a.set (entry r a.q a.a) c.in-Clause.j (sym at-met-at.met_at.ensures ∙ c.in-Clause.is) in
     omega (arith, l, entry-few r p.0 a.q a.a p.2 p.3)
 
 returns : tie.Need-returns-in-Clause
 unfolding is_met put_met
-returns c = let at-met-at : tie.After-met_at = search in let e = sym at-met-at.met_at.ensures ∙ c.before.in-Clause.is in rw e search rules
+returns c = let at-met-at : tie.After-met_at = search in let e = sym at-met-at.met_at.ensures ∙ c.in-Clause.is in rw e search rules
 
 returns-2 : tie.Need-returns-in-Nothing
 unfolding is_met put_met

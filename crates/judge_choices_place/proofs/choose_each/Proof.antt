@@ -72,7 +72,7 @@ loop-less c = let at-loop : tie.At-loop-left invariant-loop decreases-loop = sea
 
 loop-again : tie.Need-loop-left-preserved invariant-loop decreases-loop
 loop-again c =
-    let in-loop : In-loop = search in let start = start_of in-loop in let l = in-loop.before.loop-left in let a = start.args in let p = start.pre in
+    let in-loop : In-loop = search in let start = start_of in-loop in let l = in-loop.before.loop-left in let a = start.args in let p = start.requires in
     let r = rule_of a.rule.head a.counts.now a.clauses.now in let f : Set = λ x. satisfies a.rule.head.n (bit (aim_of r a.all a.near x)) (entry r x a.a) in
     let q = count_trailing_zeros 8 l.left in let k = below in-loop in let pos : 0 < l.left = omega arith in let small = few in-loop in
     let one : 1 * 2 ^ q % 2 ^ 8 ≡ 2 ^ q = shl_one 8 q (low in-loop) in let class = get_or a.rule.classes q 0 in let at-difference : tie.After-difference invariant-loop decreases-loop = search in
@@ -87,10 +87,10 @@ loop-again c =
       elim c.if-choose.branch [ then-choose w ↦ rw (w.found-is, one) (or_lt a.rule.head.n l.found (2 ^ q) l.invariant.1 (pow-lt k)) | else-choose w ↦ rw w.found-is l.invariant.1 ],
       λ x. elim c.if-choose.branch [ then-choose w ↦ rw (w.found-is, one) (walk-yes f l.found l.left pos small (sym test ∙ w.if-choose.true) x) ∙ l.invariant.2 x | else-choose w ↦ rw w.found-is (walk_no f l.found l.left pos small (sym test ∙ w.if-choose.false) x) ∙ l.invariant.2 x ],
       ap length new ∙ put-length m (a.base + q) l.choices ∙ l.invariant.3,
-      λ x i. ap (λ (ys : List ℕ). get_or ys (a.base + x) 0) new ∙ ⊎_elim
-          (λ w. rw (w.1, one) (here-yes a.rule.head.n a.base number a.choices.now l.choices l.found room l.invariant.4 m q k (sym met ∙ w.0.taken) refl x i))
-          (λ w. rw w.1 (here-no a.rule.head.n a.base number a.choices.now l.choices l.found room l.invariant.4 m q k (sym met ∙ w.0.left) x i))
-          c.if-choose.branch,
+      λ x i. ap (λ (ys : List ℕ). get_or ys (a.base + x) 0) new ∙ elim c.if-choose.branch [
+            then-choose w ↦ rw (w.found-is, one) (here-yes a.rule.head.n a.base number a.choices.now l.choices l.found room l.invariant.4 m q k (sym met ∙ w.if-choose.true) refl x i)
+          | else-choose w ↦ rw w.found-is (here-no a.rule.head.n a.base number a.choices.now l.choices l.found room l.invariant.4 m q k (sym met ∙ w.if-choose.false) x i)
+          ],
       λ i j. ap (λ (ys : List ℕ). get_or ys i 0) new ∙ others-on a.rule.head.n a.base number a.choices.now l.choices l.found room l.invariant.4 m q k l.invariant.5 i j,
     )
 
@@ -102,6 +102,6 @@ returns c =
 
 pub choose_each_spec : {M : Type 1} → statement M
 choose_each_spec = tie.close (tie.spec
-    invariant-loop decreases-loop loop-holds (λ c. omega (arith, low c)) (λ c. omega (arith, low c)) (λ c κs. search rules) add-choose choose-requires
+    invariant-loop decreases-loop loop-holds (λ c. omega (arith, low (search))) (λ c. omega (arith, low (search))) (λ c κs. search rules) add-choose choose-requires
     (λ c. omega (arith, low (search))) (λ c. omega (arith, low (search)))
     (λ c. omega arith) loop-less loop-again (λ c. c.before.loop-left.invariant.3) returns)

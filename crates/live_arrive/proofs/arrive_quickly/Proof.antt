@@ -51,7 +51,7 @@ cast-put-byte c = let else1 : tie.Else-not-can_try = search in let start : tie.S
 put-byte-requires : tie.Need-put_byte-requires
 put-byte-requires c κs =
     let t = tried (search) in let at-step-part : tie.After-step_part = search in let at-number-at : tie.After-number_at-k = search in let at-put-number : tie.After-put_number = search in
-    omega (arith, t.free, t.long, at-number-at.number_at-k.ensures, at-step-part.step_part.auto, at-put-number.put_number.auto.0)
+    omega (arith, t.free, t.long, at-number-at.number_at-k.ensures, at-step-part.step_part.auto, at-put-number.put_number.auto.state)
 
 returns-3 : tie.Need-returns
 returns-3 c =

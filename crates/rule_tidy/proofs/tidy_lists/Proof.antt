@@ -78,7 +78,7 @@ loop-again c =
     let at-tidy-entry : tie.After-tidy_entry-kept invariant-loop decreases-loop = search in let t = at-tidy-entry.tidy_entry-kept in let in-loop : In-loop = search in
     let r = room at-loop in-loop.loop-i-test.true in
     passed_entry a.counts.now a.clauses.now a.counts2.now a.clauses2.now l.counts2 l.clauses2 l.from l.to l.i l.invariant
-    in-loop.loop-i-test.true (omega (arith, r, p.2, l.invariant.broad)) (omega (arith, p.1, l.invariant.long)) t.result t.new.out.0 t.ensures.0
+    in-loop.loop-i-test.true (omega (arith, r, p.2, l.invariant.broad)) (omega (arith, p.1, l.invariant.long)) t.result t.new.out t.ensures.0
     t.ensures.1
 
 returns : tie.Need-returns invariant-loop decreases-loop

@@ -53,25 +53,25 @@ module _ (c : tie.After-least_of invariant-loop decreases-loop) where
   at-onto-of2 = search
 
   abbrev t : ℕ
-  t = get_or start.args.left.now at-loop.loop.c 0
+  t = get_or start.args.left.now at-loop.loop-c.c 0
 
-  node : at-onto-of2.onto-of2.result * start.args.nb + at-loop.before.onto-of.result ≡ onto_of_lem t * start.args.nb + onto_of_lem start.args.u
-  node = ap₂ (λ (x y : ℕ). x * start.args.nb + y) at-onto-of2.onto-of2.ensures at-loop.before.onto-of.ensures
+  node : at-onto-of2.onto_of.result * start.args.nb + at-loop.before.onto_of-q.result ≡ onto_of_lem t * start.args.nb + onto_of_lem start.args.u
+  node = ap₂ (λ (x y : ℕ). x * start.args.nb + y) at-onto-of2.onto_of.ensures at-loop.before.onto_of-q.ensures
 
   least : c.least_of.result ≡ needed start.args.ask.other (sparing (cond start.args.ask.second start.args.u t) start.args.ask.k)
   least = c.least_of.ensures ∙ ap (λ (v : ℕ). needed start.args.ask.other (sparing v start.args.ask.k)) c.before.pick.ensures
 
 returns : tie.Need-returns-then-least_of-marks invariant-loop decreases-loop
 returns c =
-    let at-least-of : tie.After-least_of invariant-loop decreases-loop = search in let l = (at-loop at-least-of).loop in let a = (start at-least-of).args in
+    let at-least-of : tie.After-least_of invariant-loop decreases-loop = search in let l = (at-loop at-least-of).loop-c in let a = (start at-least-of).args in
     record {
-      yes = λ r. (l.c, l.inv.0, omega arith, rw (← node at-least-of, ← least at-least-of) (omega arith));
+      yes = λ r. (l.c, l.invariant.0, omega arith, rw (← node at-least-of, ← least at-least-of) (omega arith));
       no = λ r. absurd (true≢false r);
     }
 
 loop-again : tie.Need-loop-c-preserved invariant-loop decreases-loop
 loop-again c =
-    let at-least-of : tie.After-least_of invariant-loop decreases-loop = search in let l = (at-loop at-least-of).loop in let a = (start at-least-of).args in (
+    let at-least-of : tie.After-least_of invariant-loop decreases-loop = search in let l = (at-loop at-least-of).loop-c in let a = (start at-least-of).args in (
       omega arith,
       one_more (λ p. get_or a.marks.now (onto_of_lem (get_or a.left.now p 0) * a.nb + onto_of_lem a.u) 0 < needed a.ask.other
           (sparing (cond a.ask.second a.u (get_or a.left.now p 0)) a.ask.k))

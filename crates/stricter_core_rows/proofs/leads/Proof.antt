@@ -52,12 +52,12 @@ module _ (at-loop : At-loop) where
       start.args.ask.other start.args.marks.now (i * start.args.nb + start.args.j) r
 
   letter-low : at-loop.loop-p.p < length start.args.right.now → letter_of_lem u < 16
-  letter-low l = let (((na, fit), low, few, least), (cuts, rows)) = start.pre in fit.letters_b u (mem-at start.args.right.now at-loop.loop-p.p l)
+  letter-low l = let (((na, fit), low, few, least), (cuts, rows)) = start.requires in fit.letters_b u (mem-at start.args.right.now at-loop.loop-p.p l)
 
   -- the row of j has ended
   ended : (at-loop.loop-p.p < length start.args.right.now → row_of_lem u ≡ start.args.j → ⊥) → Found Bool.false
   ended end i h cut =
-      let a = start.args in let (((na, fit), low, few, least), (cuts, rows)) = start.pre in
+      let a = start.args in let (((na, fit), low, few, least), (cuts, rows)) = start.requires in
       missed-leading a.nb a.left.now a.right.now a.marks.now a.ask.second a.ask.k a.ask.other a.cuts.now
       fit a.j low i cut rows at-loop.loop-p.p at-loop.loop-p.invariant.0 end at-loop.loop-p.invariant.2 least
 
@@ -79,14 +79,14 @@ returns : tie.Need-returns-then-row_of-j invariant-loop decreases-loop
 returns c = let at-loop : At-loop = search in ended at-loop (λ h e. omega (arith, c.before.row_of.ensures))
 
 has-marked-requires : tie.Need-has_marked-requires invariant-loop decreases-loop
-has-marked-requires c κs = let at-loop : At-loop = search in let (((na, fit), low, few, least), (cuts, rows)) = (start at-loop).pre in
+has-marked-requires c κs = let at-loop : At-loop = search in let (((na, fit), low, few, least), (cuts, rows)) = (start at-loop).requires in
     let m = mem-at (start at-loop).args.right.now at-loop.loop-p.p (omega arith) in let small = letter-low at-loop (omega arith) in
     let at-letter-of : tie.After-letter_of-a invariant-loop decreases-loop = search in let l : at-letter-of.letter_of-a.result ≡ letter_of_lem (u at-loop) = at-letter-of.letter_of-a.ensures in
     (few, cuts (at-letter-of.letter_of-a.result + 1) (omega arith), λ t n. rw fit.marked (digits_lt (fit.onto_a t n) (fit.onto_b (u at-loop) m)))
 
 returns-2 : tie.Need-returns-then-has_marked invariant-loop decreases-loop
 returns-2 c =
-    let at-loop : At-loop = search in let a = (start at-loop).args in let (((na, fit), low, few, least), (cuts, rows)) = (start at-loop).pre in
+    let at-loop : At-loop = search in let a = (start at-loop).args in let (((na, fit), low, few, least), (cuts, rows)) = (start at-loop).requires in
     let at-row-of : tie.After-row_of invariant-loop decreases-loop = search in let at-letter-of : tie.After-letter_of-a invariant-loop decreases-loop = search in
     let s : row_of_lem (u at-loop) ≡ a.j = omega (arith, at-row-of.row_of.ensures) in
     λ i h cut. met-leading a.nb a.left.now a.right.now a.marks.now a.ask.second a.ask.k a.ask.other a.cuts.now

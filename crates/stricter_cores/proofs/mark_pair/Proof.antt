@@ -39,10 +39,10 @@ module _ (c : tie.After-leads) where
 
 returns-2 : tie.Need-returns-then-not-leads
 returns-2 c = let start : tie.Start = search in let a = start.args in tried-stays (a.i * a.nb + a.j) a.marks.now
-    (λ h. (told c.before).no (not_t _ c.if-not-leads.true))
+    (λ h. (told c.before).no c.if-not-leads.true)
 
 returns-3 : tie.Need-returns
-returns-3 c = let start : tie.Start = search in let a = start.args in let yes : c.before.leads.result ≡ true = not_f _ c.if-not-leads.false in
+returns-3 c = let start : tie.Start = search in let a = start.args in let yes : c.before.leads.result ≡ true = c.if-not-leads.false in
     let one : get_or a.marks.now (a.i * a.nb + a.j) 0 ≡ 1 = omega arith in tried-marks
     one (record { yes = λ r. (told c.before).yes yes; no = λ r. absurd (true≢false r) })
 

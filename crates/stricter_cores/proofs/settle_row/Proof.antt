@@ -32,7 +32,7 @@ After-next-set = tie.After-next_set-y invariant-loop decreases-loop
 returns : tie.Need-returns-then-not-stands invariant-loop decreases-loop
 returns c = let start : Start = search in let a = start.args in
     settled-out (a.i * a.nb) (a.i * a.nb + a.nb) a.marks.now (row_out a.acodes.now a.nb a.marks.now start.requires.1 a.i
-    (sym c.before.stands.ensures ∙ not_t _ c.if-not-stands.true))
+    (sym c.before.stands.ensures ∙ c.if-not-stands.true))
 
 -- the row ends within the marks
 ends : (c : Start) → c.args.i * c.args.nb + c.args.nb ≤ length c.args.marks.now

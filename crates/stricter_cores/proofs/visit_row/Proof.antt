@@ -14,7 +14,7 @@ use Rattle.stricter_cores.proofs.visit_row.Tie as tie
 returns : tie.Need-returns-then-not-stands
 returns c = let start : tie.Start = search in let a = start.args in tried-none (a.i * a.nb) (a.i * a.nb + a.nb) a.marks.now
     (λ x f t h. let z = row_out a.acodes.now a.nb a.marks.now start.requires.1 a.i
-    (sym c.before.stands.ensures ∙ not_t _ c.if-not-stands.true) x f t in omega arith)
+    (sym c.before.stands.ensures ∙ c.if-not-stands.true) x f t in omega arith)
 
 -- the pairs of the row have marks
 room : (c : tie.Else-not-stands) → let start : tie.Start = search in

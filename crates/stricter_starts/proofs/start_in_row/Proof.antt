@@ -33,7 +33,7 @@ room c = rw c.requires.0 (place-room (length c.args.bcodes.now) c.args.i (length
 returns : tie.Need-returns-then-not-begins_here invariant-loop decreases-loop
 returns c = let start : Start = search in let a = start.args in
     no_start a.acodes.now a.bcodes.now (λ x. bit x a.ainitial) (λ x. not (bit x a.binitial)) a.marks.now a.i
-    start.requires.1 (sym c.before.begins_here.ensures ∙ not_t _ c.if-not-begins_here.true)
+    start.requires.1 (sym c.before.begins_here.ensures ∙ c.if-not-begins_here.true)
 
 loop-holds : tie.Need-loop-x-init invariant-loop decreases-loop
 loop-holds c =
@@ -44,7 +44,7 @@ loop-holds c =
       n.before.ordered,
       n.within,
       n.set,
-      and_r (stands_in a.acodes.now a.i) _ (sym at-begins-here.begins_here.ensures ∙ not_f _ c.before.if-not-begins_here.false),
+      and_r (stands_in a.acodes.now a.i) _ (sym at-begins-here.begins_here.ensures ∙ c.before.if-not-begins_here.false),
       none-zeros a.acodes.now a.bcodes.now (λ x. bit x a.ainitial) (λ x. not (bit x a.binitial)) a.marks.now a.i n.before,
     )
 

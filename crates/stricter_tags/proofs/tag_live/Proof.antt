@@ -21,14 +21,14 @@ note-live-requires c κs = let start : tie.Start = search in let ((r, from, T, f
 tag-table-requires : tie.Need-tag_table-requires
 tag-table-requires c κs =
     let start : tie.Start = search in let ((r, from, T, few, e, f), long) = start.requires in let at-note-live : tie.After-note_live = search in let n = at-note-live.note_live in
-    (r, from, T, omega (arith, n.auto.0), n.ensures.0 ∙ e, f)
+    (r, from, T, omega (arith, n.auto.codes), n.ensures.0 ∙ e, f)
 
 returns : tie.Need-returns
 returns c =
     let start : tie.Start = search in let a = start.args in let at-note-live : tie.After-note_live = search in let n = at-note-live.note_live in
     -- a path, since `rw` abstracts no place that an abbreviation gives and `search` does not reach so far
     let at-tag-table = c.before.before.before.before.before.before.before.before.before in let t = at-tag-table.tag_table in let at-bury : tie.After-bury = search in let b = at-bury.bury in
-    λ r from T few e f. let (X, Y) = t.ensures r from T (omega (arith, n.auto.0)) (n.ensures.0 ∙ e) f in
+    λ r from T few e f. let (X, Y) = t.ensures r from T (omega (arith, n.auto.codes)) (n.ensures.0 ∙ e) f in
     let U : TaggedCodes a.codes.now _ = rw n.ensures.0 at X in
     let W : TaggedMoves (automaton r) a.codes.now a.moves.now _ = rw n.ensures.0 at Y in (
       told-codes (live_marks a.codes.now a.moves.now) U (low-all a.codes.now (rw e (codes-low T.shaped.passing from (rw e at few))))

@@ -17,12 +17,12 @@ tag-codes-requires c κs = let start : tie.Start = search in let (r, start, T, f
 tag-moves-requires : tie.Need-tag_moves-requires
 tag-moves-requires c κs =
     let start : tie.Start = search in let (r, start, T, few, e, f) = start.requires in let at-tag-codes : tie.After-tag_codes = search in let t = at-tag-codes.tag_codes in
-    (r, start, T, omega (arith, t.auto.0), rw e at t.ensures, f)
+    (r, start, T, omega (arith, t.auto.codes), rw e at t.ensures, f)
 
 returns : tie.Need-returns
 returns c =
     let at-tag-codes : tie.After-tag_codes = search in let t = at-tag-codes.tag_codes in let at-tag-moves : tie.After-tag_moves = search in
-    λ r start T few e f. (t.ensures, rw e (at-tag-moves.tag_moves.ensures r start T (omega (arith, t.auto.0)) (rw e at t.ensures) f))
+    λ r start T few e f. (t.ensures, rw e (at-tag-moves.tag_moves.ensures r start T (omega (arith, t.auto.codes)) (rw e at t.ensures) f))
 
 pub tag_table_spec : {M : Type 1} → statement M
 tag_table_spec = tie.close (tie.spec tag-codes-requires tag-moves-requires (λ c. search rules) (λ c. search rules) returns)

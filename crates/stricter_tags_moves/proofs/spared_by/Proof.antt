@@ -15,7 +15,7 @@ returns-2 c = let start : tie.Start = search in let a = start.args in sym (ap on
 
 returns-3 : tie.Need-returns
 returns-3 c = let start : tie.Start = search in let a = start.args in
-    sym (ap one (spared-not a.classes (a.levels / 2 ^ 60 % 16) (omega (arith, c.before.if-classes-eq0.false)) (omega (arith, c.if-levels-classes.false, start.fits))))
+    sym (ap one (spared-not a.classes (a.levels / 2 ^ 60 % 16) (omega (arith, c.before.if-classes-eq0.false)) (omega (arith, c.if-levels-classes.false, start.ranges.classes.fits))))
 
 pub spared_by_spec : {M : Type 1} → statement M
 spared_by_spec = tie.close (tie.spec returns returns-2 returns-3)

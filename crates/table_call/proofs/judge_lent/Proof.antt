@@ -57,7 +57,7 @@ served c = let at_count = count_of c in let a = (start_of at_count.before).args 
 cleared : (c : tie.After-slice_known-3-1) → let at-fill-with : tie.After-fill_with = search in
     at-fill-with.fill_with.new.xs ≡ replicate (length (start_of (count_of c).before).args.scratch.now) 0
 cleared c = let at-fill-with : tie.After-fill_with = search in let f = at-fill-with.fill_with in
-    let k : length f.new.xs ≡ length (start_of (count_of c).before).args.scratch.now = search rules in f.ensures ∙ ap (λ (n : ℕ). replicate n 0) (sym f.auto.0 ∙ k)
+    let k : length f.new.xs ≡ length (start_of (count_of c).before).args.scratch.now = search rules in f.ensures ∙ ap (λ (n : ℕ). replicate n 0) (sym f.auto.xs ∙ k)
 
 returns-4 : tie.Need-returns-then-m-n
 returns-4 c = let at-search : tie.After-search-m = search in let s = at-search.search-m.ensures in

@@ -41,7 +41,7 @@ long : (c : tie.After-fill_cycle) → let at-fill-with : tie.After-fill_with = s
     let at = length (start_of (count_of c)).args.lead.now * (count_of c).count-n.result in (at ≤ length w) × (length (cycle-marks c) ≡ length w - at)
 long c =
     let at-fill-with : tie.After-fill_with = search in let w = at-fill-with.fill_with in let at = length (start_of (count_of c)).args.lead.now * (count_of c).count-n.result in
-    let fits : at ≤ length w.new.xs = omega (arith, sizes (count_of c), w.auto.0) in (fits, omega (arith, c.fill_cycle.auto, end-length w.new.xs at fits))
+    let fits : at ≤ length w.new.xs = omega (arith, sizes (count_of c), w.auto.xs) in (fits, omega (arith, c.fill_cycle.auto, end-length w.new.xs at fits))
 
 -- there is room for a place behind them
 room : (c : tie.After-count-n) → let a = (start_of c).args in length a.lead.now * c.count-n.result + c.count-n.result ≤ length a.marks.now
@@ -53,7 +53,7 @@ enter-lead-requires : tie.Need-enter_lead-requires
 enter-lead-requires c κs =
     let at-fill-cycle : tie.After-fill_cycle = search in let at_count = count_of at-fill-cycle in let p = (start_of at_count).requires in let at-fill-with : tie.After-fill_with = search in
     let w = at-fill-with.fill_with in let f = at-fill-cycle.fill_cycle in let l = long at-fill-cycle in (
-      rw (whole_length w.new.xs (cycle-marks at-fill-cycle) _ l.0 l.1, w.auto.0) (room at_count),
+      rw (whole_length w.new.xs (cycle-marks at-fill-cycle) _ l.0 l.1, w.auto.xs) (room at_count),
       λ t m. rw at_count.count-n.ensures (p.sources t m, p.targets t m),
       λ x k. whole-front w.new.xs (cycle-marks at-fill-cycle) _ l.0 l.1 x k
           ∙ rw w.ensures (get_or-replicate (length (start_of at_count).args.marks.now) x 0 0 (omega (arith, sizes at_count))),
@@ -65,7 +65,7 @@ returns c =
     let w = at-fill-with.fill_with in let f = at-fill-cycle.fill_cycle in let e = at_count.count-n.ensures in let l = long at-fill-cycle in
     let at-enter-lead : tie.After-enter_lead = search in
     tracked _ _ _ _ _ _ p.repeats p.targets (rw e at at-enter-lead.enter_lead.ensures)
-    (λ m low. rw (sym e, whole-end w.new.xs (cycle-marks at-fill-cycle) _ l.0 l.1 m (omega (arith, room at_count, e, w.auto.0, l.1, low))) (f.ensures m low))
+    (λ m low. rw (sym e, whole-end w.new.xs (cycle-marks at-fill-cycle) _ l.0 l.1 m (omega (arith, room at_count, e, w.auto.xs, l.1, low))) (f.ensures m low))
 
 pub fill_spec : {M : Type 1} → statement M
 fill_spec = tie.close (tie.spec

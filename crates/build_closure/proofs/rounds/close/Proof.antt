@@ -45,7 +45,7 @@ round-requires c κs =
     let in-loop : tie.In-loop-from invariant-loop decreases-loop = search in ((p.0.0, p.0.1, l.invariant.3 p.0.0 p.0.1 p.0.2), l.invariant.0, in-loop.loop-from-test.true, p.2)
 
 same_length : tie.Need-shape_of-keys-then-g invariant-loop decreases-loop
-same_length c = let at-round : After-round = search in let at-loop : At-loop = search in at-round.round-g.auto.0 ∙ at-loop.loop-from.invariant.2
+same_length c = let at-round : After-round = search in let at-loop : At-loop = search in at-round.round-g.auto.keys ∙ at-loop.loop-from.invariant.2
 
 returns : tie.Need-returns-then-g invariant-loop decreases-loop
 returns c = let at-loop : At-loop = search in let v = at-loop.loop-from.invariant in let at-round : After-round = search in
@@ -63,7 +63,7 @@ loop-again c =
     let at-round : After-round = search in let g = at-round.round-g in let G = g.ensures e.0 e.1 (v.3 e.0 e.1 e.2) in (
       G.kept,
       omega (arith, G.more),
-      g.auto.0 ∙ v.2,
+      g.auto.keys ∙ v.2,
       (λ r T R. all-kept (g.ensures r T (v.3 r T R)) (v.3 r T R)),
       (λ r T R H. close-next (v.4 r T R H) (g.ensures r T (v.3 r T R)) c.if-g.false),
     )

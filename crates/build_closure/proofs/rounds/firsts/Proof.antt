@@ -78,6 +78,6 @@ loop-again c =
 pub firsts_spec : {M : Type 1} → statement M
 firsts_spec = tie.close (tie.spec
     invariant-loop decreases-loop loop-holds visit-first-requires
-    (λ c. let at-visit-first : After-visit-first = search in at-visit-first.visit_first-g.auto.0 ∙ long-at (search)) returns
-    (λ c. let at-visit-first : After-visit-first = search in at-visit-first.visit_first-g.auto.0 ∙ long-at (search))
+    (λ c. let at-visit-first : After-visit-first = search in at-visit-first.visit_first-g.auto.keys ∙ long-at (search)) returns
+    (λ c. let at-visit-first : After-visit-first = search in at-visit-first.visit_first-g.auto.keys ∙ long-at (search))
     returns-2 next-ranks-requires loop-less loop-again)

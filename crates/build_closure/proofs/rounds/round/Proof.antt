@@ -92,6 +92,6 @@ loop-again c = let at-loop : At-loop = search in let l = at-loop.loop-g in let a
 pub round_spec : {M : Type 1} → statement M
 round_spec = tie.close (tie.spec
     invariant-loop decreases-loop (λ c κs. search rules) (λ c. search rules) (λ c. let start : Start = search in (omega arith, refl, λ r T R. upto-start start.requires.1))
-    visit-set-requires (λ c. let at-visit-set : After-visit-set = search in at-visit-set.visit_set-g.auto.0 ∙ long-at (search)) returns
-    (λ c. let at-visit-set : After-visit-set = search in at-visit-set.visit_set-g.auto.0 ∙ long-at (search))
+    visit-set-requires (λ c. let at-visit-set : After-visit-set = search in at-visit-set.visit_set-g.auto.keys ∙ long-at (search)) returns
+    (λ c. let at-visit-set : After-visit-set = search in at-visit-set.visit_set-g.auto.keys ∙ long-at (search))
     returns-2 add-x loop-less loop-again)

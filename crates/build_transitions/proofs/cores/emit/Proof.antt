@@ -41,7 +41,7 @@ emit-core-requires c κs =
 
 same_length : tie.Need-shape_of-out-then-g invariant-loop decreases-loop
 same_length c =
-    let at-emit-core : tie.After-emit_core-g invariant-loop decreases-loop = search in let at-loop : At-loop = search in at-emit-core.emit_core-g.auto.0 ∙ at-loop.loop-j.invariant.2
+    let at-emit-core : tie.After-emit_core-g invariant-loop decreases-loop = search in let at-loop : At-loop = search in at-emit-core.emit_core-g.auto.out ∙ at-loop.loop-j.invariant.2
 
 returns : tie.Need-returns-then-g invariant-loop decreases-loop
 returns c =
@@ -59,7 +59,7 @@ loop-again-2 c =
     let g = at-emit-core.emit_core-g in (
       omega (arith, inside),
       c.if-g.false,
-      g.auto.0 ∙ l.invariant.2,
+      g.auto.out ∙ l.invariant.2,
       (g.ensures e.0 e.1 e.2).kept.fits,
       λ r T R. emitted-next (l.invariant.4 r T R) l.invariant.1 (g.ensures r T R) (fresh T p.1 R l.j inside new),
     )

@@ -53,7 +53,7 @@ emit-letter-requires c κs =
 
 same_length : tie.Need-shape_of-out-then-g invariant-loop decreases-loop
 same_length c =
-    let at-emit-letter : tie.After-emit_letter-g invariant-loop decreases-loop = search in let at-loop : At-loop = search in at-emit-letter.emit_letter-g.auto.0 ∙ at-loop.loop-a.invariant.2
+    let at-emit-letter : tie.After-emit_letter-g invariant-loop decreases-loop = search in let at-loop : At-loop = search in at-emit-letter.emit_letter-g.auto.out ∙ at-loop.loop-a.invariant.2
 
 returns : tie.Need-returns-then-g invariant-loop decreases-loop
 returns c = let start : Start = search in let a = start.args in let at-loop : At-loop = search in let l = at-loop.loop-a in
@@ -69,7 +69,7 @@ loop-again c =
     let at-emit-letter : tie.After-emit_letter-g invariant-loop decreases-loop = search in let g = at-emit-letter.emit_letter-g in (
       omega (arith, known),
       c.if-g.false,
-      g.auto.0 ∙ l.invariant.2,
+      g.auto.out ∙ l.invariant.2,
       (g.ensures e.0 e.1 e.2).kept.fits,
       λ r T R. emitted-next (l.invariant.4 r T R) l.invariant.1 (g.ensures r T R)
           (letters-apart T a.keys.now (bit_and x 281474976710655 / 2 ^ 16) start.requires.1.few l.a known),

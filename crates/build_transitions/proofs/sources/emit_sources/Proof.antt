@@ -39,7 +39,7 @@ emit-source-requires c κs = let start : Start = search in let p = start.require
 
 same_length : tie.Need-shape_of-out-then-g invariant-loop decreases-loop
 same_length c = let at-emit-source : After-emit-source = search in let at-loop : At-loop = search in
-    at-emit-source.emit_source-g.auto.0 ∙ at-loop.loop-g.invariant.walked.made.long
+    at-emit-source.emit_source-g.auto.out ∙ at-loop.loop-g.invariant.walked.made.long
 
 returns : tie.Need-returns-then-g invariant-loop decreases-loop
 returns c = let start : Start = search in let at-loop : At-loop = search in let at-emit-source : After-emit-source = search in
@@ -47,7 +47,7 @@ returns c = let start : Start = search in let at-loop : At-loop = search in let 
 
 same-length-2 : tie.Need-shape_of-out-then-i-eq0 invariant-loop decreases-loop
 same-length-2 c = let at-emit-source : After-emit-source = search in let at-loop : At-loop = search in
-    at-emit-source.emit_source-g.auto.0 ∙ at-loop.loop-g.invariant.walked.made.long
+    at-emit-source.emit_source-g.auto.out ∙ at-loop.loop-g.invariant.walked.made.long
 
 returns-2 : tie.Need-returns-then-i-eq0 invariant-loop decreases-loop
 returns-2 c = let at-loop : At-loop = search in let start : Start = search in let at-emit-source : After-emit-source = search in

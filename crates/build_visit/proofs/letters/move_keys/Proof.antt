@@ -40,7 +40,7 @@ move-key-requires c κs = let start : Start = search in let p = start.requires i
 
 same_length : tie.Need-shape_of-keys-then-g invariant-loop decreases-loop
 same_length c = let at-move-key : After-move-key = search in let at-loop : At-loop = search in
-    at-move-key.move_key-g.auto.0 ∙ at-loop.loop-i.invariant.walked.made.long
+    at-move-key.move_key-g.auto.keys ∙ at-loop.loop-i.invariant.walked.made.long
 
 returns : tie.Need-returns-then-g invariant-loop decreases-loop
 returns c = let at-loop : At-loop = search in let at-move-key : After-move-key = search in
@@ -48,7 +48,7 @@ returns c = let at-loop : At-loop = search in let at-move-key : After-move-key =
 
 same-length-2 : tie.Need-shape_of-keys-then-i-eq0 invariant-loop decreases-loop
 same-length-2 c = let at-loop : At-loop = search in let at-move-key : After-move-key = search in
-    at-move-key.move_key-g.auto.0 ∙ at-loop.loop-i.invariant.walked.made.long
+    at-move-key.move_key-g.auto.keys ∙ at-loop.loop-i.invariant.walked.made.long
 
 returns-2 : tie.Need-returns-then-i-eq0 invariant-loop decreases-loop
 returns-2 c = let at-loop : At-loop = search in let at-move-key : After-move-key = search in

@@ -56,7 +56,7 @@ visit-letter-requires c κs = let start : Start = search in let p = start.requir
 
 same_length : tie.Need-shape_of-keys-then-g invariant-loop decreases-loop
 same_length c = let at-visit-letter : tie.After-visit_letter-g invariant-loop decreases-loop = search in let at-loop : At-loop = search in
-    at-visit-letter.visit_letter-g.auto.0 ∙ at-loop.loop-a.invariant.2
+    at-visit-letter.visit_letter-g.auto.keys ∙ at-loop.loop-a.invariant.2
 
 returns-2 : tie.Need-returns-then-g invariant-loop decreases-loop
 returns-2 c =
@@ -69,7 +69,7 @@ loop-again c =
     let at-visit-letter : tie.After-visit_letter-g invariant-loop decreases-loop = search in (
       omega (arith, then2.loop-a-test.true),
       c.if-g.false,
-      at-visit-letter.visit_letter-g.auto.0 ∙ l.invariant.2,
+      at-visit-letter.visit_letter-g.auto.keys ∙ l.invariant.2,
       λ r T R. let i = l.invariant.3 r T R in
           upto_next i l.invariant.1 (at-visit-letter.visit_letter-g.ensures r T (all-kept i R)) (λ y h. after_kept i (LeadsOver (automaton r) start.args.ranks l.a) h),
     )

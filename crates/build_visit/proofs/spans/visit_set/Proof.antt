@@ -110,6 +110,6 @@ loop-again c = let start : Start = search in let a = start.args in let at-loop :
 pub visit_set_spec : {M : Type 1} → statement M
 visit_set_spec = tie.close (tie.spec
     invariant-loop decreases-loop returns is-fresh-requires returns-2 span-of-requires loop-holds add-visit visit-requires
-    (λ c. let at-visit : After-visit = search in at-visit.visit-g.auto.0 ∙ long-at (search)) returns-3
-    (λ c. let at-visit : After-visit = search in at-visit.visit-g.auto.0 ∙ long-at (search)) returns-4
+    (λ c. let at-visit : After-visit = search in at-visit.visit-g.auto.keys ∙ long-at (search)) returns-3
+    (λ c. let at-visit : After-visit = search in at-visit.visit-g.auto.keys ∙ long-at (search)) returns-4
     next-ranks-requires loop-less loop-again)

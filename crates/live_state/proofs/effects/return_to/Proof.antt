@@ -20,13 +20,13 @@ put-number-requires c κs = let start : tie.Start = search in let a = start.args
 
 copy-letters-requires : tie.Need-copy_letters-requires
 copy-letters-requires c κs =
-    let start : tie.Start = search in let pre = start.requires in let at-put-number : tie.After-put_number = search in let first = at-put-number.put_number.auto.0 in
+    let start : tie.Start = search in let pre = start.requires in let at-put-number : tie.After-put_number = search in let first = at-put-number.put_number.auto.state in
     (omega (arith, pre.0, pre.2.long, first), omega (arith, pre.2.long, first), inr (omega arith))
 
 refresh-requires : tie.Need-refresh-requires
 refresh-requires c κs =
     let start : tie.Start = search in let pre = start.requires in let at-put-number : tie.After-put_number = search in let at-copy-letters : tie.After-copy_letters = search in
-    (pre.1, record { few = pre.2.few; inside = pre.2.inside; long = omega (arith, pre.2.long, at-copy-letters.copy_letters.auto.0, at-put-number.put_number.auto.0) })
+    (pre.1, record { few = pre.2.few; inside = pre.2.inside; long = omega (arith, pre.2.long, at-copy-letters.copy_letters.auto.state, at-put-number.put_number.auto.state) })
 
 returns : tie.Need-returns
 unfolding returned numbered

@@ -21,7 +21,7 @@ add-put-byte c = let start : tie.Start = search in let at-number-at : tie.After-
 put-byte-requires : tie.Need-put_byte-requires
 put-byte-requires c κs =
     let start : tie.Start = search in let at-number-at : tie.After-number_at-n = search in let at-put-number : tie.After-put_number = search in
-    omega (arith, number-low start.args.state.now, at-number-at.number_at-n.ensures, start.requires.1.long, at-put-number.put_number.auto.0)
+    omega (arith, number-low start.args.state.now, at-number-at.number_at-n.ensures, start.requires.1.long, at-put-number.put_number.auto.state)
 
 refresh-requires : tie.Need-refresh-requires
 refresh-requires c κs =

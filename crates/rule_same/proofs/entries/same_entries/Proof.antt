@@ -30,13 +30,13 @@ unfolding same_entries_lem
 returns c = let start : Start = search in let a = start.args in let r = rule_of a.h a.counts.now a.clauses.now in
     let t = rule_of a.h a.counts2.now a.clauses2.now in let at-loop : tie.At-loop-q invariant-loop decreases-loop = search in let then1 : tie.In-loop-q invariant-loop decreases-loop = search in
     sym (every-stop a.h.n (λ p. every a.h.s (λ b. same_entry_lem a.h.n (entry r p b) (entry t p b))) at-loop.loop-q.q then1.loop-q-test.true
-    (sym c.before.same_state.ensures ∙ not_t _ c.if-not-same_state.true))
+    (sym c.before.same_state.ensures ∙ c.if-not-same_state.true))
 
 loop-again : tie.Need-loop-q-preserved invariant-loop decreases-loop
 loop-again c =
     let start : Start = search in let a = start.args in let at-loop : tie.At-loop-q invariant-loop decreases-loop = search in let l = at-loop.loop-q in
     let r = rule_of a.h a.counts.now a.clauses.now in let t = rule_of a.h a.counts2.now a.clauses2.now in
-    (omega arith, every-next l.q (λ p. every a.h.s (λ b. same_entry_lem a.h.n (entry r p b) (entry t p b))) l.invariant.1 (sym c.before.same_state.ensures ∙ not_f _ c.if-not-same_state.false))
+    (omega arith, every-next l.q (λ p. every a.h.s (λ b. same_entry_lem a.h.n (entry r p b) (entry t p b))) l.invariant.1 (sym c.before.same_state.ensures ∙ c.if-not-same_state.false))
 
 returns-2 : tie.Need-returns invariant-loop decreases-loop
 unfolding same_entries_lem

@@ -7,8 +7,8 @@ use Rattle.rule_same.proofs.entries.same_entry.Tie as tie
 
 returns-2 : tie.Need-returns
 returns-2 c =
-    let at-clauses-satisfy : tie.After-clauses_satisfy = search in rw (sym at-clauses-satisfy.clauses_satisfy.ensures ∙ not_f _ c.before.if-not-clauses_satisfy.false) c.clauses_satisfy-2.ensures
+    let at-clauses-satisfy : tie.After-clauses_satisfy = search in rw (sym at-clauses-satisfy.clauses_satisfy.ensures ∙ c.before.if-not-clauses_satisfy.false) c.clauses_satisfy-2.ensures
 
 pub same_entry_spec : {M : Type 1} → statement M
 same_entry_spec = tie.close (tie.spec
-    (λ c κs. search rules) (λ c. rw (sym c.before.clauses_satisfy.ensures ∙ not_t _ c.if-not-clauses_satisfy.true)) (λ c κs. search rules) returns-2)
+    (λ c κs. search rules) (λ c. rw (sym c.before.clauses_satisfy.ensures ∙ c.if-not-clauses_satisfy.true)) (λ c κs. search rules) returns-2)

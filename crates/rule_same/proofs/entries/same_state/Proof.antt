@@ -48,12 +48,12 @@ told c =
 returns : tie.Need-returns-then-not-same_entry invariant-loop decreases-loop
 returns c = let start : Start = search in let a = start.args in let at-loop : At-loop = search in let k = at-loop.loop-a.a in
     let r = rule_of a.h a.counts.now a.clauses.now in let t = rule_of a.h a.counts2.now a.clauses2.now in let then1 : tie.In-loop-a invariant-loop decreases-loop = search in
-    sym (every-stop a.h.s (λ b. same_entry_lem a.h.n (entry r a.q b) (entry t a.q b)) k then1.loop-a-test.true (sym (told c.before) ∙ not_t _ c.if-not-same_entry.true))
+    sym (every-stop a.h.s (λ b. same_entry_lem a.h.n (entry r a.q b) (entry t a.q b)) k then1.loop-a-test.true (sym (told c.before) ∙ c.if-not-same_entry.true))
 
 loop-again : tie.Need-loop-a-preserved invariant-loop decreases-loop
 loop-again c = let start : Start = search in let a = start.args in let at-loop : At-loop = search in let l = at-loop.loop-a in
     let r = rule_of a.h a.counts.now a.clauses.now in let t = rule_of a.h a.counts2.now a.clauses2.now in
-    (omega arith, every-next l.a (λ b. same_entry_lem a.h.n (entry r a.q b) (entry t a.q b)) l.invariant.1 (sym (told c.before) ∙ not_f _ c.if-not-same_entry.false))
+    (omega arith, every-next l.a (λ b. same_entry_lem a.h.n (entry r a.q b) (entry t a.q b)) l.invariant.1 (sym (told c.before) ∙ c.if-not-same_entry.false))
 
 returns-2 : tie.Need-returns invariant-loop decreases-loop
 returns-2 c = let start : Start = search in let a = start.args in let at-loop : At-loop = search in let l = at-loop.loop-a in

@@ -8,14 +8,14 @@ use Rattle.rule_same.proofs.files.same_bodies.Statement.{statement}
 use Rattle.rule_same.proofs.files.same_bodies.Tie as tie
 
 returns : tie.Need-returns-then-not-same_numbers
-returns c = let start : tie.Start = search in let p = start.requires in numbers-differ _ _ _ _ p.0 p.1 (sym c.before.same_numbers.ensures ∙ not_t _ c.if-not-same_numbers.true)
+returns c = let start : tie.Start = search in let p = start.requires in numbers-differ _ _ _ _ p.0 p.1 (sym c.before.same_numbers.ensures ∙ c.if-not-same_numbers.true)
 
 same-entries-requires : tie.Need-same_entries-requires
 same-entries-requires c κs =
     let start : tie.Start = search in let a = start.args in let p = start.requires in let at-same-numbers : tie.After-same_numbers = search in let else1 : tie.Else-not-same_numbers = search in
     let at-counts-of : tie.After-counts_of = search in let at-clauses-of : tie.After-clauses_of = search in
     both-formed a.first.now a.second.now a.l a.m p.0 p.1
-    (sym at-same-numbers.same_numbers.ensures ∙ not_f _ else1.if-not-same_numbers.false)
+    (sym at-same-numbers.same_numbers.ensures ∙ else1.if-not-same_numbers.false)
     at-counts-of.Counts-of.ensures at-clauses-of.clauses_of.ensures c.before.counts_of-2.ensures c.clauses_of-2.ensures
 
 abbrev start-of-after-same-entries : tie.After-same_entries → tie.Start
@@ -27,7 +27,7 @@ told c =
     let a = (start-of-after-same-entries c).args in let p = (start-of-after-same-entries c).requires in let at-same-numbers : tie.After-same_numbers = search in let else1 : tie.Else-not-same_numbers = search in
     let at-counts-of : tie.After-counts_of = search in let at-clauses-of : tie.After-clauses_of = search in let at-counts-of2 : tie.After-counts_of-2 = search in
     same-told a.first.now a.second.now a.l a.m p.0 p.1
-    (sym at-same-numbers.same_numbers.ensures ∙ not_f _ else1.if-not-same_numbers.false)
+    (sym at-same-numbers.same_numbers.ensures ∙ else1.if-not-same_numbers.false)
     at-counts-of.Counts-of.ensures at-clauses-of.clauses_of.ensures at-counts-of2.counts_of-2.ensures c.before.clauses_of-2.ensures
     c.same_entries.result c.same_entries.ensures
 

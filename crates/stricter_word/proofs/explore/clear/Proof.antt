@@ -19,7 +19,7 @@ loop-holds c = let n = c.next_set-x.ensures in (refl, n.set, clearing-over _ n.b
 
 next-set-requires-2 : tie.Need-next_set-x-requires-in-loop-x invariant-loop decreases-loop
 next-set-requires-2 c κs =
-    let at-loop : tie.At-loop-x invariant-loop decreases-loop = search in let l = at-loop.loop-x in let h = length-set l.marks l.x 1 in (omega (arith, h, c.before.loop-x-test.true), omega arith)
+    let at-loop : tie.At-loop-x invariant-loop decreases-loop = search in let l = at-loop.loop-x in let h = length-set l.marks l.x 1 in (omega (arith, h, c.loop-x-test.true), omega arith)
 
 loop-less : tie.Need-loop-x-smaller invariant-loop decreases-loop
 loop-less c = let in-loop : tie.In-loop-x invariant-loop decreases-loop = search in let at-loop : tie.At-loop-x invariant-loop decreases-loop = search in

@@ -90,8 +90,8 @@ returns-2 c = let start : Start = search in let a = start.args in let l = c.befo
 pub expand_spec : {M : Type 1} → statement M
 expand_spec = tie.close (tie.spec
     invariant-loop decreases-loop (λ c. search rules) place-requires loop-holds (λ c. search rules) (λ c. search rules) (λ c κs. search rules)
-    (λ c. let at-loop : At-loop = search in at-loop.loop-k.invariant.2) returns (λ c κs. search rules) (λ c. let h = low c in omega arith)
-    (λ c. let h = low c in omega arith) (λ c. let h = low c.before in omega arith) (λ c. let h = low c.before in omega arith)
-    (λ c. let h = low c.before in omega arith) (λ c κs. search rules) (λ c. let h = low (search) in omega arith)
+    (λ c. let at-loop : At-loop = search in at-loop.loop-k.invariant.2) returns (λ c κs. search rules) (λ c. let h = low (search) in omega arith)
+    (λ c. let h = low (search) in omega arith) (λ c. let h = low (search) in omega arith) (λ c. let h = low (search) in omega arith)
+    (λ c. let h = low (search) in omega arith) (λ c κs. search rules) (λ c. let h = low (search) in omega arith)
     (λ c. let h = low (search) in omega arith) add-meet-2 meet-requires (λ c. search rules) (λ c. search rules) loop-again
     (λ c. c.before.loop-k.invariant.2) returns-2)

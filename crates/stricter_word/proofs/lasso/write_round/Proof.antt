@@ -55,7 +55,7 @@ way-length-requires c κs =
     let marks = x.new.marks in (
       (p.0, p.1, e.same.long ∙ p.2),
       e.back a.start (met_by (get_or marks a.start 0) (one a.start) _ at-serves.serves.ensures
-          (not_f _ else1.if-not-serves.false)),
+          else1.if-not-serves.false),
     )
 
 write-way-requires : tie.Need-write_way-requires
@@ -75,8 +75,8 @@ returns-3 c =
       short = omega (arith, w.0, e.same.long);
       none = λ z. absurd (omega (arith, some, z));
       written = λ l. at-write-way.write_way.ensures;
-      first = λ l. passed-by (get_or marks a.start 0) (one a.start) _ at-serves.serves.ensures (not_f _ else1.if-not-serves.false);
-      second = λ l. passed-by (get_or marks a.start 0) (two a.start) _ at-serves2.serves-2.ensures (not_f _ else2.if-not-serves-2.false);
+      first = λ l. passed-by (get_or marks a.start 0) (one a.start) _ at-serves.serves.ensures else1.if-not-serves.false;
+      second = λ l. passed-by (get_or marks a.start 0) (two a.start) _ at-serves2.serves-2.ensures else2.if-not-serves-2.false;
     }
 
 pub write_round_spec : {M : Type 1} → statement M
