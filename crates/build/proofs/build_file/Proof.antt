@@ -14,8 +14,8 @@ build-accepted-requires c κs = let at-l : tie.In-Accepted = search in let at-re
 
 returns : tie.Need-returns-in-Refused
 returns c =
-    let start : tie.Start = search in let a = start.args in let k = c.before.in-Refused.row in let at-read-rule : tie.After-read_rule = search in
-    let e : read_of a.file.now ≡ Refused k = sym at-read-rule.read_rule.ensures ∙ c.before.in-Refused.is in
+    let start : tie.Start = search in let a = start.args in let k = c.in-Refused.row in let at-read-rule : tie.After-read_rule = search in
+    let e : read_of a.file.now ≡ Refused k = sym at-read-rule.read_rule.ensures ∙ c.in-Refused.is in
     filled-refused (λ r. start_of r a.holds) a.file.now a.codes.now a.transitions.now k (turned-away a.file.now k e)
 
 returns-2 : tie.Need-returns-in-Accepted

@@ -17,7 +17,7 @@ trim-requires c κs =
 
 returns : tie.Need-returns-in-Refused
 returns c =
-    let start : tie.Start = search in let a = start.args in let at-build : tie.After-build = search in let b = at-build.build.ensures in let e = c.before.in-Refused.is in
+    let start : tie.Start = search in let a = start.args in let at-build : tie.After-build = search in let b = at-build.build.ensures in let e = c.in-Refused.is in
     contract a.file.now a.codes.now a.transitions.now _ _ _ (refused-answer b e) (refused-codes b e) (refused-moves b e)
 
 returns-2 : tie.Need-returns-in-Table
@@ -30,7 +30,7 @@ returns-2 c =
 
 pub build_trimmed_spec : {M : Type 1} → statement M
 build_trimmed_spec = tie.close (tie.spec
-    (λ c κs. search rules) (λ c. search rules) (λ c. search rules) (λ c. let at-build : tie.After-build = search in codes-room at-build.build.ensures c.before.in-Table.is)
+    (λ c κs. search rules) (λ c. search rules) (λ c. search rules) (λ c. let at-build : tie.After-build = search in codes-room at-build.build.ensures c.in-Table.is)
     (λ c. let at-build : tie.After-build = search in let at_n : tie.In-Table = search in sym (length-take-le _ _ (codes-room at-build.build.ensures at_n.in-Table.is)))
     (λ c. let at-build : tie.After-build = search in let at_n : tie.In-Table = search in moves-room at-build.build.ensures at_n.in-Table.is)
     (λ c. let at-build : tie.After-build = search in let at_n : tie.In-Table = search in sym (length-take-le _ _ (moves-room at-build.build.ensures at_n.in-Table.is)))

@@ -13,11 +13,11 @@ use Rattle.file_tidy.proofs.rule_row.Statement.{statement}
 use Rattle.file_tidy.proofs.rule_row.Tie as tie
 
 returns : tie.Need-returns-then-first-ne0
-returns c = let start : tie.Start = search in by_layout start.args.f.now c.before.Layout-row.result c.if-first-ne0.true c.before.Layout-row.ensures
+returns c = let start : tie.Start = search in by_layout start.args.f.now c.before.layout_row-first.result c.if-first-ne0.true c.before.layout_row-first.ensures
 
 -- no row of the layout refuses
 pass : (c : tie.Else-first-ne0) → let start : tie.Start = search in first_row (layout_rows start.args.f.now) ≡ 0
-pass c = sym c.before.Layout-row.ensures ∙ c.if-first-ne0.false
+pass c = sym c.before.layout_row-first.ensures ∙ c.if-first-ne0.false
 
 known : (c : tie.Else-first-ne0) → let start : tie.Start = search in Placed start.args.f.now
 known c = let start : tie.Start = search in laid_out start.args.f.now (pass c)

@@ -38,8 +38,8 @@ returns c =
 
 returns-2 : tie.Need-returns-in-Refused
 returns-2 c =
-    let start : tie.Start = search in let a = start.args in let k = c.before.in-Refused.k in let at-read-rule : tie.After-read_rule = search in
-    let t = turned-away a.file.now k (sym at-read-rule.read_rule.ensures ∙ c.before.in-Refused.is) in
+    let start : tie.Start = search in let a = start.args in let k = c.in-Refused.k in let at-read-rule : tie.After-read_rule = search in
+    let t = turned-away a.file.now k (sym at-read-rule.read_rule.ensures ∙ c.in-Refused.is) in
     refused a.file.now (in_bytes_lem a.codes.now) (in_bytes_lem a.transitions.now) k a.text.now (λ e. t.1 (t.0 ∙ e)) (sym t.0)
 
 pub write_hoa_spec : {M : Type 1} → statement M

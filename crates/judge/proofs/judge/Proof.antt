@@ -18,7 +18,7 @@ read c = let at-read-rule : tie.After-read_rule = search in let at-l : tie.In-Ac
 judge-read-requires : tie.Need-judge_read-requires
 judge-read-requires c κs =
     let start : tie.Start = search in let at-l : tie.In-Accepted = search in let at-counts-of : tie.After-counts_of = search in
-    lent-passing start.args.file.now at-l.in-Accepted.l (read (search)) _ _ at-counts-of.Counts-of.ensures
+    lent-passing start.args.file.now at-l.in-Accepted.l (read (search)) _ _ at-counts-of.counts_of.ensures
     c.before.clauses_of.ensures
 
 returns : tie.Need-returns-in-Accepted
@@ -26,12 +26,12 @@ returns c =
     let start : tie.Start = search in let a = start.args in let at-l : tie.In-Accepted = search in let l = at-l.in-Accepted.l in let at-judge-read : tie.After-judge_read = search in
     let j = at-judge-read.judge_read in let at-h : tie.After-h-1 = search in let at-counts-of : tie.After-counts_of = search in let at-clauses-of : tie.After-clauses_of = search in
     judged-called a.file.now a.lead.now a.cycle.now a.masks.now _ j.result (served a.file.now l (read at-h)).row
-    (rw (lent-rule a.file.now l (read at-h) _ _ at-counts-of.Counts-of.ensures at-clauses-of.clauses_of.ensures) at j.ensures)
+    (rw (lent-rule a.file.now l (read at-h) _ _ at-counts-of.counts_of.ensures at-clauses-of.clauses_of.ensures) at j.ensures)
 
 returns-2 : tie.Need-returns-in-Refused
 returns-2 c =
-    let start : tie.Start = search in let a = start.args in let k = c.before.in-Refused.k in let at-read-rule : tie.After-read_rule = search in
-    let t = turned-away a.file.now k (sym at-read-rule.read_rule.ensures ∙ c.before.in-Refused.is) in
+    let start : tie.Start = search in let a = start.args in let k = c.in-Refused.k in let at-read-rule : tie.After-read_rule = search in
+    let t = turned-away a.file.now k (sym at-read-rule.read_rule.ensures ∙ c.in-Refused.is) in
     judged-refused a.file.now a.lead.now a.cycle.now a.masks.now a.masks.now k (λ e. t.1 (t.0 ∙ e)) (sym t.0)
 
 pub judge_spec : {M : Type 1} → statement M

@@ -20,25 +20,25 @@ use Rattle.judge.proofs.judge_read.Tie as tie
 
 returns : tie.Need-returns-then-row-ne0
 returns c = let start : tie.Start = search in let a = start.args in
-    called-refused (rule_of a.h a.counts.now a.clauses.now) a.lead.now a.cycle.now a.masks.now c.before.word_Row.result c.if-row-ne0.true
-    (word-refuses (rule_of a.h a.counts.now a.clauses.now) a.lead.now a.cycle.now (length a.masks.now) c.before.word_Row.result c.if-row-ne0.true
-    c.before.word_Row.ensures)
+    called-refused (rule_of a.h a.counts.now a.clauses.now) a.lead.now a.cycle.now a.masks.now c.before.word_row-row.result c.if-row-ne0.true
+    (word-refuses (rule_of a.h a.counts.now a.clauses.now) a.lead.now a.cycle.now (length a.masks.now) c.before.word_row-row.result c.if-row-ne0.true
+    c.before.word_row-row.ensures)
 
 returns-2 : tie.Need-returns-then-masks-lead
 returns-2 c = let start : tie.Start = search in let a = start.args in let at-word-row : tie.After-word_row-row = search in
     called-refused (rule_of a.h a.counts.now a.clauses.now) a.lead.now a.cycle.now a.masks.now 16 (λ e. omega arith)
-    (slice-refuses (rule_of a.h a.counts.now a.clauses.now) a.lead.now a.cycle.now (length a.masks.now) (sym at-word-row.word_Row.ensures ∙ c.before.if-row-ne0.false)
+    (slice-refuses (rule_of a.h a.counts.now a.clauses.now) a.lead.now a.cycle.now (length a.masks.now) (sym at-word-row.word_row-row.ensures ∙ c.before.if-row-ne0.false)
     c.if-masks-lead.true)
 
 fill-requires : tie.Need-fill-requires
 fill-requires c κs =
     let start : tie.Start = search in let a = start.args in let at-word-row : tie.After-word_row-row = search in let else1 : tie.Else-row-ne0 = search in
-    (start.requires, word_over a.h.s a.lead.now a.cycle.now (sym at-word-row.word_Row.ensures ∙ else1.if-row-ne0.false), c.before.if-masks-lead.false)
+    (start.requires, word_over a.h.s a.lead.now a.cycle.now (sym at-word-row.word_row-row.ensures ∙ else1.if-row-ne0.false), c.before.if-masks-lead.false)
 
 slice-read-contains : tie.Need-bounds-masks-0
 slice-read-contains c =
     let start : tie.Start = search in let a = start.args in let at-word-row : tie.After-word_row-row = search in let else1 : tie.Else-row-ne0 = search in
-    let w = word_over a.h.s a.lead.now a.cycle.now (sym at-word-row.word_Row.ensures ∙ else1.if-row-ne0.false) in let at_fill_lem : tie.After-fill = search in omega (
+    let w = word_over a.h.s a.lead.now a.cycle.now (sym at-word-row.word_row-row.ensures ∙ else1.if-row-ne0.false) in let at_fill_lem : tie.After-fill = search in omega (
       arith,
       simp length-append at (ap length at_fill_lem.fill.ensures),
       truth-length (rule_of a.h a.counts.now a.clauses.now) a.lead.now a.cycle.now,
@@ -54,7 +54,7 @@ served : (c : tie.After-contains) → let a = (start-of-after-contains c).args i
     → (t : Bool) → bit (get_or masks 0 0) a.h.initial ≡ t → JudgeCalled r a.lead.now a.cycle.now a.masks.now masks (verdict 0 t)
 served c masks f t e =
     let a = (start-of-after-contains c).args in let r = rule_of a.h a.counts.now a.clauses.now in
-    let else1 : tie.Else-row-ne0 = search in let row = sym else1.before.word_Row.ensures ∙ else1.if-row-ne0.false in let else2 : tie.Else-masks-lead = search in
+    let else1 : tie.Else-row-ne0 = search in let row = sym else1.before.word_row-row.ensures ∙ else1.if-row-ne0.false in let else2 : tie.Else-masks-lead = search in
     called-served r a.lead.now a.cycle.now a.masks.now (call-served r a.lead.now a.cycle.now (length a.masks.now) row else2.if-masks-lead.false)
     masks f (word_over a.h.s a.lead.now a.cycle.now row).repeats t e
 

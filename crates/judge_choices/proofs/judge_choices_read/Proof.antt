@@ -21,19 +21,19 @@ use Rattle.judge_choices.proofs.judge_choices_read.Tie as tie
 
 returns : tie.Need-returns-then-row-ne0
 returns c = let start : tie.Start = search in let a = start.args in let r = rule_of a.h a.counts.now a.clauses.now in
-    called-refused r a.lead.now a.cycle.now a.masks.now a.choices.now c.before.word_Row.result c.if-row-ne0.true
-    (word-refuses r a.lead.now a.cycle.now (length a.masks.now) (length a.choices.now) c.before.word_Row.result c.if-row-ne0.true c.before.word_Row.ensures)
+    called-refused r a.lead.now a.cycle.now a.masks.now a.choices.now c.before.word_row-row.result c.if-row-ne0.true
+    (word-refuses r a.lead.now a.cycle.now (length a.masks.now) (length a.choices.now) c.before.word_row-row.result c.if-row-ne0.true c.before.word_row-row.ensures)
 
 returns-2 : tie.Need-returns-then-masks-places
 returns-2 c =
     let start : tie.Start = search in let a = start.args in let r = rule_of a.h a.counts.now a.clauses.now in let at-word-row : tie.After-word_row-row = search in
     called-refused r a.lead.now a.cycle.now a.masks.now a.choices.now 16 (λ e. omega arith)
-    (masks-refuse r a.lead.now a.cycle.now (length a.masks.now) (length a.choices.now) (sym at-word-row.word_Row.ensures ∙ c.before.if-row-ne0.false) c.if-masks-places.true)
+    (masks-refuse r a.lead.now a.cycle.now (length a.masks.now) (length a.choices.now) (sym at-word-row.word_row-row.ensures ∙ c.before.if-row-ne0.false) c.if-masks-places.true)
 
 mul-if3 : tie.Need-overflow_mul-places
 mul-if3 c =
     let start : tie.Start = search in let a = start.args in let at-word-row : tie.After-word_row-row = search in let else1 : tie.Else-row-ne0 = search in
-    omega (arith, bytes-few a.h.n a.h.s a.lead.now a.cycle.now (sym at-word-row.word_Row.ensures ∙ else1.if-row-ne0.false) start.requires.formed.few_states)
+    omega (arith, bytes-few a.h.n a.h.s a.lead.now a.cycle.now (sym at-word-row.word_row-row.ensures ∙ else1.if-row-ne0.false) start.requires.formed.few_states)
 
 returns-3 : tie.Need-returns-then-choices-places
 returns-3 c =
@@ -41,12 +41,12 @@ returns-3 c =
     let else1 : tie.Else-row-ne0 = search in let else2 : tie.Else-masks-places = search in
     called-refused r a.lead.now a.cycle.now a.masks.now a.choices.now 16 (λ e. omega arith)
     (choices-refuse r a.lead.now a.cycle.now (length a.masks.now) (length a.choices.now)
-    (sym at-word-row.word_Row.ensures ∙ else1.if-row-ne0.false) else2.if-masks-places.false (omega (arith, c.if-choices-places.true)))
+    (sym at-word-row.word_row-row.ensures ∙ else1.if-row-ne0.false) else2.if-masks-places.false (omega (arith, c.if-choices-places.true)))
 
 fill-both-requires : tie.Need-fill_both-requires
 fill-both-requires c κs =
     let start : tie.Start = search in let a = start.args in let at-word-row : tie.After-word_row-row = search in let else1 : tie.Else-row-ne0 = search in
-    let row = sym at-word-row.word_Row.ensures ∙ else1.if-row-ne0.false in let else2 : tie.Else-masks-places = search in let else3 : tie.Else-choices-places = search in (
+    let row = sym at-word-row.word_row-row.ensures ∙ else1.if-row-ne0.false in let else2 : tie.Else-masks-places = search in let else3 : tie.Else-choices-places = search in (
       start.requires,
       word_over a.h.s a.lead.now a.cycle.now row,
       places-few a.h.s a.lead.now a.cycle.now row,
@@ -57,7 +57,7 @@ fill-both-requires c κs =
 slice-read-contains : tie.Need-bounds-masks-0
 slice-read-contains c =
     let start : tie.Start = search in let a = start.args in let else1 : tie.Else-row-ne0 = search in let at-word-row : tie.After-word_row-row = search in
-    let w = word_over a.h.s a.lead.now a.cycle.now (sym at-word-row.word_Row.ensures ∙ else1.if-row-ne0.false) in let at-fill-both : tie.After-fill_both = search in omega (
+    let w = word_over a.h.s a.lead.now a.cycle.now (sym at-word-row.word_row-row.ensures ∙ else1.if-row-ne0.false) in let at-fill-both : tie.After-fill_both = search in omega (
       arith,
       simp length-append at (ap length at-fill-both.fill_both.ensures.0),
       truth-length (rule_of a.h a.counts.now a.clauses.now) a.lead.now a.cycle.now,
@@ -74,7 +74,7 @@ served : (c : tie.After-contains) → let a = (start-of-after-contains c).args i
     → (t : Bool) → bit (get_or masks 0 0) a.h.initial ≡ t → CalledChoices r a.lead.now a.cycle.now a.masks.now masks a.choices.now choices (verdict 0 t)
 served c masks choices f t e =
     let a = (start-of-after-contains c).args in let r = rule_of a.h a.counts.now a.clauses.now in
-    let else1 : tie.Else-row-ne0 = search in let at-word-row : tie.After-word_row-row = search in let row = sym at-word-row.word_Row.ensures ∙ else1.if-row-ne0.false in
+    let else1 : tie.Else-row-ne0 = search in let at-word-row : tie.After-word_row-row = search in let row = sym at-word-row.word_row-row.ensures ∙ else1.if-row-ne0.false in
     let w = word_over a.h.s a.lead.now a.cycle.now row in let else3 : tie.Else-choices-places = search in let else2 : tie.Else-masks-places = search in
     called-served r a.lead.now a.cycle.now a.masks.now a.choices.now
     (call-served r a.lead.now a.cycle.now (length a.masks.now) (length a.choices.now) row else2.if-masks-places.false else3.if-choices-places.false)

@@ -102,6 +102,6 @@ returns c =
 
 pub choose_each_spec : {M : Type 1} → statement M
 choose_each_spec = tie.close (tie.spec
-    invariant-loop decreases-loop loop-holds (λ c. omega (arith, low (search))) (λ c. omega (arith, low (search))) (λ c κs. search rules) add-choose choose-requires
+    invariant-loop decreases-loop loop-holds (λ c. omega (arith, low c)) (λ c. omega (arith, low (search))) (λ c κs. search rules) add-choose choose-requires
     (λ c. omega (arith, low (search))) (λ c. omega (arith, low (search)))
     (λ c. omega arith) loop-less loop-again (λ c. c.before.loop-left.invariant.3) returns)

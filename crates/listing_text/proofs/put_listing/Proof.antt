@@ -75,7 +75,7 @@ put-table-requires c κs =
     (at-initial-of.initial_of.ensures.0, omega (arith, start.requires, ap length (table (search) _ _ _ _ refl B.codes_after refl B.moves_after)))
 
 returns-2 : tie.Need-returns-in-Refused
-returns-2 c = let at-put-refused : tie.After-put_refused = search in put_as (refusal (search)) at-put-refused.Put-refused.ensures
+returns-2 c = let at-put-refused : tie.After-put_refused = search in put_as (refusal (search)) at-put-refused.put_refused.ensures
 
 returns-3 : tie.Need-returns-in-Table
 returns-3 c = let at-put-table : tie.After-put_table = search in let at-build : tie.After-build = search in let B = at-build.build.ensures in

@@ -7,13 +7,13 @@ use Rattle.live_call.proofs.change.Statement.{statement}
 use Rattle.live_call.proofs.change.Tie as tie
 
 cast-arrive : tie.Need-overflow_cast-a
-cast-arrive c = let start : tie.Start = search in let k = rw c.before.in-Arrive.is at start.requires.2 in omega (arith, k.0)
+cast-arrive c = let start : tie.Start = search in let k = rw c.in-Arrive.is at start.requires.2 in omega (arith, k.0)
 
 arrive-requires : tie.Need-arrive-requires
 arrive-requires c κs = let start : tie.Start = search in let at_call : tie.In-Arrive = search in let k = rw at_call.in-Arrive.is at start.requires.2 in (start.requires.1, k.1)
 
 withdraw-requires : tie.Need-withdraw-requires
-withdraw-requires c κs = let start : tie.Start = search in (start.requires.0, start.requires.1, rw c.before.in-Withdraw.is at start.requires.2)
+withdraw-requires c κs = let start : tie.Start = search in (start.requires.0, start.requires.1, rw c.in-Withdraw.is at start.requires.2)
 
 mark-requires : tie.Need-mark-requires
 mark-requires c κs = let start : tie.Start = search in let at-call2 : tie.In-Mark = search in (rw at-call2.in-Mark.is at start.requires.2, start.requires.1.long)

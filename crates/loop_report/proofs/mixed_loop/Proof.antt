@@ -15,12 +15,12 @@ use Rattle.loop_report.proofs.mixed_loop.Tie as tie
 
 returns : tie.Need-returns-then-row-ne0
 returns c =
-    let start : tie.Start = search in let a = start.args in let e = refused a.file.now a.out.now c.before.Layout-row.result c.if-row-ne0.true c.before.Layout-row.ensures in
+    let start : tie.Start = search in let a = start.args in let e = refused a.file.now a.out.now c.before.layout_row-row.result c.if-row-ne0.true c.before.layout_row-row.ensures in
     (e.0, (e.1, meant a.file.now a.out.now a.out.now _ e.0 e.1))
 
 -- no row of the layout refuses
 pass : (c : tie.Else-row-ne0) → let start : tie.Start = search in first_row (layout_rows start.args.file.now) ≡ 0
-pass c = sym c.before.Layout-row.ensures ∙ c.if-row-ne0.false
+pass c = sym c.before.layout_row-row.ensures ∙ c.if-row-ne0.false
 
 -- so the parts are in their places
 known : (c : tie.Else-row-ne0) → let start : tie.Start = search in Placed start.args.file.now

@@ -11,7 +11,7 @@ returns c = let at-answer : tie.In-States = search in c.served.ensures ∙ sym (
 
 returns-2 : tie.Need-returns-in-Nothing
 unfolding loop_answer
-returns-2 c = c.served-in-Nothing.ensures ∙ sym (ap loop_answer c.before.in-Nothing.is)
+returns-2 c = c.served-in-Nothing.ensures ∙ sym (ap loop_answer c.in-Nothing.is)
 
 returns-3 : tie.Need-returns-in-Refused
 unfolding loop_answer

@@ -7,11 +7,11 @@ use Rattle.mulgreddi_answers_rules.proofs.same_rules.Tie as tie
 
 returns : tie.Need-returns-in-Same
 unfolding same_rules_answer
-returns c = c.served.ensures ∙ sym (ap same_rules_answer c.before.in-Same.is)
+returns c = c.served.ensures ∙ sym (ap same_rules_answer c.in-Same.is)
 
 returns-2 : tie.Need-returns-in-Different
 unfolding same_rules_answer
-returns-2 c = c.served-in-Different.ensures ∙ sym (ap same_rules_answer c.before.in-Different.is)
+returns-2 c = c.served-in-Different.ensures ∙ sym (ap same_rules_answer c.in-Different.is)
 
 returns-3 : tie.Need-returns-in-Refused
 unfolding same_rules_answer

@@ -15,7 +15,7 @@ returns-2 c = let at-answer2 : tie.In-No = search in c.told-in-No.ensures ∙ sy
 
 returns-3 : tie.Need-returns-in-Refused
 unfolding comparison_answer
-returns-3 c = sym (ap comparison_answer c.before.in-Refused.is)
+returns-3 c = sym (ap comparison_answer c.in-Refused.is)
 
 pub compared_spec : {M : Type 1} → statement M
 compared_spec = tie.close (tie.spec

@@ -9,5 +9,5 @@ pub start_spec : {M : Type 1} → statement M
 start_spec = tie.close (tie.spec
     (λ c. search rules) (λ c κs. search rules) (λ c. search rules) (λ c κs. search rules) (λ c. search rules) (λ c κs. search rules)
     (λ c. let at-answer : tie.In-Yes = search in c.served.ensures ∙ sym (ap start_answer at-answer.in-Yes.is))
-    (λ c. c.served-in-No.ensures ∙ sym (ap start_answer c.before.in-No.is))
+    (λ c. c.served-in-No.ensures ∙ sym (ap start_answer c.in-No.is))
     (λ c. let at-answer2 : tie.In-Refused = search in c.refused.ensures ∙ sym (ap start_answer at-answer2.in-Refused.is)))

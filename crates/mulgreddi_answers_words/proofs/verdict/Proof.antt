@@ -7,11 +7,11 @@ use Rattle.mulgreddi_answers_words.proofs.verdict.Tie as tie
 
 returns : tie.Need-returns-in-Yes
 unfolding verdict_answer
-returns c = c.served.ensures ∙ sym (ap verdict_answer c.before.in-Yes.is)
+returns c = c.served.ensures ∙ sym (ap verdict_answer c.in-Yes.is)
 
 returns-2 : tie.Need-returns-in-No
 unfolding verdict_answer
-returns-2 c = c.served-in-No.ensures ∙ sym (ap verdict_answer c.before.in-No.is)
+returns-2 c = c.served-in-No.ensures ∙ sym (ap verdict_answer c.in-No.is)
 
 returns-3 : tie.Need-returns-in-Refused
 unfolding verdict_answer

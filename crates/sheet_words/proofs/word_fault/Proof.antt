@@ -23,7 +23,7 @@ returns-4 c = let start : tie.Start = search in let a = start.args in let else2 
     let h : a.at + 2 + (lead_at a.sheet.now a.at + cycle_at a.sheet.now a.at) ≤ length a.sheet.now = omega (arith, else2.if-end-at) in
     let two : a.at + 1 < length a.sheet.now = omega arith in let lead : a.at + 2 + lead_at a.sheet.now a.at - (a.at + 2) ≡ lead_at a.sheet.now a.at = omega arith in
     let cycle : a.at + 2 + lead_at a.sheet.now a.at + cycle_at a.sheet.now a.at - (a.at + 2 + lead_at a.sheet.now a.at) ≡ cycle_at a.sheet.now a.at = omega arith in
-    c.word_Row.ensures ∙ sym (whole-fault a.sheet.now a.at two a.s _ _ h
+    c.word_row.ensures ∙ sym (whole-fault a.sheet.now a.at two a.s _ _ h
     (ap (λ (n : ℕ). take n (drop (a.at + 2) a.sheet.now)) lead) (ap (λ (n : ℕ). take n (drop (a.at + 2 + lead_at a.sheet.now a.at) a.sheet.now)) cycle))
 
 pub word_fault_spec : {M : Type 1} → statement M

@@ -42,7 +42,7 @@ returns-2 c =
     let at-search = c.before.before.before.before.before.before.before.before.before.before.before.before.before.before.before in
     let start : tie.Start = search in let p = start.requires in let s = at-search.search.ensures in
     let ((acodes, amoves), ((bcodes, bmoves), scratch)) = s.1 in
-    searched p.0 p.1 (told-no p.0 p.1 p.2 (rw c.before.in-Word.is at s.0)) acodes amoves bcodes bmoves scratch
+    searched p.0 p.1 (told-no p.0 p.1 p.2 (rw c.in-Word.is at s.0)) acodes amoves bcodes bmoves scratch
 
 pub search_tables_spec : {M : Type 1} → statement M
 search_tables_spec = tie.close (tie.spec

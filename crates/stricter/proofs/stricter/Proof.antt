@@ -16,18 +16,18 @@ compare-files-requires c κs =
     (sym at-read-rule.read_rule.ensures ∙ at-l.in-Accepted.is, sym at-read-rule2.read_rule-in-Accepted.ensures ∙ at-m.in-Accepted-read_rule.is)
 
 returns : tie.Need-returns-in-Refused
-returns c = let start : tie.Start = search in let a = start.args in let k = c.before.in-Refused.row in
+returns c = let start : tie.Start = search in let a = start.args in let k = c.in-Refused.row in
     let lent : Slices = slices_of a.acodes.now a.atransitions.now a.bcodes.now a.btransitions.now a.word.now a.scratch.now in
     let at-read-rule : tie.After-read_rule = search in
-    first-refused a.a.now a.b.now lent k (turned-away a.a.now k (sym at-read-rule.read_rule.ensures ∙ c.before.in-Refused.is))
+    first-refused a.a.now a.b.now lent k (turned-away a.a.now k (sym at-read-rule.read_rule.ensures ∙ c.in-Refused.is))
 
 returns-2 : tie.Need-returns-in-Refused-read_rule
-returns-2 c = let start : tie.Start = search in let a = start.args in let k = c.before.in-Refused-read_rule.other in
+returns-2 c = let start : tie.Start = search in let a = start.args in let k = c.in-Refused-read_rule.other in
     let lent : Slices = slices_of a.acodes.now a.atransitions.now a.bcodes.now a.btransitions.now a.word.now a.scratch.now in
     let at-read-rule : tie.After-read_rule = search in let at-l : tie.In-Accepted = search in let at-read-rule2 : tie.After-read_rule-in-Accepted = search in
     second-refused a.a.now a.b.now lent (served a.a.now at-l.in-Accepted.l
     (sym at-read-rule.read_rule.ensures ∙ at-l.in-Accepted.is)).row k
-    (turned-away a.b.now k (sym at-read-rule2.read_rule-in-Accepted.ensures ∙ c.before.in-Refused-read_rule.is))
+    (turned-away a.b.now k (sym at-read-rule2.read_rule-in-Accepted.ensures ∙ c.in-Refused-read_rule.is))
 
 returns-3 : tie.Need-returns-in-Accepted-read_rule
 returns-3 c =

@@ -75,7 +75,7 @@ loop-again c =
       omega arith,
       one_more (λ p. get_or a.marks.now (onto_of_lem (get_or a.left.now p 0) * a.nb + onto_of_lem a.u) 0 < needed a.ask.other
           (sparing (cond a.ask.second a.u (get_or a.left.now p 0)) a.ask.k))
-          a.from l.c l.inv.1 (rw (← node at-least-of, ← least at-least-of) (omega arith)),
+          a.from l.c l.invariant.1 (rw (← node at-least-of, ← least at-least-of) (omega arith)),
     )
 
 returns-2 : tie.Need-returns invariant-loop decreases-loop

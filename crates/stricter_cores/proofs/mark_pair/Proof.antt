@@ -35,7 +35,7 @@ module _ (c : tie.After-leads) where
   told =
       let a = start.args in
       subst (λ (least : ℕ). Leading (CoreStep a.nb a.left.now a.right.now) (SparedStep a.nb a.left.now a.right.now a.ask.second a.ask.k) least
-      a.marks.now (a.i * a.nb + a.j) c.leads.result) start.pre.5 (c.leads.ensures a.i start.pre.2 start.pre.1)
+      a.marks.now (a.i * a.nb + a.j) c.leads.result) start.requires.5 (c.leads.ensures a.i start.requires.2 start.requires.1)
 
 returns-2 : tie.Need-returns-then-not-leads
 returns-2 c = let start : tie.Start = search in let a = start.args in tried-stays (a.i * a.nb + a.j) a.marks.now

@@ -37,5 +37,5 @@ drop-row-requires c κs =
 
 pub thin_row_spec : {M : Type 1} → statement M
 thin_row_spec = tie.close (tie.spec
-    (λ c κs. search rules) returns (λ c. omega (arith, room c)) (λ c. omega (arith, room c)) (λ c κs. (omega arith, room c.before))
+    (λ c κs. search rules) returns (λ c. omega (arith, room c)) (λ c. omega (arith, room c)) (λ c κs. (omega arith, room (search)))
     (λ c. search rules) returns-2 cut-low-requires drop-row-requires (λ c. search rules) (λ c. search rules))

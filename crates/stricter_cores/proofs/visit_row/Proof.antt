@@ -51,5 +51,5 @@ returns-3 c =
 
 pub visit_row_spec : {M : Type 1} → statement M
 visit_row_spec = tie.close (tie.spec
-    (λ c κs. search rules) returns (λ c. omega (arith, room c)) (λ c. omega (arith, room c)) (λ c κs. (omega arith, room c.before, omega arith))
+    (λ c κs. search rules) returns (λ c. omega (arith, room c)) (λ c. omega (arith, room c)) (λ c κs. (omega arith, room (search), omega arith))
     (λ c. search rules) returns-2 cut-low-requires sweep-row-requires (λ c. search rules) returns-3)

@@ -22,7 +22,7 @@ start_of c = first-of (search)
 
 -- rows 12 to 14 pass, and row 15
 word : (c : tie.Else-word-ne0) → let a = (first-of c).args in word_row_lem a.h.s a.lead.now a.cycle.now ≡ 0
-word c = sym c.before.word_Row.ensures ∙ c.if-word-ne0.false
+word c = sym c.before.word_row-word.ensures ∙ c.if-word-ne0.false
 
 table : (c : tie.Else-table-ne0) → let a = (start_of c).args in table_row_lem a.h.s (in_both a.codes.now a.codebytes.now) (in_both a.moves.now a.movebytes.now) ≡ 0
 table c = sym c.before.table_row-table.ensures ∙ c.if-table-ne0.false
@@ -69,7 +69,7 @@ returns-5 c = let at-search : tie.After-search-m = search in let s = at-search.s
 
 pub judge_lent_spec : {M : Type 1} → statement M
 judge_lent_spec = tie.close (tie.spec
-    (λ c κs. search rules) (λ c. called-refused _ c.if-word-ne0.true (word-refuses _ _ _ _ _ _ _ c.if-word-ne0.true c.before.word_Row.ensures))
+    (λ c κs. search rules) (λ c. called-refused _ c.if-word-ne0.true (word-refuses _ _ _ _ _ _ _ c.if-word-ne0.true c.before.word_row-word.ensures))
     (λ c κs. search rules)
     (λ c. called-refused _ c.if-table-ne0.true (table-refuses _ _ _ _ _ _ (word (search)) _ c.if-table-ne0.true c.before.table_row-table.ensures))
     (λ c κs. search rules) (λ c. search rules) mul-used (λ c. called-refused 16 (λ e. omega arith)

@@ -21,8 +21,8 @@ returns c =
 
 returns-2 : tie.Need-returns-in-Refused
 returns-2 c =
-    let start : tie.Start = search in let a = start.args in let k = c.before.in-Refused.row in let at-read-rule : tie.After-read_rule = search in
-    let t = turned-away a.file.now k (sym at-read-rule.read_rule.ensures ∙ c.before.in-Refused.is) in judged-refused k (λ e. t.1 (t.0 ∙ e)) (sym t.0)
+    let start : tie.Start = search in let a = start.args in let k = c.in-Refused.row in let at-read-rule : tie.After-read_rule = search in
+    let t = turned-away a.file.now k (sym at-read-rule.read_rule.ensures ∙ c.in-Refused.is) in judged-refused k (λ e. t.1 (t.0 ∙ e)) (sym t.0)
 
 pub judge_table_spec : {M : Type 1} → statement M
 judge_table_spec = tie.close (tie.spec

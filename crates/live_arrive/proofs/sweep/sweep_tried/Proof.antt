@@ -41,9 +41,9 @@ source c = let start : Start = search in let a = start.args in let at-loop : At-
 -- the limit of its letter
 limit : (c : tie.After-letter_of invariant-loop decreases-loop) → let start : Start = search in let at-element : After-element = search in let at-loop : At-loop = search in
     let at-limits-of : tie.After-limits_of-limits invariant-loop decreases-loop = search in let a = start.args in
-    get_or at-limits-of.Limits-of.result c.letter_of.result 0 ≡ limit_of_lem a.s (length at-loop.loop-i.set) a.letter (letter_of_lem at-element.element-t.result)
+    get_or at-limits-of.limits_of-limits.result c.letter_of.result 0 ≡ limit_of_lem a.s (length at-loop.loop-i.set) a.letter (letter_of_lem at-element.element-t.result)
 limit c = let start : Start = search in let a = start.args in let at-loop : At-loop = search in let at-limits-of : tie.After-limits_of-limits invariant-loop decreases-loop = search in
-    at-limits-of.Limits-of.ensures c.letter_of.result (omega arith)
+    at-limits-of.limits_of-limits.ensures c.letter_of.result (omega arith)
     ∙ ap₂ (λ (k y : ℕ). limit_of_lem a.s k a.letter y) (sym at-loop.loop-i.invariant.1.swept.long) c.letter_of.ensures
 
 loop-holds : tie.Need-loop-i-init invariant-loop decreases-loop

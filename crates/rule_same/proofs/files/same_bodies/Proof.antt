@@ -16,7 +16,7 @@ same-entries-requires c κs =
     let at-counts-of : tie.After-counts_of = search in let at-clauses-of : tie.After-clauses_of = search in
     both-formed a.first.now a.second.now a.l a.m p.0 p.1
     (sym at-same-numbers.same_numbers.ensures ∙ else1.if-not-same_numbers.false)
-    at-counts-of.Counts-of.ensures at-clauses-of.clauses_of.ensures c.before.counts_of-2.ensures c.clauses_of-2.ensures
+    at-counts-of.counts_of.ensures at-clauses-of.clauses_of.ensures c.before.counts_of-2.ensures c.clauses_of-2.ensures
 
 abbrev start-of-after-same-entries : tie.After-same_entries → tie.Start
 start-of-after-same-entries c = search
@@ -28,7 +28,7 @@ told c =
     let at-counts-of : tie.After-counts_of = search in let at-clauses-of : tie.After-clauses_of = search in let at-counts-of2 : tie.After-counts_of-2 = search in
     same-told a.first.now a.second.now a.l a.m p.0 p.1
     (sym at-same-numbers.same_numbers.ensures ∙ else1.if-not-same_numbers.false)
-    at-counts-of.Counts-of.ensures at-clauses-of.clauses_of.ensures at-counts-of2.counts_of-2.ensures c.before.clauses_of-2.ensures
+    at-counts-of.counts_of.ensures at-clauses-of.clauses_of.ensures at-counts-of2.counts_of-2.ensures c.before.clauses_of-2.ensures
     c.same_entries.result c.same_entries.ensures
 
 pub same_bodies_spec : {M : Type 1} → statement M

@@ -11,19 +11,19 @@ use Rattle.rule_same.proofs.files.same_rules.Tie as tie
 same-files-requires : tie.Need-same_files-requires
 same-files-requires c κs =
     let at-read-rule : tie.After-read_rule = search in let at-l : tie.In-Accepted = search in let at-read-rule2 : tie.After-read_rule-in-Accepted = search in
-    (sym at-read-rule.read_rule.ensures ∙ at-l.in-Accepted.is, sym at-read-rule2.read_rule-in-Accepted.ensures ∙ c.before.in-Accepted-read_rule.is)
+    (sym at-read-rule.read_rule.ensures ∙ at-l.in-Accepted.is, sym at-read-rule2.read_rule-in-Accepted.ensures ∙ c.in-Accepted-read_rule.is)
 
 returns : tie.Need-returns-in-Refused
 returns c = let start : tie.Start = search in let a = start.args in let at-read-rule : tie.After-read_rule = search in
-    let e : read_of a.first.now ≡ Refused c.before.in-Refused.row = sym at-read-rule.read_rule.ensures ∙ c.before.in-Refused.is in
-    refused-first a.first.now a.second.now c.before.in-Refused.row (turned-away a.first.now c.before.in-Refused.row e)
+    let e : read_of a.first.now ≡ Refused c.in-Refused.row = sym at-read-rule.read_rule.ensures ∙ c.in-Refused.is in
+    refused-first a.first.now a.second.now c.in-Refused.row (turned-away a.first.now c.in-Refused.row e)
 
 returns-2 : tie.Need-returns-in-Refused-read_rule
 returns-2 c =
     let start : tie.Start = search in let a = start.args in let at-l : tie.In-Accepted = search in let l = at-l.in-Accepted.l in let at-read-rule : tie.After-read_rule = search in
     let p : read_of a.first.now ≡ Accepted l = sym at-read-rule.read_rule.ensures ∙ at-l.in-Accepted.is in let at-read-rule2 : tie.After-read_rule-in-Accepted = search in
-    let e : read_of a.second.now ≡ Refused c.before.in-Refused-read_rule.second_row = sym at-read-rule2.read_rule-in-Accepted.ensures ∙ c.before.in-Refused-read_rule.is in
-    refused-second _ _ c.before.in-Refused-read_rule.second_row (served _ l p).row (turned-away _ c.before.in-Refused-read_rule.second_row e)
+    let e : read_of a.second.now ≡ Refused c.in-Refused-read_rule.second_row = sym at-read-rule2.read_rule-in-Accepted.ensures ∙ c.in-Refused-read_rule.is in
+    refused-second _ _ c.in-Refused-read_rule.second_row (served _ l p).row (turned-away _ c.in-Refused-read_rule.second_row e)
 
 returns-3 : tie.Need-returns-in-Accepted-read_rule
 returns-3 c =

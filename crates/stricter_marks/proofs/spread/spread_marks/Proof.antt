@@ -45,7 +45,7 @@ loop-again c =
       omega arith,
       rw (add-one l.i, suc-mul l.i (length a.bcodes.now))
           (moved_row a.acodes.now a.bcodes.now start.requires.3 start.requires.4 l.i (omega arith) l.invariant.1
-          at-spread-row.Spread-row.ensures),
+          at-spread-row.spread_row.ensures),
     )
 
 returns : tie.Need-returns invariant-loop decreases-loop

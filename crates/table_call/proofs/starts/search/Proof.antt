@@ -24,7 +24,7 @@ lowest-start-requires c κs =
 
 returns : tie.Need-returns
 returns c = let start : tie.Start = search in let a = start.args in let at_fill : tie.After-fill = search in
-    earliest (λ x. bit x a.initial) _ _ _ _ _ at_fill.fill.ensures _ c.Lowest-start.ensures
+    earliest (λ x. bit x a.initial) _ _ _ _ _ at_fill.fill.ensures _ c.lowest_start.ensures
 
 pub search_spec : {M : Type 1} → statement M
 search_spec = tie.close (tie.spec (λ c κs. search rules) lowest-start-requires (λ c. search rules) returns)
