@@ -67,6 +67,13 @@ choose-requires c κs = let start = start_of (search) in let p = start.requires 
 low : (c : In-loop) → count_trailing_zeros 8 c.before.loop-left.left < 8
 low c = omega (arith, below c, (start_of c).requires.0.few_states)
 
+-- the same where the state is not read yet
+low-at : (c : tie.At-loop-left invariant-loop decreases-loop) → 0 < c.loop-left.left → count_trailing_zeros 8 c.loop-left.left < 8
+low-at c h =
+    let start : tie.Start invariant-loop decreases-loop = search in let n = start.args.rule.head.n in
+    let b = bit_below n c.loop-left.left _ (lt_of_le_of_lt c.loop-left.invariant.0 start.requires.6) (least-member c.loop-left.left h (omega (arith, start.ranges.states))) in
+    omega (arith, b, start.requires.0.few_states)
+
 loop-less : tie.Need-loop-left-smaller invariant-loop decreases-loop
 loop-less c = let at-loop : tie.At-loop-left invariant-loop decreases-loop = search in omega (arith, and_le_r at-loop.loop-left.left (at-loop.loop-left.left - 1))
 
@@ -102,6 +109,6 @@ returns c =
 
 pub choose_each_spec : {M : Type 1} → statement M
 choose_each_spec = tie.close (tie.spec
-    invariant-loop decreases-loop loop-holds (λ c. omega (arith, low c)) (λ c. omega (arith, low (search))) (λ c κs. search rules) add-choose choose-requires
+    invariant-loop decreases-loop loop-holds (λ c. omega (arith, low-at c.before (omega arith))) (λ c. omega (arith, low-at c.before (omega arith))) (λ c κs. search rules) add-choose choose-requires
     (λ c. omega (arith, low (search))) (λ c. omega (arith, low (search)))
     (λ c. omega arith) loop-less loop-again (λ c. c.before.loop-left.invariant.3) returns)

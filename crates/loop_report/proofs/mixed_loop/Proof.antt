@@ -45,7 +45,7 @@ returns-2 c =
 
 pub mixed_loop_spec : {M : Type 1} → statement M
 mixed_loop_spec = tie.close (tie.spec
-    (λ c κs. search rules) returns (λ c κs. ((known c).long, (known c).ranges)) (λ c. (known (search)).long)
+    (λ c κs. search rules) returns (λ c κs. ((known c).long, (known c).fits)) (λ c. (known (search)).long)
     (λ c. omega (arith, bounds c.before)) (λ c. omega (arith, bounds c.before)) (λ c. omega (arith, bounds c.before)) (λ c. search rules)
     (λ c. omega (arith, bounds (search))) (λ c. search rules) (λ c. search rules) (λ c. omega (arith, bounds (search)))
     report-requires (λ c. search rules) returns-2)
