@@ -90,7 +90,7 @@ awk -F' [|] ' '
             if (!index(found, name)) print FILENAME ":" FNR ": " name " is in none of these files: " $3
         }
     }' docs/PROOF.md > build/documents/map
-# ---- theorems with their file in parentheses, "(`one-parent`, OneParent)" or "(Pursuit, `unique`)": some file of that name has each
+# ---- theorems with their file in parentheses, "(`one_parent`, OneParent)" or "(Pursuit, `unique`)": some file of that name has each
 find crates \( -path '*/specs/*.antt' -o -path '*/proofs/*.antt' \) -not -path 'crates/*/out/*' | awk '
     function words_of(file,    line, all, i, m, at) {
         if (file in known) return known[file]
