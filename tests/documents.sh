@@ -14,9 +14,9 @@ code=(README.md docs/PROOF.md docs/HOW.md docs/DECISIONS.md docs/CONTRIBUTING.md
 present=("${code[@]}" docs/SPEED.md docs/FORMAT.md docs/RULES.md docs/CHANCE.md docs/EDITS.md crates/README.md second/README.md compare/README.md)
 
 # ---- names of definitions, theorems, functions and crates
-# all words of the tree without its comments, once each
+# all words of the tree without its comments, once each; crates/NAME/out is what `rt` leaves, with copies of other crates' files
 words=build/documents/words
-{ find crates -name '*.antt' -exec sed 's/--.*//' {} +; find crates -name '*.rt' -exec sed 's,//.*,,' {} +; cat include/mulgreddi.h tools/*.[ch] tools/install.sh Makefile; } |
+{ find crates -not -path 'crates/*/out/*' -name '*.antt' -exec sed 's/--.*//' {} +; find crates -not -path 'crates/*/out/*' -name '*.rt' -exec sed 's,//.*,,' {} +; cat include/mulgreddi.h tools/*.[ch] tools/install.sh Makefile; } |
     grep -oE "[A-Za-z_][A-Za-z0-9_'′₁₂-]*" | sort -u > "$words"
 sed -n 's/^\([a-z][a-z0-9_]*\):.*/\1/p' crates.txt | sort > build/documents/crates
 sort -u "$words" build/documents/crates > build/documents/known
@@ -79,7 +79,7 @@ awk -F' [|] ' '
             if (match(name, /^[a-z][a-z0-9_]*\/(specs|proofs|src)/)) { crate = substr(name, 1, RLENGTH); name = substr(name, RLENGTH + 2); whole = name == "" }
             if (crate != "" && name ~ /^[A-Z][A-Za-z0-9]*$/) found = found text("crates/" crate "/" name ".antt")
             if (whole) {
-                list = "find crates/" crate " -type f"
+                list = "find crates/" crate " -type f -not -path \"crates/*/out/*\""
                 while ((list | getline path) > 0) found = found text(path)
                 close(list)
             }
@@ -90,8 +90,8 @@ awk -F' [|] ' '
             if (!index(found, name)) print FILENAME ":" FNR ": " name " is in none of these files: " $3
         }
     }' docs/PROOF.md > build/documents/map
-# ---- theorems with their file in parentheses, "(`one-parent`, OneParent)" or "(Pursuit, `unique`)": some file of that name has each
-find crates -path '*/specs/*.antt' -o -path '*/proofs/*.antt' | awk '
+# ---- theorems with their file in parentheses, "(`one_parent`, OneParent)" or "(Pursuit, `unique`)": some file of that name has each
+find crates \( -path '*/specs/*.antt' -o -path '*/proofs/*.antt' \) -not -path 'crates/*/out/*' | awk '
     function words_of(file,    line, all, i, m, at) {
         if (file in known) return known[file]
         all = " "
@@ -187,7 +187,7 @@ uniq -d build/documents/decisions | sed 's/^/docs\/DECISIONS.md: twice: /' > bui
 awk '$1 + 0 < last + 0 { print "docs/DECISIONS.md: " $1 " stands behind " last } { last = $1 }' build/documents/numbers >> build/documents/twice
 # ---- counts: crates, edits, entries, the files and lines of the reading list
 crates=$(wc -l < build/documents/crates)
-edits=$(find crates -path '*/must-fail/*.edit' | wc -l)
+edits=$(find crates -path '*/must-fail/*.edit' -not -path 'crates/*/out/*' | wc -l)
 entries=$(grep -cE '^(mulgreddi_[a-z]+|uint32_t) mulgreddi_[a-z_]+\(' include/mulgreddi.h)
 {
     # a figure before one of these words is one of the tree as it is; DECISIONS tells what was counted when something was decided

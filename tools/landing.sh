@@ -1,10 +1,11 @@
 #!/usr/bin/env bash
 # The figures of a landing, for docs/LANDINGS.md: which crates are new, gone or changed from one commit to another, and how long the check took.
-#   landing.sh BEFORE [AFTER]                clones both commits (AFTER: HEAD) and runs `rt prove` from nothing in each, RT_JOBS (default 2) at a time.
-#                                            The logs stay in build/log/landing. Nothing else should run on the machine meanwhile.
-#   landing.sh --log LOG LOG [BEFORE AFTER]  reads two kept logs in place of running: those above, or of `rt ci` (build/log/ci), with or without
-#                                            the time in front of each line. Which crates changed is known where the commits are given.
-# A crate is changed if a file of it is, must-fail edits apart: `rt prove` does not try them. Its seconds are wall time beside RT_JOBS - 1 others.
+#   landing.sh BEFORE [AFTER]                clones both commits (AFTER: HEAD) and runs `rt all verdict` in each, which proves all from nothing, RT_JOBS
+#                                            (default 2) crates at a time. The logs stay in build/log/landing. Nothing else should run meanwhile.
+#   landing.sh --log LOG LOG [BEFORE AFTER]  reads two kept logs in place of running: those above, of `rt ci` (build/log/ci), or of the kit before, with
+#                                            or without the time in front of each line. Which crates changed is known where the commits are given.
+# A crate is changed if a file of it is, must-fail edits apart: `rt all verdict` does not try them. Only logs of the kit before have seconds of single
+# crates, wall time beside RT_JOBS - 1 others, and of edits. No commit before the port is proved by today's kit, nor one after it by the kit before.
 set -euo pipefail
 shopt -s inherit_errexit
 export LC_ALL=C
@@ -28,7 +29,7 @@ measure() {
         echo "landing: load before $(cut -d ' ' -f 1 /proc/loadavg)"
     } > "$log"
     TIMEFORMAT='%R %U %S'
-    { time (cd "$clone" && rt prove < /dev/null >> "$log" 2>&1) || status=$?; } 2> "$scratch/time"
+    { time (cd "$clone" && rt all verdict --jobs "$RT_JOBS" < /dev/null >> "$log" 2>&1) || status=$?; } 2> "$scratch/time"
     awk '{ printf "landing: wall %.0f s, CPU %.0f s\n", $1, $2 + $3 }' "$scratch/time" >> "$log"
     rm -rf "$clone"
     if [ "$status" != 0 ]; then
@@ -39,12 +40,16 @@ measure() {
     echo "$log"
 }
 
-# Lines "name seconds" of the crates that a log has proved. What was proved twice counts as proved the second time.
-crates_of() { sed -nE "s/^${stamp}rt: ([A-Za-z0-9_]+) proved \(([0-9]+) s\)$/\2 \3/p" "$1" | awk '{ t[$1] = $2 } END { for (c in t) print c, t[c] }' | sort; }
+# Lines "name seconds" of the crates that a log has proved, or "name -" where it does not tell how long. What was proved twice counts as proved the
+# second time. Today's logs name a crate in the summary of `rt all verdict`, or in a line of `rt ci`, which may have kept it from an earlier run.
+crates_of() {
+    sed -nE "s/^${stamp}rt: ([A-Za-z0-9_]+) proved \(([0-9]+) s\)$/\2 \3/p; s/^${stamp}rt: ([A-Za-z0-9_]+) (proved|is kept: .*)$/\2 -/p
+        /^${stamp}== summary$/,\$s/^${stamp}([A-Za-z0-9_]+): ok$/\2 -/p" "$1" | awk '{ t[$1] = $2 } END { for (c in t) print c, t[c] }' | sort
+}
 
 # Crates, seconds, and what else the log tells: wall and CPU time, or the time between its first and its last line; edits.
 total_of() {
-    crates_of "$1" | awk '{ n++; t += $2 } END { printf "%d crates, %d s added up", n, t }'
+    crates_of "$1" | awk '{ n++; t += $2; if ($2 != "-") told = 1 } END { printf "%d crates", n; if (told) printf ", %d s added up", t }'
     sed -nE 's/^landing: (wall .*)$/, \1/p' "$1" | tr -d '\n'
     awk '/^[0-9][0-9]:[0-9][0-9]:[0-9][0-9] / {
             s = substr($0, 1, 2) * 3600 + substr($0, 4, 2) * 60 + substr($0, 7, 2)
@@ -55,8 +60,9 @@ total_of() {
         END { if (seen) printf ", %d s from its first line to its last", gone }' "$1"
     sed -nE "s/^${stamp}rt: must-fail [^ ]+: refused, as it must be \((.*; )?([0-9]+) s\)$/\3/p" "$1" |
         awk '{ n++; t += $1 } END { if (n) printf ", %d edits refused in %d s added up", n, t }'
+    sed -nE "s/^${stamp}rt: ok; .*must-fail edits: ([0-9]+ refused(, [0-9]+ bad)?).*$/, edits: \2/p" "$1" | tr -d '\n'
     sed -nE 's/^landing: (load before .*)$/, \1/p' "$1" | tr -d '\n'
-    grep -qE "^${stamp}rt: ok, " "$1" || printf ', UNFINISHED: it has no closing line'
+    grep -qE "^${stamp}rt: ok[,;] |^${stamp}([0-9]+) of \3 crates ok$" "$1" || printf ', UNFINISHED: it has no closing line'
     echo
 }
 
@@ -75,7 +81,7 @@ report() {
     for log in "$1" "$2"; do
         [ -r "$log" ] || { echo "$log: cannot be read" >&2; exit 1; }
         [ -n "$(crates_of "$log")" ] || { echo "$log: no line tells that a crate is proved" >&2; exit 1; }
-        if grep -E "^${stamp}rt: FAILED:" "$log" >&2; then echo "$log: not everything passed" >&2; exit 1; fi
+        if grep -E "^${stamp}(rt: FAILED:|[A-Za-z0-9_]+: failed \()" "$log" >&2; then echo "$log: not everything passed" >&2; exit 1; fi
     done
     a=$(toolchain_of "$1") b=$(toolchain_of "$2")
     if [ "$a" = "$b" ]; then echo "toolchain: $a"; else echo "toolchain: $a before, $b after, so the times are not to be compared"; fi
@@ -90,17 +96,23 @@ report() {
     crates_of "$1" > "$scratch/a"
     crates_of "$2" > "$scratch/b"
     awk -v told=$(($# == 4)) '
-        function line(what, text, count, sum) { if (count) printf "%s: %s (%d, %s s)\n", what, text, count, sum; else printf "%s: none\n", what }
+        function line(what, text, count, sum) {
+            if (!count) printf "%s: none\n", what
+            else if (seconds) printf "%s: %s (%d, %s s)\n", what, text, count, sum
+            else printf "%s: %s (%d)\n", what, text, count
+        }
+        # the seconds of a crate, behind a blank, where its log tells them
+        function took(t) { return t == "-" ? "" : " " t }
         FILENAME == ARGV[1] { changed[$1] = 1; next }
         FILENAME == ARGV[2] { a[$1] = $2; names[++n] = $1; next }
-        { b[$1] = $2; if (!($1 in a)) names[++n] = $1 }
+        { b[$1] = $2; if (!($1 in a)) names[++n] = $1; if ($2 != "-") seconds = 1 }
         END {
             for (i = 1; i <= n; i++) for (j = i; j > 1 && names[j] < names[j - 1]; j--) { t = names[j]; names[j] = names[j - 1]; names[j - 1] = t }
             for (i = 1; i <= n; i++) {
                 c = names[i]
-                if (!(c in a)) { new = new s1 c " " b[c]; s1 = ", "; n1++; t1 += b[c] }
-                else if (!(c in b)) { gone = gone s2 c " " a[c]; s2 = ", "; n2++; t2 += a[c] }
-                else if (!told || c in changed) { both = both s3 c " " a[c] " → " b[c]; s3 = ", "; n3++; t3 += a[c]; t4 += b[c] }
+                if (!(c in a)) { new = new s1 c took(b[c]); s1 = ", "; n1++; t1 += b[c] }
+                else if (!(c in b)) { gone = gone s2 c took(a[c]); s2 = ", "; n2++; t2 += a[c] }
+                else if (!told || c in changed) { both = both s3 c (a[c] == "-" || b[c] == "-" ? "" : " " a[c] " → " b[c]); s3 = ", "; n3++; t3 += a[c]; t4 += b[c] }
             }
             line("new", new, n1, t1)
             line("gone", gone, n2, t2)

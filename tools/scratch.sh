@@ -1,8 +1,8 @@
 #!/usr/bin/env bash
 # scratch.sh COMMAND..: runs a command with a new folder as TMPDIR, which is gone when it has ended, whatever the end. It stands in the caller's
 # TMPDIR, where that is set; else in memory, where 2 GB are free for each check that runs at a time and programs may run; else in /tmp.
-# Before a check proves anything it copies the checked files of all crates below its own, up to 13,055 files and 700 MB. On a disk that takes longer
-# than most small crates take to prove.
+# A check of the older kit first copied the checked files of all crates below its own, up to 13,055 files and 700 MB, which on a disk took longer than
+# most small crates took to prove. Today's lays out copies there for must-fail edits.
 set -euo pipefail
 memory=/dev/shm
 
