@@ -34,7 +34,7 @@ SHARED := $(BUILD)/libmulgreddi.so.$(VERSION)
 PROGRAM := $(BUILD)/listing
 TOOL := $(BUILD)/mulgreddi
 # what `rt` leaves beside a crate is no source of it
-SOURCES := crates.txt $(shell find crates -type f -not -path '*/must-fail/*' -not -path 'crates/*/out/*')
+SOURCES := crates.txt $(shell find crates -path 'crates/*/out' -prune -o -type f -not -path '*/must-fail/*' -print)
 CARGO := CARGO_TARGET_DIR='$(CURDIR)/$(BUILD)/cargo' MULGREDDI_LIB='$(CURDIR)/$(BUILD)' cargo
 EXAMPLES := $(patsubst examples/%.c,$(BUILD)/%,$(wildcard examples/*.c))
 
