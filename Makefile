@@ -11,7 +11,7 @@
 #   make bench                 times of the library beside those of the second program and of a C++ program without proofs, and of the step back alone
 #   make soak SECONDS=600      the comparison with new seeds until the time is up
 #   make compare-long SEED=1   the comparison with new seeds, from this one on, until the first difference
-#   make clean                 removes build/ and target/
+#   make clean                 removes build/ and what `rt` left beside each crate, crates/NAME/out
 #   make help                  this list
 
 # a step fails where any part of it does
@@ -33,15 +33,13 @@ LIB := $(BUILD)/libmulgreddi.a
 SHARED := $(BUILD)/libmulgreddi.so.$(VERSION)
 PROGRAM := $(BUILD)/listing
 TOOL := $(BUILD)/mulgreddi
-SOURCES := crates.txt $(shell find crates -type f -not -path '*/must-fail/*')
+# what `rt` leaves beside a crate is no source of it
+SOURCES := crates.txt $(shell find crates -path 'crates/*/out' -prune -o -type f -not -path '*/must-fail/*' -print)
 CARGO := CARGO_TARGET_DIR='$(CURDIR)/$(BUILD)/cargo' MULGREDDI_LIB='$(CURDIR)/$(BUILD)' cargo
 EXAMPLES := $(patsubst examples/%.c,$(BUILD)/%,$(wildcard examples/*.c))
 
-# checks that `rt` runs side by side: it waits for all of a group before it starts the next, so more than there are cores
-export RT_JOBS ?= 4
-
-# what a check lays out for itself stands in a folder that is gone when it has ended, in memory where there is room for it
-RT := tools/scratch.sh rt
+# what a build lays out for itself stands in a folder that is gone when it has ended, in memory where there is room for it
+SCRATCH := tools/scratch.sh
 
 # one `rt` at a time; the gate's last steps run side by side, since none of them calls it
 ifndef BESIDE
@@ -55,13 +53,10 @@ lib: $(LIB)
 # a line for each crate on standard error, everything in build/log
 QUIETLY := tools/quietly.sh $(BUILD)/log
 
-# `rt check` proves crates side by side, which `rt staticlib` alone would not
-BELOW := $(shell sed -n 's/^mulgreddi://p' crates.txt)
+# over the crates as `rt ci` left them, where it has proved them; else it proves what no check has proved yet
 $(LIB): $(SOURCES)
-	@echo 'Proving and compiling the library: 8 to 12 minutes from nothing on two cores. A line for each crate follows.' >&2
-	@$(QUIETLY)/lib-check $(RT) check $(BELOW)
-	@$(QUIETLY)/lib $(RT) staticlib mulgreddi
-	@cp target/staticlib/libmulgreddi.a $@
+	@echo 'Proving and compiling the library: long where nothing is proved yet. A line for each crate follows.' >&2
+	@$(QUIETLY)/lib $(SCRATCH) tools/library.sh $@
 	@echo '$@ is ready; $(BUILD)/log has all that was printed.' >&2
 
 # the same code; tools/mulgreddi.map keeps all names but the entries to itself
@@ -92,16 +87,23 @@ uninstall:
 help:
 	@sed -n 's/^#   //p' Makefile
 
-# on standard output is the listing alone
-$(PROGRAM): $(SOURCES)
-	@echo 'Proving and compiling the listing program: about a minute after the library. A line for each crate follows.' >&2
-	@$(QUIETLY)/listing $(RT) check listing
-	@cp target/bin/listing $@
+# where `rt ci` leaves a program, and `rt run`, which proves and compiles it and runs it once
+LISTING := crates/listing/out/listing
+# steps back from all cores of a rule, and nothing else
+STEP_BACK := crates/bench_step_back/out/bench_step_back
+$(LISTING) $(STEP_BACK): $(SOURCES)
+	@echo 'Proving and compiling the program $(@F). A line for each crate follows.' >&2
+	@$(QUIETLY)/$(@F) $(SCRATCH) env -C crates/$(@F) rt run
+	@touch $@
+
+$(PROGRAM): $(LISTING)
+	@mkdir -p $(@D)
+	@cp $< $@
 	@echo '$@ is ready; $(BUILD)/log has all that was printed.' >&2
 
-# `cat` tells where the listing cannot be written, as the program, which is proved, has no exit status
+# on standard output is the listing alone
 list: $(PROGRAM)
-	@$(PROGRAM) | cat
+	@$(PROGRAM)
 
 # the second program's own tests; what it expects of the program `cases` is what is stored there
 second:
@@ -156,11 +158,6 @@ $(BUILD)/reference02: bench/reference02.cpp
 # bench/follow.cpp follows a log without end by the library and by a loop in C++ that does the same
 $(BUILD)/follow: bench/follow.cpp include/mulgreddi.h $(LIB)
 	$(CXX) -O2 -std=c++17 -Iinclude -o $@ $< $(LIB)
-
-# steps back from all cores of a rule, and nothing else
-STEP_BACK := target/bin/bench_step_back
-$(STEP_BACK): $(SOURCES)
-	$(RT) check bench_step_back
 
 # the pairs of rules that are compared, new and old; compare/src/bin/speed.rs has the same
 COMPARED := strict_1 strict_1 strict_1 strict_1_less strict_8 strict_8 strict_8 strict_8_less \
@@ -252,11 +249,10 @@ $(BUILD)/stack: tests/stack.c include/mulgreddi.h $(LIB)
 $(BUILD)/random_rules: tests/random_rules.c include/mulgreddi.h $(LIB)
 	$(CC) $(CFLAGS) -Iinclude -o $@ $< $(LIB)
 
-# what needs nothing proved, so that a fault there is told in seconds: the layout of the files, must-fail edits that still apply, the two
-# pages that are written by scripts (docs/EDITS.md, crates/README.md), what the documents name and count, proofs that count no steps, a text for
-# each refusal, the second program's own tests
+# what needs nothing proved, so that a fault there is told in seconds: must-fail edits that still apply, the two pages that are written by scripts
+# (docs/EDITS.md, crates/README.md), what the documents name and count, proofs that count no steps, a text for each refusal, the second program's
+# own tests. `rt ci` refuses files that are not laid out.
 quick:
-	rt fmt --check
 	tools/edits.sh check
 	tools/edits.sh table | diff docs/EDITS.md -
 	tools/crates.sh | diff crates/README.md -
@@ -265,12 +261,13 @@ quick:
 	tests/refusals.sh include/mulgreddi.h
 	$(MAKE) second
 
-# Everything is proved once, from nothing, with the must-fail edits; it is shown as it goes and kept in build/log/ci.
-# The library and the listing program are then made from what this leaves in target/.
+# `rt ci` proves every crate, tries every must-fail edit and runs the programs; it is shown as it goes and kept in build/log/ci.
+# The library and the programs are then made from what it leaves beside the crates.
 prove-all:
 	@mkdir -p $(BUILD)/log
+	rt ci 2>&1 | tee $(BUILD)/log/ci
+	@tools/edits.sh refused $(BUILD)/log/ci
 	@rm -f $(LIB) $(PROGRAM)
-	$(RT) ci 2>&1 | tee $(BUILD)/log/ci
 
 # The closing line of `rt ci` is printed once more at the very end, where every step has passed: a failure before it leaves make's own line.
 test:
@@ -281,4 +278,4 @@ test:
 	@tail -n 1 $(BUILD)/log/ci | grep -x '[0-9]* passed, 0 failed'
 
 clean:
-	rm -rf $(BUILD) target
+	rm -rf $(BUILD) crates/*/out

@@ -18,7 +18,7 @@ present=("${code[@]}" docs/SPEED.md docs/FORMAT.md docs/RULES.md docs/CHANCE.md 
 words=build/documents/words
 { find crates -not -path 'crates/*/out/*' -name '*.antt' -exec sed 's/--.*//' {} +; find crates -not -path 'crates/*/out/*' -name '*.rt' -exec sed 's,//.*,,' {} +; cat include/mulgreddi.h tools/*.[ch] tools/install.sh Makefile; } |
     grep -oE "[A-Za-z_][A-Za-z0-9_'′₁₂-]*" | sort -u > "$words"
-sed -n 's/^\([a-z][a-z0-9_]*\):.*/\1/p' crates.txt | sort > build/documents/crates
+sed -n 's/^\([a-z][a-z0-9_]*\)\( staticlib\)\{0,1\}:.*/\1/p' crates.txt | sort > build/documents/crates
 sort -u "$words" build/documents/crates > build/documents/known
 git ls-files | sed 's,.*/,,' | sort -u > build/documents/tracked
 for t in "${code[@]}"; do

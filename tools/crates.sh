@@ -4,7 +4,7 @@
 set -euo pipefail
 export LC_ALL=C
 cd "$(dirname "$0")/.."
-sed -n 's/^\([a-z][a-z0-9_]*\):.*/\1/p' crates.txt | awk '
+sed -n 's/^\([a-z][a-z0-9_]*\)\( staticlib\)\{0,1\}:.*/\1/p' crates.txt | awk '
 BEGIN {
     while ((getline line < "tools/subjects.txt") > 0) {
         if (line == "" || line ~ /^#/) continue

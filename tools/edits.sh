@@ -2,6 +2,7 @@
 # The must-fail edits: wrong versions of the code or of a definition that the prover must refuse, crates/NAME/must-fail/LABEL.edit.
 #   edits.sh check   each edit begins with a line that tells the wrong version, and each text that it replaces stands once in its file;
 #                    `rt ci` would say so only after everything is proved
+#   edits.sh refused LOG   the line `rt: ok` of this log of `rt ci` tells that every edit was refused, and none was bad
 #   edits.sh table   prints docs/EDITS.md, from the first line of each edit
 set -euo pipefail
 export LC_ALL=C
@@ -95,8 +96,21 @@ table() {
     }'
 }
 
+# `rt ci` lets a bad edit pass, one that cannot be applied, compiled or read
+refused() {
+    local there told
+    there=$(edits | wc -l)
+    told=$(grep '^rt: ok; ' "$1") || { echo "$1: no line begins with rt: ok" >&2; return 1; }
+    if grep -qE '[,;:] [1-9][0-9]* bad\b' <<< "$told" || ! grep -qE "; must-fail edits: $there refused\b" <<< "$told"; then
+        echo "of $there must-fail edits not every one was refused for what it says: $told" >&2
+        return 1
+    fi
+    echo "$there must-fail edits refused"
+}
+
 case "${1:-}" in
 check) check ;;
+refused) refused "${2:?no log}" ;;
 table) table ;;
 *) sed -n '2,/^set/{/^#/s/^# \{0,1\}//p}' "$0" >&2; exit 2 ;;
 esac

@@ -5,7 +5,7 @@ set -uo pipefail
 log=$1
 shift
 mkdir -p "$(dirname "$log")"
-"$@" < /dev/null 2>&1 | tee "$log" | sed -un '/(unchanged since it was last proved)$/d; s/^rt: /  /p' >&2
+"$@" < /dev/null 2>&1 | tee "$log" | sed -un 's/^crate \([a-z0-9_]*\): modules .*/  \1 proved/; t keep; /^logic=proved /{x; /./p; s/.*//; x}; d; :keep; h' >&2
 status=${PIPESTATUS[0]}
 if [ "$status" != 0 ]; then
     tail -n 40 "$log" >&2

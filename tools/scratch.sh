@@ -1,14 +1,13 @@
 #!/usr/bin/env bash
 # scratch.sh COMMAND..: runs a command with a new folder as TMPDIR, which is gone when it has ended, whatever the end. It stands in the caller's
 # TMPDIR, where that is set; else in memory, where 2 GB are free for each check that runs at a time and programs may run; else in /tmp.
-# A check of the older kit first copied the checked files of all crates below its own, up to 13,055 files and 700 MB, which on a disk took longer than
-# most small crates took to prove. Today's lays out copies there for must-fail edits.
+# What `rt ci` lays out for itself it links to what stands in the tree, which a folder in memory would have it copy: it runs without this.
 set -euo pipefail
 memory=/dev/shm
 
 has_room()
 {
-    local needed=$((2000000 * ${RT_JOBS:-4})) free available
+    local needed=$((2000000 * $(nproc))) free available
     [ -d "$memory" ] && [ -w "$memory" ] || return 1
     free=$(df -Pk "$memory" | awk 'NR == 2 { print $4 }')
     available=$(awk '/^MemAvailable:/ { print $2 }' /proc/meminfo)

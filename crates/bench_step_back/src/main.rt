@@ -13,7 +13,8 @@ ghost use Rattle.build_spec.specs.Tables.{RuleTables, Lowest};
 
 use build_spec::Shape;
 use file_spec::{Layout, Read};
-use libc::{STDIN_FILENO, STDOUT_FILENO};
+use std::io;
+use std::io::Stdout;
 use std::num::wrapping_add_u64;
 
 // Rounds stop after this many steps, or after 1000 rounds.
@@ -127,29 +128,27 @@ fn rule_rounds(file: &[u8], l: Layout) -> Tally
 }
 
 // Prints a name and a number.
-fn say(name: &[u8], x: u64) {
-    io::write_all(STDOUT_FILENO, name);
-    io::print_decimal(STDOUT_FILENO, x);
-    io::write_all(STDOUT_FILENO, b"\n");
+fn say(to: Stdout, name: &str, x: u64) -> io::Result<()> {
+    println!(to; "{name}{x}")
 }
 
 // Prints the tally of a file's rule, or the row that refuses the file.
-fn run(file: &[u8]) {
+fn run(to: Stdout, file: &[u8]) -> io::Result<()> {
     match file_read::read_rule(file) {
-        Read::Refused(row) => say(b"refused ", row as u64),
+        Read::Refused(row) => say(to, "refused ", row as u64),
         Read::Accepted(l) => {
             let h = l.head;
             let tally = rule_rounds(file, l);
-            say(b"cores ", tally.cores);
-            say(b"letters ", h.s as u64);
-            say(b"steps ", tally.steps);
-            say(b"sum ", tally.sum);
+            say(to, "cores ", tally.cores)?;
+            say(to, "letters ", h.s as u64)?;
+            say(to, "steps ", tally.steps)?;
+            say(to, "sum ", tally.sum)
         }
     }
 }
 
-fn main() {
+fn main(rt: HostRuntime) -> io::Result<()> {
     let mut buffer = [0u8; 4096];
-    let n = io::read_full(STDIN_FILENO, &mut buffer);
-    run(&buffer[..n]);
+    let n = slice_read::read_full(&mut rt.stdin(), &mut buffer)?;
+    run(rt.stdout(), &buffer[..n])
 }

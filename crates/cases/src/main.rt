@@ -10,43 +10,50 @@ use build::Built;
 use file_spec::Read;
 use file_write_spec::Written;
 use judge_spec::Verdict;
-use libc::STDIN_FILENO;
 use rule_same::entries::SameRules;
+use std::io;
+use std::io::{Stdin, Stdout};
 use table_call::Start;
 use word_same::SameWords;
 
-fn run_read(file: &[u8]) {
-    say(file_read::preface(file));
+fn run_read(to: Stdout, file: &[u8]) -> io::Result<()> {
+    say(to, file_read::preface(file))?;
     match file_read::read_rule(file) {
-        Read::Accepted(layout) => say_answer(0, layout.at, layout.clauses),
-        Read::Refused(row) => say_answer(row, 0, 0),
+        Read::Accepted(layout) => say_answer(to, 0, layout.at, layout.clauses),
+        Read::Refused(row) => say_answer(to, row, 0, 0),
     }
 }
 
-fn run_same_rules(first: &[u8], second: &[u8]) {
+fn run_same_rules(to: Stdout, first: &[u8], second: &[u8]) -> io::Result<()> {
     match rule_same::files::same_rules(first, second) {
-        SameRules::Same => say_answer(0, 1, 0),
-        SameRules::Different => say_answer(0, 0, 0),
-        SameRules::Refused(row) => say_answer(row, 0, 0),
+        SameRules::Same => say_answer(to, 0, 1, 0),
+        SameRules::Different => say_answer(to, 0, 0, 0),
+        SameRules::Refused(row) => say_answer(to, row, 0, 0),
     }
 }
 
-fn run_same_words(lead1: &[u8], cycle1: &[u8], lead2: &[u8], cycle2: &[u8]) {
+fn run_same_words(
+    to: Stdout,
+    lead1: &[u8],
+    cycle1: &[u8],
+    lead2: &[u8],
+    cycle2: &[u8],
+) -> io::Result<()> {
     match word_same::same_words(lead1, cycle1, lead2, cycle2) {
-        SameWords::Same => say_answer(0, 1, 0),
-        SameWords::Different => say_answer(0, 0, 0),
-        SameWords::Refused(row) => say_answer(row, 0, 0),
+        SameWords::Same => say_answer(to, 0, 1, 0),
+        SameWords::Different => say_answer(to, 0, 0, 0),
+        SameWords::Refused(row) => say_answer(to, row, 0, 0),
     }
 }
 
-fn say_written(answer: Written) {
+fn say_written(to: Stdout, answer: Written) -> io::Result<()> {
     match answer {
-        Written::Length(length) => say_answer(0, length, 0),
-        Written::Refused(row) => say_answer(row, 0, 0),
+        Written::Length(length) => say_answer(to, 0, length, 0),
+        Written::Refused(row) => say_answer(to, row, 0, 0),
     }
 }
 
-fn write_into(call: &[u8], out: &mut [u8]) {
+fn write_into(to: Stdout, call: &[u8], out: &mut [u8]) -> io::Result<()> {
     let answer = file_write::writer::write_rule(
         byte(call, 2) as u32,
         byte(call, 3) as u32,
@@ -56,17 +63,17 @@ fn write_into(call: &[u8], out: &mut [u8]) {
         part(call, 2),
         out,
     );
-    say_bytes(out);
-    say_written(answer);
+    say_bytes(to, out)?;
+    say_written(to, answer)
 }
 
-fn run_write(call: &[u8]) {
+fn run_write(to: Stdout, call: &[u8]) -> io::Result<()> {
     let mut out = lent_bytes();
     let room = byte(call, 1);
-    write_into(call, &mut out[0..room]);
+    write_into(to, call, &mut out[0..room])
 }
 
-fn write_named_into(call: &[u8], out: &mut [u8]) {
+fn write_named_into(to: Stdout, call: &[u8], out: &mut [u8]) -> io::Result<()> {
     let answer = file_write::writer::write_named(
         byte(call, 2) as u32,
         byte(call, 3) as u32,
@@ -77,105 +84,120 @@ fn write_named_into(call: &[u8], out: &mut [u8]) {
         part(call, 3),
         out,
     );
-    say_bytes(out);
-    say_written(answer);
+    say_bytes(to, out)?;
+    say_written(to, answer)
 }
 
-fn run_write_named(call: &[u8]) {
+fn run_write_named(to: Stdout, call: &[u8]) -> io::Result<()> {
     let mut out = lent_bytes();
     let room = byte(call, 1);
-    write_named_into(call, &mut out[0..room]);
+    write_named_into(to, call, &mut out[0..room])
 }
 
-fn judge_into(file: &[u8], lead: &[u8], cycle: &[u8], masks: &mut [u8]) {
+fn judge_into(
+    to: Stdout,
+    file: &[u8],
+    lead: &[u8],
+    cycle: &[u8],
+    masks: &mut [u8],
+) -> io::Result<()> {
     let answer = judge::judge(file, lead, cycle, masks);
-    say_bytes(masks);
+    say_bytes(to, masks)?;
     match answer {
-        Verdict::Yes => say_answer(0, 1, 0),
-        Verdict::No => say_answer(0, 0, 0),
-        Verdict::Refused(row) => say_answer(row, 0, 0),
+        Verdict::Yes => say_answer(to, 0, 1, 0),
+        Verdict::No => say_answer(to, 0, 0, 0),
+        Verdict::Refused(row) => say_answer(to, row, 0, 0),
     }
 }
 
-fn run_judge(call: &[u8]) {
+fn run_judge(to: Stdout, call: &[u8]) -> io::Result<()> {
     let mut masks = lent_bytes();
     let room = byte(call, 1);
     judge_into(
+        to,
         part(call, 1),
         part(call, 2),
         part(call, 3),
         &mut masks[0..room],
-    );
+    )
 }
 
-fn build_into(file: &[u8], codes: &mut [u64], transitions: &mut [u64]) {
+fn build_into(
+    to: Stdout,
+    file: &[u8],
+    codes: &mut [u64],
+    transitions: &mut [u64],
+) -> io::Result<()> {
     let answer = build::build(file, codes, transitions);
-    say_numbers(codes);
-    say_numbers(transitions);
+    say_numbers(to, codes)?;
+    say_numbers(to, transitions)?;
     match answer {
-        Built::Table(counts) => say_answer(0, counts.macrostates, counts.transitions),
-        Built::Refused(row) => say_answer(row, 0, 0),
+        Built::Table(counts) => say_answer(to, 0, counts.macrostates, counts.transitions),
+        Built::Refused(row) => say_answer(to, row, 0, 0),
     }
 }
 
-fn run_build(call: &[u8]) {
+fn run_build(to: Stdout, call: &[u8]) -> io::Result<()> {
     let mut codes = lent_numbers();
     let mut transitions = lent_numbers();
     let n = byte(call, 1);
     let m = byte(call, 2);
-    build_into(part(call, 1), &mut codes[0..n], &mut transitions[0..m]);
+    build_into(to, part(call, 1), &mut codes[0..n], &mut transitions[0..m])
 }
 
-fn say_start(answer: Start) {
+fn say_start(to: Stdout, answer: Start) -> io::Result<()> {
     match answer {
-        Start::Yes(number) => say_answer(0, 1, number),
-        Start::No => say_answer(0, 0, 0),
-        Start::Refused(row) => say_answer(row, 0, 0),
+        Start::Yes(number) => say_answer(to, 0, 1, number),
+        Start::No => say_answer(to, 0, 0, 0),
+        Start::Refused(row) => say_answer(to, row, 0, 0),
     }
 }
 
 fn judge_table_into(
+    to: Stdout,
     file: &[u8],
     lead: &[u8],
     cycle: &[u8],
     codes: &[u8],
     transitions: &[u8],
     scratch: &mut [u8],
-) {
+) -> io::Result<()> {
     let answer = table_judge::judge_table_bytes(file, lead, cycle, codes, transitions, scratch);
-    say_bytes(scratch);
-    say_start(answer);
+    say_bytes(to, scratch)?;
+    say_start(to, answer)
 }
 
-fn run_judge_table(call: &[u8]) {
+fn run_judge_table(to: Stdout, call: &[u8]) -> io::Result<()> {
     let mut scratch = lent_bytes();
     let room = byte(call, 1);
     judge_table_into(
+        to,
         part(call, 1),
         part(call, 2),
         part(call, 3),
         part(call, 4),
         part(call, 5),
         &mut scratch[0..room],
-    );
+    )
 }
 
 // The judge on the numbers that a build leaves in its two slices.
 fn judge_built_into(
+    to: Stdout,
     file: &[u8],
     lead: &[u8],
     cycle: &[u8],
     codes: &mut [u64],
     transitions: &mut [u64],
     scratch: &mut [u8],
-) {
+) -> io::Result<()> {
     build::build(file, codes, transitions);
     let answer = table_judge::judge_table(file, lead, cycle, codes, transitions, scratch);
-    say_bytes(scratch);
-    say_start(answer);
+    say_bytes(to, scratch)?;
+    say_start(to, answer)
 }
 
-fn run_judge_built(call: &[u8]) {
+fn run_judge_built(to: Stdout, call: &[u8]) -> io::Result<()> {
     let mut codes = lent_numbers();
     let mut transitions = lent_numbers();
     let mut scratch = lent_bytes();
@@ -183,47 +205,56 @@ fn run_judge_built(call: &[u8]) {
     let m = byte(call, 2);
     let room = byte(call, 3);
     judge_built_into(
+        to,
         part(call, 1),
         part(call, 2),
         part(call, 3),
         &mut codes[0..n],
         &mut transitions[0..m],
         &mut scratch[0..room],
-    );
+    )
 }
 
-fn run(call: &[u8]) {
-    say(part(call, 0));
+fn run(to: Stdout, call: &[u8]) -> io::Result<()> {
+    say(to, part(call, 0))?;
     match byte(call, 0) {
-        0 => run_read(part(call, 1)),
-        1 => run_write(call),
-        2 => run_same_rules(part(call, 1), part(call, 2)),
-        3 => run_same_words(part(call, 1), part(call, 2), part(call, 3), part(call, 4)),
-        4 => run_judge(call),
-        5 => run_build(call),
-        6 => run_judge_table(call),
-        7 => run_judge_built(call),
-        _ => run_write_named(call),
+        0 => run_read(to, part(call, 1)),
+        1 => run_write(to, call),
+        2 => run_same_rules(to, part(call, 1), part(call, 2)),
+        3 => run_same_words(
+            to,
+            part(call, 1),
+            part(call, 2),
+            part(call, 3),
+            part(call, 4),
+        ),
+        4 => run_judge(to, call),
+        5 => run_build(to, call),
+        6 => run_judge_table(to, call),
+        7 => run_judge_built(to, call),
+        _ => run_write_named(to, call),
     }
 }
 
-fn run_next() -> bool {
+fn run_next(from: &mut Stdin, to: Stdout) -> io::Result<bool> {
     let mut call = [0u8; 256];
-    let n = io::read_full(STDIN_FILENO, &mut call);
+    let n = slice_read::read_full(from, &mut call)?;
     if n < 256 {
-        return false;
+        return Ok(false);
     }
-    run(&call);
-    true
+    run(to, &call)?;
+    Ok(true)
 }
 
 // A proved loop has to end, and nothing says that the input does: it counts its turns down.
-fn main() {
+fn main(rt: HostRuntime) -> io::Result<()> {
+    let mut from = rt.stdin();
     let mut turns: u32 = 1000;
     while 0 < turns {
-        if !run_next() {
-            return;
+        if !run_next(&mut from, rt.stdout())? {
+            return Ok(());
         }
         turns -= 1;
     }
+    Ok(())
 }

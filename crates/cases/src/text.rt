@@ -2,41 +2,43 @@
 // begin and where the last ends, then the name and the parts.
 ghost use Rattle.std.specs.Prelude.{◌≡◌, ◌<◌, length};
 
-use libc::STDOUT_FILENO;
+use std::io;
+use std::io::Stdout;
 
 // ---- what is printed
 
-pub fn say(text: &[u8]) {
-    io::write_all(STDOUT_FILENO, text);
+pub fn say(to: Stdout, text: &[u8]) -> io::Result<()> {
+    to.write_all(text)
 }
 
-fn say_number(number: u64) {
-    say(b" ");
-    io::print_decimal(STDOUT_FILENO, number);
+fn say_number(to: Stdout, number: u64) -> io::Result<()> {
+    print!(to; " {number}")
 }
 
-pub fn say_bytes(bytes: &[u8]) {
+pub fn say_bytes(to: Stdout, bytes: &[u8]) -> io::Result<()> {
     let mut i = 0;
     while i < bytes.len() {
-        say_number(bytes[i] as u64);
+        say_number(to, bytes[i] as u64)?;
         i += 1;
     }
+    Ok(())
 }
 
-pub fn say_numbers(numbers: &[u64]) {
+pub fn say_numbers(to: Stdout, numbers: &[u64]) -> io::Result<()> {
     let mut i = 0;
     while i < numbers.len() {
-        say_number(numbers[i]);
+        say_number(to, numbers[i])?;
         i += 1;
     }
+    Ok(())
 }
 
-pub fn say_answer(row: u8, first: usize, second: usize) {
-    say(b",");
-    say_number(row as u64);
-    say_number(first as u64);
-    say_number(second as u64);
-    say(b"\n");
+pub fn say_answer(to: Stdout, row: u8, first: usize, second: usize) -> io::Result<()> {
+    say(to, b",")?;
+    say_number(to, row as u64)?;
+    say_number(to, first as u64)?;
+    say_number(to, second as u64)?;
+    say(to, b"\n")
 }
 
 // ---- a call

@@ -2,14 +2,14 @@
 
 #![tactic(auto)]
 
-use libc::{STDIN_FILENO, STDOUT_FILENO};
 use listing_text::LONGEST;
+use std::io;
 
-fn main() {
+fn main(rt: HostRuntime) -> io::Result<()> {
     // one byte more than is listed tells a long input apart
     let mut file = [0u8; 4097];
-    let n = io::read_full(STDIN_FILENO, &mut file);
+    let n = slice_read::read_full(&mut rt.stdin(), &mut file)?;
     let mut listing = [0u8; LONGEST];
     let end = listing_text::listing(&file[..n], &mut listing);
-    io::write_all(STDOUT_FILENO, &listing[..end]);
+    rt.stdout().write_all(&listing[..end])
 }
