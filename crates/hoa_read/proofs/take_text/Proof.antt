@@ -58,5 +58,5 @@ returns-7 c =
 pub take_text_spec : {M : Type 1} → statement M
 take_text_spec = tie.close (tie.spec
     (λ c κs. search rules) (λ c κs. search rules) returns (λ c κs. sym c.before.last_byte.ensures ∙ c.if-last_byte-ne10.false) (λ c κs. search rules)
-    returns-2 (λ c. search rules) take-blocks-requires (λ c κs. search rules) returns-3 (λ c κs. search rules) returns-4 
+    returns-2 (λ c. search rules) take-blocks-requires (λ c κs. search rules) returns-3 (λ c κs. search rules) returns-4
     take-requires (λ c κs. search rules) returns-5 (λ c κs. search rules) returns-6 returns-7)

@@ -95,9 +95,9 @@ loop-again c =
       λ x. elim c.if-choose.branch [ then-choose w ↦ rw (w.found-is, one) (walk-yes f l.found l.left pos small (sym test ∙ w.if-choose.true) x) ∙ l.invariant.2 x | else-choose w ↦ rw w.found-is (walk_no f l.found l.left pos small (sym test ∙ w.if-choose.false) x) ∙ l.invariant.2 x ],
       ap length new ∙ put-length m (a.base + q) l.choices ∙ l.invariant.3,
       λ x i. ap (λ (ys : List ℕ). get_or ys (a.base + x) 0) new ∙ elim c.if-choose.branch [
-            then-choose w ↦ rw (w.found-is, one) (here-yes a.rule.head.n a.base number a.choices.now l.choices l.found room l.invariant.4 m q k (sym met ∙ w.if-choose.true) refl x i)
-          | else-choose w ↦ rw w.found-is (here-no a.rule.head.n a.base number a.choices.now l.choices l.found room l.invariant.4 m q k (sym met ∙ w.if-choose.false) x i)
-          ],
+        | then-choose w ↦ rw (w.found-is, one) (here-yes a.rule.head.n a.base number a.choices.now l.choices l.found room l.invariant.4 m q k (sym met ∙ w.if-choose.true) refl x i)
+        | else-choose w ↦ rw w.found-is (here-no a.rule.head.n a.base number a.choices.now l.choices l.found room l.invariant.4 m q k (sym met ∙ w.if-choose.false) x i)
+      ],
       λ i j. ap (λ (ys : List ℕ). get_or ys i 0) new ∙ others-on a.rule.head.n a.base number a.choices.now l.choices l.found room l.invariant.4 m q k l.invariant.5 i j,
     )
 

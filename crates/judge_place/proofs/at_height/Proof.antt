@@ -30,8 +30,8 @@ loop-again c =
     let f : Set = λ t. eqb (ones (get_or a.reach.now t 0)) a.height in (
       omega arith,
       elim c.if-reach-q.branch [
-        then-reach-q w ↦ w.layer-is ∙ rw l.invariant.1 (put-yes l.q f (omega arith) (eq-eqb _ _ w.if-reach-q.true))
-      | else-reach-q w ↦ w.layer-is ∙ l.invariant.1 ∙ put-no l.q f (ne_eqb _ _ w.if-reach-q.false)
+        | then-reach-q w ↦ w.layer-is ∙ rw l.invariant.1 (put-yes l.q f (omega arith) (eq-eqb _ _ w.if-reach-q.true))
+        | else-reach-q w ↦ w.layer-is ∙ l.invariant.1 ∙ put-no l.q f (ne_eqb _ _ w.if-reach-q.false)
       ],
     )
 

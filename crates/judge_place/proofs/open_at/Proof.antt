@@ -28,9 +28,9 @@ cast-accepting c = let start : tie.Start = search in let w = start.requires.0.pa
 -- the place that follows
 next : (c : tie.Joined-k-cycle) → let start : tie.Start = search in let a = start.args in c.if-k-cycle.k ≡ next_place_lem [] a.cycle.now a.p
 next c = let start : tie.Start = search in let a = start.args in elim c.if-k-cycle.branch [
-      then-k-cycle w ↦ w.k-is ∙ sym (next-place-last [] a.cycle.now a.p (omega (arith, w.if-k-cycle.true)))
-    | else-k-cycle w ↦ w.k-is ∙ add-one a.p ∙ sym (next-place-other [] a.cycle.now a.p (λ e. omega (arith, w.if-k-cycle.false)))
-    ]
+  | then-k-cycle w ↦ w.k-is ∙ sym (next-place-last [] a.cycle.now a.p (omega (arith, w.if-k-cycle.true)))
+  | else-k-cycle w ↦ w.k-is ∙ add-one a.p ∙ sym (next-place-other [] a.cycle.now a.p (λ e. omega (arith, w.if-k-cycle.false)))
+]
 
 cast-met-by : tie.Need-overflow_cast-cycle
 cast-met-by c = let start : tie.Start = search in omega (arith, c.shared_slice_known-4-1.given start.args.p)

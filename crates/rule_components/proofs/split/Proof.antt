@@ -52,10 +52,10 @@ loop-again c =
     c.before.class_of-class.ensures ∙ ap (λ (t : List ℕ). class_by t a.h.n l.q) at-closures.closures-reach.ensures in
     let f : Found r w.few_states l.q l.count l.masks = record { number = l.invariant.1; laid = l.invariant.2 } in let then1 : tie.In-loop-q invariant-loop decreases-loop = search in
     let g : Found r w.few_states (l.q + 1) c.if-class-q.count c.if-class-q.masks = elim c.if-class-q.branch [
-      then-class-q s ↦ turn-taken r w.few_states l.q c.before.class_of-class.result l.count c.if-class-q.count l.masks c.if-class-q.masks then1.loop-q-test.true e f _
-        s.if-class-q.true s.masks-is (omega arith) s.count-is
-    | else-class-q s ↦ turn-passed r w.few_states l.q c.before.class_of-class.result l.count c.if-class-q.count l.masks c.if-class-q.masks then1.loop-q-test.true e f
-        s.if-class-q.false s.masks-is s.count-is
+      | then-class-q s ↦ turn-taken r w.few_states l.q c.before.class_of-class.result l.count c.if-class-q.count l.masks c.if-class-q.masks then1.loop-q-test.true e f _
+          s.if-class-q.true s.masks-is (omega arith) s.count-is
+      | else-class-q s ↦ turn-passed r w.few_states l.q c.before.class_of-class.result l.count c.if-class-q.count l.masks c.if-class-q.masks then1.loop-q-test.true e f
+          s.if-class-q.false s.masks-is s.count-is
     ] in (omega arith, g.number, g.laid)
 
 returns : tie.Need-returns invariant-loop decreases-loop

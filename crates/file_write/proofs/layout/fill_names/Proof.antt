@@ -24,5 +24,5 @@ returns-2 c =
 
 pub fill_names_spec : {M : Type 1} → statement M
 fill_names_spec = tie.close (tie.spec
-    returns (λ c κs. omega (arith, room c.before)) 
+    returns (λ c κs. omega (arith, room c.before))
     (λ c κs. omega (arith, room (search))) (λ c. search rules) returns-2)

@@ -14,7 +14,7 @@ returns-5 c =
 
 pub take_ap_spec : {M : Type 1} → statement M
 take_ap_spec = tie.close (tie.spec
-    (λ c κs. omega arith) (λ c. ap-found 0 ap-0 (omega arith) c.before.take-a.ensures (omega arith)) 
+    (λ c κs. omega arith) (λ c. ap-found 0 ap-0 (omega arith) c.before.take-a.ensures (omega arith))
     (λ c κs. omega arith) (λ c. ap-found 1 ap-1 (omega arith) c.before.take-b.ensures (omega arith)) (λ c κs. omega arith)
     (λ c. ap-found 2 ap-2 (omega arith) c.before.take-c.ensures (omega arith)) (λ c κs. omega arith)
     (λ c. ap-found 3 ap-3 (omega arith) c.before.take-d.ensures (omega arith)) (λ c κs. omega arith) returns-5)

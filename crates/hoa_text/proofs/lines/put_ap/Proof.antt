@@ -21,11 +21,11 @@ returns-5 c = let start : tie.Start = search in let e : start.args.b ≡ 4 = ome
 pub put_ap_spec : {M : Type 1} → statement M
 put_ap_spec = tie.close (tie.spec
     (λ c κs. omega (arith, long (search))) (λ c. search rules)
-    (λ c. let then1 : tie.Then-b-eq0 = search in let at-put : tie.After-put = search in put_as (ap ap_line then1.if-b-eq0.true ∙ ap-0) at-put.put.ensures) 
+    (λ c. let then1 : tie.Then-b-eq0 = search in let at-put : tie.After-put = search in put_as (ap ap_line then1.if-b-eq0.true ∙ ap-0) at-put.put.ensures)
     (λ c κs. omega (arith, long (search))) (λ c. search rules)
-    (λ c. let then2 : tie.Then-b-eq1 = search in let at-put2 : tie.After-put-then-b-eq1 = search in put_as (ap ap_line then2.if-b-eq1.true ∙ ap-1) at-put2.put-then-b-eq1.ensures) 
+    (λ c. let then2 : tie.Then-b-eq1 = search in let at-put2 : tie.After-put-then-b-eq1 = search in put_as (ap ap_line then2.if-b-eq1.true ∙ ap-1) at-put2.put-then-b-eq1.ensures)
     (λ c κs. omega (arith, long (search))) (λ c. search rules)
-    (λ c. let then3 : tie.Then-b-eq2 = search in let at-put3 : tie.After-put-then-b-eq2 = search in put_as (ap ap_line then3.if-b-eq2.true ∙ ap-2) at-put3.put-then-b-eq2.ensures) 
+    (λ c. let then3 : tie.Then-b-eq2 = search in let at-put3 : tie.After-put-then-b-eq2 = search in put_as (ap ap_line then3.if-b-eq2.true ∙ ap-2) at-put3.put-then-b-eq2.ensures)
     (λ c κs. omega (arith, long (search))) (λ c. search rules)
-    (λ c. let then4 : tie.Then-b-eq3 = search in let at-put4 : tie.After-put-then-b-eq3 = search in put_as (ap ap_line then4.if-b-eq3.true ∙ ap-3) at-put4.put-then-b-eq3.ensures) 
+    (λ c. let then4 : tie.Then-b-eq3 = search in let at-put4 : tie.After-put-then-b-eq3 = search in put_as (ap ap_line then4.if-b-eq3.true ∙ ap-3) at-put4.put-then-b-eq3.ensures)
     (λ c κs. omega (arith, long (search))) (λ c. search rules) returns-5)

@@ -23,9 +23,9 @@ add-there c = let start : tie.Start = search in let a = start.args in let pre = 
 follows : (c : tie.Joined-p-cycle) → let start : tie.Start = search in
     let a = start.args in c.if-p-cycle.there ≡ next_place_lem [] a.cycle.now a.p * a.n
 follows c = let start : tie.Start = search in let a = start.args in elim c.if-p-cycle.branch [
-      then-p-cycle w ↦ let first = there-last a.cycle.now a.p a.n w.if-p-cycle.true in omega arith
-    | else-p-cycle w ↦ let next = there-other a.cycle.now a.p a.n w.if-p-cycle.false in omega arith
-    ]
+  | then-p-cycle w ↦ let first = there-last a.cycle.now a.p a.n w.if-p-cycle.true in omega arith
+  | else-p-cycle w ↦ let next = there-other a.cycle.now a.p a.n w.if-p-cycle.false in omega arith
+]
 
 mark-all-requires : tie.Need-mark_all-requires
 mark-all-requires c κs = let start : tie.Start = search in λ t m. let q = ends-fit start.requires.0 start.args.p start.requires.1 t m in (q.0, rw (follows (search)) q.1)
