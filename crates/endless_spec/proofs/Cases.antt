@@ -6,6 +6,8 @@ use Prim.Native.Nat.{ℕ, zero, suc, ◌<◌}
 use native.Mathlib.Omega.{arith}
 use lib.ListN.{length, get_or}
 use Rattle.sets.specs.Masks.{bit}
+use Rattle.sets.specs.Lists.{among}
+use Rattle.sets.proofs.Lists.{among-out}
 use Rattle.theory.specs.Code.{component_in, classes_in}
 use Rattle.theory.specs.Examples.{F}
 use Rattle.theory.specs.Macrostate.{begun, is_accepting_lem, holds_initial}
@@ -54,8 +56,9 @@ down-within zero = omega arith
 down-within (suc i) = omega arith
 
 stays-moves : (i : ℕ) → (t : ℕ) × Memᴰ t transitions_f × Leads t (stays i) (once i) (stays (suc i))
-stays-moves zero = (16842754, Memᴰ.tail (Memᴰ.tail (Memᴰ.tail (Memᴰ.head refl))), record { source = refl; letter = refl; target = refl })
-stays-moves (suc i) = (33554434, Memᴰ.tail (Memᴰ.tail (Memᴰ.tail (Memᴰ.tail (Memᴰ.head refl)))), record { source = refl; letter = refl; target = refl })
+unfolding among
+stays-moves zero = (16842754, among-out transitions_f 16842754 refl, record { source = refl; letter = refl; target = refl })
+stays-moves (suc i) = (33554434, among-out transitions_f 33554434 refl, record { source = refl; letter = refl; target = refl })
 
 stays_within : (i : ℕ) → stays i < length codes_f
 stays_within zero = omega arith
