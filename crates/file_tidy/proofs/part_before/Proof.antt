@@ -8,7 +8,7 @@ use Rattle.file_tidy.proofs.part_before.Tie as tie
 
 slice-aggregate-result : tie.Need-slice_bounds-result-end
 slice-aggregate-result c =
-    let start : tie.Start = search in let l : c.before.lay_out-l.result.at ≤ length start.args.f.now = rw c.before.lay_out-l.ensures (omega arith) in simp length-take (omega arith)
+    let start : tie.Start = search in let l : c.lay_out-l.result.at ≤ length start.args.f.now = rw c.lay_out-l.ensures (omega arith) in simp length-take (omega arith)
 
 pub part_before_spec : {M : Type 1} → statement M
-part_before_spec = tie.close (tie.spec (λ c κs. search rules) slice-aggregate-result (λ c. rw c.before.lay_out-l.ensures))
+part_before_spec = tie.close (tie.spec (λ c κs. search rules) slice-aggregate-result (λ c. rw c.lay_out-l.ensures))

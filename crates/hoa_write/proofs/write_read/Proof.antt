@@ -42,7 +42,7 @@ text : (c : tie.After-propositions_of-b) → let a = (start-of-after-proposition
 text c = let a = (start-of-after-propositions-of c).args in text_is a.s a.codes.now a.moves.now a.initial c.propositions_of-b.result c.propositions_of-b.ensures.0
 
 returns-2 : tie.Need-returns-then-not-fits
-returns-2 c = called-slice (passes (search)) (rw (text (search)) (leb-false _ _ (sym c.before.fits2.ensures ∙ c.if-not-fits.true)))
+returns-2 c = called-slice (passes (search)) (rw (text (search)) (leb-false _ _ (sym c.fits.ensures ∙ c.if-not-fits.true)))
 
 abbrev start-of-else2 : tie.Else-not-fits → tie.Start
 start-of-else2 c = search
@@ -51,7 +51,7 @@ start-of-else2 c = search
 fitting : (c : tie.Else-not-fits) → let at-propositions-of : tie.After-propositions_of-b = search in
     let a = (start-of-else2 c).args in length (automaton_text at-propositions-of.propositions_of-b.result (flags_of (initial_at a.initial) (words_in a.codes.now))
     (words_in a.moves.now)) ≤ length a.text.now
-fitting c = leb-true _ _ (sym c.before.fits2.ensures ∙ c.if-not-fits.false)
+fitting c = leb-true _ _ (sym c.fits.ensures ∙ c.if-not-fits.false)
 
 put-text-requires : tie.Need-put_text-requires
 put-text-requires c κs =
