@@ -40,7 +40,7 @@ returns-2 : tie.Need-returns
 returns-2 c =
     let a = (start_of (found_of c)).args in let z = (start_of (found_of c)).requires in let r = rule_of a.rule.head a.counts.now a.clauses.now in
     let cycle = take a.sought.size (drop a.sought.begin a.sheet.now) in let at-fill-cycle : tie.After-fill_cycle = search in let f = at-fill-cycle.fill_cycle in
-    let m = f.new.m in let q : a.sought.begin + a.sought.size - a.sought.begin ≡ a.sought.size = omega arith in
+    let m = f.new.masks in let q : a.sought.begin + a.sought.size - a.sought.begin ≡ a.sought.size = omega arith in
     let long : length cycle ≡ a.sought.size = simp (length-take, length-drop) (omega (arith, z.5)) in
     let right : m ≡ truth_masks r [] cycle = f.ensures ∙ ap (λ (n : ℕ). truth_masks r [] (take n (drop a.sought.begin a.sheet.now))) q in
     let size : length m ≡ a.sought.size = ap length right ∙ truth-length r [] cycle ∙ zero-add (length cycle) ∙ long in
