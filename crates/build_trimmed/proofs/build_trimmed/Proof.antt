@@ -24,7 +24,7 @@ returns-2 : tie.Need-returns-in-Table
 returns-2 c =
     let start : tie.Start = search in let a = start.args in let r = rule_in a.file.now in let at-build : tie.After-build = search in let b = at-build.build.ensures in
     let at_n : tie.In-Table = search in let t = at_n.in-Table.is in let at-trim : tie.After-trim = search in
-    let T : Trimming (macrostates r) (transitions r) at-trim.trim.result at-trim.trim.new.codes at-trim.trim.new.transitions.0 =
+    let T : Trimming (macrostates r) (transitions r) at-trim.trim.result at-trim.trim.new.codes at-trim.trim.new.transitions =
     rw (codes-front b t, moves_front b t) at at-trim.trim.ensures in
     contract a.file.now a.codes.now a.transitions.now _ _ _ (table-answer b t T (search) (search)) (codes-left b t T (search) (search)) (moves-left b t T (search) (search))
 

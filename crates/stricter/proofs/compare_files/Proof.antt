@@ -16,9 +16,8 @@ returns c = let start : tie.Start = search in let a = start.args in let p = star
 compare-other-requires : tie.Need-compare_other-requires
 compare-other-requires c κs =
     let else1 : tie.Else-l-m = search in let start : tie.Start = search in let a = start.args in let p = start.requires in
-    -- a path, since `rw` abstracts no place that an abbreviation gives and `search` does not reach so far
-    let at_n = c.before.before.before.before.before.before.before in let f = at_n.before.before.before.before.before.before.build_accepted in
-    let (file, (layout, (holds, (e, (d, rest))))) = f.auto in (
+    let at_n : tie.In-Table = search in let f = c.build_accepted in
+    let e = f.auto.codes in let d = f.auto.moves in (
       made-ready a.a.now true p.0 (rw at_n.in-Table.is at f.ensures) e d,
       p.1,
       sym (file-letters a.a.now p.0) ∙ else1.if-l-m.false ∙ file-letters a.b.now p.1,
@@ -35,9 +34,8 @@ returns-2 c =
 returns-3 : tie.Need-returns-in-Table
 returns-3 c =
     let at-compare-other : tie.After-compare_other = search in let else1 : tie.Else-l-m = search in let at_n : tie.In-Table = search in
-    -- a path, as above
-    let f = at_n.before.before.before.before.before.before.build_accepted in
-    let start : tie.Start = start-of-at-n (search) in let a = start.args in let p = start.requires in let (file, (layout, (holds, (e, (d, rest))))) = f.auto in
+    let f = c.build_accepted in
+    let start : tie.Start = start-of-at-n (search) in let a = start.args in let p = start.requires in let e = f.auto.codes in let d = f.auto.moves in
     let codes = f.new.codes in let moves = f.new.moves in let same = sym (file-letters a.a.now p.0) ∙ else1.if-l-m.false ∙ file-letters a.b.now p.1 in
     let row = made_row a.a.now true p.0 (rw at_n.in-Table.is at f.ensures) e d in
     lent_same (own-served a.a.now a.b.now _ same codes moves row) (other-settles a.a.now a.b.now _) e d refl refl refl refl

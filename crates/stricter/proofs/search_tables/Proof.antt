@@ -30,17 +30,13 @@ search-requires c κs =
 
 returns : tie.Need-returns-in-Nothing
 returns c =
-    -- a path, since `rw` abstracts no place that an abbreviation gives and `search` does not reach so far
-    let at-search = c.before.before.before.before.before.before.before.before.before.before.before.before.before.before in
-    let start : tie.Start = search in let p = start.requires in let s = at-search.search.ensures in
+    let start : tie.Start = search in let p = start.requires in let s = c.search.ensures in
     let ((acodes, amoves), ((bcodes, bmoves), scratch)) = s.1 in
     searched p.0 p.1 (told-yes p.0 p.1 p.2 (rw c.in-Nothing.is at s.0)) acodes amoves bcodes bmoves scratch
 
 returns-2 : tie.Need-returns-in-Word
 returns-2 c =
-    -- a path, since `rw` abstracts no place that an abbreviation gives and `search` does not reach so far
-    let at-search = c.before.before.before.before.before.before.before.before.before.before.before.before.before.before.before in
-    let start : tie.Start = search in let p = start.requires in let s = at-search.search.ensures in
+    let start : tie.Start = search in let p = start.requires in let s = c.search.ensures in
     let ((acodes, amoves), ((bcodes, bmoves), scratch)) = s.1 in
     searched p.0 p.1 (told-no p.0 p.1 p.2 (rw c.in-Word.is at s.0)) acodes amoves bcodes bmoves scratch
 

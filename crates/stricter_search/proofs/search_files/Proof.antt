@@ -8,10 +8,8 @@ use Rattle.stricter_search.proofs.search_files.Tie as tie
 
 search-pairs-requires : tie.Need-search_pairs-requires
 search-pairs-requires c κs =
-    -- a path, since `rw` abstracts no place that an abbreviation gives and `search` does not reach so far
-    let at-mark-files = c.before.before.before.before.before.before.before.before.before.before.before.before.before.before.before.before in
     let start : tie.Start = search in let a = start.args in let p = start.requires in
-    let (marks, ((acodes, amoves), (bcodes, bmoves))) = at-mark-files.mark_files-start.ensures in rw (acodes, amoves, bcodes, bmoves) (
+    let (marks, ((acodes, amoves), (bcodes, bmoves))) = c.mark_files-start.ensures in rw (acodes, amoves, bcodes, bmoves) (
       file-searchable p.0,
       file-searchable p.1,
       ((λ x. bit x a.l.head.initial), (λ x. not (bit x a.m.head.initial)), marks),
@@ -20,9 +18,7 @@ search-pairs-requires c κs =
 
 returns : tie.Need-returns
 returns c =
-    -- a path, as above
-    let at-mark-files = c.before.before.before.before.before.before.before.before.before.before.before.before.before.before.before.before.before.before.before.before.before in
-    let start : tie.Start = search in let a = start.args in let (marks, ((acodes, amoves), (bcodes, bmoves))) = at-mark-files.mark_files-start.ensures in
+    let start : tie.Start = search in let a = start.args in let (marks, ((acodes, amoves), (bcodes, bmoves))) = c.mark_files-start.ensures in
     let at-search-pairs : tie.After-search_pairs = search in let q = rw (acodes, amoves, bcodes, bmoves) at at-search-pairs.search_pairs.ensures in
     (q (λ x. bit x a.l.head.initial) (λ x. not (bit x a.m.head.initial)) marks, ((acodes, amoves), (bcodes, bmoves)))
 

@@ -26,8 +26,7 @@ tag-table-requires c κs =
 returns : tie.Need-returns
 returns c =
     let start : tie.Start = search in let a = start.args in let at-note-live : tie.After-note_live = search in let n = at-note-live.note_live in
-    -- a path, since `rw` abstracts no place that an abbreviation gives and `search` does not reach so far
-    let at-tag-table = c.before.before.before.before.before.before.before.before.before in let t = at-tag-table.tag_table in let at-bury : tie.After-bury = search in let b = at-bury.bury in
+    let t = c.tag_table in let at-bury : tie.After-bury = search in let b = at-bury.bury in
     λ r from T few e f. let (X, Y) = t.ensures r from T (omega (arith, n.auto.codes)) (n.ensures.0 ∙ e) f in
     let U : TaggedCodes a.codes.now _ = rw n.ensures.0 at X in
     let W : TaggedMoves (automaton r) a.codes.now a.moves.now _ = rw n.ensures.0 at Y in (
