@@ -48,7 +48,7 @@ built : (c : tie.In-Table) → built_of (start-of-after-counts c).args.file.now 
 built c = sym (answer (search)) ∙ c.in-Table.is
 
 codes_held : (c : tie.In-Table) → let at-build : tie.After-build = search in
-    c.in-Table.counts.macrostates ≤ length at-build.build.new.transitions
+    c.in-Table.counts.macrostates ≤ length at-build.build.new.codes
 codes_held c = let else1 : tie.Else-file-gt4096 = search in let start : tie.Start = search in let at-build : tie.After-build = search in
     codes-fit start.args.file.now else1.if-file-gt4096.false c.in-Table.counts (built c)
     _ _ refl at-build.build.ensures.codes_after

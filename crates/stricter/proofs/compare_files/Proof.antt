@@ -17,7 +17,7 @@ compare-other-requires : tie.Need-compare_other-requires
 compare-other-requires c κs =
     let else1 : tie.Else-l-m = search in let start : tie.Start = search in let a = start.args in let p = start.requires in
     let at_n : tie.In-Table = search in let f = c.build_accepted in
-    let e = f.auto.codes in let d = f.auto.moves in (
+    let e = f.auto.codes in let d = f.auto.transitions in (
       made-ready a.a.now true p.0 (rw at_n.in-Table.is at f.ensures) e d,
       p.1,
       sym (file-letters a.a.now p.0) ∙ else1.if-l-m.false ∙ file-letters a.b.now p.1,
@@ -35,8 +35,8 @@ returns-3 : tie.Need-returns-in-Table
 returns-3 c =
     let at-compare-other : tie.After-compare_other = search in let else1 : tie.Else-l-m = search in let at_n : tie.In-Table = search in
     let f = c.build_accepted in
-    let start : tie.Start = start-of-at-n (search) in let a = start.args in let p = start.requires in let e = f.auto.codes in let d = f.auto.moves in
-    let codes = f.new.codes in let moves = f.new.moves in let same = sym (file-letters a.a.now p.0) ∙ else1.if-l-m.false ∙ file-letters a.b.now p.1 in
+    let start : tie.Start = start-of-at-n (search) in let a = start.args in let p = start.requires in let e = f.auto.codes in let d = f.auto.transitions in
+    let codes = f.new.codes in let moves = f.new.transitions in let same = sym (file-letters a.a.now p.0) ∙ else1.if-l-m.false ∙ file-letters a.b.now p.1 in
     let row = made_row a.a.now true p.0 (rw at_n.in-Table.is at f.ensures) e d in
     lent_same (own-served a.a.now a.b.now _ same codes moves row) (other-settles a.a.now a.b.now _) e d refl refl refl refl
     at-compare-other.compare_other.ensures

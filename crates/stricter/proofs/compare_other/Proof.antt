@@ -12,7 +12,7 @@ start-of-at-compare-tables-arg c = search
 compare-tables-requires : tie.Need-compare_tables-requires
 compare-tables-requires c κs =
     let at-m : tie.In-Table = search in let f = c.build_accepted in
-    let start : tie.Start = search in let p = start.requires in let e = f.auto.codes in let d = f.auto.moves in
+    let start : tie.Start = search in let p = start.requires in let e = f.auto.codes in let d = f.auto.transitions in
     (p.0, made-ready start.args.b.now false p.1 (rw at-m.in-Table.is at f.ensures) e d, p.2)
 
 returns : tie.Need-returns-in-Refused
@@ -26,8 +26,8 @@ returns-2 : tie.Need-returns-in-Table
 returns-2 c =
     let at-compare-tables : tie.After-compare_tables = search in let at-m : tie.In-Table = search in
     let f = c.build_accepted in
-    let start : tie.Start = start-of-at-compare-tables-arg (search) in let a = start.args in let e = f.auto.codes in let d = f.auto.moves in
-    let codes = f.new.codes in let moves = f.new.moves in let row = made_row a.b.now false start.requires.1 (rw at-m.in-Table.is at f.ensures) e d in
+    let start : tie.Start = start-of-at-compare-tables-arg (search) in let a = start.args in let e = f.auto.codes in let d = f.auto.transitions in
+    let codes = f.new.codes in let moves = f.new.transitions in let row = made_row a.b.now false start.requires.1 (rw at-m.in-Table.is at f.ensures) e d in
     lent_same (other-served a.a.now a.b.now _ codes moves row) (pair_settles a.a.now a.b.now _) refl refl e d refl refl
     at-compare-tables.compare_tables.ensures
 
