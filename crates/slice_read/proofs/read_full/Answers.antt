@@ -1,7 +1,10 @@
 -- what a read put behind what was there before is what it consumed
 use Rattle.std.proofs.Common.{◌≡◌, ℕ, ◌+◌, ◌-◌, ◌≤◌, List, ◌++◌, rules, arith, length, take, slice_range, sym, ap, ◌∙◌, subst, le_refl, drop_at, length-take-le}
 use Rattle.std.proofs.lemmas.Slice.{take-put_mid_below}
-use Rattle.std.specs.Io.KnownBytes.{Consumes}
+use Rattle.std.specs.Prelude.{None, Some, Ok, Err, OnErr}
+use Rattle.std.specs.declared.result.Result.{Result}
+use Rattle.std.specs.declared.option.Option.{Option}
+use Rattle.std.specs.Io.KnownBytes.{Consumes, Keeps}
 use Rattle.std.proofs.KnownBytes.{Consumes-trans}
 use borrow.Rule.Slice.PartMut.{put_mid, post_of}
 use lib.Seq.{take-add, take-append-le}
@@ -30,3 +33,22 @@ loop-done-preserved g c =
       search rules,
       subst (Consumes _ _) (ap (λ l. take from c.loop-done.buf ++ l) (sym part) ∙ joined) (Consumes-trans _ _ _ _ _ c.loop-done.invariant.3 c.in_ok-n.ensures.bytes.0),
     )
+
+-- what is kept after bytes were consumed leaves just these consumed
+Consumes-kept : (old mid new : Option (List ℕ)) (bs : List ℕ) → Consumes old mid bs → Keeps mid new → Consumes old new bs
+Consumes-kept None mid new bs h k = tt
+Consumes-kept (Some xs) None new bs h k = absurd h
+Consumes-kept (Some xs) (Some ys) None bs h k = absurd k
+Consumes-kept (Some xs) (Some ys) (Some zs) bs h k = h ∙ ap (λ l. bs ++ l) (sym k)
+
+on_err : {E P : Type 0} (r : Result ℕ E) → P → OnErr r P
+on_err (Ok n) p = tt
+on_err (Err e) p = p
+
+pub returns-in_err-n-clause-failed : goal.returns-in_err-n-clause-failed
+returns-in_err-n-clause-failed g c =
+    let from = c.loop-done.done in
+    let within = c.loop-done.invariant.1 in
+    let same : take from (put_mid from (length c.loop-done.buf - from) c.loop-done.buf c.read.new.buf) ≡ take from c.loop-done.buf = take-put_mid_below _ _ _ _ _ (le_refl _) within in
+    let left = Consumes-kept _ _ _ _ c.loop-done.invariant.3 c.in_err-n.ensures.bytes in
+    on_err c.from_residual.result (from, subst (Consumes _ _) (sym same) left)
