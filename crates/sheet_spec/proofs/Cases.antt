@@ -46,7 +46,7 @@ pub after-a-faulty-word : words_of (1 ∷ 0 ∷ 7 ∷ (0 ∷ 1 ∷ 0 ∷ [])) �
 unfolding computed
 after-a-faulty-word = refl
 
--- 13 for a cut_off word, also with a letter that is not below s, and for a lone length byte; 12 for a cut_off word with no cycle
+-- 13 for a cut-off word, also with a letter that is not below s, and for a lone length byte; 12 for a cut-off word with no cycle
 pub cut_off : fault_of 2 (spelled 0 2 (7 ∷ [])) ≡ 13
 unfolding computed
 cut_off = refl

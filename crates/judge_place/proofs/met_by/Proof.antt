@@ -56,8 +56,14 @@ loop-again c =
     let small = few (search) in let q = count_trailing_zeros 8 l.left in let one : 1 * 2 ^ q % 2 ^ 8 ≡ 2 ^ q = shl_one 8 q (below (search)) in
     let test : c.before.satisfied.result ≡ f q = c.before.satisfied.ensures in (
       omega (arith, and_le_r l.left (l.left - 1)),
-      elim c.if-satisfied.branch [ then-satisfied w ↦ rw (w.met-is, one) (or_lt 8 l.met (2 ^ q) l.invariant.1 (pow-lt (below (search)))) | else-satisfied w ↦ rw w.met-is l.invariant.1 ],
-      λ p. elim c.if-satisfied.branch [ then-satisfied w ↦ rw (w.met-is, one) (walk-yes f l.met l.left pos small (sym test ∙ w.if-satisfied.true) p) ∙ l.invariant.2 p | else-satisfied w ↦ rw w.met-is (walk_no f l.met l.left pos small (sym test ∙ w.if-satisfied.false) p) ∙ l.invariant.2 p ],
+      elim c.if-satisfied.branch [
+        | then-satisfied w ↦ rw (w.met-is, one) (or_lt 8 l.met (2 ^ q) l.invariant.1 (pow-lt (below (search))))
+        | else-satisfied w ↦ rw w.met-is l.invariant.1
+      ],
+      λ p. elim c.if-satisfied.branch [
+        | then-satisfied w ↦ rw (w.met-is, one) (walk-yes f l.met l.left pos small (sym test ∙ w.if-satisfied.true) p) ∙ l.invariant.2 p
+        | else-satisfied w ↦ rw w.met-is (walk_no f l.met l.left pos small (sym test ∙ w.if-satisfied.false) p) ∙ l.invariant.2 p
+      ],
     )
 
 returns : tie.Need-returns invariant-loop decreases-loop

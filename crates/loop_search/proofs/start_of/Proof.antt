@@ -24,7 +24,10 @@ loop-again c =
     let e : v ≡ from a.n a.es.now a.accepting l.t
     = c.before.further_from-k.ensures ∙ from_is a.n a.es.now a.accepting o.result l.t o.ensures in (
       omega arith,
-      elim c.if-k-further.branch [ then-k-further s ↦ rw (s.at-is, s.further-is) (least-less e l.invariant.1 (omega (arith, s.if-k-further.true))) | else-k-further s ↦ rw (s.at-is, s.further-is) (least_kept e l.invariant.1 (omega (arith, s.if-k-further.false))) ],
+      elim c.if-k-further.branch [
+        | then-k-further s ↦ rw (s.at-is, s.further-is) (least-less e l.invariant.1 (omega (arith, s.if-k-further.true)))
+        | else-k-further s ↦ rw (s.at-is, s.further-is) (least_kept e l.invariant.1 (omega (arith, s.if-k-further.false)))
+      ],
     )
 
 returns : tie.Need-returns invariant-loop decreases-loop
