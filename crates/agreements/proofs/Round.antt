@@ -7,40 +7,34 @@ use borrow.Author.Tests.{ltb-false}
 use lib.Dec.{ltb}
 use lib.ListN.{length, take, drop, length-take}
 use lib.Seq.{take-append_seam}
-use Rattle.refusals.proofs.Rows.{first-parts, first-pass}
+use Rattle.std.specs.Prelude.{Result, Ok}
+use Rattle.refusals.specs.declared.Refusal.{Refusal}
+use Rattle.refusals.proofs.Rows.{answer-passes, first-parts, first-pass}
 use Rattle.theory.specs.Table.{ListsReachable}
 use Rattle.theory.specs.TableComputed.{macrostates, transitions}
 use Rattle.file_spec.specs.File.{rule_in}
 use Rattle.file_spec.specs.Rows.{file_row, file_rows_lem}
 use Rattle.file_read.proofs.FileRows.{file-numbered, accepted-passing}
-use Rattle.file_write_spec.specs.declared.Written.{Written}
-use Rattle.file_write_spec.specs.declared.Written.TheVariants.{Length}
-use Rattle.file_write_spec.specs.Written.{answer, after}
+use Rattle.file_write_spec.specs.Written.{after}
 use Rattle.codes.specs.Bytes.{bytes_of_all}
 use Rattle.table_lent.specs.Lent.{Lent, in_words, in_bytes_lem, table_row_lem}
 use Rattle.table_rows.specs.Passed.{Passed}
 use Rattle.listing_lines_spec.specs.Lines.{initial_at}
 use Rattle.hoa_spec.specs.Text.{flags_of, text_of}
-use Rattle.hoa_write.specs.Written.{write_row, file_text, hoa_written, hoa_after, bound}
+use Rattle.hoa_write.specs.Written.{write_rows, write_row, file_text, hoa_written, hoa_after, bound}
 use Rattle.hoa_write.proofs.Served.{bound-served}
-use Rattle.hoa_spec.specs.declared.HoaRead.{HoaRead}
-use Rattle.hoa_spec.specs.declared.HoaRead.TheVariants.{Table}
+use Rattle.hoa_spec.specs.declared.TableSizes.{TableSizes}
 use Rattle.hoa_spec.specs.Reading.{ReadBack}
 use Rattle.hoa_laws.proofs.Theorems.{reads-back}
 use Rattle.build_lists.specs.Room.{codes_room}
 use Rattle.build_lists.proofs.Room.{room-cap}
 use Rattle.build.specs.declared.Counts.{Counts}
-use Rattle.build.specs.declared.Built.TheVariants as build
 use Rattle.build.specs.Built.{room_rows, built_by, row_from, built_from, build_row}
 use Rattle.build.specs.Entry.{TableBuilt}
 use Rattle.build.proofs.ByLists.{codes_same, moves-same}
 use Rattle.agreements.proofs.BuiltTables.{built-passes, codes-in-bytes, transitions-in-bytes, built-served-bytes}
 
--- what a served writer answers and leaves, by its text
-served-answer : (k : ℕ) (text : List ℕ) → k ≡ 0 → answer k text ≡ Length (length text)
-unfolding answer
-served-answer k text e = rw e
-
+-- what a served writer leaves, by its text
 served-slice : (k : ℕ) (text old : List ℕ) → k ≡ 0 → take (length text) (after k text old) ≡ text
 unfolding after
 served-slice k text old e = rw (e, take-append_seam text (drop (length text) old))
@@ -49,13 +43,13 @@ served-slice k text old e = rw (e, take-append_seam text (drop (length text) old
 -- flags and transitions.
 abbrev pub RoundTrip : List ℕ → List ℕ → List ℕ → Type 0
 RoundTrip f codes moves =
-    (old new : List ℕ) (v : Written)
+    (old new : List ℕ) (v : Result ℕ Refusal)
     → v ≡ hoa_written f (in_bytes_lem (bytes_of_all codes)) (in_bytes_lem (bytes_of_all moves)) (length old)
     → new ≡ hoa_after f (in_bytes_lem (bytes_of_all codes)) (in_bytes_lem (bytes_of_all moves)) old
     → bound (length codes) (length moves) ≤ length old
-    → (m : ℕ) × (v ≡ Length m)
-    × ((flags ts flags' ts' : List ℕ) (a : HoaRead) → ReadBack (take m new) flags ts a flags' ts' → length codes ≤ length flags → length moves ≤ length ts
-    → (a ≡ Table record { macrostates = length codes; transitions = length moves })
+    → (m : ℕ) × (v ≡ Ok m)
+    × ((flags ts flags' ts' : List ℕ) (a : Result TableSizes Refusal) → ReadBack (take m new) flags ts a flags' ts' → length codes ≤ length flags → length moves ≤ length ts
+    → (a ≡ Ok record { macrostates = length codes; transitions = length moves })
     × (flags' ≡ flags_of (initial_at (rule_in f).initial) codes ++ drop (length codes) flags)
     × (ts' ≡ moves ++ drop (length moves) ts))
 
@@ -94,12 +88,13 @@ module _ (f codes moves : List ℕ) (e : file_row f ≡ 0) (L : ListsReachable (
   text_is = rw (code-numbers, move-numbers)
 
   pub table-round : RoundTrip f codes moves
-  unfolding hoa_written hoa_after
+  unfolding hoa_written hoa_after write_row
   table-round old new v w n h =
       let P = (accepted-passing f e).formed in
       let text = text_of (rule_in f).s (rule_in f).initial codes moves in
       let row : write_row f code_bytes move_bytes (length old) ≡ 0 = bound-served f code_bytes move_bytes (length old) e row-15 (rw (code-numbers, move-numbers) h) in
-      let long : v ≡ Length (length text) = w ∙ served-answer _ (file_text f code_bytes move_bytes) row ∙ ap (λ (t : List ℕ). Length (length t)) text_is in
+      let long : v ≡ Ok (length text)
+      = w ∙ answer-passes (write_rows f code_bytes move_bytes (length old)) (length (file_text f code_bytes move_bytes)) row ∙ ap (λ (t : List ℕ). Ok (length t)) text_is in
       let front : take (length text) new ≡ text = ap (take (length text)) n
       ∙ ap (λ (t : List ℕ). take (length t) (after (write_row f code_bytes move_bytes (length old)) (file_text f code_bytes move_bytes) old)) (sym text_is)
       ∙ served-slice _ (file_text f code_bytes move_bytes) old row ∙ text_is in (
@@ -111,12 +106,12 @@ module _ (f codes moves : List ℕ) (e : file_row f ≡ 0) (L : ListsReachable (
 
 -- ---- what a build leaves
 
-from-table : (k : ℕ) (codes moves : List ℕ) (n : Counts) → build.Table n ≡ built_by k codes moves → (k ≡ 0) × (n.macrostates ≡ length codes)
+from-table : (k : ℕ) (codes moves : List ℕ) (n : Counts) → Ok n ≡ built_by k codes moves → (k ≡ 0) × (n.macrostates ≡ length codes)
 unfolding built_by
 from-table zero codes moves n e = (refl, cc)
-from-table (suc k) codes moves n e = let z : ◌≡◌ {A = ℕ} 0 1 = cc in absurd (omega arith)
+from-table (suc k) codes moves n e = cc
 
-module _ (f xs zs ys ws : List ℕ) (n : Counts) (B : TableBuilt f xs zs (build.Table n) ys ws) where
+module _ (f xs zs ys ws : List ℕ) (n : Counts) (B : TableBuilt f xs zs (Ok n) ys ws) where
   counted : (build_row f (length xs) (length zs) ≡ 0) × (n.macrostates ≡ length (macrostates (rule_in f)))
   unfolding built_from
   counted = from-table (build_row f (length xs) (length zs)) (macrostates (rule_in f)) (transitions (rule_in f)) n B.answer
@@ -125,7 +120,7 @@ module _ (f xs zs ys ws : List ℕ) (n : Counts) (B : TableBuilt f xs zs (build.
   unfolding row_from file_row room_rows
   passed =
       let r = first-parts (file_rows_lem f) _ (file-numbered f) counted.0 in
-      (r.0, ltb-false (codes_room (length xs)) (length (macrostates (rule_in f))) (first-pass (ltb (codes_room (length xs)) (length (macrostates (rule_in f)))) 16 _ r.1).0)
+      (r.0, ltb-false (codes_room (length xs)) (length (macrostates (rule_in f))) (first-pass (ltb (codes_room (length xs)) (length (macrostates (rule_in f)))) _ _ r.1).0)
 
   small : length (take n.macrostates ys) ≤ 65536
   small = omega (arith, length-take n.macrostates ys, counted.1, passed.1, room-cap 65536 (length xs))

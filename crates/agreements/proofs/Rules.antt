@@ -7,6 +7,9 @@ use mathlib.Core.Logic.{◌↔◌, by_cases}
 use native.Mathlib.Omega.{arith}
 use native.Mathlib.Decide.{ℕ_discrete}
 use lib.ListN.{length, take}
+use Rattle.std.specs.Prelude.{Result, Ok, Option}
+use Rattle.std.specs.Result.{result_and}
+use Rattle.refusals.specs.declared.Refusal.{Refusal}
 use Rattle.refusals.specs.Rows.{Check, first_row}
 use Rattle.refusals.proofs.Rows.{numbered, first-left, first-right}
 use Rattle.theory.specs.Rule.{Rule}
@@ -18,14 +21,12 @@ use Rattle.file_read.proofs.FileRows.{layout-numbered, old-numbered, accepted-ro
 use Rattle.file_read.proofs.Prefaces.{layout-after, laid-after, old-after}
 use Rattle.rule_tidy_spec.specs.Tidy.{tidy_rule_lem}
 use Rattle.file_write_spec.specs.Written.{slice_rows, after}
-use Rattle.file_tidy_spec.specs.declared.Tidied.{Tidied}
-use Rattle.file_tidy_spec.specs.Tidied.{tidy_rows, tidy_row, answer, tidied_of, slice_tidied}
+use Rattle.file_tidy_spec.specs.Tidied.{tidy_rows, call_rows, tidy_row, tidied_of, slice_tidied}
 use Rattle.file_tidy_spec.proofs.Laws.{tidy-laid}
-use Rattle.loop_spec.specs.declared.Report.{Report}
 use Rattle.loop_spec.specs.Loops.{Reported}
 use Rattle.loop_spec.specs.Search.{loop_of}
 use Rattle.loop_spec.specs.Reported as report
-use Rattle.agreements.proofs.Verdicts.{both-alike}
+use Rattle.agreements.proofs.Verdicts.{refusal_by, by_row, both-alike}
 
 -- ---- the tidy tool
 
@@ -42,7 +43,7 @@ tidy-old f u =
     (λ e. parts ∙ first-right (old_rows f) (preface_rows (trailer f 1) (part_before_lem f)) (old-numbered f) e ∙ u ∙ sym e)
     (λ n. parts ∙ sym (first-left (old_rows f) (preface_rows (trailer f 1) (part_before_lem f)) (old_row f) n refl))
 
-module _ (old new : List ℕ) (a : Tidied) where
+module _ (old new : List ℕ) (a : Result ℕ Refusal) where
   abbrev Tidies : List ℕ → Type 0
   Tidies f = (a ≡ tidied_of f (length old)) × (new ≡ slice_tidied f old)
 
@@ -54,15 +55,15 @@ module _ (old new : List ℕ) (a : Tidied) where
   tidy_rest r = slice_rows (length old) (tidy_of_lem r)
 
   abbrev TidiesBy : ℕ → NamedRule → Type 0
-  TidiesBy k r = (a ≡ answer k (tidy_of_lem r)) × (new ≡ after k (tidy_of_lem r) old)
+  TidiesBy k r = (a ≡ result_and (refusal_by k) (Ok (length (tidy_of_lem r)))) × (new ≡ after k (tidy_of_lem r) old)
 
   tidy-alone : (k : ℕ) (r t : NamedRule) → TidiesBy (suc k) r → TidiesBy (suc k) t
-  unfolding answer after
+  unfolding after
   tidy-alone k r t h = h
 
   tidy-by : (f : List ℕ) → Tidies f ↔ TidiesBy (first_row (tidy_rows f ++ tidy_rest (named_in f))) (named_in f)
   unfolding tidied_of slice_tidied tidy_row
-  tidy-by f = (λ h. h, λ h. h)
+  tidy-by f = let b = by_row (call_rows f (length old)) in (λ h. (rw b at h.0, h.1), λ h. (rw b h.0, h.1))
 
   -- bytes that leave the names as they are bring no other verdict
   pub tidy-preface : (p f : List ℕ) → (first_row (tidy_rows f) ≡ 1 → ⊥) → (first_row (tidy_rows f) ≡ 7 → ⊥) → preface_row_lem f ≡ 0 → preface_row_lem (p ++ f) ≡ 0 → names_of (p ++ f) ≡ names_of f
@@ -85,7 +86,7 @@ module _ (old new : List ℕ) (a : Tidied) where
 
 -- ---- the report of a mixed loop
 
-module _ (old new : List ℕ) (a : Report) where
+module _ (old new : List ℕ) (a : Result (Option ℕ) Refusal) where
   -- what its contract says
   abbrev Reports : List ℕ → Type 0
   Reports f =

@@ -19,7 +19,7 @@ use Rattle.table_rows.specs.Passed.{Passed}
 use Rattle.table_rows.proofs.Passed.{passes}
 use Rattle.agreements.proofs.TrimmedTables.{trimmed-passes}
 use Rattle.build.specs.declared.Counts.{Counts}
-use Rattle.build.specs.declared.Built.TheVariants.{Table}
+use Rattle.std.specs.Prelude.{Ok}
 use Rattle.build_trimmed.specs.Answers.{trimmed_of, trimmed_codes_after, trimmed_transitions_after}
 use Rattle.build_trimmed.proofs.Answer.{rows, small, codes_are, transitions_are, answered-lists}
 use Rattle.live_spec.specs.declared.LiveCall.TheVariants.{Start}
@@ -44,7 +44,7 @@ start-row f codes transitions state room e t l k =
     ∙ first-right (table_rows_lem (rule_in f).s codes transitions) (slice_rows (length codes.numbers) state room) (rows-numbered (rule_in f).s codes transitions) t
     ∙ slices-pass (length codes.numbers) state room l k
 
-module _ (f xs zs : List ℕ) (n : Counts) (e : Table n ≡ trimmed_of f (length xs) (length zs)) where
+module _ (f xs zs : List ℕ) (n : Counts) (e : Ok n ≡ trimmed_of f (length xs) (length zs)) where
   -- what both slices hold then, up to the counts
   abbrev codes : List ℕ
   codes = take n.macrostates (trimmed_codes_after f xs (length zs))

@@ -1,17 +1,35 @@
 -- One law for every entry whose contract depends on the file by its row and its rule alone: a preface brings no other verdict, and a controller
 -- in the field, which goes by the reader of 01, reaches the same.
-use Prim.Native.Nat.{ℕ, suc}
-use mathlib.Core.Path.{◌≡◌, sym, ◌∙◌}
+use Prim.Native.Nat.{ℕ, zero, suc, ◌-◌}
+use mathlib.Core.Path.{◌≡◌, refl, sym, ◌∙◌, ap}
 use mathlib.Core.Bool.{true}
 use mathlib.Core.List.{List, ◌++◌}
 use mathlib.Core.Logic.{◌↔◌}
-use Rattle.refusals.specs.Rows.{Check, first_row}
-use Rattle.refusals.proofs.Rows.{numbered}
+use native.Mathlib.Omega.{arith}
+use Rattle.std.specs.Prelude.{Result, Ok, Err, ⊤}
+use Rattle.refusals.specs.declared.Refusal.{Refusal}
+use Rattle.refusals.specs.Rows.{Check, number_of, refusal_at, row_of, first_refusal, first_row}
+use Rattle.refusals.proofs.Rows.{numbered, number-above, refusal-at, row-refusal}
 use Rattle.theory.specs.Rule.{Rule}
 use Rattle.file_spec.specs.File.{rule_in}
 use Rattle.file_spec.specs.Rows.{file_rows_lem, file_row, preface_row_lem, old_rows}
 use Rattle.file_read.proofs.RowAndRule.{holds-alike}
 use Rattle.file_read.proofs.Prefaces.{holds_after, old-first}
+
+-- by the number of the first row that refuses, or 0: what refuses
+abbrev pub refusal_by : ℕ → Result ⊤ Refusal
+refusal_by zero = Ok tt
+refusal_by (suc k) = Err (refusal_at k)
+
+by-number : (x : Result ⊤ Refusal) → x ≡ refusal_by (row_of x)
+by-number (Ok u) = refl
+by-number (Err r) =
+    let n = number-above r in
+    let e : number_of r ≡ suc (number_of r - 1) = omega arith in
+    ap Err (sym (refusal-at r (number_of r - 1) e)) ∙ ap refusal_by (sym e)
+
+pub by_row : (cs : List Check) → first_refusal cs ≡ refusal_by (first_row cs)
+by_row cs = by-number (first_refusal cs) ∙ ap refusal_by (row-refusal cs)
 
 -- the law of file_read/proofs/RowAndRule, both ways
 pub both-alike : {R : Type 0} (rest : R → List Check) (xs ys : List Check) → numbered xs ≡ true → numbered ys ≡ true → (r t : R)

@@ -5,14 +5,13 @@
 ghost use Rattle.std.specs.Prelude.{◌≡◌};
 ghost use Rattle.theory.specs.Rule.{Rule};
 ghost use Rattle.file_spec.specs.Reading.{read_of};
-ghost use Rattle.file_spec.specs.declared.Read.TheVariants.{Accepted};
 ghost use Rattle.build_cores.specs.Vectors.{Within};
 ghost use Rattle.build_cores.specs.Used.{caps_of};
 ghost use Rattle.build_spec.specs.Keys.{Cored};
 ghost use Rattle.build_spec.specs.Tables.{RuleTables, Lowest};
 
 use build_spec::Shape;
-use file_spec::{Layout, Read};
+use file_spec::Layout;
 use std::io;
 use std::io::Stdout;
 use std::num::wrapping_add_u64;
@@ -42,8 +41,7 @@ fn step_letters(
     let opened = low[15];
     let mut sum = tally.sum;
     let mut steps = tally.steps;
-    let mut a = 0;
-    while a < shape.s {
+    for a in 0..shape.s {
         let before = build_step_back::step_back(
             opens,
             a,
@@ -57,7 +55,6 @@ fn step_letters(
         let level = levels[(ranks % 8) as usize];
         sum = wrapping_add_u64(sum, wrapping_add_u64(before.ranks, level));
         steps = wrapping_add_u64(steps, 1);
-        a += 1;
     }
     Tally {
         cores: wrapping_add_u64(tally.cores, 1),
@@ -106,20 +103,18 @@ fn rounds(shape: Shape, opens: &[u8; 4096], parts: &[u8; 8]) -> Tally
         steps: 0,
         sum: 0,
     };
-    let mut i: u32 = 0;
-    while i < 1000 {
+    for _ in 0..1000u32 {
         tally = sweep(tally, shape, opens, parts, caps);
         if ENOUGH <= tally.steps {
             return tally;
         }
-        i += 1;
     }
     tally
 }
 
 // The tally of an accepted file's rule, from the tables that the build makes of it.
 fn rule_rounds(file: &[u8], l: Layout) -> Tally
-    requires { read_of file.now ≡ Accepted l }
+    requires { read_of file.now ≡ Ok l }
 {
     let p = build_lists::prepare::prepare(file, l, true);
     let parts = p.parts;
@@ -135,8 +130,8 @@ fn say(to: Stdout, name: &str, x: u64) -> io::Result<()> {
 // Prints the tally of a file's rule, or the row that refuses the file.
 fn run(to: Stdout, file: &[u8]) -> io::Result<()> {
     match file_read::read_rule(file) {
-        Read::Refused(row) => say(to, "refused ", row as u64),
-        Read::Accepted(l) => {
+        Err(refusal) => say(to, "refused ", refusal.row() as u64),
+        Ok(l) => {
             let h = l.head;
             let tally = rule_rounds(file, l);
             say(to, "cores ", tally.cores)?;

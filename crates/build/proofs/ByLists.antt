@@ -7,6 +7,9 @@ use Prim.Native.Nat.{ℕ, zero, suc, ◌≤◌}
 use native.Mathlib.Omega.{arith}
 use native.Mathlib.Decide.{dec_lt}
 use lib.ListN.{length}
+use Rattle.std.specs.Prelude.{Result, Ok, Err}
+use Rattle.refusals.specs.declared.Refusal.{Refusal}
+use Rattle.build.specs.declared.Counts.{Counts}
 use Rattle.sets.specs.Tests.{Set}
 use Rattle.theory.specs.Passing.{Passing}
 use Rattle.theory.specs.Rule.{Rule}
@@ -15,7 +18,6 @@ use Rattle.theory.specs.TableComputed.{macrostates_from, transitions_from}
 use Rattle.theory_laws.proofs.Lists.{codes-once, moves-once, lists-exist}
 use Rattle.theory_laws.proofs.Tables.{lists-from}
 use Rattle.build_lists.proofs.Room.{room-cap}
-use Rattle.build.specs.declared.Built.{Built}
 use Rattle.build.specs.Built.{room_row, built_by, room_after}
 use Rattle.build.specs.Filling.{Filled, Made}
 use Rattle.build.proofs.RoomRows.{row-codes, room-few}
@@ -35,13 +37,13 @@ module _ (r : Rule) (P : Passing r) {start : Set} (codes moves : List ℕ) (L : 
       (λ few. ap₂ (λ (x y : List ℕ). room_row x y cl ml) codes_same (moves-same (omega arith)))
 
 -- the lists matter only where no row refuses
-pub filled-same : (row : ℕ) (codes moves cs ts xs zs : List ℕ) (b : Built) (ys ws : List ℕ) → (row ≡ 0 → (codes ≡ cs) × (moves ≡ ts))
+pub filled-same : (row : ℕ) (codes moves cs ts xs zs : List ℕ) (b : Result Counts Refusal) (ys ws : List ℕ) → (row ≡ 0 → (codes ≡ cs) × (moves ≡ ts))
     → Filled row cs ts xs zs b ys ws → Filled row codes moves xs zs b ys ws
 unfolding built_by room_after
 filled-same zero codes moves cs ts xs zs b ys ws same F = let e = same refl in rw (e.0, e.1) F
 filled-same (suc k) codes moves cs ts xs zs b ys ws same F = record { answer = F.answer; codes_after = F.codes_after; moves_after = F.moves_after }
 
-pub made-by-lists : (r : Rule) (P : Passing r) (start : Set) (codes moves : List ℕ) → ListsFrom r start codes moves → (xs zs : List ℕ) (b : Built) (ys ws : List ℕ)
+pub made-by-lists : (r : Rule) (P : Passing r) (start : Set) (codes moves : List ℕ) → ListsFrom r start codes moves → (xs zs : List ℕ) (b : Result Counts Refusal) (ys ws : List ℕ)
     → Made (macrostates_from r start) (transitions_from r start) xs zs b ys ws → Made codes moves xs zs b ys ws
 made-by-lists r P start codes moves L xs zs b ys ws M =
     subst (λ (k : ℕ). Filled k codes moves xs zs b ys ws) (sym (row_same r P codes moves L (length xs) (length zs)))

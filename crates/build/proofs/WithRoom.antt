@@ -5,6 +5,8 @@ use mathlib.Core.Path.{◌≡◌, ◌∙◌}
 use mathlib.Core.Bool.{false}
 use mathlib.Core.List.{List, ◌++◌}
 use lib.ListN.{length, replicate}
+use Rattle.std.specs.Prelude.{Result, Ok, Err}
+use Rattle.refusals.specs.declared.Refusal.{Refusal}
 use Rattle.theory.specs.Rule.{Rule}
 use Rattle.theory.specs.Macrostate.{holds_initial}
 use Rattle.theory.specs.Passing.{Passing}
@@ -14,7 +16,6 @@ use Rattle.file_spec.specs.File.{rule_in, body_of}
 use Rattle.file_spec.specs.Rows.{preface_rows}
 use Rattle.file_spec.specs.RuleRows.{some_nested}
 use Rattle.file_read.proofs.Layouts.{layout-accepted}
-use Rattle.build.specs.declared.Built.TheVariants.{Table}
 use Rattle.build_lists.specs.Room.{codes_room, transitions_room}
 use Rattle.build.specs.Built.{built_by, room_after, slice_after, built_from, codes_after_from, transitions_after_from, build_row, built_of, codes_after_lem, transitions_after_lem}
 use Rattle.build.proofs.RoomRows.{row_fits}
@@ -22,7 +23,7 @@ use Rattle.build.proofs.Answer.{build-row}
 
 -- where no row refuses, of a file that is read as the rule r
 module _ (row : ℕ) (t r : Rule) (none : row ≡ 0) (same : t ≡ r) where
-  counted : built_by row (macrostates t) (transitions t) ≡ Table (record { macrostates = length (macrostates r); transitions = length (transitions r) })
+  counted : built_by row (macrostates t) (transitions t) ≡ Ok (record { macrostates = length (macrostates r); transitions = length (transitions r) })
   unfolding built_by
   counted = rw (none, same)
 
@@ -42,7 +43,7 @@ module _ (r : Rule) (P : Passing r) (apart : some_nested r ≡ false) (p : List 
       build-row holds_initial (p ++ body_of r) xs zs a.0 ∙ rw a.1 (row_fits (macrostates r) (transitions r) (length xs) (length zs) codes-fit moves-fit)
 
   -- the file of the rule, after any preface p whose names are not refused, is built: the counts and both lists, and zeros after them
-  pub built-with-room : (built_of (p ++ body_of r) (length xs) (length zs) ≡ Table (record { macrostates = length (macrostates r); transitions = length (transitions r) }))
+  pub built-with-room : (built_of (p ++ body_of r) (length xs) (length zs) ≡ Ok (record { macrostates = length (macrostates r); transitions = length (transitions r) }))
       × (codes_after_lem (p ++ body_of r) xs (length zs) ≡ macrostates r ++ replicate (length xs - length (macrostates r)) 0)
       × (transitions_after_lem (p ++ body_of r) (length xs) zs ≡ transitions r ++ replicate (length zs - length (transitions r)) 0)
   unfolding built_from codes_after_from transitions_after_from

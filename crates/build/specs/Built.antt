@@ -1,6 +1,10 @@
 -- What the build answers, and what it leaves in the two lent slices.
 use Rattle.std.specs.Prelude.{Bool, ◌||◌, cond, List, [], ◌∷◌, ◌++◌, ℕ, zero, suc, ◌-◌, ltb, eqb, length, replicate}
-use Rattle.refusals.specs.Rows.{Check, first_row, check}
+use Rattle.std.specs.Prelude.{Result, Ok, Err}
+use Rattle.refusals.specs.declared.Refusal.{Refusal}
+use Rattle.build.specs.declared.Counts.{Counts}
+use Rattle.refusals.specs.Rows.{Check, refusal_at, first_row, check}
+use Rattle.refusals.specs.declared.Refusal.TheVariants.{MacrostateRoom, TransitionRoom}
 use Rattle.sets.specs.Tests.{Set}
 use Rattle.theory.specs.Macrostate.{holds_initial}
 use Rattle.theory.specs.Rule.{Rule}
@@ -8,16 +12,14 @@ use Rattle.theory.specs.TableComputed.{macrostates_from, transitions_from}
 use Rattle.file_spec.specs.File.{rule_in}
 use Rattle.file_spec.specs.Rows.{file_rows_lem}
 use Rattle.build_lists.specs.Room.{codes_room, transitions_room}
-use Rattle.build.specs.declared.Built.{Built}
-use Rattle.build.specs.declared.Built.TheVariants.{Table, Refused}
 
 -- rows 17 and 18, of the codes and transitions to be written and the lengths of the two slices
 unfoldable pub room_rows : List ℕ → List ℕ → ℕ → ℕ → List Check
 room_rows codes moves codesLen movesLen =
     -- "more reachable macrostates than room"
-    check (ltb (codes_room codesLen) (length codes)) 17
+    check (ltb (codes_room codesLen) (length codes)) MacrostateRoom
     -- "more transitions than room"
-    ∷ check (ltb (transitions_room movesLen) (length moves)) 18
+    ∷ check (ltb (transitions_room movesLen) (length moves)) TransitionRoom
     ∷ []
 
 -- the first of them that refuses, or 0
@@ -25,9 +27,9 @@ unfoldable pub room_row : List ℕ → List ℕ → ℕ → ℕ → ℕ
 room_row codes moves codesLen movesLen = first_row (room_rows codes moves codesLen movesLen)
 
 -- by the first row that refuses: "It answers both counts" where none does, else "The answer is the number alone"
-unfoldable pub built_by : ℕ → List ℕ → List ℕ → Built
-built_by zero codes moves = Table (record { macrostates = length codes; transitions = length moves })
-built_by (suc k) codes moves = Refused (suc k)
+unfoldable pub built_by : ℕ → List ℕ → List ℕ → Result Counts Refusal
+built_by zero codes moves = Ok (record { macrostates = length codes; transitions = length moves })
+built_by (suc k) codes moves = Err (refusal_at k)
 
 -- 01: "a build is refused for room by 17 or 18"
 abbrev pub refuses_room : ℕ → Bool
@@ -57,7 +59,7 @@ module _ (start : Rule → Set) (file : List ℕ) where
   row_from codesLen movesLen = first_row (file_rows_lem file ++ room_rows file_codes file_moves codesLen movesLen)
 
   -- the answer
-  unfoldable pub built_from : ℕ → ℕ → Built
+  unfoldable pub built_from : ℕ → ℕ → Result Counts Refusal
   built_from codesLen movesLen = built_by (row_from codesLen movesLen) file_codes file_moves
 
   -- the slice of codes afterwards. 01: "The build writes reachable codes ascending into a lent slice of 64-bit numbers, numbered from 0"
@@ -73,7 +75,7 @@ module _ (start : Rule → Set) (file : List ℕ) where
 abbrev pub build_row : List ℕ → ℕ → ℕ → ℕ
 build_row = row_from holds_initial
 
-abbrev pub built_of : List ℕ → ℕ → ℕ → Built
+abbrev pub built_of : List ℕ → ℕ → ℕ → Result Counts Refusal
 built_of = built_from holds_initial
 
 abbrev pub codes_after_lem : List ℕ → List ℕ → ℕ → List ℕ

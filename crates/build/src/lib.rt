@@ -7,7 +7,6 @@ ghost use Rattle.std.specs.Prelude.{◌≡◌, true};
 ghost use Rattle.theory.specs.Rule.{Rule};
 ghost use Rattle.theory.specs.TableComputed.{macrostates_from, transitions_from};
 ghost use Rattle.file_spec.specs.Reading.{read_of};
-ghost use Rattle.file_spec.specs.declared.Read.TheVariants.{Accepted};
 ghost use Rattle.build_spec.specs.Keys.{start_of};
 ghost use Rattle.build_spec.specs.Tables.{RuleTables};
 ghost use Rattle.build.specs.Built.{file_codes, file_moves};
@@ -16,20 +15,14 @@ ghost use Rattle.build.specs.Filling.{Made, FileFilled};
 
 use build_lists::{list_codes, list_transitions};
 use build_spec::Shape;
-use file_spec::{Layout, Read};
+use file_spec::Layout;
+use refusals::Refusal;
 
 // How many macrostates and transitions a built table has.
 #[derive(Clone, Copy)]
 pub struct Counts {
     pub macrostates: usize,
     pub transitions: usize,
-}
-
-// The answer of the build: the counts of the table, or the number of the first row that refuses.
-#[derive(Clone, Copy)]
-pub enum Built {
-    Table(Counts),
-    Refused(u8),
 }
 
 // ---- the table
@@ -41,7 +34,7 @@ fn build_table(
     parts: &[u8; 8],
     codes: &mut [u64],
     out: &mut [u64],
-) -> Built
+) -> Result<Counts, Refusal>
     requires { (r : Rule) × RuleTables r opens.now parts.now shape }
     ensures { (r : Rule)
         → RuleTables r opens.now parts.now shape
@@ -52,16 +45,16 @@ fn build_table(
     if g.full {
         slice_search::zero_all(codes);
         slice_search::zero_all(out);
-        return Built::Refused(refusals::MACROSTATE_ROOM);
+        return Err(Refusal::MacrostateRoom);
     }
     let n = g.m;
     let e = list_transitions(out, codes, n, shape, opens, parts);
     if e.full {
         slice_search::zero_all(codes);
         slice_search::zero_all(out);
-        return Built::Refused(refusals::TRANSITION_ROOM);
+        return Err(Refusal::TransitionRoom);
     }
-    Built::Table(Counts {
+    Ok(Counts {
         macrostates: n,
         transitions: e.m,
     })
@@ -77,8 +70,8 @@ pub fn build_accepted(
     holds: bool,
     codes: &mut [u64],
     transitions: &mut [u64],
-) -> Built
-    requires { read_of file.now ≡ Accepted l }
+) -> Result<Counts, Refusal>
+    requires { read_of file.now ≡ Ok l }
     ensures { Made (file_codes (λ r. start_of r holds) file.now) (file_moves (λ r. start_of r holds) file.now)
         codes.old transitions.old result codes.new transitions.new }
 {
@@ -88,22 +81,25 @@ pub fn build_accepted(
     build_table(p.shape, &opens, &parts, codes, transitions)
 }
 
-// Builds the table of a file's rule, as `build_accepted` does. If a row refuses, it answers the number of the first: a rule's row leaves
+// Builds the table of a file's rule, as `build_accepted` does. If a row refuses, it answers the first that does: a rule's row leaves
 // the slices as they are.
-pub fn build_file(file: &[u8], holds: bool, codes: &mut [u64], transitions: &mut [u64]) -> Built
+pub fn build_file(
+    file: &[u8],
+    holds: bool,
+    codes: &mut [u64],
+    transitions: &mut [u64],
+) -> Result<Counts, Refusal>
     ensures { FileFilled (λ r. start_of r holds) file.now codes.old transitions.old result
         codes.new transitions.new }
 {
-    match file_read::read_rule(file) {
-        Read::Refused(row) => Built::Refused(row),
-        Read::Accepted(l) => build_accepted(file, l, holds, codes, transitions),
-    }
+    let l = file_read::read_rule(file)?;
+    build_accepted(file, l, holds, codes, transitions)
 }
 
 // Writes the codes of the reachable macrostates and the transitions of a file's rule, both ascending, at the start of the slices, and
-// zeros after them; answers both counts. If a row refuses, it answers the number of the first: a rule's row leaves the slices as they are,
+// zeros after them; answers both counts. If a row refuses, it answers the first that does: a rule's row leaves the slices as they are,
 // 17 and 18 set both to zero throughout.
-pub fn build(file: &[u8], codes: &mut [u64], transitions: &mut [u64]) -> Built
+pub fn build(file: &[u8], codes: &mut [u64], transitions: &mut [u64]) -> Result<Counts, Refusal>
     ensures { TableBuilt file.now codes.old transitions.old result
         codes.new transitions.new }
 {

@@ -38,11 +38,8 @@ pub fn to_codes(keys: &mut [u64], n: usize)
     requires { n ≤ length keys.old }
     ensures { keys.new ≡ map code_of (keys_of n keys.old) ++ drop n keys.old }
 {
-    let mut i = 0;
-    while i < n {
-        let key = keys[i];
-        keys[i] = ((key & 0xff) << CORE_BITS) | ((key & CODE_MASK) >> 8);
-        i += 1;
+    for key in keys[..n].iter_mut() {
+        *key = ((*key & 0xff) << CORE_BITS) | ((*key & CODE_MASK) >> 8);
     }
 }
 

@@ -110,6 +110,7 @@ pub fn close(
 {
     let mut from = 0;
     let mut n = first;
+    // A while: a round begins where the one before ended, until a round adds no key.
     while from < n {
         let g = round(keys, heads, last, n, from, shape, opens, parts, caps);
         if g.full {

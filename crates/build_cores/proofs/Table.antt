@@ -1,14 +1,9 @@
 -- The table, place by place.
-use mathlib.Core.Path.{◌≡◌, refl, ap, ap₂, ◌∙◌}
-use mathlib.Core.Logic.{by_cases}
+use mathlib.Core.Path.{◌≡◌, refl, ap, ◌∙◌}
 use mathlib.Core.Bool.{true}
-use mathlib.Core.List.{List}
-use Prim.Native.Nat.{ℕ, ◌+◌, ◌*◌, ◌/◌, ◌%◌, ◌^◌, ◌≤◌, ◌<◌}
+use Prim.Native.Nat.{ℕ, ◌+◌, ◌*◌, ◌%◌, ◌^◌, ◌<◌}
 use native.Mathlib.Omega.{arith}
-use native.Mathlib.Decide.{ℕ_discrete}
 use native.Mathlib.Numerals.{add-one}
-use lib.ListN.{length, get_or, set, length-set}
-use lib.Seq.{get_or-set_same, get_or-set_other}
 use lib.Bits.{bit_xor, xor_lt}
 use lib.Pow.{pow_mono}
 use Rattle.sets.specs.Tests.{Set, one}
@@ -18,10 +13,10 @@ use Rattle.sets.proofs.Bits.{bit-xor, mask-unique, shl_one}
 use Rattle.sets.proofs.Bools.{xor_comm}
 use Rattle.theory.specs.Rule.{Rule, entry, satisfies}
 use Rattle.theory.specs.Passing.{WellFormed}
-use Rattle.theory.specs.Automaton.{Automaton, automaton}
+use Rattle.theory.specs.Automaton.{automaton}
 use Rattle.theory.specs.Core.{is_open}
 use Rattle.theory_laws.proofs.Satisfies.{satisfies-ext}
-use Rattle.build_cores.specs.Opens.{set_from, open_before_lem, Opens}
+use Rattle.build_cores.specs.Opens.{set_from, open_before_lem}
 
 -- ---- one state more
 
@@ -61,29 +56,3 @@ module _ (r : Rule) (W : WellFormed r) (a opened : ℕ) where
       mask-unique r.n (bit_xor (mask r.n met) r.accepting) (is_open (automaton r) (λ q. satisfies r.n (set_from (automaton r) opened) (entry r q a)))
       (xor_lt r.n (mask r.n met) r.accepting (mask_lt r.n met) W.accepting_states)
       (λ q l. bit-xor (mask r.n met) r.accepting q ∙ xor_comm (bit (mask r.n met) q) (bit r.accepting q) ∙ ap (exclusive (bit r.accepting q)) (bit_mask r.n met q l ∙ set_same q))
-
--- ---- the whole table
-
-pub record Filled (A : Automaton) (opens : List ℕ) (i : ℕ) : Type 0 where
-  pub long : length opens ≡ 4096
-  pub is : (j : ℕ) → j < i → get_or opens j 0 ≡ open_before_lem A (j / 256) (j % 256)
-
-pub filled-start : (A : Automaton) (opens : List ℕ) → length opens ≡ 4096 → Filled A opens 0
-filled-start A opens e = record { long = e; is = λ j l. absurd (omega arith) }
-
-pub fill : (A : Automaton) (opens : List ℕ) (i x : ℕ) → i < 4096 → x ≡ open_before_lem A (i / 256) (i % 256) → Filled A opens i → Filled A (set opens i x) (i + 1)
-fill A opens i x h e f = record {
-  long = simp length-set f.long;
-  is = λ j l. by_cases (ℕ_discrete j i)
-      (λ u. rw u (get_or-set_same opens i x 0 (let z = f.long in omega arith) ∙ e))
-      (λ u. get_or-set_other opens i j x 0 u ∙ f.is j (omega arith));
-}
-
-pub filled-table : (A : Automaton) (s : ℕ) (opens : List ℕ) → s ≤ 16 → Filled A opens (s * 256) → Opens A s opens
-filled-table A s opens h f = record {
-  few_letters = h;
-  table = λ a o l k.
-      let q : (a * 256 + o) / 256 ≡ a = omega arith in
-      let m : (a * 256 + o) % 256 ≡ o = omega arith in
-      f.is (a * 256 + o) (omega arith) ∙ ap₂ (open_before_lem A) q m;
-}

@@ -28,11 +28,9 @@ pub fn ranked(ranks: u64) -> [u8; 16]
     ensures { (j : ℕ) → j < 16 → get_or result j 0 ≡ mask 8 (λ p. eqb (rank_at ranks p) j) }
 {
     let mut at = [0u8; 16];
-    let mut q: u32 = 0;
-    while q < 8 {
+    for q in 0..8u32 {
         let r = ((ranks >> (4 * q)) & 15) as usize;
         at[r] |= 1u8 << q;
-        q += 1;
     }
     at
 }
@@ -46,10 +44,8 @@ pub fn gathered(at: &[u8; 16]) -> [u8; 16]
         → get_or result j 0 ≡ mask 8 (λ p. ltb 0 (n p) && leb (n p) j) }
 {
     let mut low = [0u8; 16];
-    let mut j = 1;
-    while j < 16 {
+    for j in 1..16 {
         low[j] = low[j - 1] | at[j];
-        j += 1;
     }
     low
 }
@@ -68,6 +64,7 @@ pub fn used_ranks(ranks: u64, part: u8) -> u32
 {
     let mut found: u32 = 1;
     let mut left = part;
+    // A while: it visits the states of the component alone.
     while left != 0 {
         let q = u8::trailing_zeros(left);
         found |= 1u32 << ((ranks >> (4 * q)) & 15);
@@ -88,13 +85,11 @@ pub fn is_core(ranks: u64, parts: &[u8; 8], components: usize) -> bool
     requires { components ≤ 8 }
     ensures { result ≡ every components (λ c. gapless ranks (get_or parts.now c 0)) }
 {
-    let mut c = 0;
-    while c < components {
-        let found = used_ranks(ranks, parts[c]);
+    for part in &parts[..components] {
+        let found = used_ranks(ranks, *part);
         if found & (found + 1) != 0 {
             return false;
         }
-        c += 1;
     }
     true
 }
@@ -112,10 +107,8 @@ pub fn largest_ranks(parts: &[u8; 8], components: usize) -> u64
     ensures { result ≡ caps_of parts.now components }
 {
     let mut caps: u64 = 0;
-    let mut c = 0;
-    while c < components {
-        caps += sizes(parts[c]) as u64;
-        c += 1;
+    for part in &parts[..components] {
+        caps += sizes(*part) as u64;
     }
     caps
 }
@@ -128,6 +121,7 @@ pub fn next_ranks(ranks: u64, caps: u64) -> u64
     let mut w = ranks;
     let mut c = caps;
     let mut shift: u32 = 0;
+    // A while: it passes over the lowest ranks, as long as they are at their largest.
     while w & 15 == c & 15 {
         w >>= 4;
         c >>= 4;

@@ -36,10 +36,8 @@ pub fn open_before(
     let accepting = h.accepting as u8;
     let set = opened ^ accepting;
     let mut found: u8 = 0;
-    let mut q = 0;
-    while q < h.n {
+    for q in 0..h.n {
         found += marked(satisfied(h, counts, starts, clauses, q, letter, set), q);
-        q += 1;
     }
     found ^ accepting
 }
@@ -52,11 +50,8 @@ pub fn open_table(h: Head, counts: &[u8], clauses: &[u8]) -> [u8; 4096]
 {
     let starts = starts_of(counts);
     let mut opens = [0u8; 4096];
-    let end = h.s * 256;
-    let mut i = 0;
-    while i < end {
+    for i in 0..h.s * 256 {
         opens[i] = open_before(h, counts, &starts, clauses, i / 256, (i % 256) as u8);
-        i += 1;
     }
     opens
 }

@@ -11,7 +11,7 @@ use Rattle.rule_entries.proofs.Entries.{accepting-small}
 use Rattle.rule_components.specs.declared.Components.{Components}
 use Rattle.rule_components.specs.Numbered.{components_of}
 use Rattle.file_spec.specs.declared.Layout.{Layout}
-use Rattle.file_spec.specs.declared.Read.TheVariants.{Accepted}
+use Rattle.std.specs.Prelude.{Ok}
 use Rattle.file_spec.specs.Reading.{read_of}
 use Rattle.file_read.proofs.Answer.{lent-rule, lent-passing}
 use Rattle.file_spec.specs.File.{counts_of_lem, clauses_of_lem, rule_in}
@@ -26,7 +26,7 @@ unfolding automaton components_of
 shape_of r P k e holds = rw e (record { passing = P; masks = parts-of r P; letters_are = refl; components_are = refl; accepting_are = refl; initial_is = refl })
 
 -- from the parts of an accepted file
-module _ (f : List ℕ) (l : Layout) (p : read_of f ≡ Accepted l) (counts clauses : List ℕ) (c : counts ≡ counts_of_lem f) (d : clauses ≡ clauses_of_lem f) where
+module _ (f : List ℕ) (l : Layout) (p : read_of f ≡ Ok l) (counts clauses : List ℕ) (c : counts ≡ counts_of_lem f) (d : clauses ≡ clauses_of_lem f) where
   abbrev lent : Rule
   lent = rule_of l.head counts clauses
 

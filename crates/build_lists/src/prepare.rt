@@ -3,7 +3,6 @@ ghost use Rattle.std.specs.Prelude.{◌≡◌};
 ghost use Rattle.theory.specs.Automaton.{automaton};
 ghost use Rattle.file_spec.specs.File.{rule_in};
 ghost use Rattle.file_spec.specs.Reading.{read_of};
-ghost use Rattle.file_spec.specs.declared.Read.TheVariants.{Accepted};
 ghost use Rattle.build_cores.specs.Opens.{Opens};
 ghost use Rattle.build_spec.specs.Tables.{Shaped};
 
@@ -20,7 +19,7 @@ pub struct Prepared {
 // The numbers of an accepted file's rule and the masks of its components. A run begins where the set holds the initial state, or, if
 // `holds` is false, where it lacks it.
 pub fn prepare(file: &[u8], l: Layout, holds: bool) -> Prepared
-    requires { read_of file.now ≡ Accepted l }
+    requires { read_of file.now ≡ Ok l }
     ensures { Shaped (rule_in file.now) result.parts result.shape × (result.shape.holds ≡ holds) }
 {
     let h = l.head;
@@ -42,7 +41,7 @@ pub fn prepare(file: &[u8], l: Layout, holds: bool) -> Prepared
 
 // The table of the open states of an accepted file's rule. It is not in the struct, since a copy of it would stay on the stack.
 pub fn file_opens(file: &[u8], l: Layout) -> [u8; 4096]
-    requires { read_of file.now ≡ Accepted l }
+    requires { read_of file.now ≡ Ok l }
     ensures { Opens (automaton (rule_in file.now)) (rule_in file.now).s result }
 {
     let h = l.head;

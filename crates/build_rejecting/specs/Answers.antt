@@ -1,6 +1,8 @@
 -- What the build of the words that a rule rejects answers, and what it leaves in the two lent slices: what the build does from its start condition.
 use Rattle.std.specs.Prelude.{List, ℕ}
-use Rattle.build.specs.declared.Built.{Built}
+use Rattle.std.specs.Prelude.{Result, Ok, Err}
+use Rattle.refusals.specs.declared.Refusal.{Refusal}
+use Rattle.build.specs.declared.Counts.{Counts}
 use Rattle.build.specs.Built.{row_from, built_from, codes_after_from, transitions_after_from}
 use Rattle.rejecting_spec.specs.Rejecting.{lacks_initial}
 
@@ -9,7 +11,7 @@ abbrev pub rejecting_row : List ℕ → ℕ → ℕ → ℕ
 rejecting_row file codesLen movesLen = row_from lacks_initial file codesLen movesLen
 
 -- the answer
-abbrev pub rejecting_of : List ℕ → ℕ → ℕ → Built
+abbrev pub rejecting_of : List ℕ → ℕ → ℕ → Result Counts Refusal
 rejecting_of file codesLen movesLen = built_from lacks_initial file codesLen movesLen
 
 -- the slice of codes afterwards

@@ -43,17 +43,18 @@ pub fn step_component(
     let mut ones = ONES;
     let mut ranks = 0u32;
     let mut levels = 0u64;
-    let mut j = 0;
-    while prev != goal {
-        let x = opens[row + (outside | (low[j] & part) as usize)] & part;
-        // Classes that are still to come have a level of at least j: their nibbles, which hold j, now hold j + 1, one more than the level.
+    for states in low {
+        if prev == goal {
+            break;
+        }
+        let x = opens[row + (outside | (*states & part) as usize)] & part;
+        // In turn j, from 0 on, classes that are still to come have a level of at least j: their nibbles, which hold j, now hold j + 1.
         // Levels are at most 8, so no sum leaves its nibble.
         levels += ones;
-        j += 1;
         if x == prev {
             continue;
         }
-        // The states x ^ prev have level j - 1 and are the next class, whose nibble is done: the lowest of the 1s goes, by a shift.
+        // The states x ^ prev have level j and are the next class, whose nibble is done, one more than j: the lowest of the 1s goes, by a shift.
         ones = ones << 4;
         // They, and all states that come later, are one class higher than what came before.
         ranks += build_cores::nibbles_of(goal ^ prev);
@@ -91,11 +92,9 @@ fn step_kind(
         components low.now levels.old result levels.new }
 {
     let mut ranks: u64 = 0;
-    let mut c = 0;
-    while c < components {
+    for c in 0..components {
         let part = parts[c];
         if (part & accepting != 0) != kind {
-            c += 1;
             continue;
         }
         let step = step_component(opens, letter, opened, part, low);
@@ -103,7 +102,6 @@ fn step_kind(
         let l = step.levels;
         ranks += wide(r);
         levels[c] = l;
-        c += 1;
     }
     ranks
 }

@@ -81,14 +81,12 @@ fn emit_core(
     let ranks = (keys[j] & CODE_MASK) >> 16;
     let low = build_cores::lowest(ranks);
     let mut g = Grow { m, full: false };
-    let mut a = 0;
-    while a < shape.s {
+    for a in 0..shape.s {
         let at = LetterBack { ranks, letter: a };
         g = emit_letter(out, g.m, keys, heads, last, at, &low, shape, opens, parts);
         if g.full {
             return g;
         }
-        a += 1;
     }
     g
 }
@@ -112,17 +110,14 @@ pub fn emit(
         out.old 0 out.new result.m result.full }
 {
     let mut g = Grow { m: 0, full: false };
-    let mut j = 0;
-    while j < keys.len() {
+    for j in 0..keys.len() {
         if build_chains::core_before(keys, heads, last, keys.len(), j) {
-            j += 1;
             continue;
         }
         g = emit_core(out, g.m, keys, heads, last, j, shape, opens, parts);
         if g.full {
             return g;
         }
-        j += 1;
     }
     g
 }

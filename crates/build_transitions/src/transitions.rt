@@ -21,8 +21,7 @@ fn chain(codes: &mut [u64], heads: &mut [u16; 16384], last: &mut [u32; 256])
     ensures { Chained codes.new heads.new last.new (length codes.old)
         × ((p : ℕ) → p < length codes.old → key_at codes.new p ≡ key_of (get_or codes.old p 0)) }
 {
-    let mut p = 0;
-    while p < codes.len() {
+    for p in 0..codes.len() {
         let code = codes[p];
         build_chains::put(
             codes,
@@ -31,7 +30,6 @@ fn chain(codes: &mut [u64], heads: &mut [u16; 16384], last: &mut [u32; 256])
             p,
             ((code & CORE_MASK) << 8) | (code >> CORE_BITS),
         );
-        p += 1;
     }
 }
 

@@ -5,6 +5,8 @@ use Prim.Native.Nat.{ℕ, zero, suc, ◌+◌, ◌-◌, ◌≤◌}
 use native.Mathlib.Omega.{arith}
 use lib.ListN.{length, take, drop, replicate, length-append, replicate-append-replicate}
 use lib.Seq.{take-append_seam, drop-append_seam}
+use Rattle.std.specs.Prelude.{Result, Ok, Err}
+use Rattle.refusals.specs.declared.Refusal.{Refusal}
 use Rattle.sets.proofs.Bools.{bif}
 use Rattle.refusals.proofs.Rows.{first-parts}
 use Rattle.theory.specs.Demand.{Demand3}
@@ -23,8 +25,6 @@ use Rattle.file_spec.specs.File.{rule_in}
 use Rattle.file_spec.specs.Rows.{file_row, file_rows_lem}
 use Rattle.file_read.proofs.FileRows.{file-numbered, accepted-passing}
 use Rattle.build.specs.declared.Counts.{Counts}
-use Rattle.build.specs.declared.Built.{Built}
-use Rattle.build.specs.declared.Built.TheVariants.{Table, Refused}
 use Rattle.build.specs.Built.{room_row, built_by, room_after, slice_after, row_from, built_from, codes_after_from, transitions_after_from, build_row, built_of}
 use Rattle.build.specs.Entry.{TableBuilt}
 use Rattle.build.specs.Filling.{Filled}
@@ -44,19 +44,19 @@ use Rattle.build_trimmed.specs.Entry.{TrimmedBuilt}
 
 -- ---- by the first row that refuses
 
-refused-same : (row : ℕ) (a b c d : List ℕ) (k : ℕ) → Refused k ≡ built_by row a b → Refused k ≡ built_by row c d
+refused-same : (row : ℕ) (a b c d : List ℕ) (k : Refusal) → Err k ≡ built_by row a b → Err k ≡ built_by row c d
 unfolding built_by
-refused-same zero a b c d k e = let z : ◌≡◌ {A = ℕ} 0 1 = cc in absurd (omega arith)
+refused-same zero a b c d k e = cc
 refused-same (suc n) a b c d k e = e
 
-slice-same : (row : ℕ) (a b list other lent : List ℕ) (k : ℕ) → Refused k ≡ built_by row a b → slice_after row list lent ≡ slice_after row other lent
+slice-same : (row : ℕ) (a b list other lent : List ℕ) (k : Refusal) → Err k ≡ built_by row a b → slice_after row list lent ≡ slice_after row other lent
 unfolding built_by room_after
-slice-same zero a b list other lent k e = let z : ◌≡◌ {A = ℕ} 0 1 = cc in absurd (omega arith)
+slice-same zero a b list other lent k e = cc
 slice-same (suc n) a b list other lent k e = refl
 
-by-none : (row : ℕ) (codes moves : List ℕ) (n : Counts) → row ≡ 0 → n.macrostates ≡ length codes → n.transitions ≡ length moves → Table n ≡ built_by row codes moves
+by-none : (row : ℕ) (codes moves : List ℕ) (n : Counts) → row ≡ 0 → n.macrostates ≡ length codes → n.transitions ≡ length moves → Ok n ≡ built_by row codes moves
 unfolding built_by
-by-none row codes moves n e a b = rw e (ap₂ (λ (x y : ℕ). Table (record { macrostates = x; transitions = y })) a b)
+by-none row codes moves n e a b = rw e (ap₂ (λ (x y : ℕ). Ok (record { macrostates = x; transitions = y })) a b)
 
 slice-none : (row : ℕ) (list lent : List ℕ) → row ≡ 0 → slice_after row list lent ≡ padded list (length lent)
 unfolding room_after
@@ -79,7 +79,7 @@ renumbered-short ms (t ∷ ts) = let ih = renumbered-short ms ts in
 
 -- ---- the file of the call, and both slices before and after the build
 
-module _ {f xs zs : List ℕ} {b : Built} {ys ws : List ℕ} (B : TableBuilt f xs zs b ys ws) where
+module _ {f xs zs : List ℕ} {b : Result Counts Refusal} {ys ws : List ℕ} (B : TableBuilt f xs zs b ys ws) where
   abbrev row : ℕ
   row = build_row f (length xs) (length zs)
 
@@ -87,11 +87,11 @@ module _ {f xs zs : List ℕ} {b : Built} {ys ws : List ℕ} (B : TableBuilt f x
   r = rule_in f
 
   -- the build refuses
-  module _ {k : ℕ} (e : b ≡ Refused k) where
-    refused : Refused k ≡ built_of f (length xs) (length zs)
+  module _ {k : Refusal} (e : b ≡ Err k) where
+    refused : Err k ≡ built_of f (length xs) (length zs)
     refused = sym e ∙ B.answer
 
-    pub refused-answer : Refused k ≡ trimmed_of f (length xs) (length zs)
+    pub refused-answer : Err k ≡ trimmed_of f (length xs) (length zs)
     unfolding trimmed_of built_from
     refused-answer = refused-same row (macrostates r) (transitions r) (trimmed_codes r) (trimmed_transitions r) k refused
 
@@ -104,7 +104,7 @@ module _ {f xs zs : List ℕ} {b : Built} {ys ws : List ℕ} (B : TableBuilt f x
     refused-moves = B.moves_after ∙ slice-same row (macrostates r) (transitions r) (transitions r) (trimmed_transitions r) zs k refused
 
   -- the build leaves a table
-  module _ {n : Counts} (e : b ≡ Table n) where
+  module _ {n : Counts} (e : b ≡ Ok n) where
     counted : (row ≡ 0) × (n.macrostates ≡ length (macrostates r)) × (n.transitions ≡ length (transitions r))
     unfolding built_from
     counted = table-by row (macrostates r) (transitions r) n (sym e ∙ B.answer)
@@ -165,7 +165,7 @@ module _ {f xs zs : List ℕ} {b : Built} {ys ws : List ℕ} (B : TableBuilt f x
       transitions_left : m.transitions ≡ length (trimmed_transitions r)
       transitions_left = T.transitions_left ∙ ap length moves_are
 
-      pub table-answer : Table m ≡ trimmed_of f (length xs) (length zs)
+      pub table-answer : Ok m ≡ trimmed_of f (length xs) (length zs)
       unfolding trimmed_of
       table-answer = by-none row (trimmed_codes r) (trimmed_transitions r) m counted.0 macrostates-left transitions_left
 
@@ -198,7 +198,7 @@ module _ {f xs zs : List ℕ} {b : Built} {ys ws : List ℕ} (B : TableBuilt f x
 
 -- ---- what the slices hold where a table is answered
 
-module _ (f xs zs : List ℕ) (n : Counts) (e : Table n ≡ trimmed_of f (length xs) (length zs)) where
+module _ (f xs zs : List ℕ) (n : Counts) (e : Ok n ≡ trimmed_of f (length xs) (length zs)) where
   counts : (build_row f (length xs) (length zs) ≡ 0) × (n.macrostates ≡ length (trimmed_codes (rule_in f))) × (n.transitions ≡ length (trimmed_transitions (rule_in f)))
   unfolding trimmed_of
   counts = table-by (build_row f (length xs) (length zs)) (trimmed_codes (rule_in f)) (trimmed_transitions (rule_in f)) n e
@@ -236,7 +236,7 @@ module _ (f xs zs : List ℕ) (n : Counts) (e : Table n ≡ trimmed_of f (length
 
 -- ---- the whole contract, of an answer and both slices
 
-module _ (f xs zs : List ℕ) (a : Built) (ys ws : List ℕ) (e : a ≡ trimmed_of f (length xs) (length zs))
+module _ (f xs zs : List ℕ) (a : Result Counts Refusal) (ys ws : List ℕ) (e : a ≡ trimmed_of f (length xs) (length zs))
     (c : ys ≡ trimmed_codes_after f xs (length zs)) (m : ws ≡ trimmed_transitions_after f (length xs) zs) where
   filled : Filled (build_row f (length xs) (length zs)) (trimmed_codes (rule_in f)) (trimmed_transitions (rule_in f)) xs zs a ys ws
   unfolding trimmed_of trimmed_codes_after trimmed_transitions_after
@@ -258,7 +258,7 @@ module _ (f xs zs : List ℕ) (a : Built) (ys ws : List ℕ) (e : a ≡ trimmed_
     by_lists = subst (λ (k : ℕ). Filled k left kept xs zs a ys ws) (sym row_is)
         (filled-same (build_row f (length xs) (length zs)) left kept (trimmed_codes (rule_in f)) (trimmed_transitions (rule_in f)) xs zs a ys ws lists-same filled)
 
-  survival : (n : Counts) → a ≡ Table n → (codes moves : List ℕ) → ListsReachable (rule_in f) codes moves
+  survival : (n : Counts) → a ≡ Ok n → (codes moves : List ℕ) → ListsReachable (rule_in f) codes moves
       → RunsSurvive (rule_in f) codes moves (take n.macrostates ys) (take n.transitions ws)
   survival n t codes moves L =
       let g = sym t ∙ e in

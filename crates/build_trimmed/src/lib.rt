@@ -7,7 +7,8 @@ ghost use Rattle.std.specs.Prelude.{◌≡◌};
 ghost use Rattle.build_trimmed.specs.Trimming.{Trimmable, Trimming};
 ghost use Rattle.build_trimmed.specs.Entry.{TrimmedBuilt};
 
-use build::{Built, Counts};
+use build::Counts;
+use refusals::Refusal;
 use trim::marks::mark_live;
 use trim::number::{compact, count_left, number, rewrite_all};
 
@@ -36,16 +37,16 @@ pub fn trim(codes: &mut [u64], transitions: &mut [u64]) -> Counts
 
 // Writes the codes of the reachable macrostates that matter and the transitions between them, both ascending, at the start of the
 // slices, and zeros after them; answers both counts. Rows and refusals are those of the build: 17 and 18 count the reachable table.
-pub fn build_trimmed(file: &[u8], codes: &mut [u64], transitions: &mut [u64]) -> Built
+pub fn build_trimmed(
+    file: &[u8],
+    codes: &mut [u64],
+    transitions: &mut [u64],
+) -> Result<Counts, Refusal>
     ensures { TrimmedBuilt file.now codes.old transitions.old result
         codes.new transitions.new }
 {
-    match build::build(file, codes, transitions) {
-        Built::Refused(row) => Built::Refused(row),
-        Built::Table(n) => {
-            let m = n.macrostates;
-            let t = n.transitions;
-            Built::Table(trim(&mut codes[..m], &mut transitions[..t]))
-        }
-    }
+    let n = build::build(file, codes, transitions)?;
+    let m = n.macrostates;
+    let t = n.transitions;
+    Ok(trim(&mut codes[..m], &mut transitions[..t]))
 }

@@ -85,6 +85,7 @@ fn move_keys(
 {
     let mut g = Grow { m: n, full: false };
     let mut i = build_chains::chain_top(heads, step.earlier) as usize;
+    // A while: the chain leads from each place to the next, down to those before `from`.
     while from <= i {
         let x = keys[i];
         g = move_key(keys, heads, last, g.m, x & CODE_MASK, step, parts, levels);
@@ -251,14 +252,12 @@ pub fn visit(
         return g;
     }
     let low = build_cores::lowest(ranks);
-    let mut a = 0;
-    while a < shape.s {
+    for a in 0..shape.s {
         let at = LetterBack { ranks, letter: a };
         g = visit_letter(keys, heads, last, g.m, from, at, &low, shape, opens, parts);
         if g.full {
             return g;
         }
-        a += 1;
     }
     g
 }

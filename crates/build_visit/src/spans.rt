@@ -18,11 +18,9 @@ use build_spec::{Grow, Shape};
 fn open_parts(parts: &[u8; 8], x: u8) -> [u8; 8]
     ensures { (c : ℕ) → c < 8 → get_or result c 0 ≡ bit_and (get_or parts.now c 0) x }
 {
-    let mut those = [0u8; 8];
-    let mut c = 0;
-    while c < 8 {
-        those[c] = parts[c] & x;
-        c += 1;
+    let mut those = *parts;
+    for part in those.iter_mut() {
+        *part &= x;
     }
     those
 }
@@ -54,13 +52,11 @@ fn is_fresh(opens: &[u8; 4096], last: &[u32; 256], from: usize, x: u8, shape: Sh
         → a < shape.s
         → get_or last.now (bit_xor (get_or opens.now (a * 256 + x) 0) shape.accepting) 0 ≤ from }
 {
-    let mut a = 0;
-    while a < shape.s {
+    for a in 0..shape.s {
         let set = set_before(opens, a, x, shape.accepting);
         if from < wide(last_of(last, set)) {
             return true;
         }
-        a += 1;
     }
     false
 }

@@ -6,30 +6,28 @@
 mod text;
 
 use crate::text::{byte, lent_bytes, lent_numbers, part, say, say_answer, say_bytes, say_numbers};
-use build::Built;
-use file_spec::Read;
-use file_write_spec::Written;
-use judge_spec::Verdict;
-use rule_same::entries::SameRules;
+use refusals::Refusal;
 use std::io;
 use std::io::{Stdin, Stdout};
-use table_call::Start;
-use word_same::SameWords;
 
 fn run_read(to: Stdout, file: &[u8]) -> io::Result<()> {
     say(to, file_read::preface(file))?;
     match file_read::read_rule(file) {
-        Read::Accepted(layout) => say_answer(to, 0, layout.at, layout.clauses),
-        Read::Refused(row) => say_answer(to, row, 0, 0),
+        Ok(layout) => say_answer(to, 0, layout.at, layout.clauses),
+        Err(refusal) => say_answer(to, refusal.row(), 0, 0),
+    }
+}
+
+// 1 for yes, 0 for no.
+fn say_truth(to: Stdout, answer: Result<bool, Refusal>) -> io::Result<()> {
+    match answer {
+        Ok(yes) => say_answer(to, 0, yes as usize, 0),
+        Err(refusal) => say_answer(to, refusal.row(), 0, 0),
     }
 }
 
 fn run_same_rules(to: Stdout, first: &[u8], second: &[u8]) -> io::Result<()> {
-    match rule_same::files::same_rules(first, second) {
-        SameRules::Same => say_answer(to, 0, 1, 0),
-        SameRules::Different => say_answer(to, 0, 0, 0),
-        SameRules::Refused(row) => say_answer(to, row, 0, 0),
-    }
+    say_truth(to, rule_same::files::same_rules(first, second))
 }
 
 fn run_same_words(
@@ -39,17 +37,13 @@ fn run_same_words(
     lead2: &[u8],
     cycle2: &[u8],
 ) -> io::Result<()> {
-    match word_same::same_words(lead1, cycle1, lead2, cycle2) {
-        SameWords::Same => say_answer(to, 0, 1, 0),
-        SameWords::Different => say_answer(to, 0, 0, 0),
-        SameWords::Refused(row) => say_answer(to, row, 0, 0),
-    }
+    say_truth(to, word_same::same_words(lead1, cycle1, lead2, cycle2))
 }
 
-fn say_written(to: Stdout, answer: Written) -> io::Result<()> {
+fn say_written(to: Stdout, answer: Result<usize, Refusal>) -> io::Result<()> {
     match answer {
-        Written::Length(length) => say_answer(to, 0, length, 0),
-        Written::Refused(row) => say_answer(to, row, 0, 0),
+        Ok(length) => say_answer(to, 0, length, 0),
+        Err(refusal) => say_answer(to, refusal.row(), 0, 0),
     }
 }
 
@@ -103,11 +97,7 @@ fn judge_into(
 ) -> io::Result<()> {
     let answer = judge::judge(file, lead, cycle, masks);
     say_bytes(to, masks)?;
-    match answer {
-        Verdict::Yes => say_answer(to, 0, 1, 0),
-        Verdict::No => say_answer(to, 0, 0, 0),
-        Verdict::Refused(row) => say_answer(to, row, 0, 0),
-    }
+    say_truth(to, answer)
 }
 
 fn run_judge(to: Stdout, call: &[u8]) -> io::Result<()> {
@@ -132,8 +122,8 @@ fn build_into(
     say_numbers(to, codes)?;
     say_numbers(to, transitions)?;
     match answer {
-        Built::Table(counts) => say_answer(to, 0, counts.macrostates, counts.transitions),
-        Built::Refused(row) => say_answer(to, row, 0, 0),
+        Ok(counts) => say_answer(to, 0, counts.macrostates, counts.transitions),
+        Err(refusal) => say_answer(to, refusal.row(), 0, 0),
     }
 }
 
@@ -145,11 +135,11 @@ fn run_build(to: Stdout, call: &[u8]) -> io::Result<()> {
     build_into(to, part(call, 1), &mut codes[0..n], &mut transitions[0..m])
 }
 
-fn say_start(to: Stdout, answer: Start) -> io::Result<()> {
+fn say_start(to: Stdout, answer: Result<Option<usize>, Refusal>) -> io::Result<()> {
     match answer {
-        Start::Yes(number) => say_answer(to, 0, 1, number),
-        Start::No => say_answer(to, 0, 0, 0),
-        Start::Refused(row) => say_answer(to, row, 0, 0),
+        Ok(Some(number)) => say_answer(to, 0, 1, number),
+        Ok(None) => say_answer(to, 0, 0, 0),
+        Err(refusal) => say_answer(to, refusal.row(), 0, 0),
     }
 }
 
@@ -191,7 +181,7 @@ fn judge_built_into(
     transitions: &mut [u64],
     scratch: &mut [u8],
 ) -> io::Result<()> {
-    build::build(file, codes, transitions);
+    let _ = build::build(file, codes, transitions);
     let answer = table_judge::judge_table(file, lead, cycle, codes, transitions, scratch);
     say_bytes(to, scratch)?;
     say_start(to, answer)
@@ -246,15 +236,13 @@ fn run_next(from: &mut Stdin, to: Stdout) -> io::Result<bool> {
     Ok(true)
 }
 
-// A proved loop has to end, and nothing says that the input does: it counts its turns down.
+// A proved loop has to end, and nothing says that the input does: it has at most so many turns.
 fn main(rt: HostRuntime) -> io::Result<()> {
     let mut from = rt.stdin();
-    let mut turns: u32 = 1000;
-    while 0 < turns {
+    for _ in 0..1000u32 {
         if !run_next(&mut from, rt.stdout())? {
             return Ok(());
         }
-        turns -= 1;
     }
     Ok(())
 }

@@ -16,19 +16,15 @@ fn say_number(to: Stdout, number: u64) -> io::Result<()> {
 }
 
 pub fn say_bytes(to: Stdout, bytes: &[u8]) -> io::Result<()> {
-    let mut i = 0;
-    while i < bytes.len() {
-        say_number(to, bytes[i] as u64)?;
-        i += 1;
+    for x in bytes {
+        say_number(to, *x as u64)?;
     }
     Ok(())
 }
 
 pub fn say_numbers(to: Stdout, numbers: &[u64]) -> io::Result<()> {
-    let mut i = 0;
-    while i < numbers.len() {
-        say_number(to, numbers[i])?;
-        i += 1;
+    for x in numbers {
+        say_number(to, *x)?;
     }
     Ok(())
 }

@@ -57,10 +57,7 @@ pub fn classes_of(code: u64) -> u8
 pub fn is_first(code: u64) -> bool
     ensures { result ≡ (eqb (component_in code) 0 && eqb (classes_in code) 0) }
 {
-    if component_of(code) != 0 {
-        return false;
-    }
-    classes_of(code) == 0
+    component_of(code) == 0 && classes_of(code) == 0
 }
 
 // Whether a macrostate is initial: its set holds the initial state, K is 0 and k is 0.
@@ -68,10 +65,7 @@ pub fn is_initial(code: u64, initial: u32) -> bool
     requires { initial < 8 }
     ensures { result ≡ begun (λ c. bit c initial) code }
 {
-    if (code >> initial) & 1 != 1 {
-        return false;
-    }
-    is_first(code)
+    (code >> initial) & 1 == 1 && is_first(code)
 }
 
 // Whether a macrostate is accepting: k is 0.
@@ -115,11 +109,14 @@ pub fn word_at(bytes: &[u8], i: usize) -> u64
     requires { i + 8 ≤ length bytes.now }
     ensures { result ≡ word_at bytes.now i }
 {
-    let mut r: u64 = 0;
-    let mut k: usize = 8;
-    while 0 < k {
-        k -= 1;
-        r = (r << 8) | bytes[i + k] as u64;
-    }
-    r
+    u64::from_le_bytes([
+        bytes[i],
+        bytes[i + 1],
+        bytes[i + 2],
+        bytes[i + 3],
+        bytes[i + 4],
+        bytes[i + 5],
+        bytes[i + 6],
+        bytes[i + 7],
+    ])
 }

@@ -6,10 +6,10 @@ use Prim.Native.Nat.{ℕ}
 use lib.ListN.{length}
 use Rattle.sets.specs.Tests.{every, some_below, count, first}
 use Rattle.sets.specs.Lists.{tabulate, flat}
-use Rattle.refusals.specs.Rows.{first_row}
+use Rattle.refusals.specs.Rows.{first_refusal, first_row}
 use Rattle.file_spec.proofs.Examples.{rows_computed}
-use Rattle.event_spec.specs.declared.Translated.{Translated}
-use Rattle.event_spec.specs.declared.Translated.TheVariants.{Letters}
+use Rattle.std.specs.Prelude.{Result, Ok}
+use Rattle.refusals.specs.declared.Refusal.{Refusal}
 use Rattle.event_spec.specs.Events.{spans, holds, first_line, event_letter, covered, known, letters_of}
 use Rattle.event_spec.specs.Translation.{faulty, faulty_table, has_covered_lem, has_unknown_lem, translation_rows, translation_row, translate_row, translated_of, filled, letters_after_lem}
 
@@ -17,7 +17,7 @@ F : List ℕ
 F = 0x01 ∷ 0x00 ∷ 0x01 ∷ 0x01 ∷ 0x01 ∷ 0x02 ∷ 0x00 ∷ 0x00 ∷ 0x02 ∷ 0x00 ∷ 0x41 ∷ 0x57 ∷ []
 
 -- the translation of the log under rule F and table t answers v and makes new of the slice old
-record Case (t log : List ℕ) (v : Translated) (old new : List ℕ) : Type 0 where
+record Case (t log : List ℕ) (v : Result ℕ Refusal) (old new : List ℕ) : Type 0 where
   answers : translated_of F t log (length old) ≡ v
   writes : letters_after_lem F t log old ≡ new
 
@@ -27,11 +27,11 @@ two = 0 ∷ 3 ∷ 0 ∷ 3 ∷ 1 ∷ 2 ∷ 5 ∷ 1 ∷ 5 ∷ 0 ∷ []
 
 -- what an evaluation of the deciding row unfolds
 unfoldable deciding : ℕ
-unfolding translation_row translation_rows first_row faulty_table has_covered_lem has_unknown_lem faulty covered known holds spans every some_below
+unfolding translation_row translation_rows first_row first_refusal faulty_table has_covered_lem has_unknown_lem faulty covered known holds spans every some_below
 deciding = 0
 
 -- "The first line that holds an event's two bytes gives its letter"; "an odd last byte is no event yet"; the byte after the letters stays
-served : Case two (2 ∷ 2 ∷ 2 ∷ 4 ∷ 0 ∷ 0 ∷ 9 ∷ []) (Letters 3) (7 ∷ 7 ∷ 7 ∷ 7 ∷ []) (1 ∷ 0 ∷ 1 ∷ 7 ∷ [])
+served : Case two (2 ∷ 2 ∷ 2 ∷ 4 ∷ 0 ∷ 0 ∷ 9 ∷ []) (Ok 3) (7 ∷ 7 ∷ 7 ∷ 7 ∷ []) (1 ∷ 0 ∷ 1 ∷ 7 ∷ [])
 unfolding F two translated_of letters_after_lem translate_row filled rows_computed deciding letters_of event_letter first_line tabulate first count
 served = record { answers = refl; writes = refl }
 

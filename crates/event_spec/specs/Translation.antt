@@ -1,11 +1,12 @@
 -- The translation of a log: what it refuses, answers and writes. 02, M-108.
-use Rattle.std.specs.Prelude.{◌≡◌, Bool, not, ◌||◌, List, [], ◌∷◌, ◌++◌, ℕ, zero, suc, ◌%◌, eqb, leb, ltb, length, drop}
+use Rattle.std.specs.Prelude.{◌≡◌, Bool, not, ◌||◌, List, [], ◌∷◌, ◌++◌, ℕ, zero, suc, ◌%◌, eqb, leb, ltb, length, drop, Result, Ok}
+use Rattle.std.specs.Result.{result_and}
+use Rattle.refusals.specs.declared.Refusal.{Refusal}
 use Rattle.sets.specs.Tests.{Set, some_below}
-use Rattle.refusals.specs.Rows.{Check, first_row, check}
+use Rattle.refusals.specs.Rows.{Check, first_refusal, first_row, check}
+use Rattle.refusals.specs.declared.Refusal.TheVariants.{Slice, EventLine, CoveredLine, NoLine}
 use Rattle.file_spec.specs.File.{rule_in}
 use Rattle.file_spec.specs.Rows.{file_rows_lem}
-use Rattle.event_spec.specs.declared.Translated.{Translated}
-use Rattle.event_spec.specs.declared.Translated.TheVariants.{Letters, Refused}
 use Rattle.event_spec.specs.Events.{line_count, line_byte, covered, event_count, known, letters_of}
 
 -- line j is at fault under s letters
@@ -37,30 +38,30 @@ has_unknown_lem t log = some_below (event_count log) (λ k. not (known t log k))
 unfoldable pub translation_rows : ℕ → List ℕ → List ℕ → ℕ → List Check
 translation_rows s t log m =
     -- "a line with lowest above highest, a letter not below s, an unfinished last line, or more than 64 lines"
-    check (faulty_table s t) 25
+    check (faulty_table s t) EventLine
     -- "a line all of whose pairs fall in earlier lines"
-    ∷ check (has_covered_lem t) 26
+    ∷ check (has_covered_lem t) CoveredLine
     -- "an event in no line"
-    ∷ check (has_unknown_lem t log) 27
+    ∷ check (has_unknown_lem t log) NoLine
     -- 01: "result or scratch slice too short"
-    ∷ check (ltb m (event_count log)) 16
+    ∷ check (ltb m (event_count log)) Slice
     ∷ []
 
 -- the first row that refuses, or 0, once the rule is read
 unfoldable pub translation_row : ℕ → List ℕ → List ℕ → ℕ → ℕ
 translation_row s t log m = first_row (translation_rows s t log m)
 
+-- the rows of a call for a file
+abbrev pub translate_rows : List ℕ → List ℕ → List ℕ → ℕ → List Check
+translate_rows f t log m = file_rows_lem f ++ translation_rows (rule_in f).s t log m
+
 -- the first row that refuses, or 0
 unfoldable pub translate_row : List ℕ → List ℕ → List ℕ → ℕ → ℕ
-translate_row f t log m = first_row (file_rows_lem f ++ translation_rows (rule_in f).s t log m)
+translate_row f t log m = first_row (translate_rows f t log m)
 
--- by the row, or 0: "The answer is the number alone", else the number of letters
-abbrev pub answer : ℕ → ℕ → Translated
-answer zero n = Letters n
-answer (suc k) n = Refused (suc k)
-
-unfoldable pub translated_of : List ℕ → List ℕ → List ℕ → ℕ → Translated
-translated_of f t log m = answer (translate_row f t log m) (event_count log)
+-- by what refuses first: "The answer is the number alone", else the number of letters
+unfoldable pub translated_of : List ℕ → List ℕ → List ℕ → ℕ → Result ℕ Refusal
+translated_of f t log m = result_and (first_refusal (translate_rows f t log m)) (Ok (event_count log))
 
 -- by the row, or 0: 02: "a call fills lent slices from their start and leaves the rest as lent, and refusals from 19 on change no lent slice"
 unfoldable pub filled : ℕ → List ℕ → List ℕ → List ℕ
@@ -71,6 +72,6 @@ unfoldable pub letters_after_lem : List ℕ → List ℕ → List ℕ → List �
 letters_after_lem f t log old = filled (translate_row f t log (length old)) (letters_of t log) old
 
 -- the answer v, and the slice before and after, once a rule over s letters is read
-pub record Called (s : ℕ) (t log old new : List ℕ) (v : Translated) : Type 0 where
-  pub answers : v ≡ answer (translation_row s t log (length old)) (event_count log)
+pub record Called (s : ℕ) (t log old new : List ℕ) (v : Result ℕ Refusal) : Type 0 where
+  pub answers : v ≡ result_and (first_refusal (translation_rows s t log (length old))) (Ok (event_count log))
   pub written : new ≡ filled (translation_row s t log (length old)) (letters_of t log) old

@@ -2,10 +2,3 @@
 // Definitions, with worked tables and logs.
 
 #![tactic(auto)]
-
-// The answer: how many letters were written, or the number of the row that refuses.
-#[derive(Clone, Copy)]
-pub enum Translated {
-    Letters(usize),
-    Refused(u8),
-}

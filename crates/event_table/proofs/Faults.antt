@@ -1,6 +1,6 @@
 -- The tests of a line and of a table, one byte after another.
 use mathlib.Core.Path.{◌≡◌, ap}
-use mathlib.Core.Bool.{Bool, true, false, ◌||◌, not}
+use mathlib.Core.Bool.{Bool, true, false, ◌||◌, not, or-false}
 use mathlib.Core.List.{List}
 use Prim.Native.Nat.{ℕ, ◌+◌, ◌*◌, ◌%◌, ◌≤◌, ◌<◌}
 use native.Mathlib.Omega.{arith}
@@ -10,7 +10,6 @@ use lib.ListN.{length, get_or}
 use borrow.Author.Tests.{lt-ltb, le-ltb, le-leb, lt-leb, eq-eqb, ne_eqb}
 use Rattle.sets.specs.Tests.{some_below}
 use Rattle.sets.proofs.Bools.{or_l, or_r}
-use Rattle.sets.proofs.Tests.{some_at}
 use Rattle.event_spec.specs.Events.{line_count, line_byte, spans}
 use Rattle.event_spec.specs.Translation.{faulty, faulty_table}
 
@@ -44,12 +43,8 @@ module _ (s : ℕ) (t : List ℕ) where
   unfolding faulty_table
   table-long l = or_r line_fault (ragged || ltb 64 (line_count t)) (or_r ragged (ltb 64 (line_count t)) (lt-ltb 64 (line_count t) l))
 
-  pub table-line : (j : ℕ) → j < line_count t → faulty s t j ≡ true → faulty_table s t ≡ true
-  unfolding faulty_table
-  table-line j l e = or_l line_fault (ragged || ltb 64 (line_count t)) (some_at (line_count t) (faulty s t) j l e)
-
-  pub table-sound : length t % 5 ≡ 0 → line_count t ≤ 64 → some_below (line_count t) (faulty s t) ≡ false → faulty_table s t ≡ false
-  table-sound z l e = unfold faulty_table in rw (e, eq-eqb (length t % 5) 0 z, le-ltb 64 (line_count t) l)
+  pub table-lines : length t % 5 ≡ 0 → line_count t ≤ 64 → line_fault ≡ faulty_table s t
+  table-lines z l = unfold faulty_table in rw (eq-eqb (length t % 5) 0 z, le-ltb 64 (line_count t) l, or-false)
 
 -- ---- the two bounds of a line
 

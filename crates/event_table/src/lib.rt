@@ -38,14 +38,7 @@ pub fn is_faulty_table(s: usize, events: &[u8]) -> bool
     if 64 < n {
         return true;
     }
-    let mut j = 0;
-    while j < n {
-        if is_faulty(s, events, j) {
-            return true;
-        }
-        j += 1;
-    }
-    false
+    (0..n).any(|j| is_faulty(s, events, j))
 }
 
 // Whether bytes i and i + 1 of line j span x.
@@ -78,10 +71,8 @@ fn spanning(events: &[u8], i: usize, x: u8) -> u64
 {
     let n = events.len() / 5;
     let mut lines: u64 = 0;
-    let mut j = 0;
-    while j < n {
+    for j in 0..n {
         lines += marked(is_spanned(events, i, x, j), j);
-        j += 1;
     }
     lines
 }
@@ -92,10 +83,8 @@ pub fn masks_of(events: &[u8], i: usize) -> [u64; 256]
     ensures { result ≡ masks_of_lem events.now i }
 {
     let mut masks = [0u64; 256];
-    let mut x = 0;
-    while x < 256 {
-        masks[x] = spanning(events, i, x as u8);
-        x += 1;
+    for (x, lines) in masks.iter_mut().enumerate() {
+        *lines = spanning(events, i, x as u8);
     }
     masks
 }
@@ -115,10 +104,8 @@ fn firsts_beside(lines: u64, drives: &[u64; 256]) -> u64
     ensures { result ≡ firsts_beside_lem lines drives.now }
 {
     let mut found: u64 = 0;
-    let mut y = 0;
-    while y < 256 {
-        found |= least(lines & drives[y]);
-        y += 1;
+    for drive in drives {
+        found |= least(lines & *drive);
     }
     found
 }
@@ -128,10 +115,8 @@ fn firsts(kinds: &[u64; 256], drives: &[u64; 256]) -> u64
     ensures { result ≡ firsts_of kinds.now drives.now }
 {
     let mut found: u64 = 0;
-    let mut x = 0;
-    while x < 256 {
-        found |= firsts_beside(kinds[x], drives);
-        x += 1;
+    for kind in kinds {
+        found |= firsts_beside(*kind, drives);
     }
     found
 }

@@ -2,12 +2,12 @@
 use mathlib.Core.Path.{◌≡◌, sym, ◌∙◌, ap}
 use mathlib.Core.Bool.{true, false, not}
 use mathlib.Core.List.{List, ◌++◌}
-use Prim.Native.Nat.{ℕ, suc, ◌+◌, ◌*◌, ◌≤◌, ◌<◌}
+use Prim.Native.Nat.{ℕ, suc, ◌+◌, ◌*◌, ◌<◌}
 use native.Mathlib.Omega.{arith}
 use native.Mathlib.Nat.{zero-add}
 use native.Mathlib.Numerals.{add-one}
 use lib.ListN.{length, get_or, take, drop, set}
-use lib.Seq.{take_all, paste-suc, length-paste}
+use lib.Seq.{take_all, paste-suc}
 use lib.Bits.{bit_and}
 use lib.Count.{count_trailing_zeros}
 use Rattle.sets.specs.Tests.{some_below}
@@ -77,6 +77,3 @@ put-letter new old k l h = rw (add-one k) (rw (zero-add k, zero-add (suc k)) at 
 
 pub put_all : (new old : List ℕ) (k : ℕ) → length new ≡ k → take k new ++ drop k old ≡ new ++ drop k old
 put_all new old k e = ap (λ (p : List ℕ). p ++ drop k old) (take_all k new (omega arith))
-
-pub put-length : (new old : List ℕ) (k : ℕ) → k ≤ length new → k ≤ length old → length (take k new ++ drop k old) ≡ length old
-put-length new old k l h = rw (zero-add k) at (length-paste old 0 new k (omega arith) l)

@@ -8,48 +8,46 @@ ghost use Rattle.std.specs.Prelude.{◌≡◌, length};
 ghost use Rattle.event_spec.specs.Translation.{translated_of, letters_after_lem, Called};
 
 use crate::log::{has_unknown, write_letters};
-use event_spec::Translated;
 use event_table::{has_covered, is_faulty_table, masks_of};
 use file_read::read_rule;
-use file_spec::Read;
+use refusals::Refusal;
 
 // Writes the letter of each event of a log to the start of letters, for a rule over s letters that was read; how many. Refused by rows 25,
 // 26, 27 and 16, in this order, and letters is then unchanged.
-fn translate_read(s: usize, events: &[u8], log: &[u8], letters: &mut [u8]) -> Translated
+fn translate_read(s: usize, events: &[u8], log: &[u8], letters: &mut [u8]) -> Result<usize, Refusal>
     ensures { Called s events.now log.now letters.old letters.new result }
 {
     if is_faulty_table(s, events) {
-        return Translated::Refused(refusals::EVENT_LINE);
+        return Err(Refusal::EventLine);
     }
     let kinds = masks_of(events, 0);
     let drives = masks_of(events, 2);
     if has_covered(events, &kinds, &drives) {
-        return Translated::Refused(refusals::COVERED_LINE);
+        return Err(Refusal::CoveredLine);
     }
     if has_unknown(&kinds, &drives, log) {
-        return Translated::Refused(refusals::NO_LINE);
+        return Err(Refusal::NoLine);
     }
     let n = log.len() / 2;
     if letters.len() < n {
-        return Translated::Refused(refusals::SLICE);
+        return Err(Refusal::Slice);
     }
     write_letters(events, &kinds, &drives, log, letters);
-    Translated::Letters(n)
+    Ok(n)
 }
 
 // Writes the letter of each event of a log, by the first line of the event table that holds it, from the start of letters on; how many.
 // Refused by the rows of the rule file and by rows 25, 26, 27 and 16, in this order, and letters is then unchanged.
-pub fn translate(file: &[u8], events: &[u8], log: &[u8], letters: &mut [u8]) -> Translated
+pub fn translate(
+    file: &[u8],
+    events: &[u8],
+    log: &[u8],
+    letters: &mut [u8],
+) -> Result<usize, Refusal>
     ensures value { result ≡ translated_of file.now events.now log.now (length letters.old) }
     ensures letters_after { letters.new
         ≡ letters_after_lem file.now events.now log.now letters.old }
 {
-    match read_rule(file) {
-        Read::Accepted(l) => {
-            let h = l.head;
-            let s = h.s;
-            translate_read(s, events, log, letters)
-        }
-        Read::Refused(k) => Translated::Refused(k),
-    }
+    let l = read_rule(file)?;
+    translate_read(l.head.s, events, log, letters)
 }

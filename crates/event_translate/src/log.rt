@@ -20,12 +20,10 @@ pub fn has_unknown(kinds: &[u64; 256], drives: &[u64; 256], log: &[u8]) -> bool
         → result ≡ has_unknown_lem t log.now }
 {
     let n = log.len() / 2;
-    let mut k = 0;
-    while k < n {
+    for k in 0..n {
         if lines_of(kinds, drives, log[2 * k], log[2 * k + 1]) == 0 {
             return true;
         }
-        k += 1;
     }
     false
 }
@@ -45,8 +43,7 @@ pub fn write_letters(
         ≡ letters_of events.now log.now ++ drop (event_count log.now) letters.old }
 {
     let n = log.len() / 2;
-    let mut k = 0;
-    while k < n {
+    for k in 0..n {
         let line = u64::trailing_zeros(lines_of(
             kinds,
             drives,
@@ -54,6 +51,5 @@ pub fn write_letters(
             log[2 * k + 1],
         )) as usize;
         letters[k] = events[5 * line + 4];
-        k += 1;
     }
 }

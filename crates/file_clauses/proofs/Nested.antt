@@ -1,6 +1,6 @@
 -- Laws of nested entries: the test of one clause on masks, and the states from n on.
 use Prim.Native.Nat.{ℕ, ◌<◌, ◌≤◌, ◌^◌}
-use mathlib.Core.Path.{◌≡◌, ap}
+use mathlib.Core.Path.{◌≡◌, ap, sym, ◌∙◌}
 use mathlib.Core.Bool.{Bool, false, ◌&&◌, not}
 use mathlib.Core.List.{List, Memᴰ}
 use borrow.Author.Tests.{eq-eqb, ne_eqb}
@@ -37,6 +37,8 @@ nested-trim n cs l h =
     (λ i u. some-ext (length cs) (λ j. contains_at_lem 8 cs i j) (λ j. contains_at_lem n cs i j)
     (λ j v. ap (λ (b : Bool). not (eqb i j) && b) (inside-trim n 8 (bit (get_or cs i 0)) (get_or cs j 0) l (h (get_or cs j 0) (mem-at cs j v)))))
 
--- the entry of a well-formed rule
-pub nested-entry : (r : Rule) → WellFormed r → (q a : ℕ) → q < r.n → a < r.s → nested 8 (entry r q a) ≡ nested r.n (entry r q a)
-nested-entry r w q a l m = nested-trim r.n (entry r q a) w.few_states (entry-states r w q a l m)
+-- what the code finds at a letter of a well-formed rule: the entry, then whether it is nested
+pub nested-at : (r : Rule) → WellFormed r → (q a : ℕ) (cs : List ℕ) (b v : Bool) → q < r.n → a < r.s → cs ≡ entry r q a → b ≡ nested 8 cs → b ≡ v
+    → nested r.n (entry r q a) ≡ v
+nested-at r w q a cs b v l m e h k =
+    sym (nested-trim r.n (entry r q a) w.few_states (entry-states r w q a l m)) ∙ ap (nested 8) (sym e) ∙ sym h ∙ k

@@ -6,10 +6,12 @@
 ghost use Rattle.std.specs.Prelude.{◌≡◌, false, ◌&&◌, ◌||◌, not, ◌+◌, ◌-◌, ◌*◌, ◌≤◌, length, ltb, eqb};
 ghost use Rattle.sets.specs.Tests.{some_below};
 ghost use Rattle.sets.specs.Lists.{any_of};
-ghost use Rattle.refusals.specs.Rows.{first_row};
+ghost use Rattle.refusals.specs.Rows.{first_refusal};
 ghost use Rattle.file_spec.specs.Names.{has_names_lem, names_before, same_name_lem, repeats_name_lem};
 ghost use Rattle.file_spec.specs.Rows.{name_rows, given_rows, preface_rows};
 ghost use Rattle.file_spec.specs.RuleRows.{outside};
+
+use refusals::Refusal;
 
 // The last two bytes of a preface with names.
 pub const NAMES_TAG: [u8; 2] = [0x4E, 0x4D];
@@ -55,17 +57,7 @@ pub fn names_in(p: &[u8], s: usize) -> &[u8]
 fn any_outside(names: &[u8]) -> bool
     ensures { result ≡ any_of names.now (outside 0x20 0x7E) }
 {
-    let mut i = 0;
-    while i < names.len() {
-        if names[i] < 0x20 {
-            return true;
-        }
-        if 0x7E < names[i] {
-            return true;
-        }
-        i += 1;
-    }
-    false
+    names.iter().any(|x| *x < 0x20 || 0x7E < *x)
 }
 
 // Whether the names of the letters a and b are equal.
@@ -73,14 +65,7 @@ fn same_name(names: &[u8], a: usize, b: usize) -> bool
     requires { (8 * a + 8 ≤ length names.now) × (8 * b + 8 ≤ length names.now) }
     ensures { result ≡ same_name_lem names.now a b }
 {
-    let mut i = 0;
-    while i < 8 {
-        if names[8 * a + i] != names[8 * b + i] {
-            return false;
-        }
-        i += 1;
-    }
-    true
+    names[8 * a..8 * a + 8] == names[8 * b..8 * b + 8]
 }
 
 // Whether the name of the letter b is equal to an earlier one.
@@ -88,42 +73,33 @@ fn repeats_earlier(names: &[u8], b: usize) -> bool
     requires { 8 * b + 8 ≤ length names.now }
     ensures { result ≡ some_below b (λ a. same_name_lem names.now a b) }
 {
-    let mut a = 0;
-    while a < b {
-        if same_name(names, a, b) {
-            return true;
-        }
-        a += 1;
-    }
-    false
+    (0..b).any(|a| same_name(names, a, b))
 }
 
 // Whether two names are equal.
 fn repeats_name(names: &[u8]) -> bool
     ensures { result ≡ repeats_name_lem names.now }
 {
-    let count = names.len() / 8;
-    let mut b = 0;
-    while b < count {
+    for b in 0..names.len() / 8 {
         if repeats_earlier(names, b) {
             return true;
         }
-        b += 1;
     }
     false
 }
 
-// The first of rows 22 and 23 that refuses the bytes of names, or 0.
-pub fn names_row(names: &[u8]) -> u8
-    ensures { result ≡ first_row (name_rows names.now) }
+// What of rows 22 and 23 refuses the bytes of names, if one does.
+#[tactic(auto, unfolding(refusals::specs::Rows::first_refusal, file_spec::specs::Rows::name_rows))]
+pub fn names_row(names: &[u8]) -> Result<(), Refusal>
+    ensures { result ≡ first_refusal (name_rows names.now) }
 {
     if any_outside(names) {
-        return refusals::NAME_BYTE;
+        return Err(Refusal::NameByte);
     }
     if repeats_name(names) {
-        return refusals::EQUAL_NAMES;
+        return Err(Refusal::EqualNames);
     }
-    0
+    Ok(())
 }
 
 // Whether name bytes for s letters are none, or 8 for each letter.
@@ -137,24 +113,26 @@ fn is_whole(names: &[u8], s: usize) -> bool
     names.len() == 8 * s
 }
 
-// The first of rows 21 to 23 that refuses name bytes given for s letters, or 0.
-pub fn given_row(names: &[u8], s: usize) -> u8
+// What of rows 21 to 23 refuses name bytes given for s letters, if one does.
+#[tactic(auto, unfolding(refusals::specs::Rows::first_refusal, file_spec::specs::Rows::given_rows))]
+pub fn given_row(names: &[u8], s: usize) -> Result<(), Refusal>
     requires { s ≤ 16 }
-    ensures { result ≡ first_row (given_rows s names.now) }
+    ensures { result ≡ first_refusal (given_rows s names.now) }
 {
     if !is_whole(names, s) {
-        return refusals::NAMES;
+        return Err(Refusal::Names);
     }
     names_row(names)
 }
 
-// The first of rows 21 to 23 that refuses a preface before a rule of s letters, or 0.
-pub fn preface_row(p: &[u8], s: usize) -> u8
+// What of rows 21 to 23 refuses a preface before a rule of s letters, if one does.
+#[tactic(auto, unfolding(refusals::specs::Rows::first_refusal, file_spec::specs::Rows::preface_rows))]
+pub fn preface_row(p: &[u8], s: usize) -> Result<(), Refusal>
     requires { s ≤ 16 }
-    ensures { result ≡ first_row (preface_rows s p.now) }
+    ensures { result ≡ first_refusal (preface_rows s p.now) }
 {
     if !names_fit(p, s) {
-        return refusals::NAMES;
+        return Err(Refusal::Names);
     }
     names_row(names_in(p, s))
 }

@@ -5,36 +5,22 @@ use mathlib.Core.Bool.{false}
 use mathlib.Core.List.{List, []}
 use native.Mathlib.Omega.{arith}
 use lib.ListN.{length, take, drop}
+use Rattle.std.specs.Prelude.{Result, Ok, Err, ⊤}
+use Rattle.std.specs.Result.{result_and}
+use Rattle.refusals.specs.declared.Refusal.{Refusal}
+use Rattle.refusals.specs.Rows.{number_of, first_refusal}
+use Rattle.refusals.proofs.Rows.{answer-served, answer-refuses, refused-row, refused-some}
 use Rattle.theory.specs.Passing.{Passing}
 use Rattle.rule_entries.specs.Entries.{rule_of}
 use Rattle.file_spec.specs.declared.Layout.{Layout}
-use Rattle.file_spec.specs.declared.Read.TheVariants.{Accepted, Refused}
 use Rattle.file_spec.specs.File.{trailer, clauses_of_lem, counts_of_lem, clauses_at, part_before_lem, names_of, rule_in}
-use Rattle.file_spec.specs.Rows.{preface_row_lem, file_row}
-use Rattle.file_spec.specs.Reading.{layout_of, answer, read_of, unrefused, preface_of}
+use Rattle.file_spec.specs.Rows.{preface_row_lem, file_rows_lem, file_row}
+use Rattle.file_spec.specs.Reading.{layout_of, read_of, unrefused, preface_of}
 use Rattle.file_spec.proofs.FileParts.{clauses-part, counts-part}
 use Rattle.file_spec.proofs.Names.{cut_off_lem, fit-21}
 use Rattle.file_read.proofs.FileRows.{accepted-placed, accepted-passing, accepted-rows}
 use Rattle.file_read.proofs.Accepted.{preface-accepted}
 use Rattle.file_read.proofs.NamesPlaced.{names-room-at, names_at}
-
-pub refused : (f : List ℕ) (k : ℕ) → (k ≡ 0 → ⊥) → k ≡ file_row f → Refused k ≡ read_of f
-unfolding read_of answer
-refused f zero n e = absurd (n refl)
-refused f (suc k) n e = rw (← e)
-
-pub accepted : (f : List ℕ) → file_row f ≡ 0 → Accepted (layout_of f) ≡ read_of f
-accepted f e = unfold read_of answer in rw e
-
-from-accepted : (k : ℕ) (m l : Layout) → answer k m ≡ Accepted l → (k ≡ 0) × (l ≡ m)
-unfolding answer
-from-accepted zero m l e = (refl, cc)
-from-accepted (suc k) m l e = let z : ◌≡◌ {A = ℕ} 0 1 = cc in absurd (omega arith)
-
-from-refused : (k j : ℕ) (m : Layout) → answer k m ≡ Refused j → (k ≡ j) × (k ≡ 0 → ⊥)
-unfolding answer
-from-refused zero j m e = let z : ◌≡◌ {A = ℕ} 0 1 = cc in absurd (omega arith)
-from-refused (suc k) j m e = (cc, λ z. omega arith)
 
 -- an accepted file: its rule is that of the layout and of two parts of the file, and passes every check
 pub record Served (f : List ℕ) (l : Layout) : Type 0 where
@@ -71,18 +57,19 @@ served-layout f e =
     }
 
 -- what a caller knows of a file that was accepted
-pub served : (f : List ℕ) (l : Layout) → read_of f ≡ Accepted l → Served f l
-served f l e = unfold read_of in let p = from-accepted (file_row f) (layout_of f) l e in rw p.1 (served-layout f p.0)
+pub served : (f : List ℕ) (l : Layout) → read_of f ≡ Ok l → Served f l
+served f l e = unfold read_of in
+    let p = answer-served (file_rows_lem f) (layout_of f) l e in rw p.1 (served-layout f (unfold file_row in p.0))
 
-pub served-letters : (f : List ℕ) (l : Layout) → read_of f ≡ Accepted l → l.head.s ≤ 16
+pub served-letters : (f : List ℕ) (l : Layout) → read_of f ≡ Ok l → l.head.s ≤ 16
 served-letters f l e = let s = served f l e in rw s.layout s.passing.formed.few_letters
 
 -- how many bytes the names have
-pub names-counted : (f : List ℕ) (l : Layout) → read_of f ≡ Accepted l → l.names ≡ length (names_of f)
+pub names-counted : (f : List ℕ) (l : Layout) → read_of f ≡ Ok l → l.names ≡ length (names_of f)
 names-counted f l e = ap (λ (x : Layout). x.names) (served f l e).layout
 
 -- no byte, or bytes that end two bytes before the first clause
-module _ (f : List ℕ) (l : Layout) (e : read_of f ≡ Accepted l) where
+module _ (f : List ℕ) (l : Layout) (e : read_of f ≡ Ok l) where
   pub names-none : l.names ≡ 0 → [] ≡ names_of f
   names-none z = let n = (served f l e).names in rw z at n
 
@@ -93,7 +80,7 @@ module _ (f : List ℕ) (l : Layout) (e : read_of f ≡ Accepted l) where
       ap (λ (k : ℕ). take k (drop (l.at - 2 - l.names) f)) n ∙ s.names
 
 -- the rule of an accepted file, from the parts of it that were lent
-module _ (f : List ℕ) (l : Layout) (e : read_of f ≡ Accepted l) (counts clauses : List ℕ) (c : counts ≡ counts_of_lem f) (d : clauses ≡ clauses_of_lem f) where
+module _ (f : List ℕ) (l : Layout) (e : read_of f ≡ Ok l) (counts clauses : List ℕ) (c : counts ≡ counts_of_lem f) (d : clauses ≡ clauses_of_lem f) where
   pub lent-rule : rule_of l.head counts clauses ≡ rule_in f
   lent-rule = rw (c, d) (served f l e).rule
 
@@ -101,10 +88,12 @@ module _ (f : List ℕ) (l : Layout) (e : read_of f ≡ Accepted l) (counts clau
   lent-passing = rw lent-rule (served f l e).passing
 
 -- what a caller knows of a file that was refused
-pub turned-away : (f : List ℕ) (k : ℕ) → read_of f ≡ Refused k → (file_row f ≡ k) × (file_row f ≡ 0 → ⊥)
-turned-away f k e = unfold read_of in from-refused (file_row f) k (layout_of f) e
+pub turned-away : (f : List ℕ) (r : Refusal) → read_of f ≡ Err r → (first_refusal (file_rows_lem f) ≡ Err r) × (file_row f ≡ number_of r) × (file_row f ≡ 0 → ⊥)
+unfolding read_of file_row
+turned-away f r e =
+    let p = answer-refuses (file_rows_lem f) (layout_of f) r e in (p, refused-row (file_rows_lem f) r p, refused-some (file_rows_lem f) r p)
 
-pub preface-served : (f : List ℕ) (l : Layout) → read_of f ≡ Accepted l → take l.at f ≡ preface_of f
+pub preface-served : (f : List ℕ) (l : Layout) → read_of f ≡ Ok l → take l.at f ≡ preface_of f
 preface-served f l e = let s = served f l e in rw s.layout (sym (preface-accepted f s.row))
 
 no-preface : (k : ℕ) (part : List ℕ) → (k ≡ 0 → ⊥) → [] ≡ unrefused k part
@@ -112,5 +101,5 @@ unfolding unrefused
 no-preface zero part n = absurd (n refl)
 no-preface (suc k) part n = refl
 
-pub preface-refused : (f : List ℕ) (k : ℕ) → read_of f ≡ Refused k → [] ≡ preface_of f
-preface-refused f k e = unfold preface_of in no-preface (file_row f) (take (clauses_at f) f) (turned-away f k e).1
+pub preface-refused : (f : List ℕ) (r : Refusal) → read_of f ≡ Err r → [] ≡ preface_of f
+preface-refused f r e = unfold preface_of in no-preface (file_row f) (take (clauses_at f) f) (turned-away f r e).2

@@ -4,15 +4,16 @@ use mathlib.Core.Path.{◌≡◌, refl, ◌∙◌}
 use mathlib.Core.Bool.{true, false}
 use mathlib.Core.List.{List}
 use mathlib.Core.Logic.{◌↔◌}
-use Rattle.refusals.specs.Rows.{first_row}
-use Rattle.refusals.proofs.Rows.{FirstApplies, NoneApplies, first-row-iff, no-row-iff, numbered, numbered-rows, first-left, first-right, first-parts}
+use Rattle.std.specs.Prelude.{Ok}
+use Rattle.refusals.specs.Rows.{first_refusal, first_row}
+use Rattle.refusals.proofs.Rows.{FirstApplies, NoneApplies, first-row-iff, no-row-iff, numbered, numbered-rows, first-left, first-right, first-parts, row-passes, refusal_and}
 use Rattle.theory.specs.Passing.{WellFormed, Passing}
 use Rattle.file_spec.specs.File.{head_of, trailer, rule_in, clauses_of_lem, counts_of_lem}
 use Rattle.file_spec.specs.Rows.{trailer_rows, layout_rows, body_rows, body_row}
 use Rattle.file_spec.specs.RuleRows.{number_rows, list_rows, some_nested, clause_rows, component_rows, formed_rows}
 use Rattle.file_spec.specs.Rows.{name_rows, preface_rows, preface_row_lem, file_rows_lem, file_row, old_rows, old_row}
 use Rattle.file_spec.proofs.TrailerRows.{Placed, placed, trailer-numbered, trailer-numbers}
-use Rattle.file_spec.proofs.FileParts.{counts-length}
+use Rattle.file_spec.proofs.FileParts.{clauses-part, counts-part, counts-length}
 use Rattle.file_spec.proofs.Formed.{formed, formed-parts, formed-passing, formed-apart}
 
 pub layout-numbered : (f : List ℕ) → numbered (layout_rows f) ≡ true
@@ -38,6 +39,13 @@ module _ (f : List ℕ) where
       let r = laid e in
       let p = placed f r.0 in
       formed (head_of f) (counts_of_lem f) (clauses_of_lem f) (trailer-numbers f r.0) (counts-length f p.fits) r.1
+
+  -- the same, of what `?` passes
+  pub placed_passing : first_refusal (trailer_rows f) ≡ Ok tt → Placed f
+  placed_passing e = placed f (row-passes (trailer_rows f) e)
+
+  pub formed_passing : first_refusal (layout_rows f) ≡ Ok tt → WellFormed (rule_in f)
+  formed_passing e = laid-formed (row-passes (layout_rows f) e)
 
   pub rows-layout : (k : ℕ) → (k ≡ 0 → ⊥) → k ≡ first_row (layout_rows f) → k ≡ body_row f
   rows-layout k n e = unfold body_row body_rows in first-left (layout_rows f) _ k n e
@@ -91,3 +99,6 @@ module _ (f : List ℕ) where
   -- A file is accepted exactly if no row applies.
   pub file-accepted-iff : (file_row f ≡ 0) ↔ NoneApplies (file_rows_lem f)
   file-accepted-iff = unfold file_row in no-row-iff (file_rows_lem f) (numbered-rows (file_rows_lem f) (file-numbered f))
+
+-- what the rows that read a file cite
+pub ruleset laying = (refusal_and, placed_passing, formed_passing, clauses-part, counts-part, counts-length)

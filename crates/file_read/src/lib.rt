@@ -4,18 +4,18 @@
 #![tactic(auto)]
 
 ghost use Rattle.std.specs.Prelude.{◌≡◌, ◌+◌, ◌-◌, ◌≤◌, length};
-ghost use Rattle.refusals.specs.Rows.{first_row};
+ghost use Rattle.refusals.specs.Rows.{first_refusal};
 ghost use Rattle.theory.specs.Passing.{WellFormed};
 ghost use Rattle.rule_entries.specs.Entries.{rule_of};
 ghost use Rattle.file_spec.specs.File.{clause_count, entry_count, counts_of_lem, clauses_of_lem, names_of};
-ghost use Rattle.file_spec.specs.Rows.{trailer_rows, layout_rows, file_row};
+ghost use Rattle.file_spec.specs.Rows.{trailer_rows, layout_rows, file_rows_lem};
 ghost use Rattle.file_spec.specs.RuleRows.{component_rows, formed_rows};
-ghost use Rattle.file_spec.specs.declared.Read.TheVariants.{Accepted};
 ghost use Rattle.file_spec.specs.Reading.{parts_of, read_of, preface_of};
 
 use file_rows::rule::lists_row;
 use file_rows::trailer::{read_count, read_head, trailer_row};
-use file_spec::{Layout, Parts, Read};
+use file_spec::{Layout, Parts};
+use refusals::Refusal;
 use rule_entries::Head;
 
 // Where the parts of a file stand that has room for them.
@@ -35,10 +35,11 @@ pub fn lay_out(f: &[u8]) -> Parts
     }
 }
 
-// The first of rows 8 to 10 that refuses the lists of a file that is laid out so, or 0.
-fn lists_at(f: &[u8], l: Parts) -> u8
-    requires { (first_row (trailer_rows f.now) ≡ 0) × (l ≡ parts_of f.now) }
-    ensures { result ≡ first_row (layout_rows f.now) }
+// What of rows 8 to 10 refuses the lists of a file that is laid out so and whose trailer passes, if one does.
+#[tactic(auto, using(crate::proofs::FileRows::laying), unfolding(file_spec::specs::Rows::layout_rows))]
+fn lists_at(f: &[u8], l: Parts) -> Result<(), Refusal>
+    requires { (first_refusal (trailer_rows f.now) ≡ Ok tt) × (l ≡ parts_of f.now) }
+    ensures { result ≡ first_refusal (layout_rows f.now) }
 {
     let h = l.head;
     let n = h.n;
@@ -48,80 +49,67 @@ fn lists_at(f: &[u8], l: Parts) -> u8
     lists_row(n, &f[at + c..end], &f[at..at + c])
 }
 
-// The first of rows 1 to 10 that refuses a file, or 0.
-pub fn layout_row(f: &[u8]) -> u8
-    ensures { result ≡ first_row (layout_rows f.now) }
+// What of rows 1 to 10 refuses a file, if one does.
+#[tactic(auto, using(crate::proofs::FileRows::laying), unfolding(file_spec::specs::Rows::layout_rows))]
+pub fn layout_row(f: &[u8]) -> Result<(), Refusal>
+    ensures { result ≡ first_refusal (layout_rows f.now) }
 {
-    let first = trailer_row(f);
-    if first != 0 {
-        return first;
-    }
+    trailer_row(f)?;
     lists_at(f, lay_out(f))
 }
 
-// 11 where a component of a well-formed rule is mixed, else 0.
-pub fn components_row(h: Head, counts: &[u8], clauses: &[u8]) -> u8
+// What of row 11 refuses a well-formed rule: a component is mixed.
+#[tactic(auto, unfolding(refusals::specs::Rows::first_refusal, file_spec::specs::RuleRows::component_rows))]
+pub fn components_row(h: Head, counts: &[u8], clauses: &[u8]) -> Result<(), Refusal>
     requires { WellFormed (rule_of h counts.now clauses.now) }
-    ensures { result ≡ first_row (component_rows (rule_of h counts.now clauses.now)) }
+    ensures { result ≡ first_refusal (component_rows (rule_of h counts.now clauses.now)) }
 {
     if rule_components::is_mixed(h, counts, clauses) {
-        return refusals::MIXED;
+        return Err(Refusal::Mixed);
     }
-    0
+    Ok(())
 }
 
-// The first of rows 20 and 11 that refuses a well-formed rule, or 0.
-pub fn formed_row(h: Head, counts: &[u8], clauses: &[u8]) -> u8
+// What of rows 20 and 11 refuses a well-formed rule, if one does.
+#[tactic(auto, using(refusals::proofs::Rows::refusal_and), unfolding(file_spec::specs::RuleRows::formed_rows))]
+pub fn formed_row(h: Head, counts: &[u8], clauses: &[u8]) -> Result<(), Refusal>
     requires { WellFormed (rule_of h counts.now clauses.now) }
-    ensures { result ≡ first_row (formed_rows (rule_of h counts.now clauses.now)) }
+    ensures { result ≡ first_refusal (formed_rows (rule_of h counts.now clauses.now)) }
 {
-    let first = file_clauses::clauses_row(h, counts, clauses);
-    if first != 0 {
-        return first;
-    }
+    file_clauses::clauses_row(h, counts, clauses)?;
     components_row(h, counts, clauses)
 }
 
-// The first row that refuses a file that is laid out so and whose trailer passes, or 0.
-fn laid_row(f: &[u8], l: Parts) -> u8
-    requires { (first_row (trailer_rows f.now) ≡ 0) × (l ≡ parts_of f.now) }
-    ensures { result ≡ file_row f.now }
+// What refuses a file that is laid out so and whose trailer passes, if a row does.
+#[tactic(auto, using(crate::proofs::FileRows::laying), unfolding(file_spec::specs::Rows::file_rows_lem, file_spec::specs::Rows::body_rows))]
+fn laid_row(f: &[u8], l: Parts) -> Result<(), Refusal>
+    requires { (first_refusal (trailer_rows f.now) ≡ Ok tt) × (l ≡ parts_of f.now) }
+    ensures { result ≡ first_refusal (file_rows_lem f.now) }
 {
-    let first = lists_at(f, l);
-    if first != 0 {
-        return first;
-    }
+    lists_at(f, l)?;
     let h = l.head;
     let s = h.s;
     let at = l.at;
     let c = l.clauses;
     let end = f.len() - 8;
-    let second = formed_row(h, &f[at + c..end], &f[at..at + c]);
-    if second != 0 {
-        return second;
-    }
+    formed_row(h, &f[at + c..end], &f[at..at + c])?;
     file_names::preface_row(&f[..at], s)
 }
 
-// Where the rule of a file stands, or the number of the first row that refuses the file.
-pub fn read_rule(f: &[u8]) -> Read
+// Where the rule of a file stands, or what refuses the file.
+#[tactic(auto, using(crate::proofs::FileRows::laying), unfolding(file_spec::specs::Reading::read_of, file_spec::specs::Rows::file_rows_lem, file_spec::specs::Rows::body_rows, file_spec::specs::Rows::layout_rows))]
+pub fn read_rule(f: &[u8]) -> Result<Layout, Refusal>
     ensures { result ≡ read_of f.now }
 {
-    let first = trailer_row(f);
-    if first != 0 {
-        return Read::Refused(first);
-    }
+    trailer_row(f)?;
     let l = lay_out(f);
-    let row = laid_row(f, l);
-    if row != 0 {
-        return Read::Refused(row);
-    }
+    laid_row(f, l)?;
     let h = l.head;
     let s = h.s;
     let at = l.at;
     let c = l.clauses;
     let names = file_names::names_in(&f[..at], s);
-    Read::Accepted(Layout {
+    Ok(Layout {
         head: h,
         at: at,
         clauses: c,
@@ -131,7 +119,7 @@ pub fn read_rule(f: &[u8]) -> Read
 
 // The count bytes of an accepted file.
 pub fn counts_of(f: &[u8], l: Layout) -> &[u8]
-    requires { read_of f.now ≡ Accepted l }
+    requires { read_of f.now ≡ Ok l }
     ensures { result.now ≡ counts_of_lem f.now }
 {
     let start = l.at + l.clauses;
@@ -141,7 +129,7 @@ pub fn counts_of(f: &[u8], l: Layout) -> &[u8]
 
 // The clause bytes of an accepted file.
 pub fn clauses_of(f: &[u8], l: Layout) -> &[u8]
-    requires { read_of f.now ≡ Accepted l }
+    requires { read_of f.now ≡ Ok l }
     ensures { result.now ≡ clauses_of_lem f.now }
 {
     let start = l.at;
@@ -151,7 +139,7 @@ pub fn clauses_of(f: &[u8], l: Layout) -> &[u8]
 
 // The name bytes of an accepted file, 8 for each letter, or none.
 pub fn names_of(f: &[u8], l: Layout) -> &[u8]
-    requires { read_of f.now ≡ Accepted l }
+    requires { read_of f.now ≡ Ok l }
     ensures { result.now ≡ names_of f.now }
 {
     let count = l.names;
@@ -168,10 +156,10 @@ pub fn preface(f: &[u8]) -> &[u8]
     ensures { result.now ≡ preface_of f.now }
 {
     match read_rule(f) {
-        Read::Accepted(l) => {
+        Ok(l) => {
             let at = l.at;
             &f[..at]
         }
-        Read::Refused(_) => &f[..0],
+        Err(_) => &f[..0],
     }
 }

@@ -1,9 +1,10 @@
 // The rows 3 to 6 and 8 to 10 that try a rule's numbers, counts and clauses. They ask nothing of a file, so that the writer tries them too.
 ghost use Rattle.std.specs.Prelude.{◌≡◌, ◌≤◌, length};
 ghost use Rattle.sets.specs.Lists.{sum};
-ghost use Rattle.refusals.specs.Rows.{first_row};
+ghost use Rattle.refusals.specs.Rows.{first_refusal};
 ghost use Rattle.file_spec.specs.RuleRows.{number_rows, list_rows};
 
+use refusals::Refusal;
 use rule_entries::Head;
 use slice_search::any_from;
 
@@ -12,58 +13,48 @@ fn total(xs: &[u8]) -> usize
     requires { length xs.now ≤ 128 }
     ensures { result ≡ sum xs.now }
 {
-    let mut t: usize = 0;
-    let mut i = 0;
-    while i < xs.len() {
-        t += xs[i] as usize;
-        i += 1;
-    }
-    t
+    xs.iter().map(|x| *x as usize).sum()
 }
 
-// The first of rows 3 to 6 that refuses a rule's numbers, or 0.
-pub fn numbers_row(h: Head) -> u8
-    ensures { result ≡ first_row (number_rows h) }
+// What of rows 3 to 6 refuses a rule's numbers, if one does.
+#[tactic(auto, using(sets::proofs::Bits::shl_one), unfolding(refusals::specs::Rows::first_refusal, file_spec::specs::RuleRows::number_rows))]
+pub fn numbers_row(h: Head) -> Result<(), Refusal>
+    ensures { result ≡ first_refusal (number_rows h) }
 {
     let n = h.n;
     let s = h.s;
     let initial = h.initial;
     let accepting = h.accepting;
-    if n < 1 {
-        return refusals::STATES;
+    if n < 1 || 8 < n {
+        return Err(Refusal::States);
     }
-    if 8 < n {
-        return refusals::STATES;
-    }
-    if s < 1 {
-        return refusals::LETTERS;
-    }
-    if 16 < s {
-        return refusals::LETTERS;
+    if s < 1 || 16 < s {
+        return Err(Refusal::Letters);
     }
     let states = 1usize << n;
     if n <= initial {
-        return refusals::INITIAL;
+        return Err(Refusal::Initial);
     }
     if states <= accepting {
-        return refusals::ACCEPTING;
+        return Err(Refusal::Accepting);
     }
-    0
+    Ok(())
 }
 
-// The first of rows 8 to 10 that refuses a rule's counts and clauses, or 0.
-pub fn lists_row(n: usize, counts: &[u8], clauses: &[u8]) -> u8
+// What of rows 8 to 10 refuses a rule's counts and clauses, if one does.
+#[tactic(auto, using(sets::proofs::Bits::shl_one), unfolding(refusals::specs::Rows::first_refusal, file_spec::specs::RuleRows::list_rows))]
+pub fn lists_row(n: usize, counts: &[u8], clauses: &[u8]) -> Result<(), Refusal>
     requires { (n ≤ 8) × (length counts.now ≤ 128) }
-    ensures { result ≡ first_row (list_rows n counts.now clauses.now) }
+    ensures { result ≡ first_refusal (list_rows n counts.now clauses.now) }
 {
     if any_from(counts, 9) {
-        return refusals::COUNT;
+        return Err(Refusal::Count);
     }
     if total(counts) != clauses.len() {
-        return refusals::SUM;
+        return Err(Refusal::Sum);
     }
     if any_from(clauses, 1usize << n) {
-        return refusals::CLAUSE;
+        return Err(Refusal::Clause);
     }
-    0
+    Ok(())
 }

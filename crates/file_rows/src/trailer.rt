@@ -1,10 +1,11 @@
 // The trailer, which points back from the end of a rule file to all its parts, and the rows 1 to 7 that try it before another byte is read.
 ghost use Rattle.std.specs.Prelude.{◌≡◌, ◌<◌, ◌≤◌, length};
-ghost use Rattle.refusals.specs.Rows.{first_row};
+ghost use Rattle.refusals.specs.Rows.{first_refusal};
 ghost use Rattle.file_spec.specs.File.{trailer, tagged, head_of, clause_count};
 ghost use Rattle.file_spec.specs.Rows.{trailer_rows};
 
 use crate::rule::numbers_row;
+use refusals::Refusal;
 use rule_entries::Head;
 
 // The last two bytes of every rule file.
@@ -50,26 +51,24 @@ pub fn read_count(f: &[u8]) -> usize
     trailer_byte(f, 4) as usize + 256 * (trailer_byte(f, 5) as usize)
 }
 
-// The first of rows 1 to 7 that refuses a file's trailer, or 0.
-pub fn trailer_row(f: &[u8]) -> u8
-    ensures { result ≡ first_row (trailer_rows f.now) }
+// What of rows 1 to 7 refuses a file's trailer, if one does.
+#[tactic(auto, using(refusals::proofs::Rows::refusal_and, file_spec::proofs::Numbers::ranges), unfolding(refusals::specs::Rows::first_refusal, file_spec::specs::Rows::trailer_rows))]
+pub fn trailer_row(f: &[u8]) -> Result<(), Refusal>
+    ensures { result ≡ first_refusal (trailer_rows f.now) }
 {
     if f.len() < 8 {
-        return refusals::SHORT_FILE;
+        return Err(Refusal::ShortFile);
     }
     if !tag_ends(f) {
-        return refusals::NO_TAG;
+        return Err(Refusal::NoTag);
     }
     let h = read_head(f);
-    let first = numbers_row(h);
-    if first != 0 {
-        return first;
-    }
+    numbers_row(h)?;
     let c = read_count(f);
     let n = h.n;
     let s = h.s;
     if f.len() - 8 < c + n * s {
-        return refusals::CUT;
+        return Err(Refusal::Cut);
     }
-    0
+    Ok(())
 }

@@ -5,7 +5,7 @@ use mathlib.Core.List.{List, [], ◌∷◌}
 use Rattle.sets.specs.Tests.{every, some_below}
 use Rattle.sets.specs.Masks.{bit, mask, inside}
 use Rattle.sets.specs.Lists.{any_of, sum}
-use Rattle.refusals.specs.Rows.{first_row}
+use Rattle.refusals.specs.Rows.{first_refusal, first_row}
 use Rattle.theory.specs.Rule.{Rule, entry}
 use Rattle.theory.specs.Components.{named, leads, within, reaches, together, mixed}
 use Rattle.file_spec.specs.File.{tagged, clauses_of_lem, counts_of_lem, names_of, rule_in, trailer_of, body_of}
@@ -15,7 +15,7 @@ use Rattle.file_spec.specs.RuleRows.{number_rows, list_rows, nested, some_nested
 
 -- what the evaluation of a file's row unfolds, for each example by this one name
 unfoldable pub rows_computed : ℕ
-unfolding file_row file_rows_lem body_rows layout_rows trailer_rows number_rows list_rows formed_rows clause_rows component_rows preface_rows name_rows has_names_lem names_before repeats_name_lem first_row tagged clauses_of_lem
+unfolding file_row file_rows_lem body_rows layout_rows trailer_rows number_rows list_rows formed_rows clause_rows component_rows preface_rows name_rows has_names_lem names_before repeats_name_lem first_row first_refusal tagged clauses_of_lem
     counts_of_lem any_of sum some_nested nested inside every mixed together reaches within leads named entry some_below bit mask
 rows_computed = 0
 

@@ -26,9 +26,9 @@ module _ (h : Head) (counts clauses : List ℕ) where
   unfolding list_rows
   formed a e b =
       let r = ranges h a in
-      let r₈ = first-pass (any_of counts (λ x. ltb 8 x)) 7 _ b in
-      let r₉ = first-pass (not (eqb (sum counts) (length clauses))) 8 _ r₈.1 in
-      let r₁₀ = first-pass (any_of clauses (names_beyond h.n)) 9 _ r₉.1 in
+      let r₈ = first-pass (any_of counts (λ x. ltb 8 x)) _ _ b in
+      let r₉ = first-pass (not (eqb (sum counts) (length clauses))) _ _ r₈.1 in
+      let r₁₀ = first-pass (any_of clauses (names_beyond h.n)) _ _ r₉.1 in
       record {
         some_state = r.some_state;
         few_states = r.few_states;
@@ -55,7 +55,7 @@ module _ (h : Head) (counts clauses : List ℕ) where
 module _ (r : Rule) where
   -- a well-formed rule that row 11 passes, passes every check
   pub passing : WellFormed r → first_row (component_rows r) ≡ 0 → Passing r
-  passing w e = unfold component_rows in record { formed = w; unmixed = (unmixed-iff r).0 (first-pass (mixed r) 10 [] e).0 }
+  passing w e = unfold component_rows in record { formed = w; unmixed = (unmixed-iff r).0 (first-pass (mixed r) _ [] e).0 }
 
   pub passing-components : Passing r → first_row (component_rows r) ≡ 0
   passing-components p = unfold component_rows first_row in rw ((unmixed-iff r).1 p.unmixed)
@@ -68,7 +68,7 @@ module _ (r : Rule) where
 
   -- what row 20 passes has no nested entry
   pub passed-20 : first_row (clause_rows r) ≡ 0 → some_nested r ≡ false
-  passed-20 e = unfold clause_rows in (first-pass (some_nested r) 19 [] e).0
+  passed-20 e = unfold clause_rows in (first-pass (some_nested r) _ [] e).0
 
   clauses-numbered : numbered (clause_rows r) ≡ true
   clauses-numbered = unfold numbered clause_rows in refl

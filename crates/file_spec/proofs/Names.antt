@@ -49,10 +49,10 @@ module _ (s : ℕ) (names : List ℕ) where
   unfolding given_rows
   given-whole e =
       ⊎_elim (λ t. inl (eqb-true (length names) 0 t)) (λ t. inr (eqb-true (length names) (8 * s) t))
-      (or_cases (eqb (length names) 0) (eqb (length names) (8 * s)) (not-false whole (first-pass (not whole) 20 _ e).0))
+      (or_cases (eqb (length names) 0) (eqb (length names) (8 * s)) (not-false whole (first-pass (not whole) _ _ e).0))
 
   pub given-names : first_row (given_rows s names) ≡ 0 → first_row (name_rows names) ≡ 0
-  given-names e = unfold given_rows in (first-pass (not whole) 20 _ e).1
+  given-names e = unfold given_rows in (first-pass (not whole) _ _ e).1
 
 module _ (s : ℕ) (p : List ℕ) where
   -- the names do not fit
@@ -66,7 +66,7 @@ module _ (s : ℕ) (p : List ℕ) where
   past-21 e = unfold first_row preface_rows in rw e
 
   pub fit-21 : first_row (preface_rows s p) ≡ 0 → cut_off_lem ≡ false
-  fit-21 e = unfold preface_rows in (first-pass cut_off_lem 20 _ e).0
+  fit-21 e = unfold preface_rows in (first-pass cut_off_lem _ _ e).0
 
   pub preface-numbered : numbered (preface_rows s p) ≡ true
   preface-numbered = unfold numbered preface_rows name_rows in refl

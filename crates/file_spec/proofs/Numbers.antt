@@ -50,10 +50,10 @@ module _ (h : Head) where
   pub ranges : first_row (number_rows h) ≡ 0 → Ranges h
   unfolding number_rows
   ranges p =
-      let r₃ = first-pass (outside 1 8 h.n) 2 _ p in
-      let r₄ = first-pass (outside 1 16 h.s) 3 _ r₃.1 in
-      let r₅ = first-pass (leb h.n h.initial) 4 _ r₄.1 in
-      let r₆ = first-pass (names_beyond h.n h.accepting) 5 _ r₅.1 in
+      let r₃ = first-pass (outside 1 8 h.n) _ _ p in
+      let r₄ = first-pass (outside 1 16 h.s) _ _ r₃.1 in
+      let r₅ = first-pass (leb h.n h.initial) _ _ r₄.1 in
+      let r₆ = first-pass (names_beyond h.n h.accepting) _ _ r₅.1 in
       let high = ltb-false 8 h.n (or-fr (ltb h.n 1) (ltb 8 h.n) r₃.0) in
       let high-s = ltb-false 16 h.s (or-fr (ltb h.s 1) (ltb 16 h.s) r₄.0) in
       record {

@@ -51,10 +51,10 @@ module _ (f : List ℕ) where
   pub placed : first_row (trailer_rows f) ≡ 0 → Placed f
   unfolding trailer_rows
   placed p =
-      let r₁ = first-pass (ltb (length f) 8) 0 _ p in
-      let r₂ = first-pass (not (tagged f)) 1 _ r₁.1 in
+      let r₁ = first-pass (ltb (length f) 8) _ _ p in
+      let r₂ = first-pass (not (tagged f)) _ _ r₁.1 in
       let parts = first-parts (number_rows (head_of f)) _ (numbers-numbered f) r₂.1 in
-      let r₇ = first-pass (ltb (length f - 8) (clause_count f + entry_count f)) 6 [] parts.1 in
+      let r₇ = first-pass (ltb (length f - 8) (clause_count f + entry_count f)) _ [] parts.1 in
       record {
         long = ltb-false (length f) 8 r₁.0;
         tag-ends = not-false (tagged f) r₂.0;
@@ -65,8 +65,8 @@ module _ (f : List ℕ) where
   pub trailer-numbers : first_row (trailer_rows f) ≡ 0 → first_row (number_rows (head_of f)) ≡ 0
   unfolding trailer_rows
   trailer-numbers p =
-      let r₁ = first-pass (ltb (length f) 8) 0 _ p in
-      let r₂ = first-pass (not (tagged f)) 1 _ r₁.1 in
+      let r₁ = first-pass (ltb (length f) 8) _ _ p in
+      let r₂ = first-pass (not (tagged f)) _ _ r₁.1 in
       (first-parts (number_rows (head_of f)) _ (numbers-numbered f) r₂.1).0
 
   pub rows-trailer : (k : ℕ) → (k ≡ 0 → ⊥) → k ≡ first_row (trailer_rows f) → k ≡ first_row (layout_rows f)

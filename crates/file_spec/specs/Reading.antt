@@ -1,11 +1,12 @@
 -- What the reader answers.
-use Rattle.std.specs.Prelude.{ℕ, zero, suc, List, [], length, take}
+use Rattle.std.specs.Prelude.{ℕ, zero, suc, List, [], length, take, Result, Ok}
+use Rattle.std.specs.Result.{result_and}
+use Rattle.refusals.specs.declared.Refusal.{Refusal}
+use Rattle.refusals.specs.Rows.{first_refusal}
 use Rattle.file_spec.specs.declared.Parts.{Parts}
 use Rattle.file_spec.specs.declared.Layout.{Layout}
-use Rattle.file_spec.specs.declared.Read.{Read}
-use Rattle.file_spec.specs.declared.Read.TheVariants.{Accepted, Refused}
 use Rattle.file_spec.specs.File.{head_of, clause_count, clauses_at, names_of}
-use Rattle.file_spec.specs.Rows.{file_row}
+use Rattle.file_spec.specs.Rows.{file_rows_lem, file_row}
 
 -- the numbers of a file, where its first clause stands, and how many clauses it has
 abbrev pub parts_of : List ℕ → Parts
@@ -15,13 +16,9 @@ parts_of f = record { head = head_of f; at = clauses_at f; clauses = clause_coun
 abbrev pub layout_of : List ℕ → Layout
 layout_of f = record { head = head_of f; at = clauses_at f; clauses = clause_count f; names = length (names_of f) }
 
--- by the first row that refuses: the layout where none does, else "The answer is the number alone"
-unfoldable pub answer : ℕ → Layout → Read
-answer zero l = Accepted l
-answer (suc k) l = Refused (suc k)
-
-unfoldable pub read_of : List ℕ → Read
-read_of f = answer (file_row f) (layout_of f)
+-- by what refuses first: the layout where nothing does, else "The answer is the number alone"
+unfoldable pub read_of : List ℕ → Result Layout Refusal
+read_of f = result_and (first_refusal (file_rows_lem f)) (Ok (layout_of f))
 
 -- by the first row that refuses: the part where none does, else nothing
 unfoldable pub unrefused : ℕ → List ℕ → List ℕ

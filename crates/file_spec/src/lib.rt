@@ -20,10 +20,3 @@ pub struct Layout {
     pub clauses: usize,
     pub names: usize,
 }
-
-// The answer of the reader: the layout of an accepted file, or the number of the first row that refuses it.
-#[derive(Clone, Copy)]
-pub enum Read {
-    Accepted(Layout),
-    Refused(u8),
-}

@@ -4,18 +4,19 @@
 #![tactic(auto)]
 
 ghost use Rattle.std.specs.Prelude.{◌≡◌, ◌++◌, ◌+◌, ◌-◌, ◌≤◌, length};
-ghost use Rattle.refusals.specs.Rows.{first_row};
+ghost use Rattle.std.specs.Result.{result_and};
+ghost use Rattle.refusals.specs.Rows.{first_refusal, first_row};
 ghost use Rattle.theory.specs.Passing.{WellFormed};
 ghost use Rattle.rule_entries.specs.Entries.{rule_of};
 ghost use Rattle.rule_tidy_spec.specs.Tidy.{tidy_rule_lem};
 ghost use Rattle.file_spec.specs.File.{clause_count, entry_count, counts_of_lem, clauses_of_lem, part_before_lem, names_of, body_of};
 ghost use Rattle.file_spec.specs.Names.{preface_from};
 ghost use Rattle.file_write_spec.specs.Written.{slice_rows, after};
-ghost use Rattle.file_tidy_spec.specs.Tidied.{tidy_rows, answer, TidyCalled};
+ghost use Rattle.file_tidy_spec.specs.Tidied.{tidy_rows, TidyCalled};
 
 use file_rows::trailer::{read_count, read_head};
-use file_tidy_spec::Tidied;
 use file_write::layout::{fill, preface_length};
+use refusals::Refusal;
 use rule_entries::Head;
 
 // The clause bytes of a file that has room for its parts.
@@ -55,19 +56,14 @@ fn part_before(f: &[u8]) -> &[u8]
     &f[..at]
 }
 
-// The first row of the rule's group but 20 that refuses a file, or 0.
-fn rule_row(f: &[u8]) -> u8
-    ensures { result ≡ first_row (tidy_rows f.now) }
+// What of the rule's group but row 20 refuses a file, if a row does.
+#[tactic(auto, using(crate::proofs::Parts::tidying), unfolding(file_tidy_spec::specs::Tidied::tidy_rows))]
+fn rule_row(f: &[u8]) -> Result<(), Refusal>
+    ensures { result ≡ first_refusal (tidy_rows f.now) }
 {
-    let first = file_read::layout_row(f);
-    if first != 0 {
-        return first;
-    }
+    file_read::layout_row(f)?;
     let h = read_head(f);
-    let second = file_read::components_row(h, counts_in(f), clauses_in(f));
-    if second != 0 {
-        return second;
-    }
+    file_read::components_row(h, counts_in(f), clauses_in(f))?;
     let s = h.s;
     file_names::preface_row(part_before(f), s)
 }
@@ -83,11 +79,17 @@ fn names_of(f: &[u8]) -> &[u8]
 }
 
 // Writes the file of a tidied rule with names to the start of out and answers its length, or refuses by 16 and leaves out as it was.
-fn write_tidied(h: Head, counts: &[u8], clauses: &[u8], names: &[u8], out: &mut [u8]) -> Tidied
+fn write_tidied(
+    h: Head,
+    counts: &[u8],
+    clauses: &[u8],
+    names: &[u8],
+    out: &mut [u8],
+) -> Result<usize, Refusal>
     requires { WellFormed (rule_of h counts.now clauses.now) × (length names.now ≤ 128) }
     ensures result_value { let file = preface_from names.now
         ++ body_of (tidy_rule_lem (rule_of h counts.now clauses.now)) in result
-        ≡ answer (first_row (slice_rows (length out.old) file)) file }
+        ≡ result_and (first_refusal (slice_rows (length out.old) file)) (Ok (length file)) }
     ensures out_after { let file = preface_from names.now
         ++ body_of (tidy_rule_lem (rule_of h counts.now clauses.now)) in out.new
         ≡ after (first_row (slice_rows (length out.old) file)) file out.old }
@@ -99,21 +101,18 @@ fn write_tidied(h: Head, counts: &[u8], clauses: &[u8], names: &[u8], out: &mut 
     let at = preface_length(names);
     let length = at + kept + entries + 8;
     if out.len() < length {
-        return Tidied::Refused(refusals::SLICE);
+        return Err(Refusal::Slice);
     }
     fill(h, &counts2[..entries], &clauses2[..kept], names, at, out);
-    Tidied::Length(length)
+    Ok(length)
 }
 
 // Writes the file of a file's tidied rule, with its names, to the start of out and answers its length,
 // or refuses by the rule's group but 20, and by 16, and leaves out as it was.
-pub fn tidy(file: &[u8], out: &mut [u8]) -> Tidied
+pub fn tidy(file: &[u8], out: &mut [u8]) -> Result<usize, Refusal>
     ensures { TidyCalled file.now out.old out.new result }
 {
-    let row = rule_row(file);
-    if row != 0 {
-        return Tidied::Refused(row);
-    }
+    rule_row(file)?;
     write_tidied(
         read_head(file),
         counts_in(file),

@@ -7,9 +7,13 @@ use mathlib.Core.List.{List, ◌++◌}
 use native.Mathlib.Omega.{arith}
 use borrow.Author.Tests.{le-ltb, lt-ltb}
 use lib.ListN.{length, length-append}
-use Rattle.refusals.specs.Rows.{first_row}
+use Rattle.std.specs.Prelude.{Ok, Err}
+use Rattle.std.specs.Result.{result_and}
+use Rattle.refusals.specs.declared.Refusal.{Refusal}
+use Rattle.refusals.specs.declared.Refusal.TheVariants.{Slice}
+use Rattle.refusals.specs.Rows.{first_refusal, first_row}
 use Rattle.sets.proofs.Bools.{bif}
-use Rattle.refusals.proofs.Rows.{numbered, first-left, first-right, first-parts}
+use Rattle.refusals.proofs.Rows.{numbered, first-left, first-right, first-parts, row-passes, refused-suc, refusal_and, refusal-left, refusal-right}
 use Rattle.theory.specs.Rule.{Rule}
 use Rattle.theory.specs.Passing.{WellFormed, Passing}
 use Rattle.rule_tidy_spec.specs.Tidy.{tidy_rule_lem}
@@ -24,8 +28,7 @@ use Rattle.file_read.proofs.Layouts.{length-body}
 use Rattle.file_read.proofs.FileRows.{layout-numbered, laid-formed}
 use Rattle.file_write_spec.proofs.Laws.{length-preface, preface-most}
 use Rattle.file_write_spec.specs.Written.{slice_rows, after}
-use Rattle.file_tidy_spec.specs.declared.Tidied.TheVariants.{Length, Refused}
-use Rattle.file_tidy_spec.specs.Tidied.{tidy_rows, tidy_file, tidy_row, answer, tidied_of, slice_tidied}
+use Rattle.file_tidy_spec.specs.Tidied.{tidy_rows, tidy_file, call_rows, tidy_row, tidied_of, slice_tidied}
 
 -- ---- the rule's rows but 20
 
@@ -35,18 +38,6 @@ module _ (f : List ℕ) where
 
   components-numbered : numbered (component_rows (rule_in f)) ≡ true
   components-numbered = unfold numbered component_rows in refl
-
-  pub by_layout : (k : ℕ) → (k ≡ 0 → ⊥) → k ≡ first_row (layout_rows f) → k ≡ first_row (tidy_rows f)
-  by_layout k n e = unfold tidy_rows in first-left (layout_rows f) _ k n e
-
-  pub by-components : first_row (layout_rows f) ≡ 0 → (k : ℕ) → (k ≡ 0 → ⊥) → k ≡ first_row (component_rows (rule_in f)) → k ≡ first_row (tidy_rows f)
-  unfolding tidy_rows
-  by-components e k n d = first-left (component_rows (rule_in f)) _ k n d ∙ sym (first-right (layout_rows f) _ (layout-numbered f) e)
-
-  pub past-components : first_row (layout_rows f) ≡ 0 → first_row (component_rows (rule_in f)) ≡ 0
-      → first_row (tidy_rows f) ≡ first_row (preface_rows (trailer f 1) (part_before_lem f))
-  unfolding tidy_rows
-  past-components e d = first-right (layout_rows f) _ (layout-numbered f) e ∙ first-right (component_rows (rule_in f)) _ components-numbered d
 
   -- what they pass
   pub tidy-laid : first_row (tidy_rows f) ≡ 0 → first_row (layout_rows f) ≡ 0
@@ -65,32 +56,31 @@ module _ (f : List ℕ) where
   -- ---- what the tool answers and leaves in a slice that held old
 
   module _ (old : List ℕ) where
-    said : (k : ℕ) → (k ≡ 0 → ⊥) → k ≡ tidy_row f (length old) → (Refused k ≡ tidied_of f (length old)) × (old ≡ slice_tidied f old)
-    unfolding tidied_of answer slice_tidied after
-    said zero n e = absurd (n refl)
-    said (suc k) n e = rw (← e) (refl, refl)
-
-    pub refused-by : (k : ℕ) → (k ≡ 0 → ⊥) → k ≡ first_row (tidy_rows f) → (Refused k ≡ tidied_of f (length old)) × (old ≡ slice_tidied f old)
-    refused-by k n e = unfold tidy_row in said k n (first-left (tidy_rows f) _ k n e)
+    pub refused_by : (r : Refusal) → first_refusal (tidy_rows f) ≡ Err r → (Err r ≡ tidied_of f (length old)) × (old ≡ slice_tidied f old)
+    unfolding tidied_of slice_tidied tidy_row after
+    refused_by r e =
+        let g = refusal-left (tidy_rows f) (slice_rows (length old) (tidy_file f)) r e in
+        let k = refused-suc (call_rows f (length old)) r g in (rw g refl, rw k.1 refl)
 
     -- where they pass, the slice alone decides
-    pub past-rows : first_row (tidy_rows f) ≡ 0 → tidy_row f (length old) ≡ first_row (slice_rows (length old) (tidy_file f))
-    past-rows e = unfold tidy_row in first-right (tidy_rows f) _ rows-numbered e
-
-    pub served-by : first_row (tidy_rows f) ≡ 0
-        → (answer (first_row (slice_rows (length old) (tidy_file f))) (tidy_file f) ≡ tidied_of f (length old))
+    pub served_by : first_refusal (tidy_rows f) ≡ Ok tt
+        → (result_and (first_refusal (slice_rows (length old) (tidy_file f))) (Ok (length (tidy_file f))) ≡ tidied_of f (length old))
         × (after (first_row (slice_rows (length old) (tidy_file f))) (tidy_file f) old ≡ slice_tidied f old)
-    served-by e = unfold tidied_of slice_tidied in rw (past-rows e) (refl, refl)
+    unfolding tidied_of slice_tidied tidy_row
+    served_by e =
+        let n = row-passes (tidy_rows f) e in
+        (rw (refusal-right (tidy_rows f) (slice_rows (length old) (tidy_file f)) e) refl, rw (first-right (tidy_rows f) (slice_rows (length old) (tidy_file f)) rows-numbered n) refl)
 
 -- ---- row 16
 
 module _ (file old : List ℕ) where
-  pub short : length old < length file → (Refused 16 ≡ answer (first_row (slice_rows (length old) file)) file) × (old ≡ after (first_row (slice_rows (length old) file)) file old)
-  short l = unfold slice_rows first_row answer after in rw (lt-ltb _ _ l) (refl, refl)
+  pub short : length old < length file
+      → (Err Slice ≡ result_and (first_refusal (slice_rows (length old) file)) (Ok (length file))) × (old ≡ after (first_row (slice_rows (length old) file)) file old)
+  short l = unfold slice_rows first_row first_refusal after in rw (lt-ltb _ _ l) (refl, refl)
 
   pub enough : length file ≤ length old
-      → (Length (length file) ≡ answer (first_row (slice_rows (length old) file)) file) × (after 0 file old ≡ after (first_row (slice_rows (length old) file)) file old)
-  enough l = unfold slice_rows first_row answer in rw (le-ltb _ _ l) (refl, refl)
+      → (Ok (length file) ≡ result_and (first_refusal (slice_rows (length old) file)) (Ok (length file))) × (after 0 file old ≡ after (first_row (slice_rows (length old) file)) file old)
+  enough l = unfold slice_rows first_row first_refusal in rw (le-ltb _ _ l) (refl, refl)
 
 -- ---- the names of a preface that rows 21 to 23 pass
 

@@ -24,15 +24,11 @@ use Rattle.file_read.proofs.FileRows.{laid, accepted-passing, accepted-apart}
 use Rattle.file_read.proofs.Layouts.{layout-accepted}
 use Rattle.file_write_spec.specs.Written.{after}
 use Rattle.file_write_spec.proofs.Round.{ReadsAs}
-use Rattle.file_tidy_spec.specs.declared.Tidied.{Tidied}
-use Rattle.file_tidy_spec.specs.declared.Tidied.TheVariants.{Length}
-use Rattle.file_tidy_spec.specs.Tidied.{tidy_rows, tidy_file, tidy_row, answer, tidied_of, slice_tidied, TidyMeant, TidyCalled}
+use Rattle.std.specs.Prelude.{Result, Ok}
+use Rattle.refusals.specs.declared.Refusal.{Refusal}
+use Rattle.refusals.proofs.Rows.{answer-served}
+use Rattle.file_tidy_spec.specs.Tidied.{tidy_rows, tidy_file, call_rows, tidy_row, tidied_of, slice_tidied, TidyMeant, TidyCalled}
 use Rattle.file_tidy_spec.proofs.Laws.{tidy-laid, tidy-served, tidy-preface, rows-passed, names-whole, names-pass, names-shorter, length-tidied, tidied-entries, tidied-clauses}
-
-from-length : (k : ℕ) (file : List ℕ) (m : ℕ) → answer k file ≡ Length m → (k ≡ 0) × (m ≡ length file)
-unfolding answer
-from-length zero file m e = (refl, cc)
-from-length (suc k) file m e = let z : ◌≡◌ {A = ℕ} 0 1 = cc in absurd (omega arith)
 
 -- a file that the rule's rows but 20 pass
 module _ (f : List ℕ) (e : first_row (tidy_rows f) ≡ 0) where
@@ -86,13 +82,13 @@ module _ (f : List ℕ) (e : first_row (tidy_rows f) ≡ 0) where
   tidied-meant = record { accepted = tidied-reads.accepted; rule = tidied-reads.rule; names = tidied-reads.letters; masks = tidied-masks; pairs = tidied-accepts }
 
 -- The start of the slice, as long as the answer says, is the tool's file.
-pub tidied-slice : (f old : List ℕ) (m : ℕ) → tidied_of f (length old) ≡ Length m → TidyMeant f (take m (slice_tidied f old))
-unfolding tidied_of slice_tidied after
+pub tidied-slice : (f old : List ℕ) (m : ℕ) → tidied_of f (length old) ≡ Ok m → TidyMeant f (take m (slice_tidied f old))
+unfolding tidied_of slice_tidied tidy_row after
 tidied-slice f old m e =
-    let p = from-length (tidy_row f (length old)) (tidy_file f) m e in
+    let p = answer-served (call_rows f (length old)) (length (tidy_file f)) m e in
     rw (p.0, p.1, take-append_seam (tidy_file f) (drop (length (tidy_file f)) old)) (tidied-meant f (rows-passed f (length old) p.0))
 
-pub tidy-called : (f old new : List ℕ) (a : Tidied) → a ≡ tidied_of f (length old) → new ≡ slice_tidied f old → TidyCalled f old new a
+pub tidy-called : (f old new : List ℕ) (a : Result ℕ Refusal) → a ≡ tidied_of f (length old) → new ≡ slice_tidied f old → TidyCalled f old new a
 tidy-called f old new a e w = record { answer = e; written = w; meant = λ m l. rw w (tidied-slice f old m (sym e ∙ l)) }
 
 -- An accepted file's rule is unchanged.

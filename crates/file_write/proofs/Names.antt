@@ -7,7 +7,9 @@ use native.Mathlib.Omega.{arith}
 use native.Mathlib.Nat.{zero-add}
 use lib.ListN.{length}
 use lib.Seq.{paste, paste-zero}
-use Rattle.refusals.specs.Rows.{first_row}
+use Rattle.std.specs.Prelude.{Ok}
+use Rattle.refusals.specs.Rows.{first_refusal}
+use Rattle.refusals.proofs.Rows.{row-passes}
 use Rattle.file_spec.specs.Names.{names_tag, preface_from}
 use Rattle.file_spec.specs.Rows.{given_rows}
 use Rattle.file_spec.proofs.Names.{given-whole}
@@ -35,5 +37,5 @@ fill-both d p f at e l =
 
 -- ---- lengths
 
-pub names-few : (s : ℕ) (names : List ℕ) → s ≤ 16 → first_row (given_rows s names) ≡ 0 → length names ≤ 128
-names-few s names l e = ⊎_elim (λ z. omega arith) (λ z. omega arith) (given-whole s names e)
+pub names-few : (s : ℕ) (names : List ℕ) → s ≤ 16 → first_refusal (given_rows s names) ≡ Ok tt → length names ≤ 128
+names-few s names l e = ⊎_elim (λ z. omega arith) (λ z. omega arith) (given-whole s names (row-passes (given_rows s names) e))

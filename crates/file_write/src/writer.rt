@@ -1,55 +1,51 @@
 // The writer of rule files. It tries rule, names and room before it writes a byte, so that a refusal leaves the slice as it was.
 ghost use Rattle.std.specs.Prelude.{◌≡◌, [], length};
-ghost use Rattle.refusals.specs.Rows.{first_row};
+ghost use Rattle.refusals.specs.Rows.{first_refusal};
 ghost use Rattle.file_write_spec.specs.Written.{head_from, rule_rows, written_of, slice_after};
 
 use crate::layout::{fill, preface_length};
-use file_write_spec::Written;
+use refusals::Refusal;
 use rule_entries::Head;
 
-// The first row that refuses a rule, or 0.
-fn rule_row(h: Head, counts: &[u8], clauses: &[u8]) -> u8
-    ensures { result ≡ first_row (rule_rows h counts.now clauses.now) }
+// What refuses a rule, if a row does.
+#[tactic(auto, using(file_write_spec::proofs::Laws::writing), unfolding(refusals::specs::Rows::first_refusal, file_write_spec::specs::Written::rule_rows))]
+fn rule_row(h: Head, counts: &[u8], clauses: &[u8]) -> Result<(), Refusal>
+    ensures { result ≡ first_refusal (rule_rows h counts.now clauses.now) }
 {
-    let first = file_rows::rule::numbers_row(h);
-    if first != 0 {
-        return first;
-    }
+    file_rows::rule::numbers_row(h)?;
     let n = h.n;
     let s = h.s;
     if counts.len() != n * s {
-        return refusals::CUT;
+        return Err(Refusal::Cut);
     }
-    let second = file_rows::rule::lists_row(n, counts, clauses);
-    if second != 0 {
-        return second;
-    }
+    file_rows::rule::lists_row(n, counts, clauses)?;
     file_read::formed_row(h, counts, clauses)
 }
 
 // Writes the file of a rule with names, none or 8 bytes a letter, to the start of out and answers its length, or refuses by the rule's
 // rows and 16 and leaves out as it was.
-pub fn write_head(h: Head, counts: &[u8], clauses: &[u8], names: &[u8], out: &mut [u8]) -> Written
+pub fn write_head(
+    h: Head,
+    counts: &[u8],
+    clauses: &[u8],
+    names: &[u8],
+    out: &mut [u8],
+) -> Result<usize, Refusal>
     ensures value { result
         ≡ written_of h counts.now clauses.now names.now (length out.old) }
     ensures out_after { out.new
         ≡ slice_after h counts.now clauses.now names.now out.old }
 {
-    let row = rule_row(h, counts, clauses);
-    if row != 0 {
-        return Written::Refused(row);
-    }
+    rule_row(h, counts, clauses)?;
     let s = h.s;
-    let second = file_names::given_row(names, s);
-    if second != 0 {
-        return Written::Refused(second);
-    }
+    file_names::given_row(names, s)?;
     let at = preface_length(names);
-    if out.len() < at + clauses.len() + counts.len() + 8 {
-        return Written::Refused(refusals::SLICE);
+    let length = at + clauses.len() + counts.len() + 8;
+    if out.len() < length {
+        return Err(Refusal::Slice);
     }
     fill(h, counts, clauses, names, at, out);
-    Written::Length(at + clauses.len() + counts.len() + 8)
+    Ok(length)
 }
 
 // Writes the file of a rule given by numbers of 32 bits.
@@ -62,7 +58,7 @@ pub fn write_named(
     clauses: &[u8],
     names: &[u8],
     out: &mut [u8],
-) -> Written
+) -> Result<usize, Refusal>
     ensures value { result
         ≡ written_of (head_from n s initial accepting) counts.now clauses.now names.now
         (length out.old) }
@@ -88,7 +84,7 @@ pub fn write_rule(
     counts: &[u8],
     clauses: &[u8],
     out: &mut [u8],
-) -> Written
+) -> Result<usize, Refusal>
     ensures value { result
         ≡ written_of (head_from n s initial accepting) counts.now clauses.now [] (length out.old) }
     ensures out_after { out.new

@@ -10,8 +10,11 @@ use lib.Dec.{eqb}
 use lib.ListN.{length, take, drop, length-append}
 use lib.Seq.{paste, take-paste, drop-paste, drop-drop, take-length}
 use Rattle.sets.specs.Lists.{sum}
-use Rattle.refusals.specs.Rows.{first_row}
-use Rattle.refusals.proofs.Rows.{numbered, first-left, first-right, first-parts, first-pass}
+use Rattle.std.specs.Prelude.{Ok, Err}
+use Rattle.refusals.specs.declared.Refusal.{Refusal}
+use Rattle.refusals.specs.declared.Refusal.TheVariants.{Slice}
+use Rattle.refusals.specs.Rows.{first_refusal, first_row}
+use Rattle.refusals.proofs.Rows.{numbered, first-left, first-right, first-parts, first-pass, row-passes, refused-suc, refusal_and, refusal-left, refusal-right}
 use Rattle.theory.specs.Rule.{Rule}
 use Rattle.theory.specs.Passing.{WellFormed, Passing}
 use Rattle.rule_entries.proofs.Entries.{entries-few, accepting-small}
@@ -22,9 +25,9 @@ use Rattle.file_spec.specs.Names.{names_tag, preface_from}
 use Rattle.file_spec.specs.Rows.{name_rows, given_rows}
 use Rattle.file_spec.specs.RuleRows.{number_rows, list_rows, some_nested, clause_rows, component_rows, formed_rows}
 use Rattle.file_read.proofs.Layouts.{length-body}
+use Rattle.file_spec.proofs.Numbers.{Ranges, ranges}
 use Rattle.file_spec.proofs.Formed.{formed, formed-passing, formed-apart}
-use Rattle.file_write_spec.specs.declared.Written.TheVariants.{Length, Refused}
-use Rattle.file_write_spec.specs.Written.{InBytes, rule_rows, given_rule_rows, slice_rows, file_of, write_row, answer, written_of, after, slice_after}
+use Rattle.file_write_spec.specs.Written.{InBytes, rule_rows, given_rule_rows, slice_rows, file_of, write_rows, write_row, written_of, after, slice_after}
 
 -- ---- parts, one after the other
 
@@ -83,29 +86,12 @@ module _ (h : Head) (counts clauses : List ℕ) where
   pub rows-numbered : numbered (rule_rows h counts clauses) ≡ true
   rows-numbered = unfold numbered rule_rows number_rows list_rows formed_rows clause_rows component_rows in refl
 
-  pub by-numbers : (k : ℕ) → (k ≡ 0 → ⊥) → k ≡ first_row (number_rows h) → k ≡ first_row (rule_rows h counts clauses)
-  by-numbers k n e = unfold rule_rows in first-left (number_rows h) _ k n e
-
-  module _ (e : first_row (number_rows h) ≡ 0) where
-    pub by_entries : (length counts ≡ h.n * h.s → ⊥) → 7 ≡ first_row (rule_rows h counts clauses)
-    by_entries n = unfold rule_rows first_row in rw (first-right (number_rows h) _ numbers-numbered e, ne_eqb _ _ n)
-
-    module _ (l : length counts ≡ h.n * h.s) where
-      past-entries : first_row (rule_rows h counts clauses) ≡ first_row (list_rows h.n counts clauses ++ formed_rows (rule_of h counts clauses))
-      past-entries = unfold rule_rows first_row in rw (first-right (number_rows h) _ numbers-numbered e, eq-eqb _ _ l)
-
-      pub by_lists : (k : ℕ) → (k ≡ 0 → ⊥) → k ≡ first_row (list_rows h.n counts clauses) → k ≡ first_row (rule_rows h counts clauses)
-      by_lists k n r = first-left (list_rows h.n counts clauses) _ k n r ∙ sym past-entries
-
-      pub by-formed : first_row (list_rows h.n counts clauses) ≡ 0 → first_row (rule_rows h counts clauses) ≡ first_row (formed_rows (rule_of h counts clauses))
-      by-formed r = past-entries ∙ first-right (list_rows h.n counts clauses) _ lists-numbered r
-
   -- what no row refuses passes every check of 01, and row 20
   pub rule-served : first_row (rule_rows h counts clauses) ≡ 0 → Passing (rule_of h counts clauses) × (some_nested (rule_of h counts clauses) ≡ false)
   unfolding rule_rows
   rule-served e =
       let a = first-parts (number_rows h) _ numbers-numbered e in
-      let r₇ = first-pass (not (eqb (length counts) (h.n * h.s))) 6 _ a.1 in
+      let r₇ = first-pass (not (eqb (length counts) (h.n * h.s))) _ _ a.1 in
       let b = first-parts (list_rows h.n counts clauses) _ lists-numbered r₇.1 in
       let l = eqb-true (length counts) (h.n * h.s) (not-false (eqb (length counts) (h.n * h.s)) r₇.0) in
       (formed-passing (rule_of h counts clauses) (formed h counts clauses a.0 l b.0) b.1, formed-apart (rule_of h counts clauses) b.1)
@@ -120,47 +106,49 @@ module _ (h : Head) (counts clauses : List ℕ) where
     unfolding numbered given_rule_rows rule_rows number_rows list_rows formed_rows clause_rows component_rows given_rows name_rows
     given-rows-numbered = refl
 
-    given_both : first_row (rule_rows h counts clauses) ≡ 0 → first_row (given_rows h.s names) ≡ 0 → first_row (given_rule_rows h counts clauses names) ≡ 0
-    given_both a b = unfold given_rule_rows in first-right (rule_rows h counts clauses) _ rows-numbered a ∙ b
+    given_both : first_refusal (rule_rows h counts clauses) ≡ Ok tt → first_refusal (given_rows h.s names) ≡ Ok tt → first_refusal (given_rule_rows h counts clauses names) ≡ Ok tt
+    given_both a b = unfold given_rule_rows in refusal-right (rule_rows h counts clauses) _ a ∙ b
 
     pub given-parts : first_row (given_rule_rows h counts clauses names) ≡ 0 → (first_row (rule_rows h counts clauses) ≡ 0) × (first_row (given_rows h.s names) ≡ 0)
     given-parts e = unfold given_rule_rows in first-parts (rule_rows h counts clauses) _ rows-numbered e
 
     module _ (old : List ℕ) where
-      -- a refusal by row k
-      abbrev pub Said : ℕ → Type 0
-      Said k = (Refused k ≡ written_of h counts clauses names (length old)) × (old ≡ slice_after h counts clauses names old)
+      -- a refusal
+      abbrev pub Said : Refusal → Type 0
+      Said r = (Err r ≡ written_of h counts clauses names (length old)) × (old ≡ slice_after h counts clauses names old)
 
-      said : (k : ℕ) → (k ≡ 0 → ⊥) → k ≡ write_row h counts clauses names (length old) → Said k
-      unfolding written_of answer slice_after after
-      said zero n e = absurd (n refl)
-      said (suc k) n e = rw (← e) (refl, refl)
+      said : (r : Refusal) → first_refusal (write_rows h counts clauses names (length old)) ≡ Err r → Said r
+      unfolding written_of slice_after write_row after
+      said r e = let k = refused-suc (write_rows h counts clauses names (length old)) r e in (rw e refl, rw k.1 refl)
 
-      by-given : (k : ℕ) → (k ≡ 0 → ⊥) → k ≡ first_row (given_rule_rows h counts clauses names) → Said k
-      by-given k n e = unfold write_row in said k n (first-left (given_rule_rows h counts clauses names) _ k n e)
+      by-given : (r : Refusal) → first_refusal (given_rule_rows h counts clauses names) ≡ Err r → Said r
+      by-given r e = said r (refusal-left (given_rule_rows h counts clauses names) _ r e)
 
-      pub by-rule : (k : ℕ) → (k ≡ 0 → ⊥) → k ≡ first_row (rule_rows h counts clauses) → Said k
-      by-rule k n e = unfold given_rule_rows in by-given k n (first-left (rule_rows h counts clauses) _ k n e)
+      pub by-rule : (r : Refusal) → first_refusal (rule_rows h counts clauses) ≡ Err r → Said r
+      by-rule r e = by-given r (unfold given_rule_rows in refusal-left (rule_rows h counts clauses) _ r e)
 
-      module _ (e : first_row (rule_rows h counts clauses) ≡ 0) where
-        pub by_names : (k : ℕ) → (k ≡ 0 → ⊥) → k ≡ first_row (given_rows h.s names) → Said k
-        by_names k n f = unfold given_rule_rows in by-given k n (f ∙ sym (first-right (rule_rows h counts clauses) _ rows-numbered e))
+      module _ (e : first_refusal (rule_rows h counts clauses) ≡ Ok tt) where
+        pub by_names : (r : Refusal) → first_refusal (given_rows h.s names) ≡ Err r → Said r
+        by_names r f = by-given r (unfold given_rule_rows in refusal-right (rule_rows h counts clauses) _ e ∙ f)
 
-        module _ (f : first_row (given_rows h.s names) ≡ 0) where
-          pub by-room : length old < length (preface_from names) + length clauses + length counts + 8 → Said 16
-          unfolding write_row slice_rows first_row
-          by-room l =
-              let m : length old < length (file_of h counts clauses names) = rw (length-file h counts clauses names) l in
-              said 16 (λ z. omega arith) (rw (first-right (given_rule_rows h counts clauses names) _ given-rows-numbered (given_both e f), lt-ltb _ _ m))
+        module _ (f : first_refusal (given_rows h.s names) ≡ Ok tt) where
+          by-slice : first_refusal (write_rows h counts clauses names (length old)) ≡ first_refusal (slice_rows (length old) (file_of h counts clauses names))
+          by-slice = refusal-right (given_rule_rows h counts clauses names) _ (given_both e f)
+
+          pub by-room : length old < length (preface_from names) + length clauses + length counts + 8 → Said Slice
+          unfolding slice_rows first_refusal
+          by-room l = let m : length old < length (file_of h counts clauses names) = rw (length-file h counts clauses names) l in said Slice (by-slice ∙ rw (lt-ltb _ _ m))
 
           pub done : length (preface_from names) + length clauses + length counts + 8 ≤ length old
-              → (Length (length (preface_from names) + length clauses + length counts + 8) ≡ written_of h counts clauses names (length old))
+              → (Ok (length (preface_from names) + length clauses + length counts + 8) ≡ written_of h counts clauses names (length old))
               × (after 0 (file_of h counts clauses names) old ≡ slice_after h counts clauses names old)
-          unfolding written_of answer slice_after write_row slice_rows first_row
+          unfolding written_of slice_after write_row slice_rows first_refusal
           done l =
               let m : length (file_of h counts clauses names) ≤ length old = rw (length-file h counts clauses names) l in
-              rw (first-right (given_rule_rows h counts clauses names) _ given-rows-numbered (given_both e f), le-ltb _ _ m)
-              (ap Length (sym (length-file h counts clauses names)), refl)
+              let n : first_refusal (write_rows h counts clauses names (length old)) ≡ Ok tt = by-slice ∙ rw (le-ltb _ _ m) in (
+                rw n (ap Ok (sym (length-file h counts clauses names))),
+                rw (row-passes (write_rows h counts clauses names (length old)) n) refl,
+              )
 
 -- ---- the sizes of what no row refuses
 
@@ -181,9 +169,28 @@ head-in-bytes h counts clauses w c l = record {
   count = omega arith;
 }
 
-module _ (h : Head) (counts clauses : List ℕ) (e : first_row (rule_rows h counts clauses) ≡ 0) where
-  pub few-counts : length counts ≤ 128
-  few-counts = entries-few (rule_of h counts clauses) (rule-passing h counts clauses e).formed
-
+-- the sizes of a rule that no row refuses
+pub record Sized (h : Head) (counts clauses : List ℕ) : Type 0 where
+  pub few_letters : h.s ≤ 16
+  pub few_counts : length counts ≤ 128
   pub in_bytes : InBytes h (length clauses)
-  in_bytes = let w = (rule-passing h counts clauses e).formed in head-in-bytes h counts clauses w (length clauses) (clauses-few (rule_of h counts clauses) w)
+
+pub sized : (h : Head) (counts clauses : List ℕ) → first_refusal (rule_rows h counts clauses) ≡ Ok tt → Sized h counts clauses
+sized h counts clauses e =
+    let w = (rule-passing h counts clauses (row-passes (rule_rows h counts clauses) e)).formed in
+    record {
+      few_letters = w.few_letters;
+      few_counts = entries-few (rule_of h counts clauses) w;
+      in_bytes = head-in-bytes h counts clauses w (length clauses) (clauses-few (rule_of h counts clauses) w);
+    }
+
+-- what rows 3 to 10 pass
+pub formed_by : (h : Head) (counts clauses : List ℕ) → first_refusal (number_rows h) ≡ Ok tt → length counts ≡ h.n * h.s → first_refusal (list_rows h.n counts clauses) ≡ Ok tt
+    → WellFormed (rule_of h counts clauses)
+formed_by h counts clauses a l b = formed h counts clauses (row-passes (number_rows h) a) l (row-passes (list_rows h.n counts clauses) b)
+
+pub ranges_by : (h : Head) → first_refusal (number_rows h) ≡ Ok tt → Ranges h
+ranges_by h e = ranges h (row-passes (number_rows h) e)
+
+-- what the rows of the writer cite
+pub ruleset writing = (refusal_and, ranges_by, formed_by)

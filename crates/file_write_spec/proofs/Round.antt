@@ -19,8 +19,9 @@ use Rattle.file_spec.specs.Reading.{preface_of}
 use Rattle.file_read.proofs.FileRows.{accepted-rows}
 use Rattle.file_read.proofs.Accepted.{Bytes, preface-accepted, accepted-layout}
 use Rattle.file_read.proofs.Layouts.{layout-accepted}
-use Rattle.file_write_spec.specs.declared.Written.TheVariants.{Length}
-use Rattle.file_write_spec.specs.Written.{given_rule_rows, file_of, write_row, answer, written_of, after, slice_after}
+use Rattle.std.specs.Prelude.{Ok}
+use Rattle.refusals.proofs.Rows.{answer-served}
+use Rattle.file_write_spec.specs.Written.{given_rule_rows, file_of, write_rows, write_row, written_of, after, slice_after}
 use Rattle.file_write_spec.proofs.Laws.{given-rows-numbered, given-parts, rule-served}
 
 -- what a file has that reads as the rule r with these names, which are its whole preface
@@ -29,11 +30,6 @@ pub record ReadsAs (f : List ℕ) (r : Rule) (names : List ℕ) : Type 0 where
   pub rule : rule_in f ≡ r
   pub letters : names_of f ≡ names
   pub preface : preface_of f ≡ preface_from names
-
-from-length : (k : ℕ) (file : List ℕ) (m : ℕ) → answer k file ≡ Length m → (k ≡ 0) × (m ≡ length file)
-unfolding answer
-from-length zero file m e = (refl, cc)
-from-length (suc k) file m e = let z : ◌≡◌ {A = ℕ} 0 1 = cc in absurd (omega arith)
 
 module _ (h : Head) (counts clauses names : List ℕ) where
   -- a rule that no row refuses, with names that none refuses
@@ -50,11 +46,11 @@ module _ (h : Head) (counts clauses names : List ℕ) where
   written-rows room e = (first-parts (given_rule_rows h counts clauses names) _ (given-rows-numbered h counts clauses names) e).0
 
   -- The start of the slice, as long as the answer says, reads back as the rule and the names that were given.
-  pub written-reads : (old : List ℕ) (m : ℕ) → written_of h counts clauses names (length old) ≡ Length m
+  pub written-reads : (old : List ℕ) (m : ℕ) → written_of h counts clauses names (length old) ≡ Ok m
       → ReadsAs (take m (slice_after h counts clauses names old)) (rule_of h counts clauses) names
-  unfolding written_of slice_after after
+  unfolding written_of slice_after write_row after
   written-reads old m e =
-      let p = from-length (write_row h counts clauses names (length old)) (file_of h counts clauses names) m e in
+      let p = answer-served (write_rows h counts clauses names (length old)) (length (file_of h counts clauses names)) m e in
       rw (p.0, p.1, take-append_seam (file_of h counts clauses names) (drop (length (file_of h counts clauses names)) old)) (file-reads (written-rows (length old) p.0))
 
 -- The other way round: an accepted file with names is any bytes, then names of 8 bytes a letter, 4E 4D and the rest as they are written.

@@ -1,14 +1,15 @@
 -- What the writer answers, and what its slice then holds.
-use Rattle.std.specs.Prelude.{ℕ, zero, suc, ◌*◌, ◌<◌, List, [], ◌∷◌, ◌++◌, not, length, drop, ltb, eqb}
-use Rattle.refusals.specs.Rows.{Check, first_row, check}
+use Rattle.std.specs.Prelude.{ℕ, zero, suc, ◌*◌, ◌<◌, List, [], ◌∷◌, ◌++◌, not, length, drop, ltb, eqb, Result, Ok}
+use Rattle.std.specs.Result.{result_and}
+use Rattle.refusals.specs.declared.Refusal.{Refusal}
+use Rattle.refusals.specs.Rows.{Check, first_refusal, first_row, check}
+use Rattle.refusals.specs.declared.Refusal.TheVariants.{Cut, Slice}
 use Rattle.rule_entries.specs.declared.Head.{Head}
 use Rattle.rule_entries.specs.Entries.{rule_of}
 use Rattle.file_spec.specs.File.{body_of}
 use Rattle.file_spec.specs.Names.{preface_from}
 use Rattle.file_spec.specs.Rows.{given_rows}
 use Rattle.file_spec.specs.RuleRows.{number_rows, list_rows, formed_rows}
-use Rattle.file_write_spec.specs.declared.Written.{Written}
-use Rattle.file_write_spec.specs.declared.Written.TheVariants.{Length, Refused}
 
 -- the numbers that are given
 abbrev pub head_from : ℕ → ℕ → ℕ → ℕ → Head
@@ -18,7 +19,7 @@ head_from n s initial accepting = record { n = n; s = s; initial = initial; acce
 unfoldable pub rule_rows : Head → List ℕ → List ℕ → List Check
 rule_rows h counts clauses =
     number_rows h
-    ++ (check (not (eqb (length counts) (h.n * h.s))) 7
+    ++ (check (not (eqb (length counts) (h.n * h.s))) Cut
     ∷ (list_rows h.n counts clauses
     ++ formed_rows (rule_of h counts clauses)))
 
@@ -32,19 +33,19 @@ file_of h counts clauses names = preface_from names ++ body_of (rule_of h counts
 
 -- row 16, "result or scratch slice too short": the slice has room bytes
 unfoldable pub slice_rows : ℕ → List ℕ → List Check
-slice_rows room file = check (ltb room (length file)) 16 ∷ []
+slice_rows room file = check (ltb room (length file)) Slice ∷ []
+
+-- all of them, in order
+abbrev pub write_rows : Head → List ℕ → List ℕ → List ℕ → ℕ → List Check
+write_rows h counts clauses names room = given_rule_rows h counts clauses names ++ slice_rows room (file_of h counts clauses names)
 
 -- the number of the first row that refuses, or 0
 unfoldable pub write_row : Head → List ℕ → List ℕ → List ℕ → ℕ → ℕ
-write_row h counts clauses names room = first_row (given_rule_rows h counts clauses names ++ slice_rows room (file_of h counts clauses names))
+write_row h counts clauses names room = first_row (write_rows h counts clauses names room)
 
--- by the first row that refuses: the length of the file where none does, else the number alone
-unfoldable pub answer : ℕ → List ℕ → Written
-answer zero file = Length (length file)
-answer (suc k) file = Refused (suc k)
-
-unfoldable pub written_of : Head → List ℕ → List ℕ → List ℕ → ℕ → Written
-written_of h counts clauses names room = answer (write_row h counts clauses names room) (file_of h counts clauses names)
+-- by what refuses first: the length of the file where nothing does, else the refusal alone
+unfoldable pub written_of : Head → List ℕ → List ℕ → List ℕ → ℕ → Result ℕ Refusal
+written_of h counts clauses names room = result_and (first_refusal (write_rows h counts clauses names room)) (Ok (length (file_of h counts clauses names)))
 
 -- by the first row that refuses: where none does, the slice holds the file at its start and is otherwise as it was, else it is as it was.
 -- 01: "It fills the start of its slice, answers the length, and touches nothing after it."

@@ -9,8 +9,10 @@ use lib.Seq.{ext_get_or, get_or-take, length-take-le}
 use Rattle.sets.specs.Lists.{Ascending, tabulate}
 use Rattle.sets.specs.Tests.{one}
 use Rattle.sets.proofs.Lists.{length-tabulate}
-use Rattle.refusals.specs.Rows.{first_row}
-use Rattle.refusals.proofs.Rows.{first-left, first-right, first-parts}
+use Rattle.std.specs.Prelude.{Result, Ok, Err, ⊤}
+use Rattle.refusals.specs.Rows.{number_of, first_refusal}
+use Rattle.refusals.specs.declared.Refusal.{Refusal}
+use Rattle.refusals.proofs.Rows.{number-above, first-parts, refusal-left, refusal-right, refusal-passes}
 use Rattle.theory.specs.Passing.{Passing}
 use Rattle.theory.specs.Rule.{Rule}
 use Rattle.rule_entries.specs.Entries.{rule_of}
@@ -28,11 +30,9 @@ use Rattle.live_spec.specs.Called.{left_by_lem}
 use Rattle.live_spec.proofs.Steps.{table_at}
 use Rattle.live_laws.proofs.Reached.{Bytes, afresh-bytes, afresh-none}
 use Rattle.live_set.specs.Sweeps.{flag_of_lem}
-use Rattle.follow_spec.specs.declared.FollowAnswer.{FollowAnswer}
-use Rattle.follow_spec.specs.declared.FollowAnswer.TheVariants.{Followed, Refused}
 use Rattle.follow_spec.specs.declared.FollowCounts.{FollowCounts}
 use Rattle.follow_spec.specs.Set.{flags, reached, emptied_after}
-use Rattle.follow_spec.specs.Rows.{follow_call_row, follow_row}
+use Rattle.follow_spec.specs.Rows.{follow_call_rows, follow_rows, follow_row}
 use Rattle.follow_spec.specs.Followed.{answer_by, FollowedBy, FollowStarted, FollowCalled}
 use Rattle.follow_laws.proofs.Leaves.{leaves-start, leaves-on}
 use Rattle.follow_set.specs.Sweeping.{Taken}
@@ -75,7 +75,7 @@ initial-flags q codes =
 
 -- ---- by the rows behind the rule's
 
-module _ (s : ℕ) (letters codes transitions : List ℕ) (room : ℕ) (e : follow_call_row s letters (in_bytes_lem codes) (in_bytes_lem transitions) room ≡ 0) where
+module _ (s : ℕ) (letters codes transitions : List ℕ) (room : ℕ) (e : first_refusal (follow_call_rows s letters (in_bytes_lem codes) (in_bytes_lem transitions) room) ≡ Ok tt) where
   table-passed : Passed s (words_in codes) (words_in transitions)
   unfolding in_bytes_lem
   table-passed = passed s (in_bytes_lem codes) (in_bytes_lem transitions) (parts s letters (in_bytes_lem codes) (in_bytes_lem transitions) room e).0
@@ -93,44 +93,56 @@ module _ (s : ℕ) (letters codes transitions : List ℕ) (room : ℕ) (e : foll
   unfolding in_bytes_lem
   fits = (parts s letters (in_bytes_lem codes) (in_bytes_lem transitions) room e).1
 
--- ---- the answer, by the row
+-- ---- the answer, by what refuses
 
-module _ {row n : ℕ} {left : List ℕ} {letters : ℕ} {set : List ℕ} where
-  pub refused-by : (k : ℕ) → row ≡ k → (k ≡ 0 → ⊥) → FollowedBy row n left letters set set (Refused k)
-  unfolding answer_by left_by_lem
-  refused-by zero e d = absurd (d refl)
-  refused-by (suc k) e d = rw e (record { answered = refl; set_left = refl })
+leaves : (k : ℕ) → 0 < k → (new old : List ℕ) → old ≡ left_by_lem k new old
+unfolding left_by_lem
+leaves zero l new old = absurd (omega arith)
+leaves (suc k) l new old = refl
 
-  pub served-by : {set' : List ℕ} {v : FollowCounts} → row ≡ 0 → PartLeft n left letters set set' v → FollowedBy row n left letters set set' (Followed v)
+module _ {refusal : Result ⊤ Refusal} {n : ℕ} {left : List ℕ} {letters : ℕ} {set : List ℕ} where
+  pub refused-by : (r : Refusal) → refusal ≡ Err r → FollowedBy refusal n left letters set set (Err r)
+  unfolding answer_by
+  refused-by r e = rw e (record { answered = refl; set_left = leaves (number_of r) (number-above r) (left ++ drop n set) set })
+
+  pub served-by : {set' : List ℕ} {v : FollowCounts} → refusal ≡ Ok tt → PartLeft n left letters set set' v → FollowedBy refusal n left letters set set' (Ok v)
   unfolding answer_by left_by_lem
-  served-by e P = rw e (record { answered = ap Followed P.counts; set_left = P.set_left })
+  served-by e P = rw e (record { answered = ap Ok P.counts; set_left = P.set_left })
 
 -- ---- for the file
 
 module _ (f letters : List ℕ) (codes transitions : Lent) (room : ℕ) where
-  file-refuses : (k : ℕ) → (k ≡ 0 → ⊥) → k ≡ file_row f → k ≡ follow_row f letters codes transitions room
+  file-refuses : (r : Refusal) → first_refusal (file_rows_lem f) ≡ Err r → first_refusal (follow_rows f letters codes transitions room) ≡ Err r
+  file-refuses r e = refusal-left (file_rows_lem f) _ r e
+
+  file-passes : first_refusal (file_rows_lem f) ≡ Ok tt
+      → first_refusal (follow_rows f letters codes transitions room) ≡ first_refusal (follow_call_rows (rule_in f).s letters codes transitions room)
+  file-passes e = refusal-right (file_rows_lem f) _ e
+
+  file-passed : follow_row f letters codes transitions room ≡ 0
+      → (file_row f ≡ 0) × (first_refusal (follow_call_rows (rule_in f).s letters codes transitions room) ≡ Ok tt)
   unfolding follow_row file_row
-  file-refuses k n e = first-left (file_rows_lem f) _ k n e
+  file-passed e = let p = first-parts (file_rows_lem f) _ (file-numbered f) e in (p.0, refusal-passes _ p.1)
 
-  file-passes : file_row f ≡ 0 → follow_row f letters codes transitions room ≡ follow_call_row (rule_in f).s letters codes transitions room
-  unfolding follow_row follow_call_row file_row
-  file-passes e = first-right (file_rows_lem f) _ (file-numbered f) e
-
-  file-passed : follow_row f letters codes transitions room ≡ 0 → (file_row f ≡ 0) × (follow_call_row (rule_in f).s letters codes transitions room ≡ 0)
-  unfolding follow_row follow_call_row file_row
-  file-passed e = first-parts (file_rows_lem f) _ (file-numbered f) e
+  all-passed : follow_row f letters codes transitions room ≡ 0 → first_refusal (follow_rows f letters codes transitions room) ≡ Ok tt
+  unfolding follow_row
+  all-passed e = refusal-passes _ e
 
 -- the set that a served call left
-left-of : (n : ℕ) (left : List ℕ) (letters : ℕ) (set set' : List ℕ) (v : FollowAnswer) → FollowedBy 0 n left letters set set' v → set' ≡ left ++ drop n set
+left-of : (n : ℕ) (left : List ℕ) (letters : ℕ) (set set' : List ℕ) (v : Result FollowCounts Refusal) → FollowedBy (Ok tt) n left letters set set' v → set' ≡ left ++ drop n set
 unfolding left_by_lem
 left-of n left letters set set' v F = F.set_left
+
+-- no row refuses a file that was read
+reads : {f : List ℕ} {l : Layout} → read.Served f l → first_refusal (file_rows_lem f) ≡ Ok tt
+reads {f = f} S = refusal-passes (file_rows_lem f) (unfold file_row in S.row)
 
 module _ (f codes transitions set : List ℕ) where
   abbrev n : ℕ
   n = length (words_in codes)
 
   -- a start
-  pub started-whole : (set' : List ℕ) (v : FollowAnswer) → FollowedBy (follow_row f [] (in_bytes_lem codes) (in_bytes_lem transitions) (length set))
+  pub started-whole : (set' : List ℕ) (v : Result FollowCounts Refusal) → FollowedBy (first_refusal (follow_rows f [] (in_bytes_lem codes) (in_bytes_lem transitions) (length set)))
       n (initial_set (rule_in f).initial (words_in codes)) 0 set set' v
       → FollowStarted f (in_bytes_lem codes) (in_bytes_lem transitions) set set' v
   unfolding in_bytes_lem
@@ -139,26 +151,26 @@ module _ (f codes transitions set : List ℕ) where
     begins = λ e.
         let (i, j) = file-passed f [] (in_bytes_lem codes) (in_bytes_lem transitions) (length set) e in
         leaves-start (rule_in f) (accepted-passing f i) (words_in codes) (words_in transitions) (inside (rule_in f).s [] codes transitions (length set) j) set set'
-        (left-of n (initial_set (rule_in f).initial (words_in codes)) 0 set set' v (subst (λ (k : ℕ). FollowedBy k n (initial_set (rule_in f).initial (words_in codes)) 0 set set' v) e F));
+        (left-of n (initial_set (rule_in f).initial (words_in codes)) 0 set set' v (subst (λ (k : Result ⊤ Refusal). FollowedBy k n (initial_set (rule_in f).initial (words_in codes)) 0 set set' v) (all-passed f [] (in_bytes_lem codes) (in_bytes_lem transitions) (length set) e) F));
   }
 
-  pub start-refused : (k : ℕ) → (k ≡ 0 → ⊥) → k ≡ file_row f → FollowStarted f (in_bytes_lem codes) (in_bytes_lem transitions) set set (Refused k)
-  start-refused k d e = started-whole set (Refused k) (refused-by k (sym (file-refuses f [] (in_bytes_lem codes) (in_bytes_lem transitions) (length set) k d e)) d)
+  pub start-refused : (r : Refusal) → first_refusal (file_rows_lem f) ≡ Err r → FollowStarted f (in_bytes_lem codes) (in_bytes_lem transitions) set set (Err r)
+  start-refused r e = started-whole set (Err r) (refused-by r (file-refuses f [] (in_bytes_lem codes) (in_bytes_lem transitions) (length set) r e))
 
-  pub start-served : (l : Layout) (set' : List ℕ) (v : FollowAnswer) → read.Served f l
-      → FollowedBy (follow_call_row l.head.s [] (in_bytes_lem codes) (in_bytes_lem transitions) (length set)) n (initial_set l.head.initial (words_in codes)) 0 set set' v
+  pub start-served : (l : Layout) (set' : List ℕ) (v : Result FollowCounts Refusal) → read.Served f l
+      → FollowedBy (first_refusal (follow_call_rows l.head.s [] (in_bytes_lem codes) (in_bytes_lem transitions) (length set))) n (initial_set l.head.initial (words_in codes)) 0 set set' v
       → FollowStarted f (in_bytes_lem codes) (in_bytes_lem transitions) set set' v
   start-served l set' v S F =
-      let G = subst (λ (r : Rule). FollowedBy (follow_call_row r.s [] (in_bytes_lem codes) (in_bytes_lem transitions) (length set)) n (initial_set r.initial (words_in codes)) 0 set set' v) S.rule F in
+      let G = subst (λ (r : Rule). FollowedBy (first_refusal (follow_call_rows r.s [] (in_bytes_lem codes) (in_bytes_lem transitions) (length set))) n (initial_set r.initial (words_in codes)) 0 set set' v) S.rule F in
       started-whole set' v
-      (subst (λ (j : ℕ). FollowedBy j n (initial_set (rule_in f).initial (words_in codes)) 0 set set' v) (sym (file-passes f [] (in_bytes_lem codes) (in_bytes_lem transitions) (length set) S.row)) G)
+      (subst (λ (j : Result ⊤ Refusal). FollowedBy j n (initial_set (rule_in f).initial (words_in codes)) 0 set set' v) (sym (file-passes f [] (in_bytes_lem codes) (in_bytes_lem transitions) (length set) (reads S))) G)
 
   -- a call
   module _ (letters : List ℕ) where
-    abbrev Called : ℕ → List ℕ → FollowAnswer → Type 0
-    Called row set' v = FollowedBy row n (reached n (words_in transitions) letters set) (emptied_after n (words_in transitions) letters (flags n set)) set set' v
+    abbrev Called : Result ⊤ Refusal → List ℕ → Result FollowCounts Refusal → Type 0
+    Called refusal set' v = FollowedBy refusal n (reached n (words_in transitions) letters set) (emptied_after n (words_in transitions) letters (flags n set)) set set' v
 
-    pub called-whole : (set' : List ℕ) (v : FollowAnswer) → Called (follow_row f letters (in_bytes_lem codes) (in_bytes_lem transitions) (length set)) set' v
+    pub called-whole : (set' : List ℕ) (v : Result FollowCounts Refusal) → Called (first_refusal (follow_rows f letters (in_bytes_lem codes) (in_bytes_lem transitions) (length set))) set' v
         → FollowCalled f letters (in_bytes_lem codes) (in_bytes_lem transitions) set set' v
     unfolding in_bytes_lem
     called-whole set' v F = record {
@@ -166,17 +178,17 @@ module _ (f codes transitions set : List ℕ) where
       goes_on = λ e earlier g.
           let (i, j) = file-passed f letters (in_bytes_lem codes) (in_bytes_lem transitions) (length set) e in
           leaves-on (rule_in f) (accepted-passing f i) (words_in codes) (words_in transitions) (inside (rule_in f).s letters codes transitions (length set) j) earlier letters set set' g
-          (left-of n (reached n (words_in transitions) letters set) (emptied_after n (words_in transitions) letters (flags n set)) set set' v (subst (λ (k : ℕ). Called k set' v) e F));
+          (left-of n (reached n (words_in transitions) letters set) (emptied_after n (words_in transitions) letters (flags n set)) set set' v (subst (λ (k : Result ⊤ Refusal). Called k set' v) (all-passed f letters (in_bytes_lem codes) (in_bytes_lem transitions) (length set) e) F));
     }
 
-    pub call-refused : (k : ℕ) → (k ≡ 0 → ⊥) → k ≡ file_row f → FollowCalled f letters (in_bytes_lem codes) (in_bytes_lem transitions) set set (Refused k)
-    call-refused k d e = called-whole set (Refused k) (refused-by k (sym (file-refuses f letters (in_bytes_lem codes) (in_bytes_lem transitions) (length set) k d e)) d)
+    pub call-refused : (r : Refusal) → first_refusal (file_rows_lem f) ≡ Err r → FollowCalled f letters (in_bytes_lem codes) (in_bytes_lem transitions) set set (Err r)
+    call-refused r e = called-whole set (Err r) (refused-by r (file-refuses f letters (in_bytes_lem codes) (in_bytes_lem transitions) (length set) r e))
 
-    pub call-served : (l : Layout) (set' : List ℕ) (v : FollowAnswer) → read.Served f l → Called (follow_call_row l.head.s letters (in_bytes_lem codes) (in_bytes_lem transitions) (length set)) set' v
+    pub call-served : (l : Layout) (set' : List ℕ) (v : Result FollowCounts Refusal) → read.Served f l → Called (first_refusal (follow_call_rows l.head.s letters (in_bytes_lem codes) (in_bytes_lem transitions) (length set))) set' v
         → FollowCalled f letters (in_bytes_lem codes) (in_bytes_lem transitions) set set' v
     call-served l set' v S F =
-        let G = subst (λ (r : Rule). Called (follow_call_row r.s letters (in_bytes_lem codes) (in_bytes_lem transitions) (length set)) set' v) S.rule F in
-        called-whole set' v (subst (λ (j : ℕ). Called j set' v) (sym (file-passes f letters (in_bytes_lem codes) (in_bytes_lem transitions) (length set) S.row)) G)
+        let G = subst (λ (r : Rule). Called (first_refusal (follow_call_rows r.s letters (in_bytes_lem codes) (in_bytes_lem transitions) (length set))) set' v) S.rule F in
+        called-whole set' v (subst (λ (j : Result ⊤ Refusal). Called j set' v) (sym (file-passes f letters (in_bytes_lem codes) (in_bytes_lem transitions) (length set) (reads S))) G)
 
 -- the initial state of an accepted file's rule is below 8
 pub head-low : (f : List ℕ) (l : Layout) → read.Served f l → l.head.initial < 8

@@ -5,60 +5,64 @@
 
 ghost use Rattle.std.specs.Prelude.{◌≡◌, [], ◌++◌, ◌≤◌, ◌<◌, length, drop};
 ghost use Rattle.sets.specs.Lists.{Ascending};
-ghost use Rattle.refusals.specs.Rows.{first_row};
+ghost use Rattle.refusals.specs.Rows.{first_refusal};
 ghost use Rattle.trim_spec.specs.Graph.{Inside};
 ghost use Rattle.table_lent.specs.Lent.{words_in, in_bytes_lem};
 ghost use Rattle.live_spec.specs.Afresh.{initial_set, members_of};
 ghost use Rattle.follow_spec.specs.Set.{flags, reached, emptied_after};
-ghost use Rattle.follow_spec.specs.Rows.{letter_rows, set_rows, follow_call_row};
+ghost use Rattle.follow_spec.specs.Rows.{letter_rows, set_rows, follow_call_rows};
 ghost use Rattle.follow_spec.specs.Followed.{FollowedBy, FollowStarted, FollowCalled};
 ghost use Rattle.follow_call.specs.Parts.{PartLeft};
 
 use file_read::read_rule;
-use file_spec::Read;
 use follow_set::{flag_all, take_over};
-use follow_spec::{FollowAnswer, FollowCounts};
+use follow_spec::FollowCounts;
 use live_set::begin_set;
+use refusals::Refusal;
 use rule_entries::Head;
 use slice_search::any_from;
 use table_rows::rows::table_row;
 
 // ---- rows
 
-// Row 14 if a letter is none of s letters, or 0.
-fn letter_row(s: usize, letters: &[u8]) -> u8
-    ensures { result ≡ first_row (letter_rows s letters.now) }
+// Row 14, if a letter is none of s letters.
+#[tactic(auto, unfolding(refusals::specs::Rows::first_refusal, follow_spec::specs::Rows::letter_rows))]
+fn letter_row(s: usize, letters: &[u8]) -> Result<(), Refusal>
+    ensures { result ≡ first_refusal (letter_rows s letters.now) }
 {
     if any_from(letters, s) {
-        return refusals::LETTER;
+        return Err(Refusal::Letter);
     }
-    0
+    Ok(())
 }
 
-// Row 16 if the slice of the set is too short for n macrostates, or 0.
-fn set_row(n: usize, room: usize) -> u8
-    ensures { result ≡ first_row (set_rows n room) }
+// Row 16, if the slice of the set is too short for n macrostates.
+#[tactic(auto, unfolding(refusals::specs::Rows::first_refusal, follow_spec::specs::Rows::set_rows))]
+fn set_row(n: usize, room: usize) -> Result<(), Refusal>
+    ensures { result ≡ first_refusal (set_rows n room) }
 {
     if room < n {
-        return refusals::SLICE;
+        return Err(Refusal::Slice);
     }
-    0
+    Ok(())
 }
 
-// The first row that refuses the call, for a rule of s letters and a table in bytes, or 0.
-fn call_row(s: usize, letters: &[u8], codes: &[u8], transitions: &[u8], room: usize) -> u8
-    ensures { result ≡ follow_call_row s letters.now (in_bytes_lem codes.now) (in_bytes_lem transitions.now) room }
+// What refuses the call first, for a rule of s letters and a table in bytes.
+#[tactic(auto, using(refusals::proofs::Rows::refusal_and, table_lent::proofs::Reading::both_bytes), unfolding(refusals::specs::Rows::first_refusal, follow_spec::specs::Rows::follow_call_rows))]
+fn call_row(
+    s: usize,
+    letters: &[u8],
+    codes: &[u8],
+    transitions: &[u8],
+    room: usize,
+) -> Result<(), Refusal>
+    ensures { result
+        ≡ first_refusal (follow_call_rows s letters.now (in_bytes_lem codes.now) (in_bytes_lem transitions.now) room) }
 {
-    let letter = letter_row(s, letters);
-    if letter != 0 {
-        return letter;
-    }
+    letter_row(s, letters)?;
     let words = [0u64; 1];
     let none = &words[..0];
-    let table = table_row(s, none, codes, none, transitions);
-    if table != 0 {
-        return table;
-    }
+    table_row(s, none, codes, none, transitions)?;
     set_row(codes.len() / 8, room)
 }
 
@@ -97,18 +101,20 @@ fn go_on(letters: &[u8], n: usize, transitions: &[u8], set: &mut [u8]) -> Follow
 
 // ---- for a rule that was read
 
-fn start_read(h: Head, codes: &[u8], transitions: &[u8], set: &mut [u8]) -> FollowAnswer
+fn start_read(
+    h: Head,
+    codes: &[u8],
+    transitions: &[u8],
+    set: &mut [u8],
+) -> Result<FollowCounts, Refusal>
     requires { h.initial < 8 }
     ensures { FollowedBy
-        (follow_call_row h.s [] (in_bytes_lem codes.now) (in_bytes_lem transitions.now) (length set.old))
+        (first_refusal (follow_call_rows h.s [] (in_bytes_lem codes.now) (in_bytes_lem transitions.now) (length set.old)))
         (length (words_in codes.now)) (initial_set h.initial (words_in codes.now)) 0
         set.old set.new result }
 {
-    let row = call_row(h.s, &codes[..0], codes, transitions, set.len());
-    if row != 0 {
-        return FollowAnswer::Refused(row);
-    }
-    FollowAnswer::Followed(begin(h.initial as u32, codes, set))
+    call_row(h.s, &codes[..0], codes, transitions, set.len())?;
+    Ok(begin(h.initial as u32, codes, set))
 }
 
 fn follow_read(
@@ -117,37 +123,34 @@ fn follow_read(
     codes: &[u8],
     transitions: &[u8],
     set: &mut [u8],
-) -> FollowAnswer
+) -> Result<FollowCounts, Refusal>
     ensures { FollowedBy
-        (follow_call_row h.s letters.now (in_bytes_lem codes.now) (in_bytes_lem transitions.now)
-        (length set.old))
+        (first_refusal (follow_call_rows h.s letters.now (in_bytes_lem codes.now) (in_bytes_lem transitions.now)
+        (length set.old)))
         (length (words_in codes.now))
         (reached (length (words_in codes.now)) (words_in transitions.now) letters.now set.old)
         (emptied_after (length (words_in codes.now)) (words_in transitions.now) letters.now
         (flags (length (words_in codes.now)) set.old))
         set.old set.new result }
 {
-    let row = call_row(h.s, letters, codes, transitions, set.len());
-    if row != 0 {
-        return FollowAnswer::Refused(row);
-    }
-    FollowAnswer::Followed(go_on(letters, codes.len() / 8, transitions, set))
+    call_row(h.s, letters, codes, transitions, set.len())?;
+    Ok(go_on(letters, codes.len() / 8, transitions, set))
 }
 
 // ---- the calls
 
 // Begins: writes the initial macrostates of a table in bytes, each code and transition as 8 bytes, low byte first.
-pub fn follow_start(file: &[u8], codes: &[u8], transitions: &[u8], set: &mut [u8]) -> FollowAnswer
+pub fn follow_start(
+    file: &[u8],
+    codes: &[u8],
+    transitions: &[u8],
+    set: &mut [u8],
+) -> Result<FollowCounts, Refusal>
     ensures { FollowStarted file.now (in_bytes_lem codes.now) (in_bytes_lem transitions.now)
         set.old set.new result }
 {
-    match read_rule(file) {
-        Read::Accepted(l) => {
-            let h = l.head;
-            start_read(h, codes, transitions, set)
-        }
-        Read::Refused(row) => FollowAnswer::Refused(row),
-    }
+    let l = read_rule(file)?;
+    start_read(l.head, codes, transitions, set)
 }
 
 // Takes the set that a start or a call left over some letters more.
@@ -157,15 +160,10 @@ pub fn follow(
     codes: &[u8],
     transitions: &[u8],
     set: &mut [u8],
-) -> FollowAnswer
+) -> Result<FollowCounts, Refusal>
     ensures { FollowCalled file.now letters.now (in_bytes_lem codes.now)
         (in_bytes_lem transitions.now) set.old set.new result }
 {
-    match read_rule(file) {
-        Read::Accepted(l) => {
-            let h = l.head;
-            follow_read(h, letters, codes, transitions, set)
-        }
-        Read::Refused(row) => FollowAnswer::Refused(row),
-    }
+    let l = read_rule(file)?;
+    follow_read(l.head, letters, codes, transitions, set)
 }

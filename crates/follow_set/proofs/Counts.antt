@@ -1,7 +1,6 @@
 -- A pass over the bytes that are not 0: each goes through f, which leaves 0 as it is, and what is not 0 then is counted.
 use mathlib.Core.Path.{◌≡◌, refl, sym, ap, ◌∙◌}
 use mathlib.Core.Logic.{by_cases}
-use mathlib.Core.Bool.{Bool}
 use mathlib.Core.List.{List, map}
 use Prim.Native.Nat.{ℕ, zero, suc, ◌+◌, ◌≤◌, ◌<◌}
 use native.Mathlib.Decide.{dec_lt}
@@ -9,7 +8,7 @@ use native.Mathlib.Numerals.{add-one}
 use native.Mathlib.Omega.{arith}
 use lib.Dec.{ltb}
 use lib.ListN.{length, get_or, set}
-use Rattle.sets.specs.Tests.{Set, one, count}
+use Rattle.sets.specs.Tests.{one, count}
 use Rattle.sets.proofs.Tests.{count-ext, count-trim}
 use Rattle.slice_search.specs.Zeros.{Zeros}
 use Rattle.live_spec.specs.Afresh.{is_in, members_of}

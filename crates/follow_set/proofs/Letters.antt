@@ -5,24 +5,22 @@ use mathlib.Core.Bool.{false}
 use mathlib.Core.List.{List, [], ◌∷◌, map}
 use Prim.Native.Nat.{ℕ, zero, suc, ◌+◌, ◌/◌, ◌≤◌, ◌<◌}
 use native.Mathlib.Decide.{dec_lt}
-use native.Mathlib.Nat.{add-zero}
 use native.Mathlib.Omega.{arith}
-use lib.Dec.{eqb, ltb}
+use lib.Dec.{eqb}
 use lib.ListN.{length, get_or, drop, length-map, get_or-map, get_or-eq_default}
 use lib.Seq.{ext_get_or}
 use borrow.Author.Tests.{eq-eqb, ne_eqb, le-ltb, ltb-false}
 use Rattle.sets.specs.Lists.{any_of, tabulate}
-use Rattle.sets.specs.Tests.{one, count}
+use Rattle.sets.specs.Tests.{one}
 use Rattle.sets.proofs.Bools.{bif}
 use Rattle.sets.proofs.Lists.{none_any, length-tabulate}
-use Rattle.sets.proofs.Tests.{count-lt, count-le}
+use Rattle.sets.proofs.Tests.{count-lt}
 use Rattle.sets.proofs.Walks.{drop-next}
-use Rattle.theory.specs.Run.{source_of, letter_of_lem, target_of}
+use Rattle.theory.specs.Run.{source_of, letter_of_lem}
 use Rattle.live_spec.specs.Afresh.{is_in, enters, stepped, stepped_over, members_of}
 use Rattle.live_spec.proofs.Steps.{one-low, table_at, stepped-length}
 use Rattle.live_set.specs.Sweeps.{flag_of_lem, Swept}
 use Rattle.live_set.proofs.Sets.{arrived}
-use Rattle.follow_spec.specs.declared.FollowCounts.{FollowCounts}
 use Rattle.follow_spec.specs.Set.{emptied_after}
 use Rattle.follow_set.specs.Sweeping.{Taken}
 
@@ -37,12 +35,6 @@ module _ (a : ℕ) (ts before after : List ℕ) (low : (y : ℕ) → get_or befo
   same_flags : map flag_of_lem before ≡ before
   same_flags =
       ext_get_or 0 (map flag_of_lem before) before (length-map before flag_of_lem) (λ i l. get_or-map flag_of_lem before i 0 ∙ flag_one (get_or before i 0) (low i))
-
-  pub swept-low : (y : ℕ) → get_or after y 0 ≤ 3
-  swept-low y =
-      by_cases (dec_lt y (length before))
-      (λ l. omega (arith, s.at y l, low y, one-low (any_of ts (enters before a y))))
-      (λ n. omega (arith, get_or-eq_default after 0 {n = y} (omega (arith, s.long))))
 
   pub swept-halved : map (λ v. v / 2) after ≡ stepped (length before) ts a before
   swept-halved = arrived a ts before after (subst (λ (x : List ℕ). Swept a ts x after) (sym same_flags) s)

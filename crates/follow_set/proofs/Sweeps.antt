@@ -1,11 +1,10 @@
 -- The walk over the set for one letter, a macrostate a turn.
-use mathlib.Core.Path.{◌≡◌, refl, sym, ap, subst, ◌∙◌}
+use mathlib.Core.Path.{◌≡◌, sym, ap, subst, ◌∙◌}
 use mathlib.Core.Logic.{⊎_elim, by_cases}
 use mathlib.Core.List.{List}
 use Prim.Native.Nat.{ℕ, zero, suc, ◌+◌, ◌*◌, ◌-◌, ◌/◌, ◌%◌, ◌≤◌, ◌<◌}
 use native.Mathlib.Decide.{dec_lt, ℕ_discrete}
 use native.Mathlib.Nat.{add-zero, eq-or-lt_of_le}
-use native.Mathlib.Numerals.{add-one}
 use native.Mathlib.Omega.{arith}
 use lib.ListN.{length, get_or, set, take}
 use Rattle.sets.specs.Lists.{Ascending}
@@ -15,7 +14,7 @@ use Rattle.sets.proofs.Lists.{mem-at}
 use Rattle.sets.proofs.Ascending.{asc-at}
 use Rattle.theory.specs.Run.{source_of, letter_of_lem, target_of}
 use Rattle.codes.specs.Codes.{transition_of}
-use Rattle.slice_search.specs.Zeros.{Zeros, NextSet}
+use Rattle.slice_search.specs.Zeros.{Zeros}
 use Rattle.trim_spec.specs.Graph.{Inside}
 use Rattle.live_spec.specs.Afresh.{enters}
 use Rattle.live_set.specs.Sweeps.{moved, Swept}

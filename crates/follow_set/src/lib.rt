@@ -24,6 +24,7 @@ fn place_from(bytes: &[u8], from: usize, x: u64) -> usize
 {
     let mut low = from;
     let mut high = bytes.len() / 8;
+    // A while: a binary search.
     while low < high {
         let middle = low + (high - low) / 2;
         if word_at(bytes, middle * 8) < x {
@@ -50,17 +51,15 @@ fn move_from(x: usize, letter: usize, from: usize, transitions: &[u8], set: &mut
     }
     let key = pack_transition(x, letter, 0);
     let m = transitions.len() / 8;
-    let mut i = place_from(transitions, from, key);
-    while i < m {
+    for i in place_from(transitions, from, key)..m {
         let t = word_at(transitions, i * 8);
         if t >> LETTER_SHIFT != key >> LETTER_SHIFT {
             return i;
         }
         let y = target_of(t);
         set[y] = 2 + set[y] % 2;
-        i += 1;
     }
-    i
+    m
 }
 
 // Sets bit 1 of the target of every transition over the letter from a source in the set.
@@ -72,6 +71,7 @@ fn sweep(letter: usize, transitions: &[u8], set: &mut [u8])
     let n = set.len();
     let mut from = 0;
     let mut x = next_set(set, 0, n);
+    // A while: the place jumps to the next byte that is not 0.
     while x < n {
         from = move_from(x, letter, from, transitions, set);
         x = next_set(set, x + 1, n);
@@ -87,6 +87,7 @@ fn halve_all(set: &mut [u8]) -> usize
     let n = set.len();
     let mut members: usize = 0;
     let mut x = next_set(set, 0, n);
+    // A while: the place jumps to the next byte that is not 0.
     while x < n {
         let v = set[x] / 2;
         set[x] = v;
@@ -117,6 +118,7 @@ pub fn flag_all(set: &mut [u8]) -> usize
     let n = set.len();
     let mut members: usize = 0;
     let mut x = next_set(set, 0, n);
+    // A while: the place jumps to the next byte that is not 0.
     while x < n {
         set[x] = 1;
         members += 1;
@@ -132,8 +134,7 @@ fn step_over(letters: &[u8], transitions: &[u8], members: usize, set: &mut [u8])
     ensures { Taken (words_in transitions.now) letters.now set.old set.new result }
 {
     let mut left = members;
-    let mut i = 0;
-    while i < letters.len() {
+    for i in 0..letters.len() {
         if left == 0 {
             return FollowCounts {
                 left: 0,
@@ -141,9 +142,11 @@ fn step_over(letters: &[u8], transitions: &[u8], members: usize, set: &mut [u8])
             };
         }
         left = step(letters[i] as usize, transitions, set);
-        i += 1;
     }
-    FollowCounts { left, letters: i }
+    FollowCounts {
+        left,
+        letters: letters.len(),
+    }
 }
 
 // The set of any bytes after all letters.

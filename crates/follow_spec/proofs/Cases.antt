@@ -6,6 +6,8 @@ use lib.ListN.{drop}
 use Rattle.sets.specs.Lists.{any_of, tabulate}
 use Rattle.sets.specs.Masks.{bit}
 use Rattle.sets.specs.Tests.{count}
+use Rattle.std.specs.Prelude.{Ok, Err}
+use Rattle.refusals.specs.declared.Refusal.TheVariants.{Slice}
 use Rattle.refusals.specs.Rows.{first_row}
 use Rattle.theory.specs.Code.{component_in, classes_in}
 use Rattle.theory.specs.Macrostate as macrostate
@@ -13,7 +15,6 @@ use Rattle.slice_search.specs.Places.{ascends}
 use Rattle.table_lent.specs.Lent.{in_words, is_faulty_lem, table_rows_lem}
 use Rattle.live_spec.specs.Afresh.{enters, stepped, stepped_over, initial_set, afresh, members_of}
 use Rattle.live_spec.specs.Called.{left_by_lem}
-use Rattle.follow_spec.specs.declared.FollowAnswer.TheVariants.{Followed, Refused}
 use Rattle.follow_spec.specs.Set.{flags, reached, emptied_after}
 use Rattle.follow_spec.specs.Rows.{letter_rows, set_rows, follow_call_rows, follow_call_row}
 use Rattle.follow_spec.specs.Followed.{answer_by}
@@ -68,7 +69,7 @@ emptied-not = (refl, refl)
 
 -- ---- the answer, and what is left of the slice
 
-pub answers : (answer_by 0 3 (1 ∷ 0 ∷ 1 ∷ []) 5 ≡ Followed (record { left = 2; letters = 5 })) × (answer_by 16 3 (1 ∷ 0 ∷ 1 ∷ []) 5 ≡ Refused 16)
+pub answers : (answer_by (Ok tt) 3 (1 ∷ 0 ∷ 1 ∷ []) 5 ≡ Ok (record { left = 2; letters = 5 })) × (answer_by (Err Slice) 3 (1 ∷ 0 ∷ 1 ∷ []) 5 ≡ Err Slice)
 unfolding computed answer_by
 answers = (refl, refl)
 

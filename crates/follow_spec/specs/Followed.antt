@@ -1,5 +1,8 @@
 -- What a start and a call answer and leave, of any bytes, and what that is for the letters since a start.
-use Rattle.std.specs.Prelude.{◌≡◌, ◌↔◌, true, List, [], ◌++◌, ℕ, zero, suc, ◌<◌, length, take, drop}
+use Rattle.std.specs.Prelude.{◌≡◌, ◌↔◌, true, List, [], ◌++◌, ℕ, ◌<◌, length, take, drop, Result, Ok, ⊤}
+use Rattle.std.specs.Result.{result_and}
+use Rattle.refusals.specs.declared.Refusal.{Refusal}
+use Rattle.refusals.specs.Rows.{first_refusal, row_of}
 use Rattle.theory.specs.Rule.{Rule}
 use Rattle.theory.specs.Sequence.{AcceptsSequence}
 use Rattle.file_spec.specs.File.{rule_in}
@@ -7,20 +10,18 @@ use Rattle.table_lent.specs.Lent.{Lent}
 use Rattle.live_spec.specs.Reached.{ReachedOver, Continues, Accepted}
 use Rattle.live_spec.specs.Afresh.{is_in, initial_set, afresh, members_of}
 use Rattle.live_spec.specs.Called.{left_by_lem, TrimmedTable}
-use Rattle.follow_spec.specs.declared.FollowAnswer.{FollowAnswer}
-use Rattle.follow_spec.specs.declared.FollowAnswer.TheVariants.{Followed, Refused}
+use Rattle.follow_spec.specs.declared.FollowCounts.{FollowCounts}
 use Rattle.follow_spec.specs.Set.{flags, reached, emptied_after}
-use Rattle.follow_spec.specs.Rows.{follow_row}
+use Rattle.follow_spec.specs.Rows.{follow_rows, follow_row}
 
--- by the row, or 0: how many of n macrostates are left, and the number of letters, or the number of the row alone
-unfoldable pub answer_by : ℕ → ℕ → List ℕ → ℕ → FollowAnswer
-answer_by zero n left letters = Followed (record { left = members_of n left; letters = letters })
-answer_by (suc k) n left letters = Refused (suc k)
+-- by what refuses: how many of n macrostates are left, and the number of letters, or the refusal alone
+unfoldable pub answer_by : Result ⊤ Refusal → ℕ → List ℕ → ℕ → Result FollowCounts Refusal
+answer_by refusal n left letters = result_and refusal (Ok (record { left = members_of n left; letters = letters }))
 
--- by the row, or 0: the answer v, and the slice before and after: the set that is left, of n macrostates, and "bytes of set past the macrostates stay as lent"
-pub record FollowedBy (row n : ℕ) (left : List ℕ) (letters : ℕ) (set set' : List ℕ) (v : FollowAnswer) : Type 0 where
-  pub answered : v ≡ answer_by row n left letters
-  pub set_left : set' ≡ left_by_lem row (left ++ drop n set) set
+-- by what refuses: the answer v, and the slice before and after: the set that is left, of n macrostates, and "bytes of set past the macrostates stay as lent"
+pub record FollowedBy (refusal : Result ⊤ Refusal) (n : ℕ) (left : List ℕ) (letters : ℕ) (set set' : List ℕ) (v : Result FollowCounts Refusal) : Type 0 where
+  pub answered : v ≡ answer_by refusal n left letters
+  pub set_left : set' ≡ left_by_lem (row_of refusal) (left ++ drop n set) set
 
 -- what is left over all letters since a start, in front of the rest as lent: "the set worked out afresh"
 pub record FollowLeaves (r : Rule) (codes transitions letters set set' : List ℕ) : Type 0 where
@@ -35,14 +36,14 @@ pub record FollowLeaves (r : Rule) (codes transitions letters set set' : List �
       → (w : ℕ → ℕ) → Continues r.s letters w → AcceptsSequence r w → ⊥
 
 -- a start, of a file and a lent table: "fills the set of the initial macrostates, a byte 0 or 1 each; first is their number"
-pub record FollowStarted (f : List ℕ) (codes transitions : Lent) (set set' : List ℕ) (v : FollowAnswer) : Type 0 where
-  pub called : FollowedBy (follow_row f [] codes transitions (length set)) (length codes.numbers) (initial_set (rule_in f).initial codes.numbers) 0 set set' v
+pub record FollowStarted (f : List ℕ) (codes transitions : Lent) (set set' : List ℕ) (v : Result FollowCounts Refusal) : Type 0 where
+  pub called : FollowedBy (first_refusal (follow_rows f [] codes transitions (length set))) (length codes.numbers) (initial_set (rule_in f).initial codes.numbers) 0 set set' v
   pub begins : follow_row f [] codes transitions (length set) ≡ 0 → FollowLeaves (rule_in f) codes.numbers transitions.numbers [] set set'
 
 -- a call with some letters
-pub record FollowCalled (f letters : List ℕ) (codes transitions : Lent) (set set' : List ℕ) (v : FollowAnswer) : Type 0 where
+pub record FollowCalled (f letters : List ℕ) (codes transitions : Lent) (set set' : List ℕ) (v : Result FollowCounts Refusal) : Type 0 where
   -- "for every table that passes 15 and every set, what is left is the set stepped over the letters"
-  pub called : FollowedBy (follow_row f letters codes transitions (length set)) (length codes.numbers) (reached (length codes.numbers) transitions.numbers letters set)
+  pub called : FollowedBy (first_refusal (follow_rows f letters codes transitions (length set))) (length codes.numbers) (reached (length codes.numbers) transitions.numbers letters set)
       (emptied_after (length codes.numbers) transitions.numbers letters (flags (length codes.numbers) set)) set set' v
   -- "where .. the set was left by a start and earlier calls, of any number and any lengths": with the letters of all of them it is the set that these lead to
   pub goes_on : follow_row f letters codes transitions (length set) ≡ 0 → (earlier : List ℕ)

@@ -9,10 +9,3 @@ pub struct FollowCounts {
     pub left: usize,
     pub letters: usize,
 }
-
-// The answer of a start and of a call.
-#[derive(Clone, Copy)]
-pub enum FollowAnswer {
-    Followed(FollowCounts),
-    Refused(u8),
-}

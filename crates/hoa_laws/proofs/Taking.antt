@@ -1,14 +1,13 @@
 -- Texts read one after the other.
 use mathlib.Core.Path.{◌≡◌, refl, sym, ◌∙◌, ap}
-use mathlib.Core.List.{List, [], ◌∷◌, ◌++◌, append_assoc, append_cancel_left, nil≢cons}
+use mathlib.Core.List.{List, [], ◌∷◌, ◌++◌, append_cancel_left, nil≢cons}
 use mathlib.Core.Logic.{by_cases, ◌⊎◌, ⊎_elim}
-use Prim.Native.Nat.{ℕ, suc, ◌+◌, ◌-◌, ◌*◌, ◌≤◌, ◌<◌}
+use Prim.Native.Nat.{ℕ, ◌+◌, ◌-◌, ◌*◌, ◌≤◌, ◌<◌}
 use native.Mathlib.Omega.{arith}
 use native.Mathlib.Numerals.{add-one}
-use native.Mathlib.Nat.{add-zero}
 use native.Mathlib.Decide.{dec_lt, ℕ_discrete}
-use lib.ListN.{length, get_or, take, drop, length-append, length-drop, drop_of_length-le, get_or-append}
-use lib.Seq.{drop-cons, take-suc, take-length, get_or-drop}
+use lib.ListN.{length, get_or, drop, length-append, length-drop, drop_of_length-le}
+use lib.Seq.{drop-cons}
 use Rattle.slice_text.specs.Decimal.{digit, decimal, word}
 use Rattle.slice_text.proofs.Decimal.{one-digit}
 use Rattle.hoa_laws.specs.Took.{Ended, Took, TookOne, Stops, TookWord, TookDigits}
@@ -62,26 +61,6 @@ module _ (text : List ℕ) (p : ℕ) where
 
     pub byte-taken : p < length text → get_or text p 0 ≡ x → Took text p (x ∷ []) (p + 1)
     byte-taken h e = took-some (omega arith) (omega arith) (byte-here h ∙ ap (λ (y : ℕ). y ∷ drop (p + 1) text) e)
-
-module _ (text : List ℕ) (p : ℕ) (s : List ℕ) where
-  pub take_short : length text - p < length s → Took text p s 0
-  take_short h = took-none refl (λ rest e. omega (arith, ap length e, length-drop p text, length-append s rest))
-
-  pub take-other : (i : ℕ) → i < length s → (get_or text (p + i) 0 ≡ get_or s i 0 → ⊥) → Took text p s 0
-  take-other i h n = took-none refl (λ rest e. n (sym (get_or-drop p text i 0) ∙ ap (λ (l : List ℕ). get_or l i 0) e ∙ get_or-append s rest 0 i h))
-
-  pub take_none : drop p text ≡ take 0 s ++ drop (p + 0) text
-  take_none = rw (add-zero p)
-
-  pub take_next : (i : ℕ) → i < length s → p + i < length text → get_or text (p + i) 0 ≡ get_or s i 0
-      → drop p text ≡ take i s ++ drop (p + i) text → drop p text ≡ take (i + 1) s ++ drop (p + (i + 1)) text
-  take_next i h l g e =
-      let k : p + (i + 1) ≡ suc (p + i) = omega arith in
-      e ∙ rw (drop-cons text (p + i) 0 l, g, k, add-one i, take-suc s i 0 h, append_assoc)
-
-  pub take_done : (i : ℕ) → i ≡ length s → 0 < length s → p + length s ≤ length text → drop p text ≡ take i s ++ drop (p + i) text → Took text p s (p + length s)
-  take_done i h l g e =
-      took-some (omega arith) g (e ∙ ap (λ (j : ℕ). take j s ++ drop (p + j) text) h ∙ ap (λ (d : List ℕ). d ++ drop (p + length s) text) (take-length s))
 
 -- ---- numbers
 

@@ -10,8 +10,9 @@ use Rattle.table_rows.specs.Passed.{Passed}
 use Rattle.hoa_spec.specs.Lines.{propositions}
 use Rattle.hoa_spec.specs.Text.{flags_of, text_of}
 use Rattle.hoa_laws.proofs.Flags.{flags-length}
-use Rattle.hoa_spec.specs.declared.HoaRead.{HoaRead}
-use Rattle.hoa_spec.specs.declared.HoaRead.TheVariants.{Table}
+use Rattle.std.specs.Prelude.{Result, Ok}
+use Rattle.refusals.specs.declared.Refusal.{Refusal}
+use Rattle.hoa_spec.specs.declared.TableSizes.{TableSizes}
 use Rattle.hoa_spec.specs.Reading.{Carries, ReadBack, no_table, short, table}
 use Rattle.hoa_laws.proofs.Carried.{shaped, carried}
 use Rattle.hoa_laws.proofs.Once.{text-once}
@@ -49,9 +50,9 @@ module _ (s initial : ℕ) (codes ts : List ℕ) (some : 1 ≤ s) (few : s ≤ 1
   abbrev fs : List ℕ
   fs = flags_of (initial_at initial) codes
 
-  pub reads-back : {flags transitions flags' transitions' : List ℕ} {a : HoaRead} → ReadBack (text_of s initial codes ts) flags transitions a flags' transitions'
+  pub reads-back : {flags transitions flags' transitions' : List ℕ} {a : Result TableSizes Refusal} → ReadBack (text_of s initial codes ts) flags transitions a flags' transitions'
       → length codes ≤ length flags → length ts ≤ length transitions
-      → (a ≡ Table record { macrostates = length codes; transitions = length ts })
+      → (a ≡ Ok record { macrostates = length codes; transitions = length ts })
       × (flags' ≡ fs ++ drop (length codes) flags)
       × (transitions' ≡ ts ++ drop (length ts) transitions)
   reads-back (no_table n) h k = absurd (n fs ts written)
@@ -62,7 +63,7 @@ module _ (s initial : ℕ) (codes ts : List ℕ) (some : 1 ≤ s) (few : s ≤ 1
       let r = carried-once C written in
       let n : length gs ≡ length codes = ap length r.0 ∙ flags-length (initial_at initial) codes in
       let m = ap length r.1 in (
-        ap (λ (i : ℕ). Table record { macrostates = i; transitions = length us }) n ∙ ap (λ (i : ℕ). Table record { macrostates = length codes; transitions = i }) m,
+        ap (λ (i : ℕ). Ok record { macrostates = i; transitions = length us }) n ∙ ap (λ (i : ℕ). Ok record { macrostates = length codes; transitions = i }) m,
         ap (λ (xs : List ℕ). xs ++ drop (length gs) flags) r.0 ∙ ap (λ (i : ℕ). fs ++ drop i flags) n,
         ap (λ (xs : List ℕ). xs ++ drop (length xs) transitions) r.1,
       )

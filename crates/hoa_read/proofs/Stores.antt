@@ -11,7 +11,7 @@ use lib.Seq.{sets, sets-eq, ext_get_or}
 use Rattle.sets.proofs.Bits.{bit-ext}
 use Rattle.sets.specs.Masks.{bit}
 use Rattle.hoa_spec.specs.Lines.{end_line}
-use Rattle.hoa_spec.specs.declared.HoaRead.TheVariants.{Table}
+use Rattle.std.specs.Prelude.{Ok}
 use Rattle.hoa_spec.specs.Reading.{Carries, NoTable, ReadBack, table}
 use Rattle.hoa_spec.specs.Shape.{flags_from, Marked}
 use Rattle.hoa_laws.proofs.Blocks.{blocks-left, moves-same}
@@ -90,7 +90,7 @@ module _ {text : List ℕ} {n b accepting m starts blocks : ℕ} (W : Whole text
 
   pub all_read : {flags transitions : List ℕ} {flags' transitions' : List ℕ} → n ≤ length flags → m ≤ length transitions
       → flags' ≡ W.flags ++ drop (length W.flags) flags → transitions' ≡ W.moves ++ drop (length W.moves) transitions
-      → ReadBack text flags transitions (Table record { macrostates = n; transitions = m }) flags' transitions'
+      → ReadBack text flags transitions (Ok record { macrostates = n; transitions = m }) flags' transitions'
   all_read h k e f =
       rw (e, f, W.macrostates, W.transitions)
       (table (whole_carries W) (let c = W.macrostates in omega arith) (let c = W.transitions in omega arith))

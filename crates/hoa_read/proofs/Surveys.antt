@@ -28,14 +28,11 @@ use Rattle.hoa_laws.proofs.Taking.{after}
 use Rattle.hoa_laws.specs.Parts.{Starting, accepting_first, BlocksOf, TookBlocks}
 use Rattle.hoa_laws.proofs.Starting.{bit-1}
 use Rattle.hoa_laws.proofs.Blocking.{first-length, first_bit}
-use Rattle.hoa_read.specs.Survey.{NoShape, HeadOf, TookHead, Surveyed}
+use Rattle.hoa_read.specs.Survey.{NoShape, HeadOf, Surveyed}
 
 -- ---- the lines before those of the macrostates
 
 module _ {text : List ℕ} where
-  pub no-head : {n b last starts blocks : ℕ} → blocks ≡ 0 → NoShape text → TookHead text n b last starts blocks
-  no-head e h = record { found = λ l. absurd (omega arith); absent = λ z. h }
-
   pub no-survey : {n b accepting m starts blocks end : ℕ} → end ≡ 0 → NoShape text → Surveyed text n b accepting m starts blocks end
   no-survey e h = record { found = λ l. absurd (omega arith); absent = λ z. h }
 
@@ -87,27 +84,29 @@ module _ {text : List ℕ} where
             pub head-no-ap : q ≡ 0 → NoShape text
             head-no-ap z c fs ts P e = B.absent z c P.propositions (acceptance_lines ++ body_text c fs ts) (low_part c fs ts e)
 
-            pub head_read : 0 < q → {d : ℕ} → Took text q acceptance_lines d → TookHead text n b last s d
-            head_read k D =
-                let f = B.found k in
-                let g = N.found m in
-                record {
-                  found = λ z. let w = D.found z in
-                      record {
-                        few = g.0;
-                        propositions = f.0;
-                        within = g.1;
-                        goes_on = w.0;
-                        low = r;
-                        initial = initial;
-                        read = S;
-                        high_text = (A.found l).1 ∙ ap (λ (x : List ℕ). hoa_line ++ x) states-here;
-                        low_text = f.2 ∙ ap (λ (x : List ℕ). ap_line b ++ x) w.1;
-                      };
-                  absent = λ z c fs ts P e.
-                      let o = ap-once b c f.0 P.propositions (sym f.2 ∙ low_part c fs ts e) in
-                      D.absent z (body_text c fs ts) o.1;
-                }
+            module _ (k : 0 < q) {d : ℕ} (D : Took text q acceptance_lines d) where
+              pub head-no-body : d ≡ 0 → NoShape text
+              head-no-body z c fs ts P e =
+                  let f = B.found k in
+                  let o = ap-once b c f.0 P.propositions (sym f.2 ∙ low_part c fs ts e) in
+                  D.absent z (body_text c fs ts) o.1
+
+              pub head_read : 0 < d → HeadOf text n b last s d
+              head_read z =
+                  let f = B.found k in
+                  let g = N.found m in
+                  let w = D.found z in
+                  record {
+                    few = g.0;
+                    propositions = f.0;
+                    within = g.1;
+                    goes_on = w.0;
+                    low = r;
+                    initial = initial;
+                    read = S;
+                    high_text = (A.found l).1 ∙ ap (λ (x : List ℕ). hoa_line ++ x) states-here;
+                    low_text = f.2 ∙ ap (λ (x : List ℕ). ap_line b ++ x) w.1;
+                  }
 
 -- ---- the whole text
 

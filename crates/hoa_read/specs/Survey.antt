@@ -22,10 +22,6 @@ pub record HeadOf (text : List ℕ) (n b last starts blocks : ℕ) : Type 0 wher
   pub high_text : text ≡ hoa_line ++ (states_line n ++ drop starts text)
   pub low_text : drop low text ≡ ap_line b ++ (acceptance_lines ++ drop blocks text)
 
-pub record TookHead (text : List ℕ) (n b last starts blocks : ℕ) : Type 0 where
-  pub found : 0 < blocks → HeadOf text n b last starts blocks
-  pub absent : blocks ≡ 0 → NoShape text
-
 -- the text of flags and transitions of the shape
 pub record Whole (text : List ℕ) (n b accepting m starts blocks : ℕ) : Type 0 where
   pub flags : List ℕ

@@ -3,17 +3,18 @@
 
 #![tactic(auto)]
 
-ghost use Rattle.std.specs.Prelude.{◌-◌, ◌≡◌, length, get_or};
+ghost use Rattle.std.specs.Prelude.{◌-◌, ◌<◌, ◌≡◌, length, get_or, MatchOption};
 ghost use Rattle.hoa_spec.specs.Reading.{ReadBack};
 ghost use Rattle.hoa_laws.specs.Took.{Ended};
-ghost use Rattle.hoa_read.specs.Survey.{TookHead, Surveyed};
+ghost use Rattle.hoa_read.specs.Survey.{NoShape, HeadOf, Surveyed};
 
 use hoa_read_parts::lines::{take, take_ap, take_numbered};
 use hoa_read_parts::{take_blocks, take_starts};
-use hoa_spec::{HoaRead, TableSizes};
+use hoa_spec::TableSizes;
+use refusals::Refusal;
 
 // The lines before those of the macrostates: how many macrostates and propositions there are, one more than the highest number with a
-// start line, where the start lines begin, and where the lines of the macrostates do, or 0.
+// start line, where the start lines begin, and where the lines of the macrostates do.
 #[derive(Clone, Copy)]
 struct Head {
     macrostates: usize,
@@ -34,18 +35,6 @@ struct Survey {
     starts: usize,
     blocks: usize,
     end: usize,
-}
-
-fn no_head() -> Head
-    ensures { result.blocks ≡ 0 }
-{
-    Head {
-        macrostates: 0,
-        propositions: 0,
-        last: 0,
-        starts: 0,
-        blocks: 0,
-    }
 }
 
 fn no_survey() -> Survey
@@ -74,39 +63,28 @@ fn last_byte(text: &[u8]) -> u8
 }
 
 // The lines before those of the macrostates.
-fn take_head(text: &[u8]) -> Head
+fn take_head(text: &[u8]) -> Option<Head>
     requires { Ended text.now }
-    ensures { TookHead text.now result.macrostates result.propositions result.last result.starts result.blocks }
+    ensures { MatchOption result (NoShape text.now)
+        (λ h. (0 < h.blocks) × HeadOf text.now h.macrostates h.propositions h.last h.starts h.blocks) }
 {
-    let a = take(text, 0, b"HOA: v1\n");
-    if a == 0 {
-        return no_head();
-    }
-    let s = take_numbered(text, a, b"States:");
-    let p = s.end;
-    if p == 0 {
-        return no_head();
-    }
-    let n = s.value;
+    let a = take(text, 0, b"HOA: v1\n")?;
+    let s = take_numbered(text, a, b"States:")?;
     let mut none = [0u8; 1];
-    let t = take_starts(text, p, n, 0, &mut none);
-    let q = take_ap(text, t.end);
-    let c = q.end;
-    if c == 0 {
-        return no_head();
-    }
+    let t = take_starts(text, s.end, s.value, 0, &mut none);
+    let q = take_ap(text, t.end)?;
     let d = take(
         text,
-        c,
+        q.end,
         b"acc-name: Buchi\nAcceptance: 1 Inf(0)\nproperties: trans-labels explicit-labels state-acc\n--BODY--\n",
-    );
-    Head {
-        macrostates: n,
+    )?;
+    Some(Head {
+        macrostates: s.value,
         propositions: q.value,
         last: t.last,
-        starts: p,
+        starts: s.end,
         blocks: d,
-    }
+    })
 }
 
 // The whole text.
@@ -117,24 +95,19 @@ fn take_text(text: &[u8]) -> Survey
     if last_byte(text) != b'\n' {
         return no_survey();
     }
-    let h = take_head(text);
-    let p = h.blocks;
-    if p == 0 {
+    let Some(h) = take_head(text) else {
         return no_survey();
-    }
+    };
     let mut none = [0u64; 1];
-    let e = take_blocks(text, p, h.propositions, h.macrostates, &mut none);
-    let q = e.end;
-    if q == 0 {
+    let Some(e) = take_blocks(text, h.blocks, h.propositions, h.macrostates, &mut none) else {
         return no_survey();
-    }
+    };
     if e.accepting < h.last {
         return no_survey();
     }
-    let r = take(text, q, b"--END--\n");
-    if r == 0 {
+    let Some(r) = take(text, e.end, b"--END--\n") else {
         return no_survey();
-    }
+    };
     if r != text.len() {
         return no_survey();
     }
@@ -144,32 +117,36 @@ fn take_text(text: &[u8]) -> Survey
         accepting: e.accepting,
         transitions: e.count,
         starts: h.starts,
-        blocks: p,
+        blocks: h.blocks,
         end: r,
     }
 }
 
 // Reads a table's text: flags, a byte a macrostate, and packed transitions to the start of both slices. 19 if no table has the text,
 // then 16 if a slice is too short; both slices are as lent then.
-pub fn read_hoa(text: &[u8], flags: &mut [u8], transitions: &mut [u64]) -> HoaRead
+pub fn read_hoa(
+    text: &[u8],
+    flags: &mut [u8],
+    transitions: &mut [u64],
+) -> Result<TableSizes, Refusal>
     ensures { ReadBack text.now flags.old transitions.old result
         flags.new transitions.new }
 {
     let s = take_text(text);
     if s.end == 0 {
-        return HoaRead::Refused(refusals::NO_TABLE);
+        return Err(Refusal::NoTable);
     }
     let n = s.macrostates;
     if flags.len() < n {
-        return HoaRead::Refused(refusals::SLICE);
+        return Err(Refusal::Slice);
     }
     let m = s.transitions;
     if transitions.len() < m {
-        return HoaRead::Refused(refusals::SLICE);
+        return Err(Refusal::Slice);
     }
     take_starts(text, s.starts, n, s.accepting, flags);
     take_blocks(text, s.blocks, s.propositions, n, transitions);
-    HoaRead::Table(TableSizes {
+    Ok(TableSizes {
         macrostates: n,
         transitions: m,
     })

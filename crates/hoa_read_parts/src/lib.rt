@@ -1,16 +1,16 @@
-// The lines of a table's text and its parts, read from a slice; flags and transitions are stored as far as there is room for them. Place 0
-// says that the text does not go on so.
+// The lines of a table's text and its parts, read from a slice; flags and transitions are stored as far as there is room for them. Nothing is
+// answered where the text does not go on so: in the contracts, place 0.
 
 #![tactic(auto)]
 
 pub mod lines;
 
-ghost use Rattle.std.specs.Prelude.{◌+◌, ◌<◌, ◌≤◌, ◌≡◌, cond, ltb, length, set};
+ghost use Rattle.std.specs.Prelude.{◌+◌, ◌<◌, ◌≤◌, ◌≡◌, cond, ltb, length, set, MatchOption};
 ghost use Rattle.hoa_spec.specs.Lines.{state_line};
 ghost use Rattle.hoa_laws.specs.Took.{Ended, TookOne};
 ghost use Rattle.hoa_laws.specs.Parts.{Started, TookEdges, Onward, TookBlocks};
 
-use crate::lines::{Number, nothing, take_edge, take_start, take_state};
+use crate::lines::{Number, take_edge, take_start, take_state};
 
 // One more than the highest number with a start line, 0 if there is none, and the place after the start lines.
 #[derive(Clone, Copy)]
@@ -72,25 +72,17 @@ pub fn take_starts(text: &[u8], p: usize, n: usize, accepting: usize, flags: &mu
 {
     let mut last = 0;
     let mut end = p;
-    let mut i = 0;
-    while i < n {
-        let r = take_start(text, end, i);
-        if r == 0 {
-            let f = flag_of(accepting, i, 0);
-            store_flag(flags, i, f);
-            i += 1;
-            continue;
+    for i in 0..n {
+        match take_start(text, end, i) {
+            None => store_flag(flags, i, flag_of(accepting, i, 0)),
+            Some(r) => {
+                store_flag(flags, i, flag_of(accepting, i, 1));
+                end = r;
+                last = i + 1;
+            }
         }
-        let g = flag_of(accepting, i, 1);
-        store_flag(flags, i, g);
-        end = r;
-        i += 1;
-        last = i;
     }
-    Starts {
-        last: last,
-        end: end,
-    }
+    Starts { last, end }
 }
 
 // The edge lines of number i, of n; their transitions are stored from place m on.
@@ -102,100 +94,79 @@ fn take_edges(
     i: usize,
     transitions: &mut [u64],
     m: usize,
-) -> Edges
+) -> Option<Edges>
     requires { Ended text.now × (0 < p) × (p ≤ length text.now) × (m ≤ p) × (b ≤ 4) × (n ≤ 65536) × (i < n) }
-    ensures { TookEdges text.now p b n i m transitions.old result.count result.end transitions.new }
+    ensures { MatchOption result (TookEdges text.now p b n i m transitions.old 0 0 transitions.new)
+        (λ e. (0 < e.end) × TookEdges text.now p b n i m transitions.old e.count e.end transitions.new) }
 {
     let mut count = m;
     let mut low = 0;
     let mut end = p;
+    // A while: the place jumps to the end of the line that was read.
     while end < text.len() {
         if text[end] != b'[' {
-            return Edges {
-                count: count,
-                end: end,
-            };
+            return Some(Edges { count, end });
         }
-        let e = take_edge(text, end, b, n, i);
-        end = e.end;
-        if end == 0 {
-            return Edges { count: 0, end: 0 };
-        }
+        let e = take_edge(text, end, b, n, i)?;
         let t = e.value;
         if t < low {
-            return Edges { count: 0, end: 0 };
+            return None;
         }
         store_move(transitions, count, t as u64);
         count += 1;
         low = t + 1;
+        end = e.end;
     }
-    Edges {
-        count: count,
-        end: end,
-    }
+    Some(Edges { count, end })
 }
 
 // The state line of number i: how many numbers are accepting up to it, if `accepting` are before it; accepting ones come first.
-fn take_marked(text: &[u8], p: usize, i: usize, accepting: usize) -> Number
+fn take_marked(text: &[u8], p: usize, i: usize, accepting: usize) -> Option<Number>
     requires { Ended text.now × (p ≤ length text.now) × (i ≤ 65536) × (accepting ≤ i) }
-    ensures { TookOne text.now p (Onward accepting i) (λ a. state_line i (ltb i a)) result.value result.end }
+    ensures { MatchOption result (TookOne text.now p (Onward accepting i) (λ a. state_line i (ltb i a)) 0 0)
+        (λ n. (0 < n.end) × TookOne text.now p (Onward accepting i) (λ a. state_line i (ltb i a)) n.value n.end) }
 {
-    let s = take_state(text, p, i);
-    let end = s.end;
-    if end == 0 {
-        return nothing();
-    }
+    let s = take_state(text, p, i)?;
     if s.value == 0 {
-        return Number {
+        return Some(Number {
             value: accepting,
-            end: end,
-        };
+            end: s.end,
+        });
     }
     if accepting < i {
-        return nothing();
+        return None;
     }
-    Number {
+    Some(Number {
         value: i + 1,
-        end: end,
-    }
+        end: s.end,
+    })
 }
 
 // The lines of n macrostates over b propositions.
-pub fn take_blocks(text: &[u8], p: usize, b: usize, n: usize, transitions: &mut [u64]) -> Blocks
+pub fn take_blocks(
+    text: &[u8],
+    p: usize,
+    b: usize,
+    n: usize,
+    transitions: &mut [u64],
+) -> Option<Blocks>
     requires { Ended text.now × (0 < p) × (p ≤ length text.now) × (b ≤ 4) × (n ≤ 65536) }
-    ensures { TookBlocks text.now p b n transitions.old result.accepting result.count result.end
-        transitions.new }
+    ensures { MatchOption result (TookBlocks text.now p b n transitions.old 0 0 0 transitions.new)
+        (λ r. (0 < r.end) × TookBlocks text.now p b n transitions.old r.accepting r.count r.end transitions.new) }
 {
     let mut accepting = 0;
     let mut count = 0;
     let mut end = p;
-    let mut i = 0;
-    while i < n {
-        let s = take_marked(text, end, i, accepting);
-        let c = s.end;
-        if c == 0 {
-            return Blocks {
-                accepting: 0,
-                count: 0,
-                end: 0,
-            };
-        }
-        let e = take_edges(text, c, b, n, i, transitions, count);
-        end = e.end;
-        if end == 0 {
-            return Blocks {
-                accepting: 0,
-                count: 0,
-                end: 0,
-            };
-        }
+    for i in 0..n {
+        let s = take_marked(text, end, i, accepting)?;
+        let e = take_edges(text, s.end, b, n, i, transitions, count)?;
         accepting = s.value;
         count = e.count;
-        i += 1;
+        end = e.end;
     }
-    Blocks {
-        accepting: accepting,
-        count: count,
-        end: end,
-    }
+    Some(Blocks {
+        accepting,
+        count,
+        end,
+    })
 }

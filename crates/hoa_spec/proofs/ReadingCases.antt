@@ -16,8 +16,10 @@ use Rattle.table_lent.specs.Lent.{in_words, is_faulty_lem, table_rows_lem, table
 use Rattle.table_rows.specs.Passed.{Passed}
 use Rattle.table_rows.proofs.Passed.{passed}
 use Rattle.hoa_spec.specs.Text.{flag_of_lem, flags_of, automaton_text, text_of}
-use Rattle.hoa_spec.specs.declared.HoaRead.{HoaRead}
-use Rattle.hoa_spec.specs.declared.HoaRead.TheVariants.{Table, Refused}
+use Rattle.std.specs.Prelude.{Result, Ok, Err}
+use Rattle.refusals.specs.declared.Refusal.{Refusal}
+use Rattle.refusals.specs.declared.Refusal.TheVariants.{NoTable as Nineteen, Slice}
+use Rattle.hoa_spec.specs.declared.TableSizes.{TableSizes}
 use Rattle.hoa_spec.specs.Reading.{Carries, NoTable, ReadBack, no_table, short, table}
 use Rattle.hoa_spec.specs.Shape.{flags_from, Marked, Ranges, Shaped}
 
@@ -53,20 +55,20 @@ carried-F = record {
 }
 
 -- read into slices that are one longer: both numbers, flags and transitions, and the last element as it was
-pub read-F : ReadBack text_f (9 ∷ 9 ∷ 9 ∷ 9 ∷ []) (9 ∷ 9 ∷ 9 ∷ 9 ∷ 9 ∷ 9 ∷ 9 ∷ 9 ∷ []) (Table record { macrostates = 3; transitions = 7 })
+pub read-F : ReadBack text_f (9 ∷ 9 ∷ 9 ∷ 9 ∷ []) (9 ∷ 9 ∷ 9 ∷ 9 ∷ 9 ∷ 9 ∷ 9 ∷ 9 ∷ []) (Ok record { macrostates = 3; transitions = 7 })
     (2 ∷ 3 ∷ 0 ∷ 9 ∷ [])
     (0 ∷ 16777218 ∷ 16842752 ∷ 16842754 ∷ 33554434 ∷ 33619968 ∷ 33619969 ∷ 9 ∷ [])
 read-F = table carried-F (omega arith) (omega arith)
 
 -- into slices that are just as long
-pub just-F : ReadBack text_f (9 ∷ 9 ∷ 9 ∷ []) (9 ∷ 9 ∷ 9 ∷ 9 ∷ 9 ∷ 9 ∷ 9 ∷ []) (Table record { macrostates = 3; transitions = 7 }) (2 ∷ 3 ∷ 0 ∷ []) moves_f
+pub just-F : ReadBack text_f (9 ∷ 9 ∷ 9 ∷ []) (9 ∷ 9 ∷ 9 ∷ 9 ∷ 9 ∷ 9 ∷ 9 ∷ []) (Ok record { macrostates = 3; transitions = 7 }) (2 ∷ 3 ∷ 0 ∷ []) moves_f
 just-F = table carried-F (omega arith) (omega arith)
 
 -- into slices of which one is too short: 16, and both are as they were
-pub short-F : ReadBack text_f (9 ∷ 9 ∷ []) (9 ∷ 9 ∷ 9 ∷ 9 ∷ 9 ∷ 9 ∷ 9 ∷ []) (Refused 16) (9 ∷ 9 ∷ []) (9 ∷ 9 ∷ 9 ∷ 9 ∷ 9 ∷ 9 ∷ 9 ∷ [])
+pub short-F : ReadBack text_f (9 ∷ 9 ∷ []) (9 ∷ 9 ∷ 9 ∷ 9 ∷ 9 ∷ 9 ∷ 9 ∷ []) (Err Slice) (9 ∷ 9 ∷ []) (9 ∷ 9 ∷ 9 ∷ 9 ∷ 9 ∷ 9 ∷ 9 ∷ [])
 short-F = short carried-F (inl (omega arith))
 
-pub shorter-F : ReadBack text_f (9 ∷ 9 ∷ 9 ∷ []) (9 ∷ 9 ∷ 9 ∷ 9 ∷ 9 ∷ 9 ∷ []) (Refused 16) (9 ∷ 9 ∷ 9 ∷ []) (9 ∷ 9 ∷ 9 ∷ 9 ∷ 9 ∷ 9 ∷ [])
+pub shorter-F : ReadBack text_f (9 ∷ 9 ∷ 9 ∷ []) (9 ∷ 9 ∷ 9 ∷ 9 ∷ 9 ∷ 9 ∷ []) (Err Slice) (9 ∷ 9 ∷ 9 ∷ []) (9 ∷ 9 ∷ 9 ∷ 9 ∷ 9 ∷ 9 ∷ [])
 shorter-F = short carried-F (inr (omega arith))
 
 -- ---- a text of one letter, `H`, is no table's: 19, even with no room at all
@@ -78,17 +80,17 @@ no-H fs ts C = ended C.text_is
     ended : {rest : List ℕ} → 72 ∷ [] ≡ 72 ∷ 79 ∷ rest → ⊥
     ended e = let z : ◌≡◌ {A = ℕ} 0 1 = cc in omega arith
 
-pub refused-H : ReadBack (72 ∷ []) [] [] (Refused 19) [] []
+pub refused-H : ReadBack (72 ∷ []) [] [] (Err Nineteen) [] []
 refused-H = no_table no-H
 
 -- ---- 19 is answered exactly if no table has the text, whatever room there is
 
-pub refused-19 : {text flags transitions flags' transitions' : List ℕ} {a : HoaRead} → ReadBack text flags transitions a flags' transitions' → a ≡ Refused 19 → NoTable text
+pub refused-19 : {text flags transitions flags' transitions' : List ℕ} {a : Result TableSizes Refusal} → ReadBack text flags transitions a flags' transitions' → a ≡ Err Nineteen → NoTable text
 refused-19 (no_table n) e = n
 refused-19 (short C l) e = let z : ◌≡◌ {A = ℕ} 16 19 = cc in absurd (omega arith)
 refused-19 (table C h k) e = let z : ◌≡◌ {A = ℕ} 0 1 = cc in absurd (omega arith)
 
-pub only-19 : {text flags transitions flags' transitions' : List ℕ} {a : HoaRead} → ReadBack text flags transitions a flags' transitions' → NoTable text → a ≡ Refused 19
+pub only-19 : {text flags transitions flags' transitions' : List ℕ} {a : Result TableSizes Refusal} → ReadBack text flags transitions a flags' transitions' → NoTable text → a ≡ Err Nineteen
 only-19 (no_table n) m = refl
 only-19 (short {fs = fs} {ts = ts} C l) m = absurd (m fs ts C)
 only-19 (table {fs = fs} {ts = ts} C h k) m = absurd (m fs ts C)

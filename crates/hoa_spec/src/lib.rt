@@ -1,5 +1,5 @@
 // The text of a table in the Hanoi Omega-Automata format, version 1, and its reading: what is written, refused, answered and stored.
-// Definitions, and the type of the reader's answer.
+// Definitions, and the type of what the reader answers.
 
 #![tactic(auto)]
 
@@ -8,11 +8,4 @@
 pub struct TableSizes {
     pub macrostates: usize,
     pub transitions: usize,
-}
-
-// The answer of the reader: both numbers, or the number of the row that refuses.
-#[derive(Clone, Copy)]
-pub enum HoaRead {
-    Table(TableSizes),
-    Refused(u8),
 }

@@ -60,10 +60,8 @@ fn label_length(b: usize, letter: usize) -> usize
         return 1;
     }
     let mut total = 2 - (letter & 1);
-    let mut i = 1;
-    while i < b {
+    for i in 1..b {
         total += 3 - ((letter >> i) & 1);
-        i += 1;
     }
     total
 }
@@ -85,14 +83,12 @@ fn macrostates_length(codes: &[u8], initial: u32) -> usize
     let n = codes.len() / 8;
     let mut starts = 0;
     let mut states = 0;
-    let mut i = 0;
-    while i < n {
+    for i in 0..n {
         let code = number_at(codes, i);
         let begins = is_initial(code, initial);
         let accepts = is_accepting(code);
         starts += start_length(i, begins);
         states += state_length(i, accepts);
-        i += 1;
     }
     starts + states
 }
@@ -104,13 +100,11 @@ fn edges_length(b: usize, moves: &[u8]) -> usize
 {
     let m = moves.len() / 8;
     let mut total = 0;
-    let mut i = 0;
-    while i < m {
+    for i in 0..m {
         let t = number_at(moves, i);
         let letter = letter_of(t);
         let target = target_of(t);
         total += edge_length(b, letter, target);
-        i += 1;
     }
     total
 }

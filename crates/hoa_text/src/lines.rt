@@ -102,11 +102,9 @@ fn put_label(out: &mut [u8], at: usize, b: usize, letter: usize) -> usize
         return slice_text::put_byte(out, at, b't');
     }
     let mut end = put_literal(out, at, letter, 0);
-    let mut i = 1;
-    while i < b {
+    for i in 1..b {
         let a = slice_text::put_byte(out, end, b'&');
         end = put_literal(out, a, letter, i);
-        i += 1;
     }
     end
 }

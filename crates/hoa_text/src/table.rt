@@ -20,12 +20,10 @@ pub fn stretch_end(moves: &[u8], i: usize, j: usize) -> usize
     ensures { Stretch (words_in moves.now) i j result }
 {
     let m = moves.len() / 8;
-    let mut k = j;
-    while k < m {
+    for k in j..m {
         if source_of(number_at(moves, k)) != i {
             return k;
         }
-        k += 1;
     }
-    k
+    m
 }

@@ -19,11 +19,9 @@ fn put_starts(out: &mut [u8], at: usize, codes: &[u8], initial: u32) -> usize
 {
     let n = codes.len() / 8;
     let mut end = at;
-    let mut i = 0;
-    while i < n {
+    for i in 0..n {
         let begins = is_initial(number_at(codes, i), initial);
         end = put_start(out, end, i, begins);
-        i += 1;
     }
     end
 }
@@ -36,13 +34,11 @@ fn put_edges(out: &mut [u8], at: usize, b: usize, moves: &[u8], j: usize, k: usi
         out.new result }
 {
     let mut end = at;
-    let mut i = j;
-    while i < k {
+    for i in j..k {
         let t = number_at(moves, i);
         let letter = letter_of(t);
         let target = target_of(t);
         end = put_edge(out, end, b, letter, target);
-        i += 1;
     }
     end
 }
@@ -86,13 +82,11 @@ fn put_blocks(
     let n = codes.len() / 8;
     let mut end = at;
     let mut j = 0;
-    let mut i = 0;
-    while i < n {
+    for i in 0..n {
         let accepts = is_accepting(number_at(codes, i));
         let k = stretch_end(moves, i, j);
         end = put_block(out, end, b, i, accepts, moves, j, k);
         j = k;
-        i += 1;
     }
     end
 }

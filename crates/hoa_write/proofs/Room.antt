@@ -1,13 +1,17 @@
 -- The text of a table that row 15 lets through: where it stands in a slice, and that its length is at most the bound.
 use mathlib.Core.Path.{◌≡◌, sym, ap}
-use mathlib.Core.List.{List, Memᴰ}
+use mathlib.Core.List.{List, [], Memᴰ}
 use Prim.Native.Nat.{ℕ, ◌+◌, ◌*◌, ◌^◌, ◌≤◌, ◌<◌}
 use native.Mathlib.Omega.{arith}
 use lib.ListN.{length}
 use Rattle.sets.specs.Tests.{Set}
 use Rattle.theory.specs.Run.{source_of}
 use Rattle.listing_lines_spec.specs.Lines.{initial_at}
-use Rattle.table_lent.specs.Lent.{Lent, words_in, in_bytes_lem, table_row_lem}
+use Rattle.std.specs.Prelude.{Result, Ok, ⊤}
+use Rattle.refusals.specs.declared.Refusal.{Refusal}
+use Rattle.refusals.specs.Rows.{first_refusal}
+use Rattle.refusals.proofs.Rows.{row-passes}
+use Rattle.table_lent.specs.Lent.{Lent, words_in, in_bytes_lem, in_both, table_rows_lem, table_row_lem}
 use Rattle.table_rows.specs.Passed.{Passed}
 use Rattle.table_rows.proofs.Passed.{passed, transition-low}
 use Rattle.hoa_spec.specs.Lines.{propositions}
@@ -41,9 +45,14 @@ bound-suffices s initial codes transitions h e =
 -- ---- a table in bytes
 
 module _ (s : ℕ) (codes moves : List ℕ) where
-  pub bytes-passed : table_row_lem s (in_bytes_lem codes) (in_bytes_lem moves) ≡ 0 → Passed s (words_in codes) (words_in moves)
-  unfolding in_bytes_lem
-  bytes-passed e = passed s (in_bytes_lem codes) (in_bytes_lem moves) e
+  -- what row 15 says of it
+  pub bytes-tried : {x : Result ⊤ Refusal} → first_refusal (table_rows_lem s (in_both [] codes) (in_both [] moves)) ≡ x → first_refusal (table_rows_lem s (in_bytes_lem codes) (in_bytes_lem moves)) ≡ x
+  unfolding in_both in_bytes_lem
+  bytes-tried e = e
+
+  pub bytes-passed : first_refusal (table_rows_lem s (in_bytes_lem codes) (in_bytes_lem moves)) ≡ Ok tt → Passed s (words_in codes) (words_in moves)
+  unfolding in_bytes_lem table_row_lem
+  bytes-passed e = passed s (in_bytes_lem codes) (in_bytes_lem moves) (row-passes (table_rows_lem s (in_bytes_lem codes) (in_bytes_lem moves)) e)
 
   -- the text over the propositions of s letters
   pub text_is : (initial b : ℕ) → b ≡ propositions s → lent_text s initial (in_bytes_lem codes) (in_bytes_lem moves) ≡ automaton_text b (flags_of (initial_at initial) (words_in codes)) (words_in moves)

@@ -7,9 +7,8 @@ ghost use Rattle.rule_entries.specs.Entries.{rule_of};
 ghost use Rattle.judge_spec.specs.Judge.{JudgeCalled, Judged};
 
 use file_read::{clauses_of, counts_of, read_rule};
-use file_spec::Read;
 use judge_masks::word::fill;
-use judge_spec::Verdict;
+use refusals::Refusal;
 use rule_entries::Head;
 use set_masks::contains;
 use word_rows::word_row;
@@ -23,44 +22,32 @@ pub fn judge_read(
     lead: &[u8],
     cycle: &[u8],
     masks: &mut [u8],
-) -> Verdict
+) -> Result<bool, Refusal>
     requires { Passing (rule_of h counts.now clauses.now) }
     ensures { JudgeCalled (rule_of h counts.now clauses.now) lead.now cycle.now masks.old
         masks.new result }
 {
-    let s = h.s;
-    let row = word_row(s, lead, cycle);
-    if row != 0 {
-        return Verdict::Refused(row);
-    }
+    word_row(h.s, lead, cycle)?;
     if masks.len() < lead.len() + cycle.len() {
-        return Verdict::Refused(refusals::SLICE);
+        return Err(Refusal::Slice);
     }
     fill(h, counts, clauses, lead, cycle, masks);
-    if contains(masks[0], h.initial as u32) {
-        return Verdict::Yes;
-    }
-    Verdict::No
+    Ok(contains(masks[0], h.initial as u32))
 }
 
 // Whether the rule of a file accepts the word, from its initial state at place 0. For each place, in order, one byte of masks becomes
 // the mask of the states from which the rule accepts there; the bytes after them stay.
 // Refused by the rows of the rule, of the word and of the slice, in this order, and masks is then unchanged.
-pub fn judge(file: &[u8], lead: &[u8], cycle: &[u8], masks: &mut [u8]) -> Verdict
+pub fn judge(file: &[u8], lead: &[u8], cycle: &[u8], masks: &mut [u8]) -> Result<bool, Refusal>
     ensures { Judged file.now lead.now cycle.now masks.old masks.new result }
 {
-    match read_rule(file) {
-        Read::Accepted(l) => {
-            let h = l.head;
-            judge_read(
-                h,
-                counts_of(file, l),
-                clauses_of(file, l),
-                lead,
-                cycle,
-                masks,
-            )
-        }
-        Read::Refused(k) => Verdict::Refused(k),
-    }
+    let l = read_rule(file)?;
+    judge_read(
+        l.head,
+        counts_of(file, l),
+        clauses_of(file, l),
+        lead,
+        cycle,
+        masks,
+    )
 }

@@ -12,11 +12,10 @@ ghost use Rattle.judge_choices_spec.specs.ChoicesComputed.{choices_of};
 ghost use Rattle.judge_choices.specs.Judge.{CalledChoices, JudgedChoices};
 
 use file_read::{clauses_of, counts_of, read_rule};
-use file_spec::Read;
 use judge_choices_fill::fill_choices;
 use judge_choices_place::{Partition, classes_of};
 use judge_masks::word::fill_word;
-use judge_spec::Verdict;
+use refusals::Refusal;
 use rule_entries::{Head, starts_of};
 use rule_reach::closures;
 use set_masks::contains;
@@ -74,28 +73,21 @@ pub fn judge_choices_read(
     cycle: &[u8],
     masks: &mut [u8],
     choices: &mut [u8],
-) -> Verdict
+) -> Result<bool, Refusal>
     requires { Passing (rule_of h counts.now clauses.now) }
     ensures { CalledChoices (rule_of h counts.now clauses.now) lead.now cycle.now
         masks.old masks.new choices.old choices.new result }
 {
-    let s = h.s;
-    let row = word_row(s, lead, cycle);
-    if row != 0 {
-        return Verdict::Refused(row);
-    }
+    word_row(h.s, lead, cycle)?;
     let places = lead.len() + cycle.len();
     if masks.len() < places {
-        return Verdict::Refused(refusals::SLICE);
+        return Err(Refusal::Slice);
     }
     if choices.len() < places * h.n {
-        return Verdict::Refused(refusals::SLICE);
+        return Err(Refusal::Slice);
     }
     fill_both(h, counts, clauses, lead, cycle, masks, choices);
-    if contains(masks[0], h.initial as u32) {
-        return Verdict::Yes;
-    }
-    Verdict::No
+    Ok(contains(masks[0], h.initial as u32))
 }
 
 // Whether the rule of a file accepts the word, from its initial state at place 0. For each place, in order, one byte of masks becomes
@@ -108,23 +100,18 @@ pub fn judge_choices(
     cycle: &[u8],
     masks: &mut [u8],
     choices: &mut [u8],
-) -> Verdict
+) -> Result<bool, Refusal>
     ensures { JudgedChoices file.now lead.now cycle.now
         masks.old masks.new choices.old choices.new result }
 {
-    match read_rule(file) {
-        Read::Accepted(l) => {
-            let h = l.head;
-            judge_choices_read(
-                h,
-                counts_of(file, l),
-                clauses_of(file, l),
-                lead,
-                cycle,
-                masks,
-                choices,
-            )
-        }
-        Read::Refused(k) => Verdict::Refused(k),
-    }
+    let l = read_rule(file)?;
+    judge_choices_read(
+        l.head,
+        counts_of(file, l),
+        clauses_of(file, l),
+        lead,
+        cycle,
+        masks,
+        choices,
+    )
 }

@@ -34,8 +34,7 @@ pub fn choose_accepting(
     let accepting = h.accepting as u8;
     let at = lead.len();
     let end = at + cycle.len();
-    let mut p = 0;
-    while p < end {
+    for p in 0..end {
         let all = masks[next_place(at, cycle.len(), p)];
         choose_each(
             rule,
@@ -49,7 +48,6 @@ pub fn choose_accepting(
             choices,
             p * h.n,
         );
-        p += 1;
     }
 }
 

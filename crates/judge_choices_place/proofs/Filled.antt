@@ -1,5 +1,5 @@
 -- The accepting states' choices, place by place, and all choices together.
-use mathlib.Core.Path.{◌≡◌, refl, sym, ◌∙◌, ap}
+use mathlib.Core.Path.{◌≡◌, sym, ◌∙◌, ap}
 use mathlib.Core.Logic.{inr, by_cases}
 use mathlib.Core.Bool.{◌&&◌, cond, and-true}
 use mathlib.Core.List.{List, ◌++◌}
@@ -30,9 +30,6 @@ module _ (r : Rule) (P : Passing r) (lead cycle : List ℕ) (W : WordOver r.s le
 
   abbrev L : ℕ
   L = places lead cycle
-
-  pub started_none : (old : List ℕ) → Started r lead cycle T 0 old old
-  started_none old = record { long = refl; done = λ p q l k. absurd (omega arith); rest = λ i l. refl }
 
   -- one place more
   module _ (k states : ℕ) (old mid new : List ℕ) (found : ℕ) (l : k < L)

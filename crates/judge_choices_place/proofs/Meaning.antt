@@ -11,7 +11,7 @@ use lib.Dec.{eqb, leb}
 use lib.Arith.{digits_div, digits_mod, digits_lt}
 use lib.ListN.{length, get_or, length-append, get_or-append}
 use borrow.Author.Tests.{eqb-true, leb-true, leb-false, le-leb}
-use Rattle.sets.specs.Tests.{Set, first}
+use Rattle.sets.specs.Tests.{Set}
 use Rattle.sets.specs.Masks.{bit, inside}
 use Rattle.sets.proofs.Bools.{bif, clash, iff, and_i, and_l, and_r, not_t}
 use Rattle.sets.proofs.Bits.{bit-none}

@@ -25,9 +25,8 @@ use Rattle.theory.specs.Automaton.{automaton}
 use Rattle.theory.specs.Components.{component}
 use Rattle.theory.specs.Core.{mix}
 use Rattle.theory.specs.Passing.{WellFormed}
-use Rattle.rule_entries.specs.declared.Met.{Met}
-use Rattle.rule_entries.specs.declared.Met.TheVariants.{Clause, Nothing}
-use Rattle.rule_entries.specs.Met.{met_of, is_met}
+use Rattle.std.specs.Prelude.{Option, None, Some, is_some}
+use Rattle.rule_entries.specs.Met.{met_of}
 use Rattle.rule_entries.proofs.Clauses.{met-first, met-satisfies}
 use Rattle.rule_entries.proofs.Entries.{entry-number, entry-part}
 use Rattle.judge_choices_spec.specs.ChoicesComputed.{number_of, aim_of}
@@ -60,39 +59,39 @@ entry-few r w q a l m =
     let k = length-take (get_or r.counts i 0) (drop (sum (take i r.counts)) r.clauses) in
     omega (arith, w.few_clauses _ (mem-at r.counts i (entry-number r w q a l m)))
 
-pub clause-listed : (s : ℕ) (cl : List ℕ) (j : ℕ) → met_of s cl ≡ Clause j → j < length cl
-unfolding is_met number_of
+pub clause-listed : (s : ℕ) (cl : List ℕ) (j : ℕ) → met_of s cl ≡ Some j → j < length cl
+unfolding number_of
 clause-listed s cl j e =
-    let m = met-first s cl 0 (sym (met-satisfies s cl) ∙ ap is_met e) in
+    let m = met-first s cl 0 (sym (met-satisfies s cl) ∙ ap is_some e) in
     let n : j ≡ m.number = sym (ap number_of (sym m.found ∙ e)) ∙ zero-add m.number in
     rw n m.listed
 
 -- ---- one state more
 
-pub put-length : (m : Met) (i : ℕ) (xs : List ℕ) → length (put_met m i xs) ≡ length xs
+pub put-length : (m : Option ℕ) (i : ℕ) (xs : List ℕ) → length (put_met m i xs) ≡ length xs
 unfolding put_met
-put-length (Clause j) i xs = length-set xs i j
-put-length Nothing i xs = refl
+put-length (Some j) i xs = length-set xs i j
+put-length None i xs = refl
 
-put_same : (m : Met) (i : ℕ) (xs : List ℕ) → i < length xs → is_met m ≡ true → get_or (put_met m i xs) i 0 ≡ number_of m
-unfolding put_met is_met number_of
-put_same (Clause j) i xs l e = get_or-set_same xs i j 0 l
-put_same Nothing i xs l e = absurd (false≢true e)
+put_same : (m : Option ℕ) (i : ℕ) (xs : List ℕ) → i < length xs → is_some m ≡ true → get_or (put_met m i xs) i 0 ≡ number_of m
+unfolding put_met number_of
+put_same (Some j) i xs l e = get_or-set_same xs i j 0 l
+put_same None i xs l e = absurd (false≢true e)
 
-put_other : (m : Met) (i : ℕ) (xs : List ℕ) (k : ℕ) → (k ≡ i → ⊥) → get_or (put_met m i xs) k 0 ≡ get_or xs k 0
+put_other : (m : Option ℕ) (i : ℕ) (xs : List ℕ) (k : ℕ) → (k ≡ i → ⊥) → get_or (put_met m i xs) k 0 ≡ get_or xs k 0
 unfolding put_met
-put_other (Clause j) i xs k n = get_or-set_other xs i k j 0 n
-put_other Nothing i xs k n = refl
+put_other (Some j) i xs k n = get_or-set_other xs i k j 0 n
+put_other None i xs k n = refl
 
-put-none : (m : Met) (i : ℕ) (xs : List ℕ) → is_met m ≡ false → put_met m i xs ≡ xs
-unfolding put_met is_met
-put-none (Clause j) i xs e = absurd (true≢false e)
-put-none Nothing i xs e = refl
+put-none : (m : Option ℕ) (i : ℕ) (xs : List ℕ) → is_some m ≡ false → put_met m i xs ≡ xs
+unfolding put_met
+put-none (Some j) i xs e = absurd (true≢false e)
+put-none None i xs e = refl
 
 module _ (n base : ℕ) (number : ℕ → ℕ) (old xs : List ℕ) (found : ℕ) (room : base + n ≤ length xs)
-    (here : (q : ℕ) → q < n → get_or xs (base + q) 0 ≡ cond (bit found q) (number q) (get_or old (base + q) 0)) (m : Met) (q₀ : ℕ) (l : q₀ < n) where
+    (here : (q : ℕ) → q < n → get_or xs (base + q) 0 ≡ cond (bit found q) (number q) (get_or old (base + q) 0)) (m : Option ℕ) (q₀ : ℕ) (l : q₀ < n) where
   -- the state has a clause
-  pub here-yes : is_met m ≡ true → number_of m ≡ number q₀ → (q : ℕ) → q < n
+  pub here-yes : is_some m ≡ true → number_of m ≡ number q₀ → (q : ℕ) → q < n
       → get_or (put_met m (base + q₀) xs) (base + q) 0 ≡ cond (bit (bit_or found (2 ^ q₀)) q) (number q) (get_or old (base + q) 0)
   here-yes t e q k =
       rw (bit-or found (2 ^ q₀) q, bit-shl-one q₀ q)
@@ -101,7 +100,7 @@ module _ (n base : ℕ) (number : ℕ → ℕ) (old xs : List ℕ) (found : ℕ)
       (λ x. rw (ne_eqb q₀ q (λ y. x (sym y)), or-false (bit found q)) (put_other m (base + q₀) xs (base + q) (λ y. x (omega arith)) ∙ here q k)))
 
   -- it has none
-  pub here-no : is_met m ≡ false → (q : ℕ) → q < n → get_or (put_met m (base + q₀) xs) (base + q) 0 ≡ cond (bit found q) (number q) (get_or old (base + q) 0)
+  pub here-no : is_some m ≡ false → (q : ℕ) → q < n → get_or (put_met m (base + q₀) xs) (base + q) 0 ≡ cond (bit found q) (number q) (get_or old (base + q) 0)
   here-no t q k = rw (put-none m (base + q₀) xs t) (here q k)
 
   pub others-on : ((i : ℕ) → (i < base) ⊎ (base + n ≤ i) → get_or xs i 0 ≡ get_or old i 0) → (i : ℕ) → (i < base) ⊎ (base + n ≤ i) → get_or (put_met m (base + q₀) xs) i 0 ≡ get_or old i 0

@@ -3,17 +3,17 @@
 
 #![tactic(auto)]
 
-ghost use Rattle.std.specs.Prelude.{◌≡◌, ◌+◌, ◌^◌, ◌≤◌, ◌<◌, length};
+ghost use Rattle.std.specs.Prelude.{◌≡◌, ◌+◌, ◌^◌, ◌≤◌, ◌<◌, is_some, length};
 ghost use Rattle.theory.specs.Rule.{entry};
 ghost use Rattle.theory.specs.Passing.{WellFormed};
 ghost use Rattle.rule_entries.specs.Entries.{rule_of};
-ghost use Rattle.rule_entries.specs.Met.{met_of, is_met};
+ghost use Rattle.rule_entries.specs.Met.{met_of};
 ghost use Rattle.rule_entries.specs.Starts.{EntryStarts};
 ghost use Rattle.rule_reach.specs.Tables.{closures_of};
 ghost use Rattle.judge_choices_spec.specs.Rounds.{Classes, put_met, Tried};
 
 use rule_components::class_of;
-use rule_entries::{Head, Met, met_at};
+use rule_entries::{Head, met_at};
 use set_masks::difference;
 
 // The numbers of a rule and, for each of its states, the mask of its component.
@@ -29,10 +29,8 @@ pub fn classes_of(h: Head, counts: &[u8], clauses: &[u8], reach: &[u8; 8]) -> [u
     ensures { Classes (rule_of h counts.now clauses.now) result }
 {
     let mut classes = [0u8; 8];
-    let mut q = 0;
-    while q < h.n {
+    for q in 0..h.n {
         classes[q] = class_of(reach, h.n, q);
-        q += 1;
     }
     classes
 }
@@ -55,14 +53,14 @@ pub fn choose(
         × (a < h.s)
         × (i < length choices.old) }
     ensures { let m = met_of set (entry (rule_of h counts.now clauses.now) q a) in
-        (result ≡ is_met m) × (choices.new ≡ put_met m i choices.old) }
+        (result ≡ is_some m) × (choices.new ≡ put_met m i choices.old) }
 {
     match met_at(h, counts, starts, clauses, q, a, set) {
-        Met::Clause(j) => {
+        Some(j) => {
             choices[i] = j as u8;
             true
         }
-        Met::Nothing => false,
+        None => false,
     }
 }
 
@@ -95,6 +93,7 @@ pub fn choose_each(
     let classes = rule.classes;
     let mut found: u8 = 0;
     let mut left = states;
+    // A while: it visits the set bits alone.
     while left != 0 {
         let q = u8::trailing_zeros(left) as usize;
         let class = classes[q];

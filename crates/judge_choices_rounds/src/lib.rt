@@ -87,6 +87,7 @@ pub fn round(
     let before = *near;
     let mut changed: u64 = 0;
     let mut left = work;
+    // A while: it visits the set bits alone.
     while left != 0 {
         let p = u64::trailing_zeros(left) as usize;
         let found = choose_at(
@@ -135,8 +136,7 @@ pub fn choose_rejecting(
     let end = at + cycle.len();
     let mut near = [0u8; 64];
     let mut work = u64::MAX >> (64 - end);
-    let mut d = 0;
-    while d < end * h.n {
+    for _ in 0..end * h.n {
         if work == 0 {
             return;
         }
@@ -144,6 +144,5 @@ pub fn choose_rejecting(
             rule, counts, starts, clauses, lead, cycle, masks, &mut near, choices, work,
         );
         work = places_before(changed, at, end);
-        d += 1;
     }
 }

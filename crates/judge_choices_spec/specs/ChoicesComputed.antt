@@ -1,5 +1,5 @@
 -- The choices of a word, computed. judge_choices_place/proofs/Meaning proves them to be those by plans, so what stands here has not to be believed.
-use Rattle.std.specs.Prelude.{◌&&◌, not, cond, List, ℕ, zero, suc, ◌-◌, ◌*◌, ◌/◌, ◌%◌, get_or}
+use Rattle.std.specs.Prelude.{◌&&◌, not, cond, Option, None, Some, List, ℕ, zero, suc, ◌-◌, ◌*◌, ◌/◌, ◌%◌, get_or}
 use Rattle.sets.specs.Tests.{first}
 use Rattle.sets.specs.Masks.{bit, mask}
 use Rattle.sets.specs.Lists.{tabulate}
@@ -8,8 +8,6 @@ use Rattle.theory.specs.Automaton.{automaton}
 use Rattle.theory.specs.Core.{mix}
 use Rattle.theory.specs.Word.{places, next_place_lem, letter_at_lem}
 use Rattle.theory.specs.Truth.{truth_masks}
-use Rattle.rule_entries.specs.declared.Met.{Met}
-use Rattle.rule_entries.specs.declared.Met.TheVariants.{Clause, Nothing}
 use Rattle.rule_entries.specs.Met.{met_of}
 
 -- 02: "False pairs get 255."
@@ -17,9 +15,9 @@ abbrev pub no_choice : ℕ
 no_choice = 255
 
 -- 02: "a clause number, 0 for the entry's first"
-unfoldable pub number_of : Met → ℕ
-number_of (Clause j) = j
-number_of Nothing = no_choice
+unfoldable pub number_of : Option ℕ → ℕ
+number_of (Some j) = j
+number_of None = no_choice
 
 -- the states of the mask all that are outside q's component, and those of the mask near that are in it
 unfoldable pub aim_of : Rule → ℕ → ℕ → ℕ → ℕ

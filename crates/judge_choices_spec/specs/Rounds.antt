@@ -1,5 +1,5 @@
 -- What the code that writes the choices keeps: the states tried at one place, one round over places, rounds until nothing changes.
-use Rattle.std.specs.Prelude.{◌≡◌, ◌⊎◌, Bool, false, ◌&&◌, ◌||◌, not, cond, List, ℕ, suc, ◌+◌, ◌*◌, ◌^◌, ◌≤◌, ◌<◌, eqb, length, get_or, set}
+use Rattle.std.specs.Prelude.{◌≡◌, ◌⊎◌, Bool, false, ◌&&◌, ◌||◌, not, cond, Option, None, Some, List, ℕ, suc, ◌+◌, ◌*◌, ◌^◌, ◌≤◌, ◌<◌, eqb, length, get_or, set}
 use Rattle.sets.specs.Tests.{Set}
 use Rattle.sets.specs.Masks.{bit, mask}
 use Rattle.theory.specs.Rule.{Rule, entry, satisfies}
@@ -7,8 +7,6 @@ use Rattle.theory.specs.Components.{component}
 use Rattle.theory.specs.Passing.{Passing}
 use Rattle.theory.specs.Word.{places, next_place_lem, letter_at_lem, WordOver}
 use Rattle.theory.specs.Truth.{truth_masks}
-use Rattle.rule_entries.specs.declared.Met.{Met}
-use Rattle.rule_entries.specs.declared.Met.TheVariants.{Clause, Nothing}
 use Rattle.rule_entries.specs.Met.{met_of}
 use Rattle.rule_entries.specs.Starts.{EntryStarts}
 use Rattle.judge_choices_spec.specs.ChoicesComputed.{number_of, aim_of, nearer, near_at, choice_at}
@@ -27,9 +25,9 @@ pub record Ready (r : Rule) (starts classes lead cycle masks : List ℕ) : Type 
   pub truths : masks ≡ truth_masks r lead cycle
 
 -- the choices with the number of the clause met put at index i
-unfoldable pub put_met : Met → ℕ → List ℕ → List ℕ
-put_met (Clause j) i choices = set choices i j
-put_met Nothing i choices = choices
+unfoldable pub put_met : Option ℕ → ℕ → List ℕ → List ℕ
+put_met (Some j) i choices = set choices i j
+put_met None i choices = choices
 
 -- the number of the clause of state q at letter a that is met by the mask all outside q's component and by the mask near inside it
 abbrev pub met_number : Rule → ℕ → ℕ → ℕ → ℕ → ℕ

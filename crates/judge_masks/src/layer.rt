@@ -25,9 +25,7 @@ pub fn round(
         masks.new result }
 {
     let mut changed = false;
-    let mut p = cycle.len();
-    while 0 < p {
-        p -= 1;
+    for p in (0..cycle.len()).rev() {
         if open_at(h, counts, starts, clauses, cycle, layer, masks, p) {
             changed = true;
         }
@@ -52,5 +50,6 @@ pub fn solve_layer(
         → Part (rule_of h counts.now clauses.now) cycle.now k masks.old
         → Part (rule_of h counts.now clauses.now) cycle.now (k + 1) masks.new }
 {
+    // A while: how many rounds it takes is not known before.
     while round(h, counts, starts, clauses, cycle, layer, masks) {}
 }

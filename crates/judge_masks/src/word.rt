@@ -33,13 +33,9 @@ pub fn fill_cycle(
     ensures { masks.new ≡ truth_masks (rule_of h counts.now clauses.now) [] cycle.now }
 {
     fill_with(masks, h.accepting as u8);
-    let n = h.n;
-    let top = n as u32;
-    let mut height: u32 = 1;
-    while height <= top {
-        let layer = at_height(reach, n, height);
+    for height in 1..=h.n as u32 {
+        let layer = at_height(reach, h.n, height);
         solve_layer(h, counts, starts, clauses, cycle, layer, masks);
-        height += 1;
     }
 }
 
@@ -61,9 +57,7 @@ pub fn fill_lead(
         (drop (length lead.now) masks.old) }
 {
     let all = full(h.n as u32);
-    let mut i = lead.len();
-    while 0 < i {
-        i -= 1;
+    for i in (0..lead.len()).rev() {
         masks[i] = met_by(
             h,
             counts,

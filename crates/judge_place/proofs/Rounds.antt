@@ -225,16 +225,6 @@ pub record Walk (r : Rule) (cycle : List ℕ) (layer : ℕ) (old ms : List ℕ) 
   pub grown : changed ≡ true → extent r cycle layer old < extent r cycle layer ms
 
 module _ (r : Rule) (cycle : List ℕ) (layer : ℕ) (old : List ℕ) where
-  pub walk_start : Walk r cycle layer old old false (length cycle)
-  walk_start = record {
-    long = refl;
-    part = λ h e k. k;
-    same = λ e. refl;
-    still = λ e j l m. absurd (omega arith);
-    most = omega arith;
-    grown = λ e. absurd (false≢true e);
-  }
-
   module _ (P : Passing r) (repeats : 0 < length cycle) (ms : List ℕ) (changed : Bool) (p : ℕ) (w : Walk r cycle layer old ms changed (p + 1)) (fits : length old ≡ length cycle)
       (l : p < length cycle) (small : get_or ms p 0 < 256) where
     room : p < length ms
@@ -273,9 +263,6 @@ module _ (r : Rule) (cycle : List ℕ) (layer : ℕ) (old : List ℕ) where
     pub walk-next : (b : Bool) → not (eqb (opened r cycle layer ms p) (get_or ms p 0)) ≡ b → Walk r cycle layer old (set ms p (opened r cycle layer ms p)) (b || changed) p
     walk-next true t = walk-changed (eqb-false _ _ (not_t _ t))
     walk-next false t = walk_same (eqb-true _ _ (not_f _ t))
-
-  pub walk_end : (ms : List ℕ) (changed : Bool) → Walk r cycle layer old ms changed 0 → Round r cycle layer old ms changed
-  walk_end ms changed w = record { long = w.long; part = w.part; still = λ e j l. w.still e j (omega arith) l; grown = w.grown }
 
 -- ---- rounds until nothing is opened
 

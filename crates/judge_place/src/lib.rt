@@ -31,6 +31,7 @@ pub fn met_by(
 {
     let mut met: u8 = 0;
     let mut left = states;
+    // A while: it visits the set bits alone.
     while left != 0 {
         let q = u8::trailing_zeros(left) as usize;
         if satisfied(h, counts, starts, clauses, q, a, set) {
@@ -47,12 +48,10 @@ pub fn at_height(reach: &[u8; 8], n: usize, height: u32) -> u8
     ensures { result ≡ mask n (λ q. eqb (ones (get_or reach.now q 0)) height) }
 {
     let mut layer: u8 = 0;
-    let mut q = 0;
-    while q < n {
+    for q in 0..n {
         if u8::count_ones(reach[q]) == height {
             layer |= 1 << q;
         }
-        q += 1;
     }
     layer
 }

@@ -15,13 +15,15 @@ use Rattle.theory.specs.Plan.{AcceptsWord}
 use Rattle.theory.specs.Truth.{truth_masks}
 use Rattle.theory_laws.proofs.Truth.{truth-length, truth-bit, truth-accepts}
 use Rattle.file_spec.specs.File.{rule_in}
-use Rattle.file_spec.specs.Rows.{file_row}
+use Rattle.file_spec.specs.Rows.{file_rows_lem, file_row}
+use Rattle.std.specs.Prelude.{Result, Ok, Err, ⊤}
+use Rattle.refusals.specs.Rows.{number_of, first_refusal}
+use Rattle.refusals.specs.declared.Refusal.{Refusal}
+use Rattle.refusals.proofs.Rows.{number-above, row-passes, refusal-passes, refused-row, refused-some}
 use Rattle.file_read.proofs.FileRows.{accepted-passing}
 use Rattle.word_rows.proofs.Checks.{word_over}
-use Rattle.judge_spec.specs.declared.Verdict.{Verdict}
-use Rattle.judge_spec.specs.declared.Verdict.TheVariants.{Yes, No, Refused}
-use Rattle.judge_spec.specs.Judge.{judge_call_row, judge_row, verdict, holds_start, judge_of, after, Meant, JudgeCalled, Judged}
-use Rattle.judge_spec.proofs.Rows.{call_passes, file-refuses, file-passes}
+use Rattle.judge_spec.specs.Judge.{judge_call_rows, judge_call_row, judge_rows, judge_row, verdict, holds_start, judge_of, after, Meant, JudgeCalled, Judged}
+use Rattle.judge_spec.proofs.Rows.{call_passes, file-refuses, file-passes, row-passed}
 
 -- ---- examples: two masks at the start of a slice of three bytes, and a refusal
 
@@ -34,23 +36,22 @@ unfolding after
 no-masks = refl
 
 -- an answer is yes where the test holds, no where it does not
-yes_iff : (b : Bool) → (verdict 0 b ≡ Yes) ↔ (b ≡ true)
-yes_iff true = (λ e. refl, λ e. refl)
-yes_iff false = (λ e. let z : ◌≡◌ {A = ℕ} 0 1 = cc in absurd (omega arith), λ e. absurd (true≢false (sym e)))
+ok-same : {a b : Bool} → ◌≡◌ {A = Result Bool Refusal} (Ok a) (Ok b) → a ≡ b
+ok-same e = cc
 
-no_iff : (b : Bool) → (verdict 0 b ≡ No) ↔ (b ≡ false)
-no_iff true = (λ e. let z : ◌≡◌ {A = ℕ} 0 1 = cc in absurd (omega arith), λ e. absurd (true≢false e))
-no_iff false = (λ e. refl, λ e. refl)
+-- a refusal leaves the slice
+pub leaves : (k : ℕ) → 0 < k → (masks old : List ℕ) → old ≡ after k masks old
+unfolding after
+leaves zero l masks old = absurd (omega arith)
+leaves (suc k) l masks old = refl
 
 module _ (r : Rule) (P : Passing r) (lead cycle : List ℕ) (W : WordOver r.s lead cycle) where
   start-iff : (holds_start r lead cycle ≡ true) ↔ AcceptsWord r lead cycle
   start-iff = let h = W.repeats in truth-accepts r P lead cycle h 0 r.initial (omega arith) P.formed.initial_state
 
-  pub meaning : (rest : List ℕ) → Meant r lead cycle (truth_masks r lead cycle ++ rest) (verdict 0 (holds_start r lead cycle))
+  pub meaning : (rest : List ℕ) → Meant r lead cycle (truth_masks r lead cycle ++ rest) (Ok (holds_start r lead cycle))
   meaning rest =
       let b = holds_start r lead cycle in
-      let y = yes_iff b in
-      let n = no_iff b in
       let s = start-iff in
       record {
         pairs = λ q p l k.
@@ -58,56 +59,59 @@ module _ (r : Rule) (P : Passing r) (lead cycle : List ℕ) (W : WordOver r.s le
             let e : get_or (truth_masks r lead cycle ++ rest) p 0 ≡ get_or (truth_masks r lead cycle) p 0 =
             get_or-append (truth_masks r lead cycle) rest 0 p (let x = truth-length r lead cycle in omega arith) in
             rw e t;
-        yes = (λ e. s.0 (y.0 e), λ a. y.1 (s.1 a));
-        no = (λ e a. true≢false (sym (s.1 a) ∙ n.0 e), λ f. n.1 (bif b (λ t. absurd (f (s.0 t))) (λ t. t)));
+        yes = (λ e. s.0 (ok-same e), λ a. ap Ok (s.1 a));
+        no = (λ e a. true≢false (sym (s.1 a) ∙ ok-same e), λ f. ap Ok (bif b (λ t. absurd (f (s.0 t))) (λ t. t)));
       }
 
 -- a served call
-pub called-meant : (r : Rule) → Passing r → (lead cycle old new : List ℕ) (v : Verdict) → JudgeCalled r lead cycle old new v → judge_call_row r lead cycle (length old) ≡ 0 → Meant r lead cycle new v
-unfolding after
+pub called-meant : (r : Rule) → Passing r → (lead cycle old new : List ℕ) (v : Result Bool Refusal) → JudgeCalled r lead cycle old new v → judge_call_row r lead cycle (length old) ≡ 0 → Meant r lead cycle new v
+unfolding after judge_call_row
 called-meant r P lead cycle old new v c e =
     let p = call_passes r lead cycle (length old) e in
-    let a : v ≡ verdict 0 (holds_start r lead cycle) = c.answer ∙ ap (λ (k : ℕ). verdict k (holds_start r lead cycle)) e in
+    let a : v ≡ Ok (holds_start r lead cycle) = c.answer ∙ ap (λ (k : Result ⊤ Refusal). verdict k (holds_start r lead cycle)) (refusal-passes (judge_call_rows r lead cycle (length old)) e) in
     let w : new ≡ truth_masks r lead cycle ++ drop (length (truth_masks r lead cycle)) old = c.written ∙ ap (λ (k : ℕ). after k (truth_masks r lead cycle) old) e in
     rw (a, w) (meaning r P lead cycle (word_over r.s lead cycle p.word) (drop (length (truth_masks r lead cycle)) old))
 
 module _ (f lead cycle old new : List ℕ) where
   -- a file that is refused
-  pub judged-refused : (k : ℕ) → (k ≡ 0 → ⊥) → k ≡ file_row f → Judged f lead cycle old old (Refused k)
-  unfolding judge_of after
-  judged-refused zero n e = absurd (n refl)
-  judged-refused (suc k) n e =
-      let j : judge_row f lead cycle (length old) ≡ suc k = sym (file-refuses f lead cycle (length old) (suc k) n e) in
-      let kept : old ≡ after (suc k) (truth_masks (rule_in f) lead cycle) old = refl in
-      record { answer = rw j; written = rw j kept; meant = λ z. absurd (let x : suc k ≡ 0 = sym j ∙ z in omega arith) }
+  pub judged-refused : (k : Refusal) → first_refusal (file_rows_lem f) ≡ Err k → Judged f lead cycle old old (Err k)
+  unfolding judge_of judge_row
+  judged-refused k e =
+      let j = file-refuses f lead cycle (length old) k e in
+      let n = refused-row (judge_rows f lead cycle (length old)) k j in
+      record {
+        answer = rw j;
+        written = rw n (leaves (number_of k) (number-above k) (truth_masks (rule_in f) lead cycle) old);
+        meant = λ z. absurd (refused-some (judge_rows f lead cycle (length old)) k j z);
+      }
 
   -- a file that is accepted
-  pub judged-called : (v : Verdict) → file_row f ≡ 0 → JudgeCalled (rule_in f) lead cycle old new v → Judged f lead cycle old new v
+  pub judged-called : (v : Result Bool Refusal) → file_row f ≡ 0 → JudgeCalled (rule_in f) lead cycle old new v → Judged f lead cycle old new v
   unfolding judge_of
   judged-called v e c =
-      let j = file-passes f lead cycle (length old) e in
+      let i = file-passes f lead cycle (length old) e in
+      let j = row-passed f lead cycle (length old) e in
       record {
-        answer = rw j c.answer;
+        answer = rw i c.answer;
         written = rw j c.written;
         meant = λ z. called-meant (rule_in f) (accepted-passing f e) lead cycle old new v c (sym j ∙ z);
       }
 
 -- ---- a rule that is read
 module _ (r : Rule) (lead cycle old : List ℕ) where
-  pub called-refused : (k : ℕ) → (k ≡ 0 → ⊥) → k ≡ judge_call_row r lead cycle (length old) → JudgeCalled r lead cycle old old (Refused k)
-  unfolding after
-  called-refused zero n e = absurd (n refl)
-  called-refused (suc k) n e =
-      let j : judge_call_row r lead cycle (length old) ≡ suc k = sym e in
-      let kept : old ≡ after (suc k) (truth_masks r lead cycle) old = refl in
-      record { answer = rw j; written = rw j kept }
+  pub called-refused : (k : Refusal) → first_refusal (judge_call_rows r lead cycle (length old)) ≡ Err k → JudgeCalled r lead cycle old old (Err k)
+  unfolding judge_call_row
+  called-refused k e =
+      let n = refused-row (judge_call_rows r lead cycle (length old)) k e in
+      record { answer = rw e; written = rw n (leaves (number_of k) (number-above k) (truth_masks r lead cycle) old) }
 
   -- the masks are written; b tells whether the first holds the initial state
-  pub called-served : judge_call_row r lead cycle (length old) ≡ 0 → (new : List ℕ) → new ≡ truth_masks r lead cycle ++ drop (places lead cycle) old → 0 < length cycle
-      → (b : Bool) → bit (get_or new 0 0) r.initial ≡ b → JudgeCalled r lead cycle old new (verdict 0 b)
-  unfolding after
+  pub called-served : first_refusal (judge_call_rows r lead cycle (length old)) ≡ Ok tt → (new : List ℕ) → new ≡ truth_masks r lead cycle ++ drop (places lead cycle) old → 0 < length cycle
+      → (b : Bool) → bit (get_or new 0 0) r.initial ≡ b → JudgeCalled r lead cycle old new (Ok b)
+  unfolding after judge_call_row
   called-served j new w h b t =
       let first : get_or new 0 0 ≡ get_or (truth_masks r lead cycle) 0 0
       = ap (λ (x : List ℕ). get_or x 0 0) w ∙ get_or-append (truth_masks r lead cycle) (drop (places lead cycle) old) 0 0 (let x = truth-length r lead cycle in omega arith) in
       let held : holds_start r lead cycle ≡ b = ap (λ (x : ℕ). bit x r.initial) (sym first) ∙ t in
-      record { answer = rw (j, held); written = rw j (w ∙ ap (λ (n : ℕ). truth_masks r lead cycle ++ drop n old) (sym (truth-length r lead cycle))) }
+      let n = row-passes (judge_call_rows r lead cycle (length old)) j in
+      record { answer = rw (j, held); written = rw n (w ∙ ap (λ (n : ℕ). truth_masks r lead cycle ++ drop n old) (sym (truth-length r lead cycle))) }

@@ -1,11 +1,3 @@
-// What the judge on a rule promises: what it refuses, answers and writes, and the laws that this is what plans say.
+// What the judge on a rule promises: what it refuses, answers and writes, and the laws that this is what plans say; no code.
 
 #![tactic(auto)]
-
-// The answer: yes, no, or the number of the row that refuses.
-#[derive(Clone, Copy)]
-pub enum Verdict {
-    Yes,
-    No,
-    Refused(u8),
-}

@@ -11,7 +11,8 @@ use Rattle.theory.specs.Table.{ListsReachable}
 use Rattle.theory.specs.TableComputed.{macrostates, transitions}
 use Rattle.file_spec.specs.File.{NamedRule, rule_in, named_in}
 use Rattle.file_spec.specs.Rows.{file_row, file_rows_lem}
-use Rattle.refusals.proofs.Rows.{first-left, first-right}
+use Rattle.refusals.specs.Rows.{Check, number_of, refusal_at, first_row}
+use Rattle.refusals.proofs.Rows.{first-row-iff, refusal-at, first-left, first-right}
 use Rattle.file_read.proofs.FileRows.{file-numbered, accepted-passing}
 use Rattle.build_lists.specs.Room.{room_of_lem}
 use Rattle.build.specs.Built.{room_rows, room_row, built_by, row_from, built_from, build_row}
@@ -22,11 +23,15 @@ use Rattle.listing_spec.specs.Listing.{text_by, Printed}
 use Rattle.listing_spec.specs.Computed.{answer_text, listing_of}
 use Rattle.listing_spec.proofs.Listed.{long-text, short-text}
 
+-- the number of a row is that of its refusal
+row-number : (cs : List Check) (k : ℕ) → first_row cs ≡ suc k → number_of (refusal_at k) ≡ suc k
+row-number cs k e = let a = (first-row-iff cs (suc k) (omega arith)).0 e in ap number_of (refusal-at a.row.refusal k a.number) ∙ a.number
+
 -- by the row that the build's answer goes by
-answer-text : (k : ℕ) (r : NamedRule) → answer_text (built_by k (macrostates r.rule) (transitions r.rule)) r ≡ text_by k r (macrostates r.rule) (transitions r.rule)
+answer-text : (k : ℕ) (r : NamedRule) → ((j : ℕ) → k ≡ suc j → number_of (refusal_at j) ≡ suc j) → answer_text (built_by k (macrostates r.rule) (transitions r.rule)) r ≡ text_by k r (macrostates r.rule) (transitions r.rule)
 unfolding answer_text built_by text_by
-answer-text zero r = refl
-answer-text (suc k) r = refl
+answer-text zero r n = refl
+answer-text (suc k) r n = ap refused_line (n k refl)
 
 refused-by : (k : ℕ) (r : NamedRule) (codes moves : List ℕ) → text_by (suc k) r codes moves ≡ refused_line (suc k)
 unfolding text_by
@@ -34,8 +39,9 @@ refused-by k r codes moves = refl
 
 module _ (f : List ℕ) (short : length f ≤ 4096) where
   row-text : listing_of f ≡ text_by (build_row f 512 4096) (named_in f) (macrostates (rule_in f)) (transitions (rule_in f))
-  unfolding built_from
+  unfolding built_from row_from
   row-text = short-text f short ∙ answer-text (build_row f 512 4096) (named_in f)
+      (row-number (file_rows_lem f ++ room_rows (macrostates (rule_in f)) (transitions (rule_in f)) 512 4096))
 
   refused-listing : (k : ℕ) → file_row f ≡ suc k → listing_of f ≡ refused_line (suc k)
   unfolding row_from file_row

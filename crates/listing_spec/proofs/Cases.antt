@@ -6,7 +6,7 @@ use lib.ListN.{replicate}
 use Rattle.sets.specs.Digits.{num}
 use Rattle.sets.specs.Lists.{keep, among, any_of, sum, tabulate, flat, insert_ascending, sorted}
 use Rattle.sets.specs.Masks.{bit, mask, inside}
-use Rattle.refusals.specs.Rows.{first_row}
+use Rattle.refusals.specs.Rows.{refusal_at, first_row}
 use Rattle.sets.specs.Tests.{every, some_below, count, first, largest}
 use Rattle.theory.specs.Automaton.{automaton}
 use Rattle.theory.specs.Code.{fields, pack, component_in, classes_in, set_in, rank_in, well_coded}
@@ -30,7 +30,7 @@ use Rattle.listing_spec.specs.Computed.{answer_text, listing_of}
 -- what an evaluation unfolds
 unfoldable computed : ℕ
 unfolding listing_of answer_text table_text built_line m_line t_line n_line refused_line lines word decimal digits_in built_from built_by row_from room_rows room_of_lem file_rows_lem body_rows preface_rows name_rows has_names_lem
-    names_before repeats_name_lem layout_rows trailer_rows number_rows list_rows formed_rows clause_rows some_nested nested component_rows first_row tagged clauses_of_lem counts_of_lem mixed is_accepting_lem macrostates_from
+    names_before repeats_name_lem layout_rows trailer_rows number_rows list_rows formed_rows clause_rows some_nested nested component_rows first_row refusal_at tagged clauses_of_lem counts_of_lem mixed is_accepting_lem macrostates_from
     transitions_from transitions_of codes_from cores candidates digitals tabulate flat keep among any_of insert_ascending sorted reached_in reached well_coded pack fields mask num goes before onward begun
     automaton set_in rank_in component_in classes_in every satisfies inside bit rank_of level_of settled_up_to settled rejecting_settled accepting_settled mix is_open taken some_below count first largest open_of_lem
     next_component_lem is_core_lem component components is_smallest smallest together reaches within leads named entry sum

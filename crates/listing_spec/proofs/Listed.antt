@@ -14,7 +14,9 @@ use Rattle.file_spec.specs.Rows.{file_row, file_rows_lem}
 use Rattle.refusals.proofs.Rows.{first-parts, first-pass}
 use Rattle.file_read.proofs.FileRows.{file-numbered}
 use Rattle.build.specs.declared.Counts.{Counts}
-use Rattle.build.specs.declared.Built.TheVariants.{Table, Refused}
+use Rattle.std.specs.Prelude.{Ok, Err}
+use Rattle.refusals.specs.declared.Refusal.{Refusal}
+use Rattle.refusals.specs.Rows.{number_of}
 use Rattle.build_lists.specs.Room.{room_of_lem}
 use Rattle.build.specs.Built.{room_rows, room_after, slice_after, row_from, built_from, codes_after_from, transitions_after_from, build_row, built_of, codes_after_lem, transitions_after_lem}
 use Rattle.build.proofs.Answer.{table-by}
@@ -41,8 +43,8 @@ module _ (f : List ℕ) where
   unfolding row_from file_row room_rows room_of_lem
   both-rows e =
       let r = first-parts (file_rows_lem f) _ (file-numbered f) e in
-      let c = first-pass (ltb 512 (length (macrostates (rule_in f)))) 16 _ r.1 in
-      let t = first-pass (ltb 4096 (length (transitions (rule_in f)))) 17 _ c.1 in
+      let c = first-pass (ltb 512 (length (macrostates (rule_in f)))) _ _ r.1 in
+      let t = first-pass (ltb 4096 (length (transitions (rule_in f)))) _ _ c.1 in
       (r.0, ltb-false 512 (length (macrostates (rule_in f))) c.0, ltb-false 4096 (length (transitions (rule_in f))) t.0)
 
   module _ (short : length f ≤ 4096) where
@@ -51,12 +53,12 @@ module _ (f : List ℕ) where
     short-text = rw (le-ltb 4096 (length f) short)
 
     -- a refusal
-    pub refused-text : (k : ℕ) → built_of f 512 4096 ≡ Refused k → listing_of f ≡ refused_line k
+    pub refused-text : (r : Refusal) → built_of f 512 4096 ≡ Err r → listing_of f ≡ refused_line (number_of r)
     unfolding answer_text
-    refused-text k e = short-text ∙ rw e
+    refused-text r e = short-text ∙ rw e
 
     -- a table
-    module _ (n : Counts) (e : built_of f 512 4096 ≡ Table n) where
+    module _ (n : Counts) (e : built_of f 512 4096 ≡ Ok n) where
       pub built-text : listing_of f ≡ table_text (is_initial_lem (rule_in f)) (names_of f) (macrostates (rule_in f)) (transitions (rule_in f))
       unfolding answer_text
       built-text = short-text ∙ rw e

@@ -1,16 +1,18 @@
 -- No listing is longer than 66,799 bytes: line one, 16 n lines, 512 m lines and 4,096 t lines at their longest.
 use mathlib.Core.Path.{◌≡◌, refl}
 use mathlib.Core.Logic.{by_cases}
-use mathlib.Core.Bool.{Bool, true, false, cond}
+use mathlib.Core.Bool.{Bool}
 use mathlib.Core.List.{List, Memᴰ}
 use Prim.Native.Nat.{ℕ, zero, suc, ◌+◌, ◌*◌, ◌/◌, ◌^◌, ◌≤◌, ◌<◌}
 use native.Mathlib.Omega.{arith}
-use native.Mathlib.Decide.{dec_lt, ℕ_discrete}
+use native.Mathlib.Decide.{dec_lt}
 use native.Mathlib.Nat.{zero-add}
-use borrow.Author.Tests.{le-ltb, leb-false}
-use lib.Dec.{leb, ltb}
+use borrow.Author.Tests.{le-ltb}
 use lib.ListN.{length, drop, length-take}
-use Rattle.refusals.specs.Rows.{first_row}
+use Rattle.std.proofs.Common.{lit<}
+use Rattle.refusals.specs.declared.Refusal.{Refusal}
+use Rattle.refusals.specs.declared.Refusal.TheVariants.{ShortFile, NoTag, States, Letters, Initial, Accepting, Cut, Count, Sum, Clause, Mixed, NoCycle, LongWord, Letter, Table, Slice, MacrostateRoom, TransitionRoom, NoTable, ClauseInside, Names, NameByte, EqualNames, Words, EventLine, CoveredLine, NoLine, OtherLetters, PairRoom, LogFull, LogEmpty, Mark, MarkNotSet}
+use Rattle.refusals.specs.Rows.{number_of, refusal_at}
 use Rattle.sets.proofs.Bools.{bif}
 use Rattle.sets.proofs.Lists.{mem-at, length-tabulate}
 use Rattle.theory.specs.Automaton.{automaton}
@@ -24,14 +26,10 @@ use Rattle.theory_laws.proofs.Tables.{few_states, components-there, reachable-if
 use Rattle.file_spec.specs.File.{NamedRule, trailer, part_before_lem, names_of, rule_in, named_in}
 use Rattle.file_spec.specs.Names.{has_names_lem}
 use Rattle.file_spec.proofs.Names.{fit-21, names-length, no_names}
-use Rattle.file_spec.specs.Rows.{trailer_rows, layout_rows, body_rows, name_rows, preface_rows, preface_row_lem, file_row, file_rows_lem}
-use Rattle.file_spec.specs.RuleRows.{number_rows, list_rows, clause_rows, component_rows, formed_rows}
-use Rattle.refusals.proofs.Rows.{first-left, first-right}
-use Rattle.file_read.proofs.FileRows.{file-numbered, accepted-rows, accepted-passing}
+use Rattle.file_spec.specs.Rows.{preface_row_lem, file_row}
+use Rattle.file_read.proofs.FileRows.{accepted-rows, accepted-passing}
 use Rattle.build_spec.proofs.Listing.{code-low}
-use Rattle.build.proofs.Answer.{none_of_lem, first-other}
-use Rattle.build_lists.specs.Room.{codes_room, transitions_room}
-use Rattle.build.specs.Built.{room_rows, built_by, row_from, built_from, build_row}
+use Rattle.build.specs.Built.{built_by, built_from, build_row}
 use Rattle.slice_text.specs.Decimal.{word}
 use Rattle.listing_lines_spec.specs.Lines.{m_line, t_line, n_line, letters_of, name_line, name_lines, macrostate_line, macrostate_lines, transition_line, transition_lines, table_text}
 use Rattle.listing_spec.specs.Computed.{answer_text, listing_of}
@@ -105,24 +103,8 @@ module _ (r : Rule) (P : Passing r) (few : length (macrostates r) ≤ 512) where
 
 -- ---- refusals have at most two digits
 
-two-rows : (a b : Bool) → cond a 17 (cond b 18 0) < 100
-two-rows true b = omega arith
-two-rows false true = omega arith
-two-rows false false = omega arith
-
-room-rows-low : (codes moves : List ℕ) (m t : ℕ) → first_row (room_rows codes moves m t) < 100
-unfolding room_rows first_row
-room-rows-low codes moves m t = two-rows (ltb (codes_room m) (length codes)) (ltb (transitions_room t) (length moves))
-
-file-row-low : (f : List ℕ) → file_row f < 100
-unfolding file_row none_of_lem file_rows_lem body_rows preface_rows name_rows layout_rows trailer_rows number_rows list_rows formed_rows clause_rows component_rows
-file-row-low f = leb-false 100 (file_row f) (first-other (λ k. leb 100 k) refl (file_rows_lem f) refl)
-
-row_low : (f : List ℕ) (m t : ℕ) → build_row f m t < 100
-unfolding row_from file_row
-row_low f m t = by_cases (ℕ_discrete (file_row f) 0)
-    (λ z. rw (first-right (file_rows_lem f) (room_rows (macrostates (rule_in f)) (transitions (rule_in f)) m t) (file-numbered f) z) (room-rows-low _ _ m t))
-    (λ z. let e = first-left (file_rows_lem f) (room_rows (macrostates (rule_in f)) (transitions (rule_in f)) m t) (file_row f) z refl in let l = file-row-low f in omega arith)
+number-low : (r : Refusal) → number_of r < 100
+number-low r = elim r as (λ x. number_of x < 100) [ ShortFile ↦ lit< tt | NoTag ↦ lit< tt | States ↦ lit< tt | Letters ↦ lit< tt | Initial ↦ lit< tt | Accepting ↦ lit< tt | Cut ↦ lit< tt | Count ↦ lit< tt | Sum ↦ lit< tt | Clause ↦ lit< tt | Mixed ↦ lit< tt | NoCycle ↦ lit< tt | LongWord ↦ lit< tt | Letter ↦ lit< tt | Table ↦ lit< tt | Slice ↦ lit< tt | MacrostateRoom ↦ lit< tt | TransitionRoom ↦ lit< tt | NoTable ↦ lit< tt | ClauseInside ↦ lit< tt | Names ↦ lit< tt | NameByte ↦ lit< tt | EqualNames ↦ lit< tt | Words ↦ lit< tt | EventLine ↦ lit< tt | CoveredLine ↦ lit< tt | NoLine ↦ lit< tt | OtherLetters ↦ lit< tt | PairRoom ↦ lit< tt | LogFull ↦ lit< tt | LogEmpty ↦ lit< tt | Mark ↦ lit< tt | MarkNotSet ↦ lit< tt ]
 
 -- ---- the names of an accepted file
 
@@ -138,15 +120,15 @@ names-most f e =
 
 -- ---- all listings
 
-by_row : (k : ℕ) (r : NamedRule) → k < 100 → (k ≡ 0 → length (table_text (is_initial_lem r.rule) r.names (macrostates r.rule) (transitions r.rule)) ≤ 66799)
+by_row : (k : ℕ) (r : NamedRule) → (k ≡ 0 → length (table_text (is_initial_lem r.rule) r.names (macrostates r.rule) (transitions r.rule)) ≤ 66799)
     → length (answer_text (built_by k (macrostates r.rule) (transitions r.rule)) r) ≤ 66799
 unfolding answer_text built_by
-by_row zero r l h = h refl
-by_row (suc k) r l h = omega (arith, refused-length (suc k), word-most 1 (suc k) l)
+by_row zero r h = h refl
+by_row (suc k) r h = let n = number_of (refusal_at k) in omega (arith, refused-length n, word-most 1 n (number-low (refusal_at k)))
 
 pub listing-most : (f : List ℕ) → length (listing_of f) ≤ 66799
 unfolding listing_of built_from
 listing-most f = by_cases (dec_lt 4096 (length f))
     (λ h. rw (long-text f h) (omega arith))
-    (λ h. rw (le-ltb 4096 (length f) (omega arith)) (by_row (build_row f 512 4096) (named_in f) (row_low f 512 4096)
+    (λ h. rw (le-ltb 4096 (length f) (omega arith)) (by_row (build_row f 512 4096) (named_in f)
     (λ z. let b = both-rows f z in table-most (rule_in f) (accepted-passing f b.0) b.1 b.2 (names_of f) (names-most f b.0))))

@@ -11,9 +11,6 @@ ghost use Rattle.slice_text.specs.Put.{Put};
 ghost use Rattle.listing_spec.specs.Computed.{listing_of};
 ghost use Rattle.listing_spec.specs.Listing.{Printed};
 
-use build::Built;
-use file_spec::Read;
-
 // No listing is longer: line one of 15 bytes, 16 n lines of 14, 512 m lines of 26 and 4,096 t lines of 13.
 pub const LONGEST: usize = 66799;
 
@@ -22,8 +19,8 @@ fn initial_of(file: &[u8]) -> u32
     ensures { (result < 8) × (file_row file.now ≡ 0 → result ≡ (rule_in file.now).initial) }
 {
     match file_read::read_rule(file) {
-        Read::Refused(_) => 0,
-        Read::Accepted(l) => {
+        Err(_) => 0,
+        Ok(l) => {
             let h = l.head;
             h.initial as u32
         }
@@ -35,8 +32,8 @@ fn names_in(file: &[u8]) -> &[u8]
     ensures { file_row file.now ≡ 0 → result.now ≡ names_of file.now }
 {
     match file_read::read_rule(file) {
-        Read::Refused(_) => &file[..0],
-        Read::Accepted(l) => file_read::names_of(file, l),
+        Err(_) => &file[..0],
+        Ok(l) => file_read::names_of(file, l),
     }
 }
 
@@ -51,8 +48,8 @@ fn put_listing(out: &mut [u8], file: &[u8]) -> usize
     let mut list = [0u64; 512];
     let mut transitions = [0u64; 4096];
     match build::build(file, &mut list, &mut transitions) {
-        Built::Refused(row) => crate::lines::put_refused(out, row),
-        Built::Table(counts) => {
+        Err(refusal) => crate::lines::put_refused(out, refusal),
+        Ok(counts) => {
             let m = counts.macrostates;
             let t = counts.transitions;
             crate::lines::put_table(

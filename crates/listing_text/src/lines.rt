@@ -3,6 +3,9 @@ ghost use Rattle.std.specs.Prelude.{◌≡◌, ◌+◌, ◌≤◌, ◌<◌, leng
 ghost use Rattle.listing_lines_spec.specs.Lines.{initial_at, sign, built_line, m_line};
 ghost use Rattle.listing_lines_spec.specs.Lines.{t_line, n_line, refused_line, name_lines, macrostate_lines, transition_lines, table_text};
 ghost use Rattle.slice_text.specs.Put.{Put};
+ghost use Rattle.refusals.specs.Rows.{number_of};
+
+use refusals::Refusal;
 
 // The letter, or a `-` where not.
 fn sign_of(holds: bool, letter: u8) -> u8
@@ -77,12 +80,12 @@ fn put_name(out: &mut [u8], at: usize, letter: usize, name: &[u8]) -> usize
 }
 
 // A refusal.
-pub fn put_refused(out: &mut [u8], row: u8) -> usize
-    requires { length (refused_line row) ≤ length out.old }
-    ensures { Put out.old 0 (refused_line row) out.new result }
+pub fn put_refused(out: &mut [u8], refusal: Refusal) -> usize
+    requires { length (refused_line (number_of refusal)) ≤ length out.old }
+    ensures { Put out.old 0 (refused_line (number_of refusal)) out.new result }
 {
     let a = slice_text::put(out, 0, b"refused");
-    let b = slice_text::put_word(out, a, row as u64);
+    let b = slice_text::put_word(out, a, refusal.row() as u64);
     slice_text::put_byte(out, b, b'\n')
 }
 
@@ -93,13 +96,10 @@ fn put_names(out: &mut [u8], at: usize, names: &[u8]) -> usize
     requires { at + length (name_lines names.now) ≤ length out.old }
     ensures { Put out.old at (name_lines names.now) out.new result }
 {
-    let count = names.len() / 8;
     let mut end = at;
-    let mut i = 0;
-    while i < count {
+    for i in 0..names.len() / 8 {
         let start = 8 * i;
         end = put_name(out, end, i, &names[start..start + 8]);
-        i += 1;
     }
     end
 }
@@ -110,13 +110,10 @@ fn put_macrostates(out: &mut [u8], at: usize, list: &[u64], initial: u32) -> usi
     ensures { Put out.old at (macrostate_lines (initial_at initial) list.now) out.new result }
 {
     let mut end = at;
-    let mut i = 0;
-    while i < list.len() {
-        let code = list[i];
-        let begins = codes::is_initial(code, initial);
-        let accepts = codes::is_accepting(code);
-        end = put_macrostate(out, end, i, code, begins, accepts);
-        i += 1;
+    for (i, code) in list.iter().enumerate() {
+        let begins = codes::is_initial(*code, initial);
+        let accepts = codes::is_accepting(*code);
+        end = put_macrostate(out, end, i, *code, begins, accepts);
     }
     end
 }
@@ -127,14 +124,11 @@ fn put_transitions(out: &mut [u8], at: usize, list: &[u64]) -> usize
     ensures { Put out.old at (transition_lines list.now) out.new result }
 {
     let mut end = at;
-    let mut i = 0;
-    while i < list.len() {
-        let t = list[i];
-        let source = codes::source_of(t);
-        let letter = codes::letter_of(t);
-        let target = codes::target_of(t);
+    for t in list {
+        let source = codes::source_of(*t);
+        let letter = codes::letter_of(*t);
+        let target = codes::target_of(*t);
         end = put_transition(out, end, source, letter, target);
-        i += 1;
     }
     end
 }

@@ -55,10 +55,8 @@ fn has_flags(n: usize, state: &[u8]) -> bool
     ensures { result ≡ true → (y : ℕ) → y < n → get_or state.now (set_at + y) 0 ≤ 1 }
 {
     let mut most: u8 = 0;
-    let mut i = 0;
-    while i < n {
-        most = larger(most, state[8754 + i]);
-        i += 1;
+    for v in &state[8754..8754 + n] {
+        most = larger(most, *v);
     }
     most <= 1
 }

@@ -40,7 +40,7 @@ fn rise_four(bytes: &[u8], i: usize, last: u64) -> bool
     c < element(bytes, i + 3)
 }
 
-// Whether the numbers ascend strictly. Four of them a turn, which takes half the time of one a turn.
+// Whether the numbers ascend strictly.
 pub fn is_ascending(bytes: &[u8]) -> bool
     ensures { result ≡ ascends (words_in bytes.now) }
 {
@@ -50,6 +50,7 @@ pub fn is_ascending(bytes: &[u8]) -> bool
     }
     let mut last = element(bytes, 0);
     let mut i = 1;
+    // A while: four numbers a turn take half the time of one a turn.
     while i + 4 <= n {
         if !rise_four(bytes, i, last) {
             return false;
@@ -57,13 +58,12 @@ pub fn is_ascending(bytes: &[u8]) -> bool
         last = element(bytes, i + 3);
         i += 4;
     }
-    while i < n {
-        let x = element(bytes, i);
+    for j in i..n {
+        let x = element(bytes, j);
         if x <= last {
             return false;
         }
         last = x;
-        i += 1;
     }
     true
 }
@@ -102,10 +102,8 @@ fn limits_of(s: usize, n: usize, letter: usize) -> [u32; 256]
     ensures { (l : ℕ) → l < 256 → get_or result l 0 ≡ limit_of_lem s n letter l }
 {
     let mut limits = [0u32; 256];
-    let mut l = 0;
-    while l < 256 {
-        limits[l] = limit_of(s, n, letter, l);
-        l += 1;
+    for (l, limit) in limits.iter_mut().enumerate() {
+        *limit = limit_of(s, n, letter, l);
     }
     limits
 }
@@ -145,14 +143,11 @@ fn sweep_tried(s: usize, letter: usize, transitions: &[u8], set: &mut [u8]) -> b
     ensures { Tried s letter (words_in transitions.now) set.old set.new result }
 {
     let limits = limits_of(s, set.len(), letter);
-    let m = transitions.len() / 8;
-    let mut i = 0;
-    while i < m {
+    for i in 0..transitions.len() / 8 {
         let t = element(transitions, i);
         if !sweep_one(t, limits[letter_of(t)], letter, set) {
             return false;
         }
-        i += 1;
     }
     true
 }
@@ -163,10 +158,8 @@ fn sweep_tried(s: usize, letter: usize, transitions: &[u8], set: &mut [u8]) -> b
 fn keep_low(set: &mut [u8])
     ensures { set.new ≡ map (λ v. v % 2) set.old }
 {
-    let mut i = 0;
-    while i < set.len() {
-        set[i] = set[i] % 2;
-        i += 1;
+    for v in set.iter_mut() {
+        *v %= 2;
     }
 }
 

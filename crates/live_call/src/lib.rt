@@ -4,21 +4,22 @@
 #![tactic(auto)]
 
 ghost use Rattle.std.specs.Prelude.{◌≡◌, ◌+◌, ◌≤◌, ◌<◌, length};
+ghost use Rattle.refusals.specs.Rows.{first_refusal};
 ghost use Rattle.table_lent.specs.Lent.{words_in, in_bytes_lem};
 ghost use Rattle.live_spec.specs.State.{set_at};
-ghost use Rattle.live_spec.specs.Rows.{live_call_row};
+ghost use Rattle.live_spec.specs.Rows.{live_call_rows};
 ghost use Rattle.live_spec.specs.Called.{effect, CalledBy, LiveCalled};
 ghost use Rattle.live_state.specs.Ready.{Ready};
 ghost use Rattle.live_call.specs.Callable.{Callable, Counted};
 
 use file_read::read_rule;
-use file_spec::Read;
 use live_arrive::{Quick, try_quickly};
 use live_rows::call_row;
 use live_set::letters::number_at;
 use live_set::show_set;
-use live_spec::{LiveAnswer, LiveCall, LiveCounts};
+use live_spec::{LiveCall, LiveCounts};
 use live_state::effects::{arrive, mark, return_to, start, withdraw};
+use refusals::Refusal;
 use rule_entries::Head;
 
 // What the call makes of state.
@@ -77,19 +78,16 @@ fn call_by_rows(
     transitions: &[u8],
     state: &mut [u8],
     set: &mut [u8],
-) -> LiveAnswer
+) -> Result<LiveCounts, Refusal>
     requires { (h.initial < 8) × (h.s ≤ 16) }
     ensures { CalledBy
-        (live_call_row call h.s (in_bytes_lem codes.now) (in_bytes_lem transitions.now) state.old
-        (length set.old))
+        (first_refusal (live_call_rows call h.s (in_bytes_lem codes.now) (in_bytes_lem transitions.now) state.old
+        (length set.old)))
         call h.initial (words_in codes.now) (words_in transitions.now)
         state.old set.old state.new set.new result }
 {
-    let row = call_row(call, h.s, codes, transitions, state, set.len());
-    if row != 0 {
-        return LiveAnswer::Refused(row);
-    }
-    LiveAnswer::Live(serve(call, h.initial as u32, codes, transitions, state, set))
+    call_row(call, h.s, codes, transitions, state, set.len())?;
+    Ok(serve(call, h.initial as u32, codes, transitions, state, set))
 }
 
 // The call for a rule that was read: refused by its rows, or made. An arrival is tried at once where no row but 15 for its transitions can
@@ -101,18 +99,18 @@ fn call_read(
     transitions: &[u8],
     state: &mut [u8],
     set: &mut [u8],
-) -> LiveAnswer
+) -> Result<LiveCounts, Refusal>
     requires { (h.initial < 8) × (h.s ≤ 16) }
     ensures { CalledBy
-        (live_call_row call h.s (in_bytes_lem codes.now) (in_bytes_lem transitions.now) state.old
-        (length set.old))
+        (first_refusal (live_call_rows call h.s (in_bytes_lem codes.now) (in_bytes_lem transitions.now) state.old
+        (length set.old)))
         call h.initial (words_in codes.now) (words_in transitions.now)
         state.old set.old state.new set.new result }
 {
     let room = set.len();
     match try_quickly(call, h.s, codes, transitions, state, room) {
-        Quick::Served => LiveAnswer::Live(count(codes, state, set)),
-        Quick::Refused => LiveAnswer::Refused(refusals::TABLE),
+        Quick::Served => Ok(count(codes, state, set)),
+        Quick::Refused => Err(Refusal::Table),
         Quick::Untried => call_by_rows(h, call, codes, transitions, state, set),
     }
 }
@@ -126,15 +124,10 @@ pub fn live_call(
     transitions: &[u8],
     state: &mut [u8],
     set: &mut [u8],
-) -> LiveAnswer
+) -> Result<LiveCounts, Refusal>
     ensures { LiveCalled call file.now (in_bytes_lem codes.now) (in_bytes_lem transitions.now)
         state.old set.old state.new set.new result }
 {
-    match read_rule(file) {
-        Read::Accepted(l) => {
-            let h = l.head;
-            call_read(h, call, codes, transitions, state, set)
-        }
-        Read::Refused(row) => LiveAnswer::Refused(row),
-    }
+    let l = read_rule(file)?;
+    call_read(l.head, call, codes, transitions, state, set)
 }

@@ -11,15 +11,16 @@ use Rattle.sets.specs.Lists.{tabulate}
 use Rattle.sets.specs.Tests.{one}
 use Rattle.sets.proofs.Lists.{length-tabulate}
 use Rattle.sets.proofs.Tests.{count-ext}
+use Rattle.std.specs.Prelude.{Result, Ok}
+use Rattle.refusals.specs.declared.Refusal.{Refusal}
 use Rattle.theory.specs.Passing.{Passing}
 use Rattle.theory.specs.Rule.{Rule}
 use Rattle.trim_spec.specs.Graph.{Inside}
-use Rattle.live_spec.specs.declared.LiveAnswer.{LiveAnswer}
-use Rattle.live_spec.specs.declared.LiveAnswer.TheVariants.{Live}
+use Rattle.live_spec.specs.declared.LiveCounts.{LiveCounts}
 use Rattle.live_spec.specs.declared.LiveCall.{LiveCall}
 use Rattle.live_spec.specs.declared.LiveCall.TheVariants.{Start, Arrive, Withdraw, Mark, Return}
 use Rattle.live_spec.specs.Afresh.{is_in, afresh, members_of}
-use Rattle.live_spec.specs.History.{History, later, is_set, Log, empty, log_of, Serves, Served}
+use Rattle.live_spec.specs.History.{History, later, is_set, Log, log_of, Serves, Served}
 use Rattle.live_spec.specs.State.{state_length_lem, state_of, number_in, is_marked_lem, set_bytes}
 use Rattle.live_spec.specs.Effects.{put, shown}
 use Rattle.live_spec.specs.Called.{effect, answer_by, left_by_lem, CalledBy, Gets, Leaves}
@@ -72,9 +73,9 @@ module _ (q : ℕ) (codes ts : List ℕ) (room : length codes ≤ 65536) (g : Lo
 
 module _ (r : Rule) (P : Passing r) (codes ts : List ℕ) (room : length codes ≤ 65536) (inside : Inside (length codes) ts) where
   -- by what is left of state
-  by-effect : (h : History) (c : LiveCall) (state set state' set' : List ℕ) (v : LiveAnswer) → Served r.s (later h c)
+  by-effect : (h : History) (c : LiveCall) (state set state' set' : List ℕ) (v : Result LiveCounts Refusal) → Served r.s (later h c)
       → effect c r.initial codes ts state ≡ state_of r.initial codes ts (later h c) ++ drop state_length_lem state
-      → CalledBy 0 c r.initial codes ts state set state' set' v → Leaves r codes ts (later h c) state set state' set' v
+      → CalledBy (Ok tt) c r.initial codes ts state set state' set' v → Leaves r codes ts (later h c) state set state' set' v
   unfolding answer_by left_by_lem put
   by-effect h c state set state' set' v S e C =
       let q = r.initial in
@@ -86,7 +87,7 @@ module _ (r : Rule) (P : Passing r) (codes ts : List ℕ) (room : length codes �
       let shows : shown n (effect c q codes ts state) ≡ afresh q codes ts g.letters = ap (shown n) f ∙ set-shown q codes ts room g K rest in
       record {
         served = S;
-        answered = C.answered ∙ ap₂ (λ (x y : ℕ). Live (record { letters = x; macrostates = y }))
+        answered = C.answered ∙ ap₂ (λ (x y : ℕ). Ok (record { letters = x; macrostates = y }))
             (ap number_in f ∙ number-told q codes ts room g K rest)
             (ap (λ (x : List ℕ). members_of n (set_bytes x)) f ∙ members-told q codes ts room g K rest);
         state_left = C.state_left ∙ e;
@@ -105,12 +106,12 @@ module _ (r : Rule) (P : Passing r) (codes ts : List ℕ) (room : length codes �
       ap (effect c r.initial codes ts) (sym (take-append-drop state_length_lem state) ∙ ap (λ (x : List ℕ). x ++ drop state_length_lem state) e)
       ∙ call-goes r.initial codes ts room inside.sources r.s h c (drop state_length_lem state) S k n
 
-  front : (h : History) (state set state' set' : List ℕ) (v : LiveAnswer) → Leaves r codes ts h state set state' set' v → take state_length_lem state' ≡ state_of r.initial codes ts h
+  front : (h : History) (state set state' set' : List ℕ) (v : Result LiveCounts Refusal) → Leaves r codes ts h state set state' set' v → take state_length_lem state' ≡ state_of r.initial codes ts h
   front h state set state' set' v L =
       ap (take state_length_lem) L.state_left ∙ take_at (state_of r.initial codes ts h) (drop state_length_lem state) state_length_lem (state-long r.initial codes ts r.s h L.served room)
 
-  pub leaves : (h : History) (c : LiveCall) (state set state' set' : List ℕ) (v : LiveAnswer) → Served r.s h → Serves r.s (log_of h) c → Gets c r.initial codes ts h state
-      → CalledBy 0 c r.initial codes ts state set state' set' v → Leaves r codes ts (later h c) state set state' set' v
+  pub leaves : (h : History) (c : LiveCall) (state set state' set' : List ℕ) (v : Result LiveCounts Refusal) → Served r.s h → Serves r.s (log_of h) c → Gets c r.initial codes ts h state
+      → CalledBy (Ok tt) c r.initial codes ts state set state' set' v → Leaves r codes ts (later h c) state set state' set' v
   leaves h Start state set state' set' v S k e C = by-effect h Start state set state' set' v (S, k) (start-goes r.initial codes ts room inside.sources h state) C
   leaves h (Arrive a) state set state' set' v S k e C = by-effect h (Arrive a) state set state' set' v (S, k) (got h (Arrive a) state S k tt e) C
   leaves h Withdraw state set state' set' v S k e C = by-effect h Withdraw state set state' set' v (S, k) (got h Withdraw state S k tt e) C
@@ -118,7 +119,7 @@ module _ (r : Rule) (P : Passing r) (codes ts : List ℕ) (room : length codes �
   leaves h (Return m) state set state' set' v S k e C = by-effect h (Return m) state set state' set' v (S, k) (got h (Return m) state S k tt e) C
 
   -- what was left is what the next call gets
-  pub left-is-got : (h : History) (c : LiveCall) (state set state' set' : List ℕ) (v : LiveAnswer) → Leaves r codes ts h state set state' set' v → Onward c → Gets c r.initial codes ts h state'
+  pub left-is-got : (h : History) (c : LiveCall) (state set state' set' : List ℕ) (v : Result LiveCounts Refusal) → Leaves r codes ts h state set state' set' v → Onward c → Gets c r.initial codes ts h state'
   left-is-got h Start state set state' set' v L n = absurd n
   left-is-got h (Arrive a) state set state' set' v L n = front h state set state' set' v L
   left-is-got h Withdraw state set state' set' v L n = front h state set state' set' v L

@@ -8,6 +8,7 @@ use lib.ListN.{length, take, drop, take-append-drop}
 use borrow.Author.Tests.{ltb-false}
 use Rattle.sets.proofs.Bools.{bif}
 use Rattle.refusals.specs.Rows.{check, first_row}
+use Rattle.refusals.specs.declared.Refusal.TheVariants.{LogFull, LogEmpty}
 use Rattle.live_spec.specs.declared.LiveCall.{LiveCall}
 use Rattle.live_spec.specs.declared.LiveCall.TheVariants.{Start, Arrive, Withdraw, Mark, Return}
 use Rattle.live_spec.specs.Called.{Gets}
@@ -36,8 +37,8 @@ pub refused-by-log : (q s : ℕ) (codes ts : List ℕ) → length codes ≤ 6553
     → first_row (log_rows c state) ≡ first_row (held_rows c (log_of h))
 unfolding log_rows held_rows first_row
 refused-by-log q s codes ts few h S Start state e = refl
-refused-by-log q s codes ts few h S (Arrive a) state e = ap (λ (n : ℕ). first_row (check (leb 512 n) 30 ∷ [])) (number_of q s codes ts few h S state e)
-refused-by-log q s codes ts few h S Withdraw state e = ap (λ (n : ℕ). first_row (check (eqb n 0) 31 ∷ [])) (number_of q s codes ts few h S state e)
+refused-by-log q s codes ts few h S (Arrive a) state e = ap (λ (n : ℕ). first_row (check (leb 512 n) LogFull ∷ [])) (number_of q s codes ts few h S state e)
+refused-by-log q s codes ts few h S Withdraw state e = ap (λ (n : ℕ). first_row (check (eqb n 0) LogEmpty ∷ [])) (number_of q s codes ts few h S state e)
 refused-by-log q s codes ts few h S (Mark m) state e = refl
 refused-by-log q s codes ts few h S (Return m) state e =
     bif (ltb 15 m) (λ t. rw t) (λ t. rw (mark_of q s codes ts few h S state e m (omega (arith, ltb-false 15 m t))))

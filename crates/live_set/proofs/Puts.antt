@@ -1,6 +1,6 @@
 -- A part written over others: what stands before it, in it and behind it.
 use mathlib.Core.Path.{◌≡◌, refl, sym, ◌∙◌, ap}
-use mathlib.Core.Logic.{◌⊎◌, ⊎_elim, by_cases}
+use mathlib.Core.Logic.{by_cases}
 use mathlib.Core.Bool.{not}
 use mathlib.Core.List.{List, [], ◌∷◌, ◌++◌}
 use Prim.Native.Nat.{ℕ, suc, ◌+◌, ◌-◌, ◌≤◌, ◌<◌}
@@ -78,44 +78,6 @@ put_two at v w bytes l =
     (λ z. rw (z, add-zero at) (get_or-set_other (set bytes at v) (at + 1) at w 0 (λ e. omega arith) ∙ get_or-set_same bytes at v 0 (omega arith)))
     (λ n. let e : j ≡ 1 = omega arith in rw e (get_or-set_same (set bytes at v) (at + 1) w 0 (omega arith))))
     (λ j b. get_or-set_other (set bytes at v) (at + 1) j w 0 (λ e. omega arith) ∙ get_or-set_other bytes at j v 0 (λ e. omega arith))
-
--- ---- k bytes copied from one place to another, one a turn
-
--- the first i are
-pub record Copied (from to : ℕ) (before after : List ℕ) (i : ℕ) : Type 0 where
-  pub long : length after ≡ length before
-  pub done : (j : ℕ) → j < i → get_or after (to + j) 0 ≡ get_or before (from + j) 0
-  pub low : (j : ℕ) → j < to → get_or after j 0 ≡ get_or before j 0
-  pub high : (j : ℕ) → to + i ≤ j → get_or after j 0 ≡ get_or before j 0
-
-module _ (k from to : ℕ) (before : List ℕ) (reads : from + k ≤ length before) (writes : to + k ≤ length before) (apart : (from + k ≤ to) ⊎ (to + k ≤ from)) where
-  pub copied-start : Copied from to before before 0
-  copied-start = record { long = refl; done = λ j l. absurd (omega arith); low = λ j l. refl; high = λ j l. refl }
-
-  source : (after : List ℕ) (i : ℕ) → i < k → Copied from to before after i → get_or after (from + i) 0 ≡ get_or before (from + i) 0
-  source after i l c = ⊎_elim (λ b. c.low (from + i) (omega arith)) (λ b. c.high (from + i) (omega arith)) apart
-
-  pub copied_next : (after : List ℕ) (i : ℕ) → i < k → Copied from to before after i → Copied from to before (set after (to + i) (get_or after (from + i) 0)) (i + 1)
-  copied_next after i l c =
-      let v = get_or after (from + i) 0 in
-      record {
-        long = length-set after (to + i) v ∙ c.long;
-        done = λ j m.
-            by_cases (ℕ_discrete j i)
-            (λ x. rw x (get_or-set_same after (to + i) v 0 (omega (arith, c.long)) ∙ source after i l c))
-            (λ x. get_or-set_other after (to + i) (to + j) v 0 (λ e. x (omega arith)) ∙ c.done j (omega arith));
-        low = λ j m. get_or-set_other after (to + i) j v 0 (λ e. omega arith) ∙ c.low j m;
-        high = λ j m. get_or-set_other after (to + i) j v 0 (λ e. omega arith) ∙ c.high j (omega arith);
-      }
-
-  pub copied-end : (after : List ℕ) (i : ℕ) → i ≡ k → Copied from to before after i → after ≡ put to (take k (drop from before)) before
-  copied-end after i e c =
-      let part = take k (drop from before) in
-      let long : length part ≡ k = length-take-le k (drop from before) (omega (arith, length-drop from before)) in
-      put-ext to part before (omega arith) after c.long
-      c.low
-      (λ j l. let m : j < k = omega arith in c.done j (omega arith) ∙ sym (get_or-take k (drop from before) j 0 m ∙ get_or-drop from before j 0))
-      (λ j l. c.high j (omega arith))
 
 -- ---- a flag
 

@@ -58,9 +58,5 @@ pub fn copy_letters(state: &mut [u8], from: usize, to: usize)
     requires { (from + 512 ≤ length state.old) × (to + 512 ≤ length state.old) × ((from + 512 ≤ to) ⊎ (to + 512 ≤ from)) }
     ensures { state.new ≡ put to (take 512 (drop from state.old)) state.old }
 {
-    let mut i = 0;
-    while i < 512 {
-        state[to + i] = state[from + i];
-        i += 1;
-    }
+    state.copy_within(from..from + 512, to);
 }

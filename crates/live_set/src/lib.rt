@@ -37,10 +37,8 @@ pub fn begin_set(initial: u32, codes: &[u8], set: &mut [u8])
     requires { (initial < 8) × (length set.old ≡ length (words_in codes.now)) }
     ensures { set.new ≡ initial_set initial (words_in codes.now) }
 {
-    let mut i = 0;
-    while i < set.len() {
-        set[i] = first_byte(word_at(codes, i * 8), initial);
-        i += 1;
+    for (i, v) in set.iter_mut().enumerate() {
+        *v = first_byte(word_at(codes, i * 8), initial);
     }
 }
 
@@ -60,10 +58,8 @@ fn flag(v: u8) -> u8
 fn flag_all(set: &mut [u8])
     ensures { set.new ≡ map flag_of_lem set.old }
 {
-    let mut i = 0;
-    while i < set.len() {
-        set[i] = flag(set[i]);
-        i += 1;
+    for v in set.iter_mut() {
+        *v = flag(*v);
     }
 }
 
@@ -71,10 +67,8 @@ fn flag_all(set: &mut [u8])
 pub fn halve_all(set: &mut [u8])
     ensures { set.new ≡ map (λ v. v / 2) set.old }
 {
-    let mut i = 0;
-    while i < set.len() {
-        set[i] = set[i] / 2;
-        i += 1;
+    for v in set.iter_mut() {
+        *v /= 2;
     }
 }
 
@@ -98,11 +92,8 @@ fn sweep(letter: usize, transitions: &[u8], set: &mut [u8])
     requires { Inside (length set.old) (words_in transitions.now) × ((y : ℕ) → get_or set.old y 0 ≤ 1) }
     ensures { Swept letter (words_in transitions.now) set.old set.new }
 {
-    let m = transitions.len() / 8;
-    let mut i = 0;
-    while i < m {
+    for i in 0..transitions.len() / 8 {
         move_over(word_at(transitions, i * 8), letter, set);
-        i += 1;
     }
 }
 
@@ -126,12 +117,10 @@ pub fn show_set(n: usize, state: &[u8], set: &mut [u8]) -> usize
         × (result ≡ members_of n (set_bytes state.now)) }
 {
     let mut members: usize = 0;
-    let mut i = 0;
-    while i < n {
+    for i in 0..n {
         let v = flag(state[8754 + i]);
         set[i] = v;
         members += v as usize;
-        i += 1;
     }
     members
 }

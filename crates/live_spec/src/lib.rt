@@ -1,5 +1,5 @@
 // What following a log live promises: the letters and marks that a history leaves, the set worked out afresh, the bytes of state, and what
-// each call refuses, answers and leaves; no code but the types of a call and its answer.
+// each call refuses, answers and leaves; no code but the types of a call and of what it counts.
 
 #![tactic(auto)]
 
@@ -18,11 +18,4 @@ pub enum LiveCall {
 pub struct LiveCounts {
     pub letters: usize,
     pub macrostates: usize,
-}
-
-// The answer of each of the five calls.
-#[derive(Clone, Copy)]
-pub enum LiveAnswer {
-    Live(LiveCounts),
-    Refused(u8),
 }

@@ -65,10 +65,6 @@ module _ (n : ℕ) (ts bytes : List ℕ) (fits : set_at + n ≤ length bytes) wh
   unfolding with_set stepped_over
   replay-start = sym (put_back set_at n bytes fits)
 
-  pub replay-long : (i : ℕ) → length (with_set (after n ts bytes i) bytes) ≡ length bytes
-  unfolding with_set
-  replay-long i = put-long set_at (after n ts bytes i) bytes (omega (arith, after-long i))
-
   pub replay-letter : (i : ℕ) → i < number_in bytes → get_or (with_set (after n ts bytes i) bytes) (letters_at_byte + i) 0 ≡ get_or (letters_in bytes) i 0
   unfolding with_set letters_in
   replay-letter i l =

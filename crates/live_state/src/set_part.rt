@@ -40,12 +40,9 @@ fn replay(n: usize, transitions: &[u8], state: &mut [u8])
         (stepped_over n (words_in transitions.now) (letters_in state.old) (take n (set_bytes state.old)))
         state.old }
 {
-    let m = number_at(state, 0);
-    let mut i = 0;
-    while i < m {
+    for i in 0..number_at(state, 0) {
         let letter = state[50 + i];
         step(letter, n, transitions, state);
-        i += 1;
     }
 }
 

@@ -8,12 +8,13 @@ use lib.ListN.{length, drop}
 use borrow.Author.Tests.{lt-ltb, le-ltb}
 use Rattle.sets.specs.Tests.{some_below}
 use Rattle.sets.specs.Masks.{bit}
-use Rattle.refusals.specs.Rows.{first_row}
+use Rattle.refusals.specs.Rows.{refusal_at, first_row}
 use Rattle.sets.proofs.Tests.{first-at, first-le, some-get}
 use Rattle.theory.specs.Rule.{Rule}
 use Rattle.rule_reach.specs.Tables.{successors_of}
 use Rattle.loop_spec.specs.Search.{others_of_lem, ways, route, begins, further, loop_by, loop_of}
-use Rattle.loop_spec.specs.declared.Report.TheVariants.{States, Nothing, Refused}
+use Rattle.std.specs.Prelude.{Some, None, Ok, Err}
+use Rattle.refusals.specs.declared.Refusal.TheVariants.{Slice}
 use Rattle.loop_spec.proofs.Reported.{first_found}
 use Rattle.loop_spec.proofs.Routes.{best}
 use Rattle.loop_search.specs.declared.Start.{Start}
@@ -30,25 +31,25 @@ row-short : (states : List ℕ) (room : ℕ) → room < length states → first_
 unfolding first_row slice_rows
 row-short states room l = rw (lt-ltb room (length states) l)
 
-answer-states : (states : List ℕ) (k : ℕ) → length states ≡ k + 1 → answer 0 states ≡ States (k + 1)
+answer-states : (states : List ℕ) (k : ℕ) → length states ≡ k + 1 → answer 0 states ≡ Ok (Some (k + 1))
 unfolding answer
 answer-states [] k e = absurd (omega arith)
-answer-states (q ∷ ps) k e = ap States e
+answer-states (q ∷ ps) k e = ap (λ (x : ℕ). Ok (Some x)) e
 
 module _ (states : List ℕ) (old : List ℕ) where
   -- the row of the slice
   abbrev row : ℕ
   row = first_row (slice_rows states (length old))
 
-  pub report-none : states ≡ [] → (Nothing ≡ answer row states) × (old ≡ after row states old)
+  pub report-none : states ≡ [] → (Ok None ≡ answer row states) × (old ≡ after row states old)
   unfolding answer after first_row slice_rows
   report-none e = rw e (rw (le-ltb (length old) 0 (omega arith)) (refl, refl))
 
-  pub report-short : length old < length states → (Refused 16 ≡ answer row states) × (old ≡ after row states old)
-  unfolding answer after
+  pub report-short : length old < length states → (Err Slice ≡ answer row states) × (old ≡ after row states old)
+  unfolding answer refusal_at after
   report-short l = rw (row-short states (length old) l) (refl, refl)
 
-  pub report-states : (k : ℕ) → length states ≡ k + 1 → k < length old → (States (k + 1) ≡ answer row states) × (states ++ drop (k + 1) old ≡ after row states old)
+  pub report-states : (k : ℕ) → length states ≡ k + 1 → k < length old → (Ok (Some (k + 1)) ≡ answer row states) × (states ++ drop (k + 1) old ≡ after row states old)
   unfolding after
   report-states k e l = rw (row_fits states (length old) (omega arith)) (sym (answer-states states k e), ap (λ (x : ℕ). states ++ drop x old) (sym e))
 

@@ -2,28 +2,31 @@
 use mathlib.Core.Path.{◌≡◌, refl, sym, ◌∙◌, ap}
 use mathlib.Core.Bool.{true}
 use mathlib.Core.List.{List, [], ◌∷◌, ◌++◌}
-use Prim.Native.Nat.{ℕ, zero, suc}
+use Prim.Native.Nat.{ℕ, zero, suc, ◌<◌}
 use lib.ListN.{length, take, drop}
 use lib.Seq.{take-append_seam}
-use Rattle.refusals.specs.Rows.{first_row}
-use Rattle.refusals.proofs.Rows.{numbered, first-left, first-right, first-parts}
+use Rattle.refusals.specs.Rows.{number_of, first_refusal, first_row}
+use Rattle.refusals.proofs.Rows.{number-above, refusal-at, refused-row, row-passes, numbered, first-left, first-right, first-parts}
 use Rattle.theory.specs.Rule.{Rule}
 use Rattle.file_spec.specs.File.{rule_in}
 use Rattle.file_spec.specs.Rows.{layout_rows}
 use Rattle.file_spec.specs.RuleRows.{clause_rows}
-use Rattle.file_read.proofs.FileRows.{layout-numbered, laid-formed}
+use Rattle.file_spec.proofs.FileParts.{clauses-part, counts-part}
+use Rattle.file_spec.proofs.TrailerRows.{Placed, placed}
+use Rattle.file_read.proofs.FileRows.{layout-numbered, laid, laid-formed, formed_passing}
 use Rattle.loop_spec.specs.Loops.{Reported}
 use Rattle.loop_spec.specs.Search.{loop_of}
-use Rattle.loop_spec.specs.declared.Report.{Report}
-use Rattle.loop_spec.specs.declared.Report.TheVariants.{Refused}
+use Rattle.std.specs.Prelude.{Option, Result, Ok, Err}
+use Rattle.refusals.specs.declared.Refusal.{Refusal}
+use native.Mathlib.Omega.{arith}
 use Rattle.loop_spec.proofs.Reported.{reported}
 use Rattle.loop_spec.specs.Reported.{slice_rows, formed_rows, report_row, answer, report_of, after, slice_after, told}
 
 -- a refusal
-pub answer-refused : (k : ℕ) (states : List ℕ) → (k ≡ 0 → ⊥) → Refused k ≡ answer k states
+pub answer-refused : (k : ℕ) (r : Refusal) (states : List ℕ) → k ≡ number_of r → Err r ≡ answer k states
 unfolding answer
-answer-refused zero states n = absurd (n refl)
-answer-refused (suc k) states n = refl
+answer-refused zero r states e = let n = number-above r in absurd (omega arith)
+answer-refused (suc k) r states e = ap Err (sym (refusal-at r k (sym e)))
 
 pub after-refused : (k : ℕ) (states old : List ℕ) → (k ≡ 0 → ⊥) → old ≡ after k states old
 unfolding after
@@ -65,7 +68,7 @@ module _ (f : List ℕ) where
   told-all (q ∷ ps) = refl
 
   -- What a served call tells is the reported loop.
-  pub meant : (old new : List ℕ) (a : Report) → a ≡ report_of f (length old) → new ≡ slice_after f old → report_row f (length old) ≡ 0
+  pub meant : (old new : List ℕ) (a : Result (Option ℕ) Refusal) → a ≡ report_of f (length old) → new ≡ slice_after f old → report_row f (length old) ≡ 0
       → Reported (rule_in f) (take (told a) new)
   unfolding report_of slice_after after
   meant old new a e w z =
@@ -75,12 +78,23 @@ module _ (f : List ℕ) where
       rw (k, s, take-append_seam states (drop (length states) old)) (reported (rule_in f) (laid-formed f (served-layout (length old) z)).few_states)
 
   -- the answer and the slice of a file that rows 1 to 10 refuse
-  pub refused : (old : List ℕ) (k : ℕ) → (k ≡ 0 → ⊥) → k ≡ first_row (layout_rows f) → (Refused k ≡ report_of f (length old)) × (old ≡ slice_after f old)
+  pub refused : (old : List ℕ) (r : Refusal) → first_refusal (layout_rows f) ≡ Err r → (Err r ≡ report_of f (length old)) × (old ≡ slice_after f old)
   unfolding report_of slice_after
-  refused old k n e = rw (sym (row-layout (length old) k n e)) (answer-refused k (loop_of (rule_in f)) n, after-refused k (loop_of (rule_in f)) old n)
+  refused old r e =
+      let k = number_of r in
+      let n = number-above r in
+      let m : k ≡ 0 → ⊥ = λ z. omega arith in
+      rw (sym (row-layout (length old) k m (sym (refused-row (layout_rows f) r e)))) (answer-refused k r (loop_of (rule_in f)) refl, after-refused k (loop_of (rule_in f)) old m)
 
   -- of one that they pass
-  pub passed : (old new : List ℕ) (a : Report) → first_row (layout_rows f) ≡ 0 → a ≡ answer (first_row (formed_rows (rule_in f) (length old))) (loop_of (rule_in f))
+  pub passed : (old new : List ℕ) (a : Result (Option ℕ) Refusal) → first_row (layout_rows f) ≡ 0 → a ≡ answer (first_row (formed_rows (rule_in f) (length old))) (loop_of (rule_in f))
       → new ≡ after (first_row (formed_rows (rule_in f) (length old))) (loop_of (rule_in f)) old → (a ≡ report_of f (length old)) × (new ≡ slice_after f old)
   unfolding report_of slice_after
   passed old new a z e w = rw (row-formed (length old) z) (e, w)
+
+-- what rows 1 to 10 give
+pub laid_passing : (f : List ℕ) → first_refusal (layout_rows f) ≡ Ok tt → Placed f
+laid_passing f e = placed f (laid f (row-passes (layout_rows f) e)).0
+
+-- what the report on a file cites
+pub ruleset reporting = (laid_passing, formed_passing, clauses-part, counts-part)

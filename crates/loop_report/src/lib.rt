@@ -15,12 +15,12 @@ use file_clauses::clauses_row;
 use file_read::{lay_out, layout_row};
 use loop_search::ways::others_of;
 use loop_search::{start_of, write_loop};
-use loop_spec::Report;
+use refusals::Refusal;
 use rule_entries::Head;
 use rule_reach::successor_table;
 
 // The report on a well-formed rule: the loop's states to the start of out.
-fn search(h: Head, counts: &[u8], clauses: &[u8], out: &mut [u8]) -> Report
+fn search(h: Head, counts: &[u8], clauses: &[u8], out: &mut [u8]) -> Result<Option<usize>, Refusal>
     requires { WellFormed (rule_of h counts.now clauses.now) }
     ensures result_value { let states = loop_of (rule_of h counts.now clauses.now) in
         result ≡ answer (first_row (slice_rows states (length out.old))) states }
@@ -34,41 +34,36 @@ fn search(h: Head, counts: &[u8], clauses: &[u8], out: &mut [u8]) -> Report
     let t = s.at;
     let k = s.further;
     if n <= k {
-        return Report::Nothing;
+        return Ok(None);
     }
     if out.len() <= k {
-        return Report::Refused(refusals::SLICE);
+        return Err(Refusal::Slice);
     }
     write_loop(&es, n, others_of(n, accepting, t), t, k, out);
-    Report::States(k + 1)
+    Ok(Some(k + 1))
 }
 
 // The report on a well-formed rule, after row 20.
-fn report(h: Head, counts: &[u8], clauses: &[u8], out: &mut [u8]) -> Report
+fn report(h: Head, counts: &[u8], clauses: &[u8], out: &mut [u8]) -> Result<Option<usize>, Refusal>
     requires { WellFormed (rule_of h counts.now clauses.now) }
     ensures result_value { let rule = rule_of h counts.now clauses.now in
         result ≡ answer (first_row (formed_rows rule (length out.old))) (loop_of rule) }
     ensures out_after { let rule = rule_of h counts.now clauses.now in
         out.new ≡ after (first_row (formed_rows rule (length out.old))) (loop_of rule) out.old }
 {
-    let row = clauses_row(h, counts, clauses);
-    if row != 0 {
-        return Report::Refused(row);
-    }
+    clauses_row(h, counts, clauses)?;
     search(h, counts, clauses, out)
 }
 
 // The shortest mixed loop of a rule file: its states to the start of out.
-pub fn mixed_loop(file: &[u8], out: &mut [u8]) -> Report
+#[tactic(auto, using(crate::proofs::Rows::reporting))]
+pub fn mixed_loop(file: &[u8], out: &mut [u8]) -> Result<Option<usize>, Refusal>
     ensures value { result ≡ report_of file.now (length out.old) }
     ensures out_after { out.new ≡ slice_after file.now out.old }
     ensures reported { report_row file.now (length out.old) ≡ 0
         → Reported (rule_in file.now) (take (told result) out.new) }
 {
-    let row = layout_row(file);
-    if row != 0 {
-        return Report::Refused(row);
-    }
+    layout_row(file)?;
     let l = lay_out(file);
     let h = l.head;
     let at = l.at;

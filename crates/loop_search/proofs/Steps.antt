@@ -55,10 +55,14 @@ pub step_is : (n : ℕ) (es : List ℕ) (others : ℕ) (w : Ways) (any mixed : �
 unfolding step_back_lem
 step_is n es others w any mixed e f = ap₂ both e (step-mixed n es others w any mixed e f)
 
-pub ways-lt : (n : ℕ) (es : List ℕ) (others t k : ℕ) → t < n → ((ways n es (bit others) t k).any < 2 ^ n) × ((ways n es (bit others) t k).mixed < 2 ^ n)
+ways-lt : (n : ℕ) (es : List ℕ) (others t k : ℕ) → t < n → ((ways n es (bit others) t k).any < 2 ^ n) × ((ways n es (bit others) t k).mixed < 2 ^ n)
 unfolding ways step_back_lem
 ways-lt n es others t zero l = (pow-lt l, omega (arith, pow-lt l))
 ways-lt n es others t (suc k) l = (sources-lt n es _, mask_lt n _)
+
+-- what a step asks of the masks that it starts from
+pub ways-bounds : (n : ℕ) (es : List ℕ) (others t k : ℕ) (w : Ways) → n ≤ 8 → t < n → w ≡ ways n es (bit others) t k → (n ≤ 8) × (w.any < 2 ^ n) × (w.mixed < 2 ^ n)
+ways-bounds n es others t k w h l e = let b = ways-lt n es others t k l in (h, rw e b.0, rw e b.1)
 
 pub ways-none : (n : ℕ) (es : List ℕ) (others t : ℕ) → n ≤ 8 → t < n → both (1 * 2 ^ t % 256) 0 ≡ ways n es (bit others) t 0
 unfolding ways
@@ -67,6 +71,10 @@ ways-none n es others t h l = ap (λ (x : ℕ). both x 0) (shl_one 8 t (omega ar
 pub ways_next : (n : ℕ) (es : List ℕ) (others t k : ℕ) (v w : Ways) → w ≡ ways n es (bit others) t k → v ≡ step_back_lem n es (bit others) w → v ≡ ways n es (bit others) t (k + 1)
 unfolding ways
 ways_next n es others t k v w e f = rw (add-one k) (f ∙ ap (step_back_lem n es (bit others)) e)
+
+-- a mixed loop of t and k states after it
+abbrev pub mixed : ℕ → List ℕ → ℕ → ℕ → Set
+mixed n es others t k = bit (ways n es (bit others) t (suc k)).mixed t
 
 -- whether a walk of k steps more than one from t to t passes a state of the other kind
 pub mixed-at : (n : ℕ) (es : List ℕ) (others t k : ℕ) (v : Ways) (b : Bool) → v ≡ ways n es (bit others) t (k + 1) → b ≡ bit v.mixed t → bit (ways n es (bit others) t (suc k)).mixed t ≡ b

@@ -7,7 +7,7 @@ use native.Mathlib.Omega.{arith}
 use native.Mathlib.Numerals.{add-one}
 use lib.Bits.{bit_and}
 use lib.Count.{count_trailing_zeros}
-use lib.ListN.{length, get_or, set, drop, length-append, length-drop}
+use lib.ListN.{length, get_or, set, drop, length-append}
 use lib.Seq.{drop-cons, set_at}
 use Rattle.sets.specs.Tests.{Set, some_below, first}
 use Rattle.sets.specs.Masks.{bit}
@@ -100,7 +100,3 @@ module _ {n : ℕ} {es : List ℕ} {others t k : ℕ} {old : List ℕ} {i : ℕ}
       ap (λ (l : List ℕ). set l k q) (w.slice ∙ ap (λ (x : ℕ). w.front ++ drop x old) e)
       ∙ put old k w.front q (w.long ∙ e) room
       ∙ rw (h, add-one k, append_assoc)
-
-  -- the slice keeps its length
-  pub written-length : k < length old → length out ≡ length old
-  written-length room = ap length w.slice ∙ length-append w.front (drop i old) ∙ omega (arith, length-drop i old, w.long, w.far)

@@ -27,14 +27,12 @@ pub fn start_of(es: &[u8; 8], n: usize, accepting: u8) -> Start
 {
     let mut at = 0;
     let mut further = n;
-    let mut t = 0;
-    while t < n {
+    for t in 0..n {
         let k = further_from(es, n, others_of(n, accepting, t), t);
         if k < further {
             at = t;
             further = k;
         }
-        t += 1;
     }
     Start {
         at: at,
@@ -82,12 +80,10 @@ pub fn write_loop(es: &[u8; 8], n: usize, others: u8, t: usize, k: usize, out: &
 {
     let mut q = t;
     let mut passed = false;
-    let mut i = 0;
-    while i < k {
+    for i in 0..k {
         out[i] = q as u8;
         passed = passes(passed, others, q);
         q = next_state(es, n, others, t, k - i, passed, q);
-        i += 1;
     }
     out[k] = q as u8;
 }

@@ -24,10 +24,8 @@ fn sources_of(es: &[u8; 8], n: usize, set: u8) -> u8
     ensures { result ≡ sources n es.now set }
 {
     let mut found: u8 = 0;
-    let mut q = 0;
-    while q < n {
+    for q in 0..n {
         found |= meets(es[q], set) << q;
-        q += 1;
     }
     found
 }
@@ -65,10 +63,8 @@ pub fn ways_to(es: &[u8; 8], n: usize, others: u8, t: usize, k: usize) -> Ways
         any: 1 << t,
         mixed: 0,
     };
-    let mut i = 0;
-    while i < k {
+    for _ in 0..k {
         w = step_back(es, n, others, w);
-        i += 1;
     }
     w
 }
@@ -82,13 +78,11 @@ pub fn further_from(es: &[u8; 8], n: usize, others: u8, t: usize) -> usize
         any: 1 << t,
         mixed: 0,
     };
-    let mut k = 0;
-    while k < n {
+    for k in 0..n {
         w = step_back(es, n, others, w);
         if contains(w.mixed, t as u32) {
             return k;
         }
-        k += 1;
     }
     n
 }

@@ -1,17 +1,17 @@
 -- The report of a mixed loop on a rule file: what it refuses, answers and writes.
-use Rattle.std.specs.Prelude.{List, [], ◌∷◌, ◌++◌, ℕ, zero, suc, ltb, length, drop}
-use Rattle.refusals.specs.Rows.{Check, first_row, check}
+use Rattle.std.specs.Prelude.{List, [], ◌∷◌, ◌++◌, ℕ, zero, suc, ltb, length, drop, Option, Some, None, Result, Ok, Err}
+use Rattle.refusals.specs.declared.Refusal.{Refusal}
+use Rattle.refusals.specs.Rows.{Check, refusal_at, first_row, check}
+use Rattle.refusals.specs.declared.Refusal.TheVariants.{Slice}
 use Rattle.theory.specs.Rule.{Rule}
 use Rattle.file_spec.specs.File.{rule_in}
 use Rattle.file_spec.specs.Rows.{layout_rows}
 use Rattle.file_spec.specs.RuleRows.{clause_rows}
 use Rattle.loop_spec.specs.Search.{loop_of}
-use Rattle.loop_spec.specs.declared.Report.{Report}
-use Rattle.loop_spec.specs.declared.Report.TheVariants.{States, Nothing, Refused}
 
 -- row 16, "result or scratch slice too short", of a slice of room bytes: a byte a state
 unfoldable pub slice_rows : List ℕ → ℕ → List Check
-slice_rows states room = check (ltb room (length states)) 16 ∷ []
+slice_rows states room = check (ltb room (length states)) Slice ∷ []
 
 -- row 20, then row 16, of a rule that rows 1 to 10 pass
 unfoldable pub formed_rows : Rule → ℕ → List Check
@@ -21,13 +21,13 @@ formed_rows r room = clause_rows r ++ slice_rows (loop_of r) room
 unfoldable pub report_row : List ℕ → ℕ → ℕ
 report_row f room = first_row (layout_rows f ++ formed_rows (rule_in f) room)
 
--- by the row, or 0: the number of states, or that there is none; else the number of the row alone
-unfoldable pub answer : ℕ → List ℕ → Report
-answer zero [] = Nothing
-answer zero (q ∷ ps) = States (length (q ∷ ps))
-answer (suc k) ps = Refused (suc k)
+-- by the row, or 0: the number of states, or that there is none; else the refusal with this number alone
+unfoldable pub answer : ℕ → List ℕ → Result (Option ℕ) Refusal
+answer zero [] = Ok None
+answer zero (q ∷ ps) = Ok (Some (length (q ∷ ps)))
+answer (suc k) ps = Err (refusal_at k)
 
-unfoldable pub report_of : List ℕ → ℕ → Report
+unfoldable pub report_of : List ℕ → ℕ → Result (Option ℕ) Refusal
 report_of f room = answer (report_row f room) (loop_of (rule_in f))
 
 -- by the row, or 0. 02: "a call fills lent slices from their start and leaves the rest as lent"; a refusal changes no lent slice
@@ -39,7 +39,7 @@ unfoldable pub slice_after : List ℕ → List ℕ → List ℕ
 slice_after f old = after (report_row f (length old)) (loop_of (rule_in f)) old
 
 -- how many states an answer tells
-unfoldable pub told : Report → ℕ
-told (States k) = k
-told Nothing = 0
-told (Refused row) = 0
+unfoldable pub told : Result (Option ℕ) Refusal → ℕ
+told (Ok (Some k)) = k
+told (Ok None) = 0
+told (Err r) = 0

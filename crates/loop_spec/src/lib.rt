@@ -9,11 +9,3 @@ pub struct Ways {
     pub any: u8,
     pub mixed: u8,
 }
-
-// The answer: how many states the loop has, that there is none, or the number of the row that refuses.
-#[derive(Clone, Copy)]
-pub enum Report {
-    States(usize),
-    Nothing,
-    Refused(u8),
-}

@@ -1,16 +1,16 @@
 -- The check's answer: its number and values, and where they say that the names are.
-use Rattle.std.specs.Prelude.{◌≡◌, List, ℕ, ◌+◌, ◌-◌, ◌≤◌, ◌<◌, take, drop}
+use Rattle.std.specs.Prelude.{◌≡◌, List, ℕ, ◌+◌, ◌-◌, ◌≤◌, ◌<◌, take, drop, Result, Ok, Err}
 use Rattle.mulgreddi_answers.specs.declared.Answer.{Answer}
 use Rattle.mulgreddi_answers.specs.Answers.{refused_as, served_as}
 use Rattle.file_spec.specs.File.{names_of}
-use Rattle.file_spec.specs.declared.Read.{Read}
-use Rattle.file_spec.specs.declared.Read.TheVariants as read
+use Rattle.file_spec.specs.declared.Layout.{Layout}
+use Rattle.refusals.specs.declared.Refusal.{Refusal}
 use Rattle.file_spec.specs.Reading.{read_of}
 
 -- the length of the preface, and how many of its bytes are names
-unfoldable pub read_answer : Read → Answer
-read_answer (read.Accepted layout) = served_as layout.at layout.names
-read_answer (read.Refused row) = refused_as row
+unfoldable pub read_answer : Result Layout Refusal → Answer
+read_answer (Ok layout) = served_as layout.at layout.names
+read_answer (Err refusal) = refused_as refusal
 
 -- the answer r for a file
 pub record Checked (f : List ℕ) (r : Answer) : Type 0 where

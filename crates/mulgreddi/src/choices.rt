@@ -1,6 +1,6 @@
 // The C entry of the judge that shows the choice, for callers who want to see why a word is accepted.
-ghost use Rattle.std.specs.Prelude.{◌≡◌};
-ghost use Rattle.judge_spec.specs.declared.Verdict.{Verdict};
+ghost use Rattle.std.specs.Prelude.{◌≡◌, Bool, Result};
+ghost use Rattle.refusals.specs.declared.Refusal.{Refusal};
 ghost use Rattle.judge_choices.specs.Judge.{JudgedChoices};
 ghost use Rattle.mulgreddi_answers.specs.Answers.{verdict_answer};
 
@@ -16,7 +16,7 @@ pub extern "C" fn mulgreddi_judge_choices(
     masks: &mut [u8],
     choices: &mut [u8],
 ) -> Answer
-    ensures { (v : Verdict)
+    ensures { (v : Result Bool Refusal)
         × (result ≡ verdict_answer v)
         × JudgedChoices file.now lead.now cycle.now
         masks.old masks.new choices.old choices.new v }

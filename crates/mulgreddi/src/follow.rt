@@ -1,8 +1,9 @@
 // The C entries that follow a log without end: the start, and the letters since. The set is a slice of the caller and all that is kept, so any
 // number of letters may come, in calls of any lengths.
-ghost use Rattle.std.specs.Prelude.{◌≡◌};
+ghost use Rattle.std.specs.Prelude.{◌≡◌, Result};
+ghost use Rattle.refusals.specs.declared.Refusal.{Refusal};
 ghost use Rattle.table_lent.specs.Lent.{in_bytes_lem};
-ghost use Rattle.follow_spec.specs.declared.FollowAnswer.{FollowAnswer};
+ghost use Rattle.follow_spec.specs.declared.FollowCounts.{FollowCounts};
 ghost use Rattle.follow_spec.specs.Followed.{FollowStarted, FollowCalled};
 ghost use Rattle.mulgreddi_answers.specs.Answers.{follow_answer};
 
@@ -16,7 +17,7 @@ pub extern "C" fn mulgreddi_follow_start(
     transitions: &[u8],
     set: &mut [u8],
 ) -> Answer
-    ensures { (v : FollowAnswer)
+    ensures { (v : Result FollowCounts Refusal)
         × (result ≡ follow_answer v)
         × FollowStarted file.now (in_bytes_lem codes.now) (in_bytes_lem transitions.now)
         set.old set.new v }
@@ -33,7 +34,7 @@ pub extern "C" fn mulgreddi_follow(
     transitions: &[u8],
     set: &mut [u8],
 ) -> Answer
-    ensures { (v : FollowAnswer)
+    ensures { (v : Result FollowCounts Refusal)
         × (result ≡ follow_answer v)
         × FollowCalled file.now letters.now (in_bytes_lem codes.now) (in_bytes_lem transitions.now)
         set.old set.new v }

@@ -1,8 +1,9 @@
 // The C entries of the text of a table, by which a table goes to other tools and comes back.
-ghost use Rattle.std.specs.Prelude.{◌≡◌, length};
+ghost use Rattle.std.specs.Prelude.{◌≡◌, length, Result};
+ghost use Rattle.refusals.specs.declared.Refusal.{Refusal};
 ghost use Rattle.table_lent.specs.Lent.{in_bytes_lem};
 ghost use Rattle.hoa_write.specs.Written.{hoa_written, hoa_after};
-ghost use Rattle.hoa_spec.specs.declared.HoaRead.{HoaRead};
+ghost use Rattle.hoa_spec.specs.declared.TableSizes.{TableSizes};
 ghost use Rattle.hoa_spec.specs.Reading.{ReadBack};
 ghost use Rattle.mulgreddi_answers.specs.Answers.{hoa_read_answer, written_answer};
 
@@ -33,7 +34,7 @@ pub extern "C" fn mulgreddi_read_hoa(
     flags: &mut [u8],
     transitions: &mut [u64],
 ) -> Answer
-    ensures { (a : HoaRead) × (result ≡ hoa_read_answer a)
+    ensures { (a : Result TableSizes Refusal) × (result ≡ hoa_read_answer a)
         × ReadBack text.now flags.old transitions.old a flags.new transitions.new }
 {
     mulgreddi_answers_tables::read_back(hoa_read::read_hoa(text, flags, transitions))

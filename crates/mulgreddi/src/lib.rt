@@ -18,24 +18,21 @@ pub mod trimmed;
 pub mod version;
 pub mod word;
 
-ghost use Rattle.std.specs.Prelude.{◌≡◌, ◌↔◌, [], length};
+ghost use Rattle.std.specs.Prelude.{◌≡◌, ◌↔◌, [], length, ℕ, Bool, true, Result, Ok, Option};
+ghost use Rattle.refusals.specs.declared.Refusal.{Refusal};
 ghost use Rattle.build.specs.Entry.{TableBuilt};
-ghost use Rattle.build.specs.declared.Built.{Built};
+ghost use Rattle.build.specs.declared.Counts.{Counts};
 ghost use Rattle.judge_spec.specs.Judge.{Judged};
-ghost use Rattle.judge_spec.specs.declared.Verdict.{Verdict};
 ghost use Rattle.table_lent.specs.Lent.{in_bytes_lem};
 ghost use Rattle.table_judge.specs.Tables.{JudgedTable};
-ghost use Rattle.table_call.specs.declared.Start.{Start};
 ghost use Rattle.rule_same.specs.Same.{same_rules_of};
 ghost use Rattle.file_write_spec.specs.Written.{head_from, written_of, slice_after};
 ghost use Rattle.word_spelling_spec.specs.Spelling.{Agree};
 ghost use Rattle.word_same.specs.Same.{same_row, same_words_of};
-ghost use Rattle.word_same.specs.declared.SameWords.TheVariants.{Same};
 ghost use Rattle.mulgreddi_answers.specs.Answers.{written_answer, same_rules_answer, same_words_answer, verdict_answer};
 ghost use Rattle.mulgreddi_answers.specs.Answers.{built_answer, start_answer};
 ghost use Rattle.mulgreddi.specs.Check.{Checked};
 
-use file_spec::Read;
 use mulgreddi_answers::Answer;
 
 // Reads a rule file; the length of its preface, and how many bytes of names stand right before the preface's last two bytes.
@@ -44,8 +41,8 @@ pub extern "C" fn mulgreddi_check(file: &[u8]) -> Answer
     ensures { Checked file.now result }
 {
     match file_read::read_rule(file) {
-        Read::Accepted(layout) => mulgreddi_answers_rules::checked(layout.at, layout.names),
-        Read::Refused(row) => mulgreddi_answers::refused(row),
+        Ok(layout) => mulgreddi_answers_rules::checked(layout.at, layout.names),
+        Err(refusal) => mulgreddi_answers::refused(refusal),
     }
 }
 
@@ -90,7 +87,7 @@ pub extern "C" fn mulgreddi_same_words(
     ensures value { result ≡ same_words_answer (same_words_of lead1.now cycle1.now
         lead2.now cycle2.now) }
     ensures variant { same_row lead1.now cycle1.now lead2.now cycle2.now ≡ 0
-        → (same_words_of lead1.now cycle1.now lead2.now cycle2.now ≡ Same)
+        → (same_words_of lead1.now cycle1.now lead2.now cycle2.now ≡ Ok true)
         ↔ Agree lead1.now cycle1.now lead2.now cycle2.now }
 {
     mulgreddi_answers_words::same_words(word_same::same_words(lead1, cycle1, lead2, cycle2))
@@ -104,7 +101,7 @@ pub extern "C" fn mulgreddi_judge(
     cycle: &[u8],
     masks: &mut [u8],
 ) -> Answer
-    ensures { (v : Verdict) × (result ≡ verdict_answer v)
+    ensures { (v : Result Bool Refusal) × (result ≡ verdict_answer v)
         × Judged file.now lead.now cycle.now masks.old masks.new v }
 {
     mulgreddi_answers_words::verdict(judge::judge(file, lead, cycle, masks))
@@ -113,7 +110,7 @@ pub extern "C" fn mulgreddi_judge(
 // Builds the unambiguous automaton of a rule file: codes and transitions, both ascending, zeros after them; both counts.
 #[unsafe(no_mangle)]
 pub extern "C" fn mulgreddi_build(file: &[u8], codes: &mut [u64], transitions: &mut [u64]) -> Answer
-    ensures { (b : Built) × (result ≡ built_answer b)
+    ensures { (b : Result Counts Refusal) × (result ≡ built_answer b)
         × TableBuilt file.now codes.old transitions.old b
         codes.new transitions.new }
 {
@@ -131,7 +128,7 @@ pub extern "C" fn mulgreddi_judge_table(
     transitions: &[u8],
     scratch: &mut [u8],
 ) -> Answer
-    ensures { (a : Start)
+    ensures { (a : Result (Option ℕ) Refusal)
         × (result ≡ start_answer a)
         × JudgedTable file.now lead.now cycle.now (in_bytes_lem codes.now)
         (in_bytes_lem transitions.now) scratch.old scratch.new a }

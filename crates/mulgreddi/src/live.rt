@@ -1,8 +1,9 @@
 // The C entries that follow a log live: start, arrival, withdrawal, mark and return. State is a slice of the caller, so several logs can be
 // followed side by side.
-ghost use Rattle.std.specs.Prelude.{◌≡◌};
+ghost use Rattle.std.specs.Prelude.{◌≡◌, Result};
+ghost use Rattle.refusals.specs.declared.Refusal.{Refusal};
 ghost use Rattle.table_lent.specs.Lent.{in_bytes_lem};
-ghost use Rattle.live_spec.specs.declared.LiveAnswer.{LiveAnswer};
+ghost use Rattle.live_spec.specs.declared.LiveCounts.{LiveCounts};
 ghost use Rattle.live_spec.specs.declared.LiveCall.TheVariants.{Start, Arrive, Withdraw, Mark, Return};
 ghost use Rattle.live_spec.specs.Called.{LiveCalled};
 ghost use Rattle.mulgreddi_answers.specs.Answers.{live_answer};
@@ -19,7 +20,7 @@ pub extern "C" fn mulgreddi_live_start(
     state: &mut [u8],
     set: &mut [u8],
 ) -> Answer
-    ensures { (v : LiveAnswer)
+    ensures { (v : Result LiveCounts Refusal)
         × (result ≡ live_answer v)
         × LiveCalled Start file.now (in_bytes_lem codes.now) (in_bytes_lem transitions.now)
         state.old set.old state.new set.new v }
@@ -44,7 +45,7 @@ pub extern "C" fn mulgreddi_live_arrive(
     state: &mut [u8],
     set: &mut [u8],
 ) -> Answer
-    ensures { (v : LiveAnswer)
+    ensures { (v : Result LiveCounts Refusal)
         × (result ≡ live_answer v)
         × LiveCalled (Arrive letter) file.now (in_bytes_lem codes.now) (in_bytes_lem transitions.now)
         state.old set.old state.new set.new v }
@@ -68,7 +69,7 @@ pub extern "C" fn mulgreddi_live_withdraw(
     state: &mut [u8],
     set: &mut [u8],
 ) -> Answer
-    ensures { (v : LiveAnswer)
+    ensures { (v : Result LiveCounts Refusal)
         × (result ≡ live_answer v)
         × LiveCalled Withdraw file.now (in_bytes_lem codes.now) (in_bytes_lem transitions.now)
         state.old set.old state.new set.new v }
@@ -93,7 +94,7 @@ pub extern "C" fn mulgreddi_live_mark(
     state: &mut [u8],
     set: &mut [u8],
 ) -> Answer
-    ensures { (v : LiveAnswer)
+    ensures { (v : Result LiveCounts Refusal)
         × (result ≡ live_answer v)
         × LiveCalled (Mark mark) file.now (in_bytes_lem codes.now) (in_bytes_lem transitions.now)
         state.old set.old state.new set.new v }
@@ -118,7 +119,7 @@ pub extern "C" fn mulgreddi_live_return(
     state: &mut [u8],
     set: &mut [u8],
 ) -> Answer
-    ensures { (v : LiveAnswer)
+    ensures { (v : Result LiveCounts Refusal)
         × (result ≡ live_answer v)
         × LiveCalled (Return mark) file.now (in_bytes_lem codes.now) (in_bytes_lem transitions.now)
         state.old set.old state.new set.new v }

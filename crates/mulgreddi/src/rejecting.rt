@@ -1,6 +1,7 @@
 // The C entry of the build of the words that a rule rejects, for callers who ask how a rule is broken.
-ghost use Rattle.std.specs.Prelude.{◌≡◌};
-ghost use Rattle.build.specs.declared.Built.{Built};
+ghost use Rattle.std.specs.Prelude.{◌≡◌, Result};
+ghost use Rattle.refusals.specs.declared.Refusal.{Refusal};
+ghost use Rattle.build.specs.declared.Counts.{Counts};
 ghost use Rattle.build_rejecting.specs.Entry.{RejectingBuilt};
 ghost use Rattle.mulgreddi_answers.specs.Answers.{built_answer};
 
@@ -14,7 +15,7 @@ pub extern "C" fn mulgreddi_build_rejecting(
     codes: &mut [u64],
     transitions: &mut [u64],
 ) -> Answer
-    ensures { (b : Built) × (result ≡ built_answer b)
+    ensures { (b : Result Counts Refusal) × (result ≡ built_answer b)
         × RejectingBuilt file.now codes.old transitions.old b
         codes.new transitions.new }
 {

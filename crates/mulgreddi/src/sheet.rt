@@ -1,8 +1,9 @@
 // The C entry of the judge of a sheet, for callers with many words on one rule.
-ghost use Rattle.std.specs.Prelude.{◌≡◌};
+ghost use Rattle.std.specs.Prelude.{◌≡◌, Result};
+ghost use Rattle.refusals.specs.declared.Refusal.{Refusal};
 ghost use Rattle.sheet_spec.specs.Computed.{SheetComputed};
 ghost use Rattle.sheet_spec.specs.Judged.{SheetJudged};
-ghost use Rattle.sheet_spec.specs.declared.SheetAnswer.{SheetAnswer};
+ghost use Rattle.sheet_spec.specs.declared.Totals.{Totals};
 ghost use Rattle.mulgreddi_answers.specs.Answers.{sheet_answer};
 
 use mulgreddi_answers::Answer;
@@ -15,7 +16,7 @@ pub extern "C" fn mulgreddi_judge_sheet(
     answers: &mut [u8],
     masks: &mut [u8],
 ) -> Answer
-    ensures { (v : SheetAnswer) × (result ≡ sheet_answer v)
+    ensures { (v : Result Totals Refusal) × (result ≡ sheet_answer v)
         × SheetJudged file.now sheet.now answers.old masks.old
         answers.new masks.new v
         × SheetComputed file.now sheet.now answers.old masks.old

@@ -1,5 +1,6 @@
 // The C entry of the comparison of two rules. Its answer has eight numbers, since it tells a word and the sizes of two tables.
-ghost use Rattle.std.specs.Prelude.{◌≡◌};
+ghost use Rattle.std.specs.Prelude.{◌≡◌, Result};
+ghost use Rattle.refusals.specs.declared.Refusal.{Refusal};
 ghost use Rattle.stricter_entry_spec.specs.declared.Comparison.{Comparison};
 ghost use Rattle.stricter_entry_spec.specs.Rows.{slices_of};
 ghost use Rattle.stricter_entry_spec.specs.Compared.{Compared};
@@ -20,7 +21,7 @@ pub extern "C" fn mulgreddi_stricter(
     word: &mut [u8],
     scratch: &mut [u8],
 ) -> Numbers
-    ensures { (answer : Comparison) × (result ≡ comparison_answer answer)
+    ensures { (answer : Result Comparison Refusal) × (result ≡ comparison_answer answer)
         × Compared a.now b.now
         (slices_of acodes.old atransitions.old bcodes.old btransitions.old
         word.old scratch.old) answer

@@ -1,6 +1,7 @@
 // The C entry of the trimmed build, for callers who want the smaller table.
-ghost use Rattle.std.specs.Prelude.{◌≡◌};
-ghost use Rattle.build.specs.declared.Built.{Built};
+ghost use Rattle.std.specs.Prelude.{◌≡◌, Result};
+ghost use Rattle.refusals.specs.declared.Refusal.{Refusal};
+ghost use Rattle.build.specs.declared.Counts.{Counts};
 ghost use Rattle.build_trimmed.specs.Entry.{TrimmedBuilt};
 ghost use Rattle.mulgreddi_answers.specs.Answers.{built_answer};
 
@@ -13,7 +14,7 @@ pub extern "C" fn mulgreddi_build_trimmed(
     codes: &mut [u64],
     transitions: &mut [u64],
 ) -> Answer
-    ensures { (b : Built) × (result ≡ built_answer b)
+    ensures { (b : Result Counts Refusal) × (result ≡ built_answer b)
         × TrimmedBuilt file.now codes.old transitions.old b
         codes.new transitions.new }
 {

@@ -5,6 +5,7 @@
 ghost use Rattle.std.specs.Prelude.{◌≡◌};
 ghost use Rattle.mulgreddi_answers_stricter.specs.Answers.{told_as, comparison_answer};
 
+use refusals::Refusal;
 use stricter_entry_spec::{BothCounts, Comparison};
 
 // refusal is 0 where the input was served; else all that follows is 0.
@@ -40,14 +41,15 @@ fn told(stricter: u64, lead: usize, cycle: usize, sizes: BothCounts) -> Numbers
 }
 
 // 1 for yes, 0 for no with the lengths of lead-in and cycle, and the counts of both tables.
-pub fn compared(answer: Comparison) -> Numbers
+#[tactic(auto, unfolding(crate::specs::Answers::comparison_answer))]
+pub fn compared(answer: Result<Comparison, Refusal>) -> Numbers
     ensures { result ≡ comparison_answer answer }
 {
     match answer {
-        Comparison::Yes(sizes) => told(1, 0, 0, sizes),
-        Comparison::No(tables, lead, cycle) => told(0, lead, cycle, tables),
-        Comparison::Refused(row) => Numbers {
-            refusal: row as u64,
+        Ok(Comparison::Yes(sizes)) => told(1, 0, 0, sizes),
+        Ok(Comparison::No(tables, lead, cycle)) => told(0, lead, cycle, tables),
+        Err(refusal) => Numbers {
+            refusal: refusal.row() as u64,
             stricter: 0,
             lead: 0,
             cycle: 0,

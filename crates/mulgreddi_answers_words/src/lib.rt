@@ -5,56 +5,39 @@
 ghost use Rattle.std.specs.Prelude.{◌≡◌};
 ghost use Rattle.mulgreddi_answers.specs.Answers.{same_words_answer, tidy_word_answer, verdict_answer, sheet_answer};
 
-use judge_spec::Verdict;
 use mulgreddi_answers::Answer;
-use sheet_spec::SheetAnswer;
-use word_same::SameWords;
-use word_spelling::TidyWord;
+use refusals::Refusal;
+use sheet_spec::Totals;
+use word_spelling::Lengths;
 
 // 1 same, 0 not.
-pub fn same_words(answer: SameWords) -> Answer
+#[tactic(auto, unfolding(mulgreddi_answers::specs::Answers::same_words_answer))]
+pub fn same_words(answer: Result<bool, Refusal>) -> Answer
     ensures { result ≡ same_words_answer answer }
 {
-    match answer {
-        SameWords::Same => mulgreddi_answers::served(1, 0),
-        SameWords::Different => mulgreddi_answers::served(0, 0),
-        SameWords::Refused(row) => mulgreddi_answers::refused(row),
-    }
+    mulgreddi_answers::answered(answer)
 }
 
 // The lengths of lead-in and cycle.
-pub fn tidy_word(answer: TidyWord) -> Answer
+#[tactic(auto, unfolding(mulgreddi_answers::specs::Answers::tidy_word_answer))]
+pub fn tidy_word(answer: Result<Lengths, Refusal>) -> Answer
     ensures { result ≡ tidy_word_answer answer }
 {
-    match answer {
-        TidyWord::Spelling(lengths) => mulgreddi_answers::served(
-            lengths.lead as u64,
-            lengths.cycle as u64,
-        ),
-        TidyWord::Refused(row) => mulgreddi_answers::refused(row),
-    }
+    mulgreddi_answers::answered(answer)
 }
 
 // 1 yes, 0 no.
-pub fn verdict(answer: Verdict) -> Answer
+#[tactic(auto, unfolding(mulgreddi_answers::specs::Answers::verdict_answer))]
+pub fn verdict(answer: Result<bool, Refusal>) -> Answer
     ensures { result ≡ verdict_answer answer }
 {
-    match answer {
-        Verdict::Yes => mulgreddi_answers::served(1, 0),
-        Verdict::No => mulgreddi_answers::served(0, 0),
-        Verdict::Refused(row) => mulgreddi_answers::refused(row),
-    }
+    mulgreddi_answers::answered(answer)
 }
 
 // The number of words on the sheet, and of cycles filled.
-pub fn sheet(answer: SheetAnswer) -> Answer
+#[tactic(auto, unfolding(mulgreddi_answers::specs::Answers::sheet_answer))]
+pub fn sheet(answer: Result<Totals, Refusal>) -> Answer
     ensures { result ≡ sheet_answer answer }
 {
-    match answer {
-        SheetAnswer::Judged(totals) => mulgreddi_answers::served(
-            totals.words as u64,
-            totals.cycles as u64,
-        ),
-        SheetAnswer::Refused(row) => mulgreddi_answers::refused(row),
-    }
+    mulgreddi_answers::answered(answer)
 }

@@ -3,8 +3,7 @@ use mathlib.Core.Path.{◌≡◌, refl, ap, sym, ◌∙◌}
 use mathlib.Core.Bool.{Bool, true, false, ◌&&◌, not}
 use mathlib.Core.Logic.{by_cases}
 use mathlib.Core.List.{List}
-use Prim.Native.Nat.{ℕ, ◌+◌, ◌/◌, ◌%◌, ◌^◌, ◌<◌, ◌≤◌, min}
-use native.Mathlib.Numerals.{add-one}
+use Prim.Native.Nat.{ℕ, ◌/◌, ◌%◌, ◌^◌, ◌<◌, ◌≤◌, min}
 use native.Mathlib.Omega.{arith}
 use native.Mathlib.Decide.{dec_lt, ℕ_discrete}
 use borrow.Author.Tests.{eq-eqb, ne_eqb}
@@ -142,21 +141,13 @@ class-by R few q l =
       bit_mask R.n (reaches R p) q l,
     ))
 
-pub mixed-by : (R : Rule) → R.n ≤ 8 → (acc : ℕ) → acc ≡ R.accepting → some_below R.n (both_by (closures_of R) R.n acc) ≡ mixed R
-mixed-by R few acc same =
-    some-ext R.n (both_by (closures_of R) R.n acc) (both R few acc same)
-    (λ q l. ap (λ (k : ℕ). some_below 8 (accepted k acc) && some_below 8 (rejected k acc)) (class-by R few q l))
-    ∙ mixed-classes R few acc same
+pub mixed-by : (R : Rule) → R.n ≤ 8 → (reach : List ℕ) → reach ≡ closures_of R → mixed R ≡ some_below R.n (both_by reach R.n R.accepting)
+mixed-by R few reach e =
+    sym (some-ext R.n (both_by reach R.n R.accepting) (both R few R.accepting refl)
+    (λ q l. ap (λ (k : ℕ). some_below 8 (accepted k R.accepting) && some_below 8 (rejected k R.accepting)) (ap (λ (t : List ℕ). class_by t R.n q) e ∙ class-by R few q l))
+    ∙ mixed-classes R few R.accepting refl)
 
--- one state more
-pub both-next : (reach : List ℕ) (n acc q k : ℕ) (b : Bool) → some_below q (both_by reach n acc) ≡ false → k ≡ class_by reach n q
-    → b ≡ (some_below 8 (accepted k acc) && some_below 8 (rejected k acc)) → b ≡ false → some_below (q + 1) (both_by reach n acc) ≡ false
-unfolding some_below
-both-next reach n acc q k b h e u v =
-    let z : both_by reach n acc q ≡ false = ap (λ (x : ℕ). some_below 8 (accepted x acc) && some_below 8 (rejected x acc)) (sym e) ∙ sym u ∙ v in
-    rw (add-one q, h, z)
-
-pub both-here : (R : Rule) → R.n ≤ 8 → (acc : ℕ) → acc ≡ R.accepting → (q k : ℕ) (b : Bool) → q < R.n → k ≡ class_by (closures_of R) R.n q
-    → b ≡ (some_below 8 (accepted k acc) && some_below 8 (rejected k acc)) → b ≡ true → mixed R ≡ true
-both-here R few acc same q k b l e u v =
-    sym (mixed-by R few acc same) ∙ some_at _ _ q l (ap (λ (x : ℕ). some_below 8 (accepted x acc) && some_below 8 (rejected x acc)) (sym e) ∙ sym u ∙ v)
+-- what the code finds at a state: its class, then both kinds in it
+pub both-at : (reach : List ℕ) (n acc q k : ℕ) (b v : Bool) → k ≡ class_by reach n q → b ≡ (some_below 8 (accepted k acc) && some_below 8 (rejected k acc)) → b ≡ v
+    → both_by reach n acc q ≡ v
+both-at reach n acc q k b v e u h = ap (λ (x : ℕ). some_below 8 (accepted x acc) && some_below 8 (rejected x acc)) (sym e) ∙ sym u ∙ h

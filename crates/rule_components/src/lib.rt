@@ -27,10 +27,8 @@ pub fn class_of(reach: &[u8; 8], n: usize, q: usize) -> u8
     ensures { result ≡ mask n (λ p. bit (get_or reach.now q 0) p && bit (get_or reach.now p 0) q) }
 {
     let mut class: u8 = 0;
-    let mut p = 0;
-    while p < n {
+    for p in 0..n {
         class |= ((reach[q] >> p) & (reach[p] >> q) & 1) << p;
-        p += 1;
     }
     class
 }
@@ -54,12 +52,10 @@ pub fn is_mixed(h: Head, counts: &[u8], clauses: &[u8]) -> bool
     let reach = closures(h, counts, clauses);
     let n = h.n;
     let accepting = h.accepting as u8;
-    let mut q = 0;
-    while q < n {
+    for q in 0..n {
         if both_kinds(class_of(&reach, n, q), accepting) {
             return true;
         }
-        q += 1;
     }
     false
 }
@@ -72,14 +68,12 @@ pub fn split(h: Head, counts: &[u8], clauses: &[u8]) -> Components
     let reach = closures(h, counts, clauses);
     let mut masks = [0u8; 8];
     let mut count = 0;
-    let mut q = 0;
-    while q < h.n {
+    for q in 0..h.n {
         let class = class_of(&reach, h.n, q);
         if u8::trailing_zeros(class) as usize == q {
             masks[count] = class;
             count += 1;
         }
-        q += 1;
     }
     Components {
         masks: masks,

@@ -14,7 +14,7 @@ ghost use Rattle.rule_entries.specs.Met.{met_of};
 ghost use Rattle.rule_entries.specs.Starts.{EntryStarts};
 
 // The numbers of a rule; its counts and clauses are lent beside them.
-#[derive(Clone, Copy)]
+#[derive(Clone, Copy, PartialEq, Eq)]
 pub struct Head {
     pub n: usize,
     pub s: usize,
@@ -22,33 +22,11 @@ pub struct Head {
     pub accepting: usize,
 }
 
-// The clause that a set meets.
-#[derive(Clone, Copy)]
-pub enum Met {
-    Clause(usize),
-    Nothing,
-}
-
-// The number of the first of the clauses all of whose states are in the set; a clause is left at its first missing state.
-pub fn first_met(set: u8, clauses: &[u8]) -> Met
+// The number of the first of the clauses all of whose states are in the set.
+pub fn first_met(set: u8, clauses: &[u8]) -> Option<usize>
     ensures { result ≡ met_of set clauses.now }
 {
-    let mut j = 0;
-    'clauses: loop {
-        if clauses.len() <= j {
-            break Met::Nothing;
-        }
-        let mut left = clauses[j];
-        while left != 0 {
-            let q = u8::trailing_zeros(left);
-            if (set >> q) & 1 == 0 {
-                j += 1;
-                continue 'clauses;
-            }
-            left &= left - 1;
-        }
-        break Met::Clause(j);
-    }
+    clauses.iter().position(|c| *c & set == *c)
 }
 
 // How many clauses the first i entries have.
@@ -56,13 +34,7 @@ pub fn clauses_before(counts: &[u8], i: usize) -> usize
     requires { (i ≤ length counts.now) × (i ≤ 65536) }
     ensures { result ≡ sum (take i counts.now) }
 {
-    let mut total: usize = 0;
-    let mut k = 0;
-    while k < i {
-        total += counts[k] as usize;
-        k += 1;
-    }
-    total
+    counts[..i].iter().map(|count| *count as usize).sum()
 }
 
 // The clauses of state q at letter a.
@@ -83,11 +55,9 @@ pub fn starts_of(counts: &[u8]) -> [u16; 128]
 {
     let mut starts = [0u16; 128];
     let mut total: u16 = 0;
-    let mut i = 0;
-    while i < counts.len() {
+    for (i, count) in counts.iter().enumerate() {
         starts[i] = total;
-        total += counts[i] as u16;
-        i += 1;
+        total += *count as u16;
     }
     starts
 }
@@ -101,7 +71,7 @@ pub fn met_at(
     q: usize,
     a: usize,
     set: u8,
-) -> Met
+) -> Option<usize>
     requires { WellFormed (rule_of h counts.now clauses.now) × EntryStarts counts.now starts.now × (q < h.n) × (a < h.s) }
     ensures { result ≡ met_of set (entry (rule_of h counts.now clauses.now) q a) }
 {
@@ -124,10 +94,7 @@ pub fn satisfied(
     requires { WellFormed (rule_of h counts.now clauses.now) × EntryStarts counts.now starts.now × (q < h.n) × (a < h.s) }
     ensures { result ≡ satisfies h.n (bit set) (entry (rule_of h counts.now clauses.now) q a) }
 {
-    match met_at(h, counts, starts, clauses, q, a, set) {
-        Met::Clause(_) => true,
-        Met::Nothing => false,
-    }
+    met_at(h, counts, starts, clauses, q, a, set).is_some()
 }
 
 // The union of the clauses.
@@ -135,10 +102,8 @@ pub fn named_in(clauses: &[u8]) -> u8
     ensures { result ≡ mask 8 (named clauses.now) }
 {
     let mut found: u8 = 0;
-    let mut j = 0;
-    while j < clauses.len() {
-        found |= clauses[j];
-        j += 1;
+    for clause in clauses {
+        found |= *clause;
     }
     found
 }

@@ -17,10 +17,8 @@ pub fn successors(h: Head, counts: &[u8], clauses: &[u8], q: usize) -> u8
     ensures { result ≡ mask h.n (leads (rule_of h counts.now clauses.now) q) }
 {
     let mut found: u8 = 0;
-    let mut a = 0;
-    while a < h.s {
+    for a in 0..h.s {
         found |= rule_entries::named_in(rule_entries::entry_of(h, counts, clauses, q, a));
-        a += 1;
     }
     found
 }
@@ -31,10 +29,8 @@ pub fn successor_table(h: Head, counts: &[u8], clauses: &[u8]) -> [u8; 8]
     ensures { result ≡ successors_of (rule_of h counts.now clauses.now) }
 {
     let mut table = [0u8; 8];
-    let mut q = 0;
-    while q < h.n {
+    for q in 0..h.n {
         table[q] = successors(h, counts, clauses, q);
-        q += 1;
     }
     table
 }
@@ -61,10 +57,8 @@ pub fn closures(h: Head, counts: &[u8], clauses: &[u8]) -> [u8; 8]
 {
     let es = successor_table(h, counts, clauses);
     let mut table = [0u8; 8];
-    let mut q = 0;
-    while q < h.n {
+    for q in 0..h.n {
         table[q] = closure(&es, q);
-        q += 1;
     }
     table
 }

@@ -2,7 +2,7 @@
 use mathlib.Core.Path.{◌≡◌, refl, ap, sym, ◌∙◌}
 use mathlib.Core.Bool.{Bool, true, false, ◌&&◌, and-true, and-false}
 use mathlib.Core.List.{List, [], ◌∷◌, Memᴰ}
-use Prim.Native.Nat.{ℕ, zero, suc, ◌^◌, ◌<◌, ◌≤◌}
+use Prim.Native.Nat.{ℕ, ◌^◌, ◌<◌, ◌≤◌}
 use borrow.Author.Tests.{eq-eqb, ne_eqb, eqb-true}
 use lib.Dec.{eqb}
 use Rattle.sets.specs.Tests.{Set, every}
@@ -18,16 +18,16 @@ use Rattle.rule_entries.proofs.Entries.{entry-states}
 use Rattle.rule_entries.specs.declared.Head.{Head}
 use Rattle.rule_entries.specs.Entries.{rule_of}
 use Rattle.file_spec.specs.declared.Layout.{Layout}
-use Rattle.file_spec.specs.declared.Read.TheVariants.{Accepted}
+use Rattle.std.specs.Prelude.{Ok}
+use Rattle.refusals.proofs.Rows.{refusal_and, refusal-passes}
 use Rattle.file_spec.specs.File.{counts_of_lem, clauses_of_lem, names_of, rule_in}
-use Rattle.file_spec.specs.Rows.{file_row}
+use Rattle.file_spec.specs.Rows.{file_rows_lem, file_row}
 use Rattle.slice_search.specs.Same.{same_lists}
 use Rattle.slice_search.proofs.Same.{lists-told}
 use Rattle.file_spec.specs.Reading.{read_of}
 use Rattle.file_spec.proofs.Clauses.{met-out, met-in, inside-trans}
 use Rattle.file_read.proofs.Answer.{served}
-use Rattle.rule_same.specs.declared.entries.SameRules.TheVariants.{Different, Refused}
-use Rattle.rule_same.specs.Same.{agree, same_entry_lem, same_entries_lem, same_rules, same_named, verdict, answer, same_files_lem, same_bodies_lem, same_rules_of}
+use Rattle.rule_same.specs.Same.{agree, same_entry_lem, same_entries_lem, same_rules, same_named, same_files_lem, same_bodies_lem, same_rules_of}
 
 -- ---- evaluated
 
@@ -144,25 +144,9 @@ module _ (g h : Head) where
 
 -- ---- the answer for two files
 
-module _ (f g : List ℕ) where
-  first : (k : ℕ) → (k ≡ 0 → ⊥) → Refused k ≡ answer k (file_row g) (same_files_lem f g)
-  unfolding answer
-  first zero n = absurd (n refl)
-  first (suc k) n = refl
-
-  second : (k : ℕ) → (k ≡ 0 → ⊥) → Refused k ≡ answer 0 k (same_files_lem f g)
-  unfolding answer
-  second zero n = absurd (n refl)
-  second (suc k) n = refl
-
-  pub refused-first : (k : ℕ) → (file_row f ≡ k) × (file_row f ≡ 0 → ⊥) → Refused k ≡ same_rules_of f g
-  refused-first k e = unfold same_rules_of in rw e.0 (first k (λ z. e.1 (e.0 ∙ z)))
-
-  pub refused-second : (k : ℕ) → file_row f ≡ 0 → (file_row g ≡ k) × (file_row g ≡ 0 → ⊥) → Refused k ≡ same_rules_of f g
-  refused-second k z e = unfold same_rules_of in rw (z, e.0) (second k (λ y. e.1 (e.0 ∙ y)))
-
-  pub served-both : file_row f ≡ 0 → file_row g ≡ 0 → same_files_lem f g ≡ same_rules_of f g
-  served-both y z = unfold same_rules_of answer in rw (y, z)
+pub served-both : (f g : List ℕ) → file_row f ≡ 0 → file_row g ≡ 0 → Ok (same_files_lem f g) ≡ same_rules_of f g
+unfolding same_rules_of file_row
+served-both f g y z = rw (refusal_and (file_rows_lem f) (file_rows_lem g), refusal-passes (file_rows_lem f) y, refusal-passes (file_rows_lem g) z)
 
 -- what the two walks over the clauses of two entries say of the entries
 pub entries-told : (r t : Rule) → WellFormed r → WellFormed t → r.n ≡ t.n → r.s ≡ t.s → (q a : ℕ) → q < r.n → a < r.s → {xs ys : List ℕ} {b : Bool}
@@ -172,21 +156,21 @@ entries-told r t w v e f q a l m {xs} {ys} h x y =
 
 -- ---- two files that no row refuses
 
-module _ (f g : List ℕ) (l m : Layout) (p : read_of f ≡ Accepted l) (q : read_of g ≡ Accepted m) where
+module _ (f g : List ℕ) (l m : Layout) (p : read_of f ≡ Ok l) (q : read_of g ≡ Ok m) where
   first-rule : rule_of l.head (counts_of_lem f) (clauses_of_lem f) ≡ rule_in f
   first-rule = (served f l p).rule
 
   second-rule : rule_of m.head (counts_of_lem g) (clauses_of_lem g) ≡ rule_in g
   second-rule = (served g m q).rule
 
-  same_by : same_bodies_lem f g ≡ verdict (Numbers l.head m.head && same_entries_lem (rule_of l.head (counts_of_lem f) (clauses_of_lem f)) (rule_of m.head (counts_of_lem g) (clauses_of_lem g)))
+  same_by : same_bodies_lem f g ≡ (Numbers l.head m.head && same_entries_lem (rule_of l.head (counts_of_lem f) (clauses_of_lem f)) (rule_of m.head (counts_of_lem g) (clauses_of_lem g)))
   unfolding same_rules
   same_by =
-      ap (λ (r : Rule). verdict (same_rules r (rule_in g))) (sym first-rule)
-      ∙ ap (λ (t : Rule). verdict (same_rules (rule_of l.head (counts_of_lem f) (clauses_of_lem f)) t)) (sym second-rule)
+      ap (λ (r : Rule). same_rules r (rule_in g)) (sym first-rule)
+      ∙ ap (λ (t : Rule). same_rules (rule_of l.head (counts_of_lem f) (clauses_of_lem f)) t) (sym second-rule)
 
-  pub numbers-differ : Numbers l.head m.head ≡ false → Different ≡ same_bodies_lem f g
-  numbers-differ e = unfold verdict in sym (same_by ∙ rw e)
+  pub numbers-differ : Numbers l.head m.head ≡ false → false ≡ same_bodies_lem f g
+  numbers-differ e = sym (same_by ∙ rw e)
 
   module _ (e : Numbers l.head m.head ≡ true) {c₁ k₁ c₂ k₂ : List ℕ} (x : c₁ ≡ counts_of_lem f) (y : k₁ ≡ clauses_of_lem f) (z : c₂ ≡ counts_of_lem g) (w : k₂ ≡ clauses_of_lem g) where
     second-as : rule_of l.head (counts_of_lem g) (clauses_of_lem g) ≡ rule_in g
@@ -195,7 +179,7 @@ module _ (f g : List ℕ) (l m : Layout) (p : read_of f ≡ Accepted l) (q : rea
     pub both-formed : WellFormed (rule_of l.head c₁ k₁) × WellFormed (rule_of l.head c₂ k₂)
     both-formed = (rw (x, y, first-rule) (served f l p).passing.formed, rw (z, w, second-as) (served g m q).passing.formed)
 
-    pub same-told : (b : Bool) → b ≡ same_entries_lem (rule_of l.head c₁ k₁) (rule_of l.head c₂ k₂) → verdict b ≡ same_bodies_lem f g
+    pub same-told : (b : Bool) → b ≡ same_entries_lem (rule_of l.head c₁ k₁) (rule_of l.head c₂ k₂) → b ≡ same_bodies_lem f g
     same-told b h =
         let n = numbers-equal l.head m.head e (counts_of_lem g) (clauses_of_lem g) in
         let s : b ≡ same_entries_lem (rule_of l.head (counts_of_lem f) (clauses_of_lem f)) (rule_of m.head (counts_of_lem g) (clauses_of_lem g)) =
@@ -204,7 +188,7 @@ module _ (f g : List ℕ) (l m : Layout) (p : read_of f ≡ Accepted l) (q : rea
         ∙ ap (λ (c : List ℕ). same_entries_lem (rule_of l.head (counts_of_lem f) (clauses_of_lem f)) (rule_of l.head c k₂)) z
         ∙ ap (λ (k : List ℕ). same_entries_lem (rule_of l.head (counts_of_lem f) (clauses_of_lem f)) (rule_of l.head (counts_of_lem g) k)) w
         ∙ ap (λ (t : Rule). same_entries_lem (rule_of l.head (counts_of_lem f) (clauses_of_lem f)) t) n in
-        sym (same_by ∙ ap (λ (v : Bool). verdict (v && same_entries_lem (rule_of l.head (counts_of_lem f) (clauses_of_lem f)) (rule_of m.head (counts_of_lem g) (clauses_of_lem g)))) e ∙ ap verdict (sym s))
+        sym (same_by ∙ ap (λ (v : Bool). v && same_entries_lem (rule_of l.head (counts_of_lem f) (clauses_of_lem f)) (rule_of m.head (counts_of_lem g) (clauses_of_lem g))) e ∙ sym s)
 
 -- ---- the names of two files
 
@@ -212,8 +196,8 @@ module _ (f g : List ℕ) {xs ys : List ℕ} {b : Bool} (x : xs ≡ names_of f) 
   names-are : same_lists (names_of f) (names_of g) ≡ b
   names-are = sym (lists-told b (names_of f) (names_of g) (λ t. sym x ∙ e.0 t ∙ y) (λ p. e.1 (x ∙ p ∙ sym y)))
 
-  pub names-differ : b ≡ false → Different ≡ same_files_lem f g
-  names-differ t = unfold same_named verdict in rw (names-are ∙ t, and-false (same_rules (rule_in f) (rule_in g)))
+  pub names-differ : b ≡ false → false ≡ same_files_lem f g
+  names-differ t = unfold same_named in rw (names-are ∙ t, and-false (same_rules (rule_in f) (rule_in g)))
 
   pub names-agree : b ≡ true → same_bodies_lem f g ≡ same_files_lem f g
   names-agree t = unfold same_named in rw (names-are ∙ t, and-true (same_rules (rule_in f) (rule_in g)))

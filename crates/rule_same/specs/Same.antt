@@ -1,13 +1,14 @@
 -- Sameness of rules.
-use Rattle.std.specs.Prelude.{ℕ, zero, suc, ◌^◌, Bool, true, false, ◌&&◌, not, List, eqb}
+use Rattle.std.specs.Prelude.{ℕ, ◌^◌, Bool, true, false, ◌&&◌, not, List, ◌++◌, eqb, Result, Ok}
+use Rattle.std.specs.Result.{result_and}
+use Rattle.refusals.specs.declared.Refusal.{Refusal}
+use Rattle.refusals.specs.Rows.{first_refusal}
 use Rattle.sets.specs.Tests.{every}
 use Rattle.sets.specs.Masks.{bit}
 use Rattle.slice_search.specs.Same.{same_lists}
 use Rattle.theory.specs.Rule.{Rule, entry, satisfies}
 use Rattle.file_spec.specs.File.{NamedRule, named_in, rule_in}
-use Rattle.file_spec.specs.Rows.{file_row}
-use Rattle.rule_same.specs.declared.entries.SameRules.{SameRules}
-use Rattle.rule_same.specs.declared.entries.SameRules.TheVariants.{Same, Different, Refused}
+use Rattle.file_spec.specs.Rows.{file_rows_lem}
 
 -- both hold, or neither
 abbrev pub agree : Bool → Bool → Bool
@@ -29,28 +30,18 @@ unfoldable pub same_rules : Rule → Rule → Bool
 unfolding same_entries_lem
 same_rules r t = (eqb r.n t.n && (eqb r.s t.s && (eqb r.initial t.initial && eqb r.accepting t.accepting))) && same_entries_lem r t
 
--- the answer for two rules that no row refuses
-unfoldable pub verdict : Bool → SameRules
-verdict true = Same
-verdict false = Different
-
 -- 02: "From now on two rules are the same only if, besides, both lack names or all names agree.": the bytes of the names are the same ones
 unfoldable pub same_named : NamedRule → NamedRule → Bool
 same_named r t = same_rules r.rule t.rule && same_lists r.names t.names
 
--- the answer for two files that no row refuses
-abbrev pub same_files_lem : List ℕ → List ℕ → SameRules
-same_files_lem f g = verdict (same_named (named_in f) (named_in g))
+-- the rules of two files, with their names
+abbrev pub same_files_lem : List ℕ → List ℕ → Bool
+same_files_lem f g = same_named (named_in f) (named_in g)
 
--- the answer whatever their names
-abbrev pub same_bodies_lem : List ℕ → List ℕ → SameRules
-same_bodies_lem f g = verdict (same_rules (rule_in f) (rule_in g))
+-- whatever their names
+abbrev pub same_bodies_lem : List ℕ → List ℕ → Bool
+same_bodies_lem f g = same_rules (rule_in f) (rule_in g)
 
--- by the first row that refuses the first file and the first that refuses the second. 01: "for sameness the first file, then the second"
-unfoldable pub answer : ℕ → ℕ → SameRules → SameRules
-answer zero zero v = v
-answer zero (suc k) v = Refused (suc k)
-answer (suc k) j v = Refused (suc k)
-
-unfoldable pub same_rules_of : List ℕ → List ℕ → SameRules
-same_rules_of f g = answer (file_row f) (file_row g) (same_files_lem f g)
+-- whether the rules of two files are the same, or what refuses first. 01: "for sameness the first file, then the second"
+unfoldable pub same_rules_of : List ℕ → List ℕ → Result Bool Refusal
+same_rules_of f g = result_and (first_refusal (file_rows_lem f ++ file_rows_lem g)) (Ok (same_files_lem f g))

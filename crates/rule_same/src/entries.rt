@@ -8,27 +8,15 @@ ghost use Rattle.theory.specs.Passing.{WellFormed};
 ghost use Rattle.rule_entries.specs.Entries.{rule_of};
 ghost use Rattle.rule_same.specs.Same.{same_entry_lem, same_entries_lem};
 
-use rule_entries::{Head, Met};
-
-#[derive(Clone, Copy)]
-pub enum SameRules {
-    Same,
-    Different,
-    Refused(u8),
-}
+use rule_entries::Head;
 
 // Whether every clause of the first entry, taken as a set, satisfies the second.
 fn clauses_satisfy(first: &[u8], second: &[u8]) -> bool
     ensures { result ≡ all_of first.now (λ c. satisfies 8 (bit c) second.now) }
 {
-    let mut j = 0;
-    while j < first.len() {
-        match rule_entries::first_met(first[j], second) {
-            Met::Clause(_) => j += 1,
-            Met::Nothing => return false,
-        }
-    }
-    true
+    first
+        .iter()
+        .all(|c| rule_entries::first_met(*c, second).is_some())
 }
 
 // Whether the clauses of each of two entries satisfy the other.
@@ -58,15 +46,13 @@ fn same_state(
         (λ a. same_entry_lem h.n (entry (rule_of h counts.now clauses.now) q a)
         (entry (rule_of h counts2.now clauses2.now) q a)) }
 {
-    let mut a = 0;
-    while a < h.s {
+    for a in 0..h.s {
         if !same_entry(
             rule_entries::entry_of(h, counts, clauses, q, a),
             rule_entries::entry_of(h, counts2, clauses2, q, a),
         ) {
             return false;
         }
-        a += 1;
     }
     true
 }
@@ -78,12 +64,10 @@ pub fn same_entries(h: Head, counts: &[u8], clauses: &[u8], counts2: &[u8], clau
         ≡ same_entries_lem (rule_of h counts.now clauses.now)
         (rule_of h counts2.now clauses2.now) }
 {
-    let mut q = 0;
-    while q < h.n {
+    for q in 0..h.n {
         if !same_state(h, counts, clauses, counts2, clauses2, q) {
             return false;
         }
-        q += 1;
     }
     true
 }

@@ -26,14 +26,7 @@ fn contains_clause(c: u8, d: u8, properly: bool) -> bool
 fn contains_any(c: u8, clauses: &[u8], properly: bool) -> bool
     ensures { result ≡ any_of clauses.now (containing properly c) }
 {
-    let mut j = 0;
-    while j < clauses.len() {
-        if contains_clause(c, clauses[j], properly) {
-            return true;
-        }
-        j += 1;
-    }
-    false
+    clauses.iter().any(|d| contains_clause(c, *d, properly))
 }
 
 // Whether the clause c of an entry is dropped; kept are the clauses kept before it.
@@ -66,10 +59,8 @@ fn tidy_entry(clauses: &[u8], out: &mut [u8]) -> usize
     ensures out_after { out.new ≡ filled (tidy_entry_lem 8 clauses.now) out.old }
 {
     let mut k = 0;
-    let mut i = 0;
-    while i < clauses.len() {
-        k = keep(clauses, clauses[i], out, k);
-        i += 1;
+    for c in clauses {
+        k = keep(clauses, *c, out, k);
     }
     k
 }
@@ -87,14 +78,12 @@ fn tidy_lists(counts: &[u8], clauses: &[u8], counts2: &mut [u8], clauses2: &mut 
 {
     let mut from = 0;
     let mut to = 0;
-    let mut i = 0;
-    while i < counts.len() {
-        let next = from + counts[i] as usize;
+    for (i, count) in counts.iter().enumerate() {
+        let next = from + *count as usize;
         let kept = tidy_entry(&clauses[from..next], &mut clauses2[to..]);
         counts2[i] = kept as u8;
         to += kept;
         from = next;
-        i += 1;
     }
     to
 }

@@ -1,5 +1,5 @@
 -- The union over the states of a set, as the walk over the set builds it.
-use mathlib.Core.Path.{◌≡◌, refl, sym, ◌∙◌, ap}
+use mathlib.Core.Path.{◌≡◌, sym, ◌∙◌, ap}
 use mathlib.Core.Bool.{Bool, ◌||◌}
 use mathlib.Core.List.{List, [], ◌∷◌}
 use Prim.Native.Nat.{ℕ, ◌-◌, ◌<◌}
@@ -23,9 +23,6 @@ union-over-bit es (q ∷ qs) p =
 -- the union so far, r, with that over the states left is the union over m
 abbrev pub Joined : List ℕ → ℕ → ℕ → ℕ → Type 0
 Joined es m r left = bit_or r (union_over_lem es (members left)) ≡ union_over_lem es (members m)
-
-pub start : (es : List ℕ) (m : ℕ) → Joined es m 0 m
-start es m = refl
 
 pub turn : (es : List ℕ) (m r left : ℕ) → 0 < left → left < 256 → Joined es m r left → Joined es m (bit_or r (get_or es (count_trailing_zeros 8 left) 0)) (bit_and left (left - 1))
 unfolding union_over_lem

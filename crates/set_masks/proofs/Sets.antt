@@ -6,7 +6,7 @@ use native.Mathlib.Omega.{arith}
 use native.Mathlib.Nat.{mod-eq_of_lt, one-mul, lt_of_le_of_lt}
 use lib.Dec.{eqb, ltb}
 use lib.Bits.{bit_and, and_le_l, and_mask}
-use lib.Pow.{pow_mono, pow_pos, ones_lt}
+use lib.Pow.{pow_mono, ones_lt}
 use Rattle.sets.specs.Masks.{bit}
 use Rattle.sets.proofs.Bits.{bit-and, bit_not, bit-full, mask-unique}
 use Rattle.set_masks.specs.Sets.{difference_of, full_of}
@@ -25,12 +25,6 @@ difference-is a b ha hb =
 
 pub pow-fits : (n : ℕ) → n ≤ 8 → 1 * 2 ^ n % 4294967296 ≡ 2 ^ n
 pow-fits n h = let s : 2 ^ n ≤ 256 = pow_mono {i = n} {j = 8} h in ap (λ (x : ℕ). x % 4294967296) (one-mul (2 ^ n)) ∙ mod-eq_of_lt (omega arith)
-
-pub full-fits : (n : ℕ) → n ≤ 8 → 1 * 2 ^ n % 4294967296 - 1 < 256
-full-fits n h = let s : 2 ^ n ≤ 256 = pow_mono {i = n} {j = 8} h in let e = pow-fits n h in let p = pow_pos n in omega arith
-
-pub full-pos : (n : ℕ) → n ≤ 8 → 1 ≤ 1 * 2 ^ n % 4294967296
-full-pos n h = let e = pow-fits n h in let p = pow_pos n in omega arith
 
 pub full-number : (n : ℕ) → n ≤ 8 → 2 ^ n - 1 ≡ full_of n
 full-number n h =

@@ -35,6 +35,7 @@ pub fn union_over(m: u8, es: &[u8; 8]) -> u8
 {
     let mut r: u8 = 0;
     let mut left = m;
+    // A while: it visits the set bits alone.
     while left != 0 {
         let q = u8::trailing_zeros(left) as usize;
         r |= es[q];

@@ -8,3 +8,4 @@ pub mod Ascending
 pub mod Bits
 pub mod Members
 pub mod Walks
+pub mod Chains

@@ -1,8 +1,10 @@
 -- The bytes of a block that repeats a cycle.
-use mathlib.Core.Path.{◌≡◌, refl, sym, ◌∙◌, ap, ap₂}
+use mathlib.Core.Path.{◌≡◌, sym, ◌∙◌, ap}
 use mathlib.Core.List.{List, [], ◌++◌}
+use mathlib.Core.Logic.{by_cases}
 use Prim.Native.Nat.{ℕ, suc, ◌+◌, ◌-◌, ◌≤◌, ◌<◌}
 use native.Mathlib.Omega.{arith}
+use native.Mathlib.Decide.{dec_lt}
 use lib.ListN.{length, get_or, take, drop, set, replicate, length-append, length-take, length-replicate, get_or-replicate, length-set, get_or-append}
 use lib.Seq.{ext_get_or, get_or-take, get_or-append-add, drop_at}
 use Rattle.sets.proofs.Lists.{length-tabulate, tabulate-at}
@@ -20,6 +22,11 @@ module _ (cycle : List ℕ) (n : ℕ) where
   repeated-at j l =
       let e : 0 + j ≡ j = omega arith in
       tabulate-at n (λ x. get_or cycle (place (next_place_lem [] cycle) x) 0) 0 j l ∙ ap (λ (x : ℕ). get_or cycle (place (next_place_lem [] cycle) x) 0) e
+
+zeros-behind : (xs : List ℕ) (n m j : ℕ) → length xs ≡ n → n ≤ j → j < n + m → get_or (xs ++ replicate m 0) j 0 ≡ 0
+zeros-behind xs n m j e h l =
+    let q : length xs + (j - n) ≡ j = omega arith in
+    ap (λ (x : ℕ). get_or (xs ++ replicate m 0) x 0) (sym q) ∙ get_or-append-add xs (replicate m 0) (j - n) 0 ∙ get_or-replicate m (j - n) 0 0 (omega arith)
 
 -- the first i bytes of the block so far are as they should be
 pub record Right (cycle : List ℕ) (first end : ℕ) (block now : List ℕ) (i : ℕ) : Type 0 where
@@ -83,18 +90,13 @@ module _ {cycle : List ℕ} {first end : ℕ} {block : List ℕ} (order : first 
   pub right-next : {x : ℕ} → i < length block → x ≡ get_or (spread_of cycle first end block) i 0 → Right cycle first end block (set now i x) (i + 1)
   right-next {x} l e = record { long = simp length-set r.long; each = put_next (λ j. get_or (spread_of cycle first end block) j 0) now i x (omega (arith, r.long)) e r.each }
 
-  pub right_end : length block ≤ i → now ≡ spread_of cycle first end block
-  right_end l = ext_get_or 0 now (spread_of cycle first end block) (r.long ∙ sym (spread-length cycle first end block order room)) (λ j h. r.each j (omega (arith, r.long)))
-
-  -- a block whose first bytes are right leads to the same
-  pub same-goal : first ≤ i → spread_of cycle first end now ≡ spread_of cycle first end block
-  unfolding spread_of
-  same-goal h =
-      let front = spread-front cycle first end block order room in
-      let fronts : take first now ≡ take first block
-      = ext_get_or 0 (take first now) (take first block) (simp length-take (omega (arith, r.long)))
-      (λ j l. let k : j < first = omega (arith, simp length-take at l) in get_or-take first now j 0 k ∙ r.each j (omega arith) ∙ sym (front j k) ∙ sym (get_or-take first block j 0 k)) in
-      ap₂ (λ (x : List ℕ) (n : ℕ). x ++ (repeated cycle (end - first) ++ replicate (n - end) 0)) fronts r.long
-
-  pub right-again : first ≤ i → Right cycle first end now now i
-  right-again h = record { long = refl; each = λ j l. r.each j l ∙ ap (λ (x : List ℕ). get_or x j 0) (sym (same-goal h)) }
+  -- with zeros after them, all bytes are
+  pub right_end : {t : List ℕ} → i ≡ end → t ≡ take end now ++ replicate (length now - end) 0 → t ≡ spread_of cycle first end block
+  right_end {t} e h =
+      let zs : List ℕ = replicate (length now - end) 0 in
+      let fit : length (take end now) ≡ end = simp length-take (omega (arith, r.long)) in
+      let long : length (take end now ++ zs) ≡ length block = length-append (take end now) zs ∙ omega (arith, fit, length-replicate {A = ℕ} (length now - end) 0, r.long) in
+      h ∙ ext_get_or 0 (take end now ++ zs) (spread_of cycle first end block) (long ∙ sym (spread-length cycle first end block order room))
+      (λ (j : ℕ) (l : j < length (take end now ++ zs)). by_cases (dec_lt j end)
+      (λ (k : j < end). get_or-append (take end now) zs 0 j (omega (arith, fit)) ∙ get_or-take end now j 0 k ∙ r.each j (omega arith))
+      (λ k. zeros-behind (take end now) end (length now - end) j fit (omega arith) (omega (arith, long, r.long)) ∙ spread-zero cycle first end block order room j (omega arith) (omega (arith, long))))

@@ -6,7 +6,6 @@ ghost use Rattle.judge_place.specs.Starts.{CycleReady};
 ghost use Rattle.sheet_cycles.specs.Known.{Parts, Found};
 ghost use Rattle.sheet_cycles.specs.Filled.{Filled, Learnt};
 
-use check::same;
 use judge_masks::word::fill_cycle;
 use rule_entries::Head;
 
@@ -15,16 +14,14 @@ pub fn find_cycle(sheet: &[u8], from: &[usize], size: &[usize], n: usize, cycle:
     requires { Parts sheet.now from.now size.now n }
     ensures { Found sheet.now from.now size.now n cycle.now result }
 {
-    let mut k = 0;
-    while k < n {
+    for k in 0..n {
         let start = from[k];
         let end = start + size[k];
-        if same(&sheet[start..end], cycle) {
+        if &sheet[start..end] == cycle {
             return k;
         }
-        k += 1;
     }
-    k
+    n
 }
 
 // The numbers of a rule and, for each of its states, the mask of the states that it reaches.

@@ -17,17 +17,12 @@ pub fn repeat_cycle(cycle: &[u8], first: usize, end: usize, block: &mut [u8])
     ensures { block.new ≡ spread_of cycle.now first end block.old }
 {
     let n = cycle.len();
-    let mut i = first;
     let mut p = 0;
-    while i < end {
+    for i in first..end {
         block[i] = cycle[p];
         p = next_place(0, n, p);
-        i += 1;
     }
-    while i < block.len() {
-        block[i] = 0;
-        i += 1;
-    }
+    block[end..].fill(0);
 }
 
 // The masks of a word of so many places: those of its tidy lead-in, then those of its tidy cycle again and again; zeros after them.

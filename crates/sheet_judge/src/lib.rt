@@ -11,11 +11,11 @@ ghost use Rattle.sheet_spec.specs.Judged.{SheetJudged};
 ghost use Rattle.sheet_judge.specs.Called.{WordsJudged, SheetCalled};
 
 use file_read::{clauses_of, counts_of, read_rule};
-use file_spec::Read;
+use refusals::Refusal;
 use rule_entries::{Head, starts_of};
 use rule_reach::closures;
 use sheet_cycles::learning::Reachability;
-use sheet_spec::{SheetAnswer, Totals};
+use sheet_spec::Totals;
 use sheet_word::{WordAt, judge_word};
 use sheet_words::{count_words, next_word};
 
@@ -47,6 +47,7 @@ pub fn judge_words(
     let mut cycles = 0;
     let mut at = 0;
     let mut i = 0;
+    // A while: it goes from word to word.
     while at < sheet.len() {
         let begin = 64 * i;
         let end = begin + 64;
@@ -80,46 +81,46 @@ pub fn judge_sheet_read(
     sheet: &[u8],
     answers: &mut [u8],
     masks: &mut [u8],
-) -> SheetAnswer
+) -> Result<Totals, Refusal>
     requires { Passing (rule_of h counts.now clauses.now) }
     ensures { SheetCalled (rule_of h counts.now clauses.now) sheet.now
         answers.old masks.old answers.new masks.new result }
 {
     let words = count_words(sheet);
     if 64 < words {
-        return SheetAnswer::Refused(refusals::WORDS);
+        return Err(Refusal::Words);
     }
     if answers.len() < words {
-        return SheetAnswer::Refused(refusals::SLICE);
+        return Err(Refusal::Slice);
     }
     if masks.len() < 64 * words {
-        return SheetAnswer::Refused(refusals::SLICE);
+        return Err(Refusal::Slice);
     }
     let cycles = judge_words(h, counts, clauses, sheet, answers, masks);
-    SheetAnswer::Judged(Totals { words, cycles })
+    Ok(Totals { words, cycles })
 }
 
 // Judges the words of a sheet on the rule of a file. For each word, in sheet order, one byte of answers becomes 0 for no, 1 for yes or the
 // number of a faulty word, and 64 bytes of masks become those of the word, zeros after its places; the bytes after them stay.
 // Refused by the rows of the rule, 24 and 16, in this order, and both slices are then unchanged.
-pub fn judge_sheet(file: &[u8], sheet: &[u8], answers: &mut [u8], masks: &mut [u8]) -> SheetAnswer
+pub fn judge_sheet(
+    file: &[u8],
+    sheet: &[u8],
+    answers: &mut [u8],
+    masks: &mut [u8],
+) -> Result<Totals, Refusal>
     ensures { SheetJudged file.now sheet.now answers.old masks.old
         answers.new masks.new result
         × SheetComputed file.now sheet.now answers.old masks.old
         answers.new masks.new result }
 {
-    match read_rule(file) {
-        Read::Accepted(l) => {
-            let h = l.head;
-            judge_sheet_read(
-                h,
-                counts_of(file, l),
-                clauses_of(file, l),
-                sheet,
-                answers,
-                masks,
-            )
-        }
-        Read::Refused(k) => SheetAnswer::Refused(k),
-    }
+    let l = read_rule(file)?;
+    judge_sheet_read(
+        l.head,
+        counts_of(file, l),
+        clauses_of(file, l),
+        sheet,
+        answers,
+        masks,
+    )
 }

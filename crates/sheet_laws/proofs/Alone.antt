@@ -20,8 +20,12 @@ use Rattle.file_spec.specs.File.{rule_in}
 use Rattle.file_spec.specs.Rows.{file_row}
 use Rattle.word_rows.specs.Words.{length_rows, letter_rows, word_rows_lem, word_row_lem}
 use Rattle.word_rows.proofs.Checks.{word_over}
-use Rattle.judge_spec.specs.Judge.{judge_row, judge_of, holds_start, verdict, after}
-use Rattle.judge_spec.proofs.Rows.{word-refuses, call-served, file-passes}
+use Rattle.judge_spec.specs.Judge.{judge_rows, judge_row, judge_of, holds_start, verdict, after}
+use Rattle.judge_spec.proofs.Rows.{row-word, row-served, row-passed}
+use Rattle.std.specs.Prelude.{Result, Ok, Err, ⊤}
+use Rattle.refusals.specs.Rows.{number_of, row_of, first_refusal}
+use Rattle.refusals.specs.declared.Refusal.{Refusal}
+use Rattle.refusals.proofs.Rows.{number-above, row-refusal}
 use Rattle.sheet_spec.specs.Words.{SheetWord, spelled, lead_of, cycle_of, length_faults, fault_of}
 use Rattle.sheet_spec.specs.Sheet.{byte_of}
 use Rattle.sheet_spec.specs.Computed.{answer_by, answer_of, masks_by, masks_of_lem, Alone}
@@ -62,8 +66,8 @@ pub sound : (s a b : ℕ) (t : List ℕ) → length t ≤ a + b → fault_of s (
 unfolding fault_of length_faults
 sound s a b t most e =
     let p = first-parts (length_faults a b t) (letter_rows s (take a t) (drop a t)) (faults-numbered a b t) e in
-    let x = first-pass (eqb b 0) 11 _ p.0 in
-    let y = first-pass (ltb (length t) (a + b) || (ltb 32 a || ltb 32 b)) 12 [] x.1 in let n = eqb-false b 0 x.0 in
+    let x = first-pass (eqb b 0) _ _ p.0 in
+    let y = first-pass (ltb (length t) (a + b) || (ltb 32 a || ltb 32 b)) _ [] x.1 in let n = eqb-false b 0 x.0 in
     let there = ltb-false (length t) (a + b) (or-fl (ltb (length t) (a + b)) (ltb 32 a || ltb 32 b) y.0) in
     let short = or-fr (ltb (length t) (a + b)) (ltb 32 a || ltb 32 b) y.0 in
     let whole : length t ≡ a + b = omega arith in
@@ -88,13 +92,17 @@ drop-zeros zero n = let e : n - 0 ≡ n = omega arith in ap zeros (sym e)
 drop-zeros (suc k) zero = let e : 0 - suc k ≡ 0 = omega arith in sym (ap zeros e)
 drop-zeros (suc k) (suc n) = let e : suc n - suc k ≡ n - k = omega arith in drop-zeros k n ∙ sym (ap zeros e)
 
-pub verdict-byte : (b : Bool) → one b ≡ byte_of (verdict 0 b)
+pub verdict-byte : (b : Bool) → one b ≡ byte_of (Ok b)
 verdict-byte true = refl
 verdict-byte false = refl
 
-answer-by : (r : Rule) (k : ℕ) (w : SheetWord) → answer_by r k w ≡ byte_of (verdict k (holds_start r (lead_of w) (cycle_of w)))
-answer-by r zero w = verdict-byte (holds_start r (lead_of w) (cycle_of w))
-answer-by r (suc k) w = refl
+answer-number : (r : Rule) (k : ℕ) (w : SheetWord) → 0 < k → answer_by r k w ≡ k
+answer-number r zero w l = absurd (omega arith)
+answer-number r (suc k) w l = refl
+
+answer-by : (r : Rule) (refusal : Result ⊤ Refusal) (w : SheetWord) → answer_by r (row_of refusal) w ≡ byte_of (verdict refusal (holds_start r (lead_of w) (cycle_of w)))
+answer-by r (Ok t) w = verdict-byte (holds_start r (lead_of w) (cycle_of w))
+answer-by r (Err k) w = answer-number r (number_of k) w (number-above k)
 
 masks-by : (r : Rule) (n k : ℕ) (w : SheetWord) → n ≡ 64 → masks_by r k w ≡ after k (truth_masks r (lead_of w) (cycle_of w)) (zeros n)
 unfolding after
@@ -108,10 +116,10 @@ module _ (f : List ℕ) (accepted : file_row f ≡ 0) (a b : ℕ) (t : List ℕ)
   -- the judge's row is the word's own number
   judge-row : judge_row f (take a t) (drop a t) 64 ≡ fault_of (rule_in f).s (spelled a b t)
   judge-row =
-      file-passes f (take a t) (drop a t) 64 accepted
+      row-passed f (take a t) (drop a t) 64 accepted
       ∙ ⊎_elim
-      (λ e. call-served (rule_in f) (take a t) (drop a t) 64 (sym alone ∙ e) (small e) ∙ sym e)
-      (λ k. sym (word-refuses (rule_in f) (take a t) (drop a t) 64 (fault_of (rule_in f).s (spelled a b t)) (λ z. let x : suc k.0 ≡ 0 = sym k.1 ∙ z in omega arith) alone))
+      (λ e. row-served (rule_in f) (take a t) (drop a t) 64 (sym alone ∙ e) (small e) ∙ sym e)
+      (λ k. sym (row-word (rule_in f) (take a t) (drop a t) 64 (fault_of (rule_in f).s (spelled a b t)) (λ z. let x : suc k.0 ≡ 0 = sym k.1 ∙ z in omega arith) alone))
       (zero-or-suc (fault_of (rule_in f).s (spelled a b t)))
     where
       alone : fault_of (rule_in f).s (spelled a b t) ≡ word_row_lem (rule_in f).s (take a t) (drop a t)
@@ -123,10 +131,11 @@ module _ (f : List ℕ) (accepted : file_row f ≡ 0) (a b : ℕ) (t : List ℕ)
           omega (arith, s.lead-short, s.cycle-short, lead-size a b t whole, cycle-size a b t whole)
 
   answer-alone : answer_of (rule_in f) (spelled a b t) ≡ byte_of (judge_of f (take a t) (drop a t) 64)
-  unfolding answer_of judge_of lead_of cycle_of
+  unfolding answer_of judge_of judge_row lead_of cycle_of
   answer-alone =
-      answer-by (rule_in f) (fault_of (rule_in f).s (spelled a b t)) (spelled a b t)
-      ∙ ap (λ (k : ℕ). byte_of (verdict k (holds_start (rule_in f) (take a t) (drop a t)))) (sym judge-row)
+      let rows = judge_rows f (take a t) (drop a t) 64 in
+      ap (λ (k : ℕ). answer_by (rule_in f) k (spelled a b t)) (sym judge-row ∙ sym (row-refusal rows))
+      ∙ answer-by (rule_in f) (first_refusal rows) (spelled a b t)
 
   masks-alone : masks_of_lem (rule_in f) (spelled a b t) ≡ after (judge_row f (take a t) (drop a t) 64) (truth_masks (rule_in f) (take a t) (drop a t)) (replicate 64 0)
   unfolding masks_of_lem after lead_of cycle_of

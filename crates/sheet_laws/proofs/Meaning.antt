@@ -22,7 +22,9 @@ use Rattle.sheet_spec.specs.Words.{SheetWord, lone, spelled, words_in, words_of,
 use Rattle.sheet_spec.specs.Sheet.{byte_of}
 use Rattle.sheet_spec.specs.Computed.{answer_of, masks_of_lem, all_masks, cycles_after, cycle_count, totals, tidy_of_lem}
 use Rattle.sheet_spec.specs.Judged.{WordMeant, TidyCycles, SheetServed}
-use Rattle.sheet_spec.specs.declared.SheetAnswer.{SheetAnswer}
+use Rattle.sheet_spec.specs.declared.Totals.{Totals}
+use Rattle.std.specs.Prelude.{Result, Ok}
+use Rattle.refusals.specs.declared.Refusal.{Refusal}
 use Rattle.sheet_laws.proofs.Distinct.{mem-of, zero-or-suc, counted}
 use Rattle.sheet_laws.proofs.Alone.{sound, lead-size, cycle-size, verdict-byte}
 
@@ -54,7 +56,7 @@ repeated-at a n i =
     (λ l. get_or-eq_default (replicate n a) a {n = i} (omega (arith, length-replicate {A = ℕ} n a)))
 
 module _ (r : Rule) where
-  word_served : (w : SheetWord) → fault_of r.s w ≡ 0 → (answer_of r w ≡ byte_of (verdict 0 (holds_start r (lead_of w) (cycle_of w))))
+  word_served : (w : SheetWord) → fault_of r.s w ≡ 0 → (answer_of r w ≡ byte_of (Ok (holds_start r (lead_of w) (cycle_of w))))
       × (masks_of_lem r w ≡ truth_masks r (lead_of w) (cycle_of w) ++ replicate (64 - places (lead_of w) (cycle_of w)) 0)
   unfolding answer_of masks_of_lem
   word_served w e = rw e (verdict-byte (holds_start r (lead_of w) (cycle_of w)), refl)
@@ -94,7 +96,7 @@ module _ (r : Rule) (w : SheetWord) (z : Sized w) where
   word-meant P = record {
     long = masks-long;
     alone = λ e. (
-      verdict 0 (holds_start r (lead_of w) (cycle_of w)),
+      Ok (holds_start r (lead_of w) (cycle_of w)),
       (word_served r w e).0,
       rw (word_served r w e).1 (meaning r P (lead_of w) (cycle_of w) (fine r.s w z e).0 (replicate (64 - places (lead_of w) (cycle_of w)) 0)),
     );
@@ -151,8 +153,8 @@ module _ (s : ℕ) (ws : List SheetWord) (sized : (w : SheetWord) → Memᴰ w w
 
 -- ---- a served call
 
-module _ (r : Rule) (P : Passing r) (sheet answers masks answers' masks' : List ℕ) (v : SheetAnswer)
-    (a : v ≡ totals 0 (length (words_of sheet)) (cycle_count r.s (words_of sheet)))
+module _ (r : Rule) (P : Passing r) (sheet answers masks answers' masks' : List ℕ) (v : Result Totals Refusal)
+    (a : v ≡ totals (Ok tt) (length (words_of sheet)) (cycle_count r.s (words_of sheet)))
     (b : answers' ≡ after 0 (map (answer_of r) (words_of sheet)) answers) (c : masks' ≡ after 0 (all_masks r (words_of sheet)) masks) where
   pub sheet-meant : SheetServed r (words_of sheet) answers masks answers' masks' v
   unfolding after cycle_count

@@ -5,7 +5,7 @@ use Prim.Native.Nat.{ℕ}
 use lib.ListN.{replicate}
 use Rattle.sets.specs.Lists.{any_of, sum, tabulate}
 use Rattle.sets.specs.Masks.{bit, mask, inside}
-use Rattle.refusals.specs.Rows.{first_row}
+use Rattle.refusals.specs.Rows.{first_refusal, first_row}
 use Rattle.sets.specs.Tests.{every, some_below, count, first}
 use Rattle.theory.specs.Rule.{entry, satisfies}
 use Rattle.theory.specs.Components.{named, leads, within, reaches, together, mixed}
@@ -21,11 +21,12 @@ use Rattle.word_spelling_spec.specs.SpellingComputed.{comes_again_lem, cycle_len
 use Rattle.sheet_spec.specs.Words.{lone, spelled, words_in, words_of, lead_of, cycle_of, length_faults, fault_of}
 use Rattle.sheet_spec.specs.Sheet.{sheet_rows, sheet_row}
 use Rattle.sheet_spec.specs.Computed.{answer_of, masks_of_lem, all_masks, is_known, learn, cycles_after, cycle_count, sheet_of}
-use Rattle.sheet_spec.specs.declared.SheetAnswer.TheVariants.{Judged, Refused}
+use Rattle.std.specs.Prelude.{Ok, Err}
+use Rattle.refusals.specs.declared.Refusal.TheVariants.{Slice}
 
 -- what an evaluation unfolds
 unfoldable computed : ℕ
-unfolding sheet_rows cycle_count cycles_after learn is_known same_lists words_of words_in lead_of cycle_of fault_of length_faults first_row letter_rows any_of tidy_cycle lead_length_lem cycle_length_lem comes_again_lem
+unfolding sheet_rows cycle_count cycles_after learn is_known same_lists words_of words_in lead_of cycle_of fault_of length_faults first_refusal first_row letter_rows any_of tidy_cycle lead_length_lem cycle_length_lem comes_again_lem
     shortened every first letter_at_lem next_place_lem place
 computed = 0
 
@@ -99,11 +100,11 @@ pub masks : all_masks (rule_in F) (words_of sheet) ≡ 0x01 ∷ 0x01 ∷ (0x00 �
 unfolding F sheet computed judged
 masks = refl
 
-pub totals-of : sheet_of F sheet 4 256 ≡ Judged (record { words = 4; cycles = 1 })
+pub totals-of : sheet_of F sheet 4 256 ≡ Ok (record { words = 4; cycles = 1 })
 unfolding F sheet computed judged
 totals-of = refl
 
 -- a slice of masks a byte short
-pub masks-short : sheet_of F sheet 4 255 ≡ Refused 16
+pub masks-short : sheet_of F sheet 4 255 ≡ Err Slice
 unfolding F sheet computed judged
 masks-short = refl

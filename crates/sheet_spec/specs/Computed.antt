@@ -11,10 +11,12 @@ use Rattle.judge_spec.specs.Judge.{holds_start, judge_row, judge_of, after}
 use Rattle.slice_search.specs.Same.{same_lists}
 use Rattle.word_spelling_spec.specs.SpellingComputed.{tidy_cycle}
 use Rattle.sheet_spec.specs.Words.{SheetWord, spelled, words_of, lead_of, cycle_of, fault_of}
-use Rattle.sheet_spec.specs.Sheet.{byte_of, sheet_row}
+use Rattle.sheet_spec.specs.Sheet.{byte_of, sheet_call_rows, sheet_row}
 use Rattle.sheet_spec.specs.Judged.{Once}
-use Rattle.sheet_spec.specs.declared.SheetAnswer.{SheetAnswer}
-use Rattle.sheet_spec.specs.declared.SheetAnswer.TheVariants.{Judged, Refused}
+use Rattle.sheet_spec.specs.declared.Totals.{Totals}
+use Rattle.std.specs.Prelude.{Result, Ok, Err, ⊤}
+use Rattle.refusals.specs.Rows.{first_refusal}
+use Rattle.refusals.specs.declared.Refusal.{Refusal}
 
 -- ---- one word
 
@@ -78,13 +80,13 @@ pub record Counted (s : ℕ) (known : List (List ℕ)) (ws : List SheetWord) (ks
 
 -- ---- the sheet
 
--- by the row, or 0: the number of words and of cycles filled, or the number alone
-abbrev pub totals : ℕ → ℕ → ℕ → SheetAnswer
-totals zero words cycles = Judged (record { words = words; cycles = cycles })
-totals (suc k) words cycles = Refused (suc k)
+-- by what refuses: the number of words and of cycles filled, or the refusal alone
+abbrev pub totals : Result ⊤ Refusal → ℕ → ℕ → Result Totals Refusal
+totals (Ok _) words cycles = Ok (record { words = words; cycles = cycles })
+totals (Err r) words cycles = Err r
 
-unfoldable pub sheet_of : List ℕ → List ℕ → ℕ → ℕ → SheetAnswer
-sheet_of f sheet answers masks = totals (sheet_row f sheet answers masks) (length (words_of sheet)) (cycle_count (rule_in f).s (words_of sheet))
+unfoldable pub sheet_of : List ℕ → List ℕ → ℕ → ℕ → Result Totals Refusal
+sheet_of f sheet answers masks = totals (first_refusal (sheet_call_rows f sheet answers masks)) (length (words_of sheet)) (cycle_count (rule_in f).s (words_of sheet))
 
 -- 02: "Answer the sheet as if each word were judged alone": the answer byte of a word that is all there is the judge's,
 -- and its mask bytes are what the judge makes of 64 zeros
@@ -94,7 +96,7 @@ pub record Alone (f : List ℕ) (a b : ℕ) (t : List ℕ) : Type 0 where
       ≡ after (judge_row f (take a t) (drop a t) 64) (truth_masks (rule_in f) (take a t) (drop a t)) (replicate 64 0)
 
 -- the answer v, and both slices before and after
-pub record SheetComputed (f sheet answers masks answers' masks' : List ℕ) (v : SheetAnswer) : Type 0 where
+pub record SheetComputed (f sheet answers masks answers' masks' : List ℕ) (v : Result Totals Refusal) : Type 0 where
   pub answered : v ≡ sheet_of f sheet (length answers) (length masks)
   pub answers_written : answers' ≡ after (sheet_row f sheet (length answers) (length masks)) (map (answer_of (rule_in f)) (words_of sheet)) answers
   pub masks_written : masks' ≡ after (sheet_row f sheet (length answers) (length masks)) (all_masks (rule_in f) (words_of sheet)) masks

@@ -1,6 +1,7 @@
 -- The words of a sheet, and the number of each that is faulty.
 use Rattle.std.specs.Prelude.{◌||◌, List, [], ◌∷◌, ◌++◌, ℕ, zero, suc, ◌+◌, eqb, ltb, length, take, drop}
 use Rattle.refusals.specs.Rows.{Check, check, first_row}
+use Rattle.refusals.specs.declared.Refusal.TheVariants.{NoCycle, LongWord}
 use Rattle.word_rows.specs.Words.{letter_rows}
 
 -- 02: "A sheet gives for each word two length bytes, lead-in and cycle, then its letters"
@@ -34,7 +35,7 @@ cycle_of (spelled a b t) = drop a t
 -- 12 and 13 of a word with lengths a and b of which the letters t are there.
 -- 02: "a word that the sheet's end cuts off falls under 13, as does a lone length byte"
 unfoldable pub length_faults : ℕ → ℕ → List ℕ → List Check
-length_faults a b t = check (eqb b 0) 12 ∷ (check (ltb (length t) (a + b) || (ltb 32 a || ltb 32 b)) 13 ∷ [])
+length_faults a b t = check (eqb b 0) NoCycle ∷ (check (ltb (length t) (a + b) || (ltb 32 a || ltb 32 b)) LongWord ∷ [])
 
 -- over s letters, "a faulty word's own number", or 0: the first of 12, 13 and 14
 unfoldable pub fault_of : ℕ → SheetWord → ℕ

@@ -1,4 +1,4 @@
-// What the judge of a sheet promises: what is refused, answered and written; no code but the answer's type.
+// What the judge of a sheet promises: what is refused, answered and written; no code but the type of what is answered.
 
 #![tactic(auto)]
 
@@ -7,11 +7,4 @@
 pub struct Totals {
     pub words: usize,
     pub cycles: usize,
-}
-
-// The answer of the judge of a sheet.
-#[derive(Clone, Copy)]
-pub enum SheetAnswer {
-    Judged(Totals),
-    Refused(u8),
 }

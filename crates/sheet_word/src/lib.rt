@@ -132,11 +132,10 @@ pub fn judge_word(
         from.new size.new filled.new block.new result }
 {
     let h = rule.head;
-    let row = word_fault(h.s, sheet, next.at);
-    if row != 0 {
+    if let Err(fault) = word_fault(h.s, sheet, next.at) {
         fill_with(block, 0);
         return WordAnswer {
-            answer: row,
+            answer: fault.row(),
             cycles: next.cycles,
         };
     }

@@ -3,9 +3,11 @@
 #![tactic(auto)]
 
 ghost use Rattle.std.specs.Prelude.{◌≡◌, ◌<◌, length};
+ghost use Rattle.refusals.specs.Rows.{row_of};
 ghost use Rattle.sheet_spec.specs.Words.{words_of, fault_of};
 ghost use Rattle.sheet_words.specs.Places.{word_from, Next};
 
+use refusals::Refusal;
 use word_rows::word_row;
 
 // Where the next word begins, or the sheet ends, after the word that begins at byte at.
@@ -30,6 +32,7 @@ pub fn count_words(sheet: &[u8]) -> usize
 {
     let mut n = 0;
     let mut at = 0;
+    // A while: it goes from word to word.
     while at < sheet.len() {
         at = next_word(sheet, at);
         n += 1;
@@ -37,22 +40,22 @@ pub fn count_words(sheet: &[u8]) -> usize
     n
 }
 
-// The number of the word that begins at byte at, over s letters: the first of 12 to 14, or 0.
-pub fn word_fault(s: usize, sheet: &[u8], at: usize) -> u8
+// What the word that begins at byte at is faulty for, over s letters: the first of rows 12 to 14.
+pub fn word_fault(s: usize, sheet: &[u8], at: usize) -> Result<(), Refusal>
     requires { at < length sheet.now }
-    ensures { result ≡ fault_of s (word_from sheet.now at) }
+    ensures { row_of result ≡ fault_of s (word_from sheet.now at) }
 {
     let end = sheet.len();
     if end - at < 2 {
-        return refusals::LONG_WORD;
+        return Err(Refusal::LongWord);
     }
     let lead = sheet[at] as usize;
     let cycle = sheet[at + 1] as usize;
     if end - at - 2 < lead + cycle {
         if cycle == 0 {
-            return refusals::NO_CYCLE;
+            return Err(Refusal::NoCycle);
         }
-        return refusals::LONG_WORD;
+        return Err(Refusal::LongWord);
     }
     let first = at + 2;
     let middle = first + lead;

@@ -19,6 +19,7 @@ pub fn read_full<R: Read>(reader: &mut R, buf: &mut [u8]) -> io::Result<usize>
     ensures all_or_full { IfOk result (λ n. n < length buf.new → IsAtEnd (R.remaining reader.new)) }
 {
     let mut done = 0;
+    // A while: a read may give fewer bytes than there is room for.
     while done < buf.len() {
         let n = reader.read(&mut buf[done..])?;
         if n == 0 {

@@ -1,5 +1,5 @@
--- Zeros, one or eight more.
-use mathlib.Core.Path.{◌≡◌, sym, ap, subst, ◌∙◌}
+-- Zeros, eight more.
+use mathlib.Core.Path.{◌≡◌, sym, subst}
 use mathlib.Core.Logic.{by_cases}
 use mathlib.Core.List.{List}
 use Prim.Native.Nat.{ℕ, zero, suc, ◌+◌, ◌-◌, ◌≤◌, ◌<◌}
@@ -10,16 +10,6 @@ use Rattle.sets.specs.Digits.{num}
 use Rattle.sets.proofs.Digits.{num-low}
 use Rattle.codes.specs.Bytes.{word_at}
 use Rattle.slice_search.specs.Zeros.{Zeros}
-
-module _ (xs : List ℕ) where
-  pub zeros-none : (from : ℕ) → Zeros xs from from
-  zeros-none from = record { ordered = omega arith; zeros = λ x l m. absurd (omega arith) }
-
-  pub zeros-next : (from i : ℕ) → Zeros xs from i → get_or xs i 0 ≡ 0 → Zeros xs from (i + 1)
-  zeros-next from i z e = record {
-    ordered = omega (arith, z.ordered);
-    zeros = λ x l m. by_cases (ℕ_discrete x i) (λ q. ap (λ (k : ℕ). get_or xs k 0) q ∙ e) (λ q. z.zeros x l (omega arith));
-  }
 
 -- digits of the number 0 are 0
 digits-zero : (m : ℕ) (f : ℕ → ℕ) → num 256 m f ≡ 0 → (j : ℕ) → j < m → f j ≡ 0

@@ -8,11 +8,7 @@ use codes::word_at;
 pub fn fill_with(xs: &mut [u8], v: u8)
     ensures { xs.new ≡ replicate (length xs.old) v }
 {
-    let mut i = 0;
-    while i < xs.len() {
-        xs[i] = v;
-        i += 1;
-    }
+    xs.fill(v);
 }
 
 // A place from `from` on, up to `to`, before which all bytes are 0: it steps by eight.
@@ -21,6 +17,7 @@ fn skip_words(xs: &[u8], from: usize, to: usize) -> usize
     ensures { Zeros xs.now from result × (result ≤ to) }
 {
     let mut i = from;
+    // A while: it steps by eight.
     while 8 <= to - i {
         if word_at(xs, i) != 0 {
             return i;
@@ -35,14 +32,12 @@ pub fn next_set(xs: &[u8], from: usize, to: usize) -> usize
     requires { (from ≤ to) × (to ≤ length xs.now) }
     ensures { NextSet xs.now from to result }
 {
-    let mut i = skip_words(xs, from, to);
-    while i < to {
+    for i in skip_words(xs, from, to)..to {
         if xs[i] != 0 {
             return i;
         }
-        i += 1;
     }
-    i
+    to
 }
 
 // Whether the byte v is `low` or more and below `high`.
@@ -61,6 +56,7 @@ pub fn next_between(xs: &[u8], from: usize, to: usize, low: u8, high: u8) -> usi
     ensures { NextBetween low high xs.now from to result }
 {
     let mut x = next_set(xs, from, to);
+    // A while: the place jumps to the next byte that is set.
     while x < to {
         if is_between(xs[x], low, high) {
             return x;

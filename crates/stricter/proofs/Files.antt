@@ -3,8 +3,10 @@ use mathlib.Core.Path.{◌≡◌, sym, ◌∙◌}
 use mathlib.Core.List.{List, ◌++◌}
 use Prim.Native.Nat.{ℕ}
 use lib.ListN.{length}
-use Rattle.refusals.specs.Rows.{Check}
-use Rattle.refusals.proofs.Rows.{first-left, first-right, first-parts}
+use Rattle.std.specs.Prelude.{Result, Err}
+use Rattle.refusals.specs.Rows.{Check, number_of, first_refusal}
+use Rattle.refusals.specs.declared.Refusal.{Refusal}
+use Rattle.refusals.proofs.Rows.{refusal-left, refusal-right, refusal-passes, first-parts}
 use Rattle.theory.specs.Rule.{Rule}
 use Rattle.theory.specs.Table.{ListsReachable}
 use Rattle.theory.specs.TableComputed.{macrostates, transitions}
@@ -18,8 +20,7 @@ use Rattle.file_read.proofs.FileRows.{file-numbered, accepted-passing}
 use Rattle.build.specs.Built.{room_row}
 use Rattle.build.proofs.RoomRows.{room-few}
 use Rattle.stricter_entry_spec.specs.declared.Comparison.{Comparison}
-use Rattle.stricter_entry_spec.specs.declared.Comparison.TheVariants.{Refused}
-use Rattle.stricter_entry_spec.specs.Rows.{Slices, tables_of, rules_rows, rules_row, stricter_row}
+use Rattle.stricter_entry_spec.specs.Rows.{Slices, tables_of, rules_rows, stricter_rows, stricter_row}
 use Rattle.stricter_entry_spec.specs.Compared.{Compared}
 use Rattle.stricter.specs.Steps.{row_of_lem, ByRow}
 use Rattle.stricter.proofs.Rooms.{by_row, refused-kept, file-keeps}
@@ -43,7 +44,7 @@ module _ (f g : List ℕ) (lent : Slices) where
     other : room_row (rejecting_macrostates b) (rejecting_transitions b) (length lent.codes_b) (length lent.transitions_b) ≡ 0
 
   passed : stricter_row f g lent ≡ 0 → Passed
-  unfolding stricter_row file_row rules_row
+  unfolding stricter_row file_row
   passed e =
       let x = first-parts (file_rows_lem f) (file_rows_lem g ++ rest) (file-numbered f) e in
       let y = first-parts (file_rows_lem g) rest (file-numbered g) x.1 in
@@ -58,30 +59,28 @@ module _ (f g : List ℕ) (lent : Slices) where
       (room-few (rejecting_macrostates b) (rejecting_transitions b) (length lent.codes_b) (length lent.transitions_b) h.other)
 
   -- a row of a rule refuses: nothing is said of lists
-  turned-away : (k : ℕ) → ((file_row f ≡ 0) × (file_row g ≡ 0) → ⊥) → ByRow a b (stricter_row f g lent) lent (Refused k) lent → Compared f g lent (Refused k) lent
-  turned-away k n C = record { by_row = C; by_lists = λ x y. absurd (n (x, y)); lists_a = lists-of-a; lists_b = lists-of-b }
+  turned-away : (r : Refusal) → ((file_row f ≡ 0) × (file_row g ≡ 0) → ⊥) → ByRow a b (first_refusal (stricter_rows f g lent)) lent (Err r) lent → Compared f g lent (Err r) lent
+  turned-away r n C = record { by_row = C; by_lists = λ x y. absurd (n (x, y)); lists_a = lists-of-a; lists_b = lists-of-b }
 
   -- a row of A's rule refuses
-  pub first-refused : (k : ℕ) → (file_row f ≡ k) × (file_row f ≡ 0 → ⊥) → Compared f g lent (Refused k) lent
-  unfolding stricter_row file_row
-  first-refused k e =
-      let n : k ≡ 0 → ⊥ = λ z. e.1 (e.0 ∙ z) in
-      turned-away k (λ z. e.1 z.0) (refused-kept (first-left (file_rows_lem f) (file_rows_lem g ++ rest) k n (sym e.0)) n (rw e.0 at (file-keeps f)))
+  pub first-refused : {r : Refusal} → (first_refusal (file_rows_lem f) ≡ Err r) × (file_row f ≡ number_of r) × (file_row f ≡ 0 → ⊥) → Compared f g lent (Err r) lent
+  first-refused {r} e =
+      turned-away r (λ z. e.2 z.0) (refused-kept (refusal-left (file_rows_lem f) (file_rows_lem g ++ rest) r e.0) (rw e.1 at (file-keeps f)))
 
   -- a row of B's
-  pub second-refused : file_row f ≡ 0 → (k : ℕ) → (file_row g ≡ k) × (file_row g ≡ 0 → ⊥) → Compared f g lent (Refused k) lent
-  unfolding stricter_row file_row
-  second-refused z k e =
-      let n : k ≡ 0 → ⊥ = λ y. e.1 (e.0 ∙ y) in
-      turned-away k (λ y. e.1 y.1)
-      (refused-kept (first-left (file_rows_lem g) rest k n (sym e.0) ∙ sym (first-right (file_rows_lem f) (file_rows_lem g ++ rest) (file-numbered f) z)) n (rw e.0 at (file-keeps g)))
+  pub second-refused : file_row f ≡ 0 → {r : Refusal} → (first_refusal (file_rows_lem g) ≡ Err r) × (file_row g ≡ number_of r) × (file_row g ≡ 0 → ⊥) → Compared f g lent (Err r) lent
+  unfolding file_row
+  second-refused z {r} e =
+      turned-away r (λ y. e.2 y.1)
+      (refused-kept (refusal-right (file_rows_lem f) (file_rows_lem g ++ rest) (refusal-passes (file_rows_lem f) z) ∙ refusal-left (file_rows_lem g) rest r e.0) (rw e.1 at (file-keeps g)))
 
-  row_is : file_row f ≡ 0 → file_row g ≡ 0 → row_of_lem a b lent ≡ stricter_row f g lent
-  unfolding stricter_row file_row rules_row
-  row_is z y = sym (first-right (file_rows_lem f) (file_rows_lem g ++ rest) (file-numbered f) z ∙ first-right (file_rows_lem g) rest (file-numbered g) y)
+  row_is : file_row f ≡ 0 → file_row g ≡ 0 → row_of_lem a b lent ≡ first_refusal (stricter_rows f g lent)
+  unfolding file_row
+  row_is z y = sym (refusal-right (file_rows_lem f) (file_rows_lem g ++ rest) (refusal-passes (file_rows_lem f) z)
+      ∙ refusal-right (file_rows_lem g) rest (refusal-passes (file_rows_lem g) y))
 
   -- none does
-  pub both_read : file_row f ≡ 0 → file_row g ≡ 0 → (answer : Comparison) (left : Slices) → ByRow a b (row_of_lem a b lent) lent answer left → Compared f g lent answer left
+  pub both_read : file_row f ≡ 0 → file_row g ≡ 0 → (answer : Result Comparison Refusal) (left : Slices) → ByRow a b (row_of_lem a b lent) lent answer left → Compared f g lent answer left
   both_read z y answer left C = record {
     by_row = by_row (row_is z y) C;
     by_lists = λ _ _ tables L M. compared-by-lists (accepted-passing f z) (accepted-passing g y) tables L M lent answer left C;

@@ -9,8 +9,11 @@ use lib.Dec.{eqb}
 use borrow.Author.Tests.{eq-eqb, ne_eqb}
 use lib.ListN.{length, take, replicate, length-append}
 use lib.Seq.{take-append_seam}
-use Rattle.refusals.specs.Rows.{Check, first_row, check}
-use Rattle.refusals.proofs.Rows.{row-yes, row-no, numbered, first-left, first-right}
+use Rattle.std.specs.Prelude.{Result, Ok, Err, ⊤}
+use Rattle.refusals.specs.Rows.{Check, number_of, refusal_at, row_of, first_refusal, first_row, check}
+use Rattle.refusals.specs.declared.Refusal.{Refusal}
+use Rattle.refusals.specs.declared.Refusal.TheVariants.{OtherLetters}
+use Rattle.refusals.proofs.Rows.{number-above, row-yes, row-no, numbered, refusal-yes, refusal-no, row-refusal, refusal-passes, refused-row, refused-some, refusal-at, refusal-left, refusal-right}
 use Rattle.sets.proofs.Bools.{bif, and_l, and_r, or_l}
 use Rattle.file_spec.specs.Rows.{file_row, file_rows_lem, layout_rows, trailer_rows, body_rows, name_rows, preface_rows}
 use Rattle.file_spec.specs.RuleRows.{number_rows, list_rows, clause_rows, component_rows, formed_rows}
@@ -20,20 +23,16 @@ use Rattle.rejecting_spec.specs.RejectingComputed.{rejecting_macrostates, reject
 use Rattle.theory_laws.proofs.Tables.{lists-from}
 use Rattle.file_spec.specs.File.{rule_in}
 use Rattle.file_spec.specs.declared.Layout.{Layout}
-use Rattle.file_spec.specs.declared.Read.TheVariants.{Accepted}
 use Rattle.file_spec.specs.Reading.{read_of}
 use Rattle.file_read.proofs.Answer.{served}
 use Rattle.build_spec.specs.Keys.{start_of}
 use Rattle.build.specs.declared.Counts.{Counts}
-use Rattle.build.specs.declared.Built.TheVariants.{Table, Refused}
 use Rattle.build.specs.Built.{room_rows, room_row, built_by, refuses_room, room_after}
 use Rattle.build.specs.Filling.{Made}
 use Rattle.build.proofs.RoomRows.{room-few, room-zeroed, room-kept, room-written}
 use Rattle.build.proofs.Answer.{none_of_lem, first-other, table-by}
 use Rattle.stricter_entry_spec.specs.declared.Comparison.{Comparison}
-use Rattle.stricter_entry_spec.specs.declared.Comparison.TheVariants as answers
-use Rattle.stricter_entry_spec.specs.Rows.{Slices, slices_of, tables_of, alphabet_rows, both_room_rows, pair_rows, rules_rows, rules_row, zeroes_rooms, scratch_left}
-use Rattle.stricter_entry_spec.specs.Compared.{Told}
+use Rattle.stricter_entry_spec.specs.Rows.{Slices, slices_of, tables_of, alphabet_rows, both_room_rows, pair_rows, rules_rows, zeroes_rooms, scratch_left}
 use Rattle.stricter_search.specs.Lists.{FileLists}
 use Rattle.stricter.specs.declared.Side.{Side}
 use Rattle.stricter.specs.Steps.{codes_of, moves_of, Ready, other_row, pair_row, row_of_lem, ByRow}
@@ -45,21 +44,21 @@ unfolding scratch_left
 scratch-kept zero lent n = absurd (n refl)
 scratch-kept (suc k) lent n = refl
 
-told-refused : (a b : Rule) (k : ℕ) (old new : List ℕ) → (k ≡ 0 → ⊥) → new ≡ old → Told a b (tables_of a b) k (answers.Refused k) old new
-told-refused a b zero old new n e = absurd (n refl)
-told-refused a b (suc k) old new n e = (refl, e)
-
-pub by_row : {a b : Rule} {k row : ℕ} {lent : Slices} {answer : Comparison} {left : Slices} → k ≡ row → ByRow a b k lent answer left → ByRow a b row lent answer left
+pub by_row : {a b : Rule} {k row : Result ⊤ Refusal} {lent : Slices} {answer : Result Comparison Refusal} {left : Slices} → k ≡ row → ByRow a b k lent answer left → ByRow a b row lent answer left
 by_row e C = rw e at C
 
+some-number : (r : Refusal) → number_of r ≡ 0 → ⊥
+some-number r e = let n = number-above r in omega arith
+
 -- a row that zeroes the rooms
-pub refused-zero : {a b : Rule} {k row : ℕ} {lent left : Slices} → k ≡ row → (k ≡ 0 → ⊥) → zeroes_rooms k ≡ true
+pub refused-zero : {a b : Rule} {r : Refusal} {row : Result ⊤ Refusal} {lent left : Slices} → row ≡ Err r → zeroes_rooms (number_of r) ≡ true
     → left.codes_a ≡ replicate (length lent.codes_a) 0 → left.transitions_a ≡ replicate (length lent.transitions_a) 0
     → left.codes_b ≡ replicate (length lent.codes_b) 0 → left.transitions_b ≡ replicate (length lent.transitions_b) 0
-    → left.word ≡ lent.word → left.scratch ≡ lent.scratch → ByRow a b row lent (answers.Refused k) left
-refused-zero {a} {b} {k} {lent = lent} {left = left} e n z ca ta cb tb w s =
-    by_row e (record {
-      told = told-refused a b k lent.word left.word n w;
+    → left.word ≡ lent.word → left.scratch ≡ lent.scratch → ByRow a b row lent (Err r) left
+refused-zero {a} {b} {r} {lent = lent} {left = left} e z ca ta cb tb w s =
+    let k = number_of r in let n = some-number r in
+    by_row (sym e) (record {
+      told = (refl, w);
       codes_a_after = ca ∙ sym (room-zeroed (λ j. zeroes_rooms j) k (macrostates a) lent.codes_a n z);
       transitions_a_after = ta ∙ sym (room-zeroed (λ j. zeroes_rooms j) k (transitions a) lent.transitions_a n z);
       codes_b_after = cb ∙ sym (room-zeroed (λ j. zeroes_rooms j) k (rejecting_macrostates b) lent.codes_b n z);
@@ -68,10 +67,11 @@ refused-zero {a} {b} {k} {lent = lent} {left = left} e n z ca ta cb tb w s =
     })
 
 -- a row that leaves them
-pub refused-kept : {a b : Rule} {k row : ℕ} {lent : Slices} → k ≡ row → (k ≡ 0 → ⊥) → zeroes_rooms k ≡ false → ByRow a b row lent (answers.Refused k) lent
-refused-kept {a} {b} {k} {lent = lent} e n z =
-    by_row e (record {
-      told = told-refused a b k lent.word lent.word n refl;
+pub refused-kept : {a b : Rule} {r : Refusal} {row : Result ⊤ Refusal} {lent : Slices} → row ≡ Err r → zeroes_rooms (number_of r) ≡ false → ByRow a b row lent (Err r) lent
+refused-kept {a} {b} {r} {lent = lent} e z =
+    let k = number_of r in let n = some-number r in
+    by_row (sym e) (record {
+      told = (refl, refl);
       codes_a_after = room-kept (λ j. zeroes_rooms j) k (macrostates a) lent.codes_a n z;
       transitions_a_after = room-kept (λ j. zeroes_rooms j) k (transitions a) lent.transitions_a n z;
       codes_b_after = room-kept (λ j. zeroes_rooms j) k (rejecting_macrostates b) lent.codes_b n z;
@@ -94,33 +94,36 @@ room-same zero list xs ys S e = ap (λ (n : ℕ). list ++ replicate (n - length 
 room-same (suc k) list xs ys S e = let z = some-row (λ j. zeroes_rooms j) (suc k) S (λ c. omega arith) in rw z (ap (λ (n : ℕ). replicate n 0) e)
 
 -- the rooms lent may hold anything else of the same length
-pub lent_same : {a b : Rule} {k row : ℕ} {lent other : Slices} {answer : Comparison} {left : Slices} → k ≡ row → Settles (λ j. zeroes_rooms j) k
+pub lent_same : {a b : Rule} {k row : Result ⊤ Refusal} {lent other : Slices} {answer : Result Comparison Refusal} {left : Slices} → k ≡ row → Settles (λ j. zeroes_rooms j) (row_of k)
     → length lent.codes_a ≡ length other.codes_a → length lent.transitions_a ≡ length other.transitions_a
     → length lent.codes_b ≡ length other.codes_b → length lent.transitions_b ≡ length other.transitions_b
     → lent.word ≡ other.word → lent.scratch ≡ other.scratch → ByRow a b k lent answer left → ByRow a b row other answer left
 lent_same {a} {b} {k} {lent = lent} {other = other} r S ca ta cb tb w s C =
     by_row r (record {
       told = rw w at C.told;
-      codes_a_after = C.codes_a_after ∙ room-same k (macrostates a) lent.codes_a other.codes_a S ca;
-      transitions_a_after = C.transitions_a_after ∙ room-same k (transitions a) lent.transitions_a other.transitions_a S ta;
-      codes_b_after = C.codes_b_after ∙ room-same k (rejecting_macrostates b) lent.codes_b other.codes_b S cb;
-      transitions_b_after = C.transitions_b_after ∙ room-same k (rejecting_transitions b) lent.transitions_b other.transitions_b S tb;
-      scratch_after = C.scratch_after ∙ ap (scratch_left k) s;
+      codes_a_after = C.codes_a_after ∙ room-same (row_of k) (macrostates a) lent.codes_a other.codes_a S ca;
+      transitions_a_after = C.transitions_a_after ∙ room-same (row_of k) (transitions a) lent.transitions_a other.transitions_a S ta;
+      codes_b_after = C.codes_b_after ∙ room-same (row_of k) (rejecting_macrostates b) lent.codes_b other.codes_b S cb;
+      transitions_b_after = C.transitions_b_after ∙ room-same (row_of k) (rejecting_transitions b) lent.transitions_b other.transitions_b S tb;
+      scratch_after = C.scratch_after ∙ ap (scratch_left (row_of k)) s;
     })
 
 -- ---- rows whose numbers are all of one kind
 
 unfoldable all_of : (ℕ → Bool) → List Check → Bool
 all_of kind [] = true
-all_of kind (c ∷ cs) = kind c.number && all_of kind cs
+all_of kind (c ∷ cs) = kind (number_of c.refusal) && all_of kind cs
 
 first-settles : (kind : ℕ → Bool) (cs : List Check) → all_of kind cs ≡ true → Settles kind (first_row cs)
 unfolding all_of first_row
 first-settles kind [] e = inl refl
 first-settles kind (c ∷ cs) e =
     bif c.applies
-    (λ t. inr (rw (row-yes c cs t) (and_l (kind c.number) (all_of kind cs) e)))
-    (λ t. rw (row-no c cs t) (first-settles kind cs (and_r (kind c.number) (all_of kind cs) e)))
+    (λ t. inr (rw (row-yes c cs t) (and_l (kind (number_of c.refusal)) (all_of kind cs) e)))
+    (λ t. rw (row-no c cs t) (first-settles kind cs (and_r (kind (number_of c.refusal)) (all_of kind cs) e)))
+
+refusal-settles : (kind : ℕ → Bool) (cs : List Check) → all_of kind cs ≡ true → Settles kind (row_of (first_refusal cs))
+refusal-settles kind cs e = rw (row-refusal cs) (first-settles kind cs e)
 
 pub file-keeps : (f : List ℕ) → zeroes_rooms (file_row f) ≡ false
 unfolding file_row none_of_lem file_rows_lem body_rows preface_rows name_rows layout_rows trailer_rows number_rows list_rows formed_rows clause_rows component_rows
@@ -132,35 +135,41 @@ room-refuses : (codes moves : List ℕ) (cl ml : ℕ) → Settles (λ k. refuses
 unfolding room_row room_rows all_of
 room-refuses codes moves cl ml = first-settles (λ k. refuses_room k) (room_rows codes moves cl ml) refl
 
-refused-number : (k row : ℕ) (codes moves : List ℕ) → Refused k ≡ built_by row codes moves → (k ≡ row) × (row ≡ 0 → ⊥)
+refused-number : (r : Refusal) (row : ℕ) (codes moves : List ℕ) → Err r ≡ built_by row codes moves → (k : ℕ) × (row ≡ suc k) × (r ≡ refusal_at k)
 unfolding built_by
-refused-number k zero codes moves e = let z : ◌≡◌ {A = ℕ} 0 1 = cc in absurd (omega arith)
-refused-number k (suc row) codes moves e = (cc, λ z. omega arith)
+refused-number r zero codes moves e = cc
+refused-number r (suc row) codes moves e = (row, refl, cc)
+
+by_number : (x : Result ⊤ Refusal) (k : ℕ) → row_of x ≡ suc k → x ≡ Err (refusal_at k)
+by_number (Ok u) k e = absurd (omega arith)
+by_number (Err r) k e = ap Err (sym (refusal-at r k e))
 
 -- a build that refuses, by its row
-pub record Emptied (codes moves xs zs : List ℕ) (k : ℕ) (ys ws : List ℕ) : Type 0 where
-  pub row : k ≡ room_row codes moves (length xs) (length zs)
-  pub some : k ≡ 0 → ⊥
-  pub zeroes : zeroes_rooms k ≡ true
+pub record Emptied (codes moves xs zs : List ℕ) (r : Refusal) (ys ws : List ℕ) : Type 0 where
+  pub row : first_refusal (room_rows codes moves (length xs) (length zs)) ≡ Err r
+  pub zeroes : zeroes_rooms (number_of r) ≡ true
   pub codes-zero : ys ≡ replicate (length xs) 0
   pub moves-zero : ws ≡ replicate (length zs) 0
 
-pub made-refused : {codes moves xs zs : List ℕ} {k : ℕ} {ys ws : List ℕ} → Made codes moves xs zs (Refused k) ys ws → Emptied codes moves xs zs k ys ws
-made-refused {codes} {moves} {xs} {zs} {k} M =
+pub made-refused : {codes moves xs zs : List ℕ} {r : Refusal} {ys ws : List ℕ} → Made codes moves xs zs (Err r) ys ws → Emptied codes moves xs zs r ys ws
+unfolding room_row
+made-refused {codes} {moves} {xs} {zs} {r} M =
+    let rows = room_rows codes moves (length xs) (length zs) in
     let row = room_row codes moves (length xs) (length zs) in
-    let r = refused-number k row codes moves M.answer in
-    let z : refuses_room row ≡ true = some-row (λ j. refuses_room j) row (room-refuses codes moves (length xs) (length zs)) r.1 in
+    let (k, at, number) = refused-number r row codes moves M.answer in
+    let e : first_refusal rows ≡ Err r = by_number (first_refusal rows) k (row-refusal rows ∙ at) ∙ ap Err (sym number) in
+    let n = refused-some rows r e in
+    let z : refuses_room row ≡ true = some-row (λ j. refuses_room j) row (room-refuses codes moves (length xs) (length zs)) n in
     record {
-      row = r.0;
-      some = λ e. r.1 (sym r.0 ∙ e);
-      zeroes = ap (λ (j : ℕ). zeroes_rooms j) r.0 ∙ or_l (refuses_room row) (eqb row 29) z;
-      codes-zero = M.codes_after ∙ room-zeroed (λ j. refuses_room j) row codes xs r.1 z;
-      moves-zero = M.moves_after ∙ room-zeroed (λ j. refuses_room j) row moves zs r.1 z;
+      row = e;
+      zeroes = ap (λ (j : ℕ). zeroes_rooms j) (sym (refused-row rows r e)) ∙ or_l (refuses_room row) (eqb row 29) z;
+      codes-zero = M.codes_after ∙ room-zeroed (λ j. refuses_room j) row codes xs n z;
+      moves-zero = M.moves_after ∙ room-zeroed (λ j. refuses_room j) row moves zs n z;
     }
 
 -- a build that leaves its table
-module _ (f : List ℕ) (holds : Bool) {l : Layout} {n : Counts} {xs zs ys ws : List ℕ} (p : read_of f ≡ Accepted l)
-    (M : Made (codes_of f holds) (moves_of f holds) xs zs (Table n) ys ws) (e : length ys ≡ length xs) (d : length ws ≡ length zs) where
+module _ (f : List ℕ) (holds : Bool) {l : Layout} {n : Counts} {xs zs ys ws : List ℕ} (p : read_of f ≡ Ok l)
+    (M : Made (codes_of f holds) (moves_of f holds) xs zs (Ok n) ys ws) (e : length ys ≡ length xs) (d : length ws ≡ length zs) where
   abbrev row_made : ℕ
   row_made = room_row (codes_of f holds) (moves_of f holds) (length xs) (length zs)
 
@@ -207,7 +216,7 @@ pub numbered-room : (codes moves : List ℕ) (cl ml : ℕ) → numbered (room_ro
 unfolding numbered room_rows
 numbered-room codes moves cl ml = refl
 
-pub file-letters : (f : List ℕ) {l : Layout} → read_of f ≡ Accepted l → l.head.s ≡ (rule_in f).s
+pub file-letters : (f : List ℕ) {l : Layout} → read_of f ≡ Ok l → l.head.s ≡ (rule_in f).s
 file-letters f {l} p = ap (λ (x : Layout). x.head.s) (served f l p).layout
 
 module _ (f g : List ℕ) (lent : Slices) where
@@ -227,44 +236,44 @@ module _ (f g : List ℕ) (lent : Slices) where
   rows_p = pair_rows (tables_of a b) lent
 
   -- B's build refuses
-  pub other-refused : {k : ℕ} {ys ws : List ℕ} → Emptied (codes_of g false) (moves_of g false) lent.codes_b lent.transitions_b k ys ws → k ≡ other_row a b lent
-  unfolding other_row room_row start_of
-  other-refused {k} E = first-left rows_b rows_p k E.some E.row
+  pub other-refused : {r : Refusal} {ys ws : List ℕ} → Emptied (codes_of g false) (moves_of g false) lent.codes_b lent.transitions_b r ys ws → other_row a b lent ≡ Err r
+  unfolding other_row start_of
+  other-refused {r} E = refusal-left rows_b rows_p r E.row
 
   -- it leaves ys and ws in B's rooms
   pub other-served : (ys ws : List ℕ) → room_row (codes_of g false) (moves_of g false) (length lent.codes_b) (length lent.transitions_b) ≡ 0
       → pair_row a b (slices_of lent.codes_a lent.transitions_a ys ws lent.word lent.scratch) ≡ other_row a b lent
   unfolding other_row pair_row pair_rows room_row start_of
-  other-served ys ws e = sym (first-right rows_b rows_p (numbered-room _ _ _ _) e)
+  other-served ys ws e = sym (refusal-right rows_b rows_p (refusal-passes rows_b e))
 
-  pub other-settles : Settles (λ k. zeroes_rooms k) (other_row a b lent)
+  pub other-settles : Settles (λ k. zeroes_rooms k) (row_of (other_row a b lent))
   unfolding other_row all_of room_rows pair_rows
-  other-settles = first-settles (λ k. zeroes_rooms k) _ refl
+  other-settles = refusal-settles (λ k. zeroes_rooms k) _ refl
 
-  pub pair_settles : Settles (λ k. zeroes_rooms k) (pair_row a b lent)
+  pub pair_settles : Settles (λ k. zeroes_rooms k) (row_of (pair_row a b lent))
   unfolding pair_row all_of pair_rows
-  pair_settles = first-settles (λ k. zeroes_rooms k) _ refl
+  pair_settles = refusal-settles (λ k. zeroes_rooms k) _ refl
 
-  letters-other : (a.s ≡ b.s → ⊥) → row_of_lem a b lent ≡ 28
-  unfolding rules_row rules_rows alphabet_rows
-  letters-other n = row-yes (check (not (eqb a.s b.s)) 28) _ (ap not (ne_eqb a.s b.s n))
+  letters-other : (a.s ≡ b.s → ⊥) → row_of_lem a b lent ≡ Err OtherLetters
+  unfolding rules_rows alphabet_rows
+  letters-other n = refusal-yes (check (not (eqb a.s b.s)) OtherLetters) _ (ap not (ne_eqb a.s b.s n))
 
   -- "28, different s"
-  pub different : (a.s ≡ b.s → ⊥) → ByRow a b (row_of_lem a b lent) lent (answers.Refused 28) lent
-  different n = refused-kept (sym (letters-other n)) (λ z. omega arith) refl
+  pub different : (a.s ≡ b.s → ⊥) → ByRow a b (row_of_lem a b lent) lent (Err OtherLetters) lent
+  different n = refused-kept (letters-other n) refl
 
   module _ (same : a.s ≡ b.s) where
-    tables-first : row_of_lem a b lent ≡ first_row (rows_a ++ (rows_b ++ rows_p))
-    unfolding rules_row rules_rows alphabet_rows both_room_rows
-    tables-first = row-no (check (not (eqb a.s b.s)) 28) _ (ap not (eq-eqb a.s b.s same)) ∙ ap first_row (append_assoc rows_a rows_b rows_p)
+    tables-first : row_of_lem a b lent ≡ first_refusal (rows_a ++ (rows_b ++ rows_p))
+    unfolding rules_rows alphabet_rows both_room_rows
+    tables-first = refusal-no (check (not (eqb a.s b.s)) OtherLetters) _ (ap not (eq-eqb a.s b.s same)) ∙ ap first_refusal (append_assoc rows_a rows_b rows_p)
 
     -- A's build refuses
-    pub own-refused : {k : ℕ} {ys ws : List ℕ} → Emptied (codes_of f true) (moves_of f true) lent.codes_a lent.transitions_a k ys ws → k ≡ row_of_lem a b lent
-    unfolding room_row start_of
-    own-refused {k} E = first-left rows_a (rows_b ++ rows_p) k E.some E.row ∙ sym tables-first
+    pub own-refused : {r : Refusal} {ys ws : List ℕ} → Emptied (codes_of f true) (moves_of f true) lent.codes_a lent.transitions_a r ys ws → row_of_lem a b lent ≡ Err r
+    unfolding start_of
+    own-refused {r} E = tables-first ∙ refusal-left rows_a (rows_b ++ rows_p) r E.row
 
     -- it leaves ys and ws in A's rooms
     pub own-served : (ys ws : List ℕ) → room_row (codes_of f true) (moves_of f true) (length lent.codes_a) (length lent.transitions_a) ≡ 0
         → other_row a b (slices_of ys ws lent.codes_b lent.transitions_b lent.word lent.scratch) ≡ row_of_lem a b lent
     unfolding other_row pair_rows room_row start_of
-    own-served ys ws e = sym (tables-first ∙ first-right rows_a (rows_b ++ rows_p) (numbered-room _ _ _ _) e)
+    own-served ys ws e = sym (tables-first ∙ refusal-right rows_a (rows_b ++ rows_p) (refusal-passes rows_a e))

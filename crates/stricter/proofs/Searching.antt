@@ -8,8 +8,10 @@ use native.Mathlib.Nat.{mul-le-mul}
 use borrow.Author.Tests.{ltb-false}
 use lib.Dec.{ltb}
 use lib.ListN.{length, take, drop, replicate, take-append-drop}
-use Rattle.refusals.specs.Rows.{first_row, check}
-use Rattle.refusals.proofs.Rows.{row-yes, row-no}
+use Rattle.std.specs.Prelude.{Ok, Err}
+use Rattle.refusals.specs.Rows.{first_refusal, check}
+use Rattle.refusals.specs.declared.Refusal.TheVariants.{PairRoom}
+use Rattle.refusals.proofs.Rows.{refusal-yes, refusal-no}
 use Rattle.sets.specs.Masks.{bit}
 use Rattle.sets.proofs.Bools.{or-fl, or-fr}
 use Rattle.theory.specs.Macrostate.{holds_initial}
@@ -110,7 +112,7 @@ module _ {f g : List ℕ} {x y : Side} {cs ts ds us : List ℕ} (O : Ready f tru
 
   module _ (same : a.s ≡ b.s) {old new : List ℕ} where
     pub told-yes : Searched codes_a_lem moves_a (λ c. bit c x.layout.head.initial) codes_b_lem moves_b (λ c. not (bit c y.layout.head.initial)) old new Nothing
-        → Told a b (tables_of a b) 0 (Yes (record { a = n; b = m })) old new
+        → Told a b (tables_of a b) (Ok tt) (Ok (Yes (record { a = n; b = m }))) old new
     told-yes S =
         let T = tabled in
         let N : NoShared (macrostates a) (transitions a) (holds_initial a) (rejecting_macrostates b) (rejecting_transitions b) (lacks_initial b) =
@@ -118,7 +120,7 @@ module _ {f g : List ℕ} {x y : Side} {cs ts ds us : List ℕ} (O : Ready f tru
         (T.sizes, S.0, none-shared T.passing-a T.passing-b same T.few-a T.few-b N)
 
     pub told-no : {l k : ℕ} → Searched codes_a_lem moves_a (λ c. bit c x.layout.head.initial) codes_b_lem moves_b (λ c. not (bit c y.layout.head.initial)) old new (Word l k)
-        → Told a b (tables_of a b) 0 (No (record { a = n; b = m }) l k) old new
+        → Told a b (tables_of a b) (Ok tt) (Ok (No (record { a = n; b = m }) l k)) old new
     unfolding pairs
     told-no S =
         let T = tabled in
@@ -142,9 +144,9 @@ module _ {f g : List ℕ} {x y : Side} {cs ts ds us : List ℕ} (O : Ready f tru
   whole : (n : ℕ) (xs ys : List ℕ) → xs ≡ take n ys → xs ++ drop n ys ≡ ys
   whole n xs ys e = ap (λ (zs : List ℕ). zs ++ drop n ys) e ∙ take-append-drop n ys
 
-  pub searched : {xs zs ys ws word scratch word' scratch' : List ℕ} {answer : Comparison} → Told a b (tables_of a b) 0 answer word word'
+  pub searched : {xs zs ys ws word scratch word' scratch' : List ℕ} {answer : Comparison} → Told a b (tables_of a b) (Ok tt) (Ok answer) word word'
       → xs ≡ codes_a_lem → zs ≡ moves_a → ys ≡ codes_b_lem → ws ≡ moves_b → scratch' ≡ replicate (length scratch) 0
-      → ByRow a b 0 (slices_of cs ts ds us word scratch) answer
+      → ByRow a b (Ok tt) (slices_of cs ts ds us word scratch) (Ok answer)
       (slices_of (xs ++ drop n.macrostates cs) (zs ++ drop n.transitions ts) (ys ++ drop m.macrostates ds) (ws ++ drop m.transitions us) word' scratch')
   unfolding room_after scratch_left start_of
   searched {xs} {zs} {ys} {ws} T e f g h s = record {
@@ -163,13 +165,13 @@ module _ {f g : List ℕ} {x y : Side} {cs ts ds us : List ℕ} (O : Ready f tru
     tests : {t : Bool} → lacks ≡ t → (ltb (length lent.word) (3 * pairs (tables_of a b)) || ltb (length lent.scratch) (pairs (tables_of a b))) ≡ t
     tests e = rw (← pairs-are) (sym tested ∙ e)
 
-    pub pair-short : lacks ≡ true → 29 ≡ pair_row a b lent
+    pub pair-short : lacks ≡ true → pair_row a b lent ≡ Err PairRoom
     unfolding pair_row pair_rows
-    pair-short t = sym (row-yes (check _ 29) [] (tests t))
+    pair-short t = refusal-yes (check _ PairRoom) [] (tests t)
 
-    pub pair-room : lacks ≡ false → 0 ≡ pair_row a b lent
-    unfolding pair_row pair_rows first_row
-    pair-room t = sym (row-no (check _ 29) [] (tests t))
+    pub pair-room : lacks ≡ false → Ok tt ≡ pair_row a b lent
+    unfolding pair_row pair_rows first_refusal
+    pair-room t = sym (refusal-no (check _ PairRoom) [] (tests t))
 
     pub roomy : lacks ≡ false → (n.macrostates * m.macrostates ≤ length lent.scratch) × (3 * (n.macrostates * m.macrostates) ≤ length lent.word)
     roomy t =

@@ -6,13 +6,14 @@
 ghost use Rattle.std.specs.Prelude.{◌≡◌, true, false, ◌||◌, ltb, ◌*◌, ◌≤◌, length, replicate};
 ghost use Rattle.file_spec.specs.File.{rule_in};
 ghost use Rattle.file_spec.specs.Reading.{read_of};
-ghost use Rattle.file_spec.specs.declared.Read.TheVariants.{Accepted};
 ghost use Rattle.stricter_entry_spec.specs.Rows.{slices_of};
 ghost use Rattle.stricter_entry_spec.specs.Compared.{Compared};
 ghost use Rattle.stricter.specs.Steps.{Ready, other_row, pair_row, row_of_lem, ByRow, FilesBy};
 
-use build::{Built, Counts};
-use file_spec::{Layout, Read};
+use build::Counts;
+use file_read::read_rule;
+use file_spec::Layout;
+use refusals::Refusal;
 use stricter_entry_spec::{BothCounts, Comparison};
 use stricter_spec::Found;
 
@@ -63,9 +64,9 @@ fn search_tables(
     requires { Ready a.now true x acodes.old atransitions.old × Ready b.now false y bcodes.old btransitions.old
         × ((rule_in a.now).s ≡ (rule_in b.now).s) × (x.counts.macrostates * y.counts.macrostates ≤ length scratch.old)
         × (3 * (x.counts.macrostates * y.counts.macrostates) ≤ length word.old) }
-    ensures { ByRow (rule_in a.now) (rule_in b.now) 0
+    ensures { ByRow (rule_in a.now) (rule_in b.now) (Ok tt)
         (slices_of acodes.old atransitions.old bcodes.old btransitions.old
-        word.old scratch.old) result
+        word.old scratch.old) (Ok result)
         (slices_of acodes.new atransitions.new bcodes.new btransitions.new
         word.new scratch.new) }
 {
@@ -104,7 +105,7 @@ fn compare_tables(
     btransitions: &mut [u64],
     word: &mut [u8],
     scratch: &mut [u8],
-) -> Comparison
+) -> Result<Comparison, Refusal>
     requires { Ready a.now true x acodes.old atransitions.old × Ready b.now false y bcodes.old btransitions.old
         × ((rule_in a.now).s ≡ (rule_in b.now).s) }
     ensures { FilesBy pair_row a.now b.now
@@ -117,9 +118,9 @@ fn compare_tables(
     if lacks_room(pairs, word, scratch) {
         zero_rooms(acodes, atransitions);
         zero_rooms(bcodes, btransitions);
-        return Comparison::Refused(refusals::PAIR_ROOM);
+        return Err(Refusal::PairRoom);
     }
-    search_tables(
+    Ok(search_tables(
         a,
         x,
         b,
@@ -130,7 +131,7 @@ fn compare_tables(
         btransitions,
         word,
         scratch,
-    )
+    ))
 }
 
 // ---- the rules
@@ -148,8 +149,8 @@ fn compare_other(
     btransitions: &mut [u64],
     word: &mut [u8],
     scratch: &mut [u8],
-) -> Comparison
-    requires { Ready a.now true x acodes.old atransitions.old × (read_of b.now ≡ Accepted l)
+) -> Result<Comparison, Refusal>
+    requires { Ready a.now true x acodes.old atransitions.old × (read_of b.now ≡ Ok l)
         × ((rule_in a.now).s ≡ (rule_in b.now).s) }
     ensures { FilesBy other_row a.now b.now
         (slices_of acodes.old atransitions.old bcodes.old btransitions.old
@@ -158,11 +159,11 @@ fn compare_other(
         word.new scratch.new) }
 {
     match build::build_accepted(b, l, false, bcodes, btransitions) {
-        Built::Refused(row) => {
+        Err(refusal) => {
             zero_rooms(acodes, atransitions);
-            Comparison::Refused(row)
+            Err(refusal)
         }
-        Built::Table(m) => compare_tables(
+        Ok(m) => compare_tables(
             a,
             x,
             b,
@@ -192,8 +193,8 @@ fn compare_files(
     btransitions: &mut [u64],
     word: &mut [u8],
     scratch: &mut [u8],
-) -> Comparison
-    requires { (read_of a.now ≡ Accepted l) × (read_of b.now ≡ Accepted m) }
+) -> Result<Comparison, Refusal>
+    requires { (read_of a.now ≡ Ok l) × (read_of b.now ≡ Ok m) }
     ensures { FilesBy row_of_lem a.now b.now
         (slices_of acodes.old atransitions.old bcodes.old btransitions.old
         word.old scratch.old) result
@@ -201,14 +202,14 @@ fn compare_files(
         word.new scratch.new) }
 {
     if l.head.s != m.head.s {
-        return Comparison::Refused(refusals::OTHER_LETTERS);
+        return Err(Refusal::OtherLetters);
     }
     match build::build_accepted(a, l, true, acodes, atransitions) {
-        Built::Refused(row) => {
+        Err(refusal) => {
             zero_rooms(bcodes, btransitions);
-            Comparison::Refused(row)
+            Err(refusal)
         }
-        Built::Table(n) => compare_other(
+        Ok(n) => compare_other(
             a,
             Side {
                 layout: l,
@@ -228,7 +229,7 @@ fn compare_files(
 
 // Whether every word that A accepts is accepted by B, or the lengths of a word that A accepts and B rejects, which it writes to the start
 // of the word slice; leaves A's table and that of the words that B rejects in the rooms, zeros after them, and the scratch zero
-// throughout. If a row refuses, it answers the number of the first: the rules' rows and 28 leave all slices as they are, 17, 18 and 29
+// throughout. If a row refuses, it answers the first refusal: the rules' rows and 28 leave all slices as they are, 17, 18 and 29
 // set all four rooms to zero throughout.
 pub fn stricter(
     a: &[u8],
@@ -239,29 +240,25 @@ pub fn stricter(
     btransitions: &mut [u64],
     word: &mut [u8],
     scratch: &mut [u8],
-) -> Comparison
+) -> Result<Comparison, Refusal>
     ensures { Compared a.now b.now
         (slices_of acodes.old atransitions.old bcodes.old btransitions.old
         word.old scratch.old) result
         (slices_of acodes.new atransitions.new bcodes.new btransitions.new
         word.new scratch.new) }
 {
-    match file_read::read_rule(a) {
-        Read::Refused(row) => Comparison::Refused(row),
-        Read::Accepted(l) => match file_read::read_rule(b) {
-            Read::Refused(other) => Comparison::Refused(other),
-            Read::Accepted(m) => compare_files(
-                a,
-                l,
-                b,
-                m,
-                acodes,
-                atransitions,
-                bcodes,
-                btransitions,
-                word,
-                scratch,
-            ),
-        },
-    }
+    let l = read_rule(a)?;
+    let m = read_rule(b)?;
+    compare_files(
+        a,
+        l,
+        b,
+        m,
+        acodes,
+        atransitions,
+        bcodes,
+        btransitions,
+        word,
+        scratch,
+    )
 }

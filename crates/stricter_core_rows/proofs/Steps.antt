@@ -17,7 +17,6 @@ use Rattle.stricter_spec.specs.Steps.{CoreStep, SparedStep, CoresFit}
 use Rattle.stricter_spec.specs.Rounds.{Leading}
 use Rattle.stricter_core_rows.specs.Rows.{needed, Met}
 use Rattle.stricter_laws.proofs.Tags.{untagged-long, untagged-at}
-use Rattle.stricter_core_rows.proofs.Parts.{one_more}
 
 -- ---- rows
 
@@ -50,11 +49,6 @@ module _ (nb : ℕ) (left right marks : List ℕ) (second : Bool) (k other : ℕ
   -- u does so
   abbrev pub MetBy : ℕ → Bool → Type 0
   MetBy u r = Met (λ t. needed other (sparing (cond second u t) k)) nb left (get_or cuts (letter_of_lem u) 0) (get_or cuts (letter_of_lem u + 1) 0) (onto_of_lem u) marks r
-
-  pub missed-next : (j p u : ℕ) → u ≡ get_or right p 0 → Missed u
-      → ((o : ℕ) → below (j * 16777216) (untagged right) ≤ o → o < p → Missed (get_or right o 0))
-      → (o : ℕ) → below (j * 16777216) (untagged right) ≤ o → o < p + 1 → Missed (get_or right o 0)
-  missed-next j p u e m h = one_more (λ o. Missed (get_or right o 0)) (below (j * 16777216) (untagged right)) p h (subst Missed e m)
 
   module _ {na : ℕ} (fit : CoresFit na nb left right marks) (j : ℕ) (j-low : j < nb) where
     module _ (i : ℕ) (cut : RowCut (untagged left) i cuts) where

@@ -79,14 +79,12 @@ fn has_marked(
         marks.now result }
 {
     let q = onto_of(u);
-    let mut c = from;
-    while c < to {
+    for c in from..to {
         let t = left[c];
         let y = onto_of(t) * nb + q;
         if least_of(pick(ask.second, u, t), ask) <= marks[y] {
             return true;
         }
-        c += 1;
     }
     false
 }
@@ -111,8 +109,7 @@ pub fn leads(
         (i * nb + j) result }
 {
     let key = j * 0x0100_0000;
-    let mut p = place_low(right, 0xff_ffff_ffff, key as u64);
-    while p < right.len() {
+    for p in place_low(right, 0xff_ffff_ffff, key as u64)..right.len() {
         let u = right[p];
         if row_of(u) != j {
             return false;
@@ -121,7 +118,6 @@ pub fn leads(
         if has_marked(left, cuts[a], cuts[a + 1], u, nb, ask, marks) {
             return true;
         }
-        p += 1;
     }
     false
 }

@@ -19,6 +19,7 @@ use stricter_word::rows::cut_low;
 // ---- sweeps
 
 // Whether number i stands for its core.
+#[tactic(auto, unfolding(stricter_spec::specs::Steps::stands_in))]
 fn stands(acodes: &[u64], i: usize) -> bool
     requires { i < length acodes.now }
     ensures { result ≡ stands_in acodes.now i }
@@ -76,15 +77,10 @@ fn sweep_row(
     let end = row + nb;
     let mut changed = false;
     let mut x = from;
+    // A while: the pair jumps to the next one that is in.
     while x < end {
-        let y = next_set(marks, x, end);
-        if y == end {
-            return changed;
-        }
-        x = y + 1;
-        if mark_pair(left, cuts, right, nb, i, y - row, ask, marks) {
-            changed = true;
-        }
+        changed |= mark_pair(left, cuts, right, nb, i, x - row, ask, marks);
+        x = next_set(marks, x + 1, end);
     }
     changed
 }
@@ -135,13 +131,8 @@ fn sweep(
         0 (length acodes.now * nb) marks.old marks.new result }
 {
     let mut changed = false;
-    let mut i = 0;
-    while i < acodes.len() {
-        let p = i;
-        i += 1;
-        if visit_row(acodes, left, right, nb, p, ask, marks) {
-            changed = true;
-        }
+    for i in 0..acodes.len() {
+        changed |= visit_row(acodes, left, right, nb, i, ask, marks);
     }
     changed
 }
@@ -153,6 +144,7 @@ fn sweep_out(acodes: &[u64], left: &[u64], right: &[u64], nb: usize, ask: Asked,
     ensures { Swept (CoreStep nb left.now right.now)
         (SparedStep nb left.now right.now ask.second ask.k) marks.old marks.new }
 {
+    // A while: it sweeps until nothing is new.
     while sweep(acodes, left, right, nb, ask, marks) {}
 }
 
@@ -166,20 +158,15 @@ fn settle_row(acodes: &[u64], nb: usize, i: usize, marks: &mut [u8]) -> bool
     if !stands(acodes, i) {
         return false;
     }
+    let row = i * nb;
+    let end = row + nb;
     let mut changed = false;
-    let mut x = i * nb;
-    let to = x + nb;
-    while x < to {
-        let y = next_set(marks, x, to);
-        if y == to {
-            return changed;
-        }
-        let v = marks[y];
-        marks[y] = v >> 1;
-        x = y + 1;
-        if v == 1 {
-            changed = true;
-        }
+    let mut x = next_set(marks, row, end);
+    // A while: the pair jumps to the next one that is in.
+    while x < end {
+        changed |= marks[x] == 1;
+        marks[x] >>= 1;
+        x = next_set(marks, x + 1, end);
     }
     changed
 }
@@ -190,13 +177,8 @@ fn settle(acodes: &[u64], nb: usize, marks: &mut [u8]) -> bool
     ensures { Settled 0 (length acodes.now * nb) marks.old marks.new result }
 {
     let mut changed = false;
-    let mut i = 0;
-    while i < acodes.len() {
-        let p = i;
-        i += 1;
-        if settle_row(acodes, nb, p, marks) {
-            changed = true;
-        }
+    for i in 0..acodes.len() {
+        changed |= settle_row(acodes, nb, i, marks);
     }
     changed
 }
@@ -236,18 +218,13 @@ fn rounds(
         second count marks.old marks.new result }
 {
     let mut changed = false;
-    let mut k = 0;
-    while k < count {
-        let c = k as u32;
-        k += 1;
+    for k in 0..count {
         let ask = Asked {
             second,
-            k: c,
+            k: k as u32,
             other: 2,
         };
-        if round(acodes, left, right, nb, ask, marks) {
-            changed = true;
-        }
+        changed |= round(acodes, left, right, nb, ask, marks);
     }
     changed
 }
@@ -269,10 +246,7 @@ fn pass(
 {
     let first = rounds(acodes, left, right, nb, false, acount, marks);
     let second = rounds(acodes, left, right, nb, true, bcount, marks);
-    if first {
-        return true;
-    }
-    second
+    first || second
 }
 
 // Passes until none takes a pair out.
@@ -293,6 +267,7 @@ fn passes(
     ensures all_sound { AllSound (CoreStep nb left.now right.now)
         (SparedStep nb left.now right.now) (λ s. cond s bcount acount) marks.new }
 {
+    // A while: it passes until no pair goes out.
     while pass(acodes, left, acount, nb, right, bcount, marks) {}
 }
 
@@ -340,6 +315,7 @@ fn drop_row(
     let row = i * nb;
     let end = row + nb;
     let mut x = from;
+    // A while: the pair jumps to the next one that is in.
     while x < end {
         drop_pair(left, cuts, right, nb, i, x - row, marks);
         x = next_set(marks, x + 1, end);
@@ -369,10 +345,8 @@ fn thin(acodes: &[u64], left: &[u64], right: &[u64], nb: usize, marks: &mut [u8]
     requires { Ready (length acodes.now) nb left.now right.now marks.old }
     ensures { Thinned (CoreStep nb left.now right.now) marks.old marks.new }
 {
-    let mut i = 0;
-    while i < acodes.len() {
+    for i in 0..acodes.len() {
         thin_row(acodes, left, right, nb, i, marks);
-        i += 1;
     }
 }
 

@@ -4,6 +4,7 @@ use mathlib.Core.List.{List, [], ◌∷◌}
 use Prim.Native.Nat.{ℕ}
 use native.Mathlib.Omega.{arith}
 use lib.ListN.{replicate}
+use Rattle.std.specs.Prelude.{Ok}
 use Rattle.sets.specs.Digits.{num}
 use Rattle.sets.specs.Lists.{keep, among, any_of, sum, tabulate, flat, insert_ascending, sorted}
 use Rattle.sets.specs.Masks.{bit, mask, inside}
@@ -107,14 +108,14 @@ scratch-refused = refl
 -- ---- the answer
 
 -- every rule is as strict as itself, and the word slice is left as it was
-pub yes-E : Told E E (tables_of E E) 0 (Yes (sizes_of (tables_of E E))) (7 ∷ 8 ∷ 9 ∷ []) (7 ∷ 8 ∷ 9 ∷ [])
+pub yes-E : Told E E (tables_of E E) (Ok tt) (Ok (Yes (sizes_of (tables_of E E)))) (7 ∷ 8 ∷ 9 ∷ []) (7 ∷ 8 ∷ 9 ∷ [])
 yes-E = (refl, refl, λ lead cycle W accepted. accepted)
 
 -- E accepts letter 0 for ever and F rejects it: no lead-in, a cycle of one letter, and nothing else in the slice is changed
-pub no-EF : Told E F (tables_of E F) 0 (No (sizes_of (tables_of E F)) 0 1) (7 ∷ 8 ∷ 9 ∷ []) (0 ∷ 8 ∷ 9 ∷ [])
+pub no-EF : Told E F (tables_of E F) (Ok tt) (Ok (No (sizes_of (tables_of E F)) 0 1)) (7 ∷ 8 ∷ 9 ∷ []) (0 ∷ 8 ∷ 9 ∷ [])
 unfolding computed
 no-EF = (refl, record { lead = []; cycle = 0 ∷ []; lead_long = refl; cycle_long = refl; letters = refl; short = omega arith; against = against-F })
 
 -- so yes may not be said of them
-pub not-yes-EF : (sizes : BothCounts) (old new : List ℕ) → Told E F (tables_of E F) 0 (Yes sizes) old new → ⊥
+pub not-yes-EF : (sizes : BothCounts) (old new : List ℕ) → Told E F (tables_of E F) (Ok tt) (Ok (Yes sizes)) old new → ⊥
 not-yes-EF sizes old new t = not-stricter-F t.2

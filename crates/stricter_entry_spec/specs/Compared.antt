@@ -1,5 +1,7 @@
 -- What the comparison of two rules promises of two files.
-use Rattle.std.specs.Prelude.{◌≡◌, List, ◌++◌, ℕ, zero, suc, ◌+◌, ◌*◌, ◌≤◌, length, drop}
+use Rattle.std.specs.Prelude.{◌≡◌, List, ◌++◌, ℕ, ◌+◌, ◌*◌, ◌≤◌, length, drop, Result, Ok, Err, ⊤}
+use Rattle.refusals.specs.Rows.{first_refusal, row_of}
+use Rattle.refusals.specs.declared.Refusal.{Refusal}
 use Rattle.theory.specs.Rule.{Rule}
 use Rattle.theory.specs.Table.{ListsReachable}
 use Rattle.theory.specs.TableComputed.{macrostates, transitions}
@@ -11,8 +13,8 @@ use Rattle.build.specs.Built.{room_after}
 use Rattle.stricter_spec.specs.Rules.{Stricter, Against}
 use Rattle.stricter_entry_spec.specs.declared.BothCounts.{BothCounts}
 use Rattle.stricter_entry_spec.specs.declared.Comparison.{Comparison}
-use Rattle.stricter_entry_spec.specs.declared.Comparison.TheVariants.{Yes, No, Refused}
-use Rattle.stricter_entry_spec.specs.Rows.{Slices, Tables, tables_of, pairs, rules_row, stricter_row, zeroes_rooms, scratch_left}
+use Rattle.stricter_entry_spec.specs.declared.Comparison.TheVariants.{Yes, No}
+use Rattle.stricter_entry_spec.specs.Rows.{Slices, Tables, tables_of, pairs, rules_rows, stricter_rows, stricter_row, zeroes_rooms, scratch_left}
 
 -- the counts of both tables
 unfoldable pub sizes_of : Tables → BothCounts
@@ -33,30 +35,30 @@ module _ (a b : Rule) (tables : Tables) where
     pub short : l + c ≤ 3 * pairs tables
     pub against : Against a b lead cycle
 
-  -- By the first row that refuses: the answer, and the word slice before and after. 02: "The answer is yes, or a word accepted by A and rejected
+  -- By what refuses: the answer, and the word slice before and after. 02: "The answer is yes, or a word accepted by A and rejected
   -- by B.", "Yes is said only where no such word of any length exists."
-  abbrev pub Told : ℕ → Comparison → List ℕ → List ℕ → Type 0
-  Told zero (Yes sizes) old new = (sizes ≡ sizes_of tables) × (new ≡ old) × Stricter a b
-  Told zero (No sizes l c) old new = (sizes ≡ sizes_of tables) × WordFound l c old new
-  Told zero (Refused k) old new = ⊥
-  Told (suc k) answer old new = (answer ≡ Refused (suc k)) × (new ≡ old)
+  abbrev pub Told : Result ⊤ Refusal → Result Comparison Refusal → List ℕ → List ℕ → Type 0
+  Told (Ok _) (Ok (Yes sizes)) old new = (sizes ≡ sizes_of tables) × (new ≡ old) × Stricter a b
+  Told (Ok _) (Ok (No sizes l c)) old new = (sizes ≡ sizes_of tables) × WordFound l c old new
+  Told (Ok _) (Err r) old new = ⊥
+  Told (Err r) answer old new = (answer ≡ Err r) × (new ≡ old)
 
-  -- by the first row that refuses: the answer, and the slices as they were lent and afterwards
-  pub record ComparedBy (row : ℕ) (lent : Slices) (answer : Comparison) (left : Slices) : Type 0 where
-    pub told : Told row answer lent.word left.word
-    pub codes_a_after : left.codes_a ≡ room_after zeroes_rooms row tables.codes_a lent.codes_a
-    pub transitions_a_after : left.transitions_a ≡ room_after zeroes_rooms row tables.transitions_a lent.transitions_a
-    pub codes_b_after : left.codes_b ≡ room_after zeroes_rooms row tables.codes_b lent.codes_b
-    pub transitions_b_after : left.transitions_b ≡ room_after zeroes_rooms row tables.transitions_b lent.transitions_b
-    pub scratch_after : left.scratch ≡ scratch_left row lent.scratch
+  -- by what refuses: the answer, and the slices as they were lent and afterwards
+  pub record ComparedBy (refused : Result ⊤ Refusal) (lent : Slices) (answer : Result Comparison Refusal) (left : Slices) : Type 0 where
+    pub told : Told refused answer lent.word left.word
+    pub codes_a_after : left.codes_a ≡ room_after zeroes_rooms (row_of refused) tables.codes_a lent.codes_a
+    pub transitions_a_after : left.transitions_a ≡ room_after zeroes_rooms (row_of refused) tables.transitions_a lent.transitions_a
+    pub codes_b_after : left.codes_b ≡ room_after zeroes_rooms (row_of refused) tables.codes_b lent.codes_b
+    pub transitions_b_after : left.transitions_b ≡ room_after zeroes_rooms (row_of refused) tables.transitions_b lent.transitions_b
+    pub scratch_after : left.scratch ≡ scratch_left (row_of refused) lent.scratch
 
 -- of two files
-pub record Compared (a b : List ℕ) (lent : Slices) (answer : Comparison) (left : Slices) : Type 0 where
-  pub by_row : ComparedBy (rule_in a) (rule_in b) (tables_of (rule_in a) (rule_in b)) (stricter_row a b lent) lent answer left
+pub record Compared (a b : List ℕ) (lent : Slices) (answer : Result Comparison Refusal) (left : Slices) : Type 0 where
+  pub by_row : ComparedBy (rule_in a) (rule_in b) (tables_of (rule_in a) (rule_in b)) (first_refusal (stricter_rows a b lent)) lent answer left
   -- any lists of A's reachable macrostates and transitions, and of those of the words that B rejects, decide the answer and all slices,
   -- served and refused alike
   pub by_lists : file_row a ≡ 0 → file_row b ≡ 0 → (tables : Tables) → ListsReachable (rule_in a) tables.codes_a tables.transitions_a
-      → ListsRejecting (rule_in b) tables.codes_b tables.transitions_b → ComparedBy (rule_in a) (rule_in b) tables (rules_row (rule_in a) (rule_in b) tables lent) lent answer left
+      → ListsRejecting (rule_in b) tables.codes_b tables.transitions_b → ComparedBy (rule_in a) (rule_in b) tables (first_refusal (rules_rows (rule_in a) (rule_in b) tables lent)) lent answer left
   -- such are the lists that a served call leaves in the rooms
   pub lists_a : stricter_row a b lent ≡ 0 → ListsReachable (rule_in a) (macrostates (rule_in a)) (transitions (rule_in a))
   pub lists_b : stricter_row a b lent ≡ 0 → ListsRejecting (rule_in b) (rejecting_macrostates (rule_in b)) (rejecting_transitions (rule_in b))

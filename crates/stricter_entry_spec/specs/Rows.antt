@@ -1,6 +1,7 @@
 -- The rows of the comparison of two rules, and what the lent slices hold afterwards by the first that refuses.
 use Rattle.std.specs.Prelude.{Bool, ◌||◌, not, List, [], ◌∷◌, ◌++◌, ℕ, zero, suc, ◌*◌, ltb, eqb, length, replicate}
 use Rattle.refusals.specs.Rows.{Check, first_row, check}
+use Rattle.refusals.specs.declared.Refusal.TheVariants.{OtherLetters, PairRoom}
 use Rattle.theory.specs.Rule.{Rule}
 use Rattle.theory.specs.TableComputed.{macrostates, transitions}
 use Rattle.file_spec.specs.File.{rule_in}
@@ -42,7 +43,7 @@ pairs tables = length tables.codes_a * length tables.codes_b
 
 -- 02: "28, different s"
 unfoldable pub alphabet_rows : Rule → Rule → List Check
-alphabet_rows a b = check (not (eqb a.s b.s)) 28 ∷ []
+alphabet_rows a b = check (not (eqb a.s b.s)) OtherLetters ∷ []
 
 -- 02: "17 and 18 go by A's reachable table, then B's"
 unfoldable pub both_room_rows : Tables → Slices → List Check
@@ -52,22 +53,23 @@ both_room_rows tables lent =
 
 -- 02: "29, with P .., the word slice under 3 × P letters or the scratch under P bytes"
 unfoldable pub pair_rows : Tables → Slices → List Check
-pair_rows tables lent = check (ltb (length lent.word) (3 * pairs tables) || ltb (length lent.scratch) (pairs tables)) 29 ∷ []
+pair_rows tables lent = check (ltb (length lent.word) (3 * pairs tables) || ltb (length lent.scratch) (pairs tables)) PairRoom ∷ []
 
 -- of two rules: 28 "after both rules", 29 "checked after both builds"
 unfoldable pub rules_rows : Rule → Rule → Tables → Slices → List Check
 rules_rows a b tables lent = alphabet_rows a b ++ (both_room_rows tables lent ++ pair_rows tables lent)
 
-unfoldable pub rules_row : Rule → Rule → Tables → Slices → ℕ
-rules_row a b tables lent = first_row (rules_rows a b tables lent)
-
 -- the tables as they are computed
 abbrev pub tables_of : Rule → Rule → Tables
 tables_of a b = record { codes_a = macrostates a; transitions_a = transitions a; codes_b = rejecting_macrostates b; transitions_b = rejecting_transitions b }
 
--- of two files: the first row that refuses, or 0
+-- of two files
+abbrev pub stricter_rows : List ℕ → List ℕ → Slices → List Check
+stricter_rows a b lent = file_rows_lem a ++ (file_rows_lem b ++ rules_rows (rule_in a) (rule_in b) (tables_of (rule_in a) (rule_in b)) lent)
+
+-- the first row that refuses, or 0
 unfoldable pub stricter_row : List ℕ → List ℕ → Slices → ℕ
-stricter_row a b lent = first_row (file_rows_lem a ++ (file_rows_lem b ++ rules_rows (rule_in a) (rule_in b) (tables_of (rule_in a) (rule_in b)) lent))
+stricter_row a b lent = first_row (stricter_rows a b lent)
 
 -- ---- what the slices hold afterwards
 

@@ -11,11 +11,9 @@ pub struct BothCounts {
     pub b: Counts,
 }
 
-// The answer: yes, or no with the lengths of the lead-in and the cycle of a word that A accepts and B rejects, or the number of the first
-// row that refuses.
+// The answer: yes, or no with the lengths of the lead-in and the cycle of a word that A accepts and B rejects.
 #[derive(Clone, Copy)]
 pub enum Comparison {
     Yes(BothCounts),
     No(BothCounts, usize, usize),
-    Refused(u8),
 }

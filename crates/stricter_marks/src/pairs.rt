@@ -18,14 +18,10 @@ use stricter_starts::first_start;
 fn none_stands(codes: &[u64]) -> bool
     ensures { result ≡ true → (i : ℕ) → i < length codes.now → stands_in codes.now i ≡ false }
 {
-    let mut i = 0;
-    while i < codes.len() {
-        if (codes[i] >> CODE_BITS) as usize == i {
-            return false;
-        }
-        i += 1;
-    }
-    true
+    codes
+        .iter()
+        .enumerate()
+        .all(|(i, c)| (*c >> CODE_BITS) as usize != i)
 }
 
 // Sorts out the pairs of cores of two tagged tables. Where a start pair is left, it gives each pair of numbers the mark of the pair of its

@@ -31,11 +31,7 @@ fn clear_row(n: usize, base: usize, marks: &mut [u8])
     requires { base + n ≤ length marks.old }
     ensures { Filled (λ _. 0) base (base + n) marks.old marks.new }
 {
-    let mut j = 0;
-    while j < n {
-        marks[base + j] = 0;
-        j += 1;
-    }
+    marks[base..base + n].fill(0);
 }
 
 // In the row from place base on the pairs with a number that stands are in.
@@ -44,10 +40,8 @@ fn stand_row(bcodes: &[u64], base: usize, marks: &mut [u8])
     ensures { Filled (λ x. one (stands_in bcodes.now (x - base))) base (base + length bcodes.now)
         marks.old marks.new }
 {
-    let mut j = 0;
-    while j < bcodes.len() {
-        marks[base + j] = standing(bcodes[j], j);
-        j += 1;
+    for (j, c) in bcodes.iter().enumerate() {
+        marks[base + j] = standing(*c, j);
     }
 }
 
@@ -72,10 +66,8 @@ pub fn place_cores(acodes: &[u64], bcodes: &[u64], marks: &mut [u8])
         × (length acodes.now ≤ 65536) × (length bcodes.now ≤ 65536) }
     ensures { CoresIn acodes.now bcodes.now marks.new }
 {
-    let mut i = 0;
-    while i < acodes.len() {
+    for i in 0..acodes.len() {
         place_row(acodes, bcodes, i, marks);
-        i += 1;
     }
 }
 
@@ -105,11 +97,8 @@ fn spread_row(acodes: &[u64], bcodes: &[u64], i: usize, marks: &mut [u8])
     }
     let row = core * bcodes.len();
     let base = i * bcodes.len();
-    let mut j = 0;
-    while j < bcodes.len() {
-        let v = mark_of(marks, row, core_number(bcodes[j]), bcodes.len());
-        marks[base + j] = v;
-        j += 1;
+    for (j, c) in bcodes.iter().enumerate() {
+        marks[base + j] = mark_of(marks, row, core_number(*c), bcodes.len());
     }
 }
 
@@ -120,9 +109,7 @@ pub fn spread_marks(acodes: &[u64], bcodes: &[u64], marks: &mut [u8])
         × OnlyCores acodes.now (length bcodes.now) marks.old }
     ensures { Spread acodes.now bcodes.now marks.old marks.new }
 {
-    let mut i = 0;
-    while i < acodes.len() {
+    for i in 0..acodes.len() {
         spread_row(acodes, bcodes, i, marks);
-        i += 1;
     }
 }

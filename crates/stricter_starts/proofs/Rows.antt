@@ -9,7 +9,7 @@ use Rattle.sets.specs.Tests.{Set}
 use Rattle.sets.proofs.Bools.{and_l, and_r, and_i, clash}
 use Rattle.theory.specs.Macrostate.{begun}
 use Rattle.slice_search.specs.Zeros.{Zeros}
-use Rattle.slice_search.proofs.Eights.{over_zeros, over-next}
+use Rattle.slice_search.proofs.Eights.{over-next}
 use Rattle.stricter_laws.specs.Tests.{starts_in}
 use Rattle.stricter_laws.proofs.Sides.{starts-both}
 use Rattle.stricter_spec.specs.Steps.{stands_in, OnlyCores}
@@ -37,9 +37,6 @@ module _ (ca cb : List ℕ) (s t : Set) (marks : List ℕ) (i : ℕ) where
   abbrev pub NoneUp : ℕ → Type 0
   NoneUp x = (y : ℕ) → row ≤ y → y < x → Lacks y
 
-  pub none-zeros : {x : ℕ} → Zeros marks row x → NoneUp x
-  none-zeros z = over_zeros marks Lacks (λ y e h. absurd (omega arith)) row _ z
-
   pub none-next : (x : ℕ) {r : ℕ} → row ≤ x → x < end → NoneUp x → begun t (get_or cb (x - row) 0) ≡ false → Zeros marks (x + 1) r → NoneUp r
   none-next x {r = r} a b n f =
       over-next marks Lacks (λ y e h. absurd (omega arith)) row x r n (λ h e. clash (and_r (begun s (get_or ca i 0)) _ (sym (starts-row x a b) ∙ e)) f)
@@ -55,7 +52,3 @@ module _ (ca cb : List ℕ) (s t : Set) (marks : List ℕ) (i : ℕ) where
 
   pub found : (x : ℕ) → row ≤ x → x < end → 0 < get_or marks x 0 → begun s (get_or ca i 0) ≡ true → begun t (get_or cb (x - row) 0) ≡ true → RowStart (starts_in ca cb s t) marks row end x
   found x a b h p q = record { within = omega arith; inside = λ l. h; begins = λ l. starts-row x a b ∙ and_i p q; none = λ l. absurd (omega arith) }
-
-  pub ended : (x : ℕ) → x ≡ end → NoneUp x → RowStart (starts_in ca cb s t) marks row end x
-  ended x e n =
-      record { within = omega arith; inside = λ l. absurd (omega arith); begins = λ l. absurd (omega arith); none = λ l y a b. n y a (omega arith) }

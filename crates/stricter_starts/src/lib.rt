@@ -14,6 +14,7 @@ use codes::{CODE_BITS, is_first, is_initial};
 use slice_search::bytes::next_set;
 
 // Whether a run may begin at a code if its set lacks the initial state: K is 0 and k is 0.
+#[tactic(auto, using(codes::proofs::Starts::held, codes::proofs::Starts::lacking), unfolding(theory::specs::Macrostate::begun))]
 fn begins_lacking(code: u64, initial: u32) -> bool
     requires { initial < 8 }
     ensures { result ≡ begun (λ c. not (bit c initial)) code }
@@ -25,6 +26,7 @@ fn begins_lacking(code: u64, initial: u32) -> bool
 }
 
 // Whether number i stands for its core and a run may begin at it if its set holds the initial state.
+#[tactic(auto, unfolding(stricter_spec::specs::Steps::stands_in))]
 fn begins_here(codes: &[u64], i: usize, initial: u32) -> bool
     requires { (i < length codes.now) × (initial < 8) }
     ensures { result ≡ (stands_in codes.now i && begun (λ c. bit c initial) (get_or codes.now i 0)) }
@@ -56,6 +58,7 @@ fn start_in_row(
         return end;
     }
     let mut x = next_set(marks, row, end);
+    // A while: the pair jumps to the next one that is in.
     while x < end {
         if begins_lacking(bcodes[x - row], binitial) {
             return x;
@@ -78,11 +81,9 @@ pub fn first_start(
     ensures { FirstStart (starts_in acodes.now bcodes.now (λ c. bit c ainitial) (λ c. not (bit c binitial)))
         marks.now result }
 {
-    let mut i = 0;
-    while i < acodes.len() {
+    for i in 0..acodes.len() {
         let end = i * bcodes.len() + bcodes.len();
         let x = start_in_row(acodes, bcodes, ainitial, binitial, i, marks);
-        i += 1;
         if x < end {
             return x;
         }

@@ -59,10 +59,8 @@ fn note_marks(codes: &[u64], live: &mut [u8])
     ensures { Filled (λ i. one (ltb 0 (get_or codes.now i 0 / 2 ^ 48))) 0 (length codes.now)
         live.old live.new }
 {
-    let mut i = 0;
-    while i < codes.len() {
-        live[i] = is_marked(codes[i]);
-        i += 1;
+    for (i, c) in codes.iter().enumerate() {
+        live[i] = is_marked(*c);
     }
 }
 
@@ -99,10 +97,8 @@ fn bury(codes: &mut [u64], live: &[u8])
     if 65535 < n {
         return;
     }
-    let mut i = 0;
-    while i < n {
-        codes[i] = told(codes[i], live[i], n);
-        i += 1;
+    for (i, c) in codes.iter_mut().enumerate() {
+        *c = told(*c, live[i], n);
     }
 }
 
@@ -137,10 +133,8 @@ fn strip(list: &mut [u64], bits: u32)
     ensures { list.new ≡ low_parts (2 ^ bits) list.old }
 {
     let mask = (1u64 << bits) - 1;
-    let mut i = 0;
-    while i < list.len() {
-        list[i] &= mask;
-        i += 1;
+    for x in list.iter_mut() {
+        *x &= mask;
     }
 }
 

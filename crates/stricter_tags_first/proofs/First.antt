@@ -2,7 +2,7 @@
 use mathlib.Core.Path.{◌≡◌, refl, sym, ◌∙◌, ap}
 use mathlib.Core.Logic.{by_cases}
 use mathlib.Core.List.{List}
-use Prim.Native.Nat.{ℕ, ◌+◌, ◌*◌, ◌/◌, ◌%◌, ◌≤◌, ◌<◌}
+use Prim.Native.Nat.{ℕ, ◌+◌, ◌*◌, ◌/◌, ◌≤◌, ◌<◌}
 use native.Mathlib.Omega.{arith}
 use native.Mathlib.Decide.{dec_lt, ℕ_discrete}
 use lib.ListN.{length, get_or, take}
@@ -72,14 +72,6 @@ module _ (xs : List ℕ) (i : ℕ) (fits : i < length xs) (asc : Ascending (take
         (λ y. let b = from_place key (take i xs) front-asc p (omega arith) (omega arith) in
         let r = rising p j (omega arith) (omega arith) in
         absurd (omega (arith, front p (omega arith))))))
-        (λ x. omega arith)
-
-    pub skip : (components : ℕ) → ((j : ℕ) → j < i → get_or xs j 0 / 1099511627776 % 16 < components) → components ≤ h % 16 → None xs i (h + 1)
-    skip components known c j l f =
-        let n = none j l f in
-        let k = known j l in
-        by_cases (ℕ_discrete (get_or xs j 0 / 1099511627776) h)
-        (λ x. let y : get_or xs j 0 / 1099511627776 % 16 ≡ h % 16 = ap (λ (z : ℕ). z % 16) x in absurd (omega arith))
         (λ x. omega arith)
 
     pub last : get_or xs i 0 / 1099511627776 ≤ h → i ≡ first_of (take (i + 1) xs) i

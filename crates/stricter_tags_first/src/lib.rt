@@ -18,10 +18,8 @@ fn first_of(codes: &[u64], i: usize, components: u64) -> usize
 {
     let core = codes[i] & CORE_MASK;
     let top = codes[i] >> CORE_BITS;
-    let mut h: u64 = 0;
-    while h < top {
+    for h in 0..top {
         if components <= (h & 15) {
-            h += 1;
             continue;
         }
         let key = core + h * ABOVE_CORE;
@@ -29,7 +27,6 @@ fn first_of(codes: &[u64], i: usize, components: u64) -> usize
         if codes[p] == key {
             return p;
         }
-        h += 1;
     }
     i
 }
@@ -41,9 +38,7 @@ pub fn tag_codes(codes: &mut [u64], components: u64)
         → (get_or codes.old j 0 < 281474976710656) × (get_or codes.old j 0 / 1099511627776 % 16 < components)) }
     ensures { TaggedCodes codes.old codes.new }
 {
-    let mut i = codes.len();
-    while 0 < i {
-        i -= 1;
+    for i in (0..codes.len()).rev() {
         let first = first_of(codes, i, components);
         codes[i] += first as u64 * ABOVE_CODE;
     }

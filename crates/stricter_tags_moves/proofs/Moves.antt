@@ -102,8 +102,8 @@ module _ {r : Rule} {opens parts : List ℕ} {shape : Shape} (T : RuleTables r o
       top-is : get_or tagged (target_of t) 0 / 281474976710656 ≡ first_of codes (target_of t)
       top-is = core-number C (codes-low T.shaped.passing start room) (target_of t) target-low
 
-      pub top-low : get_or tagged (target_of t) 0 / 281474976710656 < 65536
-      top-low = omega (arith, top-is, first-low codes (target_of t), target-low)
+      pub top-low : {x : ℕ} → x ≡ target_of t → get_or tagged x 0 / 281474976710656 < 65536
+      top-low e = rw e (omega (arith, top-is, first-low codes (target_of t), target-low))
 
       pub move-low : t < 1099511627776
       move-low = moves-low T.shaped.passing start room t m

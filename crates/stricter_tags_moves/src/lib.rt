@@ -41,11 +41,9 @@ fn spared_in(ranks: u64, parts: &[u8; 8], components: usize, levels: &[u64; 8]) 
     ensures { result ≡ mask components (spared_in_lem ranks parts.now levels.now) }
 {
     let mut spared: u64 = 0;
-    let mut k = 0;
-    while k < components {
+    for k in 0..components {
         let classes = build_cores::class_count(ranks, parts[k]) as u64;
         spared += spared_by(classes, levels[k]) << k;
-        k += 1;
     }
     spared
 }
@@ -101,9 +99,7 @@ pub fn tag_moves(
         → moves.old ≡ transitions_from r start
         → TaggedMoves (automaton r) (macrostates_from r start) moves.old moves.new }
 {
-    let mut i = 0;
-    while i < moves.len() {
-        moves[i] = tag_move(moves[i], codes, shape, opens, parts);
-        i += 1;
+    for t in moves.iter_mut() {
+        *t = tag_move(*t, codes, shape, opens, parts);
     }
 }

@@ -22,10 +22,8 @@ fn meet(moves: &[u64], from: usize, to: usize, nb: usize, q: usize, byte: u8, ma
         × ((t : ℕ) → Memᴰ t moves.now → target_of t * nb + q < length marks.old) }
     ensures { Marked (Beside nb moves.now from to q) byte marks.old marks.new }
 {
-    let mut c = from;
-    while c < to {
+    for c in from..to {
         let y = target_of(moves[c]) * nb + q;
-        c += 1;
         if marks[y] == 1 {
             marks[y] = byte;
         }
@@ -49,8 +47,7 @@ fn expand(
         (PairEdge nb left.now right.now (i * nb + j)) base marks.old marks.new }
 {
     let key = j * 0x0100_0000;
-    let mut k = place(right, right.len(), key as u64);
-    while k < right.len() {
+    for k in place(right, right.len(), key as u64)..right.len() {
         let u = right[k];
         if source_of(u) != j {
             return;
@@ -65,7 +62,6 @@ fn expand(
             base + 4 * (a as u8),
             marks,
         );
-        k += 1;
     }
 }
 
@@ -166,6 +162,7 @@ fn visit_all(lcodes: &[u64], left: &[u64], rcodes: &[u64], right: &[u64], marks:
     let nb = rcodes.len();
     let mut changed = false;
     let mut x = next_waiting(marks, 0, marks.len());
+    // A while: the place jumps to the next row with a pair that waits.
     while x < marks.len() {
         let i = x / nb;
         let cuts = cut_row(left, i);
@@ -182,6 +179,7 @@ fn exhaust(lcodes: &[u64], left: &[u64], rcodes: &[u64], right: &[u64], marks: &
     ensures { Exhausted (PairStep (length rcodes.now) left.now right.now)
         (kind_in lcodes.now rcodes.now) marks.old marks.new }
 {
+    // A while: until a pass finds no pair that waits.
     while visit_all(lcodes, left, rcodes, right, marks) {}
 }
 
@@ -192,6 +190,7 @@ fn clear(marks: &mut [u8])
     ensures { Cleared marks.old marks.new }
 {
     let mut x = next_set(marks, 0, marks.len());
+    // A while: the place jumps to the next byte that is set.
     while x < marks.len() {
         marks[x] = 1;
         x = next_set(marks, x + 1, marks.len());

@@ -39,13 +39,10 @@ fn source_for(codes: &[u64], moves: &[u64], letter: usize, target: usize, accept
     requires { Searchable codes.now moves.now }
     ensures { SourceIs codes.now moves.now letter target accepting result }
 {
-    let mut k = 0;
-    while k < moves.len() {
-        let t = moves[k];
-        if suits(codes, t, letter, target, accepting) {
-            return source_of(t);
+    for t in moves {
+        if suits(codes, *t, letter, target, accepting) {
+            return source_of(*t);
         }
-        k += 1;
     }
     0
 }
@@ -95,6 +92,7 @@ fn way_length(
 {
     let mut x = y;
     let mut k = 1;
+    // A while: it follows the steps back to the origin.
     while 64 <= marks[x] % 128 {
         x = parent(lcodes, left, rcodes, right, origin, x, marks[x] % 128);
         k += 1;
@@ -122,9 +120,7 @@ fn write_way(
         origin y at n word.old word.new }
 {
     let mut x = y;
-    let mut k = n;
-    while 0 < k {
-        k -= 1;
+    for k in (0..n).rev() {
         let v = marks[x] % 128;
         word[at + k] = v / 4 % 16;
         x = parent(lcodes, left, rcodes, right, origin, x, v);
@@ -180,6 +176,7 @@ fn lowest(lcodes: &[u64], rcodes: &[u64], second: bool, marks: &[u8]) -> usize
     ensures { (1 < get_or marks.now result 0) × (accepts_in lcodes.now rcodes.now second result ≡ true) }
 {
     let mut x = next_set(marks, 0, marks.len());
+    // A while: the place jumps to the next byte that is set.
     while x < marks.len() {
         if serves(lcodes, rcodes, second, marks, x) {
             return x;

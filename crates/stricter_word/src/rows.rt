@@ -13,11 +13,9 @@ pub fn cut_low(moves: &[u64], mask: u64, i: usize) -> [usize; 17]
     ensures { RowCut (low_parts (mask + 1) moves.now) i result }
 {
     let mut cuts = [0usize; 17];
-    let mut a = 0;
-    while a < 17 {
+    for (a, cut) in cuts.iter_mut().enumerate() {
         let key = i * 0x0100_0000 + a * 0x0001_0000;
-        cuts[a] = place_low(moves, mask, key as u64);
-        a += 1;
+        *cut = place_low(moves, mask, key as u64);
     }
     cuts
 }

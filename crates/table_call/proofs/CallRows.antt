@@ -9,10 +9,13 @@ use lib.Dec.{ltb}
 use lib.ListN.{length}
 use borrow.Author.Tests.{lt-ltb, le-ltb, ltb-false}
 use Rattle.sets.specs.Lists.{any_of}
-use Rattle.refusals.specs.Rows.{first_row}
+use Rattle.refusals.specs.Rows.{first_refusal, first_row}
 use Rattle.slice_search.specs.Places.{ascends, ascends_from}
 use Rattle.theory.specs.Word.{places}
-use Rattle.refusals.proofs.Rows.{numbered, first-left, first-right, first-parts, first-pass}
+use Rattle.std.specs.Prelude.{Ok, Err}
+use Rattle.refusals.specs.declared.Refusal.{Refusal}
+use Rattle.refusals.specs.declared.Refusal.TheVariants.{Slice}
+use Rattle.refusals.proofs.Rows.{numbered, first-parts, first-pass, refusal-left, refusal-right, row-passes}
 use Rattle.word_rows.specs.Words.{length_rows, letter_rows, word_rows_lem, word_row_lem}
 use Rattle.word_rows.proofs.Checks.{passing-of}
 use Rattle.table_lent.specs.Lent.{Lent, in_words, is_faulty_lem, table_rows_lem, table_row_lem}
@@ -55,31 +58,32 @@ module _ (s : ℕ) (lead cycle : List ℕ) (codes transitions : Lent) (m : ℕ) 
   table-numbered = refl
 
   -- rows 12 to 14
-  pub word-refuses : (k : ℕ) → (k ≡ 0 → ⊥) → k ≡ word_row_lem s lead cycle → k ≡ row
-  unfolding call_row_lem call_rows word_row_lem
-  word-refuses k n e = first-left (word_rows_lem s lead cycle) (table_rows_lem s codes transitions ++ scratch_rows (length codes.numbers) lead cycle m) k n e
-
-  word-passes : word_row_lem s lead cycle ≡ 0 → row ≡ first_row (table_rows_lem s codes transitions ++ scratch_rows (length codes.numbers) lead cycle m)
-  unfolding call_row_lem call_rows word_row_lem
-  word-passes e = first-right (word_rows_lem s lead cycle) (table_rows_lem s codes transitions ++ scratch_rows (length codes.numbers) lead cycle m) words-numbered e
+  pub word-refuses : (r : Refusal) → first_refusal (word_rows_lem s lead cycle) ≡ Err r → first_refusal (call_rows s lead cycle codes transitions m) ≡ Err r
+  unfolding call_rows
+  word-refuses r e = refusal-left (word_rows_lem s lead cycle) _ r e
 
   -- row 15
-  pub table-refuses : word_row_lem s lead cycle ≡ 0 → (k : ℕ) → (k ≡ 0 → ⊥) → k ≡ table_row_lem s codes transitions → k ≡ row
-  unfolding table_row_lem
-  table-refuses w k n e = first-left (table_rows_lem s codes transitions) (scratch_rows (length codes.numbers) lead cycle m) k n e ∙ sym (word-passes w)
+  pub table-refuses : (r : Refusal) → first_refusal (word_rows_lem s lead cycle) ≡ Ok tt → first_refusal (table_rows_lem s codes transitions) ≡ Err r
+      → first_refusal (call_rows s lead cycle codes transitions m) ≡ Err r
+  unfolding call_rows
+  table-refuses r w e = refusal-right (word_rows_lem s lead cycle) _ w ∙ refusal-left (table_rows_lem s codes transitions) _ r e
 
-  table-passes : word_row_lem s lead cycle ≡ 0 → table_row_lem s codes transitions ≡ 0 → row ≡ first_row (scratch_rows (length codes.numbers) lead cycle m)
-  unfolding table_row_lem
-  table-passes w e = word-passes w ∙ first-right (table_rows_lem s codes transitions) (scratch_rows (length codes.numbers) lead cycle m) table-numbered e
+  -- what the parts let pass, behind one another
+  then-scratch : first_refusal (word_rows_lem s lead cycle) ≡ Ok tt → first_refusal (table_rows_lem s codes transitions) ≡ Ok tt
+      → first_refusal (call_rows s lead cycle codes transitions m) ≡ first_refusal (scratch_rows (length codes.numbers) lead cycle m)
+  unfolding call_rows
+  then-scratch w t = refusal-right (word_rows_lem s lead cycle) _ w ∙ refusal-right (table_rows_lem s codes transitions) _ t
 
   -- row 16
-  pub scratch-refuses : word_row_lem s lead cycle ≡ 0 → table_row_lem s codes transitions ≡ 0 → m < length codes.numbers * places lead cycle → 16 ≡ row
-  unfolding scratch_rows first_row
-  scratch-refuses w e l = sym (table-passes w e ∙ rw (lt-ltb m (length codes.numbers * places lead cycle) l))
+  pub scratch-refuses : first_refusal (word_rows_lem s lead cycle) ≡ Ok tt → first_refusal (table_rows_lem s codes transitions) ≡ Ok tt
+      → m < length codes.numbers * places lead cycle → first_refusal (call_rows s lead cycle codes transitions m) ≡ Err Slice
+  unfolding scratch_rows first_refusal
+  scratch-refuses w t l = then-scratch w t ∙ rw (lt-ltb m (length codes.numbers * places lead cycle) l)
 
-  pub call-served : word_row_lem s lead cycle ≡ 0 → table_row_lem s codes transitions ≡ 0 → length codes.numbers * places lead cycle ≤ m → row ≡ 0
-  unfolding scratch_rows first_row
-  call-served w e l = table-passes w e ∙ rw (le-ltb m (length codes.numbers * places lead cycle) l)
+  pub call-served : first_refusal (word_rows_lem s lead cycle) ≡ Ok tt → first_refusal (table_rows_lem s codes transitions) ≡ Ok tt
+      → length codes.numbers * places lead cycle ≤ m → first_refusal (call_rows s lead cycle codes transitions m) ≡ Ok tt
+  unfolding scratch_rows first_refusal
+  call-served w t l = then-scratch w t ∙ rw (le-ltb m (length codes.numbers * places lead cycle) l)
 
   pub record Passes : Type 0 where
     pub word : word_row_lem s lead cycle ≡ 0
@@ -91,19 +95,26 @@ module _ (s : ℕ) (lead cycle : List ℕ) (codes transitions : Lent) (m : ℕ) 
   call_passes e =
       let p = first-parts (word_rows_lem s lead cycle) (table_rows_lem s codes transitions ++ scratch_rows (length codes.numbers) lead cycle m) words-numbered e in
       let q = first-parts (table_rows_lem s codes transitions) (scratch_rows (length codes.numbers) lead cycle m) table-numbered p.1 in
-      record { word = p.0; table = q.0; room = ltb-false m (length codes.numbers * places lead cycle) (first-pass (ltb m (length codes.numbers * places lead cycle)) 15 [] q.1).0 }
+      record { word = p.0; table = q.0; room = ltb-false m (length codes.numbers * places lead cycle) (first-pass (ltb m (length codes.numbers * places lead cycle)) _ [] q.1).0 }
 
 -- ---- what a call that is served may use
 
-module _ (s : ℕ) (lead cycle : List ℕ) (codes transitions : Lent) (word : word_row_lem s lead cycle ≡ 0) (table : table_row_lem s codes transitions ≡ 0) where
+module _ (s : ℕ) (lead cycle : List ℕ) (codes transitions : Lent) (word : first_refusal (word_rows_lem s lead cycle) ≡ Ok tt)
+    (table : first_refusal (table_rows_lem s codes transitions) ≡ Ok tt) where
+  word-passed : word_row_lem s lead cycle ≡ 0
+  word-passed = unfold word_row_lem in row-passes (word_rows_lem s lead cycle) word
+
+  table-passed : table_row_lem s codes transitions ≡ 0
+  table-passed = unfold table_row_lem in row-passes (table_rows_lem s codes transitions) table
+
   -- the marks are few
   pub few-marks : length codes.numbers * places lead cycle ≤ 4194304
   few-marks =
-      let p = passed s codes transitions table in let w = (passing-of s lead cycle word).lengths in
+      let p = passed s codes transitions table-passed in let w = (passing-of s lead cycle word-passed).lengths in
       let a : places lead cycle ≤ 64 = omega (arith, w.lead-short, w.cycle-short) in
       mul-le-mul p.few a
 
   pub ready : (marks : List ℕ) → length marks ≡ length codes.numbers * places lead cycle → WordReady codes.numbers transitions.numbers lead cycle marks
   ready marks e =
-      let p = passed s codes transitions table in
-      record { repeats = (passing-of s lead cycle word).lengths.repeats; marked = e; sources = p.source; targets = p.target }
+      let p = passed s codes transitions table-passed in
+      record { repeats = (passing-of s lead cycle word-passed).lengths.repeats; marked = e; sources = p.source; targets = p.target }

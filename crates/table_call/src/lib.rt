@@ -10,22 +10,15 @@ ghost use Rattle.table_lent.specs.Lent.{in_both};
 ghost use Rattle.table_call.specs.Calls.{TableCalled};
 
 use crate::starts::search;
+use refusals::Refusal;
 use rule_entries::Head;
 use slice_search::bytes::fill_with;
 use table_lent::count;
 use table_rows::rows::table_row;
 use word_rows::word_row;
 
-// The answer: yes with the lowest number of an initial macrostate where an accepting run begins, no, or the number of the row that refuses.
-#[derive(Clone, Copy)]
-pub enum Start {
-    Yes(usize),
-    No,
-    Refused(u8),
-}
-
 // The answer for a table that is lent in elements or in bytes, and a rule of s letters whose initial state is given.
-// Refused by rows 12 to 16, and scratch is then unchanged; else it is zero throughout afterwards.
+// Refused by rows 12 to 16, and scratch is then unchanged; else it is zero throughout afterwards. None where no accepting run begins.
 pub fn judge_lent(
     h: Head,
     lead: &[u8],
@@ -35,24 +28,18 @@ pub fn judge_lent(
     moves: &[u64],
     movebytes: &[u8],
     scratch: &mut [u8],
-) -> Start
+) -> Result<Option<usize>, Refusal>
     requires { h.initial < 8 }
     ensures { TableCalled h.s (λ c. bit c h.initial) lead.now cycle.now
         (in_both codes.now codebytes.now) (in_both moves.now movebytes.now)
         scratch.old scratch.new result }
 {
-    let word = word_row(h.s, lead, cycle);
-    if word != 0 {
-        return Start::Refused(word);
-    }
-    let table = table_row(h.s, codes, codebytes, moves, movebytes);
-    if table != 0 {
-        return Start::Refused(table);
-    }
+    word_row(h.s, lead, cycle)?;
+    table_row(h.s, codes, codebytes, moves, movebytes)?;
     let n = count(codes, codebytes);
     let used = n * (lead.len() + cycle.len());
     if scratch.len() < used {
-        return Start::Refused(refusals::SLICE);
+        return Err(Refusal::Slice);
     }
     let m = search(
         h.initial as u32,
@@ -66,7 +53,7 @@ pub fn judge_lent(
     );
     fill_with(scratch, 0);
     if m < n {
-        return Start::Yes(m);
+        return Ok(Some(m));
     }
-    Start::No
+    Ok(None)
 }

@@ -24,18 +24,17 @@ fn is_start(code: u64, initial: u32, mark: u8) -> bool
 }
 
 // The lowest marked number where a run may begin, or the number of codes.
+#[tactic(auto, unfolding(crate::specs::Starts::starts_at))]
 fn lowest_start(codes: &[u64], codebytes: &[u8], initial: u32, marks: &[u8]) -> usize
     requires { (initial < 8) × (length (in_both codes.now codebytes.now).numbers ≤ length marks.now) }
     ensures { Lowest (length (in_both codes.now codebytes.now).numbers)
         (starts_at (λ c. bit c initial) (in_both codes.now codebytes.now).numbers marks.now) result }
 {
     let n = count(codes, codebytes);
-    let mut m = 0;
-    while m < n {
+    for m in 0..n {
         if is_start(element(codes, codebytes, m), initial, marks[m]) {
             return m;
         }
-        m += 1;
     }
     n
 }

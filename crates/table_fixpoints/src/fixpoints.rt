@@ -33,11 +33,9 @@ pub fn settle(marks: &mut [u8], from: usize, to: usize) -> bool
     ensures { Settling from to marks.old marks.new result }
 {
     let mut changed = false;
-    let mut i = from;
-    while i < to {
+    for i in from..to {
         let v = marks[i];
         marks[i] = settled_mark(v);
-        i += 1;
         if goes_out(v) {
             changed = true;
         }
@@ -72,6 +70,7 @@ pub fn prune(moves: &[u64], movebytes: &[u8], cycle: &[u8], n: usize, marks: &mu
 {
     let mut waiting = cycle.len();
     let mut p = 0;
+    // A while: what a place brings decides how many still wait.
     while 0 < waiting {
         p = place_before(cycle.len(), p);
         let new = prune_place(moves, movebytes, cycle, n, marks, p);

@@ -72,10 +72,8 @@ pub fn mark_all(
 {
     let m = count(moves, movebytes);
     let mut changed = false;
-    let mut i = 0;
-    while i < m {
+    for i in 0..m {
         let t = element_from(moves, movebytes, back, m, i);
-        i += 1;
         if mark_over(t, letter, marks, here, there) {
             changed = true;
         }

@@ -78,6 +78,7 @@ pub fn mark_until_stable(moves: &[u64], movebytes: &[u8], cycle: &[u8], n: usize
     let mut back = false;
     let mut waiting = cycle.len();
     let mut p = 0;
+    // A while: what a place brings decides how many still wait.
     while 0 < waiting {
         p = place_before(cycle.len(), p);
         let new = mark_place(moves, movebytes, back, cycle, n, marks, p);

@@ -3,14 +3,16 @@ use mathlib.Core.Path.{◌≡◌, refl}
 use mathlib.Core.List.{List, [], ◌∷◌}
 use Prim.Native.Nat.{ℕ}
 use Rattle.file_spec.specs.File.{rule_in}
-use Rattle.refusals.specs.Rows.{first_row}
+use Rattle.refusals.specs.Rows.{first_refusal, first_row}
 use Rattle.file_spec.specs.Rows.{trailer_rows, layout_rows, body_rows, file_rows_lem, file_row}
-use Rattle.refusals.proofs.Rows.{first-left, first-right, first-parts}
+use Rattle.std.specs.Prelude.{Ok, Err}
+use Rattle.refusals.specs.declared.Refusal.{Refusal}
+use Rattle.refusals.proofs.Rows.{first-parts, refusal-left, refusal-right}
 use Rattle.file_read.proofs.FileRows.{file-numbered}
 use Rattle.word_rows.specs.Words.{length_rows, word_rows_lem}
 use Rattle.table_lent.specs.Lent.{Lent, in_words}
 use Rattle.table_call.specs.Calls.{call_rows, call_row_lem}
-use Rattle.table_judge.specs.Tables.{judge_table_row}
+use Rattle.table_judge.specs.Tables.{judge_table_rows, judge_table_row}
 
 -- ---- example
 
@@ -23,13 +25,12 @@ file-first = refl
 
 module _ (f lead cycle : List ℕ) (codes transitions : Lent) (m : ℕ) where
   -- the rows of the rule
-  pub file-refuses : (k : ℕ) → (k ≡ 0 → ⊥) → k ≡ file_row f → k ≡ judge_table_row f lead cycle codes transitions m
-  unfolding judge_table_row file_row
-  file-refuses k n e = first-left (file_rows_lem f) _ k n e
+  pub file-refuses : (r : Refusal) → first_refusal (file_rows_lem f) ≡ Err r → first_refusal (judge_table_rows f lead cycle codes transitions m) ≡ Err r
+  file-refuses r e = refusal-left (file_rows_lem f) _ r e
 
-  pub file-passes : file_row f ≡ 0 → judge_table_row f lead cycle codes transitions m ≡ call_row_lem (rule_in f).s lead cycle codes transitions m
-  unfolding judge_table_row call_row_lem file_row
-  file-passes e = first-right (file_rows_lem f) _ (file-numbered f) e
+  pub file-passes : first_refusal (file_rows_lem f) ≡ Ok tt
+      → first_refusal (judge_table_rows f lead cycle codes transitions m) ≡ first_refusal (call_rows (rule_in f).s lead cycle codes transitions m)
+  file-passes e = refusal-right (file_rows_lem f) _ e
 
   pub file-passed : judge_table_row f lead cycle codes transitions m ≡ 0 → (file_row f ≡ 0) × (call_row_lem (rule_in f).s lead cycle codes transitions m ≡ 0)
   unfolding judge_table_row call_row_lem file_row

@@ -6,8 +6,8 @@ ghost use Rattle.table_lent.specs.Lent.{in_words, in_bytes_lem};
 ghost use Rattle.table_judge.specs.Tables.{JudgedTable};
 
 use file_read::read_rule;
-use file_spec::Read;
-use table_call::{Start, judge_lent};
+use refusals::Refusal;
+use table_call::judge_lent;
 
 // Whether an accepting run of a table over a word begins in an initial macrostate, and the lowest number of one where it does.
 // Refused by the rows of the rule, word, table and slices, in this order, and scratch is then unchanged; else it is zero throughout.
@@ -18,18 +18,13 @@ pub fn judge_table(
     codes: &[u64],
     transitions: &[u64],
     scratch: &mut [u8],
-) -> Start
+) -> Result<Option<usize>, Refusal>
     ensures { JudgedTable file.now lead.now cycle.now (in_words codes.now)
         (in_words transitions.now) scratch.old scratch.new result }
 {
-    match read_rule(file) {
-        Read::Accepted(l) => {
-            let h = l.head;
-            let none = &file[..0];
-            judge_lent(h, lead, cycle, codes, none, transitions, none, scratch)
-        }
-        Read::Refused(row) => Start::Refused(row),
-    }
+    let l = read_rule(file)?;
+    let none = &file[..0];
+    judge_lent(l.head, lead, cycle, codes, none, transitions, none, scratch)
 }
 
 // Whether an accepting run of a table in bytes, each code and transition as 8 bytes, low byte first, over a word begins in an initial
@@ -42,17 +37,12 @@ pub fn judge_table_bytes(
     codes: &[u8],
     transitions: &[u8],
     scratch: &mut [u8],
-) -> Start
+) -> Result<Option<usize>, Refusal>
     ensures { JudgedTable file.now lead.now cycle.now (in_bytes_lem codes.now)
         (in_bytes_lem transitions.now) scratch.old scratch.new result }
 {
-    match read_rule(file) {
-        Read::Accepted(l) => {
-            let h = l.head;
-            let words = [0u64; 1];
-            let none = &words[..0];
-            judge_lent(h, lead, cycle, none, codes, none, transitions, scratch)
-        }
-        Read::Refused(k) => Start::Refused(k),
-    }
+    let r = read_rule(file)?;
+    let words = [0u64; 1];
+    let none = &words[..0];
+    judge_lent(r.head, lead, cycle, none, codes, none, transitions, scratch)
 }

@@ -2,6 +2,7 @@
 use Rattle.std.specs.Prelude.{Bool, false, not, ◌||◌, List, [], ◌∷◌, ◌++◌, ℕ, ◌/◌, ◌%◌, ◌^◌, eqb, leb, ltb, length}
 use Rattle.sets.specs.Lists.{any_of}
 use Rattle.refusals.specs.Rows.{Check, check, first_row}
+use Rattle.refusals.specs.declared.Refusal.TheVariants.{Table}
 use Rattle.theory.specs.Run.{source_of, letter_of_lem, target_of}
 use Rattle.codes.specs.Bytes.{words_of}
 use Rattle.slice_search.specs.Places.{ascends}
@@ -46,7 +47,7 @@ is_faulty_lem s codes transitions =
 
 unfoldable pub table_rows_lem : ℕ → Lent → Lent → List Check
 table_rows_lem s codes transitions =
-    check (codes.ragged || (transitions.ragged || is_faulty_lem s codes.numbers transitions.numbers)) 15 ∷ []
+    check (codes.ragged || (transitions.ragged || is_faulty_lem s codes.numbers transitions.numbers)) Table ∷ []
 
 -- row 15, or 0
 unfoldable pub table_row_lem : ℕ → Lent → Lent → ℕ

@@ -16,14 +16,12 @@ pub fn is_ascending(words: &[u64], bytes: &[u8]) -> bool
         return true;
     }
     let mut last = element(words, bytes, 0);
-    let mut i = 1;
-    while i < n {
+    for i in 1..n {
         let x = element(words, bytes, i);
         if x <= last {
             return false;
         }
         last = x;
-        i += 1;
     }
     true
 }
@@ -32,13 +30,10 @@ pub fn is_ascending(words: &[u64], bytes: &[u8]) -> bool
 pub fn has_high(words: &[u64], bytes: &[u8]) -> bool
     ensures { result ≡ any_of (in_both words.now bytes.now).numbers is_high }
 {
-    let n = count(words, bytes);
-    let mut i = 0;
-    while i < n {
+    for i in 0..count(words, bytes) {
         if element(words, bytes, i) >> CODE_BITS != 0 {
             return true;
         }
-        i += 1;
     }
     false
 }
@@ -63,13 +58,10 @@ fn is_astray(t: u64, n: usize, s: usize) -> bool
 pub fn has_astray(words: &[u64], bytes: &[u8], n: usize, s: usize) -> bool
     ensures { result ≡ any_of (in_both words.now bytes.now).numbers (is_astray_lem n s) }
 {
-    let m = count(words, bytes);
-    let mut i = 0;
-    while i < m {
+    for i in 0..count(words, bytes) {
         if is_astray(element(words, bytes, i), n, s) {
             return true;
         }
-        i += 1;
     }
     false
 }

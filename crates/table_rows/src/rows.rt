@@ -1,8 +1,10 @@
 // Row 15: a lent table is tried as a whole, so that each end of a transition is the number of a code.
 ghost use Rattle.std.specs.Prelude.{◌≡◌};
-ghost use Rattle.table_lent.specs.Lent.{in_both, is_faulty_lem, table_row_lem};
+ghost use Rattle.refusals.specs.Rows.{first_refusal};
+ghost use Rattle.table_lent.specs.Lent.{in_both, is_faulty_lem, table_rows_lem};
 
 use crate::checks::{has_astray, has_high, is_ascending};
+use refusals::Refusal;
 use table_lent::count;
 
 // Whether the numbers of a table have a fault that row 15 names, for a rule of s letters.
@@ -27,18 +29,23 @@ fn is_faulty(s: usize, codes: &[u64], codebytes: &[u8], moves: &[u64], movebytes
     has_astray(moves, movebytes, n, s)
 }
 
-// Row 15 if it refuses the table for a rule of s letters, or 0.
-pub fn table_row(s: usize, codes: &[u64], codebytes: &[u8], moves: &[u64], movebytes: &[u8]) -> u8
-    ensures { result ≡ table_row_lem s (in_both codes.now codebytes.now) (in_both moves.now movebytes.now) }
+// Row 15, if it refuses the table for a rule of s letters.
+#[tactic(auto, unfolding(refusals::specs::Rows::first_refusal, table_lent::specs::Lent::table_rows_lem, table_lent::specs::Lent::in_both))]
+pub fn table_row(
+    s: usize,
+    codes: &[u64],
+    codebytes: &[u8],
+    moves: &[u64],
+    movebytes: &[u8],
+) -> Result<(), Refusal>
+    ensures { result
+        ≡ first_refusal (table_rows_lem s (in_both codes.now codebytes.now) (in_both moves.now movebytes.now)) }
 {
-    if codebytes.len() % 8 != 0 {
-        return refusals::TABLE;
-    }
-    if movebytes.len() % 8 != 0 {
-        return refusals::TABLE;
+    if codebytes.len() % 8 != 0 || movebytes.len() % 8 != 0 {
+        return Err(Refusal::Table);
     }
     if is_faulty(s, codes, codebytes, moves, movebytes) {
-        return refusals::TABLE;
+        return Err(Refusal::Table);
     }
-    0
+    Ok(())
 }

@@ -15,7 +15,7 @@ use borrow.Author.Tests.{eq-eqb, ne_eqb, lt-ltb, le-ltb, eqb-true, ltb-true}
 use Rattle.sets.proofs.Bools.{bif, and_l, and_r}
 use Rattle.sets.proofs.Walks.{drop-next}
 use Rattle.theory.specs.Run.{source_of, letter_of_lem, target_of}
-use Rattle.table_runs.specs.Tracks.{entered_by, entered_all, LeadsIn, Entered}
+use Rattle.table_runs.specs.Tracks.{entered_by, entered_all, LeadsIn}
 
 -- ---- examples
 
@@ -156,12 +156,6 @@ module _ (n : ℕ) (lead ts old : List ℕ) where
     pub low : (x : ℕ) → x < p * n → get_or ms x 0 ≡ 0
     pub each : (q m : ℕ) → p ≤ q → q < length lead → m < n → (0 < get_or ms (q * n + m) 0) ↔ LeadsIn ts ms (get_or lead q 0) (suc q * n) m
 
-  pub none_done : ((x : ℕ) → x < length lead * n → get_or old x 0 ≡ 0) → DoneFrom (length lead) old
-  none_done z = record { long = refl; later = λ x l. refl; low = z; each = λ q m l k. absurd (omega arith) }
-
-  pub all_done : (ms : List ℕ) → DoneFrom 0 ms → Entered n lead ts old ms
-  all_done ms d = record { long = d.long; later = d.later; each = λ p m l k. d.each p m (omega arith) l k }
-
   module _ (fits : length lead * n + n ≤ length old) (ends : (t : ℕ) → Memᴰ t ts → (source_of t < n) × (target_of t < n))
       (p : ℕ) (ms : List ℕ) (inside : p < length lead) (d : DoneFrom (suc p) ms) where
     abbrev new : List ℕ
@@ -173,7 +167,7 @@ module _ (n : ℕ) (lead ts old : List ℕ) where
     below : suc p * n ≤ length lead * n
     below = mul-le-mul_right n inside
 
-    pub within : (t : ℕ) → Memᴰ t ts → (p * n + source_of t < length ms) × (p * n + n + target_of t < length ms)
+    within : (t : ℕ) → Memᴰ t ts → (p * n + source_of t < length ms) × (p * n + n + target_of t < length ms)
     within t m = let e = ends t m in let k = d.long in (omega (arith, next, below, e.0), omega (arith, next, below, e.1))
 
     apart : (t : ℕ) → Memᴰ t ts → (p * n + source_of t < p * n + n) × (p * n + source_of t < length ms)

@@ -3,10 +3,9 @@ use mathlib.Core.Path.{◌≡◌, refl, sym, ap, ◌∙◌}
 use mathlib.Core.Bool.{true, false, cond}
 use mathlib.Core.Logic.{by_cases}
 use mathlib.Core.List.{List}
-use Prim.Native.Nat.{ℕ, ◌+◌, ◌*◌, ◌%◌, ◌<◌, ◌≤◌}
+use Prim.Native.Nat.{ℕ, ◌+◌, ◌%◌, ◌<◌, ◌≤◌}
 use native.Mathlib.Omega.{arith}
 use native.Mathlib.Decide.{dec_lt, ℕ_discrete}
-use native.Mathlib.Nat.{mul-zero}
 use lib.ListN.{length, get_or, set, length-set, get_or-eq_default}
 use lib.Dec.{eqb}
 use lib.Seq.{set-get_or}
@@ -15,7 +14,7 @@ use borrow.Author.Tests.{eq-eqb, ne_eqb}
 use Rattle.sets.proofs.Bools.{bif}
 use Rattle.theory.specs.Code.{classes_in}
 use Rattle.theory.specs.Macrostate.{is_accepting_lem}
-use Rattle.table_runs.specs.Tracks.{flag_of_lem, flagged_at, Flagged}
+use Rattle.table_runs.specs.Tracks.{flag_of_lem, flagged_at}
 
 -- accepting macrostates are flagged 2
 flags : flag_of_lem 257 ≡ 2
@@ -48,10 +47,6 @@ pub flagged-in : (codes marks : List ℕ) (x : ℕ) → (get_or marks x 0 ≡ 0 
 unfolding flagged_at
 flagged-in codes marks x n = rw (ne_eqb (get_or marks x 0) 0 n)
 
--- a list with an element that is d times as long as another has no elements if the other has none
-pub some-codes : (d n x m : ℕ) → m ≡ d * n → x < m → 0 < n
-some-codes d n x m e l = by_cases (ℕ_discrete n 0) (λ z. let k : d * n ≡ 0 = rw z (mul-zero d) in absurd (omega arith)) (λ z. omega arith)
-
 -- ---- a loop that gives each node j that is in the mark k j
 
 module _ (old : List ℕ) (k : ℕ → ℕ) where
@@ -62,9 +57,6 @@ module _ (old : List ℕ) (k : ℕ → ℕ) where
     pub rest : (j : ℕ) → x ≤ j → get_or ms j 0 ≡ get_or old j 0
 
 module _ {old : List ℕ} {k : ℕ → ℕ} where
-  pub none-marked : MarkedTo old k 0 old
-  none-marked = record { long = refl; before = λ j l. absurd (omega arith); rest = λ j l. refl }
-
   pub mark-turn : {x : ℕ} {ms : List ℕ} (v : ℕ) → x < length ms → v ≡ cond (eqb (get_or ms x 0) 0) 0 (k x) → MarkedTo old k x ms → MarkedTo old k (x + 1) (set ms x v)
   mark-turn {x} {ms} v l e r = record {
     long = length-set ms x v ∙ r.long;
@@ -85,10 +77,3 @@ flagged-set codes marks x =
     by_cases (ℕ_discrete (get_or marks x 0) 0)
     (λ e. rw (eq-eqb (get_or marks x 0) 0 e) (sym (ap (set marks x) (sym e) ∙ set-get_or marks x 0)))
     (λ n. rw (ne_eqb (get_or marks x 0) 0 n))
-
-pub all-flagged : {codes old : List ℕ} {x : ℕ} {ms : List ℕ} → length ms ≤ x → MarkedTo old (λ j. flag_of_lem (get_or codes (j % length codes) 0)) x ms → Flagged codes old ms
-all-flagged {codes} {old} l r = record {
-  long = r.long;
-  outside = λ j e. all-marked l r j ∙ rw (eq-eqb (get_or old j 0) 0 e);
-  inside = λ j n. all-marked l r j ∙ rw (ne_eqb (get_or old j 0) 0 n);
-}

@@ -45,10 +45,8 @@ fn flag(codes: &[u64], codebytes: &[u8], marks: &mut [u8])
     requires { (d : ℕ) × (length marks.old ≡ d * length (in_both codes.now codebytes.now).numbers) }
     ensures { Flagged (in_both codes.now codebytes.now).numbers marks.old marks.new }
 {
-    let mut x = 0;
-    while x < marks.len() {
+    for x in 0..marks.len() {
         flag_node(codes, codebytes, marks, x);
-        x += 1;
     }
 }
 
@@ -66,10 +64,8 @@ fn raised_mark(v: u8) -> u8
 fn raise(marks: &mut [u8])
     ensures { Raised marks.old marks.new }
 {
-    let mut x = 0;
-    while x < marks.len() {
-        marks[x] = raised_mark(marks[x]);
-        x += 1;
+    for mark in marks.iter_mut() {
+        *mark = raised_mark(*mark);
     }
 }
 
@@ -191,11 +187,8 @@ fn enter_all(
     ensures { marks.new
         ≡ entered_all letter here there (in_both moves.now movebytes.now).numbers marks.old }
 {
-    let m = count(moves, movebytes);
-    let mut i = 0;
-    while i < m {
+    for i in 0..count(moves, movebytes) {
         enter(element(moves, movebytes, i), letter, marks, here, there);
-        i += 1;
     }
 }
 
@@ -207,9 +200,7 @@ fn enter_lead(moves: &[u64], movebytes: &[u8], lead: &[u8], n: usize, marks: &mu
     ensures { Entered n lead.now (in_both moves.now movebytes.now).numbers marks.old
         marks.new }
 {
-    let mut p = lead.len();
-    while 0 < p {
-        p -= 1;
+    for p in (0..lead.len()).rev() {
         let here = p * n;
         enter_all(moves, movebytes, lead[p] as usize, marks, here, here + n);
     }

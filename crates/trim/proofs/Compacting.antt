@@ -1,5 +1,5 @@
 -- A loop that moves what is kept of a list to its front: w elements are made of the first i.
-use mathlib.Core.Path.{◌≡◌, refl, sym, ap, ap₂, ◌∙◌}
+use mathlib.Core.Path.{◌≡◌, sym, ap, ap₂, ◌∙◌}
 use mathlib.Core.List.{List, [], ◌∷◌, ◌++◌, append_assoc, append-nil}
 use Prim.Native.Nat.{ℕ, ◌+◌, ◌-◌, ◌≤◌, ◌<◌}
 use native.Mathlib.Omega.{arith}
@@ -17,9 +17,6 @@ module _ (F : List ℕ → List ℕ) (old : List ℕ) where
     pub long : length cur ≡ length old
     pub rest : drop i cur ≡ drop i old
     pub made : take w cur ++ F (drop i old) ≡ F old
-
-  pub compact-start : Compacting old 0 0
-  compact-start = record { behind = omega arith; inside = omega arith; long = refl; rest = refl; made = refl }
 
   module _ (cur : List ℕ) (w i : ℕ) (l : i < length old) (c : Compacting cur w i) where
     -- the next element is as it was

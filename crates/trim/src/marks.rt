@@ -50,11 +50,8 @@ fn sweep(codes: &mut [u64], transitions: &[u64]) -> usize
         × (ltb 0 result ≡ is_new_in transitions.now (highs codes.old)) }
 {
     let mut news = 0;
-    let mut i = 0;
-    while i < transitions.len() {
-        let t = transitions[i];
-        i += 1;
-        if mark(codes, source_of(t), target_of(t)) {
+    for t in transitions {
+        if mark(codes, source_of(*t), target_of(*t)) {
             news += 1;
         }
     }
@@ -67,6 +64,7 @@ fn sweep_out(codes: &mut [u64], transitions: &[u64])
     ensures { Stable (Step transitions.now) (highs codes.old) (highs codes.new)
         × (lows codes.new ≡ lows codes.old) }
 {
+    // A while: it sweeps until nothing is new.
     while 0 < sweep(codes, transitions) {}
 }
 
@@ -95,14 +93,11 @@ fn settle(codes: &mut [u64]) -> bool
         × (lows codes.new ≡ lows codes.old) }
 {
     let mut changed = false;
-    let mut i = 0;
-    while i < codes.len() {
-        let c = codes[i];
-        codes[i] = settled_code(c);
-        i += 1;
-        if goes_out(c) {
+    for c in codes.iter_mut() {
+        if goes_out(*c) {
             changed = true;
         }
+        *c = settled_code(*c);
     }
     changed
 }
@@ -123,6 +118,7 @@ fn solve(codes: &mut [u64], transitions: &[u64])
     ensures { Solved (Step transitions.now) (highs codes.old) (highs codes.new)
         × (lows codes.new ≡ lows codes.old) }
 {
+    // A while: a round follows while one took out an accepting number.
     while solve_round(codes, transitions) {}
 }
 
@@ -144,10 +140,8 @@ fn flag(codes: &mut [u64])
     requires { (x : ℕ) → get_or codes.old x 0 < 2 ^ 48 }
     ensures { (highs codes.new ≡ flags codes.old) × (lows codes.new ≡ codes.old) }
 {
-    let mut i = 0;
-    while i < codes.len() {
-        codes[i] = flagged(codes[i]);
-        i += 1;
+    for c in codes.iter_mut() {
+        *c = flagged(*c);
     }
 }
 

@@ -15,11 +15,8 @@ pub fn count_left(codes: &[u64]) -> usize
     ensures { result ≡ new_number (highs codes.now) (length codes.now) }
 {
     let mut k = 0;
-    let mut i = 0;
-    while i < codes.len() {
-        let c = codes[i];
-        i += 1;
-        if c >> CODE_BITS != 0 {
+    for c in codes {
+        if *c >> CODE_BITS != 0 {
             k += 1;
         }
     }
@@ -41,14 +38,10 @@ pub fn number(codes: &mut [u64])
         × (lows codes.new ≡ lows codes.old) }
 {
     let mut k: u64 = 0;
-    let mut i = 0;
-    while i < codes.len() {
-        let at = i;
-        let c = codes[at];
-        i += 1;
-        if c >> CODE_BITS != 0 {
+    for c in codes.iter_mut() {
+        if *c >> CODE_BITS != 0 {
             k += 1;
-            codes[at] = carrying(c, k);
+            *c = carrying(*c, k);
         }
     }
 }
@@ -85,10 +78,8 @@ pub fn rewrite_all(codes: &[u64], transitions: &mut [u64]) -> usize
         (result ≡ length l) × (transitions.new ≡ l ++ replicate (length transitions.old - length l) 0) }
 {
     let mut w = 0;
-    let mut i = 0;
-    while i < transitions.len() {
+    for i in 0..transitions.len() {
         let t = transitions[i];
-        i += 1;
         if is_left(codes, t) {
             transitions[w] = rewritten_one(codes, t);
             w += 1;
@@ -113,10 +104,8 @@ pub fn compact(codes: &mut [u64]) -> usize
         (result ≡ length l) × (codes.new ≡ l ++ replicate (length codes.old - length l) 0) }
 {
     let mut w = 0;
-    let mut i = 0;
-    while i < codes.len() {
+    for i in 0..codes.len() {
         let c = codes[i];
-        i += 1;
         if c >> CODE_BITS != 0 {
             codes[w] = without_number(c);
             w += 1;

@@ -4,41 +4,36 @@
 
 ghost use Rattle.std.specs.Prelude.{◌≡◌, List, ℕ, ◌+◌, ◌<◌, length};
 ghost use Rattle.theory.specs.Word.{letter_at_lem, next_place_lem};
-ghost use Rattle.word_rows.specs.Words.{length_row_lem, word_row_lem};
+ghost use Rattle.refusals.specs.Rows.{first_refusal};
+ghost use Rattle.word_rows.specs.Words.{length_rows, word_rows_lem};
 
+use refusals::Refusal;
 use slice_search::any_from;
 
-// The first of rows 12 and 13 that refuses the word, or 0.
-pub fn length_row(lead: &[u8], cycle: &[u8]) -> u8
-    ensures { result ≡ length_row_lem lead.now cycle.now }
+// What the first of rows 12 and 13 that applies refuses the word for.
+#[tactic(auto, unfolding(refusals::specs::Rows::first_refusal, crate::specs::Words::length_rows))]
+pub fn length_row(lead: &[u8], cycle: &[u8]) -> Result<(), Refusal>
+    ensures { result ≡ first_refusal (length_rows lead.now cycle.now) }
 {
-    if cycle.len() == 0 {
-        return refusals::NO_CYCLE;
+    if cycle.is_empty() {
+        return Err(Refusal::NoCycle);
     }
-    if 32 < lead.len() {
-        return refusals::LONG_WORD;
+    if 32 < lead.len() || 32 < cycle.len() {
+        return Err(Refusal::LongWord);
     }
-    if 32 < cycle.len() {
-        return refusals::LONG_WORD;
-    }
-    0
+    Ok(())
 }
 
-// The first of rows 12 to 14 that refuses the word over s letters, or 0.
-pub fn word_row(s: usize, lead: &[u8], cycle: &[u8]) -> u8
-    ensures { result ≡ word_row_lem s lead.now cycle.now }
+// What the first of rows 12 to 14 that applies refuses the word over s letters for.
+#[tactic(auto, using(refusals::proofs::Rows::refusal_and), unfolding(refusals::specs::Rows::first_refusal, crate::specs::Words::word_rows_lem, crate::specs::Words::letter_rows))]
+pub fn word_row(s: usize, lead: &[u8], cycle: &[u8]) -> Result<(), Refusal>
+    ensures { result ≡ first_refusal (word_rows_lem s lead.now cycle.now) }
 {
-    let row = length_row(lead, cycle);
-    if row != 0 {
-        return row;
+    length_row(lead, cycle)?;
+    if any_from(lead, s) || any_from(cycle, s) {
+        return Err(Refusal::Letter);
     }
-    if any_from(lead, s) {
-        return refusals::LETTER;
-    }
-    if any_from(cycle, s) {
-        return refusals::LETTER;
-    }
-    0
+    Ok(())
 }
 
 // The letter at place p.

@@ -2,7 +2,7 @@
 use mathlib.Core.Path.{◌≡◌, refl, sym, ◌∙◌, ap}
 use mathlib.Core.Logic.{◌↔◌}
 use mathlib.Core.Bool.{Bool, true, false, false≢true}
-use mathlib.Core.List.{List}
+use mathlib.Core.List.{List, ◌++◌}
 use Prim.Native.Nat.{ℕ, zero, suc, ◌+◌, ◌<◌}
 use native.Mathlib.Omega.{arith}
 use native.Mathlib.Numerals.{add-one}
@@ -11,16 +11,18 @@ use borrow.Author.Tests.{eq-eqb, ne_eqb}
 use Rattle.sets.specs.Tests.{every}
 use Rattle.sets.proofs.Bools.{bif}
 use Rattle.sets.proofs.Tests.{every-next, every-stop}
-use Rattle.refusals.proofs.Rows.{first-left, first-right}
+use Rattle.std.specs.Prelude.{Result, Ok, Err, ⊤}
+use Rattle.refusals.specs.Rows.{Check, first_refusal}
+use Rattle.refusals.specs.declared.Refusal.{Refusal}
+use Rattle.refusals.proofs.Rows.{refusal-left, refusal-right, refusal-passes}
 use Rattle.theory.specs.Word.{places, next_place_lem, letter_at_lem, place, letters}
 use Rattle.word_rows.specs.Words.{length_rows, length_row_lem}
-use Rattle.word_rows.proofs.Checks.{lengths-numbered, short-of}
+use Rattle.word_rows.proofs.Checks.{short-of, short-passed}
 use Rattle.word_spelling_spec.specs.Spelling.{Agree}
 use Rattle.word_spelling_spec.specs.SpellingComputed.{same_word, tidy_lead, tidy_cycle}
 use Rattle.word_spelling_spec.proofs.Same.{same-word-iff}
 use Rattle.word_spelling_spec.proofs.Tidied.{same-tidy}
-use Rattle.word_same.specs.declared.SameWords.TheVariants.{Same, Different, Refused}
-use Rattle.word_same.specs.Same.{same_row, verdict, same_words_of, Compared}
+use Rattle.word_same.specs.Same.{same_row, same_words_of, Compared}
 
 -- ---- the loop over the steps
 
@@ -48,53 +50,48 @@ steps-end l₁ c₁ l₂ c₂ i e t = unfold same_word in ap (λ (n : ℕ). ever
 
 -- ---- the answer
 
+ok-same : {a b : Bool} → ◌≡◌ {A = Result Bool Refusal} (Ok a) (Ok b) → a ≡ b
+ok-same e = cc
+
 module _ (l₁ c₁ l₂ c₂ : List ℕ) where
-  refused : (k : ℕ) → 0 < k → same_row l₁ c₁ l₂ c₂ ≡ k → Compared l₁ c₁ l₂ c₂ (Refused k)
-  unfolding same_words_of
-  refused zero p e = absurd (omega arith)
-  refused (suc k) p e = record { answered = rw e; meant = λ z. absurd (let x : suc k ≡ 0 = sym e ∙ z in omega arith) }
+  refused : (r : Refusal) → first_refusal (length_rows l₁ c₁ ++ length_rows l₂ c₂) ≡ Err r → Compared l₁ c₁ l₂ c₂ (Err r)
+  unfolding same_words_of same_row
+  refused r e = record { answered = rw e; meant = λ z. let p = sym e ∙ refusal-passes (length_rows l₁ c₁ ++ length_rows l₂ c₂) z in absurd cc }
 
   -- the first word is refused
-  pub first-refused : (k : ℕ) → 0 < k → k ≡ length_row_lem l₁ c₁ → Compared l₁ c₁ l₂ c₂ (Refused k)
-  unfolding same_row length_row_lem
-  first-refused k p e = refused k p (sym (first-left (length_rows l₁ c₁) (length_rows l₂ c₂) k (λ z. omega arith) e))
+  pub first-refused : (r : Refusal) → first_refusal (length_rows l₁ c₁) ≡ Err r → Compared l₁ c₁ l₂ c₂ (Err r)
+  first-refused r e = refused r (refusal-left (length_rows l₁ c₁) (length_rows l₂ c₂) r e)
 
-  then-second : length_row_lem l₁ c₁ ≡ 0 → same_row l₁ c₁ l₂ c₂ ≡ length_row_lem l₂ c₂
-  then-second e = unfold same_row length_row_lem in first-right (length_rows l₁ c₁) (length_rows l₂ c₂) (lengths-numbered l₁ c₁) e
+  then-second : first_refusal (length_rows l₁ c₁) ≡ Ok tt → first_refusal (length_rows l₁ c₁ ++ length_rows l₂ c₂) ≡ first_refusal (length_rows l₂ c₂)
+  then-second e = refusal-right (length_rows l₁ c₁) (length_rows l₂ c₂) e
 
   -- the second word is refused
-  pub second-refused : (k : ℕ) → length_row_lem l₁ c₁ ≡ 0 → 0 < k → k ≡ length_row_lem l₂ c₂ → Compared l₁ c₁ l₂ c₂ (Refused k)
-  second-refused k e p f = refused k p (then-second e ∙ sym f)
+  pub second-refused : (r : Refusal) → first_refusal (length_rows l₁ c₁) ≡ Ok tt → first_refusal (length_rows l₂ c₂) ≡ Err r → Compared l₁ c₁ l₂ c₂ (Err r)
+  second-refused r e f = refused r (then-second e ∙ f)
 
-  module _ (one : length_row_lem l₁ c₁ ≡ 0) (two : length_row_lem l₂ c₂ ≡ 0) where
-    decided : (b : Bool) → same_word l₁ c₁ l₂ c₂ ≡ b → verdict 0 b ≡ same_words_of l₁ c₁ l₂ c₂
-    decided b t = unfold same_words_of in rw (then-second one ∙ two, t)
-
+  module _ (one : first_refusal (length_rows l₁ c₁) ≡ Ok tt) (two : first_refusal (length_rows l₂ c₂) ≡ Ok tt) where
     agree-iff : (same_word l₁ c₁ l₂ c₂ ≡ true) ↔ Agree l₁ c₁ l₂ c₂
-    agree-iff = same-word-iff l₁ c₁ l₂ c₂ (short-of l₁ c₁ one).repeats (short-of l₂ c₂ two).repeats
+    agree-iff = same-word-iff l₁ c₁ l₂ c₂ (short-passed l₁ c₁ one).repeats (short-passed l₂ c₂ two).repeats
 
-    pub answered-same : same_word l₁ c₁ l₂ c₂ ≡ true → Compared l₁ c₁ l₂ c₂ Same
-    answered-same t = record { answered = decided true t; meant = λ z. (λ s. agree-iff.0 t, λ a. refl) }
+    same-answer : same_words_of l₁ c₁ l₂ c₂ ≡ Ok (same_word l₁ c₁ l₂ c₂)
+    same-answer = unfold same_words_of in rw (then-second one ∙ two)
 
-    pub answered-different : same_word l₁ c₁ l₂ c₂ ≡ false → Compared l₁ c₁ l₂ c₂ Different
-    answered-different t = record {
-      answered = decided false t;
-      meant = λ z. (λ s. let x : ◌≡◌ {A = ℕ} 0 1 = cc in absurd (omega arith), λ a. absurd (false≢true (sym t ∙ agree-iff.1 a)));
-    }
+    pub told : Compared l₁ c₁ l₂ c₂ (Ok (same_word l₁ c₁ l₂ c₂))
+    told = record { answered = sym same-answer; meant = λ z. (λ s. agree-iff.0 (ok-same s), λ a. ap Ok (agree-iff.1 a)) }
 
   -- two words that pass are answered the same exactly if they agree at every step
-  pub same-iff : length_row_lem l₁ c₁ ≡ 0 → length_row_lem l₂ c₂ ≡ 0 → (same_words_of l₁ c₁ l₂ c₂ ≡ Same) ↔ Agree l₁ c₁ l₂ c₂
+  pub same-iff : length_row_lem l₁ c₁ ≡ 0 → length_row_lem l₂ c₂ ≡ 0 → (same_words_of l₁ c₁ l₂ c₂ ≡ Ok true) ↔ Agree l₁ c₁ l₂ c₂
+  unfolding length_row_lem
   same-iff one two =
-      bif (same_word l₁ c₁ l₂ c₂)
-      (λ t. (λ s. (agree-iff one two).0 t, λ a. sym (decided one two true t)))
-      (λ t. (
-        λ s. let d : same_words_of l₁ c₁ l₂ c₂ ≡ Different = sym (decided one two false t) in let z : ◌≡◌ {A = ℕ} 0 1 = cc in absurd (omega arith),
-        λ a. absurd (false≢true (sym t ∙ (agree-iff one two).1 a)),
-      ))
+      let p = refusal-passes (length_rows l₁ c₁) one in
+      let q = refusal-passes (length_rows l₂ c₂) two in
+      let i = agree-iff p q in
+      let e = same-answer p q in
+      (λ s. i.0 (ok-same (sym e ∙ s)), λ a. e ∙ ap Ok (i.1 a))
 
   -- 02: "Words are the same exactly when their tidy spellings are equal"
   pub same-iff-tidy : length_row_lem l₁ c₁ ≡ 0 → length_row_lem l₂ c₂ ≡ 0
-      → (same_words_of l₁ c₁ l₂ c₂ ≡ Same) ↔ ((tidy_lead l₁ c₁ ≡ tidy_lead l₂ c₂) × (tidy_cycle l₁ c₁ ≡ tidy_cycle l₂ c₂))
+      → (same_words_of l₁ c₁ l₂ c₂ ≡ Ok true) ↔ ((tidy_lead l₁ c₁ ≡ tidy_lead l₂ c₂) × (tidy_cycle l₁ c₁ ≡ tidy_cycle l₂ c₂))
   same-iff-tidy one two =
       let s = same-iff one two in
       let t = same-tidy l₁ c₁ l₂ c₂ (short-of l₁ c₁ one).repeats (short-of l₂ c₂ two).repeats in

@@ -7,15 +7,8 @@ ghost use Rattle.theory.specs.Word.{places};
 ghost use Rattle.word_spelling_spec.specs.SpellingComputed.{same_word};
 ghost use Rattle.word_same.specs.Same.{Compared};
 
+use refusals::Refusal;
 use word_rows::{length_row, letter_at, next_place};
-
-// The answer of the sameness test.
-#[derive(Clone, Copy)]
-pub enum SameWords {
-    Same,
-    Different,
-    Refused(u8),
-}
 
 // Whether two words agree at as many steps as both have places together: then they agree at every step.
 fn agree(lead1: &[u8], cycle1: &[u8], lead2: &[u8], cycle2: &[u8]) -> bool
@@ -24,34 +17,23 @@ fn agree(lead1: &[u8], cycle1: &[u8], lead2: &[u8], cycle2: &[u8]) -> bool
     ensures { result ≡ same_word lead1.now cycle1.now lead2.now cycle2.now }
 {
     let steps = lead1.len() + cycle1.len() + lead2.len() + cycle2.len();
-    let mut i = 0;
     let mut p = 0;
     let mut q = 0;
-    while i < steps {
+    for _ in 0..steps {
         if letter_at(lead1, cycle1, p) != letter_at(lead2, cycle2, q) {
             return false;
         }
         p = next_place(lead1.len(), cycle1.len(), p);
         q = next_place(lead2.len(), cycle2.len(), q);
-        i += 1;
     }
     true
 }
 
 // Whether two words are the same; refused by rows 12 and 13, first word first.
-pub fn same_words(lead1: &[u8], cycle1: &[u8], lead2: &[u8], cycle2: &[u8]) -> SameWords
+pub fn same_words(lead1: &[u8], cycle1: &[u8], lead2: &[u8], cycle2: &[u8]) -> Result<bool, Refusal>
     ensures { Compared lead1.now cycle1.now lead2.now cycle2.now result }
 {
-    let first = length_row(lead1, cycle1);
-    if first != 0 {
-        return SameWords::Refused(first);
-    }
-    let second = length_row(lead2, cycle2);
-    if second != 0 {
-        return SameWords::Refused(second);
-    }
-    if agree(lead1, cycle1, lead2, cycle2) {
-        return SameWords::Same;
-    }
-    SameWords::Different
+    length_row(lead1, cycle1)?;
+    length_row(lead2, cycle2)?;
+    Ok(agree(lead1, cycle1, lead2, cycle2))
 }

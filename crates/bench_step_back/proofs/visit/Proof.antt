@@ -1,6 +1,5 @@
 -- `bench_step_back::visit` meets its contract: what `step_letters` asks of a core.
 use Rattle.std.proofs.Common.{sym, ◌∙◌, rules}
-use borrow.Author.Tests.{not-false}
 use Rattle.build_spec.proofs.Starting.{few}
 use Rattle.bench_step_back.proofs.visit.Statement.{statement}
 use Rattle.bench_step_back.proofs.visit.Tie as tie

@@ -2,7 +2,6 @@
 use mathlib.Core.Path.{◌≡◌, sym, ◌∙◌}
 use mathlib.Core.Bool.{true, false}
 use borrow.Author.Rules.{rules}
-use borrow.Author.Tests.{not-true, not-false}
 use Rattle.file_spec.specs.Names.{has_names_lem}
 use Rattle.file_spec.proofs.Names.{names-long}
 use Rattle.file_names.proofs.Tests.{fit-decides}

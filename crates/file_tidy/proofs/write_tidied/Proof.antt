@@ -12,7 +12,7 @@ use Rattle.rule_tidy.specs.Filled.{filled}
 use Rattle.file_spec.specs.File.{body_of}
 use Rattle.file_spec.specs.Names.{preface_from}
 use Rattle.file_write_spec.specs.Written.{after}
-use Rattle.file_tidy_spec.specs.declared.Tidied.TheVariants.{Length}
+use Rattle.std.specs.Prelude.{Ok}
 use Rattle.file_write_spec.proofs.Laws.{preface-most, clauses-few, head-in-bytes}
 use Rattle.file_tidy_spec.proofs.Laws.{short, enough}
 use Rattle.file_tidy.proofs.Filled.{Fronts, fronts}
@@ -65,7 +65,7 @@ returns-2 c =
     let p = at-preface-length.preface_length-at in
     let long : length file ≡ p.result + at-tidy-rule.tidy_rule-kept.result + length a.counts.now + 8 = omega (arith, k.long a.names.now, p.ensures) in
     let else1 : tie.Else-out-length = search in let has : length file ≤ length a.out.now = omega (arith, long, else1.if-out-length.false) in let e = enough file a.out.now has in
-    let at_fill : tie.After-fill = search in (ap Length (sym long) ∙ e.0, at_fill.fill.ensures ∙ ap (λ (x : List ℕ). after 0 x a.out.now) (k.file a.names.now) ∙ e.1)
+    let at_fill : tie.After-fill = search in (ap Ok (sym long) ∙ e.0, at_fill.fill.ensures ∙ ap (λ (x : List ℕ). after 0 x a.out.now) (k.file a.names.now) ∙ e.1)
 
 pub write_tidied_spec : {M : Type 1} → statement M
 write_tidied_spec = tie.close (tie.spec

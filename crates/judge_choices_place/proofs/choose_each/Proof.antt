@@ -1,7 +1,7 @@
 -- `judge_choices_place::choose_each` meets its contract: the states found and those left that meet a clause stay the same.
 use Prim.Native.Nat.{ℕ, ◌+◌, ◌-◌, ◌*◌, ◌%◌, ◌^◌, ◌<◌, ◌≤◌}
 use mathlib.Core.Path.{◌≡◌, refl, sym, ap, ◌∙◌}
-use mathlib.Core.Logic.{◌⊎◌, ⊎_elim}
+use mathlib.Core.Logic.{◌⊎◌}
 use mathlib.Core.Bool.{◌&&◌, cond}
 use mathlib.Core.List.{List}
 use native.Mathlib.Omega.{arith}
@@ -15,7 +15,8 @@ use Rattle.sets.specs.Masks.{bit}
 use Rattle.sets.proofs.Bits.{bit-none, bit_below, shl_one}
 use Rattle.theory.specs.Rule.{entry, satisfies}
 use Rattle.rule_entries.specs.Entries.{rule_of}
-use Rattle.rule_entries.specs.Met.{met_of, is_met}
+use Rattle.std.specs.Prelude.{is_some}
+use Rattle.rule_entries.specs.Met.{met_of}
 use Rattle.rule_entries.proofs.Clauses.{met-entry}
 use Rattle.rule_entries.proofs.Entries.{entry-states}
 use Rattle.judge_place.proofs.Walks.{least-member, walked, walk-yes, walk_no, walk_end}
@@ -84,7 +85,7 @@ loop-again c =
     let aims : bit_or at-difference.difference.result (bit_and a.near class) ≡ aim_of r a.all a.near q
     = ap (λ (x : ℕ). bit_or x (bit_and a.near class)) at-difference.difference.ensures ∙ aim-set r p.0.few_states a.all a.near q class p.4 p.5 (p.2.at q k) in
     let m = met_of (aim_of r a.all a.near q) (entry r q a.a) in let at-choose : tie.After-choose invariant-loop decreases-loop = search in let chosen = at-choose.choose.ensures in
-    let met : at-choose.choose.result ≡ is_met m = chosen.0 ∙ ap (λ (s : ℕ). is_met (met_of s (entry r q a.a))) aims in
+    let met : at-choose.choose.result ≡ is_some m = chosen.0 ∙ ap (λ (s : ℕ). is_some (met_of s (entry r q a.a))) aims in
     let new = chosen.1 ∙ ap (λ (s : ℕ). put_met (met_of s (entry r q a.a)) (a.base + q) l.choices) aims in
     let test : at-choose.choose.result ≡ f q = met ∙ met-entry a.rule.head.n (aim_of r a.all a.near q) (entry r q a.a) p.0.few_states (entry-states r p.0 q a.a k p.3) in
     let room : a.base + a.rule.head.n ≤ length l.choices = omega (arith, p.7, l.invariant.3) in let number : ℕ → ℕ = met_number r a.a a.all a.near in (

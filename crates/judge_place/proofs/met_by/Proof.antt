@@ -3,7 +3,6 @@ use Prim.Native.Nat.{◌*◌, ◌%◌, ℕ, ◌-◌, ◌^◌, ◌<◌, ◌≤◌
 use Rattle.sets.specs.Tests.{Set}
 use mathlib.Core.Path.{◌≡◌, sym, ◌∙◌}
 use mathlib.Core.Bool.{◌&&◌}
-use mathlib.Core.Logic.{⊎_elim}
 use native.Mathlib.Omega.{arith}
 use native.Mathlib.Nat.{lt_of_le_of_lt}
 use lib.Bits.{and_le_r, or_lt}

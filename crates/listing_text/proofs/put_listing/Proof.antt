@@ -6,7 +6,8 @@ use borrow.Author.Rules.{rules}
 use mathlib.Core.List.{List}
 use lib.ListN.{length, take}
 use lib.Seq.{length-take-le}
-use Rattle.build.specs.declared.Built.TheVariants.{Table}
+use Rattle.std.specs.Prelude.{Ok}
+use Rattle.refusals.specs.Rows.{number_of}
 use Rattle.build.specs.Built.{built_of, codes_after_lem, transitions_after_lem}
 use Rattle.listing_lines_spec.specs.Lines.{initial_at, refused_line, table_text}
 use Rattle.listing_spec.specs.Computed.{listing_of}
@@ -29,44 +30,44 @@ returns c = let start : tie.Start = search in let at-put : tie.After-put = searc
 answer : (c : tie.After-build) → let start : tie.Start = search in c.build.result ≡ built_of start.args.file.now 512 4096
 answer c = c.build.ensures.answer
 
-abbrev start-of-after-row : tie.In-Refused → tie.Start
+abbrev start-of-after-row : tie.In-Err → tie.Start
 start-of-after-row c = search
 
 -- the text of a refusal
-refusal : (c : tie.In-Refused) → listing_of (start-of-after-row c).args.file.now ≡ refused_line c.in-Refused.row
+refusal : (c : tie.In-Err) → listing_of (start-of-after-row c).args.file.now ≡ refused_line (number_of c.in-Err.refusal)
 refusal c = let else1 : tie.Else-file-gt4096 = search in let start : tie.Start = search in
-    refused-text start.args.file.now else1.if-file-gt4096.false c.in-Refused.row (sym (answer (search)) ∙ c.in-Refused.is)
+    refused-text start.args.file.now else1.if-file-gt4096.false c.in-Err.refusal (sym (answer (search)) ∙ c.in-Err.is)
 
 put-refused-requires : tie.Need-put_refused-requires
 put-refused-requires c κs = let start : tie.Start = search in omega (arith, start.requires, ap length (refusal (search)))
 
-abbrev start-of-after-counts : tie.In-Table → tie.Start
+abbrev start-of-after-counts : tie.In-Ok → tie.Start
 start-of-after-counts c = search
 
 -- a table was built
-built : (c : tie.In-Table) → built_of (start-of-after-counts c).args.file.now 512 4096 ≡ Table c.in-Table.counts
-built c = sym (answer (search)) ∙ c.in-Table.is
+built : (c : tie.In-Ok) → built_of (start-of-after-counts c).args.file.now 512 4096 ≡ Ok c.in-Ok.counts
+built c = sym (answer (search)) ∙ c.in-Ok.is
 
-codes_held : (c : tie.In-Table) → let at-build : tie.After-build = search in
-    c.in-Table.counts.macrostates ≤ length at-build.build.new.codes
+codes_held : (c : tie.In-Ok) → let at-build : tie.After-build = search in
+    c.in-Ok.counts.macrostates ≤ length at-build.build.new.codes
 codes_held c = let else1 : tie.Else-file-gt4096 = search in let start : tie.Start = search in let at-build : tie.After-build = search in
-    codes-fit start.args.file.now else1.if-file-gt4096.false c.in-Table.counts (built c)
+    codes-fit start.args.file.now else1.if-file-gt4096.false c.in-Ok.counts (built c)
     _ _ refl at-build.build.ensures.codes_after
 
-moves_held : (c : tie.In-Table) → (zs ws : List ℕ) → length zs ≡ 4096 → ws ≡ transitions_after_lem (start-of-after-counts c).args.file.now 512 zs
-    → c.in-Table.counts.transitions ≤ length ws
-moves_held c = let else1 : tie.Else-file-gt4096 = search in moves-fit (start-of-after-counts c).args.file.now else1.if-file-gt4096.false c.in-Table.counts (built c)
+moves_held : (c : tie.In-Ok) → (zs ws : List ℕ) → length zs ≡ 4096 → ws ≡ transitions_after_lem (start-of-after-counts c).args.file.now 512 zs
+    → c.in-Ok.counts.transitions ≤ length ws
+moves_held c = let else1 : tie.Else-file-gt4096 = search in moves-fit (start-of-after-counts c).args.file.now else1.if-file-gt4096.false c.in-Ok.counts (built c)
 
 abbrev start-of-after-names-in : tie.After-names_in → tie.Start
 start-of-after-names-in c = search
 
 -- the text of the table
-table : (c : tie.After-names_in) → let at-counts : tie.In-Table = search in let n = at-counts.in-Table.counts in let f = (start-of-after-names-in c).args.file.now in
+table : (c : tie.After-names_in) → let at-counts : tie.In-Ok = search in let n = at-counts.in-Ok.counts in let f = (start-of-after-names-in c).args.file.now in
     (xs ys zs ws : List ℕ) → length xs ≡ 512 → ys ≡ codes_after_lem f xs 4096 → length zs ≡ 4096 → ws ≡ transitions_after_lem f 512 zs
     → listing_of f ≡ table_text (initial_at c.before.initial_of.result) c.names_in.result.now (take n.macrostates ys) (take n.transitions ws)
 table c xs ys zs ws l e k v =
-    let at-counts : tie.In-Table = search in let else1 : tie.Else-file-gt4096 = search in
-    table-text (start-of-after-names-in c).args.file.now else1.if-file-gt4096.false at-counts.in-Table.counts (built (search)) xs ys zs ws l e k v
+    let at-counts : tie.In-Ok = search in let else1 : tie.Else-file-gt4096 = search in
+    table-text (start-of-after-names-in c).args.file.now else1.if-file-gt4096.false at-counts.in-Ok.counts (built (search)) xs ys zs ws l e k v
     c.before.initial_of.result c.before.initial_of.ensures.1 c.names_in.result.now c.names_in.ensures
 
 put-table-requires : tie.Need-put_table-requires
@@ -74,10 +75,10 @@ put-table-requires c κs =
     let start : tie.Start = search in let at-initial-of : tie.After-initial_of = search in let at-build : tie.After-build = search in let B = at-build.build.ensures in
     (at-initial-of.initial_of.ensures.0, omega (arith, start.requires, ap length (table (search) _ _ _ _ refl B.codes_after refl B.moves_after)))
 
-returns-2 : tie.Need-returns-in-Refused
+returns-2 : tie.Need-returns-in-Err
 returns-2 c = let at-put-refused : tie.After-put_refused = search in put_as (refusal (search)) at-put-refused.put_refused.ensures
 
-returns-3 : tie.Need-returns-in-Table
+returns-3 : tie.Need-returns-in-Ok
 returns-3 c = let at-put-table : tie.After-put_table = search in let at-build : tie.After-build = search in let B = at-build.build.ensures in
     put_as (table (search) _ _ _ _ refl B.codes_after refl B.moves_after) at-put-table.put_table.ensures
 

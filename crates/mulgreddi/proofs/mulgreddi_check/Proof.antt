@@ -5,16 +5,16 @@ use Rattle.mulgreddi.proofs.Checks.{checked-served, checked_refused}
 use Rattle.mulgreddi.proofs.mulgreddi_check.Statement.{statement}
 use Rattle.mulgreddi.proofs.mulgreddi_check.Tie as tie
 
-returns : tie.Need-returns-in-Accepted
+returns : tie.Need-returns-in-Ok
 returns c =
-    let start : tie.Start = search in let at-layout : tie.In-Accepted = search in let at-read-rule : tie.After-read_rule = search in
-    checked-served start.args.file.now at-layout.in-Accepted.layout _
-    (sym at-read-rule.read_rule.ensures ∙ at-layout.in-Accepted.is) c.checked.ensures
+    let start : tie.Start = search in let at-layout : tie.In-Ok = search in let at-read-rule : tie.After-read_rule = search in
+    checked-served start.args.file.now at-layout.in-Ok.layout _
+    (sym at-read-rule.read_rule.ensures ∙ at-layout.in-Ok.is) c.checked.ensures
 
-returns-2 : tie.Need-returns-in-Refused
-returns-2 c = let start : tie.Start = search in let at_row : tie.In-Refused = search in let at-read-rule : tie.After-read_rule = search in
-    checked_refused start.args.file.now at_row.in-Refused.row _
-    (sym at-read-rule.read_rule.ensures ∙ at_row.in-Refused.is) c.refused.ensures
+returns-2 : tie.Need-returns-in-Err
+returns-2 c = let start : tie.Start = search in let at_row : tie.In-Err = search in let at-read-rule : tie.After-read_rule = search in
+    checked_refused start.args.file.now at_row.in-Err.refusal _
+    (sym at-read-rule.read_rule.ensures ∙ at_row.in-Err.is) c.refused.ensures
 
 pub mulgreddi_check_spec : {M : Type 1} → statement M
 mulgreddi_check_spec = tie.close (tie.spec

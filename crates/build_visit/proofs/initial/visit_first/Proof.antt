@@ -1,6 +1,5 @@
 -- `build_visit::initial::visit_first` meets its contract.
 use mathlib.Core.Path.{sym, ◌∙◌}
-use borrow.Author.Tests.{not-true, not-false}
 use borrow.Author.Rules.{rules}
 use Rattle.sets.proofs.Bools.{clash}
 use Rattle.build_spec.proofs.Appended.{appended-none, appended-as}

@@ -7,7 +7,7 @@ use borrow.Author.Rules.{rules}
 use borrow.Author.Tests.{ltb-true}
 use lib.Dec.{ltb}
 use lib.ListN.{get_or}
-use Rattle.sets.proofs.Bools.{and_l, and_r, not_f}
+use Rattle.sets.proofs.Bools.{and_l, and_r}
 use Rattle.stricter_laws.specs.Tests.{accepts_in}
 use Rattle.stricter_laws.proofs.Expand.{searchable-paired}
 use Rattle.stricter_laws.proofs.Pairs.{step-lettered, kind-low}

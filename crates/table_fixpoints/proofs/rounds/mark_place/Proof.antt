@@ -1,6 +1,5 @@
 -- `table_fixpoints::rounds::mark_place` meets its contract.
 use mathlib.Core.Path.{◌≡◌}
-use mathlib.Core.Logic.{⊎_elim}
 use mathlib.Core.List.{[]}
 use Prim.Native.Nat.{◌*◌}
 use native.Mathlib.Omega.{arith}

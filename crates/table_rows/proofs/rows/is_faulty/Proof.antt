@@ -5,7 +5,6 @@ use mathlib.Core.Bool.{true, false}
 use native.Mathlib.Omega.{arith}
 use lib.ListN.{length}
 use borrow.Author.Rules.{rules}
-use borrow.Author.Tests.{not-true, not-false}
 use Rattle.sets.specs.Lists.{any_of}
 use Rattle.sets.proofs.Bools.{clash}
 use Rattle.slice_search.specs.Places.{ascends}

@@ -1,8 +1,0 @@
--- `onto_of` meets its contract.
-use Prim.Native.Nat.{◌/◌, ◌^◌}
-use lib.Bits.{and_mask}
-use Rattle.stricter_core_rows.proofs.onto_of.Statement.{statement}
-use Rattle.stricter_core_rows.proofs.onto_of.Tie as tie
-
-pub onto_of_spec : {M : Type 1} → statement M
-onto_of_spec = tie.close (tie.spec (λ c. and_mask (c.args.t / 2 ^ 40) 16))
